@@ -1,0 +1,4 @@
+pub mod Lists
+pub mod ChainLemmas
+pub mod SameHistory
+mod Examples

@@ -1,0 +1,12 @@
+//! Laws of the chain.
+
+ghost use Rattle.std.specs.Prelude.{◌≡◌, ℕ, List, ◌++◌};
+ghost use Rattle.sporc_hash.specs.Chain.{last_value};
+ghost use Rattle.sporc_hash.specs.Strings.{Apart, chain_strings};
+
+/// Two histories of one genesis whose chains end in one value are one history, where no two different strings hashed
+/// for them have one digest.
+pub fn one_value_one_history()
+    ensures { (genesis : List ℕ) (a b : List (List ℕ)) → Apart (chain_strings genesis a ++ chain_strings genesis b)
+        → last_value genesis a ≡ last_value genesis b → a ≡ b }
+{}

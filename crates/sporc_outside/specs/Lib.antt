@@ -1,0 +1,5 @@
+pub mod CallRecord
+pub mod Counts
+pub mod MemoryContent
+pub mod Reading
+pub mod Writing
