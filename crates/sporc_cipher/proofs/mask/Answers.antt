@@ -1,4 +1,4 @@
-use Rattle.std.proofs.Common.{rules, ℕ, ◌≡◌, ◌≤◌, ◌<◌, length, ◌+◌, ◌-◌, ◌*◌, ◌/◌, ◌^◌, arith, ◌∙◌, ap}
+use Rattle.std.proofs.Common.{rules, ℕ, ◌≡◌, length, ◌+◌, ◌-◌, ◌*◌, ◌/◌, arith, ◌∙◌, ap}
 use Rattle.sporc_cipher.specs.Mask.{mask_from}
 use Rattle.sporc_cipher.proofs.Stream.{masked_below, masked_below-word, masked_below-all, drawn}
 use Rattle.sporc_cipher.proofs.mask.Goals as goal

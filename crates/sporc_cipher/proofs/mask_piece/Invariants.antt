@@ -1,5 +1,4 @@
-use Rattle.std.proofs.Common.{◌≡◌, ℕ, ◌<◌, ◌≤◌, get_or, slice_index, bit_xor, w32}
-use Rattle.std.specs.Int.{to_le_bytes}
+use Rattle.std.proofs.Common.{◌≡◌, ℕ, ◌<◌, ◌≤◌, slice_index, bit_xor}
 use Rattle.sporc_cipher.proofs.mask_piece.Given as goal
 
 abbrev pub invariant-bytes : goal.invariant-bytes
