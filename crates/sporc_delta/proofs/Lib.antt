@@ -1,0 +1,5 @@
+pub mod Counted
+pub mod Lengths
+pub mod Runs
+pub mod Appended
+pub mod Sound
