@@ -1,0 +1,6 @@
+pub mod Counted
+pub mod Lengths
+pub mod Runs
+pub mod Appended
+pub mod Sound
+pub mod Spelled

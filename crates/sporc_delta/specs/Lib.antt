@@ -1,0 +1,4 @@
+pub mod Format
+pub mod Marks
+pub mod Parts
+pub mod Texts
