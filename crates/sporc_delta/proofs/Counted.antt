@@ -1,5 +1,5 @@
 -- Texts in UTF-8 that count their characters.
-use Rattle.std.proofs.Common.{◌≡◌, ℕ, ◌+◌, ◌≤◌, List, ◌++◌, true, length, refl, ap, sym, ◌∙◌, arith}
+use Rattle.std.proofs.Common.{◌≡◌, ℕ, ◌+◌, ◌≤◌, Bool, true, false, List, ◌++◌, length, refl, ap, sym, ◌∙◌, arith}
 use Rattle.std.proofs.lemmas.List.{length-append}
 use Rattle.std.proofs.lemmas.Str.{chars-append, encodes-chars, length-le-encodes, IsUtf8-append, IsUtf8-from_is_utf8, is_utf8-from_IsUtf8}
 use Rattle.std.specs.Str.{chars, IsUtf8, is_utf8, encode_utf8_all}
@@ -22,3 +22,11 @@ IsCounted-append xs ys bytes m n a b is = record {
 -- a text has no more characters than bytes
 pub length-chars : (bytes : List ℕ) → IsUtf8 bytes → length (chars bytes) ≤ length bytes
 length-chars bytes utf8 = omega (arith, length-le-encodes (chars bytes), ap length (encodes-chars bytes utf8))
+
+-- bytes that no text has
+pub is_utf8-false : (bytes : List ℕ) → ¬ (IsUtf8 bytes) → is_utf8 bytes ≡ false
+is_utf8-false bytes not = by (is_utf8 bytes) refl
+  where
+    by : (b : Bool) → is_utf8 bytes ≡ b → is_utf8 bytes ≡ false
+    by true e = absurd (not (IsUtf8-from_is_utf8 bytes e))
+    by false e = e
