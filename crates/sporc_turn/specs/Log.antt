@@ -1,0 +1,37 @@
+-- The log of a lock's value as a list of items, and what one pass may rely on of it.
+use Rattle.std.specs.Prelude.{◌≡◌, ◌==◌, ℕ, ◌≤◌, cond, leb, List, ◌++◌, length, drop, All}
+use Rattle.std.specs.List.{filter}
+use Rattle.sporc_turn.specs.declared.known.Known.{Known}
+use Rattle.sporc_turn.specs.declared.known.Joined.{Joined}
+
+-- the log begins with what was seen
+abbrev pub StartsWith : {A : Type 0} → List A → List A → Type 0
+StartsWith {A} log seen = (rest : List A) × (log ≡ seen ++ rest)
+
+-- the longer of two lists, and the other one
+abbrev pub longer : {A : Type 0} → List A → List A → List A
+longer xs ys = cond (leb (length ys) (length xs)) xs ys
+
+abbrev pub shorter : {A : Type 0} → List A → List A → List A
+shorter xs ys = cond (leb (length ys) (length xs)) ys xs
+
+module _ {E : Type 0} (by : E → ℕ) where
+  -- the items that were added after the start by the pass with this number
+  abbrev pub own : ℕ → ℕ → List E → List E
+  own number start log = filter (λ e. by e == number) (drop start log)
+
+  -- the log is what the pass has seen, and then items of this pass alone
+  pub record Extends (k : Known E) (log : List E) : Type 0 where
+    pub more : List E
+    pub log_is : log ≡ k.seen ++ more
+    pub by_this : All (λ e. by e ≡ k.number) more
+
+  -- The log agrees with what the pass knows: it begins with what the pass has seen, and has the
+  -- pass's own items, in order, and no others with its number. To number 0 it also has the items of
+  -- each pass that was joined and no others with that number, and no number beyond the last split.
+  pub record Agrees (k : Known E) (log : List E) : Type 0 where
+    pub begins : StartsWith log k.seen
+    pub whole : k.start ≤ length k.seen
+    pub mine : own k.number k.start log ≡ k.mine
+    pub joined : k.number ≡ 0 → All (λ (j : Joined E). own j.number k.start log ≡ j.items) k.joined
+    pub numbers : k.number ≡ 0 → All (λ e. by e ≤ k.splits) (drop k.start log)
