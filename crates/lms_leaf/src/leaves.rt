@@ -2,7 +2,7 @@ ghost use Rattle.std.specs.Prelude.{◌≡◌, ◌≢◌, ◌↔◌, ◌⊎◌, 
 ghost use Rattle.sporc_outside.specs.Counts.{CountsFaults, Rose};
 ghost use Rattle.sporc_outside.specs.LeafDisk.{IsStable, KeepsOutside};
 ghost use Rattle.lms_leaf.specs.LeafFile.{IsLeafHeight, block_count, taken_blocks};
-ghost use Rattle.lms_leaf.specs.Leaves.{KeepsStable, IsSynced, Draws, Opens, disk_after};
+ghost use Rattle.lms_leaf.specs.Leaves.{KeepsStable, IsSynced, Draws, DrawFaults, Opens, disk_after};
 
 use crate::faults::{LeafFault, LeafOpenFault};
 use crate::leaf_file::{blocks_of, take_block, taken_of};
@@ -21,11 +21,9 @@ pub struct Leaves<D: LeafDisk> {
 }
 
 impl<D: LeafDisk> Model for Leaves<D> {
-    ghost use Rattle.lms_leaf.specs.Leaves.{LeavesContent, leaves_code};
+    ghost use Rattle.lms_leaf.specs.Leaves.{LeavesContent};
 
     ghost Value = { LeavesContent D };
-
-    ghost coded = { leaves_code D.code };
 
     ghost use Rattle.lms_leaf.specs.LeavesInside.{IsSound};
 
@@ -77,21 +75,7 @@ impl<D: LeafDisk> Leaves<D> {
     /// draw answers a disk fault; open the file again.
     pub fn draw(&mut self) -> Result<u32, LeafFault>
         ensures draws { Draws D.stored D.moment D.images self.old result self.new }
-        ensures within { IfOk result (λ leaf. leaf < self.old.leaf_count) }
-        ensures leaf_count { self.new.leaf_count ≡ self.old.leaf_count }
-        ensures one { IfOk result (λ leaf. leaf % 4 ≡ 0
-            → IfSome (D.stored self.new.disk) (λ bytes. slice_index bytes (leaf / 4) ≡ 1)) }
-
-        ensures exhausted { (next : ℕ) → (result ≡ Err (LeafFault.Exhausted next))
-            ↔ ((self.old.next ≡ self.old.leaf_count) × (next ≡ self.old.next)) }
-
-        ensures disk_fault { result ≡ Err LeafFault.DiskFault
-            → IsTrue self.old.faulty ⊎ Rose (D.faults self.old.disk) (D.faults self.new.disk) }
-        ensures since_open { result ≡ Err LeafFault.DiskFault → Rose self.old.faults_at_open (D.faults self.new.disk) }
-        ensures still_faulty { IsTrue self.old.faulty → result ≡ Err LeafFault.DiskFault }
-        ensures faulty { IsTrue self.new.faulty ↔ (result ≡ Err LeafFault.DiskFault) }
-        ensures faults_at_open { self.new.faults_at_open ≡ self.old.faults_at_open }
-        ensures count { D.faults self.old.disk ≤ D.faults self.new.disk }
+        ensures faults { DrawFaults D.faults self.old result self.new }
     {
         if self.next == self.leaf_count {
             return Err(LeafFault::Exhausted(self.next));

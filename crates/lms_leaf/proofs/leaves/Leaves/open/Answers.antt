@@ -20,10 +20,10 @@ invariant_of-result g c =
       within = omega (arith, first.1, first.2, leaves.value);
       whole = omega arith;
       file = rw found.stored (if_some (g.D.LeafDisk.stored c.args.disk) (λ bytes is. omega (arith, is, leaves.value)) found.right_length);
-      taken = λ inside. absurd (omega (arith, first.1, inside));
+      taken = λ inside image is zero. omega (arith, first.1, inside);
       free = λ sound. rw found.stored (if_some (g.D.LeafDisk.stored c.args.disk) (λ bytes is. free c.in-Ok.next bytes is) found.next);
       counted = omega (arith, c.faults-faults_at_open.ensures);
-      fault = λ faulty. absurd (let wrong = faulty in cc);
+      fault = λ faulty. cc;
     }
 
 pub returns-in-Err-clause-bad_length : goal.returns-in-Err-clause-bad_length
