@@ -77,7 +77,7 @@ module _ {S E : Type 0} (logs : S → List E) (by : E → ℕ) (start : ℕ) whe
       let is : r ≡ o.ticket = ap (λ ws. slice_index ws 0) o.words in
       let low : r ≤ o.ticket = omega arith in
       let top : r ≤ 2 ^ 62 = omega (arith, o.bounded) in
-      (reading me.0 r, keeps, tt, reread s o id 0 me.0 r at low (same_words s o).0, (refl, top))
+      (reading me.0 r, keeps, tt, reread s o id 0 me.0 r at low (same_words s o).0, (refl, omega (arith, (o.each id me.0 at).read), top))
 
   draws_here : (s : State (std.Option S) (View E)) (o : IsInOrder by logs start s) (id k : ℕ) (me : Me (std.Option S) (View E)) → Rests me.0 → k < 2 ^ 62 → get_elem? s.views id ≡ some me.0 → slice_index s.words 0 ≡ k
       → Does s id me 0 (k + 1) (DrawsTicket me k (slice_index s.words 0))

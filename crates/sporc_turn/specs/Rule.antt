@@ -13,11 +13,11 @@ use Rattle.sporc_turn.specs.Log.{StartsWith, own}
 abbrev pub known : {E : Type 0} → View E → Known E
 known v = v.known
 
--- how many passes were joined to another
 abbrev pub one_if : Bool → ℕ
 one_if true = 1
 one_if false = 0
 
+-- how many passes were joined to another
 abbrev pub spent_of : {E : Type 0} → List (Known E) → ℕ
 spent_of [] = 0
 spent_of (k ∷ ks) = one_if k.spent + spent_of ks
