@@ -3,3 +3,4 @@ pub mod Lengths
 pub mod Runs
 pub mod Appended
 pub mod Sound
+pub mod Spelled

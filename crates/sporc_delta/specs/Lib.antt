@@ -1,3 +1,4 @@
+pub mod Format
 pub mod Marks
 pub mod Parts
 pub mod Texts

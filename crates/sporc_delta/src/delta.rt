@@ -2,10 +2,13 @@
 
 ghost use Rattle.std.specs.Prelude.{◌≡◌, ◌+◌, ◌≤◌, ◌^◌, ◌++◌, [], length, IfOk, OnOk, OnErr};
 ghost use Rattle.std.specs.Str.{chars};
+ghost use Rattle.sporc_delta.specs.Format.{delta_bytes};
 ghost use Rattle.sporc_delta.specs.Marks.{base_len, out_len, retains, deletes, inserts, insertion, removal, replacement};
 ghost use Rattle.sporc_delta.specs.Parts.{AreRuns, runs};
 
+use crate::encode::{parts_encoded, parts_len};
 use crate::ends::{append_keep, append_remove, append_text};
+use crate::part::copies;
 use crate::{Part, TextSlice};
 use std::alloc::{AllocError, Global};
 use std::marker::Model;
@@ -116,6 +119,34 @@ impl Delta {
         ensures are_runs { AreRuns result.now }
     {
         self.parts.as_slice()
+    }
+
+    /// A copy.
+    pub fn copy(&self) -> Result<Delta, AllocError>
+        ensures { IfOk result (λ d. d ≡ self.now) }
+    {
+        let parts = copies(*self.parts.allocator(), self.parts.as_slice())?;
+        Ok(Delta {
+            parts,
+            base: self.base,
+            out: self.out,
+        })
+    }
+
+    /// The number of bytes that `encode` gives.
+    pub fn encoded_len(&self) -> u64
+        ensures { result ≡ length (delta_bytes self.now) }
+    {
+        parts_len(self.parts.as_slice())
+    }
+
+    /// The bytes of the delta: for each part a byte for its kind (1 keeps, 2 inserts, 3 removes),
+    /// eight bytes for its count, the high ones first, and for an insertion its text in UTF-8,
+    /// whose bytes are counted.
+    pub fn encode(&self) -> Result<Vec<u8>, AllocError>
+        ensures { IfOk result (λ v. v.items ≡ delta_bytes self.now) }
+    {
+        parts_encoded(*self.parts.allocator(), self.parts.as_slice())
     }
 
     /// Keeps so many more characters behind what is there.

@@ -5,6 +5,7 @@
 #![tactic(auto)]
 
 mod delta;
+mod encode;
 mod ends;
 mod part;
 mod text;

@@ -1,6 +1,9 @@
 // The parts of a delta.
 
+ghost use Rattle.std.specs.Prelude.{◌≡◌, IfOk};
+
 use crate::Text;
+use std::alloc::{AllocError, Global};
 
 /// A part of a delta. Lengths are in characters.
 #[derive(Debug, Drop)]
@@ -11,4 +14,28 @@ pub enum Part {
     Insert(Text),
     /// Removes so many characters of the text before.
     Remove(u64),
+}
+
+impl Part {
+    /// A copy of a part.
+    pub fn copy(&self, alloc: Global) -> Result<Part, AllocError>
+        ensures { IfOk result (λ p. p ≡ self.now) }
+    {
+        match self {
+            Part::Keep(count) => Ok(Part::Keep(*count)),
+            Part::Insert(text) => Ok(Part::Insert(Text::new(alloc, &text.as_slice())?)),
+            Part::Remove(count) => Ok(Part::Remove(*count)),
+        }
+    }
+}
+
+/// Copies of parts.
+pub(crate) fn copies(alloc: Global, parts: &[Part]) -> Result<Vec<Part>, AllocError>
+    ensures { IfOk result (λ v. v.items ≡ parts.now) }
+{
+    let mut copies = Vec::with_capacity(alloc, parts.len())?;
+    for part in parts {
+        copies.push(part.copy(alloc)?)?;
+    }
+    Ok(copies)
 }
