@@ -1,0 +1,4 @@
+pub mod CoefficientLemmas
+pub mod ChainLemmas
+pub mod ConcatenatedLemmas
+pub mod SignatureLemmas

@@ -1,0 +1,5 @@
+pub mod OtsType
+pub mod Coefficients
+pub mod Chains
+pub mod Signatures
+pub mod Laws

@@ -1,0 +1,24 @@
+//! One-time signatures over SHA-256: LM-OTS of RFC 8554, section 4, with `n` = 32.
+//!
+//! A one-time key is named by the identifier `id` of its tree, its leaf number `q` and the seed
+//! from which Appendix A derives its secret parts. It signs one message: two messages under one
+//! key let anyone forge a third. Whoever calls `ots_sign` sees to it that no `(id, q)` signs
+//! twice.
+//!
+//! All numbers in the hashed strings and in a signature are big-endian.
+#![tactic(auto)]
+
+mod chains;
+mod coefficients;
+pub mod laws;
+mod ots_type;
+mod public_key;
+mod signature;
+
+pub use coefficients::{checksum, coef};
+pub use ots_type::OtsType;
+pub use public_key::ots_public;
+pub use signature::{Memory, OtsFault, ots_candidate, ots_sign};
+
+#[cfg(test)]
+mod tests;

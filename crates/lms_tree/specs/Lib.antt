@@ -1,0 +1,9 @@
+pub mod LmsType
+pub mod Fields
+pub mod Nodes
+pub mod LmsPublic
+pub mod LmsPrivate
+pub mod NodeArray
+pub mod Signatures
+pub mod Verification
+pub mod Laws

@@ -1,0 +1,25 @@
+//! Signatures by trees of one-time keys over SHA-256: LMS of RFC 8554, section 5, with `m` = 32.
+//!
+//! A `Tree` holds the nodes of one private key and signs with a given leaf; `verify` needs the
+//! public key alone and takes no memory. Which leaf comes next is not this crate's business: a
+//! leaf that signs two messages lets anyone forge a third.
+//!
+//! All numbers in keys, signatures and hashed strings are big-endian.
+#![tactic(auto)]
+
+mod fields;
+pub mod laws;
+mod lms_type;
+mod nodes;
+mod public_key;
+mod tree;
+mod verification;
+
+pub use lms_ots::Memory;
+pub use lms_type::LmsType;
+pub use public_key::LmsPublic;
+pub use tree::Tree;
+pub use verification::verify;
+
+#[cfg(test)]
+mod tests;

@@ -1,0 +1,66 @@
+// Public keys.
+
+ghost use Rattle.std.specs.Prelude.{◌≡◌, ◌+◌, ◌≤◌, ◌↔◌, ◌++◌, length, take, Some, IsSome, IfSome};
+ghost use Rattle.lms_ots.specs.OtsType.{ots_type_with_code};
+
+use crate::fields::number_at;
+use crate::lms_type::LmsType;
+use lms_ots::OtsType;
+
+/// A public key: the types of the tree and of its one-time keys, the tree's identifier `I` and the
+/// value `T[1]` of its root.
+#[derive(Clone, Copy, Debug, PartialEq, Eq)]
+pub struct LmsPublic {
+    pub lms: LmsType,
+    pub ots: OtsType,
+    pub id: [u8; 16],
+    pub root: [u8; 32],
+}
+
+// Writes a field after the first `place` bytes.
+fn put(bytes: &mut [u8; 56], place: usize, field: &[u8])
+    requires { place + length field.now ≤ 56 }
+    ensures { take (place + length field.now) bytes.new ≡ take place bytes.old ++ field.now }
+{
+    bytes[place..place + field.len()].copy_from_slice(field);
+}
+
+impl LmsPublic {
+    ghost use Rattle.lms_tree.specs.Fields.{number_at};
+    ghost use Rattle.lms_tree.specs.LmsType.{lms_type_with_code};
+    ghost use Rattle.lms_tree.specs.LmsPublic.{public_key_bytes, public_key_in};
+
+    /// The key that these bytes spell (RFC 8554, section 5.3): both type codes, four bytes each,
+    /// `I` and `T[1]`.
+    pub fn from_bytes(bytes: &[u8]) -> Option<LmsPublic>
+        ensures value { result ≡ public_key_in bytes.now }
+        ensures found { IsSome result ↔ ((length bytes.now ≡ 56)
+            × IsSome (lms_type_with_code (number_at bytes.now 0))
+            × IsSome (ots_type_with_code (number_at bytes.now 4))) }
+        ensures spelling { IfSome result (λ key. public_key_bytes key ≡ bytes.now) }
+    {
+        if bytes.len() != 56 {
+            return None;
+        }
+        let lms = LmsType::from_code(number_at(bytes, 0))?;
+        let ots = OtsType::from_code(number_at(bytes, 4))?;
+        let mut id = [0u8; 16];
+        id.copy_from_slice(&bytes[8..24]);
+        let mut root = [0u8; 32];
+        root.copy_from_slice(&bytes[24..56]);
+        Some(LmsPublic { lms, ots, id, root })
+    }
+
+    /// The bytes of the key.
+    pub fn to_bytes(&self) -> [u8; 56]
+        ensures value { result ≡ public_key_bytes self.now }
+        ensures read_back { public_key_in result ≡ Some self.now }
+    {
+        let mut bytes = [0u8; 56];
+        put(&mut bytes, 0, &self.lms.code().to_be_bytes());
+        put(&mut bytes, 4, &self.ots.code().to_be_bytes());
+        put(&mut bytes, 8, &self.id);
+        put(&mut bytes, 24, &self.root);
+        bytes
+    }
+}

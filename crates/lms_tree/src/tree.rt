@@ -1,0 +1,164 @@
+// The nodes of a tree, and what it signs.
+
+ghost use Rattle.std.specs.Prelude.{◌≡◌, ◌+◌, ◌*◌, ◌^◌, ◌<◌, ◌≤◌, ◌++◌, length, IfOk};
+ghost use Rattle.std.specs.Int.{w32, to_be_bytes};
+ghost use Rattle.lms_ots.specs.Chains.{concatenated};
+ghost use Rattle.lms_tree.specs.LmsType.{height_of};
+ghost use Rattle.lms_tree.specs.LmsPrivate.{LmsPrivate, lms_public_of, path_of, value_at};
+ghost use Rattle.lms_tree.specs.NodeArray.{HasNodes};
+ghost use Rattle.lms_tree.specs.Nodes.{sibling};
+ghost use Rattle.lms_tree.specs.Signatures.{lms_signature_of};
+ghost use Rattle.lms_tree.specs.Verification.{Verifies};
+
+use crate::lms_type::LmsType;
+use crate::nodes::{inner_value, leaf_value};
+use crate::public_key::LmsPublic;
+use lms_ots::{Memory, OtsType, ots_public, ots_sign};
+use std::alloc::Global;
+use std::marker::Model;
+
+/// A private key with all nodes of its tree. It is seen as the private key: the types, the
+/// identifier and the seed from which RFC 8554, Appendix A, derives all one-time keys.
+#[derive(Drop)]
+pub struct Tree {
+    lms: LmsType,
+    ots: OtsType,
+    id: [u8; 16],
+    seed: [u8; 32],
+    // Node `r` is at index `r`; index 0 is not used.
+    nodes: Vec<[u8; 32]>,
+}
+
+impl Model for Tree {
+    ghost Value = { LmsPrivate };
+
+    ghost view = { λ t. record { lms = t.lms; ots = t.ots; id = t.id; seed = t.seed } };
+
+    ghost invariant = { λ t. HasNodes (record { lms = t.lms; ots = t.ots; id = t.id; seed = t.seed }) t.nodes.items 1 };
+}
+
+// The array of nodes with its leaves alone.
+fn leaves_of(
+    alloc: Global,
+    seed: &[u8; 32],
+    id: &[u8; 16],
+    lms: LmsType,
+    ots: OtsType,
+) -> Result<Vec<[u8; 32]>, Memory>
+    ensures { IfOk result (λ nodes.
+        HasNodes (record { lms = lms; ots = ots; id = id.now; seed = seed.now }) nodes.items (2 ^ height_of lms)) }
+{
+    let leaves = 1usize << lms.height();
+    let mut nodes = vec![in alloc; [0u8; 32]; 2 * leaves]?;
+    'leaves: for q in 0..leaves {
+        let key = ots_public(ots, id, q as u32, seed);
+        nodes[leaves + q] = leaf_value(id, (leaves + q) as u32, &key);
+    }
+    Ok(nodes)
+}
+
+// The number of the node beside node `r`.
+fn sibling(r: usize) -> usize
+    requires { r < 2 ^ 63 }
+    ensures { result ≡ sibling r }
+{
+    if r % 2 == 0 { r + 1 } else { r - 1 }
+}
+
+// The fields of a signature, one after another.
+fn assembled(
+    alloc: Global,
+    q: u32,
+    ots_signature: &[u8],
+    code: u32,
+    path: &[[u8; 32]],
+) -> Result<Vec<u8>, Memory>
+    ensures { IfOk result (λ v. v.items ≡ to_be_bytes w32 q ++ ots_signature.now ++ to_be_bytes w32 code
+        ++ concatenated (value_at path.now) (length path.now)) }
+{
+    let mut signature = Vec::new(alloc);
+    signature.extend_from_slice(&q.to_be_bytes())?;
+    signature.extend_from_slice(ots_signature)?;
+    signature.extend_from_slice(&code.to_be_bytes())?;
+    'levels: for value in path {
+        signature.extend_from_slice(value)?;
+    }
+    Ok(signature)
+}
+
+impl Tree {
+    /// The tree of a seed. It computes the public key of every leaf: about 0.4 ms a leaf with W4 and
+    /// 3 ms with W8, and `64 * 2^height` bytes.
+    pub fn build(
+        alloc: Global,
+        seed: &[u8; 32],
+        id: &[u8; 16],
+        lms: LmsType,
+        ots: OtsType,
+    ) -> Result<Tree, Memory>
+        ensures { IfOk result (λ tree. tree ≡ record { lms = lms; ots = ots; id = id.now; seed = seed.now }) }
+    {
+        let leaves = 1usize << lms.height();
+        let mut nodes = leaves_of(alloc, seed, id, lms, ots)?;
+        'inner: for i in 1..leaves {
+            let r = leaves - i;
+            let value = inner_value(id, r as u32, &nodes[2 * r], &nodes[2 * r + 1]);
+            nodes[r] = value;
+        }
+        Ok(Tree {
+            lms,
+            ots,
+            id: *id,
+            seed: *seed,
+            nodes,
+        })
+    }
+
+    /// The public key.
+    pub fn public(&self) -> LmsPublic
+        ensures { result ≡ lms_public_of self.now }
+    {
+        LmsPublic {
+            lms: self.lms,
+            ots: self.ots,
+            id: self.id,
+            root: self.nodes[1],
+        }
+    }
+
+    /// The values of the siblings on the way from leaf `q` to the root, from the leaf upwards: as
+    /// many as the tree is high.
+    pub fn path(&self, alloc: Global, q: u32) -> Result<Vec<[u8; 32]>, Memory>
+        requires { q < 2 ^ height_of self.now.lms }
+        ensures { IfOk result (λ path. path.items ≡ path_of self.now q (height_of self.now.lms)) }
+    {
+        let height = self.lms.height();
+        let mut path = Vec::with_capacity(alloc, height as usize)?;
+        let mut node = (1usize << height) + q as usize;
+        'levels: for _level in 0..height {
+            path.push(self.nodes[sibling(node)])?;
+            node /= 2;
+        }
+        Ok(path)
+    }
+
+    /// The signature of a message by leaf `q` under the randomizer `c` (RFC 8554, section 5.4.1).
+    /// No leaf of a key may ever sign a second message.
+    pub fn sign(
+        &self,
+        alloc: Global,
+        q: u32,
+        c: &[u8; 32],
+        message: &[u8],
+    ) -> Result<Vec<u8>, Memory>
+        requires { q < 2 ^ height_of self.now.lms }
+        ensures value { IfOk result (λ v. v.items ≡ lms_signature_of self.now q c.now message.now) }
+        ensures verifies { IfOk result (λ v. Verifies (lms_public_of self.now) message.now v.items) }
+    {
+        let ots_signature = ots_sign(alloc, self.ots, &self.id, q, &self.seed, c, message)?;
+        let path = self.path(alloc, q)?;
+        let code = self.lms.code();
+        let signature = assembled(alloc, q, &ots_signature, code, &path)?;
+        Ok(signature)
+    }
+}

@@ -1,0 +1,55 @@
+-- Fields read from the front of bytes. Reading a field gives its value and what is left, or the place of the field's
+-- first byte, where the field is cut short or has a forbidden value. Numbers are big-endian.
+use Rattle.std.specs.Prelude.{◌≡◌, ℕ, ◌+◌, Bool, true, false, nat_lt, nat_le, List, [], ◌∷◌, ◌++◌, length, take, drop, Result, Ok, Err, if◌then◌else◌}
+use Rattle.std.specs.Int.{Width, w32, byte_len, from_be_bytes, to_be_bytes}
+use Rattle.sporc_bytes.specs.declared.cursor.Short.{Short}
+
+-- the bytes that are left, and the place of the first of them
+pub record Reading : Type 0 where
+  pub rest : List ℕ
+  pub at : ℕ
+
+-- what is left after n bytes more
+abbrev pub past : ℕ → Reading → Reading
+past n r = record { rest = drop n r.rest; at = r.at + n }
+
+-- one field, and then more that depends on its value
+infixl 10 ◌>>=◌
+abbrev pub ◌>>=◌ : {A B : Type 0} → Result A ℕ → (A → Result B ℕ) → Result B ℕ
+(Ok x) >>= f = f x
+(Err at) >>= f = Err at
+
+-- so many bytes
+unfoldable pub bytes_at : ℕ → Reading → Result (List ℕ × Reading) ℕ
+bytes_at n r = if nat_lt (length r.rest) n then Err r.at else Ok (take n r.rest, past n r)
+
+-- a number of this width
+unfoldable pub number_at : Width → Reading → Result (ℕ × Reading) ℕ
+number_at w r = do
+  bytes ← bytes_at (byte_len w) r
+  Ok (from_be_bytes w bytes.0, bytes.1)
+
+-- a value, where it is allowed
+abbrev pub only_if : {A : Type 0} → Bool → ℕ → A → Result A ℕ
+only_if true at x = Ok x
+only_if false at x = Err at
+
+-- four bytes of length, at most a limit, and that many bytes: two fields
+unfoldable pub counted_at : ℕ → Reading → Result (List ℕ × Reading) ℕ
+counted_at limit r = do
+  n ← number_at w32 r
+  len ← only_if (nat_le n.0 limit) r.at n.0
+  bytes_at len n.1
+
+-- nothing is left
+abbrev pub end_at : Reading → Result (Unit {0}) ℕ
+end_at r = elim r.rest [ [] ↦ Ok tt | b ∷ bs ↦ Err r.at ]
+
+-- the bytes of a counted string
+abbrev pub counted : List ℕ → List ℕ
+counted bytes = to_be_bytes w32 (length bytes) ++ bytes
+
+-- a call that returned this, seen by view, read so
+abbrev pub Reads : {X Y : Type 0} → (X → Y) → Result X Short → Result Y ℕ → Type 0
+Reads view (Ok x) read = read ≡ Ok (view x)
+Reads view (Err short) read = read ≡ Err short.0

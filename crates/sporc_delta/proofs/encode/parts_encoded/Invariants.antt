@@ -1,0 +1,6 @@
+use Rattle.std.proofs.Common.{◌≡◌, ◌++◌, drop}
+use Rattle.sporc_delta.specs.Format.{parts_bytes}
+use Rattle.sporc_delta.proofs.encode.parts_encoded.Given as goal
+
+abbrev pub invariant-loop-part : goal.invariant-loop-part
+invariant-loop-part l = l.bytes.items ++ parts_bytes (drop l.part-index l.parts) ≡ parts_bytes l.parts

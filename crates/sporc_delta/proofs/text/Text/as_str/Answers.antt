@@ -1,0 +1,6 @@
+use Rattle.std.proofs.Common.{◌∙◌}
+use Rattle.sporc_delta.proofs.Counted.{encode_chars}
+use Rattle.sporc_delta.proofs.text.Text.as_str.Goals as goal
+
+pub returns-clause-bytes : goal.returns-clause-bytes
+returns-clause-bytes c = c.as_str.ensures.value ∙ encode_chars _ _ c.self.invariant.utf8 c.self.view_is

@@ -1,0 +1,53 @@
+-- A delta as a list of marks, one for each character that it keeps, removes or inserts.
+use Rattle.std.specs.Prelude.{ℕ, suc, ◌+◌, ◌-◌, List, [], ◌∷◌, ◌++◌, map, replicate}
+
+-- one step along a text: keep the next character, remove it, or insert a character before it
+pub data Mark : Type 0 where
+  Retain : Mark
+  Delete : Mark
+  Insert : ℕ → Mark
+
+-- how many characters the text before a delta has
+abbrev pub base_len : List Mark → ℕ
+base_len [] = 0
+base_len (Retain ∷ ms) = suc (base_len ms)
+base_len (Delete ∷ ms) = suc (base_len ms)
+base_len (Insert c ∷ ms) = base_len ms
+
+-- how many characters the text after it has
+abbrev pub out_len : List Mark → ℕ
+out_len [] = 0
+out_len (Retain ∷ ms) = suc (out_len ms)
+out_len (Delete ∷ ms) = out_len ms
+out_len (Insert c ∷ ms) = suc (out_len ms)
+
+-- the text after a delta, of a text with as many characters as its base
+abbrev pub apply : List Mark → List ℕ → List ℕ
+apply [] s = []
+apply (Insert c ∷ ms) s = c ∷ apply ms s
+apply (Retain ∷ ms) [] = []
+apply (Retain ∷ ms) (c ∷ s) = c ∷ apply ms s
+apply (Delete ∷ ms) [] = []
+apply (Delete ∷ ms) (c ∷ s) = apply ms s
+
+-- n characters kept, n characters removed, and a text inserted
+abbrev pub retains : ℕ → List Mark
+retains n = replicate n Retain
+
+abbrev pub deletes : ℕ → List Mark
+deletes n = replicate n Delete
+
+abbrev pub inserts : List ℕ → List Mark
+inserts text = map Insert text
+
+-- over a text of len characters, text inserted before the one at this place
+abbrev pub insertion : ℕ → ℕ → List ℕ → List Mark
+insertion len at text = retains at ++ inserts text ++ retains (len - at)
+
+-- over a text of len characters, count of them removed from this place on
+abbrev pub removal : ℕ → ℕ → ℕ → List Mark
+removal len at count = retains at ++ deletes count ++ retains (len - (at + count))
+
+-- over a text of len characters, text in place of all of it
+abbrev pub replacement : ℕ → List ℕ → List Mark
+replacement len text = deletes len ++ inserts text

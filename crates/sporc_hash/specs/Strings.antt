@@ -1,0 +1,31 @@
+-- Every string that is hashed for a history, and when its digests tell strings apart.
+use Rattle.std.specs.Prelude.{◌≡◌, ℕ, suc, zero, List, [], ◌∷◌, ◌++◌, Option, None, Some, Contains}
+use Rattle.sha2.specs.Sha256.{sha256}
+use Rattle.sporc_hash.specs.Chain.{genesis_string, genesis_value, entry_string, link_string, next_value, commitment_string}
+
+-- both strings of each entry, from a first value on
+abbrev pub entry_strings : List ℕ → List (List ℕ) → List (List ℕ)
+entry_strings value [] = []
+entry_strings value (e ∷ es) = entry_string e ∷ link_string value e ∷ entry_strings (next_value value e) es
+
+-- the strings of a history's chain
+abbrev pub chain_strings : List ℕ → List (List ℕ) → List (List ℕ)
+chain_strings genesis entries = genesis_string genesis ∷ entry_strings (genesis_value genesis) entries
+
+-- the commitment string of an epoch's key, where the key is given
+abbrev pub key_string : List ℕ → ℕ → Option (List ℕ) → List (List ℕ)
+key_string document epoch None = []
+key_string document epoch (Some key) = commitment_string document epoch key ∷ []
+
+-- the commitment strings of the first n epochs whose keys are given
+abbrev pub key_strings : List ℕ → (ℕ → Option (List ℕ)) → ℕ → List (List ℕ)
+key_strings document keys zero = []
+key_strings document keys (suc n) = key_strings document keys n ++ key_string document n (keys n)
+
+-- every string that is hashed for a history of n epochs
+abbrev pub strings : List ℕ → List (List ℕ) → List ℕ → (ℕ → Option (List ℕ)) → ℕ → List (List ℕ)
+strings genesis entries document keys n = chain_strings genesis entries ++ key_strings document keys n
+
+-- different strings of the list have different SHA-256 digests
+abbrev pub Apart : List (List ℕ) → Type 0
+Apart strings = (x y : List ℕ) → Contains strings x → Contains strings y → sha256 x ≡ sha256 y → x ≡ y

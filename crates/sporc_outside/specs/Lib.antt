@@ -1,0 +1,7 @@
+pub mod CallRecord
+pub mod Counts
+pub mod MemoryContent
+pub mod Reading
+pub mod Writing
+pub mod LeafDisk
+pub mod MemoryDisk

@@ -1,0 +1,79 @@
+ghost use Rattle.std.specs.Prelude.{◌≡◌, ◌<◌, ◌≤◌, List, [], length, min, IsErr, IfOk, Contains};
+ghost use Rattle.std.specs.Io.KnownBytes.{WriteAppends};
+ghost use Rattle.sporc_outside.specs.Counts.{CountsFaults, next_count};
+
+use crate::calls::Calls;
+use crate::counted::{Counted, Failed};
+use crate::sink::Sink;
+use std::alloc::Global;
+use std::marker::Model;
+
+/// A sink that keeps its bytes and tells them. A call that finds no memory for them fails.
+#[derive(Debug, Drop)]
+pub struct MemorySink {
+    bytes: Vec<u8>,
+    piece: usize,
+    calls: Calls,
+}
+
+impl Model for MemorySink {
+    ghost use Rattle.std.specs.Prelude.{◌<◌};
+    ghost use Rattle.sporc_outside.specs.MemoryContent.{MemoryContent};
+
+    ghost Value = { MemoryContent };
+
+    ghost view = { λ s. record { bytes = s.bytes.items; piece = s.piece; calls = s.calls } };
+
+    ghost invariant = { λ s. 0 < s.piece };
+}
+
+impl MemorySink {
+    /// Holds nothing yet, and takes at most `piece` bytes a call. The listed calls fail.
+    pub fn new(alloc: Global, piece: usize, calls: Calls) -> MemorySink
+        requires { 0 < piece }
+        ensures { result ≡ record { bytes = []; piece = piece; calls = calls } }
+    {
+        MemorySink {
+            bytes: Vec::new(alloc),
+            piece,
+            calls,
+        }
+    }
+
+    /// The bytes written so far.
+    pub fn as_slice(&self) -> &[u8]
+        ensures { result.now ≡ self.now.bytes }
+    {
+        self.bytes.as_slice()
+    }
+}
+
+impl Counted for MemorySink {
+    ghost faults = { λ s. s.calls.faults };
+
+    fn faults(&self) -> u64 {
+        self.calls.faults()
+    }
+}
+
+impl Sink for MemorySink {
+    ghost use Rattle.std.specs.Prelude.{Some};
+
+    ghost written = { λ s. Some s.bytes };
+
+    fn write(&mut self, bytes: &[u8]) -> Result<usize, Failed>
+        ensures bound { IfOk result (λ n. n ≤ length bytes.now) }
+        ensures some { IfOk result (λ n. 0 < length bytes.now → 0 < n) }
+        ensures bytes { WriteAppends (Some self.old.bytes) (Some self.new.bytes) result bytes.now }
+        ensures count { CountsFaults self.old.calls.faults self.new.calls.faults result }
+        ensures listed { Contains self.old.calls.failing (next_count self.old.calls.made) → IsErr result }
+        ensures piece { IfOk result (λ n. n ≡ min (length bytes.now) self.old.piece) }
+    {
+        self.calls.begin()?;
+        let n = bytes.len().min(self.piece);
+        match self.bytes.extend_from_slice(&bytes[..n]) {
+            Ok(()) => Ok(n),
+            Err(_) => Err(self.calls.fail()),
+        }
+    }
+}

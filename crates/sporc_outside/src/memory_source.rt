@@ -1,0 +1,72 @@
+ghost use Rattle.std.specs.Prelude.{◌≡◌, ◌-◌, ◌<◌, ◌≤◌, ◌↔◌, List, length, min, IsErr, IfOk, Contains};
+ghost use Rattle.std.specs.Io.KnownBytes.{ReadConsumes};
+ghost use Rattle.sporc_outside.specs.Counts.{CountsFaults, next_count};
+
+use crate::calls::Calls;
+use crate::counted::{Counted, Failed};
+use crate::source::Source;
+use std::marker::Model;
+
+/// A source of listed bytes, which it tells.
+#[derive(Debug, Drop)]
+pub struct MemorySource {
+    bytes: Vec<u8>,
+    at: usize,
+    piece: usize,
+    calls: Calls,
+}
+
+impl Model for MemorySource {
+    ghost use Rattle.std.specs.Prelude.{◌≤◌, ◌<◌, drop, vec_len};
+    ghost use Rattle.sporc_outside.specs.MemoryContent.{MemoryContent};
+
+    ghost Value = { MemoryContent };
+
+    ghost view = { λ s. record { bytes = drop s.at s.bytes.items; piece = s.piece; calls = s.calls } };
+
+    ghost invariant = { λ s. (s.at ≤ vec_len s.bytes) × (0 < s.piece) };
+}
+
+impl MemorySource {
+    /// Gives these bytes, at most `piece` of them a call. The listed calls fail.
+    pub fn new(bytes: Vec<u8>, piece: usize, calls: Calls) -> MemorySource
+        requires { 0 < piece }
+        ensures { result ≡ record { bytes = bytes.items; piece = piece; calls = calls } }
+    {
+        MemorySource {
+            bytes,
+            at: 0,
+            piece,
+            calls,
+        }
+    }
+}
+
+impl Counted for MemorySource {
+    ghost faults = { λ s. s.calls.faults };
+
+    fn faults(&self) -> u64 {
+        self.calls.faults()
+    }
+}
+
+impl Source for MemorySource {
+    ghost use Rattle.std.specs.Prelude.{Some};
+
+    ghost left = { λ s. Some s.bytes };
+
+    fn read(&mut self, buf: &mut [u8]) -> Result<usize, Failed>
+        ensures bound { IfOk result (λ n. n ≤ length buf.new) }
+        ensures bytes { ReadConsumes (Some self.old.bytes) (Some self.new.bytes) result buf.new }
+        ensures count { CountsFaults self.old.calls.faults self.new.calls.faults result }
+        ensures listed { IsErr result ↔ Contains self.old.calls.failing (next_count self.old.calls.made) }
+        ensures piece { IfOk result (λ n. n ≡ min (min (length buf.old) self.old.piece) (length self.old.bytes)) }
+    {
+        self.calls.begin()?;
+        let left = &self.bytes[self.at..];
+        let n = buf.len().min(self.piece).min(left.len());
+        buf[..n].copy_from_slice(&left[..n]);
+        self.at += n;
+        Ok(n)
+    }
+}

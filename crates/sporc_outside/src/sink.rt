@@ -1,0 +1,32 @@
+ghost use Rattle.std.specs.Prelude.{◌≡◌, ◌<◌, ◌≤◌, ℕ, List, Option, length, IfOk, OnOk, OnErr};
+ghost use Rattle.std.specs.Io.KnownBytes.{WriteAppends, Appends};
+ghost use Rattle.sporc_outside.specs.Counts.{CountsFaults};
+ghost use Rattle.sporc_outside.specs.Writing.{AppendsFront};
+
+use crate::counted::{Counted, Failed};
+
+/// Takes bytes, in pieces of its own choice.
+pub trait Sink: Counted {
+    // The bytes written so far, where it tells them.
+    ghost written: { Self → Option (List ℕ) };
+
+    /// Takes a front of the bytes, and says how many: at least one, where there are any.
+    fn write(&mut self, bytes: &[u8]) -> Result<usize, Failed>
+        ensures bound { IfOk result (λ n. n ≤ length bytes.now) }
+        ensures some { IfOk result (λ n. 0 < length bytes.now → 0 < n) }
+        ensures bytes { WriteAppends (written self.old) (written self.new) result bytes.now }
+        ensures count { CountsFaults (Self.faults self.old) (Self.faults self.new) result };
+}
+
+/// Writes all the bytes, or a front of them where the sink fails.
+pub fn write_all<O: Sink>(out: &mut O, bytes: &[u8]) -> Result<(), Failed>
+    ensures ok { OnOk result (Appends (O.written out.old) (O.written out.new) bytes.now) }
+    ensures err { OnErr result (AppendsFront (O.written out.old) (O.written out.new) bytes.now) }
+    ensures count { CountsFaults (O.faults out.old) (O.faults out.new) result }
+{
+    let mut at = 0;
+    while at < bytes.len() {
+        at += out.write(&bytes[at..])?;
+    }
+    Ok(())
+}

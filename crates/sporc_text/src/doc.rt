@@ -1,0 +1,141 @@
+// The text of a document.
+
+ghost use Rattle.std.specs.Prelude.{◌≡◌, ◌↔◌, [], length, IsTrue, IfOk, OnOk, OnErr};
+ghost use Rattle.std.specs.String.{string_bytes};
+ghost use Rattle.std.specs.Str.{encode_utf8_all};
+ghost use Rattle.sporc_delta.specs.Marks.{base_len, apply};
+
+use crate::edit::edited;
+use sporc_delta::Delta;
+use std::alloc::{AllocError, Global};
+use std::marker::Model;
+
+/// Memory was wanting.
+pub type Memory = AllocError;
+
+/// The text of a document, seen as the list of its characters (Unicode scalar values).
+#[derive(Debug, Drop)]
+pub struct Doc {
+    characters: Vec<char>,
+}
+
+impl Model for Doc {
+    ghost use Rattle.std.specs.Prelude.{List, ℕ};
+
+    ghost Value = { List ℕ };
+
+    ghost view = { λ d. d.characters.items };
+}
+
+/// All that the next [`Doc::put`] needs, seen as the text that it makes.
+#[derive(Debug, Drop)]
+pub struct ReadyText {
+    characters: Vec<char>,
+}
+
+impl Model for ReadyText {
+    ghost use Rattle.std.specs.Prelude.{List, ℕ};
+
+    ghost Value = { List ℕ };
+
+    ghost view = { λ r. r.characters.items };
+}
+
+impl Doc {
+    /// The empty text.
+    pub fn new(alloc: Global) -> Doc
+        ensures { result ≡ [] }
+    {
+        Doc {
+            characters: Vec::new(alloc),
+        }
+    }
+
+    /// The number of characters.
+    pub fn len(&self) -> u64
+        ensures { result ≡ length self.now }
+    {
+        self.characters.len() as u64
+    }
+
+    /// Whether there are no characters.
+    pub fn is_empty(&self) -> bool
+        ensures { IsTrue result ↔ (self.now ≡ []) }
+    {
+        self.characters.is_empty()
+    }
+
+    /// The text as UTF-8.
+    pub fn text(&self) -> Result<String, Memory>
+        ensures { IfOk result (λ t. string_bytes t ≡ encode_utf8_all self.now) }
+    {
+        let alloc = *self.characters.allocator();
+        self.characters.iter().copied().collect(alloc)
+    }
+
+    /// Takes all the memory that applying a delta wants, and leaves the text.
+    pub fn ready(&mut self, delta: &Delta) -> Result<ReadyText, Memory>
+        requires { base_len delta.now ≡ length self.old }
+        ensures ok { IfOk result (λ r. r ≡ apply delta.now self.old) }
+        ensures unchanged { self.new ≡ self.old }
+    {
+        let characters = edited(
+            *self.characters.allocator(),
+            self.characters.as_slice(),
+            delta,
+        )?;
+        Ok(ReadyText { characters })
+    }
+
+    /// Makes the text that was made ready.
+    pub fn put(&mut self, ready: ReadyText)
+        ensures { self.new ≡ ready }
+    {
+        self.characters = ready.characters;
+    }
+
+    /// Applies a delta. Where memory is wanting the text stays.
+    pub fn apply(&mut self, delta: &Delta) -> Result<(), Memory>
+        requires { base_len delta.now ≡ length self.old }
+        ensures ok { OnOk result (self.new ≡ apply delta.now self.old) }
+        ensures err { OnErr result (self.new ≡ self.old) }
+    {
+        let ready = self.ready(delta)?;
+        self.put(ready);
+        Ok(())
+    }
+}
+
+#[cfg(test)]
+mod tests {
+    use super::*;
+    use std::process::Abort;
+    use std::test::Fail;
+
+    fn apply(rt: &impl Abort, doc: &mut Doc, delta: &Delta) -> Result<(), Memory> {
+        assert_eq!(rt; delta.base_len(), doc.len());
+        doc.apply(delta)
+    }
+
+    // Characters of one to four bytes.
+    #[test]
+    fn edits_by_characters(rt: HostRuntime) -> Result<(), Fail> {
+        let alloc = rt.alloc();
+        let mut doc = Doc::new(alloc);
+        assert!(rt; doc.is_empty());
+        apply(&rt, &mut doc, &Delta::insert_at(alloc, 0, 0, "aé€😀")?)?;
+        apply(&rt, &mut doc, &Delta::remove_at(alloc, 4, 1, 2)?)?;
+        assert_eq!(rt; doc.text()?.as_str(), "a😀");
+
+        let insertion = Delta::insert_at(alloc, 2, 1, "日本")?;
+        assert_eq!(rt; insertion.base_len(), doc.len());
+        let ready = doc.ready(&insertion)?;
+        assert_eq!(rt; doc.text()?.as_str(), "a😀");
+        doc.put(ready);
+        assert_eq!(rt; doc.text()?.as_str(), "a日本😀");
+        apply(&rt, &mut doc, &Delta::replace_all(alloc, 4, "ß")?)?;
+        assert_eq!(rt; doc.text()?.as_str(), "ß");
+        assert_eq!(rt; doc.len(), 1);
+        Ok(())
+    }
+}

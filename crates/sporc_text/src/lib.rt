@@ -1,0 +1,7 @@
+//! The text of a document, to which deltas are applied.
+#![tactic(auto)]
+
+mod doc;
+mod edit;
+
+pub use doc::{Doc, Memory, ReadyText};
