@@ -79,4 +79,4 @@ module _ {S E : Type 0} (m : Me (std.Option S) (View E)) where
   Compares by n =
       (n ≡ (record m.0 { known = matched m.0.known }, m.1))
       × (length m.0.known.unmatched ≤ length m.0.known.seen → StartsWith m.0.known.seen m.0.known.unmatched)
-      × Agrees by m.0.known m.0.known.seen × (m.0.known.number ≡ 0 → length m.0.known.joined ≤ m.0.known.splits)
+      × Agrees by (matched m.0.known) m.0.known.seen × (m.0.known.number ≡ 0 → length m.0.known.joined ≤ m.0.known.splits)
