@@ -49,10 +49,10 @@ part_cut : (m n : ℕ) (x : Mark) → n ≤ m → replicate m x ≡ replicate n 
 part_cut m n x h = let e : m ≡ n + (m - n) = omega arith in ap (λ k. replicate k x) e ∙ sym (replicate-append-replicate n (m - n) x)
 
 -- a text that comes first, whole
-record TextFirst (ps new : List Part) (text : List ℕ) : Type 0 where
+pub record TextFirst (ps new : List Part) (text : List ℕ) : Type 0 where
   pub marks : marks_of ps ≡ inserts text ++ marks_of new
 
-text_first : (ps new : List Part) (text : List ℕ) → first_inserts ps ≡ true → text ≡ take (first_len ps) (first_text ps) → new ≡ without (first_len ps) ps → TextFirst ps new text
+pub text_first : (ps new : List Part) (text : List ℕ) → first_inserts ps ≡ true → text ≡ take (first_len ps) (first_text ps) → new ≡ without (first_len ps) ps → TextFirst ps new text
 text_first [] new text h t n = absurd cc
 text_first (Keep m ∷ ps) new text h t n = absurd cc
 text_first (Remove m ∷ ps) new text h t n = absurd cc
@@ -62,7 +62,7 @@ text_first (InsertText all ∷ ps) new text h t n =
     record { marks = rw (whole, rest) refl }
 
 -- so many marks of a first part that keeps or removes
-run_first : (ps new : List Part) (n : ℕ) → first_inserts ps ≡ false → n ≤ first_len ps → 0 < n → new ≡ without n ps → marks_of ps ≡ replicate n (base_mark (first_removes ps)) ++ marks_of new
+pub run_first : (ps new : List Part) (n : ℕ) → first_inserts ps ≡ false → n ≤ first_len ps → 0 < n → new ≡ without n ps → marks_of ps ≡ replicate n (base_mark (first_removes ps)) ++ marks_of new
 run_first [] new n h le some is = absurd (omega arith)
 run_first (InsertText text ∷ ps) new n h le some is = absurd cc
 run_first (Keep m ∷ ps) new n h le some is = go (eqb m n) refl
@@ -130,11 +130,11 @@ both_runs ps qs ps' qs' n hp hq is some np nq =
     }
 
 -- no part is left of the one, and then none of the other
-no_part : (ps : List Part) → NoneEmpty ps → first_len ps ≡ 0 → ps ≡ []
+pub no_part : (ps : List Part) → NoneEmpty ps → first_len ps ≡ 0 → ps ≡ []
 no_part [] some h = refl
 no_part (p ∷ ps) some h = absurd (omega arith)
 
-no_base : (ps : List Part) → NoneEmpty ps → first_inserts ps ≡ false → base_len (marks_of ps) ≡ 0 → ps ≡ []
+pub no_base : (ps : List Part) → NoneEmpty ps → first_inserts ps ≡ false → base_len (marks_of ps) ≡ 0 → ps ≡ []
 no_base [] some h b = refl
 no_base (Keep n ∷ ps) some h b = absurd (omega (arith, base_len-append (retains n) (marks_of ps), base_len-retains n))
 no_base (InsertText text ∷ ps) some h b = absurd cc

@@ -2,7 +2,7 @@
 use Rattle.std.specs.Prelude.{◌≡◌, ℕ, ◌-◌, ◌<◌, Bool, true, false, List, [], ◌∷◌, drop, take, length, ◌==◌, if◌then◌else◌, ⊤}
 use Rattle.sporc_delta.specs.declared.part.Part.{Part}
 use Rattle.sporc_delta.specs.declared.part.Part.TheVariants.{Keep, Insert as InsertText, Remove}
-use Rattle.sporc_delta.specs.Marks.{base_len, out_len}
+use Rattle.sporc_delta.specs.Marks.{Mark, base_len, out_len}
 use Rattle.sporc_delta.specs.Parts.{part_len, marks_of}
 
 -- the parts without the first n marks, of which the first part has more
@@ -63,3 +63,8 @@ pub record AreInARow (ps qs : List Part) : Type 0 where
   pub between : out_len (marks_of ps) ≡ base_len (marks_of qs)
   pub first_none_empty : NoneEmpty ps
   pub second_none_empty : NoneEmpty qs
+
+-- what is left of two such deltas
+pub record Row : Type 0 where
+  pub first : List Mark
+  pub second : List Mark

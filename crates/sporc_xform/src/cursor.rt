@@ -1,6 +1,7 @@
 // A walk along the parts of a delta.
 
-ghost use Rattle.std.specs.Prelude.{◌≡◌, ◌≤◌, ◌<◌, take};
+ghost use Rattle.std.specs.Prelude.{◌≡◌, ◌≤◌, ◌<◌, ◌^◌, take};
+ghost use Rattle.sporc_delta.specs.Marks.{base_len, out_len};
 ghost use Rattle.sporc_delta.specs.Parts.{marks_of, runs};
 ghost use Rattle.sporc_xform.specs.Left.{NoneEmpty, first_inserts, first_len, first_removes, first_text, without};
 
@@ -36,6 +37,7 @@ impl<'a> Cursor<'a> {
         ensures value { result ≡ runs delta.entry.now }
         ensures marks { marks_of result ≡ delta.entry.now }
         ensures none_empty { NoneEmpty result }
+        ensures small { (base_len delta.entry.now ≤ 2 ^ 60) × (out_len delta.entry.now ≤ 2 ^ 60) }
     {
         at_start(delta.parts())
     }

@@ -4,9 +4,11 @@
 //! text; and a delta and one over the text after it are put together.
 #![tactic(auto)]
 
+mod composition;
 mod cursor;
 pub mod laws;
 mod side_by_side;
 mod transform;
 
+pub use crate::composition::compose;
 pub use crate::transform::{both, earlier, later};
