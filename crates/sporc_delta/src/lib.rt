@@ -16,3 +16,6 @@ pub use crate::delta::Delta;
 pub use crate::fault::DeltaFault;
 pub use crate::part::{Kind, Part, Piece};
 pub use crate::text::{Text, TextSlice};
+
+#[cfg(test)]
+mod tests;
