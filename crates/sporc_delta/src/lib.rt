@@ -9,6 +9,7 @@ mod delta;
 mod encode;
 mod ends;
 mod fault;
+pub mod laws;
 mod part;
 mod text;
 
