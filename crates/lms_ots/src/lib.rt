@@ -19,3 +19,6 @@ pub use coefficients::{checksum, coef};
 pub use ots_type::OtsType;
 pub use public_key::ots_public;
 pub use signature::{Memory, OtsFault, ots_candidate, ots_sign};
+
+#[cfg(test)]
+mod tests;

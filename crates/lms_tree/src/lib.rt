@@ -20,3 +20,6 @@ pub use lms_type::LmsType;
 pub use public_key::LmsPublic;
 pub use tree::Tree;
 pub use verification::verify;
+
+#[cfg(test)]
+mod tests;
