@@ -1,1 +1,12 @@
+pub mod Checks
+pub mod Client
+pub mod Entry
+pub mod FirstFault
+pub mod History
+pub mod HistoryKeeps
+pub mod HistoryValue
+pub mod Names
+pub mod SameEntry
+pub mod Submission
+pub mod ClientKeeps
 pub mod Verdict
