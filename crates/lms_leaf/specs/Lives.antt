@@ -49,7 +49,8 @@ module _ {D : Type 0} (stored : D → Option (List ℕ)) (moment : D → ℕ) (i
       Opens stored moment images disk result × IsDuring moment disk (disk_after result) at
       × IsFound stored moment images (disk_after result) at found × IsLife (AtRest found) moves
   IsLife (AtRest disk) (move ∷ moves) = ⊥
-  IsLife (InUse leaves) (Draw result after ∷ moves) = Draws stored moment images leaves result after × IsLife (InUse after) moves
+  IsLife (InUse leaves) (Draw result after ∷ moves) =
+      Draws stored moment images leaves result after × IsLife (InUse after) moves
   IsLife (InUse leaves) (DrawCut result after at found ∷ moves) =
       Draws stored moment images leaves result after × IsDuring moment leaves.disk after.disk at
       × IsFound stored moment images after.disk at found × IsLife (AtRest found) moves
