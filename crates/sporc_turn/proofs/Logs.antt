@@ -11,7 +11,7 @@ use Rattle.std.proofs.lemmas.List.Elements.{Contains-append_left, Contains-appen
 use Rattle.atomic_table.proofs.Lists.{at_set, set_else, at_last, at_longer}
 use Rattle.sporc_turn.specs.declared.known.Known.{Known}
 use Rattle.sporc_turn.specs.declared.known.Joined.{Joined}
-use Rattle.sporc_turn.specs.Log.{StartsWith, longer, own, Agrees}
+use Rattle.sporc_turn.specs.Log.{StartsWith, longer, own, HasNumber, Agrees}
 use Rattle.sporc_turn.specs.Knowing.{splitting, copied, joining, nothing_known}
 use Rattle.sporc_turn.specs.Rule.{spent_of, one_if, KnowledgeFits, IsFirst, Ended, IsShared}
 use Rattle.sporc_turn.proofs.Lists
@@ -117,6 +117,31 @@ module _ {E : Type 0} (by : E → ℕ) (start : ℕ) where
   is_first : (log : List E) (ks : List (Known E)) (i : ℕ) (k : Known E) (o : IsShared by start log ks) → get_elem? ks i ≡ some k → k.spent ≡ false → k.number ≡ 0 → IsFirst by start o.splits o.joined k
   is_first log ks i k o at live zero' = o.first k (ap (λ n. get_elem? ks n) (at_zero log ks i k o at live zero') ∙ at)
 
+  -- where the first has joined back all that it split, each other pass is spent
+  alone : (log : List E) (ks : List (Known E)) (i : ℕ) (k : Known E) (o : IsShared by start log ks) → get_elem? ks i ≡ some k → k.spent ≡ false → k.number ≡ 0 → k.splits ≡ length k.joined
+      → (j : ℕ) (u : Known E) → get_elem? ks j ≡ some u → u.spent ≡ false → j ≡ 0
+  alone log ks i k o at live zero' all =
+      let H = is_first log ks i k o at live zero' in
+      let as_many : spent_of ks + 1 ≡ length ks = omega (arith, o.spents, o.counted, H.splits_is, ap length H.joined_is) in
+      only ks (ap (λ n. get_elem? ks n) (at_zero log ks i k o at live zero') ∙ at) as_many
+    where
+      only : (xs : List (Known E)) → get_elem? xs 0 ≡ some k → spent_of xs + 1 ≡ length xs → (j : ℕ) (u : Known E) → get_elem? xs j ≡ some u → u.spent ≡ false → j ≡ 0
+      only [] e m j u p here = absurd (omega arith)
+      only (x ∷ xs) e m zero u p here = refl
+      only (x ∷ xs) e m (suc j) u p here = let z : one_if x.spent ≡ 0 = ap one_if (ap (λ (y : Known E). y.spent) (some-injective x k e) ∙ live) in Lists.no_both u.spent here (all_spent xs (omega arith) j u p)
+
+  -- and each number is of one of those that were joined
+  all_back : (log : List E) (ks : List (Known E)) (i : ℕ) (k : Known E) (o : IsShared by start log ks) → get_elem? ks i ≡ some k → k.spent ≡ false → k.number ≡ 0 → k.splits ≡ length k.joined
+      → (n : ℕ) → n ≢ 0 → n ≤ k.splits → HasNumber k.joined n
+  all_back log ks i k o at live zero' all n ne low =
+      let H = is_first log ks i k o at live zero' in
+      let is0 = at_zero log ks i k o at live zero' in
+      ⊎_elim
+      (λ (t : (m : ℕ) × (u : Known E) × (get_elem? ks m ≡ some u) × (u.spent ≡ false) × (u.number ≡ n)).
+      absurd (ne (sym t.4 ∙ ap number_of (sym (Lists.same_at ks i t.0 k t.1 (sym is0 ∙ sym (alone log ks i k o at live zero' all t.0 t.1 t.2 t.3)) at t.2)) ∙ zero')))
+      (λ (t : HasNumber o.joined n). subst (λ js. HasNumber js n) (sym H.joined_is) t)
+      (o.numbers n (omega (arith, H.splits_is)))
+
   -- the log agrees with what a pass knows
   pub agrees : (log : List E) (ks : List (Known E)) (i : ℕ) (k : Known E) (o : IsShared by start log ks) → get_elem? ks i ≡ some k → k.spent ≡ false → Agrees by k log
   agrees log ks i k o at live =
@@ -130,6 +155,7 @@ module _ {E : Type 0} (by : E → ℕ) (start : ℕ) where
         numbers = λ zero'. (let H = is_first log ks i k o at live zero' in
             Lists.All-of_each (λ e. by e ≤ k.splits) (drop k.start log)
             (λ e has. omega (arith, H.splits_is, o.numbered e (subst (λ n. Contains (drop n log) e) f.starts has))));
+        all_back = all_back log ks i k o at live;
       }
 
   -- and so does what the pass has seen of it
@@ -145,6 +171,7 @@ module _ {E : Type 0} (by : E → ℕ) (start : ℕ) where
         numbers = λ zero'. (let H = is_first log ks i k o at live zero' in
             Lists.All-of_each (λ e. by e ≤ k.splits) (drop k.start k.seen)
             (λ e has. omega (arith, H.splits_is, o.numbered e (in_log log k.seen f.sees f.whole e (subst (λ n. Contains (drop n k.seen) e) f.starts has)))));
+        all_back = all_back log ks i k o at live;
       }
     where
       in_log : (log' seen : List E) → StartsWith log' seen → start ≤ length seen → (e : E) → Contains (drop start seen) e → Contains (drop start log') e
@@ -303,7 +330,7 @@ module _ {E : Type 0} (by : E → ℕ) (start : ℕ) where
             (λ (ne : t.0 ≢ j). dite (ℕ_discrete t.0 i)
             (λ (is : t.0 ≡ i). inl (i, b, set_else vs j i nothing_known (λ s. apart (sym s)) ∙ Lists.set_at ks i b k at, live, ap number_of (Lists.same_at ks i t.0 k t.1 (sym is) at t.2) ∙ t.4))
             (λ (no : t.0 ≢ i). inl (t.0, t.1, set_else vs j t.0 nothing_known ne ∙ (set_else ks i t.0 b no ∙ t.2), t.3, t.4))))
-            (λ (t : (q : Joined E) × Contains o.joined q × (q.number ≡ n)). inr (t.0, Lists.Contains-tail new' o.joined t.0 t.1, t.2))
+            (λ (t : HasNumber o.joined n). inr (t.0, Lists.Contains-tail new' o.joined t.0 t.1, t.2))
             (o.numbers n low);
         counted = length-set vs j nothing_known ∙ length-set ks i b ∙ o.counted;
         spents = (let s = spent_set ks i k b at in let t = spent_set vs j l nothing_known there' in let x : one_if l.spent ≡ 0 = ap one_if live' in omega (arith, o.spents));
@@ -316,23 +343,17 @@ module _ {E : Type 0} (by : E → ℕ) (start : ℕ) where
       let is0 = at_zero log ks i k o at live zero' in
       let H = is_first log ks i k o at live zero' in
       let f = o.each i k at live in
-      let as_many : spent_of ks + 1 ≡ length ks = omega (arith, o.spents, o.counted, H.splits_is, ap length H.joined_is) in
-      let alone : (j : ℕ) (u : Known E) → get_elem? ks j ≡ some u → u.spent ≡ false → j ≡ 0 = only ks (ap (λ n. get_elem? ks n) is0 ∙ at) as_many in
+      let alone' = alone log ks i k o at live zero' all in
       let none' : (n : ℕ) → n ≤ o.splits → filter (λ e. by e == n) f.sees.0 ≡ [] = λ n low. ⊎_elim
       (λ (t : (m : ℕ) × (u : Known E) × (get_elem? ks m ≡ some u) × (u.spent ≡ false) × (u.number ≡ n)).
-      (let same : k ≡ t.1 = Lists.same_at ks i t.0 k t.1 (sym is0 ∙ sym (alone t.0 t.1 t.2 t.3)) at t.2 in
+      (let same : k ≡ t.1 = Lists.same_at ks i t.0 k t.1 (sym is0 ∙ sym (alone' t.0 t.1 t.2 t.3)) at t.2 in
       let number : k.number ≡ n = ap number_of same ∙ t.4 in
       subst (λ m. filter (λ e. by e == m) f.sees.0 ≡ []) number (Lists.behind by k.number start k.seen f.sees.0 k.mine f.whole f.mine_seen (ap (own by k.number start) (sym f.sees.1) ∙ f.mine))))
-      (λ (t : (j : Joined E) × Contains o.joined j × (j.number ≡ n)).
+      (λ (t : HasNumber o.joined n).
       subst (λ m. filter (λ e. by e == m) f.sees.0 ≡ []) t.2 (Lists.behind by t.0.number start k.seen f.sees.0 t.0.items f.whole (H.stand t.0 t.1) (ap (own by t.0.number start) (sym f.sees.1) ∙ (o.ended t.0 t.1).1)))
       (o.numbers n low) in
       let empty : f.sees.0 ≡ [] = Lists.filter_all by f.sees.0 (λ e has. none' (by e) (o.numbered e (in_log e has))) in
-      ((λ j u e here. alone j u e here ∙ is0), f.sees.1 ∙ ap (λ l. k.seen ++ l) empty ∙ append-nil k.seen)
+      ((λ j u e here. alone' j u e here ∙ is0), f.sees.1 ∙ ap (λ l. k.seen ++ l) empty ∙ append-nil k.seen)
     where
-      only : (xs : List (Known E)) → get_elem? xs 0 ≡ some k → spent_of xs + 1 ≡ length xs → (j : ℕ) (u : Known E) → get_elem? xs j ≡ some u → u.spent ≡ false → j ≡ 0
-      only [] e m j u p here = absurd (omega arith)
-      only (x ∷ xs) e m zero u p here = refl
-      only (x ∷ xs) e m (suc j) u p here = let z : one_if x.spent ≡ 0 = ap one_if (ap (λ (y : Known E). y.spent) (some-injective x k e) ∙ live) in Lists.no_both u.spent here (all_spent xs (omega arith) j u p)
-
       in_log : (e : E) → Contains (o.each i k at live).sees.0 e → Contains (drop start log) e
       in_log e has = let f = o.each i k at live in subst (λ xs. Contains xs e) (sym (ap (drop start) f.sees.1 ∙ drop-append-le start k.seen f.sees.0 f.whole)) (Contains-append_right (drop start k.seen) f.sees.0 e has)

@@ -77,7 +77,7 @@ module _ {S E : Type 0} (logs : S → List E) (by : E → ℕ) (start : ℕ) whe
       let is : r ≡ o.ticket = ap (λ ws. slice_index ws 0) o.words in
       let low : r ≤ o.ticket = omega arith in
       let top : r ≤ 2 ^ 62 = omega (arith, o.bounded) in
-      (reading me.0 r, keeps, tt, reread s o id 0 me.0 r at low (same_words s o).0, (refl, top))
+      (reading me.0 r, keeps, tt, reread s o id 0 me.0 r at low (same_words s o).0, (refl, omega (arith, (o.each id me.0 at).read), top))
 
   draws_here : (s : State (std.Option S) (View E)) (o : IsInOrder by logs start s) (id k : ℕ) (me : Me (std.Option S) (View E)) → Rests me.0 → k < 2 ^ 62 → get_elem? s.views id ≡ some me.0 → slice_index s.words 0 ≡ k
       → Does s id me 0 (k + 1) (DrawsTicket me k (slice_index s.words 0))
@@ -346,12 +346,13 @@ module _ {S E : Type 0} (logs : S → List E) (by : E → ℕ) (start : ℕ) whe
       let k = me.0.known in
       let l = matched k in
       let at' = at_map known s.views id me.0 at in
-      let f = (knows s o id me.0 at live).0 in (
+      let f = (knows s o id me.0 at live).0 in
+      let a = Logs.agrees_seen by start o.log (map known s.views) id k o.shared at' live in (
         record me.0 { known = l },
         keeps,
         tt,
         rereads s o id 0 me.0 me.0.read l at (o.each id me.0 at).read (same_words s o).0 refl refl (learns s o id me.0 l at live (refl, live, refl, refl)
             (λ g. record { starts = g.starts; place_is = g.place_is; number = g.number; sees = g.sees; whole = g.whole; unmatched = (o.log, refl); mine = g.mine; mine_seen = g.mine_seen; news = g.news })
             (λ n es a b. a)),
-        (refl, (λ low. starts_shorter k.unmatched k.seen o.log f.unmatched f.sees low), Logs.agrees_seen by start o.log (map known s.views) id k o.shared at' live, (λ zero'. Logs.no_more by start o.log (map known s.views) id k o.shared at' live zero')),
+        (refl, (λ low. starts_shorter k.unmatched k.seen o.log f.unmatched f.sees low), record { begins = a.begins; whole = a.whole; mine = a.mine; joined = a.joined; numbers = a.numbers; all_back = a.all_back }, (λ zero'. Logs.no_more by start o.log (map known s.views) id k o.shared at' live zero')),
       )

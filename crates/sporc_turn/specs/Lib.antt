@@ -5,3 +5,4 @@ pub mod Steps
 pub mod Seats
 pub mod Passes
 pub mod Lending
+pub mod Examples

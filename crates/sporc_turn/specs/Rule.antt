@@ -8,16 +8,16 @@ use Rattle.atomic_table.specs.Table.{State}
 use Rattle.sporc_turn.specs.declared.known.View.{View}
 use Rattle.sporc_turn.specs.declared.known.Known.{Known}
 use Rattle.sporc_turn.specs.declared.known.Joined.{Joined}
-use Rattle.sporc_turn.specs.Log.{StartsWith, own}
+use Rattle.sporc_turn.specs.Log.{StartsWith, own, HasNumber}
 
 abbrev pub known : {E : Type 0} → View E → Known E
 known v = v.known
 
--- how many passes were joined to another
 abbrev pub one_if : Bool → ℕ
 one_if true = 1
 one_if false = 0
 
+-- how many passes were joined to another
 abbrev pub spent_of : {E : Type 0} → List (Known E) → ℕ
 spent_of [] = 0
 spent_of (k ∷ ks) = one_if k.spent + spent_of ks
@@ -76,7 +76,7 @@ module _ {E : Type 0} (by : E → ℕ) where
     pub each : (place : ℕ) (k : Known E) → get_elem? ks place ≡ some k → k.spent ≡ false → KnowledgeFits start log seat splits place k
     pub ended : (j : Joined E) → Contains joined j → (j.number ≤ splits) × (own by j.number start log ≡ j.items) × Ended ks j.number
     pub numbered : (e : E) → Contains (drop start log) e → by e ≤ splits
-    pub numbers : (n : ℕ) → n ≤ splits → ((place : ℕ) × (k : Known E) × (get_elem? ks place ≡ some k) × (k.spent ≡ false) × (k.number ≡ n)) ⊎ ((j : Joined E) × Contains joined j × (j.number ≡ n))
+    pub numbers : (n : ℕ) → n ≤ splits → ((place : ℕ) × (k : Known E) × (get_elem? ks place ≡ some k) × (k.spent ≡ false) × (k.number ≡ n)) ⊎ HasNumber joined n
     pub counted : length ks ≡ suc splits
     pub spents : spent_of ks ≡ length joined
 

@@ -46,9 +46,9 @@ module _ {E : Type 0} where
   gone = record { waits = false; turns = false; ticket = 0; read = 0; known = nothing_known }
 
 module _ {S E : Type 0} (m : Me (std.Option S) (View E)) where
-  -- the next ticket was read
+  -- the next ticket was read, which is none below the one that was read before
   abbrev pub ReadsTicket : ℕ → Me (std.Option S) (View E) → Type 0
-  ReadsTicket r n = (n ≡ (reading m.0 r, m.1)) × (r ≤ 2 ^ 62)
+  ReadsTicket r n = (n ≡ (reading m.0 r, m.1)) × (m.0.read ≤ r) × (r ≤ 2 ^ 62)
 
   -- the ticket was drawn, if it was still the next
   abbrev pub DrawsTicket : ℕ → ℕ → Me (std.Option S) (View E) → Type 0
@@ -79,4 +79,4 @@ module _ {S E : Type 0} (m : Me (std.Option S) (View E)) where
   Compares by n =
       (n ≡ (record m.0 { known = matched m.0.known }, m.1))
       × (length m.0.known.unmatched ≤ length m.0.known.seen → StartsWith m.0.known.seen m.0.known.unmatched)
-      × Agrees by m.0.known m.0.known.seen × (m.0.known.number ≡ 0 → length m.0.known.joined ≤ m.0.known.splits)
+      × Agrees by (matched m.0.known) m.0.known.seen × (m.0.known.number ≡ 0 → length m.0.known.joined ≤ m.0.known.splits)

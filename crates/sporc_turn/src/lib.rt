@@ -16,6 +16,7 @@
 mod held;
 mod kept;
 mod known;
+pub mod laws;
 mod numbers;
 mod pass;
 mod rule;

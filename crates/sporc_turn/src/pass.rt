@@ -1,4 +1,4 @@
-ghost use Rattle.std.specs.Prelude.{◌≡◌, length};
+ghost use Rattle.std.specs.Prelude.{◌≡◌, ◌≢◌, length, IfNone, IfSome};
 ghost use Rattle.sporc_turn.specs.Seats.{Rests, Counts, view_of};
 
 use crate::known::View;
@@ -22,7 +22,6 @@ pub struct Pass<E> {
 }
 
 impl<E> Pass<E> {
-    ghost use Rattle.std.specs.Prelude.{◌≡◌, ◌≢◌, IfNone, IfSome};
     ghost use Rattle.sporc_turn.specs.Passes.{known_of, out_of};
 
     /// The number: 0 of the pass that `open` gave, and k of the one that the k-th split gave.

@@ -12,7 +12,7 @@ use atomic_table::{Join, Play, Split, TableRule};
 use std::snapshot::Snapshot;
 
 /// The rule holds between any two steps.
-pub struct Rule;
+pub(crate) struct Rule;
 
 impl<S: Kept> TableRule<Option<S>, View<S::Item>, Snapshot<S>> for Rule {
     ghost holds = { λ key. IsInOrder S.by S.log (length (S.log key.value)) };

@@ -1,5 +1,5 @@
-ghost use Rattle.std.specs.Prelude.{◌≡◌, ◌≢◌, ◌+◌, ◌-◌, ◌^◌, ◌<◌, ◌≤◌, IfOk, IfErr, MatchResult, [], length, true};
-ghost use Rattle.sporc_turn.specs.Log.{StartsWith, Extends, Agrees, own};
+ghost use Rattle.std.specs.Prelude.{◌≡◌, ◌≢◌, ◌+◌, ◌^◌, ◌<◌, ◌≤◌, IfOk, IfErr, MatchResult, [], length, true};
+ghost use Rattle.sporc_turn.specs.Log.{StartsWith, Extends, Agrees};
 ghost use Rattle.sporc_turn.specs.Knowing.{first_known, seeing, adding, hearing, splitting, copied, joined_with};
 ghost use Rattle.sporc_turn.specs.Seats.{Rests, has_room};
 ghost use Rattle.sporc_turn.specs.Steps.{drawing, serving, reading};
@@ -43,7 +43,6 @@ pub struct Turn<S: Kept> {
 }
 
 impl<S: Kept> Turn<S> {
-    ghost use Rattle.std.specs.Prelude.{◌≡◌, ◌≢◌, ◌+◌, ◌-◌, ◌^◌, ◌<◌, ◌≤◌, IfOk, IfErr, MatchResult, [], length, true};
     ghost use Rattle.sporc_turn.specs.Passes.{known_of, read_of, out_of, known_held, read_held, value_of, IsPassOf, IsHeldOf};
 
     /// The lock round a value, with the pass whose number is 0. It has seen the log of the value.
@@ -86,7 +85,7 @@ impl<S: Kept> Turn<S> {
         requires bare { seat.old.me.1 ≡ [] }
         ensures table { seat.new.table_id ≡ seat.old.table_id }
         ensures bare { seat.new.me.1 ≡ [] }
-        ensures ticket { MatchResult result (λ n. n < 2 ^ 62) (λ w. w.0 ≡ 2 ^ 62) }
+        ensures ticket { MatchResult result (λ n. (seat.old.me.0.read ≤ n) × (n < 2 ^ 62)) (λ w. w.0 ≡ 2 ^ 62) }
         ensures view { MatchResult result (λ n. seat.new.me.0 ≡ drawing (reading seat.old.me.0 n) n) (λ w. seat.new.me.0 ≡ reading seat.old.me.0 w.0) }
     {
         'tries: for _ in rt.forever() {
@@ -130,7 +129,8 @@ impl<S: Kept> Turn<S> {
     /// Draws a ticket, waits until it is served, and takes the value out. The log of the value
     /// agrees with all that the pass knows, and is no shorter than its last news.
     ///
-    /// No ticket is drawn where the next one is 2^62: then the pass comes back, and has read it.
+    /// No ticket is drawn where the next one is 2^62: then the pass comes back, and has read it. The
+    /// next ticket is never below one that was read before, so then it stays 2^62.
     pub fn take<R: Wait>(
         &self,
         rt: &R,
@@ -141,7 +141,7 @@ impl<S: Kept> Turn<S> {
         ensures found { IfOk result (λ h. Agrees S.by (known_of pass) (S.log (value_of h))) }
         ensures news { IfOk result (λ h. (known_of pass).news ≤ length (S.log (value_of h))) }
         ensures held { IfOk result (λ h. known_held h ≡ seeing (known_of pass) (S.log (value_of h))) }
-        ensures drawn { IfOk result (λ h. read_held h < 2 ^ 62) }
+        ensures drawn { IfOk result (λ h. (read_of pass ≤ read_held h) × (read_held h < 2 ^ 62)) }
         ensures worn { IfErr result (λ e. e.1.0 ≡ 2 ^ 62) }
         ensures read { IfErr result (λ e. read_of e.0 ≡ e.1.0) }
         ensures same { IfErr result (λ e. known_of e.0 ≡ known_of pass) }

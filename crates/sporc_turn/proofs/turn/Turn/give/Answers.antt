@@ -1,8 +1,8 @@
 use Rattle.std.proofs.Common.{rules, ap, ◌∙◌, ◌∷◌, Some, sym, ◌+◌, subst}
 use Rattle.atomic_table.specs.Table.{rest}
-use Rattle.sporc_turn.specs.Log.{Extends}
+use Rattle.sporc_turn.specs.Log.{Extends, Agrees}
 use Rattle.sporc_turn.proofs.Turns.{raises, passes}
-use Rattle.sporc_turn.proofs.Passes.{room_slot}
+use Rattle.sporc_turn.proofs.Passes.{room_slot, view_there}
 use Rattle.sporc_turn.proofs.turn.Turn.give.Goals as goal
 
 pub store-requires : goal.store-requires
@@ -34,3 +34,11 @@ store-requires-2 g c =
           (ap (λ m. m.0.known.seen) s)
           (ap (λ n. n + 1) held.holder.ticket_is ∙ ap (λ m. m.0.ticket + 1) (sym e.3) ∙ ap (λ m. m.0.ticket + 1) (sym s)),
     )
+
+pub returns-clause-agrees : goal.returns-clause-agrees
+returns-clause-agrees g c =
+    let held = c.args.held in
+    let logs = g.S.Kept.log in
+    let s = c.store.ensures.2 held.value (ap (λ m. m.1) c.exchange.ensures.3 ∙ ap (λ l. (0, Some held.value) ∷ rest l) (room_slot held.holder.seat.me.1 held.holder.room)) in
+    let known = ap (λ v. v.known) (view_there _ _ c.into_badge.ensures.2) ∙ ap (λ m. m.0.known) c.store-2.ensures.2 ∙ ap (λ m. m.0.known) s.0 in
+    subst (λ k. Agrees g.S.Kept.by k (logs held.value)) (sym known) s.1
