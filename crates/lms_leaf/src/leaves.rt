@@ -1,6 +1,5 @@
-ghost use Rattle.std.specs.Prelude.{◌≡◌, ◌≢◌, ◌↔◌, ◌⊎◌, ℕ, ◌+◌, ◌*◌, ◌/◌, ◌%◌, ◌^◌, ◌<◌, ◌≤◌, false, length, slice_index, IsTrue, IsOk, OnOk, IfOk, IfErr, IfSome};
-ghost use Rattle.sporc_outside.specs.Counts.{CountsFaults, Rose};
-ghost use Rattle.sporc_outside.specs.LeafDisk.{IsStable, KeepsOutside};
+ghost use Rattle.std.specs.Prelude.{◌≡◌, ◌≢◌, ℕ, ◌+◌, ◌*◌, ◌/◌, ◌%◌, ◌^◌, ◌<◌, ◌≤◌, false, length, OnOk, IfOk, IfErr, IfSome};
+ghost use Rattle.sporc_outside.specs.Counts.{Rose};
 ghost use Rattle.lms_leaf.specs.LeafFile.{IsLeafHeight, block_count, taken_blocks};
 ghost use Rattle.lms_leaf.specs.Leaves.{KeepsStable, IsSynced, Draws, DrawFaults, Opens, disk_after};
 

@@ -1,7 +1,5 @@
-ghost use Rattle.std.specs.Prelude.{◌≡◌, ◌⊎◌, ◌+◌, ◌≤◌, [], ◌∷◌, ◌++◌, ℕ, List, Some, true, false, length, take, drop, IsErr, IfOk, OnOk, OnErr, Contains};
+ghost use Rattle.std.specs.Prelude.{◌≡◌, ◌⊎◌, ◌+◌, ◌≤◌, [], ◌∷◌, ◌++◌, Some, true, false, length, IsErr, IfOk, OnOk, OnErr, Contains};
 ghost use Rattle.sporc_outside.specs.Counts.{CountsFaults, Rose, next_count};
-ghost use Rattle.sporc_outside.specs.LeafDisk.{overwrite, IsSame, IsSameOutside, KeepsOutside, Passes};
-ghost use Rattle.sporc_outside.specs.declared.disk_call.DiskRequest.TheVariants as requests;
 
 use crate::calls::Calls;
 use crate::counted::{Counted, Failed};
