@@ -4,3 +4,4 @@ pub mod Runs
 pub mod Appended
 pub mod Sound
 pub mod Spelled
+pub mod Decoding

@@ -1,7 +1,11 @@
 -- The parts of a delta: its runs of equal marks.
 use Rattle.std.specs.Prelude.{◌≡◌, ℕ, suc, ◌≤◌, ◌<◌, ◌^◌, Bool, true, false, Option, Some, slice_get, ◌-◌, List, [], ◌∷◌, ◌++◌, length, ⊤}
+use Rattle.sporc_delta.specs.declared.part.Kind.{Kind}
+use Rattle.sporc_delta.specs.declared.part.Kind.TheVariants as kinds
 use Rattle.sporc_delta.specs.declared.part.Part.{Part}
 use Rattle.sporc_delta.specs.declared.part.Part.TheVariants.{Keep, Insert as InsertText, Remove}
+use Rattle.sporc_delta.specs.declared.part.Piece.{Piece}
+use Rattle.sporc_delta.specs.declared.part.Piece.TheVariants as pieces
 use Rattle.sporc_delta.specs.Marks.{Mark, Retain, Delete, Insert, base_len, out_len, retains, deletes, inserts}
 
 -- the marks of one part, and of all parts in order
@@ -28,12 +32,23 @@ abbrev pub runs : List Mark → List Part
 runs [] = []
 runs (m ∷ ms) = with_mark m (runs ms)
 
+abbrev pub kind_of : Part → Kind
+kind_of (Keep n) = kinds.Keep
+kind_of (InsertText text) = kinds.Insert
+kind_of (Remove n) = kinds.Remove
+
 -- two parts are of one kind
 abbrev pub same_kind : Part → Part → Bool
 same_kind (Keep m) (Keep n) = true
 same_kind (InsertText s) (InsertText t) = true
 same_kind (Remove m) (Remove n) = true
 same_kind p q = false
+
+-- a part whose text stands elsewhere, as one that owns it
+abbrev pub owned : Piece → Part
+owned (pieces.Keep n) = Keep n
+owned (pieces.Insert text) = InsertText text
+owned (pieces.Remove n) = Remove n
 
 -- how many marks a part has
 abbrev pub part_len : Part → ℕ

@@ -4,12 +4,14 @@ ghost use Rattle.std.specs.Prelude.{◌≡◌, ◌+◌, ◌≤◌, ◌^◌, ◌+
 ghost use Rattle.std.specs.Str.{chars};
 ghost use Rattle.sporc_delta.specs.Format.{delta_bytes};
 ghost use Rattle.sporc_delta.specs.Marks.{base_len, out_len, retains, deletes, inserts, insertion, removal, replacement};
-ghost use Rattle.sporc_delta.specs.Parts.{AreRuns, runs};
+ghost use Rattle.sporc_delta.specs.Parts.{AreRuns, marks_of, owned, part_marks, runs};
+ghost use Rattle.sporc_delta.specs.Reading.{Gives, read_delta};
 
+use crate::decode::read_part;
 use crate::encode::{parts_encoded, parts_len};
 use crate::ends::{append_keep, append_remove, append_text};
 use crate::part::copies;
-use crate::{Part, TextSlice};
+use crate::{DeltaFault, Part, Piece, TextSlice};
 use std::alloc::{AllocError, Global};
 use std::marker::Model;
 
@@ -43,6 +45,23 @@ impl Delta {
             base: 0,
             out: 0,
         }
+    }
+
+    /// The delta that bytes spell (see `encode`), or the first fault from the left.
+    pub fn decode(alloc: Global, bytes: &[u8]) -> Result<Delta, DeltaFault>
+        requires { length bytes.now ≤ 4194304 }
+        ensures { Gives (λ d. d) result (read_delta bytes.now) }
+    {
+        let mut delta = Delta::new(alloc);
+        let mut before = None;
+        let mut rest = bytes;
+        while !rest.is_empty() {
+            let (piece, after) = read_part(before, rest)?;
+            delta.push(&piece)?;
+            before = Some(piece.kind());
+            rest = after;
+        }
+        Ok(delta)
     }
 
     /// Inserts a text before the character at a place of a text of `len` characters.
@@ -116,7 +135,9 @@ impl Delta {
     /// The parts: no part is empty, and no two neighbours are of one kind.
     pub fn parts(&self) -> &[Part]
         ensures value { result.now ≡ runs self.now }
+        ensures marks { marks_of result.now ≡ self.now }
         ensures are_runs { AreRuns result.now }
+        ensures small { (base_len self.now ≤ 2 ^ 60) × (out_len self.now ≤ 2 ^ 60) }
     {
         self.parts.as_slice()
     }
@@ -147,6 +168,21 @@ impl Delta {
         ensures { IfOk result (λ v. v.items ≡ delta_bytes self.now) }
     {
         parts_encoded(*self.parts.allocator(), self.parts.as_slice())
+    }
+
+    /// Appends a part.
+    #[tactic(auto, using(crate::proofs::Lengths::lengths))]
+    pub fn push(&mut self, piece: &Piece<'_>) -> Result<(), AllocError>
+        requires base { base_len self.old + base_len (part_marks (owned piece.now)) ≤ 2 ^ 60 }
+        requires out { out_len self.old + out_len (part_marks (owned piece.now)) ≤ 2 ^ 60 }
+        ensures ok { OnOk result (self.new ≡ self.old ++ part_marks (owned piece.now)) }
+        ensures err { OnErr result (self.new ≡ self.old) }
+    {
+        match piece {
+            Piece::Keep(count) => self.push_keep(*count),
+            Piece::Insert(text) => self.push_insert(text),
+            Piece::Remove(count) => self.push_remove(*count),
+        }
     }
 
     /// Keeps so many more characters behind what is there.

@@ -4,12 +4,15 @@
 //! before it, each of which keeps, inserts or removes some characters.
 #![tactic(auto)]
 
+mod decode;
 mod delta;
 mod encode;
 mod ends;
+mod fault;
 mod part;
 mod text;
 
 pub use crate::delta::Delta;
-pub use crate::part::Part;
+pub use crate::fault::DeltaFault;
+pub use crate::part::{Kind, Part, Piece};
 pub use crate::text::{Text, TextSlice};

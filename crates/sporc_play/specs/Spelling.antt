@@ -1,0 +1,72 @@
+-- How commands are spelled: words with one space between them, numbers in decimal.
+use Rattle.std.specs.Prelude.{◌≡◌, ℕ, ◌^◌, ◌<◌, List, ◌++◌, codes, true, length}
+use Rattle.std.specs.Fmt.{decimal}
+use Rattle.std.specs.Str.{all_scalars, encode_utf8_all}
+use Rattle.sporc_play.specs.declared.script.command.Command.{Command}
+use Rattle.sporc_play.specs.declared.script.command.Command.TheVariants as commands
+use Rattle.sporc_play.specs.declared.script.command.Change.{Change}
+use Rattle.sporc_play.specs.declared.script.command.Change.TheVariants.{Insert, Remove}
+use Rattle.sporc_play.specs.declared.script.command.Edit.{Edit}
+use Rattle.sporc_play.specs.declared.script.command.Give.{Give}
+use Rattle.sporc_play.specs.Quoted.{quoted}
+
+abbrev pub change_spelling : Change → List ℕ
+change_spelling (Insert c) = codes "insert " ++ (decimal c.at ++ (codes " " ++ quoted c.text))
+change_spelling (Remove c) = codes "remove " ++ (decimal c.at ++ (codes " " ++ decimal c.count))
+
+abbrev pub edit_spelling : Edit → List ℕ
+edit_spelling e = decimal e.member ++ (codes " " ++ change_spelling e.change)
+
+abbrev pub give_spelling : Give → List ℕ
+give_spelling g = decimal g.member ++ (codes " " ++ (decimal g.position ++ (codes " " ++ decimal g.entry)))
+
+abbrev pub spelling : Command → List ℕ
+spelling (commands.Member m) = codes "member " ++ (decimal m ++ codes " admin")
+spelling (commands.Edit e) = codes "edit " ++ edit_spelling e
+spelling (commands.Submit m) = codes "submit " ++ decimal m
+spelling (commands.Give g) = codes "give " ++ give_spelling g
+spelling (commands.Show m) = codes "show " ++ decimal m
+
+-- a member's number is a u16 and not 0
+abbrev pub IsMember : ℕ → Type 0
+IsMember m = (0 < m) × (m < 2 ^ 16)
+
+-- the numbers fit their types, and the characters are Unicode scalar values
+abbrev pub ChangeInRange : Change → Type 0
+ChangeInRange (Insert c) = (c.at < 2 ^ 64) × (all_scalars c.text ≡ true)
+ChangeInRange (Remove c) = (c.at < 2 ^ 64) × (c.count < 2 ^ 64)
+
+abbrev pub EditInRange : Edit → Type 0
+EditInRange e = IsMember e.member × ChangeInRange e.change
+
+abbrev pub GiveInRange : Give → Type 0
+GiveInRange g = IsMember g.member × (g.position < 2 ^ 32) × (g.entry < 2 ^ 64)
+
+abbrev pub InRange : Command → Type 0
+InRange (commands.Member m) = IsMember m
+InRange (commands.Edit e) = EditInRange e
+InRange (commands.Submit m) = IsMember m
+InRange (commands.Give g) = GiveInRange g
+InRange (commands.Show m) = IsMember m
+
+-- these bytes are the spelling of a change, an edit, a give and a command
+abbrev pub SpellsChange : List ℕ → Change → Type 0
+SpellsChange bytes c = ChangeInRange c × (bytes ≡ change_spelling c)
+
+abbrev pub SpellsEdit : List ℕ → Edit → Type 0
+SpellsEdit bytes e = EditInRange e × (bytes ≡ edit_spelling e)
+
+abbrev pub SpellsGive : List ℕ → Give → Type 0
+SpellsGive bytes g = GiveInRange g × (bytes ≡ give_spelling g)
+
+abbrev pub Spells : List ℕ → Command → Type 0
+Spells bytes command = InRange command × (bytes ≡ spelling command)
+
+-- how many bytes the text of a command has
+abbrev pub change_size : Change → ℕ
+change_size (Insert c) = length (encode_utf8_all c.text)
+change_size (Remove c) = 0
+
+abbrev pub text_size : Command → ℕ
+text_size (commands.Edit e) = change_size e.change
+text_size c = 0

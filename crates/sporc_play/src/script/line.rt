@@ -1,0 +1,126 @@
+//! One line of a script.
+
+ghost use Rattle.std.specs.Prelude.{◌≡◌, ◌≢◌, ◌++◌, ℕ, List, codes, IfOk, MatchOption};
+ghost use Rattle.std.specs.Fmt.{decimal};
+ghost use Rattle.sporc_play.specs.declared.script.command.Command.{Command};
+ghost use Rattle.sporc_play.specs.declared.script.command.Change.{Change};
+ghost use Rattle.sporc_play.specs.declared.script.command.Edit.{Edit};
+ghost use Rattle.sporc_play.specs.declared.script.command.Give.{Give};
+ghost use Rattle.sporc_play.specs.Spelling.{IsMember, Spells, SpellsChange, SpellsEdit, SpellsGive};
+
+use crate::script::command::{Change, Command, Edit, Give, Insertion, Removal};
+use crate::script::quoted::quoted_text;
+use crate::script::words::{after, before, member, number, small_number, split_once};
+use std::alloc::{AllocError, Global};
+
+// The command that the whole line spells, if there is one.
+pub fn read_command(alloc: Global, line: &[u8]) -> Result<Option<Command>, AllocError>
+    ensures { IfOk result (λ found. MatchOption found ((c : Command) → ¬ Spells line.now c) (λ c. Spells line.now c)) }
+{
+    let Some(rest) = after(line, b"edit ") else {
+        return Ok(read_short(line));
+    };
+    let Some(edit) = read_edit(alloc, rest)? else {
+        return Ok(None);
+    };
+    Ok(Some(Command::Edit(edit)))
+}
+
+// A command that is no edit.
+fn read_short(line: &[u8]) -> Option<Command>
+    requires { (rest : List ℕ) → line.now ≢ codes "edit " ++ rest }
+    ensures { MatchOption result ((c : Command) → ¬ Spells line.now c) (λ c. Spells line.now c) }
+{
+    if let Some(rest) = after(line, b"member ") {
+        return match declaration(rest) {
+            Some(m) => Some(Command::Member(m)),
+            None => None,
+        };
+    }
+    if let Some(rest) = after(line, b"submit ") {
+        return match member(rest) {
+            Some(m) => Some(Command::Submit(m)),
+            None => None,
+        };
+    }
+    if let Some(rest) = after(line, b"give ") {
+        return match read_give(rest) {
+            Some(give) => Some(Command::Give(give)),
+            None => None,
+        };
+    }
+    match member(after(line, b"show ")?) {
+        Some(m) => Some(Command::Show(m)),
+        None => None,
+    }
+}
+
+// `M admin`
+fn declaration(rest: &[u8]) -> Option<u16>
+    ensures { MatchOption result ((m : ℕ) → IsMember m → rest.now ≢ decimal m ++ codes " admin")
+        (λ m. IsMember m × (rest.now ≡ decimal m ++ codes " admin")) }
+{
+    member(before(rest, b" admin")?)
+}
+
+// `M POS E`
+fn read_give(rest: &[u8]) -> Option<Give>
+    ensures { MatchOption result ((g : Give) → ¬ SpellsGive rest.now g) (λ g. SpellsGive rest.now g) }
+{
+    let (first, rest) = split_once(rest, b' ')?;
+    let (second, third) = split_once(rest, b' ')?;
+    let member = member(first)?;
+    let position = small_number(second)?;
+    let entry = number(third)?;
+    Some(Give {
+        member,
+        position,
+        entry,
+    })
+}
+
+// `M insert ..` or `M remove ..`
+fn read_edit(alloc: Global, rest: &[u8]) -> Result<Option<Edit>, AllocError>
+    ensures { IfOk result (λ found. MatchOption found ((e : Edit) → ¬ SpellsEdit rest.now e) (λ e. SpellsEdit rest.now e)) }
+{
+    let Some((first, rest)) = split_once(rest, b' ') else {
+        return Ok(None);
+    };
+    let Some(member) = member(first) else {
+        return Ok(None);
+    };
+    let Some(change) = read_change(alloc, rest)? else {
+        return Ok(None);
+    };
+    Ok(Some(Edit { member, change }))
+}
+
+// `insert AT TEXT` or `remove AT COUNT`
+fn read_change(alloc: Global, rest: &[u8]) -> Result<Option<Change>, AllocError>
+    ensures { IfOk result (λ found. MatchOption found ((c : Change) → ¬ SpellsChange rest.now c) (λ c. SpellsChange rest.now c)) }
+{
+    let Some(words) = after(rest, b"insert ") else {
+        return Ok(read_removal(rest));
+    };
+    let Some((first, second)) = split_once(words, b' ') else {
+        return Ok(None);
+    };
+    let Some(at) = number(first) else {
+        return Ok(None);
+    };
+    let Some(text) = quoted_text(alloc, second)? else {
+        return Ok(None);
+    };
+    Ok(Some(Change::Insert(Insertion { at, text })))
+}
+
+// `remove AT COUNT`
+fn read_removal(rest: &[u8]) -> Option<Change>
+    requires { (words : List ℕ) → rest.now ≢ codes "insert " ++ words }
+    ensures { MatchOption result ((c : Change) → ¬ SpellsChange rest.now c) (λ c. SpellsChange rest.now c) }
+{
+    let (first, second) = split_once(after(rest, b"remove ")?, b' ')?;
+    let at = number(first)?;
+    let count = number(second)?;
+    Some(Change::Remove(Removal { at, count }))
+}

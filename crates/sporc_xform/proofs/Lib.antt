@@ -1,0 +1,4 @@
+pub mod Composing
+pub mod LawLemmas
+pub mod Restated
+pub mod Steps
