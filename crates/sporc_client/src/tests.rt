@@ -5,7 +5,13 @@ use std::process::Abort;
 use std::test::Fail;
 
 // Puts a text in place of the shown one, and commits that.
-fn commit(rt: &impl Abort, alloc: Global, client: &mut PlainClient, position: u32, text: &str) -> Result<u64, Fail> {
+fn commit(
+    rt: &impl Abort,
+    alloc: Global,
+    client: &mut PlainClient,
+    position: u32,
+    text: &str,
+) -> Result<u64, Fail> {
     let len = client.shown_len();
     assert!(rt; text.len() < 100);
     let delta = Delta::replace_all(alloc, len, text)?;
@@ -26,7 +32,10 @@ fn edits_are_committed_until_the_history_is_full(rt: HostRuntime) -> Result<(), 
         let events = commit(&rt, rt.alloc(), &mut client, position, text)?;
         assert_eq!(rt; events, 3 * u64::from(position));
     }
-    assert!(rt; commit(&rt, rt.alloc(), &mut client, 16_385, "more").is_err());
+    let delta = Delta::replace_all(rt.alloc(), 0, "more")?;
+    assert_eq!(rt; delta.base_len(), client.shown_len());
+    client.edit(&delta)?;
+    assert!(rt; matches!(client.submit(), Err(PlainSubmitFault::HistoryFull)));
     assert_eq!(rt; client.shown()?.as_str(), "more");
     Ok(())
 }
@@ -35,7 +44,13 @@ fn edits_are_committed_until_the_history_is_full(rt: HostRuntime) -> Result<(), 
 #[test]
 fn an_entry_has_its_bytes(rt: HostRuntime) -> Result<(), Fail> {
     let delta = Delta::insert_at(rt.alloc(), 0, 0, "d")?;
-    let entry = PlainEntry { author: 1, number: 2, base: 3, base_hash: [7; 32], delta };
+    let entry = PlainEntry {
+        author: 1,
+        number: 2,
+        base: 3,
+        base_hash: [7; 32],
+        delta,
+    };
     let bytes = entry.copy()?.to_bytes()?;
     let mut expected = vec![in rt.alloc(); 0, 1, 0, 0, 0, 2, 0, 0, 0, 3]?;
     expected.extend_from_slice(&[7; 32])?;
