@@ -1,5 +1,5 @@
 -- Whole lives of a leaf file: openings, draws, failed calls, and crashes at any moment, in any order.
-use Rattle.std.specs.Prelude.{◌≡◌, ℕ, ◌≤◌, List, [], ◌∷◌, Option, Result, Ok, Err}
+use Rattle.std.specs.Prelude.{ℕ, ◌≤◌, List, [], ◌∷◌, Option, Result, Ok, Err}
 use Rattle.sporc_outside.specs.LeafDisk.{IsFound}
 use Rattle.lms_leaf.specs.Leaves.{LeavesContent, Draws, Opens, disk_after}
 use Rattle.lms_leaf.specs.declared.faults.LeafFault.{LeafFault}
