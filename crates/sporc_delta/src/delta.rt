@@ -137,6 +137,7 @@ impl Delta {
         ensures value { result.now ≡ runs self.now }
         ensures marks { marks_of result.now ≡ self.now }
         ensures are_runs { AreRuns result.now }
+        ensures small { (base_len self.now ≤ 2 ^ 60) × (out_len self.now ≤ 2 ^ 60) }
     {
         self.parts.as_slice()
     }

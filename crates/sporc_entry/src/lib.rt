@@ -9,16 +9,20 @@ mod bytes;
 mod change;
 mod entry;
 mod fault;
+mod fields;
 mod founders;
 mod genesis;
 mod header;
 mod wraps;
 
+pub mod laws;
+
 pub use bytes::Bytes;
-pub use change::ChangeBody;
-pub use entry::Entry;
+pub use change::{read_change, write_change, ChangeBody};
+pub use entry::{read_entry, signed_part, write_entry, Entry};
 pub use fault::{EntryFault, GenesisFault};
 pub use founders::Founders;
-pub use genesis::Genesis;
+pub use genesis::{read_genesis, write_genesis, Genesis};
 pub use header::Header;
+pub use sporc_bytes::Memory;
 pub use wraps::{Wrap, Wraps};
