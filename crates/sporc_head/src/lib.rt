@@ -11,3 +11,6 @@ mod tables;
 pub use checked::Checked;
 pub use heads::Heads;
 pub use refusal::{Memory, Refusal};
+
+#[cfg(test)]
+mod tests;

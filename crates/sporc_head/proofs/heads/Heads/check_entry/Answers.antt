@@ -35,7 +35,7 @@ returns-in_err-check_change-clause-fault c =
 pub returns-clause-fault : goal.returns-clause-fault
 returns-clause-fault c =
     let behind = λ (o : Option ChangeBody). at_roster c.args.self.now.genesis c.args.me c.args.self.now.entries c.args.pos c.args.entry.now c.in_ok-check_place.ensures
-        c.in-Some.author.now o None (c.in-Some.ensures ∙ ap (λ (r : Roster). member_at r c.args.entry.now.header.author) c.roster.ensures) c.in_ok-check_history.ensures c.in_ok-check_author.ensures in
+    c.in-Some.author.now o None (c.in-Some.ensures ∙ ap (λ (r : Roster). member_at r c.args.entry.now.header.author) c.roster.ensures) c.in_ok-check_history.ensures c.in_ok-check_author.ensures in
     elim c.match-change.branch [
       | in-Some-change+in_ok-check_change w ↦ behind (Some w.in-Some-change.body) (sym w.in-Some-change.is ∙ c.in_ok-change.ensures)
           (ap (λ (r : Roster). first_of (roster_checks r (Some w.in-Some-change.body))) (sym w.roster-in-Some-change.ensures) ∙ w.in_ok-check_change.ensures)

@@ -22,7 +22,7 @@ invariant_of-self c =
     let now : A ≡ c.args.self.now.entries = ap (λ (m : HeadsModel). m.entries) c.self.view_is in
     let size : c.len.result ≡ length A = omega (arith, c.len.ensures, length-map c.self.inside.entries.items items) in
     let grown : map items c.push_reserved-2.new.self.items ≡ A ++ c.args.bytes ∷ [] =
-        ap (map items) c.push_reserved-2.ensures.items ∙ map_push items c.self.inside.entries.items c.into_vec.result ∙ ap (λ (b : List ℕ). A ++ b ∷ []) c.into_vec.ensures in
+    ap (map items) c.push_reserved-2.ensures.items ∙ map_push items c.self.inside.entries.items c.into_vec.result ∙ ap (λ (b : List ℕ). A ++ b ∷ []) c.into_vec.ensures in
     let s = started_of (change_in c.args.bytes) c.args.change.now c.requires.change in
     let spare : 1 ≤ c.self.inside.roster.spare = omega (arith, c.requires.spare, ap (λ (m : HeadsModel). m.spare) c.self.view_is) in
     let made = ok_of c.make.result _ c.make.ensures.ok (c.make.ensures.ready spare) in

@@ -14,7 +14,7 @@ invariant_of-self c =
     let now : A ≡ c.args.self.now.entries = ap (λ (m : HeadsModel). m.entries) c.self.view_is in
     let size : c.len.result ≡ length A = omega (arith, c.len.ensures, length-map c.self.inside.entries.items items) in
     let grown : map items c.push_reserved-2.new.self.items ≡ A ++ c.args.bytes ∷ [] =
-        ap (map items) c.push_reserved-2.ensures.items ∙ map_push items c.self.inside.entries.items c.into_vec.result ∙ ap (λ (b : List ℕ). A ++ b ∷ []) c.into_vec.ensures in
+    ap (map items) c.push_reserved-2.ensures.items ∙ map_push items c.self.inside.entries.items c.into_vec.result ∙ ap (λ (b : List ℕ). A ++ b ∷ []) c.into_vec.ensures in
     keeps_edit c.self.inside.genesis A c.self.inside.hashes.items c.self.inside.roster.roster c.self.inside.barrier c.self.inside.epoch
     c.self.inside.tables.counts.items c.self.inside.tables.lasts.items c.self.inside.tables.removed.items c.args.bytes c.args.hash c.args.author _ _ _ _
     c.self.invariant (omega (arith, c.requires.room, ap length now)) (omega arith) c.requires.by c.requires.edit
