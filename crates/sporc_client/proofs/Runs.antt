@@ -9,7 +9,7 @@ use Rattle.sporc_client.specs.declared.client.PlainSubmitted.TheVariants.{Entry,
 use Rattle.sporc_client.specs.declared.fault.PlainSubmitFault.{PlainSubmitFault}
 use Rattle.sporc_client.specs.declared.fault.EditFault.{EditFault}
 use Rattle.sporc_client.specs.declared.fault.PlainRefusal.{PlainRefusal}
-use Rattle.sporc_client.specs.FirstFault.{first_of}
+use Rattle.sporc_checks.specs.FirstFault.{first_of}
 use Rattle.sporc_client.specs.History.{text_of}
 use Rattle.sporc_client.specs.Checks.{checks, IsGood}
 use Rattle.sporc_client.specs.Client.{PlainState, opened, shown_of, admits, edit_checks, edited, entry_checks, accepted}
@@ -51,9 +51,9 @@ holds_accepted : (genesis : List ℕ) (c : PlainState) (position : ℕ) (e : Pla
 holds_accepted genesis c position e typed h none =
     let p = passes c.genesis c.entries (admits c e) position e none in
     let there : first_of (checks genesis c.entries true (length c.entries + 1) e) ≡ None =
-        subst (λ g. first_of (checks g c.entries true (length c.entries + 1) e) ≡ None) h.begun
-        (subst (λ b. first_of (checks c.genesis c.entries b (length c.entries + 1) e) ≡ None) p.admitted
-        (subst (λ n. first_of (checks c.genesis c.entries (admits c e) n e) ≡ None) p.position none)) in
+    subst (λ g. first_of (checks g c.entries true (length c.entries + 1) e) ≡ None) h.begun
+    (subst (λ b. first_of (checks c.genesis c.entries b (length c.entries + 1) e) ≡ None) p.admitted
+    (subst (λ n. first_of (checks c.genesis c.entries (admits c e) n e) ≡ None) p.position none)) in
     record { begun = h.begun; good = good_pushed genesis c.entries e h.good there; typed = all_pushed IsTypedEntry c.entries e h.typed typed }
 
 holds_give : (genesis : List ℕ) (c : PlainState) (position : ℕ) (e : PlainEntry) → IsTypedEntry e → Holds genesis c → Holds genesis (after_give c position e)

@@ -3,7 +3,6 @@ pub mod Checks
 pub mod Client
 pub mod ClientKeeps
 pub mod Entry
-pub mod FirstFault
 pub mod History
 pub mod HistoryKeeps
 pub mod HistoryValue

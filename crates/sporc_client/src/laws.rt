@@ -14,8 +14,7 @@ ghost use Rattle.sporc_client.specs.Agree.{AreApart, Agree};
 pub fn one_hash_one_history()
     ensures { (genesis : List ℕ) (a b : List PlainEntry) → AllByRecursion IsTypedEntry a → AllByRecursion IsTypedEntry b
         → AreApart genesis a b → hash_of genesis a ≡ hash_of genesis b → a ≡ b }
-{
-}
+{}
 
 /// Two histories whose entries passed the checks and that share an entry are one up to that entry's base, where no two
 /// different strings hashed for them have one digest.
@@ -23,12 +22,10 @@ pub fn one_entry_one_base()
     ensures { (genesis : List ℕ) (a b : List PlainEntry) (x y : ℕ) (e : PlainEntry) → AllByRecursion IsTypedEntry a → AllByRecursion IsTypedEntry b
         → IsGood genesis a → IsGood genesis b → slice_get a x ≡ Some e → slice_get b y ≡ Some e
         → AreApart genesis a b → take e.base a ≡ take e.base b }
-{
-}
+{}
 
 /// All clients of a document agree at any two moments of every run, whatever the server hands to whom: those whose
 /// histories have one last hash hold the same, and those that accepted one entry agree up to its base.
 pub fn runs_agree()
     ensures { (genesis : List ℕ) (moves : List Move) → AllByRecursion IsTypedMove moves → Agree genesis moves }
-{
-}
+{}

@@ -56,7 +56,7 @@ scalars-drop zero text h = h
 scalars-drop (suc n) [] h = refl
 scalars-drop (suc n) (c ∷ text) h = scalars-drop n text (both_true (scalar c) (all_scalars text) h).1
 
-IsUtf8-encode_all : (text : List ℕ) → all_scalars text ≡ true → IsUtf8 (encode_utf8_all text)
+pub IsUtf8-encode_all : (text : List ℕ) → all_scalars text ≡ true → IsUtf8 (encode_utf8_all text)
 IsUtf8-encode_all text h = (text, (h, refl))
 
 -- one more character, where the rest of a list begins with it

@@ -1,5 +1,5 @@
 -- Two deltas, each restated behind the other, and two deltas in one.
-use Rattle.std.specs.Prelude.{ℕ, List, [], ◌∷◌, ◌++◌, map}
+use Rattle.std.specs.Prelude.{ℕ, List, [], ◌∷◌}
 use Rattle.std.specs.List.{flat_map}
 use Rattle.sporc_delta.specs.Marks.{Mark, Retain, Delete, Insert}
 

@@ -33,3 +33,9 @@ pub record Passes (before after : ℕ) (past images : ℕ → List ℕ → Type 
   pub earlier : (m : ℕ) (image : List ℕ) → m ≤ before → images m image ↔ past m image
   pub during : (m : ℕ) (image : List ℕ) → before ≤ m → m ≤ after → images m image
       → (old : List ℕ) × past before old × step old image
+
+-- what is found after a crash of that disk at that moment reads as one of the images, and its images are among them
+pub record IsFound {D : Type 0} (stored : D → Option (List ℕ)) (moment : D → ℕ) (images : D → ℕ → List ℕ → Type 0)
+    (disk : D) (at : ℕ) (found : D) : Type 0 where
+  pub reads : (image : List ℕ) × images disk at image × (stored found ≡ Some image)
+  pub among : (image : List ℕ) → images found (moment found) image → images disk at image
