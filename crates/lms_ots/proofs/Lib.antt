@@ -1,3 +1,4 @@
+pub mod WrittenLemmas
 pub mod CoefficientLemmas
 pub mod ChainLemmas
 pub mod ConcatenatedLemmas

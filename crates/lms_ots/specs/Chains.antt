@@ -3,13 +3,17 @@ use Rattle.std.specs.Prelude.{ℕ, zero, suc, ◌+◌, List, [], ◌∷◌, ◌+
 use Rattle.std.specs.Int.{w16, w32, to_be_bytes}
 use Rattle.sha2.specs.Sha256.{sha256}
 
+-- I || u32str(q) || u16str(i), with which each string of chain i begins
+abbrev pub chain_front : List ℕ → ℕ → ℕ → List ℕ
+chain_front id q i = id ++ to_be_bytes w32 q ++ to_be_bytes w16 i
+
 -- x[i], the start of chain i
 abbrev pub secret_part : List ℕ → ℕ → ℕ → List ℕ → List ℕ
-secret_part id q i seed = sha256 (id ++ to_be_bytes w32 q ++ to_be_bytes w16 i ++ 0xff ∷ seed)
+secret_part id q i seed = sha256 (chain_front id q i ++ 0xff ∷ seed)
 
 -- step j of chain i
 abbrev pub chain_step : List ℕ → ℕ → ℕ → ℕ → List ℕ → List ℕ
-chain_step id q i j x = sha256 (id ++ to_be_bytes w32 q ++ to_be_bytes w16 i ++ j ∷ x)
+chain_step id q i j x = sha256 (chain_front id q i ++ j ∷ x)
 
 -- n steps of chain i, from step a on
 unfoldable pub chain_of : List ℕ → ℕ → ℕ → ℕ → ℕ → List ℕ → List ℕ

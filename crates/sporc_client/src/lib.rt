@@ -1,6 +1,18 @@
 //! Clients of a shared text, and the comparison of what two of them hold.
 #![tactic(auto)]
 
+mod client;
+mod entry;
+mod fault;
+mod history;
+pub mod laws;
+mod limits;
+#[cfg(test)]
+mod tests;
 mod verdict;
 
+pub use client::{PlainClient, PlainSubmitted};
+pub use entry::PlainEntry;
+pub use fault::{EditFault, Memory, PlainRefusal, PlainSubmitFault};
+pub use limits::{MAX_EDIT_BYTES, MAX_ENTRIES, MAX_PENDING};
 pub use verdict::{Verdict, compare};

@@ -5,3 +5,4 @@ pub mod Appended
 pub mod Sound
 pub mod Spelled
 pub mod Decoding
+pub mod Grammar

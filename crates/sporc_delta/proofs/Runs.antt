@@ -3,7 +3,7 @@ use Rattle.std.proofs.Common.{◌≡◌, ℕ, zero, suc, List, [], ◌∷◌, �
 use Rattle.sporc_delta.specs.declared.part.Part.{Part}
 use Rattle.sporc_delta.specs.declared.part.Part.TheVariants.{Keep, Insert as InsertText, Remove}
 use Rattle.sporc_delta.specs.Marks.{Mark, Retain, Delete, Insert, retains, deletes, inserts}
-use Rattle.sporc_delta.specs.Parts.{part_marks, marks_of, with_mark, runs, BeginsUnlike, AreRuns}
+use Rattle.sporc_delta.specs.Parts.{part_marks, marks_of, with_mark, runs, BeginsUnlike, AreRuns, same_kind}
 
 pub marks_of-append : (ps qs : List Part) → marks_of (ps ++ qs) ≡ marks_of ps ++ marks_of qs
 marks_of-append [] qs = refl
@@ -49,3 +49,59 @@ runs-marks_of (InsertText [] ∷ ps) h = absurd (omega arith)
 runs-marks_of (InsertText (c ∷ t) ∷ ps) h = runs-inserts c t (marks_of ps) ps (runs-marks_of ps h.2) h.1
 runs-marks_of (Remove zero ∷ ps) h = absurd (omega arith)
 runs-marks_of (Remove (suc n) ∷ ps) h = runs-deletes n (marks_of ps) ps (runs-marks_of ps h.2) h.1
+
+-- and the runs of marks are such a list, with these marks
+marks_of-with_mark : (m : Mark) (ps : List Part) → marks_of (with_mark m ps) ≡ m ∷ marks_of ps
+marks_of-with_mark Retain [] = refl
+marks_of-with_mark Retain (Keep n ∷ ps) = refl
+marks_of-with_mark Retain (InsertText text ∷ ps) = refl
+marks_of-with_mark Retain (Remove n ∷ ps) = refl
+marks_of-with_mark Delete [] = refl
+marks_of-with_mark Delete (Keep n ∷ ps) = refl
+marks_of-with_mark Delete (InsertText text ∷ ps) = refl
+marks_of-with_mark Delete (Remove n ∷ ps) = refl
+marks_of-with_mark (Insert c) [] = refl
+marks_of-with_mark (Insert c) (Keep n ∷ ps) = refl
+marks_of-with_mark (Insert c) (InsertText text ∷ ps) = refl
+marks_of-with_mark (Insert c) (Remove n ∷ ps) = refl
+
+pub marks_of-runs : (ms : List Mark) → marks_of (runs ms) ≡ ms
+marks_of-runs [] = refl
+marks_of-runs (m ∷ ms) = marks_of-with_mark m (runs ms) ∙ ap (λ ns. m ∷ ns) (marks_of-runs ms)
+
+still_unlike : (p q : Part) (ps : List Part) → ((r : Part) → same_kind p r ≡ same_kind q r) → BeginsUnlike p ps → BeginsUnlike q ps
+still_unlike p q [] like h = tt
+still_unlike p q (r ∷ ps) like h = sym (like r) ∙ h
+
+AreRuns-with_mark : (m : Mark) (ps : List Part) → AreRuns ps → AreRuns (with_mark m ps)
+AreRuns-with_mark Retain [] h = (omega arith, tt, tt)
+AreRuns-with_mark Retain (Keep n ∷ ps) h = (omega arith, still_unlike (Keep n) (Keep (suc n)) ps (kept n) h.1, h.2)
+  where
+    kept : (n : ℕ) (r : Part) → same_kind (Keep n) r ≡ same_kind (Keep (suc n)) r
+    kept n (Keep m) = refl
+    kept n (InsertText text) = refl
+    kept n (Remove m) = refl
+AreRuns-with_mark Retain (InsertText text ∷ ps) h = (omega arith, refl, h)
+AreRuns-with_mark Retain (Remove n ∷ ps) h = (omega arith, refl, h)
+AreRuns-with_mark Delete [] h = (omega arith, tt, tt)
+AreRuns-with_mark Delete (Keep n ∷ ps) h = (omega arith, refl, h)
+AreRuns-with_mark Delete (InsertText text ∷ ps) h = (omega arith, refl, h)
+AreRuns-with_mark Delete (Remove n ∷ ps) h = (omega arith, still_unlike (Remove n) (Remove (suc n)) ps (removed n) h.1, h.2)
+  where
+    removed : (n : ℕ) (r : Part) → same_kind (Remove n) r ≡ same_kind (Remove (suc n)) r
+    removed n (Keep m) = refl
+    removed n (InsertText text) = refl
+    removed n (Remove m) = refl
+AreRuns-with_mark (Insert c) [] h = (omega arith, tt, tt)
+AreRuns-with_mark (Insert c) (Keep n ∷ ps) h = (omega arith, refl, h)
+AreRuns-with_mark (Insert c) (InsertText text ∷ ps) h = (omega arith, still_unlike (InsertText text) (InsertText (c ∷ text)) ps (inserted text) h.1, h.2)
+  where
+    inserted : (text : List ℕ) (r : Part) → same_kind (InsertText text) r ≡ same_kind (InsertText (c ∷ text)) r
+    inserted text (Keep m) = refl
+    inserted text (InsertText other) = refl
+    inserted text (Remove m) = refl
+AreRuns-with_mark (Insert c) (Remove n ∷ ps) h = (omega arith, refl, h)
+
+pub AreRuns-runs : (ms : List Mark) → AreRuns (runs ms)
+AreRuns-runs [] = tt
+AreRuns-runs (m ∷ ms) = AreRuns-with_mark m (runs ms) (AreRuns-runs ms)

@@ -1,5 +1,5 @@
 -- The bytes of parts.
-use Rattle.std.proofs.Common.{◌≡◌, ℕ, suc, ◌<◌, ◌+◌, ◌*◌, ◌≤◌, List, [], ◌∷◌, ◌++◌, length, refl, ap, sym, ◌∙◌, arith, drop, get_or}
+use Rattle.std.proofs.Common.{◌≡◌, ℕ, suc, ◌<◌, ◌+◌, ◌*◌, ◌≤◌, List, [], ◌∷◌, ◌++◌, length, ap, sym, ◌∙◌, arith, drop, get_or}
 use Rattle.std.proofs.lemmas.List.{length-append}
 use Rattle.std.proofs.Math.Seq.{drop-cons}
 use Rattle.std.specs.Char.{encode_utf8}
@@ -8,10 +8,10 @@ use Rattle.std.specs.Int.{w64, to_be_bytes}
 use Rattle.std.specs.Str.{encode_utf8_all}
 use Rattle.sporc_delta.specs.declared.part.Part.{Part}
 use Rattle.sporc_delta.specs.declared.part.Part.TheVariants.{Keep, Insert as InsertText, Remove}
-use Rattle.sporc_delta.specs.Marks.{out_len, retains, deletes, inserts}
+use Rattle.sporc_delta.specs.Marks.{out_len}
 use Rattle.sporc_delta.specs.Parts.{part_marks, marks_of}
 use Rattle.sporc_delta.specs.Format.{part_bytes, parts_bytes}
-use Rattle.sporc_delta.proofs.Lengths.{out_len-append, out_len-retains, out_len-deletes, out_len-inserts}
+use Rattle.sporc_delta.proofs.Lengths.{out_len-append, out_len-inserts}
 
 -- a character has at most four bytes
 length-encode_all : (text : List ℕ) → length (encode_utf8_all text) ≤ 4 * length text

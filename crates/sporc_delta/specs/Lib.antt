@@ -3,3 +3,4 @@ pub mod Marks
 pub mod Parts
 pub mod Reading
 pub mod Texts
+pub mod Transforms

@@ -21,6 +21,13 @@ out_len (Retain ∷ ms) = suc (out_len ms)
 out_len (Delete ∷ ms) = out_len ms
 out_len (Insert c ∷ ms) = suc (out_len ms)
 
+-- how many characters it inserts
+abbrev pub inserted_len : List Mark → ℕ
+inserted_len [] = 0
+inserted_len (Retain ∷ ms) = inserted_len ms
+inserted_len (Delete ∷ ms) = inserted_len ms
+inserted_len (Insert c ∷ ms) = suc (inserted_len ms)
+
 -- the text after a delta, of a text with as many characters as its base
 abbrev pub apply : List Mark → List ℕ → List ℕ
 apply [] s = []

@@ -4,7 +4,7 @@ ghost use Rattle.std.specs.Prelude.{◌≡◌, ◌+◌, ◌≤◌, ◌^◌, ◌+
 ghost use Rattle.std.specs.Str.{chars};
 ghost use Rattle.sporc_delta.specs.Format.{delta_bytes};
 ghost use Rattle.sporc_delta.specs.Marks.{base_len, out_len, retains, deletes, inserts, insertion, removal, replacement};
-ghost use Rattle.sporc_delta.specs.Parts.{AreRuns, owned, part_marks, runs};
+ghost use Rattle.sporc_delta.specs.Parts.{AreRuns, marks_of, owned, part_marks, runs};
 ghost use Rattle.sporc_delta.specs.Reading.{Gives, read_delta};
 
 use crate::decode::read_part;
@@ -135,7 +135,9 @@ impl Delta {
     /// The parts: no part is empty, and no two neighbours are of one kind.
     pub fn parts(&self) -> &[Part]
         ensures value { result.now ≡ runs self.now }
+        ensures marks { marks_of result.now ≡ self.now }
         ensures are_runs { AreRuns result.now }
+        ensures small { (base_len self.now ≤ 2 ^ 60) × (out_len self.now ≤ 2 ^ 60) }
     {
         self.parts.as_slice()
     }

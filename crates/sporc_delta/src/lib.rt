@@ -9,6 +9,7 @@ mod delta;
 mod encode;
 mod ends;
 mod fault;
+pub mod laws;
 mod part;
 mod text;
 
@@ -16,3 +17,6 @@ pub use crate::delta::Delta;
 pub use crate::fault::DeltaFault;
 pub use crate::part::{Kind, Part, Piece};
 pub use crate::text::{Text, TextSlice};
+
+#[cfg(test)]
+mod tests;

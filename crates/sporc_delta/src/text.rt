@@ -141,4 +141,35 @@ impl<'a> TextSlice<'a> {
     {
         self.text
     }
+
+    /// The first `at` characters, and those after them.
+    pub fn split_at(&self, at: u64) -> (TextSlice<'a>, TextSlice<'a>)
+        requires { at ≤ length self.now }
+        ensures front { result.0 ≡ take at self.now }
+        ensures back { result.1 ≡ drop at self.now }
+    {
+        let (front, back) = self.text.split_at(place_of(self.text, at));
+        (
+            TextSlice {
+                text: front,
+                len: at,
+            },
+            TextSlice {
+                text: back,
+                len: self.len - at,
+            },
+        )
+    }
+}
+
+// The place of the byte where a character begins, or the text ends.
+fn place_of(text: &str, at: u64) -> usize
+    requires { at ≤ length (chars text.now) }
+    ensures { result ≡ length (encode_utf8_all (take at (chars text.now))) }
+{
+    let mut rest = text.chars();
+    for _ in 0..at {
+        let _ = rest.next();
+    }
+    text.len() - rest.as_str().len()
 }

@@ -3,3 +3,5 @@ pub mod Counts
 pub mod MemoryContent
 pub mod Reading
 pub mod Writing
+pub mod LeafDisk
+pub mod MemoryDisk

@@ -8,6 +8,11 @@
 
 mod calls;
 mod counted;
+mod disk_call;
+#[cfg(test)]
+mod disk_tests;
+mod leaf_disk;
+mod memory_disk;
 mod memory_sink;
 mod memory_source;
 mod sink;
@@ -17,6 +22,9 @@ mod tests;
 
 pub use crate::calls::Calls;
 pub use crate::counted::{Counted, Failed};
+pub use crate::disk_call::{DiskBytes, DiskCall, DiskRequest};
+pub use crate::leaf_disk::LeafDisk;
+pub use crate::memory_disk::MemoryDisk;
 pub use crate::memory_sink::MemorySink;
 pub use crate::memory_source::MemorySource;
 pub use crate::sink::{Sink, write_all};

@@ -23,7 +23,7 @@ marks_of-with_mark (Insert c) (Keep n ∷ ps) = refl
 marks_of-with_mark (Insert c) (InsertText t ∷ ps) = refl
 marks_of-with_mark (Insert c) (Remove n ∷ ps) = refl
 
-marks_of-runs : (ms : List Mark) → marks_of (runs ms) ≡ ms
+pub marks_of-runs : (ms : List Mark) → marks_of (runs ms) ≡ ms
 marks_of-runs [] = refl
 marks_of-runs (m ∷ ms) = marks_of-with_mark m (runs ms) ∙ ap (λ l. m ∷ l) (marks_of-runs ms)
 

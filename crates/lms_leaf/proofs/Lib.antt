@@ -1,0 +1,3 @@
+pub mod LifeLemmas
+pub mod StableLemmas
+pub mod TakenBlocks

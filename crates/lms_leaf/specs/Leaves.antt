@@ -1,0 +1,69 @@
+-- What a value that numbers leaves holds, and what its calls do to the disk and to the next number.
+use Rattle.std.specs.Prelude.{◌≡◌, ◌↔◌, ◌⊎◌, ℕ, ◌+◌, ◌*◌, ◌/◌, ◌%◌, ◌<◌, ◌≤◌, Bool, List, slice_index, Option, Some, Result, Ok, Err, is_ok, IsTrue, IfOk, IfSome, if◌then◌else◌}
+use Rattle.sporc_outside.specs.Counts.{Rose}
+use Rattle.sporc_outside.specs.LeafDisk.{IsStable, KeepsOutside}
+use Rattle.lms_leaf.specs.LeafFile.{taken_blocks}
+use Rattle.lms_leaf.specs.declared.faults.LeafFault.{LeafFault}
+use Rattle.lms_leaf.specs.declared.faults.LeafFault.TheVariants.{Exhausted, DiskFault}
+use Rattle.lms_leaf.specs.declared.faults.LeafOpenFault.{LeafOpenFault}
+
+-- the disk, the next number, how many leaves there are, whether a call of the disk has failed, and the
+-- disk's count of faults as it was opened
+pub record LeavesContent (D : Type 0) : Type 0 where
+  pub disk : D
+  pub next : ℕ
+  pub leaf_count : ℕ
+  pub faulty : Bool
+  pub faults_at_open : ℕ
+
+-- At each moment from the old disk to the new one, a byte that was stable is stable. What a crash could have
+-- left before stays as it was.
+pub record KeepsStable {D : Type 0} (moment : D → ℕ) (images : D → ℕ → List ℕ → Type 0) (old new : D) : Type 0 where
+  pub later : moment old ≤ moment new
+  pub earlier : (m : ℕ) (image : List ℕ) → m ≤ moment old → images new m image ↔ images old m image
+  pub each : (at : ℕ) → IsStable (images old (moment old)) at
+      → (m : ℕ) → moment old ≤ m → m ≤ moment new → IsStable (images new m) at
+
+-- a draw gives the next number and goes on to the one after it; its block is marked by a one, which is stable
+-- then, and no other byte changes
+pub record Draws {D : Type 0} (stored : D → Option (List ℕ)) (moment : D → ℕ) (images : D → ℕ → List ℕ → Type 0)
+    (old : LeavesContent D) (result : Result ℕ LeafFault) (new : LeavesContent D) : Type 0 where
+  pub given : IfOk result (λ leaf. leaf ≡ old.next)
+  pub within : IfOk result (λ leaf. leaf < old.leaf_count)
+  pub next : new.next ≡ (if is_ok result then old.next + 1 else old.next)
+  pub leaf_count : new.leaf_count ≡ old.leaf_count
+  pub stable : KeepsStable moment images old.disk new.disk
+  pub taken : IfOk result (λ leaf. IsStable (images new.disk (moment new.disk)) (leaf / 4))
+  pub marked : IfOk result (λ leaf. leaf % 4 ≡ 0 → IfSome (stored new.disk) (λ bytes. slice_index bytes (leaf / 4) ≡ 1))
+  pub others : KeepsOutside (old.next / 4) 1 (stored old.disk) (stored new.disk)
+
+-- when a draw gives no number: `Exhausted` exactly where all are drawn, and `DiskFault` only where the disk's count
+-- of faults rose, in this draw or in an earlier one since the opening
+pub record DrawFaults {D : Type 0} (faults : D → ℕ)
+    (old : LeavesContent D) (result : Result ℕ LeafFault) (new : LeavesContent D) : Type 0 where
+  pub exhausted : (next : ℕ) → (result ≡ Err (Exhausted next)) ↔ ((old.next ≡ old.leaf_count) × (next ≡ old.next))
+  pub now : result ≡ Err DiskFault → IsTrue old.faulty ⊎ Rose (faults old.disk) (faults new.disk)
+  pub since_open : result ≡ Err DiskFault → Rose old.faults_at_open (faults new.disk)
+  -- and then until the next opening
+  pub still : IsTrue old.faulty → result ≡ Err DiskFault
+  pub faulty : IsTrue new.faulty ↔ (result ≡ Err DiskFault)
+  pub faults_at_open : new.faults_at_open ≡ old.faults_at_open
+  pub count : faults old.disk ≤ faults new.disk
+
+-- a crash leaves what a read gives
+abbrev pub IsSynced : Option (List ℕ) → (List ℕ → Type 0) → Type 0
+IsSynced stored images = (image : List ℕ) → images image → stored ≡ Some image
+
+-- the disk that an opening gives, in the leaves or back
+abbrev pub disk_after : {D : Type 0} → Result (LeavesContent D) (LeafOpenFault × D) → D
+disk_after (Ok leaves) = leaves.disk
+disk_after (Err fault) = fault.1
+
+-- an opening goes on behind the last block that is taken, and leaves what the disk stores; no crash takes any of
+-- it away then
+pub record Opens {D : Type 0} (stored : D → Option (List ℕ)) (moment : D → ℕ) (images : D → ℕ → List ℕ → Type 0)
+    (disk : D) (result : Result (LeavesContent D) (LeafOpenFault × D)) : Type 0 where
+  pub next : IfOk result (λ leaves. IfSome (stored disk) (λ bytes. leaves.next ≡ 4 * taken_blocks bytes))
+  pub stable : KeepsStable moment images disk (disk_after result)
+  pub synced : IfOk result (λ leaves. IsSynced (stored leaves.disk) (images leaves.disk (moment leaves.disk)))
+  pub unwritten : stored (disk_after result) ≡ stored disk

@@ -1,0 +1,59 @@
+-- Whole lives of a leaf file: openings, draws, failed calls, and crashes at any moment, in any order.
+use Rattle.std.specs.Prelude.{ℕ, ◌≤◌, List, [], ◌∷◌, Option, Result, Ok, Err}
+use Rattle.sporc_outside.specs.LeafDisk.{IsFound}
+use Rattle.lms_leaf.specs.Leaves.{LeavesContent, Draws, Opens, disk_after}
+use Rattle.lms_leaf.specs.declared.faults.LeafFault.{LeafFault}
+use Rattle.lms_leaf.specs.declared.faults.LeafOpenFault.{LeafOpenFault}
+
+-- One thing that happens. A call that a crash cuts off at a moment never answers; its move has what the call
+-- would have answered, the moment, and the disk that is found afterwards.
+pub data Move (D : Type 0) : Type 0 where
+  Open : Result (LeavesContent D) (LeafOpenFault × D) → Move D
+  OpenCut : Result (LeavesContent D) (LeafOpenFault × D) → ℕ → D → Move D
+  Draw : Result ℕ LeafFault → LeavesContent D → Move D
+  DrawCut : Result ℕ LeafFault → LeavesContent D → ℕ → D → Move D
+  Close : Move D
+  Crash : D → Move D
+
+-- between two moves the disk is at rest, or in leaves
+pub data Spot (D : Type 0) : Type 0 where
+  AtRest : D → Spot D
+  InUse : LeavesContent D → Spot D
+
+abbrev pub disk_at : {D : Type 0} → Spot D → D
+disk_at (AtRest disk) = disk
+disk_at (InUse leaves) = leaves.disk
+
+-- where an opening leads
+abbrev pub spot_after : {D : Type 0} → Result (LeavesContent D) (LeafOpenFault × D) → Spot D
+spot_after (Ok leaves) = InUse leaves
+spot_after (Err fault) = AtRest fault.1
+
+-- a moment of a call
+abbrev pub IsDuring : {D : Type 0} → (D → ℕ) → D → D → ℕ → Type 0
+IsDuring moment old new at = (moment old ≤ at) × (at ≤ moment new)
+
+module _ {D : Type 0} (stored : D → Option (List ℕ)) (moment : D → ℕ) (images : D → ℕ → List ℕ → Type 0) where
+  -- these moves can happen, one after another
+  abbrev pub IsLife : Spot D → List (Move D) → Type 0
+  IsLife spot [] = Unit {0}
+  IsLife spot (Crash found ∷ moves) =
+      IsFound stored moment images (disk_at spot) (moment (disk_at spot)) found × IsLife (AtRest found) moves
+  IsLife (AtRest disk) (Open result ∷ moves) = Opens stored moment images disk result × IsLife (spot_after result) moves
+  IsLife (AtRest disk) (OpenCut result at found ∷ moves) =
+      Opens stored moment images disk result × IsDuring moment disk (disk_after result) at
+      × IsFound stored moment images (disk_after result) at found × IsLife (AtRest found) moves
+  IsLife (AtRest disk) (move ∷ moves) = ⊥
+  IsLife (InUse leaves) (Draw result after ∷ moves) =
+      Draws stored moment images leaves result after × IsLife (InUse after) moves
+  IsLife (InUse leaves) (DrawCut result after at found ∷ moves) =
+      Draws stored moment images leaves result after × IsDuring moment leaves.disk after.disk at
+      × IsFound stored moment images after.disk at found × IsLife (AtRest found) moves
+  IsLife (InUse leaves) (Close ∷ moves) = IsLife (AtRest leaves.disk) moves
+  IsLife (InUse leaves) (move ∷ moves) = ⊥
+
+-- the numbers that were given
+abbrev pub drawn : {D : Type 0} → List (Move D) → List ℕ
+drawn [] = []
+drawn (Draw (Ok leaf) after ∷ moves) = leaf ∷ drawn moves
+drawn (move ∷ moves) = drawn moves

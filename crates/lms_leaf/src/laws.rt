@@ -1,0 +1,12 @@
+//! What holds of leaf numbers over whole lives of a leaf file.
+
+ghost use Rattle.lms_leaf.specs.Laws.{NoLeafTwice};
+
+use sporc_outside::LeafDisk;
+
+/// Over any list of openings, draws, failed calls and crashes at any moment, no number is given
+/// twice. A crash inside a call keeps the call from answering; what is found afterwards is one of
+/// the images that the crash may leave.
+pub fn no_leaf_is_drawn_twice<D: LeafDisk>()
+    ensures { NoLeafTwice D.stored D.moment D.images }
+{}

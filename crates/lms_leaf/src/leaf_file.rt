@@ -1,0 +1,59 @@
+ghost use Rattle.std.specs.Prelude.{◌≡◌, ◌^◌, ◌<◌, ◌≤◌, ◌*◌, length, slice_index, replicate, IfOk, IfSome, OnOk};
+ghost use Rattle.sporc_outside.specs.Counts.{CountsFaults};
+ghost use Rattle.sporc_outside.specs.LeafDisk.{IsStable, KeepsOutside};
+ghost use Rattle.lms_leaf.specs.LeafFile.{IsLeafHeight, block_count, taken_blocks};
+ghost use Rattle.lms_leaf.specs.Leaves.{KeepsStable};
+
+use sporc_outside::{Failed, LeafDisk};
+use std::alloc::{AllocError, Global};
+
+/// Want of memory.
+pub type Memory = AllocError;
+
+/// The bytes of a leaf file of which no block is taken, for a tree of that height: 8 bytes for 5,
+/// 256 for 10, 8192 for 15.
+pub fn blank(alloc: Global, height: u32) -> Result<Vec<u8>, Memory>
+    requires { IsLeafHeight height }
+    ensures { IfOk result (λ bytes. bytes.items ≡ replicate (block_count height) 0) }
+{
+    let bytes = vec![in alloc; 0u8; blocks_of(height)]?;
+    Ok(bytes)
+}
+
+// How many blocks of four leaves a tree has.
+pub(crate) fn blocks_of(height: u32) -> usize
+    requires { IsLeafHeight height }
+    ensures value { result ≡ block_count height }
+    ensures leaves { 4 * result ≡ 2 ^ height }
+    ensures small { result ≤ 8192 }
+{
+    (1 << height) / 4
+}
+
+// How many bytes there are up to the last that is not zero.
+pub(crate) fn taken_of(bytes: &[u8]) -> usize
+    ensures value { result ≡ taken_blocks bytes.now }
+    ensures within { result ≤ length bytes.now }
+{
+    let mut taken = 0;
+    for (i, byte) in bytes.iter().enumerate() {
+        if *byte != 0 {
+            taken = i + 1;
+        }
+    }
+    taken
+}
+
+// Takes a block that is free.
+pub(crate) fn take_block<D: LeafDisk>(disk: &mut D, block: u32) -> Result<(), Failed>
+    requires { IfSome (D.stored disk.old) (λ bytes.
+        (block < length bytes) × (slice_index bytes block ≡ 0)) }
+    ensures taken { OnOk result (IsStable (D.images disk.new (D.moment disk.new)) block) }
+    ensures stable { KeepsStable D.moment D.images disk.old disk.new }
+    ensures one { OnOk result (IfSome (D.stored disk.new) (λ bytes. slice_index bytes block ≡ 1)) }
+    ensures others { KeepsOutside block 1 (D.stored disk.old) (D.stored disk.new) }
+    ensures count { CountsFaults (D.faults disk.old) (D.faults disk.new) result }
+{
+    disk.write_at(u64::from(block), &[1])?;
+    disk.sync()
+}

@@ -1,0 +1,144 @@
+ghost use Rattle.std.specs.Prelude.{◌≡◌, ◌≢◌, ℕ, ◌+◌, ◌*◌, ◌/◌, ◌%◌, ◌^◌, ◌<◌, ◌≤◌, false, length, OnOk, IfOk, IfErr, IfSome};
+ghost use Rattle.sporc_outside.specs.Counts.{Rose};
+ghost use Rattle.lms_leaf.specs.LeafFile.{IsLeafHeight, block_count, taken_blocks};
+ghost use Rattle.lms_leaf.specs.Leaves.{KeepsStable, IsSynced, Draws, DrawFaults, Opens, disk_after};
+
+use crate::faults::{LeafFault, LeafOpenFault};
+use crate::leaf_file::{blocks_of, take_block, taken_of};
+use sporc_outside::LeafDisk;
+use std::alloc::Global;
+use std::marker::Model;
+
+/// Numbers the leaves of one key, on the disk that holds its leaf file.
+#[derive(Drop)]
+pub struct Leaves<D: LeafDisk> {
+    disk: D,
+    next: u32,
+    leaf_count: u32,
+    faulty: bool,
+    faults_at_open: u64,
+}
+
+impl<D: LeafDisk> Model for Leaves<D> {
+    ghost use Rattle.lms_leaf.specs.Leaves.{LeavesContent};
+
+    ghost Value = { LeavesContent D };
+
+    ghost use Rattle.lms_leaf.specs.LeavesInside.{IsSound};
+
+    ghost view = { λ l. record {
+      disk = l.disk;
+      next = l.next;
+      leaf_count = l.leaf_count;
+      faulty = l.faulty;
+      faults_at_open = l.faults_at_open;
+    } };
+
+    ghost invariant = { IsSound D.stored D.moment D.images D.faults };
+}
+
+impl<D: LeafDisk> Leaves<D> {
+    /// Opens the leaf file of a tree of that height: syncs it, and goes on behind the last block
+    /// that is taken. Where it fails the disk comes back.
+    pub fn open(alloc: Global, mut disk: D, height: u32) -> Result<Leaves<D>, (LeafOpenFault, D)>
+        requires { IsLeafHeight height }
+
+        ensures opens { Opens D.stored D.moment D.images disk result }
+        ensures leaf_count { IfOk result (λ leaves. leaves.leaf_count ≡ 2 ^ height) }
+        ensures fresh { IfOk result (λ leaves.
+            (leaves.faulty ≡ false) × (leaves.faults_at_open ≡ D.faults leaves.disk)) }
+        ensures right_length { OnOk result (IfSome (D.stored disk) (λ bytes.
+            length bytes ≡ block_count height)) }
+
+        ensures disk_fault { IfErr result (λ fault. fault.0 ≡ LeafOpenFault.DiskFault
+            → Rose (D.faults disk) (D.faults fault.1)) }
+        ensures bad_length { IfErr result (λ fault. (len : ℕ)
+            → fault.0 ≡ LeafOpenFault.BadLength len
+            → (len ≢ block_count height) × IfSome (D.stored disk) (λ bytes. len ≡ length bytes)) }
+        ensures memory { IfErr result (λ fault. fault.0 ≡ LeafOpenFault.Memory → fault.1 ≡ disk) }
+        ensures count { D.faults disk ≤ D.faults (disk_after result) }
+    {
+        match find_next(alloc, &mut disk, height) {
+            Ok(next) => {
+                let faults_at_open = disk.faults();
+                let leaf_count = 4 * blocks_of(height) as u32;
+                Ok(Leaves {
+                    disk,
+                    next,
+                    leaf_count,
+                    faulty: false,
+                    faults_at_open,
+                })
+            }
+            Err(fault) => Err((fault, disk)),
+        }
+    }
+
+    /// Gives the next number, and takes its block first where it begins one. After a disk fault
+    /// each draw answers a disk fault until the file is opened again.
+    pub fn draw(&mut self) -> Result<u32, LeafFault>
+        ensures draws { Draws D.stored D.moment D.images self.old result self.new }
+        ensures faults { DrawFaults D.faults self.old result self.new }
+    {
+        if self.next == self.leaf_count {
+            return Err(LeafFault::Exhausted(self.next));
+        }
+        if self.faulty {
+            return Err(LeafFault::DiskFault);
+        }
+        if self.next % 4 == 0 && take_block(&mut self.disk, self.next / 4).is_err() {
+            self.faulty = true;
+            return Err(LeafFault::DiskFault);
+        }
+        let leaf = self.next;
+        self.next += 1;
+        Ok(leaf)
+    }
+
+    /// The number that the next draw gives, or the count of leaves where all are drawn.
+    pub fn next(&self) -> u32
+        ensures value { result ≡ self.now.next }
+        ensures within { result ≤ self.now.leaf_count }
+    {
+        self.next
+    }
+
+    /// Gives the disk back.
+    pub fn close(self) -> D
+        ensures { result ≡ self.disk }
+    {
+        self.disk
+    }
+}
+
+// Syncs the disk, and gives the number behind the last block that is taken.
+fn find_next<D: LeafDisk>(alloc: Global, disk: &mut D, height: u32) -> Result<u32, LeafOpenFault>
+    requires { IsLeafHeight height }
+    ensures next { IfOk result (λ next. IfSome (D.stored disk.old) (λ bytes.
+        next ≡ 4 * taken_blocks bytes)) }
+    ensures first_of_block { IfOk result (λ next. (blocks : ℕ)
+        × (next ≡ 4 * blocks) × (blocks ≤ block_count height)) }
+    ensures right_length { OnOk result (IfSome (D.stored disk.old) (λ bytes.
+        length bytes ≡ block_count height)) }
+    ensures bad_length { (len : ℕ) → result ≡ Err (LeafOpenFault.BadLength len)
+        → (len ≢ block_count height) × IfSome (D.stored disk.old) (λ bytes. len ≡ length bytes) }
+    ensures disk_fault { result ≡ Err LeafOpenFault.DiskFault
+        → Rose (D.faults disk.old) (D.faults disk.new) }
+    ensures memory { result ≡ Err LeafOpenFault.Memory → disk.new ≡ disk.old }
+    ensures stable { KeepsStable D.moment D.images disk.old disk.new }
+    ensures synced { OnOk result
+        (IsSynced (D.stored disk.new) (D.images disk.new (D.moment disk.new))) }
+    ensures stored { D.stored disk.new ≡ D.stored disk.old }
+    ensures count { D.faults disk.old ≤ D.faults disk.new }
+{
+    let blocks = blocks_of(height);
+    let mut bytes = vec![in alloc; 0u8; blocks]?;
+    disk.sync()?;
+    let len = disk.len()?;
+    if len != blocks as u64 {
+        return Err(LeafOpenFault::BadLength(len));
+    }
+    disk.read(0, &mut bytes)?;
+    let next = 4 * taken_of(&bytes) as u32;
+    Ok(next)
+}

@@ -1,0 +1,102 @@
+-- Entries: their bytes, what bytes say, and what an author signs.
+--
+-- | Place | Field | Bytes | Rule |
+-- | 0 | version | 1 | 1 |
+-- | 1 | document | 16 | |
+-- | 17 | author | 2 | |
+-- | 19 | number | 4 | |
+-- | 23 | base | 4 | |
+-- | 27 | base hash | 32 | |
+-- | 59 | epoch | 4 | |
+-- | 63 | leaf | 4 | |
+-- | 67 | kind | 1 | 1 an edit, 2 a change |
+-- | 68 | body | counted | an edit's at most 1,048,576; a change's at most 65,536, and read where it stands |
+-- | after it | signature | counted | at most 9,324 |
+use Rattle.std.specs.Prelude.{◌≡◌, ℕ, ◌<◌, ◌≤◌, ◌^◌, ◌==◌, List, [], ◌∷◌, ◌++◌, length, Option, None, Result, Ok, if◌then◌else◌}
+use Rattle.std.specs.Result.{result_ok}
+use Rattle.std.specs.Int.{w8, w16, w32, to_be_bytes}
+use Rattle.sporc_bytes.specs.Fields.{Reading, ◌>>=◌, bytes_at, number_at, counted_at, end_at}
+use Rattle.sporc_entry.specs.declared.change.ChangeBody.{ChangeBody}
+use Rattle.sporc_entry.specs.declared.entry.Entry.{Entry}
+use Rattle.sporc_entry.specs.declared.header.Header.{Header}
+use Rattle.sporc_entry.specs.Fields.{number_within}
+use Rattle.sporc_entry.specs.ChangeBody.{change_body_from, SpellsChange}
+
+-- ---- reading
+
+-- what stands before the body
+unfoldable pub header_at : Reading → Result (Header × Reading) ℕ
+header_at r = do
+  version ← number_within 1 1 w8 r
+  document ← bytes_at 16 version.1
+  author ← number_at w16 document.1
+  number ← number_at w32 author.1
+  base ← number_at w32 number.1
+  base_hash ← bytes_at 32 base.1
+  epoch ← number_at w32 base_hash.1
+  leaf ← number_at w32 epoch.1
+  kind ← number_within 1 2 w8 leaf.1
+  Ok (record { document = document.0; author = author.0; number = number.0; base = base.0; base_hash = base_hash.0; epoch = epoch.0; leaf = leaf.0; kind = kind.0 }, kind.1)
+
+-- how long the body of an entry of this kind may be
+abbrev pub body_limit : ℕ → ℕ
+body_limit kind = if kind == 1 then 1048576 else 65536
+
+-- whether a body is one of this kind, the first of its bytes at this place: that of an edit may be anything
+abbrev pub body_read : ℕ → ℕ → List ℕ → Result (Unit {0}) ℕ
+body_read kind at body =
+    if kind == 1 then Ok tt else (do
+      change ← change_body_from at body
+      Ok tt)
+
+-- the entry that bytes spell
+unfoldable pub entry_of : List ℕ → Result Entry ℕ
+entry_of bytes = do
+  header ← header_at (record { rest = bytes; at = 0 })
+  body ← counted_at (body_limit header.0.kind) header.1
+  read ← body_read header.0.kind 72 body.0
+  signature ← counted_at 9324 body.1
+  end ← end_at signature.1
+  Ok (record { header = header.0; body = body.0; signature = signature.0 })
+
+-- what an entry changes, if it is a change
+unfoldable pub change_of : Entry → Option ChangeBody
+change_of e = if e.header.kind == 2 then result_ok (change_body_from 0 e.body) else None
+
+-- ---- writing
+
+-- the bytes of what stands before the body, and those after them
+unfoldable pub header_bytes : Header → List ℕ → List ℕ
+header_bytes h rest =
+    1 ∷ h.document ++ (to_be_bytes w16 h.author ++ (to_be_bytes w32 h.number ++ (to_be_bytes w32 h.base ++ (h.base_hash
+    ++ (to_be_bytes w32 h.epoch ++ (to_be_bytes w32 h.leaf ++ h.kind ∷ rest))))))
+
+-- a counted string, and the bytes after it
+abbrev pub counted_bytes : List ℕ → List ℕ → List ℕ
+counted_bytes bytes rest = to_be_bytes w32 (length bytes) ++ (bytes ++ rest)
+
+-- the bytes of an entry
+unfoldable pub entry_bytes : Entry → List ℕ
+entry_bytes e = header_bytes e.header (counted_bytes e.body (counted_bytes e.signature []))
+
+-- the string that the author of an entry signs: 3, and the entry without its signature
+unfoldable pub signed_string : Entry → List ℕ
+signed_string e = 3 ∷ header_bytes e.header (counted_bytes e.body [])
+
+-- ---- what has a spelling
+
+pub record IsHeader (h : Header) : Type 0 where
+  pub document : length h.document ≡ 16
+  pub author : h.author < 2 ^ 16
+  pub number : h.number < 2 ^ 32
+  pub base : h.base < 2 ^ 32
+  pub base_hash : length h.base_hash ≡ 32
+  pub epoch : h.epoch < 2 ^ 32
+  pub leaf : h.leaf < 2 ^ 32
+  pub kind : (1 ≤ h.kind) × (h.kind ≤ 2)
+
+pub record IsEntry (e : Entry) : Type 0 where
+  pub header : IsHeader e.header
+  pub body : length e.body ≤ body_limit e.header.kind
+  pub change : e.header.kind ≡ 2 → SpellsChange e.body
+  pub signature : length e.signature ≤ 9324

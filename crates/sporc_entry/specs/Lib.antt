@@ -1,0 +1,5 @@
+pub mod Fields
+pub mod Outcomes
+pub mod ChangeBody
+pub mod Entry
+pub mod Genesis

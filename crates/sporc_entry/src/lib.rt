@@ -1,0 +1,30 @@
+//! The bytes of a document's genesis and of the entries of its history.
+//!
+//! All numbers are big-endian. Each genesis, entry and body of a change has exactly one spelling. A reader answers the
+//! value that its bytes spell, or the place of the first byte of the first field that is cut short or has a forbidden
+//! value.
+#![tactic(auto)]
+
+mod bytes;
+mod change;
+mod entry;
+mod fault;
+mod fields;
+mod founders;
+mod genesis;
+mod header;
+pub mod laws;
+mod wraps;
+
+pub use bytes::Bytes;
+pub use change::{ChangeBody, read_change, write_change};
+pub use entry::{Entry, read_entry, signed_part, write_entry};
+pub use fault::{EntryFault, GenesisFault};
+pub use founders::Founders;
+pub use genesis::{Genesis, read_genesis, write_genesis};
+pub use header::Header;
+pub use sporc_bytes::Memory;
+pub use wraps::{Wrap, Wraps};
+
+#[cfg(test)]
+mod tests;

@@ -1,0 +1,4 @@
+pub mod Checks
+pub mod Places
+mod Keeping
+mod Examples

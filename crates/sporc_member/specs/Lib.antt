@@ -1,0 +1,5 @@
+pub mod Role
+pub mod ChangeFault
+pub mod Roster
+pub mod Lists
+pub mod RosterModel

@@ -1,0 +1,90 @@
+//! Changes of the members, and why one is refused.
+
+ghost use Rattle.std.specs.Prelude.{◌≡◌};
+
+use crate::role::Role;
+use thiserror::Error;
+
+/// A change of the members.
+#[derive(Clone, Copy, Debug, PartialEq, Eq)]
+pub enum Change {
+    /// A new member, with its role and the 56 bytes of its public key.
+    Add {
+        member: u16,
+        role: Role,
+        key: [u8; 56],
+    },
+    /// A member leaves.
+    Remove {
+        member: u16,
+    },
+    /// A member gets another role.
+    SetRole {
+        member: u16,
+        role: Role,
+    },
+}
+
+/// Why a change is refused.
+#[derive(Clone, Copy, Debug, PartialEq, Eq, Error)]
+pub enum ChangeFault {
+    #[error("the number is 0 or was a member's before")]
+    NumberUsed,
+    #[error("no member has that number")]
+    NotMember,
+    #[error("the member has that role")]
+    SameRole,
+    #[error("no admin would be left")]
+    LastAdmin,
+    #[error("there are 64 members")]
+    RosterFull,
+    #[error("the key is of no known type")]
+    BadKey,
+}
+
+impl ChangeFault {
+    ghost use Rattle.sporc_member.specs.ChangeFault.{change_fault_name, change_fault_code_of, change_fault_with_code};
+
+    /// The name that is printed.
+    pub fn name(self) -> &'static str
+        ensures { result.now ≡ change_fault_name self }
+    {
+        match self {
+            ChangeFault::NumberUsed => "number-used",
+            ChangeFault::NotMember => "not-member",
+            ChangeFault::SameRole => "same-role",
+            ChangeFault::LastAdmin => "last-admin",
+            ChangeFault::RosterFull => "roster-full",
+            ChangeFault::BadKey => "bad-key",
+        }
+    }
+
+    /// The number that is sent, from 1 to 6.
+    pub fn code(self) -> u8
+        ensures { result ≡ change_fault_code_of self }
+    {
+        match self {
+            ChangeFault::NumberUsed => 1,
+            ChangeFault::NotMember => 2,
+            ChangeFault::SameRole => 3,
+            ChangeFault::LastAdmin => 4,
+            ChangeFault::RosterFull => 5,
+            ChangeFault::BadKey => 6,
+        }
+    }
+
+    /// The fault with that number.
+    pub fn from_code(code: u32) -> Option<ChangeFault>
+        ensures { result ≡ change_fault_with_code code }
+    {
+        match code {
+            1 => Some(ChangeFault::NumberUsed),
+            2 => Some(ChangeFault::NotMember),
+            3 => Some(ChangeFault::SameRole),
+            4 => Some(ChangeFault::LastAdmin),
+            5 => Some(ChangeFault::RosterFull),
+            6 => Some(ChangeFault::BadKey),
+            _ => None,
+        }
+    }
+}

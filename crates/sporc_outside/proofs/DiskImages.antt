@@ -1,0 +1,172 @@
+-- What a crash of a disk in memory may leave, over one call.
+use Rattle.std.proofs.Common.{◌≡◌, ℕ, ◌+◌, ◌-◌, ◌<◌, ◌≤◌, ◌⊎◌, inl, inr, Bool, true, false, List, [], ◌∷◌, ◌++◌, length, take, drop, slice_index, Some, refl, ap, sym, subst, ◌∙◌, arith, length-append, length-drop, length-take-le, get_or-take}
+use Rattle.std.proofs.Math.Seq.{get_or-drop}
+use Rattle.sporc_outside.specs.CallRecord.{CallRecord}
+use Rattle.std.proofs.lemmas.List.{take-append-le, take_all, ext_get_or}
+use Rattle.std.proofs.Math.Nat.{eq-or-lt_of_le}
+use Rattle.std.proofs.lemmas.Bool.{cases_lt}
+use Rattle.std.proofs.lemmas.List.Sums.{fold-append}
+use Rattle.sporc_outside.specs.declared.disk_call.DiskCall.{DiskCall}
+use Rattle.sporc_outside.specs.declared.disk_call.DiskRequest.TheVariants.{Write, Sync}
+use Rattle.sporc_outside.specs.LeafDisk.{overwrite, IsSameOutside, Passes}
+use Rattle.sporc_outside.specs.MemoryDisk.{DiskState, state_after, MemoryDiskContent, after_call, IsLoose, IsImage, images_of}
+use Rattle.sporc_outside.proofs.Overwrites.{length-overwrite, slice_index-overwrite_outside, slice_index-overwrite_inside}
+
+-- what a crash after the first m of these calls may leave
+abbrev pub images_in : List ℕ → List DiskCall → ℕ → List ℕ → Type 0
+images_in first log m image = IsImage (state_after first (take m log)) image
+
+pub state_after-more : (first : List ℕ) (log : List DiskCall) (call : DiskCall)
+    → state_after first (log ++ call ∷ []) ≡ after_call (state_after first log) call
+state_after-more first log call = fold-append after_call (record { bytes = first; loose = [] }) log (call ∷ [])
+
+-- no call more
+passes_none : (first : List ℕ) (log : List DiskCall) (step : List ℕ → List ℕ → Type 0) → ((image : List ℕ) → step image image)
+    → Passes (length log) (length log) (images_in first log) (images_in first log) step
+passes_none first log step stays = record {
+  later = omega arith;
+  earlier = λ m image le. (λ h. h, λ h. h);
+  during = λ m image low high h.
+      let now : m ≡ length log = omega arith in
+      (image, subst (λ (n : ℕ). images_in first log n image) now h, stays image);
+}
+
+-- what each image that a call may leave was before it
+abbrev pub Steps : DiskState → DiskCall → (List ℕ → List ℕ → Type 0) → Type 0
+Steps s call step = (image : List ℕ) → IsImage (after_call s call) image → (before : List ℕ) × IsImage s before × step before image
+
+-- one call more
+passes_one : (first : List ℕ) (log : List DiskCall) (call : DiskCall) (step : List ℕ → List ℕ → Type 0)
+    → ((image : List ℕ) → step image image) → Steps (state_after first log) call step
+    → Passes (length log) (length (log ++ call ∷ [])) (images_in first log) (images_in first (log ++ call ∷ [])) step
+passes_one first log call step stays steps =
+    let all = log ++ call ∷ [] in
+    let len : length all ≡ length log + 1 = length-append log (call ∷ []) in
+    let kept : (m : ℕ) → m ≤ length log → take m all ≡ take m log = λ m le. take-append-le m log (call ∷ []) le in
+    record {
+      later = omega arith;
+      earlier = λ m image le. rw (kept m le) (λ h. h, λ h. h);
+      during = λ m image low high h.
+          elim (eq-or-lt_of_le low) [
+            | inl now ↦ (image, subst (λ (n : ℕ). images_in first log n image) (sym now) (rw (kept m (omega arith)) at h), stays image)
+            | inr later ↦
+                let whole : length all ≤ m = omega arith in
+                let got = steps image (rw (take_all m all whole, state_after-more first log call) at h) in
+                (got.0, rw (take_all (length log) log (omega arith)) got.1, got.2)
+          ];
+    }
+
+-- the same over what a disk holds: its first bytes, its log, and its calls
+pub passes_unlogged : (old : MemoryDiskContent) (first : List ℕ) (log new : List DiskCall) (calls : CallRecord) (step : List ℕ → List ℕ → Type 0)
+    → ◌≡◌ {A = MemoryDiskContent} (record { first = first; log = log; calls = calls }) old → new ≡ log
+    → ((image : List ℕ) → step image image) → Passes (length old.log) (length new) (images_of old) (images_in first new) step
+passes_unlogged old first log new calls step is same stays =
+    let P : MemoryDiskContent → List DiskCall → Type 0 = λ d l. Passes (length d.log) (length l) (images_of d) (images_in first l) step in
+    subst (λ (d : MemoryDiskContent). P d new) is
+    (subst (P (record { first = first; log = log; calls = calls })) (sym same) (passes_none first log step stays))
+
+pub passes_logged : (old : MemoryDiskContent) (first : List ℕ) (log new : List DiskCall) (calls : CallRecord) (call : DiskCall)
+    (step : List ℕ → List ℕ → Type 0) → ◌≡◌ {A = MemoryDiskContent} (record { first = first; log = log; calls = calls }) old
+    → new ≡ log ++ call ∷ [] → ((image : List ℕ) → step image image) → Steps (state_after first log) call step
+    → Passes (length old.log) (length new) (images_of old) (images_in first new) step
+passes_logged old first log new calls call step is more stays steps =
+    let P : MemoryDiskContent → List DiskCall → Type 0 = λ d l. Passes (length d.log) (length l) (images_of d) (images_in first l) step in
+    subst (λ (d : MemoryDiskContent). P d new) is
+    (subst (P (record { first = first; log = log; calls = calls })) (sym more) (passes_one first log call step stays steps))
+
+-- after a sync an image is what a read gives
+pub synced : (bytes image : List ℕ) → IsImage (record { bytes = bytes; loose = [] }) image → image ≡ bytes
+synced bytes image h = ext_get_or 0 image bytes h.length (λ i below. elim (h.firm i) [ inl loose ↦ absurd loose | inr same ↦ same ])
+
+-- after a sync that succeeded only what a read gives
+pub synced_log : (first : List ℕ) (log new : List DiskCall) (image : List ℕ) → new ≡ log ++ record { request = Sync; done = true } ∷ []
+    → images_in first new (length new) image → Some (state_after first new).bytes ≡ Some image
+synced_log first log new image more h =
+    let state : state_after first new ≡ record (state_after first log) { loose = [] } =
+    ap (state_after first) more ∙ state_after-more first log (record { request = Sync; done = true }) in
+    let got = rw (take_all (length new) new (omega arith), state) at h in
+    rw state (ap Some (sym (synced (state_after first log).bytes image got)))
+
+-- so it was one before
+pub image_synced : (s : DiskState) (image : List ℕ) → IsImage (record s { loose = [] }) image → IsImage s image
+image_synced s image h = record { length = h.length; firm = λ i. elim (h.firm i) [ inl loose ↦ absurd loose | inr same ↦ inr same ] }
+
+-- a write leaves the bytes outside its range, in what a read gives and in each image
+pub overwrite_outside : (old : List ℕ) (at : ℕ) (bytes : List ℕ) → at + length bytes ≤ length old
+    → IsSameOutside at (length bytes) old (overwrite old at bytes)
+overwrite_outside old at bytes h = record {
+  length = length-overwrite old at bytes h;
+  others = λ i out. slice_index-overwrite_outside old at bytes i h out;
+}
+
+pub same_outside : (at n : ℕ) (xs : List ℕ) → IsSameOutside at n xs xs
+same_outside at n xs = record { length = refl; others = λ i out. refl }
+
+-- the image with what a read gave in place of what was written
+before_write : (s : DiskState) (at : ℕ) (bytes now image : List ℕ) → at + length bytes ≤ length s.bytes
+    → IsSameOutside at (length bytes) s.bytes now
+    → IsImage (record { bytes = now; loose = (at, length bytes) ∷ s.loose }) image
+    → (before : List ℕ) × IsImage s before × IsSameOutside at (length bytes) before image
+before_write s at bytes now image fits outside h =
+    let n = length bytes in
+    let mid = take n (drop at s.bytes) in
+    let len : length mid ≡ n = length-take-le n (drop at s.bytes) (omega (arith, length-drop at s.bytes)) in
+    let before = overwrite image at mid in
+    let room : at + length mid ≤ length image = omega (arith, h.length, outside.length) in
+    let long = length-overwrite image at mid room in
+    let kept : (i : ℕ) → (i < at) ⊎ (at + length mid ≤ i) → slice_index before i ≡ slice_index image i = λ i out. slice_index-overwrite_outside image at mid i room out in
+    let far : (i : ℕ) → (i < at) ⊎ (at + n ≤ i) → (i < at) ⊎ (at + length mid ≤ i) = λ i out. rw len out in
+    let firm_outside : (i : ℕ) → (i < at) ⊎ (at + n ≤ i) → IsLoose s.loose i ⊎ (slice_index before i ≡ slice_index s.bytes i) = λ i out.
+    elim (h.firm i) [
+      | inl loose ↦ elim loose [
+        | inl here ↦ absurd (elim out [ inl below ↦ omega arith | inr above ↦ omega arith ])
+        | inr there ↦ inl there
+      ]
+      | inr same ↦ inr (kept i (far i out) ∙ same ∙ outside.others i out)
+    ] in
+    let firm_inside : (i : ℕ) → at ≤ i → i < at + n → slice_index before i ≡ slice_index s.bytes i = λ i low high.
+    let back : at + (i - at) ≡ i = omega arith in
+    slice_index-overwrite_inside image at mid i (omega arith) low (omega arith)
+    ∙ get_or-take n (drop at s.bytes) (i - at) 0 (omega arith) ∙ get_or-drop at s.bytes (i - at) 0
+    ∙ ap (slice_index s.bytes) back in (
+      before,
+      record {
+        length = long ∙ h.length ∙ outside.length;
+        firm = λ i. elim (cases_lt i at) [
+          | inl below ↦ firm_outside i (inl below)
+          | inr low ↦ elim (cases_lt i (at + n)) [ inl high ↦ inr (firm_inside i low high) | inr above ↦ firm_outside i (inr above) ]
+        ];
+      },
+      record { length = sym long; others = λ i out. sym (kept i (far i out)) },
+    )
+
+steps_write : (s : DiskState) (at : ℕ) (bytes : List ℕ) (done : Bool) → at + length bytes ≤ length s.bytes
+    → Steps s (record { request = Write at bytes; done = done }) (IsSameOutside at (length bytes))
+steps_write s at bytes true fits image h = before_write s at bytes (overwrite s.bytes at bytes) image fits (overwrite_outside s.bytes at bytes fits) h
+steps_write s at bytes false fits image h = before_write s at bytes s.bytes image fits (same_outside at (length bytes) s.bytes) h
+
+-- a write in the log
+pub passes_write : (old : MemoryDiskContent) (first : List ℕ) (log new : List DiskCall) (calls : CallRecord) (at : ℕ) (bytes kept : List ℕ)
+    (done : Bool) → ◌≡◌ {A = MemoryDiskContent} (record { first = first; log = log; calls = calls }) old → kept ≡ bytes
+    → new ≡ log ++ record { request = Write at kept; done = done } ∷ [] → at + length bytes ≤ length (state_after old.first old.log).bytes
+    → Passes (length old.log) (length new) (images_of old) (images_in first new) (IsSameOutside at (length bytes))
+passes_write old first log new calls at bytes kept done is same more fits =
+    let here : at + length bytes ≤ length (state_after first log).bytes =
+    subst (λ (d : MemoryDiskContent). at + length bytes ≤ length (state_after d.first d.log).bytes) (sym is) fits in
+    passes_logged old first log new calls (record { request = Write at bytes; done = done }) (IsSameOutside at (length bytes)) is
+    (more ∙ ap (λ (b : List ℕ). log ++ record { request = Write at b; done = done } ∷ []) same)
+    (same_outside at (length bytes)) (steps_write (state_after first log) at bytes done here)
+
+pub others_write : (old : MemoryDiskContent) (first : List ℕ) (log new : List DiskCall) (calls : CallRecord) (at : ℕ) (bytes kept : List ℕ)
+    → ◌≡◌ {A = MemoryDiskContent} (record { first = first; log = log; calls = calls }) old → kept ≡ bytes
+    → new ≡ log ++ record { request = Write at kept; done = true } ∷ [] → at + length bytes ≤ length (state_after old.first old.log).bytes
+    → IsSameOutside at (length bytes) (state_after old.first old.log).bytes (state_after first new).bytes
+others_write old first log new calls at bytes kept is same more fits =
+    let P : MemoryDiskContent → Type 0 = λ d. at + length bytes ≤ length (state_after d.first d.log).bytes
+    → IsSameOutside at (length bytes) (state_after d.first d.log).bytes (state_after first new).bytes in
+    subst P is
+    (λ here. rw (
+      more ∙ ap (λ (b : List ℕ). log ++ record { request = Write at b; done = true } ∷ []) same,
+      state_after-more first log (record { request = Write at bytes; done = true }),
+    )
+    (overwrite_outside (state_after first log).bytes at bytes here)) fits

@@ -1,0 +1,41 @@
+-- What a crash may leave of the bytes of a disk, and what the calls of a disk do to them.
+use Rattle.std.specs.Prelude.{◌≡◌, ◌≢◌, ◌⊎◌, ◌↔◌, ℕ, ◌+◌, ◌<◌, ◌≤◌, List, ◌++◌, length, take, drop, slice_index, Option, Some, None}
+
+-- the byte at a place is not zero, whatever a crash leaves
+abbrev pub IsStable : (List ℕ → Type 0) → ℕ → Type 0
+IsStable images at = (image : List ℕ) → images image → slice_index image at ≢ 0
+
+-- the list with these bytes in place of those from a place on
+abbrev pub overwrite : List ℕ → ℕ → List ℕ → List ℕ
+overwrite old at bytes = take at old ++ bytes ++ drop (at + length bytes) old
+
+-- the same bytes
+abbrev pub IsSame : List ℕ → List ℕ → Type 0
+IsSame old new = new ≡ old
+
+-- the same bytes but for n of them from a place on
+pub record IsSameOutside (at n : ℕ) (old new : List ℕ) : Type 0 where
+  pub length : length new ≡ length old
+  pub others : (i : ℕ) → (i < at) ⊎ (at + n ≤ i) → slice_index new i ≡ slice_index old i
+
+-- the told bytes stay but for n of them from a place on; a disk that tells none tells none afterwards
+abbrev pub KeepsOutside : ℕ → ℕ → Option (List ℕ) → Option (List ℕ) → Type 0
+KeepsOutside at n None None = Unit {0}
+KeepsOutside at n (Some old) (Some new) = IsSameOutside at n old new
+KeepsOutside at n None (Some new) = ⊥
+KeepsOutside at n (Some old) None = ⊥
+
+-- One call, which began at the moment `before` and ended at `after`: at each moment of it a crash leaves what
+-- it could have left as the call began, but for a step. What it left at earlier moments stays as it was.
+pub record Passes (before after : ℕ) (past images : ℕ → List ℕ → Type 0) (step : List ℕ → List ℕ → Type 0)
+    : Type 0 where
+  pub later : before ≤ after
+  pub earlier : (m : ℕ) (image : List ℕ) → m ≤ before → images m image ↔ past m image
+  pub during : (m : ℕ) (image : List ℕ) → before ≤ m → m ≤ after → images m image
+      → (old : List ℕ) × past before old × step old image
+
+-- what is found after a crash of that disk at that moment reads as one of the images, and its images are among them
+pub record IsFound {D : Type 0} (stored : D → Option (List ℕ)) (moment : D → ℕ) (images : D → ℕ → List ℕ → Type 0)
+    (disk : D) (at : ℕ) (found : D) : Type 0 where
+  pub reads : (image : List ℕ) × images disk at image × (stored found ≡ Some image)
+  pub among : (image : List ℕ) → images found (moment found) image → images disk at image

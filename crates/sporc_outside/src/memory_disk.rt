@@ -1,0 +1,159 @@
+ghost use Rattle.std.specs.Prelude.{◌≡◌, ◌⊎◌, ◌+◌, ◌≤◌, [], ◌∷◌, ◌++◌, Some, true, false, length, IsErr, IfOk, OnOk, OnErr, Contains};
+ghost use Rattle.sporc_outside.specs.Counts.{CountsFaults, Rose, next_count};
+
+use crate::calls::Calls;
+use crate::counted::{Counted, Failed};
+use crate::disk_call::{DiskBytes, DiskCall, DiskRequest};
+use crate::leaf_disk::LeafDisk;
+use std::alloc::{AllocError, Global};
+use std::marker::Model;
+
+/// A disk that keeps its bytes and tells them, with a log of all its calls, from which what a crash
+/// after any of them may leave is read. A call that finds no memory for the log fails.
+#[derive(Debug, Drop)]
+pub struct MemoryDisk {
+    alloc: Global,
+    first: Vec<u8>,
+    bytes: Vec<u8>,
+    log: Vec<DiskCall>,
+    calls: Calls,
+}
+
+impl Model for MemoryDisk {
+    ghost use Rattle.std.specs.Prelude.{◌≡◌};
+    ghost use Rattle.sporc_outside.specs.MemoryDisk.{MemoryDiskContent, state_after};
+
+    ghost Value = { MemoryDiskContent };
+
+    ghost view = { λ d. record { first = d.first.items; log = d.log.items; calls = d.calls } };
+
+    ghost invariant = { λ d. d.bytes.items ≡ (state_after d.first.items d.log.items).bytes };
+}
+
+impl MemoryDisk {
+    ghost use Rattle.sporc_outside.specs.MemoryDisk.{state_after};
+
+    /// Holds these bytes, all of them synced. The listed calls fail.
+    pub fn new(alloc: Global, bytes: Vec<u8>, calls: Calls) -> Result<MemoryDisk, AllocError>
+        ensures { IfOk result (λ disk.
+            disk ≡ record { first = bytes.items; log = []; calls = calls }) }
+    {
+        let first = Vec::from_slice(alloc, &bytes)?;
+        Ok(MemoryDisk {
+            alloc,
+            first,
+            bytes,
+            log: Vec::new(alloc),
+            calls,
+        })
+    }
+
+    /// What a read gives.
+    pub fn as_slice(&self) -> &[u8]
+        ensures { result.now ≡ (state_after self.now.first self.now.log).bytes }
+    {
+        self.bytes.as_slice()
+    }
+
+    /// Gives up the bytes.
+    pub fn into_bytes(self) -> Vec<u8>
+        ensures { result.items ≡ (state_after self.first self.log).bytes }
+    {
+        self.bytes
+    }
+
+    /// The calls so far, oldest first.
+    pub fn log(&self) -> &[DiskCall]
+        ensures { result.now ≡ self.now.log }
+    {
+        self.log.as_slice()
+    }
+}
+
+impl Counted for MemoryDisk {
+    ghost faults = { λ d. d.calls.faults };
+
+    fn faults(&self) -> u64 {
+        self.calls.faults()
+    }
+}
+
+impl LeafDisk for MemoryDisk {
+    ghost use Rattle.std.specs.Prelude.{Some, length, refl};
+    ghost use Rattle.sporc_outside.specs.MemoryDisk.{state_after, images_of, bytes_are_image};
+
+    ghost stored = { λ d. Some (state_after d.first d.log).bytes };
+
+    ghost moment = { λ d. length d.log };
+
+    ghost images = { images_of };
+
+    ghost stored_is_image = { bytes_are_image };
+
+    ghost images_are_told = { λ d image is. refl };
+
+    fn len(&mut self) -> Result<u64, Failed> {
+        enter(&mut self.calls, &mut self.log, DiskRequest::Len)?;
+        Ok(self.bytes.len() as u64)
+    }
+
+    fn read(&mut self, at: u64, buf: &mut [u8]) -> Result<(), Failed> {
+        let len = buf.len();
+        enter(
+            &mut self.calls,
+            &mut self.log,
+            DiskRequest::Read { at, len },
+        )?;
+        let at = at as usize;
+        buf.copy_from_slice(&self.bytes[at..at + len]);
+        Ok(())
+    }
+
+    fn write_at(&mut self, at: u64, bytes: &[u8]) -> Result<(), Failed> {
+        let Ok(kept) = Vec::from_slice(self.alloc, bytes) else {
+            return Err(refuse(&mut self.calls));
+        };
+        let request = DiskRequest::Write {
+            at,
+            bytes: DiskBytes::new(kept),
+        };
+        enter(&mut self.calls, &mut self.log, request)?;
+        let at = at as usize;
+        self.bytes[at..at + bytes.len()].copy_from_slice(bytes);
+        Ok(())
+    }
+
+    fn sync(&mut self) -> Result<(), Failed> {
+        enter(&mut self.calls, &mut self.log, DiskRequest::Sync)?;
+        Ok(())
+    }
+}
+
+// Counts a call, and puts it at the end of the log.
+fn enter(calls: &mut Calls, log: &mut Vec<DiskCall>, request: DiskRequest) -> Result<(), Failed>
+    ensures ok { OnOk result
+        (log.new.items ≡ log.old.items ++ record { request = request; done = true } ∷ []) }
+    ensures err { OnErr result
+        ((log.new.items ≡ log.old.items ++ record { request = request; done = false } ∷ [])
+        ⊎ (log.new.items ≡ log.old.items)) }
+    ensures listed { Contains calls.old.failing (next_count calls.old.made) → IsErr result }
+    ensures count { CountsFaults calls.old.faults calls.new.faults result }
+{
+    let answer = calls.begin();
+    let done = answer.is_ok();
+    match log.push(DiskCall { request, done }) {
+        Ok(()) => answer,
+        Err(_) => Err(calls.fail()),
+    }
+}
+
+// Counts a call that fails.
+fn refuse(calls: &mut Calls) -> Failed
+    ensures rose { Rose calls.old.faults calls.new.faults }
+    ensures kept { calls.old.faults ≤ calls.new.faults }
+{
+    match calls.begin() {
+        Ok(()) => calls.fail(),
+        Err(failed) => failed,
+    }
+}

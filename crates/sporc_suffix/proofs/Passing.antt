@@ -1,0 +1,51 @@
+-- A delta that passes forms one after the other.
+use Rattle.std.proofs.Common.{◌≡◌, ℕ, zero, suc, ◌+◌, ◌^◌, ◌≤◌, ◌<◌, List, [], ◌∷◌, ◌++◌, length, take, drop, get_or, refl, ap, sym, subst, ◌∙◌, arith, add-one}
+use Rattle.std.proofs.Math.Seq.{drop-cons}
+use Rattle.sporc_delta.specs.Marks.{Mark, base_len, out_len, inserted_len}
+use Rattle.sporc_delta.specs.Transforms.{later}
+use Rattle.sporc_xform.proofs.LengthLemmas.{base_len-later, inserted_len-later, out_len-le}
+use Rattle.sporc_suffix.specs.Forms.{reached, Follow, all_inserted, later_over}
+
+-- a delta and the forms that it is yet to pass
+pub record Fits (q : List Mark) (forms : List (List Mark)) : Type 0 where
+  pub follow : Follow (base_len q) forms
+  pub limit : base_len q + inserted_len q + all_inserted forms ≤ 2 ^ 60
+
+-- it fits the next form, and then those after it
+pub record Passes (q f : List Mark) (rest : List (List Mark)) : Type 0 where
+  pub base : base_len q ≡ base_len f
+  pub limit : base_len f + inserted_len f + inserted_len q ≤ 2 ^ 60
+  pub fits : Fits (later q f) rest
+
+pub passes : (q f : List Mark) (rest : List (List Mark)) → Fits q (f ∷ rest) → Passes q f rest
+passes q f rest fits =
+    let base : base_len q ≡ base_len f = sym fits.follow.0 in
+    let after : base_len (later q f) ≡ out_len f = base_len-later f q (sym base) in
+    let P : ℕ → Type 0 = λ n. Follow n rest in
+    record {
+      base = base;
+      limit = omega (arith, fits.limit);
+      fits = record {
+        follow = subst P (sym after) fits.follow.1;
+        limit = omega (arith, fits.limit, inserted_len-later f q, out_len-le f);
+      };
+    }
+
+-- the form at a place, and those behind it
+pub form_at : (forms : List (List Mark)) (i : ℕ) (f : List Mark) → i < length forms → f ≡ get_or forms i f → drop i forms ≡ f ∷ drop (i + 1) forms
+form_at forms i f within is = rw add-one (drop-cons forms i f within ∙ ap (λ g. g ∷ drop (suc i) forms) (sym is))
+
+-- ---- the forms of a list, from a place on
+
+pub reached-append : (base : ℕ) (fs gs : List (List Mark)) → reached base (fs ++ gs) ≡ reached (reached base fs) gs
+reached-append base [] gs = refl
+reached-append base (f ∷ fs) gs = reached-append (out_len f) fs gs
+
+pub Follow-append : (base : ℕ) (fs : List (List Mark)) (f : List Mark) → Follow base fs → base_len f ≡ reached base fs → Follow base (fs ++ f ∷ [])
+Follow-append base [] f h is = (is, tt)
+Follow-append base (g ∷ fs) f h is = (h.0, Follow-append (out_len g) fs f h.1 is)
+
+pub Follow-drop : (base n : ℕ) (fs : List (List Mark)) → Follow base fs → Follow (reached base (take n fs)) (drop n fs)
+Follow-drop base zero fs h = h
+Follow-drop base (suc n) [] h = tt
+Follow-drop base (suc n) (f ∷ fs) h = Follow-drop (out_len f) n fs h.1

@@ -1,0 +1,178 @@
+-- A lock that is opened, passes that are split and joined, and a lock that is closed.
+use Rattle.std.proofs.Common.{◌≡◌, ℕ, zero, suc, ◌==◌, eqb-true, true, false, true≢false, List, [], ◌∷◌, ◌++◌, map, length, set, drop, Some, None, sym, refl, ap, ◌∙◌, subst, inl, inr, ⊎_elim, arith}
+use Rattle.std.specs.Prelude.{Contains}
+use Rattle.std.specs.Prelude as std
+use mathlib.Core.Option.{some, some-injective, some-ne-none}
+use lib.ListN.{get_elem?}
+use Rattle.std.specs.List.{filter}
+use Rattle.std.proofs.lemmas.List.{map-set, map-append}
+use Rattle.atomic_table.specs.Table.{Splits, Joins, opening, Final, Seen}
+use Rattle.atomic_table.proofs.Lists.{at_map, at_longer, set_else}
+use Rattle.sporc_turn.specs.declared.known.View.{View}
+use Rattle.sporc_turn.specs.declared.known.Known.{Known}
+use Rattle.sporc_turn.specs.Log.{Agrees}
+use Rattle.sporc_turn.specs.Knowing.{first_known, nothing_known}
+use Rattle.sporc_turn.specs.Rule.{known, TicketFits, HasTicket, HasTurn, There, KnowledgeFits, IsFirst, IsShared, IsInOrder}
+use Rattle.sporc_turn.specs.Steps.{newcomer, left_of_split, right_of_split, of_both, gone}
+use Rattle.sporc_turn.specs.Seats.{Rests, first_view, has_room}
+use Rattle.sporc_turn.proofs.Lists.{no_both, same_at, at_end, starts_self, drop_length, Contains-nil}
+use Rattle.sporc_turn.proofs.Views.{each_set, there_set}
+use Rattle.sporc_turn.proofs.Turns.{live_of}
+use Rattle.sporc_turn.proofs.Logs
+
+module _ {S E : Type 0} (logs : S → List E) (by : E → ℕ) (start : ℕ) where
+  pub splits : (id : ℕ) (v : View E) → v.known.spent ≡ false → v.known.number ≡ 0 → Splits (IsInOrder by logs start) id v (left_of_split v) (right_of_split v)
+  splits id v live zero' s o at =
+      let w = left_of_split v in
+      let c = right_of_split v in
+      let vs : List (View E) = set s.views id w in
+      let P : ℕ → View E → Type 0 = TicketFits o.ticket o.serving o.busy o.owner in
+      let q = o.each id v at in
+      let T : View E → Type 0 = HasTurn o.log in
+      let longer_there : (R : View E → Type 0) (k : ℕ) → There R vs k → There R (vs ++ c ∷ []) k = λ R k t. (t.0, at_longer vs (c ∷ []) k t.0 t.1, t.2) in record {
+        ticket = o.ticket;
+        serving = o.serving;
+        busy = o.busy;
+        owner = o.owner;
+        log = o.log;
+        words = o.words;
+        in_order = o.in_order;
+        bounded = o.bounded;
+        each = λ j u e. ⊎_elim
+            (λ old. each_set P P s.views id w o.each (λ j' u' ne e' h. h) (record { read = q.read; waiting = q.waiting; turning = q.turning; still = q.still }) j u old)
+            (λ (x : (j ≡ length vs) × (c ≡ u)). subst (P j) x.1 (record { read = omega arith; waiting = λ t. no_both false refl t; turning = λ t. no_both false refl t; still = λ _. (refl, refl) }))
+            (at_end vs c u j e);
+        drawn = λ n from below. longer_there (HasTicket n) (o.owner n) (there_set (HasTicket n) (HasTicket n) s.views id (o.owner n) v w at (o.drawn n from below) (λ u _ h. h) (λ _ h. h));
+        holder = λ b. longer_there T (o.owner o.serving) (there_set T T s.views id (o.owner o.serving) v w at (o.holder b) (λ u _ h. h) (λ _ h. h));
+        out = o.out;
+        home = o.home;
+        shared = subst (IsShared by start o.log) (sym (map-append known vs (c ∷ []) ∙ ap (λ ks. ks ++ known c ∷ []) (map-set known s.views id w)))
+            (Logs.splits by start o.log (map known s.views) id v.known o.shared (at_map known s.views id v at) live zero');
+      }
+
+  pub joins : (id : ℕ) (v : View E) (other : ℕ) (u : View E) → Rests v → v.known.number ≡ 0 → Rests u → Joins (IsInOrder by logs start) id v other u (of_both v u) gone
+  joins id v other u rests zero' idle s o at apart there =
+      let w = of_both v u in
+      let vs : List (View E) = set s.views id w in
+      let there' : get_elem? s.views other ≡ some u = sym (set_else s.views id other w apart) ∙ there in
+      let P : ℕ → View E → Type 0 = TicketFits o.ticket o.serving o.busy o.owner in
+      let q = o.each id v at in
+      let T : View E → Type 0 = HasTurn o.log in record {
+        ticket = o.ticket;
+        serving = o.serving;
+        busy = o.busy;
+        owner = o.owner;
+        log = o.log;
+        words = o.words;
+        in_order = o.in_order;
+        bounded = o.bounded;
+        each = each_set P P vs other gone (each_set P P s.views id w o.each (λ j x ne e h. h) (record { read = q.read; waiting = q.waiting; turning = q.turning; still = q.still })) (λ j x ne e h. h)
+            (record { read = omega arith; waiting = λ t. no_both false refl t; turning = λ t. no_both false refl t; still = λ _. (refl, refl) });
+        drawn = λ n from below. there_set (HasTicket n) (HasTicket n) vs other (o.owner n) u gone there
+            (there_set (HasTicket n) (HasTicket n) s.views id (o.owner n) v w at (o.drawn n from below) (λ x _ h. h) (λ _ h. h)) (λ x _ h. h)
+            (λ _ h. absurd (⊎_elim (λ t. no_both u.waits idle.0 t) (λ t. no_both u.turns idle.1 t) h.0));
+        holder = λ b. there_set T T vs other (o.owner o.serving) u gone there (there_set T T s.views id (o.owner o.serving) v w at (o.holder b) (λ x _ h. h) (λ _ h. no_both v.turns rests.1 h.0)) (λ x _ h. h) (λ _ h. no_both u.turns idle.1 h.0);
+        out = o.out;
+        home = o.home;
+        shared = subst (IsShared by start o.log) (sym (map-set known vs other gone ∙ ap (λ ks. set ks other nothing_known) (map-set known s.views id w)))
+            (Logs.joins by start o.log (map known s.views) id other v.known u.known o.shared (at_map known s.views id v at) rests.2 zero' apart (at_map known s.views other u there') idle.2);
+      }
+
+  -- where all passes were joined back, the value is at home, and its log is what the first has seen
+  closes_seat : (id : ℕ) (v : View E) (ws : List ℕ) (xs : List (std.Option S)) → Rests v → v.known.number ≡ 0 → v.known.splits ≡ length v.known.joined
+      → Final (Seen (IsInOrder by logs start) id v) ws xs → (x : S) × (get_elem? xs 0 ≡ some (Some x)) × (logs x ≡ v.known.seen) × Agrees by v.known (logs x)
+  closes_seat id v ws xs rests zero' all fin =
+      let s = fin.0 in
+      let o = fin.1.0 in
+      let at = fin.1.1 in
+      let at' = at_map known s.views id v at in
+      let end = Logs.closes by start o.log (map known s.views) id v.known o.shared at' rests.2 zero' all in
+      let free : o.busy ≡ false = elim o.busy as (λ b. (b ≡ o.busy) → b ≡ false) [
+        | true ↦ λ e. (let t = o.holder (sym e) in
+            let here : o.owner o.serving ≡ id = end.0 (o.owner o.serving) t.0.known (at_map known s.views (o.owner o.serving) t.0 t.1) (live_of logs by start s o (o.owner o.serving) t.0 t.1 (inr t.2.0)) in
+            no_both v.turns rests.1 (ap (λ (y : View E). y.turns) (same_at s.views id (o.owner o.serving) v t.0 (sym here) at t.1) ∙ t.2.0))
+        | false ↦ λ e. refl
+      ] refl in
+      let x = o.home free in
+      (x.0, fin.4 0 (Some x.0) (ap (λ hs. get_elem? hs 0) x.1), x.2 ∙ end.1, subst (Agrees by v.known) (sym x.2) (Logs.agrees by start o.log (map known s.views) id v.known o.shared at' rests.2))
+
+  -- the same in what the pass knows
+  pub closes : (id : ℕ) (v w : View E) (ws : List ℕ) (xs : List (std.Option S)) (y : std.Option S) → w ≡ v → Rests w → w.known.number ≡ 0 → w.known.splits ≡ length w.known.joined
+      → Final (Seen (IsInOrder by logs start) id v) ws xs → get_elem? xs 0 ≡ some y → (x : S) × (Some x ≡ y) × (logs x ≡ w.known.seen) × Agrees by w.known (logs x)
+  closes id v w ws xs y is rests zero' all fin got =
+      let t = closes_seat id w ws xs rests zero' all (subst (λ u. Final (Seen (IsInOrder by logs start) id u) ws xs) (sym is) fin) in
+      (t.0, some-injective (Some t.0) y (sym t.1 ∙ got), t.2, t.3)
+
+pub opens : {S E : Type 0} (logs : S → List E) (by : E → ℕ) (x : S) (n : ℕ) → n ≡ length (logs x) → IsInOrder by logs (length (logs x)) (opening (0 ∷ 0 ∷ n ∷ []) (Some x ∷ []) (newcomer (logs x)))
+opens {S} {E} logs by x n is = record {
+  ticket = 0;
+  serving = 0;
+  busy = false;
+  owner = λ _. 0;
+  log = log;
+  words = ap (λ (c : ℕ). 0 ∷ 0 ∷ c ∷ []) is;
+  in_order = omega arith;
+  bounded = omega arith;
+  each = λ j v e. subst (TicketFits 0 0 false (λ _. 0) j) (only j v e).1 (record { read = omega arith; waiting = λ t. no_both false refl t; turning = λ t. no_both false refl t; still = λ t. no_both false refl t });
+  drawn = λ k from below. absurd (omega arith);
+  holder = λ t. no_both false refl t;
+  out = λ t. no_both false refl t;
+  home = λ _. (x, refl, refl);
+  shared = record {
+    seat = λ _. 0;
+    splits = 0;
+    joined = [];
+    first = λ h e. subst (IsFirst by start 0 []) (some-injective (first_known log) h e) (record { zero = refl; live = refl; splits_is = refl; joined_is = refl; stand = λ j has. absurd (Contains-nil j has) });
+    each = λ j k e here. subst (λ (y : ℕ × Known E). KnowledgeFits by start log (λ _. 0) 0 y.0 y.1) (λ i. (sym (only_known j k e).0 i, (only_known j k e).1 i)) (record {
+      starts = refl;
+      place_is = refl;
+      number = omega arith;
+      sees = starts_self log;
+      whole = omega arith;
+      unmatched = (log, refl);
+      mine = ap (filter (λ e'. by e' == 0)) none';
+      mine_seen = ap (filter (λ e'. by e' == 0)) none';
+      news = omega arith;
+    });
+    ended = λ j has. absurd (Contains-nil j has);
+    numbered = λ e has. absurd (Contains-nil e (subst (λ xs. Contains xs e) none' has));
+    numbers = λ n low. inl (0, first_known log, refl, refl, omega arith);
+    counted = refl;
+    spents = refl;
+  };
+}
+  where
+    log : List E
+    log = logs x
+
+    start : ℕ
+    start = length (logs x)
+
+    none' : drop (length (logs x)) (logs x) ≡ []
+    none' = drop_length (logs x)
+
+    only : (j : ℕ) (v : View E) → get_elem? (newcomer (logs x) ∷ []) j ≡ some v → (j ≡ 0) × (newcomer (logs x) ≡ v)
+    only zero v e = (refl, some-injective (newcomer (logs x)) v e)
+    only (suc j) v e = absurd (some-ne-none v (sym e))
+
+    only_known : (j : ℕ) (k : Known E) → get_elem? (first_known (logs x) ∷ []) j ≡ some k → (j ≡ 0) × (first_known (logs x) ≡ k)
+    only_known zero k e = (refl, some-injective (first_known (logs x)) k e)
+    only_known (suc j) k e = absurd (some-ne-none k (sym e))
+
+-- the slot that a holder has
+pub room_slot : {S : Type 0} (c : List (ℕ × std.Option S)) → has_room c ≡ true → c ≡ (0, None) ∷ []
+room_slot [] e = absurd (true≢false (sym e))
+room_slot ((k, Some x) ∷ []) e = absurd (true≢false (sym e))
+room_slot ((k, None) ∷ []) e = ap (λ n. (n, None) ∷ []) (eqb-true k 0 e)
+room_slot (c ∷ d ∷ cs) e = absurd (true≢false (sym e))
+
+-- the view of a badge
+pub view_there : {E : Type 0} (vs : List (View E)) (v : View E) → vs ≡ v ∷ [] → first_view vs ≡ v
+view_there vs v e = ap first_view e
+
+abbrev inside : {S : Type 0} → S → std.Option S → S
+inside d (Some x) = x
+inside d None = d
+
+pub same_inside : {S : Type 0} (x y : S) → Some x ≡ Some y → x ≡ y
+same_inside x y e = ap (inside x) e

@@ -1,0 +1,8 @@
+pub mod Log
+pub mod Knowing
+pub mod Rule
+pub mod Steps
+pub mod Seats
+pub mod Passes
+pub mod Lending
+pub mod Examples

@@ -1,0 +1,17 @@
+ghost use Rattle.std.specs.Prelude.{◌≡◌, ℕ, List, length};
+
+/// A value that stands for a list of items, each with the number of a pass. The list only grows
+/// while the value is held.
+pub trait Kept {
+    type Item;
+
+    /// The list that a value stands for.
+    ghost log: { Self → List Self.Item };
+
+    /// The number of the pass that added an item.
+    ghost by: { Self.Item → ℕ };
+
+    /// The length of the list.
+    fn logged(&self) -> u64
+        ensures { result ≡ length (log self.now) };
+}

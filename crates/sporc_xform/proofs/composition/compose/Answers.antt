@@ -1,0 +1,20 @@
+use Rattle.std.proofs.Common.{◌≡◌, ◌++◌, ap}
+use Rattle.sporc_delta.specs.Parts.{owned, part_marks}
+use Rattle.sporc_delta.specs.Transforms.{compose}
+use Rattle.sporc_xform.specs.Chunks.{chunk_marks}
+use Rattle.sporc_xform.proofs.Composing.{Composed-start, Composed-room}
+use Rattle.sporc_xform.proofs.composition.compose.Goals as goal
+
+pub chunks-init : goal.chunks-init
+chunks-init c =
+    Composed-start c.new-delta.result c.args.p1.now c.args.p2.now c.new-row.result.first c.new-row.result.second c.new-delta.ensures c.new-row.ensures.first c.new-row.ensures.second c.requires c.new-row.ensures.base c.new-row.ensures.out
+
+pub push-requires-clause-base : goal.push-requires-clause-base
+push-requires-clause-base c =
+    let taken : compose c.chunks.row.first c.chunks.row.second ≡ part_marks (owned c.in-Left.piece) ++ compose c.next.new.self.first c.next.new.self.second = rw c.in-Left.is at c.in-Some.ensures.taken in
+    (Composed-room c.chunks.delta _ (part_marks (owned c.in-Left.piece)) _ _ taken c.chunks.invariant).0
+
+pub push-requires-clause-out : goal.push-requires-clause-out
+push-requires-clause-out c =
+    let taken : compose c.chunks.row.first c.chunks.row.second ≡ part_marks (owned c.in-Left.piece) ++ compose c.next.new.self.first c.next.new.self.second = rw c.in-Left.is at c.in-Some.ensures.taken in
+    (Composed-room c.chunks.delta _ (part_marks (owned c.in-Left.piece)) _ _ taken c.chunks.invariant).1

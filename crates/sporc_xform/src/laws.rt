@@ -1,0 +1,18 @@
+// The laws of the transforms, over every delta and text.
+
+ghost use Rattle.std.specs.Prelude.{◌≡◌, ℕ, List, length};
+ghost use Rattle.sporc_delta.specs.Marks.{Mark, apply, base_len, out_len};
+ghost use Rattle.sporc_delta.specs.Transforms.{compose, earlier, later, merge};
+
+/// Two deltas over one text lead to one text in both orders, each restated behind the other: the text
+/// of both merged.
+pub fn both_orders_lead_to_one_text()
+    ensures later { (p q : List Mark) (s : List ℕ) → base_len p ≡ length s → base_len q ≡ length s → apply (later q p) (apply p s) ≡ merge p q s }
+    ensures earlier { (p q : List Mark) (s : List ℕ) → base_len p ≡ length s → base_len q ≡ length s → apply (earlier p q) (apply q s) ≡ merge p q s }
+    ensures same { (p q : List Mark) (s : List ℕ) → base_len p ≡ length s → base_len q ≡ length s → apply (later q p) (apply p s) ≡ apply (earlier p q) (apply q s) }
+{}
+
+/// A delta restated behind two in one is that delta restated behind each of them in turn.
+pub fn a_composition_is_passed_like_both_deltas()
+    ensures { (p r q : List Mark) → out_len p ≡ base_len r → later q (compose p r) ≡ later (later q p) r }
+{}
