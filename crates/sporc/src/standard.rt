@@ -1,7 +1,5 @@
 //! Standard input and output. What they hold is not told, and each error of the system is counted.
 
-ghost use Rattle.std.specs.Prelude.{◌≡◌};
-
 use sporc_outside::{Counted, Failed, Sink, Source};
 use std::io::{Read, Write};
 

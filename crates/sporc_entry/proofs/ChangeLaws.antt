@@ -1,12 +1,12 @@
 -- The body of a change that is read is spelled so, and one that is spelled so is read again.
-use Rattle.std.proofs.Common.{◌≡◌, ℕ, zero, suc, ◌+◌, ◌^◌, ◌<◌, ◌≤◌, Bool, true, false, cond, eqb, List, [], ◌∷◌, ◌++◌, length, Result, Ok, Err, refl, sym, ap, subst, ◌∙◌, append_assoc, arith}
+use Rattle.std.proofs.Common.{◌≡◌, ℕ, zero, suc, ◌+◌, ◌^◌, ◌≤◌, Bool, true, false, cond, eqb, List, [], ◌∷◌, ◌++◌, length, Result, Ok, Err, refl, sym, ap, subst, ◌∙◌, append_assoc, arith}
 use Rattle.std.specs.Prelude.{IfOk}
 use Rattle.std.specs.List.{flat_map, AllByRecursion}
 use Rattle.std.specs.Int.{w8, w16, to_be_bytes}
 use Rattle.std.proofs.lemmas.Bool.{eqb-true, eqb-false}
 use Rattle.std.proofs.lemmas.List.{append-nil}
 use Rattle.std.proofs.lemmas.List.Concat.{flat_map-cons}
-use Rattle.sporc_bytes.specs.Fields.{Reading, ◌>>=◌, number_at, bytes_at, end_at}
+use Rattle.sporc_bytes.specs.Fields.{Reading, ◌>>=◌, bytes_at, end_at}
 use Rattle.sporc_bytes.proofs.Fields.{IsBytes, bind_ok, ok_is, Takes, Takes-then, Takes-nothing, wide16, number_takes, bytes_takes, bytes_again, u16_again, end_takes}
 use Rattle.sporc_member.specs.declared.change.Change.{Change}
 use Rattle.sporc_member.specs.declared.change.Change.TheVariants.{Add, Remove, SetRole}
@@ -34,7 +34,7 @@ add_takes r r1 r2 member x first second is e =
     let tb = bytes_takes 56 a.0.1 b.0 ta.bytes b.1 in
     let made : Change × Reading = (Add member a.0.0 b.0.0, b.0.1) in
     let parts : r.rest ≡ change_bytes made.0 made.1.rest =
-        first ∙ ap (λ (t : List ℕ). 1 ∷ t) (second.parts ∙ ap (λ (t : List ℕ). to_be_bytes w16 member ++ t) (ta.parts ∙ ap (λ (t : List ℕ). role_code_of a.0.0 ∷ t) tb.0.parts)) in
+    first ∙ ap (λ (t : List ℕ). 1 ∷ t) (second.parts ∙ ap (λ (t : List ℕ). to_be_bytes w16 member ++ t) (ta.parts ∙ ap (λ (t : List ℕ). role_code_of a.0.0 ∷ t) tb.0.parts)) in
     let P : Change × Reading → Type 0 = λ y. IsTaken r y in
     subst P (ok_is made x b.2) (record { parts = parts; bytes = tb.0.bytes }, (is, tb.1))
 
@@ -55,7 +55,7 @@ set_role_takes r r1 r2 member x first second is e =
     let ta = role_takes r2 a.0 second.bytes a.1 in
     let made : Change × Reading = (SetRole member a.0.0, a.0.1) in
     let parts : r.rest ≡ change_bytes made.0 made.1.rest =
-        first ∙ ap (λ (t : List ℕ). 3 ∷ t) (second.parts ∙ ap (λ (t : List ℕ). to_be_bytes w16 member ++ t) ta.parts) in
+    first ∙ ap (λ (t : List ℕ). 3 ∷ t) (second.parts ∙ ap (λ (t : List ℕ). to_be_bytes w16 member ++ t) ta.parts) in
     let P : Change × Reading → Type 0 = λ y. IsTaken r y in
     subst P (ok_is made x a.2) (record { parts = parts; bytes = ta.bytes }, is)
 
@@ -65,6 +65,7 @@ kind_takes r kind r1 r2 member x first low high second is e = go (eqb kind 1) (e
   where
     at_kind : (n : ℕ) → kind ≡ n → r.rest ≡ n ∷ r1.rest
     at_kind n k = first ∙ ap (λ (m : ℕ). m ∷ r1.rest) k
+
     go : (a b : Bool) → eqb kind 1 ≡ a → eqb kind 2 ≡ b
         → cond a (role_at r2 >>= λ role. bytes_at 56 role.1 >>= λ key. Ok (Add member role.0 key.0, key.1)) (cond b (Ok (Remove member, r2)) (role_at r2 >>= λ role. Ok (SetRole member role.0, role.1))) ≡ Ok x → IsTaken r x
     go true b p q e = add_takes r r1 r2 member x (at_kind 1 (eqb-true kind 1 p)) second is e
@@ -157,7 +158,7 @@ wraps_again [] at rest is = (at, refl)
 wraps_again (w ∷ ws) at rest is =
     let others = wraps_again ws (at + 2 + 32) rest is.1 in
     let regrouped : flat_map wrap_bytes (w ∷ ws) ++ rest ≡ wrap_bytes w ++ (flat_map wrap_bytes ws ++ rest) =
-        ap (λ (bs : List ℕ). bs ++ rest) (flat_map-cons wrap_bytes w ws) ∙ append_assoc (wrap_bytes w) (flat_map wrap_bytes ws) rest in
+    ap (λ (bs : List ℕ). bs ++ rest) (flat_map-cons wrap_bytes w ws) ∙ append_assoc (wrap_bytes w) (flat_map wrap_bytes ws) rest in
     (others.0, ap (λ (bs : List ℕ). values_at wrap_at (suc (length ws)) (record { rest = bs; at = at })) regrouped ∙ rw (wrap_again w at (flat_map wrap_bytes ws ++ rest) is.0, others.1) refl)
 
 -- ---- bodies of changes
@@ -188,7 +189,7 @@ fields_take r x h e =
     let made : ChangeBody × Reading = (body, w.0.1) in
     let counted : c.0.1.rest ≡ to_be_bytes w16 (length w.0.0) ++ n.0.1.rest = tn.0.parts ∙ ap (λ (k : ℕ). to_be_bytes w16 k ++ n.0.1.rest) (sym tw.1) in
     let P : ChangeBody × Reading → Type 0 = λ y. Leaves r (body_bytes y.0) y.1 × IsChangeBody y.0 in
-    subst P (ok_is made x w.2) (
+    subst P {x = made} {y = x} (ok_is made x w.2) (
       record { parts = body_parts body r.rest a.0.1.rest b.0.1.rest c.0.1.rest n.0.1.rest w.0.1.rest ta.0.parts tb.0.parts tc.0.parts counted tw.0.parts; bytes = tw.0.bytes },
       record { change = ta.1; commitment = tb.1; previous = tc.1; count = omega (arith, tw.1, tn.2); wraps = tw.2 },
     )
@@ -203,7 +204,7 @@ change_body_takes at bytes c h e =
     let nothing : a.0.1.rest ≡ [] = end_takes a.0.1 b.1 in
     let tail : flat_map wrap_bytes a.0.0.wraps ++ a.0.1.rest ≡ flat_map wrap_bytes a.0.0.wraps = ap (λ (rest : List ℕ). flat_map wrap_bytes a.0.0.wraps ++ rest) nothing ∙ append-nil (flat_map wrap_bytes a.0.0.wraps) in
     let whole : bytes ≡ change_body_bytes a.0.0 =
-        t.0.parts ∙ ap (λ (bs : List ℕ). change_bytes a.0.0.change (a.0.0.commitment ++ (a.0.0.previous ++ (to_be_bytes w16 (length a.0.0.wraps) ++ bs)))) tail in
+    t.0.parts ∙ ap (λ (bs : List ℕ). change_bytes a.0.0.change (a.0.0.commitment ++ (a.0.0.previous ++ (to_be_bytes w16 (length a.0.0.wraps) ++ bs)))) tail in
     let P : ChangeBody → Type 0 = λ y. IsChangeBody y × (bytes ≡ change_body_bytes y) in
     subst P (ok_is a.0.0 c b.2) (t.1, whole)
 
@@ -215,7 +216,7 @@ change_body_again at c is =
     let wraps = wraps_again c.wraps (first.0 + 32 + 32 + 2) [] is.wraps in
     let regrouped : flat_map wrap_bytes c.wraps ++ [] ≡ flat_map wrap_bytes c.wraps = append-nil (flat_map wrap_bytes c.wraps) in
     let last : values_at wrap_at (length c.wraps) (record { rest = flat_map wrap_bytes c.wraps; at = first.0 + 32 + 32 + 2 }) ≡ Ok (c.wraps, record { rest = []; at = wraps.0 }) =
-        ap (λ (bs : List ℕ). values_at wrap_at (length c.wraps) (record { rest = bs; at = first.0 + 32 + 32 + 2 })) (sym regrouped) ∙ wraps.1 in
+    ap (λ (bs : List ℕ). values_at wrap_at (length c.wraps) (record { rest = bs; at = first.0 + 32 + 32 + 2 })) (sym regrouped) ∙ wraps.1 in
     rw (
       first.1,
       bytes_again 32 first.0 c.commitment (c.previous ++ tail) is.commitment,

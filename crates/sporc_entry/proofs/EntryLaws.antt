@@ -1,18 +1,17 @@
 -- An entry that is read is spelled so, and one that is spelled so is read again.
-use Rattle.std.proofs.Common.{◌≡◌, ℕ, ◌+◌, ◌^◌, ◌<◌, ◌≤◌, Bool, true, false, cond, eqb, List, [], ◌∷◌, ◌++◌, length, take, drop, Option, Some, Result, Ok, Err, refl, sym, ap, subst, ◌∙◌, append_assoc, arith, lit<}
+use Rattle.std.proofs.Common.{◌≡◌, ℕ, ◌+◌, ◌^◌, ◌<◌, ◌≤◌, Bool, true, false, cond, eqb, List, [], ◌∷◌, ◌++◌, length, drop, Some, Result, Ok, Err, refl, sym, ap, subst, ◌∙◌, append_assoc, arith, lit<}
 use Rattle.std.specs.Prelude.{IfOk}
-use Rattle.std.specs.Result.{result_ok}
-use Rattle.std.specs.Int.{w8, w16, w32, to_be_bytes}
-use Rattle.std.proofs.lemmas.Bool.{eqb-true, eqb-false}
+use Rattle.std.specs.Int.{w16, w32, to_be_bytes}
+use Rattle.std.proofs.lemmas.Bool.{eqb-false}
 use Rattle.std.proofs.lemmas.List.{take_at, drop_at}
-use Rattle.sporc_bytes.specs.Fields.{Reading, ◌>>=◌, counted_at, counted, end_at}
+use Rattle.sporc_bytes.specs.Fields.{Reading, ◌>>=◌, counted_at, counted}
 use Rattle.sporc_bytes.proofs.Fields.{IsBytes, IsBytes-drop, IsBytes-take, bind_ok, ok_is, wide16, wide32, number_takes, bytes_takes, bytes_again, u16_again, u32_again, counted_takes, counted_again, end_takes}
 use Rattle.sporc_entry.specs.declared.change.ChangeBody.{ChangeBody}
 use Rattle.sporc_entry.specs.declared.entry.Entry.{Entry}
 use Rattle.sporc_entry.specs.declared.fault.EntryFault.{EntryFault}
 use Rattle.sporc_entry.specs.declared.header.Header.{Header}
 use Rattle.sporc_entry.specs.Outcomes.{EntryReads}
-use Rattle.sporc_entry.specs.ChangeBody.{change_body_from, change_body_bytes, IsChangeBody, SpellsChange}
+use Rattle.sporc_entry.specs.ChangeBody.{change_body_from, IsChangeBody, SpellsChange}
 use Rattle.sporc_entry.specs.Entry.{header_at, body_limit, body_read, entry_of, change_of, header_bytes, counted_bytes, entry_bytes, IsHeader, IsEntry}
 use Rattle.sporc_entry.proofs.FieldLaws.{Leaves, is_one, byte_takes, byte_again}
 use Rattle.sporc_entry.proofs.ChangeLaws.{change_body_takes, change_body_again}
@@ -53,7 +52,7 @@ header_takes r x h e =
     let one : v.0.0 ≡ 1 = is_one v.0.0 tv.1 tv.2 in
     let first : r.rest ≡ 1 ∷ v.0.1.rest = tv.0.parts ∙ ap (λ (m : ℕ). m ∷ v.0.1.rest) one in
     let P : Header × Reading → Type 0 = λ y. Leaves r (header_bytes y.0) y.1 × IsHeader y.0 in
-    subst P (ok_is made x k.2) (
+    subst P {x = made} {y = x} (ok_is made x k.2) (
       record {
         parts = header_parts header r.rest v.0.1.rest d.0.1.rest a.0.1.rest n.0.1.rest b.0.1.rest s.0.1.rest p.0.1.rest l.0.1.rest k.0.1.rest first td.0.parts ta.0.parts tn.0.parts tb.0.parts ts.0.parts tp.0.parts tl.0.parts tk.0.parts;
         bytes = tk.0.bytes;
@@ -139,7 +138,7 @@ entry_takes bytes e h read =
     let signature : b.0.1.rest ≡ counted_bytes s.0.0 [] = ts.0.parts ∙ ap (λ (rest : List ℕ). counted s.0.0 ++ rest) nothing ∙ counted_text s.0.0 [] in
     let body : a.0.1.rest ≡ counted_bytes b.0.0 (counted_bytes s.0.0 []) = tb.0.parts ∙ ap (λ (rest : List ℕ). counted b.0.0 ++ rest) signature ∙ counted_text b.0.0 (counted_bytes s.0.0 []) in
     let P : Entry → Type 0 = λ y. IsEntry y × (bytes ≡ entry_bytes y) in
-    subst P (ok_is made e n.2) (
+    subst P {x = made} {y = e} (ok_is made e n.2) (
       record { header = ta.1; body = tb.2; change = body_takes a.0.0.kind b.0.0 u.0 body_is_bytes u.1; signature = ts.2 },
       ta.0.parts ∙ ap (header_bytes a.0.0) body,
     )
@@ -151,9 +150,9 @@ entry_again e is =
     let rest : List ℕ = counted_bytes e.signature [] in
     let small = limit_small h.kind in
     let body : counted_at (body_limit h.kind) (record { rest = counted_bytes e.body rest; at = 68 }) ≡ Ok (e.body, record { rest = rest; at = 68 + 4 + length e.body }) =
-        ap (λ (bs : List ℕ). counted_at (body_limit h.kind) (record { rest = bs; at = 68 })) (sym (counted_text e.body rest)) ∙ counted_again (body_limit h.kind) 68 e.body rest (omega (arith, is.body, small)) is.body in
+    ap (λ (bs : List ℕ). counted_at (body_limit h.kind) (record { rest = bs; at = 68 })) (sym (counted_text e.body rest)) ∙ counted_again (body_limit h.kind) 68 e.body rest (omega (arith, is.body, small)) is.body in
     let signature : counted_at 9324 (record { rest = rest; at = 68 + 4 + length e.body }) ≡ Ok (e.signature, record { rest = []; at = 68 + 4 + length e.body + 4 + length e.signature }) =
-        ap (λ (bs : List ℕ). counted_at 9324 (record { rest = bs; at = 68 + 4 + length e.body })) (sym (counted_text e.signature [])) ∙ counted_again 9324 (68 + 4 + length e.body) e.signature [] (omega (arith, is.signature)) is.signature in
+    ap (λ (bs : List ℕ). counted_at 9324 (record { rest = bs; at = 68 + 4 + length e.body })) (sym (counted_text e.signature [])) ∙ counted_again 9324 (68 + 4 + length e.body) e.signature [] (omega (arith, is.signature)) is.signature in
     rw (
       header_again h (counted_bytes e.body rest) is.header,
       body,

@@ -1,5 +1,5 @@
 -- Founders read one after another, as a loop reads them.
-use Rattle.std.proofs.Common.{◌≡◌, ℕ, ◌+◌, List, Result, Ok, Err, refl}
+use Rattle.std.proofs.Common.{◌≡◌, ℕ, ◌+◌, List, Ok, Err, refl}
 use Rattle.sporc_bytes.specs.Fields.{Reading}
 use Rattle.sporc_member.specs.declared.founder.Founder.{Founder}
 use Rattle.sporc_entry.specs.Fields.{values_at}

@@ -1,21 +1,20 @@
 -- A genesis that is read is spelled so, and one that is spelled so is read again.
-use Rattle.std.proofs.Common.{◌≡◌, ℕ, zero, suc, ◌+◌, ◌^◌, ◌<◌, ◌≤◌, List, [], ◌∷◌, ◌++◌, length, map, get_or, Option, Some, None, Result, Ok, Err, refl, sym, ap, subst, ◌∙◌, append_assoc, arith, lit<}
+use Rattle.std.proofs.Common.{◌≡◌, ℕ, zero, suc, ◌+◌, ◌^◌, ◌<◌, ◌≤◌, List, [], ◌∷◌, ◌++◌, length, get_or, Option, Some, None, Result, Ok, Err, refl, sym, ap, subst, ◌∙◌, append_assoc, arith, lit<}
 use Rattle.std.specs.Prelude.{IfOk}
 use Rattle.std.specs.List.{flat_map, AllByRecursion}
 use Rattle.std.specs.List.Sorted.{IsStrictlyIncreasing}
-use Rattle.std.specs.Int.{w8, w16, to_be_bytes}
+use Rattle.std.specs.Int.{w16, to_be_bytes}
 use Rattle.std.proofs.lemmas.List.{append-nil}
 use Rattle.std.proofs.lemmas.List.Concat.{flat_map-cons}
-use Rattle.sporc_bytes.specs.Fields.{Reading, ◌>>=◌, bytes_at, end_at}
+use Rattle.sporc_bytes.specs.Fields.{Reading, ◌>>=◌, end_at}
 use Rattle.sporc_bytes.proofs.Fields.{IsBytes, bind_ok, ok_is, Takes, Takes-then, Takes-nothing, wide16, bytes_takes, bytes_again, end_takes}
 use Rattle.sporc_member.specs.declared.founder.Founder.{Founder}
 use Rattle.sporc_member.specs.Role.{role_code_of}
 use Rattle.sporc_member.specs.Roster.{numbers_of}
 use Rattle.sporc_entry.specs.declared.fault.GenesisFault.{GenesisFault}
 use Rattle.sporc_entry.specs.declared.genesis.Genesis.{Genesis}
-use Rattle.sporc_entry.specs.Fields.{number_within, role_at, values_at}
+use Rattle.sporc_entry.specs.Fields.{values_at}
 use Rattle.sporc_entry.specs.Outcomes.{or_malformed, GenesisReads}
-use Rattle.sporc_entry.specs.ChangeBody.{IsMember}
 use Rattle.sporc_entry.specs.Genesis.{founder_at, next_founder, founders_at, genesis_at, genesis_in, founders_fault, accepted, tested, genesis_of, founder_bytes, genesis_bytes, IsFounder, IsGenesis}
 use Rattle.sporc_entry.proofs.FieldLaws.{Leaves, is_one, within_takes, byte_takes, u16_within_again, byte_again, role_takes, role_again}
 
@@ -95,7 +94,7 @@ values_take (suc n) least r x pos h e =
     let f = bind_ok (founder_at least r) (λ m. Ok (m.0, (m.0.member + 1, m.1))) a.0 a.1 in
     let first : Founder × (ℕ × Reading) = (f.0.0, (f.0.0.member + 1, f.0.1)) in
     let Q : Founder × (ℕ × Reading) → Type 0 = λ y. (values_at next_founder n y.1 >>= λ others. Ok (y.0 ∷ others.0, others.1)) ≡ Ok x in
-    let e' = subst Q (sym (ok_is first a.0 f.2)) a.2 in
+    let e' = subst Q {x = a.0} {y = first} (sym (ok_is first a.0 f.2)) a.2 in
     let b = bind_ok (values_at next_founder n (f.0.0.member + 1, f.0.1)) (λ others. Ok (f.0.0 ∷ others.0, others.1)) x e' in
     let t = founder_takes least r f.0 h f.1 in
     let o = values_take n (f.0.0.member + 1) f.0.1 b.0 (omega arith) t.text.bytes b.1 in
@@ -103,7 +102,7 @@ values_take (suc n) least r x pos h e =
     let made : List Founder × (ℕ × Reading) = (f.0.0 ∷ b.0.0, b.0.1) in
     let is : IsFounder f.0.0 = record { member = record { positive = omega (arith, pos, t.above); small = t.small }; key = t.key } in
     let P : List Founder × (ℕ × Reading) → Type 0 = λ y. AreTaken (suc n) least r y in
-    subst P (ok_is made x b.2) (record { text = rw flat_map-cons both; count = ap suc o.count; each = (is, o.each); ascending = (t.above, o.ascending) })
+    subst P {x = made} {y = x} (ok_is made x b.2) (record { text = rw flat_map-cons both; count = ap suc o.count; each = (is, o.each); ascending = (t.above, o.ascending) })
 
 founder_again : (least : ℕ) (m : Founder) (at : ℕ) (rest : List ℕ) → IsFounder m → least ≤ m.member → founder_at least (record { rest = founder_bytes m ++ rest; at = at }) ≡ Ok (m, record { rest = rest; at = at + 2 + 1 + 56 })
 unfolding founder_at
@@ -125,7 +124,7 @@ values_again [] least at rest is asc = (least, at, refl)
 values_again (m ∷ ms) least at rest is asc =
     let others = values_again ms (m.member + 1) (at + 2 + 1 + 56) rest is.1 asc.1 in
     let regrouped : flat_map founder_bytes (m ∷ ms) ++ rest ≡ founder_bytes m ++ (flat_map founder_bytes ms ++ rest) =
-        ap (λ (bs : List ℕ). bs ++ rest) (flat_map-cons founder_bytes m ms) ∙ append_assoc (founder_bytes m) (flat_map founder_bytes ms) rest in
+    ap (λ (bs : List ℕ). bs ++ rest) (flat_map-cons founder_bytes m ms) ∙ append_assoc (founder_bytes m) (flat_map founder_bytes ms) rest in
     (others.0, others.1, ap (λ (bs : List ℕ). values_at next_founder (suc (length ms)) (least, record { rest = bs; at = at })) regrouped ∙ rw (founder_again least m at (flat_map founder_bytes ms ++ rest) is.0 asc.0, others.2) refl)
 
 -- founders that are read from the first on
@@ -156,7 +155,7 @@ founders_again ms at is asc =
     let t = values_again ms 1 at [] is (ascends_from_one ms is asc) in
     let regrouped : flat_map founder_bytes ms ++ [] ≡ flat_map founder_bytes ms = append-nil (flat_map founder_bytes ms) in
     let read : values_at next_founder (length ms) (1, record { rest = flat_map founder_bytes ms; at = at }) ≡ Ok (ms, (t.0, record { rest = []; at = t.1 })) =
-        ap (λ (bs : List ℕ). values_at next_founder (length ms) (1, record { rest = bs; at = at })) (sym regrouped) ∙ t.2 in
+    ap (λ (bs : List ℕ). values_at next_founder (length ms) (1, record { rest = bs; at = at })) (sym regrouped) ∙ t.2 in
     (t.1, rw read refl)
 
 -- ---- geneses
@@ -197,7 +196,7 @@ fields_take r x h e =
     let first : r.rest ≡ 1 ∷ v.0.1.rest = tv.0.parts ∙ ap (λ (m : ℕ). m ∷ v.0.1.rest) one in
     let counted : c.0.1.rest ≡ to_be_bytes w16 (length f.0.0) ++ n.0.1.rest = tn.0.parts ∙ ap (λ (k : ℕ). to_be_bytes w16 k ++ n.0.1.rest) (sym tf.count) in
     let P : Genesis × Reading → Type 0 = λ y. Leaves r (genesis_text y.0) y.1 × IsInRange y.0 in
-    subst P (ok_is made x f.2) (
+    subst P {x = made} {y = x} (ok_is made x f.2) (
       record { parts = genesis_parts genesis r.rest v.0.1.rest d.0.1.rest c.0.1.rest n.0.1.rest f.0.1.rest first td.0.parts tc.0.parts counted tf.text.parts; bytes = tf.text.bytes },
       record { document = td.1; commitment = tc.1; count = (omega (arith, tf.count, tn.1), omega (arith, tf.count, tn.2)); founders = tf.each; ascending = tf.ascending },
     )

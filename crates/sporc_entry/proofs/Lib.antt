@@ -5,3 +5,4 @@ pub mod ChangeLaws
 pub mod EntryLaws
 pub mod GenesisLaws
 pub mod Written
+pub mod Places

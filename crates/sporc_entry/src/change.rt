@@ -9,7 +9,7 @@ ghost use Rattle.sporc_entry.specs.declared.change.ChangeBody.{ChangeBody};
 ghost use Rattle.sporc_entry.specs.ChangeBody.{change_at, wrap_at, change_body_at, change_body_from, change_bytes, wrap_bytes, change_body_bytes, IsChangeBody};
 
 use crate::fault::EntryFault;
-use crate::fields::{read_end, read_role, read_u16, read_u8};
+use crate::fields::{read_end, read_role, read_u8, read_u16};
 use crate::wraps::{Wrap, Wraps};
 use sporc_bytes::{Cursor, Memory, Out, Short};
 use sporc_hash::Digest32;
@@ -31,7 +31,7 @@ pub struct ChangeBody {
 
 // The change that stands next.
 #[tactic(auto, unfolding(crate::specs::ChangeBody::change_at))]
-fn read_plain(cursor: &mut Cursor<'_>) -> Result<Change, Short>
+fn read_member_change(cursor: &mut Cursor<'_>) -> Result<Change, Short>
     ensures { Reads (λ change. (change, cursor.new)) result (change_at cursor.old) }
 {
     let kind = read_u8(cursor, 1, 3)?;
@@ -61,12 +61,9 @@ fn read_wrap(cursor: &mut Cursor<'_>) -> Result<Wrap, Short>
 }
 
 // The sealed keys that stand next.
-fn read_wraps(
-    alloc: Global,
-    cursor: &mut Cursor<'_>,
-    count: u16,
-) -> Result<Vec<Wrap>, EntryFault>
-    ensures { EntryReads (λ wraps. (wraps.items, cursor.new)) result (values_at wrap_at count cursor.old) }
+fn read_wraps(alloc: Global, cursor: &mut Cursor<'_>, count: u16) -> Result<Vec<Wrap>, EntryFault>
+    ensures { EntryReads (λ wraps. (wraps.items, cursor.new)) result
+        (values_at wrap_at count cursor.old) }
 {
     let mut wraps = Vec::with_capacity(alloc, usize::from(count))?;
     for _ in 0..count {
@@ -81,7 +78,7 @@ fn read_wraps(
 fn read_fields(alloc: Global, cursor: &mut Cursor<'_>) -> Result<ChangeBody, EntryFault>
     ensures { EntryReads (λ body. (body, cursor.new)) result (change_body_at cursor.old) }
 {
-    let change = read_plain(cursor)?;
+    let change = read_member_change(cursor)?;
     let commitment = cursor.array()?;
     let previous = cursor.array()?;
     let count = read_u16(cursor, 0, 64)?;
@@ -111,7 +108,8 @@ pub fn read_change(alloc: Global, body: &[u8]) -> Result<ChangeBody, EntryFault>
     // What is read is spelled so.
     ensures found { IfOk result (λ c. IsChangeBody c × (body.now ≡ change_body_bytes c)) }
     // What is spelled so is read, unless memory runs out.
-    ensures only { (c : ChangeBody) → IsChangeBody c → body.now ≡ change_body_bytes c → EntryReads (λ c. c) result (Ok c) }
+    ensures only { (c : ChangeBody) → IsChangeBody c → body.now ≡ change_body_bytes c
+        → EntryReads (λ c. c) result (Ok c) }
     // Which fault it is.
     ensures exact { EntryReads (λ c. c) result (change_body_from 0 body.now) }
 {

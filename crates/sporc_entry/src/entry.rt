@@ -31,7 +31,9 @@ const BODY_AT: usize = 72;
 
 // How many bytes the body of an edit, the body of a change and a signature may have.
 const EDIT_LIMIT: u32 = 1_048_576;
+
 const CHANGE_LIMIT: u32 = 65_536;
+
 const SIGNATURE_LIMIT: u32 = 9_324;
 
 // How many bytes the body of an entry of this kind may have.
@@ -47,7 +49,7 @@ fn limit_of(kind: u8) -> u32
 }
 
 // Whether a body is one of this kind.
-fn test_body(alloc: Global, kind: u8, body: &[u8]) -> Result<(), EntryFault>
+fn check_body(alloc: Global, kind: u8, body: &[u8]) -> Result<(), EntryFault>
     requires { length body.now ≤ 1048576 }
     ensures { EntryReads (λ _. tt) result (body_read kind 72 body.now) }
 {
@@ -66,7 +68,7 @@ fn read_fields(alloc: Global, bytes: &[u8]) -> Result<Entry, EntryFault>
     let mut cursor = Cursor::new(bytes);
     let header = read_header(&mut cursor)?;
     let body = cursor.counted(limit_of(header.kind))?;
-    test_body(alloc, header.kind, body)?;
+    check_body(alloc, header.kind, body)?;
     let signature = cursor.counted(SIGNATURE_LIMIT)?;
     read_end(&cursor)?;
     let body = Bytes::copy_of(alloc, body)?;
@@ -83,7 +85,8 @@ pub fn read_entry(alloc: Global, bytes: &[u8]) -> Result<Entry, EntryFault>
     // What is read is spelled so.
     ensures found { IfOk result (λ e. IsEntry e × (bytes.now ≡ entry_bytes e)) }
     // What is spelled so is read, unless memory runs out.
-    ensures only { (e : Entry) → IsEntry e → bytes.now ≡ entry_bytes e → EntryReads (λ e. e) result (Ok e) }
+    ensures only { (e : Entry) → IsEntry e → bytes.now ≡ entry_bytes e
+        → EntryReads (λ e. e) result (Ok e) }
     // Which fault it is.
     ensures exact { EntryReads (λ e. e) result (entry_of bytes.now) }
 {

@@ -9,7 +9,7 @@ ghost use Rattle.sporc_entry.specs.declared.genesis.Genesis.{Genesis};
 ghost use Rattle.sporc_entry.specs.Genesis.{founder_at, founders_at, genesis_at, genesis_in, genesis_of, bad_key, founders_fault, founder_bytes, genesis_bytes, IsGenesis};
 
 use crate::fault::GenesisFault;
-use crate::fields::{read_end, read_role, read_u16, read_u8};
+use crate::fields::{read_end, read_role, read_u8, read_u16};
 use crate::founders::Founders;
 use lms_tree::LmsPublic;
 use sporc_bytes::{Cursor, Memory, Out, Short};
@@ -61,7 +61,8 @@ fn read_founders(
     cursor: &mut Cursor<'_>,
     count: u16,
 ) -> Result<Vec<Founder>, GenesisFault>
-    ensures { GenesisReads (λ founders. (founders.items, cursor.new)) result (or_malformed (founders_at count cursor.old)) }
+    ensures { GenesisReads (λ founders. (founders.items, cursor.new)) result
+        (or_malformed (founders_at count cursor.old)) }
 {
     let mut founders = Vec::with_capacity(alloc, usize::from(count))?;
     let mut least = 1;
@@ -76,7 +77,8 @@ fn read_founders(
 // The fields of a genesis that stand next.
 #[tactic(auto, unfolding(crate::specs::Genesis::genesis_at))]
 fn read_fields(alloc: Global, cursor: &mut Cursor<'_>) -> Result<Genesis, GenesisFault>
-    ensures { GenesisReads (λ genesis. (genesis, cursor.new)) result (or_malformed (genesis_at cursor.old)) }
+    ensures { GenesisReads (λ genesis. (genesis, cursor.new)) result
+        (or_malformed (genesis_at cursor.old)) }
 {
     read_u8(cursor, VERSION, VERSION)?;
     let document = cursor.array()?;
@@ -149,7 +151,8 @@ pub fn read_genesis(alloc: Global, bytes: &[u8]) -> Result<Genesis, GenesisFault
     // What is read is spelled so.
     ensures found { IfOk result (λ g. IsGenesis g × (bytes.now ≡ genesis_bytes g)) }
     // What is spelled so is read, unless memory runs out.
-    ensures only { (g : Genesis) → IsGenesis g → bytes.now ≡ genesis_bytes g → GenesisReads (λ g. g) result (Ok g) }
+    ensures only { (g : Genesis) → IsGenesis g → bytes.now ≡ genesis_bytes g
+        → GenesisReads (λ g. g) result (Ok g) }
     // Which fault it is.
     ensures exact { GenesisReads (λ g. g) result (genesis_of bytes.now) }
 {

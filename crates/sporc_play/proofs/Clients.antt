@@ -1,11 +1,11 @@
 -- Clients, event by event.
-use Rattle.std.proofs.Common.{◌≡◌, ℕ, zero, suc, ◌+◌, ◌-◌, ◌*◌, ◌<◌, ◌≤◌, true, false, codes, List, [], ◌∷◌, ◌++◌, length, map, take, drop, replicate, Option, Some, None, refl, sym, ap, ap₂, ◌∙◌, subst, arith, append-nil, append_assoc, length-append, length-drop, length-take, add-mul, one-mul}
+use Rattle.std.proofs.Common.{◌≡◌, ℕ, zero, suc, ◌+◌, ◌-◌, ◌*◌, ◌<◌, ◌≤◌, true, false, codes, List, [], ◌∷◌, ◌++◌, length, map, take, drop, Option, Some, None, refl, sym, ap, ap₂, ◌∙◌, subst, arith, append_assoc, length-append, length-drop, length-take, add-mul, one-mul}
 use Rattle.std.specs.Option.{is_some}
 use Rattle.std.specs.Fmt.{decimal}
 use Rattle.sporc_play.specs.World.{edit_line}
 use Rattle.std.proofs.lemmas.List.{drop-drop, map-append}
 use Rattle.std.proofs.lemmas.List.Elements.{All-push, All-weaker}
-use Rattle.sporc_delta.specs.Marks.{Mark, Retain, Delete, Insert, apply, retains, deletes, inserts, insertion, removal}
+use Rattle.sporc_delta.specs.Marks.{Mark, apply, retains, deletes, inserts, insertion, removal}
 use Rattle.sporc_play.specs.declared.client.PlainEntry.{PlainEntry}
 use Rattle.sporc_play.specs.declared.client.Submitted.TheVariants as submitted
 use Rattle.sporc_play.specs.Client.{AreMadeBy, Client, FliesFirst, IsKept, Submits, accepted, committed_text, edited, entry_of, flying, next_entry, shown_text, text_after}
@@ -100,7 +100,7 @@ pub kept-accepted : (c : Client) (text : List ℕ) (e : PlainEntry) (max_text ma
 kept-accepted c text e max_text max_events kept room own =
     let first : FliesFirst (Some e) c.pending = subst (λ (f : Option PlainEntry). FliesFirst f c.pending) own kept.flies in
     let same : text_after (drop 1 c.pending) (text_after (map (λ (x : PlainEntry). x.delta) (c.entries ++ e ∷ [])) []) ≡ shown_text c =
-        rw (first.1, committed-more c.entries e) refl in
+    rw (first.1, committed-more c.entries e) refl in
     record {
       text_is = kept.text_is ∙ sym same;
       flies = tt;
@@ -133,22 +133,6 @@ next_of c None [] e is = cc
 next_of c None (d ∷ ds) e is =
     let same : record { number = length c.entries + 1; base = length c.entries; delta = d } ≡ e = (let both : ◌≡◌ {A = Option PlainEntry} (Some (record { number = length c.entries + 1; base = length c.entries; delta = d })) (Some e) = is in cc) in
     (refl, ap (λ (x : PlainEntry). x.number) (sym same), (ds, ap (λ (x : PlainEntry). x.delta ∷ ds) same))
-
-pub kept-flying : (c : Client) (text : List ℕ) (e : PlainEntry) (max_text max_events : ℕ) → IsKept c text max_text max_events → length c.shown < max_events
-    → next_entry c ≡ Some e → IsKept (flying e c) text max_text max_events
-kept-flying c text e max_text max_events kept room next = record {
-  text_is = kept.text_is;
-  flies = (next_of c c.flight c.pending e next).2;
-  size = subst (λ (n : ℕ). length text ≤ n * max_text) (sym (length-append c.shown (retains (length (shown_text c)) ∷ []))) (one_more (length text) max_text (length text) (length c.shown) (omega arith) kept.size);
-  accepts = omega (arith, kept.accepts, length-append c.shown (retains (length (shown_text c)) ∷ []));
-  events = omega (arith, length-append c.shown (retains (length (shown_text c)) ∷ []));
-}
-
--- the next entry, where nothing is in flight and this is the first pending edit
-pub next_is : (c : Client) (flight : Option PlainEntry) (pending : List (List Mark)) (d : List Mark) (rest : List (List Mark)) → is_some flight ≡ false → pending ≡ d ∷ rest
-    → entry_of c flight pending ≡ Some (record { number = length c.entries + 1; base = length c.entries; delta = d })
-next_is c None pending d rest none is = rw is refl
-next_is c (Some f) pending d rest none is = cc
 
 -- an entry that is sent
 pub made-sent : (c : Client) (made : List PlainEntry) (e : PlainEntry) → AreMadeBy c made → next_entry c ≡ Some e → AreMadeBy (flying e c) (made ++ e ∷ [])

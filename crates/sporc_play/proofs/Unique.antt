@@ -1,10 +1,10 @@
 -- A text is one script, or has one first line outside the grammar.
-use Rattle.std.proofs.Common.{◌≡◌, ℕ, ◌+◌, List, [], ◌∷◌, ◌++◌, get_or, true, refl, sym, ap, ◌∙◌, subst, inl, inr, arith}
+use Rattle.std.proofs.Common.{◌≡◌, ℕ, ◌+◌, List, [], ◌∷◌, ◌++◌, get_or, sym, ap, ◌∙◌, subst, inl, inr, arith}
 use Rattle.sporc_play.specs.declared.script.command.Command.{Command}
 use Rattle.sporc_play.specs.declared.script.command.Command.TheVariants as commands
 use Rattle.sporc_play.specs.declared.script.command.PlayLine.{PlayLine}
 use Rattle.sporc_play.specs.Spelling.{Spells, spelling}
-use Rattle.sporc_play.specs.Grammar.{IsFirstOutside, IsNext, IsSkipped, Reads}
+use Rattle.sporc_play.specs.Grammar.{IsFirstOutside, IsSkipped, Reads}
 use Rattle.sporc_play.proofs.Commands.{one_command}
 
 -- a command begins with a letter, and no skipped line does
@@ -34,7 +34,7 @@ one_reading (l ∷ ls) before n s t (inr x) (inl y) = absurd (not_skipped l x.0 
 one_reading (l ∷ ls) before n s t (inr x) (inr y) =
     let same = one_command l x.0 y.0 x.2.0 y.2.0 in
     let other : Reads (before ++ record { number = n; command = x.0 } ∷ []) (n + 1) ls y.1 =
-        subst (λ (c : Command). Reads (before ++ record { number = n; command = c } ∷ []) (n + 1) ls y.1) (sym same) y.4 in
+    subst (λ (c : Command). Reads (before ++ record { number = n; command = c } ∷ []) (n + 1) ls y.1) (sym same) y.4 in
     let rest = one_reading ls (before ++ record { number = n; command = x.0 } ∷ []) (n + 1) x.1 y.1 x.4 other in
     x.3 ∙ ap (λ (r : List PlayLine). record { number = n; command = x.0 } ∷ r) rest ∙ ap (λ (c : Command). record { number = n; command = c } ∷ y.1) same ∙ sym y.3
 

@@ -1,5 +1,5 @@
 -- A client as a plain record, from which all else is computed.
-use Rattle.std.specs.Prelude.{◌≡◌, ℕ, suc, ◌+◌, ◌-◌, ◌*◌, ◌≤◌, ◌==◌, if◌then◌else◌, nat_le, All, List, [], ◌∷◌, ◌++◌, length, map, drop, codes, Option, Some, None}
+use Rattle.std.specs.Prelude.{◌≡◌, ℕ, ◌+◌, ◌*◌, ◌≤◌, ◌==◌, if◌then◌else◌, nat_le, All, List, [], ◌∷◌, ◌++◌, length, map, drop, codes, Option, Some, None}
 use Rattle.std.specs.Option.{MatchOption}
 use Rattle.sporc_delta.specs.Marks.{Mark, apply, insertion, removal, retains}
 use Rattle.sporc_play.specs.declared.client.PlainEntry.{PlainEntry}

@@ -1,5 +1,5 @@
 -- What a play did with its source and its sink.
-use Rattle.std.specs.Prelude.{◌≡◌, ℕ, ◌≤◌, List, length, Option}
+use Rattle.std.specs.Prelude.{ℕ, ◌≤◌, List, length, Option}
 use Rattle.std.specs.Io.KnownBytes.{Appends, Consumes, IsAtEnd}
 use Rattle.sporc_outside.specs.declared.source.ReadFault.{ReadFault}
 use Rattle.sporc_outside.specs.declared.source.ReadFault.TheVariants as reading

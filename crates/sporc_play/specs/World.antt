@@ -7,7 +7,6 @@ use Rattle.sporc_play.specs.declared.client.Refusal.{Refusal}
 use Rattle.sporc_play.specs.declared.script.command.Command.{Command}
 use Rattle.sporc_play.specs.declared.script.command.Command.TheVariants as commands
 use Rattle.sporc_play.specs.declared.script.command.Edit.{Edit}
-use Rattle.sporc_play.specs.declared.script.command.Give.{Give}
 use Rattle.sporc_play.specs.declared.script.command.PlayLine.{PlayLine}
 use Rattle.sporc_play.specs.Client.{Client, accepted, change_marks, edited, flying, new_client, next_entry, refusal, refusal_name, shown_text}
 use Rattle.sporc_play.specs.Quoted.{quoted}

@@ -1,9 +1,9 @@
 //! A client: the entries that a member accepted, and the edits that are not entries yet.
 
-ghost use Rattle.std.specs.Prelude.{◌≡◌, ◌≢◌, ℕ, ◌+◌, ◌*◌, ◌^◌, ◌<◌, ◌≤◌, List, [], ◌∷◌, ◌++◌, length, take, drop, Option, Some, None, IfOk, OnOk, OnErr, MatchOption};
+ghost use Rattle.std.specs.Prelude.{◌≡◌, ◌+◌, ◌<◌, ◌≤◌, ◌++◌, length, take, drop, Option, Some, None, IfOk, OnOk, OnErr};
 ghost use Rattle.std.specs.Option.{is_some};
 ghost use Rattle.std.specs.Str.{encode_utf8_all};
-ghost use Rattle.sporc_delta.specs.Marks.{Mark, apply, insertion, removal, retains};
+ghost use Rattle.sporc_delta.specs.Marks.{apply, insertion, removal};
 ghost use Rattle.sporc_play.specs.Client.{Client, Submits, accepted, change_marks, edited, flying, new_client, next_entry, refusal, refusal_name, shown_text};
 ghost use Rattle.sporc_play.specs.Spelling.{change_size};
 
@@ -139,8 +139,10 @@ impl PlainClient {
     pub fn change(&mut self, alloc: Global, change: &Change) -> Result<bool, AllocError>
         requires room { length self.old.shown < MAX_EVENTS }
         requires short { change_size change.now ≤ MAX_TEXT }
-        ensures within { IfOk result (λ within. within ≡ is_some (change_marks change.now (shown_text self.old))) }
-        ensures ok { OnOk result (self.new ≡ edited (change_marks change.now (shown_text self.old)) self.old) }
+        ensures within { IfOk result (λ within. within
+            ≡ is_some (change_marks change.now (shown_text self.old))) }
+        ensures ok { OnOk result (self.new
+            ≡ edited (change_marks change.now (shown_text self.old)) self.old) }
         ensures err { OnErr result (self.new ≡ self.old) }
     {
         let len = self.text.len() as u64;
@@ -166,7 +168,8 @@ impl PlainClient {
         requires within { at ≤ length (shown_text self.old) }
         requires room { length self.old.shown < MAX_EVENTS }
         requires short { length (encode_utf8_all text.now) ≤ MAX_TEXT }
-        ensures ok { OnOk result (self.new ≡ edited (Some (insertion (length (shown_text self.old)) at text.now)) self.old) }
+        ensures ok { OnOk result (self.new
+            ≡ edited (Some (insertion (length (shown_text self.old)) at text.now)) self.old) }
         ensures err { OnErr result (self.new ≡ self.old) }
     {
         let before = self.text.as_slice();
@@ -179,7 +182,8 @@ impl PlainClient {
     fn remove(&mut self, alloc: Global, at: usize, count: usize) -> Result<(), AllocError>
         requires within { at + count ≤ length (shown_text self.old) }
         requires room { length self.old.shown < MAX_EVENTS }
-        ensures ok { OnOk result (self.new ≡ edited (Some (removal (length (shown_text self.old)) at count)) self.old) }
+        ensures ok { OnOk result (self.new
+            ≡ edited (Some (removal (length (shown_text self.old)) at count)) self.old) }
         ensures err { OnErr result (self.new ≡ self.old) }
     {
         let before = self.text.as_slice();
@@ -280,7 +284,8 @@ fn with_inserted(
     more: &Text,
 ) -> Result<Vec<char>, AllocError>
     requires { at ≤ length text.now }
-    ensures { IfOk result (λ after. after.items ≡ take at text.now ++ more.now ++ drop at text.now) }
+    ensures { IfOk result (λ after. after.items
+        ≡ take at text.now ++ more.now ++ drop at text.now) }
 {
     let mut after = Vec::new(alloc);
     after.extend_from_slice(&text[..at])?;

@@ -13,4 +13,3 @@ mod state;
 
 pub use crate::fault::PlayFault;
 pub use crate::playing::{MAX_SCRIPT, play};
-pub use crate::script::{LineFault, PlayScript, read_play};

@@ -1,6 +1,6 @@
 //! The texts of a report's lines.
 
-ghost use Rattle.std.specs.Prelude.{◌≡◌, ◌++◌, ℕ, List, OnOk, flat_map, string_bytes};
+ghost use Rattle.std.specs.Prelude.{◌≡◌, ◌++◌, OnOk, flat_map, string_bytes};
 ghost use Rattle.sporc_play.specs.Quoted.{escape, quoted};
 ghost use Rattle.sporc_play.specs.World.{show_line};
 
@@ -10,7 +10,8 @@ use std::fmt::Write;
 
 /// Appends what a member sees.
 pub fn push_show(out: &mut String, member: u16, client: &PlainClient) -> Result<(), AllocError>
-    ensures { OnOk result (string_bytes out.new ≡ string_bytes out.old ++ show_line member client.now) }
+    ensures { OnOk result (string_bytes out.new
+        ≡ string_bytes out.old ++ show_line member client.now) }
 {
     let at = client.entries().len();
     let pending = client.pending();
@@ -28,7 +29,8 @@ fn push_quoted(out: &mut String, text: &[char]) -> Result<(), AllocError>
 }
 
 fn push_all_escaped(out: &mut String, text: &[char]) -> Result<(), AllocError>
-    ensures { OnOk result (string_bytes out.new ≡ string_bytes out.old ++ flat_map escape text.now) }
+    ensures { OnOk result (string_bytes out.new
+        ≡ string_bytes out.old ++ flat_map escape text.now) }
 {
     for c in text {
         push_escaped(out, *c)?;

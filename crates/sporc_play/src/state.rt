@@ -1,8 +1,8 @@
 //! The state of a play.
 
-ghost use Rattle.std.specs.Prelude.{◌≡◌, ◌+◌, ◌<◌, ◌≤◌, ◌++◌, ℕ, List, length, MatchOption, OnOk, string_bytes};
+ghost use Rattle.std.specs.Prelude.{◌≡◌, ◌<◌, ◌≤◌, ◌++◌, length, MatchOption, OnOk, string_bytes};
 ghost use Rattle.sporc_play.specs.Spelling.{change_size, text_size};
-ghost use Rattle.sporc_play.specs.World.{after, after_edit, entry_at, given, line_of, new_world, sent};
+ghost use Rattle.sporc_play.specs.World.{after, entry_at, line_of, new_world};
 ghost use Rattle.sporc_play.specs.declared.client.TheConstants.{MAX_EVENTS, MAX_TEXT};
 
 use crate::client::{PlainClient, PlainEntry, Submitted};
@@ -50,7 +50,8 @@ impl PlayState {
         requires room { length self.old.client.shown < MAX_EVENTS }
         requires short { text_size command.now ≤ MAX_TEXT }
         ensures state { OnOk result (self.new ≡ after command.now self.old) }
-        ensures line { OnOk result (string_bytes out.new ≡ string_bytes out.old ++ line_of command.now self.old) }
+        ensures line { OnOk result (string_bytes out.new
+            ≡ string_bytes out.old ++ line_of command.now self.old) }
     {
         match command {
             Command::Member(_) => Ok(()),
@@ -65,7 +66,8 @@ impl PlayState {
         requires room { length self.old.client.shown < MAX_EVENTS }
         requires short { change_size edit.now.change ≤ MAX_TEXT }
         ensures state { OnOk result (self.new ≡ after (Command.Edit edit.now) self.old) }
-        ensures line { OnOk result (string_bytes out.new ≡ string_bytes out.old ++ line_of (Command.Edit edit.now) self.old) }
+        ensures line { OnOk result (string_bytes out.new
+            ≡ string_bytes out.old ++ line_of (Command.Edit edit.now) self.old) }
     {
         let member = edit.member;
         let within = self.client.change(alloc, &edit.change)?;
@@ -80,7 +82,8 @@ impl PlayState {
     fn submit(&mut self, alloc: Global, member: u16, out: &mut String) -> Result<(), AllocError>
         requires { length self.old.client.shown < MAX_EVENTS }
         ensures state { OnOk result (self.new ≡ after (Command.Submit member) self.old) }
-        ensures line { OnOk result (string_bytes out.new ≡ string_bytes out.old ++ line_of (Command.Submit member) self.old) }
+        ensures line { OnOk result (string_bytes out.new
+            ≡ string_bytes out.old ++ line_of (Command.Submit member) self.old) }
     {
         self.made.reserve(1)?;
         match self.client.submit(alloc)? {
@@ -100,7 +103,8 @@ impl PlayState {
     fn give(&mut self, alloc: Global, give: &Give, out: &mut String) -> Result<(), AllocError>
         requires { length self.old.client.shown < MAX_EVENTS }
         ensures state { OnOk result (self.new ≡ after (Command.Give give.now) self.old) }
-        ensures line { OnOk result (string_bytes out.new ≡ string_bytes out.old ++ line_of (Command.Give give.now) self.old) }
+        ensures line { OnOk result (string_bytes out.new
+            ≡ string_bytes out.old ++ line_of (Command.Give give.now) self.old) }
     {
         let member = give.member;
         let position = give.position;
@@ -118,7 +122,8 @@ impl PlayState {
 
 // Entry E, counted from 1.
 fn entry_at(made: &[PlainEntry], number: u64) -> Option<&PlainEntry>
-    ensures { MatchOption result (entry_at made.now number ≡ None) (λ e. entry_at made.now number ≡ Some e.now) }
+    ensures { MatchOption result (entry_at made.now number ≡ None)
+        (λ e. entry_at made.now number ≡ Some e.now) }
 {
     if number == 0 {
         return None;

@@ -1,8 +1,7 @@
 //! The program.
 
-ghost use Rattle.std.specs.Prelude.{◌≡◌, ◌≢◌, ◌+◌, ◌<◌, ◌≤◌, ◌↔◌, ◌⊎◌, ℕ, List, Some, length, map, IsTrue, IfErr, OnOk, string_bytes};
+ghost use Rattle.std.specs.Prelude.{◌≡◌, ◌<◌, ◌≤◌, ◌↔◌, ◌⊎◌, ℕ, List, Some, length, map, IsTrue, IfErr, OnOk, string_bytes};
 ghost use Rattle.std.specs.Io.KnownBytes.{Appends};
-ghost use Rattle.sporc_outside.specs.Counts.{Rose};
 ghost use Rattle.sporc_play.specs.Grammar.{IsFaultLine, IsScript};
 ghost use Rattle.sporc_play.specs.Playing.{Plays};
 ghost use Rattle.sporc_play.specs.World.{report};
@@ -31,7 +30,8 @@ pub fn run<S: Source, O: Sink>(alloc: Global, words: &[String], source: &mut S, 
 
     // 2 comes exactly where the words are others.
     ensures words { (result ≡ 2) ↔ (¬ IsPlay (map (λ w. string_bytes w) words.now)) }
-    ensures words_told { result ≡ 2 → Tells (O.written out.old) (O.written out.new) (O.faults out.old) (O.faults out.new)
+    ensures words_told { result ≡ 2 → Tells (O.written out.old)
+        (O.written out.new) (O.faults out.old) (O.faults out.new)
         (fault_line Fault.Words) }
 
     // What each other status says, whether the source and the sink tell their content or not.
@@ -44,7 +44,8 @@ pub fn run<S: Source, O: Sink>(alloc: Global, words: &[String], source: &mut S, 
         (O.written out.old) (O.written out.new) (O.faults out.old) (O.faults out.new) }
 
     // And what a source that tells its content calls for, where memory suffices and nothing fails.
-    ensures script { (text : List ℕ) (script : List PlayLine) → IsPlay (map (λ w. string_bytes w) words.now)
+    ensures script { (text : List ℕ) (script : List PlayLine) → IsPlay (map
+        (λ w. string_bytes w) words.now)
         → S.left source.old ≡ Some text → length text ≤ MAX_SCRIPT → IsScript text script
         → ((result ≡ 0) × Appends (O.written out.old) (O.written out.new) (report script)) ⊎ (result ≡ 1) ⊎ (result ≡ 6) }
     ensures no_script { (text : List ℕ) (k : ℕ) → IsPlay (map (λ w. string_bytes w) words.now)

@@ -87,3 +87,10 @@ base_len-earlier [] q h = earlier_last q (omega arith)
 base_len-earlier (Insert c ∷ p) q h = base_len-earlier p q h
 base_len-earlier (Retain ∷ p) q h = earlier_retain p (base_len-earlier p) q h
 base_len-earlier (Delete ∷ p) q h = earlier_delete p (base_len-earlier p) q h
+
+-- no more is inserted than there is in the text after
+pub inserted_len_le : (ms : List Mark) → inserted_len ms ≤ out_len ms
+inserted_len_le [] = omega arith
+inserted_len_le (Retain ∷ ms) = omega (arith, inserted_len_le ms)
+inserted_len_le (Delete ∷ ms) = inserted_len_le ms
+inserted_len_le (Insert c ∷ ms) = omega (arith, inserted_len_le ms)

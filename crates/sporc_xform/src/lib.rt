@@ -12,3 +12,6 @@ mod transform;
 
 pub use crate::composition::compose;
 pub use crate::transform::{both, earlier, later};
+
+#[cfg(test)]
+mod tests;

@@ -1,7 +1,7 @@
-use Rattle.std.proofs.Common.{◌≡◌, ◌+◌, ◌∷◌, ◌++◌, drop, length, sym, ap, ◌∙◌, subst, arith}
+use Rattle.std.proofs.Common.{◌≡◌, ◌+◌, ◌++◌, drop, length, sym, ap, subst, arith}
 use Rattle.std.proofs.lemmas.Result.{err_from_is_err_and}
 use Rattle.sporc_outside.proofs.Known.{Appends_then}
-use Rattle.sporc_play.specs.World.{World, after, line_of, report, report_from}
+use Rattle.sporc_play.specs.World.{World, line_of, report, report_from}
 use Rattle.sporc_play.proofs.Reports.{events-after, front_more, report_more, report_step}
 use Rattle.sporc_play.proofs.playing.write_report.Goals as goal
 

@@ -1,6 +1,6 @@
-use Rattle.std.proofs.Common.{sym, ap, ◌∙◌}
+use Rattle.std.proofs.Common.{sym, ap}
 use Rattle.sporc_play.specs.Client.{Client}
-use Rattle.sporc_play.proofs.Clients.{waits, next_is}
+use Rattle.sporc_play.proofs.Clients.{waits}
 use Rattle.sporc_play.proofs.client.PlainClient.submit.Goals as goal
 
 pub returns-then-is_some-clause-ok : goal.returns-then-is_some-clause-ok
