@@ -1,11 +1,10 @@
 -- No number is given twice in the life of a leaf file.
-use Rattle.std.proofs.Common.{◌≡◌, ◌≢◌, ℕ, ◌+◌, ◌*◌, ◌/◌, ◌<◌, ◌≤◌, List, [], ◌∷◌, Option, Some, None, IsSome, IfSome, Result, Ok, Err, All, AllPairs, refl, sym, ap, ◌∙◌, arith}
+use Rattle.std.proofs.Common.{◌≡◌, ◌≢◌, ℕ, ◌*◌, ◌/◌, ◌<◌, List, [], ◌∷◌, Option, Some, None, IsSome, IfSome, Ok, Err, All, AllPairs, refl, arith}
 use Rattle.std.proofs.lemmas.List.Elements.{All-cons, All-nil}
 use Rattle.std.proofs.lemmas.List.Kept.{AllPairs-cons}
-use Rattle.sporc_outside.specs.LeafDisk.{IsStable, KeepsOutside}
+use Rattle.sporc_outside.specs.LeafDisk.{IsStable, KeepsOutside, IsFound}
 use Rattle.lms_leaf.specs.LeafFile.{taken_blocks}
-use Rattle.lms_leaf.specs.Leaves.{LeavesContent, KeepsStable, Draws, Opens, disk_after}
-use Rattle.lms_leaf.specs.Lives.{Move, Open, OpenCut, Draw, DrawCut, Close, Crash, Spot, AtRest, InUse, disk_at, spot_after, IsFound, IsDuring, IsLife, drawn}
+use Rattle.lms_leaf.specs.Lives.{Move, Open, OpenCut, Draw, DrawCut, Close, Crash, Spot, AtRest, InUse, disk_at, IsLife, drawn}
 use Rattle.lms_leaf.specs.Laws.{NoLeafTwice}
 use Rattle.lms_leaf.proofs.TakenBlocks.{below-taken_blocks}
 

@@ -39,7 +39,8 @@ pub record Draws {D : Type 0} (stored : D → Option (List ℕ)) (moment : D →
 
 -- when a draw gives no number: `Exhausted` exactly where all are drawn, and `DiskFault` only where the disk's count
 -- of faults rose, in this draw or in an earlier one since the opening
-pub record DrawFaults {D : Type 0} (faults : D → ℕ) (old : LeavesContent D) (result : Result ℕ LeafFault) (new : LeavesContent D) : Type 0 where
+pub record DrawFaults {D : Type 0} (faults : D → ℕ)
+    (old : LeavesContent D) (result : Result ℕ LeafFault) (new : LeavesContent D) : Type 0 where
   pub exhausted : (next : ℕ) → (result ≡ Err (Exhausted next)) ↔ ((old.next ≡ old.leaf_count) × (next ≡ old.next))
   pub now : result ≡ Err DiskFault → IsTrue old.faulty ⊎ Rose (faults old.disk) (faults new.disk)
   pub since_open : result ≡ Err DiskFault → Rose old.faults_at_open (faults new.disk)

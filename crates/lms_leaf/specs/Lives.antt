@@ -1,5 +1,6 @@
 -- Whole lives of a leaf file: openings, draws, failed calls, and crashes at any moment, in any order.
-use Rattle.std.specs.Prelude.{◌≡◌, ℕ, ◌≤◌, List, [], ◌∷◌, Option, Some, Result, Ok, Err}
+use Rattle.std.specs.Prelude.{ℕ, ◌≤◌, List, [], ◌∷◌, Option, Result, Ok, Err}
+use Rattle.sporc_outside.specs.LeafDisk.{IsFound}
 use Rattle.lms_leaf.specs.Leaves.{LeavesContent, Draws, Opens, disk_after}
 use Rattle.lms_leaf.specs.declared.faults.LeafFault.{LeafFault}
 use Rattle.lms_leaf.specs.declared.faults.LeafOpenFault.{LeafOpenFault}
@@ -28,12 +29,6 @@ abbrev pub spot_after : {D : Type 0} → Result (LeavesContent D) (LeafOpenFault
 spot_after (Ok leaves) = InUse leaves
 spot_after (Err fault) = AtRest fault.1
 
--- what is found after a crash of that disk at that moment reads as one of the images, and its images are among them
-pub record IsFound {D : Type 0} (stored : D → Option (List ℕ)) (moment : D → ℕ) (images : D → ℕ → List ℕ → Type 0)
-    (disk : D) (at : ℕ) (found : D) : Type 0 where
-  pub reads : (image : List ℕ) × images disk at image × (stored found ≡ Some image)
-  pub among : (image : List ℕ) → images found (moment found) image → images disk at image
-
 -- a moment of a call
 abbrev pub IsDuring : {D : Type 0} → (D → ℕ) → D → D → ℕ → Type 0
 IsDuring moment old new at = (moment old ≤ at) × (at ≤ moment new)
@@ -49,7 +44,8 @@ module _ {D : Type 0} (stored : D → Option (List ℕ)) (moment : D → ℕ) (i
       Opens stored moment images disk result × IsDuring moment disk (disk_after result) at
       × IsFound stored moment images (disk_after result) at found × IsLife (AtRest found) moves
   IsLife (AtRest disk) (move ∷ moves) = ⊥
-  IsLife (InUse leaves) (Draw result after ∷ moves) = Draws stored moment images leaves result after × IsLife (InUse after) moves
+  IsLife (InUse leaves) (Draw result after ∷ moves) =
+      Draws stored moment images leaves result after × IsLife (InUse after) moves
   IsLife (InUse leaves) (DrawCut result after at found ∷ moves) =
       Draws stored moment images leaves result after × IsDuring moment leaves.disk after.disk at
       × IsFound stored moment images after.disk at found × IsLife (AtRest found) moves

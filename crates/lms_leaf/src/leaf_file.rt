@@ -46,7 +46,8 @@ pub(crate) fn taken_of(bytes: &[u8]) -> usize
 
 // Takes a block that is free.
 pub(crate) fn take_block<D: LeafDisk>(disk: &mut D, block: u32) -> Result<(), Failed>
-    requires { IfSome (D.stored disk.old) (λ bytes. (block < length bytes) × (slice_index bytes block ≡ 0)) }
+    requires { IfSome (D.stored disk.old) (λ bytes.
+        (block < length bytes) × (slice_index bytes block ≡ 0)) }
     ensures taken { OnOk result (IsStable (D.images disk.new (D.moment disk.new)) block) }
     ensures stable { KeepsStable D.moment D.images disk.old disk.new }
     ensures one { OnOk result (IfSome (D.stored disk.new) (λ bytes. slice_index bytes block ≡ 1)) }

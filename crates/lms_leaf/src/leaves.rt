@@ -1,6 +1,5 @@
-ghost use Rattle.std.specs.Prelude.{◌≡◌, ◌≢◌, ◌↔◌, ◌⊎◌, ℕ, ◌+◌, ◌*◌, ◌/◌, ◌%◌, ◌^◌, ◌<◌, ◌≤◌, false, length, slice_index, IsTrue, IsOk, OnOk, IfOk, IfErr, IfSome};
-ghost use Rattle.sporc_outside.specs.Counts.{CountsFaults, Rose};
-ghost use Rattle.sporc_outside.specs.LeafDisk.{IsStable, KeepsOutside};
+ghost use Rattle.std.specs.Prelude.{◌≡◌, ◌≢◌, ℕ, ◌+◌, ◌*◌, ◌/◌, ◌%◌, ◌^◌, ◌<◌, ◌≤◌, false, length, OnOk, IfOk, IfErr, IfSome};
+ghost use Rattle.sporc_outside.specs.Counts.{Rose};
 ghost use Rattle.lms_leaf.specs.LeafFile.{IsLeafHeight, block_count, taken_blocks};
 ghost use Rattle.lms_leaf.specs.Leaves.{KeepsStable, IsSynced, Draws, DrawFaults, Opens, disk_after};
 
@@ -39,18 +38,22 @@ impl<D: LeafDisk> Model for Leaves<D> {
 }
 
 impl<D: LeafDisk> Leaves<D> {
-    /// Opens the leaf file of a tree of that height. The numbers go on behind the last block that is
-    /// taken. Where it fails the disk comes back.
+    /// Opens the leaf file of a tree of that height: syncs it, and goes on behind the last block
+    /// that is taken. Where it fails the disk comes back.
     pub fn open(alloc: Global, mut disk: D, height: u32) -> Result<Leaves<D>, (LeafOpenFault, D)>
         requires { IsLeafHeight height }
 
         ensures opens { Opens D.stored D.moment D.images disk result }
         ensures leaf_count { IfOk result (λ leaves. leaves.leaf_count ≡ 2 ^ height) }
-        ensures fresh { IfOk result (λ leaves. (leaves.faulty ≡ false) × (leaves.faults_at_open ≡ D.faults leaves.disk)) }
-        ensures right_length { OnOk result (IfSome (D.stored disk) (λ bytes. length bytes ≡ block_count height)) }
+        ensures fresh { IfOk result (λ leaves.
+            (leaves.faulty ≡ false) × (leaves.faults_at_open ≡ D.faults leaves.disk)) }
+        ensures right_length { OnOk result (IfSome (D.stored disk) (λ bytes.
+            length bytes ≡ block_count height)) }
 
-        ensures disk_fault { IfErr result (λ fault. fault.0 ≡ LeafOpenFault.DiskFault → Rose (D.faults disk) (D.faults fault.1)) }
-        ensures bad_length { IfErr result (λ fault. (len : ℕ) → fault.0 ≡ LeafOpenFault.BadLength len
+        ensures disk_fault { IfErr result (λ fault. fault.0 ≡ LeafOpenFault.DiskFault
+            → Rose (D.faults disk) (D.faults fault.1)) }
+        ensures bad_length { IfErr result (λ fault. (len : ℕ)
+            → fault.0 ≡ LeafOpenFault.BadLength len
             → (len ≢ block_count height) × IfSome (D.stored disk) (λ bytes. len ≡ length bytes)) }
         ensures memory { IfErr result (λ fault. fault.0 ≡ LeafOpenFault.Memory → fault.1 ≡ disk) }
         ensures count { D.faults disk ≤ D.faults (disk_after result) }
@@ -71,8 +74,8 @@ impl<D: LeafDisk> Leaves<D> {
         }
     }
 
-    /// Gives the next number, and takes its block first where it begins one. After a disk fault each
-    /// draw answers a disk fault; open the file again.
+    /// Gives the next number, and takes its block first where it begins one. After a disk fault
+    /// each draw answers a disk fault until the file is opened again.
     pub fn draw(&mut self) -> Result<u32, LeafFault>
         ensures draws { Draws D.stored D.moment D.images self.old result self.new }
         ensures faults { DrawFaults D.faults self.old result self.new }
@@ -111,15 +114,20 @@ impl<D: LeafDisk> Leaves<D> {
 // Syncs the disk, and gives the number behind the last block that is taken.
 fn find_next<D: LeafDisk>(alloc: Global, disk: &mut D, height: u32) -> Result<u32, LeafOpenFault>
     requires { IsLeafHeight height }
-    ensures next { IfOk result (λ next. IfSome (D.stored disk.old) (λ bytes. next ≡ 4 * taken_blocks bytes)) }
-    ensures first_of_block { IfOk result (λ next. (blocks : ℕ) × (next ≡ 4 * blocks) × (blocks ≤ block_count height)) }
-    ensures right_length { OnOk result (IfSome (D.stored disk.old) (λ bytes. length bytes ≡ block_count height)) }
+    ensures next { IfOk result (λ next. IfSome (D.stored disk.old) (λ bytes.
+        next ≡ 4 * taken_blocks bytes)) }
+    ensures first_of_block { IfOk result (λ next. (blocks : ℕ)
+        × (next ≡ 4 * blocks) × (blocks ≤ block_count height)) }
+    ensures right_length { OnOk result (IfSome (D.stored disk.old) (λ bytes.
+        length bytes ≡ block_count height)) }
     ensures bad_length { (len : ℕ) → result ≡ Err (LeafOpenFault.BadLength len)
         → (len ≢ block_count height) × IfSome (D.stored disk.old) (λ bytes. len ≡ length bytes) }
-    ensures disk_fault { result ≡ Err LeafOpenFault.DiskFault → Rose (D.faults disk.old) (D.faults disk.new) }
+    ensures disk_fault { result ≡ Err LeafOpenFault.DiskFault
+        → Rose (D.faults disk.old) (D.faults disk.new) }
     ensures memory { result ≡ Err LeafOpenFault.Memory → disk.new ≡ disk.old }
     ensures stable { KeepsStable D.moment D.images disk.old disk.new }
-    ensures synced { OnOk result (IsSynced (D.stored disk.new) (D.images disk.new (D.moment disk.new))) }
+    ensures synced { OnOk result
+        (IsSynced (D.stored disk.new) (D.images disk.new (D.moment disk.new))) }
     ensures stored { D.stored disk.new ≡ D.stored disk.old }
     ensures count { D.faults disk.old ≤ D.faults disk.new }
 {

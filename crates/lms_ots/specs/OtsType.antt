@@ -1,5 +1,5 @@
 -- The table of LM-OTS types over SHA-256 with n = 32 (RFC 8554, section 4.1, table 1).
-use Rattle.std.specs.Prelude.{ℕ, ◌+◌, ◌*◌, ◌==◌, List, [], ◌∷◌, Option, find}
+use Rattle.std.specs.Prelude.{ℕ, ◌+◌, ◌*◌, ◌==◌, [], ◌∷◌, Option, find}
 use Rattle.lms_ots.specs.declared.ots_type.OtsType.{OtsType}
 use Rattle.lms_ots.specs.declared.ots_type.OtsType.TheVariants.{W1, W2, W4, W8}
 

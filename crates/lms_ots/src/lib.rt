@@ -6,6 +6,14 @@
 //! twice.
 //!
 //! All numbers in the hashed strings and in a signature are big-endian.
+//!
+//! ```rust
+//! use lms_ots::{OtsType, ots_candidate, ots_public, ots_sign};
+//!
+//! let signature = ots_sign(alloc, OtsType::W4, &id, q, &seed, &c, b"message")?;
+//! let candidate = ots_candidate(OtsType::W4, &id, q, b"message", &signature)?;
+//! assert_eq!(rt; candidate, ots_public(OtsType::W4, &id, q, &seed));
+//! ```
 #![tactic(auto)]
 
 mod chains;

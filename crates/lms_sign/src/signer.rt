@@ -62,8 +62,10 @@ impl<D: LeafDisk> Signer<D> {
         message: &[u8],
     ) -> Result<Vec<u8>, (Ticket, Memory)>
         requires { ticket < 2 ^ height_of self.old.key.lms }
-        ensures value { IfOk result (λ signature. signature.items ≡ lms_signature_of self.old.key ticket c.now message.now) }
-        ensures verifies { IfOk result (λ signature. Verifies (lms_public_of self.old.key) message.now signature.items) }
+        ensures value { IfOk result (λ signature.
+            signature.items ≡ lms_signature_of self.old.key ticket c.now message.now) }
+        ensures verifies { IfOk result (λ signature.
+            Verifies (lms_public_of self.old.key) message.now signature.items) }
         ensures handed_back { IfErr result (λ back. back.0 ≡ ticket) }
         ensures same { self.new ≡ self.old }
     {

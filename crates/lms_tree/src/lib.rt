@@ -5,6 +5,14 @@
 //! leaf that signs two messages lets anyone forge a third.
 //!
 //! All numbers in keys, signatures and hashed strings are big-endian.
+//!
+//! ```rust
+//! use lms_tree::{LmsType, Tree, verify};
+//!
+//! let tree = Tree::build(alloc, &seed, &id, LmsType::H10, OtsType::W4)?;
+//! let signature = tree.sign(alloc, q, &c, b"message")?;
+//! assert!(rt; verify(&tree.public(), b"message", &signature));
+//! ```
 #![tactic(auto)]
 
 mod fields;

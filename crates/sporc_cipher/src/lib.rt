@@ -38,8 +38,8 @@ pub fn mask(key: &[u8; 32], stream: u64, bytes: &mut [u8])
 // Masks up to four bytes with one word of the stream, low byte first.
 fn mask_piece(piece: &mut [u8], word: u32)
     requires { length piece.old ≤ 4 }
-    ensures { EachIndex piece.old (λ i.
-        slice_index piece.new i ≡ bit_xor (slice_index piece.old i) (slice_index (to_le_bytes w32 word) i)) }
+    ensures { EachIndex piece.old (λ i. slice_index piece.new i
+        ≡ bit_xor (slice_index piece.old i) (slice_index (to_le_bytes w32 word) i)) }
 {
     let word = word.to_le_bytes();
     'bytes: for i in 0..piece.len() {

@@ -7,8 +7,8 @@ struct Stream {
     bytes: [u8; 65],
 }
 
-// Made by OpenSSL's ChaCha20, whose nonce of 16 bytes is the block number and then the stream number. The
-// first is also the stream of RFC 8439, appendix A.1, test vectors 1 and 2.
+// Made by OpenSSL's ChaCha20, whose nonce of 16 bytes is the block number and then the stream
+// number. The first is also the stream of RFC 8439, appendix A.1, test vectors 1 and 2.
 const STREAMS: [Stream; 5] = [
     Stream {
         key: [

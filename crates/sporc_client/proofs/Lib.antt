@@ -6,3 +6,7 @@ pub mod SameLists
 pub mod Passes
 pub mod Same
 pub mod Sound
+pub mod Spelling
+pub mod GoodHistories
+pub mod Runs
+mod Examples

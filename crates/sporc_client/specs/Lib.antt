@@ -1,12 +1,14 @@
+pub mod Agree
 pub mod Checks
 pub mod Client
+pub mod ClientKeeps
 pub mod Entry
-pub mod FirstFault
 pub mod History
 pub mod HistoryKeeps
 pub mod HistoryValue
 pub mod Names
+pub mod Run
 pub mod SameEntry
 pub mod Submission
-pub mod ClientKeeps
+pub mod Typed
 pub mod Verdict

@@ -10,7 +10,7 @@ ghost use Rattle.sporc_delta.specs.Marks.{base_len};
 ghost use Rattle.sporc_client.specs.declared.limits.TheConstants.{MAX_EDIT_BYTES, MAX_ENTRIES, MAX_PENDING};
 ghost use Rattle.sporc_client.specs.History.{hashes_of, text_of};
 ghost use Rattle.sporc_client.specs.Checks.{IsNext};
-ghost use Rattle.sporc_client.specs.FirstFault.{Answers, AnswersUnless, first_of};
+ghost use Rattle.sporc_checks.specs.FirstFault.{Answers, AnswersUnless, first_of};
 
 use crate::history::History;
 use crate::{
@@ -36,7 +36,7 @@ pub enum PlainSubmitted {
 }
 
 /// One member's client: a history that it accepted, and the edits of its own that are not committed yet.
-#[derive(Drop)]
+#[derive(Debug, Drop)]
 pub struct PlainClient {
     me: u16,
     history: History,
@@ -133,12 +133,7 @@ impl PlainClient {
     }
 
     /// Accepts an entry as the one at a position. The answer is the number of events so far.
-    pub fn accept(
-        &mut self,
-        alloc: Global,
-        position: u32,
-        entry: &PlainEntry,
-    ) -> Result<u64, PlainRefusal>
+    pub fn accept(&mut self, position: u32, entry: &PlainEntry) -> Result<u64, PlainRefusal>
         requires { length (delta_bytes entry.now.delta) ≤ MAX_EDIT_BYTES }
         ensures answer { AnswersUnless refusals.Memory result (first_of (entry_checks self.old position entry.now)) }
         ensures event { IfOk result (λ n. n ≡ self.new.events) }
@@ -147,22 +142,22 @@ impl PlainClient {
     {
         self.check_entry(position, entry)?;
         if self.is_flight(entry) {
-            self.accept_own(alloc, entry)?;
+            self.accept_own(entry)?;
         } else {
-            self.accept_other(alloc, entry)?;
+            self.accept_other(entry)?;
         }
         Ok(self.events)
     }
 
     // Accepts the entry that is on its way: the first pending edit is committed, and the shown text stays.
-    fn accept_own(&mut self, alloc: Global, entry: &PlainEntry) -> Result<(), Memory>
+    fn accept_own(&mut self, entry: &PlainEntry) -> Result<(), Memory>
         requires own { is_flight self.old entry.now ≡ true }
         requires next { IsNext self.old.genesis self.old.entries entry.now }
         requires small { length (delta_bytes entry.now.delta) ≤ MAX_EDIT_BYTES }
         ensures accepted { OnOk result (self.new ≡ accepted self.old entry.now) }
         ensures unchanged { OnErr result (self.new ≡ self.old) }
     {
-        self.history.push(alloc, entry)?;
+        self.history.push(entry)?;
         self.pending.pop_front();
         self.flight = None;
         self.events += 1;
@@ -170,7 +165,7 @@ impl PlainClient {
     }
 
     // Accepts any other entry, where nothing is pending.
-    fn accept_other(&mut self, alloc: Global, entry: &PlainEntry) -> Result<(), Memory>
+    fn accept_other(&mut self, entry: &PlainEntry) -> Result<(), Memory>
         requires other { is_flight self.old entry.now ≡ false }
         requires none_pending { self.old.pending ≡ [] }
         requires next { IsNext self.old.genesis self.old.entries entry.now }
@@ -179,7 +174,7 @@ impl PlainClient {
         ensures unchanged { OnErr result (self.new ≡ self.old) }
     {
         let ready = self.shown.ready(&entry.delta)?;
-        self.history.push(alloc, entry)?;
+        self.history.push(entry)?;
         self.shown.put(ready);
         self.events += 1;
         Ok(())

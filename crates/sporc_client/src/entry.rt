@@ -7,7 +7,6 @@ ghost use Rattle.sporc_client.specs.Entry.{entry_bytes};
 use crate::Memory;
 use sporc_delta::{Delta, Part};
 use sporc_hash::Digest32;
-use std::alloc::Global;
 
 /// An edit that stands in a history, or is to stand there.
 #[derive(Debug, Drop)]
@@ -26,11 +25,11 @@ pub struct PlainEntry {
 
 impl PlainEntry {
     /// The entry's bytes: its fields in order, the high bytes of numbers first, and the delta's bytes at the end.
-    pub fn to_bytes(&self, alloc: Global) -> Result<Vec<u8>, Memory>
+    pub fn to_bytes(&self) -> Result<Vec<u8>, Memory>
         ensures { IfOk result (λ v. v.items ≡ entry_bytes self.now) }
     {
         let delta = self.delta.encode()?;
-        let mut bytes = Vec::with_capacity(alloc, 42 + delta.len())?;
+        let mut bytes = Vec::with_capacity(*delta.allocator(), 42 + delta.len())?;
         bytes.extend_from_slice(&self.author.to_be_bytes())?;
         bytes.extend_from_slice(&self.number.to_be_bytes())?;
         bytes.extend_from_slice(&self.base.to_be_bytes())?;

@@ -8,7 +8,7 @@ ghost use Rattle.sporc_delta.specs.Marks.{base_len};
 ghost use Rattle.sporc_client.specs.Entry.{entry_bytes};
 ghost use Rattle.sporc_client.specs.History.{hashes_of, hash_of, count_of, text_of, next_entry_of};
 ghost use Rattle.sporc_client.specs.Checks.{order_checks, IsNext};
-ghost use Rattle.sporc_client.specs.FirstFault.{Answers, first_of};
+ghost use Rattle.sporc_checks.specs.FirstFault.{Answers, first_of};
 ghost use Rattle.sporc_client.specs.declared.limits.TheConstants.{MAX_EDIT_BYTES, MAX_ENTRIES};
 
 use crate::{MAX_ENTRIES, Memory, PlainEntry, PlainRefusal};
@@ -19,7 +19,7 @@ use std::collections::BTreeMap;
 use std::marker::Model;
 
 /// A history, seen as the genesis and the entries.
-#[derive(Drop)]
+#[derive(Debug, Drop)]
 pub struct History {
     genesis: Vec<u8>,
     entries: Vec<PlainEntry>,
@@ -146,14 +146,14 @@ impl History {
     }
 
     /// Appends a copy of an entry.
-    pub fn push(&mut self, alloc: Global, entry: &PlainEntry) -> Result<(), Memory>
+    pub fn push(&mut self, entry: &PlainEntry) -> Result<(), Memory>
         requires next { IsNext self.old.genesis self.old.entries entry.now }
         requires small { length (delta_bytes entry.now.delta) ≤ MAX_EDIT_BYTES }
         ensures genesis { self.new.genesis ≡ self.old.genesis }
         ensures ok { OnOk result (self.new.entries ≡ self.old.entries ++ entry.now ∷ []) }
         ensures err { OnErr result (self.new.entries ≡ self.old.entries) }
     {
-        let bytes = entry.to_bytes(alloc)?;
+        let bytes = entry.to_bytes()?;
         let hash = next_hash(&self.hashes[self.entries.len()], bytes.as_slice());
         let copy = entry.copy()?;
         self.entries.reserve(1)?;

@@ -5,6 +5,7 @@ mod client;
 mod entry;
 mod fault;
 mod history;
+pub mod laws;
 mod limits;
 #[cfg(test)]
 mod tests;

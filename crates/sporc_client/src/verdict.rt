@@ -53,7 +53,7 @@ pub fn compare(a: &[Digest32], b: &[Digest32]) -> Verdict
 }
 
 // Whether both have one value at this place.
-pub(crate) fn agree_at(a: &[Digest32], b: &[Digest32], at: usize) -> bool
+fn agree_at(a: &[Digest32], b: &[Digest32], at: usize) -> bool
     requires in_a { at < length a.now }
     requires in_b { at < length b.now }
     ensures { IsTrue result ↔ (slice_get a.now at ≡ slice_get b.now at) }

@@ -1,0 +1,8 @@
+pub mod Lists
+pub mod FounderLoop
+pub mod FieldLaws
+pub mod ChangeLaws
+pub mod EntryLaws
+pub mod GenesisLaws
+pub mod Written
+pub mod Places

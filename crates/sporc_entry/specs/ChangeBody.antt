@@ -9,8 +9,8 @@
 -- | previous key, sealed | 32 | |
 -- | count | 2 | at most 64 |
 -- | wraps, each | 2 member, 32 sealed key | |
-use Rattle.std.specs.Prelude.{◌≡◌, ℕ, zero, suc, ◌<◌, ◌≤◌, ◌^◌, ◌==◌, List, [], ◌∷◌, ◌++◌, length, Result, Ok, if◌then◌else◌}
-use Rattle.std.specs.List.{AllByRecursion}
+use Rattle.std.specs.Prelude.{◌≡◌, ℕ, ◌<◌, ◌≤◌, ◌^◌, ◌==◌, List, ◌∷◌, ◌++◌, length, Result, Ok, if◌then◌else◌}
+use Rattle.std.specs.List.{AllByRecursion, flat_map}
 use Rattle.std.specs.Int.{w8, w16, to_be_bytes}
 use Rattle.sporc_bytes.specs.Fields.{Reading, ◌>>=◌, bytes_at, number_at, end_at}
 use Rattle.sporc_member.specs.declared.change.Change.{Change}
@@ -18,7 +18,7 @@ use Rattle.sporc_member.specs.declared.change.Change.TheVariants.{Add, Remove, S
 use Rattle.sporc_member.specs.Role.{role_code_of}
 use Rattle.sporc_entry.specs.declared.change.ChangeBody.{ChangeBody}
 use Rattle.sporc_entry.specs.declared.wraps.Wrap.{Wrap}
-use Rattle.sporc_entry.specs.Fields.{number_within, role_at}
+use Rattle.sporc_entry.specs.Fields.{number_within, role_at, values_at}
 
 -- ---- reading
 
@@ -48,14 +48,6 @@ wrap_at r = do
   sealed ← bytes_at 32 member.1
   Ok (record { member = member.0; sealed = sealed.0 }, sealed.1)
 
--- so many of them
-unfoldable pub wraps_at : ℕ → Reading → Result (List Wrap × Reading) ℕ
-wraps_at zero r = Ok ([], r)
-wraps_at (suc n) r = do
-  first ← wrap_at r
-  others ← wraps_at n first.1
-  Ok (first.0 ∷ others.0, others.1)
-
 -- the fields of a change's body
 unfoldable pub change_body_at : Reading → Result (ChangeBody × Reading) ℕ
 change_body_at r = do
@@ -63,7 +55,7 @@ change_body_at r = do
   commitment ← bytes_at 32 change.1
   previous ← bytes_at 32 commitment.1
   count ← number_within 0 64 w16 previous.1
-  wraps ← wraps_at count.0 count.1
+  wraps ← values_at wrap_at count.0 count.1
   Ok (record { change = change.0; commitment = commitment.0; previous = previous.0; wraps = wraps.0 }, wraps.1)
 
 -- the body of a change that bytes spell, the first of them at this place
@@ -81,14 +73,13 @@ change_bytes (Add member role key) rest = 1 ∷ to_be_bytes w16 member ++ (role_
 change_bytes (Remove member) rest = 2 ∷ to_be_bytes w16 member ++ rest
 change_bytes (SetRole member role) rest = 3 ∷ to_be_bytes w16 member ++ (role_code_of role ∷ rest)
 
--- the bytes of sealed keys, and those after them
-abbrev pub wraps_bytes : List Wrap → List ℕ → List ℕ
-wraps_bytes [] rest = rest
-wraps_bytes (w ∷ ws) rest = to_be_bytes w16 w.member ++ (w.sealed ++ wraps_bytes ws rest)
+-- the bytes of a sealed key and of whom it is for
+abbrev pub wrap_bytes : Wrap → List ℕ
+wrap_bytes w = to_be_bytes w16 w.member ++ w.sealed
 
 -- the bytes of a change's body
 unfoldable pub change_body_bytes : ChangeBody → List ℕ
-change_body_bytes c = change_bytes c.change (c.commitment ++ (c.previous ++ (to_be_bytes w16 (length c.wraps) ++ wraps_bytes c.wraps [])))
+change_body_bytes c = change_bytes c.change (c.commitment ++ (c.previous ++ (to_be_bytes w16 (length c.wraps) ++ flat_map wrap_bytes c.wraps)))
 
 -- ---- what has a spelling
 

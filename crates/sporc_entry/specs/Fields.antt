@@ -1,6 +1,6 @@
--- Fields whose values are limited. Reading a field gives its value and what is left, or the place of the field's first
--- byte.
-use Rattle.std.specs.Prelude.{ℕ, ◌&&◌, nat_le, Option, None, Some, Result, Ok, Err}
+-- Fields whose values are limited, and lists of fields. Reading a field gives its value and what is left, or the place
+-- of the field's first byte.
+use Rattle.std.specs.Prelude.{ℕ, zero, suc, ◌&&◌, nat_le, List, [], ◌∷◌, Option, None, Some, Result, Ok, Err}
 use Rattle.std.specs.Int.{Width, w8}
 use Rattle.sporc_bytes.specs.Fields.{Reading, ◌>>=◌, number_at, only_if}
 use Rattle.sporc_member.specs.declared.role.Role.{Role}
@@ -24,3 +24,11 @@ role_at r = do
   code ← number_at w8 r
   role ← present r.at (role_with_code code.0)
   Ok (role, code.1)
+
+-- so many values, each read from what the one before it leaves
+unfoldable pub values_at : {A S : Type 0} → (S → Result (A × S) ℕ) → ℕ → S → Result (List A × S) ℕ
+values_at read zero s = Ok ([], s)
+values_at read (suc n) s = do
+  first ← read s
+  others ← values_at read n first.1
+  Ok (first.0 ∷ others.0, others.1)

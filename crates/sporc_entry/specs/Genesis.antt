@@ -6,20 +6,20 @@
 -- | commitment | 32 | |
 -- | count | 2 | 1 to 64 |
 -- | founders, each | 2 number, 1 role, 56 key | number not 0, strictly ascending; role 1, 2 or 3 |
-use Rattle.std.specs.Prelude.{◌≡◌, ℕ, zero, suc, ◌+◌, ◌<◌, ◌≤◌, ◌^◌, List, [], ◌∷◌, ◌++◌, length, Option, None, Some, is_none, find, option_map, Result, Ok, Err}
-use Rattle.std.specs.List.{AllByRecursion}
+use Rattle.std.specs.Prelude.{◌≡◌, ℕ, ◌+◌, ◌≤◌, List, [], ◌∷◌, ◌++◌, length, Option, None, Some, is_none, find, option_map, Result, Ok, Err}
+use Rattle.std.specs.List.{AllByRecursion, flat_map}
 use Rattle.std.specs.List.Sorted.{IsStrictlyIncreasing}
 use Rattle.std.specs.Int.{w8, w16, to_be_bytes}
 use Rattle.lms_tree.specs.LmsPublic.{public_key_in}
 use Rattle.sporc_bytes.specs.Fields.{Reading, ◌>>=◌, bytes_at, end_at}
 use Rattle.sporc_member.specs.declared.founder.Founder.{Founder}
-use Rattle.sporc_member.specs.FirstFault.{unless, first_of}
+use Rattle.sporc_checks.specs.FirstFault.{unless, first_of}
 use Rattle.sporc_member.specs.Role.{role_code_of}
 use Rattle.sporc_member.specs.Roster.{numbers_of, founded, has_admin}
 use Rattle.sporc_entry.specs.declared.fault.GenesisFault.{GenesisFault}
 use Rattle.sporc_entry.specs.declared.fault.GenesisFault.TheVariants.{NoAdmin, BadKey}
 use Rattle.sporc_entry.specs.declared.genesis.Genesis.{Genesis}
-use Rattle.sporc_entry.specs.Fields.{number_within, role_at}
+use Rattle.sporc_entry.specs.Fields.{number_within, role_at, values_at}
 use Rattle.sporc_entry.specs.Outcomes.{or_malformed}
 use Rattle.sporc_entry.specs.ChangeBody.{IsMember}
 
@@ -33,13 +33,17 @@ founder_at least r = do
   key ← bytes_at 56 role.1
   Ok (record { member = member.0; role = role.0; key = key.0 }, key.1)
 
--- so many founders in ascending order, the first number at least this
-unfoldable pub founders_at : ℕ → ℕ → Reading → Result (List Founder × Reading) ℕ
-founders_at zero least r = Ok ([], r)
-founders_at (suc n) least r = do
-  first ← founder_at least r
-  others ← founders_at n (first.0.member + 1) first.1
-  Ok (first.0 ∷ others.0, others.1)
+-- the same, and the least number of the one after it
+unfoldable pub next_founder : ℕ × Reading → Result (Founder × (ℕ × Reading)) ℕ
+next_founder (least, r) = do
+  m ← founder_at least r
+  Ok (m.0, (m.0.member + 1, m.1))
+
+-- so many founders in ascending order of their numbers
+unfoldable pub founders_at : ℕ → Reading → Result (List Founder × Reading) ℕ
+founders_at n r = do
+  founders ← values_at next_founder n (1, r)
+  Ok (founders.0, founders.1.1)
 
 -- the fields of a genesis
 unfoldable pub genesis_at : Reading → Result (Genesis × Reading) ℕ
@@ -48,7 +52,7 @@ genesis_at r = do
   document ← bytes_at 16 version.1
   commitment ← bytes_at 32 document.1
   count ← number_within 1 64 w16 commitment.1
-  founders ← founders_at count.0 1 count.1
+  founders ← founders_at count.0 count.1
   Ok (record { document = document.0; commitment = commitment.0; founders = founders.0 }, founders.1)
 
 -- what bytes spell, all of the bytes
@@ -83,14 +87,13 @@ genesis_of bytes = tested (or_malformed (genesis_in bytes))
 
 -- ---- writing
 
--- the bytes of founders, and those after them
-abbrev pub founders_bytes : List Founder → List ℕ → List ℕ
-founders_bytes [] rest = rest
-founders_bytes (m ∷ ms) rest = to_be_bytes w16 m.member ++ (role_code_of m.role ∷ m.key ++ founders_bytes ms rest)
+-- the bytes of a founder
+abbrev pub founder_bytes : Founder → List ℕ
+founder_bytes m = to_be_bytes w16 m.member ++ role_code_of m.role ∷ m.key
 
 -- the bytes of a genesis
 unfoldable pub genesis_bytes : Genesis → List ℕ
-genesis_bytes g = 1 ∷ g.document ++ (g.commitment ++ (to_be_bytes w16 (length g.founders) ++ founders_bytes g.founders []))
+genesis_bytes g = 1 ∷ g.document ++ (g.commitment ++ (to_be_bytes w16 (length g.founders) ++ flat_map founder_bytes g.founders))
 
 -- ---- what has a spelling
 
@@ -98,7 +101,7 @@ pub record IsFounder (m : Founder) : Type 0 where
   pub member : IsMember m.member
   pub key : length m.key ≡ 56
 
--- a genesis that a document can begin with
+-- a genesis that a document can begin with: one that reading gives
 pub record IsGenesis (g : Genesis) : Type 0 where
   pub document : length g.document ≡ 16
   pub commitment : length g.commitment ≡ 32

@@ -2,7 +2,8 @@
 
 ghost use Rattle.std.specs.Prelude.{◌≡◌, IfOk};
 
-use std::alloc::{AllocError, Global};
+use sporc_bytes::Memory;
+use std::alloc::Global;
 use std::marker::Model;
 
 /// A byte string, seen as the list of its bytes.
@@ -28,7 +29,7 @@ impl Bytes {
     }
 
     /// A copy of bytes.
-    pub fn copy_of(alloc: Global, bytes: &[u8]) -> Result<Bytes, AllocError>
+    pub fn copy_of(alloc: Global, bytes: &[u8]) -> Result<Bytes, Memory>
         ensures { IfOk result (λ copy. copy ≡ bytes.now) }
     {
         let items = Vec::from_slice(alloc, bytes)?;

@@ -2,8 +2,8 @@
 
 ghost use Rattle.std.specs.Prelude.{◌≡◌, IfOk};
 
+use sporc_bytes::Memory;
 use sporc_member::Founder;
-use std::alloc::{AllocError, Global};
 use std::marker::Model;
 
 /// The members that a document begins with, seen as the list of them.
@@ -29,11 +29,11 @@ impl Founders {
         Founders { items }
     }
 
-    /// A copy of members.
-    pub fn copy_of(alloc: Global, members: &[Founder]) -> Result<Founders, AllocError>
-        ensures { IfOk result (λ copy. copy ≡ members.now) }
+    /// A copy.
+    pub fn copy(&self) -> Result<Founders, Memory>
+        ensures { IfOk result (λ copy. copy ≡ self.now) }
     {
-        let items = Vec::from_slice(alloc, members)?;
+        let items = Vec::from_slice(*self.items.allocator(), self.items.as_slice())?;
         Ok(Founders { items })
     }
 

@@ -1,5 +1,11 @@
 // What stands before an entry's body.
 
+ghost use Rattle.std.specs.Prelude.{◌≡◌, ◌++◌, [], OnOk};
+ghost use Rattle.sporc_bytes.specs.Fields.{Reads};
+ghost use Rattle.sporc_entry.specs.Entry.{header_at, header_bytes};
+
+use crate::fields::read_u8;
+use sporc_bytes::{Cursor, Memory, Out, Short};
 use sporc_hash::Digest32;
 
 /// What stands before an entry's body.
@@ -15,10 +21,56 @@ pub struct Header {
     pub base: u32,
     /// The value of the history's chain after them.
     pub base_hash: Digest32,
-    /// The epoch whose key masks or seals the body.
+    /// The epoch whose key masks an edit or seals a change.
     pub epoch: u32,
     /// The number of the one-time key that signs the entry.
     pub leaf: u32,
     /// 1 for an edit, 2 for a change.
     pub kind: u8,
+}
+
+// The version of entries.
+const VERSION: u8 = 1;
+
+// The header that stands next.
+#[tactic(auto, unfolding(crate::specs::Entry::header_at))]
+pub(crate) fn read_header(cursor: &mut Cursor<'_>) -> Result<Header, Short>
+    ensures { Reads (λ header. (header, cursor.new)) result (header_at cursor.old) }
+{
+    read_u8(cursor, VERSION, VERSION)?;
+    let document = cursor.array()?;
+    let author = cursor.u16()?;
+    let number = cursor.u32()?;
+    let base = cursor.u32()?;
+    let base_hash = cursor.array()?;
+    let epoch = cursor.u32()?;
+    let leaf = cursor.u32()?;
+    let kind = read_u8(cursor, 1, 2)?;
+    Ok(Header {
+        document,
+        author,
+        number,
+        base,
+        base_hash,
+        epoch,
+        leaf,
+        kind,
+    })
+}
+
+// Appends a header.
+#[tactic(auto, unfolding(crate::specs::Entry::header_bytes))]
+pub(crate) fn put_header(out: &mut Out, header: &Header) -> Result<(), Memory>
+    ensures { OnOk result (out.new ≡ out.old ++ header_bytes header.now []) }
+{
+    out.put_u8(VERSION)?;
+    out.put_bytes(&header.document)?;
+    out.put_u16(header.author)?;
+    out.put_u32(header.number)?;
+    out.put_u32(header.base)?;
+    out.put_bytes(&header.base_hash)?;
+    out.put_u32(header.epoch)?;
+    out.put_u32(header.leaf)?;
+    out.put_u8(header.kind)?;
+    Ok(())
 }

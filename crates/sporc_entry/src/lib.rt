@@ -9,16 +9,22 @@ mod bytes;
 mod change;
 mod entry;
 mod fault;
+mod fields;
 mod founders;
 mod genesis;
 mod header;
+pub mod laws;
 mod wraps;
 
 pub use bytes::Bytes;
-pub use change::ChangeBody;
-pub use entry::Entry;
+pub use change::{ChangeBody, read_change, write_change};
+pub use entry::{Entry, read_entry, signed_part, write_entry};
 pub use fault::{EntryFault, GenesisFault};
 pub use founders::Founders;
-pub use genesis::Genesis;
+pub use genesis::{Genesis, read_genesis, write_genesis};
 pub use header::Header;
+pub use sporc_bytes::Memory;
 pub use wraps::{Wrap, Wraps};
+
+#[cfg(test)]
+mod tests;

@@ -1,5 +1,5 @@
 -- What a crash of a disk in memory may leave, over one call.
-use Rattle.std.proofs.Common.{◌≡◌, ℕ, ◌+◌, ◌-◌, ◌<◌, ◌≤◌, ◌⊎◌, ◌↔◌, inl, inr, Bool, true, false, List, [], ◌∷◌, ◌++◌, length, take, drop, slice_index, fold, Some, refl, ap, sym, subst, ◌∙◌, arith, length-append, length-drop, length-take-le, get_or-take}
+use Rattle.std.proofs.Common.{◌≡◌, ℕ, ◌+◌, ◌-◌, ◌<◌, ◌≤◌, ◌⊎◌, inl, inr, Bool, true, false, List, [], ◌∷◌, ◌++◌, length, take, drop, slice_index, Some, refl, ap, sym, subst, ◌∙◌, arith, length-append, length-drop, length-take-le, get_or-take}
 use Rattle.std.proofs.Math.Seq.{get_or-drop}
 use Rattle.sporc_outside.specs.CallRecord.{CallRecord}
 use Rattle.std.proofs.lemmas.List.{take-append-le, take_all, ext_get_or}
@@ -7,10 +7,9 @@ use Rattle.std.proofs.Math.Nat.{eq-or-lt_of_le}
 use Rattle.std.proofs.lemmas.Bool.{cases_lt}
 use Rattle.std.proofs.lemmas.List.Sums.{fold-append}
 use Rattle.sporc_outside.specs.declared.disk_call.DiskCall.{DiskCall}
-use Rattle.sporc_outside.specs.declared.disk_call.DiskRequest.{DiskRequest}
 use Rattle.sporc_outside.specs.declared.disk_call.DiskRequest.TheVariants.{Write, Sync}
-use Rattle.sporc_outside.specs.LeafDisk.{overwrite, IsSame, IsSameOutside, Passes}
-use Rattle.sporc_outside.specs.MemoryDisk.{DiskState, state_after, MemoryDiskContent, after_call, after_request, IsLoose, IsImage, images_of}
+use Rattle.sporc_outside.specs.LeafDisk.{overwrite, IsSameOutside, Passes}
+use Rattle.sporc_outside.specs.MemoryDisk.{DiskState, state_after, MemoryDiskContent, after_call, IsLoose, IsImage, images_of}
 use Rattle.sporc_outside.proofs.Overwrites.{length-overwrite, slice_index-overwrite_outside, slice_index-overwrite_inside}
 
 -- what a crash after the first m of these calls may leave

@@ -1,7 +1,7 @@
 -- The bytes of a list that was overwritten from a place on.
-use Rattle.std.proofs.Common.{◌≡◌, ℕ, ◌+◌, ◌-◌, ◌<◌, ◌≤◌, ◌⊎◌, inl, inr, List, ◌++◌, length, take, drop, slice_index, refl, ap, sym, ◌∙◌, arith, length-append, length-drop, length-take-le, get_or-take}
+use Rattle.std.proofs.Common.{◌≡◌, ℕ, ◌+◌, ◌-◌, ◌<◌, ◌≤◌, ◌⊎◌, inl, inr, List, ◌++◌, length, take, drop, slice_index, ap, ◌∙◌, arith, length-append, length-drop, length-take-le, get_or-take}
 use Rattle.std.proofs.Math.ListN.{get_or-append}
-use Rattle.std.proofs.Math.Seq.{get_or-append_right, get_or-append-add, get_or-drop}
+use Rattle.std.proofs.Math.Seq.{get_or-append_right, get_or-drop}
 use Rattle.sporc_outside.specs.LeafDisk.{overwrite}
 
 length-front : (old : List ℕ) (at : ℕ) (bytes : List ℕ) → at ≤ length old → length (take at old ++ bytes) ≡ at + length bytes

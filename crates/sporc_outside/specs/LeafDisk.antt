@@ -27,8 +27,15 @@ KeepsOutside at n (Some old) None = ⊥
 
 -- One call, which began at the moment `before` and ended at `after`: at each moment of it a crash leaves what
 -- it could have left as the call began, but for a step. What it left at earlier moments stays as it was.
-pub record Passes (before after : ℕ) (past images : ℕ → List ℕ → Type 0) (step : List ℕ → List ℕ → Type 0) : Type 0 where
+pub record Passes (before after : ℕ) (past images : ℕ → List ℕ → Type 0) (step : List ℕ → List ℕ → Type 0)
+    : Type 0 where
   pub later : before ≤ after
   pub earlier : (m : ℕ) (image : List ℕ) → m ≤ before → images m image ↔ past m image
   pub during : (m : ℕ) (image : List ℕ) → before ≤ m → m ≤ after → images m image
       → (old : List ℕ) × past before old × step old image
+
+-- what is found after a crash of that disk at that moment reads as one of the images, and its images are among them
+pub record IsFound {D : Type 0} (stored : D → Option (List ℕ)) (moment : D → ℕ) (images : D → ℕ → List ℕ → Type 0)
+    (disk : D) (at : ℕ) (found : D) : Type 0 where
+  pub reads : (image : List ℕ) × images disk at image × (stored found ≡ Some image)
+  pub among : (image : List ℕ) → images found (moment found) image → images disk at image

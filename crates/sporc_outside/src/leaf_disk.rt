@@ -30,7 +30,8 @@ pub trait LeafDisk: Counted {
     /// Fills the buffer with the bytes from `at` on.
     fn read(&mut self, at: u64, buf: &mut [u8]) -> Result<(), Failed>
         requires { IfSome (stored self.old) (λ bytes. at + length buf.old ≤ length bytes) }
-        ensures bytes { OnOk result (IfSome (stored self.old) (λ bytes. buf.new ≡ take (length buf.old) (drop at bytes))) }
+        ensures bytes { OnOk result (IfSome (stored self.old) (λ bytes.
+            buf.new ≡ take (length buf.old) (drop at bytes))) }
         ensures stored { stored self.new ≡ stored self.old }
         ensures images { Passes (moment self.old) (moment self.new) (images self.old) (images self.new) IsSame }
         ensures count { CountsFaults (Self.faults self.old) (Self.faults self.new) result };
@@ -39,14 +40,17 @@ pub trait LeafDisk: Counted {
     /// there.
     fn write_at(&mut self, at: u64, bytes: &[u8]) -> Result<(), Failed>
         requires { IfSome (stored self.old) (λ old. at + length bytes.now ≤ length old) }
-        ensures written { OnOk result (stored self.new ≡ option_map (λ old. overwrite old at bytes.now) (stored self.old)) }
+        ensures written { OnOk result
+            (stored self.new ≡ option_map (λ old. overwrite old at bytes.now) (stored self.old)) }
         ensures others { KeepsOutside at (length bytes.now) (stored self.old) (stored self.new) }
-        ensures images { Passes (moment self.old) (moment self.new) (images self.old) (images self.new) (IsSameOutside at (length bytes.now)) }
+        ensures images { Passes (moment self.old) (moment self.new) (images self.old) (images self.new)
+            (IsSameOutside at (length bytes.now)) }
         ensures count { CountsFaults (Self.faults self.old) (Self.faults self.new) result };
 
     /// Brings what was written to where no crash takes it away.
     fn sync(&mut self) -> Result<(), Failed>
-        ensures durable { OnOk result ((image : List ℕ) → images self.new (moment self.new) image → stored self.new ≡ Some image) }
+        ensures durable { OnOk result
+            ((image : List ℕ) → images self.new (moment self.new) image → stored self.new ≡ Some image) }
         ensures stored { stored self.new ≡ stored self.old }
         ensures images { Passes (moment self.old) (moment self.new) (images self.old) (images self.new) IsSame }
         ensures count { CountsFaults (Self.faults self.old) (Self.faults self.new) result };
@@ -55,5 +59,6 @@ pub trait LeafDisk: Counted {
     ghost stored_is_image: { (disk : Self) → IfSome (stored disk) (images disk (moment disk)) };
 
     // A disk that tells no bytes tells no images.
-    ghost images_are_told: { (disk : Self) (image : List ℕ) → images disk (moment disk) image → IsSome (stored disk) };
+    ghost images_are_told: { (disk : Self) (image : List ℕ)
+        → images disk (moment disk) image → IsSome (stored disk) };
 }

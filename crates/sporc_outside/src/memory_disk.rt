@@ -1,7 +1,5 @@
-ghost use Rattle.std.specs.Prelude.{◌≡◌, ◌⊎◌, ◌+◌, ◌≤◌, [], ◌∷◌, ◌++◌, ℕ, List, Some, true, false, length, take, drop, IsErr, IfOk, OnOk, OnErr, Contains};
+ghost use Rattle.std.specs.Prelude.{◌≡◌, ◌⊎◌, ◌+◌, ◌≤◌, [], ◌∷◌, ◌++◌, Some, true, false, length, IsErr, IfOk, OnOk, OnErr, Contains};
 ghost use Rattle.sporc_outside.specs.Counts.{CountsFaults, Rose, next_count};
-ghost use Rattle.sporc_outside.specs.LeafDisk.{overwrite, IsSame, IsSameOutside, KeepsOutside, Passes};
-ghost use Rattle.sporc_outside.specs.declared.disk_call.DiskRequest.TheVariants as requests;
 
 use crate::calls::Calls;
 use crate::counted::{Counted, Failed};
@@ -37,7 +35,8 @@ impl MemoryDisk {
 
     /// Holds these bytes, all of them synced. The listed calls fail.
     pub fn new(alloc: Global, bytes: Vec<u8>, calls: Calls) -> Result<MemoryDisk, AllocError>
-        ensures { IfOk result (λ disk. disk ≡ record { first = bytes.items; log = []; calls = calls }) }
+        ensures { IfOk result (λ disk.
+            disk ≡ record { first = bytes.items; log = []; calls = calls }) }
     {
         let first = Vec::from_slice(alloc, &bytes)?;
         Ok(MemoryDisk {
@@ -132,8 +131,10 @@ impl LeafDisk for MemoryDisk {
 
 // Counts a call, and puts it at the end of the log.
 fn enter(calls: &mut Calls, log: &mut Vec<DiskCall>, request: DiskRequest) -> Result<(), Failed>
-    ensures ok { OnOk result (log.new.items ≡ log.old.items ++ record { request = request; done = true } ∷ []) }
-    ensures err { OnErr result ((log.new.items ≡ log.old.items ++ record { request = request; done = false } ∷ [])
+    ensures ok { OnOk result
+        (log.new.items ≡ log.old.items ++ record { request = request; done = true } ∷ []) }
+    ensures err { OnErr result
+        ((log.new.items ≡ log.old.items ++ record { request = request; done = false } ∷ [])
         ⊎ (log.new.items ≡ log.old.items)) }
     ensures listed { Contains calls.old.failing (next_count calls.old.made) → IsErr result }
     ensures count { CountsFaults calls.old.faults calls.new.faults result }

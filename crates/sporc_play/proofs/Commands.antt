@@ -1,5 +1,5 @@
 -- Which lines spell a command, and that each spells one.
-use Rattle.std.proofs.Common.{◌≡◌, ◌≢◌, ℕ, ◌^◌, ◌<◌, ◌≤◌, inl, inr, List, [], ◌∷◌, ◌++◌, length, length-append, get_or, true, false, Some, codes, flat_map, refl, sym, ap, ap₂, ◌∙◌, subst, arith}
+use Rattle.std.proofs.Common.{◌≡◌, ◌≢◌, ℕ, ◌^◌, ◌<◌, ◌≤◌, inl, inr, List, [], ◌∷◌, ◌++◌, length, length-append, get_or, true, false, Some, codes, flat_map, refl, sym, ap, ap₂, ◌∙◌, arith}
 use Rattle.std.specs.Fmt.{decimal}
 use Rattle.std.specs.Str.{all_scalars, encode_utf8_all, chars}
 use Rattle.std.specs.Char.{encode_utf8}
@@ -17,7 +17,7 @@ use Rattle.sporc_play.specs.declared.script.command.Insertion.{Insertion}
 use Rattle.sporc_play.specs.declared.script.command.Removal.{Removal}
 use Rattle.sporc_play.specs.Words.{Lacks, Splits}
 use Rattle.sporc_play.specs.Quoted.{escape, quoted}
-use Rattle.sporc_play.specs.Spelling.{IsMember, EditInRange, GiveInRange, Spells, SpellsChange, SpellsEdit, SpellsGive, change_spelling, edit_spelling, give_spelling, change_size, text_size}
+use Rattle.sporc_play.specs.Spelling.{EditInRange, GiveInRange, Spells, SpellsChange, SpellsEdit, SpellsGive, change_spelling, edit_spelling, give_spelling, change_size, text_size}
 use Rattle.sporc_play.specs.Unescape.{unescape}
 use Rattle.sporc_play.proofs.Escapes.{body_of}
 use Rattle.sporc_play.proofs.Spelled.{Lacks_decimal, no_number, one_rest, one_split, split_number}

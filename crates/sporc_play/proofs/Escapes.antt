@@ -132,7 +132,7 @@ body_of word rest body text first last is =
 pub quoted_of : (word rest body bytes : List ℕ) → word ≡ 34 ∷ rest → rest ≡ body ++ 34 ∷ [] → IsUtf8 bytes → unescape false body ≡ Some bytes → word ≡ quoted (chars bytes)
 quoted_of word rest body bytes first last utf8 read =
     let inner : body ≡ flat_map escape (chars bytes) =
-        sound body false bytes read ∙ ap (flat_map escape_byte) (sym (encodes-chars bytes utf8)) ∙ flat_map-encode_all (chars bytes) in
+    sound body false bytes read ∙ ap (flat_map escape_byte) (sym (encodes-chars bytes utf8)) ∙ flat_map-encode_all (chars bytes) in
     first ∙ ap (λ zs. 34 ∷ zs) (last ∙ ap (λ zs. zs ++ 34 ∷ []) inner)
 
 pub no_text : (t : List ℕ) (o : Option (List ℕ)) → o ≡ None → o ≡ Some t → ⊥

@@ -1,8 +1,11 @@
 pub mod CharEscapes
+pub mod Clients
 pub mod Commands
 pub mod Escapes
 pub mod Fronts
-pub mod Lines
 pub mod Numerals
 pub mod Reading
+pub mod Reports
 pub mod Spelled
+pub mod TextLines
+pub mod Unique

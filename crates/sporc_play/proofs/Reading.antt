@@ -5,10 +5,10 @@ use Rattle.std.proofs.lemmas.List.Elements.{All-push}
 use Rattle.sporc_play.specs.declared.script.command.Command.{Command}
 use Rattle.sporc_play.specs.declared.script.command.Command.TheVariants as commands
 use Rattle.sporc_play.specs.declared.script.command.PlayLine.{PlayLine}
-use Rattle.sporc_play.specs.Spelling.{Spells, text_size}
+use Rattle.sporc_play.specs.Spelling.{text_size}
 use Rattle.sporc_play.proofs.Commands.{text_fits}
-use Rattle.sporc_play.specs.Grammar.{IsFirstOutside, IsNext, IsSkipped, Reads, declared_after, declared_by, declared_first, may_follow}
-use Rattle.sporc_play.specs.Reading.{IsLineOutside, ReadsLine, declared_with}
+use Rattle.sporc_play.specs.Grammar.{IsFirstOutside, IsNext, Reads, declared_after, declared_by, declared_first, may_follow}
+use Rattle.sporc_play.specs.Reading.{ReadsLine, declared_with}
 
 declared_first-None : (c : Command) → declared_first c None ≡ declared_after None c
 declared_first-None (commands.Member m) = refl
@@ -49,12 +49,6 @@ IsFirstOutside-cons before declared n l ls (Some x) k is line rest =
     let same : x ≡ record { number = n; command = x.command } = ap (λ (m : ℕ). record { number = m; command = x.command }) line.0 in
     let next : IsNext before l x.command = (line.1, subst (λ (o : Option ℕ). may_follow o x.command ≡ true) is line.2) in
     inr (inr (x.command, next, subst (λ (y : PlayLine). IsFirstOutside (before ++ y ∷ []) (n + 1) ls k) same rest))
-
--- a line outside at the front
-pub IsFirstOutside-here : (before : List PlayLine) (declared : Option ℕ) (n : ℕ) (l : List ℕ) (ls : List (List ℕ)) (k : ℕ) → declared ≡ declared_by before
-    → IsLineOutside declared n l k → IsFirstOutside before n (l ∷ ls) k
-IsFirstOutside-here before declared n l ls k is line =
-    inl (line.0, line.1, λ c next. line.2 c next.0 (subst (λ (o : Option ℕ). may_follow o c ≡ true) (sym is) next.1))
 
 -- the sizes of the texts of what is read
 pub sizes-kept : (declared : Option ℕ) (n : ℕ) (l : List ℕ) (lines : List PlayLine) (read : Option PlayLine) (limit : ℕ) → ReadsLine declared n l read → length l ≤ limit

@@ -1,6 +1,9 @@
+pub mod Client
 pub mod Grammar
+pub mod Playing
 pub mod Quoted
 pub mod Reading
 pub mod Spelling
 pub mod Unescape
 pub mod Words
+pub mod World

@@ -15,7 +15,8 @@ use std::alloc::{AllocError, Global};
 
 // The command that the whole line spells, if there is one.
 pub fn read_command(alloc: Global, line: &[u8]) -> Result<Option<Command>, AllocError>
-    ensures { IfOk result (λ found. MatchOption found ((c : Command) → ¬ Spells line.now c) (λ c. Spells line.now c)) }
+    ensures { IfOk result (λ found. MatchOption found ((c : Command) → ¬ Spells line.now c)
+        (λ c. Spells line.now c)) }
 {
     let Some(rest) = after(line, b"edit ") else {
         return Ok(read_short(line));
@@ -65,7 +66,8 @@ fn declaration(rest: &[u8]) -> Option<u16>
 
 // `M POS E`
 fn read_give(rest: &[u8]) -> Option<Give>
-    ensures { MatchOption result ((g : Give) → ¬ SpellsGive rest.now g) (λ g. SpellsGive rest.now g) }
+    ensures { MatchOption result ((g : Give) → ¬ SpellsGive rest.now g)
+        (λ g. SpellsGive rest.now g) }
 {
     let (first, rest) = split_once(rest, b' ')?;
     let (second, third) = split_once(rest, b' ')?;
@@ -81,7 +83,8 @@ fn read_give(rest: &[u8]) -> Option<Give>
 
 // `M insert ..` or `M remove ..`
 fn read_edit(alloc: Global, rest: &[u8]) -> Result<Option<Edit>, AllocError>
-    ensures { IfOk result (λ found. MatchOption found ((e : Edit) → ¬ SpellsEdit rest.now e) (λ e. SpellsEdit rest.now e)) }
+    ensures { IfOk result (λ found. MatchOption found ((e : Edit) → ¬ SpellsEdit rest.now e)
+        (λ e. SpellsEdit rest.now e)) }
 {
     let Some((first, rest)) = split_once(rest, b' ') else {
         return Ok(None);
@@ -97,7 +100,8 @@ fn read_edit(alloc: Global, rest: &[u8]) -> Result<Option<Edit>, AllocError>
 
 // `insert AT TEXT` or `remove AT COUNT`
 fn read_change(alloc: Global, rest: &[u8]) -> Result<Option<Change>, AllocError>
-    ensures { IfOk result (λ found. MatchOption found ((c : Change) → ¬ SpellsChange rest.now c) (λ c. SpellsChange rest.now c)) }
+    ensures { IfOk result (λ found. MatchOption found ((c : Change)
+        → ¬ SpellsChange rest.now c) (λ c. SpellsChange rest.now c)) }
 {
     let Some(words) = after(rest, b"insert ") else {
         return Ok(read_removal(rest));
@@ -117,7 +121,8 @@ fn read_change(alloc: Global, rest: &[u8]) -> Result<Option<Change>, AllocError>
 // `remove AT COUNT`
 fn read_removal(rest: &[u8]) -> Option<Change>
     requires { (words : List ℕ) → rest.now ≢ codes "insert " ++ words }
-    ensures { MatchOption result ((c : Change) → ¬ SpellsChange rest.now c) (λ c. SpellsChange rest.now c) }
+    ensures { MatchOption result ((c : Change) → ¬ SpellsChange rest.now c)
+        (λ c. SpellsChange rest.now c) }
 {
     let (first, second) = split_once(after(rest, b"remove ")?, b' ')?;
     let at = number(first)?;

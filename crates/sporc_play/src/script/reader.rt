@@ -1,6 +1,6 @@
 //! A whole script.
 
-ghost use Rattle.std.specs.Prelude.{◌≡◌, ◌+◌, ◌^◌, ◌<◌, ◌≤◌, ◌↔◌, ◌∷◌, ◌++◌, [], ℕ, List, All, IsTrue, length, true, IfOk, IfErr, OnOk, OnErr, MatchOption};
+ghost use Rattle.std.specs.Prelude.{◌≡◌, ◌^◌, ◌<◌, ◌≤◌, ◌↔◌, ◌∷◌, ◌++◌, [], ℕ, List, All, IsTrue, length, true, IfOk, OnOk, MatchOption};
 ghost use Rattle.std.specs.Option.{option_to_list};
 ghost use Rattle.sporc_play.specs.declared.script.command.Command.{Command};
 ghost use Rattle.sporc_play.specs.declared.script.reader.LineFault.TheVariants as faults;
@@ -70,7 +70,8 @@ pub fn read_play(alloc: Global, text: &[u8]) -> Result<PlayScript, LineFault>
     requires { length text.now ≤ 2 ^ 30 }
     ensures script { IfOk result (λ script. IsScript text.now script) }
     ensures count { IfOk result (λ script. length script ≤ length text.now) }
-    ensures sizes { IfOk result (λ script. All (λ l. text_size l.command ≤ length text.now) script) }
+    ensures sizes { IfOk result (λ script. All
+        (λ l. text_size l.command ≤ length text.now) script) }
     ensures fault { (k : ℕ) → result ≡ Err (LineFault.Line k) → IsFaultLine text.now k }
 {
     let mut lines = Vec::new(alloc);
@@ -120,7 +121,8 @@ fn read_numbered(
     line: &[u8],
 ) -> Result<Option<PlayLine>, LineFault>
     ensures ok { IfOk result (λ found. ReadsLine declared number line.now found) }
-    ensures fault { (k : ℕ) → result ≡ Err (LineFault.Line k) → IsLineOutside declared number line.now k }
+    ensures fault { (k : ℕ) → result ≡ Err (LineFault.Line k)
+        → IsLineOutside declared number line.now k }
 {
     if is_skipped(line) {
         return Ok(None);
@@ -170,10 +172,12 @@ fn declared_with(declared: Option<u16>, read: &Option<PlayLine>) -> Option<u16>
     match (declared, read) {
         (
             None,
-            Some(PlayLine {
-                command: Command::Member(m),
-                ..
-            }),
+            Some(
+                PlayLine {
+                    command: Command::Member(m),
+                    ..
+                },
+            ),
         ) => Some(*m),
         _ => declared,
     }

@@ -1,4 +1,4 @@
-use Rattle.std.proofs.Common.{◌≡◌, ◌∙◌, sym, Result, Ok, Err, OnOk}
+use Rattle.std.proofs.Common.{◌∙◌, sym, Result, Ok, Err, OnOk}
 use Rattle.lms_leaf.proofs.StableLemmas.{keeps_stable-write, keeps_stable-same, keeps_stable-trans, stable-synced}
 use Rattle.lms_leaf.proofs.leaf_file.take_block.Goals as goal
 

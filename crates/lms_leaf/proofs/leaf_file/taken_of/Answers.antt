@@ -1,4 +1,4 @@
-use Rattle.std.proofs.Common.{◌≡◌, ◌∙◌, ◌≤◌, length, take, sym, arith}
+use Rattle.std.proofs.Common.{◌∙◌, take, sym, arith}
 use Rattle.std.proofs.lemmas.List.{length-take}
 use Rattle.lms_leaf.proofs.TakenBlocks.{taken_blocks-zero_more, taken_blocks-other_more, taken_blocks-≤}
 use Rattle.lms_leaf.proofs.leaf_file.taken_of.Goals as goal

@@ -1,4 +1,4 @@
-use Rattle.std.proofs.Common.{◌≡◌, ◌≢◌, ℕ, ◌+◌, ◌*◌, ◌/◌, ◌%◌, ◌≤◌, ◌<◌, List, length, slice_index, Option, Some, None, IfSome, ◌∙◌, sym, ap, arith, rules, refl, Result, Err}
+use Rattle.std.proofs.Common.{◌≡◌, ℕ, ◌*◌, ◌≤◌, List, slice_index, Option, Some, None, IfSome, ap, arith, Err}
 use Rattle.lms_leaf.specs.LeafFile.{taken_blocks}
 use Rattle.lms_leaf.proofs.TakenBlocks.{zero-from-taken_blocks}
 use Rattle.lms_leaf.proofs.leaves.Leaves.open.Goals as goal

@@ -1,7 +1,6 @@
-use Rattle.std.proofs.Common.{◌≡◌, ℕ, ◌⊎◌, inl, inr, List, ap, sym, ◌∙◌, Some, refl, true, false}
+use Rattle.std.proofs.Common.{inl, inr, refl, true, false}
 use Rattle.sporc_outside.specs.declared.disk_call.DiskRequest.TheVariants.{Sync}
 use Rattle.sporc_outside.specs.LeafDisk.{IsSame}
-use Rattle.sporc_outside.specs.MemoryDisk.{state_after}
 use Rattle.sporc_outside.proofs.DiskImages.{passes_logged, passes_unlogged, image_synced, synced_log}
 use Rattle.sporc_outside.proofs.memory_disk.MemoryDiskLeafDisk.sync.Goals as goal
 

@@ -1,7 +1,5 @@
-use Rattle.std.proofs.Common.{◌≡◌, ℕ, ◌⊎◌, inl, inr, List, ap, sym, ◌∙◌, Some, length, refl, true, false}
-use Rattle.sporc_outside.specs.declared.disk_call.DiskRequest.TheVariants.{Write}
+use Rattle.std.proofs.Common.{inl, inr, ◌∙◌, length, true, false}
 use Rattle.sporc_outside.specs.LeafDisk.{IsSameOutside}
-use Rattle.sporc_outside.specs.MemoryDisk.{state_after}
 use Rattle.sporc_outside.proofs.DiskImages.{passes_unlogged, passes_write, others_write, same_outside}
 use Rattle.sporc_outside.proofs.memory_disk.MemoryDiskLeafDisk.write_at.Goals as goal
 

@@ -1,4 +1,3 @@
-use Rattle.std.proofs.Common.{arith}
 use Rattle.sporc_play.proofs.Commands.{no_give_split, no_give_second, no_give_parts}
 use Rattle.sporc_play.proofs.script.line.read_give.Goals as goal
 

@@ -1,5 +1,5 @@
-use Rattle.std.proofs.Common.{◌≡◌, ℕ, string_bytes, Some, Vec, Global, true, false, refl, sym, ap, ◌∙◌, subst}
-use Rattle.std.specs.Str.{IsUtf8, encode_utf8_all}
+use Rattle.std.proofs.Common.{◌≡◌, ℕ, string_bytes, Some, Vec, Global, true, false, sym, ap, ◌∙◌}
+use Rattle.std.specs.Str.{encode_utf8_all}
 use Rattle.std.proofs.lemmas.Str.{IsUtf8-string_bytes, scalars-chars}
 use Rattle.sporc_play.proofs.Escapes.{body_of, quoted_of, no_text, same_text}
 use Rattle.sporc_play.proofs.script.quoted.quoted_text.Goals as goal

@@ -1,6 +1,6 @@
 use Rattle.std.proofs.Common.{ap, ◌∙◌}
 use Rattle.sporc_play.specs.Grammar.{lines_of}
-use Rattle.sporc_play.proofs.Lines.{lines_of-split, lines_of-last}
+use Rattle.sporc_play.proofs.TextLines.{lines_of-split, lines_of-last}
 use Rattle.sporc_play.proofs.script.reader.next_line.Goals as goal
 
 pub returns-in-Some-clause-lines : goal.returns-in-Some-clause-lines

@@ -16,13 +16,13 @@ loop-rest-preserved c =
     record {
       reads = λ more rest.
           let read : Reads before c.loop-rest.number (line ∷ after) (option_to_list c.in_ok-read.read ++ more) =
-              Reads-cons before c.loop-rest.declared c.loop-rest.number line after c.in_ok-read.read more c.loop-rest.invariant.declared c.in_ok-read.ensures.ok
-              (subst (λ (b : List PlayLine). Reads b (c.loop-rest.number + 1) after more) kept rest) in
+          Reads-cons before c.loop-rest.declared c.loop-rest.number line after c.in_ok-read.read more c.loop-rest.invariant.declared c.in_ok-read.ensures.ok
+          (subst (λ (b : List PlayLine). Reads b (c.loop-rest.number + 1) after more) kept rest) in
           rw (kept, append_assoc) (c.loop-rest.invariant.reads _ (rw c.next_line.ensures.lines read));
       outside = λ k h.
           let found : IsFirstOutside before c.loop-rest.number (line ∷ after) k =
-              IsFirstOutside-cons before c.loop-rest.declared c.loop-rest.number line after c.in_ok-read.read k c.loop-rest.invariant.declared c.in_ok-read.ensures.ok
-              (subst (λ (b : List PlayLine). IsFirstOutside b (c.loop-rest.number + 1) after k) kept h) in
+          IsFirstOutside-cons before c.loop-rest.declared c.loop-rest.number line after c.in_ok-read.read k c.loop-rest.invariant.declared c.in_ok-read.ensures.ok
+          (subst (λ (b : List PlayLine). IsFirstOutside b (c.loop-rest.number + 1) after k) kept h) in
           c.loop-rest.invariant.outside k (rw c.next_line.ensures.lines found);
       declared = rw kept (c.declared_with-declared.ensures ∙ declared_with-kept before c.loop-rest.declared c.in_ok-read.read c.loop-rest.invariant.declared);
       number = omega (arith, c.next_line.ensures.shorter, c.loop-rest.invariant.number);

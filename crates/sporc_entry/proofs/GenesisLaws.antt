@@ -1,0 +1,267 @@
+-- A genesis that is read is spelled so, and one that is spelled so is read again.
+use Rattle.std.proofs.Common.{◌≡◌, ℕ, zero, suc, ◌+◌, ◌^◌, ◌<◌, ◌≤◌, List, [], ◌∷◌, ◌++◌, length, get_or, Option, Some, None, Result, Ok, Err, refl, sym, ap, subst, ◌∙◌, append_assoc, arith, lit<}
+use Rattle.std.specs.Prelude.{IfOk}
+use Rattle.std.specs.List.{flat_map, AllByRecursion}
+use Rattle.std.specs.List.Sorted.{IsStrictlyIncreasing}
+use Rattle.std.specs.Int.{w16, to_be_bytes}
+use Rattle.std.proofs.lemmas.List.{append-nil}
+use Rattle.std.proofs.lemmas.List.Concat.{flat_map-cons}
+use Rattle.sporc_bytes.specs.Fields.{Reading, ◌>>=◌, end_at}
+use Rattle.sporc_bytes.proofs.Fields.{IsBytes, bind_ok, ok_is, Takes, Takes-then, Takes-nothing, wide16, bytes_takes, bytes_again, end_takes}
+use Rattle.sporc_member.specs.declared.founder.Founder.{Founder}
+use Rattle.sporc_member.specs.Role.{role_code_of}
+use Rattle.sporc_member.specs.Roster.{numbers_of}
+use Rattle.sporc_entry.specs.declared.fault.GenesisFault.{GenesisFault}
+use Rattle.sporc_entry.specs.declared.genesis.Genesis.{Genesis}
+use Rattle.sporc_entry.specs.Fields.{values_at}
+use Rattle.sporc_entry.specs.Outcomes.{or_malformed, GenesisReads}
+use Rattle.sporc_entry.specs.Genesis.{founder_at, next_founder, founders_at, genesis_at, genesis_in, founders_fault, accepted, tested, genesis_of, founder_bytes, genesis_bytes, IsFounder, IsGenesis}
+use Rattle.sporc_entry.proofs.FieldLaws.{Leaves, is_one, within_takes, byte_takes, u16_within_again, byte_again, role_takes, role_again}
+
+-- ---- numbers in ascending order
+
+-- each number is above the one before it, and the first is at least this
+abbrev Ascends : ℕ → List Founder → Type 0
+Ascends least [] = Unit {0}
+Ascends least (m ∷ ms) = (least ≤ m.member) × Ascends (m.member + 1) ms
+
+-- a list whose second number is above its first, and that increases from there
+increasing_cons : (x y : ℕ) (ys : List ℕ) → x < y → IsStrictlyIncreasing (y ∷ ys) → IsStrictlyIncreasing (x ∷ y ∷ ys)
+increasing_cons x y ys lt is zero h = lt
+increasing_cons x y ys lt is (suc k) h =
+    let one : suc k + 1 ≡ suc (k + 1) = omega arith in
+    let P : ℕ → Type 0 = λ j. get_or (y ∷ ys) k 0 < get_or (x ∷ y ∷ ys) j 0 in
+    subst P (sym one) (is k (omega (arith, h)))
+
+increasing_tail : (x y : ℕ) (ys : List ℕ) → IsStrictlyIncreasing (x ∷ y ∷ ys) → (x < y) × IsStrictlyIncreasing (y ∷ ys)
+increasing_tail x y ys is = (is 0 (omega arith), later)
+  where
+    later : IsStrictlyIncreasing (y ∷ ys)
+    later k h =
+        let one : suc k + 1 ≡ suc (k + 1) = omega arith in
+        let P : ℕ → Type 0 = λ j. get_or (y ∷ ys) k 0 < get_or (x ∷ y ∷ ys) j 0 in
+        subst P one (is (suc k) (omega (arith, h)))
+
+ascends_increasing : (least : ℕ) (ms : List Founder) → Ascends least ms → IsStrictlyIncreasing (numbers_of ms)
+ascends_increasing least [] is = λ k h. absurd (omega (arith, h))
+ascends_increasing least (m ∷ []) is = λ k h. absurd (omega (arith, h))
+ascends_increasing least (m ∷ n ∷ ms) is = increasing_cons m.member n.member (numbers_of ms) (omega (arith, is.1.0)) (ascends_increasing (m.member + 1) (n ∷ ms) is.1)
+
+increasing_ascends : (least : ℕ) (m : Founder) (ms : List Founder) → least ≤ m.member → IsStrictlyIncreasing (numbers_of (m ∷ ms)) → Ascends least (m ∷ ms)
+increasing_ascends least m [] le is = (le, tt)
+increasing_ascends least m (n ∷ ms) le is =
+    let t = increasing_tail m.member n.member (numbers_of ms) is in
+    (le, increasing_ascends (m.member + 1) n ms (omega (arith, t.0)) t.1)
+
+-- ---- founders
+
+-- a founder that is read, from a least number on
+pub record IsTaken (least : ℕ) (r : Reading) (x : Founder × Reading) : Type 0 where
+  pub text : Takes r (founder_bytes x.0) x.1
+  pub above : least ≤ x.0.member
+  pub small : x.0.member < 2 ^ 16
+  pub key : length x.0.key ≡ 56
+
+founder_takes : (least : ℕ) (r : Reading) (x : Founder × Reading) → IsBytes r.rest → founder_at least r ≡ Ok x → IsTaken least r x
+unfolding founder_at
+founder_takes least r x h e =
+    let a = bind_ok _ _ x e in
+    let b = bind_ok _ _ x a.2 in
+    let c = bind_ok _ _ x b.2 in
+    let ta = within_takes least 65535 w16 (2 ^ 16) wide16 r a.0 h a.1 in
+    let tb = role_takes a.0.1 b.0 ta.0.bytes b.1 in
+    let tc = bytes_takes 56 b.0.1 c.0 tb.bytes c.1 in
+    let made : Founder × Reading = (record { member = a.0.0; role = b.0.0; key = c.0.0 }, c.0.1) in
+    let last = Takes-then a.0.1 (role_code_of b.0.0 ∷ []) b.0.1 c.0.0 c.0.1 tb tc.0 in
+    let whole = Takes-then r (to_be_bytes w16 a.0.0) a.0.1 ((role_code_of b.0.0 ∷ []) ++ c.0.0) c.0.1 ta.0 last in
+    let P : Founder × Reading → Type 0 = λ y. IsTaken least r y in
+    subst P (ok_is made x c.2) (record { text = whole; above = ta.1; small = omega (arith, ta.2); key = tc.1 })
+
+-- founders that are read, from a least number on
+pub record AreTaken (n least : ℕ) (r : Reading) (x : List Founder × (ℕ × Reading)) : Type 0 where
+  pub text : Takes r (flat_map founder_bytes x.0) x.1.1
+  pub count : length x.0 ≡ n
+  pub each : AllByRecursion IsFounder x.0
+  pub ascending : Ascends least x.0
+
+values_take : (n least : ℕ) (r : Reading) (x : List Founder × (ℕ × Reading)) → 0 < least → IsBytes r.rest → values_at next_founder n (least, r) ≡ Ok x → AreTaken n least r x
+unfolding values_at next_founder
+values_take zero least r x pos h e =
+    let P : List Founder × (ℕ × Reading) → Type 0 = λ y. AreTaken 0 least r y in
+    subst P (ok_is ([], (least, r)) x e) (record { text = Takes-nothing r h; count = refl; each = tt; ascending = tt })
+values_take (suc n) least r x pos h e =
+    let a = bind_ok (next_founder (least, r)) (λ first. values_at next_founder n first.1 >>= λ others. Ok (first.0 ∷ others.0, others.1)) x e in
+    let f = bind_ok (founder_at least r) (λ m. Ok (m.0, (m.0.member + 1, m.1))) a.0 a.1 in
+    let first : Founder × (ℕ × Reading) = (f.0.0, (f.0.0.member + 1, f.0.1)) in
+    let Q : Founder × (ℕ × Reading) → Type 0 = λ y. (values_at next_founder n y.1 >>= λ others. Ok (y.0 ∷ others.0, others.1)) ≡ Ok x in
+    let e' = subst Q {x = a.0} {y = first} (sym (ok_is first a.0 f.2)) a.2 in
+    let b = bind_ok (values_at next_founder n (f.0.0.member + 1, f.0.1)) (λ others. Ok (f.0.0 ∷ others.0, others.1)) x e' in
+    let t = founder_takes least r f.0 h f.1 in
+    let o = values_take n (f.0.0.member + 1) f.0.1 b.0 (omega arith) t.text.bytes b.1 in
+    let both : Takes r (founder_bytes f.0.0 ++ flat_map founder_bytes b.0.0) b.0.1.1 = Takes-then r (founder_bytes f.0.0) f.0.1 (flat_map founder_bytes b.0.0) b.0.1.1 t.text o.text in
+    let made : List Founder × (ℕ × Reading) = (f.0.0 ∷ b.0.0, b.0.1) in
+    let is : IsFounder f.0.0 = record { member = record { positive = omega (arith, pos, t.above); small = t.small }; key = t.key } in
+    let P : List Founder × (ℕ × Reading) → Type 0 = λ y. AreTaken (suc n) least r y in
+    subst P {x = made} {y = x} (ok_is made x b.2) (record { text = rw flat_map-cons both; count = ap suc o.count; each = (is, o.each); ascending = (t.above, o.ascending) })
+
+founder_again : (least : ℕ) (m : Founder) (at : ℕ) (rest : List ℕ) → IsFounder m → least ≤ m.member → founder_at least (record { rest = founder_bytes m ++ rest; at = at }) ≡ Ok (m, record { rest = rest; at = at + 2 + 1 + 56 })
+unfolding founder_at
+founder_again least m at rest is le =
+    let regrouped : founder_bytes m ++ rest ≡ to_be_bytes w16 m.member ++ (role_code_of m.role ∷ (m.key ++ rest)) = append_assoc (to_be_bytes w16 m.member) (role_code_of m.role ∷ m.key) rest in
+    ap (λ (bs : List ℕ). founder_at least (record { rest = bs; at = at })) regrouped ∙ rw (
+      u16_within_again least 65535 m.member at (role_code_of m.role ∷ (m.key ++ rest)) le (omega (arith, is.member.small)) is.member.small,
+      role_again m.role (at + 2) (m.key ++ rest),
+      bytes_again 56 (at + 2 + 1) m.key rest is.key,
+    ) refl
+
+-- the place after what was read is some place, and the least number after it some number
+abbrev ReadTo : List Founder → ℕ → Reading → List ℕ → Type 0
+ReadTo ms least r rest = (next at : ℕ) × (values_at next_founder (length ms) (least, r) ≡ Ok (ms, (next, record { rest = rest; at = at })))
+
+values_again : (ms : List Founder) (least at : ℕ) (rest : List ℕ) → AllByRecursion IsFounder ms → Ascends least ms → ReadTo ms least (record { rest = flat_map founder_bytes ms ++ rest; at = at }) rest
+unfolding values_at next_founder
+values_again [] least at rest is asc = (least, at, refl)
+values_again (m ∷ ms) least at rest is asc =
+    let others = values_again ms (m.member + 1) (at + 2 + 1 + 56) rest is.1 asc.1 in
+    let regrouped : flat_map founder_bytes (m ∷ ms) ++ rest ≡ founder_bytes m ++ (flat_map founder_bytes ms ++ rest) =
+    ap (λ (bs : List ℕ). bs ++ rest) (flat_map-cons founder_bytes m ms) ∙ append_assoc (founder_bytes m) (flat_map founder_bytes ms) rest in
+    (others.0, others.1, ap (λ (bs : List ℕ). values_at next_founder (suc (length ms)) (least, record { rest = bs; at = at })) regrouped ∙ rw (founder_again least m at (flat_map founder_bytes ms ++ rest) is.0 asc.0, others.2) refl)
+
+-- founders that are read from the first on
+pub record AreFounders (n : ℕ) (r : Reading) (x : List Founder × Reading) : Type 0 where
+  pub text : Takes r (flat_map founder_bytes x.0) x.1
+  pub count : length x.0 ≡ n
+  pub each : AllByRecursion IsFounder x.0
+  pub ascending : IsStrictlyIncreasing (numbers_of x.0)
+
+founders_take : (n : ℕ) (r : Reading) (x : List Founder × Reading) → IsBytes r.rest → founders_at n r ≡ Ok x → AreFounders n r x
+unfolding founders_at
+founders_take n r x h e =
+    let l = bind_ok (values_at next_founder n (1, r)) (λ founders. Ok (founders.0, founders.1.1)) x e in
+    let t = values_take n 1 r l.0 (omega arith) h l.1 in
+    let P : List Founder × Reading → Type 0 = λ y. AreFounders n r y in
+    subst P (ok_is (l.0.0, l.0.1.1) x l.2) (record { text = t.text; count = t.count; each = t.each; ascending = ascends_increasing 1 l.0.0 t.ascending })
+
+-- founders in range ascend from 1 on
+ascends_from_one : (ms : List Founder) → AllByRecursion IsFounder ms → IsStrictlyIncreasing (numbers_of ms) → Ascends 1 ms
+ascends_from_one [] is asc = tt
+ascends_from_one (m ∷ ms) is asc = increasing_ascends 1 m ms (omega (arith, is.0.member.positive)) asc
+
+-- the founders of all bytes that are left
+founders_again : (ms : List Founder) (at : ℕ) → AllByRecursion IsFounder ms → IsStrictlyIncreasing (numbers_of ms)
+    → (after : ℕ) × (founders_at (length ms) (record { rest = flat_map founder_bytes ms; at = at }) ≡ Ok (ms, record { rest = []; at = after }))
+unfolding founders_at
+founders_again ms at is asc =
+    let t = values_again ms 1 at [] is (ascends_from_one ms is asc) in
+    let regrouped : flat_map founder_bytes ms ++ [] ≡ flat_map founder_bytes ms = append-nil (flat_map founder_bytes ms) in
+    let read : values_at next_founder (length ms) (1, record { rest = flat_map founder_bytes ms; at = at }) ≡ Ok (ms, (t.0, record { rest = []; at = t.1 })) =
+    ap (λ (bs : List ℕ). values_at next_founder (length ms) (1, record { rest = bs; at = at })) (sym regrouped) ∙ t.2 in
+    (t.1, rw read refl)
+
+-- ---- geneses
+
+-- the bytes of a genesis, and those after them
+abbrev genesis_text : Genesis → List ℕ → List ℕ
+genesis_text g rest = 1 ∷ g.document ++ (g.commitment ++ (to_be_bytes w16 (length g.founders) ++ (flat_map founder_bytes g.founders ++ rest)))
+
+genesis_parts : (g : Genesis) (r0 r1 r2 r3 r4 r5 : List ℕ) → r0 ≡ 1 ∷ r1 → r1 ≡ g.document ++ r2 → r2 ≡ g.commitment ++ r3 → r3 ≡ to_be_bytes w16 (length g.founders) ++ r4
+    → r4 ≡ flat_map founder_bytes g.founders ++ r5 → r0 ≡ genesis_text g r5
+genesis_parts g r0 r1 r2 r3 r4 r5 e0 e1 e2 e3 e4 =
+    e0 ∙ ap (λ (t : List ℕ). 1 ∷ t) (e1 ∙ ap (λ (t : List ℕ). g.document ++ t) (e2 ∙ ap (λ (t : List ℕ). g.commitment ++ t) (e3 ∙ ap (λ (t : List ℕ). to_be_bytes w16 (length g.founders) ++ t) e4)))
+
+-- a genesis in range, whoever its founders are
+pub record IsInRange (g : Genesis) : Type 0 where
+  pub document : length g.document ≡ 16
+  pub commitment : length g.commitment ≡ 32
+  pub count : (1 ≤ length g.founders) × (length g.founders ≤ 64)
+  pub founders : AllByRecursion IsFounder g.founders
+  pub ascending : IsStrictlyIncreasing (numbers_of g.founders)
+
+fields_take : (r : Reading) (x : Genesis × Reading) → IsBytes r.rest → genesis_at r ≡ Ok x → Leaves r (genesis_text x.0) x.1 × IsInRange x.0
+unfolding genesis_at
+fields_take r x h e =
+    let v = bind_ok _ _ x e in
+    let d = bind_ok _ _ x v.2 in
+    let c = bind_ok _ _ x d.2 in
+    let n = bind_ok _ _ x c.2 in
+    let f = bind_ok _ _ x n.2 in
+    let tv = byte_takes 1 1 r v.0 (lit< tt) h v.1 in
+    let td = bytes_takes 16 v.0.1 d.0 tv.0.bytes d.1 in
+    let tc = bytes_takes 32 d.0.1 c.0 td.0.bytes c.1 in
+    let tn = within_takes 1 64 w16 (2 ^ 16) wide16 c.0.1 n.0 tc.0.bytes n.1 in
+    let tf = founders_take n.0.0 n.0.1 f.0 tn.0.bytes f.1 in
+    let genesis : Genesis = record { document = d.0.0; commitment = c.0.0; founders = f.0.0 } in
+    let made : Genesis × Reading = (genesis, f.0.1) in
+    let one : v.0.0 ≡ 1 = is_one v.0.0 tv.1 tv.2 in
+    let first : r.rest ≡ 1 ∷ v.0.1.rest = tv.0.parts ∙ ap (λ (m : ℕ). m ∷ v.0.1.rest) one in
+    let counted : c.0.1.rest ≡ to_be_bytes w16 (length f.0.0) ++ n.0.1.rest = tn.0.parts ∙ ap (λ (k : ℕ). to_be_bytes w16 k ++ n.0.1.rest) (sym tf.count) in
+    let P : Genesis × Reading → Type 0 = λ y. Leaves r (genesis_text y.0) y.1 × IsInRange y.0 in
+    subst P {x = made} {y = x} (ok_is made x f.2) (
+      record { parts = genesis_parts genesis r.rest v.0.1.rest d.0.1.rest c.0.1.rest n.0.1.rest f.0.1.rest first td.0.parts tc.0.parts counted tf.text.parts; bytes = tf.text.bytes },
+      record { document = td.1; commitment = tc.1; count = (omega (arith, tf.count, tn.1), omega (arith, tf.count, tn.2)); founders = tf.each; ascending = tf.ascending },
+    )
+
+genesis_in_takes : (bytes : List ℕ) (g : Genesis) → IsBytes bytes → genesis_in bytes ≡ Ok g → IsInRange g × (bytes ≡ genesis_bytes g)
+unfolding genesis_in genesis_bytes
+genesis_in_takes bytes g h e =
+    let r : Reading = record { rest = bytes; at = 0 } in
+    let a = bind_ok (genesis_at r) (λ genesis. end_at genesis.1 >>= λ end. Ok genesis.0) g e in
+    let n = bind_ok (end_at a.0.1) (λ end. Ok a.0.0) g a.2 in
+    let t = fields_take r a.0 h a.1 in
+    let nothing : a.0.1.rest ≡ [] = end_takes a.0.1 n.1 in
+    let tail : flat_map founder_bytes a.0.0.founders ++ a.0.1.rest ≡ flat_map founder_bytes a.0.0.founders = ap (λ (rest : List ℕ). flat_map founder_bytes a.0.0.founders ++ rest) nothing ∙ append-nil (flat_map founder_bytes a.0.0.founders) in
+    let whole : bytes ≡ genesis_bytes a.0.0 = t.0.parts ∙ ap (λ (bs : List ℕ). 1 ∷ a.0.0.document ++ (a.0.0.commitment ++ (to_be_bytes w16 (length a.0.0.founders) ++ bs))) tail in
+    let P : Genesis → Type 0 = λ y. IsInRange y × (bytes ≡ genesis_bytes y) in
+    subst P (ok_is a.0.0 g n.2) (t.1, whole)
+
+genesis_in_again : (g : Genesis) → IsGenesis g → genesis_in (genesis_bytes g) ≡ Ok g
+unfolding genesis_in genesis_at genesis_bytes
+genesis_in_again g is =
+    let tail : List ℕ = to_be_bytes w16 (length g.founders) ++ flat_map founder_bytes g.founders in
+    let founders = founders_again g.founders (1 + 16 + 32 + 2) is.founders is.ascending in
+    rw (
+      byte_again 1 1 1 0 (g.document ++ (g.commitment ++ tail)) (omega arith) (omega arith) (omega arith),
+      bytes_again 16 1 g.document (g.commitment ++ tail) is.document,
+      bytes_again 32 17 g.commitment tail is.commitment,
+      u16_within_again 1 64 (length g.founders) 49 (flat_map founder_bytes g.founders) is.count.0 is.count.1 (omega (arith, is.count.1)),
+      founders.1,
+    ) refl
+
+-- ---- founders that a document can begin with
+
+abbrev made : Genesis → Result Genesis GenesisFault
+made g = Ok g
+
+made_is : (g h : Genesis) → made g ≡ made h → g ≡ h
+made_is g h e = cc
+
+abbrev ok_read : Genesis → Result Genesis ℕ
+ok_read g = Ok g
+
+tested_ok : (read : Result Genesis ℕ) (g : Genesis) → tested (or_malformed read) ≡ Ok g → (read ≡ Ok g) × (founders_fault g.founders ≡ None)
+tested_ok (Err at) g e = absurd cc
+tested_ok (Ok h) g e = go (founders_fault h.founders) refl e
+  where
+    go : (fault : Option GenesisFault) → founders_fault h.founders ≡ fault → accepted h fault ≡ Ok g → (ok_read h ≡ Ok g) × (founders_fault g.founders ≡ None)
+    go None none e = let P : Genesis → Type 0 = λ y. (ok_read h ≡ Ok y) × (founders_fault y.founders ≡ None) in subst P (made_is h g e) (refl, none)
+    go (Some fault) some e = absurd cc
+
+pub genesis_takes : (bytes : List ℕ) (g : Genesis) → IsBytes bytes → genesis_of bytes ≡ Ok g → IsGenesis g × (bytes ≡ genesis_bytes g)
+unfolding genesis_of
+genesis_takes bytes g h e =
+    let t = tested_ok (genesis_in bytes) g e in
+    let r = genesis_in_takes bytes g h t.0 in
+    (record { document = r.0.document; commitment = r.0.commitment; count = r.0.count; founders = r.0.founders; ascending = r.0.ascending; accepted = t.1 }, r.1)
+
+pub genesis_again : (g : Genesis) → IsGenesis g → genesis_of (genesis_bytes g) ≡ Ok g
+unfolding genesis_of
+genesis_again g is = rw (genesis_in_again g is, is.accepted) refl
+
+-- what a call that read so found
+pub genesis_found : (bytes : List ℕ) (r : Result Genesis GenesisFault) → IsBytes bytes → GenesisReads (λ g. g) r (genesis_of bytes) → IfOk r (λ g. IsGenesis g × (bytes ≡ genesis_bytes g))
+genesis_found bytes (Ok g) h read = genesis_takes bytes g h read
+genesis_found bytes (Err fault) h read = tt
+
+pub genesis_only : (bytes : List ℕ) (r : Result Genesis GenesisFault) → GenesisReads (λ g. g) r (genesis_of bytes)
+    → (g : Genesis) → IsGenesis g → bytes ≡ genesis_bytes g → GenesisReads (λ g. g) r (Ok g)
+genesis_only bytes r read g is spelled = let P : Result Genesis GenesisFault → Type 0 = λ given. GenesisReads (λ g. g) r given in subst P (ap genesis_of spelled ∙ genesis_again g is) read

@@ -1,0 +1,238 @@
+-- The place of a fault is within the bytes that are read.
+use Rattle.std.proofs.Common.{◌≡◌, ℕ, zero, suc, ◌+◌, ◌≤◌, Bool, true, false, cond, ltb, leb, eqb, List, [], ◌∷◌, length, take, drop, Option, Some, None, Result, Ok, Err, refl, subst, arith}
+use Rattle.std.specs.Prelude.{◌&&◌, MatchResult, option_map}
+use Rattle.std.specs.Int.{Width, w8, w16, w32, byte_len}
+use Rattle.std.proofs.lemmas.Bool.{ltb-false}
+use Rattle.std.proofs.lemmas.List.{length-take, length-drop}
+use Rattle.sporc_bytes.specs.Fields.{Reading, ◌>>=◌, bytes_at, number_at, only_if, counted_at, end_at}
+use Rattle.sporc_checks.specs.FirstFault.{unless, first_of}
+use Rattle.sporc_member.specs.declared.founder.Founder.{Founder}
+use Rattle.sporc_member.specs.Role.{role_with_code}
+use Rattle.sporc_member.specs.Roster.{founded, has_admin}
+use Rattle.sporc_entry.specs.declared.fault.GenesisFault.TheVariants.{Malformed, NoAdmin, BadKey}
+use Rattle.sporc_entry.specs.declared.genesis.Genesis.{Genesis}
+use Rattle.sporc_entry.specs.Fields.{number_within, present, role_at, values_at}
+use Rattle.sporc_entry.specs.Outcomes.{or_malformed}
+use Rattle.sporc_entry.specs.ChangeBody.{change_of_kind, change_at, wrap_at, change_body_at, change_body_from}
+use Rattle.sporc_entry.specs.Entry.{header_at, body_limit, body_read, entry_of}
+use Rattle.sporc_entry.specs.Genesis.{founder_at, next_founder, founders_at, genesis_at, genesis_in, bad_key, accepted, tested, genesis_of}
+
+-- ---- steps
+
+-- a fault is at most at this place, and what is read without one is so
+abbrev Bounded : {A : Type 0} → ℕ → (A → Type 0) → Result A ℕ → Type 0
+Bounded end after read = MatchResult read after (λ at. at ≤ end)
+
+then : {A B : Type 0} (end : ℕ) (after : A → Type 0) (last : B → Type 0) (read : Result A ℕ) (f : A → Result B ℕ) → Bounded end after read → ((x : A) → after x → Bounded end last (f x)) → Bounded end last (read >>= f)
+then end after last (Ok x) f h k = k x h
+then end after last (Err at) f h k = h
+
+allowed : {A : Type 0} (b : Bool) (at end : ℕ) (x : A) → at ≤ end → Bounded end (λ y. y ≡ x) (only_if b at x)
+allowed true at end x le = refl
+allowed false at end x le = le
+
+-- what is left begins so many bytes further, and ends at this place
+pub record Left (end at : ℕ) (r : Reading) : Type 0 where
+  pub place : r.at ≡ at
+  pub ends : r.at + length r.rest ≡ end
+
+abbrev Begins : {A : Type 0} → ℕ → ℕ → A × Reading → Type 0
+Begins end at x = Left end at x.1
+
+-- so many bytes were taken
+abbrev Takes : ℕ → ℕ → ℕ → List ℕ × Reading → Type 0
+Takes n end at x = (length x.0 ≡ n) × Begins end (at + n) x
+
+-- a counted string was taken
+abbrev TakesCounted : ℕ → ℕ → List ℕ × Reading → Type 0
+TakesCounted end at x = Begins end (at + 4 + length x.0) x
+
+-- what is left ends at this place
+abbrev Ends : {A : Type 0} → ℕ → A × Reading → Type 0
+Ends end x = x.1.at + length x.1.rest ≡ end
+
+from_here : (end : ℕ) (r : Reading) → r.at + length r.rest ≡ end → Left end r.at r
+from_here end r e = record { place = refl; ends = e }
+
+bytes_begin : (n end at : ℕ) (r : Reading) → Left end at r → Bounded end (Takes n end at) (bytes_at n r)
+unfolding bytes_at
+bytes_begin n end at r left = go (ltb (length r.rest) n) refl
+  where
+    go : (b : Bool) → ltb (length r.rest) n ≡ b → Bounded end (Takes n end at) (cond b (Err r.at) (Ok (take n r.rest, record { rest = drop n r.rest; at = r.at + n })))
+    go true short = omega (arith, left.ends)
+    go false long =
+        let enough : n ≤ length r.rest = ltb-false _ _ long in
+        (omega (arith, length-take n r.rest, enough), record { place = omega (arith, left.place); ends = omega (arith, left.ends, length-drop n r.rest, enough) })
+
+number_begins : (w : Width) (end at : ℕ) (r : Reading) → Left end at r → Bounded end (Begins end (at + byte_len w)) (number_at w r)
+unfolding number_at
+number_begins w end at r left = then end _ _ (bytes_at (byte_len w) r) _ (bytes_begin (byte_len w) end at r left) (λ bytes h. h.1)
+
+within_begins : (low high : ℕ) (w : Width) (end at : ℕ) (r : Reading) → Left end at r → Bounded end (Begins end (at + byte_len w)) (number_within low high w r)
+unfolding number_within
+within_begins low high w end at r left =
+    let le : r.at ≤ end = omega (arith, left.ends) in
+    then end _ _ (number_at w r) _ (number_begins w end at r left) (λ n h. then end _ _ (only_if (leb low n.0 && leb n.0 high) r.at n.0) _ (allowed _ r.at end n.0 le) (λ k _. h))
+
+present_bounded : {A : Type 0} (at end : ℕ) (o : Option A) → at ≤ end → Bounded end (λ _. Unit {0}) (present at o)
+present_bounded at end None le = le
+present_bounded at end (Some x) le = tt
+
+role_begins : (end at : ℕ) (r : Reading) → Left end at r → Bounded end (Begins end (at + 1)) (role_at r)
+unfolding role_at
+role_begins end at r left =
+    let le : r.at ≤ end = omega (arith, left.ends) in
+    then end _ _ (number_at w8 r) _ (number_begins w8 end at r left) (λ code h. then end _ _ (present r.at (role_with_code code.0)) _ (present_bounded r.at end (role_with_code code.0) le) (λ role _. h))
+
+counted_begins : (limit end at : ℕ) (r : Reading) → Left end at r → Bounded end (TakesCounted end at) (counted_at limit r)
+unfolding counted_at
+counted_begins limit end at r left =
+    let le : r.at ≤ end = omega (arith, left.ends) in
+    then end _ _ (number_at w32 r) _ (number_begins w32 end at r left) (λ n h. then end _ _ (only_if (leb n.0 limit) r.at n.0) _ (allowed _ r.at end n.0 le) (λ len _.
+    then_bytes len n.1 h))
+  where
+    then_bytes : (len : ℕ) (r : Reading) → Left end (at + 4) r → Bounded end (TakesCounted end at) (bytes_at len r)
+    then_bytes len r h = weaker (bytes_at len r) (bytes_begin len end (at + 4) r h)
+      where
+        weaker : (read : Result (List ℕ × Reading) ℕ) → Bounded end (Takes len end (at + 4)) read → Bounded end (TakesCounted end at) read
+        weaker (Ok x) h = record { place = omega (arith, h.0, h.1.place); ends = h.1.ends }
+        weaker (Err at) h = h
+
+end_bounded : (end : ℕ) (r : Reading) → r.at + length r.rest ≡ end → Bounded end (λ _. Unit {0}) (end_at r)
+end_bounded end r e = go r.rest
+  where
+    go : (bs : List ℕ) → Bounded end (λ _. Unit {0}) (end_at (record { rest = bs; at = r.at }))
+    go [] = tt
+    go (b ∷ bs) = omega (arith, e)
+
+-- values one after another
+values_end : {A S : Type 0} (end : ℕ) (after : S → Type 0) (read : S → Result (A × S) ℕ) → ((s : S) → after s → Bounded end (λ x. after x.1) (read s)) → (n : ℕ) (s : S) → after s → Bounded end (λ x. after x.1) (values_at read n s)
+unfolding values_at
+values_end end after read each zero s h = h
+values_end end after read each (suc n) s h =
+    then end _ _ (read s) _ (each s h) (λ first k. then end _ _ (values_at read n first.1) _ (values_end end after read each n first.1 k) (λ others m. m))
+
+-- ---- changes
+
+change_ends : (end : ℕ) (r : Reading) → r.at + length r.rest ≡ end → Bounded end (Ends end) (change_at r)
+unfolding change_at
+change_ends end r e =
+    then end _ _ (number_within 1 3 w8 r) _ (within_begins 1 3 w8 end r.at r (from_here end r e)) (λ kind h. then end _ _ (number_within 1 65535 w16 kind.1) _ (within_begins 1 65535 w16 end _ kind.1 h)
+    (λ member k. of_kind (eqb kind.0 1) (eqb kind.0 2) member.0 member.1 k.ends))
+  where
+    add : (member : ℕ) (r : Reading) → r.at + length r.rest ≡ end → Bounded end (Ends end) (change_of_kind 1 member r)
+    add member r e = then end _ _ (role_at r) _ (role_begins end r.at r (from_here end r e)) (λ role h. then end _ _ (bytes_at 56 role.1) _ (bytes_begin 56 end _ role.1 h) (λ key k. k.1.ends))
+
+    set_role : (member : ℕ) (r : Reading) → r.at + length r.rest ≡ end → Bounded end (Ends end) (change_of_kind 3 member r)
+    set_role member r e = then end _ _ (role_at r) _ (role_begins end r.at r (from_here end r e)) (λ role h. h.ends)
+
+    of_kind : (a b : Bool) (member : ℕ) (r : Reading) → r.at + length r.rest ≡ end → Bounded end (Ends end) (cond a (change_of_kind 1 member r) (cond b (change_of_kind 2 member r) (change_of_kind 3 member r)))
+    of_kind true b member r e = add member r e
+    of_kind false true member r e = e
+    of_kind false false member r e = set_role member r e
+
+wrap_ends : (end : ℕ) (r : Reading) → r.at + length r.rest ≡ end → Bounded end (Ends end) (wrap_at r)
+unfolding wrap_at
+wrap_ends end r e = then end _ _ (number_at w16 r) _ (number_begins w16 end r.at r (from_here end r e)) (λ member h. then end _ _ (bytes_at 32 member.1) _ (bytes_begin 32 end _ member.1 h) (λ sealed k. k.1.ends))
+
+change_body_ends : (end : ℕ) (r : Reading) → r.at + length r.rest ≡ end → Bounded end (Ends end) (change_body_at r)
+unfolding change_body_at
+change_body_ends end r e =
+    then end _ _ (change_at r) _ (change_ends end r e) (λ change h. then end _ _ (bytes_at 32 change.1) _ (bytes_begin 32 end _ change.1 (from_here end change.1 h))
+    (λ commitment k. then end _ _ (bytes_at 32 commitment.1) _ (bytes_begin 32 end _ commitment.1 k.1) (λ previous l. then end _ _ (number_within 0 64 w16 previous.1) _ (within_begins 0 64 w16 end _ previous.1 l.1)
+    (λ count m. then end _ _ (values_at wrap_at count.0 count.1) _ (values_end end (λ r. r.at + length r.rest ≡ end) wrap_at (wrap_ends end) count.0 count.1 m.ends) (λ wraps n. n)))))
+
+change_bounded : (at : ℕ) (bytes : List ℕ) → Bounded (at + length bytes) (λ _. Unit {0}) (change_body_from at bytes)
+unfolding change_body_from
+change_bounded at bytes =
+    let end = at + length bytes in
+    let r : Reading = record { rest = bytes; at = at } in
+    then end _ _ (change_body_at r) _ (change_body_ends end r refl) (λ body h. then end _ _ (end_at body.1) _ (end_bounded end body.1 h) (λ _ _. tt))
+
+-- ---- entries
+
+header_begins : (end : ℕ) (r : Reading) → Left end 0 r → Bounded end (Begins end 68) (header_at r)
+unfolding header_at
+header_begins end r left =
+    then end _ _ (number_within 1 1 w8 r) _ (within_begins 1 1 w8 end 0 r left) (λ version a. then end _ _ (bytes_at 16 version.1) _ (bytes_begin 16 end 1 version.1 a)
+    (λ document b. then end _ _ (number_at w16 document.1) _ (number_begins w16 end 17 document.1 b.1) (λ author c. then end _ _ (number_at w32 author.1) _ (number_begins w32 end 19 author.1 c)
+    (λ number d. then end _ _ (number_at w32 number.1) _ (number_begins w32 end 23 number.1 d) (λ base f. then end _ _ (bytes_at 32 base.1) _ (bytes_begin 32 end 27 base.1 f)
+    (λ base_hash g. then end _ _ (number_at w32 base_hash.1) _ (number_begins w32 end 59 base_hash.1 g.1) (λ epoch h. then end _ _ (number_at w32 epoch.1) _ (number_begins w32 end 63 epoch.1 h)
+    (λ leaf i. then end _ _ (number_within 1 2 w8 leaf.1) _ (within_begins 1 2 w8 end 67 leaf.1 i) (λ kind j. j)))))))))
+
+abbrev no_fault : Unit {0} → Result (Unit {0}) ℕ
+no_fault u = Ok u
+
+body_bounded : (kind end : ℕ) (body : List ℕ) → 72 + length body ≤ end → Bounded end (λ _. Unit {0}) (body_read kind 72 body)
+body_bounded kind end body le = go (eqb kind 1)
+  where
+    later : (read : Result (Unit {0}) ℕ) → Bounded (72 + length body) (λ _. Unit {0}) read → Bounded end (λ _. Unit {0}) read
+    later (Ok u) h = tt
+    later (Err at) h = omega (arith, h, le)
+
+    go : (b : Bool) → Bounded end (λ _. Unit {0}) (cond b (no_fault tt) (change_body_from 72 body >>= λ change. no_fault tt))
+    go true = tt
+    go false = later _ (then (72 + length body) _ _ (change_body_from 72 body) _ (change_bounded 72 body) (λ _ _. tt))
+
+entry_bounded : (bytes : List ℕ) → Bounded (length bytes) (λ _. Unit {0}) (entry_of bytes)
+unfolding entry_of
+entry_bounded bytes =
+    let end = length bytes in
+    let r : Reading = record { rest = bytes; at = 0 } in
+    let left : Left end 0 r = record { place = refl; ends = omega arith } in
+    then end _ _ (header_at r) _ (header_begins end r left) (λ header h. then end _ _ (counted_at (body_limit header.0.kind) header.1) _ (counted_begins (body_limit header.0.kind) end 68 header.1 h)
+    (λ body k. then end _ _ (body_read header.0.kind 72 body.0) _ (body_bounded header.0.kind end body.0 (omega (arith, k.place, k.ends))) (λ read _. then end _ _ (counted_at 9324 body.1) _ (counted_begins 9324 end _ body.1 k)
+    (λ signature l. then end _ _ (end_at signature.1) _ (end_bounded end signature.1 l.ends) (λ _ _. tt)))))
+
+-- ---- geneses
+
+founder_ends : (end least : ℕ) (r : Reading) → r.at + length r.rest ≡ end → Bounded end (Ends end) (founder_at least r)
+unfolding founder_at
+founder_ends end least r e =
+    then end _ _ (number_within least 65535 w16 r) _ (within_begins least 65535 w16 end r.at r (from_here end r e)) (λ member h. then end _ _ (role_at member.1) _ (role_begins end _ member.1 h)
+    (λ role k. then end _ _ (bytes_at 56 role.1) _ (bytes_begin 56 end _ role.1 k) (λ key l. l.1.ends)))
+
+founders_end : (end n : ℕ) (r : Reading) → r.at + length r.rest ≡ end → Bounded end (Ends end) (founders_at n r)
+unfolding founders_at next_founder
+founders_end end n r e = then end _ _ (values_at next_founder n (1, r)) _ (values_end end (λ s. s.1.at + length s.1.rest ≡ end) next_founder each n (1, r) e) (λ founders h. h)
+  where
+    each : (s : ℕ × Reading) → s.1.at + length s.1.rest ≡ end → Bounded end (λ x. x.1.1.at + length x.1.1.rest ≡ end) (next_founder s)
+    each s h = then end _ _ (founder_at s.0 s.1) _ (founder_ends end s.0 s.1 h) (λ m k. k)
+
+genesis_in_bounded : (bytes : List ℕ) → Bounded (length bytes) (λ _. Unit {0}) (genesis_in bytes)
+unfolding genesis_in genesis_at
+genesis_in_bounded bytes =
+    let end = length bytes in
+    let r : Reading = record { rest = bytes; at = 0 } in
+    let left : Left end 0 r = record { place = refl; ends = omega arith } in
+    then end (Ends end) _ (genesis_at r) _ (
+    then end _ _ (number_within 1 1 w8 r) _ (within_begins 1 1 w8 end 0 r left) (λ version a. then end _ _ (bytes_at 16 version.1) _ (bytes_begin 16 end 1 version.1 a)
+    (λ document b. then end _ _ (bytes_at 32 document.1) _ (bytes_begin 32 end 17 document.1 b.1) (λ commitment c. then end _ _ (number_within 1 64 w16 commitment.1) _ (within_begins 1 64 w16 end 49 commitment.1 c.1)
+    (λ count d. then end _ _ (founders_at count.0 count.1) _ (founders_end end count.0 count.1 d.ends) (λ founders h. h)))))
+    ) (λ genesis h. then end _ _ (end_at genesis.1) _ (end_bounded end genesis.1 h) (λ _ _. tt))
+
+-- ---- the laws
+
+at_fault : {A : Type 0} (end at : ℕ) (read : Result A ℕ) → Bounded end (λ _. Unit {0}) read → read ≡ Err at → at ≤ end
+at_fault {A} end at read h e = let P : Result A ℕ → Type 0 = λ given. Bounded end (λ _. Unit {0}) given in subst P e h
+
+pub change_place : (first : ℕ) (bytes : List ℕ) (at : ℕ) → change_body_from first bytes ≡ Err at → at ≤ first + length bytes
+change_place first bytes at e = at_fault (first + length bytes) at (change_body_from first bytes) (change_bounded first bytes) e
+
+pub entry_place : (bytes : List ℕ) (at : ℕ) → entry_of bytes ≡ Err at → at ≤ length bytes
+entry_place bytes at e = at_fault (length bytes) at (entry_of bytes) (entry_bounded bytes) e
+
+-- a genesis whose founders are refused is not malformed
+not_malformed : (b : Bool) (o : Option Founder) (g : Genesis) (at : ℕ) → accepted g (first_of (unless b NoAdmin ∷ option_map (λ m. BadKey m.member) o ∷ [])) ≡ Err (Malformed at) → ⊥
+not_malformed true None g at e = cc
+not_malformed true (Some m) g at e = cc
+not_malformed false o g at e = cc
+
+-- the place of a genesis that can't be read
+malformed_is : (read : Result Genesis ℕ) (at : ℕ) → tested (or_malformed read) ≡ Err (Malformed at) → read ≡ Err at
+malformed_is (Err b) at e = cc
+malformed_is (Ok g) at e = absurd (not_malformed (has_admin (founded g.founders)) (bad_key g.founders) g at e)
+
+pub genesis_place : (bytes : List ℕ) (at : ℕ) → genesis_of bytes ≡ Err (Malformed at) → at ≤ length bytes
+unfolding genesis_of
+genesis_place bytes at e = at_fault (length bytes) at (genesis_in bytes) (genesis_in_bounded bytes) (malformed_is (genesis_in bytes) at e)

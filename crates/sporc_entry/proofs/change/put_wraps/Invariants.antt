@@ -1,0 +1,7 @@
+use Rattle.std.proofs.Common.{◌≡◌, ◌++◌, take}
+use Rattle.std.specs.List.{flat_map}
+use Rattle.sporc_entry.specs.ChangeBody.{wrap_bytes}
+use Rattle.sporc_entry.proofs.change.put_wraps.Given as goal
+
+abbrev pub invariant-loop-wrap : goal.invariant-loop-wrap
+invariant-loop-wrap l = l.out ≡ l.initial.out ++ flat_map wrap_bytes (take l.wrap-index l.wraps)

@@ -1,0 +1,50 @@
+//! Laws of the formats: what is written reads back, what reads is written so, and where faults are.
+
+ghost use Rattle.std.specs.Prelude.{◌≡◌, ℕ, ◌+◌, ◌<◌, ◌≤◌, List, length, Some, Ok, Err, slice_index};
+ghost use Rattle.sporc_entry.specs.declared.change.ChangeBody.{ChangeBody};
+ghost use Rattle.sporc_entry.specs.declared.entry.Entry.{Entry};
+ghost use Rattle.sporc_entry.specs.declared.genesis.Genesis.{Genesis};
+ghost use Rattle.sporc_entry.specs.ChangeBody.{change_body_from, change_body_bytes, IsChangeBody};
+ghost use Rattle.sporc_entry.specs.Entry.{entry_of, entry_bytes, change_of, IsEntry};
+ghost use Rattle.sporc_entry.specs.Genesis.{genesis_of, genesis_bytes, IsGenesis};
+
+use crate::fault::GenesisFault;
+
+/// Each entry in range is read again from its bytes, and bytes that read are those of the entry read.
+pub fn entry_and_its_bytes()
+    ensures read_again { (e : Entry) → IsEntry e → entry_of (entry_bytes e) ≡ Ok e }
+    ensures written_so { (bytes : List ℕ) (e : Entry) → ((i : ℕ) → slice_index bytes i < 256)
+        → entry_of bytes ≡ Ok e → IsEntry e × (bytes ≡ entry_bytes e) }
+{}
+
+/// Each body of a change in range is read again from its bytes, wherever they stand, and bytes that read are those of
+/// the body read.
+pub fn change_and_its_bytes()
+    ensures read_again { (at : ℕ) (c : ChangeBody) → IsChangeBody c
+        → change_body_from at (change_body_bytes c) ≡ Ok c }
+    ensures written_so { (at : ℕ) (bytes : List ℕ) (c : ChangeBody)
+        → ((i : ℕ) → slice_index bytes i < 256)
+        → change_body_from at bytes ≡ Ok c → IsChangeBody c × (bytes ≡ change_body_bytes c) }
+{}
+
+/// Each genesis in range is read again from its bytes, and bytes that read are those of the genesis read.
+pub fn genesis_and_its_bytes()
+    ensures read_again { (g : Genesis) → IsGenesis g → genesis_of (genesis_bytes g) ≡ Ok g }
+    ensures written_so { (bytes : List ℕ) (g : Genesis) → ((i : ℕ) → slice_index bytes i < 256)
+        → genesis_of bytes ≡ Ok g → IsGenesis g × (bytes ≡ genesis_bytes g) }
+{}
+
+/// An entry in range that is a change has the body of one.
+pub fn change_of_an_entry()
+    ensures { (e : Entry) → IsEntry e → e.header.kind ≡ 2
+        → (c : ChangeBody) × IsChangeBody c × (change_of e ≡ Some c) }
+{}
+
+/// The place of a fault is within the bytes that are read, or just behind them.
+pub fn place_of_a_fault()
+    ensures entry { (bytes : List ℕ) (at : ℕ) → entry_of bytes ≡ Err at → at ≤ length bytes }
+    ensures change { (first : ℕ) (bytes : List ℕ) (at : ℕ) → change_body_from first bytes ≡ Err at
+        → at ≤ first + length bytes }
+    ensures genesis { (bytes : List ℕ) (at : ℕ) → genesis_of bytes ≡ Err (GenesisFault.Malformed at)
+        → at ≤ length bytes }
+{}

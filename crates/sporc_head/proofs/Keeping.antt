@@ -1,0 +1,126 @@
+-- What the fields of a history keep, as it begins and with one entry more.
+use Rattle.std.proofs.Common.{◌≡◌, ℕ, ◌+◌, ◌<◌, ◌≤◌, Bool, true, false, cond, eqb, List, [], ◌∷◌, ◌++◌, length, get_or, set, refl, ap, sym, ◌∙◌, subst, arith, Option, None, Some, Result, Ok, length-append, length-set}
+use Rattle.std.specs.Prelude.{is_some, ◌||◌}
+use Rattle.sporc_hash.specs.Chain.{chain, chain_after, genesis_value, next_value}
+use Rattle.sporc_member.specs.declared.change.Change.{Change}
+use Rattle.sporc_member.specs.declared.change.Change.TheVariants.{Add, Remove, SetRole}
+use Rattle.sporc_member.specs.Roster.{Roster, after_change, founded, removes}
+use Rattle.sporc_entry.specs.declared.entry.Entry.{Entry}
+use Rattle.sporc_entry.specs.declared.change.ChangeBody.{ChangeBody}
+use Rattle.sporc_entry.specs.declared.genesis.Genesis.{Genesis}
+use Rattle.sporc_entry.specs.Entry.{entry_of, change_of}
+use Rattle.sporc_entry.specs.Genesis.{genesis_bytes, IsGenesis}
+use Rattle.std.proofs.lemmas.Bool.{eqb-true}
+use Rattle.sporc_head.specs.History.{Started, change_in, is_by, hash_of, count_of}
+use Rattle.sporc_head.specs.Tallies.{Tallies, marked}
+use Rattle.sporc_head.specs.HeadsModel.{Keeps}
+use Rattle.sporc_head.proofs.Lists.{get_or-set_if}
+use Rattle.sporc_head.proofs.Grows.{chain_more, last_push, count_push, epoch_push, roster_edit, roster_change, removes_in, removed_push, is_by_read}
+
+-- ---- the tables
+
+pub tallies_push : (counts lasts : List ℕ) (removed removed' : List Bool) (A : List (List ℕ)) (b : List ℕ) (a : ℕ) (o : Option Started) → Tallies counts lasts removed A
+    → a < 65536 → ((n : ℕ) → is_by n b ≡ eqb a n) → change_in b ≡ o
+    → length removed' ≡ 65536 → ((n : ℕ) → n < 65536 → get_or removed' n false ≡ (get_or removed n false || removes_in n o))
+    → Tallies (set counts a (get_or counts a 0 + 1)) (set lasts a (length A + 1)) removed' (A ++ b ∷ [])
+tallies_push counts lasts removed removed' A b a o t lt by is len gone = record {
+  counts_len = length-set counts a (get_or counts a 0 + 1) ∙ t.counts_len;
+  lasts_len = length-set lasts a (length A + 1) ∙ t.lasts_len;
+  removed_len = len;
+  count = λ n l. get_or-set_if counts a n (get_or counts a 0 + 1) 0 (omega (arith, t.counts_len, l)) ∙ counted n l (eqb a n) refl ∙ sym (count_push (is_by n) A b (eqb a n) (by n));
+  last = λ n l. get_or-set_if lasts a n (length A + 1) 0 (omega (arith, t.lasts_len, l)) ∙ ap (cond (eqb a n) (length A + 1)) (t.last n l) ∙ sym (last_push (is_by n) A b (eqb a n) (by n));
+  gone = λ n l. gone n l ∙ ap (λ (x : Bool). x || removes_in n o) (t.gone n l) ∙ sym (removed_push n A b o is);
+}
+  where
+    counted : (n : ℕ) → n < 65536 → (q : Bool) → eqb a n ≡ q → cond q (get_or counts a 0 + 1) (get_or counts n 0) ≡ cond q (count_of n A + 1) (count_of n A)
+    counted n l true e = ap (λ (k : ℕ). k + 1) (t.count a lt ∙ ap (λ (k : ℕ). count_of k A) (eqb-true a n e))
+    counted n l false e = t.count n l
+
+-- an edit marks no member
+pub unmarked_gone : (removed : List Bool) (n : ℕ) → get_or removed n false ≡ (get_or removed n false || removes_in n None)
+unmarked_gone removed n = go (get_or removed n false)
+  where
+    go : (x : Bool) → x ≡ (x || false)
+    go true = refl
+    go false = refl
+
+-- a change marks the member that it removes
+pub marked_gone : (removed : List Bool) (s : Started) (n : ℕ) → n < length removed → get_or (marked s.body.change removed) n false ≡ (get_or removed n false || removes_in n (Some s))
+marked_gone removed s n lt = go s.body.change
+  where
+    left : (x : Bool) → x ≡ (x || false)
+    left true = refl
+    left false = refl
+
+    put : (t x : Bool) → cond t true x ≡ (x || t)
+    put true true = refl
+    put true false = refl
+    put false true = refl
+    put false false = refl
+
+    go : (c : Change) → get_or (marked c removed) n false ≡ (get_or removed n false || removes n c)
+    go (Add member role key) = left (get_or removed n false)
+    go (Remove member) = get_or-set_if removed member n true false lt ∙ put (eqb member n) (get_or removed n false)
+    go (SetRole member role) = left (get_or removed n false)
+
+pub length-marked : (c : Change) (removed : List Bool) → length (marked c removed) ≡ length removed
+length-marked (Add member role key) removed = refl
+length-marked (Remove member) removed = length-set removed member true
+length-marked (SetRole member role) removed = refl
+
+-- ---- the beginning
+
+pub keeps_open : (g : Genesis) (A hashes : List (List ℕ)) (roster : Roster) (counts lasts : List ℕ) (removed : List Bool) → IsGenesis g → A ≡ [] → hashes ≡ genesis_value (genesis_bytes g) ∷ []
+    → roster ≡ founded g.founders → Tallies counts lasts removed [] → Keeps g A hashes roster 0 0 counts lasts removed
+unfolding chain_after
+keeps_open g A hashes roster counts lasts removed is e h r t = subst (λ (x : List (List ℕ)). Keeps g x hashes roster 0 0 counts lasts removed) (sym e) (record {
+  genesis = is;
+  chained = h;
+  members = r;
+  change = refl;
+  changes = refl;
+  tallies = t;
+  room = omega arith;
+})
+
+-- ---- one entry more
+
+pub keeps_edit : (g : Genesis) (A hashes : List (List ℕ)) (roster : Roster) (barrier epoch : ℕ) (counts lasts : List ℕ) (removed : List Bool) (b h : List ℕ) (a : ℕ) (A' hashes' : List (List ℕ)) (counts' lasts' : List ℕ)
+    → Keeps g A hashes roster barrier epoch counts lasts removed → length A < 16384
+    → a < 65536 → ((n : ℕ) → is_by n b ≡ eqb a n) → change_in b ≡ None → h ≡ next_value (hash_of g A) b
+    → A' ≡ A ++ b ∷ [] → hashes' ≡ hashes ++ h ∷ [] → counts' ≡ set counts a (get_or counts a 0 + 1) → lasts' ≡ set lasts a (length A + 1)
+    → Keeps g A' hashes' roster barrier epoch counts' lasts' removed
+keeps_edit g A hashes roster barrier epoch counts lasts removed b h a A' hashes' counts' lasts' k room lt by is hash eA eH eC eL =
+    subst (λ (x : List (List ℕ)). Keeps g x hashes' roster barrier epoch counts' lasts' removed) (sym eA)
+    (subst (λ (x : List (List ℕ)). Keeps g (A ++ b ∷ []) x roster barrier epoch counts' lasts' removed) (sym eH)
+    (subst (λ (x : List ℕ). Keeps g (A ++ b ∷ []) (hashes ++ h ∷ []) roster barrier epoch x lasts' removed) (sym eC)
+    (subst (λ (x : List ℕ). Keeps g (A ++ b ∷ []) (hashes ++ h ∷ []) roster barrier epoch (set counts a (get_or counts a 0 + 1)) x removed) (sym eL) (record {
+      genesis = k.genesis;
+      chained = chain_more g A hashes b h k.chained hash;
+      members = k.members ∙ sym (roster_edit g A b is);
+      change = k.change ∙ sym (last_push (λ b. is_some (change_in b)) A b false (ap is_some is));
+      changes = k.changes ∙ sym (epoch_push A b None is);
+      tallies = tallies_push counts lasts removed removed A b a None k.tallies lt by is k.tallies.removed_len (λ n l. unmarked_gone removed n);
+      room = omega (arith, room, length-append A (b ∷ []));
+    }))))
+
+pub keeps_change : (g : Genesis) (A hashes : List (List ℕ)) (roster : Roster) (barrier epoch : ℕ) (counts lasts : List ℕ) (removed : List Bool) (b h : List ℕ) (a : ℕ) (s : Started) (A' hashes' : List (List ℕ)) (roster' : Roster) (barrier' epoch' : ℕ) (counts' lasts' : List ℕ) (removed' : List Bool)
+    → Keeps g A hashes roster barrier epoch counts lasts removed → length A < 16384
+    → a < 65536 → ((n : ℕ) → is_by n b ≡ eqb a n) → change_in b ≡ Some s → h ≡ next_value (hash_of g A) b
+    → A' ≡ A ++ b ∷ [] → hashes' ≡ hashes ++ h ∷ [] → roster' ≡ after_change roster s.body.change → barrier' ≡ length A + 1 → epoch' ≡ epoch + 1
+    → counts' ≡ set counts a (get_or counts a 0 + 1) → lasts' ≡ set lasts a (length A + 1) → removed' ≡ marked s.body.change removed
+    → Keeps g A' hashes' roster' barrier' epoch' counts' lasts' removed'
+keeps_change g A hashes roster barrier epoch counts lasts removed b h a s A' hashes' roster' barrier' epoch' counts' lasts' removed' k room lt by is hash eA eH eR eB eE eC eL eM =
+    subst (λ (x : List (List ℕ)). Keeps g x hashes' roster' barrier' epoch' counts' lasts' removed') (sym eA)
+    (subst (λ (x : List (List ℕ)). Keeps g (A ++ b ∷ []) x roster' barrier' epoch' counts' lasts' removed') (sym eH)
+    (subst (λ (x : List ℕ). Keeps g (A ++ b ∷ []) (hashes ++ h ∷ []) roster' barrier' epoch' x lasts' removed') (sym eC)
+    (subst (λ (x : List ℕ). Keeps g (A ++ b ∷ []) (hashes ++ h ∷ []) roster' barrier' epoch' (set counts a (get_or counts a 0 + 1)) x removed') (sym eL)
+    (subst (λ (x : List Bool). Keeps g (A ++ b ∷ []) (hashes ++ h ∷ []) roster' barrier' epoch' (set counts a (get_or counts a 0 + 1)) (set lasts a (length A + 1)) x) (sym eM) (record {
+      genesis = k.genesis;
+      chained = chain_more g A hashes b h k.chained hash;
+      members = eR ∙ ap (λ (r : Roster). after_change r s.body.change) k.members ∙ sym (roster_change g A b s is);
+      change = eB ∙ sym (last_push (λ b. is_some (change_in b)) A b true (ap is_some is));
+      changes = eE ∙ ap (λ (n : ℕ). n + 1) k.changes ∙ sym (epoch_push A b (Some s) is);
+      tallies = tallies_push counts lasts removed (marked s.body.change removed) A b a (Some s) k.tallies lt by is (length-marked s.body.change removed ∙ k.tallies.removed_len) (λ n l. marked_gone removed s n (omega (arith, k.tallies.removed_len, l)));
+      room = omega (arith, room, length-append A (b ∷ []));
+    })))))

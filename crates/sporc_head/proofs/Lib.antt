@@ -1,0 +1,5 @@
+mod Lists
+pub mod Grows
+pub mod ChecksPass
+mod Keeping
+mod OnceChecked

@@ -1,0 +1,114 @@
+-- What is known of an entry that was checked.
+use Rattle.std.proofs.Common.{◌≡◌, ◌≢◌, ℕ, ◌+◌, ◌<◌, Bool, true, ltb, eqb, List, [], ◌∷◌, ◌++◌, length, refl, ap, sym, ◌∙◌, subst, Option, None, Some, Result, Ok, Err}
+use Rattle.std.specs.Prelude.{option_map, OnOk, IsOk}
+use Rattle.std.proofs.lemmas.Bool.{ltb-true}
+use Rattle.sporc_checks.specs.FirstFault.{unless, first_of, AnswersUnless}
+use Rattle.sporc_member.specs.declared.change.Change.{Change}
+use Rattle.sporc_member.specs.declared.change.ChangeFault.{ChangeFault}
+use Rattle.sporc_member.specs.declared.founder.Founder.{Founder}
+use Rattle.sporc_member.specs.Roster.{member_at, change_fault_of}
+use Rattle.sporc_member.proofs.Checks.{passes}
+use Rattle.sporc_entry.specs.declared.entry.Entry.{Entry}
+use Rattle.sporc_entry.specs.declared.change.ChangeBody.{ChangeBody}
+use Rattle.sporc_entry.specs.declared.genesis.Genesis.{Genesis}
+use Rattle.sporc_entry.specs.Entry.{entry_of, change_of}
+use Rattle.sporc_head.specs.declared.refusal.Refusal.{Refusal}
+use Rattle.sporc_head.specs.declared.refusal.Refusal.TheVariants.{HistoryFull}
+use Rattle.sporc_head.specs.declared.checked.Checked.{Checked}
+use Rattle.sporc_head.specs.History.{Started, change_in, started_by, is_by, roster_of}
+use Rattle.sporc_head.specs.HeadChecks.{place_checks, history_checks, author_checks, roster_checks, bad_change, head_checks, head_fault, fault_read}
+use Rattle.sporc_head.specs.IsChecked.{IsChecked}
+use Rattle.sporc_head.proofs.Grows.{is_by_read, change_in_read}
+use Rattle.sporc_head.proofs.ChecksPass.{first_of-none, first_of-some}
+
+-- the change that bytes start, where they are known to hold it
+pub started_of : (o : Option Started) (c : Change) → option_map (λ s. s.body.change) o ≡ Some c → (s : Started) × (o ≡ Some s) × (s.body.change ≡ c)
+started_of None c h = absurd cc
+started_of (Some s) c h = (s, refl, cc)
+
+-- what holds where a call answers Ok, where it does
+pub ok_of : {X E : Type 0} (r : Result X E) (P : Type 0) → OnOk r P → IsOk r → P
+ok_of (Ok x) P h ok = h
+ok_of (Err e) P h ok = absurd cc
+
+-- no check of both lists fails
+both_pass : {F : Type 0} (xs ys : List (Option F)) → first_of (xs ++ ys) ≡ None → (first_of xs ≡ None) × (first_of ys ≡ None)
+both_pass [] ys h = (refl, h)
+both_pass (None ∷ xs) ys h = both_pass xs ys h
+both_pass (Some f ∷ xs) ys h = absurd cc
+
+accepted : (o : Option ChangeFault) (rest : List (Option Refusal)) → first_of (bad_change o ∷ rest) ≡ None → o ≡ None
+accepted None rest h = refl
+accepted (Some f) rest h = absurd cc
+
+none_fails : (g : Genesis) (A : List (List ℕ)) (pos : ℕ) (b : List ℕ) (e : Entry) → entry_of b ≡ Ok e → head_fault g None A pos b ≡ None → first_of (head_checks g None A pos e) ≡ None
+unfolding head_fault
+none_fails g A pos b e is h = sym (ap (fault_read (head_checks g None A pos)) is) ∙ h
+
+parts : (g : Genesis) (A : List (List ℕ)) (pos : ℕ) (e : Entry) → first_of (head_checks g None A pos e) ≡ None
+    → (first_of (history_checks g A e.header) ≡ None) × (first_of (roster_checks (roster_of g A) (change_of e)) ≡ None)
+unfolding head_checks
+parts g A pos e h =
+    let rosters = roster_checks (roster_of g A) (change_of e) in
+    let authors = author_checks (member_at (roster_of g A) e.header.author) e in
+    let a = both_pass (place_checks g None A pos e.header) (history_checks g A e.header ++ (authors ++ rosters)) h in
+    let b = both_pass (history_checks g A e.header) (authors ++ rosters) a.1 in
+    (b.0, (both_pass authors rosters b.1).1)
+
+pub checked_room : (g : Genesis) (A : List (List ℕ)) (c : Checked) → IsChecked g A c → length A < 16384
+checked_room g A c k =
+    let p = parts g A (length A + 1) c.entry (none_fails g A (length A + 1) c.bytes c.entry k.read k.passed) in
+    ltb-true (length A) 16384 (passes (ltb (length A) 16384) HistoryFull _ p.0).0
+
+pub checked_by : (g : Genesis) (A : List (List ℕ)) (c : Checked) → IsChecked g A c → (n : ℕ) → is_by n c.bytes ≡ eqb c.entry.header.author n
+checked_by g A c k n = is_by_read n c.bytes c.entry k.read
+
+pub checked_edit : (g : Genesis) (A : List (List ℕ)) (c : Checked) → IsChecked g A c → c.change ≡ None → change_in c.bytes ≡ None
+checked_edit g A c k e = change_in_read c.bytes c.entry c.change k.read k.change ∙ ap (started_by c.entry) e
+
+pub checked_change : (g : Genesis) (A : List (List ℕ)) (c : Checked) (body : ChangeBody) → IsChecked g A c → c.change ≡ Some body → option_map (λ s. s.body.change) (change_in c.bytes) ≡ Some body.change
+checked_change g A c body k e = ap (option_map (λ (s : Started). s.body.change)) (change_in_read c.bytes c.entry c.change k.read k.change ∙ ap (started_by c.entry) e)
+
+pub checked_accepted : (g : Genesis) (A : List (List ℕ)) (c : Checked) (body : ChangeBody) → IsChecked g A c → c.change ≡ Some body → change_fault_of (roster_of g A) body.change ≡ None
+checked_accepted g A c body k e =
+    let p = parts g A (length A + 1) c.entry (none_fails g A (length A + 1) c.bytes c.entry k.read k.passed) in
+    accepted (change_fault_of (roster_of g A) body.change) _ (ap (λ (o : Option ChangeBody). first_of (roster_checks (roster_of g A) o)) (sym e ∙ k.change) ∙ p.1)
+
+-- ---- where the first fault is found
+
+pub unless_exit : {X : Type 0} (m : Refusal) (r : Result X Refusal) (y e : Refusal) (fault : Option Refusal) → r ≡ Err y → y ≡ e → (e ≢ m → fault ≡ Some e) → AnswersUnless m r fault
+unless_exit {X} m r y e fault p q h = subst (λ (r : Result X Refusal). AnswersUnless m r fault) (sym p) (subst (λ (z : Refusal). z ≢ m → fault ≡ Some z) (sym q) h)
+
+pub none_of : {X : Type 0} (o : Option X) → ((x : X) → o ≡ Some x → ⊥) → o ≡ None
+none_of None h = refl
+none_of (Some x) h = absurd (h x refl)
+
+module _ (g : Genesis) (me : Option ℕ) (A : List (List ℕ)) (pos : ℕ) (e : Entry) (here : first_of (place_checks g me A pos e.header) ≡ None) where
+  after_place : first_of (head_checks g me A pos e)
+      ≡ first_of (history_checks g A e.header ++ (author_checks (member_at (roster_of g A) e.header.author) e ++ roster_checks (roster_of g A) (change_of e)))
+  unfolding head_checks
+  after_place = first_of-none (place_checks g me A pos e.header) (history_checks g A e.header ++ (author_checks (member_at (roster_of g A) e.header.author) e ++ roster_checks (roster_of g A) (change_of e))) here
+
+  pub at_history : (f : Refusal) → first_of (history_checks g A e.header) ≡ Some f → first_of (head_checks g me A pos e) ≡ Some f
+  at_history f h = after_place ∙ first_of-some (history_checks g A e.header) (author_checks (member_at (roster_of g A) e.header.author) e ++ roster_checks (roster_of g A) (change_of e)) f h
+
+  after_history : (m : Founder) → Some m ≡ member_at (roster_of g A) e.header.author → first_of (history_checks g A e.header) ≡ None
+      → first_of (head_checks g me A pos e) ≡ first_of (author_checks (Some m) e ++ roster_checks (roster_of g A) (change_of e))
+  after_history m is h = after_place
+      ∙ first_of-none (history_checks g A e.header) (author_checks (member_at (roster_of g A) e.header.author) e ++ roster_checks (roster_of g A) (change_of e)) h
+      ∙ ap (λ (o : Option Founder). first_of (author_checks o e ++ roster_checks (roster_of g A) (change_of e))) (sym is)
+
+  pub at_author : (m : Founder) (f : Refusal) → Some m ≡ member_at (roster_of g A) e.header.author → first_of (history_checks g A e.header) ≡ None
+      → first_of (author_checks (Some m) e) ≡ Some f → first_of (head_checks g me A pos e) ≡ Some f
+  at_author m f is h a = after_history m is h ∙ first_of-some (author_checks (Some m) e) (roster_checks (roster_of g A) (change_of e)) f a
+
+  -- behind the author's checks those of the roster decide
+  pub at_roster : (m : Founder) (o : Option ChangeBody) (fault : Option Refusal) → Some m ≡ member_at (roster_of g A) e.header.author → first_of (history_checks g A e.header) ≡ None
+      → first_of (author_checks (Some m) e) ≡ None → o ≡ change_of e → first_of (roster_checks (roster_of g A) o) ≡ fault → first_of (head_checks g me A pos e) ≡ fault
+  at_roster m o fault is h a c r = after_history m is h
+      ∙ first_of-none (author_checks (Some m) e) (roster_checks (roster_of g A) (change_of e)) a
+      ∙ ap (λ (o : Option ChangeBody). first_of (roster_checks (roster_of g A) o)) (sym c) ∙ r
+
+pub passed_of : (g : Genesis) (me : Option ℕ) (A : List (List ℕ)) (pos : ℕ) (b : List ℕ) (e : Entry) → entry_of b ≡ Ok e → first_of (head_checks g me A pos e) ≡ None → head_fault g me A pos b ≡ None
+unfolding head_fault
+passed_of g me A pos b e is h = ap (fault_read (head_checks g me A pos)) is ∙ h

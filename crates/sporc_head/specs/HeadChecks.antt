@@ -1,0 +1,113 @@
+-- The checks of an entry that need no key of an epoch, over the whole history before it.
+use Rattle.std.specs.Prelude.{Result, Ok, Err, ◌≡◌, ℕ, ◌+◌, ◌==◌, nat_le, nat_lt, Bool, true, false, not, ◌&&◌, List, [], ◌∷◌, ◌++◌, length, take, map, Option, None, Some, is_some}
+use Rattle.std.specs.Str.{bytes_eq}
+use Rattle.lms_tree.specs.declared.public_key.LmsPublic.{LmsPublic}
+use Rattle.lms_tree.specs.LmsPublic.{public_key_in}
+use Rattle.lms_tree.specs.Verification.{verifies, leaf_in}
+use Rattle.sporc_checks.specs.FirstFault.{unless, first_of}
+use Rattle.sporc_member.specs.declared.role.Role.{Role}
+use Rattle.sporc_member.specs.declared.role.Role.TheVariants.{Reader, Editor, Admin}
+use Rattle.sporc_member.specs.declared.founder.Founder.{Founder}
+use Rattle.sporc_member.specs.declared.change.ChangeFault.{ChangeFault}
+use Rattle.sporc_member.specs.Roster.{Roster, numbers_of, member_at, change_fault_of, after_change}
+use Rattle.sporc_entry.specs.declared.header.Header.{Header}
+use Rattle.sporc_entry.specs.declared.entry.Entry.{Entry}
+use Rattle.sporc_entry.specs.declared.wraps.Wrap.{Wrap}
+use Rattle.sporc_entry.specs.declared.change.ChangeBody.{ChangeBody}
+use Rattle.sporc_entry.specs.declared.genesis.Genesis.{Genesis}
+use Rattle.sporc_entry.specs.Entry.{entry_of, change_of, signed_string}
+use Rattle.sporc_head.specs.declared.refusal.Refusal.{Refusal}
+use Rattle.sporc_head.specs.declared.refusal.Refusal.TheVariants.{Malformed, WrongDocument, WrongPosition, Removed, HistoryFull, UnknownAuthor, BaseAhead, BeforeBarrier, WrongHistory, WrongNumber, BehindOwn, WrongEpoch, NoRight, LeafMismatch, BadSignature, BadChange, WrongWraps}
+use Rattle.sporc_head.specs.History.{epoch_of, roster_of, is_removed, barrier_of, last_of, count_of, hash_of}
+
+-- whether a role allows an entry of this kind, 1 for an edit and 2 for a change
+abbrev pub allows : Role → ℕ → Bool
+allows Reader kind = false
+allows Editor kind = kind == 1
+allows Admin kind = true
+
+-- whether the author's role allows an entry of this kind
+abbrev pub allows_member : ℕ → Option Founder → Bool
+allows_member kind None = false
+allows_member kind (Some m) = allows m.role kind
+
+-- whether a signature verifies under a key, where there is one (RFC 8554, section 5.4.2)
+abbrev pub verifies_under : List ℕ → List ℕ → Option LmsPublic → Bool
+verifies_under message signature None = false
+verifies_under message signature (Some key) = verifies key message signature
+
+-- whether a signature verifies under the author's key
+abbrev pub verifies_member : List ℕ → List ℕ → Option Founder → Bool
+verifies_member message signature None = false
+verifies_member message signature (Some m) = verifies_under message signature (public_key_in m.key)
+
+-- whether a signature begins with this leaf number
+abbrev pub names_leaf : ℕ → List ℕ → Bool
+names_leaf leaf signature = nat_le 4 (length signature) && (leaf_in signature == leaf)
+
+-- whether no member is given, or a history doesn't remove it
+abbrev pub is_not_removed : Option ℕ → List (List ℕ) → Bool
+is_not_removed None entries = true
+is_not_removed (Some me) entries = not (is_removed me entries)
+
+-- whether wraps name exactly these numbers, in order
+abbrev pub names : List Wrap → List ℕ → Bool
+names wraps numbers = bytes_eq (map (λ w. w.member) wraps) numbers
+
+abbrev pub bad_change : Option ChangeFault → Option Refusal
+bad_change None = None
+bad_change (Some fault) = Some (BadChange fault)
+
+-- the checks of a change at a roster
+abbrev pub roster_checks : Roster → Option ChangeBody → List (Option Refusal)
+roster_checks roster None = []
+roster_checks roster (Some c) =
+    bad_change (change_fault_of roster c.change)
+    ∷ unless (names c.wraps (numbers_of (after_change roster c.change).members)) WrongWraps
+    ∷ []
+
+-- the checks of where an entry is to stand; `me` may be nobody
+abbrev pub place_checks : Genesis → Option ℕ → List (List ℕ) → ℕ → Header → List (Option Refusal)
+place_checks g me A pos h =
+    unless (bytes_eq h.document g.document) WrongDocument
+    ∷ unless (pos == length A + 1) WrongPosition
+    ∷ unless (is_not_removed me A) Removed
+    ∷ []
+
+-- the checks of what an entry says of the history before it
+abbrev pub history_checks : Genesis → List (List ℕ) → Header → List (Option Refusal)
+history_checks g A h =
+    unless (nat_lt (length A) 16384) HistoryFull
+    ∷ unless (is_some (member_at (roster_of g A) h.author)) UnknownAuthor
+    ∷ unless (nat_le h.base (length A)) BaseAhead
+    ∷ unless (nat_le (barrier_of A) h.base) BeforeBarrier
+    ∷ unless (bytes_eq h.base_hash (hash_of g (take h.base A))) WrongHistory
+    ∷ unless (h.number == count_of h.author A + 1) WrongNumber
+    ∷ unless (nat_le (last_of h.author A) h.base) BehindOwn
+    ∷ unless (h.epoch == epoch_of A) WrongEpoch
+    ∷ []
+
+-- the checks of an entry against its author
+abbrev pub author_checks : Option Founder → Entry → List (Option Refusal)
+author_checks author e =
+    unless (allows_member e.header.kind author) NoRight
+    ∷ unless (names_leaf e.header.leaf e.signature) LeafMismatch
+    ∷ unless (verifies_member (signed_string e) e.signature author) BadSignature
+    ∷ []
+
+-- all of them, in their order
+unfoldable pub head_checks : Genesis → Option ℕ → List (List ℕ) → ℕ → Entry → List (Option Refusal)
+head_checks g me A pos e =
+    place_checks g me A pos e.header
+    ++ (history_checks g A e.header
+    ++ (author_checks (member_at (roster_of g A) e.header.author) e
+    ++ roster_checks (roster_of g A) (change_of e)))
+
+-- the first check that fails of an entry, or what reading it met
+abbrev pub fault_read : (Entry → List (Option Refusal)) → Result Entry ℕ → Option Refusal
+fault_read checks (Ok e) = first_of (checks e)
+fault_read checks (Err at) = Some (Malformed at)
+
+-- the first check that fails
+unfoldable pub head_fault : Genesis → Option ℕ → List (List ℕ) → ℕ → List ℕ → Option Refusal
+head_fault g me A pos bytes = fault_read (head_checks g me A pos) (entry_of bytes)

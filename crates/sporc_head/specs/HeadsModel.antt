@@ -1,0 +1,39 @@
+-- What contracts see of a history with what its checks look up, and what its fields keep.
+use Rattle.std.specs.Prelude.{◌≡◌, ℕ, ◌+◌, ◌-◌, ◌≤◌, Bool, List, length, map, min, vec_len, vec_capacity}
+use Rattle.sporc_hash.specs.Chain.{chain}
+use Rattle.sporc_member.specs.Roster.{Roster}
+use Rattle.sporc_entry.specs.declared.genesis.Genesis.{Genesis}
+use Rattle.sporc_entry.specs.Genesis.{genesis_bytes, IsGenesis}
+use Rattle.sporc_head.specs.declared.heads.Heads.TheInside.{Inside}
+use Rattle.sporc_head.specs.History.{roster_of, barrier_of, epoch_of}
+use Rattle.sporc_head.specs.Tallies.{Tallies}
+
+-- a document's genesis, the entries of a history, and how many more it takes without memory
+pub record HeadsModel : Type 0 where
+  pub genesis : Genesis
+  pub entries : List (List ℕ)
+  pub spare : ℕ
+
+-- the entries
+abbrev pub entries_in : Inside → List (List ℕ)
+entries_in a = map (λ v. v.items) a.entries.items
+
+abbrev pub model_of : Inside → HeadsModel
+model_of a = record {
+  genesis = a.genesis;
+  entries = entries_in a;
+  spare = min (vec_capacity a.entries - vec_len a.entries) (min (vec_capacity a.hashes - vec_len a.hashes) a.roster.spare);
+}
+
+-- what is looked up is what the entries say
+pub record Keeps (g : Genesis) (A hashes : List (List ℕ)) (roster : Roster) (barrier epoch : ℕ) (counts lasts : List ℕ) (removed : List Bool) : Type 0 where
+  pub genesis : IsGenesis g
+  pub chained : hashes ≡ chain (genesis_bytes g) A
+  pub members : roster ≡ roster_of g A
+  pub change : barrier ≡ barrier_of A
+  pub changes : epoch ≡ epoch_of A
+  pub tallies : Tallies counts lasts removed A
+  pub room : length A ≤ 16384
+
+abbrev pub keeps_in : Inside → Type 0
+keeps_in a = Keeps a.genesis (entries_in a) a.hashes.items a.roster.roster a.barrier a.epoch a.tables.counts.items a.tables.lasts.items a.tables.removed.items

@@ -1,0 +1,74 @@
+-- What a history, the list of its entries' bytes, oldest first, says of itself. Everything is recomputed from the first
+-- entry.
+use Rattle.std.specs.Prelude.{Result, Ok, Err, ℕ, suc, ◌==◌, Bool, false, List, [], ◌∷◌, length, map, Option, None, Some, if◌then◌else◌, is_some, count_by}
+use Rattle.std.specs.List.{filter_map, list_any}
+use Rattle.sporc_hash.specs.Chain.{last_value}
+use Rattle.sporc_member.specs.Roster.{Roster, roster_after, removes}
+use Rattle.sporc_entry.specs.declared.header.Header.{Header}
+use Rattle.sporc_entry.specs.declared.entry.Entry.{Entry}
+use Rattle.sporc_entry.specs.declared.change.ChangeBody.{ChangeBody}
+use Rattle.sporc_entry.specs.declared.genesis.Genesis.{Genesis}
+use Rattle.sporc_entry.specs.Entry.{entry_of, change_of}
+use Rattle.sporc_entry.specs.Genesis.{genesis_bytes}
+
+-- a change with the header that it stands under
+pub record Started : Type 0 where
+  pub header : Header
+  pub body : ChangeBody
+
+abbrev pub started_by : Entry → Option ChangeBody → Option Started
+started_by e None = None
+started_by e (Some c) = Some (record { header = e.header; body = c })
+
+abbrev pub change_read : Result Entry ℕ → Option Started
+change_read (Ok e) = started_by e (change_of e)
+change_read (Err at) = None
+
+-- the change that an entry's bytes hold
+unfoldable pub change_in : List ℕ → Option Started
+change_in bytes = change_read (entry_of bytes)
+
+abbrev pub is_read_by : ℕ → Result Entry ℕ → Bool
+is_read_by author (Ok e) = e.header.author == author
+is_read_by author (Err at) = false
+
+-- whether an entry is by this author
+unfoldable pub is_by : ℕ → List ℕ → Bool
+is_by author bytes = is_read_by author (entry_of bytes)
+
+-- the changes of a history, in order
+abbrev pub changes : List (List ℕ) → List Started
+changes entries = filter_map change_in entries
+
+-- how many changes a history has
+abbrev pub epoch_of : List (List ℕ) → ℕ
+epoch_of entries = length (changes entries)
+
+-- the members after a history
+abbrev pub roster_of : Genesis → List (List ℕ) → Roster
+roster_of genesis entries = roster_after genesis.founders (map (λ c. c.body.change) (changes entries))
+
+-- whether a history removes a member
+abbrev pub is_removed : ℕ → List (List ℕ) → Bool
+is_removed member entries = list_any (λ c. removes member c.body.change) (changes entries)
+
+-- the position, after `at` entries, of the last entry that passes a test, or `found`
+abbrev pub last_from : (List ℕ → Bool) → ℕ → ℕ → List (List ℕ) → ℕ
+last_from p found at [] = found
+last_from p found at (b ∷ bs) = last_from p (if p b then suc at else found) (suc at) bs
+
+-- the position of the last change, 0 if there is none
+abbrev pub barrier_of : List (List ℕ) → ℕ
+barrier_of entries = last_from (λ b. is_some (change_in b)) 0 0 entries
+
+-- the position of an author's last entry, 0 if there is none
+abbrev pub last_of : ℕ → List (List ℕ) → ℕ
+last_of author entries = last_from (is_by author) 0 0 entries
+
+-- how many entries an author has
+abbrev pub count_of : ℕ → List (List ℕ) → ℕ
+count_of author entries = count_by (is_by author) entries
+
+-- the chain's value after a history
+abbrev pub hash_of : Genesis → List (List ℕ) → List ℕ
+hash_of genesis entries = last_value (genesis_bytes genesis) entries

@@ -1,0 +1,56 @@
+-- What is printed and sent of a refusal.
+use Rattle.std.specs.Prelude.{ℕ, List, ◌++◌, codes}
+use Rattle.std.specs.Fmt.{decimal}
+use Rattle.sporc_member.specs.ChangeFault.{change_fault_name}
+use Rattle.sporc_head.specs.declared.refusal.Refusal.{Refusal}
+use Rattle.sporc_head.specs.declared.refusal.Refusal.TheVariants.{Malformed, WrongDocument, WrongPosition, Removed, HistoryFull, UnknownAuthor, BaseAhead, BeforeBarrier, WrongHistory, WrongNumber, BehindOwn, WrongEpoch, NoRight, LeafMismatch, BadSignature, BadPayload, WrongLength, BadChange, WrongWraps, NoKey, WrongKey, Memory}
+
+-- its name
+abbrev pub refusal_name : Refusal → List ℕ
+refusal_name (Malformed at) = codes "malformed " ++ decimal at
+refusal_name WrongDocument = codes "wrong-document"
+refusal_name WrongPosition = codes "wrong-position"
+refusal_name Removed = codes "removed"
+refusal_name HistoryFull = codes "history-full"
+refusal_name UnknownAuthor = codes "unknown-author"
+refusal_name BaseAhead = codes "base-ahead"
+refusal_name BeforeBarrier = codes "before-barrier"
+refusal_name WrongHistory = codes "wrong-history"
+refusal_name WrongNumber = codes "wrong-number"
+refusal_name BehindOwn = codes "behind-own"
+refusal_name WrongEpoch = codes "wrong-epoch"
+refusal_name NoRight = codes "no-right"
+refusal_name LeafMismatch = codes "leaf-mismatch"
+refusal_name BadSignature = codes "bad-signature"
+refusal_name BadPayload = codes "bad-payload"
+refusal_name WrongLength = codes "wrong-length"
+refusal_name (BadChange fault) = codes "bad-change " ++ change_fault_name fault
+refusal_name WrongWraps = codes "wrong-wraps"
+refusal_name NoKey = codes "no-key"
+refusal_name WrongKey = codes "wrong-key"
+refusal_name Memory = codes "memory"
+
+-- the number of its check, 0 for want of memory
+abbrev pub refusal_code_of : Refusal → ℕ
+refusal_code_of (Malformed at) = 1
+refusal_code_of WrongDocument = 2
+refusal_code_of WrongPosition = 3
+refusal_code_of Removed = 4
+refusal_code_of HistoryFull = 5
+refusal_code_of UnknownAuthor = 6
+refusal_code_of BaseAhead = 7
+refusal_code_of BeforeBarrier = 8
+refusal_code_of WrongHistory = 9
+refusal_code_of WrongNumber = 10
+refusal_code_of BehindOwn = 11
+refusal_code_of WrongEpoch = 12
+refusal_code_of NoRight = 13
+refusal_code_of LeafMismatch = 14
+refusal_code_of BadSignature = 15
+refusal_code_of BadPayload = 16
+refusal_code_of WrongLength = 17
+refusal_code_of (BadChange fault) = 18
+refusal_code_of WrongWraps = 19
+refusal_code_of NoKey = 20
+refusal_code_of WrongKey = 21
+refusal_code_of Memory = 0

@@ -1,0 +1,59 @@
+// The checks of a change at a roster.
+
+ghost use Rattle.std.specs.Prelude.{◌≡◌, map, IfOk, Some};
+ghost use Rattle.std.specs.Str.{bytes_eq};
+ghost use Rattle.sporc_checks.specs.FirstFault.{AnswersUnless, first_of};
+ghost use Rattle.sporc_entry.specs.Entry.{change_of};
+ghost use Rattle.sporc_head.specs.HeadChecks.{roster_checks, names};
+
+use crate::refusal::{Memory, Refusal};
+use sporc_entry::{ChangeBody, Entry, Wrap, read_change};
+use sporc_member::Roster;
+use std::alloc::{AllocError, Global};
+
+// Whether the roster accepts the change, and its wraps name exactly the members after it.
+pub(crate) fn check_change(
+    alloc: Global,
+    roster: &Roster,
+    change: &ChangeBody,
+) -> Result<(), Refusal>
+    ensures { AnswersUnless Refusal.Memory result (first_of (roster_checks roster.now.roster (Some change.now))) }
+{
+    if let Err(fault) = roster.test(&change.change) {
+        return Err(Refusal::BadChange(fault));
+    }
+    let numbers = roster.members_after(&change.change)?;
+    let named = named_in(alloc, change.wraps.as_slice())?;
+    if !is_same(named.as_slice(), numbers.as_slice()) {
+        return Err(Refusal::WrongWraps);
+    }
+    Ok(())
+}
+
+// The members that wraps name.
+fn named_in(alloc: Global, wraps: &[Wrap]) -> Result<Vec<u16>, Memory>
+    ensures { IfOk result (λ named. named.items ≡ map (λ w. w.member) wraps.now) }
+{
+    wraps.iter().map(|w| w.member).collect(alloc)
+}
+
+// Whether two lists of numbers are the same.
+fn is_same(a: &[u16], b: &[u16]) -> bool
+    ensures { result ≡ bytes_eq a.now b.now }
+{
+    a == b
+}
+
+// The change that an entry holds, if it is one. An entry that was read fails here for want of memory alone.
+#[tactic(auto, unfolding(sporc_entry::specs::Entry::change_of))]
+pub(crate) fn change_in(alloc: Global, entry: &Entry) -> Result<Option<ChangeBody>, Memory>
+    ensures { IfOk result (λ change. change ≡ change_of entry.now) }
+{
+    if entry.header.kind != 2 {
+        return Ok(None);
+    }
+    match read_change(alloc, entry.body.as_slice()) {
+        Ok(change) => Ok(Some(change)),
+        Err(_) => Err(AllocError),
+    }
+}

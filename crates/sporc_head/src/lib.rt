@@ -1,0 +1,16 @@
+//! The checks of an entry against a history that need no key of an epoch, and the history with what they look up.
+#![tactic(auto)]
+
+mod authors;
+mod changes;
+mod checked;
+mod heads;
+mod refusal;
+mod tables;
+
+pub use checked::Checked;
+pub use heads::Heads;
+pub use refusal::{Memory, Refusal};
+
+#[cfg(test)]
+mod tests;

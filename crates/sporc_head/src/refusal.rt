@@ -1,0 +1,168 @@
+//! Why an entry is refused.
+
+ghost use Rattle.std.specs.Prelude.{◌≡◌, IfOk, string_bytes};
+
+use sporc_entry::EntryFault;
+use sporc_member::ChangeFault;
+use std::alloc::{AllocError, AllocFailed, Global};
+use std::fmt::Write;
+use thiserror::Error;
+
+/// No memory was left; all is as it was before the call.
+pub type Memory = AllocError;
+
+/// The first check that an entry fails at a history, in the order of the checks.
+#[derive(Clone, Copy, Debug, PartialEq, Eq, Error)]
+pub enum Refusal {
+    /// The bytes are no entry: the first field from the left that is cut short or forbidden begins at this place.
+    #[error("the bytes are no entry, from place {0} on")]
+    Malformed(usize),
+    #[error("it is an entry of another document")]
+    WrongDocument,
+    #[error("its position is not the next one")]
+    WrongPosition,
+    #[error("the history removes this member")]
+    Removed,
+    #[error("the history has 16,384 entries")]
+    HistoryFull,
+    #[error("its author is no member")]
+    UnknownAuthor,
+    #[error("its base is ahead of the history")]
+    BaseAhead,
+    #[error("its base is before the last change")]
+    BeforeBarrier,
+    #[error("its base is another history")]
+    WrongHistory,
+    #[error("its number is not the author's next one")]
+    WrongNumber,
+    #[error("its base is before the author's last entry")]
+    BehindOwn,
+    #[error("it is of another epoch")]
+    WrongEpoch,
+    #[error("its author may not make it")]
+    NoRight,
+    #[error("its signature is of another leaf than its header says")]
+    LeafMismatch,
+    #[error("its signature does not verify")]
+    BadSignature,
+    #[error("its edit is no delta")]
+    BadPayload,
+    #[error("its edit is of a text of another length")]
+    WrongLength,
+    #[error("its change is refused: {0}")]
+    BadChange(ChangeFault),
+    #[error("its wraps are not for exactly the members after it")]
+    WrongWraps,
+    #[error("no key opens its epoch")]
+    NoKey,
+    #[error("its epoch's key does not meet the commitment")]
+    WrongKey,
+    /// No memory was left: nothing is said of the entry.
+    #[error("want of memory")]
+    Memory,
+}
+
+impl Refusal {
+    ghost use Rattle.sporc_head.specs.Refusal.{refusal_name, refusal_code_of};
+
+    /// The name that is printed, with its place or the name of its change's fault.
+    pub fn name(self, alloc: Global) -> Result<String, Memory>
+        ensures { IfOk result (λ name. string_bytes name ≡ refusal_name self) }
+    {
+        let mut name = String::new(alloc);
+        match self {
+            Refusal::Malformed(at) => write!(name, "malformed {at}")?,
+            Refusal::WrongDocument => name.push_str("wrong-document")?,
+            Refusal::WrongPosition => name.push_str("wrong-position")?,
+            Refusal::Removed => name.push_str("removed")?,
+            Refusal::HistoryFull => name.push_str("history-full")?,
+            Refusal::UnknownAuthor => name.push_str("unknown-author")?,
+            Refusal::BaseAhead => name.push_str("base-ahead")?,
+            Refusal::BeforeBarrier => name.push_str("before-barrier")?,
+            Refusal::WrongHistory => name.push_str("wrong-history")?,
+            Refusal::WrongNumber => name.push_str("wrong-number")?,
+            Refusal::BehindOwn => name.push_str("behind-own")?,
+            Refusal::WrongEpoch => name.push_str("wrong-epoch")?,
+            Refusal::NoRight => name.push_str("no-right")?,
+            Refusal::LeafMismatch => name.push_str("leaf-mismatch")?,
+            Refusal::BadSignature => name.push_str("bad-signature")?,
+            Refusal::BadPayload => name.push_str("bad-payload")?,
+            Refusal::WrongLength => name.push_str("wrong-length")?,
+            Refusal::BadChange(fault) => {
+                name.push_str("bad-change ")?;
+                name.push_str(fault.name())?;
+            }
+            Refusal::WrongWraps => name.push_str("wrong-wraps")?,
+            Refusal::NoKey => name.push_str("no-key")?,
+            Refusal::WrongKey => name.push_str("wrong-key")?,
+            Refusal::Memory => name.push_str("memory")?,
+        }
+        Ok(name)
+    }
+
+    /// The number of its check, from 1 to 21, and 0 for want of memory.
+    pub fn code(self) -> u8
+        ensures { result ≡ refusal_code_of self }
+    {
+        match self {
+            Refusal::Malformed(_) => 1,
+            Refusal::WrongDocument => 2,
+            Refusal::WrongPosition => 3,
+            Refusal::Removed => 4,
+            Refusal::HistoryFull => 5,
+            Refusal::UnknownAuthor => 6,
+            Refusal::BaseAhead => 7,
+            Refusal::BeforeBarrier => 8,
+            Refusal::WrongHistory => 9,
+            Refusal::WrongNumber => 10,
+            Refusal::BehindOwn => 11,
+            Refusal::WrongEpoch => 12,
+            Refusal::NoRight => 13,
+            Refusal::LeafMismatch => 14,
+            Refusal::BadSignature => 15,
+            Refusal::BadPayload => 16,
+            Refusal::WrongLength => 17,
+            Refusal::BadChange(_) => 18,
+            Refusal::WrongWraps => 19,
+            Refusal::NoKey => 20,
+            Refusal::WrongKey => 21,
+            Refusal::Memory => 0,
+        }
+    }
+}
+
+impl From<AllocError> for Refusal {
+    ghost use Rattle.std.specs.Prelude.{◌≡◌};
+    ghost use Rattle.sporc_head.specs.declared.refusal.Refusal.TheVariants as refusals;
+
+    ghost from_gives = { λ _ e. e ≡ refusals.Memory };
+
+    fn from(_: AllocError) -> Refusal {
+        Refusal::Memory
+    }
+}
+
+impl<T: Drop> From<AllocFailed<T>> for Refusal {
+    ghost use Rattle.std.specs.Prelude.{◌≡◌};
+    ghost use Rattle.sporc_head.specs.declared.refusal.Refusal.TheVariants as refusals;
+
+    ghost from_gives = { λ _ e. e ≡ refusals.Memory };
+
+    fn from(_: AllocFailed<T>) -> Refusal {
+        Refusal::Memory
+    }
+}
+
+impl From<EntryFault> for Refusal {
+    ghost use Rattle.std.specs.Prelude.{◌≡◌};
+    ghost use Rattle.sporc_head.specs.Reading.{refusal_read};
+
+    ghost from_gives = { λ f e. e ≡ refusal_read f };
+
+    fn from(fault: EntryFault) -> Refusal {
+        match fault {
+            EntryFault::Malformed(at) => Refusal::Malformed(at),
+            EntryFault::Memory => Refusal::Memory,
+        }
+    }
+}

@@ -1,0 +1,107 @@
+-- The entries that one answer holds, taken one by one.
+use Rattle.std.proofs.Common.{◌≡◌, ℕ, zero, suc, ◌+◌, ◌-◌, ◌<◌, ◌≤◌, Bool, true, false, cond, leb, ltb, List, [], ◌∷◌, ◌++◌, length, get_or, take, drop, map, refl, ap, sym, ◌∙◌, subst, append_assoc, arith, inl, inr, min}
+use Rattle.std.specs.Prelude.{◌&&◌}
+use Rattle.std.specs.Global.{Vec}
+use Rattle.std.proofs.lemmas.Bool.{ltb-true, ltb-false, leb-true, cases_lt}
+use Rattle.std.proofs.lemmas.List.{append-nil, take_all, length-drop}
+use Rattle.sporc_order.specs.Orders.{run_of, pulled}
+
+abbrev pub bytes_of : Vec ℕ → List ℕ
+bytes_of v = v.items
+
+-- the element at a place is the first of those from there on
+pub from_place : (vs : List (Vec ℕ)) (i : ℕ) (v : Vec ℕ) → i < length vs → v ≡ get_or vs i v → drop i (map bytes_of vs) ≡ v.items ∷ drop (i + 1) (map bytes_of vs)
+from_place [] i v h e = absurd (omega arith)
+from_place (w ∷ ws) zero v h e = ap (λ (x : Vec ℕ). x.items ∷ map bytes_of ws) (sym e)
+from_place (w ∷ ws) (suc i) v h e =
+    let more : suc i + 1 ≡ suc (i + 1) = omega arith in
+    from_place ws i v (omega arith) e ∙ ap (λ (k : ℕ). v.items ∷ drop k (map bytes_of (w ∷ ws))) (sym more)
+
+pub take_next : (L : List (List ℕ)) (i : ℕ) (x : List ℕ) (rest : List (List ℕ)) → drop i L ≡ x ∷ rest → take (i + 1) L ≡ take i L ++ x ∷ []
+take_next [] zero x rest h = absurd cc
+take_next [] (suc i) x rest h = absurd cc
+take_next (y ∷ L) zero x rest h = let e : y ≡ x = cc in ap (λ (z : List ℕ). z ∷ []) e
+take_next (y ∷ L) (suc i) x rest h =
+    let more : suc i + 1 ≡ suc (i + 1) = omega arith in
+    ap (λ (k : ℕ). take k (y ∷ L)) more ∙ ap (λ (l : List (List ℕ)). y ∷ l) (take_next L i x rest h)
+
+-- an entry that has room is taken
+pub goes_on : (L : List (List ℕ)) (i room : ℕ) (x : List ℕ) (whole : List (List ℕ)) → drop i L ≡ x ∷ drop (i + 1) L → (ltb i 16 && leb (length x + 4) room) ≡ true
+    → whole ≡ take i L ++ run_of (16 - i) room (drop i L) → whole ≡ take (i + 1) L ++ run_of (16 - (i + 1)) (room - (length x + 4)) (drop (i + 1) L)
+goes_on L i room x whole at has so_far = so_far ∙ step (ltb i 16) (leb (length x + 4) room) refl refl has
+  where
+    step : (a b : Bool) → ltb i 16 ≡ a → leb (length x + 4) room ≡ b → (a && b) ≡ true
+        → take i L ++ run_of (16 - i) room (drop i L) ≡ take (i + 1) L ++ run_of (16 - (i + 1)) (room - (length x + 4)) (drop (i + 1) L)
+    step true true p q h =
+        let lt : i < 16 = ltb-true i 16 p in
+        let k : 16 - i ≡ suc (16 - (i + 1)) = omega arith in
+        rw (k, at, q, take_next L i x (drop (i + 1) L) at) (sym (append_assoc (take i L) (x ∷ []) (run_of (16 - (i + 1)) (room - (length x + 4)) (drop (i + 1) L))))
+    step true false p q h = absurd cc
+    step false b p q h = absurd cc
+
+-- one that has none ends the run
+pub ends : (L : List (List ℕ)) (i room : ℕ) (x : List ℕ) (whole : List (List ℕ)) → drop i L ≡ x ∷ drop (i + 1) L → i ≤ 16 → (ltb i 16 && leb (length x + 4) room) ≡ false
+    → whole ≡ take i L ++ run_of (16 - i) room (drop i L) → take i L ≡ whole
+ends L i room x whole at le none so_far = sym (so_far ∙ step (ltb i 16) (leb (length x + 4) room) refl refl none ∙ append-nil (take i L))
+  where
+    step : (a b : Bool) → ltb i 16 ≡ a → leb (length x + 4) room ≡ b → (a && b) ≡ false → take i L ++ run_of (16 - i) room (drop i L) ≡ take i L ++ []
+    step true true p q h = absurd cc
+    step true false p q h =
+        let lt : i < 16 = ltb-true i 16 p in
+        let k : 16 - i ≡ suc (16 - (i + 1)) = omega arith in
+        rw (k, at, q) refl
+    step false b p q h =
+        let ge : 16 ≤ i = ltb-false i 16 p in
+        let k : 16 - i ≡ 0 = omega arith in
+        rw k refl
+
+nothing_left : {X : Type 0} (L : List X) (i : ℕ) → length L ≤ i → drop i L ≡ []
+nothing_left [] zero h = refl
+nothing_left [] (suc i) h = refl
+nothing_left (x ∷ L) zero h = absurd (omega arith)
+nothing_left (x ∷ L) (suc i) h = nothing_left L i (omega arith)
+
+-- behind the last entry nothing is left
+pub is_done : (L : List (List ℕ)) (i room : ℕ) (whole : List (List ℕ)) → length L ≤ i → whole ≡ take i L ++ run_of (16 - i) room (drop i L) → take i L ≡ whole
+is_done L i room whole le so_far = sym (so_far ∙ ap (λ (l : List (List ℕ)). take i L ++ run_of (16 - i) room l) (nothing_left L i le) ∙ ap (λ (l : List (List ℕ)). take i L ++ l) (empty (16 - i)) ∙ append-nil (take i L))
+  where
+    empty : (n : ℕ) → run_of n room [] ≡ []
+    empty zero = refl
+    empty (suc n) = refl
+
+-- an entry with room leaves as much as it does not need
+pub has_room : (i room len : ℕ) → (ltb i 16 && leb (len + 4) room) ≡ true → (i < 16) × (len + 4 ≤ room)
+has_room i room len h = go (ltb i 16) (leb (len + 4) room) refl refl h
+  where
+    go : (a b : Bool) → ltb i 16 ≡ a → leb (len + 4) room ≡ b → (a && b) ≡ true → (i < 16) × (len + 4 ≤ room)
+    go true true p q h = (ltb-true i 16 p, leb-true (len + 4) room q)
+    go true false p q h = absurd cc
+    go false b p q h = absurd cc
+
+-- ---- the entries after some
+
+map_take : (n : ℕ) (vs : List (Vec ℕ)) → map bytes_of (take n vs) ≡ take n (map bytes_of vs)
+map_take zero vs = refl
+map_take (suc n) [] = refl
+map_take (suc n) (v ∷ vs) = ap (λ (l : List (List ℕ)). v.items ∷ l) (map_take n vs)
+
+map_drop : (n : ℕ) (vs : List (Vec ℕ)) → map bytes_of (drop n vs) ≡ drop n (map bytes_of vs)
+map_drop zero vs = refl
+map_drop (suc n) [] = refl
+map_drop (suc n) (v ∷ vs) = map_drop n vs
+
+drop_min : {X : Type 0} (L : List X) (from k : ℕ) → k ≡ min from (length L) → drop k L ≡ drop from L
+drop_min L from k e = elim (cases_lt from (length L)) [
+  | inl lt ↦ let same : k ≡ from = omega (arith, e) in ap (λ (n : ℕ). drop n L) same
+  | inr le ↦ let all : k ≡ length L = omega (arith, e) in let past : length L ≤ k = omega (arith, all) in nothing_left L k past ∙ sym (nothing_left L from le)
+]
+
+-- the entries of an answer are those of the run behind the first `from`
+pub is_pulled : (vs : List (Vec ℕ)) (A : List (List ℕ)) (from k n : ℕ) → map bytes_of vs ≡ A → k ≡ min from (length vs)
+    → take n (map bytes_of (take (length vs - k) (drop k vs))) ≡ run_of 16 4194298 (map bytes_of (take (length vs - k) (drop k vs)))
+    → map bytes_of (take n (take (length vs - k) (drop k vs))) ≡ pulled A from
+is_pulled vs A from k n is e run =
+    let rest : length (drop k vs) ≤ length vs - k = omega (arith, length-drop k vs) in
+    map_take n (take (length vs - k) (drop k vs)) ∙ run
+    ∙ ap (λ (l : List (Vec ℕ)). run_of 16 4194298 (map bytes_of l)) (take_all (length vs - k) (drop k vs) rest ∙ drop_min vs from k e)
+    ∙ ap (run_of 16 4194298) (map_drop from vs ∙ ap (drop from) is)

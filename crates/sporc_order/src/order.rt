@@ -1,0 +1,114 @@
+//! An order of entries.
+
+ghost use Rattle.std.specs.Prelude.{◌≡◌, ◌≢◌, ◌+◌, ◌∷◌, ◌++◌, [], ◌≤◌, ◌<◌, length, take, drop, map, None, nat_lt, nat_le, ◌&&◌, IfOk, OnOk, OnErr};
+ghost use Rattle.sporc_checks.specs.FirstFault.{AnswersUnless};
+ghost use Rattle.sporc_entry.specs.Genesis.{IsGenesis};
+ghost use Rattle.sporc_head.specs.HeadChecks.{head_fault};
+ghost use Rattle.sporc_order.specs.Orders.{pulled, run_of};
+
+use sporc_entry::Genesis;
+use sporc_head::{Heads, Refusal};
+use std::alloc::{AllocError, Global};
+use std::marker::Model;
+
+/// No memory was left; all is as it was before the call.
+pub type Memory = AllocError;
+
+/// How many entries one answer holds at most.
+const MOST_ENTRIES: usize = 16;
+
+/// How many bytes the entries of one answer have at most, each with the four of its length: what a frame's body of
+/// 4,194,304 bytes leaves them.
+const MOST_BYTES: usize = 4_194_298;
+
+/// The order of a document's entries.
+///
+/// Contracts see the genesis and the entries.
+#[derive(Drop)]
+pub struct Order {
+    heads: Heads,
+}
+
+impl Model for Order {
+    ghost use Rattle.sporc_order.specs.OrderModel.{OrderModel};
+
+    ghost Value = { OrderModel };
+
+    ghost view = { λ o. record { genesis = o.heads.genesis; entries = o.heads.entries } };
+}
+
+impl Order {
+    /// The empty order of a document.
+    pub fn open(alloc: Global, genesis: Genesis) -> Result<Order, Memory>
+        requires { IsGenesis genesis }
+        ensures genesis { IfOk result (λ order. order.genesis ≡ genesis) }
+        ensures empty { IfOk result (λ order. order.entries ≡ []) }
+    {
+        let heads = Heads::open(alloc, genesis)?;
+        Ok(Order { heads })
+    }
+
+    /// The document whose entries it orders.
+    pub fn document(&self) -> &[u8; 16]
+        ensures { result.now ≡ self.now.genesis.document }
+    {
+        &self.heads.genesis().document
+    }
+
+    /// How many entries there are.
+    pub fn len(&self) -> u32
+        ensures { result ≡ length self.now.entries }
+    {
+        self.heads.len()
+    }
+
+    /// Appends an entry where no check fails that needs no key, and answers its position; else the first check that
+    /// fails.
+    pub fn submit(&mut self, bytes: &[u8]) -> Result<u32, Refusal>
+        ensures genesis { self.new.genesis ≡ self.old.genesis }
+        ensures fault { AnswersUnless Refusal.Memory result (head_fault self.old.genesis None self.old.entries (length self.old.entries + 1) bytes.now) }
+        ensures position { IfOk result (λ position. position ≡ length self.old.entries + 1) }
+        ensures ok { OnOk result (self.new.entries ≡ self.old.entries ++ bytes.now ∷ []) }
+        ensures err { OnErr result (self.new.entries ≡ self.old.entries) }
+    {
+        let position = self.heads.len() + 1;
+        let checked = self.heads.check(None, position, bytes)?;
+        match self.heads.push(checked) {
+            Ok(()) => Ok(position),
+            Err((_, AllocError)) => Err(Refusal::Memory),
+        }
+    }
+
+    /// The entries after the first `from`: as many of them, up to 16, as one answer holds. Empty exactly where there are
+    /// no more than `from`.
+    pub fn pull(&self, from: u32) -> &[Vec<u8>]
+        ensures { map (λ v. v.items) result.now ≡ pulled self.now.entries from }
+    {
+        let entries = self.heads.entries();
+        let from = (from as usize).min(entries.len());
+        let after = &entries[from..];
+        &after[..run_len(after)]
+    }
+}
+
+// How many of the first entries one answer holds.
+fn run_len(entries: &[Vec<u8>]) -> usize
+    ensures within { result ≤ length entries.now }
+    ensures run { take result (map (λ v. v.items) entries.now) ≡ run_of 16 4194298 (map (λ v. v.items) entries.now) }
+{
+    let mut room = MOST_BYTES;
+    for (i, entry) in entries.iter().enumerate() {
+        if !has_room(i, room, entry.len()) {
+            return i;
+        }
+        room -= entry.len() + 4;
+    }
+    entries.len()
+}
+
+// Whether an answer of so many entries has room for one more of this length.
+fn has_room(count: usize, room: usize, len: usize) -> bool
+    ensures { result ≡ (nat_lt count 16 && nat_le (len + 4) room) }
+{
+    count < MOST_ENTRIES && room >= 4 && len <= room - 4
+}

@@ -1,0 +1,10 @@
+//! The program as a function of its words, its source and its sink.
+#![tactic(auto)]
+
+mod fault;
+mod program;
+#[cfg(test)]
+mod tests;
+
+pub use crate::fault::Fault;
+pub use crate::program::run;

@@ -1,0 +1,199 @@
+ghost use Rattle.std.specs.Prelude.{◌<◌};
+
+use super::*;
+use sporc_outside::{Calls, MemorySink, MemorySource};
+use std::alloc::{AllocError, Global};
+use std::test::Fail;
+
+const THIN: &str = "member 1 admin\nedit 1 insert 0 \"abc\"\nsubmit 1\ngive 1 1 1\nshow 1\n";
+
+const THIN_REPORT: &str =
+    "1 edit event 1\n1 submit entry 1\n1 accept 1 ok\n1 at 1 pending 0 text \"abc\"\n";
+
+// The status and what is written, where the words are those of a line, the source and the sink move
+// at most `piece` bytes a call, and their calls of these numbers fail.
+fn answer(
+    alloc: Global,
+    words: &str,
+    script: &[u8],
+    piece: usize,
+    read_failing: u64,
+    write_failing: u64,
+) -> Result<(u8, Vec<u8>), AllocError>
+    requires { 0 < piece }
+{
+    let mut owned = Vec::new(alloc);
+    for word in words.split_whitespace() {
+        owned.push(String::from_str(alloc, word)?)?;
+    }
+    let reads = Calls::failing([read_failing].to_vec(alloc)?);
+    let writes = Calls::failing([write_failing].to_vec(alloc)?);
+    let mut source = MemorySource::new(script.to_vec(alloc)?, piece, reads);
+    let mut out = MemorySink::new(alloc, piece, writes);
+    let status = run(alloc, &owned, &mut source, &mut out);
+    Ok((status, out.as_slice().to_vec(alloc)?))
+}
+
+#[test]
+fn answers_scripts(rt: HostRuntime) -> Result<(), Fail> {
+    // Expected lines are those of the worked examples, and for the others those that the grammar calls for.
+    for (script, status, report) in [
+        ("", 0, ""),
+        (THIN, 0, THIN_REPORT),
+        (
+            "member 1 admin\nedit 1 insert 0 \"ab\"\nedit 1 remove 0 1\nsubmit 1\nsubmit 1\ngive 1 2 1\n\
+             give 1 1 1\ngive 1 2 1\nedit 1 insert 5 \"x\"\nshow 1",
+            0,
+            "1 edit event 1\n1 edit event 2\n1 submit entry 1\n1 submit waiting 1\n\
+             1 accept 2 refused wrong-position\n1 accept 1 ok\n1 accept 2 refused wrong-number\n\
+             1 edit outside 1\n1 at 1 pending 1 text \"b\"\n",
+        ),
+        (
+            "# a submission is an event, too\n\nmember 9 admin\nedit 9 insert 0 \"a\"\nsubmit 9\n\
+             edit 9 insert 1 \"b\"\ngive 9 1 1\nsubmit 9\nsubmit 9\nshow 9\ngive 9 2 2\nsubmit 9\n",
+            0,
+            "9 edit event 1\n9 submit entry 1\n9 edit event 3\n9 accept 1 ok\n9 submit entry 2\n\
+             9 submit waiting 2\n9 at 1 pending 1 text \"ab\"\n9 accept 2 ok\n9 submit nothing\n",
+        ),
+        (
+            "member 65535 admin\nedit 65535 insert 0 \"a\u{e4}\u{20ac}\u{1d11e}\\\\ \\\"\\n\r\"\n\
+             edit 65535 remove 1 2\nshow 65535\n",
+            0,
+            "65535 edit event 1\n65535 edit event 2\n65535 at 0 pending 2 text \"a\u{1d11e}\\\\ \\\"\\n\r\"\n",
+        ),
+        (
+            "member 1 admin\ngive 1 4294967295 1\ngive 1 1 0\ngive 1 1 18446744073709551615\n\
+             edit 1 remove 18446744073709551615 1\nedit 1 remove 0 1\nedit 1 insert 0 \"\"\n",
+            0,
+            "1 accept 4294967295 no entry\n1 accept 1 no entry\n1 accept 1 no entry\n\
+             1 edit outside 0\n1 edit outside 0\n1 edit event 1\n",
+        ),
+        (
+            "member 1 admin\nedit 1 insert x \"a\"\n",
+            3,
+            "fault line 2\n",
+        ),
+        ("show 1\n", 3, "fault line 1\n"),
+        ("# a\n\nmember 1 admin\nshow 2\n", 3, "fault line 4\n"),
+        ("member 1 admin\nmember 2 admin\n", 3, "fault line 2\n"),
+        ("member 1 editor\n", 3, "fault line 1\n"),
+        ("member 0 admin\n", 3, "fault line 1\n"),
+        ("member 65536 admin\n", 3, "fault line 1\n"),
+        ("member 01 admin\n", 3, "fault line 1\n"),
+        ("member +1 admin\n", 3, "fault line 1\n"),
+        ("member  1 admin\n", 3, "fault line 1\n"),
+        ("member\t1 admin\n", 3, "fault line 1\n"),
+        ("member 1 admin \n", 3, "fault line 1\n"),
+        ("member 1 admin\r\n", 3, "fault line 1\n"),
+        ("member 1 admin\nshow 1\r", 3, "fault line 2\n"),
+        ("member 1 admin\nshow 1\n \n", 3, "fault line 3\n"),
+        ("member 1 admin\ngive 1 4294967296 1\n", 3, "fault line 2\n"),
+        (
+            "member 1 admin\ngive 1 1 18446744073709551616\n",
+            3,
+            "fault line 2\n",
+        ),
+        (
+            "member 1 admin\nedit 1 insert 0 \"a\\q\"\n",
+            3,
+            "fault line 2\n",
+        ),
+        (
+            "member 1 admin\nedit 1 insert 0 \"a\\\"\n",
+            3,
+            "fault line 2\n",
+        ),
+        (
+            "member 1 admin\nedit 1 insert 0 \"a\"b\"\n",
+            3,
+            "fault line 2\n",
+        ),
+        ("member 1 admin\nedit 1 insert 0 a\n", 3, "fault line 2\n"),
+    ] {
+        let (got, written) = answer(rt.alloc(), "play", script.as_bytes(), 4096, 0, 0)?;
+        assert_eq!(rt; written.as_slice(), report.as_bytes(), "{script}");
+        assert_eq!(rt; got, status, "{script}");
+    }
+    for script in [b"# \xff\n", b"\xc3\n\n\n"] {
+        let (got, written) = answer(rt.alloc(), "play", script.as_slice(), 4096, 0, 0)?;
+        assert_eq!(rt; written.as_slice(), b"fault line 1\n".as_slice());
+        assert_eq!(rt; got, 3);
+    }
+    Ok(())
+}
+
+#[test]
+fn knows_one_word(rt: HostRuntime) -> Result<(), Fail> {
+    for words in ["paly", "", "play play", "--help", "Play"] {
+        let (status, written) = answer(rt.alloc(), words, THIN.as_bytes(), 9, 0, 0)?;
+        assert_eq!(rt; written.as_slice(), b"fault words\n".as_slice());
+        assert_eq!(rt; status, 2);
+    }
+    Ok(())
+}
+
+#[test]
+fn reads_scripts_up_to_a_size(rt: HostRuntime) -> Result<(), Fail> {
+    let mut script = Vec::new(rt.alloc());
+    for _ in 0..16_384 {
+        script.push(b'#')?;
+    }
+    assert_eq!(rt;
+        answer(rt.alloc(), "play", script.as_slice(), 5000, 0, 0)?.0,
+        0
+    );
+    script.push(b'\n')?;
+    let (status, written) = answer(rt.alloc(), "play", script.as_slice(), 5000, 0, 0)?;
+    assert_eq!(rt; written.as_slice(), b"fault too long script\n".as_slice());
+    assert_eq!(rt; status, 3);
+    Ok(())
+}
+
+#[test]
+fn tells_each_fault_of_the_outside(rt: HostRuntime) -> Result<(), Fail> {
+    // Each read fails in turn, until no read is left to fail.
+    let mut reads = 0;
+    for k in 1..100 {
+        let (status, written) = answer(rt.alloc(), "play", THIN.as_bytes(), 7, k, 0)?;
+        if status == 0 {
+            assert_eq!(rt; written.as_slice(), THIN_REPORT.as_bytes());
+            reads = k;
+            break;
+        }
+        assert_eq!(rt;
+            written.as_slice(),
+            b"fault outside\n".as_slice(),
+            "read {k}"
+        );
+        assert_eq!(rt; status, 6, "read {k}");
+    }
+    // As many reads of 7 bytes as the script takes, and one that finds its end.
+    assert_eq!(rt; reads, THIN.len().div_ceil(7) as u64 + 2);
+    // And each write of one byte.
+    for k in 1..1000 {
+        let (status, written) = answer(rt.alloc(), "play", THIN.as_bytes(), 1, 0, k)?;
+        if status == 0 {
+            assert_eq!(rt; written.as_slice(), THIN_REPORT.as_bytes());
+            assert_eq!(rt; k, THIN_REPORT.len() as u64 + 1);
+            return Ok(());
+        }
+        let front = THIN_REPORT
+            .as_bytes()
+            .get(..k as usize - 1)
+            .ok_or("too many writes")?;
+        let text = written.strip_prefix(front).ok_or("no front of the report")?;
+        assert_eq!(rt; text, b"fault outside\n".as_slice(), "write {k}");
+        assert_eq!(rt; status, 6, "write {k}");
+    }
+    Err(Fail::from("each run failed"))
+}
+
+#[test]
+fn keeps_the_status_where_the_line_is_not_written(rt: HostRuntime) -> Result<(), Fail> {
+    for (word, script, status) in [("paly", "", 2), ("play", "x", 3)] {
+        let (got, written) = answer(rt.alloc(), word, script.as_bytes(), 4, 0, 2)?;
+        assert_eq!(rt; written.as_slice(), b"faul".as_slice());
+        assert_eq!(rt; got, status);
+    }
+    Ok(())
+}
