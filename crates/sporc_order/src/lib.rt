@@ -5,3 +5,6 @@
 mod order;
 
 pub use order::{Memory, Order};
+
+#[cfg(test)]
+mod tests;

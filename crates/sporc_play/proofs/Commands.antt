@@ -6,9 +6,12 @@ use Rattle.std.specs.Char.{encode_utf8}
 use Rattle.std.proofs.lemmas.Str.{chars-encodes, encode_ascii}
 use Rattle.std.proofs.lemmas.Bool.Decides.{eqb_tells}
 use Rattle.std.proofs.lemmas.Fmt.{decimal_injective}
-use Rattle.std.proofs.lemmas.List.{append_cancel_right}
 use Rattle.sporc_play.specs.declared.script.command.Command.{Command}
 use Rattle.sporc_play.specs.declared.script.command.Command.TheVariants as commands
+use Rattle.sporc_play.specs.declared.script.command.Declaration.{Declaration}
+use Rattle.sporc_play.specs.declared.script.command.Role.{Role}
+use Rattle.sporc_play.specs.declared.script.command.Role.TheVariants.{Admin, Editor}
+use Rattle.sporc_play.specs.declared.script.command.Comparison.{Comparison}
 use Rattle.sporc_play.specs.declared.script.command.Change.{Change}
 use Rattle.sporc_play.specs.declared.script.command.Change.TheVariants.{Insert, Remove}
 use Rattle.sporc_play.specs.declared.script.command.Edit.{Edit}
@@ -17,7 +20,7 @@ use Rattle.sporc_play.specs.declared.script.command.Insertion.{Insertion}
 use Rattle.sporc_play.specs.declared.script.command.Removal.{Removal}
 use Rattle.sporc_play.specs.Words.{Lacks, Splits}
 use Rattle.sporc_play.specs.Quoted.{escape, quoted}
-use Rattle.sporc_play.specs.Spelling.{EditInRange, GiveInRange, Spells, SpellsChange, SpellsEdit, SpellsGive, change_spelling, edit_spelling, give_spelling, change_size, text_size}
+use Rattle.sporc_play.specs.Spelling.{IsMember, ComparisonInRange, EditInRange, GiveInRange, Spells, SpellsChange, SpellsComparison, SpellsDeclaration, SpellsEdit, SpellsGive, change_spelling, comparison_spelling, declaration_spelling, edit_spelling, give_spelling, role_name, change_size, text_size}
 use Rattle.sporc_play.specs.Unescape.{unescape}
 use Rattle.sporc_play.proofs.Escapes.{body_of}
 use Rattle.sporc_play.proofs.Spelled.{Lacks_decimal, no_number, one_rest, one_split, split_number}
@@ -32,6 +35,7 @@ letter (commands.Edit e) = 100
 letter (commands.Submit m) = 117
 letter (commands.Give g) = 105
 letter (commands.Show m) = 104
+letter (commands.Compare c) = 111
 
 second-spelled : (line : List ℕ) (c : Command) → Spells line c → second line ≡ letter c
 unfolding second
@@ -40,6 +44,25 @@ second-spelled line (commands.Edit e) spelled = ap second spelled.1
 second-spelled line (commands.Submit m) spelled = ap second spelled.1
 second-spelled line (commands.Give g) spelled = ap second spelled.1
 second-spelled line (commands.Show m) spelled = ap second spelled.1
+second-spelled line (commands.Compare c) spelled = ap second spelled.1
+
+-- a declaration, split at its space
+pub no_declaration_split : (rest : List ℕ) → Lacks 32 rest → (d : Declaration) → ¬ (SpellsDeclaration rest d)
+no_declaration_split rest lacks d spelled = no_number rest (role_name d.role) d.member lacks spelled.1
+
+pub no_declaration_parts : (rest first second : List ℕ) → Splits 32 rest first second → ((d : Declaration) → IsMember d.member → first ≡ decimal d.member → second ≡ role_name d.role → ⊥) → (d : Declaration) → ¬ (SpellsDeclaration rest d)
+no_declaration_parts rest first second splits none d spelled =
+    let parts = split_number rest first second (role_name d.role) d.member (omega (arith, spelled.0.1)) splits spelled.1 in
+    none d spelled.0 parts.0 parts.1
+
+-- a comparison, split at its space
+pub no_comparison_split : (rest : List ℕ) → Lacks 32 rest → (c : Comparison) → ¬ (SpellsComparison rest c)
+no_comparison_split rest lacks c spelled = no_number rest (decimal c.second) c.first lacks spelled.1
+
+pub no_comparison_parts : (rest first second : List ℕ) → Splits 32 rest first second → ((c : Comparison) → ComparisonInRange c → first ≡ decimal c.first → second ≡ decimal c.second → ⊥) → (c : Comparison) → ¬ (SpellsComparison rest c)
+no_comparison_parts rest first second splits none c spelled =
+    let parts = split_number rest first second (decimal c.second) c.first (omega (arith, spelled.0.0.1)) splits spelled.1 in
+    none c spelled.0 parts.0 parts.1
 
 -- an edit, split at its first space
 pub no_edit_split : (rest : List ℕ) → Lacks 32 rest → (e : Edit) → ¬ (SpellsEdit rest e)
@@ -141,11 +164,30 @@ one_give bytes g h x y =
     ap₂ (λ (m : ℕ) (p : ℕ). record { member = m; position = p; entry = g.entry }) parts.0 rests.0
     ∙ ap (λ (n : ℕ). record { member = h.member; position = h.position; entry = n }) entry
 
+one_role : (r t : Role) → role_name r ≡ role_name t → r ≡ t
+one_role Admin Admin same = refl
+one_role Editor Editor same = refl
+one_role Admin Editor same = absurd (omega (arith, ap length same))
+one_role Editor Admin same = absurd (omega (arith, ap length same))
+
+one_declaration : (bytes : List ℕ) (d e : Declaration) → SpellsDeclaration bytes d → SpellsDeclaration bytes e → d ≡ e
+one_declaration bytes d e x y =
+    let parts = one_number d.member e.member (role_name d.role) (role_name e.role) (omega (arith, x.0.1)) (omega (arith, y.0.1)) (sym x.1 ∙ y.1) in
+    ap₂ (λ (m : ℕ) (r : Role). record { member = m; role = r }) parts.0 (one_role d.role e.role parts.1)
+
+one_comparison : (bytes : List ℕ) (c d : Comparison) → SpellsComparison bytes c → SpellsComparison bytes d → c ≡ d
+one_comparison bytes c d x y =
+    let parts = one_number c.first d.first (decimal c.second) (decimal d.second) (omega (arith, x.0.0.1)) (omega (arith, y.0.0.1)) (sym x.1 ∙ y.1) in
+    ap₂ (λ (m : ℕ) (n : ℕ). record { first = m; second = n }) parts.0 (decimal_injective c.second d.second (omega (arith, x.0.1.1)) (omega (arith, y.0.1.1)) parts.1)
+
 -- a line spells one command
 pub one_command : (line : List ℕ) (c d : Command) → Spells line c → Spells line d → c ≡ d
-one_command line (commands.Member m) (commands.Member n) x y =
-    let rest = one_rest line (codes "member ") (decimal m ++ codes " admin") (decimal n ++ codes " admin") x.1 y.1 in
-    ap commands.Member (decimal_injective m n (omega (arith, x.0.1)) (omega (arith, y.0.1)) (append_cancel_right (decimal m) (decimal n) (codes " admin") rest))
+one_command line (commands.Member d) (commands.Member e) x y =
+    let rest = one_rest line (codes "member ") (declaration_spelling d) (declaration_spelling e) x.1 y.1 in
+    ap commands.Member (one_declaration (declaration_spelling d) d e (x.0, refl) (y.0, rest))
+one_command line (commands.Compare c) (commands.Compare d) x y =
+    let rest = one_rest line (codes "compare ") (comparison_spelling c) (comparison_spelling d) x.1 y.1 in
+    ap commands.Compare (one_comparison (comparison_spelling c) c d (x.0, refl) (y.0, rest))
 one_command line (commands.Edit e) (commands.Edit f) x y =
     let rest = one_rest line (codes "edit ") (edit_spelling e) (edit_spelling f) x.1 y.1 in
     ap commands.Edit (one_edit (edit_spelling e) e f (x.0, refl) (y.0, rest))

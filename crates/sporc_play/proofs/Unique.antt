@@ -14,6 +14,7 @@ first_is (commands.Edit e) is = absurd (omega (arith, is))
 first_is (commands.Submit m) is = absurd (omega (arith, is))
 first_is (commands.Give g) is = absurd (omega (arith, is))
 first_is (commands.Show m) is = absurd (omega (arith, is))
+first_is (commands.Compare c) is = absurd (omega (arith, is))
 
 first_some : (c : Command) → get_or (spelling c) 0 0 ≡ 0 → ⊥
 first_some (commands.Member m) is = absurd (omega (arith, is))
@@ -21,6 +22,7 @@ first_some (commands.Edit e) is = absurd (omega (arith, is))
 first_some (commands.Submit m) is = absurd (omega (arith, is))
 first_some (commands.Give g) is = absurd (omega (arith, is))
 first_some (commands.Show m) is = absurd (omega (arith, is))
+first_some (commands.Compare c) is = absurd (omega (arith, is))
 
 pub not_skipped : (l : List ℕ) (c : Command) → IsSkipped l → Spells l c → ⊥
 not_skipped [] c skipped spelled = first_some c (ap (λ (b : List ℕ). get_or b 0 0) (sym spelled.1))

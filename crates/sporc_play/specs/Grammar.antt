@@ -1,9 +1,12 @@
 -- Which texts are play scripts.
-use Rattle.std.specs.Prelude.{◌≡◌, ℕ, ◌+◌, ◌⊎◌, ◌==◌, if◌then◌else◌, Bool, true, false, List, [], ◌∷◌, ◌++◌, Option, Some, None}
+use Rattle.std.specs.Prelude.{◌≡◌, ℕ, ◌+◌, ◌⊎◌, ◌==◌, nat_lt, if◌then◌else◌, Bool, true, not, ◌&&◌, List, [], ◌∷◌, ◌++◌, length}
+use Rattle.std.specs.List.{list_all}
 use Rattle.std.specs.Str.{IsUtf8}
 use Rattle.sporc_play.specs.declared.script.command.Command.{Command}
-use Rattle.sporc_play.specs.declared.script.command.Command.TheVariants.{Member, Edit, Submit, Give, Show}
+use Rattle.sporc_play.specs.declared.script.command.Command.TheVariants.{Member, Edit, Submit, Give, Show, Compare}
 use Rattle.sporc_play.specs.declared.script.command.PlayLine.{PlayLine}
+use Rattle.sporc_play.specs.declared.script.members.TheConstants.{MAX_MEMBERS}
+use Rattle.sporc_play.specs.Preamble.{Declared, declared_by, is_declared}
 use Rattle.sporc_play.specs.Spelling.{Spells}
 
 -- a byte before a list of lines belongs to the first of them
@@ -21,35 +24,19 @@ abbrev pub IsSkipped : List ℕ → Type 0
 IsSkipped [] = Unit {0}
 IsSkipped (b ∷ bs) = (b ≡ 35) × IsUtf8 (b ∷ bs)
 
--- the member that a command declares, if none is declared before
-abbrev pub declared_after : Option ℕ → Command → Option ℕ
-declared_after (Some m) c = Some m
-declared_after None (Member m) = Some m
-declared_after None c = None
+-- the members that a command names
+abbrev pub named_by : Command → List ℕ
+named_by (Member m) = []
+named_by (Edit e) = e.member ∷ []
+named_by (Submit m) = m ∷ []
+named_by (Give g) = g.member ∷ []
+named_by (Show m) = m ∷ []
+named_by (Compare c) = c.first ∷ c.second ∷ []
 
--- the member that a command declares, else the one that those after it declare
-abbrev pub declared_first : Command → Option ℕ → Option ℕ
-declared_first (Member m) later = Some m
-declared_first c later = later
-
--- the member that these lines declare
-abbrev pub declared_by : List PlayLine → Option ℕ
-declared_by [] = None
-declared_by (l ∷ ls) = declared_first l.command (declared_by ls)
-
--- the command is one of this member's
-abbrev pub is_of : ℕ → Command → Bool
-is_of m (Member n) = false
-is_of m (Edit e) = e.member == m
-is_of m (Submit n) = n == m
-is_of m (Give g) = g.member == m
-is_of m (Show n) = n == m
-
--- the declaration comes first and once, and then come that member's commands
-abbrev pub may_follow : Option ℕ → Command → Bool
-may_follow None (Member m) = true
-may_follow None c = false
-may_follow (Some m) c = is_of m c
+-- declarations come first, at most 64 and each of another number; commands follow where there is an admin, and name declared members
+abbrev pub may_follow : Declared → Command → Bool
+may_follow d (Member m) = not d.begun && (nat_lt (length d.members) MAX_MEMBERS && not (is_declared d.members m.member))
+may_follow d c = d.has_admin && list_all (λ m. is_declared d.members m) (named_by c)
 
 -- the line is this command, and may stand after those before it
 abbrev pub IsNext : List PlayLine → List ℕ → Command → Type 0

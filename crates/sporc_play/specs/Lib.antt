@@ -1,9 +1,14 @@
-pub mod Client
 pub mod Grammar
+pub mod Moves
 pub mod Playing
+pub mod Preamble
 pub mod Quoted
 pub mod Reading
+pub mod Report
+pub mod Scene
+pub mod SceneKeeps
+pub mod SeatPlace
 pub mod Spelling
+pub mod Telling
 pub mod Unescape
 pub mod Words
-pub mod World

@@ -1,17 +1,16 @@
 -- What a play did with its source and its sink.
 use Rattle.std.specs.Prelude.{ℕ, ◌≤◌, List, length, Option}
-use Rattle.std.specs.Io.KnownBytes.{Appends, Consumes, IsAtEnd}
+use Rattle.std.specs.Io.KnownBytes.{Consumes, IsAtEnd}
 use Rattle.sporc_outside.specs.declared.source.ReadFault.{ReadFault}
 use Rattle.sporc_outside.specs.declared.source.ReadFault.TheVariants as reading
 use Rattle.sporc_outside.specs.Counts.{Rose}
-use Rattle.sporc_outside.specs.Writing.{AppendsFront}
 use Rattle.sporc_play.specs.declared.fault.PlayFault.{PlayFault}
 use Rattle.sporc_play.specs.declared.fault.PlayFault.TheVariants as faults
 use Rattle.sporc_play.specs.declared.script.command.PlayLine.{PlayLine}
 use Rattle.sporc_play.specs.declared.script.reader.LineFault.{LineFault}
 use Rattle.sporc_play.specs.declared.script.reader.LineFault.TheVariants as lines
 use Rattle.sporc_play.specs.Grammar.{IsFaultLine, IsScript}
-use Rattle.sporc_play.specs.World.{report}
+use Rattle.sporc_play.specs.Report.{Reports, ReportsFront}
 
 -- the fault of a play that a fault of its source or its script is
 abbrev pub read_fault : ReadFault → PlayFault
@@ -32,12 +31,12 @@ pub record ReadsWhole (limit : ℕ) (old new : Option (List ℕ)) (text : List �
 -- the source was read to its end as a script, and its report was written, nothing else
 abbrev pub Plays : ℕ → Option (List ℕ) → Option (List ℕ) → Option (List ℕ) → Option (List ℕ) → Type 0
 Plays limit left left' written written' =
-    (text : List ℕ) × (script : List PlayLine) × ReadsWhole limit left left' text × IsScript text script × Appends written written' (report script)
+    (text : List ℕ) × (script : List PlayLine) × ReadsWhole limit left left' text × IsScript text script × Reports script written written'
 
 -- the same, where only a front of the report was written
 abbrev pub PlaysFront : ℕ → Option (List ℕ) → Option (List ℕ) → Option (List ℕ) → Option (List ℕ) → Type 0
 PlaysFront limit left left' written written' =
-    (text : List ℕ) × (script : List PlayLine) × ReadsWhole limit left left' text × IsScript text script × AppendsFront written written' (report script)
+    (text : List ℕ) × (script : List PlayLine) × ReadsWhole limit left left' text × IsScript text script × ReportsFront script written written'
 
 -- the source was read to its end, and its first line outside the grammar is line k
 abbrev pub IsOutside : ℕ → Option (List ℕ) → Option (List ℕ) → ℕ → Type 0

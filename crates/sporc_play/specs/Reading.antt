@@ -2,20 +2,21 @@
 use Rattle.std.specs.Prelude.{◌≡◌, ℕ, List, Option, Some, None, true}
 use Rattle.sporc_play.specs.declared.script.command.Command.{Command}
 use Rattle.sporc_play.specs.declared.script.command.PlayLine.{PlayLine}
-use Rattle.sporc_play.specs.Grammar.{IsSkipped, declared_after, may_follow}
+use Rattle.sporc_play.specs.Preamble.{Declared, declared_after}
+use Rattle.sporc_play.specs.Grammar.{IsSkipped, may_follow}
 use Rattle.sporc_play.specs.Spelling.{Spells}
 
--- line n, where this member is declared before it, is skipped, or is a part of the script
-abbrev pub ReadsLine : Option ℕ → ℕ → List ℕ → Option PlayLine → Type 0
+-- line n, where this is declared before it, is skipped, or is a part of the script
+abbrev pub ReadsLine : Declared → ℕ → List ℕ → Option PlayLine → Type 0
 ReadsLine declared n line None = IsSkipped line
 ReadsLine declared n line (Some l) = (l.number ≡ n) × Spells line l.command × (may_follow declared l.command ≡ true)
 
 -- line k is this one, and it is outside the grammar
-abbrev pub IsLineOutside : Option ℕ → ℕ → List ℕ → ℕ → Type 0
+abbrev pub IsLineOutside : Declared → ℕ → List ℕ → ℕ → Type 0
 IsLineOutside declared n line k =
     (k ≡ n) × ¬ (IsSkipped line) × ((c : Command) → Spells line c → may_follow declared c ≡ true → ⊥)
 
--- the member that is declared once a line is read
-abbrev pub declared_with : Option ℕ → Option PlayLine → Option ℕ
+-- what is declared once a line is read
+abbrev pub declared_with : Declared → Option PlayLine → Declared
 declared_with declared None = declared
 declared_with declared (Some l) = declared_after declared l.command

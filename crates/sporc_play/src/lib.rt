@@ -3,13 +3,14 @@
 //! [`play`] reads a script from a source and writes to a sink what each of its commands answers.
 #![tactic(auto)]
 
-mod client;
 mod fault;
 pub mod laws;
 mod lines;
 mod playing;
 mod script;
+mod seat;
 mod state;
 
 pub use crate::fault::PlayFault;
 pub use crate::playing::{MAX_SCRIPT, play};
+pub use crate::script::{LineFault, PlayScript, read_play};

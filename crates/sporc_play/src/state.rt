@@ -1,41 +1,45 @@
 //! The state of a play.
 
-ghost use Rattle.std.specs.Prelude.{◌≡◌, ◌<◌, ◌≤◌, ◌++◌, length, MatchOption, OnOk, string_bytes};
+ghost use Rattle.std.specs.Prelude.{◌≡◌, ◌^◌, ◌≤◌, [], MatchOption, OnOk, string_bytes};
+ghost use Rattle.sporc_play.specs.Scene.{after, after_member, entry_at, seat_of};
 ghost use Rattle.sporc_play.specs.Spelling.{change_size, text_size};
-ghost use Rattle.sporc_play.specs.World.{after, entry_at, line_of, new_world};
-ghost use Rattle.sporc_play.specs.declared.client.TheConstants.{MAX_EVENTS, MAX_TEXT};
+ghost use Rattle.sporc_play.specs.Telling.{Tells};
 
-use crate::client::{PlainClient, PlainEntry, Submitted};
-use crate::lines::push_show;
-use crate::script::{Command, Edit, Give};
+use crate::lines::{push_show, push_verdict};
+use crate::script::{Command, Comparison, Edit, Give};
+use crate::seat::{Seat, edit, give, seat_at, submit};
+use sporc_client::{PlainClient, PlainEntry, compare};
 use std::alloc::{AllocError, Global};
 use std::fmt::Write;
 use std::marker::Model;
 
-/// The clients of a play, and all entries that were made, in order.
+/// The members with their clients, and all entries that were made, in order.
 #[derive(Debug, Drop)]
 pub struct PlayState {
-    client: PlainClient,
+    genesis: Vec<u8>,
+    seats: Vec<Seat>,
     made: Vec<PlainEntry>,
 }
 
 impl Model for PlayState {
-    ghost use Rattle.sporc_play.specs.Client.{AreMadeBy};
-    ghost use Rattle.sporc_play.specs.World.{World};
+    ghost use Rattle.sporc_play.specs.Scene.{Scene};
+    ghost use Rattle.sporc_play.specs.SceneKeeps.{IsKept};
 
-    ghost Value = { World };
+    ghost Value = { Scene };
 
-    ghost view = { λ s. record { client = s.client; made = s.made.items } };
+    ghost view = { λ s. record { genesis = s.genesis.items; seats = s.seats.items; made = s.made.items } };
 
-    ghost invariant = { λ s. AreMadeBy s.client s.made.items };
+    ghost invariant = { λ s. IsKept s.genesis.items s.seats.items s.made.items };
 }
 
 impl PlayState {
-    pub fn new(alloc: Global) -> PlayState
-        ensures { result ≡ new_world }
+    /// Before the first line.
+    pub fn new(alloc: Global, genesis: Vec<u8>) -> PlayState
+        ensures { result ≡ record { genesis = genesis.items; seats = []; made = [] } }
     {
         PlayState {
-            client: PlainClient::new(alloc),
+            genesis,
+            seats: Vec::new(alloc),
             made: Vec::new(alloc),
         }
     }
@@ -47,83 +51,110 @@ impl PlayState {
         command: &Command,
         out: &mut String,
     ) -> Result<(), AllocError>
-        requires room { length self.old.client.shown < MAX_EVENTS }
-        requires short { text_size command.now ≤ MAX_TEXT }
+        requires { text_size command.now ≤ 2 ^ 40 }
         ensures state { OnOk result (self.new ≡ after command.now self.old) }
-        ensures line { OnOk result (string_bytes out.new
-            ≡ string_bytes out.old ++ line_of command.now self.old) }
+        ensures line { OnOk result (Tells command.now self.old (string_bytes out.old) (string_bytes out.new)) }
     {
         match command {
-            Command::Member(_) => Ok(()),
+            Command::Member(declaration) => self.open(alloc, declaration.member),
             Command::Edit(edit) => self.edit(alloc, edit, out),
-            Command::Submit(member) => self.submit(alloc, *member, out),
-            Command::Give(give) => self.give(alloc, give, out),
-            Command::Show(member) => push_show(out, *member, &self.client),
+            Command::Submit(member) => self.submit(*member, out),
+            Command::Give(give) => self.give(give, out),
+            Command::Show(member) => self.show(*member, out),
+            Command::Compare(comparison) => self.compare(comparison, out),
         }
     }
 
-    fn edit(&mut self, alloc: Global, edit: &Edit, out: &mut String) -> Result<(), AllocError>
-        requires room { length self.old.client.shown < MAX_EVENTS }
-        requires short { change_size edit.now.change ≤ MAX_TEXT }
-        ensures state { OnOk result (self.new ≡ after (Command.Edit edit.now) self.old) }
-        ensures line { OnOk result (string_bytes out.new
-            ≡ string_bytes out.old ++ line_of (Command.Edit edit.now) self.old) }
+    fn open(&mut self, alloc: Global, member: u16) -> Result<(), AllocError>
+        ensures { OnOk result (self.new ≡ after_member member (seat_of member self.old.seats) self.old) }
     {
-        let member = edit.member;
-        let within = self.client.change(alloc, &edit.change)?;
-        if !within {
-            let len = self.client.text().len();
-            return writeln!(out, "{member} edit outside {len}");
+        if seat_at(self.seats.as_slice(), member).is_some() {
+            return Ok(());
         }
-        let events = self.client.events();
-        writeln!(out, "{member} edit event {events}")
+        let client = PlainClient::open(alloc, member, self.genesis.as_slice())?;
+        self.seats.push(Seat {
+            member,
+            client,
+            last: 0,
+        })?;
+        Ok(())
     }
 
-    fn submit(&mut self, alloc: Global, member: u16, out: &mut String) -> Result<(), AllocError>
-        requires { length self.old.client.shown < MAX_EVENTS }
-        ensures state { OnOk result (self.new ≡ after (Command.Submit member) self.old) }
-        ensures line { OnOk result (string_bytes out.new
-            ≡ string_bytes out.old ++ line_of (Command.Submit member) self.old) }
+    fn edit(&mut self, alloc: Global, change: &Edit, out: &mut String) -> Result<(), AllocError>
+        requires { change_size change.now.change ≤ 2 ^ 40 }
+        ensures state { OnOk result (self.new ≡ after (Command.Edit change.now) self.old) }
+        ensures line { OnOk result (Tells (Command.Edit change.now) self.old (string_bytes out.old) (string_bytes out.new)) }
     {
-        self.made.reserve(1)?;
-        match self.client.submit(alloc)? {
-            Submitted::Entry(entry) => {
-                self.made.push_reserved(entry);
-                let number = self.made.len();
-                writeln!(out, "{member} submit entry {number}")
-            }
-            Submitted::Waiting => {
-                let number = self.made.len();
-                writeln!(out, "{member} submit waiting {number}")
-            }
-            Submitted::Nothing => writeln!(out, "{member} submit nothing"),
-        }
-    }
-
-    fn give(&mut self, alloc: Global, give: &Give, out: &mut String) -> Result<(), AllocError>
-        requires { length self.old.client.shown < MAX_EVENTS }
-        ensures state { OnOk result (self.new ≡ after (Command.Give give.now) self.old) }
-        ensures line { OnOk result (string_bytes out.new
-            ≡ string_bytes out.old ++ line_of (Command.Give give.now) self.old) }
-    {
-        let member = give.member;
-        let position = give.position;
-        let Some(entry) = entry_at(self.made.as_slice(), give.entry) else {
-            return writeln!(out, "{member} accept {position} no entry");
+        let Some(i) = seat_at(self.seats.as_slice(), change.member) else {
+            return Ok(());
         };
-        if let Some(refusal) = self.client.refusal(position, entry) {
-            let name = refusal.name();
-            return writeln!(out, "{member} accept {position} refused {name}");
+        edit(alloc, &mut self.seats[i], change, out)?;
+        Ok(())
+    }
+
+    fn submit(&mut self, member: u16, out: &mut String) -> Result<(), AllocError>
+        ensures state { OnOk result (self.new ≡ after (Command.Submit member) self.old) }
+        ensures line { OnOk result (Tells (Command.Submit member) self.old (string_bytes out.old) (string_bytes out.new)) }
+    {
+        let Some(i) = seat_at(self.seats.as_slice(), member) else {
+            return Ok(());
+        };
+        let number = self.made.as_slice().len() as u64 + 1;
+        self.made.reserve(1)?;
+        if let Some(entry) = submit(&mut self.seats[i], number, out)? {
+            self.made.push_reserved(entry);
         }
-        self.client.accept(alloc, entry)?;
-        writeln!(out, "{member} accept {position} ok")
+        Ok(())
+    }
+
+    fn give(&mut self, handed: &Give, out: &mut String) -> Result<(), AllocError>
+        ensures state { OnOk result (self.new ≡ after (Command.Give handed.now) self.old) }
+        ensures line { OnOk result (Tells (Command.Give handed.now) self.old (string_bytes out.old) (string_bytes out.new)) }
+    {
+        let member = handed.member;
+        let position = handed.position;
+        let Some(i) = seat_at(self.seats.as_slice(), member) else {
+            return Ok(());
+        };
+        let Some(entry) = entry_at(self.made.as_slice(), handed.entry) else {
+            writeln!(out, "{member} accept {position} no entry")?;
+            return Ok(());
+        };
+        give(&mut self.seats[i], position, entry, out)?;
+        Ok(())
+    }
+
+    fn show(&self, member: u16, out: &mut String) -> Result<(), AllocError>
+        ensures { OnOk result (Tells (Command.Show member) self.now (string_bytes out.old) (string_bytes out.new)) }
+    {
+        let Some(i) = seat_at(self.seats.as_slice(), member) else {
+            return Ok(());
+        };
+        let seat = &self.seats[i];
+        push_show(out, member, &seat.client)?;
+        Ok(())
+    }
+
+    fn compare(&self, comparison: &Comparison, out: &mut String) -> Result<(), AllocError>
+        ensures { OnOk result (Tells (Command.Compare comparison.now) self.now (string_bytes out.old) (string_bytes out.new)) }
+    {
+        let Some(i) = seat_at(self.seats.as_slice(), comparison.first) else {
+            return Ok(());
+        };
+        let Some(j) = seat_at(self.seats.as_slice(), comparison.second) else {
+            return Ok(());
+        };
+        let first = &self.seats[i];
+        let second = &self.seats[j];
+        let verdict = compare(first.client.hashes(), second.client.hashes());
+        push_verdict(out, comparison, verdict)?;
+        Ok(())
     }
 }
 
 // Entry E, counted from 1.
 fn entry_at(made: &[PlainEntry], number: u64) -> Option<&PlainEntry>
-    ensures { MatchOption result (entry_at made.now number ≡ None)
-        (λ e. entry_at made.now number ≡ Some e.now) }
+    ensures { MatchOption result (entry_at made.now number ≡ None) (λ e. entry_at made.now number ≡ Some e.now) }
 {
     if number == 0 {
         return None;

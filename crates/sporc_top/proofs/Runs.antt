@@ -1,11 +1,11 @@
 -- What a source that tells its content calls for.
-use Rattle.std.proofs.Common.{◌≡◌, ℕ, ◌+◌, ◌<◌, ◌≤◌, ◌⊎◌, List, ◌++◌, length, Option, Some, None, refl, sym, ap, ◌∙◌, subst, inl, inr, arith, append-nil, length-append}
-use Rattle.std.specs.Io.KnownBytes.{Appends}
+use Rattle.std.proofs.Common.{◌≡◌, ℕ, ◌+◌, ◌<◌, ◌≤◌, ◌⊎◌, List, [], ◌∷◌, ◌++◌, length, Option, Some, None, refl, sym, ap, ◌∙◌, subst, inl, inr, arith, append-nil, length-append}
+use Rattle.std.specs.Io.KnownBytes.{Consumes, IsAtEnd}
 use Rattle.sporc_outside.specs.Reading.{ConsumesExactly}
 use Rattle.sporc_play.specs.declared.script.command.PlayLine.{PlayLine}
 use Rattle.sporc_play.specs.Grammar.{IsFaultLine, IsScript, lines_of}
-use Rattle.sporc_play.specs.Playing.{Plays, ReadsWhole}
-use Rattle.sporc_play.specs.World.{report}
+use Rattle.sporc_play.specs.Playing.{IsOutside, Plays, ReadsWhole}
+use Rattle.sporc_play.specs.Report.{Reports}
 use Rattle.sporc_play.proofs.Unique.{one_fault, one_reading, not_both}
 use Rattle.sporc_top.specs.declared.fault.Fault.{Fault}
 use Rattle.sporc_top.specs.declared.fault.Fault.TheVariants as faults
@@ -30,12 +30,12 @@ no_more n (Some xs) (Some ys) text told taken =
 pub on_script : (status limit : ℕ) (words : List (List ℕ)) (left left' written written' : Option (List ℕ)) (before after : ℕ) → IsStatus status → (status ≡ 2 → ¬ (IsPlay words))
     → (status ≡ 0 → Plays limit left left' written written') → (status ≡ 3 → RefusesScript limit left left' written written' before after)
     → (text : List ℕ) (script : List PlayLine) → IsPlay words → left ≡ Some text → length text ≤ limit → IsScript text script
-    → ((status ≡ 0) × Appends written written' (report script)) ⊎ (status ≡ 1) ⊎ (status ≡ 6)
+    → ((status ≡ 0) × Reports script written written') ⊎ (status ≡ 1) ⊎ (status ≡ 6)
 on_script status limit words left left' written written' before after (inl is) other played refused text script play told within reads =
     let (read, own, whole, is_own, app) = played is in
     let same = all_of limit left left' text read told whole in
     let one = one_reading (lines_of text) _ 1 own script (subst (λ (t : List ℕ). IsScript t own) same is_own) reads in
-    inl (is, subst (λ (s : List PlayLine). Appends written written' (report s)) one app)
+    inl (is, subst (λ (s : List PlayLine). Reports s written written') one app)
 on_script status limit words left left' written written' before after (inr (inl is)) other played refused text script play told within reads = inr (inl is)
 on_script status limit words left left' written written' before after (inr (inr (inl is))) other played refused text script play told within reads = absurd (other is play)
 on_script status limit words left left' written written' before after (inr (inr (inr (inl is)))) other played refused text script play told within reads =
@@ -134,7 +134,7 @@ fails_outside limit l l' r r' w mid w' b mid_b b' faults.Outside (inr sink) told
 pub failed_script : (status limit : ℕ) (words : List (List ℕ)) (l l' : Option (List ℕ)) (r r' : ℕ) (w mid w' : Option (List ℕ)) (b mid_b b' : ℕ) (f : Fault) → status ≡ status_of f → (f ≡ faults.Words → ¬ (IsPlay words))
     → IsCause limit l l' r r' w mid b mid_b f → Tells mid w' mid_b b' (fault_line f)
     → (text : List ℕ) (script : List PlayLine) → IsPlay words → l ≡ Some text → length text ≤ limit → IsScript text script
-    → ((status ≡ 0) × Appends w w' (report script)) ⊎ (status ≡ 1) ⊎ (status ≡ 6)
+    → ((status ≡ 0) × Reports script w w') ⊎ (status ≡ 1) ⊎ (status ≡ 6)
 failed_script status limit words l l' r r' w mid w' b mid_b b' f e other cause told =
     on_script status limit words l l' w w' b b' (subst IsStatus (sym e) (is_status f)) (λ is. other (words_alone f (sym e ∙ is)))
     (λ is. absurd (not_zero f (sym e ∙ is))) (λ is. refuses limit l l' r r' w mid w' b mid_b b' f cause told (sym e ∙ is))

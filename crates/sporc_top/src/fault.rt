@@ -1,6 +1,6 @@
 //! Faults of the program: a status and a line for each.
 
-ghost use Rattle.std.specs.Prelude.{◌≡◌, ◌≤◌, OnOk, OnErr};
+ghost use Rattle.std.specs.Prelude.{◌≡◌, ◌≤◌, ◌++◌, ℕ, OnOk, OnErr};
 ghost use Rattle.std.specs.Io.KnownBytes.{Appends};
 ghost use Rattle.sporc_outside.specs.Counts.{CountsFaults};
 ghost use Rattle.sporc_outside.specs.Writing.{AppendsFront};
@@ -49,18 +49,15 @@ impl Fault {
 
     /// Writes the line of the fault, as far as the sink takes it.
     pub fn tell<O: Sink>(self, out: &mut O)
-        ensures line { Tells (O.written out.old)
-            (O.written out.new) (O.faults out.old) (O.faults out.new) (fault_line self) }
+        ensures line { Tells (O.written out.old) (O.written out.new) (O.faults out.old) (O.faults out.new) (fault_line self) }
         ensures kept { O.faults out.old ≤ O.faults out.new }
     {
         let _ = self.write_line(out);
     }
 
     fn write_line<O: Sink>(self, out: &mut O) -> Result<(), Failed>
-        ensures ok { OnOk result (Appends (O.written out.old)
-            (O.written out.new) (fault_line self)) }
-        ensures err { OnErr result (AppendsFront (O.written out.old)
-            (O.written out.new) (fault_line self)) }
+        ensures ok { OnOk result (Appends (O.written out.old) (O.written out.new) (fault_line self)) }
+        ensures err { OnErr result (AppendsFront (O.written out.old) (O.written out.new) (fault_line self)) }
         ensures count { CountsFaults (O.faults out.old) (O.faults out.new) result }
     {
         match self {
@@ -78,10 +75,8 @@ impl Fault {
 
 // `fault line` with these digits. The number is written in pieces, since a line's fault takes no memory.
 fn write_numbered<O: Sink>(out: &mut O, digits: &[u8]) -> Result<(), Failed>
-    ensures ok { OnOk result (Appends (O.written out.old)
-        (O.written out.new) (numbered_line digits.now)) }
-    ensures err { OnErr result (AppendsFront (O.written out.old)
-        (O.written out.new) (numbered_line digits.now)) }
+    ensures ok { OnOk result (Appends (O.written out.old) (O.written out.new) (numbered_line digits.now)) }
+    ensures err { OnErr result (AppendsFront (O.written out.old) (O.written out.new) (numbered_line digits.now)) }
     ensures count { CountsFaults (O.faults out.old) (O.faults out.new) result }
 {
     write_all(out, b"fault line ")?;

@@ -1,10 +1,11 @@
 //! The program.
 
-ghost use Rattle.std.specs.Prelude.{◌≡◌, ◌<◌, ◌≤◌, ◌↔◌, ◌⊎◌, ℕ, List, Some, length, map, IsTrue, IfErr, OnOk, string_bytes};
-ghost use Rattle.std.specs.Io.KnownBytes.{Appends};
+ghost use Rattle.std.specs.Prelude.{◌≡◌, ◌≢◌, ◌+◌, ◌<◌, ◌≤◌, ◌↔◌, ◌⊎◌, ℕ, List, Some, length, map, IsTrue, IfErr, OnOk, string_bytes};
+ghost use Rattle.sporc_outside.specs.Counts.{Rose};
 ghost use Rattle.sporc_play.specs.Grammar.{IsFaultLine, IsScript};
+ghost use Rattle.sporc_play.specs.Moves.{IsOneRun};
 ghost use Rattle.sporc_play.specs.Playing.{Plays};
-ghost use Rattle.sporc_play.specs.World.{report};
+ghost use Rattle.sporc_play.specs.Report.{Reports};
 ghost use Rattle.sporc_play.specs.declared.playing.TheConstants.{MAX_SCRIPT};
 ghost use Rattle.sporc_play.specs.declared.script.command.PlayLine.{PlayLine};
 ghost use Rattle.sporc_top.specs.Faults.{Tells, fault_line};
@@ -25,13 +26,13 @@ use std::alloc::Global;
 /// | 2 | `fault words` |
 /// | 3 | `fault line N`, or `fault too long script` |
 /// | 6 | `fault outside` |
+#[tactic(auto, using(sporc_play::proofs::OneRun::one_run))]
 pub fn run<S: Source, O: Sink>(alloc: Global, words: &[String], source: &mut S, out: &mut O) -> u8
     ensures statuses { IsStatus result }
 
     // 2 comes exactly where the words are others.
     ensures words { (result ≡ 2) ↔ (¬ IsPlay (map (λ w. string_bytes w) words.now)) }
-    ensures words_told { result ≡ 2 → Tells (O.written out.old)
-        (O.written out.new) (O.faults out.old) (O.faults out.new)
+    ensures words_told { result ≡ 2 → Tells (O.written out.old) (O.written out.new) (O.faults out.old) (O.faults out.new)
         (fault_line Fault.Words) }
 
     // What each other status says, whether the source and the sink tell their content or not.
@@ -44,10 +45,9 @@ pub fn run<S: Source, O: Sink>(alloc: Global, words: &[String], source: &mut S, 
         (O.written out.old) (O.written out.new) (O.faults out.old) (O.faults out.new) }
 
     // And what a source that tells its content calls for, where memory suffices and nothing fails.
-    ensures script { (text : List ℕ) (script : List PlayLine) → IsPlay (map
-        (λ w. string_bytes w) words.now)
+    ensures script { (text : List ℕ) (script : List PlayLine) → IsPlay (map (λ w. string_bytes w) words.now)
         → S.left source.old ≡ Some text → length text ≤ MAX_SCRIPT → IsScript text script
-        → ((result ≡ 0) × Appends (O.written out.old) (O.written out.new) (report script)) ⊎ (result ≡ 1) ⊎ (result ≡ 6) }
+        → ((result ≡ 0) × Reports script (O.written out.old) (O.written out.new)) ⊎ (result ≡ 1) ⊎ (result ≡ 6) }
     ensures no_script { (text : List ℕ) (k : ℕ) → IsPlay (map (λ w. string_bytes w) words.now)
         → S.left source.old ≡ Some text → length text ≤ MAX_SCRIPT → IsFaultLine text k
         → ((result ≡ 3) × Tells (O.written out.old) (O.written out.new) (O.faults out.old) (O.faults out.new)
@@ -56,6 +56,9 @@ pub fn run<S: Source, O: Sink>(alloc: Global, words: &[String], source: &mut S, 
         → S.left source.old ≡ Some text → MAX_SCRIPT < length text
         → ((result ≡ 3) × Tells (O.written out.old) (O.written out.new) (O.faults out.old) (O.faults out.new)
         (fault_line Fault.TooLong)) ⊎ (result ≡ 1) ⊎ (result ≡ 6) }
+
+    // Over every script the play is a run of the clients, who agree at any two of its moments.
+    ensures agree { (text : List ℕ) (script : List PlayLine) → IsScript text script → IsOneRun script }
 {
     match perform(alloc, words, source, out) {
         Ok(()) => 0,

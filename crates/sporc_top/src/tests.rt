@@ -3,6 +3,7 @@ ghost use Rattle.std.specs.Prelude.{◌<◌};
 use super::*;
 use sporc_outside::{Calls, MemorySink, MemorySource};
 use std::alloc::{AllocError, Global};
+use std::fmt::Write;
 use std::test::Fail;
 
 const THIN: &str = "member 1 admin\nedit 1 insert 0 \"abc\"\nsubmit 1\ngive 1 1 1\nshow 1\n";
@@ -75,8 +76,21 @@ fn answers_scripts(rt: HostRuntime) -> Result<(), Fail> {
         ),
         ("show 1\n", 3, "fault line 1\n"),
         ("# a\n\nmember 1 admin\nshow 2\n", 3, "fault line 4\n"),
-        ("member 1 admin\nmember 2 admin\n", 3, "fault line 2\n"),
-        ("member 1 editor\n", 3, "fault line 1\n"),
+        ("member 1 editor\n", 0, ""),
+        (
+            "member 1 editor\nmember 2 admin\nshow 1\n",
+            0,
+            "1 at 0 pending 0 text \"\"\n",
+        ),
+        ("member 1 editor\nshow 1\n", 3, "fault line 2\n"),
+        ("member 1 admin\nmember 1 editor\n", 3, "fault line 2\n"),
+        (
+            "member 1 admin\nshow 1\nmember 2 editor\n",
+            3,
+            "fault line 3\n",
+        ),
+        ("member 1 admin\ncompare 1 2\n", 3, "fault line 2\n"),
+        ("member 1 reader\n", 3, "fault line 1\n"),
         ("member 0 admin\n", 3, "fault line 1\n"),
         ("member 65536 admin\n", 3, "fault line 1\n"),
         ("member 01 admin\n", 3, "fault line 1\n"),
@@ -135,15 +149,15 @@ fn knows_one_word(rt: HostRuntime) -> Result<(), Fail> {
 #[test]
 fn reads_scripts_up_to_a_size(rt: HostRuntime) -> Result<(), Fail> {
     let mut script = Vec::new(rt.alloc());
-    for _ in 0..16_384 {
+    for _ in 0..16_777_216 {
         script.push(b'#')?;
     }
     assert_eq!(rt;
-        answer(rt.alloc(), "play", script.as_slice(), 5000, 0, 0)?.0,
+        answer(rt.alloc(), "play", script.as_slice(), 1 << 20, 0, 0)?.0,
         0
     );
     script.push(b'\n')?;
-    let (status, written) = answer(rt.alloc(), "play", script.as_slice(), 5000, 0, 0)?;
+    let (status, written) = answer(rt.alloc(), "play", script.as_slice(), 1 << 20, 0, 0)?;
     assert_eq!(rt; written.as_slice(), b"fault too long script\n".as_slice());
     assert_eq!(rt; status, 3);
     Ok(())
@@ -194,6 +208,131 @@ fn keeps_the_status_where_the_line_is_not_written(rt: HostRuntime) -> Result<(),
         let (got, written) = answer(rt.alloc(), word, script.as_bytes(), 4, 0, 2)?;
         assert_eq!(rt; written.as_slice(), b"faul".as_slice());
         assert_eq!(rt; got, status);
+    }
+    Ok(())
+}
+
+// Plays a script whole, where nothing fails.
+fn report(alloc: Global, script: &str) -> Result<Vec<u8>, Fail> {
+    let (status, written) = answer(alloc, "play", script.as_bytes(), 4096, 0, 0)?;
+    if status != 0 {
+        return Err(Fail::from("not played"));
+    }
+    Ok(written)
+}
+
+const TWO_MEMBERS: &str = "member 1 admin\nmember 2 editor\n";
+
+// The expected lines of the next three tests are those of the worked examples, written before the program.
+#[test]
+fn an_entry_is_accepted_once(rt: HostRuntime) -> Result<(), Fail> {
+    let mut script = String::from_str(rt.alloc(), TWO_MEMBERS)?;
+    script.push_str(
+        "edit 1 insert 0 \"abc\"\nsubmit 1\ngive 1 1 1\ngive 2 1 1\ngive 2 2 1\nsubmit 1\n",
+    )?;
+    let expected = "1 edit event 1\n1 submit entry 1\n1 accept 1 ok\n2 accept 1 ok\n\
+         2 accept 2 refused wrong-number\n1 submit nothing\n";
+    assert_eq!(rt;
+        report(rt.alloc(), script.as_str())?.as_slice(),
+        expected.as_bytes()
+    );
+    Ok(())
+}
+
+#[test]
+fn a_fork_stays_a_fork(rt: HostRuntime) -> Result<(), Fail> {
+    let mut script = String::from_str(rt.alloc(), TWO_MEMBERS)?;
+    script.push_str(
+        "edit 1 insert 0 \"abc\"\nsubmit 1\ngive 1 1 1\ngive 2 1 1\n\
+         edit 1 insert 3 \"d\"\nedit 2 insert 3 \"e\"\nsubmit 1\nsubmit 2\ngive 1 2 2\ngive 2 2 3\n\
+         edit 1 insert 0 \"z\"\nsubmit 1\nsubmit 1\ngive 2 3 4\ncompare 1 2\n",
+    )?;
+    let expected = "1 edit event 1\n1 submit entry 1\n1 accept 1 ok\n2 accept 1 ok\n\
+         1 edit event 4\n2 edit event 2\n1 submit entry 2\n2 submit entry 3\n1 accept 2 ok\n2 accept 2 ok\n\
+         1 edit event 7\n1 submit entry 4\n1 submit waiting 4\n2 accept 3 refused wrong-history\n\
+         1 2 forked after 1\n";
+    assert_eq!(rt;
+        report(rt.alloc(), script.as_str())?.as_slice(),
+        expected.as_bytes()
+    );
+    Ok(())
+}
+
+#[test]
+fn own_edits_keep_others_out(rt: HostRuntime) -> Result<(), Fail> {
+    let mut script = String::from_str(rt.alloc(), TWO_MEMBERS)?;
+    script.push_str(
+        "edit 1 insert 0 \"abc\"\nsubmit 1\ngive 1 1 1\ngive 2 1 1\n\
+         edit 1 insert 3 \"d\"\nedit 2 insert 0 \"x\"\nsubmit 1\nsubmit 2\n\
+         give 1 2 2\ngive 1 3 3\ngive 2 2 2\ncompare 1 2\ncompare 2 1\ncompare 1 1\n",
+    )?;
+    let expected = "1 edit event 1\n1 submit entry 1\n1 accept 1 ok\n2 accept 1 ok\n\
+         1 edit event 4\n2 edit event 2\n1 submit entry 2\n2 submit entry 3\n\
+         1 accept 2 ok\n1 accept 3 refused stale-base\n2 accept 2 refused has-pending\n\
+         1 2 longer\n2 1 prefix\n1 1 same\n";
+    assert_eq!(rt;
+        report(rt.alloc(), script.as_str())?.as_slice(),
+        expected.as_bytes()
+    );
+    Ok(())
+}
+
+// All 64 accept one entry, and a declaration more is outside the grammar.
+#[test]
+fn sixty_four_members_share_an_entry(rt: HostRuntime) -> Result<(), Fail> {
+    let mut script = String::new(rt.alloc());
+    for m in 1..=64u16 {
+        writeln!(script, "member {m} admin")?;
+    }
+    let more = String::from_str(rt.alloc(), script.as_str())?;
+    script.push_str("edit 64 insert 0 \"a\"\nsubmit 64\n")?;
+    let mut expected = String::from_str(rt.alloc(), "64 edit event 1\n64 submit entry 1\n")?;
+    for m in 1..=64u16 {
+        writeln!(script, "give {m} 1 1")?;
+        writeln!(expected, "{m} accept 1 ok")?;
+    }
+    script.push_str("compare 1 64\nshow 32\n")?;
+    expected.push_str("1 64 same\n32 at 1 pending 0 text \"a\"\n")?;
+    assert_eq!(rt;
+        report(rt.alloc(), script.as_str())?.as_slice(),
+        expected.as_bytes()
+    );
+    let mut full = more;
+    full.push_str("member 65 editor\n")?;
+    let (status, written) = answer(rt.alloc(), "play", full.as_bytes(), 4096, 0, 0)?;
+    assert_eq!(rt; written.as_slice(), b"fault line 65\n".as_slice());
+    assert_eq!(rt; status, 3);
+    Ok(())
+}
+
+// 1,024 edits are pending, and the next is refused; the longest edit has 65,536 bytes, 9 of them beside its text.
+#[test]
+fn edits_are_limited(rt: HostRuntime) -> Result<(), Fail> {
+    let mut script = String::from_str(rt.alloc(), "member 1 admin\n")?;
+    let mut expected = String::new(rt.alloc());
+    for event in 1..=1_024u64 {
+        script.push_str("edit 1 insert 0 \"\"\n")?;
+        writeln!(expected, "1 edit event {event}")?;
+    }
+    script.push_str("edit 1 insert 0 \"\"\n")?;
+    expected.push_str("1 edit refused pending-full\n")?;
+    assert_eq!(rt;
+        report(rt.alloc(), script.as_str())?.as_slice(),
+        expected.as_bytes()
+    );
+    for (len, line) in [
+        (65_527, "1 edit event 1\n"),
+        (65_528, "1 edit refused too-long\n"),
+    ] {
+        let mut script = String::from_str(rt.alloc(), "member 1 admin\nedit 1 insert 0 \"")?;
+        for _ in 0..len {
+            script.push('a')?;
+        }
+        script.push_str("\"\n")?;
+        assert_eq!(rt;
+            report(rt.alloc(), script.as_str())?.as_slice(),
+            line.as_bytes()
+        );
     }
     Ok(())
 }

@@ -12,8 +12,8 @@ pub struct PlayLine {
 
 #[derive(Debug, Drop)]
 pub enum Command {
-    /// `member M admin` declares the member.
-    Member(u16),
+    /// `member M ROLE` declares a member.
+    Member(Declaration),
     /// `edit M ..` edits the text that a member sees.
     Edit(Edit),
     /// `submit M` makes an entry of the first pending edit.
@@ -22,6 +22,26 @@ pub enum Command {
     Give(Give),
     /// `show M` shows the text that a member sees.
     Show(u16),
+    /// `compare M N` compares what two members accepted.
+    Compare(Comparison),
+}
+
+#[derive(Clone, Copy, Debug, PartialEq, Eq)]
+pub enum Role {
+    Admin,
+    Editor,
+}
+
+#[derive(Clone, Copy, Debug, PartialEq, Eq)]
+pub struct Declaration {
+    pub member: u16,
+    pub role: Role,
+}
+
+#[derive(Clone, Copy, Debug, PartialEq, Eq)]
+pub struct Comparison {
+    pub first: u16,
+    pub second: u16,
 }
 
 #[derive(Debug, Drop)]

@@ -1,22 +1,25 @@
 //! One line of a script.
 
 ghost use Rattle.std.specs.Prelude.{◌≡◌, ◌≢◌, ◌++◌, ℕ, List, codes, IfOk, MatchOption};
-ghost use Rattle.std.specs.Fmt.{decimal};
 ghost use Rattle.sporc_play.specs.declared.script.command.Command.{Command};
 ghost use Rattle.sporc_play.specs.declared.script.command.Change.{Change};
 ghost use Rattle.sporc_play.specs.declared.script.command.Edit.{Edit};
 ghost use Rattle.sporc_play.specs.declared.script.command.Give.{Give};
-ghost use Rattle.sporc_play.specs.Spelling.{IsMember, Spells, SpellsChange, SpellsEdit, SpellsGive};
+ghost use Rattle.sporc_play.specs.declared.script.command.Declaration.{Declaration};
+ghost use Rattle.sporc_play.specs.declared.script.command.Comparison.{Comparison};
+ghost use Rattle.sporc_play.specs.declared.script.command.Role.{Role};
+ghost use Rattle.sporc_play.specs.Spelling.{Spells, SpellsChange, SpellsComparison, SpellsDeclaration, SpellsEdit, SpellsGive, role_name};
 
-use crate::script::command::{Change, Command, Edit, Give, Insertion, Removal};
+use crate::script::command::{
+    Change, Command, Comparison, Declaration, Edit, Give, Insertion, Removal, Role,
+};
 use crate::script::quoted::quoted_text;
 use crate::script::words::{after, before, member, number, small_number, split_once};
 use std::alloc::{AllocError, Global};
 
 // The command that the whole line spells, if there is one.
 pub fn read_command(alloc: Global, line: &[u8]) -> Result<Option<Command>, AllocError>
-    ensures { IfOk result (λ found. MatchOption found ((c : Command) → ¬ Spells line.now c)
-        (λ c. Spells line.now c)) }
+    ensures { IfOk result (λ found. MatchOption found ((c : Command) → ¬ Spells line.now c) (λ c. Spells line.now c)) }
 {
     let Some(rest) = after(line, b"edit ") else {
         return Ok(read_short(line));
@@ -33,8 +36,8 @@ fn read_short(line: &[u8]) -> Option<Command>
     ensures { MatchOption result ((c : Command) → ¬ Spells line.now c) (λ c. Spells line.now c) }
 {
     if let Some(rest) = after(line, b"member ") {
-        return match declaration(rest) {
-            Some(m) => Some(Command::Member(m)),
+        return match read_declaration(rest) {
+            Some(d) => Some(Command::Member(d)),
             None => None,
         };
     }
@@ -50,24 +53,51 @@ fn read_short(line: &[u8]) -> Option<Command>
             None => None,
         };
     }
+    if let Some(rest) = after(line, b"compare ") {
+        return match read_comparison(rest) {
+            Some(c) => Some(Command::Compare(c)),
+            None => None,
+        };
+    }
     match member(after(line, b"show ")?) {
         Some(m) => Some(Command::Show(m)),
         None => None,
     }
 }
 
-// `M admin`
-fn declaration(rest: &[u8]) -> Option<u16>
-    ensures { MatchOption result ((m : ℕ) → IsMember m → rest.now ≢ decimal m ++ codes " admin")
-        (λ m. IsMember m × (rest.now ≡ decimal m ++ codes " admin")) }
+// `M ROLE`
+fn read_declaration(rest: &[u8]) -> Option<Declaration>
+    ensures { MatchOption result ((d : Declaration) → ¬ SpellsDeclaration rest.now d) (λ d. SpellsDeclaration rest.now d) }
 {
-    member(before(rest, b" admin")?)
+    let (first, second) = split_once(rest, b' ')?;
+    let member = member(first)?;
+    let role = read_role(second)?;
+    Some(Declaration { member, role })
+}
+
+fn read_role(word: &[u8]) -> Option<Role>
+    ensures { MatchOption result ((r : Role) → word.now ≢ role_name r) (λ r. word.now ≡ role_name r) }
+{
+    match word {
+        b"admin" => Some(Role::Admin),
+        b"editor" => Some(Role::Editor),
+        _ => None,
+    }
+}
+
+// `M N`
+fn read_comparison(rest: &[u8]) -> Option<Comparison>
+    ensures { MatchOption result ((c : Comparison) → ¬ SpellsComparison rest.now c) (λ c. SpellsComparison rest.now c) }
+{
+    let (m, n) = split_once(rest, b' ')?;
+    let first = member(m)?;
+    let second = member(n)?;
+    Some(Comparison { first, second })
 }
 
 // `M POS E`
 fn read_give(rest: &[u8]) -> Option<Give>
-    ensures { MatchOption result ((g : Give) → ¬ SpellsGive rest.now g)
-        (λ g. SpellsGive rest.now g) }
+    ensures { MatchOption result ((g : Give) → ¬ SpellsGive rest.now g) (λ g. SpellsGive rest.now g) }
 {
     let (first, rest) = split_once(rest, b' ')?;
     let (second, third) = split_once(rest, b' ')?;
@@ -83,8 +113,7 @@ fn read_give(rest: &[u8]) -> Option<Give>
 
 // `M insert ..` or `M remove ..`
 fn read_edit(alloc: Global, rest: &[u8]) -> Result<Option<Edit>, AllocError>
-    ensures { IfOk result (λ found. MatchOption found ((e : Edit) → ¬ SpellsEdit rest.now e)
-        (λ e. SpellsEdit rest.now e)) }
+    ensures { IfOk result (λ found. MatchOption found ((e : Edit) → ¬ SpellsEdit rest.now e) (λ e. SpellsEdit rest.now e)) }
 {
     let Some((first, rest)) = split_once(rest, b' ') else {
         return Ok(None);
@@ -100,8 +129,7 @@ fn read_edit(alloc: Global, rest: &[u8]) -> Result<Option<Edit>, AllocError>
 
 // `insert AT TEXT` or `remove AT COUNT`
 fn read_change(alloc: Global, rest: &[u8]) -> Result<Option<Change>, AllocError>
-    ensures { IfOk result (λ found. MatchOption found ((c : Change)
-        → ¬ SpellsChange rest.now c) (λ c. SpellsChange rest.now c)) }
+    ensures { IfOk result (λ found. MatchOption found ((c : Change) → ¬ SpellsChange rest.now c) (λ c. SpellsChange rest.now c)) }
 {
     let Some(words) = after(rest, b"insert ") else {
         return Ok(read_removal(rest));
@@ -121,8 +149,7 @@ fn read_change(alloc: Global, rest: &[u8]) -> Result<Option<Change>, AllocError>
 // `remove AT COUNT`
 fn read_removal(rest: &[u8]) -> Option<Change>
     requires { (words : List ℕ) → rest.now ≢ codes "insert " ++ words }
-    ensures { MatchOption result ((c : Change) → ¬ SpellsChange rest.now c)
-        (λ c. SpellsChange rest.now c) }
+    ensures { MatchOption result ((c : Change) → ¬ SpellsChange rest.now c) (λ c. SpellsChange rest.now c) }
 {
     let (first, second) = split_once(after(rest, b"remove ")?, b' ')?;
     let at = number(first)?;

@@ -1,15 +1,16 @@
 //! A whole script.
 
-ghost use Rattle.std.specs.Prelude.{◌≡◌, ◌^◌, ◌<◌, ◌≤◌, ◌↔◌, ◌∷◌, ◌++◌, [], ℕ, List, All, IsTrue, length, true, IfOk, OnOk, MatchOption};
+ghost use Rattle.std.specs.Prelude.{◌≡◌, ◌+◌, ◌^◌, ◌<◌, ◌≤◌, ◌↔◌, ◌∷◌, ◌++◌, [], ℕ, List, All, IsTrue, length, true, IfOk, IfErr, OnOk, OnErr, MatchOption};
 ghost use Rattle.std.specs.Option.{option_to_list};
 ghost use Rattle.sporc_play.specs.declared.script.command.Command.{Command};
 ghost use Rattle.sporc_play.specs.declared.script.reader.LineFault.TheVariants as faults;
 ghost use Rattle.sporc_play.specs.Grammar.{IsFaultLine, IsScript, IsSkipped, lines_of, may_follow};
-ghost use Rattle.sporc_play.specs.Reading.{IsLineOutside, ReadsLine, declared_with};
+ghost use Rattle.sporc_play.specs.Reading.{IsLineOutside, ReadsLine};
 ghost use Rattle.sporc_play.specs.Spelling.{Spells, text_size};
 
 use crate::script::command::{Command, PlayLine};
 use crate::script::line::read_command;
+use crate::script::members::Members;
 use crate::script::words::split_once;
 use std::alloc::{AllocError, AllocFailed, Global};
 use std::marker::Model;
@@ -70,18 +71,17 @@ pub fn read_play(alloc: Global, text: &[u8]) -> Result<PlayScript, LineFault>
     requires { length text.now ≤ 2 ^ 30 }
     ensures script { IfOk result (λ script. IsScript text.now script) }
     ensures count { IfOk result (λ script. length script ≤ length text.now) }
-    ensures sizes { IfOk result (λ script. All
-        (λ l. text_size l.command ≤ length text.now) script) }
+    ensures sizes { IfOk result (λ script. All (λ l. text_size l.command ≤ length text.now) script) }
     ensures fault { (k : ℕ) → result ≡ Err (LineFault.Line k) → IsFaultLine text.now k }
 {
     let mut lines = Vec::new(alloc);
     let mut rest = text;
     let mut number = 1;
-    let mut declared = None;
+    let mut declared = Members::new(alloc);
     while !rest.is_empty() {
         let (line, after) = next_line(rest);
-        let read = read_numbered(alloc, declared, number, line)?;
-        declared = declared_with(declared, &read);
+        let read = read_numbered(alloc, &declared, number, line)?;
+        declared.note_line(&read)?;
         keep(&mut lines, read)?;
         rest = after;
         number += 1;
@@ -116,13 +116,12 @@ fn is_skipped(line: &[u8]) -> bool
 // A line as a part of the script; none, where it is skipped.
 fn read_numbered(
     alloc: Global,
-    declared: Option<u16>,
+    declared: &Members,
     number: u32,
     line: &[u8],
 ) -> Result<Option<PlayLine>, LineFault>
-    ensures ok { IfOk result (λ found. ReadsLine declared number line.now found) }
-    ensures fault { (k : ℕ) → result ≡ Err (LineFault.Line k)
-        → IsLineOutside declared number line.now k }
+    ensures ok { IfOk result (λ found. ReadsLine declared.now number line.now found) }
+    ensures fault { (k : ℕ) → result ≡ Err (LineFault.Line k) → IsLineOutside declared.now number line.now k }
 {
     if is_skipped(line) {
         return Ok(None);
@@ -136,51 +135,20 @@ fn read_numbered(
 // The command of a line, where it may come next.
 fn next_command(
     alloc: Global,
-    declared: Option<u16>,
+    declared: &Members,
     line: &[u8],
 ) -> Result<Option<Command>, AllocError>
     ensures { IfOk result (λ found. MatchOption found
-        ((c : Command) → Spells line.now c → may_follow declared c ≡ true → ⊥)
-        (λ c. Spells line.now c × (may_follow declared c ≡ true))) }
+        ((c : Command) → Spells line.now c → may_follow declared.now c ≡ true → ⊥)
+        (λ c. Spells line.now c × (may_follow declared.now c ≡ true))) }
 {
     let Some(command) = read_command(alloc, line)? else {
         return Ok(None);
     };
-    if may_follow(declared, &command) {
+    if declared.may_follow(&command) {
         return Ok(Some(command));
     }
     Ok(None)
-}
-
-fn may_follow(declared: Option<u16>, command: &Command) -> bool
-    ensures { result ≡ may_follow declared command.now }
-{
-    match (declared, command) {
-        (None, Command::Member(_)) => true,
-        (None, _) => false,
-        (Some(m), Command::Edit(edit)) => edit.member == m,
-        (Some(m), Command::Give(give)) => give.member == m,
-        (Some(m), Command::Submit(n) | Command::Show(n)) => *n == m,
-        (Some(_), Command::Member(_)) => false,
-    }
-}
-
-// The member that is declared once this line is read.
-fn declared_with(declared: Option<u16>, read: &Option<PlayLine>) -> Option<u16>
-    ensures { result ≡ declared_with declared read.now }
-{
-    match (declared, read) {
-        (
-            None,
-            Some(
-                PlayLine {
-                    command: Command::Member(m),
-                    ..
-                },
-            ),
-        ) => Some(*m),
-        _ => declared,
-    }
 }
 
 fn keep(lines: &mut Vec<PlayLine>, read: Option<PlayLine>) -> Result<(), AllocError>

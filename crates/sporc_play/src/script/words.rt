@@ -45,8 +45,7 @@ fn is_plain(word: &[u8]) -> bool
 
 // The number that the whole word is: decimal digits with no sign and no zero in front.
 pub fn number(word: &[u8]) -> Option<u64>
-    ensures { MatchOption result ((n : ℕ) → n < 2 ^ 64 → word.now ≢ decimal n) (λ n. word.now
-        ≡ decimal n) }
+    ensures { MatchOption result ((n : ℕ) → n < 2 ^ 64 → word.now ≢ decimal n) (λ n. word.now ≡ decimal n) }
 {
     if !is_plain(word) {
         return None;
@@ -62,8 +61,7 @@ pub fn number(word: &[u8]) -> Option<u64>
 
 // A position or the like.
 pub fn small_number(word: &[u8]) -> Option<u32>
-    ensures { MatchOption result ((n : ℕ) → n < 2 ^ 32 → word.now ≢ decimal n) (λ n. word.now
-        ≡ decimal n) }
+    ensures { MatchOption result ((n : ℕ) → n < 2 ^ 32 → word.now ≢ decimal n) (λ n. word.now ≡ decimal n) }
 {
     match number(word) {
         Some(n) if n < 1 << 32 => Some(n as u32),

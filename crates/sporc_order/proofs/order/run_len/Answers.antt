@@ -23,5 +23,5 @@ loop-i-preserved c =
     let has : (ltb c.loop-i.i 16 && leb (c.len.result + 4) c.loop-i.room) ≡ true = search rules in
     let p = has_room c.loop-i.i c.loop-i.room c.len.result has in
     let on = goes_on L c.loop-i.i c.loop-i.room c.index-entries-i.result.items (run_of 16 4194298 L) at
-        (subst (λ (n : ℕ). (ltb c.loop-i.i 16 && leb (n + 4) c.loop-i.room) ≡ true) size has) c.loop-i.invariant.1 in
+    (subst (λ (n : ℕ). (ltb c.loop-i.i 16 && leb (n + 4) c.loop-i.room) ≡ true) size has) c.loop-i.invariant.1 in
     (omega (arith, p.0), subst (λ (n : ℕ). run_of 16 4194298 L ≡ take (c.loop-i.i + 1) L ++ run_of (16 - (c.loop-i.i + 1)) (c.loop-i.room - (n + 4)) (drop (c.loop-i.i + 1) L)) (sym again) on)

@@ -7,4 +7,4 @@ pub returns : goal.returns
 returns c = λ other spelled follows.
     let own = rw c.in-Some.is at c.in_ok-command.ensures in
     let same = one_command c.args.line.now other c.in-Some.command spelled own in
-    let no : true ≡ false = sym follows ∙ ap (may_follow c.args.declared) same ∙ sym c.if-may_follow.ensures in cc
+    let no : true ≡ false = sym follows ∙ ap (may_follow c.args.declared.now) same ∙ sym c.if-may_follow.ensures in cc

@@ -24,7 +24,7 @@ loop-rest-preserved c =
           IsFirstOutside-cons before c.loop-rest.declared c.loop-rest.number line after c.in_ok-read.read k c.loop-rest.invariant.declared c.in_ok-read.ensures.ok
           (subst (λ (b : List PlayLine). IsFirstOutside b (c.loop-rest.number + 1) after k) kept h) in
           c.loop-rest.invariant.outside k (rw c.next_line.ensures.lines found);
-      declared = rw kept (c.declared_with-declared.ensures ∙ declared_with-kept before c.loop-rest.declared c.in_ok-read.read c.loop-rest.invariant.declared);
+      declared = rw kept (c.in_ok-note_line.ensures ∙ declared_with-kept before c.loop-rest.declared c.in_ok-read.read c.loop-rest.invariant.declared);
       number = omega (arith, c.next_line.ensures.shorter, c.loop-rest.invariant.number);
       count = omega (arith, ap length kept, counted before c.in_ok-read.read, c.next_line.ensures.shorter, c.loop-rest.invariant.count);
       sizes = rw kept (sizes-kept c.loop-rest.declared c.loop-rest.number line before c.in_ok-read.read (length c.args.text.now) c.in_ok-read.ensures.ok (omega (arith, c.next_line.ensures.within, c.loop-rest.invariant.count)) c.loop-rest.invariant.sizes);

@@ -1,7 +1,8 @@
 use Rattle.std.proofs.Common.{◌≡◌, ℕ, ◌+◌, ◌≤◌, List, ◌++◌, length, All}
 use Rattle.sporc_play.specs.declared.script.command.PlayLine.{PlayLine}
 use Rattle.sporc_play.specs.Spelling.{text_size}
-use Rattle.sporc_play.specs.Grammar.{IsFaultLine, IsFirstOutside, IsScript, Reads, declared_by, lines_of}
+use Rattle.sporc_play.specs.Grammar.{IsFaultLine, IsFirstOutside, IsScript, Reads, lines_of}
+use Rattle.sporc_play.specs.Preamble.{declared_by}
 use Rattle.sporc_play.proofs.script.reader.read_play.Given as goal
 
 abbrev pub invariant-loop-rest : goal.invariant-loop-rest

@@ -1,26 +1,26 @@
-use Rattle.std.proofs.Common.{◌≡◌, ℕ, List, ◌++◌, string_bytes, length, sym, ap, ◌∙◌, subst}
-use Rattle.std.specs.Result.{OnOk}
-use Rattle.sporc_play.specs.Client.{Client, change_marks, shown_text}
-use Rattle.sporc_play.specs.World.{World, edit_line}
-use Rattle.sporc_play.proofs.Clients.{event_line, outside_line}
+use Rattle.std.proofs.Common.{◌≡◌, List, subst, string_bytes}
+use Rattle.sporc_play.specs.declared.seat.Seat.{Seat}
+use Rattle.sporc_play.specs.declared.script.command.Command.TheVariants as commands
+use Rattle.sporc_play.specs.declared.script.command.Edit.{Edit}
+use Rattle.sporc_play.specs.Scene.{Scene, after}
+use Rattle.sporc_play.specs.SeatPlace.{IsSeatAt}
+use Rattle.sporc_play.specs.Telling.{Tells}
+use Rattle.std.specs.Vec.{with_item}
+use Rattle.sporc_play.proofs.States.{edit_told, scene_edited}
 use Rattle.sporc_play.proofs.state.PlayState.edit.Goals as goal
+
+pub returns-clause-state : goal.returns-clause-state
+returns-clause-state c =
+    let s : Scene = record { genesis = c.self.inside.genesis.items; seats = c.self.inside.seats.items; made = c.self.inside.made.items } in
+    let e : Edit = c.args.change.now in
+    let at = subst (λ (ts : List Seat). IsSeatAt ts e.member c.in-Some.i) c.as_slice.ensures.value c.in-Some.ensures in
+    let new : Scene = record s { seats = (with_item c.self.inside.seats c.in-Some.i c.edit.new.seat).items } in
+    subst (λ (t : Scene). new ≡ after (commands.Edit e) t) c.self.view_is (scene_edited s e c.in-Some.i c.index_mut.result.now c.edit.new.seat at c.index_mut.ensures.value c.in_ok-edit.ensures.seat)
 
 pub returns-clause-line : goal.returns-clause-line
 returns-clause-line c =
-    let client = c.self.inside.client in
-    let marks = change_marks c.args.edit.now.change (shown_text client) in
-    let line = event_line c.args.edit.now.member client marks (sym c.in_ok-within.ensures.within ∙ c.if-not-within.false) in
-    let events = c.events-events.ensures ∙ ap (λ (k : Client). length k.shown) c.in_ok-within.ensures.ok in
-    let told = subst (λ (t : List ℕ). OnOk c.writeln-2.result (string_bytes c.writeln-2.new.self ≡ string_bytes c.args.out.now ++ t)) (sym line) (rw events at c.writeln-2.ensures.bytes) in
-    subst (λ (w : World). OnOk c.writeln-2.result (string_bytes c.writeln-2.new.self ≡ string_bytes c.args.out.now ++ edit_line c.args.edit.now.member w.client (change_marks c.args.edit.now.change (shown_text w.client))))
-    c.self.view_is told
-
-pub returns-then-not-within-clause-line : goal.returns-then-not-within-clause-line
-returns-then-not-within-clause-line c =
-    let client = c.self.inside.client in
-    let marks = change_marks c.args.edit.now.change (shown_text client) in
-    let line = outside_line c.args.edit.now.member client marks (sym c.in_ok-within.ensures.within ∙ c.if-not-within.true) in
-    let text = c.text.ensures ∙ ap shown_text c.in_ok-within.ensures.ok in
-    let told = subst (λ (t : List ℕ). OnOk c.writeln.result (string_bytes c.writeln.new.self ≡ string_bytes c.args.out.now ++ t)) (sym line) (rw text at c.writeln.ensures.bytes) in
-    subst (λ (w : World). OnOk c.writeln.result (string_bytes c.writeln.new.self ≡ string_bytes c.args.out.now ++ edit_line c.args.edit.now.member w.client (change_marks c.args.edit.now.change (shown_text w.client))))
-    c.self.view_is told
+    let s : Scene = record { genesis = c.self.inside.genesis.items; seats = c.self.inside.seats.items; made = c.self.inside.made.items } in
+    let e : Edit = c.args.change.now in
+    let at = subst (λ (ts : List Seat). IsSeatAt ts e.member c.in-Some.i) c.as_slice.ensures.value c.in-Some.ensures in
+    subst (λ (t : Scene). Tells (commands.Edit e) t (string_bytes c.args.out.now) (string_bytes c.edit.new.out)) c.self.view_is
+    (edit_told s e c.in-Some.i c.index_mut.result.now _ _ at c.index_mut.ensures.value c.in_ok-edit.ensures.line)

@@ -1,0 +1,51 @@
+-- A report, line by line.
+use Rattle.std.proofs.Common.{◌≡◌, ℕ, zero, suc, ◌+◌, ◌<◌, ◌≤◌, List, [], ◌∷◌, ◌++◌, length, take, get_or, Option, refl, sym, ap, ◌∙◌, subst, arith, add-one, append-nil, append_assoc, length-append}
+use Rattle.std.proofs.lemmas.List.{take_all}
+use Rattle.std.proofs.lemmas.List.Sums.{fold-append}
+use Rattle.std.proofs.Math.Seq.{take-append-add}
+use Rattle.std.specs.Io.KnownBytes.{Appends}
+use Rattle.sporc_outside.specs.Writing.{AppendsFront}
+use Rattle.sporc_outside.proofs.Known.{Appends_then}
+use Rattle.sporc_play.specs.declared.script.command.PlayLine.{PlayLine}
+use Rattle.sporc_play.specs.Report.{Reports, ReportsFront, ReportsFrom, Writes}
+use Rattle.sporc_play.specs.Scene.{Scene, after, after_lines, opening, scene_at}
+use Rattle.sporc_play.specs.Telling.{WritesFront}
+
+take_suc : (lines : List PlayLine) (i : ℕ) (l : PlayLine) → i < length lines → l ≡ get_or lines i l → take (suc i) lines ≡ take i lines ++ l ∷ []
+take_suc [] i l low is = absurd (omega arith)
+take_suc (x ∷ xs) zero l low is = ap (λ (y : PlayLine). y ∷ []) (sym is)
+take_suc (x ∷ xs) (suc i) l low is = ap (λ (ys : List PlayLine). x ∷ ys) (take_suc xs i l (omega arith) is)
+
+take_more : (lines : List PlayLine) (i : ℕ) (l : PlayLine) → i < length lines → l ≡ get_or lines i l → take (i + 1) lines ≡ take i lines ++ l ∷ []
+take_more lines i l low is = rw add-one (take_suc lines i l low is)
+
+pub scene_more : (lines : List PlayLine) (i : ℕ) (l : PlayLine) → i < length lines → l ≡ get_or lines i l → scene_at lines (i + 1) ≡ after l.command (scene_at lines i)
+scene_more lines i l low is =
+    ap (after_lines (opening lines)) (take_more lines i l low is) ∙ fold-append (λ (s : Scene) (x : PlayLine). after x.command s) (opening lines) (take i lines) (l ∷ [])
+
+reports_push : (ls : List PlayLine) (s : Scene) (l : PlayLine) (report line : List ℕ) → ReportsFrom s ls report → Writes l.command (after_lines s ls) line → ReportsFrom s (ls ++ l ∷ []) (report ++ line)
+reports_push [] s l report line is writes = (line, [], writes, refl, ap (λ (t : List ℕ). t ++ line) is ∙ sym (append-nil line))
+reports_push (x ∷ xs) s l report line r writes =
+    (r.0, r.1 ++ line, r.2, reports_push xs (after x.command s) l r.1 line r.3 writes, ap (λ (t : List ℕ). t ++ line) r.4 ∙ append_assoc r.0 r.1 line)
+
+pub reports_more : (lines : List PlayLine) (i : ℕ) (l : PlayLine) (s : Scene) (report line : List ℕ) → i < length lines → l ≡ get_or lines i l → s ≡ scene_at lines i
+    → ReportsFrom (opening lines) (take i lines) report → Writes l.command s line → ReportsFrom (opening lines) (take (i + 1) lines) (report ++ line)
+reports_more lines i l s report line low is scene so_far writes =
+    subst (λ (ls : List PlayLine). ReportsFrom (opening lines) ls (report ++ line)) (sym (take_more lines i l low is))
+    (reports_push (take i lines) (opening lines) l report line so_far (subst (λ (t : Scene). Writes l.command t line) scene writes))
+
+pub reports_all : (lines : List PlayLine) (i : ℕ) (a b : Option (List ℕ)) → length lines ≤ i
+    → (report : List ℕ) × ReportsFrom (opening lines) (take i lines) report × Appends a b report → Reports lines a b
+reports_all lines i a b low r = (r.0, subst (λ (ls : List PlayLine). ReportsFrom (opening lines) ls r.0) (take_all i lines low) r.1, r.2)
+
+front_after : (a b c : Option (List ℕ)) (bytes piece : List ℕ) → Appends a b bytes → AppendsFront b c piece → AppendsFront a c (bytes ++ piece)
+front_after a b c bytes piece first (n, low, then) = (
+  length bytes + n,
+  omega (arith, length-append bytes piece),
+  subst (λ (t : List ℕ). Appends a c t) (sym (take-append-add bytes piece n)) (Appends_then _ _ _ _ _ first then),
+)
+
+pub reports_front : (lines : List PlayLine) (i : ℕ) (l : PlayLine) (s : Scene) (a b c : Option (List ℕ)) → i < length lines → l ≡ get_or lines i l → s ≡ scene_at lines i
+    → (report : List ℕ) × ReportsFrom (opening lines) (take i lines) report × Appends a b report → WritesFront l.command s b c → ReportsFront lines a c
+reports_front lines i l s a b c low is scene r w =
+    (i + 1, r.0 ++ w.0, reports_more lines i l s r.0 w.0 low is scene r.1 w.1, front_after a b c r.0 w.0 r.2 w.2)
