@@ -3,6 +3,8 @@
 
 mod blocks;
 mod steps;
+#[cfg(test)]
+mod tests;
 
 pub use crate::blocks::{Blocks, ReadyForm};
 pub use crate::steps::Steps;

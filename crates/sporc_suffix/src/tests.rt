@@ -1,0 +1,102 @@
+ghost use Rattle.std.specs.Prelude.{◌≡◌, ◌+◌, ◌≤◌, ◌<◌, ◌∷◌, [], IsTrue, IfOk};
+ghost use Rattle.sporc_delta.specs.Marks.{base_len, inserted_len, out_len};
+
+use crate::{Blocks, Steps};
+use sporc_delta::{Delta, Part};
+use std::alloc::{AllocError, Global};
+use std::marker::Brand;
+use std::sync::ledger::{Blank, Ledger};
+use std::test::Fail;
+
+// Two forms, the second of which is stated on the text after the first.
+fn two_forms(alloc: Global, first: Delta, second: Delta) -> Result<Blocks, AllocError>
+    requires { base_len second ≡ out_len first }
+    ensures base { IfOk result (λ b. b.base ≡ base_len first) }
+    ensures forms { IfOk result (λ b. b.forms ≡ first ∷ second ∷ []) }
+{
+    let mut blocks = Blocks::new(alloc, first.base_len())?;
+    match blocks.push(first) {
+        Ok(()) => {}
+        Err((_, e)) => return Err(e),
+    }
+    match blocks.ready(second) {
+        Ok(ready) => {
+            blocks.put(ready);
+            Ok(blocks)
+        }
+        Err((_, e)) => Err(e),
+    }
+}
+
+// Whether the texts before and after it are short.
+#[tactic(auto, using(sporc_xform::proofs::LengthLemmas::inserted_len_le))]
+fn is_short(delta: &Delta) -> bool
+    ensures base { IsTrue result → base_len delta.now ≤ 100 }
+    ensures inserted { IsTrue result → inserted_len delta.now ≤ 100 }
+{
+    delta.base_len() <= 100 && delta.out_len() <= 100
+}
+
+// How many forms there are, and what `q` becomes behind them.
+fn behind<L: Ledger>(
+    blank: Blank,
+    alloc: Global,
+    first: Delta,
+    second: Delta,
+    q: &Delta,
+) -> Result<(u32, Delta), AllocError>
+    requires name { blank.name ≡ L.name }
+    requires parts { blank.parts ≡ L.parts }
+    requires some { 0 < blank.parts }
+    requires base { base_len q.now ≡ base_len first }
+    requires next { base_len second ≡ out_len first }
+    requires short { base_len q.now ≤ 100 }
+    requires few { inserted_len q.now ≤ 100 }
+    requires first_few { inserted_len first ≤ 100 }
+    requires second_few { inserted_len second ≤ 100 }
+{
+    let blocks = two_forms(alloc, first, second)?;
+    let mut steps: Steps<L> = Steps::new(blank);
+    let delta = blocks.later_over(q, 0, &mut steps)?;
+    Ok((blocks.len(), delta))
+}
+
+// The same, or nothing where the forms do not follow one another or the delta is stated elsewhere.
+fn restated(
+    alloc: Global,
+    first: Delta,
+    second: Delta,
+    q: &Delta,
+) -> Result<Option<(u32, Delta)>, AllocError> {
+    if q.base_len() != first.base_len() || second.base_len() != first.out_len() {
+        return Ok(None);
+    }
+    if !is_short(q) || !is_short(&first) || !is_short(&second) {
+        return Ok(None);
+    }
+    Ok(Some(behind::<Brand>(Blank::new(1), alloc, first, second, q)?))
+}
+
+// Of `abc` the first author leaves `ac`, the second makes `aXc` of it, and a third, who saw `abc`,
+// inserts before the `b`: the text is `aXYc`.
+#[test]
+fn a_delta_passes_the_forms_in_their_order(rt: HostRuntime) -> Result<(), Fail> {
+    let alloc: Global = rt.alloc();
+    let first = Delta::remove_at(alloc, 3, 1, 1)?;
+    let second = Delta::insert_at(alloc, 2, 1, "X")?;
+    let q = Delta::insert_at(alloc, 3, 1, "Y")?;
+    match restated(alloc, first, second, &q)? {
+        Some((count, delta)) => {
+            assert_eq!(rt; count, 2);
+            assert_eq!(rt; (delta.base_len(), delta.out_len()), (3, 4));
+            match delta.parts() {
+                [Part::Keep(before), Part::Insert(text), Part::Keep(after)] => {
+                    assert_eq!(rt; (*before, text.as_str(), *after), (2, "Y", 1));
+                }
+                _ => assert!(rt; false),
+            }
+        }
+        None => assert!(rt; false),
+    }
+    Ok(())
+}
