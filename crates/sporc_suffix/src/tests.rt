@@ -1,4 +1,4 @@
-ghost use Rattle.std.specs.Prelude.{◌≡◌, ◌+◌, ◌≤◌, ◌<◌, ◌∷◌, [], IsTrue, IfOk};
+ghost use Rattle.std.specs.Prelude.{◌≡◌, ◌≤◌, ◌<◌, ◌∷◌, [], IsTrue, IfOk};
 ghost use Rattle.sporc_delta.specs.Marks.{base_len, inserted_len, out_len};
 
 use crate::{Blocks, Steps};
@@ -37,19 +37,24 @@ fn is_short(delta: &Delta) -> bool
     delta.base_len() <= 100 && delta.out_len() <= 100
 }
 
-// How many forms there are, and what `q` becomes behind them.
+// How many forms there are, and what `q` becomes behind them, and behind the second alone what
+// `late` becomes, which is stated on the text after the first.
 fn behind<L: Ledger>(
     blank: Blank,
     alloc: Global,
     first: Delta,
     second: Delta,
     q: &Delta,
-) -> Result<(u32, Delta), AllocError>
+    late: &Delta,
+) -> Result<(u32, Delta, Delta), AllocError>
     requires name { blank.name ≡ L.name }
     requires parts { blank.parts ≡ L.parts }
     requires some { 0 < blank.parts }
     requires base { base_len q.now ≡ base_len first }
     requires next { base_len second ≡ out_len first }
+    requires late_base { base_len late.now ≡ out_len first }
+    requires late_short { base_len late.now ≤ 100 }
+    requires late_few { inserted_len late.now ≤ 100 }
     requires short { base_len q.now ≤ 100 }
     requires few { inserted_len q.now ≤ 100 }
     requires first_few { inserted_len first ≤ 100 }
@@ -58,7 +63,8 @@ fn behind<L: Ledger>(
     let blocks = two_forms(alloc, first, second)?;
     let mut steps: Steps<L> = Steps::new(blank);
     let delta = blocks.later_over(q, 0, &mut steps)?;
-    Ok((blocks.len(), delta))
+    let last = blocks.later_over(late, 1, &mut steps)?;
+    Ok((blocks.len(), delta, last))
 }
 
 // The same, or nothing where the forms do not follow one another or the delta is stated elsewhere.
@@ -67,31 +73,42 @@ fn restated(
     first: Delta,
     second: Delta,
     q: &Delta,
-) -> Result<Option<(u32, Delta)>, AllocError> {
+    late: &Delta,
+) -> Result<Option<(u32, Delta, Delta)>, AllocError> {
     if q.base_len() != first.base_len() || second.base_len() != first.out_len() {
+        return Ok(None);
+    }
+    if late.base_len() != first.out_len() || !is_short(late) {
         return Ok(None);
     }
     if !is_short(q) || !is_short(&first) || !is_short(&second) {
         return Ok(None);
     }
-    Ok(Some(behind::<Brand>(Blank::new(1), alloc, first, second, q)?))
+    Ok(Some(behind::<Brand>(Blank::new(1), alloc, first, second, q, late)?))
 }
 
 // Of `abc` the first author leaves `ac`, the second makes `aXc` of it, and a third, who saw `abc`,
-// inserts before the `b`: the text is `aXYc`.
+// inserts before the `b`: the text is `aXYc`. A fourth, who saw `ac`, puts a character at its end.
 #[test]
 fn a_delta_passes_the_forms_in_their_order(rt: HostRuntime) -> Result<(), Fail> {
     let alloc: Global = rt.alloc();
     let first = Delta::remove_at(alloc, 3, 1, 1)?;
     let second = Delta::insert_at(alloc, 2, 1, "X")?;
     let q = Delta::insert_at(alloc, 3, 1, "Y")?;
-    match restated(alloc, first, second, &q)? {
-        Some((count, delta)) => {
+    let late = Delta::insert_at(alloc, 2, 2, "Z")?;
+    match restated(alloc, first, second, &q, &late)? {
+        Some((count, delta, last)) => {
             assert_eq!(rt; count, 2);
             assert_eq!(rt; (delta.base_len(), delta.out_len()), (3, 4));
             match delta.parts() {
                 [Part::Keep(before), Part::Insert(text), Part::Keep(after)] => {
                     assert_eq!(rt; (*before, text.as_str(), *after), (2, "Y", 1));
+                }
+                _ => assert!(rt; false),
+            }
+            match last.parts() {
+                [Part::Keep(before), Part::Insert(text)] => {
+                    assert_eq!(rt; (*before, text.as_str()), (3, "Z"));
                 }
                 _ => assert!(rt; false),
             }
