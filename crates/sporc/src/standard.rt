@@ -1,9 +1,11 @@
-//! Standard input and output. What they hold is not told, and each error of the system is counted.
+//! Standard input and output, each error of the system counted.
+
+ghost use Rattle.std.specs.Prelude.{◌≡◌};
 
 use sporc_outside::{Counted, Failed, Sink, Source};
 use std::io::{Read, Write};
 
-/// A reader as a source.
+/// A reader as a source of the bytes that it has left, where it tells them.
 #[derive(Drop)]
 pub struct StandardInput<R> {
     reader: R,
@@ -11,7 +13,10 @@ pub struct StandardInput<R> {
 }
 
 impl<R: Read> StandardInput<R> {
-    pub fn new(reader: R) -> StandardInput<R> {
+    pub fn new(reader: R) -> StandardInput<R>
+        ensures reader { result.reader ≡ reader }
+        ensures faults { result.faults ≡ 0 }
+    {
         StandardInput { reader, faults: 0 }
     }
 }
@@ -25,9 +30,7 @@ impl<R: Read> Counted for StandardInput<R> {
 }
 
 impl<R: Read> Source for StandardInput<R> {
-    ghost use Rattle.std.specs.Prelude.{None};
-
-    ghost left = { λ _. None };
+    ghost left = { λ s. R.remaining s.reader };
 
     fn read(&mut self, buf: &mut [u8]) -> Result<usize, Failed> {
         match self.reader.read(buf) {
@@ -40,7 +43,7 @@ impl<R: Read> Source for StandardInput<R> {
     }
 }
 
-/// A writer as a sink. A write that takes none of some bytes counts as a fault.
+/// A writer as a sink that holds what the writer does, where it tells it. A write that takes none of some bytes counts as a fault.
 #[derive(Drop)]
 pub struct StandardOutput<W> {
     writer: W,
@@ -48,7 +51,10 @@ pub struct StandardOutput<W> {
 }
 
 impl<W: Write> StandardOutput<W> {
-    pub fn new(writer: W) -> StandardOutput<W> {
+    pub fn new(writer: W) -> StandardOutput<W>
+        ensures writer { result.writer ≡ writer }
+        ensures faults { result.faults ≡ 0 }
+    {
         StandardOutput { writer, faults: 0 }
     }
 }
@@ -62,9 +68,7 @@ impl<W: Write> Counted for StandardOutput<W> {
 }
 
 impl<W: Write> Sink for StandardOutput<W> {
-    ghost use Rattle.std.specs.Prelude.{None};
-
-    ghost written = { λ _. None };
+    ghost written = { λ s. W.contents s.writer };
 
     fn write(&mut self, bytes: &[u8]) -> Result<usize, Failed> {
         match self.writer.write(bytes) {

@@ -1,16 +1,14 @@
 -- Worked examples of the definitions.
-use Rattle.std.proofs.Common.{◌≡◌, ℕ, true, false, List, [], ◌∷◌, ◌++◌, refl, None, Some, Ok, Err, arith}
+use Rattle.std.proofs.Common.{◌≡◌, ℕ, true, List, [], ◌∷◌, refl, Some, Ok}
 use Rattle.sporc_delta.specs.Marks.{Mark, Retain, Delete, Insert}
 use Rattle.sporc_client.specs.declared.entry.PlainEntry.{PlainEntry}
 use Rattle.sporc_client.specs.declared.client.PlainSubmitted.TheVariants.{Nothing, Waiting}
 use Rattle.sporc_client.specs.declared.fault.PlainRefusal.TheVariants.{WrongPosition, BaseAhead}
-use Rattle.sporc_client.specs.declared.verdict.Verdict.TheVariants.{ForkedAfter}
 use Rattle.sporc_checks.specs.FirstFault.{first_of}
 use Rattle.sporc_client.specs.History.{text_of}
 use Rattle.sporc_client.specs.Checks.{checks}
 use Rattle.sporc_client.specs.Client.{opened, shown_of, edited, sent}
 use Rattle.sporc_client.specs.Submission.{submission_of}
-use Rattle.sporc_client.specs.Verdict.{IsVerdictOn}
 
 -- an entry that states a delta and a base, and nothing else of interest
 abbrev entry_with : ℕ → List Mark → PlainEntry

@@ -1,13 +1,13 @@
 -- A history with one entry more.
-use Rattle.std.proofs.Common.{◌≡◌, ℕ, suc, ◌+◌, ◌≤◌, Bool, true, false, cond, List, [], ◌∷◌, ◌++◌, length, take, map, fold, get_or, refl, ap, sym, ◌∙◌, arith, Some}
-use Rattle.std.specs.Prelude.{count_by, ◌==◌, slice_get}
+use Rattle.std.proofs.Common.{◌≡◌, ℕ, suc, ◌+◌, ◌≤◌, Bool, true, false, cond, List, [], ◌∷◌, ◌++◌, length, take, map, get_or, ap, sym, ◌∙◌, arith, Some}
+use Rattle.std.specs.Prelude.{◌==◌, slice_get}
 use Rattle.std.proofs.lemmas.List.{map-append, take-map, take_all, length-map}
 use Rattle.std.proofs.lemmas.List.Sums.{fold-append, sum_by-append}
 use Rattle.std.proofs.lemmas.Option.{get_or_from_slice_get}
 use Rattle.sporc_hash.specs.Chain.{chain, chain_after, value_after, genesis_value, next_value, last_value}
 use Rattle.sporc_hash.proofs.ChainLemmas.{chain_push, length-chain_after}
 use Rattle.sporc_hash.proofs.Beginnings.{slice_get-chain}
-use Rattle.sporc_delta.specs.Marks.{Mark, apply}
+use Rattle.sporc_delta.specs.Marks.{apply}
 use Rattle.sporc_client.specs.declared.entry.PlainEntry.{PlainEntry}
 use Rattle.sporc_client.specs.Entry.{entry_bytes}
 use Rattle.sporc_client.specs.History.{hashes_of, hash_of, count_of, text_of, text_after}

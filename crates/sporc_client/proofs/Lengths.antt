@@ -1,5 +1,5 @@
 -- How long texts and deltas are.
-use Rattle.std.proofs.Common.{◌≡◌, ℕ, zero, suc, ◌+◌, ◌≤◌, List, [], ◌∷◌, ◌++◌, length, refl, ap, ◌∙◌, arith}
+use Rattle.std.proofs.Common.{◌≡◌, ℕ, suc, ◌+◌, ◌≤◌, List, [], ◌∷◌, length, refl, ap, arith}
 use Rattle.std.proofs.lemmas.List.{length-append}
 use Rattle.std.proofs.lemmas.Str.{length-encode, len_utf8_bounds}
 use Rattle.std.specs.Char.{encode_utf8}
@@ -7,10 +7,10 @@ use Rattle.std.specs.Int.{w64, to_be_bytes}
 use Rattle.std.specs.Str.{encode_utf8_all}
 use Rattle.sporc_delta.specs.declared.part.Part.{Part}
 use Rattle.sporc_delta.specs.declared.part.Part.TheVariants.{Keep, Insert as InsertText, Remove}
-use Rattle.sporc_delta.specs.Marks.{Mark, Retain, Delete, Insert, base_len, out_len, apply, retains, deletes, inserts}
+use Rattle.sporc_delta.specs.Marks.{Mark, Retain, Delete, Insert, base_len, out_len, apply}
 use Rattle.sporc_delta.specs.Parts.{part_marks, marks_of, runs}
 use Rattle.sporc_delta.specs.Format.{part_bytes, parts_bytes, delta_bytes}
-use Rattle.sporc_delta.proofs.Lengths.{base_len-append, out_len-append, base_len-retains, out_len-retains, base_len-deletes, out_len-deletes, base_len-inserts, out_len-inserts}
+use Rattle.sporc_delta.proofs.Lengths.{base_len-append, out_len-append, base_len-retains, out_len-retains, out_len-deletes, base_len-inserts, out_len-inserts}
 
 pub length-apply : (ms : List Mark) (s : List ℕ) → base_len ms ≡ length s → length (apply ms s) ≡ out_len ms
 length-apply [] s h = refl

@@ -1,5 +1,5 @@
 -- What every run keeps, and that all its clients agree.
-use Rattle.std.proofs.Common.{◌≡◌, ℕ, zero, suc, ◌+◌, Bool, true, false, cond, List, [], ◌∷◌, ◌++◌, length, take, refl, ap, sym, ◌∙◌, subst, Option, None, Some, Result, Ok, Err, ◌⊎◌, inl, inr}
+use Rattle.std.proofs.Common.{◌≡◌, ℕ, ◌+◌, Bool, true, false, cond, List, [], ◌∷◌, length, take, refl, ap, sym, ◌∙◌, subst, Option, None, Some, Result, Ok, Err}
 use Rattle.std.specs.Prelude.{◌==◌}
 use Rattle.std.specs.List.{AllByRecursion}
 use Rattle.sporc_delta.specs.Marks.{Mark, base_len}
@@ -13,10 +13,10 @@ use Rattle.sporc_checks.specs.FirstFault.{first_of}
 use Rattle.sporc_client.specs.History.{text_of}
 use Rattle.sporc_client.specs.Checks.{checks, IsGood}
 use Rattle.sporc_client.specs.Client.{PlainState, opened, shown_of, admits, edit_checks, edited, entry_checks, accepted}
-use Rattle.sporc_client.specs.Submission.{submission_of, submitted}
+use Rattle.sporc_client.specs.Submission.{submission_of}
 use Rattle.sporc_client.specs.Typed.{IsTypedEntry}
 use Rattle.sporc_client.specs.Run.{World, Move, Open, Edit, Submit, Give, start, unless_refused, after_edit, after_answer, after_submit, after_give, with_client, with_call, after, after_all, IsTypedMove, IsAt}
-use Rattle.sporc_client.specs.Agree.{HoldTheSame, OneHistory, OneBase, Agree}
+use Rattle.sporc_client.specs.Agree.{OneHistory, OneBase, Agree}
 use Rattle.sporc_client.proofs.Passes.{passes}
 use Rattle.sporc_client.proofs.GoodHistories.{all_taken, all_pushed, good_none, good_pushed, one_hash_one_history, one_entry_one_base}
 

@@ -1,8 +1,6 @@
 -- The tests of sameness tell whether two things are one.
-use Rattle.std.proofs.Common.{◌≡◌, ℕ, Bool, true, false, ◌&&◌, List, refl, ap, sym, ◌∙◌}
-use Rattle.std.specs.Prelude.{◌==◌}
+use Rattle.std.proofs.Common.{◌≡◌, Bool, true, false, ◌&&◌, List, refl, ap, sym, ◌∙◌}
 use Rattle.std.specs.Bool.{Decides}
-use Rattle.std.specs.Str.{bytes_eq}
 use Rattle.std.proofs.lemmas.Bool.Decides.{Decides-eqb}
 use Rattle.std.proofs.lemmas.Slice.Eq.{slice_eq-Decides, bytes_eq-Decides}
 use Rattle.sporc_delta.specs.declared.part.Part.{Part}
@@ -11,7 +9,7 @@ use Rattle.sporc_delta.specs.Marks.{Mark}
 use Rattle.sporc_delta.specs.Parts.{marks_of, runs}
 use Rattle.sporc_text.proofs.EditLemmas.{marks_of-runs}
 use Rattle.sporc_client.specs.declared.entry.PlainEntry.{PlainEntry}
-use Rattle.sporc_client.specs.SameEntry.{same_part, same_parts, same_delta, same_entry}
+use Rattle.sporc_client.specs.SameEntry.{same_part, same_delta, same_entry}
 
 pub same_part-Decides : (p q : Part) → Decides (same_part p q) (p ≡ q)
 same_part-Decides (Keep m) (Keep n) = (λ t. ap Keep ((Decides-eqb m n).0 t), λ e. (Decides-eqb m n).1 cc)

@@ -1,16 +1,15 @@
 -- What each call leaves of a sound client.
-use Rattle.std.proofs.Common.{◌≡◌, ℕ, suc, ◌+◌, ◌*◌, ◌<◌, ◌≤◌, Bool, true, false, ◌&&◌, cond, List, [], ◌∷◌, ◌++◌, length, drop, get_or, refl, ap, sym, ◌∙◌, subst, arith, Option, None, Some, Ok, Err, length-append}
+use Rattle.std.proofs.Common.{◌≡◌, ℕ, ◌+◌, ◌<◌, ◌≤◌, Bool, true, false, ◌&&◌, cond, List, [], ◌∷◌, ◌++◌, length, drop, get_or, refl, ap, sym, ◌∙◌, arith, Option, None, Some, Ok, Err, length-append}
 use Rattle.std.specs.Prelude.{nat_le, ◌||◌, is_some}
 use Rattle.std.specs.List.{list_all}
 use Rattle.std.proofs.lemmas.Bool.{leb-true, lt-ltb}
 use Rattle.std.proofs.lemmas.List.Folds.{list_all-append}
 use Rattle.std.proofs.lemmas.List.Sums.{fold-append}
 use Rattle.sporc_delta.specs.Format.{delta_bytes}
-use Rattle.sporc_delta.specs.Marks.{Mark, base_len, out_len, apply}
+use Rattle.sporc_delta.specs.Marks.{Mark, base_len, apply}
 use Rattle.sporc_text.proofs.EditLemmas.{marks_of-runs}
 use Rattle.sporc_client.specs.declared.limits.TheConstants.{MAX_EDIT_BYTES, MAX_ENTRIES, MAX_PENDING}
 use Rattle.sporc_client.specs.declared.entry.PlainEntry.{PlainEntry}
-use Rattle.sporc_client.specs.SameEntry.{same_delta, same_entry}
 use Rattle.sporc_client.specs.History.{text_of, text_after}
 use Rattle.sporc_client.specs.Checks.{IsNext}
 use Rattle.sporc_client.specs.Client.{PlainState, opened, shown_of, edited, entry_of, sent, is_same_as, is_flight, admits, accepted}

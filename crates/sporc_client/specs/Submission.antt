@@ -1,9 +1,8 @@
 -- What a submission answers.
-use Rattle.std.specs.Prelude.{◌≡◌, ◌≢◌, ℕ, ◌≤◌, nat_lt, List, [], ◌∷◌, length, Option, None, Some, is_some, if◌then◌else◌, Result, Ok, Err, ⊤}
+use Rattle.std.specs.Prelude.{◌≡◌, ◌≢◌, ◌≤◌, nat_lt, List, [], ◌∷◌, length, is_some, if◌then◌else◌, Result, Ok, Err, ⊤}
 use Rattle.sporc_delta.specs.Marks.{Mark}
 use Rattle.sporc_delta.specs.Format.{delta_bytes}
 use Rattle.sporc_client.specs.declared.limits.TheConstants.{MAX_EDIT_BYTES, MAX_ENTRIES}
-use Rattle.sporc_client.specs.declared.entry.PlainEntry.{PlainEntry}
 use Rattle.sporc_client.specs.declared.client.PlainSubmitted.{PlainSubmitted}
 use Rattle.sporc_client.specs.declared.client.PlainSubmitted.TheVariants.{Waiting, Nothing, Entry}
 use Rattle.sporc_client.specs.declared.fault.PlainSubmitFault.{PlainSubmitFault}

@@ -1,5 +1,5 @@
 -- Entries as the types of their fields allow them.
-use Rattle.std.specs.Prelude.{◌≡◌, ℕ, ◌^◌, ◌<◌, List, length, true}
+use Rattle.std.specs.Prelude.{◌≡◌, ◌^◌, ◌<◌, List, length, true}
 use Rattle.std.specs.List.{AllByRecursion}
 use Rattle.std.specs.Str.{all_scalars, encode_utf8_all}
 use Rattle.sporc_delta.specs.declared.part.Part.{Part}

@@ -1,5 +1,5 @@
 -- An entry that is read is spelled so, and one that is spelled so is read again.
-use Rattle.std.proofs.Common.{◌≡◌, ℕ, ◌+◌, ◌^◌, ◌<◌, ◌≤◌, Bool, true, false, cond, eqb, List, [], ◌∷◌, ◌++◌, length, drop, Some, Result, Ok, Err, refl, sym, ap, subst, ◌∙◌, append_assoc, arith, lit<}
+use Rattle.std.proofs.Common.{◌≡◌, ℕ, ◌+◌, ◌^◌, ◌<◌, ◌≤◌, Bool, true, false, cond, eqb, List, [], ◌∷◌, ◌++◌, length, drop, Some, Result, Ok, Err, refl, sym, ap, subst, ◌∙◌, append_assoc, arith, lit<, length-append}
 use Rattle.std.specs.Prelude.{IfOk}
 use Rattle.std.specs.Int.{w16, w32, to_be_bytes}
 use Rattle.std.proofs.lemmas.Bool.{eqb-false}
@@ -12,7 +12,7 @@ use Rattle.sporc_entry.specs.declared.fault.EntryFault.{EntryFault}
 use Rattle.sporc_entry.specs.declared.header.Header.{Header}
 use Rattle.sporc_entry.specs.Outcomes.{EntryReads}
 use Rattle.sporc_entry.specs.ChangeBody.{change_body_from, IsChangeBody, SpellsChange}
-use Rattle.sporc_entry.specs.Entry.{header_at, body_limit, body_read, entry_of, change_of, header_bytes, counted_bytes, entry_bytes, IsHeader, IsEntry}
+use Rattle.sporc_entry.specs.Entry.{header_at, body_limit, body_read, entry_limit, entry_of, change_of, header_bytes, counted_bytes, entry_bytes, IsHeader, IsEntry}
 use Rattle.sporc_entry.proofs.FieldLaws.{Leaves, is_one, byte_takes, byte_again}
 use Rattle.sporc_entry.proofs.ChangeLaws.{change_body_takes, change_body_again}
 
@@ -143,6 +143,41 @@ entry_takes bytes e h read =
       ta.0.parts ∙ ap (header_bytes a.0.0) body,
     )
 
+-- ---- lengths
+
+limit_most : (kind : ℕ) → body_limit kind ≤ 1048576
+limit_most kind = go (eqb kind 1)
+  where
+    go : (b : Bool) → cond b 1048576 65536 ≤ 1048576
+    go true = omega arith
+    go false = omega arith
+
+pub length-header_bytes : (h : Header) (rest : List ℕ) → IsHeader h → length (header_bytes h rest) ≡ 68 + length rest
+unfolding header_bytes
+length-header_bytes h rest is = omega (
+  arith,
+  is.document,
+  is.base_hash,
+  length-append h.document (to_be_bytes w16 h.author ++ (to_be_bytes w32 h.number ++ (to_be_bytes w32 h.base ++ (h.base_hash ++ (to_be_bytes w32 h.epoch ++ (to_be_bytes w32 h.leaf ++ h.kind ∷ rest)))))),
+  length-append h.base_hash (to_be_bytes w32 h.epoch ++ (to_be_bytes w32 h.leaf ++ h.kind ∷ rest)),
+)
+
+-- a counted string has four bytes more
+length-counted_bytes : (bytes rest : List ℕ) → length (counted_bytes bytes rest) ≡ 4 + length bytes + length rest
+length-counted_bytes bytes rest = omega (arith, length-append bytes rest)
+
+pub entry_size : (e : Entry) → IsEntry e → length (entry_bytes e) ≤ entry_limit
+unfolding entry_bytes
+entry_size e is = omega (
+  arith,
+  is.body,
+  is.signature,
+  limit_most e.header.kind,
+  length-header_bytes e.header (counted_bytes e.body (counted_bytes e.signature [])) is.header,
+  length-counted_bytes e.body (counted_bytes e.signature []),
+  length-counted_bytes e.signature [],
+)
+
 pub entry_again : (e : Entry) → IsEntry e → entry_of (entry_bytes e) ≡ Ok e
 unfolding entry_of entry_bytes
 entry_again e is =
@@ -164,6 +199,10 @@ entry_again e is =
 pub entry_found : (bytes : List ℕ) (r : Result Entry EntryFault) → IsBytes bytes → EntryReads (λ e. e) r (entry_of bytes) → IfOk r (λ e. IsEntry e × (bytes ≡ entry_bytes e))
 entry_found bytes (Ok e) h read = entry_takes bytes e h read
 entry_found bytes (Err fault) h read = tt
+
+pub entry_sized : (bytes : List ℕ) (r : Result Entry EntryFault) → IfOk r (λ e. IsEntry e × (bytes ≡ entry_bytes e)) → IfOk r (λ _. length bytes ≤ entry_limit)
+entry_sized bytes (Ok e) found = let P : List ℕ → Type 0 = λ b. length b ≤ entry_limit in subst P (sym found.1) (entry_size e found.0)
+entry_sized bytes (Err fault) found = tt
 
 pub entry_only : (bytes : List ℕ) (r : Result Entry EntryFault) → EntryReads (λ e. e) r (entry_of bytes) → (e : Entry) → IsEntry e → bytes ≡ entry_bytes e → EntryReads (λ e. e) r (Ok e)
 entry_only bytes r read e is spelled = let P : Result Entry ℕ → Type 0 = λ given. EntryReads (λ e. e) r given in subst P (ap entry_of spelled ∙ entry_again e is) read

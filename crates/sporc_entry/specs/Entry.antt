@@ -42,6 +42,10 @@ header_at r = do
 abbrev pub body_limit : ℕ → ℕ
 body_limit kind = if kind == 1 then 1048576 else 65536
 
+-- how long an entry may be: an edit with the longest body and signature
+abbrev pub entry_limit : ℕ
+entry_limit = 1057976
+
 -- whether a body is one of this kind, the first of its bytes at this place: that of an edit may be anything
 abbrev pub body_read : ℕ → ℕ → List ℕ → Result (Unit {0}) ℕ
 body_read kind at body =

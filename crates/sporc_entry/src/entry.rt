@@ -3,7 +3,7 @@
 ghost use Rattle.std.specs.Prelude.{◌≡◌, ◌≤◌, ◌<◌, ◌^◌, length, Ok, IfOk};
 ghost use Rattle.sporc_entry.specs.Outcomes.{EntryReads};
 ghost use Rattle.sporc_entry.specs.declared.entry.Entry.{Entry};
-ghost use Rattle.sporc_entry.specs.Entry.{body_limit, body_read, entry_of, entry_bytes, signed_string, IsEntry};
+ghost use Rattle.sporc_entry.specs.Entry.{body_limit, body_read, entry_limit, entry_of, entry_bytes, signed_string, IsEntry};
 
 use crate::bytes::Bytes;
 use crate::change::read_body;
@@ -84,6 +84,8 @@ fn read_fields(alloc: Global, bytes: &[u8]) -> Result<Entry, EntryFault>
 pub fn read_entry(alloc: Global, bytes: &[u8]) -> Result<Entry, EntryFault>
     // What is read is spelled so.
     ensures found { IfOk result (λ e. IsEntry e × (bytes.now ≡ entry_bytes e)) }
+    // Such bytes are no more than those of an edit with the longest body and signature.
+    ensures sized { IfOk result (λ _. length bytes.now ≤ entry_limit) }
     // What is spelled so is read, unless memory runs out.
     ensures only { (e : Entry) → IsEntry e → bytes.now ≡ entry_bytes e
         → EntryReads (λ e. e) result (Ok e) }

@@ -1,5 +1,5 @@
 -- Lists of checks one after the other, and the checks of an entry whoever asks.
-use Rattle.std.proofs.Common.{◌≡◌, ℕ, ◌+◌, Bool, true, false, eqb, List, [], ◌∷◌, ◌++◌, length, refl, ap, sym, ◌∙◌, Option, None, Some, Result, Ok, Err}
+use Rattle.std.proofs.Common.{◌≡◌, ℕ, ◌+◌, Bool, true, false, eqb, List, [], ◌∷◌, ◌++◌, length, refl, Option, None, Some, Result, Ok, Err}
 use Rattle.std.proofs.lemmas.Bool.{eq-eqb}
 use Rattle.sporc_checks.specs.FirstFault.{unless, first_of}
 use Rattle.std.specs.Str.{bytes_eq}

@@ -1,7 +1,7 @@
 -- What a history says of itself, with one entry more.
-use Rattle.std.proofs.Common.{◌≡◌, ℕ, suc, zero, ◌+◌, ◌≤◌, Bool, true, false, not, List, [], ◌∷◌, ◌++◌, length, get_or, take, refl, ap, sym, ◌∙◌, arith, Option, None, Some, Result, Ok, Err, eqb, map, length-append, add-zero}
+use Rattle.std.proofs.Common.{◌≡◌, ℕ, suc, zero, ◌+◌, ◌≤◌, Bool, true, false, List, [], ◌∷◌, ◌++◌, length, get_or, take, refl, ap, sym, ◌∙◌, arith, Option, None, Some, Ok, eqb, map, length-append, add-zero}
 use Rattle.std.specs.Prelude.{cond, is_some, ◌||◌, count_by, fold}
-use Rattle.std.specs.List.{cons_option, list_any, filter_map}
+use Rattle.std.specs.List.{cons_option, list_any}
 use Rattle.std.proofs.lemmas.List.Elements.{filter_map-append}
 use Rattle.std.proofs.lemmas.List.Folds.{list_any-append}
 use Rattle.std.proofs.lemmas.List.{map-append}
@@ -15,7 +15,7 @@ use Rattle.sporc_entry.specs.declared.change.ChangeBody.{ChangeBody}
 use Rattle.sporc_entry.specs.declared.genesis.Genesis.{Genesis}
 use Rattle.sporc_entry.specs.Entry.{entry_of, change_of}
 use Rattle.sporc_entry.specs.Genesis.{genesis_bytes}
-use Rattle.sporc_head.specs.History.{Started, change_in, changes, change_read, started_by, is_by, is_read_by, epoch_of, roster_of, barrier_of, last_from, last_of, count_of, hash_of, is_removed}
+use Rattle.sporc_head.specs.History.{Started, change_in, changes, change_read, started_by, is_by, is_read_by, epoch_of, roster_of, last_from, count_of, hash_of, is_removed}
 
 -- ---- the chain
 

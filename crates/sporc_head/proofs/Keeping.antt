@@ -1,21 +1,21 @@
 -- What the fields of a history keep, as it begins and with one entry more.
-use Rattle.std.proofs.Common.{◌≡◌, ℕ, ◌+◌, ◌<◌, ◌≤◌, Bool, true, false, cond, eqb, List, [], ◌∷◌, ◌++◌, length, get_or, set, refl, ap, sym, ◌∙◌, subst, arith, Option, None, Some, Result, Ok, length-append, length-set}
+use Rattle.std.proofs.Common.{◌≡◌, ℕ, ◌+◌, ◌<◌, ◌≤◌, Bool, true, false, cond, eqb, List, [], ◌∷◌, ◌++◌, length, get_or, set, refl, ap, sym, ◌∙◌, subst, arith, Option, None, Some, length-append, length-set}
 use Rattle.std.specs.Prelude.{is_some, ◌||◌}
-use Rattle.sporc_hash.specs.Chain.{chain, chain_after, genesis_value, next_value}
+use Rattle.sporc_hash.specs.Chain.{chain_after, genesis_value, next_value}
 use Rattle.sporc_member.specs.declared.change.Change.{Change}
 use Rattle.sporc_member.specs.declared.change.Change.TheVariants.{Add, Remove, SetRole}
 use Rattle.sporc_member.specs.Roster.{Roster, after_change, founded, removes}
-use Rattle.sporc_entry.specs.declared.entry.Entry.{Entry}
-use Rattle.sporc_entry.specs.declared.change.ChangeBody.{ChangeBody}
 use Rattle.sporc_entry.specs.declared.genesis.Genesis.{Genesis}
-use Rattle.sporc_entry.specs.Entry.{entry_of, change_of}
+use Rattle.sporc_entry.specs.Entry.{entry_limit}
 use Rattle.sporc_entry.specs.Genesis.{genesis_bytes, IsGenesis}
+use Rattle.std.specs.List.{All}
 use Rattle.std.proofs.lemmas.Bool.{eqb-true}
+use Rattle.std.proofs.lemmas.List.Elements.{All-nil, All-cons, All-append}
 use Rattle.sporc_head.specs.History.{Started, change_in, is_by, hash_of, count_of}
 use Rattle.sporc_head.specs.Tallies.{Tallies, marked}
 use Rattle.sporc_head.specs.HeadsModel.{Keeps}
 use Rattle.sporc_head.proofs.Lists.{get_or-set_if}
-use Rattle.sporc_head.proofs.Grows.{chain_more, last_push, count_push, epoch_push, roster_edit, roster_change, removes_in, removed_push, is_by_read}
+use Rattle.sporc_head.proofs.Grows.{chain_more, last_push, count_push, epoch_push, roster_edit, roster_change, removes_in, removed_push}
 
 -- ---- the tables
 
@@ -81,16 +81,20 @@ keeps_open g A hashes roster counts lasts removed is e h r t = subst (λ (x : Li
   changes = refl;
   tallies = t;
   room = omega arith;
+  sized = All-nil (λ b. length b ≤ entry_limit);
 })
 
 -- ---- one entry more
 
+sized_push : (A : List (List ℕ)) (b : List ℕ) → All (λ e. length e ≤ entry_limit) A → length b ≤ entry_limit → All (λ e. length e ≤ entry_limit) (A ++ b ∷ [])
+sized_push A b all size = let P : List ℕ → Type 0 = λ e. length e ≤ entry_limit in All-append P A (b ∷ []) all (All-cons P b [] size (All-nil P))
+
 pub keeps_edit : (g : Genesis) (A hashes : List (List ℕ)) (roster : Roster) (barrier epoch : ℕ) (counts lasts : List ℕ) (removed : List Bool) (b h : List ℕ) (a : ℕ) (A' hashes' : List (List ℕ)) (counts' lasts' : List ℕ)
-    → Keeps g A hashes roster barrier epoch counts lasts removed → length A < 16384
+    → Keeps g A hashes roster barrier epoch counts lasts removed → length A < 16384 → length b ≤ entry_limit
     → a < 65536 → ((n : ℕ) → is_by n b ≡ eqb a n) → change_in b ≡ None → h ≡ next_value (hash_of g A) b
     → A' ≡ A ++ b ∷ [] → hashes' ≡ hashes ++ h ∷ [] → counts' ≡ set counts a (get_or counts a 0 + 1) → lasts' ≡ set lasts a (length A + 1)
     → Keeps g A' hashes' roster barrier epoch counts' lasts' removed
-keeps_edit g A hashes roster barrier epoch counts lasts removed b h a A' hashes' counts' lasts' k room lt by is hash eA eH eC eL =
+keeps_edit g A hashes roster barrier epoch counts lasts removed b h a A' hashes' counts' lasts' k room size lt by is hash eA eH eC eL =
     subst (λ (x : List (List ℕ)). Keeps g x hashes' roster barrier epoch counts' lasts' removed) (sym eA)
     (subst (λ (x : List (List ℕ)). Keeps g (A ++ b ∷ []) x roster barrier epoch counts' lasts' removed) (sym eH)
     (subst (λ (x : List ℕ). Keeps g (A ++ b ∷ []) (hashes ++ h ∷ []) roster barrier epoch x lasts' removed) (sym eC)
@@ -102,15 +106,16 @@ keeps_edit g A hashes roster barrier epoch counts lasts removed b h a A' hashes'
       changes = k.changes ∙ sym (epoch_push A b None is);
       tallies = tallies_push counts lasts removed removed A b a None k.tallies lt by is k.tallies.removed_len (λ n l. unmarked_gone removed n);
       room = omega (arith, room, length-append A (b ∷ []));
+      sized = sized_push A b k.sized size;
     }))))
 
 pub keeps_change : (g : Genesis) (A hashes : List (List ℕ)) (roster : Roster) (barrier epoch : ℕ) (counts lasts : List ℕ) (removed : List Bool) (b h : List ℕ) (a : ℕ) (s : Started) (A' hashes' : List (List ℕ)) (roster' : Roster) (barrier' epoch' : ℕ) (counts' lasts' : List ℕ) (removed' : List Bool)
-    → Keeps g A hashes roster barrier epoch counts lasts removed → length A < 16384
+    → Keeps g A hashes roster barrier epoch counts lasts removed → length A < 16384 → length b ≤ entry_limit
     → a < 65536 → ((n : ℕ) → is_by n b ≡ eqb a n) → change_in b ≡ Some s → h ≡ next_value (hash_of g A) b
     → A' ≡ A ++ b ∷ [] → hashes' ≡ hashes ++ h ∷ [] → roster' ≡ after_change roster s.body.change → barrier' ≡ length A + 1 → epoch' ≡ epoch + 1
     → counts' ≡ set counts a (get_or counts a 0 + 1) → lasts' ≡ set lasts a (length A + 1) → removed' ≡ marked s.body.change removed
     → Keeps g A' hashes' roster' barrier' epoch' counts' lasts' removed'
-keeps_change g A hashes roster barrier epoch counts lasts removed b h a s A' hashes' roster' barrier' epoch' counts' lasts' removed' k room lt by is hash eA eH eR eB eE eC eL eM =
+keeps_change g A hashes roster barrier epoch counts lasts removed b h a s A' hashes' roster' barrier' epoch' counts' lasts' removed' k room size lt by is hash eA eH eR eB eE eC eL eM =
     subst (λ (x : List (List ℕ)). Keeps g x hashes' roster' barrier' epoch' counts' lasts' removed') (sym eA)
     (subst (λ (x : List (List ℕ)). Keeps g (A ++ b ∷ []) x roster' barrier' epoch' counts' lasts' removed') (sym eH)
     (subst (λ (x : List ℕ). Keeps g (A ++ b ∷ []) (hashes ++ h ∷ []) roster' barrier' epoch' x lasts' removed') (sym eC)
@@ -123,4 +128,5 @@ keeps_change g A hashes roster barrier epoch counts lasts removed b h a s A' has
       changes = eE ∙ ap (λ (n : ℕ). n + 1) k.changes ∙ sym (epoch_push A b (Some s) is);
       tallies = tallies_push counts lasts removed (marked s.body.change removed) A b a (Some s) k.tallies lt by is (length-marked s.body.change removed ∙ k.tallies.removed_len) (λ n l. marked_gone removed s n (omega (arith, k.tallies.removed_len, l)));
       room = omega (arith, room, length-append A (b ∷ []));
+      sized = sized_push A b k.sized size;
     })))))

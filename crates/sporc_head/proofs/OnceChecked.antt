@@ -1,8 +1,8 @@
 -- What is known of an entry that was checked.
-use Rattle.std.proofs.Common.{◌≡◌, ◌≢◌, ℕ, ◌+◌, ◌<◌, Bool, true, ltb, eqb, List, [], ◌∷◌, ◌++◌, length, refl, ap, sym, ◌∙◌, subst, Option, None, Some, Result, Ok, Err}
+use Rattle.std.proofs.Common.{◌≡◌, ◌≢◌, ℕ, ◌+◌, ◌<◌, ltb, eqb, List, [], ◌∷◌, ◌++◌, length, refl, ap, sym, ◌∙◌, subst, Option, None, Some, Result, Ok, Err}
 use Rattle.std.specs.Prelude.{option_map, OnOk, IsOk}
 use Rattle.std.proofs.lemmas.Bool.{ltb-true}
-use Rattle.sporc_checks.specs.FirstFault.{unless, first_of, AnswersUnless}
+use Rattle.sporc_checks.specs.FirstFault.{first_of, AnswersUnless}
 use Rattle.sporc_member.specs.declared.change.Change.{Change}
 use Rattle.sporc_member.specs.declared.change.ChangeFault.{ChangeFault}
 use Rattle.sporc_member.specs.declared.founder.Founder.{Founder}
@@ -82,6 +82,10 @@ unless_exit {X} m r y e fault p q h = subst (λ (r : Result X Refusal). AnswersU
 pub none_of : {X : Type 0} (o : Option X) → ((x : X) → o ≡ Some x → ⊥) → o ≡ None
 none_of None h = refl
 none_of (Some x) h = absurd (h x refl)
+
+pub at_place : (g : Genesis) (me : Option ℕ) (A : List (List ℕ)) (pos : ℕ) (e : Entry) (f : Refusal) → first_of (place_checks g me A pos e.header) ≡ Some f → first_of (head_checks g me A pos e) ≡ Some f
+unfolding head_checks
+at_place g me A pos e f h = first_of-some (place_checks g me A pos e.header) (history_checks g A e.header ++ (author_checks (member_at (roster_of g A) e.header.author) e ++ roster_checks (roster_of g A) (change_of e))) f h
 
 module _ (g : Genesis) (me : Option ℕ) (A : List (List ℕ)) (pos : ℕ) (e : Entry) (here : first_of (place_checks g me A pos e.header) ≡ None) where
   after_place : first_of (head_checks g me A pos e)

@@ -1,8 +1,10 @@
 -- What contracts see of a history with what its checks look up, and what its fields keep.
-use Rattle.std.specs.Prelude.{◌≡◌, ℕ, ◌+◌, ◌-◌, ◌≤◌, Bool, List, length, map, min, vec_len, vec_capacity}
+use Rattle.std.specs.Prelude.{◌≡◌, ℕ, ◌-◌, ◌≤◌, Bool, List, length, map, min, vec_len, vec_capacity}
+use Rattle.std.specs.List.{All}
 use Rattle.sporc_hash.specs.Chain.{chain}
 use Rattle.sporc_member.specs.Roster.{Roster}
 use Rattle.sporc_entry.specs.declared.genesis.Genesis.{Genesis}
+use Rattle.sporc_entry.specs.Entry.{entry_limit}
 use Rattle.sporc_entry.specs.Genesis.{genesis_bytes, IsGenesis}
 use Rattle.sporc_head.specs.declared.heads.Heads.TheInside.{Inside}
 use Rattle.sporc_head.specs.History.{roster_of, barrier_of, epoch_of}
@@ -34,6 +36,7 @@ pub record Keeps (g : Genesis) (A hashes : List (List ℕ)) (roster : Roster) (b
   pub changes : epoch ≡ epoch_of A
   pub tallies : Tallies counts lasts removed A
   pub room : length A ≤ 16384
+  pub sized : All (λ b. length b ≤ entry_limit) A
 
 abbrev pub keeps_in : Inside → Type 0
 keeps_in a = Keeps a.genesis (entries_in a) a.hashes.items a.roster.roster a.barrier a.epoch a.tables.counts.items a.tables.lasts.items a.tables.removed.items

@@ -15,7 +15,6 @@ use std::alloc::Global;
 // Whether the author may make the entry, and signed it.
 pub(crate) fn check_author(alloc: Global, author: &Founder, entry: &Entry) -> Result<(), Refusal>
     requires { length entry.now.body < 2 ^ 32 }
-
     ensures { AnswersUnless Refusal.Memory result (first_of (author_checks (Some author.now) entry.now)) }
 {
     if !allows(author.role, entry.header.kind) {

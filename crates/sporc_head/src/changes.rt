@@ -3,11 +3,11 @@
 ghost use Rattle.std.specs.Prelude.{◌≡◌, map, IfOk, Some};
 ghost use Rattle.std.specs.Str.{bytes_eq};
 ghost use Rattle.sporc_checks.specs.FirstFault.{AnswersUnless, first_of};
-ghost use Rattle.sporc_entry.specs.Entry.{change_of};
+ghost use Rattle.sporc_entry.specs.Entry.{change_of, IsEntry};
 ghost use Rattle.sporc_head.specs.HeadChecks.{roster_checks, names};
 
 use crate::refusal::{Memory, Refusal};
-use sporc_entry::{ChangeBody, Entry, Wrap, read_change};
+use sporc_entry::{ChangeBody, Entry, EntryFault, Wrap, read_change};
 use sporc_member::Roster;
 use std::alloc::{AllocError, Global};
 
@@ -44,9 +44,10 @@ fn is_same(a: &[u16], b: &[u16]) -> bool
     a == b
 }
 
-// The change that an entry holds, if it is one. An entry that was read fails here for want of memory alone.
+// The change that an entry holds, if it is one.
 #[tactic(auto, unfolding(sporc_entry::specs::Entry::change_of))]
 pub(crate) fn change_in(alloc: Global, entry: &Entry) -> Result<Option<ChangeBody>, Memory>
+    requires { IsEntry entry.now }
     ensures { IfOk result (λ change. change ≡ change_of entry.now) }
 {
     if entry.header.kind != 2 {
@@ -54,6 +55,7 @@ pub(crate) fn change_in(alloc: Global, entry: &Entry) -> Result<Option<ChangeBod
     }
     match read_change(alloc, entry.body.as_slice()) {
         Ok(change) => Ok(Some(change)),
-        Err(_) => Err(AllocError),
+        Err(EntryFault::Memory) => Err(AllocError),
+        Err(EntryFault::Malformed(_)) => unreachable!(),
     }
 }

@@ -1,10 +1,11 @@
 //! A history with what its checks look up.
 
 ghost use Rattle.std.specs.Prelude.{◌≡◌, ℕ, ◌+◌, ◌^◌, ◌<◌, ◌≤◌, ◌==◌, ◌∷◌, ◌++◌, [], length, take, map, Option, None, Some, IfOk, IfErr, OnOk, OnErr, IsOk, option_map};
+ghost use Rattle.std.specs.List.{All};
 ghost use Rattle.sporc_checks.specs.FirstFault.{Answers, AnswersUnless, first_of};
 ghost use Rattle.sporc_hash.specs.Chain.{chain, next_value};
 ghost use Rattle.sporc_entry.specs.Genesis.{IsGenesis, genesis_bytes};
-ghost use Rattle.sporc_entry.specs.Entry.{change_of};
+ghost use Rattle.sporc_entry.specs.Entry.{change_of, entry_limit, IsEntry};
 ghost use Rattle.sporc_member.specs.Roster.{change_fault_of};
 ghost use Rattle.sporc_head.specs.History.{change_in, is_by, roster_of, barrier_of, epoch_of, count_of, last_of, hash_of, is_removed};
 ghost use Rattle.sporc_head.specs.HeadChecks.{place_checks, history_checks, head_checks, head_fault, is_not_removed};
@@ -85,7 +86,8 @@ impl Heads {
 
     /// The bytes of the entries, oldest first.
     pub fn entries(&self) -> &[Vec<u8>]
-        ensures { map (λ v. v.items) result.now ≡ self.now.entries }
+        ensures value { map (λ v. v.items) result.now ≡ self.now.entries }
+        ensures sized { All (λ bytes. length bytes ≤ entry_limit) self.now.entries }
     {
         self.entries.as_slice()
     }
@@ -189,6 +191,7 @@ impl Heads {
     fn put_edit(&mut self, author: u16, bytes: Bytes, hash: Digest32)
         requires spare { 1 ≤ self.old.spare }
         requires room { length self.old.entries < 16384 }
+        requires sized { length bytes ≤ entry_limit }
         requires by { (n : ℕ) → is_by n bytes ≡ (author == n) }
         requires edit { change_in bytes ≡ None }
         requires hash { hash ≡ next_value (hash_of self.old.genesis self.old.entries) bytes }
@@ -209,6 +212,7 @@ impl Heads {
     fn put_change(&mut self, author: u16, change: &Change, bytes: Bytes, hash: Digest32)
         requires spare { 1 ≤ self.old.spare }
         requires room { length self.old.entries < 16384 }
+        requires sized { length bytes ≤ entry_limit }
         requires by { (n : ℕ) → is_by n bytes ≡ (author == n) }
         requires change { option_map (λ s. s.body.change) (change_in bytes) ≡ Some change.now }
         requires accepted { change_fault_of (roster_of self.old.genesis self.old.entries) change.now ≡ None }
@@ -261,8 +265,7 @@ impl Heads {
         pos: u32,
         entry: &Entry,
     ) -> Result<Option<ChangeBody>, Refusal>
-        requires { length entry.now.body < 2 ^ 32 }
-
+        requires { IsEntry entry.now }
         ensures fault { AnswersUnless Refusal.Memory result (first_of (head_checks self.now.genesis me self.now.entries pos entry.now)) }
         ensures change { IfOk result (λ change. change ≡ change_of entry.now) }
     {

@@ -16,10 +16,10 @@ use std::test::Fail;
 
 const DOCUMENT: [u8; 16] = [7; 16];
 
-// The trees of members 1 to 4: height 5, one bit a coefficient, which are the quickest to build.
+// The trees of members 1 to 5: height 5, one bit a coefficient, which are the quickest to build.
 fn trees(alloc: Global) -> Result<Vec<Tree>, Fail> {
     let mut trees = Vec::new(alloc);
-    for member in [1u8, 2, 3, 4] {
+    for member in [1u8, 2, 3, 4, 5] {
         let seed = [member; 32];
         let id = [member; 16];
         trees.push(Tree::build(alloc, &seed, &id, LmsType::H5, OtsType::W1)?)?;
@@ -27,20 +27,24 @@ fn trees(alloc: Global) -> Result<Vec<Tree>, Fail> {
     Ok(trees)
 }
 
-// A document founded by admin 1, editors 2 and 4, and reader 3.
+// A document founded by admin 1, editors 2, 4 and 5, and reader 3.
 fn genesis(alloc: Global, trees: &[Tree]) -> Result<Genesis, Fail>
     ensures { IfOk result (λ g. IsGenesis g) }
 {
+    let roles = [
+        Role::Admin,
+        Role::Editor,
+        Role::Reader,
+        Role::Editor,
+        Role::Editor,
+    ];
     let mut out = Out::new(alloc);
     out.put_u8(1)?;
     out.put_bytes(&DOCUMENT)?;
     out.put_bytes(&[9; 32])?;
-    out.put_u16(4)?;
+    out.put_u16(5)?;
     let mut number = 0u16;
-    for (tree, role) in trees
-        .iter()
-        .zip([Role::Admin, Role::Editor, Role::Reader, Role::Editor])
-    {
+    for (tree, role) in trees.iter().zip(roles) {
         number = number.wrapping_add(1);
         out.put_u16(number)?;
         out.put_u8(role.code())?;
@@ -50,78 +54,119 @@ fn genesis(alloc: Global, trees: &[Tree]) -> Result<Genesis, Fail>
     Ok(read_genesis(alloc, bytes.as_slice())?)
 }
 
-// A signature of a tree's, one bit of it turned where that is asked.
-fn signed(
-    rt: &impl Abort,
-    alloc: Global,
-    tree: &Tree,
+// An entry at a history, and who checks it at which position. Leaf 0 signs each: no check asks which leaves have signed.
+#[derive(Clone, Copy)]
+struct Draft {
+    me: Option<u16>,
+    pos: u32,
+    document: [u8; 16],
+    author: u16,
+    // How far its number is ahead of the author's next one.
+    ahead: u32,
+    base: u32,
+    // Whether its base hash is none of the history's.
+    foreign: bool,
+    epoch: u32,
     leaf: u32,
-    message: &[u8],
+    // Whether a bit of its signature is turned.
     turned: bool,
-) -> Result<Vec<u8>, Fail>
-    ensures { IfOk result (λ v. length v.items < 2 ^ 32) }
-{
-    let height = tree.public().lms.height();
-    assert!(rt; height == 5 && leaf < 32);
-    let mut signature = tree.sign(alloc, leaf, &[5; 32], message)?;
-    let len = signature.len();
-    assert!(rt; len > 8 && len < 10_000);
-    if turned {
-        signature[8] ^= 1;
-    }
-    Ok(signature)
+    // The member that it removes, if it is a change, and the members that it then seals the next key for.
+    removes: Option<u16>,
+    sealed_for: [u16; 4],
 }
 
-// What the author of an entry makes of its header and body.
-fn made(
+impl Draft {
+    // Makes it fail the check of this refusal, at the history of four entries.
+    fn spoil(&mut self, refusal: Refusal) {
+        match refusal {
+            Refusal::WrongDocument => self.document = [8; 16],
+            Refusal::WrongPosition => self.pos = 1,
+            Refusal::Removed => self.me = Some(4),
+            Refusal::UnknownAuthor => self.author = 4,
+            Refusal::BaseAhead => self.base = 5,
+            Refusal::BeforeBarrier => self.base = 2,
+            Refusal::WrongHistory => self.foreign = true,
+            Refusal::WrongNumber => self.ahead = 1,
+            Refusal::BehindOwn => (self.author, self.base) = (5, 3),
+            Refusal::WrongEpoch => self.epoch = 9,
+            Refusal::NoRight => self.author = 3,
+            Refusal::LeafMismatch => self.leaf = 1,
+            Refusal::BadSignature => self.turned = true,
+            Refusal::BadChange(_) => (self.author, self.removes) = (1, Some(4)),
+            Refusal::WrongWraps => {
+                self.author = 1;
+                self.removes = Some(3);
+                self.sealed_for = [1, 2, 3, 4];
+            }
+            _ => {}
+        }
+    }
+
+    fn header(&self, heads: &Heads) -> Header {
+        let base_hash = if self.foreign {
+            [0; 32]
+        } else {
+            heads.hash_at(self.base.min(heads.len()))
+        };
+        Header {
+            document: self.document,
+            author: self.author,
+            number: heads
+                .count_of(self.author)
+                .wrapping_add(1)
+                .wrapping_add(self.ahead),
+            base: self.base,
+            base_hash,
+            epoch: self.epoch,
+            leaf: self.leaf,
+            kind: if self.removes.is_some() { 2 } else { 1 },
+        }
+    }
+
+    fn body(&self, rt: &impl Abort, alloc: Global) -> Result<Vec<u8>, Fail>
+        ensures { IfOk result (λ v. length v.items < 2 ^ 32) }
+    {
+        let body = match self.removes {
+            Some(member) => removal(rt, alloc, member, &self.sealed_for)?,
+            None => Vec::new(alloc),
+        };
+        assert!(rt; body.len() < 10_000);
+        Ok(body)
+    }
+
+    fn bytes(
+        &self,
+        rt: &impl Abort,
+        alloc: Global,
+        heads: &Heads,
+        trees: &[Tree],
+    ) -> Result<Vec<u8>, Fail> {
+        let author = usize::from(self.author);
+        assert!(rt; author > 0 && author <= trees.len());
+        let mut entry = Entry {
+            header: self.header(heads),
+            body: Bytes::new(self.body(rt, alloc)?),
+            signature: Bytes::new(Vec::new(alloc)),
+        };
+        let message = signed_part(alloc, &entry)?;
+        let mut signature = signed(rt, alloc, &trees[author - 1], message.as_slice())?;
+        if self.turned {
+            signature[8] ^= 1;
+        }
+        entry.signature = Bytes::new(signature);
+        Ok(write_entry(alloc, &entry)?)
+    }
+}
+
+// The bytes of a change that removes a member.
+fn removal(
     rt: &impl Abort,
     alloc: Global,
-    trees: &[Tree],
-    header: Header,
-    body: &[u8],
-    turned: bool,
-) -> Result<Vec<u8>, Fail> {
-    let author = usize::from(header.author);
-    assert!(rt; author > 0 && author <= trees.len() && body.len() < 1_000_000);
-    let mut entry = Entry {
-        header,
-        body: Bytes::copy_of(alloc, body)?,
-        signature: Bytes::new(Vec::new(alloc)),
-    };
-    let message = signed_part(alloc, &entry)?;
-    let signature = signed(
-        rt,
-        alloc,
-        &trees[author - 1],
-        header.leaf,
-        message.as_slice(),
-        turned,
-    )?;
-    entry.signature = Bytes::new(signature);
-    Ok(write_entry(alloc, &entry)?)
-}
-
-fn header(heads: &Heads, author: u16, kind: u8, leaf: u32) -> Header {
-    Header {
-        document: DOCUMENT,
-        author,
-        number: heads.count_of(author).wrapping_add(1),
-        base: heads.len(),
-        base_hash: heads.hash_at(heads.len()),
-        epoch: heads.epoch(),
-        leaf,
-        kind,
-    }
-}
-
-fn change(
-    rt: &impl Abort,
-    alloc: Global,
-    change: Change,
-    members: &[u16],
+    member: u16,
+    sealed_for: &[u16],
 ) -> Result<Vec<u8>, Fail> {
     let mut wraps = Vec::new(alloc);
-    for member in members {
+    for member in sealed_for {
         wraps.push(Wrap {
             member: *member,
             sealed: [3; 32],
@@ -129,7 +174,7 @@ fn change(
     }
     assert!(rt; wraps.len() < 65);
     let body = ChangeBody {
-        change,
+        change: Change::Remove { member },
         commitment: [1; 32],
         previous: [2; 32],
         wraps: Wraps::new(wraps),
@@ -137,33 +182,65 @@ fn change(
     Ok(write_change(alloc, &body)?)
 }
 
+// A signature of the tree's first leaf.
+fn signed(rt: &impl Abort, alloc: Global, tree: &Tree, message: &[u8]) -> Result<Vec<u8>, Fail>
+    ensures { IfOk result (λ v. (8 < length v.items) × (length v.items < 2 ^ 32)) }
+{
+    let height = tree.public().lms.height();
+    assert!(rt; height == 5);
+    let signature = tree.sign(alloc, 0, &[5; 32], message)?;
+    let len = signature.len();
+    assert!(rt; len > 8 && len < 10_000);
+    Ok(signature)
+}
+
+// The next edit of editor 2 at a history, which no check refuses.
+fn good(heads: &Heads) -> Draft {
+    Draft {
+        me: Some(2),
+        pos: heads.len().wrapping_add(1),
+        document: DOCUMENT,
+        author: 2,
+        ahead: 0,
+        base: heads.len(),
+        foreign: false,
+        epoch: heads.epoch(),
+        leaf: 0,
+        turned: false,
+        removes: None,
+        sealed_for: [1, 2, 3, 5],
+    }
+}
+
 // Appends an entry.
-fn take(heads: &mut Heads, pos: u32, bytes: &[u8]) -> Result<(), Fail> {
-    let checked = heads.check(None, pos, bytes)?;
+fn take(
+    rt: &impl Abort,
+    alloc: Global,
+    heads: &mut Heads,
+    trees: &[Tree],
+    draft: &Draft,
+) -> Result<(), Fail> {
+    let bytes = draft.bytes(rt, alloc, heads, trees)?;
+    let checked = heads.check(draft.me, draft.pos, bytes.as_slice())?;
+    assert_eq!(rt; checked.bytes.as_slice(), bytes.as_slice());
     match heads.push(checked) {
         Ok(()) => Ok(()),
         Err((_, memory)) => Err(memory.into()),
     }
 }
 
-// A history of three entries: an edit by 2, a change by 1 that removes 4, and an edit by 2.
+// A history of four entries: edits by 2 and 4, a change by 1 that removes 4, and an edit by 5.
 fn history(rt: &impl Abort, alloc: Global, trees: &[Tree]) -> Result<Heads, Fail> {
     let mut heads = Heads::open(alloc, genesis(alloc, trees)?)?;
     heads.reserve()?;
-    let first = made(rt, alloc, trees, header(&heads, 2, 1, 0), b"first", false)?;
-    take(&mut heads, 1, first.as_slice())?;
-    let body = change(rt, alloc, Change::Remove { member: 4 }, &[1, 2, 3])?;
-    let second = made(
-        rt,
-        alloc,
-        trees,
-        header(&heads, 1, 2, 0),
-        body.as_slice(),
-        false,
-    )?;
-    take(&mut heads, 2, second.as_slice())?;
-    let third = made(rt, alloc, trees, header(&heads, 2, 1, 1), b"third", false)?;
-    take(&mut heads, 3, third.as_slice())?;
+    for (author, removes) in [(2, None), (4, None), (1, Some(4)), (5, None)] {
+        let draft = Draft {
+            author,
+            removes,
+            ..good(&heads)
+        };
+        take(rt, alloc, &mut heads, trees, &draft)?;
+    }
     Ok(heads)
 }
 
@@ -178,139 +255,107 @@ fn a_history_grows(rt: HostRuntime) -> Result<(), Fail> {
         heads.count_of(2),
         heads.last_of(2),
     );
-    assert_eq!(rt; counts, (3, 2, 1, 2, 3));
-    assert_eq!(rt; heads.roster().members(), [1u16, 2, 3].as_slice());
+    assert_eq!(rt; counts, (4, 3, 1, 1, 1));
+    assert_eq!(rt; heads.roster().members(), [1u16, 2, 3, 5].as_slice());
     assert!(rt; heads.is_removed(4));
     Ok(())
 }
 
 fn refused(
     rt: &impl Abort,
+    alloc: Global,
     heads: &Heads,
-    me: Option<u16>,
-    pos: u32,
-    bytes: &[u8],
+    trees: &[Tree],
+    draft: &Draft,
     refusal: Refusal,
-) {
-    let found = heads.check(me, pos, bytes).err();
+) -> Result<(), Fail> {
+    let bytes = draft.bytes(rt, alloc, heads, trees)?;
+    let found = heads.check(draft.me, draft.pos, bytes.as_slice()).err();
     assert_eq!(rt; found, Some(refusal));
+    Ok(())
 }
 
-// The entry that fails the check of this number, and every later one where that is asked; and its position.
-fn failing(heads: &Heads, check: u8, later: bool) -> (Header, u32) {
-    let mut header = header(heads, 2, 1, 2);
-    if later {
-        header.epoch = 9;
-        header.number = 9;
-        header.base_hash = [0; 32];
-    }
-    let mut pos = 4;
-    match check {
-        2 => header.document = [8; 16],
-        3 => pos = 5,
-        6 => header.author = 4,
-        7 => header.base = 9,
-        8 => header.base = 1,
-        9 => header.base_hash = [0; 32],
-        10 => header.number = 9,
-        _ => header.epoch = 0,
-    }
-    (header, pos)
+// Why the entries of the next tests are refused, by the last check and those before it.
+fn refusals() -> [Refusal; 12] {
+    [
+        Refusal::WrongWraps,
+        Refusal::BadChange(ChangeFault::NotMember),
+        Refusal::BadSignature,
+        Refusal::LeafMismatch,
+        Refusal::NoRight,
+        Refusal::WrongEpoch,
+        Refusal::BehindOwn,
+        Refusal::WrongNumber,
+        Refusal::WrongHistory,
+        Refusal::BeforeBarrier,
+        Refusal::BaseAhead,
+        Refusal::UnknownAuthor,
+    ]
 }
 
 #[test]
-fn headers_are_refused(rt: HostRuntime) -> Result<(), Fail> {
+fn each_check_refuses(rt: HostRuntime) -> Result<(), Fail> {
     let alloc = rt.alloc();
     let trees = trees(alloc)?;
     let heads = history(&rt, alloc, trees.as_slice())?;
-    let table = [
-        (2u8, Refusal::WrongDocument),
-        (3, Refusal::WrongPosition),
-        (6, Refusal::UnknownAuthor),
-        (7, Refusal::BaseAhead),
-        (8, Refusal::BeforeBarrier),
-        (9, Refusal::WrongHistory),
-        (10, Refusal::WrongNumber),
-        (12, Refusal::WrongEpoch),
-    ];
-    for (check, refusal) in table {
-        let (header, pos) = failing(&heads, check, false);
-        let alone = made(&rt, alloc, trees.as_slice(), header, b"x", false)?;
-        refused(&rt, &heads, None, pos, alone.as_slice(), refusal);
-        if check < 10 {
-            let (header, pos) = failing(&heads, check, true);
-            let all = made(&rt, alloc, trees.as_slice(), header, b"x", true)?;
-            refused(&rt, &heads, None, pos, all.as_slice(), refusal);
-        }
+    // It fails ever more checks, the last one first. A base that is ahead is not also before the barrier.
+    let mut worse = good(&heads);
+    for refusal in refusals() {
+        let mut alone = good(&heads);
+        alone.spoil(refusal);
+        refused(&rt, alloc, &heads, trees.as_slice(), &alone, refusal)?;
+        worse.spoil(refusal);
+        refused(&rt, alloc, &heads, trees.as_slice(), &worse, refusal)?;
     }
+    for refusal in [
+        Refusal::Removed,
+        Refusal::WrongPosition,
+        Refusal::WrongDocument,
+    ] {
+        let mut alone = good(&heads);
+        alone.spoil(refusal);
+        refused(&rt, alloc, &heads, trees.as_slice(), &alone, refusal)?;
+    }
+    let found = heads.check(None, 5, b"").err();
+    assert_eq!(rt; found, Some(Refusal::Malformed(0)));
     Ok(())
 }
 
 #[test]
-fn signatures_are_refused(rt: HostRuntime) -> Result<(), Fail> {
+fn a_full_history_refuses(rt: HostRuntime) -> Result<(), Fail> {
     let alloc = rt.alloc();
     let trees = trees(alloc)?;
-    let heads = history(&rt, alloc, trees.as_slice())?;
-    let good = made(
-        &rt,
-        alloc,
-        trees.as_slice(),
-        header(&heads, 2, 1, 2),
-        b"good",
-        false,
-    )?;
-    let checked = heads.check(Some(2), 4, good.as_slice())?;
-    assert_eq!(rt; checked.bytes.as_slice(), good.as_slice());
-    refused(&rt, &heads, Some(4), 4, good.as_slice(), Refusal::Removed);
-    let turned = made(
-        &rt,
-        alloc,
-        trees.as_slice(),
-        header(&heads, 2, 1, 2),
-        b"good",
-        true,
-    )?;
+    let mut heads = history(&rt, alloc, trees.as_slice())?;
+    for _ in 4..16_384u32 {
+        let draft = good(&heads);
+        take(&rt, alloc, &mut heads, trees.as_slice(), &draft)?;
+    }
+    let mut worse = good(&heads);
     refused(
         &rt,
+        alloc,
         &heads,
-        None,
-        4,
-        turned.as_slice(),
-        Refusal::BadSignature,
-    );
-    refused(&rt, &heads, None, 4, b"", Refusal::Malformed(0));
-    Ok(())
-}
-
-#[test]
-fn changes_are_refused(rt: HostRuntime) -> Result<(), Fail> {
-    let alloc = rt.alloc();
-    let trees = trees(alloc)?;
-    let heads = history(&rt, alloc, trees.as_slice())?;
-    let table = [
-        (
-            1u16,
-            4u16,
-            [1u16, 2, 3].as_slice(),
-            Refusal::BadChange(ChangeFault::NotMember),
-        ),
-        (1, 3, [1, 2, 3].as_slice(), Refusal::WrongWraps),
-        (1, 3, [2, 1].as_slice(), Refusal::WrongWraps),
-        (2, 3, [1, 2].as_slice(), Refusal::NoRight),
-        (3, 3, [1, 2].as_slice(), Refusal::NoRight),
-    ];
-    for (author, member, members, refusal) in table {
-        let body = change(&rt, alloc, Change::Remove { member }, members)?;
-        let entry = made(
-            &rt,
-            alloc,
-            trees.as_slice(),
-            header(&heads, author, 2, 3),
-            body.as_slice(),
-            false,
-        )?;
-        refused(&rt, &heads, None, 4, entry.as_slice(), refusal);
+        trees.as_slice(),
+        &worse,
+        Refusal::HistoryFull,
+    )?;
+    for refusal in refusals() {
+        worse.spoil(refusal);
     }
+    for refusal in [
+        Refusal::HistoryFull,
+        Refusal::Removed,
+        Refusal::WrongPosition,
+        Refusal::WrongDocument,
+    ] {
+        worse.spoil(refusal);
+        refused(&rt, alloc, &heads, trees.as_slice(), &worse, refusal)?;
+    }
+    let mut bytes = worse.bytes(&rt, alloc, &heads, trees.as_slice())?;
+    let len = bytes.len();
+    bytes.push(0)?;
+    let found = heads.check(worse.me, worse.pos, bytes.as_slice()).err();
+    assert_eq!(rt; found, Some(Refusal::Malformed(len)));
     Ok(())
 }
 

@@ -1,9 +1,12 @@
 -- The entries that one answer holds, taken one by one.
 use Rattle.std.proofs.Common.{◌≡◌, ℕ, zero, suc, ◌+◌, ◌-◌, ◌<◌, ◌≤◌, Bool, true, false, cond, leb, ltb, List, [], ◌∷◌, ◌++◌, length, get_or, take, drop, map, refl, ap, sym, ◌∙◌, subst, append_assoc, arith, inl, inr, min}
-use Rattle.std.specs.Prelude.{◌&&◌}
+use Rattle.std.specs.Prelude.{◌&&◌, ◌↔◌}
 use Rattle.std.specs.Global.{Vec}
-use Rattle.std.proofs.lemmas.Bool.{ltb-true, ltb-false, leb-true, cases_lt}
-use Rattle.std.proofs.lemmas.List.{append-nil, take_all, length-drop}
+use Rattle.std.proofs.lemmas.Bool.{ltb-true, ltb-false, leb-true, leb-false, cases_lt}
+use Rattle.std.proofs.lemmas.List.{append-nil, take_all, drop_all, length-drop, length-map}
+use Rattle.std.proofs.lemmas.List.Elements.{All-head, All-drop}
+use Rattle.std.specs.List.{All}
+use Rattle.sporc_entry.specs.Entry.{entry_limit}
 use Rattle.sporc_order.specs.Orders.{run_of, pulled}
 
 abbrev pub bytes_of : Vec ℕ → List ℕ
@@ -55,15 +58,9 @@ ends L i room x whole at le none so_far = sym (so_far ∙ step (ltb i 16) (leb (
         let k : 16 - i ≡ 0 = omega arith in
         rw k refl
 
-nothing_left : {X : Type 0} (L : List X) (i : ℕ) → length L ≤ i → drop i L ≡ []
-nothing_left [] zero h = refl
-nothing_left [] (suc i) h = refl
-nothing_left (x ∷ L) zero h = absurd (omega arith)
-nothing_left (x ∷ L) (suc i) h = nothing_left L i (omega arith)
-
 -- behind the last entry nothing is left
 pub is_done : (L : List (List ℕ)) (i room : ℕ) (whole : List (List ℕ)) → length L ≤ i → whole ≡ take i L ++ run_of (16 - i) room (drop i L) → take i L ≡ whole
-is_done L i room whole le so_far = sym (so_far ∙ ap (λ (l : List (List ℕ)). take i L ++ run_of (16 - i) room l) (nothing_left L i le) ∙ ap (λ (l : List (List ℕ)). take i L ++ l) (empty (16 - i)) ∙ append-nil (take i L))
+is_done L i room whole le so_far = sym (so_far ∙ ap (λ (l : List (List ℕ)). take i L ++ run_of (16 - i) room l) (drop_all i L le) ∙ ap (λ (l : List (List ℕ)). take i L ++ l) (empty (16 - i)) ∙ append-nil (take i L))
   where
     empty : (n : ℕ) → run_of n room [] ≡ []
     empty zero = refl
@@ -93,7 +90,7 @@ map_drop (suc n) (v ∷ vs) = map_drop n vs
 drop_min : {X : Type 0} (L : List X) (from k : ℕ) → k ≡ min from (length L) → drop k L ≡ drop from L
 drop_min L from k e = elim (cases_lt from (length L)) [
   | inl lt ↦ let same : k ≡ from = omega (arith, e) in ap (λ (n : ℕ). drop n L) same
-  | inr le ↦ let all : k ≡ length L = omega (arith, e) in let past : length L ≤ k = omega (arith, all) in nothing_left L k past ∙ sym (nothing_left L from le)
+  | inr le ↦ let all : k ≡ length L = omega (arith, e) in let past : length L ≤ k = omega (arith, all) in drop_all k L past ∙ sym (drop_all from L le)
 ]
 
 -- the entries of an answer are those of the run behind the first `from`
@@ -105,3 +102,28 @@ is_pulled vs A from k n is e run =
     map_take n (take (length vs - k) (drop k vs)) ∙ run
     ∙ ap (λ (l : List (Vec ℕ)). run_of 16 4194298 (map bytes_of l)) (take_all (length vs - k) (drop k vs) rest ∙ drop_min vs from k e)
     ∙ ap (run_of 16 4194298) (map_drop from vs ∙ ap (drop from) is)
+
+-- ---- an answer without entries
+
+-- where there is an entry, the answer begins with it
+begins : (A : List (List ℕ)) → All (λ b. length b ≤ entry_limit) A → run_of 16 4194298 A ≡ [] → length A ≡ 0
+begins [] sized none = refl
+begins (b ∷ A) sized none = go (leb (length b + 4) 4194298) refl
+  where
+    size : length b ≤ entry_limit
+    size = All-head (λ e. length e ≤ entry_limit) b A sized
+
+    go : (t : Bool) → leb (length b + 4) 4194298 ≡ t → length (b ∷ A) ≡ 0
+    go true p = absurd (let taken : b ∷ run_of 15 (4194298 - (length b + 4)) A ≡ [] = subst (λ (t : Bool). cond t (b ∷ run_of 15 (4194298 - (length b + 4)) A) [] ≡ []) p none in cc)
+    go false p = absurd (omega (arith, leb-false (length b + 4) 4194298 p, size))
+
+-- an answer has no entries exactly where there are no more
+pub is_empty : (vs : List (Vec ℕ)) (A : List (List ℕ)) (from : ℕ) → All (λ b. length b ≤ entry_limit) A → map bytes_of vs ≡ pulled A from → length vs ≡ 0 ↔ length A ≤ from
+is_empty vs A from sized is = (
+  λ none. omega (arith, length-drop from A, begins (drop from A) (All-drop (λ e. length e ≤ entry_limit) from A sized) (sym is ∙ no_entries vs none)),
+  λ le. omega (arith, length-map vs bytes_of, ap length is, ap (λ (l : List (List ℕ)). length (run_of 16 4194298 l)) (drop_all from A le)),
+)
+  where
+    no_entries : (vs : List (Vec ℕ)) → length vs ≡ 0 → map bytes_of vs ≡ []
+    no_entries [] none = refl
+    no_entries (v ∷ vs) none = absurd (omega arith)

@@ -1,5 +1,5 @@
 -- An order: the list of entries that it accepted, and what it hands out of it.
-use Rattle.std.specs.Prelude.{ℕ, zero, suc, ◌+◌, ◌-◌, nat_le, List, [], ◌∷◌, length, take, drop, if◌then◌else◌}
+use Rattle.std.specs.Prelude.{ℕ, zero, suc, ◌+◌, ◌-◌, nat_le, List, [], ◌∷◌, length, drop, if◌then◌else◌}
 
 -- as many of the first entries as a limit on their number and on their bytes, each with 4 more, allows
 abbrev pub run_of : ℕ → ℕ → List (List ℕ) → List (List ℕ)

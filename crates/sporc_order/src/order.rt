@@ -1,6 +1,6 @@
 //! An order of entries.
 
-ghost use Rattle.std.specs.Prelude.{◌≡◌, ◌≢◌, ◌+◌, ◌∷◌, ◌++◌, [], ◌≤◌, ◌<◌, length, take, drop, map, None, nat_lt, nat_le, ◌&&◌, IfOk, OnOk, OnErr};
+ghost use Rattle.std.specs.Prelude.{◌≡◌, ◌≢◌, ◌+◌, ◌∷◌, ◌++◌, [], ◌≤◌, ◌<◌, ◌↔◌, length, take, drop, map, None, nat_lt, nat_le, ◌&&◌, IfOk, OnOk, OnErr};
 ghost use Rattle.sporc_checks.specs.FirstFault.{AnswersUnless};
 ghost use Rattle.sporc_entry.specs.Genesis.{IsGenesis};
 ghost use Rattle.sporc_head.specs.HeadChecks.{head_fault};
@@ -79,10 +79,10 @@ impl Order {
         }
     }
 
-    /// The entries after the first `from`: as many of them, up to 16, as one answer holds. Empty exactly where there are
-    /// no more than `from`.
+    /// The entries after the first `from`: as many of them, up to 16, as one answer holds.
     pub fn pull(&self, from: u32) -> &[Vec<u8>]
-        ensures { map (λ v. v.items) result.now ≡ pulled self.now.entries from }
+        ensures entries { map (λ v. v.items) result.now ≡ pulled self.now.entries from }
+        ensures empty { length result.now ≡ 0 ↔ length self.now.entries ≤ from }
     {
         let entries = self.heads.entries();
         let from = (from as usize).min(entries.len());

@@ -1,6 +1,6 @@
 use Rattle.std.proofs.Common.{◌<◌, length, arith, sym, ◌∙◌}
 use Rattle.sporc_client.specs.SameEntry.{same_part}
-use Rattle.sporc_client.proofs.SameLists.{different_lengths, one_more_same, one_more_different}
+use Rattle.sporc_client.proofs.SameLists.{one_more_different}
 use Rattle.sporc_client.proofs.entry.are_same_parts.Goals as goal
 
 pub returns-then-not-is_same_part : goal.returns-then-not-is_same_part

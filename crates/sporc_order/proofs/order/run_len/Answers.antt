@@ -1,8 +1,7 @@
-use Rattle.std.proofs.Common.{rules, ◌≡◌, ◌+◌, ◌∷◌, ◌≤◌, ◌-◌, ◌++◌, List, ℕ, Bool, true, false, ltb, leb, length, map, drop, take, ap, sym, subst, ◌∙◌, arith}
+use Rattle.std.proofs.Common.{rules, ◌≡◌, ◌+◌, ◌-◌, ◌++◌, List, ℕ, true, false, ltb, leb, length, map, drop, take, sym, subst, arith}
 use Rattle.std.specs.Prelude.{◌&&◌}
-use Rattle.std.proofs.lemmas.List.{length-map}
 use Rattle.sporc_order.specs.Orders.{run_of}
-use Rattle.sporc_order.proofs.Runs.{bytes_of, from_place, goes_on, ends, is_done, has_room}
+use Rattle.sporc_order.proofs.Runs.{bytes_of, from_place, goes_on, ends, has_room}
 use Rattle.sporc_order.proofs.order.run_len.Goals as goal
 
 pub returns-then-not-has_room-clause-run : goal.returns-then-not-has_room-clause-run

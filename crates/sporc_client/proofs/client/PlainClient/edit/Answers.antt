@@ -1,4 +1,4 @@
-use Rattle.std.proofs.Common.{◌≡◌, ◌∷◌, ◌++◌, [], Option, None, ap, sym, subst, ◌∙◌, length}
+use Rattle.std.proofs.Common.{◌≡◌, ◌∷◌, ◌++◌, [], None, ap, sym, subst, ◌∙◌, length}
 use Rattle.sporc_delta.specs.Marks.{base_len, apply}
 use Rattle.sporc_checks.specs.FirstFault.{first_of}
 use Rattle.sporc_client.specs.History.{text_of}

@@ -1,6 +1,4 @@
-use Rattle.std.proofs.Common.{◌≡◌, ◌+◌, length, arith, ap, sym, subst, ◌∙◌, Some, slice_get}
-use Rattle.sporc_hash.specs.Chain.{genesis_value}
-use Rattle.sporc_client.specs.HistoryValue.{HistoryValue}
+use Rattle.std.proofs.Common.{length, arith, ap, ◌∙◌, slice_get}
 use Rattle.sporc_client.proofs.Histories.{length-hashes_of, first-hashes_of}
 use Rattle.sporc_client.proofs.history.History.hashes.Goals as goal
 

@@ -1,8 +1,6 @@
-use Rattle.std.proofs.Common.{◌≡◌, ℕ, ◌+◌, ◌*◌, ◌<◌, ◌≤◌, ◌∷◌, ◌++◌, [], arith, length, get_or, ap, sym, subst, ◌∙◌, length-append}
+use Rattle.std.proofs.Common.{◌≡◌, ◌∷◌, ◌++◌, [], arith, length, get_or, ap, sym, subst, ◌∙◌, length-append}
 use Rattle.sporc_hash.specs.Chain.{next_value}
-use Rattle.sporc_delta.specs.Marks.{base_len, out_len}
-use Rattle.sporc_delta.specs.Format.{delta_bytes}
-use Rattle.sporc_client.specs.declared.limits.TheConstants.{MAX_ENTRIES, MAX_EDIT_BYTES}
+use Rattle.sporc_delta.specs.Marks.{out_len}
 use Rattle.sporc_client.specs.Entry.{entry_bytes}
 use Rattle.sporc_client.specs.Checks.{IsNext}
 use Rattle.sporc_client.specs.HistoryValue.{HistoryValue}

@@ -1,7 +1,7 @@
-use Rattle.std.proofs.Common.{◌≡◌, ℕ, List, length, take, ap, ◌∙◌, arith, ◌≤◌}
+use Rattle.std.proofs.Common.{◌≡◌, ℕ, List, length, take, ap, sym, ◌∙◌, subst, arith, ◌≤◌}
 use Rattle.std.proofs.lemmas.List.{take_all}
 use Rattle.sporc_hash.specs.Chain.{next_value}
-use Rattle.sporc_entry.specs.Entry.{entry_of}
+use Rattle.sporc_entry.specs.Entry.{entry_limit, entry_of}
 use Rattle.sporc_head.specs.History.{hash_of}
 use Rattle.sporc_head.proofs.ChecksPass.{fault_for_nobody}
 use Rattle.sporc_head.proofs.OnceChecked.{passed_of}
@@ -15,6 +15,7 @@ returns-clause-checked c =
     let all : length A ≤ length A = omega arith in
     record {
       read = read;
+      sized = subst (λ (b : List ℕ). length b ≤ entry_limit) (sym c.in_ok-bytes.ensures) c.in_ok-entry.ensures.sized;
       change = c.in_ok-change.ensures.change;
       hash = c.next_hash-hash.ensures
           ∙ ap (λ (v : List ℕ). next_value v c.as_slice.result.now) (c.hash_at.ensures ∙ ap (λ (n : ℕ). hash_of g (take n A)) c.len.ensures.value ∙ ap (hash_of g) (take_all (length A) A all))

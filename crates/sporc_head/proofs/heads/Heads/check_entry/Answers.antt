@@ -1,14 +1,19 @@
-use Rattle.std.proofs.Common.{◌≡◌, ℕ, ap, sym, ◌∙◌, Some, Option, None, refl, subst}
+use Rattle.std.proofs.Common.{ap, sym, ◌∙◌, Some, Option, None, refl}
 use Rattle.std.proofs.lemmas.Result.{err_from_is_err_and}
 use Rattle.sporc_checks.specs.FirstFault.{first_of}
 use Rattle.sporc_member.specs.Roster.{Roster, member_at}
 use Rattle.sporc_entry.specs.declared.change.ChangeBody.{ChangeBody}
-use Rattle.sporc_head.specs.declared.refusal.Refusal.{Refusal}
 use Rattle.sporc_head.specs.declared.refusal.Refusal.TheVariants.{Memory}
 use Rattle.sporc_head.specs.HeadChecks.{roster_checks}
-use Rattle.sporc_head.proofs.OnceChecked.{unless_exit, none_of, at_history, at_author, at_roster}
+use Rattle.sporc_head.proofs.OnceChecked.{unless_exit, none_of, at_place, at_history, at_author, at_roster}
 use Rattle.sporc_head.proofs.heads.Heads.check_entry.Goals as goal
 use Rattle.sporc_head.proofs.heads.Heads.check_entry.Goals.{in-Some-change+in_ok-check_change, in_default-change}
+
+pub returns-in_err-check_place-clause-fault : goal.returns-in_err-check_place-clause-fault
+returns-in_err-check_place-clause-fault c =
+    let p = err_from_is_err_and c.from_residual.result c.from_residual.ensures.1 in
+    unless_exit Memory _ p.0 c.in_err-check_place.field-0.0 _ p.1 p.2
+    (λ _. at_place c.args.self.now.genesis c.args.me c.args.self.now.entries c.args.pos c.args.entry.now _ c.in_err-check_place.ensures)
 
 pub returns-in_err-check_history-clause-fault : goal.returns-in_err-check_history-clause-fault
 returns-in_err-check_history-clause-fault c =

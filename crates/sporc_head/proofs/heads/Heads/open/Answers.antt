@@ -1,4 +1,4 @@
-use Rattle.std.proofs.Common.{rules, ◌≡◌, ap, ◌∙◌, ℕ, List, map}
+use Rattle.std.proofs.Common.{rules, ap, ℕ, List, map}
 use Rattle.std.specs.Global.{Vec}
 use Rattle.sporc_head.proofs.Keeping.{keeps_open}
 use Rattle.sporc_head.proofs.heads.Heads.open.Goals as goal

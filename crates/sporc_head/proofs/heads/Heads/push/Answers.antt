@@ -1,4 +1,3 @@
-use Rattle.std.proofs.Common.{◌≡◌}
 use Rattle.sporc_head.proofs.OnceChecked.{checked_room, checked_by, checked_edit, checked_change, checked_accepted}
 use Rattle.sporc_head.proofs.heads.Heads.push.Goals as goal
 

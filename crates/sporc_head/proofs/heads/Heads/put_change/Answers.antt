@@ -1,4 +1,4 @@
-use Rattle.std.proofs.Common.{◌≡◌, ◌∷◌, ◌++◌, [], ◌+◌, ◌<◌, ◌≤◌, ℕ, Bool, List, length, map, set, ap, sym, ◌∙◌, refl, arith}
+use Rattle.std.proofs.Common.{◌≡◌, ◌∷◌, ◌++◌, [], ◌+◌, ◌≤◌, ℕ, List, length, map, set, ap, sym, ◌∙◌, refl, arith}
 use Rattle.std.specs.Global.{Vec}
 use Rattle.std.proofs.lemmas.List.{map_push, length-map}
 use Rattle.sporc_hash.specs.Chain.{next_value}
@@ -28,7 +28,7 @@ invariant_of-self c =
     let made = ok_of c.make.result _ c.make.ensures.ok (c.make.ensures.ready spare) in
     keeps_change c.self.inside.genesis A c.self.inside.hashes.items c.self.inside.roster.roster c.self.inside.barrier c.self.inside.epoch
     c.self.inside.tables.counts.items c.self.inside.tables.lasts.items c.self.inside.tables.removed.items c.args.bytes c.args.hash c.args.author s.0 _ _ _ _ _ _ _ _
-    c.self.invariant (omega (arith, c.requires.room, ap length now)) (omega arith) c.requires.by s.1
+    c.self.invariant (omega (arith, c.requires.room, ap length now)) c.requires.sized (omega arith) c.requires.by s.1
     (c.requires.hash ∙ ap (λ (m : HeadsModel). next_value (hash_of m.genesis m.entries) c.args.bytes) (sym c.self.view_is))
     grown c.push_reserved.ensures.items
     (made ∙ ap (after_change c.self.inside.roster.roster) (sym s.2))

@@ -1,4 +1,4 @@
-use Rattle.std.proofs.Common.{◌≡◌, ◌∷◌, ◌++◌, [], ◌+◌, ◌<◌, ℕ, List, length, map, set, ap, sym, ◌∙◌, arith}
+use Rattle.std.proofs.Common.{◌≡◌, ◌∷◌, ◌++◌, [], ◌+◌, ℕ, List, length, map, set, ap, sym, ◌∙◌, arith}
 use Rattle.std.proofs.lemmas.List.{map_push, length-map}
 use Rattle.sporc_hash.specs.Chain.{next_value}
 use Rattle.sporc_head.specs.History.{hash_of}
@@ -17,7 +17,7 @@ invariant_of-self c =
     ap (map items) c.push_reserved-2.ensures.items ∙ map_push items c.self.inside.entries.items c.into_vec.result ∙ ap (λ (b : List ℕ). A ++ b ∷ []) c.into_vec.ensures in
     keeps_edit c.self.inside.genesis A c.self.inside.hashes.items c.self.inside.roster.roster c.self.inside.barrier c.self.inside.epoch
     c.self.inside.tables.counts.items c.self.inside.tables.lasts.items c.self.inside.tables.removed.items c.args.bytes c.args.hash c.args.author _ _ _ _
-    c.self.invariant (omega (arith, c.requires.room, ap length now)) (omega arith) c.requires.by c.requires.edit
+    c.self.invariant (omega (arith, c.requires.room, ap length now)) c.requires.sized (omega arith) c.requires.by c.requires.edit
     (c.requires.hash ∙ ap (λ (m : HeadsModel). next_value (hash_of m.genesis m.entries) c.args.bytes) (sym c.self.view_is))
     grown c.push_reserved.ensures.items c.note.ensures.count
     (c.note.ensures.last ∙ ap (λ (n : ℕ). set c.self.inside.tables.lasts.items c.args.author (n + 1)) size)
