@@ -1,7 +1,7 @@
 -- Known bytes over several calls.
 use Rattle.std.proofs.Common.{◌≡◌, ℕ, ◌+◌, ◌-◌, ◌<◌, ◌≤◌, min, List, [], ◌++◌, length, take, drop, Option, Some, None, ap, ap₂, sym, ◌∙◌, append_assoc, arith, take-add, length-drop}
 use Rattle.std.proofs.lemmas.List.{take_all, length-take, take-append-le, take-append-drop, drop-drop, nil_from_length}
-use Rattle.std.specs.Io.KnownBytes.{Appends, Consumes, Keeps}
+use Rattle.std.specs.Io.KnownBytes.{Appends, Consumes}
 
 pub Appends_then : (u v w : Option (List ℕ)) (a b : List ℕ) → Appends u v a → Appends v w b → Appends u w (a ++ b)
 Appends_then None v w a b x y = tt
@@ -9,23 +9,11 @@ Appends_then (Some xs) None w a b x y = absurd x
 Appends_then (Some xs) (Some ys) None a b x y = y
 Appends_then (Some xs) (Some ys) (Some zs) a b x y = y ∙ ap (λ (t : List ℕ). t ++ b) x ∙ append_assoc xs a b
 
-pub Appends_kept : (u v w : Option (List ℕ)) (a : List ℕ) → Appends u v a → Keeps v w → Appends u w a
-Appends_kept None v w a x y = tt
-Appends_kept (Some xs) None w a x y = absurd x
-Appends_kept (Some xs) (Some ys) None a x y = absurd y
-Appends_kept (Some xs) (Some ys) (Some zs) a x y = y ∙ x
-
 pub Consumes_then : (u v w : Option (List ℕ)) (a b : List ℕ) → Consumes u v a → Consumes v w b → Consumes u w (a ++ b)
 Consumes_then None v w a b x y = tt
 Consumes_then (Some xs) None w a b x y = absurd x
 Consumes_then (Some xs) (Some ys) None a b x y = y
 Consumes_then (Some xs) (Some ys) (Some zs) a b x y = x ∙ ap (λ (t : List ℕ). a ++ t) y ∙ sym (append_assoc a b zs)
-
-pub Consumes_kept : (u v w : Option (List ℕ)) (a : List ℕ) → Consumes u v a → Keeps v w → Consumes u w a
-Consumes_kept None v w a x y = tt
-Consumes_kept (Some xs) None w a x y = absurd x
-Consumes_kept (Some xs) (Some ys) None a x y = absurd y
-Consumes_kept (Some xs) (Some ys) (Some zs) a x y = x ∙ ap (λ (t : List ℕ). a ++ t) (sym y)
 
 -- the front that has been written, and the front of the rest
 pub take-front : (bytes : List ℕ) (i n : ℕ) → take (i + n) bytes ≡ take i bytes ++ take n (take (length bytes - i) (drop i bytes))

@@ -1,10 +1,9 @@
 -- What a source that tells its content calls for.
-use Rattle.std.proofs.Common.{◌≡◌, ℕ, ◌+◌, ◌<◌, ◌≤◌, ◌⊎◌, List, [], ◌∷◌, ◌++◌, length, Option, Some, None, refl, sym, ap, ◌∙◌, subst, inl, inr, arith, append-nil, length-append}
-use Rattle.std.specs.Io.KnownBytes.{Consumes, IsAtEnd}
+use Rattle.std.proofs.Common.{◌≡◌, ℕ, ◌+◌, ◌<◌, ◌≤◌, ◌⊎◌, List, ◌++◌, length, Option, Some, None, refl, sym, ap, ◌∙◌, subst, inl, inr, arith, append-nil, length-append}
 use Rattle.sporc_outside.specs.Reading.{ConsumesExactly}
 use Rattle.sporc_play.specs.declared.script.command.PlayLine.{PlayLine}
 use Rattle.sporc_play.specs.Grammar.{IsFaultLine, IsScript, lines_of}
-use Rattle.sporc_play.specs.Playing.{IsOutside, Plays, ReadsWhole}
+use Rattle.sporc_play.specs.Playing.{Plays, ReadsWhole}
 use Rattle.sporc_play.specs.Report.{Reports}
 use Rattle.sporc_play.proofs.Unique.{one_fault, one_reading, not_both}
 use Rattle.sporc_top.specs.declared.fault.Fault.{Fault}

@@ -1,10 +1,10 @@
 -- Lines that are written in pieces.
-use Rattle.std.proofs.Common.{◌≡◌, ℕ, ◌+◌, ◌≤◌, List, ◌++◌, length, take, Option, Some, None, Result, Ok, Err, sym, ap, ◌∙◌, subst, arith, append_assoc, length-append}
+use Rattle.std.proofs.Common.{ℕ, ◌+◌, List, ◌++◌, length, Option, Result, Ok, Err, sym, subst, arith, append_assoc, length-append}
 use Rattle.std.specs.Result.{OnOk, OnErr}
 use Rattle.std.proofs.lemmas.List.{take-append-le, take_all}
 use Rattle.std.proofs.Math.Seq.{take-append-add}
 use Rattle.std.specs.Io.KnownBytes.{Appends}
-use Rattle.sporc_outside.specs.Counts.{CountsFaults, Rose}
+use Rattle.sporc_outside.specs.Counts.{CountsFaults}
 use Rattle.sporc_outside.specs.Writing.{AppendsFront}
 use Rattle.sporc_outside.proofs.Known.{Appends_then}
 use Rattle.sporc_top.specs.Faults.{Tells}

@@ -3,7 +3,7 @@ use Rattle.std.specs.Prelude.{◌≡◌, ℕ, ◌+◌, ◌⊎◌, List, [], ◌�
 use Rattle.sporc_outside.specs.Counts.{Rose}
 use Rattle.sporc_outside.specs.Reading.{ConsumesExactly}
 use Rattle.sporc_outside.specs.Writing.{AppendsFront}
-use Rattle.sporc_play.specs.Playing.{IsOutside, Plays, PlaysFront}
+use Rattle.sporc_play.specs.Playing.{IsOutside, PlaysFront}
 use Rattle.sporc_top.specs.declared.fault.Fault.{Fault}
 use Rattle.sporc_top.specs.declared.fault.Fault.TheVariants as faults
 use Rattle.sporc_top.specs.Faults.{Tells, fault_line}

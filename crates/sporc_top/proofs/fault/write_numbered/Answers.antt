@@ -1,4 +1,4 @@
-use Rattle.std.proofs.Common.{List, ℕ, codes}
+use Rattle.std.proofs.Common.{codes}
 use Rattle.std.proofs.lemmas.Result.{err_from_is_err_and}
 use Rattle.sporc_outside.proofs.Known.{Appends_then}
 use Rattle.sporc_top.proofs.Written.{front_first, front_after, in_pieces, on_err, on_ok, whole_pieces}

@@ -1,6 +1,6 @@
-use Rattle.std.proofs.Common.{Err, refl, sym, ap, ◌∙◌, subst, inl, arith}
+use Rattle.std.proofs.Common.{Err, refl, sym, ap, ◌∙◌, inl, arith}
 use Rattle.sporc_play.specs.declared.playing.TheConstants.{MAX_SCRIPT}
-use Rattle.sporc_top.proofs.Runs.{fails_outside, failed_fault_line, failed_long, failed_script, on_fault_line, on_script}
+use Rattle.sporc_top.proofs.Runs.{fails_outside, failed_fault_line, failed_script, on_fault_line, on_script}
 use Rattle.sporc_top.proofs.program.run.Goals as goal
 
 pub returns-in-Ok-clause-script : goal.returns-in-Ok-clause-script
