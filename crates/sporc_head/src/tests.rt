@@ -276,22 +276,20 @@ fn refused(
 }
 
 // Why the entries of the next tests are refused, by the last check and those before it.
-fn refusals() -> [Refusal; 12] {
-    [
-        Refusal::WrongWraps,
-        Refusal::BadChange(ChangeFault::NotMember),
-        Refusal::BadSignature,
-        Refusal::LeafMismatch,
-        Refusal::NoRight,
-        Refusal::WrongEpoch,
-        Refusal::BehindOwn,
-        Refusal::WrongNumber,
-        Refusal::WrongHistory,
-        Refusal::BeforeBarrier,
-        Refusal::BaseAhead,
-        Refusal::UnknownAuthor,
-    ]
-}
+const REFUSALS: [Refusal; 12] = [
+    Refusal::WrongWraps,
+    Refusal::BadChange(ChangeFault::NotMember),
+    Refusal::BadSignature,
+    Refusal::LeafMismatch,
+    Refusal::NoRight,
+    Refusal::WrongEpoch,
+    Refusal::BehindOwn,
+    Refusal::WrongNumber,
+    Refusal::WrongHistory,
+    Refusal::BeforeBarrier,
+    Refusal::BaseAhead,
+    Refusal::UnknownAuthor,
+];
 
 #[test]
 fn each_check_refuses(rt: HostRuntime) -> Result<(), Fail> {
@@ -300,7 +298,7 @@ fn each_check_refuses(rt: HostRuntime) -> Result<(), Fail> {
     let heads = history(&rt, alloc, trees.as_slice())?;
     // It fails ever more checks, the last one first. A base that is ahead is not also before the barrier.
     let mut worse = good(&heads);
-    for refusal in refusals() {
+    for refusal in REFUSALS {
         let mut alone = good(&heads);
         alone.spoil(refusal);
         refused(&rt, alloc, &heads, trees.as_slice(), &alone, refusal)?;
@@ -339,7 +337,7 @@ fn a_full_history_refuses(rt: HostRuntime) -> Result<(), Fail> {
         &worse,
         Refusal::HistoryFull,
     )?;
-    for refusal in refusals() {
+    for refusal in REFUSALS {
         worse.spoil(refusal);
     }
     for refusal in [

@@ -35,95 +35,97 @@ fn answer(
     Ok((status, out.as_slice().to_vec(alloc)?))
 }
 
+// Scripts with their statuses and reports: those of the worked examples, and others as the grammar calls for them.
+const SCRIPTS: [(&str, u8, &str); 32] = [
+    ("", 0, ""),
+    (THIN, 0, THIN_REPORT),
+    (
+        "member 1 admin\nedit 1 insert 0 \"ab\"\nedit 1 remove 0 1\nsubmit 1\nsubmit 1\ngive 1 2 1\n\
+         give 1 1 1\ngive 1 2 1\nedit 1 insert 5 \"x\"\nshow 1",
+        0,
+        "1 edit event 1\n1 edit event 2\n1 submit entry 1\n1 submit waiting 1\n\
+         1 accept 2 refused wrong-position\n1 accept 1 ok\n1 accept 2 refused wrong-number\n\
+         1 edit outside 1\n1 at 1 pending 1 text \"b\"\n",
+    ),
+    (
+        "# a submission is an event, too\n\nmember 9 admin\nedit 9 insert 0 \"a\"\nsubmit 9\n\
+         edit 9 insert 1 \"b\"\ngive 9 1 1\nsubmit 9\nsubmit 9\nshow 9\ngive 9 2 2\nsubmit 9\n",
+        0,
+        "9 edit event 1\n9 submit entry 1\n9 edit event 3\n9 accept 1 ok\n9 submit entry 2\n\
+         9 submit waiting 2\n9 at 1 pending 1 text \"ab\"\n9 accept 2 ok\n9 submit nothing\n",
+    ),
+    (
+        "member 65535 admin\nedit 65535 insert 0 \"a\u{e4}\u{20ac}\u{1d11e}\\\\ \\\"\\n\r\"\n\
+         edit 65535 remove 1 2\nshow 65535\n",
+        0,
+        "65535 edit event 1\n65535 edit event 2\n65535 at 0 pending 2 text \"a\u{1d11e}\\\\ \\\"\\n\r\"\n",
+    ),
+    (
+        "member 1 admin\ngive 1 4294967295 1\ngive 1 1 0\ngive 1 1 18446744073709551615\n\
+         edit 1 remove 18446744073709551615 1\nedit 1 remove 0 1\nedit 1 insert 0 \"\"\n",
+        0,
+        "1 accept 4294967295 no entry\n1 accept 1 no entry\n1 accept 1 no entry\n\
+         1 edit outside 0\n1 edit outside 0\n1 edit event 1\n",
+    ),
+    (
+        "member 1 admin\nedit 1 insert x \"a\"\n",
+        3,
+        "fault line 2\n",
+    ),
+    ("show 1\n", 3, "fault line 1\n"),
+    ("# a\n\nmember 1 admin\nshow 2\n", 3, "fault line 4\n"),
+    ("member 1 editor\n", 0, ""),
+    (
+        "member 1 editor\nmember 2 admin\nshow 1\n",
+        0,
+        "1 at 0 pending 0 text \"\"\n",
+    ),
+    ("member 1 editor\nshow 1\n", 3, "fault line 2\n"),
+    ("member 1 admin\nmember 1 editor\n", 3, "fault line 2\n"),
+    (
+        "member 1 admin\nshow 1\nmember 2 editor\n",
+        3,
+        "fault line 3\n",
+    ),
+    ("member 1 admin\ncompare 1 2\n", 3, "fault line 2\n"),
+    ("member 1 reader\n", 3, "fault line 1\n"),
+    ("member 0 admin\n", 3, "fault line 1\n"),
+    ("member 65536 admin\n", 3, "fault line 1\n"),
+    ("member 01 admin\n", 3, "fault line 1\n"),
+    ("member +1 admin\n", 3, "fault line 1\n"),
+    ("member  1 admin\n", 3, "fault line 1\n"),
+    ("member\t1 admin\n", 3, "fault line 1\n"),
+    ("member 1 admin \n", 3, "fault line 1\n"),
+    ("member 1 admin\r\n", 3, "fault line 1\n"),
+    ("member 1 admin\nshow 1\r", 3, "fault line 2\n"),
+    ("member 1 admin\nshow 1\n \n", 3, "fault line 3\n"),
+    ("member 1 admin\ngive 1 4294967296 1\n", 3, "fault line 2\n"),
+    (
+        "member 1 admin\ngive 1 1 18446744073709551616\n",
+        3,
+        "fault line 2\n",
+    ),
+    (
+        "member 1 admin\nedit 1 insert 0 \"a\\q\"\n",
+        3,
+        "fault line 2\n",
+    ),
+    (
+        "member 1 admin\nedit 1 insert 0 \"a\\\"\n",
+        3,
+        "fault line 2\n",
+    ),
+    (
+        "member 1 admin\nedit 1 insert 0 \"a\"b\"\n",
+        3,
+        "fault line 2\n",
+    ),
+    ("member 1 admin\nedit 1 insert 0 a\n", 3, "fault line 2\n"),
+];
+
 #[test]
 fn answers_scripts(rt: HostRuntime) -> Result<(), Fail> {
-    // Expected lines are those of the worked examples, and for the others those that the grammar calls for.
-    for (script, status, report) in [
-        ("", 0, ""),
-        (THIN, 0, THIN_REPORT),
-        (
-            "member 1 admin\nedit 1 insert 0 \"ab\"\nedit 1 remove 0 1\nsubmit 1\nsubmit 1\ngive 1 2 1\n\
-             give 1 1 1\ngive 1 2 1\nedit 1 insert 5 \"x\"\nshow 1",
-            0,
-            "1 edit event 1\n1 edit event 2\n1 submit entry 1\n1 submit waiting 1\n\
-             1 accept 2 refused wrong-position\n1 accept 1 ok\n1 accept 2 refused wrong-number\n\
-             1 edit outside 1\n1 at 1 pending 1 text \"b\"\n",
-        ),
-        (
-            "# a submission is an event, too\n\nmember 9 admin\nedit 9 insert 0 \"a\"\nsubmit 9\n\
-             edit 9 insert 1 \"b\"\ngive 9 1 1\nsubmit 9\nsubmit 9\nshow 9\ngive 9 2 2\nsubmit 9\n",
-            0,
-            "9 edit event 1\n9 submit entry 1\n9 edit event 3\n9 accept 1 ok\n9 submit entry 2\n\
-             9 submit waiting 2\n9 at 1 pending 1 text \"ab\"\n9 accept 2 ok\n9 submit nothing\n",
-        ),
-        (
-            "member 65535 admin\nedit 65535 insert 0 \"a\u{e4}\u{20ac}\u{1d11e}\\\\ \\\"\\n\r\"\n\
-             edit 65535 remove 1 2\nshow 65535\n",
-            0,
-            "65535 edit event 1\n65535 edit event 2\n65535 at 0 pending 2 text \"a\u{1d11e}\\\\ \\\"\\n\r\"\n",
-        ),
-        (
-            "member 1 admin\ngive 1 4294967295 1\ngive 1 1 0\ngive 1 1 18446744073709551615\n\
-             edit 1 remove 18446744073709551615 1\nedit 1 remove 0 1\nedit 1 insert 0 \"\"\n",
-            0,
-            "1 accept 4294967295 no entry\n1 accept 1 no entry\n1 accept 1 no entry\n\
-             1 edit outside 0\n1 edit outside 0\n1 edit event 1\n",
-        ),
-        (
-            "member 1 admin\nedit 1 insert x \"a\"\n",
-            3,
-            "fault line 2\n",
-        ),
-        ("show 1\n", 3, "fault line 1\n"),
-        ("# a\n\nmember 1 admin\nshow 2\n", 3, "fault line 4\n"),
-        ("member 1 editor\n", 0, ""),
-        (
-            "member 1 editor\nmember 2 admin\nshow 1\n",
-            0,
-            "1 at 0 pending 0 text \"\"\n",
-        ),
-        ("member 1 editor\nshow 1\n", 3, "fault line 2\n"),
-        ("member 1 admin\nmember 1 editor\n", 3, "fault line 2\n"),
-        (
-            "member 1 admin\nshow 1\nmember 2 editor\n",
-            3,
-            "fault line 3\n",
-        ),
-        ("member 1 admin\ncompare 1 2\n", 3, "fault line 2\n"),
-        ("member 1 reader\n", 3, "fault line 1\n"),
-        ("member 0 admin\n", 3, "fault line 1\n"),
-        ("member 65536 admin\n", 3, "fault line 1\n"),
-        ("member 01 admin\n", 3, "fault line 1\n"),
-        ("member +1 admin\n", 3, "fault line 1\n"),
-        ("member  1 admin\n", 3, "fault line 1\n"),
-        ("member\t1 admin\n", 3, "fault line 1\n"),
-        ("member 1 admin \n", 3, "fault line 1\n"),
-        ("member 1 admin\r\n", 3, "fault line 1\n"),
-        ("member 1 admin\nshow 1\r", 3, "fault line 2\n"),
-        ("member 1 admin\nshow 1\n \n", 3, "fault line 3\n"),
-        ("member 1 admin\ngive 1 4294967296 1\n", 3, "fault line 2\n"),
-        (
-            "member 1 admin\ngive 1 1 18446744073709551616\n",
-            3,
-            "fault line 2\n",
-        ),
-        (
-            "member 1 admin\nedit 1 insert 0 \"a\\q\"\n",
-            3,
-            "fault line 2\n",
-        ),
-        (
-            "member 1 admin\nedit 1 insert 0 \"a\\\"\n",
-            3,
-            "fault line 2\n",
-        ),
-        (
-            "member 1 admin\nedit 1 insert 0 \"a\"b\"\n",
-            3,
-            "fault line 2\n",
-        ),
-        ("member 1 admin\nedit 1 insert 0 a\n", 3, "fault line 2\n"),
-    ] {
+    for (script, status, report) in SCRIPTS {
         let (got, written) = answer(rt.alloc(), "play", script.as_bytes(), 4096, 0, 0)?;
         assert_eq!(rt; written.as_slice(), report.as_bytes(), "{script}");
         assert_eq!(rt; got, status, "{script}");
