@@ -4,7 +4,7 @@ use Rattle.std.proofs.Math.Seq.{drop-cons}
 use Rattle.sporc_delta.specs.Marks.{Mark, base_len, out_len, inserted_len}
 use Rattle.sporc_delta.specs.Transforms.{later}
 use Rattle.sporc_xform.proofs.LengthLemmas.{base_len-later, inserted_len-later, out_len-le}
-use Rattle.sporc_suffix.specs.Forms.{reached, Follow, all_inserted, later_over}
+use Rattle.sporc_suffix.specs.Forms.{reached, Follow, all_inserted}
 
 -- a delta and the forms that it is yet to pass
 pub record Fits (q : List Mark) (forms : List (List Mark)) : Type 0 where

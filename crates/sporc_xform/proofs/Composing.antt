@@ -1,12 +1,12 @@
 -- The pieces of two deltas that follow each other.
-use Rattle.std.proofs.Common.{◌≡◌, ℕ, zero, suc, ◌+◌, ◌-◌, ◌^◌, ◌<◌, ◌≤◌, Bool, true, false, List, [], ◌∷◌, ◌++◌, length, map, drop, take, min, refl, ap, sym, ◌∙◌, append_assoc, arith, eqb, cond, eq-eqb}
+use Rattle.std.proofs.Common.{◌≡◌, ℕ, zero, suc, ◌+◌, ◌^◌, ◌<◌, ◌≤◌, Bool, true, false, List, [], ◌∷◌, ◌++◌, length, drop, take, min, refl, ap, sym, ◌∙◌, append_assoc, arith, eqb, cond}
 use Rattle.std.specs.Prelude.{replicate}
 use Rattle.std.proofs.lemmas.List.{append-nil, take_all, take-append-drop, map-append, length-take, length-append, length-map, length-replicate}
 use Rattle.std.proofs.lemmas.Bool.{eqb-true, eqb-false}
 use Rattle.sporc_delta.specs.declared.part.Part.{Part}
 use Rattle.sporc_delta.specs.declared.part.Part.TheVariants.{Keep, Insert as InsertText, Remove}
 use Rattle.sporc_delta.specs.Marks.{Mark, Retain, Delete, Insert, base_len, out_len, retains, deletes, inserts}
-use Rattle.sporc_delta.specs.Parts.{part_len, marks_of}
+use Rattle.sporc_delta.specs.Parts.{marks_of}
 use Rattle.sporc_delta.specs.Transforms.{compose}
 use Rattle.sporc_delta.proofs.Lengths.{base_len-append, base_len-retains, base_len-deletes, base_len-inserts, out_len-append, out_len-retains, out_len-deletes, out_len-inserts}
 use Rattle.sporc_xform.specs.Left.{cut, without, first_len, first_text, first_inserts, first_removes, NoneEmpty, AreInARow}

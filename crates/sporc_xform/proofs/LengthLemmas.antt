@@ -1,8 +1,8 @@
 -- The lengths of deltas that are restated.
-use Rattle.std.proofs.Common.{◌≡◌, ℕ, suc, ◌+◌, ◌≤◌, List, [], ◌∷◌, ◌++◌, length, refl, ap, arith}
+use Rattle.std.proofs.Common.{◌≡◌, suc, ◌+◌, ◌≤◌, List, [], ◌∷◌, refl, ap, arith}
 use Rattle.std.specs.List.{flat_map}
 use Rattle.sporc_delta.specs.Marks.{Mark, Retain, Delete, Insert, base_len, out_len, inserted_len}
-use Rattle.sporc_delta.specs.Transforms.{Step, Earlier, Later, Both, last_steps, steps_to, steps, later_step, earlier_step, later, earlier}
+use Rattle.sporc_delta.specs.Transforms.{last_steps, later_step, earlier_step, later, earlier}
 
 pub out_len-le : (ms : List Mark) → out_len ms ≤ base_len ms + inserted_len ms
 out_len-le [] = omega arith

@@ -1,13 +1,13 @@
 -- The steps of two deltas over one text, run by run.
-use Rattle.std.proofs.Common.{◌≡◌, ℕ, zero, suc, ◌+◌, ◌-◌, ◌<◌, ◌≤◌, Bool, true, false, List, [], ◌∷◌, ◌++◌, length, map, drop, take, min, refl, ap, sym, ◌∙◌, append_assoc, arith, eqb, cond, eq-eqb}
+use Rattle.std.proofs.Common.{◌≡◌, ℕ, zero, suc, ◌+◌, ◌-◌, ◌<◌, ◌≤◌, Bool, true, false, List, [], ◌∷◌, ◌++◌, length, map, take, min, refl, ap, sym, ◌∙◌, append_assoc, arith, eqb, cond, eq-eqb}
 use Rattle.std.specs.Prelude.{replicate}
-use Rattle.std.proofs.lemmas.List.{replicate-append-replicate, append-nil, take_all, take-append-drop, map-append, length-drop, length-append, length-map, length-replicate}
+use Rattle.std.proofs.lemmas.List.{replicate-append-replicate, take_all}
 use Rattle.std.proofs.lemmas.Bool.{eqb-true, eqb-false}
 use Rattle.sporc_delta.specs.declared.part.Part.{Part}
 use Rattle.sporc_delta.specs.declared.part.Part.TheVariants.{Keep, Insert as InsertText, Remove}
-use Rattle.sporc_delta.specs.Marks.{Mark, Retain, Delete, Insert, base_len, out_len, retains, deletes, inserts}
-use Rattle.sporc_delta.specs.Parts.{part_len, part_marks, marks_of, AreRuns}
-use Rattle.sporc_delta.specs.Transforms.{Step, Earlier, Later, Both, last_steps, steps_to, steps}
+use Rattle.sporc_delta.specs.Marks.{Mark, Retain, Delete, base_len, retains, deletes, inserts}
+use Rattle.sporc_delta.specs.Parts.{marks_of, AreRuns}
+use Rattle.sporc_delta.specs.Transforms.{Earlier, Later, Both, steps}
 use Rattle.sporc_delta.proofs.Lengths.{base_len-append, base_len-retains, base_len-deletes, base_len-inserts}
 use Rattle.sporc_xform.specs.Left.{cut, without, first_len, first_text, first_inserts, first_removes, NoneEmpty}
 use Rattle.sporc_xform.specs.Runs.{base_mark}

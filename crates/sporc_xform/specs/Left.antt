@@ -1,5 +1,5 @@
 -- What is left of the parts of a delta, from a place on.
-use Rattle.std.specs.Prelude.{◌≡◌, ℕ, ◌-◌, ◌<◌, Bool, true, false, List, [], ◌∷◌, drop, take, length, ◌==◌, if◌then◌else◌, ⊤}
+use Rattle.std.specs.Prelude.{◌≡◌, ℕ, ◌-◌, ◌<◌, Bool, true, false, List, [], ◌∷◌, drop, ◌==◌, if◌then◌else◌, ⊤}
 use Rattle.sporc_delta.specs.declared.part.Part.{Part}
 use Rattle.sporc_delta.specs.declared.part.Part.TheVariants.{Keep, Insert as InsertText, Remove}
 use Rattle.sporc_delta.specs.Marks.{Mark, base_len, out_len}

@@ -1,7 +1,6 @@
-use Rattle.std.proofs.Common.{◌≡◌, ◌++◌, ap}
+use Rattle.std.proofs.Common.{◌≡◌, ◌++◌}
 use Rattle.sporc_delta.specs.Parts.{owned, part_marks}
 use Rattle.sporc_delta.specs.Transforms.{compose}
-use Rattle.sporc_xform.specs.Chunks.{chunk_marks}
 use Rattle.sporc_xform.proofs.Composing.{Composed-start, Composed-room}
 use Rattle.sporc_xform.proofs.composition.compose.Goals as goal
 

@@ -1,7 +1,4 @@
-use Rattle.std.proofs.Common.{◌≡◌, ◌<◌, ◌++◌, min, take, arith, ap, sym, ◌∙◌}
-use Rattle.sporc_delta.specs.Marks.{deletes}
-use Rattle.sporc_delta.specs.Parts.{marks_of}
-use Rattle.sporc_delta.specs.Transforms.{compose}
+use Rattle.std.proofs.Common.{◌≡◌, ◌<◌, min, take, arith, ap, sym, ◌∙◌}
 use Rattle.sporc_xform.specs.Left.{first_len, first_text, without}
 use Rattle.sporc_xform.proofs.Composing.{take_second, take_removal, take_through, no_chunk}
 use Rattle.sporc_xform.proofs.composition.next_chunk.Goals as goal

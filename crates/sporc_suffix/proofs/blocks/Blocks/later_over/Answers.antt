@@ -1,6 +1,6 @@
 use Rattle.std.proofs.Common.{◌≡◌, ◌-◌, ℕ, take, drop, length, ap, sym, subst, ◌∙◌, arith}
 use Rattle.std.proofs.lemmas.List.{take_all, length-drop}
-use Rattle.sporc_delta.specs.Marks.{Mark, base_len}
+use Rattle.sporc_delta.specs.Marks.{base_len}
 use Rattle.sporc_suffix.specs.Forms.{Forms, Follow, reached}
 use Rattle.sporc_suffix.proofs.Passing.{Follow-drop}
 use Rattle.sporc_suffix.proofs.blocks.Blocks.later_over.Goals as goal
