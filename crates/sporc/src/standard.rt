@@ -43,7 +43,8 @@ impl<R: Read> Source for StandardInput<R> {
     }
 }
 
-/// A writer as a sink that holds what the writer does, where it tells it. A write that takes none of some bytes counts as a fault.
+/// A writer as a sink that holds what the writer does, where it tells it. A write that takes none
+/// of some bytes counts as a fault.
 #[derive(Drop)]
 pub struct StandardOutput<W> {
     writer: W,

@@ -83,7 +83,7 @@ impl Draft {
             Refusal::WrongPosition => self.pos = 1,
             Refusal::Removed => self.me = Some(4),
             Refusal::UnknownAuthor => self.author = 4,
-            Refusal::BaseAhead => self.base = 5,
+            Refusal::BaseAhead => self.base = u32::MAX,
             Refusal::BeforeBarrier => self.base = 2,
             Refusal::WrongHistory => self.foreign = true,
             Refusal::WrongNumber => self.ahead = 1,
@@ -296,7 +296,8 @@ fn each_check_refuses(rt: HostRuntime) -> Result<(), Fail> {
     let alloc = rt.alloc();
     let trees = trees(alloc)?;
     let heads = history(&rt, alloc, trees.as_slice())?;
-    // It fails ever more checks, the last one first. A base that is ahead is not also before the barrier.
+    // It fails ever more checks, the last one first. A base that is ahead is neither before the barrier nor behind the
+    // author's last entry.
     let mut worse = good(&heads);
     for refusal in REFUSALS {
         let mut alone = good(&heads);
