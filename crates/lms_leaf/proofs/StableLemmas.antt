@@ -1,7 +1,7 @@
 -- What calls of a disk leave of stable bytes.
 use Rattle.std.proofs.Common.{◌≡◌, ◌≢◌, ℕ, ◌-◌, ◌<◌, ◌≤◌, List, [], ◌∷◌, length, slice_index, Option, Some, None, IfSome, IsSome, option_map, sym, ap, ◌∙◌, inl, inr, arith}
 use Rattle.std.proofs.lemmas.Bool.{cases_lt}
-use Rattle.sporc_outside.specs.LeafDisk.{IsStable, IsSame, IsSameOutside, Passes, overwrite}
+use Rattle.sporc_outside.specs.LeafDisk.{IsStable, IsSame, IsSameOutside, CrashStep, overwrite}
 use Rattle.sporc_outside.proofs.Overwrites.{slice_index-overwrite_inside}
 use Rattle.lms_leaf.specs.Leaves.{KeepsStable}
 
@@ -31,7 +31,7 @@ keeps_stable-trans moment images first next last one two = record {
 
 -- a call keeps the stable bytes that each of its steps keeps
 keeps_stable-pass : {D : Type 0} (moment : D → ℕ) (images : D → ℕ → List ℕ → Type 0) (step : List ℕ → List ℕ → Type 0) (old new : D)
-    → Passes (moment old) (moment new) (images old) (images new) step
+    → CrashStep (moment old) (moment new) (images old) (images new) step
     → ((at : ℕ) → IsStable (images old (moment old)) at → (before image : List ℕ) → images old (moment old) before → step before image
     → slice_index image at ≢ 0)
     → KeepsStable moment images old new
@@ -44,7 +44,7 @@ keeps_stable-pass moment images step old new pass kept = record {
 }
 
 pub keeps_stable-same : {D : Type 0} (moment : D → ℕ) (images : D → ℕ → List ℕ → Type 0) (old new : D)
-    → Passes (moment old) (moment new) (images old) (images new) IsSame → KeepsStable moment images old new
+    → CrashStep (moment old) (moment new) (images old) (images new) IsSame → KeepsStable moment images old new
 keeps_stable-same moment images old new pass =
     keeps_stable-pass moment images IsSame old new pass (λ at stable before image was same. rw same (stable before was))
 
@@ -59,7 +59,7 @@ pub keeps_stable-write : {D : Type 0} (stored : D → Option (List ℕ)) (moment
     (at : ℕ) (old new : D) → IfSome (stored old) (images old (moment old))
     → ((image : List ℕ) → images old (moment old) image → IsSome (stored old))
     → IfSome (stored old) (λ bytes. (at < length bytes) × (slice_index bytes at ≡ 0))
-    → Passes (moment old) (moment new) (images old) (images new) (IsSameOutside at 1) → KeepsStable moment images old new
+    → CrashStep (moment old) (moment new) (images old) (images new) (IsSameOutside at 1) → KeepsStable moment images old new
 keeps_stable-write stored moment images at old new is told free pass =
     keeps_stable-pass moment images (IsSameOutside at 1) old new pass (λ i stable before image was outside.
     elim (cases_lt i at) [

@@ -4,7 +4,7 @@ use Rattle.sporc_delta.specs.Marks.{Mark, Retain, Delete, Insert}
 use Rattle.sporc_client.specs.declared.entry.PlainEntry.{PlainEntry}
 use Rattle.sporc_client.specs.declared.client.PlainSubmitted.TheVariants.{Nothing, Waiting}
 use Rattle.sporc_client.specs.declared.fault.PlainRefusal.TheVariants.{WrongPosition, BaseAhead}
-use Rattle.sporc_checks.specs.FirstFault.{first_of}
+use Rattle.sporc_base.specs.FirstFault.{first_of}
 use Rattle.sporc_client.specs.History.{text_of}
 use Rattle.sporc_client.specs.Checks.{checks}
 use Rattle.sporc_client.specs.Client.{opened, shown_of, edited, sent}

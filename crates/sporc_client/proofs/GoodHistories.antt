@@ -6,7 +6,7 @@ use Rattle.sporc_hash.specs.Chain.{last_value}
 use Rattle.sporc_hash.proofs.Beginnings.{one_value_one_beginning}
 use Rattle.sporc_client.specs.declared.entry.PlainEntry.{PlainEntry}
 use Rattle.sporc_client.specs.Entry.{entry_bytes}
-use Rattle.sporc_checks.specs.FirstFault.{first_of}
+use Rattle.sporc_base.specs.FirstFault.{first_of}
 use Rattle.sporc_client.specs.History.{hash_of}
 use Rattle.sporc_client.specs.Checks.{checks, IsGood, IsNext}
 use Rattle.sporc_client.specs.Typed.{IsTypedEntry}

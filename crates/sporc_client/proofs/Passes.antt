@@ -6,7 +6,7 @@ use Rattle.std.proofs.lemmas.Slice.Eq.{bytes_eq-Decides}
 use Rattle.sporc_delta.specs.Marks.{Mark}
 use Rattle.sporc_client.specs.declared.limits.TheConstants.{MAX_PENDING}
 use Rattle.sporc_client.specs.declared.entry.PlainEntry.{PlainEntry}
-use Rattle.sporc_checks.specs.FirstFault.{unless, first_of}
+use Rattle.sporc_base.specs.FirstFault.{unless, first_of}
 use Rattle.sporc_client.specs.History.{hash_of}
 use Rattle.sporc_client.specs.Checks.{checks, IsNext}
 use Rattle.sporc_client.specs.Client.{PlainState, edit_checks}

@@ -9,7 +9,7 @@ use Rattle.sporc_client.specs.declared.client.PlainSubmitted.TheVariants.{Entry,
 use Rattle.sporc_client.specs.declared.fault.PlainSubmitFault.{PlainSubmitFault}
 use Rattle.sporc_client.specs.declared.fault.EditFault.{EditFault}
 use Rattle.sporc_client.specs.declared.fault.PlainRefusal.{PlainRefusal}
-use Rattle.sporc_checks.specs.FirstFault.{first_of}
+use Rattle.sporc_base.specs.FirstFault.{first_of}
 use Rattle.sporc_client.specs.History.{text_of}
 use Rattle.sporc_client.specs.Checks.{checks, IsGood}
 use Rattle.sporc_client.specs.Client.{PlainState, opened, shown_of, admits, edit_checks, edited, entry_checks, accepted}

@@ -6,7 +6,7 @@ use Rattle.sporc_client.specs.declared.limits.TheConstants.{MAX_ENTRIES}
 use Rattle.sporc_client.specs.declared.entry.PlainEntry.{PlainEntry}
 use Rattle.sporc_client.specs.declared.fault.PlainRefusal.{PlainRefusal}
 use Rattle.sporc_client.specs.declared.fault.PlainRefusal.TheVariants.{WrongPosition, HistoryFull, BaseAhead, WrongHistory, WrongNumber, StaleBase, HasPending, WrongLength}
-use Rattle.sporc_checks.specs.FirstFault.{unless, first_of}
+use Rattle.sporc_base.specs.FirstFault.{unless, first_of}
 use Rattle.sporc_client.specs.History.{count_of, hash_of, text_of}
 
 -- those that need no text

@@ -7,7 +7,7 @@ use Rattle.sporc_client.specs.declared.entry.PlainEntry.{PlainEntry}
 use Rattle.sporc_client.specs.declared.fault.EditFault.{EditFault}
 use Rattle.sporc_client.specs.declared.fault.EditFault.TheVariants.{TooLong, PendingFull}
 use Rattle.sporc_client.specs.declared.fault.PlainRefusal.{PlainRefusal}
-use Rattle.sporc_checks.specs.FirstFault.{unless}
+use Rattle.sporc_base.specs.FirstFault.{unless}
 use Rattle.sporc_client.specs.SameEntry.{same_entry}
 use Rattle.sporc_client.specs.History.{next_entry_of, text_after, text_of}
 use Rattle.sporc_client.specs.Checks.{checks}

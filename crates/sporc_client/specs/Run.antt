@@ -4,7 +4,7 @@ use Rattle.sporc_delta.specs.Marks.{Mark, base_len}
 use Rattle.sporc_client.specs.declared.entry.PlainEntry.{PlainEntry}
 use Rattle.sporc_client.specs.declared.client.PlainSubmitted.{PlainSubmitted}
 use Rattle.sporc_client.specs.declared.fault.PlainSubmitFault.{PlainSubmitFault}
-use Rattle.sporc_checks.specs.FirstFault.{first_of}
+use Rattle.sporc_base.specs.FirstFault.{first_of}
 use Rattle.sporc_client.specs.Client.{PlainState, opened, shown_of, edit_checks, edited, entry_checks, accepted}
 use Rattle.sporc_client.specs.Submission.{submission_of, submitted}
 use Rattle.sporc_client.specs.Typed.{IsTypedEntry}

@@ -10,7 +10,7 @@ ghost use Rattle.sporc_delta.specs.Marks.{base_len};
 ghost use Rattle.sporc_client.specs.declared.limits.TheConstants.{MAX_EDIT_BYTES, MAX_ENTRIES, MAX_PENDING};
 ghost use Rattle.sporc_client.specs.History.{hashes_of, text_of};
 ghost use Rattle.sporc_client.specs.Checks.{IsNext};
-ghost use Rattle.sporc_checks.specs.FirstFault.{Answers, AnswersUnless, first_of};
+ghost use Rattle.sporc_base.specs.FirstFault.{Answers, AnswersUnless, first_of};
 
 use crate::history::History;
 use crate::{

@@ -8,7 +8,7 @@ ghost use Rattle.sporc_delta.specs.Marks.{base_len};
 ghost use Rattle.sporc_client.specs.Entry.{entry_bytes};
 ghost use Rattle.sporc_client.specs.History.{hashes_of, hash_of, count_of, text_of, next_entry_of};
 ghost use Rattle.sporc_client.specs.Checks.{order_checks, IsNext};
-ghost use Rattle.sporc_checks.specs.FirstFault.{Answers, first_of};
+ghost use Rattle.sporc_base.specs.FirstFault.{Answers, first_of};
 ghost use Rattle.sporc_client.specs.declared.limits.TheConstants.{MAX_EDIT_BYTES, MAX_ENTRIES};
 
 use crate::{MAX_ENTRIES, Memory, PlainEntry, PlainRefusal};

@@ -5,7 +5,7 @@ use Rattle.std.specs.Int.{Width, w8, w16, w32, byte_len}
 use Rattle.std.proofs.lemmas.Bool.{ltb-false}
 use Rattle.std.proofs.lemmas.List.{length-take, length-drop}
 use Rattle.sporc_bytes.specs.Fields.{Reading, ◌>>=◌, bytes_at, number_at, only_if, counted_at, end_at}
-use Rattle.sporc_checks.specs.FirstFault.{unless, first_of}
+use Rattle.sporc_base.specs.FirstFault.{unless, first_of}
 use Rattle.sporc_member.specs.declared.founder.Founder.{Founder}
 use Rattle.sporc_member.specs.Role.{role_with_code}
 use Rattle.sporc_member.specs.Roster.{founded, has_admin}

@@ -13,7 +13,7 @@ use Rattle.std.specs.Int.{w8, w16, to_be_bytes}
 use Rattle.lms_tree.specs.LmsPublic.{public_key_in}
 use Rattle.sporc_bytes.specs.Fields.{Reading, ◌>>=◌, bytes_at, end_at}
 use Rattle.sporc_member.specs.declared.founder.Founder.{Founder}
-use Rattle.sporc_checks.specs.FirstFault.{unless, first_of}
+use Rattle.sporc_base.specs.FirstFault.{unless, first_of}
 use Rattle.sporc_member.specs.Role.{role_code_of}
 use Rattle.sporc_member.specs.Roster.{numbers_of, founded, has_admin}
 use Rattle.sporc_entry.specs.declared.fault.GenesisFault.{GenesisFault}

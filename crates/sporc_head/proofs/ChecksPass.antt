@@ -1,7 +1,7 @@
 -- Lists of checks one after the other, and the checks of an entry whoever asks.
 use Rattle.std.proofs.Common.{◌≡◌, ℕ, ◌+◌, Bool, true, false, eqb, List, [], ◌∷◌, ◌++◌, length, refl, Option, None, Some, Result, Ok, Err}
 use Rattle.std.proofs.lemmas.Bool.{eq-eqb}
-use Rattle.sporc_checks.specs.FirstFault.{unless, first_of}
+use Rattle.sporc_base.specs.FirstFault.{unless, first_of}
 use Rattle.std.specs.Str.{bytes_eq}
 use Rattle.sporc_member.specs.Roster.{member_at}
 use Rattle.sporc_entry.specs.declared.entry.Entry.{Entry}

@@ -2,7 +2,7 @@
 use Rattle.std.proofs.Common.{◌≡◌, ◌≢◌, ℕ, ◌+◌, ◌<◌, ltb, eqb, List, [], ◌∷◌, ◌++◌, length, refl, ap, sym, ◌∙◌, subst, Option, None, Some, Result, Ok, Err}
 use Rattle.std.specs.Prelude.{option_map, OnOk, IsOk}
 use Rattle.std.proofs.lemmas.Bool.{ltb-true}
-use Rattle.sporc_checks.specs.FirstFault.{first_of, AnswersUnless}
+use Rattle.sporc_base.specs.FirstFault.{first_of, AnswersUnless}
 use Rattle.sporc_member.specs.declared.change.Change.{Change}
 use Rattle.sporc_member.specs.declared.change.ChangeFault.{ChangeFault}
 use Rattle.sporc_member.specs.declared.founder.Founder.{Founder}

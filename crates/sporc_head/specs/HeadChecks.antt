@@ -4,7 +4,7 @@ use Rattle.std.specs.Str.{bytes_eq}
 use Rattle.lms_tree.specs.declared.public_key.LmsPublic.{LmsPublic}
 use Rattle.lms_tree.specs.LmsPublic.{public_key_in}
 use Rattle.lms_tree.specs.Verification.{verifies, leaf_in}
-use Rattle.sporc_checks.specs.FirstFault.{unless, first_of}
+use Rattle.sporc_base.specs.FirstFault.{unless, first_of}
 use Rattle.sporc_member.specs.declared.role.Role.{Role}
 use Rattle.sporc_member.specs.declared.role.Role.TheVariants.{Reader, Editor, Admin}
 use Rattle.sporc_member.specs.declared.founder.Founder.{Founder}

@@ -3,7 +3,7 @@
 ghost use Rattle.std.specs.Prelude.{◌≡◌, ◌<◌, ◌^◌, length, Some};
 ghost use Rattle.std.specs.Str.{bytes_eq};
 ghost use Rattle.lms_tree.specs.LmsPublic.{public_key_in};
-ghost use Rattle.sporc_checks.specs.FirstFault.{AnswersUnless, first_of};
+ghost use Rattle.sporc_base.specs.FirstFault.{AnswersUnless, first_of};
 ghost use Rattle.sporc_head.specs.HeadChecks.{author_checks, allows, names_leaf, verifies_under};
 
 use crate::refusal::Refusal;

@@ -2,7 +2,7 @@
 
 ghost use Rattle.std.specs.Prelude.{◌≡◌, map, IfOk, Some};
 ghost use Rattle.std.specs.Str.{bytes_eq};
-ghost use Rattle.sporc_checks.specs.FirstFault.{AnswersUnless, first_of};
+ghost use Rattle.sporc_base.specs.FirstFault.{AnswersUnless, first_of};
 ghost use Rattle.sporc_entry.specs.Entry.{change_of, IsEntry};
 ghost use Rattle.sporc_head.specs.HeadChecks.{roster_checks, names};
 

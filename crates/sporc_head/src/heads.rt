@@ -2,7 +2,7 @@
 
 ghost use Rattle.std.specs.Prelude.{◌≡◌, ℕ, ◌+◌, ◌^◌, ◌<◌, ◌≤◌, ◌==◌, ◌∷◌, ◌++◌, [], length, take, map, Option, None, Some, IfOk, IfErr, OnOk, OnErr, IsOk, option_map};
 ghost use Rattle.std.specs.List.{All};
-ghost use Rattle.sporc_checks.specs.FirstFault.{Answers, AnswersUnless, first_of};
+ghost use Rattle.sporc_base.specs.FirstFault.{Answers, AnswersUnless, first_of};
 ghost use Rattle.sporc_hash.specs.Chain.{chain, next_value};
 ghost use Rattle.sporc_entry.specs.Genesis.{IsGenesis, genesis_bytes};
 ghost use Rattle.sporc_entry.specs.Entry.{change_of, entry_limit, IsEntry};

@@ -1,6 +1,6 @@
 -- Lists of checks.
 use Rattle.std.proofs.Common.{◌≡◌, Bool, true, false, List, ◌∷◌, Option, None, refl}
-use Rattle.sporc_checks.specs.FirstFault.{unless, first_of}
+use Rattle.sporc_base.specs.FirstFault.{unless, first_of}
 
 -- where no check fails, the first one holds, and none of the others fails
 pub passes : {F : Type 0} (b : Bool) (fault : F) (rest : List (Option F)) → first_of (unless b fault ∷ rest) ≡ None → (b ≡ true) × (first_of rest ≡ None)

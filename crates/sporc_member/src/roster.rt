@@ -40,7 +40,7 @@ impl Model for Roster {
 }
 
 impl Roster {
-    ghost use Rattle.sporc_checks.specs.FirstFault.{Answers};
+    ghost use Rattle.sporc_base.specs.FirstFault.{Answers};
     ghost use Rattle.sporc_member.specs.Roster.{numbers_of, member_at, change_fault_of, after_change, founded};
 
     /// The roster of the founders.

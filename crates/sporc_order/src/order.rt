@@ -1,7 +1,7 @@
 //! An order of entries.
 
 ghost use Rattle.std.specs.Prelude.{◌≡◌, ◌≢◌, ◌+◌, ◌∷◌, ◌++◌, [], ◌≤◌, ◌<◌, ◌↔◌, length, take, drop, map, None, nat_lt, nat_le, ◌&&◌, IfOk, OnOk, OnErr};
-ghost use Rattle.sporc_checks.specs.FirstFault.{AnswersUnless};
+ghost use Rattle.sporc_base.specs.FirstFault.{AnswersUnless};
 ghost use Rattle.sporc_entry.specs.Genesis.{IsGenesis};
 ghost use Rattle.sporc_head.specs.HeadChecks.{head_fault};
 ghost use Rattle.sporc_order.specs.Orders.{pulled, run_of};

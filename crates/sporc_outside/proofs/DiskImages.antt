@@ -8,7 +8,7 @@ use Rattle.std.proofs.lemmas.Bool.{cases_lt}
 use Rattle.std.proofs.lemmas.List.Sums.{fold-append}
 use Rattle.sporc_outside.specs.declared.disk_call.DiskCall.{DiskCall}
 use Rattle.sporc_outside.specs.declared.disk_call.DiskRequest.TheVariants.{Write, Sync}
-use Rattle.sporc_outside.specs.LeafDisk.{overwrite, IsSameOutside, Passes}
+use Rattle.sporc_outside.specs.LeafDisk.{overwrite, IsSameOutside, CrashStep}
 use Rattle.sporc_outside.specs.MemoryDisk.{DiskState, state_after, MemoryDiskContent, after_call, IsLoose, IsImage, images_of}
 use Rattle.sporc_outside.proofs.Overwrites.{length-overwrite, slice_index-overwrite_outside, slice_index-overwrite_inside}
 
@@ -22,7 +22,7 @@ state_after-more first log call = fold-append after_call (record { bytes = first
 
 -- no call more
 passes_none : (first : List ℕ) (log : List DiskCall) (step : List ℕ → List ℕ → Type 0) → ((image : List ℕ) → step image image)
-    → Passes (length log) (length log) (images_in first log) (images_in first log) step
+    → CrashStep (length log) (length log) (images_in first log) (images_in first log) step
 passes_none first log step stays = record {
   later = omega arith;
   earlier = λ m image le. (λ h. h, λ h. h);
@@ -38,7 +38,7 @@ Steps s call step = (image : List ℕ) → IsImage (after_call s call) image →
 -- one call more
 passes_one : (first : List ℕ) (log : List DiskCall) (call : DiskCall) (step : List ℕ → List ℕ → Type 0)
     → ((image : List ℕ) → step image image) → Steps (state_after first log) call step
-    → Passes (length log) (length (log ++ call ∷ [])) (images_in first log) (images_in first (log ++ call ∷ [])) step
+    → CrashStep (length log) (length (log ++ call ∷ [])) (images_in first log) (images_in first (log ++ call ∷ [])) step
 passes_one first log call step stays steps =
     let all = log ++ call ∷ [] in
     let len : length all ≡ length log + 1 = length-append log (call ∷ []) in
@@ -59,18 +59,18 @@ passes_one first log call step stays steps =
 -- the same over what a disk holds: its first bytes, its log, and its calls
 pub passes_unlogged : (old : MemoryDiskContent) (first : List ℕ) (log new : List DiskCall) (calls : CallRecord) (step : List ℕ → List ℕ → Type 0)
     → ◌≡◌ {A = MemoryDiskContent} (record { first = first; log = log; calls = calls }) old → new ≡ log
-    → ((image : List ℕ) → step image image) → Passes (length old.log) (length new) (images_of old) (images_in first new) step
+    → ((image : List ℕ) → step image image) → CrashStep (length old.log) (length new) (images_of old) (images_in first new) step
 passes_unlogged old first log new calls step is same stays =
-    let P : MemoryDiskContent → List DiskCall → Type 0 = λ d l. Passes (length d.log) (length l) (images_of d) (images_in first l) step in
+    let P : MemoryDiskContent → List DiskCall → Type 0 = λ d l. CrashStep (length d.log) (length l) (images_of d) (images_in first l) step in
     subst (λ (d : MemoryDiskContent). P d new) is
     (subst (P (record { first = first; log = log; calls = calls })) (sym same) (passes_none first log step stays))
 
 pub passes_logged : (old : MemoryDiskContent) (first : List ℕ) (log new : List DiskCall) (calls : CallRecord) (call : DiskCall)
     (step : List ℕ → List ℕ → Type 0) → ◌≡◌ {A = MemoryDiskContent} (record { first = first; log = log; calls = calls }) old
     → new ≡ log ++ call ∷ [] → ((image : List ℕ) → step image image) → Steps (state_after first log) call step
-    → Passes (length old.log) (length new) (images_of old) (images_in first new) step
+    → CrashStep (length old.log) (length new) (images_of old) (images_in first new) step
 passes_logged old first log new calls call step is more stays steps =
-    let P : MemoryDiskContent → List DiskCall → Type 0 = λ d l. Passes (length d.log) (length l) (images_of d) (images_in first l) step in
+    let P : MemoryDiskContent → List DiskCall → Type 0 = λ d l. CrashStep (length d.log) (length l) (images_of d) (images_in first l) step in
     subst (λ (d : MemoryDiskContent). P d new) is
     (subst (P (record { first = first; log = log; calls = calls })) (sym more) (passes_one first log call step stays steps))
 
@@ -149,7 +149,7 @@ steps_write s at bytes false fits image h = before_write s at bytes s.bytes imag
 pub passes_write : (old : MemoryDiskContent) (first : List ℕ) (log new : List DiskCall) (calls : CallRecord) (at : ℕ) (bytes kept : List ℕ)
     (done : Bool) → ◌≡◌ {A = MemoryDiskContent} (record { first = first; log = log; calls = calls }) old → kept ≡ bytes
     → new ≡ log ++ record { request = Write at kept; done = done } ∷ [] → at + length bytes ≤ length (state_after old.first old.log).bytes
-    → Passes (length old.log) (length new) (images_of old) (images_in first new) (IsSameOutside at (length bytes))
+    → CrashStep (length old.log) (length new) (images_of old) (images_in first new) (IsSameOutside at (length bytes))
 passes_write old first log new calls at bytes kept done is same more fits =
     let here : at + length bytes ≤ length (state_after first log).bytes =
     subst (λ (d : MemoryDiskContent). at + length bytes ≤ length (state_after d.first d.log).bytes) (sym is) fits in

@@ -27,7 +27,7 @@ KeepsOutside at n (Some old) None = ⊥
 
 -- One call, which began at the moment `before` and ended at `after`: at each moment of it a crash leaves what
 -- it could have left as the call began, but for a step. What it left at earlier moments stays as it was.
-pub record Passes (before after : ℕ) (past images : ℕ → List ℕ → Type 0) (step : List ℕ → List ℕ → Type 0)
+pub record CrashStep (before after : ℕ) (past images : ℕ → List ℕ → Type 0) (step : List ℕ → List ℕ → Type 0)
     : Type 0 where
   pub later : before ≤ after
   pub earlier : (m : ℕ) (image : List ℕ) → m ≤ before → images m image ↔ past m image

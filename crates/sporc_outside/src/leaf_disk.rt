@@ -1,6 +1,6 @@
 ghost use Rattle.std.specs.Prelude.{◌≡◌, ◌+◌, ◌≤◌, ℕ, List, Option, Some, length, take, drop, option_map, IfOk, IfSome, IsSome, OnOk};
 ghost use Rattle.sporc_outside.specs.Counts.{CountsFaults};
-ghost use Rattle.sporc_outside.specs.LeafDisk.{overwrite, IsSame, IsSameOutside, KeepsOutside, Passes};
+ghost use Rattle.sporc_outside.specs.LeafDisk.{overwrite, IsSame, IsSameOutside, KeepsOutside, CrashStep};
 
 use crate::counted::{Counted, Failed};
 
@@ -24,7 +24,7 @@ pub trait LeafDisk: Counted {
     fn len(&mut self) -> Result<u64, Failed>
         ensures length { IfOk result (λ n. IfSome (stored self.old) (λ bytes. n ≡ length bytes)) }
         ensures stored { stored self.new ≡ stored self.old }
-        ensures images { Passes (moment self.old) (moment self.new) (images self.old) (images self.new) IsSame }
+        ensures images { CrashStep (moment self.old) (moment self.new) (images self.old) (images self.new) IsSame }
         ensures count { CountsFaults (Self.faults self.old) (Self.faults self.new) result };
 
     /// Fills the buffer with the bytes from `at` on.
@@ -33,7 +33,7 @@ pub trait LeafDisk: Counted {
         ensures bytes { OnOk result (IfSome (stored self.old) (λ bytes.
             buf.new ≡ take (length buf.old) (drop at bytes))) }
         ensures stored { stored self.new ≡ stored self.old }
-        ensures images { Passes (moment self.old) (moment self.new) (images self.old) (images self.new) IsSame }
+        ensures images { CrashStep (moment self.old) (moment self.new) (images self.old) (images self.new) IsSame }
         ensures count { CountsFaults (Self.faults self.old) (Self.faults self.new) result };
 
     /// Writes the bytes over those from `at` on. After a write that failed a read may give anything
@@ -43,7 +43,7 @@ pub trait LeafDisk: Counted {
         ensures written { OnOk result
             (stored self.new ≡ option_map (λ old. overwrite old at bytes.now) (stored self.old)) }
         ensures others { KeepsOutside at (length bytes.now) (stored self.old) (stored self.new) }
-        ensures images { Passes (moment self.old) (moment self.new) (images self.old) (images self.new)
+        ensures images { CrashStep (moment self.old) (moment self.new) (images self.old) (images self.new)
             (IsSameOutside at (length bytes.now)) }
         ensures count { CountsFaults (Self.faults self.old) (Self.faults self.new) result };
 
@@ -52,7 +52,7 @@ pub trait LeafDisk: Counted {
         ensures durable { OnOk result
             ((image : List ℕ) → images self.new (moment self.new) image → stored self.new ≡ Some image) }
         ensures stored { stored self.new ≡ stored self.old }
-        ensures images { Passes (moment self.old) (moment self.new) (images self.old) (images self.new) IsSame }
+        ensures images { CrashStep (moment self.old) (moment self.new) (images self.old) (images self.new) IsSame }
         ensures count { CountsFaults (Self.faults self.old) (Self.faults self.new) result };
 
     // What a read gives is one of the images.

@@ -1,7 +1,7 @@
 ghost use Rattle.std.specs.Prelude.{◌≡◌, ◌<◌, ◌≤◌, ℕ, List, Option, length, IfOk, OnOk, OnErr};
 ghost use Rattle.std.specs.Io.KnownBytes.{WriteAppends, Appends};
 ghost use Rattle.sporc_outside.specs.Counts.{CountsFaults};
-ghost use Rattle.sporc_outside.specs.Writing.{AppendsFront};
+ghost use Rattle.sporc_outside.specs.Writing.{AppendsPrefix};
 
 use crate::counted::{Counted, Failed};
 
@@ -21,7 +21,7 @@ pub trait Sink: Counted {
 /// Writes all the bytes, or a front of them where the sink fails.
 pub fn write_all<O: Sink>(out: &mut O, bytes: &[u8]) -> Result<(), Failed>
     ensures ok { OnOk result (Appends (O.written out.old) (O.written out.new) bytes.now) }
-    ensures err { OnErr result (AppendsFront (O.written out.old) (O.written out.new) bytes.now) }
+    ensures err { OnErr result (AppendsPrefix (O.written out.old) (O.written out.new) bytes.now) }
     ensures count { CountsFaults (O.faults out.old) (O.faults out.new) result }
 {
     let mut at = 0;

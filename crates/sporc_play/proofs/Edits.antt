@@ -4,7 +4,7 @@ use Rattle.std.specs.Prelude.{◌==◌}
 use Rattle.std.proofs.lemmas.Bool.Decides.{eqb_tells}
 use Rattle.sporc_delta.specs.Marks.{Mark, base_len, deletes, insertion, inserts, removal, retains}
 use Rattle.sporc_delta.proofs.Lengths.{base_len-append, base_len-retains, base_len-deletes, base_len-inserts}
-use Rattle.sporc_checks.specs.FirstFault.{first_of}
+use Rattle.sporc_base.specs.FirstFault.{first_of}
 use Rattle.sporc_client.specs.declared.entry.PlainEntry.{PlainEntry}
 use Rattle.sporc_client.specs.declared.fault.EditFault.{EditFault}
 use Rattle.sporc_client.specs.declared.fault.PlainRefusal.{PlainRefusal}

@@ -4,7 +4,7 @@ use Rattle.std.proofs.lemmas.List.{take_all}
 use Rattle.std.proofs.lemmas.List.Sums.{fold-append}
 use Rattle.std.proofs.Math.Seq.{take-append-add}
 use Rattle.std.specs.Io.KnownBytes.{Appends}
-use Rattle.sporc_outside.specs.Writing.{AppendsFront}
+use Rattle.sporc_outside.specs.Writing.{AppendsPrefix}
 use Rattle.sporc_outside.proofs.Known.{Appends_then}
 use Rattle.sporc_play.specs.declared.script.command.PlayLine.{PlayLine}
 use Rattle.sporc_play.specs.Report.{Reports, ReportsFront, ReportsFrom, Writes}
@@ -38,7 +38,7 @@ pub reports_all : (lines : List PlayLine) (i : ℕ) (a b : Option (List ℕ)) �
     → (report : List ℕ) × ReportsFrom (opening lines) (take i lines) report × Appends a b report → Reports lines a b
 reports_all lines i a b low r = (r.0, subst (λ (ls : List PlayLine). ReportsFrom (opening lines) ls r.0) (take_all i lines low) r.1, r.2)
 
-front_after : (a b c : Option (List ℕ)) (bytes piece : List ℕ) → Appends a b bytes → AppendsFront b c piece → AppendsFront a c (bytes ++ piece)
+front_after : (a b c : Option (List ℕ)) (bytes piece : List ℕ) → Appends a b bytes → AppendsPrefix b c piece → AppendsPrefix a c (bytes ++ piece)
 front_after a b c bytes piece first (n, low, then) = (
   length bytes + n,
   omega (arith, length-append bytes piece),

@@ -3,7 +3,7 @@ use Rattle.std.specs.Prelude.{◌≡◌, ℕ, ◌+◌, List, [], ◌∷◌, ◌+
 use Rattle.std.specs.Fmt.{decimal}
 use Rattle.std.specs.Io.KnownBytes.{Appends}
 use Rattle.sporc_delta.specs.Marks.{Mark}
-use Rattle.sporc_checks.specs.FirstFault.{first_of}
+use Rattle.sporc_base.specs.FirstFault.{first_of}
 use Rattle.sporc_client.specs.declared.entry.PlainEntry.{PlainEntry}
 use Rattle.sporc_client.specs.declared.client.PlainSubmitted.{PlainSubmitted}
 use Rattle.sporc_client.specs.declared.client.PlainSubmitted.TheVariants.{Waiting, Nothing, Entry}
@@ -17,7 +17,7 @@ use Rattle.sporc_client.specs.History.{hashes_of}
 use Rattle.sporc_client.specs.Names.{edit_fault_name, refusal_name, submit_fault_name}
 use Rattle.sporc_client.specs.Submission.{submission_of}
 use Rattle.sporc_client.specs.Verdict.{EndAlike, EndsWithin, PartAfter}
-use Rattle.sporc_outside.specs.Writing.{AppendsFront}
+use Rattle.sporc_outside.specs.Writing.{AppendsPrefix}
 use Rattle.sporc_play.specs.declared.seat.Seat.{Seat}
 use Rattle.sporc_play.specs.declared.script.command.Command.{Command}
 use Rattle.sporc_play.specs.declared.script.command.Command.TheVariants as commands
@@ -103,4 +103,4 @@ Reports script written written' = (report : List ℕ) × ReportsFrom (opening sc
 -- a front of the report of its first lines was written, nothing else
 abbrev pub ReportsFront : List PlayLine → Option (List ℕ) → Option (List ℕ) → Type 0
 ReportsFront script written written' =
-    (n : ℕ) × (report : List ℕ) × ReportsFrom (opening script) (take n script) report × AppendsFront written written' report
+    (n : ℕ) × (report : List ℕ) × ReportsFrom (opening script) (take n script) report × AppendsPrefix written written' report

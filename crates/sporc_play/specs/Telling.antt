@@ -1,7 +1,7 @@
 -- How a command's line is told.
 use Rattle.std.specs.Prelude.{◌≡◌, ℕ, List, ◌++◌, Option}
 use Rattle.std.specs.Io.KnownBytes.{Appends}
-use Rattle.sporc_outside.specs.Writing.{AppendsFront}
+use Rattle.sporc_outside.specs.Writing.{AppendsPrefix}
 use Rattle.sporc_play.specs.declared.script.command.Command.{Command}
 use Rattle.sporc_play.specs.Report.{Writes}
 use Rattle.sporc_play.specs.Scene.{Scene}
@@ -15,4 +15,4 @@ abbrev pub WritesLine : Command → Scene → Option (List ℕ) → Option (List
 WritesLine command s written written' = (line : List ℕ) × Writes command s line × Appends written written' line
 
 abbrev pub WritesFront : Command → Scene → Option (List ℕ) → Option (List ℕ) → Type 0
-WritesFront command s written written' = (line : List ℕ) × Writes command s line × AppendsFront written written' line
+WritesFront command s written written' = (line : List ℕ) × Writes command s line × AppendsPrefix written written' line

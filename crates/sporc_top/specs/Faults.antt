@@ -3,7 +3,7 @@ use Rattle.std.specs.Prelude.{ℕ, List, ◌++◌, codes, Option}
 use Rattle.std.specs.Fmt.{decimal}
 use Rattle.std.specs.Io.KnownBytes.{Appends}
 use Rattle.sporc_outside.specs.Counts.{Rose}
-use Rattle.sporc_outside.specs.Writing.{AppendsFront}
+use Rattle.sporc_outside.specs.Writing.{AppendsPrefix}
 use Rattle.sporc_play.specs.declared.fault.PlayFault.{PlayFault}
 use Rattle.sporc_play.specs.declared.fault.PlayFault.TheVariants as playing
 use Rattle.sporc_top.specs.declared.fault.Fault.{Fault}
@@ -37,4 +37,4 @@ fault_of playing.TooLong = faults.TooLong
 
 -- a line was written, or a front of it where the sink's count rose
 abbrev pub Tells : Option (List ℕ) → Option (List ℕ) → ℕ → ℕ → List ℕ → Type 0
-Tells written written' before after line = AppendsFront written written' line × (¬ (Rose before after) → Appends written written' line)
+Tells written written' before after line = AppendsPrefix written written' line × (¬ (Rose before after) → Appends written written' line)

@@ -2,7 +2,7 @@
 use Rattle.std.specs.Prelude.{◌≡◌, ℕ, ◌+◌, ◌⊎◌, List, [], ◌∷◌, codes, Option}
 use Rattle.sporc_outside.specs.Counts.{Rose}
 use Rattle.sporc_outside.specs.Reading.{ConsumesExactly}
-use Rattle.sporc_outside.specs.Writing.{AppendsFront}
+use Rattle.sporc_outside.specs.Writing.{AppendsPrefix}
 use Rattle.sporc_play.specs.Playing.{IsOutside, PlaysFront}
 use Rattle.sporc_top.specs.declared.fault.Fault.{Fault}
 use Rattle.sporc_top.specs.declared.fault.Fault.TheVariants as faults
@@ -26,7 +26,7 @@ RefusesScript limit left left' written written' before after =
 abbrev pub FailsOutside : ℕ → Option (List ℕ) → Option (List ℕ) → ℕ → ℕ → Option (List ℕ) → Option (List ℕ) → ℕ → ℕ → Type 0
 FailsOutside limit left left' reads reads' written written' writes writes' =
     (Rose reads reads' × Tells written written' writes writes' (fault_line faults.Outside))
-    ⊎ (Rose writes writes' × ((front : Option (List ℕ)) × PlaysFront limit left left' written front × AppendsFront front written' (fault_line faults.Outside)))
+    ⊎ (Rose writes writes' × ((front : Option (List ℕ)) × PlaysFront limit left left' written front × AppendsPrefix front written' (fault_line faults.Outside)))
 
 -- why a command was not performed, before its fault is told
 abbrev pub IsCause : ℕ → Option (List ℕ) → Option (List ℕ) → ℕ → ℕ → Option (List ℕ) → Option (List ℕ) → ℕ → ℕ → Fault → Type 0

@@ -3,7 +3,7 @@
 ghost use Rattle.std.specs.Prelude.{◌≡◌, ◌≤◌, ◌++◌, ℕ, OnOk, OnErr};
 ghost use Rattle.std.specs.Io.KnownBytes.{Appends};
 ghost use Rattle.sporc_outside.specs.Counts.{CountsFaults};
-ghost use Rattle.sporc_outside.specs.Writing.{AppendsFront};
+ghost use Rattle.sporc_outside.specs.Writing.{AppendsPrefix};
 ghost use Rattle.sporc_top.specs.Faults.{Tells, fault_line, fault_of, numbered_line, status_of};
 
 use itoa::Buffer;
@@ -57,7 +57,7 @@ impl Fault {
 
     fn write_line<O: Sink>(self, out: &mut O) -> Result<(), Failed>
         ensures ok { OnOk result (Appends (O.written out.old) (O.written out.new) (fault_line self)) }
-        ensures err { OnErr result (AppendsFront (O.written out.old) (O.written out.new) (fault_line self)) }
+        ensures err { OnErr result (AppendsPrefix (O.written out.old) (O.written out.new) (fault_line self)) }
         ensures count { CountsFaults (O.faults out.old) (O.faults out.new) result }
     {
         match self {
@@ -76,7 +76,7 @@ impl Fault {
 // `fault line` with these digits. The number is written in pieces, since a line's fault takes no memory.
 fn write_numbered<O: Sink>(out: &mut O, digits: &[u8]) -> Result<(), Failed>
     ensures ok { OnOk result (Appends (O.written out.old) (O.written out.new) (numbered_line digits.now)) }
-    ensures err { OnErr result (AppendsFront (O.written out.old) (O.written out.new) (numbered_line digits.now)) }
+    ensures err { OnErr result (AppendsPrefix (O.written out.old) (O.written out.new) (numbered_line digits.now)) }
     ensures count { CountsFaults (O.faults out.old) (O.faults out.new) result }
 {
     write_all(out, b"fault line ")?;

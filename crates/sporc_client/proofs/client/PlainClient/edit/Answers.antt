@@ -1,6 +1,6 @@
 use Rattle.std.proofs.Common.{◌≡◌, ◌∷◌, ◌++◌, [], None, ap, sym, subst, ◌∙◌, length}
 use Rattle.sporc_delta.specs.Marks.{base_len, apply}
-use Rattle.sporc_checks.specs.FirstFault.{first_of}
+use Rattle.sporc_base.specs.FirstFault.{first_of}
 use Rattle.sporc_client.specs.History.{text_of}
 use Rattle.sporc_client.specs.Client.{PlainState, shown_of, edit_checks, edited}
 use Rattle.sporc_client.specs.ClientKeeps.{client_value, IsSound}

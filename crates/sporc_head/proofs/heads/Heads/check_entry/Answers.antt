@@ -1,6 +1,6 @@
 use Rattle.std.proofs.Common.{ap, sym, ◌∙◌, Some, Option, None, refl}
 use Rattle.std.proofs.lemmas.Result.{err_from_is_err_and}
-use Rattle.sporc_checks.specs.FirstFault.{first_of}
+use Rattle.sporc_base.specs.FirstFault.{first_of}
 use Rattle.sporc_member.specs.Roster.{Roster, member_at}
 use Rattle.sporc_entry.specs.declared.change.ChangeBody.{ChangeBody}
 use Rattle.sporc_head.specs.declared.refusal.Refusal.TheVariants.{Memory}
