@@ -1,6 +1,34 @@
-//! What it means that a call answers the first fault of a list of checks.
+//! What every crate of `sporc` would write again: the type for want of memory, lists, bytes, and the words that say what
+//! a call answers.
 //!
-//! The rules of `sporc` are lists of checks, one line each. A call that may be refused answers the
-//! fault of the first check that fails, and goes on where none does. This crate has those words,
-//! for any type of fault; it has no code.
+//! - [`Memory`]: memory ran out.
+//! - [`Items`]: a `Vec` that contracts see as the list of its items; [`Bytes`] is one of bytes.
+//! - [`is_same`]: whether two byte strings are the same.
+//! - [`put_at`]: a field written into bytes, from a place on.
+//! - [`unmarked`]: a table with no marks.
+//! - `specs/Outcome.antt`: a call answers what a definition gives, a value or a fault: exactly that (`Gives`), or that unless
+//!   memory runs out (`GivesUnless`).
+//! - `specs/FirstFault.antt`: a call answers the first fault of a list of checks: exactly that (`Answers`), or that unless
+//!   memory runs out (`AnswersUnless`).
+//! - `specs/Bytes.antt`: numbers that are bytes (`IsBytes`); `proofs/ByteLemmas.antt` has their laws.
+//!
+//! ```text
+//! let name = Bytes::copy_of(alloc, b"ada")?;      // contracts see 97 ∷ 100 ∷ 97 ∷ []
+//! if is_same(name.as_slice(), b"ada") { .. }
+//! ```
+//!
+//! All of it is proved; nothing is only tested.
 #![tactic(auto)]
+
+mod bytes;
+mod items;
+
+pub use bytes::{is_same, put_at, unmarked};
+pub use items::{Bytes, Items};
+use std::alloc::AllocError;
+
+/// No memory was left.
+pub type Memory = AllocError;
+
+#[cfg(test)]
+mod tests;
