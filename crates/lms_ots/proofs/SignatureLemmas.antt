@@ -1,5 +1,5 @@
 -- A signature leads to the public key of its seed.
-use Rattle.std.proofs.Common.{◌≡◌, ℕ, ◌+◌, ◌-◌, ◌*◌, ◌^◌, ◌<◌, List, ◌++◌, length, take, drop, refl, ap, ◌∙◌, arith, append_assoc, Ok, w32, eq-eqb}
+use Rattle.std.proofs.Common.{◌≡◌, ℕ, ◌+◌, ◌-◌, ◌*◌, ◌^◌, ◌<◌, List, ◌++◌, length, take, drop, refl, ap, ◌∙◌, arith, append_assoc, w32, eq-eqb}
 use Rattle.std.specs.Int.{to_be_bytes, from_be_bytes}
 use Rattle.std.proofs.lemmas.Nat.{from_be_bytes-to_be_bytes_4}
 use Rattle.std.proofs.lemmas.List.{length-append, take_at, drop_at}
@@ -9,7 +9,7 @@ use Rattle.lms_ots.specs.declared.ots_type.OtsType.TheVariants.{W1, W2, W4, W8}
 use Rattle.lms_ots.specs.OtsType.{width_of, part_count_of, ots_code_of, ots_signature_len_of}
 use Rattle.lms_ots.specs.Coefficients.{coef_of, with_checksum}
 use Rattle.lms_ots.specs.Chains.{chain_of, concatenated, secret_part}
-use Rattle.lms_ots.specs.Signatures.{signed_part, ended_part, public_part, part_in, code_in, randomizer_in, ots_signature_of, candidate_key, ots_candidate_of, ots_public_of, message_digest}
+use Rattle.lms_ots.specs.Signatures.{signed_part, ended_part, public_part, part_in, code_in, randomizer_in, ots_signature_of, candidate_key, ots_public_of, message_digest}
 use Rattle.lms_ots.specs.Laws.{SignaturesLeadToPublicKeys}
 use Rattle.lms_ots.proofs.CoefficientLemmas.{coef_below}
 use Rattle.lms_ots.proofs.ChainLemmas.{chain_of-chain_of, length-chain_of}
@@ -56,14 +56,13 @@ record IsSigned (t : OtsType) (id : List ℕ) (q : ℕ) (seed c message signatur
       → part_in signature i ≡ signed_part t id q seed (with_checksum (message_digest id q c message) t) i
 
 leads_signed : (t : OtsType) (id : List ℕ) (q : ℕ) (seed c message signature : List ℕ) → IsSigned t id q seed c message signature
-    → ots_candidate_of t id q message signature ≡ Ok (ots_public_of t id q seed)
+    → candidate_key t id q message signature ≡ ots_public_of t id q seed
 unfolding candidate_key ots_public_of
 leads_signed t id q seed c message signature signed =
     let string = with_checksum (message_digest id q c message) t in
     let same = concatenated_same (ended_part t id q string signature) (public_part t id q seed) (part_count_of t)
     (λ i below. ended_signed t id q seed string signature i (signed.parts i below)) in
-    let key : candidate_key t id q message signature ≡ ots_public_of t id q seed = rw (signed.randomizer, same) refl in
-    rw (eq-eqb _ _ signed.size, eq-eqb _ _ signed.code, key) refl
+    rw (signed.randomizer, same) refl
 
 code_fits : (t : OtsType) → ots_code_of t < 2 ^ 32
 code_fits W1 = omega arith
@@ -100,6 +99,22 @@ signature_is_signed t id q seed c message all =
       parts = λ i below. part_of_fields code c rest i refl all ∙ concatenated_part part (length-signed_part t id q seed string) (part_count_of t) i below;
     }
 
+-- a signature begins with its type's code
+pub code_of_signature : (t : OtsType) (id : List ℕ) (q : ℕ) (seed c message : List ℕ) → length c ≡ 32
+    → code_in (ots_signature_of t id q seed c message) ≡ ots_code_of t
+code_of_signature t id q seed c message all =
+    let signed = signature_is_signed t id q seed c message all in signed.code
+
+-- its key is the public key of its seed
+pub key_of_signature : (t : OtsType) (id : List ℕ) (q : ℕ) (seed c message : List ℕ) → length c ≡ 32
+    → candidate_key t id q message (ots_signature_of t id q seed c message) ≡ ots_public_of t id q seed
+key_of_signature t id q seed c message all = leads_signed t id q seed c message _ (signature_is_signed t id q seed c message all)
+
 -- every signature leads to the public key of its seed
 pub signatures_lead : SignaturesLeadToPublicKeys
-signatures_lead t id q seed c message all = leads_signed t id q seed c message _ (signature_is_signed t id q seed c message all)
+signatures_lead t id q seed c message all =
+    rw (
+      eq-eqb _ _ (length-ots_signature_of t id q seed c message all),
+      eq-eqb _ _ (code_of_signature t id q seed c message all),
+      key_of_signature t id q seed c message all,
+    ) refl

@@ -26,7 +26,7 @@ mod signature;
 pub use coefficients::{checksum, coef};
 pub use ots_type::OtsType;
 pub use public_key::ots_public;
-pub use signature::{Memory, OtsFault, ots_candidate, ots_sign};
+pub use signature::{Memory, OtsFault, ots_candidate, ots_candidate_key, ots_sign};
 
 #[cfg(test)]
 mod tests;

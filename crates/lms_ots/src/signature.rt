@@ -1,6 +1,6 @@
 // Signatures, and the public keys to which they lead.
 
-ghost use Rattle.std.specs.Prelude.{◌≡◌, ◌≢◌, ◌↔◌, length, IfOk, IsErrOf};
+ghost use Rattle.std.specs.Prelude.{◌≡◌, ◌≢◌, ◌↔◌, ◌++◌, length, IfOk, IsErrOf};
 ghost use Rattle.lms_ots.specs.OtsType.{ots_code_of, ots_signature_len_of};
 ghost use Rattle.lms_ots.specs.Signatures.{candidate_key, code_in, message_digest, ots_candidate_of, ots_public_of, ots_signature_of};
 
@@ -24,15 +24,16 @@ pub enum OtsFault {
     BadLength,
 }
 
-// The digest of a message under the randomizer `c`.
-fn message_digest(id: &[u8; 16], q: u32, c: &[u8], message: &[u8]) -> [u8; 32]
-    ensures { result ≡ message_digest id.now q c.now message.now }
+// The digest of `prefix` and `message`, one message, under the randomizer `c`.
+fn message_digest(id: &[u8; 16], q: u32, c: &[u8], prefix: &[u8], message: &[u8]) -> [u8; 32]
+    ensures { result ≡ message_digest id.now q c.now (prefix.now ++ message.now) }
 {
     let mut hasher = Sha256::new();
     hasher.update(id);
     hasher.update(q.to_be_bytes());
     hasher.update([0x81u8, 0x81]);
     hasher.update(c);
+    hasher.update(prefix);
     hasher.update(message);
     hasher.finalize()
 }
@@ -52,7 +53,7 @@ pub fn ots_sign(
     ensures leads_to_public { IfOk result (λ v.
         ots_candidate_of t id.now q message.now v.items ≡ Ok (ots_public_of t id.now q seed.now)) }
 {
-    let string = with_checksum(&message_digest(id, q, c, message), t);
+    let string = with_checksum(&message_digest(id, q, c, &[], message), t);
     let w = t.w();
     let mut signature = Vec::with_capacity(alloc, t.signature_len())?;
     signature.extend_from_slice(&t.code().to_be_bytes())?;
@@ -66,12 +67,20 @@ pub fn ots_sign(
     Ok(signature)
 }
 
-// The public key to which a signature of the right length leads.
-fn candidate_key(t: OtsType, id: &[u8; 16], q: u32, message: &[u8], signature: &[u8]) -> [u8; 32]
+/// The public key to which a signature of its type's length leads, where `prefix` and then `message` were
+/// signed as one message: steps 3 and 4 of algorithm 4b of RFC 8554, section 4.6.
+pub fn ots_candidate_key(
+    t: OtsType,
+    id: &[u8; 16],
+    q: u32,
+    prefix: &[u8],
+    message: &[u8],
+    signature: &[u8],
+) -> [u8; 32]
     requires { length signature.now ≡ ots_signature_len_of t }
-    ensures { result ≡ candidate_key t id.now q message.now signature.now }
+    ensures { result ≡ candidate_key t id.now q (prefix.now ++ message.now) signature.now }
 {
-    let digest = message_digest(id, q, &signature[4..36], message);
+    let digest = message_digest(id, q, &signature[4..36], prefix, message);
     let string = with_checksum(&digest, t);
     let greatest = t.greatest();
     let w = t.w();
@@ -108,5 +117,5 @@ pub fn ots_candidate(
     if u32::from_be_bytes(code) != t.code() {
         return Err(OtsFault::BadType);
     }
-    Ok(candidate_key(t, id, q, message, signature))
+    Ok(ots_candidate_key(t, id, q, &[], message, signature))
 }

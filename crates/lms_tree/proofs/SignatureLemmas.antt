@@ -1,23 +1,24 @@
 -- What a tree signs verifies.
-use Rattle.std.proofs.Common.{◌≡◌, ℕ, zero, suc, ◌+◌, ◌-◌, ◌*◌, ◌/◌, ◌^◌, ◌<◌, ◌≤◌, List, [], ◌++◌, length, take, drop, refl, ap, ◌∙◌, arith, append_assoc, w32, Ok, ◌∷◌, slice_index_or, inl, inr}
+use Rattle.std.proofs.Common.{◌≡◌, ℕ, zero, suc, ◌+◌, ◌-◌, ◌*◌, ◌/◌, ◌^◌, ◌<◌, ◌≤◌, List, [], ◌++◌, length, take, drop, refl, sym, ap, ◌∙◌, arith, append_assoc, w32, ◌∷◌, slice_index_or, inl, inr}
 use Rattle.std.specs.Int.{to_be_bytes, from_be_bytes}
 use Rattle.std.proofs.Math.Nat.{pow-le-pow_right}
 use Rattle.std.proofs.lemmas.Nat.{from_be_bytes-to_be_bytes_4}
-use Rattle.std.proofs.lemmas.List.{length-append, take_all, take_at, drop_at, get_or_append_left, get_or_push}
+use Rattle.std.proofs.lemmas.List.{length-append, take_all, take_at, take-take, drop_at, get_or_append_left, get_or_push}
 use Rattle.std.proofs.lemmas.Bool.{cases_lt}
 use Rattle.sha2.proofs.Facts256.{length-sha256}
 use Rattle.lms_ots.specs.OtsType.{ots_signature_len_of}
 use Rattle.lms_ots.specs.Chains.{concatenated}
-use Rattle.lms_ots.specs.Signatures.{ots_signature_of, ots_public_of, ots_candidate_of}
+use Rattle.lms_ots.specs.Signatures.{ots_signature_of, ots_public_of, candidate_key, code_in}
 use Rattle.lms_ots.proofs.ConcatenatedLemmas.{concatenated_part, concatenated_same, length-concatenated}
-use Rattle.lms_ots.proofs.SignatureLemmas.{signatures_lead, length-ots_signature_of}
+use Rattle.lms_ots.proofs.SignatureLemmas.{code_of_signature, key_of_signature, length-ots_signature_of}
+use Rattle.lms_tree.specs.declared.public_key.LmsPublic.{LmsPublic}
 use Rattle.lms_tree.specs.declared.lms_type.LmsType.{LmsType}
 use Rattle.lms_tree.specs.declared.lms_type.LmsType.TheVariants.{H5, H10, H15, H20, H25}
 use Rattle.lms_tree.specs.LmsType.{lms_code_of, height_of}
 use Rattle.lms_tree.specs.Nodes.{node_of, leaf_value, sibling}
 use Rattle.lms_tree.specs.LmsPrivate.{LmsPrivate, node_at, root_of, lms_public_of, sibling_value, path_of, value_at}
 use Rattle.lms_tree.specs.Signatures.{lms_signature_of}
-use Rattle.lms_tree.specs.Verification.{Verifies, lms_signature_len_of, leaf_in, ots_signature_in, lms_code_in, path_in, root_from}
+use Rattle.lms_tree.specs.Verification.{HasForm, lms_signature_len_of, leaf_in, ots_code_in, ots_signature_in, path_in, root_from, root_in}
 use Rattle.lms_tree.specs.Laws.{SignaturesVerify}
 use Rattle.lms_tree.proofs.SiblingLemmas.{ancestor_nodes, way_bits}
 
@@ -81,22 +82,21 @@ leaf_fits t q below =
     let most : 2 ^ height_of t ≤ 2 ^ 25 = pow-le-pow_right two (height_fits t) in
     omega (arith, below, most)
 
--- a list with the fields of a signature verifies
-verifies_from : (key : LmsPrivate) (q : ℕ) (message signature ots_signature path : List ℕ)
-    → length signature ≡ lms_signature_len_of (lms_public_of key)
+-- the one-time signature begins with the code that stands behind the leaf number
+ots_code_of_fields : (key : LmsPublic) (signature : List ℕ)
+    → ots_code_in signature ≡ code_in (ots_signature_in key signature)
+ots_code_of_fields key signature =
+    ap (from_be_bytes w32) (sym (take-take 4 (ots_signature_len_of key.ots) (drop 4 signature) (omega arith)))
+
+-- a list with the fields of a signature leads to the root
+leads_to_root : (key : LmsPrivate) (q : ℕ) (message signature ots_signature : List ℕ)
     → leaf_in signature ≡ q → q < 2 ^ height_of key.lms
-    → lms_code_in (lms_public_of key) signature ≡ lms_code_of key.lms
     → ots_signature_in (lms_public_of key) signature ≡ ots_signature
-    → path_in (lms_public_of key) signature ≡ path
-    → ots_candidate_of key.ots key.id q message ots_signature ≡ Ok (ots_public_of key.ots key.id q key.seed)
-    → root_from (lms_public_of key) q path (ots_public_of key.ots key.id q key.seed) ≡ root_of key
-    → Verifies (lms_public_of key) message signature
-verifies_from key q message signature ots_signature path size first fits code cut rest leads root = record {
-  size = size;
-  leaf = rw first fits;
-  code = code;
-  root = rw (first, cut, rest, leads) root;
-}
+    → path_in (lms_public_of key) signature ≡ concatenated (sibling_value key q) (height_of key.lms)
+    → candidate_key key.ots key.id q message ots_signature ≡ ots_public_of key.ots key.id q key.seed
+    → root_in (lms_public_of key) message signature ≡ root_of key
+unfolding root_in
+leads_to_root key q message signature ots_signature first fits cut rest leads = rw (first, cut, rest, leads) (way_up key q fits)
 
 -- what a private key signs verifies under its public key
 pub signatures_verify : SignaturesVerify
@@ -113,13 +113,19 @@ signatures_verify key q c message all fits =
     let two : length (a ++ b) ≡ 4 + n = omega (arith, length-append a b, middle) in
     let three : length (a ++ b ++ d) ≡ 8 + n = omega (arith, length-append (a ++ b) d, two) in
     let whole : length (a ++ b ++ d ++ p) ≡ lms_signature_len_of (lms_public_of key) = omega (arith, length-append (a ++ b ++ d) p, three, last) in
-    verifies_from key q message (a ++ b ++ d ++ p) b p whole
-    (ap (from_be_bytes w32) (field_one a b d p 4 refl) ∙ from_be_bytes-to_be_bytes_4 q (leaf_fits key.lms q fits)) fits
-    (ap (from_be_bytes w32) (field_three a b d p (4 + n) 4 two refl) ∙ from_be_bytes-to_be_bytes_4 (lms_code_of key.lms) (code_fits key.lms))
-    (field_two a b d p 4 n refl middle)
-    (drop_at (a ++ b ++ d) p (8 + n) three)
-    (signatures_lead key.ots key.id q key.seed c message all)
-    (way_up key q fits)
+    let signature = a ++ b ++ d ++ p in
+    let public = lms_public_of key in
+    let first = ap (from_be_bytes w32) (field_one a b d p 4 refl) ∙ from_be_bytes-to_be_bytes_4 q (leaf_fits key.lms q fits) in
+    let cut = field_two a b d p 4 n refl middle in
+    let form : HasForm public signature = record {
+      size = whole;
+      leaf = rw first fits;
+      ots_code = ots_code_of_fields public signature ∙ ap code_in cut ∙ code_of_signature key.ots key.id q key.seed c message all;
+      lms_code = ap (from_be_bytes w32) (field_three a b d p (4 + n) 4 two refl) ∙ from_be_bytes-to_be_bytes_4 (lms_code_of key.lms) (code_fits key.lms);
+    } in
+    let path = drop_at (a ++ b ++ d) p (8 + n) three in
+    let leads = key_of_signature key.ots key.id q key.seed c message all in
+    record { form = form; root = leads_to_root key q message signature b first fits cut path leads }
 
 -- the values of a path
 length-path_of : (key : LmsPrivate) (q n : ℕ) → length (path_of key q n) ≡ n

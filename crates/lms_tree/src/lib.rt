@@ -27,7 +27,7 @@ pub use lms_ots::Memory;
 pub use lms_type::LmsType;
 pub use public_key::LmsPublic;
 pub use tree::Tree;
-pub use verification::verify;
+pub use verification::{verify, verify_parts};
 
 #[cfg(test)]
 mod tests;

@@ -3,7 +3,7 @@ use Rattle.lms_ots.specs.OtsType.{width_of, part_count_of}
 use Rattle.lms_ots.specs.Signatures.{candidate_key}
 use Rattle.lms_ots.proofs.ConcatenatedLemmas.{fed_none, fed_more}
 use Rattle.lms_ots.proofs.SignatureLemmas.{ended_is}
-use Rattle.lms_ots.proofs.signature.candidate_key.Goals as goal
+use Rattle.lms_ots.proofs.signature.ots_candidate_key.Goals as goal
 
 pub parts-init : goal.parts-init
 parts-init c = fed_none _ _ _ c.public_hasher-hasher.ensures
