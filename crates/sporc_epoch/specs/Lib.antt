@@ -1,0 +1,4 @@
+pub mod Keys
+pub mod RingModel
+pub mod Streams
+pub mod Wraps

@@ -1,0 +1,13 @@
+//! The keys of a document's epochs: rings of them, and keys sealed for members and under later keys.
+#![tactic(auto)]
+
+mod pairs;
+mod ring;
+mod streams;
+mod wraps;
+
+pub use pairs::Pairs;
+pub use ring::Ring;
+pub use sporc_bytes::Memory;
+pub use streams::entry_stream;
+pub use wraps::{open_previous, open_wrap};
