@@ -1,8 +1,8 @@
 -- What contracts see of a ring.
-use Rattle.std.specs.Prelude.{ℕ, List, refl}
+use Rattle.std.specs.Prelude.{ℕ, refl}
 use Rattle.std.specs.Ordering.{nat_cmp}
 use Rattle.std.specs.Coded.{Coded, code_by, coded×, coded_ℕ, coded_list}
-use Rattle.std.specs.FinMap.{FinMap, code}
+use Rattle.std.specs.FinMap.{code}
 use Rattle.sporc_epoch.specs.Keys.{Keys}
 
 -- the keys by epoch, and how many more it takes without memory

@@ -1,5 +1,5 @@
 -- The sealed keys of a change, opened.
-use Rattle.std.specs.Prelude.{ℕ, ◌==◌, List, Option, None, Some, option_and_then, option_map, find}
+use Rattle.std.specs.Prelude.{ℕ, ◌==◌, List, Option, option_and_then, option_map, find}
 use Rattle.std.specs.FinMap.{get}
 use Rattle.sporc_cipher.specs.Mask.{mask_of}
 use Rattle.sporc_entry.specs.declared.change.ChangeBody.{ChangeBody}

@@ -8,6 +8,6 @@ mod wraps;
 
 pub use pairs::Pairs;
 pub use ring::Ring;
-pub use sporc_bytes::Memory;
+pub use sporc_base::Memory;
 pub use streams::entry_stream;
 pub use wraps::{open_previous, open_wrap};

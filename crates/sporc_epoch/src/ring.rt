@@ -3,7 +3,7 @@
 ghost use Rattle.std.specs.Prelude.{◌≡◌, ◌+◌, ◌<◌, ◌≤◌, IfOk, IsOk, OnOk, OnErr, option_copied};
 ghost use Rattle.std.specs.FinMap as map;
 
-use sporc_bytes::Memory;
+use sporc_base::Memory;
 use std::alloc::Global;
 use std::collections::HashMap;
 use std::marker::Model;
