@@ -4,41 +4,29 @@ use Rattle.std.specs.Int.{Width, w8, w16, w32, w64, byte_len, from_be_bytes, to_
 use Rattle.std.proofs.lemmas.Bool.{cases_lt, ltb-false, le-ltb, leb-true, le-leb}
 use Rattle.std.proofs.lemmas.List.{take_at, drop_at, take-append-drop, length-append, length-take, get_or-drop, get_or-take, get_or_past}
 use Rattle.std.proofs.lemmas.Nat.{be_bytes_2, be_bytes_4, be_bytes_8, from_be_bytes-to_be_bytes_2, from_be_bytes-to_be_bytes_4, from_be_bytes-to_be_bytes_8}
+use Rattle.sporc_base.specs.Bytes.{IsBytes}
+use Rattle.sporc_base.proofs.ByteLemmas.{IsBytes-drop, IsBytes-take}
 use Rattle.sporc_bytes.specs.Fields.{Reading, past, ◌>>=◌, bytes_at, number_at, only_if, counted_at, counted, end_at}
-
--- each is a byte
-abbrev pub IsBytes : List ℕ → Type 0
-IsBytes bytes = (i : ℕ) → get_or bytes i 0 < 256
-
-pub IsBytes-drop : (n : ℕ) (bytes : List ℕ) → IsBytes bytes → IsBytes (drop n bytes)
-IsBytes-drop n bytes h i = rw get_or-drop (h (n + i))
-
-pub IsBytes-take : (n : ℕ) (bytes : List ℕ) → IsBytes bytes → IsBytes (take n bytes)
-IsBytes-take n bytes h i =
-    elim (cases_lt i n) [
-      | inl lt ↦ rw (get_or-take n bytes i 0 lt) (h i)
-      | inr le ↦ rw (get_or_past (take n bytes) i 0 (omega (arith, length-take n bytes))) (omega arith)
-    ]
 
 -- ---- steps
 
 -- the value of a step that did not fail
-pub bind_ok : {A B : Type 0} (r : Result A ℕ) (f : A → Result B ℕ) (y : B) → (r >>= f) ≡ Ok y → (x : A) × (r ≡ Ok x) × (f x ≡ Ok y)
+pub bind_ok : {A B F : Type 0} (r : Result A F) (f : A → Result B F) (y : B) → (r >>= f) ≡ Ok y → (x : A) × (r ≡ Ok x) × (f x ≡ Ok y)
 bind_ok (Ok x) f y e = (x, refl, e)
 bind_ok (Err d) f y e = absurd cc
 
 -- a step that did not fail, and what reads on
-pub read_on : {A B : Type 0} (r : Result A ℕ) (x : A) (f : A → Result B ℕ) → r ≡ Ok x → (r >>= f) ≡ f x
+pub read_on : {A B F : Type 0} (r : Result A F) (x : A) (f : A → Result B F) → r ≡ Ok x → (r >>= f) ≡ f x
 read_on r x f h = ap (λ r. r >>= f) h
 
-abbrev done : {A : Type 0} → A → Result A ℕ
-done x = Ok x
+abbrev done : {A : Type 0} → (F : Type 0) → A → Result A F
+done F x = Ok x
 
-pub ok_is : {A : Type 0} (x y : A) → done x ≡ done y → x ≡ y
+pub ok_is : {A : Type 0} {F : Type 0} (x y : A) → done F x ≡ done F y → x ≡ y
 ok_is x y e = cc
 
 -- a value that is allowed
-pub only_if_ok : {A : Type 0} (b : Bool) (at : ℕ) (x y : A) → only_if b at x ≡ Ok y → (b ≡ true) × (x ≡ y)
+pub only_if_ok : {A F : Type 0} (b : Bool) (at : F) (x y : A) → only_if b at x ≡ Ok y → (b ≡ true) × (x ≡ y)
 only_if_ok true at x y e = (refl, cc)
 only_if_ok false at x y e = absurd cc
 

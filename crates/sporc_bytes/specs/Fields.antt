@@ -1,6 +1,7 @@
--- Fields read from the front of bytes. Reading a field gives its value and what is left, or the place of the field's
--- first byte, where the field is cut short or has a forbidden value. Numbers are big-endian.
-use Rattle.std.specs.Prelude.{◌≡◌, ℕ, ◌+◌, Bool, true, false, nat_lt, nat_le, List, [], ◌∷◌, ◌++◌, length, take, drop, Result, Ok, Err, if◌then◌else◌}
+-- Fields read from the front of bytes. Reading gives a value and what is left, or the first fault. Of a field the fault is
+-- the place of its first byte, where it is cut short or has a forbidden value; `fault_as` makes any other fault of that.
+-- Numbers are big-endian.
+use Rattle.std.specs.Prelude.{◌≡◌, ℕ, ◌+◌, Bool, true, false, nat_lt, nat_le, List, [], ◌∷◌, ◌++◌, length, take, drop, Option, None, Some, Result, Ok, Err, if◌then◌else◌}
 use Rattle.std.specs.Int.{Width, w32, byte_len, from_be_bytes, to_be_bytes}
 use Rattle.sporc_bytes.specs.declared.cursor.Short.{Short}
 
@@ -15,9 +16,14 @@ past n r = record { rest = drop n r.rest; at = r.at + n }
 
 -- one field, and then more that depends on its value
 infixl 10 ◌>>=◌
-abbrev pub ◌>>=◌ : {A B : Type 0} → Result A ℕ → (A → Result B ℕ) → Result B ℕ
+abbrev pub ◌>>=◌ : {A B F : Type 0} → Result A F → (A → Result B F) → Result B F
 (Ok x) >>= f = f x
-(Err at) >>= f = Err at
+(Err fault) >>= f = Err fault
+
+-- the same, its fault told in other words
+abbrev pub fault_as : {A D F : Type 0} → (D → F) → Result A D → Result A F
+fault_as f (Ok x) = Ok x
+fault_as f (Err fault) = Err (f fault)
 
 -- so many bytes
 unfoldable pub bytes_at : ℕ → Reading → Result (List ℕ × Reading) ℕ
@@ -30,9 +36,14 @@ number_at w r = do
   Ok (from_be_bytes w bytes.0, bytes.1)
 
 -- a value, where it is allowed
-abbrev pub only_if : {A : Type 0} → Bool → ℕ → A → Result A ℕ
-only_if true at x = Ok x
-only_if false at x = Err at
+abbrev pub only_if : {A F : Type 0} → Bool → F → A → Result A F
+only_if true fault x = Ok x
+only_if false fault x = Err fault
+
+-- a value, where there is one
+abbrev pub present : {A F : Type 0} → F → Option A → Result A F
+present fault None = Err fault
+present fault (Some x) = Ok x
 
 -- four bytes of length, at most a limit, and that many bytes: two fields
 unfoldable pub counted_at : ℕ → Reading → Result (List ℕ × Reading) ℕ

@@ -1,8 +1,8 @@
 //! Reading fields from the front of bytes.
 
-ghost use Rattle.std.specs.Prelude.{◌≡◌, ℕ, ◌<◌, ◌≤◌, ◌^◌, ◌+◌, ◌++◌, ◌↔◌, IsTrue, [], length, IfOk, OnErr};
+ghost use Rattle.std.specs.Prelude.{◌≡◌, ℕ, ◌<◌, ◌≤◌, ◌^◌, ◌+◌, ◌++◌, ◌↔◌, IsTrue, [], length, Ok, Err, IfOk, IfErr, OnErr};
 ghost use Rattle.std.specs.Int.{w8, w16, w32, w64, to_be_bytes, from_be_bytes};
-ghost use Rattle.sporc_bytes.specs.Fields.{Reads, number_at, bytes_at, counted_at, counted};
+ghost use Rattle.sporc_bytes.specs.Fields.{number_at, bytes_at, counted_at, counted};
 
 use std::marker::Model;
 use thiserror::Error;
@@ -72,7 +72,8 @@ impl<'a> Cursor<'a> {
     /// The next `n` bytes. `Short` exactly where fewer are left.
     #[tactic(auto, unfolding(crate::specs::Fields::bytes_at))]
     pub fn take(&mut self, n: usize) -> Result<&'a [u8], Short>
-        ensures value { Reads (λ bytes. (bytes.now, self.new)) result (bytes_at n self.old) }
+        ensures ok { IfOk result (λ bytes. bytes_at n self.old ≡ Ok (bytes.now, self.new)) }
+        ensures err { IfErr result (λ short. bytes_at n self.old ≡ Err short.0) }
         ensures spelled { IfOk result (λ bytes. self.old.rest ≡ bytes.now ++ self.new.rest) }
         ensures len { IfOk result (λ bytes. length bytes.now ≡ n) }
         ensures unchanged { OnErr result (self.new ≡ self.old) }
@@ -89,7 +90,8 @@ impl<'a> Cursor<'a> {
     /// The next byte. `Short` exactly where none is left.
     #[tactic(auto, unfolding(crate::specs::Fields::number_at))]
     pub fn u8(&mut self) -> Result<u8, Short>
-        ensures value { Reads (λ n. (n, self.new)) result (number_at w8 self.old) }
+        ensures ok { IfOk result (λ n. number_at w8 self.old ≡ Ok (n, self.new)) }
+        ensures err { IfErr result (λ short. number_at w8 self.old ≡ Err short.0) }
         ensures spelled { IfOk result (λ n. self.old.rest ≡ to_be_bytes w8 n ++ self.new.rest) }
         ensures unchanged { OnErr result (self.new ≡ self.old) }
     {
@@ -100,7 +102,8 @@ impl<'a> Cursor<'a> {
     /// The next two bytes as a number. `Short` exactly where fewer are left.
     #[tactic(auto, unfolding(crate::specs::Fields::number_at))]
     pub fn u16(&mut self) -> Result<u16, Short>
-        ensures value { Reads (λ n. (n, self.new)) result (number_at w16 self.old) }
+        ensures ok { IfOk result (λ n. number_at w16 self.old ≡ Ok (n, self.new)) }
+        ensures err { IfErr result (λ short. number_at w16 self.old ≡ Err short.0) }
         ensures spelled { IfOk result (λ n. self.old.rest ≡ to_be_bytes w16 n ++ self.new.rest) }
         ensures unchanged { OnErr result (self.new ≡ self.old) }
     {
@@ -111,7 +114,8 @@ impl<'a> Cursor<'a> {
     /// The next four bytes as a number. `Short` exactly where fewer are left.
     #[tactic(auto, unfolding(crate::specs::Fields::number_at))]
     pub fn u32(&mut self) -> Result<u32, Short>
-        ensures value { Reads (λ n. (n, self.new)) result (number_at w32 self.old) }
+        ensures ok { IfOk result (λ n. number_at w32 self.old ≡ Ok (n, self.new)) }
+        ensures err { IfErr result (λ short. number_at w32 self.old ≡ Err short.0) }
         ensures spelled { IfOk result (λ n. self.old.rest ≡ to_be_bytes w32 n ++ self.new.rest) }
         ensures unchanged { OnErr result (self.new ≡ self.old) }
     {
@@ -122,7 +126,8 @@ impl<'a> Cursor<'a> {
     /// The next eight bytes as a number. `Short` exactly where fewer are left.
     #[tactic(auto, unfolding(crate::specs::Fields::number_at))]
     pub fn u64(&mut self) -> Result<u64, Short>
-        ensures value { Reads (λ n. (n, self.new)) result (number_at w64 self.old) }
+        ensures ok { IfOk result (λ n. number_at w64 self.old ≡ Ok (n, self.new)) }
+        ensures err { IfErr result (λ short. number_at w64 self.old ≡ Err short.0) }
         ensures spelled { IfOk result (λ n. self.old.rest ≡ to_be_bytes w64 n ++ self.new.rest) }
         ensures unchanged { OnErr result (self.new ≡ self.old) }
     {
@@ -132,7 +137,8 @@ impl<'a> Cursor<'a> {
 
     /// The next `N` bytes as an array. `Short` exactly where fewer are left.
     pub fn array<const N: usize>(&mut self) -> Result<[u8; N], Short>
-        ensures value { Reads (λ bytes. (bytes, self.new)) result (bytes_at N self.old) }
+        ensures ok { IfOk result (λ bytes. bytes_at N self.old ≡ Ok (bytes, self.new)) }
+        ensures err { IfErr result (λ short. bytes_at N self.old ≡ Err short.0) }
         ensures spelled { IfOk result (λ bytes. self.old.rest ≡ bytes ++ self.new.rest) }
         ensures unchanged { OnErr result (self.new ≡ self.old) }
     {
@@ -144,7 +150,8 @@ impl<'a> Cursor<'a> {
     /// of the length where that is cut short or above the limit, else the place of the bytes where they are cut short.
     #[tactic(auto, unfolding(crate::specs::Fields::counted_at))]
     pub fn counted(&mut self, limit: u32) -> Result<&'a [u8], Short>
-        ensures value { Reads (λ bytes. (bytes.now, self.new)) result (counted_at limit self.old) }
+        ensures ok { IfOk result (λ bytes. counted_at limit self.old ≡ Ok (bytes.now, self.new)) }
+        ensures err { IfErr result (λ short. counted_at limit self.old ≡ Err short.0) }
         ensures spelled { IfOk result (λ bytes. self.old.rest ≡ counted bytes.now ++ self.new.rest) }
         ensures within { IfOk result (λ bytes. length bytes.now ≤ limit) }
         ensures unchanged { OnErr result (self.new ≡ self.old) }

@@ -7,7 +7,8 @@ mod cursor;
 mod out;
 
 pub use cursor::{Cursor, Short};
-pub use out::{Memory, Out};
+pub use out::Out;
+pub use sporc_base::Memory;
 
 #[cfg(test)]
 mod tests;

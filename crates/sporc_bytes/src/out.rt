@@ -4,11 +4,9 @@ ghost use Rattle.std.specs.Prelude.{◌≡◌, ◌<◌, ◌^◌, ◌++◌, ◌�
 ghost use Rattle.std.specs.Int.{w16, w32, w64, to_be_bytes};
 ghost use Rattle.sporc_bytes.specs.Fields.{counted};
 
+use sporc_base::Memory;
 use std::alloc::{AllocError, Global};
 use std::marker::Model;
-
-/// No memory was left; all is as it was before the call.
-pub type Memory = AllocError;
 
 /// Bytes that grow field by field, seen as the list of them.
 #[derive(Drop)]

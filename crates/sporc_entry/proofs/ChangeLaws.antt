@@ -7,7 +7,8 @@ use Rattle.std.proofs.lemmas.Bool.{eqb-true, eqb-false}
 use Rattle.std.proofs.lemmas.List.{append-nil}
 use Rattle.std.proofs.lemmas.List.Concat.{flat_map-cons}
 use Rattle.sporc_bytes.specs.Fields.{Reading, ◌>>=◌, bytes_at, end_at}
-use Rattle.sporc_bytes.proofs.Fields.{IsBytes, bind_ok, ok_is, Takes, Takes-then, Takes-nothing, wide16, number_takes, bytes_takes, bytes_again, u16_again, end_takes}
+use Rattle.sporc_base.specs.Bytes.{IsBytes}
+use Rattle.sporc_bytes.proofs.Fields.{bind_ok, ok_is, Takes, Takes-then, Takes-nothing, wide16, number_takes, bytes_takes, bytes_again, u16_again, end_takes}
 use Rattle.sporc_member.specs.declared.change.Change.{Change}
 use Rattle.sporc_member.specs.declared.change.Change.TheVariants.{Add, Remove, SetRole}
 use Rattle.sporc_member.specs.Role.{role_code_of}

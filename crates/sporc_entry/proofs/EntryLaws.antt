@@ -5,7 +5,9 @@ use Rattle.std.specs.Int.{w16, w32, to_be_bytes}
 use Rattle.std.proofs.lemmas.Bool.{eqb-false}
 use Rattle.std.proofs.lemmas.List.{take_at, drop_at}
 use Rattle.sporc_bytes.specs.Fields.{Reading, ◌>>=◌, counted_at, counted}
-use Rattle.sporc_bytes.proofs.Fields.{IsBytes, IsBytes-drop, IsBytes-take, bind_ok, ok_is, wide16, wide32, number_takes, bytes_takes, bytes_again, u16_again, u32_again, counted_takes, counted_again, end_takes}
+use Rattle.sporc_base.specs.Bytes.{IsBytes}
+use Rattle.sporc_base.proofs.ByteLemmas.{IsBytes-drop, IsBytes-take}
+use Rattle.sporc_bytes.proofs.Fields.{bind_ok, ok_is, wide16, wide32, number_takes, bytes_takes, bytes_again, u16_again, u32_again, counted_takes, counted_again, end_takes}
 use Rattle.sporc_entry.specs.declared.change.ChangeBody.{ChangeBody}
 use Rattle.sporc_entry.specs.declared.entry.Entry.{Entry}
 use Rattle.sporc_entry.specs.declared.fault.EntryFault.{EntryFault}

@@ -3,12 +3,13 @@ use Rattle.std.proofs.Common.{◌≡◌, ℕ, ◌+◌, ◌^◌, ◌<◌, ◌≤�
 use Rattle.std.specs.Prelude.{◌&&◌, find, ◌==◌}
 use Rattle.std.specs.Int.{Width, w8, w16, byte_len, to_be_bytes}
 use Rattle.std.proofs.lemmas.Bool.{eqb-true, leb-true, le-leb, and_parts}
-use Rattle.sporc_bytes.specs.Fields.{Reading, ◌>>=◌, number_at, only_if}
-use Rattle.sporc_bytes.proofs.Fields.{IsBytes, bind_ok, ok_is, only_if_ok, Takes, IsWide, wide8, wide16, number_takes, number_again, u8_again}
+use Rattle.sporc_bytes.specs.Fields.{Reading, ◌>>=◌, number_at, only_if, present}
+use Rattle.sporc_base.specs.Bytes.{IsBytes}
+use Rattle.sporc_bytes.proofs.Fields.{bind_ok, ok_is, only_if_ok, Takes, IsWide, wide8, wide16, number_takes, number_again, u8_again}
 use Rattle.sporc_member.specs.declared.role.Role.{Role}
 use Rattle.sporc_member.specs.declared.role.Role.TheVariants.{Reader, Editor, Admin}
 use Rattle.sporc_member.specs.Role.{role_code_of, role_with_code}
-use Rattle.sporc_entry.specs.Fields.{number_within, present, role_at}
+use Rattle.sporc_entry.specs.Fields.{number_within, role_at}
 
 -- reading took the bytes that are spelled so, what is left among them
 pub record Leaves (old : Reading) (spelled : List ℕ → List ℕ) (new : Reading) : Type 0 where

@@ -7,7 +7,8 @@ use Rattle.std.specs.Int.{w16, to_be_bytes}
 use Rattle.std.proofs.lemmas.List.{append-nil}
 use Rattle.std.proofs.lemmas.List.Concat.{flat_map-cons}
 use Rattle.sporc_bytes.specs.Fields.{Reading, ◌>>=◌, end_at}
-use Rattle.sporc_bytes.proofs.Fields.{IsBytes, bind_ok, ok_is, Takes, Takes-then, Takes-nothing, wide16, bytes_takes, bytes_again, end_takes}
+use Rattle.sporc_base.specs.Bytes.{IsBytes}
+use Rattle.sporc_bytes.proofs.Fields.{bind_ok, ok_is, Takes, Takes-then, Takes-nothing, wide16, bytes_takes, bytes_again, end_takes}
 use Rattle.sporc_member.specs.declared.founder.Founder.{Founder}
 use Rattle.sporc_member.specs.Role.{role_code_of}
 use Rattle.sporc_member.specs.Roster.{numbers_of}

@@ -2,7 +2,7 @@
 -- of the field's first byte.
 use Rattle.std.specs.Prelude.{ℕ, zero, suc, ◌&&◌, nat_le, List, [], ◌∷◌, Option, None, Some, Result, Ok, Err}
 use Rattle.std.specs.Int.{Width, w8}
-use Rattle.sporc_bytes.specs.Fields.{Reading, ◌>>=◌, number_at, only_if}
+use Rattle.sporc_bytes.specs.Fields.{Reading, ◌>>=◌, number_at, only_if, present}
 use Rattle.sporc_member.specs.declared.role.Role.{Role}
 use Rattle.sporc_member.specs.Role.{role_with_code}
 
@@ -12,11 +12,6 @@ number_within low high w r = do
   n ← number_at w r
   allowed ← only_if (nat_le low n.0 && nat_le n.0 high) r.at n.0
   Ok (allowed, n.1)
-
--- a value, where there is one
-abbrev pub present : {A : Type 0} → ℕ → Option A → Result A ℕ
-present at None = Err at
-present at (Some x) = Ok x
 
 -- a role, by its number
 unfoldable pub role_at : Reading → Result (Role × Reading) ℕ
