@@ -1,4 +1,5 @@
 pub mod Keys
 pub mod RingModel
+pub mod Sealing
 pub mod Streams
 pub mod Wraps

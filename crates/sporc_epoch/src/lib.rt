@@ -1,13 +1,17 @@
 //! The keys of a document's epochs: rings of them, and keys sealed for members and under later keys.
 #![tactic(auto)]
 
+mod fault;
 mod pairs;
 mod ring;
+mod seal;
 mod streams;
 mod wraps;
 
+pub use fault::SealFault;
 pub use pairs::Pairs;
 pub use ring::Ring;
+pub use seal::seal_change;
 pub use sporc_base::Memory;
 pub use streams::entry_stream;
 pub use wraps::{open_previous, open_wrap};

@@ -1,0 +1,64 @@
+-- What a change seals: the key of the epoch that it ends and, for each member after it, the key of the one that it starts.
+use Rattle.std.specs.Prelude.{ℕ, ◌+◌, min, List, Option, None, Some, Result, Ok, Err, is_none, option_map, filter, filter_map, fold}
+use Rattle.std.specs.FinMap.{get}
+use Rattle.sporc_hash.specs.Chain.{commitment_of}
+use Rattle.sporc_cipher.specs.Mask.{mask_of}
+use Rattle.sporc_member.specs.declared.change.Change.{Change}
+use Rattle.sporc_entry.specs.declared.change.ChangeBody.{ChangeBody}
+use Rattle.sporc_entry.specs.declared.wraps.Wrap.{Wrap}
+use Rattle.sporc_epoch.specs.declared.fault.SealFault.{SealFault}
+use Rattle.sporc_epoch.specs.declared.fault.SealFault.TheVariants.{NoPairKey}
+use Rattle.sporc_epoch.specs.Keys.{Keys}
+use Rattle.sporc_epoch.specs.Streams.{entry_stream, previous_stream}
+
+-- a change and the numbers of the members after it; its document, its author and the leaf that signs it; the epoch that
+-- it ends, with its key, and the key of the next
+pub record Sealing : Type 0 where
+  pub change : Change
+  pub members : List ℕ
+  pub document : List ℕ
+  pub author : ℕ
+  pub leaf : ℕ
+  pub epoch : ℕ
+  pub old : List ℕ
+  pub new : List ℕ
+
+-- a key, sealed for a member under the pairwise key with it, where there is one
+abbrev pub wrap_sealed : ℕ → List ℕ → Keys → ℕ → Option Wrap
+wrap_sealed stream key pairs member =
+    option_map (λ pair. record { member = member; sealed = mask_of pair stream key }) (get pairs member)
+
+-- a key, sealed for each of some members
+abbrev pub wraps_sealed : ℕ → List ℕ → Keys → List ℕ → List Wrap
+wraps_sealed stream key pairs members = filter_map (wrap_sealed stream key pairs) members
+
+-- the body of a change whose author has a pairwise key with each member
+unfoldable pub body_sealed : Sealing → Keys → ChangeBody
+body_sealed s pairs = record {
+  change = s.change;
+  commitment = commitment_of s.document (s.epoch + 1) s.new;
+  previous = mask_of s.new (previous_stream (s.epoch + 1)) s.old;
+  wraps = wraps_sealed (entry_stream s.author s.leaf) s.new pairs s.members;
+}
+
+-- the lesser of two numbers, the first of which may be missing
+abbrev pub lesser : Option ℕ → ℕ → Option ℕ
+lesser None n = Some n
+lesser (Some m) n = Some (min m n)
+
+-- the least of some numbers
+abbrev pub least_of : List ℕ → Option ℕ
+least_of numbers = fold lesser None numbers
+
+-- the least of some members without a pairwise key
+abbrev pub least_unpaired : Keys → List ℕ → Option ℕ
+least_unpaired pairs members = least_of (filter (λ m. is_none (get pairs m)) members)
+
+-- a body, unless a member has no pairwise key
+abbrev pub body_unless : ChangeBody → Option ℕ → Result ChangeBody SealFault
+body_unless body None = Ok body
+body_unless body (Some member) = Err (NoPairKey member)
+
+-- a change's body, or why it can't be sealed
+unfoldable pub change_sealed : Sealing → Keys → Result ChangeBody SealFault
+change_sealed s pairs = body_unless (body_sealed s pairs) (least_unpaired pairs s.members)

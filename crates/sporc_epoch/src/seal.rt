@@ -1,0 +1,114 @@
+//! Keys, sealed.
+
+ghost use Rattle.std.specs.Prelude.{◌≡◌, ◌<◌, ◌-◌, ◌^◌, IfOk, filter, fold, is_none};
+ghost use Rattle.std.specs.FinMap as map;
+ghost use Rattle.sporc_base.specs.Outcome.{GivesUnless};
+ghost use Rattle.sporc_epoch.specs.Keys.{pairs_in};
+ghost use Rattle.sporc_epoch.specs.Sealing.{wrap_sealed, wraps_sealed, lesser, least_unpaired, change_sealed};
+
+use crate::fault::SealFault;
+use crate::pairs::Pairs;
+use crate::streams::{entry_stream, masked, previous_stream};
+use sporc_base::Memory;
+use sporc_entry::{ChangeBody, Wrap, Wraps};
+use sporc_hash::commit;
+use sporc_member::Change;
+use std::alloc::Global;
+
+/// The body of a change that ends `epoch`, whose key is `old`, and starts the next, whose key is `new`. It seals the new
+/// key for each of `members`, those after the change, in their order, under the author's pairwise keys; `leaf` is that
+/// of the entry. NoPairKey if there is a member without one.
+#[tactic(auto, unfolding(crate::specs::Sealing::body_sealed, crate::specs::Sealing::change_sealed))]
+pub fn seal_change(
+    alloc: Global,
+    change: &Change,
+    members: &[u16],
+    document: &[u8; 16],
+    author: u16,
+    leaf: u32,
+    epoch: u32,
+    old: &[u8; 32],
+    new: &[u8; 32],
+    pairs: &Pairs,
+) -> Result<ChangeBody, SealFault>
+    requires epoch { epoch < 2 ^ 32 - 1 }
+    ensures value { GivesUnless SealFault.Memory (λ body. body) result (change_sealed (record {
+      change = change.now;
+      members = members.now;
+      document = document.now;
+      author = author;
+      leaf = leaf;
+      epoch = epoch;
+      old = old.now;
+      new = new.now;
+    }) (pairs_in pairs.now)) }
+{
+    if let Some(member) = least_unpaired(members, pairs) {
+        return Err(SealFault::NoPairKey(member));
+    }
+    let wraps = seal_wraps(alloc, members, entry_stream(author, leaf), new, pairs)?;
+    Ok(ChangeBody {
+        change: *change,
+        commitment: commit(document, epoch + 1, new),
+        previous: masked(new, previous_stream(epoch + 1), old),
+        wraps: Wraps::new(wraps),
+    })
+}
+
+// The least of some members without a pairwise key.
+#[tactic(auto, using(crate::proofs::Lookups::get_pairs))]
+fn least_unpaired(members: &[u16], pairs: &Pairs) -> Option<u16>
+    ensures value { result ≡ least_unpaired (pairs_in pairs.now) members.now }
+{
+    members
+        .iter()
+        .copied()
+        .filter(|m| is_unpaired(*m, pairs))
+        .fold(None, lesser)
+}
+
+// Whether a member has no pairwise key.
+#[tactic(auto, using(crate::proofs::Lookups::get_pairs))]
+fn is_unpaired(member: u16, pairs: &Pairs) -> bool
+    ensures value { result ≡ is_none (map.get (pairs_in pairs.now) member) }
+{
+    !pairs.contains_key(&member)
+}
+
+// The lesser of two numbers, the first of which may be missing.
+fn lesser(least: Option<u16>, number: u16) -> Option<u16>
+    ensures value { result ≡ lesser least number }
+{
+    match least {
+        None => Some(number),
+        Some(least) => Some(least.min(number)),
+    }
+}
+
+// A key, sealed for each of some members.
+fn seal_wraps(
+    alloc: Global,
+    members: &[u16],
+    stream: u64,
+    key: &[u8; 32],
+    pairs: &Pairs,
+) -> Result<Vec<Wrap>, Memory>
+    ensures value { IfOk result (λ wraps. wraps.items ≡ wraps_sealed stream key.now (pairs_in pairs.now) members.now) }
+{
+    members
+        .iter()
+        .filter_map(|m| seal_wrap(*m, stream, key, pairs))
+        .collect(alloc)
+}
+
+// A key, sealed for a member, if there is a pairwise key.
+#[tactic(auto, using(crate::proofs::Lookups::get_pairs))]
+fn seal_wrap(member: u16, stream: u64, key: &[u8; 32], pairs: &Pairs) -> Option<Wrap>
+    ensures value { result ≡ wrap_sealed stream key.now (pairs_in pairs.now) member }
+{
+    let pair = pairs.get(&member)?;
+    Some(Wrap {
+        member,
+        sealed: masked(pair, stream, key),
+    })
+}
