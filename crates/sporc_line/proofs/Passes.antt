@@ -1,0 +1,127 @@
+-- What holds of an entry that fails no check.
+use Rattle.std.proofs.Common.{◌≡◌, ℕ, ◌+◌, ◌<◌, ◌≤◌, true, false, List, [], ◌∷◌, ◌++◌, length, take, refl, ap, ◌∙◌, Option, None, Some, Result, Ok, Err}
+use Rattle.std.specs.Prelude.{is_some}
+use Rattle.std.proofs.lemmas.Bool.{ltb-true, leb-true, eqb-true, not-true, lt-ltb, le-leb, eq-eqb, not_from_false}
+use Rattle.std.proofs.lemmas.Slice.Eq.{bytes_eq-Decides}
+use Rattle.sporc_base.specs.FirstFault.{first_of}
+use Rattle.sporc_member.specs.Roster.{member_at}
+use Rattle.sporc_member.proofs.Checks.{passes, holds}
+use Rattle.sporc_entry.specs.declared.entry.Entry.{Entry}
+use Rattle.sporc_entry.specs.declared.genesis.Genesis.{Genesis}
+use Rattle.sporc_entry.specs.Entry.{entry_of, change_of, signed_string}
+use Rattle.sporc_head.specs.declared.refusal.Refusal.TheVariants.{WrongDocument, WrongPosition, Removed, HistoryFull, UnknownAuthor, BaseAhead, BeforeBarrier, WrongHistory, WrongNumber, BehindOwn, WrongEpoch, NoRight, LeafMismatch, BadSignature}
+use Rattle.sporc_head.specs.History.{epoch_of, roster_of, is_removed, barrier_of, last_of, count_of, hash_of}
+use Rattle.sporc_head.specs.HeadChecks.{place_checks, history_checks, author_checks, roster_checks, head_checks, allows_member, names_leaf, verifies_member, fault_read}
+use Rattle.sporc_head.proofs.ChecksPass.{first_of-none}
+use Rattle.sporc_line.specs.Kit.{Kit}
+use Rattle.sporc_line.specs.LineChecks.{key_checks, line_checks, first_fault}
+
+-- no check of both lists fails
+pub both_pass : {F : Type 0} (xs ys : List (Option F)) → first_of (xs ++ ys) ≡ None → (first_of xs ≡ None) × (first_of ys ≡ None)
+both_pass [] ys h = (refl, h)
+both_pass (None ∷ xs) ys h = both_pass xs ys h
+both_pass (Some f ∷ xs) ys h = absurd cc
+
+pub pass_both : {F : Type 0} (xs ys : List (Option F)) → first_of xs ≡ None → first_of ys ≡ None → first_of (xs ++ ys) ≡ None
+pass_both xs ys h k = first_of-none xs ys h ∙ k
+
+-- an entry that passes all checks at a position
+pub record Passes (g : Genesis) (kit : Kit) (entries : List (List ℕ)) (pos : ℕ) (e : Entry) : Type 0 where
+  pub document : e.header.document ≡ g.document
+  pub position : pos ≡ length entries + 1
+  pub not_removed : is_removed kit.me entries ≡ false
+  pub room : length entries < 16384
+  pub member : is_some (member_at (roster_of g entries) e.header.author) ≡ true
+  pub base : e.header.base ≤ length entries
+  pub barrier : barrier_of entries ≤ e.header.base
+  pub history : e.header.base_hash ≡ hash_of g (take e.header.base entries)
+  pub number : e.header.number ≡ count_of e.header.author entries + 1
+  pub own : last_of e.header.author entries ≤ e.header.base
+  pub epoch : e.header.epoch ≡ epoch_of entries
+  pub right : allows_member e.header.kind (member_at (roster_of g entries) e.header.author) ≡ true
+  pub leaf : names_leaf e.header.leaf e.signature ≡ true
+  pub signature : verifies_member (signed_string e) e.signature (member_at (roster_of g entries) e.header.author) ≡ true
+  pub roster : first_of (roster_checks (roster_of g entries) (change_of e)) ≡ None
+  pub keys : first_of (key_checks g kit entries e) ≡ None
+
+all_passed : (g : Genesis) (kit : Kit) (entries : List (List ℕ)) (position : ℕ) (e : Entry) → first_of (line_checks g kit entries position e) ≡ None → Passes g kit entries position e
+unfolding head_checks
+all_passed g kit A pos e h =
+    let rosters = roster_checks (roster_of g A) (change_of e) in
+    let authors = author_checks (member_at (roster_of g A) e.header.author) e in
+    let histories = history_checks g A e.header in
+    let all = both_pass (head_checks g (Some kit.me) A pos e) (key_checks g kit A e) h in
+    let a = both_pass (place_checks g (Some kit.me) A pos e.header) (histories ++ (authors ++ rosters)) all.0 in
+    let b = both_pass histories (authors ++ rosters) a.1 in
+    let c = both_pass authors rosters b.1 in
+    let c2 = passes _ _ _ a.0 in
+    let c3 = passes _ _ _ c2.1 in
+    let c4 = passes _ _ _ c3.1 in
+    let c5 = passes _ _ _ b.0 in
+    let c6 = passes _ _ _ c5.1 in
+    let c7 = passes _ _ _ c6.1 in
+    let c8 = passes _ _ _ c7.1 in
+    let c9 = passes _ _ _ c8.1 in
+    let c10 = passes _ _ _ c9.1 in
+    let c11 = passes _ _ _ c10.1 in
+    let c12 = passes _ _ _ c11.1 in
+    let c13 = passes _ _ _ c.0 in
+    let c14 = passes _ _ _ c13.1 in
+    let c15 = passes _ _ _ c14.1 in
+    record {
+      document = (bytes_eq-Decides _ _).0 c2.0;
+      position = eqb-true _ _ c3.0;
+      not_removed = not-true _ c4.0;
+      room = ltb-true _ _ c5.0;
+      member = c6.0;
+      base = leb-true _ _ c7.0;
+      barrier = leb-true _ _ c8.0;
+      history = (bytes_eq-Decides _ _).0 c9.0;
+      number = eqb-true _ _ c10.0;
+      own = leb-true _ _ c11.0;
+      epoch = eqb-true _ _ c12.0;
+      right = c13.0;
+      leaf = c14.0;
+      signature = c15.0;
+      roster = c.1;
+      keys = all.1;
+    }
+
+-- an entry with no first fault passes
+pub passed : (g : Genesis) (kit : Kit) (entries : List (List ℕ)) (position : ℕ) (bytes : List ℕ)
+    → first_fault g kit entries position bytes ≡ None → (e : Entry) × (entry_of bytes ≡ Ok e) × Passes g kit entries position e
+unfolding first_fault
+passed g kit entries position bytes h = go (entry_of bytes) refl h
+  where
+    go : (r : Result Entry ℕ) → entry_of bytes ≡ r → fault_read (line_checks g kit entries position) r ≡ None → (e : Entry) × (entry_of bytes ≡ Ok e) × Passes g kit entries position e
+    go (Ok e) is h = (e, is, all_passed g kit entries position e h)
+    go (Err at) is h = absurd cc
+
+all_hold : (g : Genesis) (kit : Kit) (entries : List (List ℕ)) (position : ℕ) (e : Entry) → Passes g kit entries position e → first_of (line_checks g kit entries position e) ≡ None
+unfolding head_checks
+all_hold g kit A pos e p =
+    let rosters = roster_checks (roster_of g A) (change_of e) in
+    let authors = author_checks (member_at (roster_of g A) e.header.author) e in
+    let histories = history_checks g A e.header in
+    let author : first_of authors ≡ None = holds _ NoRight _ p.right (holds _ LeafMismatch _ p.leaf (holds _ BadSignature _ p.signature refl)) in
+    let history : first_of histories ≡ None =
+        holds _ HistoryFull _ (lt-ltb _ _ p.room)
+        (holds _ UnknownAuthor _ p.member
+        (holds _ BaseAhead _ (le-leb _ _ p.base)
+        (holds _ BeforeBarrier _ (le-leb _ _ p.barrier)
+        (holds _ WrongHistory _ ((bytes_eq-Decides _ _).1 p.history)
+        (holds _ WrongNumber _ (eq-eqb _ _ p.number)
+        (holds _ BehindOwn _ (le-leb _ _ p.own)
+        (holds _ WrongEpoch _ (eq-eqb _ _ p.epoch) refl))))))) in
+    let place : first_of (place_checks g (Some kit.me) A pos e.header) ≡ None =
+        holds _ WrongDocument _ ((bytes_eq-Decides _ _).1 p.document)
+        (holds _ WrongPosition _ (eq-eqb _ _ p.position)
+        (holds _ Removed _ (not_from_false _ p.not_removed) refl)) in
+    pass_both (head_checks g (Some kit.me) A pos e) (key_checks g kit A e)
+    (pass_both (place_checks g (Some kit.me) A pos e.header) (histories ++ (authors ++ rosters)) place
+    (pass_both histories (authors ++ rosters) history (pass_both authors rosters author p.roster))) p.keys
+
+-- an entry that passes has no first fault
+pub no_fault : (g : Genesis) (kit : Kit) (entries : List (List ℕ)) (position : ℕ) (bytes : List ℕ) (e : Entry) → entry_of bytes ≡ Ok e → Passes g kit entries position e → first_fault g kit entries position bytes ≡ None
+unfolding first_fault
+no_fault g kit entries position bytes e is p = ap (fault_read (line_checks g kit entries position)) is ∙ all_hold g kit entries position e p

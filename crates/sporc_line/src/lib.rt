@@ -1,0 +1,5 @@
+//! A history as one member reads it: the keys of its epochs, its operations, forms and text, and the first check that an
+//! entry fails.
+//!
+//! `specs/` has the definitions; each recomputes everything from the first entry.
+#![tactic(auto)]
