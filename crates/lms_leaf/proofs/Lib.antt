@@ -1,3 +1,4 @@
-pub mod LifeLemmas
+pub mod Drawn
+pub mod TraceLemmas
 pub mod StableLemmas
 pub mod TakenBlocks

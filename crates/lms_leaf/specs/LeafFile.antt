@@ -1,5 +1,11 @@
--- A leaf file: a byte for each block of four leaves, zero as long as the block is not taken.
-use Rattle.std.specs.Prelude.{◌≡◌, ◌⊎◌, ℕ, ◌+◌, ◌/◌, ◌^◌, ◌==◌, ◌&&◌, List, [], ◌∷◌, if◌then◌else◌}
+-- A leaf file: a byte for each block of leaves, zero as long as the block is not taken.
+use Rattle.std.specs.Prelude.{◌≡◌, ◌⊎◌, ℕ, ◌+◌, ◌/◌, ◌^◌, ◌<◌, ◌≤◌, ◌==◌, ◌&&◌, List, [], ◌∷◌, if◌then◌else◌, refl}
+use Rattle.sporc_outside.specs.LeafDisk.{IsStable}
+use Rattle.lms_leaf.specs.declared.leaf_file.TheConstants.{LEAVES_PER_BLOCK}
+
+-- the limit's number
+four_leaves_make_a_block : LEAVES_PER_BLOCK ≡ 4
+four_leaves_make_a_block = refl
 
 -- the heights of trees that have such a file
 abbrev pub IsLeafHeight : ℕ → Type 0
@@ -7,7 +13,7 @@ IsLeafHeight height = (height ≡ 5) ⊎ (height ≡ 10) ⊎ (height ≡ 15)
 
 -- how many blocks the leaves of a tree make
 abbrev pub block_count : ℕ → ℕ
-block_count height = 2 ^ height / 4
+block_count height = 2 ^ height / LEAVES_PER_BLOCK
 
 -- how many bytes there are up to the last that is not zero
 abbrev pub taken_blocks : List ℕ → ℕ
@@ -15,3 +21,15 @@ taken_blocks [] = 0
 taken_blocks (byte ∷ bytes) =
     let later = taken_blocks bytes in
     if (later == 0) && (byte == 0) then 0 else later + 1
+
+-- the second byte is zero, the third is the last that is not
+three_up_to_the_last : taken_blocks (1 ∷ 0 ∷ 9 ∷ 0 ∷ []) ≡ 3
+three_up_to_the_last = refl
+
+-- no crash leaves the byte of this leaf's block zero
+abbrev pub IsTaken : (List ℕ → Type 0) → ℕ → Type 0
+IsTaken images leaf = IsStable images (leaf / LEAVES_PER_BLOCK)
+
+-- nor that of any leaf from one up to another
+abbrev pub AreTaken : (List ℕ → Type 0) → ℕ → ℕ → Type 0
+AreTaken images first end = (leaf : ℕ) → first ≤ leaf → leaf < end → IsTaken images leaf

@@ -1,17 +1,20 @@
 -- What a value that numbers leaves holds, and what its calls do to the disk and to the next number.
-use Rattle.std.specs.Prelude.{◌≡◌, ◌↔◌, ◌⊎◌, ℕ, ◌+◌, ◌*◌, ◌/◌, ◌%◌, ◌<◌, ◌≤◌, Bool, List, slice_index, Option, Some, Result, Ok, Err, is_ok, IsTrue, IfOk, IfSome, if◌then◌else◌}
+use Rattle.std.specs.Prelude.{◌≡◌, ◌≢◌, ◌↔◌, ◌⊎◌, ℕ, ◌+◌, ◌*◌, ◌/◌, ◌%◌, ◌<◌, ◌≤◌, Bool, List, length, slice_index, Option, Some, Result, Ok, Err, is_ok, IsTrue, IfOk, IfSome, if◌then◌else◌}
 use Rattle.sporc_outside.specs.Counts.{Rose}
 use Rattle.sporc_outside.specs.LeafDisk.{IsStable, KeepsOutside}
-use Rattle.lms_leaf.specs.LeafFile.{taken_blocks}
+use Rattle.lms_leaf.specs.LeafFile.{IsTaken, taken_blocks}
+use Rattle.lms_leaf.specs.declared.leaf_file.TheConstants.{LEAVES_PER_BLOCK}
 use Rattle.lms_leaf.specs.declared.faults.LeafFault.{LeafFault}
 use Rattle.lms_leaf.specs.declared.faults.LeafFault.TheVariants.{Exhausted, DiskFault}
 use Rattle.lms_leaf.specs.declared.faults.LeafOpenFault.{LeafOpenFault}
+use Rattle.lms_leaf.specs.declared.faults.LeafOpenFault.TheVariants as open_faults
 
--- the disk, the next number, how many leaves there are, whether a call of the disk has failed, and the
--- disk's count of faults as it was opened
+-- the disk, the next number and what it was at the opening, how many leaves there are, whether a call of the
+-- disk has failed, and the disk's count of faults as it was opened
 pub record LeavesContent (D : Type 0) : Type 0 where
   pub disk : D
   pub next : ℕ
+  pub next_at_open : ℕ
   pub leaf_count : ℕ
   pub faulty : Bool
   pub faults_at_open : ℕ
@@ -31,11 +34,13 @@ pub record Draws {D : Type 0} (stored : D → Option (List ℕ)) (moment : D →
   pub given : IfOk result (λ leaf. leaf ≡ old.next)
   pub within : IfOk result (λ leaf. leaf < old.leaf_count)
   pub next : new.next ≡ (if is_ok result then old.next + 1 else old.next)
+  pub next_at_open : new.next_at_open ≡ old.next_at_open
   pub leaf_count : new.leaf_count ≡ old.leaf_count
   pub stable : KeepsStable moment images old.disk new.disk
-  pub taken : IfOk result (λ leaf. IsStable (images new.disk (moment new.disk)) (leaf / 4))
-  pub marked : IfOk result (λ leaf. leaf % 4 ≡ 0 → IfSome (stored new.disk) (λ bytes. slice_index bytes (leaf / 4) ≡ 1))
-  pub others : KeepsOutside (old.next / 4) 1 (stored old.disk) (stored new.disk)
+  pub taken : IfOk result (λ leaf. IsTaken (images new.disk (moment new.disk)) leaf)
+  pub marked : IfOk result (λ leaf. leaf % LEAVES_PER_BLOCK ≡ 0
+      → IfSome (stored new.disk) (λ bytes. slice_index bytes (leaf / LEAVES_PER_BLOCK) ≡ 1))
+  pub others : KeepsOutside (old.next / LEAVES_PER_BLOCK) 1 (stored old.disk) (stored new.disk)
 
 -- when a draw gives no number: `Exhausted` exactly where all are drawn, and `DiskFault` only where the disk's count
 -- of faults rose, in this draw or in an earlier one since the opening
@@ -63,7 +68,16 @@ disk_after (Err fault) = fault.1
 -- it away then
 pub record Opens {D : Type 0} (stored : D → Option (List ℕ)) (moment : D → ℕ) (images : D → ℕ → List ℕ → Type 0)
     (disk : D) (result : Result (LeavesContent D) (LeafOpenFault × D)) : Type 0 where
-  pub next : IfOk result (λ leaves. IfSome (stored disk) (λ bytes. leaves.next ≡ 4 * taken_blocks bytes))
+  pub next : IfOk result (λ leaves. IfSome (stored disk) (λ bytes. leaves.next ≡ LEAVES_PER_BLOCK * taken_blocks bytes))
   pub stable : KeepsStable moment images disk (disk_after result)
   pub synced : IfOk result (λ leaves. IsSynced (stored leaves.disk) (images leaves.disk (moment leaves.disk)))
   pub unwritten : stored (disk_after result) ≡ stored disk
+
+-- why a disk that should have so many blocks was not opened, and what came back: `DiskFault` only where the disk's
+-- count of faults rose, `BadLength` with another length, and out of memory before any call of the disk
+pub record OpenFaults {D : Type 0} (stored : D → Option (List ℕ)) (faults : D → ℕ)
+    (blocks : ℕ) (disk : D) (fault : LeafOpenFault) (back : D) : Type 0 where
+  pub disk_fault : fault ≡ open_faults.DiskFault → Rose (faults disk) (faults back)
+  pub bad_length : (len : ℕ) → fault ≡ open_faults.BadLength len
+      → (len ≢ blocks) × IfSome (stored disk) (λ bytes. len ≡ length bytes)
+  pub memory : fault ≡ open_faults.Memory → back ≡ disk

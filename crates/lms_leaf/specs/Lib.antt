@@ -1,5 +1,5 @@
 pub mod Laws
 pub mod LeafFile
 pub mod Leaves
-pub mod Lives
-pub mod LeavesInside
+pub mod Traces
+pub mod LeavesInvariant

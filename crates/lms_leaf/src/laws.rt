@@ -1,4 +1,4 @@
-//! What holds of leaf numbers over whole lives of a leaf file.
+//! What holds of leaf numbers over whole traces of a leaf file.
 
 ghost use Rattle.lms_leaf.specs.Laws.{NoLeafTwice};
 
@@ -7,6 +7,9 @@ use sporc_outside::LeafDisk;
 /// Over any list of openings, draws, failed calls and crashes at any moment, no number is given
 /// twice. A crash inside a call keeps the call from answering; what is found afterwards is one of
 /// the images that the crash may leave.
+///
+/// The disk is one that tells its bytes, and behaves as [`LeafDisk`] says. Of a disk that tells
+/// none, as a real file, this says nothing.
 pub fn no_leaf_is_drawn_twice<D: LeafDisk>()
-    ensures { NoLeafTwice D.stored D.moment D.images }
+    ensures distinct { NoLeafTwice D.stored D.moment D.images }
 {}

@@ -1,8 +1,9 @@
-ghost use Rattle.std.specs.Prelude.{◌≡◌, ◌^◌, ◌<◌, ◌≤◌, ◌*◌, length, slice_index, replicate, IfOk, IfSome, OnOk};
+ghost use Rattle.std.specs.Prelude.{◌≡◌, ◌≢◌, ◌^◌, ◌<◌, ◌*◌, ◌/◌, ◌%◌, ◌≤◌, length, slice_index, replicate, IfOk, IfSome, OnOk};
 ghost use Rattle.sporc_outside.specs.Counts.{CountsFaults};
 ghost use Rattle.sporc_outside.specs.LeafDisk.{IsStable, KeepsOutside};
-ghost use Rattle.lms_leaf.specs.LeafFile.{IsLeafHeight, block_count, taken_blocks};
+ghost use Rattle.lms_leaf.specs.LeafFile.{IsLeafHeight, IsTaken, block_count, taken_blocks};
 ghost use Rattle.lms_leaf.specs.Leaves.{KeepsStable};
+ghost use Rattle.lms_leaf.specs.declared.leaf_file.TheConstants.{LEAVES_PER_BLOCK};
 
 use sporc_outside::{Failed, LeafDisk};
 use std::alloc::{AllocError, Global};
@@ -10,24 +11,27 @@ use std::alloc::{AllocError, Global};
 /// Want of memory.
 pub type Memory = AllocError;
 
+/// How many leaves share a byte of the file, and are taken by one write.
+pub const LEAVES_PER_BLOCK: u32 = 4;
+
 /// The bytes of a leaf file of which no block is taken, for a tree of that height: 8 bytes for 5,
 /// 256 for 10, 8192 for 15.
 pub fn blank(alloc: Global, height: u32) -> Result<Vec<u8>, Memory>
     requires { IsLeafHeight height }
-    ensures { IfOk result (λ bytes. bytes.items ≡ replicate (block_count height) 0) }
+    ensures value { IfOk result (λ bytes. bytes.items ≡ replicate (block_count height) 0) }
 {
     let bytes = vec![in alloc; 0u8; blocks_of(height)]?;
     Ok(bytes)
 }
 
-// How many blocks of four leaves a tree has.
+// How many blocks of leaves a tree has.
 pub(crate) fn blocks_of(height: u32) -> usize
     requires { IsLeafHeight height }
     ensures value { result ≡ block_count height }
-    ensures leaves { 4 * result ≡ 2 ^ height }
-    ensures small { result ≤ 8192 }
+    ensures leaves { LEAVES_PER_BLOCK * result ≡ 2 ^ height }
+    ensures small { 2 ^ height < 2 ^ 32 }
 {
-    (1 << height) / 4
+    (1 << height) / LEAVES_PER_BLOCK as usize
 }
 
 // How many bytes there are up to the last that is not zero.
@@ -44,8 +48,28 @@ pub(crate) fn taken_of(bytes: &[u8]) -> usize
     taken
 }
 
+// Takes the block of a leaf, if that leaf is its first.
+pub(crate) fn begin_block<D: LeafDisk>(disk: &mut D, leaf: u32) -> Result<(), Failed>
+    requires free { leaf % LEAVES_PER_BLOCK ≡ 0 → IfSome (D.stored disk.old) (λ bytes.
+        (leaf / LEAVES_PER_BLOCK < length bytes)
+        × (slice_index bytes (leaf / LEAVES_PER_BLOCK) ≡ 0)) }
+    requires begun { leaf % LEAVES_PER_BLOCK ≢ 0
+        → IsTaken (D.images disk.old (D.moment disk.old)) leaf }
+    ensures taken { OnOk result (IsTaken (D.images disk.new (D.moment disk.new)) leaf) }
+    ensures stable { KeepsStable D.moment D.images disk.old disk.new }
+    ensures one { OnOk result (leaf % LEAVES_PER_BLOCK ≡ 0 → IfSome (D.stored disk.new) (λ bytes.
+        slice_index bytes (leaf / LEAVES_PER_BLOCK) ≡ 1)) }
+    ensures others { KeepsOutside (leaf / LEAVES_PER_BLOCK) 1 (D.stored disk.old) (D.stored disk.new) }
+    ensures count { CountsFaults (D.faults disk.old) (D.faults disk.new) result }
+{
+    if leaf % LEAVES_PER_BLOCK != 0 {
+        return Ok(());
+    }
+    take_block(disk, leaf / LEAVES_PER_BLOCK)
+}
+
 // Takes a block that is free.
-pub(crate) fn take_block<D: LeafDisk>(disk: &mut D, block: u32) -> Result<(), Failed>
+fn take_block<D: LeafDisk>(disk: &mut D, block: u32) -> Result<(), Failed>
     requires { IfSome (D.stored disk.old) (λ bytes.
         (block < length bytes) × (slice_index bytes block ≡ 0)) }
     ensures taken { OnOk result (IsStable (D.images disk.new (D.moment disk.new)) block) }

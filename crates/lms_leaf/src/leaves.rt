@@ -1,10 +1,10 @@
-ghost use Rattle.std.specs.Prelude.{◌≡◌, ◌≢◌, ℕ, ◌+◌, ◌*◌, ◌/◌, ◌%◌, ◌^◌, ◌<◌, ◌≤◌, false, length, OnOk, IfOk, IfErr, IfSome};
-ghost use Rattle.sporc_outside.specs.Counts.{Rose};
-ghost use Rattle.lms_leaf.specs.LeafFile.{IsLeafHeight, block_count, taken_blocks};
-ghost use Rattle.lms_leaf.specs.Leaves.{KeepsStable, IsSynced, Draws, DrawFaults, Opens, disk_after};
+ghost use Rattle.std.specs.Prelude.{◌≡◌, ℕ, ◌*◌, ◌^◌, ◌≤◌, false, length, OnOk, IfOk, IfErr, IfSome};
+ghost use Rattle.lms_leaf.specs.LeafFile.{IsLeafHeight, AreTaken, block_count, taken_blocks};
+ghost use Rattle.lms_leaf.specs.Leaves.{KeepsStable, IsSynced, Draws, DrawFaults, Opens, OpenFaults, disk_after};
+ghost use Rattle.lms_leaf.specs.declared.leaf_file.TheConstants.{LEAVES_PER_BLOCK};
 
 use crate::faults::{LeafFault, LeafOpenFault};
-use crate::leaf_file::{blocks_of, take_block, taken_of};
+use crate::leaf_file::{LEAVES_PER_BLOCK, begin_block, blocks_of, taken_of};
 use sporc_outside::LeafDisk;
 use std::alloc::Global;
 use std::marker::Model;
@@ -14,6 +14,7 @@ use std::marker::Model;
 pub struct Leaves<D: LeafDisk> {
     disk: D,
     next: u32,
+    next_at_open: u32,
     leaf_count: u32,
     faulty: bool,
     faults_at_open: u64,
@@ -24,47 +25,44 @@ impl<D: LeafDisk> Model for Leaves<D> {
 
     ghost Value = { LeavesContent D };
 
-    ghost use Rattle.lms_leaf.specs.LeavesInside.{IsSound};
+    ghost use Rattle.lms_leaf.specs.LeavesInvariant.{LeavesInvariant};
 
     ghost view = { λ l. record {
       disk = l.disk;
       next = l.next;
+      next_at_open = l.next_at_open;
       leaf_count = l.leaf_count;
       faulty = l.faulty;
       faults_at_open = l.faults_at_open;
     } };
 
-    ghost invariant = { IsSound D.stored D.moment D.images D.faults };
+    ghost invariant = { LeavesInvariant D.stored D.moment D.images D.faults };
 }
 
 impl<D: LeafDisk> Leaves<D> {
     /// Opens the leaf file of a tree of that height: syncs it, and goes on behind the last block
-    /// that is taken. Where it fails the disk comes back.
+    /// that is taken. If it fails the disk comes back.
     pub fn open(alloc: Global, mut disk: D, height: u32) -> Result<Leaves<D>, (LeafOpenFault, D)>
         requires { IsLeafHeight height }
 
         ensures opens { Opens D.stored D.moment D.images disk result }
         ensures leaf_count { IfOk result (λ leaves. leaves.leaf_count ≡ 2 ^ height) }
-        ensures fresh { IfOk result (λ leaves.
-            (leaves.faulty ≡ false) × (leaves.faults_at_open ≡ D.faults leaves.disk)) }
+        ensures fresh { IfOk result (λ leaves. (leaves.next_at_open ≡ leaves.next)
+            × (leaves.faulty ≡ false) × (leaves.faults_at_open ≡ D.faults leaves.disk)) }
         ensures right_length { OnOk result (IfSome (D.stored disk) (λ bytes.
             length bytes ≡ block_count height)) }
-
-        ensures disk_fault { IfErr result (λ fault. fault.0 ≡ LeafOpenFault.DiskFault
-            → Rose (D.faults disk) (D.faults fault.1)) }
-        ensures bad_length { IfErr result (λ fault. (len : ℕ)
-            → fault.0 ≡ LeafOpenFault.BadLength len
-            → (len ≢ block_count height) × IfSome (D.stored disk) (λ bytes. len ≡ length bytes)) }
-        ensures memory { IfErr result (λ fault. fault.0 ≡ LeafOpenFault.Memory → fault.1 ≡ disk) }
+        ensures err { IfErr result (λ fault.
+            OpenFaults D.stored D.faults (block_count height) disk fault.0 fault.1) }
         ensures count { D.faults disk ≤ D.faults (disk_after result) }
     {
         match find_next(alloc, &mut disk, height) {
             Ok(next) => {
                 let faults_at_open = disk.faults();
-                let leaf_count = 4 * blocks_of(height) as u32;
+                let leaf_count = LEAVES_PER_BLOCK * blocks_of(height) as u32;
                 Ok(Leaves {
                     disk,
                     next,
+                    next_at_open: next,
                     leaf_count,
                     faulty: false,
                     faults_at_open,
@@ -86,7 +84,7 @@ impl<D: LeafDisk> Leaves<D> {
         if self.faulty {
             return Err(LeafFault::DiskFault);
         }
-        if self.next % 4 == 0 && take_block(&mut self.disk, self.next / 4).is_err() {
+        if begin_block(&mut self.disk, self.next).is_err() {
             self.faulty = true;
             return Err(LeafFault::DiskFault);
         }
@@ -95,17 +93,21 @@ impl<D: LeafDisk> Leaves<D> {
         Ok(leaf)
     }
 
-    /// The number that the next draw gives, or the count of leaves where all are drawn.
+    /// The number that the next draw gives, or the count of leaves if all are drawn. No crash makes
+    /// the blocks of the leaves drawn since the opening free again.
     pub fn next(&self) -> u32
         ensures value { result ≡ self.now.next }
+        ensures forward { self.now.next_at_open ≤ result }
         ensures within { result ≤ self.now.leaf_count }
+        ensures taken { AreTaken (D.images self.now.disk (D.moment self.now.disk)) self.now.next_at_open result }
     {
         self.next
     }
 
-    /// Gives the disk back.
+    /// Gives the disk back, on which the blocks of the leaves drawn since the opening are taken.
     pub fn close(self) -> D
-        ensures { result ≡ self.disk }
+        ensures value { result ≡ self.disk }
+        ensures taken { AreTaken (D.images result (D.moment result)) self.next_at_open self.next }
     {
         self.disk
     }
@@ -115,16 +117,13 @@ impl<D: LeafDisk> Leaves<D> {
 fn find_next<D: LeafDisk>(alloc: Global, disk: &mut D, height: u32) -> Result<u32, LeafOpenFault>
     requires { IsLeafHeight height }
     ensures next { IfOk result (λ next. IfSome (D.stored disk.old) (λ bytes.
-        next ≡ 4 * taken_blocks bytes)) }
+        next ≡ LEAVES_PER_BLOCK * taken_blocks bytes)) }
     ensures first_of_block { IfOk result (λ next. (blocks : ℕ)
-        × (next ≡ 4 * blocks) × (blocks ≤ block_count height)) }
+        × (next ≡ LEAVES_PER_BLOCK * blocks) × (blocks ≤ block_count height)) }
     ensures right_length { OnOk result (IfSome (D.stored disk.old) (λ bytes.
         length bytes ≡ block_count height)) }
-    ensures bad_length { (len : ℕ) → result ≡ Err (LeafOpenFault.BadLength len)
-        → (len ≢ block_count height) × IfSome (D.stored disk.old) (λ bytes. len ≡ length bytes) }
-    ensures disk_fault { result ≡ Err LeafOpenFault.DiskFault
-        → Rose (D.faults disk.old) (D.faults disk.new) }
-    ensures memory { result ≡ Err LeafOpenFault.Memory → disk.new ≡ disk.old }
+    ensures err { IfErr result (λ fault.
+        OpenFaults D.stored D.faults (block_count height) disk.old fault disk.new) }
     ensures stable { KeepsStable D.moment D.images disk.old disk.new }
     ensures synced { OnOk result
         (IsSynced (D.stored disk.new) (D.images disk.new (D.moment disk.new))) }
@@ -139,6 +138,6 @@ fn find_next<D: LeafDisk>(alloc: Global, disk: &mut D, height: u32) -> Result<u3
         return Err(LeafOpenFault::BadLength(len));
     }
     disk.read(0, &mut bytes)?;
-    let next = 4 * taken_of(&bytes) as u32;
+    let next = LEAVES_PER_BLOCK * taken_of(&bytes) as u32;
     Ok(next)
 }

@@ -3,11 +3,22 @@
 //! A key of many one-time keys may use each of them, its leaves, once only. So a file keeps which
 //! of them may be used: it has a byte for each block of four leaves, zero at first. A block is
 //! taken by writing 1 to its byte and by a sync that succeeds, before any of its leaves is given.
-//! After an opening the numbers go on behind the last block that is taken: some leaves may stay
-//! unused, and none is given twice ([`laws::no_leaf_is_drawn_twice`]).
+//! An opening begins with a sync, and the numbers go on behind the last block that is taken: some
+//! leaves may stay unused.
 //!
-//! This holds over any [`LeafDisk`](sporc_outside::LeafDisk), for one file per key that one program
-//! at a time opens and nobody sets back.
+//! ```text
+//! let mut leaves = Leaves::open(alloc, disk, 10)?;    // the file of a tree of 2^10 leaves
+//! let leaf = leaves.draw()?;                          // to sign with, once
+//! let disk = leaves.close();
+//! ```
+//!
+//! Proved, of a disk that tells contracts its bytes and behaves as
+//! [`LeafDisk`](sporc_outside::LeafDisk) says: no number is given twice, over any openings, draws,
+//! failed calls and crashes ([`laws::no_leaf_is_drawn_twice`]); what each call gives, and when it
+//! fails; that no crash makes the block of a leaf drawn since the opening free again. There is one
+//! file per key, which one program at a time opens and nobody sets back.
+//!
+//! Only tested: that an opening begins with a sync. Neither: that a real file behaves as the model.
 #![tactic(auto)]
 
 mod faults;

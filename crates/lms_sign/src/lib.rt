@@ -4,7 +4,19 @@
 //! and a ticket signs one message: the signature that succeeds spends it, and a ticket that is not
 //! to sign is given up. A ticket has no `Drop`, so none is forgotten on the way.
 //!
-//! Give a ticket to the signer that drew it: another signer has other keys.
+//! ```text
+//! let mut signer = Signer::open(tree, leaves);
+//! let ticket = signer.draw()?;
+//! match signer.sign(alloc, ticket, &c, b"hello") {
+//!     Ok(signature) => assert!(verify(&signer.public(), b"hello", &signature)),
+//!     Err((ticket, memory)) => ticket.give_up(), // or try again
+//! }
+//! ```
+//!
+//! Proved: a draw gives the next leaf of the file, with the faults of `lms_leaf`; a signature is
+//! RFC 8554's by the ticket's leaf, and verifies under the public key. Tested: one signature is
+//! Bouncy Castle's. A ticket is to be given to the signer that drew it, since another has other keys:
+//! nothing checks this.
 #![tactic(auto)]
 
 mod signer;

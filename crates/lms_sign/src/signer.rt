@@ -3,6 +3,7 @@ ghost use Rattle.lms_tree.specs.LmsType.{height_of};
 ghost use Rattle.lms_tree.specs.LmsPrivate.{lms_public_of};
 ghost use Rattle.lms_tree.specs.Signatures.{lms_signature_of};
 ghost use Rattle.lms_tree.specs.Verification.{Verifies};
+ghost use Rattle.lms_leaf.specs.LeafFile.{AreTaken};
 ghost use Rattle.lms_leaf.specs.Leaves.{Draws, DrawFaults};
 
 use crate::ticket::Ticket;
@@ -36,7 +37,7 @@ impl<D: LeafDisk> Signer<D> {
     /// Joins a tree and the leaf numbers of a file for trees of its height.
     pub fn open(tree: Tree, leaves: Leaves<D>) -> Signer<D>
         requires { leaves.leaf_count ≡ 2 ^ height_of tree.lms }
-        ensures { result ≡ record { key = tree; leaves = leaves } }
+        ensures value { result ≡ record { key = tree; leaves = leaves } }
     {
         Signer { tree, leaves }
     }
@@ -53,7 +54,7 @@ impl<D: LeafDisk> Signer<D> {
     }
 
     /// Signs a message by the ticket's leaf, with 32 random bytes `c` (RFC 8554, section 5.4.1).
-    /// Where memory is wanting the ticket comes back.
+    /// The ticket comes back if it runs out of memory.
     pub fn sign(
         &mut self,
         alloc: Global,
@@ -66,8 +67,8 @@ impl<D: LeafDisk> Signer<D> {
             signature.items ≡ lms_signature_of self.old.key ticket c.now message.now) }
         ensures verifies { IfOk result (λ signature.
             Verifies (lms_public_of self.old.key) message.now signature.items) }
-        ensures handed_back { IfErr result (λ back. back.0 ≡ ticket) }
-        ensures same { self.new ≡ self.old }
+        ensures returned { IfErr result (λ back. back.0 ≡ ticket) }
+        ensures unchanged { self.new ≡ self.old }
     {
         match self.tree.sign(alloc, ticket.leaf(), c, message) {
             Ok(signature) => {
@@ -80,14 +81,17 @@ impl<D: LeafDisk> Signer<D> {
 
     /// The public key, under which all its signatures verify.
     pub fn public(&self) -> LmsPublic
-        ensures { result ≡ lms_public_of self.now.key }
+        ensures value { result ≡ lms_public_of self.now.key }
     {
         self.tree.public()
     }
 
-    /// Gives the disk of the leaf file back.
+    /// Gives the disk of the leaf file back. No crash makes the blocks of the leaves drawn since its
+    /// opening free again.
     pub fn close(self) -> D
-        ensures { result ≡ self.leaves.disk }
+        ensures value { result ≡ self.leaves.disk }
+        ensures taken { AreTaken (D.images result (D.moment result))
+            self.leaves.next_at_open self.leaves.next }
     {
         self.leaves.close()
     }

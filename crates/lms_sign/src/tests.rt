@@ -1,6 +1,6 @@
 use super::*;
 use hex::FromHex;
-use lms_leaf::{LeafFault, Leaves};
+use lms_leaf::Leaves;
 use lms_ots::OtsType;
 use lms_tree::{LmsType, Tree, verify};
 use sha2::{Digest, Sha256};
@@ -53,16 +53,6 @@ fn signed(
     }
 }
 
-fn fault_of(signer: &mut Signer<MemoryDisk>) -> Option<LeafFault> {
-    match signer.draw() {
-        Ok(ticket) => {
-            ticket.give_up();
-            None
-        }
-        Err(fault) => Some(fault),
-    }
-}
-
 #[test]
 fn signs_by_the_last_leaf_as_bouncy_castle(rt: HostRuntime) -> Result<(), Fail> {
     let mut signer = signer(&rt, rt.alloc())?;
@@ -78,7 +68,6 @@ fn signs_by_the_last_leaf_as_bouncy_castle(rt: HostRuntime) -> Result<(), Fail> 
     )?;
     assert_eq!(rt; Sha256::digest(&signature), digest);
     assert!(rt; verify(&signer.public(), b"hello", &signature));
-    assert_eq!(rt; fault_of(&mut signer), Some(LeafFault::Exhausted(32)));
     assert_eq!(rt; signer.close().as_slice(), [1; 8].as_slice());
     Ok(())
 }

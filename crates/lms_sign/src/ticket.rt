@@ -18,14 +18,14 @@ impl Model for Ticket {
 impl Ticket {
     // The ticket of a leaf that was just drawn.
     pub(crate) fn of(leaf: u32) -> Ticket
-        ensures { result ≡ leaf }
+        ensures value { result ≡ leaf }
     {
         Ticket { leaf }
     }
 
     /// The number of its leaf.
     pub fn leaf(&self) -> u32
-        ensures { result ≡ self.now }
+        ensures value { result ≡ self.now }
     {
         self.leaf
     }

@@ -1,5 +1,6 @@
-use Rattle.std.proofs.Common.{◌≡◌, ℕ, ◌*◌, ◌≤◌, List, slice_index, Option, Some, None, IfSome, ap, arith, Err}
+use Rattle.std.proofs.Common.{◌≡◌, ℕ, ◌*◌, ◌≤◌, List, slice_index, Option, Some, None, IfSome, arith}
 use Rattle.lms_leaf.specs.LeafFile.{taken_blocks}
+use Rattle.lms_leaf.specs.declared.leaf_file.TheConstants.{LEAVES_PER_BLOCK}
 use Rattle.lms_leaf.proofs.TakenBlocks.{zero-from-taken_blocks}
 use Rattle.lms_leaf.proofs.leaves.Leaves.open.Goals as goal
 
@@ -8,7 +9,7 @@ if_some None f p = tt
 if_some (Some x) f p = f x p
 
 -- behind the last block that is taken all bytes are zero
-free : (next : ℕ) (bytes : List ℕ) → next ≡ 4 * taken_blocks bytes → (block : ℕ) → next ≤ 4 * block → slice_index bytes block ≡ 0
+free : (next : ℕ) (bytes : List ℕ) → next ≡ LEAVES_PER_BLOCK * taken_blocks bytes → (block : ℕ) → next ≤ LEAVES_PER_BLOCK * block → slice_index bytes block ≡ 0
 free next bytes is block h = zero-from-taken_blocks bytes block (omega arith)
 
 pub invariant_of-result : goal.invariant_of-result
@@ -17,14 +18,13 @@ invariant_of-result g c =
     let leaves = c.blocks_of.ensures in
     let first = found.first_of_block in
     record {
+      opened = omega (arith, first.1);
+      forward = omega arith;
       within = omega (arith, first.1, first.2, leaves.value);
       whole = omega arith;
       file = rw found.stored (if_some (g.D.LeafDisk.stored c.args.disk) (λ bytes is. omega (arith, is, leaves.value)) found.right_length);
-      taken = λ inside image is zero. omega (arith, first.1, inside);
+      taken = λ leaf from below. absurd (omega arith);
       free = λ sound. rw found.stored (if_some (g.D.LeafDisk.stored c.args.disk) (λ bytes is. free c.in-Ok.next bytes is) found.next);
       counted = omega (arith, c.faults-faults_at_open.ensures);
       fault = λ faulty. cc;
     }
-
-pub returns-in-Err-clause-bad_length : goal.returns-in-Err-clause-bad_length
-returns-in-Err-clause-bad_length g c = λ len is. c.in-Err.ensures.bad_length len (ap Err is)

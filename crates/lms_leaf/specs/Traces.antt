@@ -1,4 +1,4 @@
--- Whole lives of a leaf file: openings, draws, failed calls, and crashes at any moment, in any order.
+-- Traces of a leaf file: openings, draws, failed calls, and crashes at any moment, in any order.
 use Rattle.std.specs.Prelude.{ℕ, ◌≤◌, List, [], ◌∷◌, Option, Result, Ok, Err}
 use Rattle.sporc_outside.specs.LeafDisk.{IsFound}
 use Rattle.lms_leaf.specs.Leaves.{LeavesContent, Draws, Opens, disk_after}
@@ -16,18 +16,18 @@ pub data Move (D : Type 0) : Type 0 where
   Crash : D → Move D
 
 -- between two moves the disk is at rest, or in leaves
-pub data Spot (D : Type 0) : Type 0 where
-  AtRest : D → Spot D
-  InUse : LeavesContent D → Spot D
+pub data FileState (D : Type 0) : Type 0 where
+  AtRest : D → FileState D
+  InUse : LeavesContent D → FileState D
 
-abbrev pub disk_at : {D : Type 0} → Spot D → D
-disk_at (AtRest disk) = disk
-disk_at (InUse leaves) = leaves.disk
+abbrev pub disk_of : {D : Type 0} → FileState D → D
+disk_of (AtRest disk) = disk
+disk_of (InUse leaves) = leaves.disk
 
 -- where an opening leads
-abbrev pub spot_after : {D : Type 0} → Result (LeavesContent D) (LeafOpenFault × D) → Spot D
-spot_after (Ok leaves) = InUse leaves
-spot_after (Err fault) = AtRest fault.1
+abbrev pub state_opened : {D : Type 0} → Result (LeavesContent D) (LeafOpenFault × D) → FileState D
+state_opened (Ok leaves) = InUse leaves
+state_opened (Err fault) = AtRest fault.1
 
 -- a moment of a call
 abbrev pub IsDuring : {D : Type 0} → (D → ℕ) → D → D → ℕ → Type 0
@@ -35,22 +35,22 @@ IsDuring moment old new at = (moment old ≤ at) × (at ≤ moment new)
 
 module _ {D : Type 0} (stored : D → Option (List ℕ)) (moment : D → ℕ) (images : D → ℕ → List ℕ → Type 0) where
   -- these moves can happen, one after another
-  abbrev pub IsLife : Spot D → List (Move D) → Type 0
-  IsLife spot [] = Unit {0}
-  IsLife spot (Crash found ∷ moves) =
-      IsFound stored moment images (disk_at spot) (moment (disk_at spot)) found × IsLife (AtRest found) moves
-  IsLife (AtRest disk) (Open result ∷ moves) = Opens stored moment images disk result × IsLife (spot_after result) moves
-  IsLife (AtRest disk) (OpenCut result at found ∷ moves) =
+  abbrev pub IsTrace : FileState D → List (Move D) → Type 0
+  IsTrace state [] = Unit {0}
+  IsTrace state (Crash found ∷ moves) =
+      IsFound stored moment images (disk_of state) (moment (disk_of state)) found × IsTrace (AtRest found) moves
+  IsTrace (AtRest disk) (Open result ∷ moves) = Opens stored moment images disk result × IsTrace (state_opened result) moves
+  IsTrace (AtRest disk) (OpenCut result at found ∷ moves) =
       Opens stored moment images disk result × IsDuring moment disk (disk_after result) at
-      × IsFound stored moment images (disk_after result) at found × IsLife (AtRest found) moves
-  IsLife (AtRest disk) (move ∷ moves) = ⊥
-  IsLife (InUse leaves) (Draw result after ∷ moves) =
-      Draws stored moment images leaves result after × IsLife (InUse after) moves
-  IsLife (InUse leaves) (DrawCut result after at found ∷ moves) =
+      × IsFound stored moment images (disk_after result) at found × IsTrace (AtRest found) moves
+  IsTrace (AtRest disk) (move ∷ moves) = ⊥
+  IsTrace (InUse leaves) (Draw result after ∷ moves) =
+      Draws stored moment images leaves result after × IsTrace (InUse after) moves
+  IsTrace (InUse leaves) (DrawCut result after at found ∷ moves) =
       Draws stored moment images leaves result after × IsDuring moment leaves.disk after.disk at
-      × IsFound stored moment images after.disk at found × IsLife (AtRest found) moves
-  IsLife (InUse leaves) (Close ∷ moves) = IsLife (AtRest leaves.disk) moves
-  IsLife (InUse leaves) (move ∷ moves) = ⊥
+      × IsFound stored moment images after.disk at found × IsTrace (AtRest found) moves
+  IsTrace (InUse leaves) (Close ∷ moves) = IsTrace (AtRest leaves.disk) moves
+  IsTrace (InUse leaves) (move ∷ moves) = ⊥
 
 -- the numbers that were given
 abbrev pub drawn : {D : Type 0} → List (Move D) → List ℕ
