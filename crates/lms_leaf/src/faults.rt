@@ -1,8 +1,8 @@
 ghost use Rattle.std.specs.Prelude.{◌≡◌};
 ghost use Rattle.lms_leaf.specs.declared.faults.LeafOpenFault.TheVariants as open_faults;
 
+use sporc_base::Memory;
 use sporc_outside::Failed;
-use std::alloc::AllocError;
 use thiserror::Error;
 
 /// Why a leaf file was not opened.
@@ -16,10 +16,10 @@ pub enum LeafOpenFault {
     Memory,
 }
 
-impl From<AllocError> for LeafOpenFault {
+impl From<Memory> for LeafOpenFault {
     ghost from_gives = { λ _ fault. fault ≡ open_faults.Memory };
 
-    fn from(_: AllocError) -> LeafOpenFault {
+    fn from(_: Memory) -> LeafOpenFault {
         LeafOpenFault::Memory
     }
 }

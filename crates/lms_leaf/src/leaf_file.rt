@@ -5,11 +5,9 @@ ghost use Rattle.lms_leaf.specs.LeafFile.{IsLeafHeight, IsTaken, block_count, ta
 ghost use Rattle.lms_leaf.specs.Leaves.{KeepsStable};
 ghost use Rattle.lms_leaf.specs.declared.leaf_file.TheConstants.{LEAVES_PER_BLOCK};
 
+use sporc_base::Memory;
 use sporc_outside::{Failed, LeafDisk};
-use std::alloc::{AllocError, Global};
-
-/// Want of memory.
-pub type Memory = AllocError;
+use std::alloc::Global;
 
 /// How many leaves share a byte of the file, and are taken by one write.
 pub const LEAVES_PER_BLOCK: u32 = 4;

@@ -29,5 +29,5 @@ mod leaves;
 mod tests;
 
 pub use crate::faults::{LeafFault, LeafOpenFault};
-pub use crate::leaf_file::{Memory, blank};
+pub use crate::leaf_file::{LEAVES_PER_BLOCK, blank};
 pub use crate::leaves::Leaves;

@@ -1,4 +1,5 @@
 use super::*;
+use sporc_base::Memory;
 use sporc_outside::{Calls, DiskRequest, MemoryDisk};
 use std::alloc::Global;
 use std::test::Fail;

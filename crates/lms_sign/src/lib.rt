@@ -26,4 +26,3 @@ mod ticket;
 
 pub use crate::signer::Signer;
 pub use crate::ticket::Ticket;
-pub use lms_tree::Memory;

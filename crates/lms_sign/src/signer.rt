@@ -8,7 +8,8 @@ ghost use Rattle.lms_leaf.specs.Leaves.{Draws, DrawFaults};
 
 use crate::ticket::Ticket;
 use lms_leaf::{LeafFault, Leaves};
-use lms_tree::{LmsPublic, Memory, Tree};
+use lms_tree::{LmsPublic, Tree};
+use sporc_base::Memory;
 use sporc_outside::LeafDisk;
 use std::alloc::Global;
 use std::marker::Model;
