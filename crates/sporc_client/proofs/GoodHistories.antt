@@ -3,7 +3,7 @@ use Rattle.std.proofs.Common.{◌≡◌, ℕ, zero, suc, ◌+◌, ◌<◌, ◌�
 use Rattle.std.specs.List.{slice_get, AllByRecursion}
 use Rattle.std.proofs.lemmas.List.{take-map, take_all, length-take, take-append-le}
 use Rattle.sporc_hash.specs.Chain.{last_value}
-use Rattle.sporc_hash.proofs.Beginnings.{one_value_one_beginning}
+use Rattle.sporc_hash.proofs.Prefixes.{one_value_one_prefix}
 use Rattle.sporc_client.specs.declared.entry.PlainEntry.{PlainEntry}
 use Rattle.sporc_client.specs.Entry.{entry_bytes}
 use Rattle.sporc_base.specs.FirstFault.{first_of}
@@ -74,7 +74,7 @@ last_of_beginning genesis es n = ap (last_value genesis) (take-map entry_bytes n
 pub one_hash_one_beginning : (genesis : List ℕ) (a b : List PlainEntry) (m n : ℕ) → AllByRecursion IsTypedEntry a → AllByRecursion IsTypedEntry b → AreApart genesis a b
     → hash_of genesis (take m a) ≡ hash_of genesis (take n b) → take m a ≡ take n b
 one_hash_one_beginning genesis a b m n x y apart h =
-    let bytes = one_value_one_beginning genesis (map entry_bytes a) (map entry_bytes b) m n apart (last_of_beginning genesis a m ∙ h ∙ sym (last_of_beginning genesis b n)) in
+    let bytes = one_value_one_prefix genesis (map entry_bytes a) (map entry_bytes b) m n apart (last_of_beginning genesis a m ∙ h ∙ sym (last_of_beginning genesis b n)) in
     same_histories_bytes (take m a) (take n b) (all_taken IsTypedEntry m a x) (all_taken IsTypedEntry n b y) (sym (take-map entry_bytes m a) ∙ bytes ∙ take-map entry_bytes n b)
 
 pub one_hash_one_history : (genesis : List ℕ) (a b : List PlainEntry) → AllByRecursion IsTypedEntry a → AllByRecursion IsTypedEntry b → AreApart genesis a b → hash_of genesis a ≡ hash_of genesis b → a ≡ b

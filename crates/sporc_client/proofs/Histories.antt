@@ -6,7 +6,7 @@ use Rattle.std.proofs.lemmas.List.Sums.{fold-append, sum_by-append}
 use Rattle.std.proofs.lemmas.Option.{get_or_from_slice_get}
 use Rattle.sporc_hash.specs.Chain.{chain, chain_after, value_after, genesis_value, next_value, last_value}
 use Rattle.sporc_hash.proofs.ChainLemmas.{chain_push, length-chain_after}
-use Rattle.sporc_hash.proofs.Beginnings.{slice_get-chain}
+use Rattle.sporc_hash.proofs.Prefixes.{slice_get-chain}
 use Rattle.sporc_delta.specs.Marks.{apply}
 use Rattle.sporc_client.specs.declared.entry.PlainEntry.{PlainEntry}
 use Rattle.sporc_client.specs.Entry.{entry_bytes}

@@ -1,4 +1,3 @@
-pub mod Verdicts
 pub mod Lengths
 pub mod Histories
 pub mod Counts

@@ -1,6 +1,6 @@
 -- Who holds one history hash holds one history.
 use Rattle.std.specs.Prelude.{◌≡◌, ℕ, List, [], ◌++◌, take, Some, slice_get}
-use Rattle.sporc_hash.specs.Strings.{Apart}
+use Rattle.sporc_hash.specs.Strings.{CollisionFree}
 use Rattle.sporc_client.specs.declared.entry.PlainEntry.{PlainEntry}
 use Rattle.sporc_client.specs.History.{hash_of, strings_of, text_of}
 use Rattle.sporc_client.specs.Client.{PlainState, shown_of}
@@ -14,7 +14,7 @@ pub record HoldTheSame (c d : PlainState) : Type 0 where
 
 -- no two different strings that are hashed for two histories have one digest
 abbrev pub AreApart : List ℕ → List PlainEntry → List PlainEntry → Type 0
-AreApart genesis a b = Apart (strings_of genesis a ++ strings_of genesis b)
+AreApart genesis a b = CollisionFree (strings_of genesis a ++ strings_of genesis b)
 
 -- clients whose histories have one last hash, at any two moments, hold the same
 abbrev pub OneHistory : List ℕ → List Move → Type 0

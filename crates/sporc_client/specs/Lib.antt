@@ -11,4 +11,3 @@ pub mod Run
 pub mod SameEntry
 pub mod Submission
 pub mod Typed
-pub mod Verdict

@@ -9,10 +9,9 @@ pub mod laws;
 mod limits;
 #[cfg(test)]
 mod tests;
-mod verdict;
 
 pub use client::{PlainClient, PlainSubmitted};
 pub use entry::PlainEntry;
 pub use fault::{EditFault, Memory, PlainRefusal, PlainSubmitFault};
 pub use limits::{MAX_EDIT_BYTES, MAX_ENTRIES, MAX_PENDING};
-pub use verdict::{Verdict, compare};
+pub use sporc_hash::{Verdict, compare};

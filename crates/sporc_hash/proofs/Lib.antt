@@ -1,5 +1,6 @@
 pub mod Lists
 pub mod ChainLemmas
 pub mod SameHistory
-pub mod Beginnings
+pub mod Prefixes
+pub mod Verdicts
 mod Examples

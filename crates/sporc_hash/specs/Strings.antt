@@ -1,4 +1,4 @@
--- Every string that is hashed for a history, and when its digests tell strings apart.
+-- Every string that is hashed for a history, and when no two of them collide.
 use Rattle.std.specs.Prelude.{◌≡◌, ℕ, suc, zero, List, [], ◌∷◌, ◌++◌, Option, None, Some, Contains}
 use Rattle.sha2.specs.Sha256.{sha256}
 use Rattle.sporc_hash.specs.Chain.{genesis_string, genesis_value, entry_string, link_string, next_value, commitment_string}
@@ -26,6 +26,6 @@ key_strings document keys (suc n) = key_strings document keys n ++ key_string do
 abbrev pub strings : List ℕ → List (List ℕ) → List ℕ → (ℕ → Option (List ℕ)) → ℕ → List (List ℕ)
 strings genesis entries document keys n = chain_strings genesis entries ++ key_strings document keys n
 
--- different strings of the list have different SHA-256 digests
-abbrev pub Apart : List (List ℕ) → Type 0
-Apart strings = (x y : List ℕ) → Contains strings x → Contains strings y → sha256 x ≡ sha256 y → x ≡ y
+-- no two different strings of the list have one SHA-256 digest
+abbrev pub CollisionFree : List (List ℕ) → Type 0
+CollisionFree strings = (x y : List ℕ) → Contains strings x → Contains strings y → sha256 x ≡ sha256 y → x ≡ y

@@ -1,54 +1,29 @@
-//! The SHA-256 chain over a history of entries, and the commitments to the keys of its epochs.
+//! The SHA-256 chain over a history of entries, the comparison of two histories by their chains, and the commitments to
+//! the keys of a document's epochs.
 //!
-//! Each kind of hashed string begins with a byte of its own (0x00 the genesis, 0x01 a link, 0x02 an entry, 0x04 a
-//! commitment), so no string of one kind is a string of another.
+//! A chain has a value before the first entry, of the genesis, and one after each entry. Each kind of hashed string begins
+//! with a byte of its own (0x00 the genesis, 0x01 a link, 0x02 an entry, 0x04 a commitment), so no string of one kind is a
+//! string of another.
+//!
+//! ```rust
+//! let first = genesis_hash(b"genesis");
+//! let ours = [first, next_hash(&first, b"our entry")];
+//! let theirs = [first, next_hash(&first, b"their entry")];
+//! assert_eq!(rt; compare(&ours, &theirs), Verdict::ForkedAfter(0));
+//! ```
+//!
+//! Proved: each value is the SHA-256 of exactly the string that `specs/Chain.antt` lists, for all inputs; what `compare`
+//! says of any values; and, if no two different strings hashed for two histories have one digest (`CollisionFree`), that
+//! one value means one history and that `compare` says how the histories stand to each other. Tested only: that these
+//! strings give the digests that Python's `hashlib` gives. Neither: that SHA-256 has no collisions.
 #![tactic(auto)]
 
-ghost use Rattle.std.specs.Prelude.{◌≡◌};
-ghost use Rattle.sporc_hash.specs.Chain.{genesis_value, next_value, commitment_of};
-
-use sha2::{Digest, Sha256};
-
+mod chain;
 pub mod laws;
+mod verdict;
+
+pub use chain::{Digest32, commit, genesis_hash, next_hash};
+pub use verdict::{Verdict, compare};
+
 #[cfg(test)]
 mod tests;
-
-/// A SHA-256 digest (FIPS 180-4).
-pub type Digest32 = [u8; 32];
-
-/// The first value of a document's chain, of the bytes of its genesis.
-pub fn genesis_hash(genesis: &[u8]) -> Digest32
-    ensures { result ≡ genesis_value genesis.now }
-{
-    let mut hasher = Sha256::new();
-    hasher.update([0x00u8]);
-    hasher.update(genesis);
-    hasher.finalize()
-}
-
-/// The value of the chain after `entry`, the bytes of a whole entry, where the value before it is `prev`.
-pub fn next_hash(prev: &Digest32, entry: &[u8]) -> Digest32
-    ensures { result ≡ next_value prev.now entry.now }
-{
-    let mut inner = Sha256::new();
-    inner.update([0x02u8]);
-    inner.update(entry);
-    let digest = inner.finalize();
-    let mut hasher = Sha256::new();
-    hasher.update([0x01u8]);
-    hasher.update(prev);
-    hasher.update(digest);
-    hasher.finalize()
-}
-
-/// The commitment to the key of an epoch of a document.
-pub fn commit(document: &[u8; 16], epoch: u32, key: &[u8; 32]) -> Digest32
-    ensures { result ≡ commitment_of document.now epoch key.now }
-{
-    let mut hasher = Sha256::new();
-    hasher.update([0x04u8]);
-    hasher.update(document);
-    hasher.update(epoch.to_be_bytes());
-    hasher.update(key);
-    hasher.finalize()
-}

@@ -8,9 +8,9 @@ use Rattle.sporc_delta.specs.Marks.{Mark}
 use Rattle.sporc_client.specs.declared.entry.PlainEntry.{PlainEntry}
 use Rattle.sporc_delta.specs.Format.{delta_bytes}
 use Rattle.sporc_client.specs.declared.limits.TheConstants.{MAX_EDIT_BYTES}
-use Rattle.sporc_client.specs.declared.verdict.Verdict.{Verdict}
-use Rattle.sporc_client.specs.declared.verdict.Verdict.TheVariants.{Same, Prefix, Longer, ForkedAfter}
-use Rattle.sporc_client.specs.Verdict.{EndAlike, EndsWithin, IfForked, PartAfter}
+use Rattle.sporc_hash.specs.declared.verdict.Verdict.{Verdict}
+use Rattle.sporc_hash.specs.declared.verdict.Verdict.TheVariants.{Same, Prefix, Longer, ForkedAfter}
+use Rattle.sporc_hash.specs.Verdict.{SameTip, TipIsIn, IfForked, DivergesAfter}
 use Rattle.sporc_client.specs.History.{hashes_of}
 use Rattle.sporc_client.specs.Submission.{submission_of}
 use Rattle.sporc_play.specs.declared.seat.Seat.{Seat}
@@ -111,7 +111,7 @@ comparison_told s c i j x y v old new at_i is_x at_j is_y stands told =
     )
 
 -- what `compare` answers
-pub stands : (a b : List (List ℕ)) (v : Verdict) → ((v ≡ Same) ↔ EndAlike a b) → ((v ≡ Prefix) ↔ EndsWithin a b) → ((v ≡ Longer) ↔ EndsWithin b a) → IfForked v (PartAfter a b) → Stands a b v
+pub stands : (a b : List (List ℕ)) (v : Verdict) → ((v ≡ Same) ↔ SameTip a b) → ((v ≡ Prefix) ↔ TipIsIn a b) → ((v ≡ Longer) ↔ TipIsIn b a) → IfForked v (DivergesAfter a b) → Stands a b v
 stands a b Same same prefix longer forked = same.0 refl
 stands a b Prefix same prefix longer forked = prefix.0 refl
 stands a b Longer same prefix longer forked = longer.0 refl

@@ -10,13 +10,13 @@ use Rattle.sporc_client.specs.declared.client.PlainSubmitted.TheVariants.{Waitin
 use Rattle.sporc_client.specs.declared.fault.EditFault.{EditFault}
 use Rattle.sporc_client.specs.declared.fault.PlainRefusal.{PlainRefusal}
 use Rattle.sporc_client.specs.declared.fault.PlainSubmitFault.{PlainSubmitFault}
-use Rattle.sporc_client.specs.declared.verdict.Verdict.{Verdict}
-use Rattle.sporc_client.specs.declared.verdict.Verdict.TheVariants.{Same, Prefix, Longer, ForkedAfter}
+use Rattle.sporc_hash.specs.declared.verdict.Verdict.{Verdict}
+use Rattle.sporc_hash.specs.declared.verdict.Verdict.TheVariants.{Same, Prefix, Longer, ForkedAfter}
 use Rattle.sporc_client.specs.Client.{PlainState, edit_checks, entry_checks, shown_of}
 use Rattle.sporc_client.specs.History.{hashes_of}
 use Rattle.sporc_client.specs.Names.{edit_fault_name, refusal_name, submit_fault_name}
 use Rattle.sporc_client.specs.Submission.{submission_of}
-use Rattle.sporc_client.specs.Verdict.{EndAlike, EndsWithin, PartAfter}
+use Rattle.sporc_hash.specs.Verdict.{SameTip, TipIsIn, DivergesAfter}
 use Rattle.sporc_outside.specs.Writing.{AppendsPrefix}
 use Rattle.sporc_play.specs.declared.seat.Seat.{Seat}
 use Rattle.sporc_play.specs.declared.script.command.Command.{Command}
@@ -59,10 +59,10 @@ show_line m c =
 
 -- compare: how one chain of values stands to another
 abbrev pub Stands : List (List ℕ) → List (List ℕ) → Verdict → Type 0
-Stands a b Same = EndAlike a b
-Stands a b Prefix = EndsWithin a b
-Stands a b Longer = EndsWithin b a
-Stands a b (ForkedAfter k) = PartAfter a b k
+Stands a b Same = SameTip a b
+Stands a b Prefix = TipIsIn a b
+Stands a b Longer = TipIsIn b a
+Stands a b (ForkedAfter k) = DivergesAfter a b k
 
 abbrev pub compare_line : Comparison → Verdict → List ℕ
 compare_line c Same = decimal c.first ++ codes " " ++ decimal c.second ++ codes " same\n"

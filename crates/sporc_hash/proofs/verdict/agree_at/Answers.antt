@@ -3,7 +3,7 @@ use Rattle.std.specs.Bool.{Decides}
 use Rattle.std.proofs.lemmas.Bool.Decides.{Decides-eqb}
 use Rattle.std.proofs.lemmas.Option.{slice_get-get_or}
 use Rattle.std.proofs.lemmas.Slice.Eq.{slice_eq-Decides}
-use Rattle.sporc_client.proofs.verdict.agree_at.Goals as goal
+use Rattle.sporc_hash.proofs.verdict.agree_at.Goals as goal
 
 -- a test of the values at a place tells whether both lists have one value there
 tells : (a b : List (List ℕ)) (at : ℕ) (r : Bool) → at < length a → at < length b → Decides r (get_or a at [] ≡ get_or b at []) → IsTrue r ↔ (slice_get a at ≡ slice_get b at)

@@ -1,19 +1,19 @@
 -- How one history stands to another.
 use Rattle.std.specs.Prelude.{◌≡◌, ◌≢◌, ℕ, ◌+◌, ◌-◌, ◌<◌, List, length, take, slice_get, ⊤}
-use Rattle.sporc_client.specs.declared.verdict.Verdict.{Verdict}
-use Rattle.sporc_client.specs.declared.verdict.Verdict.TheVariants.{Same, Prefix, Longer, ForkedAfter}
+use Rattle.sporc_hash.specs.declared.verdict.Verdict.{Verdict}
+use Rattle.sporc_hash.specs.declared.verdict.Verdict.TheVariants.{Same, Prefix, Longer, ForkedAfter}
 
 -- two lists of values are equally long and have one last value
-abbrev pub EndAlike : List (List ℕ) → List (List ℕ) → Type 0
-EndAlike a b = (length a ≡ length b) × (slice_get a (length a - 1) ≡ slice_get b (length a - 1))
+abbrev pub SameTip : List (List ℕ) → List (List ℕ) → Type 0
+SameTip a b = (length a ≡ length b) × (slice_get a (length a - 1) ≡ slice_get b (length a - 1))
 
 -- the first list is shorter, and the second has the first's last value at that place
-abbrev pub EndsWithin : List (List ℕ) → List (List ℕ) → Type 0
-EndsWithin a b = (length a < length b) × (slice_get a (length a - 1) ≡ slice_get b (length a - 1))
+abbrev pub TipIsIn : List (List ℕ) → List (List ℕ) → Type 0
+TipIsIn a b = (length a < length b) × (slice_get a (length a - 1) ≡ slice_get b (length a - 1))
 
 -- both have one value after k entries, and different values after one entry more
-abbrev pub PartAfter : List (List ℕ) → List (List ℕ) → ℕ → Type 0
-PartAfter a b k = (k + 1 < length a) × (k + 1 < length b) × (slice_get a k ≡ slice_get b k) × (slice_get a (k + 1) ≢ slice_get b (k + 1))
+abbrev pub DivergesAfter : List (List ℕ) → List (List ℕ) → ℕ → Type 0
+DivergesAfter a b k = (k + 1 < length a) × (k + 1 < length b) × (slice_get a k ≡ slice_get b k) × (slice_get a (k + 1) ≢ slice_get b (k + 1))
 
 -- a fact of the number of common entries, where the verdict has one
 abbrev pub IfForked : Verdict → (ℕ → Type 0) → Type 0
@@ -22,7 +22,7 @@ IfForked Same P = ⊤
 IfForked Prefix P = ⊤
 IfForked Longer P = ⊤
 
--- the verdict on two histories: they are equal, one is the other's beginning, or the first k entries are equal and no more
+-- the verdict on two histories: they are equal, one is a prefix of the other, or the first k entries are equal and no more
 abbrev pub IsVerdictOn : {X : Type 0} → List X → List X → Verdict → Type 0
 IsVerdictOn x y Same = x ≡ y
 IsVerdictOn x y Prefix = (length x < length y) × (x ≡ take (length x) y)

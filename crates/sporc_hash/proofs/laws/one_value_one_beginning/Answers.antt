@@ -1,5 +1,0 @@
-use Rattle.sporc_hash.proofs.Beginnings as beginnings
-use Rattle.sporc_hash.proofs.laws.one_value_one_beginning.Goals as goal
-
-pub returns : goal.returns
-returns c = beginnings.one_value_one_beginning

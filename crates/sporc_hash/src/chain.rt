@@ -1,0 +1,46 @@
+// The values of a history's chain, and commitments to keys.
+
+ghost use Rattle.std.specs.Prelude.{◌≡◌};
+ghost use Rattle.sporc_hash.specs.Chain.{genesis_value, next_value, commitment_of};
+
+use sha2::{Digest, Sha256};
+
+/// A SHA-256 digest (FIPS 180-4).
+pub type Digest32 = [u8; 32];
+
+/// The first value of a document's chain, from the bytes of its genesis.
+pub fn genesis_hash(genesis: &[u8]) -> Digest32
+    ensures { result ≡ genesis_value genesis.now }
+{
+    let mut hasher = Sha256::new();
+    hasher.update([0x00u8]);
+    hasher.update(genesis);
+    hasher.finalize()
+}
+
+/// The value of the chain after `entry`, the bytes of a whole entry, where the value before it is `prev`.
+pub fn next_hash(prev: &Digest32, entry: &[u8]) -> Digest32
+    ensures { result ≡ next_value prev.now entry.now }
+{
+    let mut inner = Sha256::new();
+    inner.update([0x02u8]);
+    inner.update(entry);
+    let digest = inner.finalize();
+    let mut hasher = Sha256::new();
+    hasher.update([0x01u8]);
+    hasher.update(prev);
+    hasher.update(digest);
+    hasher.finalize()
+}
+
+/// The commitment to the key of an epoch of a document.
+pub fn commit(document: &[u8; 16], epoch: u32, key: &[u8; 32]) -> Digest32
+    ensures { result ≡ commitment_of document.now epoch key.now }
+{
+    let mut hasher = Sha256::new();
+    hasher.update([0x04u8]);
+    hasher.update(document);
+    hasher.update(epoch.to_be_bytes());
+    hasher.update(key);
+    hasher.finalize()
+}
