@@ -3,3 +3,6 @@ pub mod Passes
 pub mod Goods
 pub mod MoreForms
 mod Examples
+pub mod FormLengths
+pub mod ReadLengths
+pub mod SameKeys

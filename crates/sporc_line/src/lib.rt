@@ -3,3 +3,5 @@
 //!
 //! `specs/` has the definitions; each recomputes everything from the first entry.
 #![tactic(auto)]
+
+pub mod laws;
