@@ -23,9 +23,9 @@ after_abc os = forms_from [] (abc ∷ os)
 -- both members insert at the end of "abc": the one whose entry stands first stands left, "abcde"
 pub two_insertions_example :
     text_after (after_abc (
-      record { author = 1; number = 2; base = 1; what = Edited (Retain ∷ Retain ∷ Retain ∷ Insert 100 ∷ []) }
-      ∷ record { author = 2; number = 1; base = 1; what = Edited (Retain ∷ Retain ∷ Retain ∷ Insert 101 ∷ []) }
-      ∷ []))
+    record { author = 1; number = 2; base = 1; what = Edited (Retain ∷ Retain ∷ Retain ∷ Insert 100 ∷ []) }
+    ∷ record { author = 2; number = 1; base = 1; what = Edited (Retain ∷ Retain ∷ Retain ∷ Insert 101 ∷ []) }
+    ∷ []))
     ≡ 97 ∷ 98 ∷ 99 ∷ 100 ∷ 101 ∷ []
 unfolding forms_from
 two_insertions_example = refl
@@ -33,9 +33,9 @@ two_insertions_example = refl
 -- both members remove the "b" of "abc": the form of the second one's entry keeps all of "ac"
 pub one_removal_example :
     after_abc (
-      record { author = 1; number = 2; base = 1; what = Edited (Retain ∷ Delete ∷ Retain ∷ []) }
-      ∷ record { author = 2; number = 1; base = 1; what = Edited (Retain ∷ Delete ∷ Retain ∷ []) }
-      ∷ [])
+    record { author = 1; number = 2; base = 1; what = Edited (Retain ∷ Delete ∷ Retain ∷ []) }
+    ∷ record { author = 2; number = 1; base = 1; what = Edited (Retain ∷ Delete ∷ Retain ∷ []) }
+    ∷ [])
     ≡ (Insert 97 ∷ Insert 98 ∷ Insert 99 ∷ []) ∷ (Retain ∷ Delete ∷ Retain ∷ []) ∷ (Retain ∷ Retain ∷ []) ∷ []
 unfolding forms_from
 one_removal_example = refl
@@ -43,9 +43,9 @@ one_removal_example = refl
 -- a change keeps the text, and an edit that was made before it passes its form
 pub change_example :
     after_abc (
-      record { author = 1; number = 2; base = 1; what = Changed (SetRole 2 Reader) }
-      ∷ record { author = 2; number = 1; base = 1; what = Edited (Delete ∷ Retain ∷ Retain ∷ []) }
-      ∷ [])
+    record { author = 1; number = 2; base = 1; what = Changed (SetRole 2 Reader) }
+    ∷ record { author = 2; number = 1; base = 1; what = Edited (Delete ∷ Retain ∷ Retain ∷ []) }
+    ∷ [])
     ≡ (Insert 97 ∷ Insert 98 ∷ Insert 99 ∷ []) ∷ (Retain ∷ Retain ∷ Retain ∷ []) ∷ (Delete ∷ Retain ∷ Retain ∷ []) ∷ []
 unfolding forms_from
 change_example = refl

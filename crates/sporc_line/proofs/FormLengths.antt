@@ -1,33 +1,30 @@
 -- The lengths of forms: each form of a good history is stated on the text before it.
-use Rattle.std.proofs.Common.{◌≡◌, ℕ, suc, zero, ◌+◌, ◌<◌, ◌≤◌, Bool, true, false, List, [], ◌∷◌, ◌++◌, length, take, drop, map, fold, refl, ap, sym, ◌∙◌, subst, arith, Option, None, Some, Ok, ◌⊎◌, inl, inr, length-append}
-use Rattle.std.specs.Prelude.{is_some}
+use Rattle.std.proofs.Common.{◌≡◌, ℕ, suc, zero, ◌+◌, ◌<◌, ◌≤◌, List, [], ◌∷◌, ◌++◌, length, take, drop, fold, refl, ap, sym, ◌∙◌, subst, arith, Option, None, Some, Ok, ◌⊎◌, inl, inr, length-append}
 use Rattle.std.proofs.lemmas.List.{take-append-le, take-append-drop, take_all, length-map}
 use Rattle.std.proofs.lemmas.Bool.{eqb-true, cases_lt}
 use Rattle.sporc_base.specs.FirstFault.{first_of}
 use Rattle.sporc_hash.proofs.Lists.{from_end}
 use Rattle.sporc_delta.specs.Marks.{Mark, Retain, Delete, Insert, base_len, out_len, inserted_len, apply, retains}
 use Rattle.sporc_delta.specs.Transforms.{later}
-use Rattle.sporc_delta.proofs.Lengths.{base_len-retains, out_len-retains}
+use Rattle.sporc_delta.proofs.Lengths.{base_len-retains}
 use Rattle.sporc_xform.proofs.LengthLemmas.{base_len-later, inserted_len-later, out_len-le}
 use Rattle.sporc_suffix.specs.Forms.{later_over, reached, Follow, all_inserted}
-use Rattle.sporc_suffix.proofs.Passing.{reached-append, Follow-append, Follow-drop}
+use Rattle.sporc_suffix.proofs.Passing.{Follow-append, Follow-drop}
 use Rattle.sporc_member.proofs.Checks.{passes}
 use Rattle.sporc_entry.specs.declared.entry.Entry.{Entry}
 use Rattle.sporc_entry.specs.declared.change.ChangeBody.{ChangeBody}
 use Rattle.sporc_entry.specs.declared.genesis.Genesis.{Genesis}
 use Rattle.sporc_entry.specs.Entry.{entry_of, change_of}
-use Rattle.sporc_head.specs.declared.refusal.Refusal.{Refusal}
-use Rattle.sporc_head.specs.declared.refusal.Refusal.TheVariants.{BadPayload, WrongLength}
+use Rattle.sporc_head.specs.declared.refusal.Refusal.TheVariants.{WrongLength}
 use Rattle.sporc_line.specs.Kit.{Kit}
 use Rattle.sporc_line.specs.Keys.{key_of}
-use Rattle.sporc_line.specs.Operations.{Operation, edit_marks, edited, what_of, operation_of, operation_in, operation_read, operations}
-use Rattle.sporc_line.specs.Document.{form_of, form_of_what, forms_from, forms_of, text_after, text_of}
+use Rattle.sporc_line.specs.Operations.{Operation, edit_marks, edited, what_of, operation_in, operation_read, operations}
+use Rattle.sporc_line.specs.Document.{form_of, form_of_what, forms_from, forms_of, next_form, text_after, text_of}
 use Rattle.sporc_line.specs.LineChecks.{is_over, edit_checks, key_checks_of, key_checks}
 use Rattle.sporc_line.specs.Good.{Good}
-use Rattle.sporc_line.proofs.Lists.{take_front}
 use Rattle.sporc_line.proofs.Passes.{Passes}
 use Rattle.sporc_line.proofs.Goods.{good_front, last_passes}
-use Rattle.sporc_line.proofs.MoreForms.{next_form, forms_push}
+use Rattle.sporc_line.proofs.MoreForms.{forms_push}
 
 -- ---- any forms that follow one another
 
@@ -46,6 +43,10 @@ text_reached base (f ∷ fs) s h is = text_reached (out_len f) fs (apply f s) h.
 -- the text after forms is as long as they reach
 pub length-text : (forms : List (List Mark)) → Follow 0 forms → length (text_after forms) ≡ reached 0 forms
 length-text forms h = text_reached 0 forms [] h refl
+
+reached-append : (base : ℕ) (fs gs : List (List Mark)) → reached base (fs ++ gs) ≡ reached (reached base fs) gs
+reached-append base [] gs = refl
+reached-append base (f ∷ fs) gs = reached-append (out_len f) fs gs
 
 pub base_len-over : (q : List Mark) (forms : List (List Mark)) → Follow (base_len q) forms → base_len (later_over q forms) ≡ reached (base_len q) forms
 base_len-over q [] h = refl

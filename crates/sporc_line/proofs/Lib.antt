@@ -4,5 +4,4 @@ pub mod Goods
 pub mod MoreForms
 mod Examples
 pub mod FormLengths
-pub mod ReadLengths
 pub mod SameKeys

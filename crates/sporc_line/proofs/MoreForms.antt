@@ -12,7 +12,7 @@ use Rattle.sporc_head.specs.History.{Started, change_in, changes, epoch_of}
 use Rattle.sporc_line.specs.Kit.{Kit}
 use Rattle.sporc_line.specs.Keys.{key_started, key_after, key_of}
 use Rattle.sporc_line.specs.Operations.{Operation, operation_in, operation_read, operation_of, operations}
-use Rattle.sporc_line.specs.Document.{form_of, forms_from, forms_of, text_after, text_of}
+use Rattle.sporc_line.specs.Document.{form_of, forms_from, forms_of, next_form, text_after, text_of}
 use Rattle.sporc_line.specs.Good.{Good}
 use Rattle.sporc_line.proofs.Lists.{slice_get_before, map_same}
 use Rattle.sporc_line.proofs.Passes.{Passes}
@@ -72,10 +72,6 @@ pub forms_from_push : (fs : List (List Mark)) (os : List Operation) (o : Operati
 unfolding forms_from
 forms_from_push fs [] o = refl
 forms_from_push fs (p ∷ os) o = forms_from_push (fs ++ form_of fs p ∷ []) os o
-
--- the form of the entry that comes next
-abbrev pub next_form : Genesis → Kit → List (List ℕ) → List ℕ → List Mark
-next_form g kit A b = form_of (forms_of g kit A) (operation_in (key_of g kit A) b)
 
 pub forms_push : (g : Genesis) (kit : Kit) (A : List (List ℕ)) (b : List ℕ) → Good g kit (A ++ b ∷ []) → forms_of g kit (A ++ b ∷ []) ≡ forms_of g kit A ++ next_form g kit A b ∷ []
 forms_push g kit A b good = ap (λ (os : List Operation). forms_from [] os) (operations_push g kit A b good) ∙ forms_from_push [] (operations g kit A) (operation_in (key_of g kit A) b)

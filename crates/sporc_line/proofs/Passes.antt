@@ -105,18 +105,18 @@ all_hold g kit A pos e p =
     let histories = history_checks g A e.header in
     let author : first_of authors ≡ None = holds _ NoRight _ p.right (holds _ LeafMismatch _ p.leaf (holds _ BadSignature _ p.signature refl)) in
     let history : first_of histories ≡ None =
-        holds _ HistoryFull _ (lt-ltb _ _ p.room)
-        (holds _ UnknownAuthor _ p.member
-        (holds _ BaseAhead _ (le-leb _ _ p.base)
-        (holds _ BeforeBarrier _ (le-leb _ _ p.barrier)
-        (holds _ WrongHistory _ ((bytes_eq-Decides _ _).1 p.history)
-        (holds _ WrongNumber _ (eq-eqb _ _ p.number)
-        (holds _ BehindOwn _ (le-leb _ _ p.own)
-        (holds _ WrongEpoch _ (eq-eqb _ _ p.epoch) refl))))))) in
+    holds _ HistoryFull _ (lt-ltb _ _ p.room)
+    (holds _ UnknownAuthor _ p.member
+    (holds _ BaseAhead _ (le-leb _ _ p.base)
+    (holds _ BeforeBarrier _ (le-leb _ _ p.barrier)
+    (holds _ WrongHistory _ ((bytes_eq-Decides _ _).1 p.history)
+    (holds _ WrongNumber _ (eq-eqb _ _ p.number)
+    (holds _ BehindOwn _ (le-leb _ _ p.own)
+    (holds _ WrongEpoch _ (eq-eqb _ _ p.epoch) refl))))))) in
     let place : first_of (place_checks g (Some kit.me) A pos e.header) ≡ None =
-        holds _ WrongDocument _ ((bytes_eq-Decides _ _).1 p.document)
-        (holds _ WrongPosition _ (eq-eqb _ _ p.position)
-        (holds _ Removed _ (not_from_false _ p.not_removed) refl)) in
+    holds _ WrongDocument _ ((bytes_eq-Decides _ _).1 p.document)
+    (holds _ WrongPosition _ (eq-eqb _ _ p.position)
+    (holds _ Removed _ (not_from_false _ p.not_removed) refl)) in
     pass_both (head_checks g (Some kit.me) A pos e) (key_checks g kit A e)
     (pass_both (place_checks g (Some kit.me) A pos e.header) (histories ++ (authors ++ rosters)) place
     (pass_both histories (authors ++ rosters) history (pass_both authors rosters author p.roster))) p.keys

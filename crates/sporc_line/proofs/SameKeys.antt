@@ -1,7 +1,7 @@
 -- The keys of a good history meet their commitments, so that members with one good history read it alike.
-use Rattle.std.proofs.Common.{◌≡◌, ℕ, suc, zero, ◌+◌, ◌<◌, ◌≤◌, Bool, true, false, List, [], ◌∷◌, ◌++◌, length, take, map, refl, ap, sym, ◌∙◌, subst, arith, Option, None, Some, Ok, inl, inr, length-append, append_assoc}
+use Rattle.std.proofs.Common.{◌≡◌, ℕ, suc, zero, ◌+◌, ◌<◌, ◌≤◌, Bool, true, false, List, [], ◌∷◌, ◌++◌, length, take, refl, ap, sym, ◌∙◌, subst, arith, Option, None, Some, Ok, inl, inr, length-append}
 use Rattle.std.specs.Prelude.{is_some, ◌||◌}
-use Rattle.std.specs.List.{Contains, slice_get, list_any, cons_option}
+use Rattle.std.specs.List.{Contains, slice_get}
 use Rattle.std.specs.Int.{w32, to_be_bytes}
 use Rattle.std.proofs.lemmas.List.{append_cancel_left, append-nil}
 use Rattle.std.proofs.lemmas.List.Elements.{Contains-append_left, Contains-append_right}
@@ -9,7 +9,7 @@ use Rattle.std.proofs.lemmas.Bool.{and_parts, or_parts, cases_lt}
 use Rattle.std.proofs.lemmas.Slice.Eq.{bytes_eq-Decides}
 use Rattle.sporc_base.specs.FirstFault.{first_of}
 use Rattle.sporc_hash.specs.Chain.{commitment_of, commitment_string}
-use Rattle.sporc_hash.specs.Strings.{chain_strings, key_string, key_strings, Apart}
+use Rattle.sporc_hash.specs.Strings.{chain_strings, key_string, key_strings, CollisionFree}
 use Rattle.sporc_hash.proofs.Lists.{from_end, Contains-first}
 use Rattle.sporc_member.specs.Roster.{removes}
 use Rattle.sporc_member.proofs.Checks.{passes}
@@ -18,14 +18,13 @@ use Rattle.sporc_entry.specs.declared.change.ChangeBody.{ChangeBody}
 use Rattle.sporc_entry.specs.declared.genesis.Genesis.{Genesis}
 use Rattle.sporc_entry.specs.Entry.{entry_of, change_of}
 use Rattle.sporc_entry.specs.Genesis.{genesis_bytes}
-use Rattle.sporc_epoch.specs.Wraps.{previous_opened}
 use Rattle.sporc_head.specs.declared.refusal.Refusal.TheVariants.{NoKey, WrongKey}
-use Rattle.sporc_head.specs.History.{Started, change_in, started_by, changes, epoch_of, is_removed}
+use Rattle.sporc_head.specs.History.{Started, change_in, changes, epoch_of, is_removed}
 use Rattle.sporc_head.proofs.Grows.{changes_push, removed_push, removes_in, change_in_read}
 use Rattle.sporc_line.specs.Kit.{Kit}
 use Rattle.sporc_line.specs.Keys.{key_after, key_of}
 use Rattle.sporc_line.specs.Operations.{Operation, operation_in, operations}
-use Rattle.sporc_line.specs.Document.{forms_from, forms_of, text_after, text_of}
+use Rattle.sporc_line.specs.Document.{forms_from, text_after, text_of}
 use Rattle.sporc_line.specs.LineChecks.{is_new_key, new_key_checks, key_checks_of, key_checks}
 use Rattle.sporc_line.specs.LineStrings.{line_strings}
 use Rattle.sporc_line.specs.Good.{Good, Meets}
@@ -145,7 +144,7 @@ keys_meet g kit A = from_end (IfThere g kit) (meet_none g kit) (meet_push g kit)
 -- ---- two members
 
 -- keys that meet one commitment, where no two strings have one digest, are one
-pub same_key : (g : Genesis) (epoch : ℕ) (ss : List (List ℕ)) (k l : Option (List ℕ)) (commitment : List ℕ) → Apart ss
+pub same_key : (g : Genesis) (epoch : ℕ) (ss : List (List ℕ)) (k l : Option (List ℕ)) (commitment : List ℕ) → CollisionFree ss
     → ((x : List ℕ) → Contains (key_string g.document epoch k) x → Contains ss x) → ((x : List ℕ) → Contains (key_string g.document epoch l) x → Contains ss x)
     → Meets g epoch k commitment → Meets g epoch l commitment → k ≡ l
 same_key g epoch ss None l commitment apart a b m n = absurd m
@@ -182,14 +181,14 @@ pub has_right : (g : Genesis) (kit : Kit) (A ss : List (List ℕ)) → HasKeys g
 has_right g kit A ss = has_keys g kit A (ss ++ line_strings g kit A) (λ x h. Contains-append_right ss (line_strings g kit A) x h)
 
 -- two members with one good history, which removes neither, have one key of each epoch
-pub same_epoch_keys : (g : Genesis) (kit kit' : Kit) (A ss : List (List ℕ)) (e : ℕ) → Good g kit A → Good g kit' A → Apart ss → HasKeys g kit A ss → HasKeys g kit' A ss
+pub same_epoch_keys : (g : Genesis) (kit kit' : Kit) (A ss : List (List ℕ)) (e : ℕ) → Good g kit A → Good g kit' A → CollisionFree ss → HasKeys g kit A ss → HasKeys g kit' A ss
     → is_removed kit.me A ≡ false → is_removed kit'.me A ≡ false → e ≤ epoch_of A → key_of g kit A e ≡ key_of g kit' A e
 same_epoch_keys g kit kit' A ss e good good' apart a b there there' le =
     same_key g e ss (key_of g kit A e) (key_of g kit' A e) (commitment_at g (changes A) e) apart (λ x h. a e x le h) (λ x h. b e x le h)
     (keys_meet g kit A good there e le) (keys_meet g kit' A good' there' e le)
 
 -- they have one key for each of its entries, also where it removes them later
-pub same_entry_keys : (g : Genesis) (kit kit' : Kit) (A ss : List (List ℕ)) (i : ℕ) (b : List ℕ) (e : Entry) → Good g kit A → Good g kit' A → Apart ss → HasKeys g kit A ss → HasKeys g kit' A ss
+pub same_entry_keys : (g : Genesis) (kit kit' : Kit) (A ss : List (List ℕ)) (i : ℕ) (b : List ℕ) (e : Entry) → Good g kit A → Good g kit' A → CollisionFree ss → HasKeys g kit A ss → HasKeys g kit' A ss
     → slice_get A i ≡ Some b → entry_of b ≡ Ok e → key_of g kit A e.header.epoch ≡ key_of g kit' A e.header.epoch
 same_entry_keys g kit kit' A ss i b e good good' apart a b' at is =
     let p = good_entry g kit A i b good at in
@@ -208,21 +207,21 @@ same_entry_keys g kit kit' A ss i b e good good' apart a b' at is =
     (λ x h. a e.header.epoch x le' h) (λ x h. b' e.header.epoch x le' h) (rw s m) (rw t n)
 
 -- and so they read the same operations
-pub same_operations : (g : Genesis) (kit kit' : Kit) (A ss : List (List ℕ)) → Good g kit A → Good g kit' A → Apart ss → HasKeys g kit A ss → HasKeys g kit' A ss → operations g kit A ≡ operations g kit' A
+pub same_operations : (g : Genesis) (kit kit' : Kit) (A ss : List (List ℕ)) → Good g kit A → Good g kit' A → CollisionFree ss → HasKeys g kit A ss → HasKeys g kit' A ss → operations g kit A ≡ operations g kit' A
 same_operations g kit kit' A ss good good' apart a b =
     map_same (operation_in (key_of g kit A)) (operation_in (key_of g kit' A)) A (λ i x at.
     let p = good_entry g kit A i x good at in
     operation_same (key_of g kit A) (key_of g kit' A) x p.0 p.1 (same_entry_keys g kit kit' A ss i x p.0 good good' apart a b at p.1))
 
 -- what two members with one good history read
-pub one_reading : (g : Genesis) (kit kit' : Kit) (A : List (List ℕ)) → Good g kit A → Good g kit' A → Apart (line_strings g kit A ++ line_strings g kit' A) → operations g kit A ≡ operations g kit' A
+pub one_reading : (g : Genesis) (kit kit' : Kit) (A : List (List ℕ)) → Good g kit A → Good g kit' A → CollisionFree (line_strings g kit A ++ line_strings g kit' A) → operations g kit A ≡ operations g kit' A
 one_reading g kit kit' A good good' apart =
     same_operations g kit kit' A (line_strings g kit A ++ line_strings g kit' A) good good' apart (has_left g kit A (line_strings g kit' A)) (has_right g kit' A (line_strings g kit A))
 
-pub one_text : (g : Genesis) (kit kit' : Kit) (A : List (List ℕ)) → Good g kit A → Good g kit' A → Apart (line_strings g kit A ++ line_strings g kit' A) → text_of g kit A ≡ text_of g kit' A
+pub one_text : (g : Genesis) (kit kit' : Kit) (A : List (List ℕ)) → Good g kit A → Good g kit' A → CollisionFree (line_strings g kit A ++ line_strings g kit' A) → text_of g kit A ≡ text_of g kit' A
 one_text g kit kit' A good good' apart = ap (λ (os : List Operation). text_after (forms_from [] os)) (one_reading g kit kit' A good good' apart)
 
-pub one_key : (g : Genesis) (kit kit' : Kit) (A : List (List ℕ)) (e : ℕ) → Good g kit A → Good g kit' A → Apart (line_strings g kit A ++ line_strings g kit' A)
+pub one_key : (g : Genesis) (kit kit' : Kit) (A : List (List ℕ)) (e : ℕ) → Good g kit A → Good g kit' A → CollisionFree (line_strings g kit A ++ line_strings g kit' A)
     → is_removed kit.me A ≡ false → is_removed kit'.me A ≡ false → e ≤ epoch_of A → key_of g kit A e ≡ key_of g kit' A e
 one_key g kit kit' A e good good' apart there there' le =
     same_epoch_keys g kit kit' A (line_strings g kit A ++ line_strings g kit' A) e good good' apart (has_left g kit A (line_strings g kit' A)) (has_right g kit' A (line_strings g kit A)) there there' le

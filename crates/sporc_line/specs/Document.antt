@@ -4,7 +4,8 @@ use Rattle.sporc_delta.specs.Marks.{Mark, apply, retains}
 use Rattle.sporc_suffix.specs.Forms.{later_over}
 use Rattle.sporc_entry.specs.declared.genesis.Genesis.{Genesis}
 use Rattle.sporc_line.specs.Kit.{Kit}
-use Rattle.sporc_line.specs.Operations.{Operation, What, Edited, Changed, Unread, operations}
+use Rattle.sporc_line.specs.Keys.{key_of}
+use Rattle.sporc_line.specs.Operations.{Operation, What, Edited, Changed, Unread, operation_in, operations}
 
 -- the text after forms, from the empty text on
 abbrev pub text_after : List (List Mark) → List ℕ
@@ -28,6 +29,10 @@ forms_from forms (o ∷ os) = forms_from (forms ++ form_of forms o ∷ []) os
 -- the forms of a history's entries
 abbrev pub forms_of : Genesis → Kit → List (List ℕ) → List (List Mark)
 forms_of genesis kit entries = forms_from [] (operations genesis kit entries)
+
+-- the form that an entry gets that comes next
+abbrev pub next_form : Genesis → Kit → List (List ℕ) → List ℕ → List Mark
+next_form genesis kit entries bytes = form_of (forms_of genesis kit entries) (operation_in (key_of genesis kit entries) bytes)
 
 -- the committed text
 abbrev pub text_of : Genesis → Kit → List (List ℕ) → List ℕ

@@ -5,3 +5,6 @@ pub mod Document
 pub mod LineChecks
 pub mod Good
 pub mod LineStrings
+pub mod LineModel
+pub mod Codes
+pub mod Openings

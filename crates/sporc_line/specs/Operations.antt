@@ -1,6 +1,5 @@
 -- A history as a member reads it: what each entry does.
 use Rattle.std.specs.Prelude.{ℕ, List, map, Option, None, Some, Result, Ok, Err}
-use Rattle.std.specs.Option.{option_and_then}
 use Rattle.std.specs.Result.{result_ok}
 use Rattle.sporc_cipher.specs.Mask.{mask_of}
 use Rattle.sporc_delta.specs.Marks.{Mark}
@@ -27,13 +26,14 @@ pub record Operation : Type 0 where
   pub base : ℕ
   pub what : What
 
--- the marks that a body holds under a key
-abbrev pub marks_under : List ℕ → Entry → Option (List Mark)
-marks_under key e = result_ok (read_delta (mask_of key (entry_stream e.header.author e.header.leaf) e.body))
+-- the delta that a masked body holds under a key, by the author and the leaf of its entry
+abbrev pub marks_in : List ℕ → ℕ → ℕ → List ℕ → Option (List Mark)
+marks_in key author leaf body = result_ok (read_delta (mask_of key (entry_stream author leaf) body))
 
 -- an edit's marks, its body unmasked under its epoch's key, where there is that key and the body is a delta
 abbrev pub edit_marks : Option (List ℕ) → Entry → Option (List Mark)
-edit_marks key e = option_and_then (λ (k : List ℕ). marks_under k e) key
+edit_marks None e = None
+edit_marks (Some key) e = marks_in key e.header.author e.header.leaf e.body
 
 abbrev pub edited : Option (List Mark) → What
 edited None = Unread

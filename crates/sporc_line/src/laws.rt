@@ -1,7 +1,7 @@
 //! Laws of histories as members read them.
 
 ghost use Rattle.std.specs.Prelude.{◌≡◌, ℕ, ◌+◌, ◌≤◌, List, ◌++◌, length, take, Option, None, false};
-ghost use Rattle.sporc_hash.specs.Strings.{Apart};
+ghost use Rattle.sporc_hash.specs.Strings.{CollisionFree};
 ghost use Rattle.sporc_entry.specs.declared.genesis.Genesis.{Genesis};
 ghost use Rattle.sporc_head.specs.History.{epoch_of, is_removed};
 ghost use Rattle.sporc_line.specs.Kit.{Kit};
@@ -15,13 +15,13 @@ ghost use Rattle.sporc_line.specs.Good.{Good};
 /// same key of each epoch, whatever keys they began with, where no two different strings hashed for them have one digest.
 pub fn one_history_is_read_alike()
     ensures operations { (genesis : Genesis) (mine yours : Kit) (entries : List (List ℕ)) → Good genesis mine entries → Good genesis yours entries
-        → Apart (line_strings genesis mine entries ++ line_strings genesis yours entries)
+        → CollisionFree (line_strings genesis mine entries ++ line_strings genesis yours entries)
         → operations genesis mine entries ≡ operations genesis yours entries }
     ensures text { (genesis : Genesis) (mine yours : Kit) (entries : List (List ℕ)) → Good genesis mine entries → Good genesis yours entries
-        → Apart (line_strings genesis mine entries ++ line_strings genesis yours entries)
+        → CollisionFree (line_strings genesis mine entries ++ line_strings genesis yours entries)
         → text_of genesis mine entries ≡ text_of genesis yours entries }
     ensures keys { (genesis : Genesis) (mine yours : Kit) (entries : List (List ℕ)) (epoch : ℕ) → Good genesis mine entries → Good genesis yours entries
-        → Apart (line_strings genesis mine entries ++ line_strings genesis yours entries)
+        → CollisionFree (line_strings genesis mine entries ++ line_strings genesis yours entries)
         → is_removed mine.me entries ≡ false → is_removed yours.me entries ≡ false → epoch ≤ epoch_of entries
         → key_of genesis mine entries epoch ≡ key_of genesis yours entries epoch }
 {}

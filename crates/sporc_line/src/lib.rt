@@ -4,4 +4,7 @@
 //! `specs/` has the definitions; each recomputes everything from the first entry.
 #![tactic(auto)]
 
+mod fault;
 pub mod laws;
+
+pub use fault::LineOpenFault;
