@@ -3,3 +3,4 @@ pub mod CoefficientLemmas
 pub mod ChainLemmas
 pub mod ConcatenatedLemmas
 pub mod SignatureLemmas
+mod Examples

@@ -2,31 +2,24 @@
 // one compression of SHA-256 takes: I, q, the chain's number `i`, a byte and 32 bytes more. Its first
 // 22 bytes are written once for a chain.
 
-ghost use Rattle.std.specs.Prelude.{◌≡◌, ◌+◌, ◌-◌, ◌≤◌, ◌∷◌, ◌++◌, length, take};
+ghost use Rattle.std.specs.Prelude.{◌≡◌, ◌-◌, ◌≤◌, ◌∷◌, ◌++◌, take};
 ghost use Rattle.sha2.specs.Sha256.{sha256};
 ghost use Rattle.lms_ots.specs.Chains.{chain_front, chain_of, secret_part};
 
 use sha2::{Digest, Sha256};
+use sporc_base::put_at;
 
 // The bytes of a string that is hashed.
 const STRING_LEN: usize = 55;
-
-// Writes a field after the first `place` bytes.
-fn put(string: &mut [u8; STRING_LEN], place: usize, field: &[u8])
-    requires { place + length field.now ≤ 55 }
-    ensures { take (place + length field.now) string.new ≡ take place string.old ++ field.now }
-{
-    string[place..place + field.len()].copy_from_slice(field);
-}
 
 // The string of chain `i`, with what all its steps hash.
 fn chain_string(id: &[u8; 16], q: u32, i: u16) -> [u8; STRING_LEN]
     ensures { take 22 result ≡ chain_front id.now q i }
 {
     let mut string = [0u8; STRING_LEN];
-    put(&mut string, 0, id);
-    put(&mut string, 16, &q.to_be_bytes());
-    put(&mut string, 20, &i.to_be_bytes());
+    put_at(&mut string, 0, id);
+    put_at(&mut string, 16, &q.to_be_bytes());
+    put_at(&mut string, 20, &i.to_be_bytes());
     string
 }
 

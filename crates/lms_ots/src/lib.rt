@@ -14,6 +14,10 @@
 //! let candidate = ots_candidate(OtsType::W4, &id, q, b"message", &signature)?;
 //! assert_eq!(rt; candidate, ots_public(OtsType::W4, &id, q, &seed));
 //! ```
+//!
+//! Proved: each call answers exactly what the RFC's text, written as definitions in `specs/`, gives for its arguments; and
+//! every signature leads to the public key of its seed ([`laws`]). Tested only, with the trees of `lms_tree`: that these
+//! definitions make the signatures that another implementation makes. Neither: that signatures can't be forged.
 #![tactic(auto)]
 
 mod chains;
@@ -26,7 +30,5 @@ mod signature;
 pub use coefficients::{checksum, coef};
 pub use ots_type::OtsType;
 pub use public_key::ots_public;
-pub use signature::{Memory, OtsFault, ots_candidate, ots_candidate_key, ots_sign};
-
-#[cfg(test)]
-mod tests;
+pub use signature::{OtsFault, ots_candidate, ots_candidate_key, ots_sign};
+pub use sporc_base::Memory;

@@ -9,11 +9,9 @@ use crate::coefficients::{coef, with_checksum};
 use crate::ots_type::OtsType;
 use crate::public_key::public_hasher;
 use sha2::{Digest, Sha256};
-use std::alloc::{AllocError, Global};
+use sporc_base::Memory;
+use std::alloc::Global;
 use thiserror::Error;
-
-/// Memory ran out. Nothing else makes a call that answers this fail.
-pub type Memory = AllocError;
 
 /// What is wrong with the form of a signature.
 #[derive(Clone, Copy, Debug, PartialEq, Eq, Error)]

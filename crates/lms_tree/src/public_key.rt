@@ -1,11 +1,12 @@
 // Public keys.
 
-ghost use Rattle.std.specs.Prelude.{◌≡◌, ◌+◌, ◌≤◌, ◌↔◌, ◌++◌, length, take, Some, IsSome, IfSome};
+ghost use Rattle.std.specs.Prelude.{◌≡◌, ◌↔◌, length, Some, IsSome, IfSome};
 ghost use Rattle.lms_ots.specs.OtsType.{ots_type_with_code};
 
 use crate::fields::number_at;
 use crate::lms_type::LmsType;
 use lms_ots::OtsType;
+use sporc_base::put_at;
 
 /// A public key: the types of the tree and of its one-time keys, the tree's identifier `I` and the
 /// value `T[1]` of its root.
@@ -15,14 +16,6 @@ pub struct LmsPublic {
     pub ots: OtsType,
     pub id: [u8; 16],
     pub root: [u8; 32],
-}
-
-// Writes a field after the first `place` bytes.
-fn put(bytes: &mut [u8; 56], place: usize, field: &[u8])
-    requires { place + length field.now ≤ 56 }
-    ensures { take (place + length field.now) bytes.new ≡ take place bytes.old ++ field.now }
-{
-    bytes[place..place + field.len()].copy_from_slice(field);
 }
 
 impl LmsPublic {
@@ -57,10 +50,10 @@ impl LmsPublic {
         ensures read_back { public_key_in result ≡ Some self.now }
     {
         let mut bytes = [0u8; 56];
-        put(&mut bytes, 0, &self.lms.code().to_be_bytes());
-        put(&mut bytes, 4, &self.ots.code().to_be_bytes());
-        put(&mut bytes, 8, &self.id);
-        put(&mut bytes, 24, &self.root);
+        put_at(&mut bytes, 0, &self.lms.code().to_be_bytes());
+        put_at(&mut bytes, 4, &self.ots.code().to_be_bytes());
+        put_at(&mut bytes, 8, &self.id);
+        put_at(&mut bytes, 24, &self.root);
         bytes
     }
 }

@@ -13,7 +13,8 @@ ghost use Rattle.lms_tree.specs.Verification.{Verifies};
 use crate::lms_type::LmsType;
 use crate::nodes::{inner_value, leaf_value};
 use crate::public_key::LmsPublic;
-use lms_ots::{Memory, OtsType, ots_public, ots_sign};
+use lms_ots::{OtsType, ots_public, ots_sign};
+use sporc_base::Memory;
 use std::alloc::Global;
 use std::marker::Model;
 
@@ -87,8 +88,8 @@ fn assembled(
 }
 
 impl Tree {
-    /// The tree of a seed. It computes the public key of every leaf: about 0.4 ms a leaf with W4 and
-    /// 3 ms with W8, and `64 * 2^height` bytes.
+    /// The tree of a seed. It computes the public key of every leaf, about 1,100 compressions of SHA-256 with W4 and
+    /// 8,700 with W8, and keeps `64 * 2^height` bytes.
     pub fn build(
         alloc: Global,
         seed: &[u8; 32],

@@ -8,12 +8,7 @@ use crate::fields::number_at;
 use crate::nodes::{ancestor_value, leaf_value};
 use crate::public_key::LmsPublic;
 use lms_ots::ots_candidate_key;
-
-fn is_same(a: &[u8; 32], b: &[u8; 32]) -> bool
-    ensures { IsTrue result ↔ (a.now ≡ b.now) }
-{
-    a.as_slice() == b.as_slice()
-}
+use sporc_base::is_same;
 
 // Whether a signature has the length that the key's types give, a leaf of the tree and the key's type codes.
 fn has_form(key: &LmsPublic, signature: &[u8]) -> bool

@@ -6,5 +6,5 @@ use Rattle.lms_tree.proofs.public_key.LmsPublic.to_bytes.Goals as goal
 
 pub returns-clause-read_back : goal.returns-clause-read_back
 returns-clause-read_back c =
-    let bytes : c.put-4.new.bytes ≡ public_key_bytes c.args.self.now = grind (arith, common_steps) in
+    let bytes : c.put_at-4.new.bytes ≡ public_key_bytes c.args.self.now = grind (arith, common_steps) in
     rw bytes (public_key_read_back c.args.self.now (search rules) (search rules))
