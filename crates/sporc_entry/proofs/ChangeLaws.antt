@@ -14,7 +14,7 @@ use Rattle.sporc_member.specs.declared.change.Change.TheVariants.{Add, Remove, S
 use Rattle.sporc_member.specs.Role.{role_code_of}
 use Rattle.sporc_entry.specs.declared.change.ChangeBody.{ChangeBody}
 use Rattle.sporc_entry.specs.declared.fault.EntryFault.{EntryFault}
-use Rattle.sporc_entry.specs.declared.wraps.Wrap.{Wrap}
+use Rattle.sporc_entry.specs.declared.wrap.Wrap.{Wrap}
 use Rattle.sporc_entry.specs.Fields.{number_within, role_at, values_at}
 use Rattle.sporc_entry.specs.Outcomes.{EntryReads}
 use Rattle.sporc_entry.specs.ChangeBody.{change_of_kind, change_at, wrap_at, change_body_at, change_body_from, change_bytes, wrap_bytes, change_body_bytes, IsMember, IsChange, IsWrap, IsChangeBody}

@@ -165,7 +165,7 @@ length-header_bytes h rest is = omega (
 )
 
 -- a counted string has four bytes more
-length-counted_bytes : (bytes rest : List ℕ) → length (counted_bytes bytes rest) ≡ 4 + length bytes + length rest
+pub length-counted_bytes : (bytes rest : List ℕ) → length (counted_bytes bytes rest) ≡ 4 + length bytes + length rest
 length-counted_bytes bytes rest = omega (arith, length-append bytes rest)
 
 pub entry_size : (e : Entry) → IsEntry e → length (entry_bytes e) ≤ entry_limit

@@ -6,3 +6,4 @@ pub mod EntryLaws
 pub mod GenesisLaws
 pub mod Written
 pub mod Places
+pub mod ViewLaws

@@ -3,3 +3,4 @@ pub mod Outcomes
 pub mod ChangeBody
 pub mod Entry
 pub mod Genesis
+pub mod EntryView

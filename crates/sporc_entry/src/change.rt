@@ -10,8 +10,9 @@ ghost use Rattle.sporc_entry.specs.ChangeBody.{change_at, wrap_at, change_body_a
 
 use crate::fault::EntryFault;
 use crate::fields::{read_end, read_role, read_u8, read_u16};
-use crate::wraps::{Wrap, Wraps};
-use sporc_bytes::{Cursor, Memory, Out, Short};
+use crate::wrap::{Wrap, Wraps};
+use sporc_base::Memory;
+use sporc_bytes::{Cursor, Out, Short};
 use sporc_hash::Digest32;
 use sporc_member::Change;
 use std::alloc::Global;

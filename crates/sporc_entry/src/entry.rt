@@ -3,14 +3,13 @@
 ghost use Rattle.std.specs.Prelude.{◌≡◌, ◌≤◌, ◌<◌, ◌^◌, length, Ok, IfOk};
 ghost use Rattle.sporc_entry.specs.Outcomes.{EntryReads};
 ghost use Rattle.sporc_entry.specs.declared.entry.Entry.{Entry};
-ghost use Rattle.sporc_entry.specs.Entry.{body_limit, body_read, entry_limit, entry_of, entry_bytes, signed_string, IsEntry};
+ghost use Rattle.sporc_entry.specs.Entry.{entry_limit, entry_of, entry_bytes, signed_string, IsEntry};
 
-use crate::bytes::Bytes;
-use crate::change::read_body;
 use crate::fault::EntryFault;
-use crate::fields::read_end;
-use crate::header::{Header, put_header, read_header};
-use sporc_bytes::{Cursor, Memory, Out};
+use crate::header::{Header, put_header};
+use crate::view::EntryView;
+use sporc_base::{Bytes, Memory};
+use sporc_bytes::Out;
 use std::alloc::Global;
 
 /// An entry of a history: an edit of the text, whose body is a masked delta, or a change of the members, whose body
@@ -23,64 +22,7 @@ pub struct Entry {
     pub signature: Bytes,
 }
 
-// The kind of an entry that is an edit.
-const EDIT: u8 = 1;
-
-// The place of the first byte of an entry's body.
-const BODY_AT: usize = 72;
-
-// How many bytes the body of an edit, the body of a change and a signature may have.
-const EDIT_LIMIT: u32 = 1_048_576;
-
-const CHANGE_LIMIT: u32 = 65_536;
-
-const SIGNATURE_LIMIT: u32 = 9_324;
-
-// How many bytes the body of an entry of this kind may have.
-fn limit_of(kind: u8) -> u32
-    ensures value { result ≡ body_limit kind }
-    ensures small { result ≤ 1048576 }
-{
-    if kind == EDIT {
-        EDIT_LIMIT
-    } else {
-        CHANGE_LIMIT
-    }
-}
-
-// Whether a body is one of this kind.
-fn check_body(alloc: Global, kind: u8, body: &[u8]) -> Result<(), EntryFault>
-    requires { length body.now ≤ 1048576 }
-    ensures { EntryReads (λ _. tt) result (body_read kind 72 body.now) }
-{
-    if kind == EDIT {
-        return Ok(());
-    }
-    let _change = read_body(alloc, body, BODY_AT)?;
-    Ok(())
-}
-
-// The entry that these bytes spell.
-#[tactic(auto, unfolding(crate::specs::Entry::entry_of))]
-fn read_fields(alloc: Global, bytes: &[u8]) -> Result<Entry, EntryFault>
-    ensures { EntryReads (λ e. e) result (entry_of bytes.now) }
-{
-    let mut cursor = Cursor::new(bytes);
-    let header = read_header(&mut cursor)?;
-    let body = cursor.counted(limit_of(header.kind))?;
-    check_body(alloc, header.kind, body)?;
-    let signature = cursor.counted(SIGNATURE_LIMIT)?;
-    read_end(&cursor)?;
-    let body = Bytes::copy_of(alloc, body)?;
-    let signature = Bytes::copy_of(alloc, signature)?;
-    Ok(Entry {
-        header,
-        body,
-        signature,
-    })
-}
-
-/// The entry that these bytes spell. A change's body is read where it stands.
+/// The entry that these bytes spell, copied out of them. A change's body is read where it stands.
 pub fn read_entry(alloc: Global, bytes: &[u8]) -> Result<Entry, EntryFault>
     // What is read is spelled so.
     ensures found { IfOk result (λ e. IsEntry e × (bytes.now ≡ entry_bytes e)) }
@@ -92,7 +34,16 @@ pub fn read_entry(alloc: Global, bytes: &[u8]) -> Result<Entry, EntryFault>
     // Which fault it is.
     ensures exact { EntryReads (λ e. e) result (entry_of bytes.now) }
 {
-    read_fields(alloc, bytes)
+    read_copied(alloc, bytes)
+}
+
+// The entry that these bytes spell, copied out of them.
+fn read_copied(alloc: Global, bytes: &[u8]) -> Result<Entry, EntryFault>
+    ensures { EntryReads (λ e. e) result (entry_of bytes.now) }
+{
+    let view = EntryView::read(alloc, bytes)?;
+    let entry = view.to_entry(alloc)?;
+    Ok(entry)
 }
 
 /// The bytes of an entry: the one spelling of it, where it has one.

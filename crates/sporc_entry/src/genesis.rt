@@ -10,12 +10,15 @@ ghost use Rattle.sporc_entry.specs.Genesis.{founder_at, founders_at, genesis_at,
 
 use crate::fault::GenesisFault;
 use crate::fields::{read_end, read_role, read_u8, read_u16};
-use crate::founders::Founders;
 use lms_tree::LmsPublic;
-use sporc_bytes::{Cursor, Memory, Out, Short};
+use sporc_base::{Items, Memory};
+use sporc_bytes::{Cursor, Out, Short};
 use sporc_hash::Digest32;
 use sporc_member::Founder;
 use std::alloc::Global;
+
+/// The members that a document begins with, seen as the list of them.
+pub type Founders = Items<Founder>;
 
 /// What a document begins with.
 #[derive(Debug, Drop)]

@@ -5,7 +5,8 @@ ghost use Rattle.sporc_bytes.specs.Fields.{Reads};
 ghost use Rattle.sporc_entry.specs.Entry.{header_at, header_bytes};
 
 use crate::fields::read_u8;
-use sporc_bytes::{Cursor, Memory, Out, Short};
+use sporc_base::Memory;
+use sporc_bytes::{Cursor, Out, Short};
 use sporc_hash::Digest32;
 
 /// What stands before an entry's body.

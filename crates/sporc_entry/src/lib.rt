@@ -5,26 +5,24 @@
 //! value.
 #![tactic(auto)]
 
-mod bytes;
 mod change;
 mod entry;
 mod fault;
 mod fields;
-mod founders;
 mod genesis;
 mod header;
 pub mod laws;
-mod wraps;
+mod view;
+mod wrap;
 
-pub use bytes::Bytes;
 pub use change::{ChangeBody, read_change, write_change};
 pub use entry::{Entry, read_entry, signed_part, write_entry};
 pub use fault::{EntryFault, GenesisFault};
-pub use founders::Founders;
-pub use genesis::{Genesis, read_genesis, write_genesis};
+pub use genesis::{Founders, Genesis, read_genesis, write_genesis};
 pub use header::Header;
-pub use sporc_bytes::Memory;
-pub use wraps::{Wrap, Wraps};
+pub use sporc_base::{Bytes, Memory};
+pub use view::{EntryView, MAX_CHANGE_BODY, MAX_EDIT_BODY, MAX_SIGNATURE};
+pub use wrap::{Wrap, Wraps};
 
 #[cfg(test)]
 mod tests;

@@ -8,5 +8,5 @@ returns c = rw (
   c.in_ok-put_header.ensures,
   c.in_ok-put_u8.ensures.ok,
   c.new-out.ensures,
-  c.as_slice.ensures,
+  c.as_slice.ensures.value,
 ) (string_written c.args.entry.now)

@@ -8,6 +8,6 @@ returns c = rw (
   c.in_ok-put_counted.ensures.ok,
   c.in_ok-put_header.ensures,
   c.new-out.ensures,
-  c.as_slice.ensures,
-  c.as_slice-2.ensures,
+  c.as_slice.ensures.value,
+  c.as_slice-2.ensures.value,
 ) (entry_written c.args.entry.now)

@@ -1,0 +1,18 @@
+use Rattle.std.proofs.Common.{arith, ◌≡◌, ◌+◌, length, ap, ◌∙◌}
+use Rattle.std.proofs.lemmas.List.{length-take}
+use Rattle.sporc_entry.specs.Entry.{signed_string}
+use Rattle.sporc_entry.specs.EntryView.{EntryViewModel, parts_entry}
+use Rattle.sporc_entry.proofs.ViewLaws.{view_bound, view_signed}
+use Rattle.sporc_entry.proofs.view.EntryView.signed.Goals as goal
+
+pub slice_bounds-result-end : goal.slice_bounds-result-end
+slice_bounds-result-end c =
+    let i = c.self.inside in
+    let bound = view_bound (parts_entry i.parts.header i.parts.body.now i.parts.signature.now) i.bytes.now c.self.invariant.entry c.self.invariant.spelled in
+    omega (arith, bound, length-take (72 + length i.parts.body.now) i.bytes.now)
+
+pub returns : goal.returns
+returns c =
+    let i = c.self.inside in
+    view_signed (parts_entry i.parts.header i.parts.body.now i.parts.signature.now) i.bytes.now c.self.invariant.entry c.self.invariant.spelled
+    ∙ ap (λ (m : EntryViewModel). signed_string m.entry) c.self.view_is
