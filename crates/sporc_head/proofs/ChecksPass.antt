@@ -38,18 +38,18 @@ three_hold true false c x y z rest p q r h = absurd cc
 three_hold true true false x y z rest p q r h = absurd cc
 
 -- an entry that fails no check for a member fails none for nobody, at the next position
-pub for_nobody : (g : Genesis) (me : Option ℕ) (A : List (List ℕ)) (pos : ℕ) (e : Entry) → first_of (head_checks g me A pos e) ≡ None → first_of (head_checks g None A (length A + 1) e) ≡ None
+pub for_nobody : (g : Genesis) (me : Option ℕ) (entries : List (List ℕ)) (pos : ℕ) (e : Entry) → first_of (head_checks g me entries pos e) ≡ None → first_of (head_checks g None entries (length entries + 1) e) ≡ None
 unfolding head_checks
-for_nobody g me A pos e h =
+for_nobody g me entries pos e h =
     let same = bytes_eq e.header.document g.document in
-    let rest : List (Option Refusal) = history_checks g A e.header ++ (author_checks (member_at (roster_of g A) e.header.author) e ++ roster_checks (roster_of g A) (change_of e)) in
-    let p = three same (eqb pos (length A + 1)) (is_not_removed me A) WrongDocument WrongPosition Removed rest h in
-    three_hold same (eqb (length A + 1) (length A + 1)) true WrongDocument WrongPosition Removed rest p.0 (eq-eqb (length A + 1) (length A + 1) refl) refl p.1
+    let rest : List (Option Refusal) = history_checks g entries e.header ++ (author_checks (member_at (roster_of g entries) e.header.author) e ++ roster_checks (roster_of g entries) (change_of e)) in
+    let p = three same (eqb pos (length entries + 1)) (is_not_removed me entries) WrongDocument WrongPosition Removed rest h in
+    three_hold same (eqb (length entries + 1) (length entries + 1)) true WrongDocument WrongPosition Removed rest p.0 (eq-eqb (length entries + 1) (length entries + 1) refl) refl p.1
 
-pub fault_for_nobody : (g : Genesis) (me : Option ℕ) (A : List (List ℕ)) (pos : ℕ) (b : List ℕ) → head_fault g me A pos b ≡ None → head_fault g None A (length A + 1) b ≡ None
+pub fault_for_nobody : (g : Genesis) (me : Option ℕ) (entries : List (List ℕ)) (pos : ℕ) (b : List ℕ) → head_fault g me entries pos b ≡ None → head_fault g None entries (length entries + 1) b ≡ None
 unfolding head_fault
-fault_for_nobody g me A pos b h = go (entry_of b) h
+fault_for_nobody g me entries pos b h = go (entry_of b) h
   where
-    go : (r : Result Entry ℕ) → fault_read (head_checks g me A pos) r ≡ None → fault_read (head_checks g None A (length A + 1)) r ≡ None
-    go (Ok e) h = for_nobody g me A pos e h
+    go : (r : Result Entry ℕ) → fault_read (head_checks g me entries pos) r ≡ None → fault_read (head_checks g None entries (length entries + 1)) r ≡ None
+    go (Ok e) h = for_nobody g me entries pos e h
     go (Err at) h = absurd cc

@@ -11,29 +11,30 @@ use Rattle.sporc_entry.specs.Genesis.{genesis_bytes, IsGenesis}
 use Rattle.std.specs.List.{All}
 use Rattle.std.proofs.lemmas.Bool.{eqb-true}
 use Rattle.std.proofs.lemmas.List.Elements.{All-nil, All-cons, All-append}
-use Rattle.sporc_head.specs.History.{Started, change_in, is_by, hash_of, count_of}
-use Rattle.sporc_head.specs.Tallies.{Tallies, marked}
-use Rattle.sporc_head.specs.HeadsModel.{Keeps}
+use Rattle.sporc_head.specs.declared.limits.TheConstants.{MAX_ENTRIES}
+use Rattle.sporc_head.specs.History.{CommittedChange, change_in, is_by, hash_of, count_of}
+use Rattle.sporc_head.specs.TablesMatch.{TablesMatch, marked}
+use Rattle.sporc_head.specs.HeadsModel.{HeadsInvariant}
 use Rattle.sporc_head.proofs.Lists.{get_or-set_if}
 use Rattle.sporc_head.proofs.Grows.{chain_more, last_push, count_push, epoch_push, roster_edit, roster_change, removes_in, removed_push}
 
 -- ---- the tables
 
-pub tallies_push : (counts lasts : List ℕ) (removed removed' : List Bool) (A : List (List ℕ)) (b : List ℕ) (a : ℕ) (o : Option Started) → Tallies counts lasts removed A
+pub tables_push : (counts lasts : List ℕ) (removed removed' : List Bool) (entries : List (List ℕ)) (b : List ℕ) (a : ℕ) (o : Option CommittedChange) → TablesMatch counts lasts removed entries
     → a < 65536 → ((n : ℕ) → is_by n b ≡ eqb a n) → change_in b ≡ o
     → length removed' ≡ 65536 → ((n : ℕ) → n < 65536 → get_or removed' n false ≡ (get_or removed n false || removes_in n o))
-    → Tallies (set counts a (get_or counts a 0 + 1)) (set lasts a (length A + 1)) removed' (A ++ b ∷ [])
-tallies_push counts lasts removed removed' A b a o t lt by is len gone = record {
+    → TablesMatch (set counts a (get_or counts a 0 + 1)) (set lasts a (length entries + 1)) removed' (entries ++ b ∷ [])
+tables_push counts lasts removed removed' entries b a o t lt by is len gone = record {
   counts_len = length-set counts a (get_or counts a 0 + 1) ∙ t.counts_len;
-  lasts_len = length-set lasts a (length A + 1) ∙ t.lasts_len;
+  lasts_len = length-set lasts a (length entries + 1) ∙ t.lasts_len;
   removed_len = len;
-  count = λ n l. get_or-set_if counts a n (get_or counts a 0 + 1) 0 (omega (arith, t.counts_len, l)) ∙ counted n l (eqb a n) refl ∙ sym (count_push (is_by n) A b (eqb a n) (by n));
-  last = λ n l. get_or-set_if lasts a n (length A + 1) 0 (omega (arith, t.lasts_len, l)) ∙ ap (cond (eqb a n) (length A + 1)) (t.last n l) ∙ sym (last_push (is_by n) A b (eqb a n) (by n));
-  gone = λ n l. gone n l ∙ ap (λ (x : Bool). x || removes_in n o) (t.gone n l) ∙ sym (removed_push n A b o is);
+  count = λ n l. get_or-set_if counts a n (get_or counts a 0 + 1) 0 (omega (arith, t.counts_len, l)) ∙ counted n l (eqb a n) refl ∙ sym (count_push (is_by n) entries b (eqb a n) (by n));
+  last = λ n l. get_or-set_if lasts a n (length entries + 1) 0 (omega (arith, t.lasts_len, l)) ∙ ap (cond (eqb a n) (length entries + 1)) (t.last n l) ∙ sym (last_push (is_by n) entries b (eqb a n) (by n));
+  gone = λ n l. gone n l ∙ ap (λ (x : Bool). x || removes_in n o) (t.gone n l) ∙ sym (removed_push n entries b o is);
 }
   where
-    counted : (n : ℕ) → n < 65536 → (q : Bool) → eqb a n ≡ q → cond q (get_or counts a 0 + 1) (get_or counts n 0) ≡ cond q (count_of n A + 1) (count_of n A)
-    counted n l true e = ap (λ (k : ℕ). k + 1) (t.count a lt ∙ ap (λ (k : ℕ). count_of k A) (eqb-true a n e))
+    counted : (n : ℕ) → n < 65536 → (q : Bool) → eqb a n ≡ q → cond q (get_or counts a 0 + 1) (get_or counts n 0) ≡ cond q (count_of n entries + 1) (count_of n entries)
+    counted n l true e = ap (λ (k : ℕ). k + 1) (t.count a lt ∙ ap (λ (k : ℕ). count_of k entries) (eqb-true a n e))
     counted n l false e = t.count n l
 
 -- an edit marks no member
@@ -45,7 +46,7 @@ unmarked_gone removed n = go (get_or removed n false)
     go false = refl
 
 -- a change marks the member that it removes
-pub marked_gone : (removed : List Bool) (s : Started) (n : ℕ) → n < length removed → get_or (marked s.body.change removed) n false ≡ (get_or removed n false || removes_in n (Some s))
+pub marked_gone : (removed : List Bool) (s : CommittedChange) (n : ℕ) → n < length removed → get_or (marked s.body.change removed) n false ≡ (get_or removed n false || removes_in n (Some s))
 marked_gone removed s n lt = go s.body.change
   where
     left : (x : Bool) → x ≡ (x || false)
@@ -70,63 +71,63 @@ length-marked (SetRole member role) removed = refl
 
 -- ---- the beginning
 
-pub keeps_open : (g : Genesis) (A hashes : List (List ℕ)) (roster : Roster) (counts lasts : List ℕ) (removed : List Bool) → IsGenesis g → A ≡ [] → hashes ≡ genesis_value (genesis_bytes g) ∷ []
-    → roster ≡ founded g.founders → Tallies counts lasts removed [] → Keeps g A hashes roster 0 0 counts lasts removed
+pub keeps_open : (g : Genesis) (entries hashes : List (List ℕ)) (roster : Roster) (counts lasts : List ℕ) (removed : List Bool) → IsGenesis g → entries ≡ [] → hashes ≡ genesis_value (genesis_bytes g) ∷ []
+    → roster ≡ founded g.founders → TablesMatch counts lasts removed [] → HeadsInvariant g entries hashes roster 0 0 counts lasts removed
 unfolding chain_after
-keeps_open g A hashes roster counts lasts removed is e h r t = subst (λ (x : List (List ℕ)). Keeps g x hashes roster 0 0 counts lasts removed) (sym e) (record {
+keeps_open g entries hashes roster counts lasts removed is e h r t = subst (λ (x : List (List ℕ)). HeadsInvariant g x hashes roster 0 0 counts lasts removed) (sym e) (record {
   genesis = is;
   chained = h;
   members = r;
   change = refl;
   changes = refl;
-  tallies = t;
+  tables = t;
   room = omega arith;
   sized = All-nil (λ b. length b ≤ entry_limit);
 })
 
 -- ---- one entry more
 
-sized_push : (A : List (List ℕ)) (b : List ℕ) → All (λ e. length e ≤ entry_limit) A → length b ≤ entry_limit → All (λ e. length e ≤ entry_limit) (A ++ b ∷ [])
-sized_push A b all size = let P : List ℕ → Type 0 = λ e. length e ≤ entry_limit in All-append P A (b ∷ []) all (All-cons P b [] size (All-nil P))
+sized_push : (entries : List (List ℕ)) (b : List ℕ) → All (λ e. length e ≤ entry_limit) entries → length b ≤ entry_limit → All (λ e. length e ≤ entry_limit) (entries ++ b ∷ [])
+sized_push entries b all size = let P : List ℕ → Type 0 = λ e. length e ≤ entry_limit in All-append P entries (b ∷ []) all (All-cons P b [] size (All-nil P))
 
-pub keeps_edit : (g : Genesis) (A hashes : List (List ℕ)) (roster : Roster) (barrier epoch : ℕ) (counts lasts : List ℕ) (removed : List Bool) (b h : List ℕ) (a : ℕ) (A' hashes' : List (List ℕ)) (counts' lasts' : List ℕ)
-    → Keeps g A hashes roster barrier epoch counts lasts removed → length A < 16384 → length b ≤ entry_limit
-    → a < 65536 → ((n : ℕ) → is_by n b ≡ eqb a n) → change_in b ≡ None → h ≡ next_value (hash_of g A) b
-    → A' ≡ A ++ b ∷ [] → hashes' ≡ hashes ++ h ∷ [] → counts' ≡ set counts a (get_or counts a 0 + 1) → lasts' ≡ set lasts a (length A + 1)
-    → Keeps g A' hashes' roster barrier epoch counts' lasts' removed
-keeps_edit g A hashes roster barrier epoch counts lasts removed b h a A' hashes' counts' lasts' k room size lt by is hash eA eH eC eL =
-    subst (λ (x : List (List ℕ)). Keeps g x hashes' roster barrier epoch counts' lasts' removed) (sym eA)
-    (subst (λ (x : List (List ℕ)). Keeps g (A ++ b ∷ []) x roster barrier epoch counts' lasts' removed) (sym eH)
-    (subst (λ (x : List ℕ). Keeps g (A ++ b ∷ []) (hashes ++ h ∷ []) roster barrier epoch x lasts' removed) (sym eC)
-    (subst (λ (x : List ℕ). Keeps g (A ++ b ∷ []) (hashes ++ h ∷ []) roster barrier epoch (set counts a (get_or counts a 0 + 1)) x removed) (sym eL) (record {
+pub keeps_edit : (g : Genesis) (entries hashes : List (List ℕ)) (roster : Roster) (barrier epoch : ℕ) (counts lasts : List ℕ) (removed : List Bool) (b h : List ℕ) (a : ℕ) (entries' hashes' : List (List ℕ)) (counts' lasts' : List ℕ)
+    → HeadsInvariant g entries hashes roster barrier epoch counts lasts removed → length entries < MAX_ENTRIES → length b ≤ entry_limit
+    → a < 65536 → ((n : ℕ) → is_by n b ≡ eqb a n) → change_in b ≡ None → h ≡ next_value (hash_of g entries) b
+    → entries' ≡ entries ++ b ∷ [] → hashes' ≡ hashes ++ h ∷ [] → counts' ≡ set counts a (get_or counts a 0 + 1) → lasts' ≡ set lasts a (length entries + 1)
+    → HeadsInvariant g entries' hashes' roster barrier epoch counts' lasts' removed
+keeps_edit g entries hashes roster barrier epoch counts lasts removed b h a entries' hashes' counts' lasts' k room size lt by is hash eA eH eC eL =
+    subst (λ (x : List (List ℕ)). HeadsInvariant g x hashes' roster barrier epoch counts' lasts' removed) (sym eA)
+    (subst (λ (x : List (List ℕ)). HeadsInvariant g (entries ++ b ∷ []) x roster barrier epoch counts' lasts' removed) (sym eH)
+    (subst (λ (x : List ℕ). HeadsInvariant g (entries ++ b ∷ []) (hashes ++ h ∷ []) roster barrier epoch x lasts' removed) (sym eC)
+    (subst (λ (x : List ℕ). HeadsInvariant g (entries ++ b ∷ []) (hashes ++ h ∷ []) roster barrier epoch (set counts a (get_or counts a 0 + 1)) x removed) (sym eL) (record {
       genesis = k.genesis;
-      chained = chain_more g A hashes b h k.chained hash;
-      members = k.members ∙ sym (roster_edit g A b is);
-      change = k.change ∙ sym (last_push (λ b. is_some (change_in b)) A b false (ap is_some is));
-      changes = k.changes ∙ sym (epoch_push A b None is);
-      tallies = tallies_push counts lasts removed removed A b a None k.tallies lt by is k.tallies.removed_len (λ n l. unmarked_gone removed n);
-      room = omega (arith, room, length-append A (b ∷ []));
-      sized = sized_push A b k.sized size;
+      chained = chain_more g entries hashes b h k.chained hash;
+      members = k.members ∙ sym (roster_edit g entries b is);
+      change = k.change ∙ sym (last_push (λ b. is_some (change_in b)) entries b false (ap is_some is));
+      changes = k.changes ∙ sym (epoch_push entries b None is);
+      tables = tables_push counts lasts removed removed entries b a None k.tables lt by is k.tables.removed_len (λ n l. unmarked_gone removed n);
+      room = omega (arith, room, length-append entries (b ∷ []));
+      sized = sized_push entries b k.sized size;
     }))))
 
-pub keeps_change : (g : Genesis) (A hashes : List (List ℕ)) (roster : Roster) (barrier epoch : ℕ) (counts lasts : List ℕ) (removed : List Bool) (b h : List ℕ) (a : ℕ) (s : Started) (A' hashes' : List (List ℕ)) (roster' : Roster) (barrier' epoch' : ℕ) (counts' lasts' : List ℕ) (removed' : List Bool)
-    → Keeps g A hashes roster barrier epoch counts lasts removed → length A < 16384 → length b ≤ entry_limit
-    → a < 65536 → ((n : ℕ) → is_by n b ≡ eqb a n) → change_in b ≡ Some s → h ≡ next_value (hash_of g A) b
-    → A' ≡ A ++ b ∷ [] → hashes' ≡ hashes ++ h ∷ [] → roster' ≡ after_change roster s.body.change → barrier' ≡ length A + 1 → epoch' ≡ epoch + 1
-    → counts' ≡ set counts a (get_or counts a 0 + 1) → lasts' ≡ set lasts a (length A + 1) → removed' ≡ marked s.body.change removed
-    → Keeps g A' hashes' roster' barrier' epoch' counts' lasts' removed'
-keeps_change g A hashes roster barrier epoch counts lasts removed b h a s A' hashes' roster' barrier' epoch' counts' lasts' removed' k room size lt by is hash eA eH eR eB eE eC eL eM =
-    subst (λ (x : List (List ℕ)). Keeps g x hashes' roster' barrier' epoch' counts' lasts' removed') (sym eA)
-    (subst (λ (x : List (List ℕ)). Keeps g (A ++ b ∷ []) x roster' barrier' epoch' counts' lasts' removed') (sym eH)
-    (subst (λ (x : List ℕ). Keeps g (A ++ b ∷ []) (hashes ++ h ∷ []) roster' barrier' epoch' x lasts' removed') (sym eC)
-    (subst (λ (x : List ℕ). Keeps g (A ++ b ∷ []) (hashes ++ h ∷ []) roster' barrier' epoch' (set counts a (get_or counts a 0 + 1)) x removed') (sym eL)
-    (subst (λ (x : List Bool). Keeps g (A ++ b ∷ []) (hashes ++ h ∷ []) roster' barrier' epoch' (set counts a (get_or counts a 0 + 1)) (set lasts a (length A + 1)) x) (sym eM) (record {
+pub keeps_change : (g : Genesis) (entries hashes : List (List ℕ)) (roster : Roster) (barrier epoch : ℕ) (counts lasts : List ℕ) (removed : List Bool) (b h : List ℕ) (a : ℕ) (s : CommittedChange) (entries' hashes' : List (List ℕ)) (roster' : Roster) (barrier' epoch' : ℕ) (counts' lasts' : List ℕ) (removed' : List Bool)
+    → HeadsInvariant g entries hashes roster barrier epoch counts lasts removed → length entries < MAX_ENTRIES → length b ≤ entry_limit
+    → a < 65536 → ((n : ℕ) → is_by n b ≡ eqb a n) → change_in b ≡ Some s → h ≡ next_value (hash_of g entries) b
+    → entries' ≡ entries ++ b ∷ [] → hashes' ≡ hashes ++ h ∷ [] → roster' ≡ after_change roster s.body.change → barrier' ≡ length entries + 1 → epoch' ≡ epoch + 1
+    → counts' ≡ set counts a (get_or counts a 0 + 1) → lasts' ≡ set lasts a (length entries + 1) → removed' ≡ marked s.body.change removed
+    → HeadsInvariant g entries' hashes' roster' barrier' epoch' counts' lasts' removed'
+keeps_change g entries hashes roster barrier epoch counts lasts removed b h a s entries' hashes' roster' barrier' epoch' counts' lasts' removed' k room size lt by is hash eA eH eR eB eE eC eL eM =
+    subst (λ (x : List (List ℕ)). HeadsInvariant g x hashes' roster' barrier' epoch' counts' lasts' removed') (sym eA)
+    (subst (λ (x : List (List ℕ)). HeadsInvariant g (entries ++ b ∷ []) x roster' barrier' epoch' counts' lasts' removed') (sym eH)
+    (subst (λ (x : List ℕ). HeadsInvariant g (entries ++ b ∷ []) (hashes ++ h ∷ []) roster' barrier' epoch' x lasts' removed') (sym eC)
+    (subst (λ (x : List ℕ). HeadsInvariant g (entries ++ b ∷ []) (hashes ++ h ∷ []) roster' barrier' epoch' (set counts a (get_or counts a 0 + 1)) x removed') (sym eL)
+    (subst (λ (x : List Bool). HeadsInvariant g (entries ++ b ∷ []) (hashes ++ h ∷ []) roster' barrier' epoch' (set counts a (get_or counts a 0 + 1)) (set lasts a (length entries + 1)) x) (sym eM) (record {
       genesis = k.genesis;
-      chained = chain_more g A hashes b h k.chained hash;
-      members = eR ∙ ap (λ (r : Roster). after_change r s.body.change) k.members ∙ sym (roster_change g A b s is);
-      change = eB ∙ sym (last_push (λ b. is_some (change_in b)) A b true (ap is_some is));
-      changes = eE ∙ ap (λ (n : ℕ). n + 1) k.changes ∙ sym (epoch_push A b (Some s) is);
-      tallies = tallies_push counts lasts removed (marked s.body.change removed) A b a (Some s) k.tallies lt by is (length-marked s.body.change removed ∙ k.tallies.removed_len) (λ n l. marked_gone removed s n (omega (arith, k.tallies.removed_len, l)));
-      room = omega (arith, room, length-append A (b ∷ []));
-      sized = sized_push A b k.sized size;
+      chained = chain_more g entries hashes b h k.chained hash;
+      members = eR ∙ ap (λ (r : Roster). after_change r s.body.change) k.members ∙ sym (roster_change g entries b s is);
+      change = eB ∙ sym (last_push (λ b. is_some (change_in b)) entries b true (ap is_some is));
+      changes = eE ∙ ap (λ (n : ℕ). n + 1) k.changes ∙ sym (epoch_push entries b (Some s) is);
+      tables = tables_push counts lasts removed (marked s.body.change removed) entries b a (Some s) k.tables lt by is (length-marked s.body.change removed ∙ k.tables.removed_len) (λ n l. marked_gone removed s n (omega (arith, k.tables.removed_len, l)));
+      room = omega (arith, room, length-append entries (b ∷ []));
+      sized = sized_push entries b k.sized size;
     })))))

@@ -3,3 +3,4 @@ pub mod Grows
 pub mod ChecksPass
 mod Keeping
 mod OnceChecked
+mod Copied

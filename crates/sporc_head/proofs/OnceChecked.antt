@@ -14,17 +14,13 @@ use Rattle.sporc_entry.specs.declared.genesis.Genesis.{Genesis}
 use Rattle.sporc_entry.specs.Entry.{entry_of, change_of}
 use Rattle.sporc_head.specs.declared.refusal.Refusal.{Refusal}
 use Rattle.sporc_head.specs.declared.refusal.Refusal.TheVariants.{HistoryFull}
-use Rattle.sporc_head.specs.declared.checked.Checked.{Checked}
-use Rattle.sporc_head.specs.History.{Started, change_in, started_by, is_by, roster_of}
+use Rattle.sporc_head.specs.declared.limits.TheConstants.{MAX_ENTRIES}
+use Rattle.sporc_head.specs.CheckedModel.{CheckedModel}
+use Rattle.sporc_head.specs.History.{CommittedChange, member_change_of, change_in, committed_by, is_by, roster_of}
 use Rattle.sporc_head.specs.HeadChecks.{place_checks, history_checks, author_checks, roster_checks, bad_change, head_checks, head_fault, fault_read}
 use Rattle.sporc_head.specs.IsChecked.{IsChecked}
 use Rattle.sporc_head.proofs.Grows.{is_by_read, change_in_read}
 use Rattle.sporc_head.proofs.ChecksPass.{first_of-none, first_of-some}
-
--- the change that bytes start, where they are known to hold it
-pub started_of : (o : Option Started) (c : Change) → option_map (λ s. s.body.change) o ≡ Some c → (s : Started) × (o ≡ Some s) × (s.body.change ≡ c)
-started_of None c h = absurd cc
-started_of (Some s) c h = (s, refl, cc)
 
 -- what holds where a call answers Ok, where it does
 pub ok_of : {X E : Type 0} (r : Result X E) (P : Type 0) → OnOk r P → IsOk r → P
@@ -41,38 +37,54 @@ accepted : (o : Option ChangeFault) (rest : List (Option Refusal)) → first_of 
 accepted None rest h = refl
 accepted (Some f) rest h = absurd cc
 
-none_fails : (g : Genesis) (A : List (List ℕ)) (pos : ℕ) (b : List ℕ) (e : Entry) → entry_of b ≡ Ok e → head_fault g None A pos b ≡ None → first_of (head_checks g None A pos e) ≡ None
+none_fails : (g : Genesis) (entries : List (List ℕ)) (pos : ℕ) (b : List ℕ) (e : Entry) → entry_of b ≡ Ok e → head_fault g None entries pos b ≡ None → first_of (head_checks g None entries pos e) ≡ None
 unfolding head_fault
-none_fails g A pos b e is h = sym (ap (fault_read (head_checks g None A pos)) is) ∙ h
+none_fails g entries pos b e is h = sym (ap (fault_read (head_checks g None entries pos)) is) ∙ h
 
-parts : (g : Genesis) (A : List (List ℕ)) (pos : ℕ) (e : Entry) → first_of (head_checks g None A pos e) ≡ None
-    → (first_of (history_checks g A e.header) ≡ None) × (first_of (roster_checks (roster_of g A) (change_of e)) ≡ None)
+parts : (g : Genesis) (entries : List (List ℕ)) (pos : ℕ) (e : Entry) → first_of (head_checks g None entries pos e) ≡ None
+    → (first_of (history_checks g entries e.header) ≡ None) × (first_of (roster_checks (roster_of g entries) (change_of e)) ≡ None)
 unfolding head_checks
-parts g A pos e h =
-    let rosters = roster_checks (roster_of g A) (change_of e) in
-    let authors = author_checks (member_at (roster_of g A) e.header.author) e in
-    let a = both_pass (place_checks g None A pos e.header) (history_checks g A e.header ++ (authors ++ rosters)) h in
-    let b = both_pass (history_checks g A e.header) (authors ++ rosters) a.1 in
+parts g entries pos e h =
+    let rosters = roster_checks (roster_of g entries) (change_of e) in
+    let authors = author_checks (member_at (roster_of g entries) e.header.author) e in
+    let a = both_pass (place_checks g None entries pos e.header) (history_checks g entries e.header ++ (authors ++ rosters)) h in
+    let b = both_pass (history_checks g entries e.header) (authors ++ rosters) a.1 in
     (b.0, (both_pass authors rosters b.1).1)
 
-pub checked_room : (g : Genesis) (A : List (List ℕ)) (c : Checked) → IsChecked g A c → length A < 16384
-checked_room g A c k =
-    let p = parts g A (length A + 1) c.entry (none_fails g A (length A + 1) c.bytes c.entry k.read k.passed) in
-    ltb-true (length A) 16384 (passes (ltb (length A) 16384) HistoryFull _ p.0).0
+pub checked_room : (g : Genesis) (entries : List (List ℕ)) (c : CheckedModel) → IsChecked g entries c → length entries < MAX_ENTRIES
+checked_room g entries c k =
+    let p = parts g entries (length entries + 1) c.entry (none_fails g entries (length entries + 1) c.bytes c.entry k.read k.passed) in
+    ltb-true (length entries) MAX_ENTRIES (passes (ltb (length entries) MAX_ENTRIES) HistoryFull _ p.0).0
 
-pub checked_by : (g : Genesis) (A : List (List ℕ)) (c : Checked) → IsChecked g A c → (n : ℕ) → is_by n c.bytes ≡ eqb c.entry.header.author n
-checked_by g A c k n = is_by_read n c.bytes c.entry k.read
+pub checked_by : (g : Genesis) (entries : List (List ℕ)) (c : CheckedModel) → IsChecked g entries c → (n : ℕ) → is_by n c.bytes ≡ eqb c.entry.header.author n
+checked_by g entries c k n = is_by_read n c.bytes c.entry k.read
 
-pub checked_edit : (g : Genesis) (A : List (List ℕ)) (c : Checked) → IsChecked g A c → c.change ≡ None → change_in c.bytes ≡ None
-checked_edit g A c k e = change_in_read c.bytes c.entry c.change k.read k.change ∙ ap (started_by c.entry) e
+pub checked_edit : (g : Genesis) (entries : List (List ℕ)) (c : CheckedModel) → IsChecked g entries c → member_change_of c.entry ≡ None → change_in c.bytes ≡ None
+checked_edit g entries c k e = change_in_read c.bytes c.entry (change_of c.entry) k.read refl ∙ ap (committed_by c.entry) (none_in (change_of c.entry) e)
+  where
+    none_in : (o : Option ChangeBody) → option_map (λ b. b.change) o ≡ None → o ≡ None
+    none_in None h = refl
+    none_in (Some b) h = absurd cc
 
-pub checked_change : (g : Genesis) (A : List (List ℕ)) (c : Checked) (body : ChangeBody) → IsChecked g A c → c.change ≡ Some body → option_map (λ s. s.body.change) (change_in c.bytes) ≡ Some body.change
-checked_change g A c body k e = ap (option_map (λ (s : Started). s.body.change)) (change_in_read c.bytes c.entry c.change k.read k.change ∙ ap (started_by c.entry) e)
+-- the change that its bytes hold
+pub checked_change : (g : Genesis) (entries : List (List ℕ)) (c : CheckedModel) (change : Change) → IsChecked g entries c → member_change_of c.entry ≡ Some change
+    → (s : CommittedChange) × (change_in c.bytes ≡ Some s) × (s.body.change ≡ change)
+checked_change g entries c change k e = go (change_of c.entry) (change_in_read c.bytes c.entry (change_of c.entry) k.read refl) e
+  where
+    go : (o : Option ChangeBody) → change_in c.bytes ≡ committed_by c.entry o → option_map (λ b. b.change) o ≡ Some change → (s : CommittedChange) × (change_in c.bytes ≡ Some s) × (s.body.change ≡ change)
+    go None h is = absurd cc
+    go (Some b) h is = (record { header = c.entry.header; body = b }, h, cc)
 
-pub checked_accepted : (g : Genesis) (A : List (List ℕ)) (c : Checked) (body : ChangeBody) → IsChecked g A c → c.change ≡ Some body → change_fault_of (roster_of g A) body.change ≡ None
-checked_accepted g A c body k e =
-    let p = parts g A (length A + 1) c.entry (none_fails g A (length A + 1) c.bytes c.entry k.read k.passed) in
-    accepted (change_fault_of (roster_of g A) body.change) _ (ap (λ (o : Option ChangeBody). first_of (roster_checks (roster_of g A) o)) (sym e ∙ k.change) ∙ p.1)
+pub checked_accepted : (g : Genesis) (entries : List (List ℕ)) (c : CheckedModel) (change : Change) → IsChecked g entries c → member_change_of c.entry ≡ Some change → change_fault_of (roster_of g entries) change ≡ None
+checked_accepted g entries c change k e =
+    let p = parts g entries (length entries + 1) c.entry (none_fails g entries (length entries + 1) c.bytes c.entry k.read k.passed) in
+    go (change_of c.entry) e p.1
+  where
+    go : (o : Option ChangeBody) → option_map (λ b. b.change) o ≡ Some change → first_of (roster_checks (roster_of g entries) o) ≡ None → change_fault_of (roster_of g entries) change ≡ None
+    go None is h = absurd cc
+    go (Some b) is h =
+        let same : b.change ≡ change = cc in
+        ap (change_fault_of (roster_of g entries)) (sym same) ∙ accepted (change_fault_of (roster_of g entries) b.change) _ h
 
 -- ---- where the first fault is found
 
@@ -83,36 +95,36 @@ pub none_of : {X : Type 0} (o : Option X) → ((x : X) → o ≡ Some x → ⊥)
 none_of None h = refl
 none_of (Some x) h = absurd (h x refl)
 
-pub at_place : (g : Genesis) (me : Option ℕ) (A : List (List ℕ)) (pos : ℕ) (e : Entry) (f : Refusal) → first_of (place_checks g me A pos e.header) ≡ Some f → first_of (head_checks g me A pos e) ≡ Some f
+pub at_place : (g : Genesis) (me : Option ℕ) (entries : List (List ℕ)) (pos : ℕ) (e : Entry) (f : Refusal) → first_of (place_checks g me entries pos e.header) ≡ Some f → first_of (head_checks g me entries pos e) ≡ Some f
 unfolding head_checks
-at_place g me A pos e f h = first_of-some (place_checks g me A pos e.header) (history_checks g A e.header ++ (author_checks (member_at (roster_of g A) e.header.author) e ++ roster_checks (roster_of g A) (change_of e))) f h
+at_place g me entries pos e f h = first_of-some (place_checks g me entries pos e.header) (history_checks g entries e.header ++ (author_checks (member_at (roster_of g entries) e.header.author) e ++ roster_checks (roster_of g entries) (change_of e))) f h
 
-module _ (g : Genesis) (me : Option ℕ) (A : List (List ℕ)) (pos : ℕ) (e : Entry) (here : first_of (place_checks g me A pos e.header) ≡ None) where
-  after_place : first_of (head_checks g me A pos e)
-      ≡ first_of (history_checks g A e.header ++ (author_checks (member_at (roster_of g A) e.header.author) e ++ roster_checks (roster_of g A) (change_of e)))
+module _ (g : Genesis) (me : Option ℕ) (entries : List (List ℕ)) (pos : ℕ) (e : Entry) (here : first_of (place_checks g me entries pos e.header) ≡ None) where
+  after_place : first_of (head_checks g me entries pos e)
+      ≡ first_of (history_checks g entries e.header ++ (author_checks (member_at (roster_of g entries) e.header.author) e ++ roster_checks (roster_of g entries) (change_of e)))
   unfolding head_checks
-  after_place = first_of-none (place_checks g me A pos e.header) (history_checks g A e.header ++ (author_checks (member_at (roster_of g A) e.header.author) e ++ roster_checks (roster_of g A) (change_of e))) here
+  after_place = first_of-none (place_checks g me entries pos e.header) (history_checks g entries e.header ++ (author_checks (member_at (roster_of g entries) e.header.author) e ++ roster_checks (roster_of g entries) (change_of e))) here
 
-  pub at_history : (f : Refusal) → first_of (history_checks g A e.header) ≡ Some f → first_of (head_checks g me A pos e) ≡ Some f
-  at_history f h = after_place ∙ first_of-some (history_checks g A e.header) (author_checks (member_at (roster_of g A) e.header.author) e ++ roster_checks (roster_of g A) (change_of e)) f h
+  pub at_history : (f : Refusal) → first_of (history_checks g entries e.header) ≡ Some f → first_of (head_checks g me entries pos e) ≡ Some f
+  at_history f h = after_place ∙ first_of-some (history_checks g entries e.header) (author_checks (member_at (roster_of g entries) e.header.author) e ++ roster_checks (roster_of g entries) (change_of e)) f h
 
-  after_history : (m : Founder) → Some m ≡ member_at (roster_of g A) e.header.author → first_of (history_checks g A e.header) ≡ None
-      → first_of (head_checks g me A pos e) ≡ first_of (author_checks (Some m) e ++ roster_checks (roster_of g A) (change_of e))
+  after_history : (m : Founder) → Some m ≡ member_at (roster_of g entries) e.header.author → first_of (history_checks g entries e.header) ≡ None
+      → first_of (head_checks g me entries pos e) ≡ first_of (author_checks (Some m) e ++ roster_checks (roster_of g entries) (change_of e))
   after_history m is h = after_place
-      ∙ first_of-none (history_checks g A e.header) (author_checks (member_at (roster_of g A) e.header.author) e ++ roster_checks (roster_of g A) (change_of e)) h
-      ∙ ap (λ (o : Option Founder). first_of (author_checks o e ++ roster_checks (roster_of g A) (change_of e))) (sym is)
+      ∙ first_of-none (history_checks g entries e.header) (author_checks (member_at (roster_of g entries) e.header.author) e ++ roster_checks (roster_of g entries) (change_of e)) h
+      ∙ ap (λ (o : Option Founder). first_of (author_checks o e ++ roster_checks (roster_of g entries) (change_of e))) (sym is)
 
-  pub at_author : (m : Founder) (f : Refusal) → Some m ≡ member_at (roster_of g A) e.header.author → first_of (history_checks g A e.header) ≡ None
-      → first_of (author_checks (Some m) e) ≡ Some f → first_of (head_checks g me A pos e) ≡ Some f
-  at_author m f is h a = after_history m is h ∙ first_of-some (author_checks (Some m) e) (roster_checks (roster_of g A) (change_of e)) f a
+  pub at_author : (m : Founder) (f : Refusal) → Some m ≡ member_at (roster_of g entries) e.header.author → first_of (history_checks g entries e.header) ≡ None
+      → first_of (author_checks (Some m) e) ≡ Some f → first_of (head_checks g me entries pos e) ≡ Some f
+  at_author m f is h a = after_history m is h ∙ first_of-some (author_checks (Some m) e) (roster_checks (roster_of g entries) (change_of e)) f a
 
   -- behind the author's checks those of the roster decide
-  pub at_roster : (m : Founder) (o : Option ChangeBody) (fault : Option Refusal) → Some m ≡ member_at (roster_of g A) e.header.author → first_of (history_checks g A e.header) ≡ None
-      → first_of (author_checks (Some m) e) ≡ None → o ≡ change_of e → first_of (roster_checks (roster_of g A) o) ≡ fault → first_of (head_checks g me A pos e) ≡ fault
+  pub at_roster : (m : Founder) (o : Option ChangeBody) (fault : Option Refusal) → Some m ≡ member_at (roster_of g entries) e.header.author → first_of (history_checks g entries e.header) ≡ None
+      → first_of (author_checks (Some m) e) ≡ None → o ≡ change_of e → first_of (roster_checks (roster_of g entries) o) ≡ fault → first_of (head_checks g me entries pos e) ≡ fault
   at_roster m o fault is h a c r = after_history m is h
-      ∙ first_of-none (author_checks (Some m) e) (roster_checks (roster_of g A) (change_of e)) a
-      ∙ ap (λ (o : Option ChangeBody). first_of (roster_checks (roster_of g A) o)) (sym c) ∙ r
+      ∙ first_of-none (author_checks (Some m) e) (roster_checks (roster_of g entries) (change_of e)) a
+      ∙ ap (λ (o : Option ChangeBody). first_of (roster_checks (roster_of g entries) o)) (sym c) ∙ r
 
-pub passed_of : (g : Genesis) (me : Option ℕ) (A : List (List ℕ)) (pos : ℕ) (b : List ℕ) (e : Entry) → entry_of b ≡ Ok e → first_of (head_checks g me A pos e) ≡ None → head_fault g me A pos b ≡ None
+pub passed_of : (g : Genesis) (me : Option ℕ) (entries : List (List ℕ)) (pos : ℕ) (b : List ℕ) (e : Entry) → entry_of b ≡ Ok e → first_of (head_checks g me entries pos e) ≡ None → head_fault g me entries pos b ≡ None
 unfolding head_fault
-passed_of g me A pos b e is h = ap (fault_read (head_checks g me A pos)) is ∙ h
+passed_of g me entries pos b e is h = ap (fault_read (head_checks g me entries pos)) is ∙ h

@@ -16,6 +16,7 @@ use Rattle.sporc_entry.specs.declared.wrap.Wrap.{Wrap}
 use Rattle.sporc_entry.specs.declared.change.ChangeBody.{ChangeBody}
 use Rattle.sporc_entry.specs.declared.genesis.Genesis.{Genesis}
 use Rattle.sporc_entry.specs.Entry.{entry_of, change_of, signed_string}
+use Rattle.sporc_head.specs.declared.limits.TheConstants.{MAX_ENTRIES}
 use Rattle.sporc_head.specs.declared.refusal.Refusal.{Refusal}
 use Rattle.sporc_head.specs.declared.refusal.Refusal.TheVariants.{Malformed, WrongDocument, WrongPosition, Removed, HistoryFull, UnknownAuthor, BaseAhead, BeforeBarrier, WrongHistory, WrongNumber, BehindOwn, WrongEpoch, NoRight, LeafMismatch, BadSignature, BadChange, WrongWraps}
 use Rattle.sporc_head.specs.History.{epoch_of, roster_of, is_removed, barrier_of, last_of, count_of, hash_of}
@@ -68,23 +69,23 @@ roster_checks roster (Some c) =
 
 -- the checks of where an entry is to stand; `me` may be nobody
 abbrev pub place_checks : Genesis → Option ℕ → List (List ℕ) → ℕ → Header → List (Option Refusal)
-place_checks g me A pos h =
+place_checks g me entries pos h =
     unless (bytes_eq h.document g.document) WrongDocument
-    ∷ unless (pos == length A + 1) WrongPosition
-    ∷ unless (is_not_removed me A) Removed
+    ∷ unless (pos == length entries + 1) WrongPosition
+    ∷ unless (is_not_removed me entries) Removed
     ∷ []
 
 -- the checks of what an entry says of the history before it
 abbrev pub history_checks : Genesis → List (List ℕ) → Header → List (Option Refusal)
-history_checks g A h =
-    unless (nat_lt (length A) 16384) HistoryFull
-    ∷ unless (is_some (member_at (roster_of g A) h.author)) UnknownAuthor
-    ∷ unless (nat_le h.base (length A)) BaseAhead
-    ∷ unless (nat_le (barrier_of A) h.base) BeforeBarrier
-    ∷ unless (bytes_eq h.base_hash (hash_of g (take h.base A))) WrongHistory
-    ∷ unless (h.number == count_of h.author A + 1) WrongNumber
-    ∷ unless (nat_le (last_of h.author A) h.base) BehindOwn
-    ∷ unless (h.epoch == epoch_of A) WrongEpoch
+history_checks g entries h =
+    unless (nat_lt (length entries) MAX_ENTRIES) HistoryFull
+    ∷ unless (is_some (member_at (roster_of g entries) h.author)) UnknownAuthor
+    ∷ unless (nat_le h.base (length entries)) BaseAhead
+    ∷ unless (nat_le (barrier_of entries) h.base) BeforeBarrier
+    ∷ unless (bytes_eq h.base_hash (hash_of g (take h.base entries))) WrongHistory
+    ∷ unless (h.number == count_of h.author entries + 1) WrongNumber
+    ∷ unless (nat_le (last_of h.author entries) h.base) BehindOwn
+    ∷ unless (h.epoch == epoch_of entries) WrongEpoch
     ∷ []
 
 -- the checks of an entry against its author
@@ -97,11 +98,11 @@ author_checks author e =
 
 -- all of them, in their order
 unfoldable pub head_checks : Genesis → Option ℕ → List (List ℕ) → ℕ → Entry → List (Option Refusal)
-head_checks g me A pos e =
-    place_checks g me A pos e.header
-    ++ (history_checks g A e.header
-    ++ (author_checks (member_at (roster_of g A) e.header.author) e
-    ++ roster_checks (roster_of g A) (change_of e)))
+head_checks g me entries pos e =
+    place_checks g me entries pos e.header
+    ++ (history_checks g entries e.header
+    ++ (author_checks (member_at (roster_of g entries) e.header.author) e
+    ++ roster_checks (roster_of g entries) (change_of e)))
 
 -- the first check that fails of an entry, or what reading it met
 abbrev pub fault_read : (Entry → List (Option Refusal)) → Result Entry ℕ → Option Refusal
@@ -110,4 +111,4 @@ fault_read checks (Err at) = Some (Malformed at)
 
 -- the first check that fails
 unfoldable pub head_fault : Genesis → Option ℕ → List (List ℕ) → ℕ → List ℕ → Option Refusal
-head_fault g me A pos bytes = fault_read (head_checks g me A pos) (entry_of bytes)
+head_fault g me entries pos bytes = fault_read (head_checks g me entries pos) (entry_of bytes)

@@ -6,9 +6,10 @@ use Rattle.sporc_member.specs.Roster.{Roster}
 use Rattle.sporc_entry.specs.declared.genesis.Genesis.{Genesis}
 use Rattle.sporc_entry.specs.Entry.{entry_limit}
 use Rattle.sporc_entry.specs.Genesis.{genesis_bytes, IsGenesis}
+use Rattle.sporc_head.specs.declared.limits.TheConstants.{MAX_ENTRIES}
 use Rattle.sporc_head.specs.declared.heads.Heads.TheInside.{Inside}
 use Rattle.sporc_head.specs.History.{roster_of, barrier_of, epoch_of}
-use Rattle.sporc_head.specs.Tallies.{Tallies}
+use Rattle.sporc_head.specs.TablesMatch.{TablesMatch}
 
 -- a document's genesis, the entries of a history, and how many more it takes without memory
 pub record HeadsModel : Type 0 where
@@ -28,15 +29,15 @@ model_of a = record {
 }
 
 -- what is looked up is what the entries say
-pub record Keeps (g : Genesis) (A hashes : List (List ℕ)) (roster : Roster) (barrier epoch : ℕ) (counts lasts : List ℕ) (removed : List Bool) : Type 0 where
+pub record HeadsInvariant (g : Genesis) (entries hashes : List (List ℕ)) (roster : Roster) (barrier epoch : ℕ) (counts lasts : List ℕ) (removed : List Bool) : Type 0 where
   pub genesis : IsGenesis g
-  pub chained : hashes ≡ chain (genesis_bytes g) A
-  pub members : roster ≡ roster_of g A
-  pub change : barrier ≡ barrier_of A
-  pub changes : epoch ≡ epoch_of A
-  pub tallies : Tallies counts lasts removed A
-  pub room : length A ≤ 16384
-  pub sized : All (λ b. length b ≤ entry_limit) A
+  pub chained : hashes ≡ chain (genesis_bytes g) entries
+  pub members : roster ≡ roster_of g entries
+  pub change : barrier ≡ barrier_of entries
+  pub changes : epoch ≡ epoch_of entries
+  pub tables : TablesMatch counts lasts removed entries
+  pub room : length entries ≤ MAX_ENTRIES
+  pub sized : All (λ b. length b ≤ entry_limit) entries
 
-abbrev pub keeps_in : Inside → Type 0
-keeps_in a = Keeps a.genesis (entries_in a) a.hashes.items a.roster.roster a.barrier a.epoch a.tables.counts.items a.tables.lasts.items a.tables.removed.items
+abbrev pub invariant_of : Inside → Type 0
+invariant_of a = HeadsInvariant a.genesis (entries_in a) a.hashes.items a.roster.roster a.barrier a.epoch a.tables.counts.items a.tables.lasts.items a.tables.removed.items

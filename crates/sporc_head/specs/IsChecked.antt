@@ -2,15 +2,14 @@
 use Rattle.std.specs.Prelude.{◌≡◌, ℕ, ◌+◌, ◌≤◌, List, length, None, Ok}
 use Rattle.sporc_hash.specs.Chain.{next_value}
 use Rattle.sporc_entry.specs.declared.genesis.Genesis.{Genesis}
-use Rattle.sporc_entry.specs.Entry.{entry_limit, entry_of, change_of}
-use Rattle.sporc_head.specs.declared.checked.Checked.{Checked}
+use Rattle.sporc_entry.specs.Entry.{entry_limit, entry_of}
+use Rattle.sporc_head.specs.CheckedModel.{CheckedModel}
 use Rattle.sporc_head.specs.History.{hash_of}
 use Rattle.sporc_head.specs.HeadChecks.{head_fault}
 
 -- it is what its bytes spell, it has the next value of the chain, and it fails no check at the next position
-pub record IsChecked (g : Genesis) (A : List (List ℕ)) (c : Checked) : Type 0 where
+pub record IsChecked (g : Genesis) (entries : List (List ℕ)) (c : CheckedModel) : Type 0 where
   pub read : entry_of c.bytes ≡ Ok c.entry
   pub sized : length c.bytes ≤ entry_limit
-  pub change : c.change ≡ change_of c.entry
-  pub hash : c.hash ≡ next_value (hash_of g A) c.bytes
-  pub passed : head_fault g None A (length A + 1) c.bytes ≡ None
+  pub hash : c.hash ≡ next_value (hash_of g entries) c.bytes
+  pub passed : head_fault g None entries (length entries + 1) c.bytes ≡ None

@@ -2,6 +2,7 @@ pub mod Refusal
 pub mod Reading
 pub mod History
 pub mod HeadChecks
-pub mod Tallies
+pub mod TablesMatch
+pub mod CheckedModel
 pub mod IsChecked
 pub mod HeadsModel

@@ -3,13 +3,13 @@
 ghost use Rattle.std.specs.Prelude.{◌≡◌, map, IfOk, Some};
 ghost use Rattle.std.specs.Str.{bytes_eq};
 ghost use Rattle.sporc_base.specs.FirstFault.{AnswersUnless, first_of};
-ghost use Rattle.sporc_entry.specs.Entry.{change_of, IsEntry};
 ghost use Rattle.sporc_head.specs.HeadChecks.{roster_checks, names};
 
-use crate::refusal::{Memory, Refusal};
-use sporc_entry::{ChangeBody, Entry, EntryFault, Wrap, read_change};
+use crate::refusal::Refusal;
+use sporc_base::Memory;
+use sporc_entry::{ChangeBody, Wrap};
 use sporc_member::Roster;
-use std::alloc::{AllocError, Global};
+use std::alloc::Global;
 
 // Whether the roster accepts the change, and its wraps name exactly the members after it.
 pub(crate) fn check_change(
@@ -42,20 +42,4 @@ fn is_same(a: &[u16], b: &[u16]) -> bool
     ensures { result ≡ bytes_eq a.now b.now }
 {
     a == b
-}
-
-// The change that an entry holds, if it is one.
-#[tactic(auto, unfolding(sporc_entry::specs::Entry::change_of))]
-pub(crate) fn change_in(alloc: Global, entry: &Entry) -> Result<Option<ChangeBody>, Memory>
-    requires { IsEntry entry.now }
-    ensures { IfOk result (λ change. change ≡ change_of entry.now) }
-{
-    if entry.header.kind != 2 {
-        return Ok(None);
-    }
-    match read_change(alloc, entry.body.as_slice()) {
-        Ok(change) => Ok(Some(change)),
-        Err(EntryFault::Memory) => Err(AllocError),
-        Err(EntryFault::Malformed(_)) => unreachable!(),
-    }
 }

@@ -1,17 +1,23 @@
 //! Entries that were checked.
 
-ghost use Rattle.std.specs.Prelude.{◌≡◌, IfOk};
+ghost use Rattle.std.specs.Prelude.{◌≡◌, ◌≤◌, ◌+◌, length, take, drop, IfOk};
 ghost use Rattle.std.specs.Option.{option_copied};
+ghost use Rattle.sporc_hash.specs.Chain.{next_value};
 ghost use Rattle.sporc_entry.specs.Entry.{change_of};
-ghost use Rattle.sporc_head.specs.CheckedModel.{BODY_PLACE};
+ghost use Rattle.sporc_head.specs.History.{member_change_of};
 
 use sporc_base::{Bytes, Memory};
 use sporc_entry::{ChangeBody, EntryView, Header};
 use sporc_hash::{Digest32, next_hash};
+use sporc_member::Change;
 use std::alloc::Global;
 use std::marker::Model;
 
-/// An entry that was checked at a history, with its bytes and the value of the chain after it.
+// The place of the first byte of an entry's body.
+const BODY_AT: usize = 72;
+
+/// An entry that was checked at a history, with the value of the chain after it. It holds the entry's bytes once: its
+/// body is a slice of them.
 ///
 /// Contracts see the entry, its bytes and that value.
 #[derive(Debug, Drop)]
@@ -21,4 +27,97 @@ pub struct Checked {
     change: Option<ChangeBody>,
     bytes: Bytes,
     hash: Digest32,
+}
+
+impl Model for Checked {
+    ghost use Rattle.sporc_head.specs.CheckedModel.{CheckedModel, model_of, invariant_of};
+
+    ghost Value = { CheckedModel };
+
+    ghost view = { model_of };
+
+    ghost invariant = { invariant_of };
+}
+
+impl Checked {
+    // An entry whose bytes are copied and hashed, after this value of the chain.
+    pub(crate) fn copied(
+        alloc: Global,
+        view: EntryView<'_>,
+        before: &Digest32,
+    ) -> Result<Checked, Memory>
+        ensures entry { IfOk result (λ checked. checked.entry ≡ view.entry.entry) }
+        ensures bytes { IfOk result (λ checked. checked.bytes ≡ view.entry.bytes) }
+        ensures hash { IfOk result (λ checked. checked.hash ≡ next_value before.now view.entry.bytes) }
+    {
+        let header = *view.header();
+        let body_len = view.body().len();
+        let bytes = Bytes::copy_of(alloc, view.bytes())?;
+        let hash = next_hash(before, bytes.as_slice());
+        let change = view.into_change();
+        Ok(Checked {
+            header,
+            body_len,
+            change,
+            bytes,
+            hash,
+        })
+    }
+
+    /// What stands before the body.
+    pub fn header(&self) -> &Header
+        ensures { result.now ≡ self.now.entry.header }
+    {
+        &self.header
+    }
+
+    /// The body: of an edit a masked delta, of a change its bytes.
+    pub fn body(&self) -> &[u8]
+        ensures { result.now ≡ self.now.entry.body }
+    {
+        part_of(self.bytes.as_slice(), BODY_AT, self.body_len)
+    }
+
+    /// What it changes, if it is a change.
+    pub fn change(&self) -> Option<&ChangeBody>
+        ensures { option_copied result ≡ change_of self.now.entry }
+    {
+        self.change.as_ref()
+    }
+
+    // What it does to the members, if it is a change.
+    pub(crate) fn member_change(&self) -> Option<Change>
+        ensures { result ≡ member_change_of self.now.entry }
+    {
+        self.change.as_ref().map(|body| body.change)
+    }
+
+    /// The bytes of the entry.
+    pub fn bytes(&self) -> &[u8]
+        ensures { result.now ≡ self.now.bytes }
+    {
+        self.bytes.as_slice()
+    }
+
+    /// The value of the chain after it.
+    pub fn hash(&self) -> &Digest32
+        ensures { result.now ≡ self.now.hash }
+    {
+        &self.hash
+    }
+
+    // Its bytes, moved out.
+    pub(crate) fn into_bytes(self) -> Bytes
+        ensures { result ≡ self.bytes }
+    {
+        self.bytes
+    }
+}
+
+// So many bytes from a place on.
+fn part_of(bytes: &[u8], place: usize, len: usize) -> &[u8]
+    requires { place + len ≤ length bytes.now }
+    ensures { result.now ≡ take len (drop place bytes.now) }
+{
+    &bytes[place..place + len]
 }

@@ -1,28 +1,31 @@
-//! A history with what its checks look up.
+//! entries history with what its checks look up.
 
-ghost use Rattle.std.specs.Prelude.{◌≡◌, ℕ, ◌+◌, ◌^◌, ◌<◌, ◌≤◌, ◌==◌, ◌∷◌, ◌++◌, [], length, take, map, Option, None, Some, IfOk, IfErr, OnOk, OnErr, IsOk, option_map};
+ghost use Rattle.std.specs.Prelude.{◌≡◌, ℕ, ◌+◌, ◌^◌, ◌<◌, ◌≤◌, ◌==◌, ◌∷◌, ◌++◌, [], length, take, map, Option, None, Some, IfOk, IfErr, OnOk, OnErr, IsOk};
 ghost use Rattle.std.specs.List.{All};
 ghost use Rattle.sporc_base.specs.FirstFault.{Answers, AnswersUnless, first_of};
 ghost use Rattle.sporc_hash.specs.Chain.{chain, next_value};
 ghost use Rattle.sporc_entry.specs.Genesis.{IsGenesis, genesis_bytes};
-ghost use Rattle.sporc_entry.specs.Entry.{change_of, entry_limit, IsEntry};
-ghost use Rattle.sporc_member.specs.Roster.{change_fault_of};
-ghost use Rattle.sporc_head.specs.History.{change_in, is_by, roster_of, barrier_of, epoch_of, count_of, last_of, hash_of, is_removed};
+ghost use Rattle.sporc_entry.specs.Entry.{entry_limit};
+ghost use Rattle.sporc_member.specs.Roster.{member_at};
+ghost use Rattle.sporc_head.specs.History.{member_change_of, roster_of, barrier_of, epoch_of, count_of, last_of, hash_of, is_removed};
 ghost use Rattle.sporc_head.specs.HeadChecks.{place_checks, history_checks, head_checks, head_fault, is_not_removed};
+ghost use Rattle.sporc_head.specs.declared.limits.TheConstants.{MAX_ENTRIES};
 ghost use Rattle.sporc_head.specs.IsChecked.{IsChecked};
 
-use crate::authors::{check_author, is_same};
-use crate::changes::{change_in, check_change};
+use crate::authors::check_author;
+use crate::changes::check_change;
 use crate::checked::Checked;
-use crate::refusal::{Memory, Refusal};
-use crate::tables::{Tables, mark, note};
-use sporc_entry::{Bytes, ChangeBody, Entry, Genesis, Header, read_entry, write_genesis};
-use sporc_hash::{Digest32, genesis_hash, next_hash};
-use sporc_member::{Change, Roster};
+use crate::limits::MAX_ENTRIES;
+use crate::refusal::Refusal;
+use crate::tables::{Tables, record_entry, record_removal};
+use sporc_base::{Memory, is_same};
+use sporc_entry::{EntryView, Genesis, Header, write_genesis};
+use sporc_hash::{Digest32, genesis_hash};
+use sporc_member::{Change, Founder, Roster};
 use std::alloc::Global;
 use std::marker::Model;
 
-/// A history: a document's genesis and the bytes of its entries, with what the checks of the next entry look up.
+/// entries history: a document's genesis and the bytes of its entries, with what the checks of the next entry look up.
 ///
 /// Contracts see the genesis, the entries, and `spare`: how many entries it takes without memory.
 #[derive(Drop)]
@@ -37,13 +40,13 @@ pub struct Heads {
 }
 
 impl Model for Heads {
-    ghost use Rattle.sporc_head.specs.HeadsModel.{HeadsModel, model_of, keeps_in};
+    ghost use Rattle.sporc_head.specs.HeadsModel.{HeadsModel, model_of, invariant_of};
 
     ghost Value = { HeadsModel };
 
     ghost view = { model_of };
 
-    ghost invariant = { keeps_in };
+    ghost invariant = { invariant_of };
 }
 
 impl Heads {
@@ -76,10 +79,10 @@ impl Heads {
         &self.genesis
     }
 
-    /// How many entries there are, at most 16,384.
+    /// How many entries there are, at most [`MAX_ENTRIES`](crate::MAX_ENTRIES).
     pub fn len(&self) -> u32
         ensures value { result ≡ length self.now.entries }
-        ensures within { result ≤ 16384 }
+        ensures within { result ≤ MAX_ENTRIES }
     {
         self.entries.len() as u32
     }
@@ -175,64 +178,53 @@ impl Heads {
         if let Err(memory) = self.reserve() {
             return Err((checked, memory));
         }
-        let Checked {
-            entry,
-            change,
-            bytes,
-            hash,
-        } = checked;
-        match change {
-            Some(body) => self.put_change(entry.header.author, &body.change, bytes, hash),
-            None => self.put_edit(entry.header.author, bytes, hash),
+        match checked.member_change() {
+            Some(change) => self.put_change(change, checked),
+            None => self.put_edit(checked),
         }
         Ok(())
     }
 
-    fn put_edit(&mut self, author: u16, bytes: Bytes, hash: Digest32)
+    // Appends an edit that was checked at this history.
+    fn put_edit(&mut self, checked: Checked)
         requires spare { 1 ≤ self.old.spare }
-        requires room { length self.old.entries < 16384 }
-        requires sized { length bytes ≤ entry_limit }
-        requires by { (n : ℕ) → is_by n bytes ≡ (author == n) }
-        requires edit { change_in bytes ≡ None }
-        requires hash { hash ≡ next_value (hash_of self.old.genesis self.old.entries) bytes }
+        requires checked { IsChecked self.old.genesis self.old.entries checked }
+        requires edit { member_change_of checked.entry ≡ None }
         ensures genesis { self.new.genesis ≡ self.old.genesis }
-        ensures entries { self.new.entries ≡ self.old.entries ++ bytes ∷ [] }
+        ensures entries { self.new.entries ≡ self.old.entries ++ checked.bytes ∷ [] }
     {
         let position = self.entries.len() as u32 + 1;
-        self.hashes.push_reserved(hash);
-        self.entries.push_reserved(bytes.into_vec());
-        note(
+        record_entry(
             &mut self.tables.counts,
             &mut self.tables.lasts,
-            author,
+            checked.header().author,
             position,
         );
+        self.hashes.push_reserved(*checked.hash());
+        self.entries.push_reserved(checked.into_bytes().into_vec());
     }
 
-    fn put_change(&mut self, author: u16, change: &Change, bytes: Bytes, hash: Digest32)
+    // Appends a change that was checked at this history.
+    fn put_change(&mut self, change: Change, checked: Checked)
         requires spare { 1 ≤ self.old.spare }
-        requires room { length self.old.entries < 16384 }
-        requires sized { length bytes ≤ entry_limit }
-        requires by { (n : ℕ) → is_by n bytes ≡ (author == n) }
-        requires change { option_map (λ s. s.body.change) (change_in bytes) ≡ Some change.now }
-        requires accepted { change_fault_of (roster_of self.old.genesis self.old.entries) change.now ≡ None }
-        requires hash { hash ≡ next_value (hash_of self.old.genesis self.old.entries) bytes }
+        requires checked { IsChecked self.old.genesis self.old.entries checked }
+        requires change { member_change_of checked.entry ≡ Some change }
         ensures genesis { self.new.genesis ≡ self.old.genesis }
-        ensures entries { self.new.entries ≡ self.old.entries ++ bytes ∷ [] }
+        ensures entries { self.new.entries ≡ self.old.entries ++ checked.bytes ∷ [] }
     {
         let position = self.entries.len() as u32 + 1;
-        self.hashes.push_reserved(hash);
-        self.entries.push_reserved(bytes.into_vec());
-        note(
+        record_entry(
             &mut self.tables.counts,
             &mut self.tables.lasts,
-            author,
+            checked.header().author,
             position,
         );
-        mark(&mut self.tables.removed, change);
+        record_removal(&mut self.tables.removed, &change);
         self.barrier = position;
         self.epoch += 1;
-        let _ = self.roster.make(change);
+        let _ = self.roster.make(&change);
+        self.hashes.push_reserved(*checked.hash());
+        self.entries.push_reserved(checked.into_bytes().into_vec());
     }
 
     /// The checks of an entry that is to stand at a position. Without `me` it isn't asked whether the history removes a
@@ -244,42 +236,31 @@ impl Heads {
         ensures bytes { IfOk result (λ checked. checked.bytes ≡ bytes.now) }
     {
         let alloc = *self.hashes.allocator();
-        let entry = read_entry(alloc, bytes)?;
-        let change = self.check_entry(alloc, me, pos, &entry)?;
-        let bytes = Bytes::copy_of(alloc, bytes)?;
-        let hash = next_hash(&self.hash_at(self.len()), bytes.as_slice());
-        Ok(Checked {
-            entry,
-            change,
-            bytes,
-            hash,
-        })
+        let view = EntryView::read(alloc, bytes)?;
+        self.check_entry(alloc, me, pos, &view)?;
+        let before = self.hash_at(self.len());
+        let checked = Checked::copied(alloc, view, &before)?;
+        Ok(checked)
     }
 
-    // The checks of an entry, and the change that it holds, if it is one.
+    // The checks of an entry.
     #[tactic(auto, unfolding(crate::specs::HeadChecks::head_checks))]
     fn check_entry(
         &self,
         alloc: Global,
         me: Option<u16>,
         pos: u32,
-        entry: &Entry,
-    ) -> Result<Option<ChangeBody>, Refusal>
-        requires { IsEntry entry.now }
-        ensures fault { AnswersUnless Refusal.Memory result (first_of (head_checks self.now.genesis me self.now.entries pos entry.now)) }
-        ensures change { IfOk result (λ change. change ≡ change_of entry.now) }
+        view: &EntryView<'_>,
+    ) -> Result<(), Refusal>
+        ensures { AnswersUnless Refusal.Memory result (first_of (head_checks self.now.genesis me self.now.entries pos view.now.entry)) }
     {
-        self.check_place(me, pos, &entry.header)?;
-        self.check_history(&entry.header)?;
-        let Some(author) = self.roster().member(entry.header.author) else {
-            return Err(Refusal::UnknownAuthor);
-        };
-        check_author(alloc, author, entry)?;
-        let change = change_in(alloc, entry)?;
-        if let Some(body) = &change {
+        self.check_place(me, pos, view.header())?;
+        let author = self.check_history(view.header())?;
+        check_author(author, view)?;
+        if let Some(body) = view.change() {
             check_change(alloc, self.roster(), body)?;
         }
-        Ok(change)
+        Ok(())
     }
 
     // The checks of where an entry is to stand.
@@ -298,17 +279,18 @@ impl Heads {
         Ok(())
     }
 
-    // The checks of what an entry says of the history before it.
-    fn check_history(&self, header: &Header) -> Result<(), Refusal>
-        ensures { Answers result (first_of (history_checks self.now.genesis self.now.entries header.now)) }
+    // The checks of what an entry says of the history before it, and its author.
+    fn check_history(&self, header: &Header) -> Result<&Founder, Refusal>
+        ensures fault { Answers result (first_of (history_checks self.now.genesis self.now.entries header.now)) }
+        ensures author { IfOk result (λ author. Some author.now ≡ member_at (roster_of self.now.genesis self.now.entries) header.now.author) }
     {
         let len = self.len();
-        if len >= 16_384 {
+        if len >= MAX_ENTRIES {
             return Err(Refusal::HistoryFull);
         }
-        if self.roster().member(header.author).is_none() {
+        let Some(author) = self.roster().member(header.author) else {
             return Err(Refusal::UnknownAuthor);
-        }
+        };
         if header.base > len {
             return Err(Refusal::BaseAhead);
         }
@@ -327,7 +309,7 @@ impl Heads {
         if header.epoch != self.epoch() {
             return Err(Refusal::WrongEpoch);
         }
-        Ok(())
+        Ok(author)
     }
 
     // Whether no member is given, or the history doesn't remove it.

@@ -5,12 +5,15 @@ mod authors;
 mod changes;
 mod checked;
 mod heads;
+mod limits;
 mod refusal;
 mod tables;
 
 pub use checked::Checked;
 pub use heads::Heads;
-pub use refusal::{Memory, Refusal};
+pub use limits::MAX_ENTRIES;
+pub use refusal::Refusal;
+pub use sporc_base::Memory;
 
 #[cfg(test)]
 mod tests;

@@ -2,14 +2,12 @@
 
 ghost use Rattle.std.specs.Prelude.{◌≡◌, IfOk, string_bytes};
 
+use sporc_base::Memory;
 use sporc_entry::EntryFault;
 use sporc_member::ChangeFault;
 use std::alloc::{AllocError, AllocFailed, Global};
 use std::fmt::Write;
 use thiserror::Error;
-
-/// No memory was left; all is as it was before the call.
-pub type Memory = AllocError;
 
 /// The first check that an entry fails at a history, in the order of the checks.
 #[derive(Clone, Copy, Debug, PartialEq, Eq, Error)]

@@ -1,13 +1,12 @@
 //! Tables by number of what a history says of its authors and members.
 
-ghost use Rattle.std.specs.Prelude.{◌≡◌, ◌+◌, ◌<◌, ◌^◌, length, IfOk, [], slice_index, slice_index_or, slice_set, true, false};
-ghost use Rattle.sporc_head.specs.Tallies.{Tallies, marked, AreZeros, AreUnmarked};
+ghost use Rattle.std.specs.Prelude.{◌≡◌, ◌+◌, ◌<◌, ◌^◌, length, IfOk, [], slice_index, slice_set};
+ghost use Rattle.sporc_head.specs.TablesMatch.{TablesMatch, marked, AreZeros};
 
+use crate::limits::NUMBERS;
+use sporc_base::{Memory, unmarked};
 use sporc_member::Change;
-use std::alloc::{AllocError, Global};
-
-/// How many numbers of members there can be.
-const NUMBERS: usize = 65_536;
+use std::alloc::Global;
 
 /// How many entries each author has, where its last one stands, and which members a change removed.
 #[derive(Debug, Drop)]
@@ -19,8 +18,8 @@ pub(crate) struct Tables {
 
 impl Tables {
     /// The tables of an empty history.
-    pub(crate) fn new(alloc: Global) -> Result<Tables, AllocError>
-        ensures { IfOk result (λ t. Tallies t.counts.items t.lasts.items t.removed.items []) }
+    pub(crate) fn new(alloc: Global) -> Result<Tables, Memory>
+        ensures { IfOk result (λ t. TablesMatch t.counts.items t.lasts.items t.removed.items []) }
     {
         Ok(Tables {
             counts: zeros(alloc, NUMBERS)?,
@@ -31,7 +30,7 @@ impl Tables {
 }
 
 // One entry more of an author, at a position.
-pub(crate) fn note(counts: &mut Vec<u32>, lasts: &mut Vec<u32>, author: u16, position: u32)
+pub(crate) fn record_entry(counts: &mut Vec<u32>, lasts: &mut Vec<u32>, author: u16, position: u32)
     requires counts { length counts.old.items ≡ 65536 }
     requires lasts { length lasts.old.items ≡ 65536 }
     requires room { slice_index counts.old.items author + 1 < 2 ^ 32 }
@@ -44,7 +43,7 @@ pub(crate) fn note(counts: &mut Vec<u32>, lasts: &mut Vec<u32>, author: u16, pos
 }
 
 // Marks the member that a change removes.
-pub(crate) fn mark(removed: &mut Vec<bool>, change: &Change)
+pub(crate) fn record_removal(removed: &mut Vec<bool>, change: &Change)
     requires { length removed.old.items ≡ 65536 }
     ensures { removed.new.items ≡ marked change.now removed.old.items }
 {
@@ -54,15 +53,8 @@ pub(crate) fn mark(removed: &mut Vec<bool>, change: &Change)
 }
 
 // So many zeros.
-fn zeros(alloc: Global, size: usize) -> Result<Vec<u32>, AllocError>
+fn zeros(alloc: Global, size: usize) -> Result<Vec<u32>, Memory>
     ensures { IfOk result (λ zeros. AreZeros zeros.items size) }
 {
     vec![in alloc; 0; size]
-}
-
-// A table with no marks.
-fn unmarked(alloc: Global, size: usize) -> Result<Vec<bool>, AllocError>
-    ensures { IfOk result (λ marks. AreUnmarked marks.items size) }
-{
-    vec![in alloc; false; size]
 }

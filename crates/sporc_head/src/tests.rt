@@ -222,7 +222,7 @@ fn take(
 ) -> Result<(), Fail> {
     let bytes = draft.bytes(rt, alloc, heads, trees)?;
     let checked = heads.check(draft.me, draft.pos, bytes.as_slice())?;
-    assert_eq!(rt; checked.bytes.as_slice(), bytes.as_slice());
+    assert_eq!(rt; checked.bytes(), bytes.as_slice());
     match heads.push(checked) {
         Ok(()) => Ok(()),
         Err((_, memory)) => Err(memory.into()),

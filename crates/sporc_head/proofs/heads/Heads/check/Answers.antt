@@ -1,6 +1,7 @@
-use Rattle.std.proofs.Common.{◌≡◌, ℕ, List, length, take, ap, sym, ◌∙◌, subst, arith, ◌≤◌}
+use Rattle.std.proofs.Common.{◌≡◌, ◌≤◌, ℕ, List, length, take, ap, sym, ◌∙◌, subst, arith, Result, Ok}
 use Rattle.std.proofs.lemmas.List.{take_all}
 use Rattle.sporc_hash.specs.Chain.{next_value}
+use Rattle.sporc_entry.specs.declared.entry.Entry.{Entry}
 use Rattle.sporc_entry.specs.Entry.{entry_limit, entry_of}
 use Rattle.sporc_head.specs.History.{hash_of}
 use Rattle.sporc_head.proofs.ChecksPass.{fault_for_nobody}
@@ -10,15 +11,17 @@ use Rattle.sporc_head.proofs.heads.Heads.check.Goals as goal
 pub returns-clause-checked : goal.returns-clause-checked
 returns-clause-checked c =
     let g = c.args.self.now.genesis in
-    let A = c.args.self.now.entries in
-    let read : entry_of c.in_ok-bytes.bytes ≡ _ = ap entry_of c.in_ok-bytes.ensures ∙ c.in_ok-entry.ensures.exact in
-    let all : length A ≤ length A = omega arith in
+    let entries : List (List ℕ) = c.args.self.now.entries in
+    let checked = c.in_ok-checked.checked in
+    let same : checked.bytes ≡ c.args.bytes.now = c.in_ok-checked.ensures.bytes ∙ c.in_ok-view.ensures.bytes in
+    let made : Entry → Result Entry ℕ = λ e. Ok e in
+    let read : entry_of checked.bytes ≡ Ok checked.entry = ap entry_of same ∙ c.in_ok-view.ensures.exact ∙ ap made (sym c.in_ok-checked.ensures.entry) in
+    let seen : entry_of checked.bytes ≡ Ok c.in_ok-view.view.entry = ap entry_of same ∙ c.in_ok-view.ensures.exact in
+    let all : length entries ≤ length entries = omega arith in
+    let last : c.hash_at-before.result ≡ hash_of g entries = c.hash_at-before.ensures ∙ ap (λ (n : ℕ). hash_of g (take n entries)) c.len.ensures.value ∙ ap (hash_of g) (take_all (length entries) entries all) in
     record {
       read = read;
-      sized = subst (λ (b : List ℕ). length b ≤ entry_limit) (sym c.in_ok-bytes.ensures) c.in_ok-entry.ensures.sized;
-      change = c.in_ok-change.ensures.change;
-      hash = c.next_hash-hash.ensures
-          ∙ ap (λ (v : List ℕ). next_value v c.as_slice.result.now) (c.hash_at.ensures ∙ ap (λ (n : ℕ). hash_of g (take n A)) c.len.ensures.value ∙ ap (hash_of g) (take_all (length A) A all))
-          ∙ ap (next_value (hash_of g A)) c.as_slice.ensures;
-      passed = fault_for_nobody g c.args.me A c.args.pos c.in_ok-bytes.bytes (passed_of g c.args.me A c.args.pos c.in_ok-bytes.bytes c.in_ok-entry.entry read c.in_ok-change.ensures.fault);
+      sized = subst (λ (b : List ℕ). length b ≤ entry_limit) (sym same) c.in_ok-view.ensures.sized;
+      hash = c.in_ok-checked.ensures.hash ∙ ap (λ (v : List ℕ). next_value v c.in_ok-view.view.bytes) last ∙ ap (next_value (hash_of g entries)) (sym c.in_ok-checked.ensures.bytes);
+      passed = fault_for_nobody g c.args.me entries c.args.pos checked.bytes (passed_of g c.args.me entries c.args.pos checked.bytes c.in_ok-view.view.entry seen c.in_ok-check_entry.ensures);
     }

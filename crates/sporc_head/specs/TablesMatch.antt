@@ -5,7 +5,7 @@ use Rattle.sporc_member.specs.declared.change.Change.TheVariants.{Remove}
 use Rattle.sporc_head.specs.History.{count_of, last_of, is_removed}
 
 -- how many entries each author has, where its last one stands, and whether a change removed it
-pub record Tallies (counts lasts : List ℕ) (removed : List Bool) (entries : List (List ℕ)) : Type 0 where
+pub record TablesMatch (counts lasts : List ℕ) (removed : List Bool) (entries : List (List ℕ)) : Type 0 where
   pub counts_len : length counts ≡ 65536
   pub lasts_len : length lasts ≡ 65536
   pub removed_len : length removed ≡ 65536
@@ -22,8 +22,3 @@ marked _ removed = removed
 pub record AreZeros (table : List ℕ) (size : ℕ) : Type 0 where
   pub len : length table ≡ size
   pub each : (n : ℕ) → slice_index table n ≡ 0
-
--- so many tests that are false
-pub record AreUnmarked (table : List Bool) (size : ℕ) : Type 0 where
-  pub len : length table ≡ size
-  pub each : (n : ℕ) → slice_index_or table n false ≡ false
