@@ -7,7 +7,7 @@ use Rattle.std.specs.FinMap.{get}
 use Rattle.sporc_cipher.specs.Mask.{mask_of}
 use Rattle.sporc_cipher.proofs.Stream.{mask_from-mask_from}
 use Rattle.sporc_entry.specs.declared.change.ChangeBody.{ChangeBody}
-use Rattle.sporc_entry.specs.declared.wraps.Wrap.{Wrap}
+use Rattle.sporc_entry.specs.declared.wrap.Wrap.{Wrap}
 use Rattle.sporc_epoch.specs.Keys.{Keys}
 use Rattle.sporc_epoch.specs.Streams.{entry_stream, previous_stream}
 use Rattle.sporc_epoch.specs.Sealing.{Sealing, wraps_sealed, body_sealed, lesser, least_unpaired, body_unless, change_sealed}

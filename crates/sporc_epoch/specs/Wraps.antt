@@ -3,7 +3,7 @@ use Rattle.std.specs.Prelude.{ℕ, ◌==◌, List, Option, option_and_then, opti
 use Rattle.std.specs.FinMap.{get}
 use Rattle.sporc_cipher.specs.Mask.{mask_of}
 use Rattle.sporc_entry.specs.declared.change.ChangeBody.{ChangeBody}
-use Rattle.sporc_entry.specs.declared.wraps.Wrap.{Wrap}
+use Rattle.sporc_entry.specs.declared.wrap.Wrap.{Wrap}
 use Rattle.sporc_epoch.specs.Keys.{Keys}
 use Rattle.sporc_epoch.specs.Streams.{entry_stream, previous_stream}
 
