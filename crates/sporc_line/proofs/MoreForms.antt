@@ -8,7 +8,7 @@ use Rattle.sporc_delta.specs.Marks.{Mark, apply}
 use Rattle.sporc_entry.specs.declared.entry.Entry.{Entry}
 use Rattle.sporc_entry.specs.declared.genesis.Genesis.{Genesis}
 use Rattle.sporc_entry.specs.Entry.{entry_of}
-use Rattle.sporc_head.specs.History.{Started, change_in, changes, epoch_of}
+use Rattle.sporc_head.specs.History.{CommittedChange, change_in, changes, epoch_of}
 use Rattle.sporc_line.specs.Kit.{Kit}
 use Rattle.sporc_line.specs.Keys.{key_started, key_after, key_of}
 use Rattle.sporc_line.specs.Operations.{Operation, operation_in, operation_read, operation_of, operations}
@@ -20,19 +20,19 @@ use Rattle.sporc_line.proofs.Goods.{good_entry, good_front, last_passes}
 
 -- ---- the keys of epochs that began before stay
 
-pub key_after_front : (g : Genesis) (kit : Kit) (cs ds : List Started) (e : ℕ) → e ≤ length cs → key_after g kit (cs ++ ds) e ≡ key_after g kit cs e
+pub key_after_front : (g : Genesis) (kit : Kit) (cs ds : List CommittedChange) (e : ℕ) → e ≤ length cs → key_after g kit (cs ++ ds) e ≡ key_after g kit cs e
 unfolding key_after
 key_after_front g kit cs ds zero h = refl
 key_after_front g kit cs ds (suc e) h =
     let a = take-append-le (suc e) cs ds h in
     let b = slice_get_before cs ds e h in
-    ap (λ (l : List Started). key_started g kit l (suc e) (slice_get (cs ++ ds) e)) a ∙ ap (key_started g kit (take (suc e) cs) (suc e)) b
+    ap (λ (l : List CommittedChange). key_started g kit l (suc e) (slice_get (cs ++ ds) e)) a ∙ ap (key_started g kit (take (suc e) cs) (suc e)) b
 
 pub changes_append : (A B : List (List ℕ)) → changes (A ++ B) ≡ changes A ++ changes B
 changes_append A B = filter_map-append change_in A B
 
 pub key_of_push : (g : Genesis) (kit : Kit) (A : List (List ℕ)) (b : List ℕ) (e : ℕ) → e ≤ epoch_of A → key_of g kit (A ++ b ∷ []) e ≡ key_of g kit A e
-key_of_push g kit A b e h = ap (λ (cs : List Started). key_after g kit cs e) (changes_append A (b ∷ [])) ∙ key_after_front g kit (changes A) (changes (b ∷ [])) e h
+key_of_push g kit A b e h = ap (λ (cs : List CommittedChange). key_after g kit cs e) (changes_append A (b ∷ [])) ∙ key_after_front g kit (changes A) (changes (b ∷ [])) e h
 
 -- the changes of a beginning begin those of the history
 pub changes_front : (A : List (List ℕ)) (n : ℕ) → changes A ≡ changes (take n A) ++ changes (drop n A)
@@ -43,7 +43,7 @@ epoch_front A n = omega (arith, ap length (changes_front A n), length-append (ch
 
 -- the key of an epoch that began in a beginning is that of the whole history
 pub key_of_take : (g : Genesis) (kit : Kit) (A : List (List ℕ)) (n e : ℕ) → e ≤ epoch_of (take n A) → key_of g kit A e ≡ key_of g kit (take n A) e
-key_of_take g kit A n e h = ap (λ (cs : List Started). key_after g kit cs e) (changes_front A n) ∙ key_after_front g kit (changes (take n A)) (changes (drop n A)) e h
+key_of_take g kit A n e h = ap (λ (cs : List CommittedChange). key_after g kit cs e) (changes_front A n) ∙ key_after_front g kit (changes (take n A)) (changes (drop n A)) e h
 
 -- ---- the operations
 

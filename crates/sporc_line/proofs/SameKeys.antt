@@ -19,7 +19,7 @@ use Rattle.sporc_entry.specs.declared.genesis.Genesis.{Genesis}
 use Rattle.sporc_entry.specs.Entry.{entry_of, change_of}
 use Rattle.sporc_entry.specs.Genesis.{genesis_bytes}
 use Rattle.sporc_head.specs.declared.refusal.Refusal.TheVariants.{NoKey, WrongKey}
-use Rattle.sporc_head.specs.History.{Started, change_in, changes, epoch_of, is_removed}
+use Rattle.sporc_head.specs.History.{CommittedChange, change_in, changes, epoch_of, is_removed}
 use Rattle.sporc_head.proofs.Grows.{changes_push, removed_push, removes_in, change_in_read}
 use Rattle.sporc_line.specs.Kit.{Kit}
 use Rattle.sporc_line.specs.Keys.{key_after, key_of}
@@ -35,17 +35,17 @@ use Rattle.sporc_line.proofs.MoreForms.{key_after_front, key_of_take, epoch_fron
 
 -- ---- the commitment that an epoch's key meets
 
-abbrev commitment_in : Genesis → Option Started → List ℕ
+abbrev commitment_in : Genesis → Option CommittedChange → List ℕ
 commitment_in g None = g.commitment
 commitment_in g (Some c) = c.body.commitment
 
 -- that of the genesis, or of the change that starts the epoch
-abbrev pub commitment_at : Genesis → List Started → ℕ → List ℕ
+abbrev pub commitment_at : Genesis → List CommittedChange → ℕ → List ℕ
 commitment_at g cs zero = g.commitment
 commitment_at g cs (suc e) = commitment_in g (slice_get cs e)
 
 -- each key after changes meets its commitment
-abbrev KeysMeet : Genesis → Kit → List Started → Type 0
+abbrev KeysMeet : Genesis → Kit → List CommittedChange → Type 0
 KeysMeet g kit cs = (e : ℕ) → e ≤ length cs → Meets g e (key_after g kit cs e) (commitment_at g cs e)
 
 -- ---- the key that a change starts
@@ -77,7 +77,7 @@ meets_new g epoch c (Some old) None h = absurd cc
 meets_new g epoch c (Some old) (Some key) h = (bytes_eq-Decides (commitment_of g.document epoch key) c.commitment).0 (and_parts _ _ h).0
 
 -- the change under the header of its entry
-abbrev pub committed : Entry → ChangeBody → Started
+abbrev pub committed : Entry → ChangeBody → CommittedChange
 committed e c = record { header = e.header; body = c }
 
 -- the key of the epoch that a change starts, where it passed and doesn't remove the member
@@ -90,12 +90,12 @@ change_key g kit A pos e c p is kept =
 
 -- ---- all keys of a good history
 
-commitment_at_front : (g : Genesis) (cs ds : List Started) (e : ℕ) → e ≤ length cs → commitment_at g (cs ++ ds) e ≡ commitment_at g cs e
+commitment_at_front : (g : Genesis) (cs ds : List CommittedChange) (e : ℕ) → e ≤ length cs → commitment_at g (cs ++ ds) e ≡ commitment_at g cs e
 commitment_at_front g cs ds zero h = refl
 commitment_at_front g cs ds (suc e) h = ap (commitment_in g) (slice_get_before cs ds e h)
 
 -- one change more, whose key meets its commitment
-meets_more : (g : Genesis) (kit : Kit) (cs : List Started) (c : Started) → KeysMeet g kit cs
+meets_more : (g : Genesis) (kit : Kit) (cs : List CommittedChange) (c : CommittedChange) → KeysMeet g kit cs
     → Meets g (length cs + 1) (key_after g kit (cs ++ c ∷ []) (length cs + 1)) c.body.commitment → KeysMeet g kit (cs ++ c ∷ [])
 meets_more g kit cs c old new e h = elim (cases_lt (length cs) e) [
   | inr l ↦ rw (key_after_front g kit cs (c ∷ []) e l, commitment_at_front g cs (c ∷ []) e l) (old e l)
@@ -109,7 +109,7 @@ meets_more g kit cs c old new e h = elim (cases_lt (length cs) e) [
 ]
 
 -- a member that is still there was there before
-pub not_removed_before : (me : ℕ) (A : List (List ℕ)) (b : List ℕ) (o : Option Started) → change_in b ≡ o → is_removed me (A ++ b ∷ []) ≡ false → (is_removed me A ≡ false) × (removes_in me o ≡ false)
+pub not_removed_before : (me : ℕ) (A : List (List ℕ)) (b : List ℕ) (o : Option CommittedChange) → change_in b ≡ o → is_removed me (A ++ b ∷ []) ≡ false → (is_removed me A ≡ false) × (removes_in me o ≡ false)
 not_removed_before me A b o is h = or_parts (is_removed me A) (removes_in me o) (sym (removed_push me A b o is) ∙ h)
 
 abbrev IfThere : Genesis → Kit → List (List ℕ) → Type 0

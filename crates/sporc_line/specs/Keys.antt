@@ -4,11 +4,11 @@ use Rattle.std.specs.FinMap.{get}
 use Rattle.sporc_member.specs.Roster.{member_at, removes, roster_after}
 use Rattle.sporc_entry.specs.declared.genesis.Genesis.{Genesis}
 use Rattle.sporc_epoch.specs.Wraps.{wrap_opened}
-use Rattle.sporc_head.specs.History.{Started, changes}
+use Rattle.sporc_head.specs.History.{CommittedChange, changes}
 use Rattle.sporc_line.specs.Kit.{Kit}
 
 -- the key of epoch e, which a change starts; `committed` are the changes up to that one
-unfoldable pub key_started : Genesis → Kit → List Started → ℕ → Option Started → Option (List ℕ)
+unfoldable pub key_started : Genesis → Kit → List CommittedChange → ℕ → Option CommittedChange → Option (List ℕ)
 key_started genesis kit committed e None = None
 key_started genesis kit committed e (Some c) =
     if removes kit.me c.body.change then None
@@ -16,7 +16,7 @@ key_started genesis kit committed e (Some c) =
     else get kit.ring e
 
 -- the key of epoch e after changes: that of epoch 0 is given, each later one is read off the change that starts it
-unfoldable pub key_after : Genesis → Kit → List Started → ℕ → Option (List ℕ)
+unfoldable pub key_after : Genesis → Kit → List CommittedChange → ℕ → Option (List ℕ)
 key_after genesis kit committed zero = get kit.ring 0
 key_after genesis kit committed (suc e) = key_started genesis kit (take (suc e) committed) (suc e) (slice_get committed e)
 
