@@ -1,0 +1,9 @@
+use Rattle.std.proofs.Common.{◌≡◌, ◌-◌}
+use Rattle.sporc_bytes.specs.Fields.{counted_at}
+use Rattle.sporc_entry.specs.Fields.{values_at}
+use Rattle.sporc_entry.proofs.Lists.{with_front}
+use Rattle.sporc_wire.specs.declared.cutter.TheConstants.{MAX_BODY}
+use Rattle.sporc_wire.proofs.to_client.read_list.Given as goal
+
+abbrev pub invariant-loop : goal.invariant-loop
+invariant-loop l = with_front l.entries.items (values_at (counted_at MAX_BODY) (l.count - l.counter) l.cursor) ≡ values_at (counted_at MAX_BODY) l.count l.fn.cursor

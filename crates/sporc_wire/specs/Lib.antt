@@ -1,0 +1,6 @@
+pub mod CutterModel
+pub mod Messages
+pub mod Refusals
+pub mod Stream
+pub mod ToClient
+pub mod ToServer

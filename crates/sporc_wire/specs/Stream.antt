@@ -1,0 +1,29 @@
+-- A stream of frames: each is the length of a body, four bytes with the highest first, and then the body.
+use Rattle.std.specs.Prelude.{ℕ, nat_lt, List, ◌++◌, length, take, drop, if◌then◌else◌}
+use Rattle.std.specs.Int.{w32, to_be_bytes, from_be_bytes}
+use Rattle.sporc_wire.specs.declared.cutter.TheConstants.{MAX_BODY}
+
+-- the frame of a body
+abbrev pub frame : List ℕ → List ℕ
+frame body = to_be_bytes w32 (length body) ++ body
+
+-- what stands at the front of a stream
+pub data Front : Type 0 where
+  -- a part of a frame, or nothing
+  partial : Front
+  -- a length above the limit
+  too_long : ℕ → Front
+  -- a body, and the bytes after its frame
+  whole : List ℕ → List ℕ → Front
+
+-- a body of this length, and what follows it
+unfoldable pub body_front : ℕ → List ℕ → Front
+body_front len bytes =
+    if nat_lt MAX_BODY len then too_long len
+    else if nat_lt (length bytes) len then partial
+    else whole (take len bytes) (drop len bytes)
+
+unfoldable pub front : List ℕ → Front
+front bytes =
+    if nat_lt (length bytes) 4 then partial
+    else body_front (from_be_bytes w32 (take 4 bytes)) (drop 4 bytes)

@@ -1,0 +1,69 @@
+// What both kinds of messages have in common.
+
+ghost use Rattle.std.specs.Prelude.{◌≡◌, ℕ, List, Result};
+ghost use Rattle.sporc_base.specs.Outcome.{GivesUnless};
+ghost use Rattle.sporc_bytes.specs.Fields.{Reads, end_at, fault_as};
+
+use sporc_bytes::{Cursor, Short};
+use std::alloc::{AllocError, AllocFailed, Global};
+
+// Why the body of a frame gives no message.
+#[derive(Clone, Copy, Debug, PartialEq, Eq)]
+pub(crate) enum BodyFault {
+    // The field whose first byte has this place in the body is cut short or forbidden.
+    Bad(usize),
+    Memory,
+}
+
+impl From<Short> for BodyFault {
+    ghost use Rattle.std.specs.Prelude.{◌≡◌};
+    ghost use Rattle.sporc_wire.specs.declared.message.BodyFault.TheVariants as faults;
+
+    ghost from_gives = { λ short e. e ≡ faults.Bad short.0 };
+
+    fn from(short: Short) -> BodyFault {
+        BodyFault::Bad(short.0)
+    }
+}
+
+impl From<AllocError> for BodyFault {
+    ghost use Rattle.std.specs.Prelude.{◌≡◌};
+    ghost use Rattle.sporc_wire.specs.declared.message.BodyFault.TheVariants as faults;
+
+    ghost from_gives = { λ _ e. e ≡ faults.Memory };
+
+    fn from(_: AllocError) -> BodyFault {
+        BodyFault::Memory
+    }
+}
+
+impl<T: Drop> From<AllocFailed<T>> for BodyFault {
+    ghost use Rattle.std.specs.Prelude.{◌≡◌};
+    ghost use Rattle.sporc_wire.specs.declared.message.BodyFault.TheVariants as faults;
+
+    ghost from_gives = { λ _ e. e ≡ faults.Memory };
+
+    fn from(_: AllocFailed<T>) -> BodyFault {
+        BodyFault::Memory
+    }
+}
+
+// A message that the body of a frame is.
+pub(crate) trait Message: Sized {
+    // The message, or the place in the body of the first field that is cut short or forbidden.
+    ghost of: { List ℕ → Result Self ℕ };
+
+    fn read(alloc: Global, body: &[u8]) -> Result<Self, BodyFault>
+        ensures value { GivesUnless BodyFault.Memory (λ m. m) result (fault_as BodyFault.Bad (of body.now)) };
+}
+
+// Nothing is left of a body.
+pub(crate) fn read_end(cursor: &Cursor<'_>) -> Result<(), Short>
+    ensures { Reads (λ _. tt) result (end_at cursor.now) }
+{
+    if cursor.end() {
+        Ok(())
+    } else {
+        Err(Short(cursor.at()))
+    }
+}
