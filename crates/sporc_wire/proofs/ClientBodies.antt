@@ -99,9 +99,11 @@ list_again (e ∷ es) at rest small =
     let others = list_again es (at + 4 + length e) rest (omega (arith, small, len, sum)) in
     let regrouped : flat_map counted (e ∷ es) ++ rest ≡ counted e ++ (flat_map counted es ++ rest) =
     ap (λ (bs : List ℕ). bs ++ rest) parts ∙ append_assoc (counted e) (flat_map counted es) rest in
-    let fits : length e ≤ MAX_BODY = omega (arith, small, len, sum, one) in
-    (others.0, ap (λ (bs : List ℕ). values_at (counted_at MAX_BODY) (suc (length es)) (record { rest = bs; at = at })) regrouped
-    ∙ rw (counted_again MAX_BODY at e (flat_map counted es ++ rest) (omega (arith, fits)) fits, others.1) refl)
+    let fits : length e ≤ MAX_BODY = omega (arith, small, len, sum, one) in (
+      others.0,
+      ap (λ (bs : List ℕ). values_at (counted_at MAX_BODY) (suc (length es)) (record { rest = bs; at = at })) regrouped
+          ∙ rw (counted_again MAX_BODY at e (flat_map counted es ++ rest) (omega (arith, fits)) fits, others.1) refl,
+    )
 
 entries_takes : (r : Reading) (m : ToClient) → IsBytes r.rest → entries_at r ≡ Ok m → IsSpelled ENTRIES r.rest m
 unfolding entries_at

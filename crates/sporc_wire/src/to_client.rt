@@ -20,8 +20,11 @@ use std::alloc::Global;
 
 // The first byte of each body.
 const ORDERED: u8 = 1;
+
 const REJECTED: u8 = 2;
+
 const ENTRIES: u8 = 3;
+
 const EMPTY: u8 = 4;
 
 // The number of the last check.
@@ -34,18 +37,11 @@ pub const MAX_PULLED: u8 = 16;
 #[derive(Debug, Drop)]
 pub enum ToClient {
     /// The entry has this position.
-    Ordered {
-        pos: u32,
-    },
+    Ordered { pos: u32 },
     /// The entry fails a check.
-    Rejected {
-        refusal: Refusal,
-    },
+    Rejected { refusal: Refusal },
     /// Entries, the first of them at position `first`.
-    Entries {
-        first: u32,
-        entries: Items<Bytes>,
-    },
+    Entries { first: u32, entries: Items<Bytes> },
     /// There are no more entries.
     Empty,
 }

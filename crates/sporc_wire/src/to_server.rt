@@ -15,25 +15,20 @@ use std::alloc::Global;
 
 // The first byte of each body.
 const HELLO: u8 = 1;
+
 const SUBMIT: u8 = 2;
+
 const PULL: u8 = 3;
 
 /// A message to the server.
 #[derive(Debug, Drop)]
 pub enum ToServer {
     /// The first message: whose document it is, and which member speaks. It has no answer.
-    Hello {
-        document: [u8; 16],
-        member: u16,
-    },
+    Hello { document: [u8; 16], member: u16 },
     /// An entry for the order.
-    Submit {
-        entry: Bytes,
-    },
+    Submit { entry: Bytes },
     /// Asks for the entries after the first `from`.
-    Pull {
-        from: u32,
-    },
+    Pull { from: u32 },
 }
 
 impl Message for ToServer {
