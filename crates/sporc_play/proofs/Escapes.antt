@@ -4,9 +4,9 @@ use Rattle.std.proofs.lemmas.Bool.Decides.{eqb_tells}
 use Rattle.std.proofs.lemmas.List.{append_cancel_right}
 use Rattle.sporc_play.specs.declared.script.quoted.Step.{Step}
 use Rattle.sporc_play.specs.declared.script.quoted.Step.TheVariants.{Refused, Backslash, Byte}
-use Rattle.sporc_play.specs.Unescape.{escape_byte, step_of, resume, unescape}
+use Rattle.sporc_play.specs.Unescape.{step_of, resume, unescape}
 use Rattle.sporc_play.specs.Quoted.{escape, quoted}
-use Rattle.sporc_play.proofs.CharEscapes.{flat_map-encode_all}
+use Rattle.sporc_play.proofs.CharEscapes.{escape_byte, flat_map-encode_all}
 use Rattle.std.specs.Str.{IsUtf8, chars, encode_utf8_all}
 use Rattle.std.proofs.lemmas.Str.{encodes-chars}
 

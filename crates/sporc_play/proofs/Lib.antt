@@ -6,6 +6,7 @@ pub mod Fronts
 pub mod Numerals
 pub mod OneRun
 pub mod Places
+pub mod Played
 pub mod Reading
 pub mod Reported
 pub mod Runs

@@ -7,8 +7,8 @@ use Rattle.sporc_play.specs.declared.script.command.PlayLine.{PlayLine}
 use Rattle.sporc_play.specs.Spelling.{text_size}
 use Rattle.sporc_play.proofs.Commands.{text_fits}
 use Rattle.sporc_play.specs.Preamble.{Declared, declared_after, declared_by, none_declared}
-use Rattle.sporc_play.specs.Grammar.{IsFirstOutside, IsNext, Reads, may_follow}
-use Rattle.sporc_play.specs.Reading.{IsLineOutside, ReadsLine, declared_with}
+use Rattle.sporc_play.specs.Grammar.{IsFirstBadLine, IsNext, Reads, may_follow}
+use Rattle.sporc_play.specs.Reading.{IsBadLine, ReadsLine, declared_with}
 
 declared_by-append : (before : List PlayLine) (l : PlayLine) → declared_by (before ++ l ∷ []) ≡ declared_after (declared_by before) l.command
 declared_by-append before l = fold-append (λ (d : Declared) (x : PlayLine). declared_after d x.command) none_declared before (l ∷ [])
@@ -27,18 +27,18 @@ Reads-cons before declared n l ls (Some x) more is line rest =
     inr (x.command, more, next, ap (λ (y : PlayLine). y ∷ more) same, subst (λ (y : PlayLine). Reads (before ++ y ∷ []) (n + 1) ls more) same rest)
 
 -- a line outside after a line that is read
-pub IsFirstOutside-cons : (before : List PlayLine) (declared : Declared) (n : ℕ) (l : List ℕ) (ls : List (List ℕ)) (read : Option PlayLine) (k : ℕ) → declared ≡ declared_by before
-    → ReadsLine declared n l read → IsFirstOutside (before ++ option_to_list read) (n + 1) ls k → IsFirstOutside before n (l ∷ ls) k
-IsFirstOutside-cons before declared n l ls None k is line rest = inr (inl (line, subst (λ (b : List PlayLine). IsFirstOutside b (n + 1) ls k) (append-nil before) rest))
-IsFirstOutside-cons before declared n l ls (Some x) k is line rest =
+pub IsFirstBadLine-cons : (before : List PlayLine) (declared : Declared) (n : ℕ) (l : List ℕ) (ls : List (List ℕ)) (read : Option PlayLine) (k : ℕ) → declared ≡ declared_by before
+    → ReadsLine declared n l read → IsFirstBadLine (before ++ option_to_list read) (n + 1) ls k → IsFirstBadLine before n (l ∷ ls) k
+IsFirstBadLine-cons before declared n l ls None k is line rest = inr (inl (line, subst (λ (b : List PlayLine). IsFirstBadLine b (n + 1) ls k) (append-nil before) rest))
+IsFirstBadLine-cons before declared n l ls (Some x) k is line rest =
     let same : x ≡ record { number = n; command = x.command } = ap (λ (m : ℕ). record { number = m; command = x.command }) line.0 in
     let next : IsNext before l x.command = (line.1, subst (λ (o : Declared). may_follow o x.command ≡ true) is line.2) in
-    inr (inr (x.command, next, subst (λ (y : PlayLine). IsFirstOutside (before ++ y ∷ []) (n + 1) ls k) same rest))
+    inr (inr (x.command, next, subst (λ (y : PlayLine). IsFirstBadLine (before ++ y ∷ []) (n + 1) ls k) same rest))
 
 -- a line outside at the front
-pub IsFirstOutside-here : (before : List PlayLine) (declared : Declared) (n : ℕ) (l : List ℕ) (ls : List (List ℕ)) (k : ℕ) → declared ≡ declared_by before
-    → IsLineOutside declared n l k → IsFirstOutside before n (l ∷ ls) k
-IsFirstOutside-here before declared n l ls k is line =
+pub IsFirstBadLine-here : (before : List PlayLine) (declared : Declared) (n : ℕ) (l : List ℕ) (ls : List (List ℕ)) (k : ℕ) → declared ≡ declared_by before
+    → IsBadLine declared n l k → IsFirstBadLine before n (l ∷ ls) k
+IsFirstBadLine-here before declared n l ls k is line =
     inl (line.0, line.1, λ c next. line.2 c next.0 (subst (λ (o : Declared). may_follow o c ≡ true) (sym is) next.1))
 
 -- the sizes of the texts of what is read

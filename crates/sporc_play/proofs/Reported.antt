@@ -1,15 +1,16 @@
 -- A report, line by line.
-use Rattle.std.proofs.Common.{◌≡◌, ℕ, zero, suc, ◌+◌, ◌<◌, ◌≤◌, List, [], ◌∷◌, ◌++◌, length, take, get_or, Option, refl, sym, ap, ◌∙◌, subst, arith, add-one, append-nil, append_assoc, length-append}
+use Rattle.std.proofs.Common.{◌≡◌, ℕ, zero, suc, ◌+◌, ◌<◌, ◌≤◌, List, [], ◌∷◌, ◌++◌, length, take, get_or, Option, refl, sym, ap, ◌∙◌, subst, arith, add-one, append-nil, append_assoc}
 use Rattle.std.proofs.lemmas.List.{take_all}
 use Rattle.std.proofs.lemmas.List.Sums.{fold-append}
-use Rattle.std.proofs.Math.Seq.{take-append-add}
 use Rattle.std.specs.Io.KnownBytes.{Appends}
-use Rattle.sporc_outside.specs.Writing.{AppendsPrefix}
-use Rattle.sporc_outside.proofs.Known.{Appends_then}
+use Rattle.sporc_outside.proofs.Prefixes.{AppendsPrefix-all, AppendsPrefix-none, AppendsPrefix-then}
+use Rattle.sporc_play.specs.declared.fault.PlayFault.{PlayFault}
+use Rattle.sporc_play.specs.declared.fault.PlayFault.TheVariants as faults
 use Rattle.sporc_play.specs.declared.script.command.PlayLine.{PlayLine}
-use Rattle.sporc_play.specs.Report.{Reports, ReportsFront, ReportsFrom, Writes}
+use Rattle.sporc_play.specs.Playing.{IsWriteCause}
+use Rattle.sporc_play.specs.Report.{Reports, ReportsPrefix, ReportsFrom, Writes}
 use Rattle.sporc_play.specs.Scene.{Scene, after, after_lines, opening, scene_at}
-use Rattle.sporc_play.specs.Telling.{WritesFront}
+use Rattle.sporc_play.specs.Lines.{WritesPrefix}
 
 take_suc : (lines : List PlayLine) (i : ℕ) (l : PlayLine) → i < length lines → l ≡ get_or lines i l → take (suc i) lines ≡ take i lines ++ l ∷ []
 take_suc [] i l low is = absurd (omega arith)
@@ -38,14 +39,26 @@ pub reports_all : (lines : List PlayLine) (i : ℕ) (a b : Option (List ℕ)) �
     → (report : List ℕ) × ReportsFrom (opening lines) (take i lines) report × Appends a b report → Reports lines a b
 reports_all lines i a b low r = (r.0, subst (λ (ls : List PlayLine). ReportsFrom (opening lines) ls r.0) (take_all i lines low) r.1, r.2)
 
-front_after : (a b c : Option (List ℕ)) (bytes piece : List ℕ) → Appends a b bytes → AppendsPrefix b c piece → AppendsPrefix a c (bytes ++ piece)
-front_after a b c bytes piece first (n, low, then) = (
-  length bytes + n,
-  omega (arith, length-append bytes piece),
-  subst (λ (t : List ℕ). Appends a c t) (sym (take-append-add bytes piece n)) (Appends_then _ _ _ _ _ first then),
-)
+-- nothing is a prefix of each report
+pub reports_none : (lines : List PlayLine) (a : Option (List ℕ)) → ReportsPrefix lines a a
+reports_none lines a = (0, [], refl, AppendsPrefix-none a [])
 
-pub reports_front : (lines : List PlayLine) (i : ℕ) (l : PlayLine) (s : Scene) (a b c : Option (List ℕ)) → i < length lines → l ≡ get_or lines i l → s ≡ scene_at lines i
-    → (report : List ℕ) × ReportsFrom (opening lines) (take i lines) report × Appends a b report → WritesFront l.command s b c → ReportsFront lines a c
-reports_front lines i l s a b c low is scene r w =
-    (i + 1, r.0 ++ w.0, reports_more lines i l s r.0 w.0 low is scene r.1 w.1, front_after a b c r.0 w.0 r.2 w.2)
+-- the report of the lines so far, and the same with a prefix of the next line
+reports_so_far : (lines : List PlayLine) (i : ℕ) (a b : Option (List ℕ))
+    → (report : List ℕ) × ReportsFrom (opening lines) (take i lines) report × Appends a b report → ReportsPrefix lines a b
+reports_so_far lines i a b r = (i, r.0, r.1, AppendsPrefix-all a b r.0 r.2)
+
+reports_prefix : (lines : List PlayLine) (i : ℕ) (l : PlayLine) (s : Scene) (a b c : Option (List ℕ)) → i < length lines → l ≡ get_or lines i l → s ≡ scene_at lines i
+    → (report : List ℕ) × ReportsFrom (opening lines) (take i lines) report × Appends a b report → WritesPrefix l.command s b c → ReportsPrefix lines a c
+reports_prefix lines i l s a b c low is scene r w =
+    (i + 1, r.0 ++ w.0, reports_more lines i l s r.0 w.0 low is scene r.1 w.1, AppendsPrefix-then a b c r.0 w.0 r.2 w.2)
+
+-- after a fault of the next line
+pub reports_failed : (lines : List PlayLine) (i : ℕ) (l : PlayLine) (s : Scene) (a b c : Option (List ℕ)) (before after : ℕ) (fault : PlayFault) → i < length lines → l ≡ get_or lines i l → s ≡ scene_at lines i
+    → (report : List ℕ) × ReportsFrom (opening lines) (take i lines) report × Appends a b report → IsWriteCause before after fault
+    → (fault ≡ faults.Memory → c ≡ b) → (fault ≡ faults.WriteFault → WritesPrefix l.command s b c) → ReportsPrefix lines a c
+reports_failed lines i l s a b c before after faults.Memory low is scene r cause memory prefix = subst (λ (o : Option (List ℕ)). ReportsPrefix lines a o) (sym (memory refl)) (reports_so_far lines i a b r)
+reports_failed lines i l s a b c before after faults.WriteFault low is scene r cause memory prefix = reports_prefix lines i l s a b c low is scene r (prefix refl)
+reports_failed lines i l s a b c before after faults.ReadFault low is scene r cause memory prefix = absurd cause
+reports_failed lines i l s a b c before after (faults.LineFault k) low is scene r cause memory prefix = absurd cause
+reports_failed lines i l s a b c before after faults.TooLong low is scene r cause memory prefix = absurd cause

@@ -21,7 +21,7 @@ use Rattle.sporc_play.specs.declared.script.command.Give.{Give}
 use Rattle.sporc_play.specs.Report.{Compares, Stands, compare_line, edit_line, give_line, line_by, show_line, submit_line}
 use Rattle.sporc_play.specs.Scene.{Scene, after, after_change, after_handing, after_submission, entries_in, entry_at, marks_by, seat_edited, seat_given, seat_of, seat_submitted, with_seat}
 use Rattle.sporc_play.specs.SeatPlace.{IsSeatAt}
-use Rattle.sporc_play.specs.Telling.{Tells}
+use Rattle.sporc_play.specs.Lines.{AppendsLine}
 use Rattle.sporc_play.proofs.Runs.{member_of_found}
 
 element : (seats : List Seat) (i : ℕ) (x : Seat) → i < length seats → x ≡ get_or seats i x → slice_get seats i ≡ Some x
@@ -51,7 +51,7 @@ scene_edited s e i x new at is new_is =
     )
 
 pub edit_told : (s : Scene) (e : Edit) (i : ℕ) (x : Seat) (old new : List ℕ) → IsSeatAt s.seats e.member i → x ≡ get_or s.seats i x
-    → new ≡ old ++ edit_line e.member x.client (marks_by x.client e.change) → Tells (commands.Edit e) s old new
+    → new ≡ old ++ edit_line e.member x.client (marks_by x.client e.change) → AppendsLine (commands.Edit e) s old new
 edit_told s e i x old new at is told =
     (_, sym (ap (line_by (λ seat. edit_line e.member seat.client (marks_by seat.client e.change))) (seat_there s.seats e.member i x at is)), told)
 
@@ -68,7 +68,7 @@ scene_submitted s m i number x new made at is number_is new_is made_is =
     )
 
 pub submission_told : (s : Scene) (m i number : ℕ) (x : Seat) (old new : List ℕ) → IsSeatAt s.seats m i → x ≡ get_or s.seats i x → number ≡ length s.made + 1
-    → new ≡ old ++ submit_line x.member number x.last (submission_of x.client) → Tells (commands.Submit m) s old new
+    → new ≡ old ++ submit_line x.member number x.last (submission_of x.client) → AppendsLine (commands.Submit m) s old new
 submission_told s m i number x old new at is number_is told = (
   _,
   sym (ap (line_by (λ seat. submit_line m (length s.made + 1) seat.last (submission_of seat.client))) (seat_there s.seats m i x at is)),
@@ -86,7 +86,7 @@ scene_given s g i x new e at is entry new_is =
     )
 
 pub give_told : (s : Scene) (g : Give) (i : ℕ) (x : Seat) (f : Option PlainEntry) (old new : List ℕ) → IsSeatAt s.seats g.member i → x ≡ get_or s.seats i x → entry_at s.made g.entry ≡ f
-    → new ≡ old ++ give_line x.member g.position x.client f → Tells (commands.Give g) s old new
+    → new ≡ old ++ give_line x.member g.position x.client f → AppendsLine (commands.Give g) s old new
 give_told s g i x f old new at is entry told = (
   _,
   sym (ap (line_by (λ seat. give_line g.member g.position seat.client (entry_at s.made g.entry))) (seat_there s.seats g.member i x at is)),
@@ -96,12 +96,12 @@ give_told s g i x f old new at is entry told = (
 pub scene_not_given : (s : Scene) (g : Give) → entry_at s.made g.entry ≡ None → s ≡ after (commands.Give g) s
 scene_not_given s g none = sym (ap (λ (f : Option PlainEntry). after_handing g.position f (seat_of g.member s.seats) s) none)
 
-pub show_told : (s : Scene) (m i : ℕ) (x : Seat) (old new : List ℕ) → IsSeatAt s.seats m i → x ≡ get_or s.seats i x → new ≡ old ++ show_line m x.client → Tells (commands.Show m) s old new
+pub show_told : (s : Scene) (m i : ℕ) (x : Seat) (old new : List ℕ) → IsSeatAt s.seats m i → x ≡ get_or s.seats i x → new ≡ old ++ show_line m x.client → AppendsLine (commands.Show m) s old new
 show_told s m i x old new at is told = (_, sym (ap (line_by (λ seat. show_line m seat.client)) (seat_there s.seats m i x at is)), told)
 
 pub comparison_told : (s : Scene) (c : Comparison) (i j : ℕ) (x y : Seat) (v : Verdict) (old new : List ℕ) → IsSeatAt s.seats c.first i → x ≡ get_or s.seats i x
     → IsSeatAt s.seats c.second j → y ≡ get_or s.seats j y → Stands (hashes_of x.client.genesis x.client.entries) (hashes_of y.client.genesis y.client.entries) v
-    → new ≡ old ++ compare_line c v → Tells (commands.Compare c) s old new
+    → new ≡ old ++ compare_line c v → AppendsLine (commands.Compare c) s old new
 comparison_told s c i j x y v old new at_i is_x at_j is_y stands told =
     let here : Compares c (Some x) (Some y) (compare_line c v) = (v, stands, refl) in (
       compare_line c v,
@@ -131,7 +131,7 @@ pub small_there : (made : List PlainEntry) (n : ℕ) (e : PlainEntry) → All (�
 small_there made n e all is = fits_at (λ (x : PlainEntry). length (delta_bytes x.delta) ≤ MAX_EDIT_BYTES) made n e all is
 
 pub no_entry_told : (s : Scene) (g : Give) (i : ℕ) (old new : List ℕ) → IsSeatAt s.seats g.member i → entry_at s.made g.entry ≡ None
-    → new ≡ old ++ (decimal g.member ++ (codes " accept " ++ (decimal g.position ++ codes " no entry\n"))) → Tells (commands.Give g) s old new
+    → new ≡ old ++ (decimal g.member ++ (codes " accept " ++ (decimal g.position ++ codes " no entry\n"))) → AppendsLine (commands.Give g) s old new
 no_entry_told s g i old new at entry told = (_, by (seat_of g.member s.seats) at.found, told)
   where
     by : (o : Option Seat) → o ≡ slice_get s.seats i

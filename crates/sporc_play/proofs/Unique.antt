@@ -4,7 +4,7 @@ use Rattle.sporc_play.specs.declared.script.command.Command.{Command}
 use Rattle.sporc_play.specs.declared.script.command.Command.TheVariants as commands
 use Rattle.sporc_play.specs.declared.script.command.PlayLine.{PlayLine}
 use Rattle.sporc_play.specs.Spelling.{Spells, spelling}
-use Rattle.sporc_play.specs.Grammar.{IsFirstOutside, IsSkipped, Reads}
+use Rattle.sporc_play.specs.Grammar.{IsFirstBadLine, IsSkipped, Reads}
 use Rattle.sporc_play.proofs.Commands.{one_command}
 
 -- a command begins with a letter, and no skipped line does
@@ -40,7 +40,7 @@ one_reading (l ∷ ls) before n s t (inr x) (inr y) =
     let rest = one_reading ls (before ++ record { number = n; command = x.0 } ∷ []) (n + 1) x.1 y.1 x.4 other in
     x.3 ∙ ap (λ (r : List PlayLine). record { number = n; command = x.0 } ∷ r) rest ∙ ap (λ (c : Command). record { number = n; command = c } ∷ y.1) same ∙ sym y.3
 
-pub not_both : (ls : List (List ℕ)) (before : List PlayLine) (n : ℕ) (s : List PlayLine) (k : ℕ) → Reads before n ls s → IsFirstOutside before n ls k → ⊥
+pub not_both : (ls : List (List ℕ)) (before : List PlayLine) (n : ℕ) (s : List PlayLine) (k : ℕ) → Reads before n ls s → IsFirstBadLine before n ls k → ⊥
 not_both [] before n s k x y = y
 not_both (l ∷ ls) before n s k (inl x) (inl y) = y.1 x.0
 not_both (l ∷ ls) before n s k (inl x) (inr (inl y)) = not_both ls before (n + 1) s k x.1 y.1
@@ -50,9 +50,9 @@ not_both (l ∷ ls) before n s k (inr x) (inr (inl y)) = not_skipped l x.0 y.0 x
 not_both (l ∷ ls) before n s k (inr x) (inr (inr y)) =
     let same = one_command l y.0 x.0 y.1.0 x.2.0 in
     not_both ls (before ++ record { number = n; command = x.0 } ∷ []) (n + 1) x.1 k x.4
-    (subst (λ (c : Command). IsFirstOutside (before ++ record { number = n; command = c } ∷ []) (n + 1) ls k) same y.2)
+    (subst (λ (c : Command). IsFirstBadLine (before ++ record { number = n; command = c } ∷ []) (n + 1) ls k) same y.2)
 
-pub one_fault : (ls : List (List ℕ)) (before : List PlayLine) (n : ℕ) (k j : ℕ) → IsFirstOutside before n ls k → IsFirstOutside before n ls j → k ≡ j
+pub one_fault : (ls : List (List ℕ)) (before : List PlayLine) (n : ℕ) (k j : ℕ) → IsFirstBadLine before n ls k → IsFirstBadLine before n ls j → k ≡ j
 one_fault [] before n k j x y = absurd x
 one_fault (l ∷ ls) before n k j (inl x) (inl y) = x.0 ∙ sym y.0
 one_fault (l ∷ ls) before n k j (inl x) (inr (inl y)) = absurd (x.1 y.0)
@@ -65,4 +65,4 @@ one_fault (l ∷ ls) before n k j (inr (inr x)) (inr (inl y)) = absurd (not_skip
 one_fault (l ∷ ls) before n k j (inr (inr x)) (inr (inr y)) =
     let same = one_command l y.0 x.0 y.1.0 x.1.0 in
     one_fault ls (before ++ record { number = n; command = x.0 } ∷ []) (n + 1) k j x.2
-    (subst (λ (c : Command). IsFirstOutside (before ++ record { number = n; command = c } ∷ []) (n + 1) ls j) same y.2)
+    (subst (λ (c : Command). IsFirstBadLine (before ++ record { number = n; command = c } ∷ []) (n + 1) ls j) same y.2)

@@ -52,13 +52,13 @@ Reads before n (l ∷ ls) script =
     × Reads (before ++ record { number = n; command = command } ∷ []) (n + 1) ls rest)
 
 -- line k is the first of these that is outside the grammar
-abbrev pub IsFirstOutside : List PlayLine → ℕ → List (List ℕ) → ℕ → Type 0
-IsFirstOutside before n [] k = ⊥
-IsFirstOutside before n (l ∷ ls) k =
+abbrev pub IsFirstBadLine : List PlayLine → ℕ → List (List ℕ) → ℕ → Type 0
+IsFirstBadLine before n [] k = ⊥
+IsFirstBadLine before n (l ∷ ls) k =
     ((k ≡ n) × ¬ (IsSkipped l) × ((command : Command) → ¬ (IsNext before l command)))
-    ⊎ (IsSkipped l × IsFirstOutside before (n + 1) ls k)
+    ⊎ (IsSkipped l × IsFirstBadLine before (n + 1) ls k)
     ⊎ ((command : Command) × IsNext before l command
-    × IsFirstOutside (before ++ record { number = n; command = command } ∷ []) (n + 1) ls k)
+    × IsFirstBadLine (before ++ record { number = n; command = command } ∷ []) (n + 1) ls k)
 
 -- the text is this script
 abbrev pub IsScript : List ℕ → List PlayLine → Type 0
@@ -66,4 +66,4 @@ IsScript text script = Reads [] 1 (lines_of text) script
 
 -- line k of the text is the first that is outside the grammar
 abbrev pub IsFaultLine : List ℕ → ℕ → Type 0
-IsFaultLine text k = IsFirstOutside [] 1 (lines_of text) k
+IsFaultLine text k = IsFirstBadLine [] 1 (lines_of text) k

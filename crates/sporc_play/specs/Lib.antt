@@ -1,4 +1,5 @@
 pub mod Grammar
+pub mod Lines
 pub mod Moves
 pub mod Playing
 pub mod Preamble
@@ -6,9 +7,8 @@ pub mod Quoted
 pub mod Reading
 pub mod Report
 pub mod Scene
-pub mod SceneKeeps
+pub mod SceneInvariant
 pub mod SeatPlace
 pub mod Spelling
-pub mod Telling
 pub mod Unescape
 pub mod Words

@@ -1,16 +1,20 @@
--- What a play did with its source and its sink.
-use Rattle.std.specs.Prelude.{ℕ, ◌≤◌, List, length, Option}
+-- What a play does with its source and its sink.
+use Rattle.std.specs.Prelude.{ℕ, ◌+◌, ◌≤◌, ◌⊎◌, List, length, Result, Ok, Err}
 use Rattle.std.specs.Io.KnownBytes.{Consumes, IsAtEnd}
 use Rattle.sporc_outside.specs.declared.source.ReadFault.{ReadFault}
 use Rattle.sporc_outside.specs.declared.source.ReadFault.TheVariants as reading
 use Rattle.sporc_outside.specs.Counts.{Rose}
+use Rattle.sporc_outside.specs.Reading.{ConsumesExactly}
+use Rattle.sporc_outside.specs.Uses.{IsUnwritten, SinkUse, SourceUse}
 use Rattle.sporc_play.specs.declared.fault.PlayFault.{PlayFault}
 use Rattle.sporc_play.specs.declared.fault.PlayFault.TheVariants as faults
+use Rattle.sporc_play.specs.declared.playing.TheConstants.{MAX_SCRIPT}
 use Rattle.sporc_play.specs.declared.script.command.PlayLine.{PlayLine}
 use Rattle.sporc_play.specs.declared.script.reader.LineFault.{LineFault}
 use Rattle.sporc_play.specs.declared.script.reader.LineFault.TheVariants as lines
 use Rattle.sporc_play.specs.Grammar.{IsFaultLine, IsScript}
-use Rattle.sporc_play.specs.Report.{Reports, ReportsFront}
+use Rattle.sporc_play.specs.Moves.{IsOneRun}
+use Rattle.sporc_play.specs.Report.{Reports, ReportsPrefix}
 
 -- the fault of a play that a fault of its source or its script is
 abbrev pub read_fault : ReadFault → PlayFault
@@ -23,24 +27,42 @@ line_fault lines.Memory = faults.Memory
 line_fault (lines.Line k) = faults.LineFault k
 
 -- the source was read to its end, and this is all that was left in it
-pub record ReadsWhole (limit : ℕ) (old new : Option (List ℕ)) (text : List ℕ) : Type 0 where
-  pub all : Consumes old new text
-  pub ended : IsAtEnd new
-  pub within : length text ≤ limit
+pub record ReadsWhole (source : SourceUse) (text : List ℕ) : Type 0 where
+  pub all : Consumes source.left_before source.left_after text
+  pub ended : IsAtEnd source.left_after
+  pub within : length text ≤ MAX_SCRIPT
 
--- the source was read to its end as a script, and its report was written, nothing else
-abbrev pub Plays : ℕ → Option (List ℕ) → Option (List ℕ) → Option (List ℕ) → Option (List ℕ) → Type 0
-Plays limit left left' written written' =
-    (text : List ℕ) × (script : List PlayLine) × ReadsWhole limit left left' text × IsScript text script × Reports script written written'
-
--- the same, where only a front of the report was written
-abbrev pub PlaysFront : ℕ → Option (List ℕ) → Option (List ℕ) → Option (List ℕ) → Option (List ℕ) → Type 0
-PlaysFront limit left left' written written' =
-    (text : List ℕ) × (script : List PlayLine) × ReadsWhole limit left left' text × IsScript text script × ReportsFront script written written'
+-- the source was read to its end as this script, whose play is a run of the clients, who agree at any two of its moments
+pub record ReadsScript (source : SourceUse) (script : List PlayLine) : Type 0 where
+  pub text : List ℕ
+  pub whole : ReadsWhole source text
+  pub reads : IsScript text script
+  pub one_run : IsOneRun script
 
 -- the source was read to its end, and its first line outside the grammar is line k
-abbrev pub IsOutside : ℕ → Option (List ℕ) → Option (List ℕ) → ℕ → Type 0
-IsOutside limit left left' k = (text : List ℕ) × ReadsWhole limit left left' text × IsFaultLine text k
+abbrev pub HasFaultLine : SourceUse → ℕ → Type 0
+HasFaultLine source k = (text : List ℕ) × ReadsWhole source text × IsFaultLine text k
+
+-- one byte above the limit was taken, and no more
+abbrev pub IsTooLong : SourceUse → Type 0
+IsTooLong source = ConsumesExactly (MAX_SCRIPT + 1) source.left_before source.left_after
+
+-- a script was read, and its report was written, nothing else
+abbrev pub Plays : SourceUse → SinkUse → Type 0
+Plays source out = (script : List PlayLine) × ReadsScript source script × Reports script out.written_before out.written_after
+
+-- a script was read, and a prefix of its report was written, nothing else
+abbrev pub PlaysPrefix : SourceUse → SinkUse → Type 0
+PlaysPrefix source out = (script : List PlayLine) × ReadsScript source script × ReportsPrefix script out.written_before out.written_after
+
+-- what a play did, by its answer
+abbrev pub PlayOutcome : {T : Type 0} → SourceUse → SinkUse → Result T PlayFault → Type 0
+PlayOutcome source out (Ok done) = Plays source out
+PlayOutcome source out (Err faults.Memory) = IsUnwritten out ⊎ PlaysPrefix source out
+PlayOutcome source out (Err faults.ReadFault) = Rose source.faults_before source.faults_after × IsUnwritten out
+PlayOutcome source out (Err faults.WriteFault) = Rose out.faults_before out.faults_after × PlaysPrefix source out
+PlayOutcome source out (Err (faults.LineFault k)) = HasFaultLine source k × IsUnwritten out
+PlayOutcome source out (Err faults.TooLong) = IsTooLong source × IsUnwritten out
 
 -- why a report was not written whole: memory, or the sink, whose count rose
 abbrev pub IsWriteCause : ℕ → ℕ → PlayFault → Type 0

@@ -36,12 +36,12 @@ abbrev pub is_declared : List ℕ → ℕ → Bool
 is_declared members m = list_any (λ n. n == m) members
 
 -- a number in its place among ascending ones
-abbrev pub placed : ℕ → List ℕ → List ℕ
-placed n [] = n ∷ []
-placed n (m ∷ ms) = if nat_lt n m then n ∷ m ∷ ms else m ∷ placed n ms
+abbrev pub insert_sorted : ℕ → List ℕ → List ℕ
+insert_sorted n [] = n ∷ []
+insert_sorted n (m ∷ ms) = if nat_lt n m then n ∷ m ∷ ms else m ∷ insert_sorted n ms
 
 abbrev pub ascending : List ℕ → List ℕ
-ascending ns = fold (λ sorted n. placed n sorted) [] ns
+ascending ns = fold (λ sorted n. insert_sorted n sorted) [] ns
 
 -- the numbers of the members in ascending order, two bytes each, the high one first
 abbrev pub genesis_over : List ℕ → List ℕ

@@ -12,8 +12,8 @@ ReadsLine declared n line None = IsSkipped line
 ReadsLine declared n line (Some l) = (l.number ≡ n) × Spells line l.command × (may_follow declared l.command ≡ true)
 
 -- line k is this one, and it is outside the grammar
-abbrev pub IsLineOutside : Declared → ℕ → List ℕ → ℕ → Type 0
-IsLineOutside declared n line k =
+abbrev pub IsBadLine : Declared → ℕ → List ℕ → ℕ → Type 0
+IsBadLine declared n line k =
     (k ≡ n) × ¬ (IsSkipped line) × ((c : Command) → Spells line c → may_follow declared c ≡ true → ⊥)
 
 -- what is declared once a line is read

@@ -100,7 +100,7 @@ ReportsFrom s (l ∷ ls) report =
 abbrev pub Reports : List PlayLine → Option (List ℕ) → Option (List ℕ) → Type 0
 Reports script written written' = (report : List ℕ) × ReportsFrom (opening script) script report × Appends written written' report
 
--- a front of the report of its first lines was written, nothing else
-abbrev pub ReportsFront : List PlayLine → Option (List ℕ) → Option (List ℕ) → Type 0
-ReportsFront script written written' =
+-- a prefix of the report of its first n lines was written, nothing else
+abbrev pub ReportsPrefix : List PlayLine → Option (List ℕ) → Option (List ℕ) → Type 0
+ReportsPrefix script written written' =
     (n : ℕ) × (report : List ℕ) × ReportsFrom (opening script) (take n script) report × AppendsPrefix written written' report

@@ -3,11 +3,6 @@ use Rattle.std.specs.Prelude.{ℕ, List, [], ◌∷◌, if◌then◌else◌, ◌
 use Rattle.sporc_play.specs.declared.script.quoted.Step.{Step}
 use Rattle.sporc_play.specs.declared.script.quoted.Step.TheVariants.{Refused, Backslash, Byte}
 
--- a byte as it stands in a quoted text
-abbrev pub escape_byte : ℕ → List ℕ
-escape_byte b =
-    if b == 92 then 92 ∷ 92 ∷ [] else (if b == 34 then 92 ∷ 34 ∷ [] else (if b == 10 then 92 ∷ 110 ∷ [] else b ∷ []))
-
 -- what a byte does, after a backslash or not
 abbrev pub step_of : Bool → ℕ → Step
 step_of false b =

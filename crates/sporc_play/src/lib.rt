@@ -13,4 +13,7 @@ mod state;
 
 pub use crate::fault::PlayFault;
 pub use crate::playing::{MAX_SCRIPT, play};
-pub use crate::script::{LineFault, PlayScript, read_play};
+pub use crate::script::{
+    Change, Command, Comparison, Declaration, Edit, Give, Insertion, LineFault, MAX_MEMBERS,
+    PlayLine, PlayScript, Removal, Role, read_play,
+};

@@ -1,14 +1,10 @@
-ghost use Rattle.std.specs.Prelude.{◌≡◌, ◌≢◌, ◌+◌, ◌≤◌, ℕ, List, All, IfErr, OnOk};
-ghost use Rattle.sporc_outside.specs.Counts.{Rose};
-ghost use Rattle.sporc_outside.specs.Reading.{ConsumesExactly};
-ghost use Rattle.sporc_play.specs.Grammar.{IsScript};
-ghost use Rattle.sporc_play.specs.Moves.{IsOneRun};
-ghost use Rattle.sporc_play.specs.Playing.{IsOutside, IsWriteCause, Plays, PlaysFront};
-ghost use Rattle.sporc_play.specs.Report.{Reports, ReportsFront};
+ghost use Rattle.std.specs.Prelude.{◌≡◌, ◌≢◌, ◌+◌, ◌≤◌, All, IfErr, OnOk, OnErr};
+ghost use Rattle.sporc_outside.specs.Reading.{ConsumesAtMost};
+ghost use Rattle.sporc_play.specs.Lines.{WritesLine, WritesPrefix};
+ghost use Rattle.sporc_play.specs.Playing.{IsWriteCause, PlayOutcome};
+ghost use Rattle.sporc_play.specs.Report.{Reports, ReportsPrefix};
 ghost use Rattle.sporc_play.specs.Scene.{after};
 ghost use Rattle.sporc_play.specs.Spelling.{text_size};
-ghost use Rattle.sporc_play.specs.Telling.{WritesFront, WritesLine};
-ghost use Rattle.sporc_play.specs.declared.script.command.PlayLine.{PlayLine};
 
 use crate::fault::PlayFault;
 use crate::script::{Command, PlayLine, genesis, read_play};
@@ -20,22 +16,32 @@ use std::alloc::Global;
 pub const MAX_SCRIPT: usize = 16_777_216;
 
 /// Reads a script to its end, performs it, and writes its report, line by line.
-#[tactic(auto, using(crate::proofs::OneRun::one_run))]
+///
+/// | Answer | The source | The sink |
+/// |---|---|---|
+/// | `Ok` | was read to its end as a script | got the script's report |
+/// | `Memory` | | got nothing, or a prefix of that report |
+/// | `ReadFault` | counted a fault | got nothing |
+/// | `WriteFault` | was read to its end as a script | counted a fault, after a prefix of that report |
+/// | `LineFault(k)` | was read to its end, and `k` is its first line outside the grammar | got nothing |
+/// | `TooLong` | gave more than [`MAX_SCRIPT`] bytes | got nothing |
 pub fn play<S: Source, O: Sink>(alloc: Global, source: &mut S, out: &mut O) -> Result<(), PlayFault>
-    ensures played { OnOk result (Plays MAX_SCRIPT
-        (S.left source.old) (S.left source.new) (O.written out.old) (O.written out.new)) }
-    ensures line { (k : ℕ) → result ≡ Err (PlayFault.LineFault k) → IsOutside MAX_SCRIPT (S.left source.old) (S.left source.new) k }
-    ensures too_long { result ≡ Err PlayFault.TooLong
-        → ConsumesExactly (MAX_SCRIPT + 1) (S.left source.old) (S.left source.new) }
-    ensures read { result ≡ Err PlayFault.ReadFault → Rose (S.faults source.old) (S.faults source.new) }
-    ensures write { result ≡ Err PlayFault.WriteFault → Rose (O.faults out.old) (O.faults out.new) }
-
-    // Before a fault of the source or the script nothing is written, and before a fault of the sink a front of the report.
-    ensures untouched { IfErr result (λ fault. fault ≢ PlayFault.WriteFault → fault ≢ PlayFault.Memory → out.new ≡ out.old) }
-    ensures front { result ≡ Err PlayFault.WriteFault → PlaysFront MAX_SCRIPT
-        (S.left source.old) (S.left source.new) (O.written out.old) (O.written out.new) }
-    // Over every script the play is a run of the clients, who agree at any two of its moments.
-    ensures agree { (text : List ℕ) (script : List PlayLine) → IsScript text script → IsOneRun script }
+    ensures outcome { PlayOutcome
+        (record {
+          left_before = S.left source.old;
+          left_after = S.left source.new;
+          faults_before = S.faults source.old;
+          faults_after = S.faults source.new;
+        })
+        (record {
+          written_before = O.written out.old;
+          written_after = O.written out.new;
+          faults_before = O.faults out.old;
+          faults_after = O.faults out.new;
+        })
+        result }
+    ensures taken { ConsumesAtMost (MAX_SCRIPT + 1) (S.left source.old) (S.left source.new) }
+    ensures unchanged { IfErr result (λ fault. fault ≢ PlayFault.WriteFault → fault ≢ PlayFault.Memory → out.new ≡ out.old) }
     ensures source_kept { S.faults source.old ≤ S.faults source.new }
     ensures out_kept { O.faults out.old ≤ O.faults out.new }
 {
@@ -48,8 +54,7 @@ pub fn play<S: Source, O: Sink>(alloc: Global, source: &mut S, out: &mut O) -> R
 fn write_report<O: Sink>(alloc: Global, lines: &[PlayLine], out: &mut O) -> Result<(), PlayFault>
     requires { All (λ l. text_size l.command ≤ MAX_SCRIPT) lines.now }
     ensures ok { OnOk result (Reports lines.now (O.written out.old) (O.written out.new)) }
-    ensures front { IfErr result (λ fault. fault ≡ PlayFault.WriteFault
-        → ReportsFront lines.now (O.written out.old) (O.written out.new)) }
+    ensures err { OnErr result (ReportsPrefix lines.now (O.written out.old) (O.written out.new)) }
     ensures causes { IfErr result (IsWriteCause (O.faults out.old) (O.faults out.new)) }
     ensures kept { O.faults out.old ≤ O.faults out.new }
 {
@@ -70,8 +75,9 @@ fn write_line<O: Sink>(
     requires { text_size command.now ≤ MAX_SCRIPT }
     ensures state { OnOk result (state.new ≡ after command.now state.old) }
     ensures ok { OnOk result (WritesLine command.now state.old (O.written out.old) (O.written out.new)) }
-    ensures front { result ≡ Err PlayFault.WriteFault
-        → WritesFront command.now state.old (O.written out.old) (O.written out.new) }
+    ensures memory { result ≡ Err PlayFault.Memory → out.new ≡ out.old }
+    ensures prefix { result ≡ Err PlayFault.WriteFault
+        → WritesPrefix command.now state.old (O.written out.old) (O.written out.new) }
     ensures causes { IfErr result (IsWriteCause (O.faults out.old) (O.faults out.new)) }
     ensures kept { O.faults out.old ≤ O.faults out.new }
 {

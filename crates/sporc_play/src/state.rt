@@ -3,7 +3,7 @@
 ghost use Rattle.std.specs.Prelude.{◌≡◌, ◌^◌, ◌≤◌, [], MatchOption, OnOk, string_bytes};
 ghost use Rattle.sporc_play.specs.Scene.{after, after_member, entry_at, seat_of};
 ghost use Rattle.sporc_play.specs.Spelling.{change_size, text_size};
-ghost use Rattle.sporc_play.specs.Telling.{Tells};
+ghost use Rattle.sporc_play.specs.Lines.{AppendsLine};
 
 use crate::lines::{push_show, push_verdict};
 use crate::script::{Command, Comparison, Edit, Give};
@@ -23,13 +23,13 @@ pub struct PlayState {
 
 impl Model for PlayState {
     ghost use Rattle.sporc_play.specs.Scene.{Scene};
-    ghost use Rattle.sporc_play.specs.SceneKeeps.{IsKept};
+    ghost use Rattle.sporc_play.specs.SceneInvariant.{SceneInvariant};
 
     ghost Value = { Scene };
 
     ghost view = { λ s. record { genesis = s.genesis.items; seats = s.seats.items; made = s.made.items } };
 
-    ghost invariant = { λ s. IsKept s.genesis.items s.seats.items s.made.items };
+    ghost invariant = { λ s. SceneInvariant s.genesis.items s.seats.items s.made.items };
 }
 
 impl PlayState {
@@ -53,7 +53,7 @@ impl PlayState {
     ) -> Result<(), AllocError>
         requires { text_size command.now ≤ 2 ^ 40 }
         ensures state { OnOk result (self.new ≡ after command.now self.old) }
-        ensures line { OnOk result (Tells command.now self.old (string_bytes out.old) (string_bytes out.new)) }
+        ensures line { OnOk result (AppendsLine command.now self.old (string_bytes out.old) (string_bytes out.new)) }
     {
         match command {
             Command::Member(declaration) => self.open(alloc, declaration.member),
@@ -83,7 +83,7 @@ impl PlayState {
     fn edit(&mut self, alloc: Global, change: &Edit, out: &mut String) -> Result<(), AllocError>
         requires { change_size change.now.change ≤ 2 ^ 40 }
         ensures state { OnOk result (self.new ≡ after (Command.Edit change.now) self.old) }
-        ensures line { OnOk result (Tells (Command.Edit change.now) self.old (string_bytes out.old) (string_bytes out.new)) }
+        ensures line { OnOk result (AppendsLine (Command.Edit change.now) self.old (string_bytes out.old) (string_bytes out.new)) }
     {
         let Some(i) = seat_at(self.seats.as_slice(), change.member) else {
             return Ok(());
@@ -94,7 +94,7 @@ impl PlayState {
 
     fn submit(&mut self, member: u16, out: &mut String) -> Result<(), AllocError>
         ensures state { OnOk result (self.new ≡ after (Command.Submit member) self.old) }
-        ensures line { OnOk result (Tells (Command.Submit member) self.old (string_bytes out.old) (string_bytes out.new)) }
+        ensures line { OnOk result (AppendsLine (Command.Submit member) self.old (string_bytes out.old) (string_bytes out.new)) }
     {
         let Some(i) = seat_at(self.seats.as_slice(), member) else {
             return Ok(());
@@ -109,7 +109,7 @@ impl PlayState {
 
     fn give(&mut self, handed: &Give, out: &mut String) -> Result<(), AllocError>
         ensures state { OnOk result (self.new ≡ after (Command.Give handed.now) self.old) }
-        ensures line { OnOk result (Tells (Command.Give handed.now) self.old (string_bytes out.old) (string_bytes out.new)) }
+        ensures line { OnOk result (AppendsLine (Command.Give handed.now) self.old (string_bytes out.old) (string_bytes out.new)) }
     {
         let member = handed.member;
         let position = handed.position;
@@ -125,7 +125,7 @@ impl PlayState {
     }
 
     fn show(&self, member: u16, out: &mut String) -> Result<(), AllocError>
-        ensures { OnOk result (Tells (Command.Show member) self.now (string_bytes out.old) (string_bytes out.new)) }
+        ensures { OnOk result (AppendsLine (Command.Show member) self.now (string_bytes out.old) (string_bytes out.new)) }
     {
         let Some(i) = seat_at(self.seats.as_slice(), member) else {
             return Ok(());
@@ -136,7 +136,7 @@ impl PlayState {
     }
 
     fn compare(&self, comparison: &Comparison, out: &mut String) -> Result<(), AllocError>
-        ensures { OnOk result (Tells (Command.Compare comparison.now) self.now (string_bytes out.old) (string_bytes out.new)) }
+        ensures { OnOk result (AppendsLine (Command.Compare comparison.now) self.now (string_bytes out.old) (string_bytes out.new)) }
     {
         let Some(i) = seat_at(self.seats.as_slice(), comparison.first) else {
             return Ok(());

@@ -1,8 +1,9 @@
 -- The program's faults: their statuses and lines.
-use Rattle.std.specs.Prelude.{ℕ, List, ◌++◌, codes, Option}
+use Rattle.std.specs.Prelude.{ℕ, List, ◌++◌, codes}
 use Rattle.std.specs.Fmt.{decimal}
 use Rattle.std.specs.Io.KnownBytes.{Appends}
 use Rattle.sporc_outside.specs.Counts.{Rose}
+use Rattle.sporc_outside.specs.Uses.{SinkUse}
 use Rattle.sporc_outside.specs.Writing.{AppendsPrefix}
 use Rattle.sporc_play.specs.declared.fault.PlayFault.{PlayFault}
 use Rattle.sporc_play.specs.declared.fault.PlayFault.TheVariants as playing
@@ -14,7 +15,7 @@ status_of faults.Memory = 1
 status_of faults.Words = 2
 status_of (faults.Line k) = 3
 status_of faults.TooLong = 3
-status_of faults.Outside = 6
+status_of faults.Io = 6
 
 -- the line that gives the number of the first line outside the grammar
 abbrev pub numbered_line : List ℕ → List ℕ
@@ -25,16 +26,17 @@ fault_line faults.Memory = codes "fault memory\n"
 fault_line faults.Words = codes "fault words\n"
 fault_line (faults.Line k) = numbered_line (decimal k)
 fault_line faults.TooLong = codes "fault too long script\n"
-fault_line faults.Outside = codes "fault outside\n"
+fault_line faults.Io = codes "fault outside\n"
 
 -- what a fault of a play is for the program
 abbrev pub fault_of : PlayFault → Fault
 fault_of playing.Memory = faults.Memory
-fault_of playing.ReadFault = faults.Outside
-fault_of playing.WriteFault = faults.Outside
+fault_of playing.ReadFault = faults.Io
+fault_of playing.WriteFault = faults.Io
 fault_of (playing.LineFault k) = faults.Line k
 fault_of playing.TooLong = faults.TooLong
 
--- a line was written, or a front of it where the sink's count rose
-abbrev pub Tells : Option (List ℕ) → Option (List ℕ) → ℕ → ℕ → List ℕ → Type 0
-Tells written written' before after line = AppendsPrefix written written' line × (¬ (Rose before after) → Appends written written' line)
+-- the line of a fault was written, or a prefix of it, the sink's count of faults having risen
+pub record WritesFaultLine (out : SinkUse) (fault : Fault) : Type 0 where
+  pub line : AppendsPrefix out.written_before out.written_after (fault_line fault)
+  pub whole : ¬ (Rose out.faults_before out.faults_after) → Appends out.written_before out.written_after (fault_line fault)

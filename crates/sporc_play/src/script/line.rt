@@ -14,7 +14,7 @@ use crate::script::command::{
     Change, Command, Comparison, Declaration, Edit, Give, Insertion, Removal, Role,
 };
 use crate::script::quoted::quoted_text;
-use crate::script::words::{after, before, member, number, small_number, split_once};
+use crate::script::words::{after, before, parse_member, parse_u32, parse_u64, split_once};
 use std::alloc::{AllocError, Global};
 
 // The command that the whole line spells, if there is one.
@@ -42,7 +42,7 @@ fn read_short(line: &[u8]) -> Option<Command>
         };
     }
     if let Some(rest) = after(line, b"submit ") {
-        return match member(rest) {
+        return match parse_member(rest) {
             Some(m) => Some(Command::Submit(m)),
             None => None,
         };
@@ -59,7 +59,7 @@ fn read_short(line: &[u8]) -> Option<Command>
             None => None,
         };
     }
-    match member(after(line, b"show ")?) {
+    match parse_member(after(line, b"show ")?) {
         Some(m) => Some(Command::Show(m)),
         None => None,
     }
@@ -70,7 +70,7 @@ fn read_declaration(rest: &[u8]) -> Option<Declaration>
     ensures { MatchOption result ((d : Declaration) → ¬ SpellsDeclaration rest.now d) (λ d. SpellsDeclaration rest.now d) }
 {
     let (first, second) = split_once(rest, b' ')?;
-    let member = member(first)?;
+    let member = parse_member(first)?;
     let role = read_role(second)?;
     Some(Declaration { member, role })
 }
@@ -90,8 +90,8 @@ fn read_comparison(rest: &[u8]) -> Option<Comparison>
     ensures { MatchOption result ((c : Comparison) → ¬ SpellsComparison rest.now c) (λ c. SpellsComparison rest.now c) }
 {
     let (m, n) = split_once(rest, b' ')?;
-    let first = member(m)?;
-    let second = member(n)?;
+    let first = parse_member(m)?;
+    let second = parse_member(n)?;
     Some(Comparison { first, second })
 }
 
@@ -101,9 +101,9 @@ fn read_give(rest: &[u8]) -> Option<Give>
 {
     let (first, rest) = split_once(rest, b' ')?;
     let (second, third) = split_once(rest, b' ')?;
-    let member = member(first)?;
-    let position = small_number(second)?;
-    let entry = number(third)?;
+    let member = parse_member(first)?;
+    let position = parse_u32(second)?;
+    let entry = parse_u64(third)?;
     Some(Give {
         member,
         position,
@@ -118,7 +118,7 @@ fn read_edit(alloc: Global, rest: &[u8]) -> Result<Option<Edit>, AllocError>
     let Some((first, rest)) = split_once(rest, b' ') else {
         return Ok(None);
     };
-    let Some(member) = member(first) else {
+    let Some(member) = parse_member(first) else {
         return Ok(None);
     };
     let Some(change) = read_change(alloc, rest)? else {
@@ -137,7 +137,7 @@ fn read_change(alloc: Global, rest: &[u8]) -> Result<Option<Change>, AllocError>
     let Some((first, second)) = split_once(words, b' ') else {
         return Ok(None);
     };
-    let Some(at) = number(first) else {
+    let Some(at) = parse_u64(first) else {
         return Ok(None);
     };
     let Some(text) = quoted_text(alloc, second)? else {
@@ -152,7 +152,7 @@ fn read_removal(rest: &[u8]) -> Option<Change>
     ensures { MatchOption result ((c : Change) → ¬ SpellsChange rest.now c) (λ c. SpellsChange rest.now c) }
 {
     let (first, second) = split_once(after(rest, b"remove ")?, b' ')?;
-    let at = number(first)?;
-    let count = number(second)?;
+    let at = parse_u64(first)?;
+    let count = parse_u64(second)?;
     Some(Change::Remove(Removal { at, count }))
 }

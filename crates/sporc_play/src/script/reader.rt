@@ -5,7 +5,7 @@ ghost use Rattle.std.specs.Option.{option_to_list};
 ghost use Rattle.sporc_play.specs.declared.script.command.Command.{Command};
 ghost use Rattle.sporc_play.specs.declared.script.reader.LineFault.TheVariants as faults;
 ghost use Rattle.sporc_play.specs.Grammar.{IsFaultLine, IsScript, IsSkipped, lines_of, may_follow};
-ghost use Rattle.sporc_play.specs.Reading.{IsLineOutside, ReadsLine};
+ghost use Rattle.sporc_play.specs.Reading.{IsBadLine, ReadsLine};
 ghost use Rattle.sporc_play.specs.Spelling.{Spells, text_size};
 
 use crate::script::command::{Command, PlayLine};
@@ -81,7 +81,7 @@ pub fn read_play(alloc: Global, text: &[u8]) -> Result<PlayScript, LineFault>
     while !rest.is_empty() {
         let (line, after) = next_line(rest);
         let read = read_numbered(alloc, &declared, number, line)?;
-        declared.note_line(&read)?;
+        declared.declare_line(&read)?;
         keep(&mut lines, read)?;
         rest = after;
         number += 1;
@@ -121,7 +121,7 @@ fn read_numbered(
     line: &[u8],
 ) -> Result<Option<PlayLine>, LineFault>
     ensures ok { IfOk result (λ found. ReadsLine declared.now number line.now found) }
-    ensures fault { (k : ℕ) → result ≡ Err (LineFault.Line k) → IsLineOutside declared.now number line.now k }
+    ensures fault { (k : ℕ) → result ≡ Err (LineFault.Line k) → IsBadLine declared.now number line.now k }
 {
     if is_skipped(line) {
         return Ok(None);

@@ -44,7 +44,7 @@ fn is_plain(word: &[u8]) -> bool
 }
 
 // The number that the whole word is: decimal digits with no sign and no zero in front.
-pub fn number(word: &[u8]) -> Option<u64>
+pub fn parse_u64(word: &[u8]) -> Option<u64>
     ensures { MatchOption result ((n : ℕ) → n < 2 ^ 64 → word.now ≢ decimal n) (λ n. word.now ≡ decimal n) }
 {
     if !is_plain(word) {
@@ -60,21 +60,21 @@ pub fn number(word: &[u8]) -> Option<u64>
 }
 
 // A position or the like.
-pub fn small_number(word: &[u8]) -> Option<u32>
+pub fn parse_u32(word: &[u8]) -> Option<u32>
     ensures { MatchOption result ((n : ℕ) → n < 2 ^ 32 → word.now ≢ decimal n) (λ n. word.now ≡ decimal n) }
 {
-    match number(word) {
+    match parse_u64(word) {
         Some(n) if n < 1 << 32 => Some(n as u32),
         _ => None,
     }
 }
 
 // A member's number, which is not 0.
-pub fn member(word: &[u8]) -> Option<u16>
+pub fn parse_member(word: &[u8]) -> Option<u16>
     ensures { MatchOption result ((m : ℕ) → 0 < m → m < 2 ^ 16 → word.now ≢ decimal m)
         (λ m. (0 < m) × (word.now ≡ decimal m)) }
 {
-    match number(word) {
+    match parse_u64(word) {
         Some(n) if 0 < n && n < 1 << 16 => Some(n as u16),
         _ => None,
     }

@@ -3,8 +3,8 @@ use Rattle.std.proofs.lemmas.Bool.{eqb-true}
 use Rattle.std.proofs.lemmas.List.{nil_from_length}
 use Rattle.std.specs.Option.{option_to_list}
 use Rattle.sporc_play.specs.declared.script.command.PlayLine.{PlayLine}
-use Rattle.sporc_play.specs.Grammar.{IsFirstOutside, IsScript, Reads, lines_of}
-use Rattle.sporc_play.proofs.Reading.{Reads-cons, IsFirstOutside-cons, counted, declared_with-kept, sizes-kept}
+use Rattle.sporc_play.specs.Grammar.{IsFirstBadLine, IsScript, Reads, lines_of}
+use Rattle.sporc_play.proofs.Reading.{Reads-cons, IsFirstBadLine-cons, counted, declared_with-kept, sizes-kept}
 use Rattle.sporc_play.proofs.script.reader.read_play.Goals as goal
 
 pub loop-rest-preserved : goal.loop-rest-preserved
@@ -20,11 +20,11 @@ loop-rest-preserved c =
           (subst (λ (b : List PlayLine). Reads b (c.loop-rest.number + 1) after more) kept rest) in
           rw (kept, append_assoc) (c.loop-rest.invariant.reads _ (rw c.next_line.ensures.lines read));
       outside = λ k h.
-          let found : IsFirstOutside before c.loop-rest.number (line ∷ after) k =
-          IsFirstOutside-cons before c.loop-rest.declared c.loop-rest.number line after c.in_ok-read.read k c.loop-rest.invariant.declared c.in_ok-read.ensures.ok
-          (subst (λ (b : List PlayLine). IsFirstOutside b (c.loop-rest.number + 1) after k) kept h) in
+          let found : IsFirstBadLine before c.loop-rest.number (line ∷ after) k =
+          IsFirstBadLine-cons before c.loop-rest.declared c.loop-rest.number line after c.in_ok-read.read k c.loop-rest.invariant.declared c.in_ok-read.ensures.ok
+          (subst (λ (b : List PlayLine). IsFirstBadLine b (c.loop-rest.number + 1) after k) kept h) in
           c.loop-rest.invariant.outside k (rw c.next_line.ensures.lines found);
-      declared = rw kept (c.in_ok-note_line.ensures ∙ declared_with-kept before c.loop-rest.declared c.in_ok-read.read c.loop-rest.invariant.declared);
+      declared = rw kept (c.in_ok-declare_line.ensures ∙ declared_with-kept before c.loop-rest.declared c.in_ok-read.read c.loop-rest.invariant.declared);
       number = omega (arith, c.next_line.ensures.shorter, c.loop-rest.invariant.number);
       count = omega (arith, ap length kept, counted before c.in_ok-read.read, c.next_line.ensures.shorter, c.loop-rest.invariant.count);
       sizes = rw kept (sizes-kept c.loop-rest.declared c.loop-rest.number line before c.in_ok-read.read (length c.args.text.now) c.in_ok-read.ensures.ok (omega (arith, c.next_line.ensures.within, c.loop-rest.invariant.count)) c.loop-rest.invariant.sizes);

@@ -3,7 +3,7 @@ use Rattle.sporc_play.specs.declared.seat.Seat.{Seat}
 use Rattle.sporc_play.specs.declared.script.command.Command.TheVariants as commands
 use Rattle.sporc_play.specs.Scene.{Scene}
 use Rattle.sporc_play.specs.SeatPlace.{IsSeatAt}
-use Rattle.sporc_play.specs.Telling.{Tells}
+use Rattle.sporc_play.specs.Lines.{AppendsLine}
 use Rattle.sporc_client.specs.History.{hashes_of}
 use Rattle.sporc_play.specs.declared.script.command.Comparison.{Comparison}
 use Rattle.sporc_play.specs.Report.{Stands}
@@ -23,5 +23,5 @@ returns c =
     let told : Stands (hashes_of x.client.genesis x.client.entries) (hashes_of y.client.genesis y.client.entries) v =
     subst (λ (a : List (List ℕ)). Stands a (hashes_of y.client.genesis y.client.entries) v) c.hashes.ensures.value
     (subst (λ (b : List (List ℕ)). Stands c.hashes.result.now b v) c.hashes-2.ensures.value (stands c.hashes.result.now c.hashes-2.result.now v is.same is.prefix is.longer is.forked)) in
-    subst (λ (t : Scene). Tells (commands.Compare k) t (string_bytes c.args.out.now) (string_bytes c.push_verdict.new.out)) c.self.view_is
+    subst (λ (t : Scene). AppendsLine (commands.Compare k) t (string_bytes c.args.out.now) (string_bytes c.push_verdict.new.out)) c.self.view_is
     (comparison_told s k c.in-Some.i c.in-Some-seat_at.j x y v _ _ at_x c.index-first.ensures at_y c.index-second.ensures told c.in_ok-push_verdict.ensures)

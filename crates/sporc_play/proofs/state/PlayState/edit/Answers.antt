@@ -4,7 +4,7 @@ use Rattle.sporc_play.specs.declared.script.command.Command.TheVariants as comma
 use Rattle.sporc_play.specs.declared.script.command.Edit.{Edit}
 use Rattle.sporc_play.specs.Scene.{Scene, after}
 use Rattle.sporc_play.specs.SeatPlace.{IsSeatAt}
-use Rattle.sporc_play.specs.Telling.{Tells}
+use Rattle.sporc_play.specs.Lines.{AppendsLine}
 use Rattle.std.specs.Vec.{with_item}
 use Rattle.sporc_play.proofs.States.{edit_told, scene_edited}
 use Rattle.sporc_play.proofs.state.PlayState.edit.Goals as goal
@@ -22,5 +22,5 @@ returns-clause-line c =
     let s : Scene = record { genesis = c.self.inside.genesis.items; seats = c.self.inside.seats.items; made = c.self.inside.made.items } in
     let e : Edit = c.args.change.now in
     let at = subst (λ (ts : List Seat). IsSeatAt ts e.member c.in-Some.i) c.as_slice.ensures.value c.in-Some.ensures in
-    subst (λ (t : Scene). Tells (commands.Edit e) t (string_bytes c.args.out.now) (string_bytes c.edit.new.out)) c.self.view_is
+    subst (λ (t : Scene). AppendsLine (commands.Edit e) t (string_bytes c.args.out.now) (string_bytes c.edit.new.out)) c.self.view_is
     (edit_told s e c.in-Some.i c.index_mut.result.now _ _ at c.index_mut.ensures.value c.in_ok-edit.ensures.line)

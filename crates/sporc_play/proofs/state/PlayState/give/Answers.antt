@@ -4,7 +4,7 @@ use Rattle.sporc_play.specs.declared.seat.Seat.{Seat}
 use Rattle.sporc_play.specs.declared.script.command.Command.TheVariants as commands
 use Rattle.sporc_play.specs.Scene.{Scene, after}
 use Rattle.sporc_play.specs.SeatPlace.{IsSeatAt}
-use Rattle.sporc_play.specs.Telling.{Tells}
+use Rattle.sporc_play.specs.Lines.{AppendsLine}
 use Rattle.std.proofs.Common.{None}
 use Rattle.std.specs.Vec.{with_item}
 use Rattle.sporc_play.specs.declared.script.command.Give.{Give}
@@ -25,7 +25,7 @@ returns-in_default-entry_at-clause-line c =
     let g : Give = c.args.handed.now in
     let at = subst (λ (ts : List Seat). IsSeatAt ts g.member c.in-Some.i) c.as_slice.ensures.value c.in-Some.ensures in
     let none : entry_at s.made g.entry ≡ None = subst (λ (es : List PlainEntry). entry_at es g.entry ≡ None) c.as_slice-2.ensures.value c.in_default-entry_at.ensures in
-    subst (λ (t : Scene). Tells (commands.Give g) t (string_bytes c.args.out.now) (string_bytes c.writeln.new.self)) c.self.view_is
+    subst (λ (t : Scene). AppendsLine (commands.Give g) t (string_bytes c.args.out.now) (string_bytes c.writeln.new.self)) c.self.view_is
     (no_entry_told s g c.in-Some.i _ _ at none c.in_ok-writeln.ensures.bytes)
 
 pub give-requires : goal.give-requires
@@ -49,5 +49,5 @@ returns-clause-line c =
     let g : Give = c.args.handed.now in
     let at = subst (λ (ts : List Seat). IsSeatAt ts g.member c.in-Some.i) c.as_slice.ensures.value c.in-Some.ensures in
     let some : entry_at s.made g.entry ≡ Some c.in-Some-entry_at.entry.now = subst (λ (es : List PlainEntry). entry_at es g.entry ≡ Some c.in-Some-entry_at.entry.now) c.as_slice-2.ensures.value c.in-Some-entry_at.ensures in
-    subst (λ (t : Scene). Tells (commands.Give g) t (string_bytes c.args.out.now) (string_bytes c.give.new.out)) c.self.view_is
+    subst (λ (t : Scene). AppendsLine (commands.Give g) t (string_bytes c.args.out.now) (string_bytes c.give.new.out)) c.self.view_is
     (give_told s g c.in-Some.i c.index_mut.result.now (Some c.in-Some-entry_at.entry.now) _ _ at c.index_mut.ensures.value some c.in_ok-give.ensures.line)

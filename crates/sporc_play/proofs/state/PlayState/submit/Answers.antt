@@ -4,7 +4,7 @@ use Rattle.sporc_play.specs.declared.seat.Seat.{Seat}
 use Rattle.sporc_play.specs.declared.script.command.Command.TheVariants as commands
 use Rattle.sporc_play.specs.Scene.{Scene, after}
 use Rattle.sporc_play.specs.SeatPlace.{IsSeatAt}
-use Rattle.sporc_play.specs.Telling.{Tells}
+use Rattle.sporc_play.specs.Lines.{AppendsLine}
 use Rattle.std.specs.Vec.{with_item}
 use Rattle.sporc_play.proofs.States.{scene_submitted, submission_told}
 use Rattle.sporc_play.proofs.state.PlayState.submit.Goals as goal
@@ -23,7 +23,7 @@ pub returns-in-Some-2-clause-line : goal.returns-in-Some-2-clause-line
 returns-in-Some-2-clause-line c =
     let s : Scene = record { genesis = c.self.inside.genesis.items; seats = c.self.inside.seats.items; made = c.self.inside.made.items } in
     let at = subst (λ (ts : List Seat). IsSeatAt ts c.args.member c.in-Some.i) c.as_slice.ensures.value c.in-Some.ensures in
-    subst (λ (t : Scene). Tells (commands.Submit c.args.member) t (string_bytes c.args.out.now) (string_bytes c.submit.new.out)) c.self.view_is
+    subst (λ (t : Scene). AppendsLine (commands.Submit c.args.member) t (string_bytes c.args.out.now) (string_bytes c.submit.new.out)) c.self.view_is
     (submission_told s c.args.member c.in-Some.i _ c.index_mut.result.now _ _ at c.index_mut.ensures.value (omega (arith, ap (λ (es : List PlainEntry). length es) c.as_slice-2.ensures.value)) c.in_ok-entry.ensures.line)
 
 pub returns-in_default-2-clause-state : goal.returns-in_default-2-clause-state
@@ -40,5 +40,5 @@ pub returns-in_default-2-clause-line : goal.returns-in_default-2-clause-line
 returns-in_default-2-clause-line c =
     let s : Scene = record { genesis = c.self.inside.genesis.items; seats = c.self.inside.seats.items; made = c.self.inside.made.items } in
     let at = subst (λ (ts : List Seat). IsSeatAt ts c.args.member c.in-Some.i) c.as_slice.ensures.value c.in-Some.ensures in
-    subst (λ (t : Scene). Tells (commands.Submit c.args.member) t (string_bytes c.args.out.now) (string_bytes c.submit.new.out)) c.self.view_is
+    subst (λ (t : Scene). AppendsLine (commands.Submit c.args.member) t (string_bytes c.args.out.now) (string_bytes c.submit.new.out)) c.self.view_is
     (submission_told s c.args.member c.in-Some.i _ c.index_mut.result.now _ _ at c.index_mut.ensures.value (omega (arith, ap (λ (es : List PlainEntry). length es) c.as_slice-2.ensures.value)) c.in_ok-entry.ensures.line)

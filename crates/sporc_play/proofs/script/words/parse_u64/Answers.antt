@@ -2,7 +2,7 @@ use Rattle.std.proofs.Common.{◌≡◌, ℕ, List, true, false, sym, subst, ◌
 use Rattle.std.specs.Str.Parse.{ParsesUnsigned}
 use Rattle.sporc_play.specs.Words.{IsPlain}
 use Rattle.sporc_play.proofs.Numerals.{decimal_plain, number_from_parse, no_number_from_parse, decimal_utf8}
-use Rattle.sporc_play.proofs.script.words.number.Goals as goal
+use Rattle.sporc_play.proofs.script.words.parse_u64.Goals as goal
 
 pub returns-then-not-is_plain : goal.returns-then-not-is_plain
 returns-then-not-is_plain c = λ n fits spelled.

@@ -1,6 +1,6 @@
 use Rattle.std.proofs.Common.{arith}
 use Rattle.sporc_play.proofs.Spelled.{only_small}
-use Rattle.sporc_play.proofs.script.words.member.Goals as goal
+use Rattle.sporc_play.proofs.script.words.parse_member.Goals as goal
 
 pub returns-in_default : goal.returns-in_default
 returns-in_default c = λ m some small spelled.
