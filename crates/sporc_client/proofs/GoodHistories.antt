@@ -10,7 +10,7 @@ use Rattle.sporc_base.specs.FirstFault.{first_of}
 use Rattle.sporc_client.specs.History.{hash_of}
 use Rattle.sporc_client.specs.Checks.{checks, IsGood, IsNext}
 use Rattle.sporc_client.specs.Typed.{IsTypedEntry}
-use Rattle.sporc_client.specs.Agree.{AreApart}
+use Rattle.sporc_client.specs.Agree.{HistoriesCollisionFree}
 use Rattle.sporc_client.proofs.Passes.{passes}
 use Rattle.sporc_client.proofs.Spelling.{same_histories_bytes}
 
@@ -71,13 +71,13 @@ last_of_beginning : (genesis : List ℕ) (es : List PlainEntry) (n : ℕ) → la
 last_of_beginning genesis es n = ap (last_value genesis) (take-map entry_bytes n es)
 
 -- two beginnings with one last hash are one
-pub one_hash_one_beginning : (genesis : List ℕ) (a b : List PlainEntry) (m n : ℕ) → AllByRecursion IsTypedEntry a → AllByRecursion IsTypedEntry b → AreApart genesis a b
+pub one_hash_one_beginning : (genesis : List ℕ) (a b : List PlainEntry) (m n : ℕ) → AllByRecursion IsTypedEntry a → AllByRecursion IsTypedEntry b → HistoriesCollisionFree genesis a b
     → hash_of genesis (take m a) ≡ hash_of genesis (take n b) → take m a ≡ take n b
 one_hash_one_beginning genesis a b m n x y apart h =
     let bytes = one_value_one_prefix genesis (map entry_bytes a) (map entry_bytes b) m n apart (last_of_beginning genesis a m ∙ h ∙ sym (last_of_beginning genesis b n)) in
     same_histories_bytes (take m a) (take n b) (all_taken IsTypedEntry m a x) (all_taken IsTypedEntry n b y) (sym (take-map entry_bytes m a) ∙ bytes ∙ take-map entry_bytes n b)
 
-pub one_hash_one_history : (genesis : List ℕ) (a b : List PlainEntry) → AllByRecursion IsTypedEntry a → AllByRecursion IsTypedEntry b → AreApart genesis a b → hash_of genesis a ≡ hash_of genesis b → a ≡ b
+pub one_hash_one_history : (genesis : List ℕ) (a b : List PlainEntry) → AllByRecursion IsTypedEntry a → AllByRecursion IsTypedEntry b → HistoriesCollisionFree genesis a b → hash_of genesis a ≡ hash_of genesis b → a ≡ b
 one_hash_one_history genesis a b x y apart h =
     let all_a : take (length a) a ≡ a = take_all (length a) a (omega arith) in
     let all_b : take (length b) b ≡ b = take_all (length b) b (omega arith) in
@@ -85,7 +85,7 @@ one_hash_one_history genesis a b x y apart h =
 
 -- one entry of two good histories has one base, up to which they are one
 pub one_entry_one_base : (genesis : List ℕ) (a b : List PlainEntry) (i j : ℕ) (e : PlainEntry) → AllByRecursion IsTypedEntry a → AllByRecursion IsTypedEntry b → IsGood genesis a → IsGood genesis b
-    → slice_get a i ≡ Some e → slice_get b j ≡ Some e → AreApart genesis a b → take e.base a ≡ take e.base b
+    → slice_get a i ≡ Some e → slice_get b j ≡ Some e → HistoriesCollisionFree genesis a b → take e.base a ≡ take e.base b
 one_entry_one_base genesis a b i j e x y good_a good_b at_a at_b apart =
     let p = good_entry genesis a i e good_a at_a in
     let q = good_entry genesis b j e good_b at_b in

@@ -7,13 +7,13 @@ ghost use Rattle.sporc_client.specs.Typed.{IsTypedEntry};
 ghost use Rattle.sporc_client.specs.History.{hash_of};
 ghost use Rattle.sporc_client.specs.Checks.{IsGood};
 ghost use Rattle.sporc_client.specs.Run.{Move, IsTypedMove};
-ghost use Rattle.sporc_client.specs.Agree.{AreApart, Agree};
+ghost use Rattle.sporc_client.specs.Agree.{HistoriesCollisionFree, Agree};
 
 /// Two histories of one genesis whose chains end in one value are one history, where no two different strings hashed
 /// for them have one digest.
 pub fn one_hash_one_history()
     ensures { (genesis : List ℕ) (a b : List PlainEntry) → AllByRecursion IsTypedEntry a → AllByRecursion IsTypedEntry b
-        → AreApart genesis a b → hash_of genesis a ≡ hash_of genesis b → a ≡ b }
+        → HistoriesCollisionFree genesis a b → hash_of genesis a ≡ hash_of genesis b → a ≡ b }
 {}
 
 /// Two histories whose entries passed the checks and that share an entry are one up to that entry's base, where no two
@@ -21,7 +21,7 @@ pub fn one_hash_one_history()
 pub fn one_entry_one_base()
     ensures { (genesis : List ℕ) (a b : List PlainEntry) (x y : ℕ) (e : PlainEntry) → AllByRecursion IsTypedEntry a → AllByRecursion IsTypedEntry b
         → IsGood genesis a → IsGood genesis b → slice_get a x ≡ Some e → slice_get b y ≡ Some e
-        → AreApart genesis a b → take e.base a ≡ take e.base b }
+        → HistoriesCollisionFree genesis a b → take e.base a ≡ take e.base b }
 {}
 
 /// All clients of a document agree at any two moments of every run, whatever the server hands to whom: those whose

@@ -1,5 +1,6 @@
 pub mod CharEscapes
 pub mod Commands
+pub mod Decided
 pub mod Edits
 pub mod Escapes
 pub mod Fronts

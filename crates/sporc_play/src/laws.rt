@@ -1,8 +1,22 @@
 //! Laws over the definitions that contracts cite. Their functions do nothing.
 
-ghost use Rattle.std.specs.Prelude.{◌≡◌, ℕ, List};
+ghost use Rattle.std.specs.Prelude.{◌≡◌, ◌⊎◌, ℕ, List};
 ghost use Rattle.sporc_play.specs.Grammar.{IsFaultLine, IsScript};
 ghost use Rattle.sporc_play.specs.declared.script.command.PlayLine.{PlayLine};
+
+use crate::playing::MAX_SCRIPT;
+use crate::script::MAX_MEMBERS;
+
+/// The limits of a script: its bytes, and its members.
+pub fn limits()
+    ensures bytes { MAX_SCRIPT ≡ 16777216 }
+    ensures members { MAX_MEMBERS ≡ 64 }
+{}
+
+/// A text is a script, or has a first line outside the grammar.
+pub fn script_or_fault_line()
+    ensures { (text : List ℕ) → ((script : List PlayLine) × IsScript text script) ⊎ ((line : ℕ) × IsFaultLine text line) }
+{}
 
 /// A text is one script.
 pub fn one_script()

@@ -1,28 +1,18 @@
 -- What a run did, from what its parts did, and what a source that tells its bytes calls for.
-use Rattle.std.proofs.Common.{◌≡◌, ℕ, ◌+◌, ◌<◌, ◌≤◌, List, ◌++◌, length, Option, Some, None, Err, refl, sym, ap, ◌∙◌, subst, inl, inr, arith, append-nil, length-append}
+use Rattle.std.proofs.Common.{◌≡◌, ℕ, ◌+◌, ◌<◌, ◌≤◌, List, ◌++◌, length, Option, Some, None, refl, sym, ap, ◌∙◌, subst, inl, inr, arith, append-nil, length-append}
+use Rattle.std.specs.Io.KnownBytes.{Consumes, IsAtEnd}
 use Rattle.sporc_outside.specs.Reading.{ConsumesExactly}
 use Rattle.sporc_outside.specs.Uses.{SinkUse, SourceUse}
-use Rattle.sporc_play.specs.declared.fault.PlayFault.{PlayFault}
-use Rattle.sporc_play.specs.declared.fault.PlayFault.TheVariants as playing
 use Rattle.sporc_play.specs.declared.playing.TheConstants.{MAX_SCRIPT}
 use Rattle.sporc_play.specs.declared.script.command.PlayLine.{PlayLine}
 use Rattle.sporc_play.specs.Grammar.{IsFaultLine, IsScript, lines_of}
-use Rattle.sporc_play.specs.Playing.{HasFaultLine, IsTooLong, PlayOutcome, Plays, ReadsWhole}
+use Rattle.sporc_play.specs.Playing.{HasFaultLine, Plays, ReadsWhole}
 use Rattle.sporc_play.specs.Report.{Reports}
 use Rattle.sporc_play.proofs.Unique.{one_fault, one_reading, not_both}
 use Rattle.sporc_top.specs.declared.fault.Fault.{Fault}
 use Rattle.sporc_top.specs.declared.fault.Fault.TheVariants as faults
-use Rattle.sporc_top.specs.Faults.{WritesFaultLine, fault_of, status_of}
-use Rattle.sporc_top.specs.Outcome.{FaultyScript, IsPlay, LongScript, OtherWords, OutOfMemory, PerformOutcome, Played, RunOutcome, SinkFailed, SourceFailed, UnlessCutOff}
-
--- a play that failed is a command that failed
-pub play_failed : (T U : Type 0) (words : List (List ℕ)) (source : SourceUse) (out : SinkUse) (cause : PlayFault) → IsPlay words → PlayOutcome {T = T} source out (Err cause)
-    → PerformOutcome {T = U} words source out (Err (fault_of cause))
-play_failed T U words source out playing.Memory play did = (play, did)
-play_failed T U words source out playing.ReadFault play did = (play, inl did)
-play_failed T U words source out playing.WriteFault play did = (play, inr did)
-play_failed T U words source out (playing.LineFault k) play did = (play, did.0, did.1)
-play_failed T U words source out playing.TooLong play did = (play, did.0, did.1)
+use Rattle.sporc_top.specs.Faults.{WritesFaultLine, status_of}
+use Rattle.sporc_top.specs.Outcome.{FaultyScript, IsFaultOf, IsPlay, LongScript, OtherWords, OutOfMemory, Played, RunOutcome, SinkFailed, SourceFailed, UnlessCutOff}
 
 -- the sink before a command, after it, and after the line of its fault
 module _ (before between after : Option (List ℕ)) (b m a : ℕ) where
@@ -46,26 +36,96 @@ told_alone before between after b m a fault same later told =
     subst (λ (o : Option (List ℕ)). WritesFaultLine (record { written_before = o; written_after = after; faults_before = b; faults_after = a }) fault) same (told_last before between after b m a fault later told)
 
 -- the line of a fault, after the command that failed
-pub told : (T : Type 0) (words : List (List ℕ)) (source : SourceUse) (before between after : Option (List ℕ)) (b m a : ℕ) (fault : Fault)
-    → PerformOutcome {T = T} words source (first_use before between after b m a) (Err fault) → b ≤ m → m ≤ a → WritesFaultLine (last_use before between after b m a) fault
+told : (words : List (List ℕ)) (source : SourceUse) (before between after : Option (List ℕ)) (b m a : ℕ) (fault : Fault)
+    → IsFaultOf words source (first_use before between after b m a) fault → b ≤ m → m ≤ a → WritesFaultLine (last_use before between after b m a) fault
     → RunOutcome words source (whole_use before between after b m a) (status_of fault)
-told T words source before between after b m a faults.Memory (play, inl none) later more line = OutOfMemory play (inl (told_alone before between after b m a faults.Memory none.written later line))
-told T words source before between after b m a faults.Memory (play, inr prefix) later more line =
+told words source before between after b m a faults.Memory (play, inl none) later more line = OutOfMemory play (inl (told_alone before between after b m a faults.Memory none.written later line))
+told words source before between after b m a faults.Memory (play, inr prefix) later more line =
     OutOfMemory play (inr (record { between = between; prefix = prefix; line = told_last before between after b m a faults.Memory later line }))
-told T words source before between after b m a faults.Words (other, none) later more line = OtherWords other (told_alone before between after b m a faults.Words none.written later line)
-told T words source before between after b m a (faults.Line k) (play, outside, none) later more line = FaultyScript play k outside (told_alone before between after b m a (faults.Line k) none.written later line)
-told T words source before between after b m a faults.TooLong (play, long, none) later more line = LongScript play long (told_alone before between after b m a faults.TooLong none.written later line)
-told T words source before between after b m a faults.Io (play, inl (rose, none)) later more line = SourceFailed play rose (told_alone before between after b m a faults.Io none.written later line)
-told T words source before between after b m a faults.Io (play, inr (rose, prefix)) later more line =
+told words source before between after b m a faults.Words (other, none) later more line = OtherWords other (told_alone before between after b m a faults.Words none.written later line)
+told words source before between after b m a (faults.Line k) (play, outside, none) later more line = FaultyScript play k outside (told_alone before between after b m a (faults.Line k) none.written later line)
+told words source before between after b m a faults.TooLong (play, long, none) later more line = LongScript play long (told_alone before between after b m a faults.TooLong none.written later line)
+told words source before between after b m a faults.Io (play, inl (rose, none)) later more line = SourceFailed play rose (told_alone before between after b m a faults.Io none.written later line)
+told words source before between after b m a faults.Io (play, inr (rose, prefix)) later more line =
     SinkFailed play (omega (arith, rose, more)) (record { between = between; prefix = prefix; line = told_last before between after b m a faults.Io later line })
 
+-- the same for a status that is the fault's
+pub told_as : (status : ℕ) (words : List (List ℕ)) (source : SourceUse) (before between after : Option (List ℕ)) (b m a : ℕ) (fault : Fault)
+    → IsFaultOf words source (first_use before between after b m a) fault → b ≤ m → m ≤ a → WritesFaultLine (last_use before between after b m a) fault → status ≡ status_of fault
+    → RunOutcome words source (whole_use before between after b m a) status
+told_as status words source before between after b m a fault cause later more line is =
+    subst (λ (n : ℕ). RunOutcome words source (whole_use before between after b m a) n) (sym is) (told words source before between after b m a fault cause later more line)
+
 -- what was read whole is what was left
-all_of : (source : SourceUse) (text read : List ℕ) → source.left_before ≡ Some text → ReadsWhole source read → read ≡ text
-all_of source text read told whole = all source.left_before source.left_after told whole.all whole.ended where
+all_of : (left left' : Option (List ℕ)) (text read : List ℕ) → left ≡ Some text → Consumes left left' read → IsAtEnd left' → read ≡ text
+all_of None left' text read tells all ended = cc
+all_of (Some xs) None text read tells all ended = absurd all
+all_of (Some xs) (Some ys) text read tells all ended =
+    let same : xs ≡ text = cc in
+    sym (sym same ∙ all ∙ ap (λ zs. read ++ zs) ended ∙ append-nil read)
+
+whole_of : (source : SourceUse) (text read : List ℕ) → source.left_before ≡ Some text → ReadsWhole source read → read ≡ text
+whole_of source text read tells whole = all_of source.left_before source.left_after text read tells whole.all whole.ended
 
 no_more : (n : ℕ) (left left' : Option (List ℕ)) (text : List ℕ) → left ≡ Some text → ConsumesExactly n left left' → n ≤ length text
-no_more n None left' text told taken = cc
-no_more n (Some xs) None text told taken = absurd taken.2
-no_more n (Some xs) (Some ys) text told taken =
+no_more n None left' text tells taken = cc
+no_more n (Some xs) None text tells taken = absurd taken.2
+no_more n (Some xs) (Some ys) text tells taken =
     let same : xs ≡ text = cc in
     omega (arith, ap length same, ap length taken.2, length-append taken.0 ys, taken.1)
+
+-- a source that tells its bytes
+module _ (words : List (List ℕ)) (source : SourceUse) (out : SinkUse) (text : List ℕ) (play : IsPlay words) (tells : source.left_before ≡ Some text) where
+  -- it was read as a script, if it is one
+  as_script : (script : List PlayLine) → IsScript text script → Plays source out → Reports script out.written_before out.written_after
+  as_script script is (own, reads, written) =
+      let same = whole_of source text reads.text tells reads.whole in
+      let one = one_reading (lines_of text) _ 1 own script (subst (λ (t : List ℕ). IsScript t own) same reads.reads) is in
+      subst (λ (s : List PlayLine). Reports s out.written_before out.written_after) one written
+
+  no_fault : (script : List PlayLine) (k : ℕ) → IsScript text script → ¬ (HasFaultLine source k)
+  no_fault script k is (read, whole, outside) =
+      not_both (lines_of text) _ 1 script k is (subst (λ (t : List ℕ). IsFaultLine t k) (whole_of source text read tells whole) outside)
+
+  no_script : (k : ℕ) → IsFaultLine text k → ¬ (Plays source out)
+  no_script k outside (own, reads, written) =
+      not_both (lines_of text) _ 1 own k (subst (λ (t : List ℕ). IsScript t own) (whole_of source text reads.text tells reads.whole) reads.reads) outside
+
+  same_line : (k j : ℕ) → IsFaultLine text k → HasFaultLine source j → j ≡ k
+  same_line k j outside (read, whole, found) =
+      one_fault (lines_of text) _ 1 j k (subst (λ (t : List ℕ). IsFaultLine t j) (whole_of source text read tells whole) found) outside
+
+  short : (limit : ℕ) → length text ≤ limit → ¬ (ConsumesExactly (limit + 1) source.left_before source.left_after)
+  short limit within taken = let more = no_more (limit + 1) source.left_before source.left_after text tells taken in omega (arith, more)
+
+  long : (read : List ℕ) (limit : ℕ) → limit < length text → ReadsWhole source read → length read ≤ limit → ⊥
+  long read limit above whole within = let same = whole_of source text read tells whole in omega (arith, ap length same)
+
+  pub on_script : (status : ℕ) (script : List PlayLine) → RunOutcome words source out status → length text ≤ MAX_SCRIPT → IsScript text script
+      → UnlessCutOff status ((status ≡ 0) × Reports script out.written_before out.written_after)
+  on_script status script (Played _ plays) within is = inl (refl, as_script script is plays)
+  on_script status script (OutOfMemory _ line) within is = inr (inl refl)
+  on_script status script (OtherWords other line) within is = absurd (other play)
+  on_script status script (FaultyScript _ k outside line) within is = absurd (no_fault script k is outside)
+  on_script status script (LongScript _ taken line) within is = absurd (short MAX_SCRIPT within taken)
+  on_script status script (SourceFailed _ rose line) within is = inr (inr refl)
+  on_script status script (SinkFailed _ rose line) within is = inr (inr refl)
+
+  pub on_fault_line : (status k : ℕ) → RunOutcome words source out status → length text ≤ MAX_SCRIPT → IsFaultLine text k
+      → UnlessCutOff status ((status ≡ 3) × WritesFaultLine out (faults.Line k))
+  on_fault_line status k (Played _ plays) within outside = absurd (no_script k outside plays)
+  on_fault_line status k (OutOfMemory _ line) within outside = inr (inl refl)
+  on_fault_line status k (OtherWords other line) within outside = absurd (other play)
+  on_fault_line status k (FaultyScript _ j found line) within outside = inl (refl, subst (λ (n : ℕ). WritesFaultLine out (faults.Line n)) (same_line k j outside found) line)
+  on_fault_line status k (LongScript _ taken line) within outside = absurd (short MAX_SCRIPT within taken)
+  on_fault_line status k (SourceFailed _ rose line) within outside = inr (inr refl)
+  on_fault_line status k (SinkFailed _ rose line) within outside = inr (inr refl)
+
+  pub on_long : (status : ℕ) → RunOutcome words source out status → MAX_SCRIPT < length text → UnlessCutOff status ((status ≡ 3) × WritesFaultLine out faults.TooLong)
+  on_long status (Played _ (own, reads, written)) above = absurd (long reads.text MAX_SCRIPT above reads.whole reads.whole.within)
+  on_long status (OutOfMemory _ line) above = inr (inl refl)
+  on_long status (OtherWords other line) above = absurd (other play)
+  on_long status (FaultyScript _ k (read, whole, found) line) above = absurd (long read MAX_SCRIPT above whole whole.within)
+  on_long status (LongScript _ taken line) above = inl (refl, line)
+  on_long status (SourceFailed _ rose line) above = inr (inr refl)
+  on_long status (SinkFailed _ rose line) above = inr (inr refl)

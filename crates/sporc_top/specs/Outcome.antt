@@ -34,15 +34,19 @@ pub data RunOutcome (words : List (List ℕ)) (source : SourceUse) (out : SinkUs
   -- 6, `fault outside`: the sink failed, after a prefix of the report
   SinkFailed : IsPlay words → Rose out.faults_before out.faults_after → WritesPrefixAndFaultLine source out faults.Io → RunOutcome words source out 6
 
--- what a command did, by its answer, before the line of its fault is written
+-- why a command was not performed whole, before the line of its fault is written
+abbrev pub IsFaultOf : List (List ℕ) → SourceUse → SinkUse → Fault → Type 0
+IsFaultOf words source out faults.Memory = IsPlay words × (IsUnwritten out ⊎ PlaysPrefix source out)
+IsFaultOf words source out faults.Words = ¬ (IsPlay words) × IsUnwritten out
+IsFaultOf words source out (faults.Line k) = IsPlay words × HasFaultLine source k × IsUnwritten out
+IsFaultOf words source out faults.TooLong = IsPlay words × IsTooLong source × IsUnwritten out
+IsFaultOf words source out faults.Io =
+    IsPlay words × ((Rose source.faults_before source.faults_after × IsUnwritten out) ⊎ (Rose out.faults_before out.faults_after × PlaysPrefix source out))
+
+-- what a command did, by its answer
 abbrev pub PerformOutcome : {T : Type 0} → List (List ℕ) → SourceUse → SinkUse → Result T Fault → Type 0
 PerformOutcome words source out (Ok done) = IsPlay words × Plays source out
-PerformOutcome words source out (Err faults.Memory) = IsPlay words × (IsUnwritten out ⊎ PlaysPrefix source out)
-PerformOutcome words source out (Err faults.Words) = ¬ (IsPlay words) × IsUnwritten out
-PerformOutcome words source out (Err (faults.Line k)) = IsPlay words × HasFaultLine source k × IsUnwritten out
-PerformOutcome words source out (Err faults.TooLong) = IsPlay words × IsTooLong source × IsUnwritten out
-PerformOutcome words source out (Err faults.Io) =
-    IsPlay words × ((Rose source.faults_before source.faults_after × IsUnwritten out) ⊎ (Rose out.faults_before out.faults_after × PlaysPrefix source out))
+PerformOutcome words source out (Err fault) = IsFaultOf words source out fault
 
 -- this, unless memory ran out, or the source or the sink failed
 abbrev pub UnlessCutOff : ℕ → Type 0 → Type 0

@@ -4,7 +4,7 @@ ghost use Rattle.std.specs.Prelude.{◌≡◌, ◌≤◌, ◌++◌, ℕ, OnOk, O
 ghost use Rattle.std.specs.Io.KnownBytes.{Appends};
 ghost use Rattle.sporc_outside.specs.Counts.{CountsFaults};
 ghost use Rattle.sporc_outside.specs.Writing.{AppendsPrefix};
-ghost use Rattle.sporc_top.specs.Faults.{Tells, fault_line, fault_of, numbered_line, status_of};
+ghost use Rattle.sporc_top.specs.Faults.{WritesFaultLine, fault_line, fault_of, numbered_line, status_of};
 
 use itoa::Buffer;
 use sporc_outside::{Failed, Sink, write_all};
@@ -18,7 +18,8 @@ pub enum Fault {
     /// The first line of the script outside the grammar, counted from 1.
     Line(u32),
     TooLong,
-    Outside,
+    /// The source or the sink failed.
+    Io,
 }
 
 impl From<PlayFault> for Fault {
@@ -27,7 +28,7 @@ impl From<PlayFault> for Fault {
     fn from(cause: PlayFault) -> Fault {
         match cause {
             PlayFault::Memory => Fault::Memory,
-            PlayFault::ReadFault | PlayFault::WriteFault => Fault::Outside,
+            PlayFault::ReadFault | PlayFault::WriteFault => Fault::Io,
             PlayFault::LineFault(line) => Fault::Line(line),
             PlayFault::TooLong => Fault::TooLong,
         }
@@ -43,13 +44,20 @@ impl Fault {
             Fault::Memory => 1,
             Fault::Words => 2,
             Fault::Line(_) | Fault::TooLong => 3,
-            Fault::Outside => 6,
+            Fault::Io => 6,
         }
     }
 
     /// Writes the line of the fault, as far as the sink takes it.
     pub fn tell<O: Sink>(self, out: &mut O)
-        ensures line { Tells (O.written out.old) (O.written out.new) (O.faults out.old) (O.faults out.new) (fault_line self) }
+        ensures line { WritesFaultLine
+            (record {
+              written_before = O.written out.old;
+              written_after = O.written out.new;
+              faults_before = O.faults out.old;
+              faults_after = O.faults out.new;
+            })
+            self }
         ensures kept { O.faults out.old ≤ O.faults out.new }
     {
         let _ = self.write_line(out);
@@ -68,7 +76,7 @@ impl Fault {
                 write_numbered(out, digits.format(line).as_bytes())
             }
             Fault::TooLong => write_all(out, b"fault too long script\n"),
-            Fault::Outside => write_all(out, b"fault outside\n"),
+            Fault::Io => write_all(out, b"fault outside\n"),
         }
     }
 }

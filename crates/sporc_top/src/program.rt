@@ -1,15 +1,9 @@
 //! The program.
 
-ghost use Rattle.std.specs.Prelude.{◌≡◌, ◌≢◌, ◌+◌, ◌<◌, ◌≤◌, ◌↔◌, ◌⊎◌, ℕ, List, Some, length, map, IsTrue, IfErr, OnOk, string_bytes};
-ghost use Rattle.sporc_outside.specs.Counts.{Rose};
-ghost use Rattle.sporc_play.specs.Grammar.{IsFaultLine, IsScript};
-ghost use Rattle.sporc_play.specs.Moves.{IsOneRun};
-ghost use Rattle.sporc_play.specs.Playing.{Plays};
-ghost use Rattle.sporc_play.specs.Report.{Reports};
+ghost use Rattle.std.specs.Prelude.{◌≡◌, ◌+◌, ◌≤◌, ◌↔◌, map, IsTrue, string_bytes};
+ghost use Rattle.sporc_outside.specs.Reading.{ConsumesAtMost};
 ghost use Rattle.sporc_play.specs.declared.playing.TheConstants.{MAX_SCRIPT};
-ghost use Rattle.sporc_play.specs.declared.script.command.PlayLine.{PlayLine};
-ghost use Rattle.sporc_top.specs.Faults.{Tells, fault_line};
-ghost use Rattle.sporc_top.specs.Run.{FailsOutside, IsCause, IsPlay, IsStatus, RefusesScript};
+ghost use Rattle.sporc_top.specs.Outcome.{IsPlay, PerformOutcome, RunOutcome};
 
 use crate::fault::Fault;
 use sporc_outside::{Sink, Source};
@@ -20,45 +14,35 @@ use std::alloc::Global;
 /// it performs the script that the source holds, and writes its report to `out`. What goes wrong
 /// is told by one line on `out`:
 ///
-/// | Status | Line |
-/// |---|---|
-/// | 1 | `fault memory` |
-/// | 2 | `fault words` |
-/// | 3 | `fault line N`, or `fault too long script` |
-/// | 6 | `fault outside` |
-#[tactic(auto, using(sporc_play::proofs::OneRun::one_run))]
+/// | Status | Line | The cause |
+/// |---|---|---|
+/// | 0 | | the script was performed, and `out` got its report |
+/// | 1 | `fault memory` | memory ran out; the line stands alone or after a prefix of the report |
+/// | 2 | `fault words` | the words give no command; nothing was read |
+/// | 3 | `fault line N` | line `N` is the script's first outside the grammar |
+/// | 3 | `fault too long script` | the source has more bytes than a script may have |
+/// | 6 | `fault outside` | the source failed, or `out` did; then the line follows a prefix of the report |
+///
+/// A line is written as far as `out` takes it. At most one byte above a script's limit is taken.
 pub fn run<S: Source, O: Sink>(alloc: Global, words: &[String], source: &mut S, out: &mut O) -> u8
-    ensures statuses { IsStatus result }
-
-    // 2 comes exactly where the words are others.
-    ensures words { (result ≡ 2) ↔ (¬ IsPlay (map (λ w. string_bytes w) words.now)) }
-    ensures words_told { result ≡ 2 → Tells (O.written out.old) (O.written out.new) (O.faults out.old) (O.faults out.new)
-        (fault_line Fault.Words) }
-
-    // What each other status says, whether the source and the sink tell their content or not.
-    ensures played { result ≡ 0 → Plays MAX_SCRIPT
-        (S.left source.old) (S.left source.new) (O.written out.old) (O.written out.new) }
-    ensures refused { result ≡ 3 → RefusesScript MAX_SCRIPT (S.left source.old) (S.left source.new)
-        (O.written out.old) (O.written out.new) (O.faults out.old) (O.faults out.new) }
-    ensures outside { result ≡ 6 → FailsOutside MAX_SCRIPT
-        (S.left source.old) (S.left source.new) (S.faults source.old) (S.faults source.new)
-        (O.written out.old) (O.written out.new) (O.faults out.old) (O.faults out.new) }
-
-    // And what a source that tells its content calls for, where memory suffices and nothing fails.
-    ensures script { (text : List ℕ) (script : List PlayLine) → IsPlay (map (λ w. string_bytes w) words.now)
-        → S.left source.old ≡ Some text → length text ≤ MAX_SCRIPT → IsScript text script
-        → ((result ≡ 0) × Reports script (O.written out.old) (O.written out.new)) ⊎ (result ≡ 1) ⊎ (result ≡ 6) }
-    ensures no_script { (text : List ℕ) (k : ℕ) → IsPlay (map (λ w. string_bytes w) words.now)
-        → S.left source.old ≡ Some text → length text ≤ MAX_SCRIPT → IsFaultLine text k
-        → ((result ≡ 3) × Tells (O.written out.old) (O.written out.new) (O.faults out.old) (O.faults out.new)
-        (fault_line (Fault.Line k))) ⊎ (result ≡ 1) ⊎ (result ≡ 6) }
-    ensures too_long { (text : List ℕ) → IsPlay (map (λ w. string_bytes w) words.now)
-        → S.left source.old ≡ Some text → MAX_SCRIPT < length text
-        → ((result ≡ 3) × Tells (O.written out.old) (O.written out.new) (O.faults out.old) (O.faults out.new)
-        (fault_line Fault.TooLong)) ⊎ (result ≡ 1) ⊎ (result ≡ 6) }
-
-    // Over every script the play is a run of the clients, who agree at any two of its moments.
-    ensures agree { (text : List ℕ) (script : List PlayLine) → IsScript text script → IsOneRun script }
+    ensures outcome { RunOutcome (map (λ w. string_bytes w) words.now)
+        (record {
+          left_before = S.left source.old;
+          left_after = S.left source.new;
+          faults_before = S.faults source.old;
+          faults_after = S.faults source.new;
+        })
+        (record {
+          written_before = O.written out.old;
+          written_after = O.written out.new;
+          faults_before = O.faults out.old;
+          faults_after = O.faults out.new;
+        })
+        result }
+    ensures taken { ConsumesAtMost (MAX_SCRIPT + 1) (S.left source.old) (S.left source.new) }
+    ensures unread { result ≡ 2 → source.new ≡ source.old }
+    ensures source_kept { S.faults source.old ≤ S.faults source.new }
+    ensures out_kept { O.faults out.old ≤ O.faults out.new }
 {
     match perform(alloc, words, source, out) {
         Ok(()) => 0,
@@ -76,13 +60,24 @@ fn perform<S: Source, O: Sink>(
     source: &mut S,
     out: &mut O,
 ) -> Result<(), Fault>
-    ensures played { OnOk result (Plays MAX_SCRIPT
-        (S.left source.old) (S.left source.new) (O.written out.old) (O.written out.new)) }
-    ensures cause { IfErr result (IsCause MAX_SCRIPT
-        (S.left source.old) (S.left source.new) (S.faults source.old) (S.faults source.new)
-        (O.written out.old) (O.written out.new) (O.faults out.old) (O.faults out.new)) }
-    ensures words { (result ≡ Err Fault.Words) ↔ (¬ IsPlay (map (λ w. string_bytes w) words.now)) }
-    ensures kept { O.faults out.old ≤ O.faults out.new }
+    ensures outcome { PerformOutcome (map (λ w. string_bytes w) words.now)
+        (record {
+          left_before = S.left source.old;
+          left_after = S.left source.new;
+          faults_before = S.faults source.old;
+          faults_after = S.faults source.new;
+        })
+        (record {
+          written_before = O.written out.old;
+          written_after = O.written out.new;
+          faults_before = O.faults out.old;
+          faults_after = O.faults out.new;
+        })
+        result }
+    ensures taken { ConsumesAtMost (MAX_SCRIPT + 1) (S.left source.old) (S.left source.new) }
+    ensures unread { result ≡ Err Fault.Words → source.new ≡ source.old }
+    ensures source_kept { S.faults source.old ≤ S.faults source.new }
+    ensures out_kept { O.faults out.old ≤ O.faults out.new }
 {
     if !is_play(words) {
         return Err(Fault::Words);

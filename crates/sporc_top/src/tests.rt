@@ -2,6 +2,7 @@ ghost use Rattle.std.specs.Prelude.{◌<◌};
 
 use super::*;
 use sporc_outside::{Calls, MemorySink, MemorySource};
+use sporc_play::MAX_SCRIPT;
 use std::alloc::{AllocError, Global};
 use std::fmt::Write;
 use std::test::Fail;
@@ -11,7 +12,7 @@ const THIN: &str = "member 1 admin\nedit 1 insert 0 \"abc\"\nsubmit 1\ngive 1 1 
 const THIN_REPORT: &str =
     "1 edit event 1\n1 submit entry 1\n1 accept 1 ok\n1 at 1 pending 0 text \"abc\"\n";
 
-// The status and what is written, where the words are those of a line, the source and the sink move
+// The status and what is written, if the words are those of a line, the source and the sink move
 // at most `piece` bytes a call, and their calls of these numbers fail.
 fn answer(
     alloc: Global,
@@ -35,8 +36,9 @@ fn answer(
     Ok((status, out.as_slice().to_vec(alloc)?))
 }
 
-// Scripts with their statuses and reports: those of the worked examples, and others as the grammar calls for them.
-const SCRIPTS: [(&str, u8, &str); 32] = [
+// Scripts with their statuses and reports: those of the worked examples, written before the program, and others as the
+// grammar calls for them.
+const SCRIPTS: [(&str, u8, &str); 35] = [
     ("", 0, ""),
     (THIN, 0, THIN_REPORT),
     (
@@ -66,6 +68,36 @@ const SCRIPTS: [(&str, u8, &str); 32] = [
         0,
         "1 accept 4294967295 no entry\n1 accept 1 no entry\n1 accept 1 no entry\n\
          1 edit outside 0\n1 edit outside 0\n1 edit event 1\n",
+    ),
+    // An entry is accepted once.
+    (
+        "member 1 admin\nmember 2 editor\nedit 1 insert 0 \"abc\"\nsubmit 1\ngive 1 1 1\ngive 2 1 1\n\
+         give 2 2 1\nsubmit 1\n",
+        0,
+        "1 edit event 1\n1 submit entry 1\n1 accept 1 ok\n2 accept 1 ok\n\
+         2 accept 2 refused wrong-number\n1 submit nothing\n",
+    ),
+    // A fork stays a fork.
+    (
+        "member 1 admin\nmember 2 editor\nedit 1 insert 0 \"abc\"\nsubmit 1\ngive 1 1 1\ngive 2 1 1\n\
+         edit 1 insert 3 \"d\"\nedit 2 insert 3 \"e\"\nsubmit 1\nsubmit 2\ngive 1 2 2\ngive 2 2 3\n\
+         edit 1 insert 0 \"z\"\nsubmit 1\nsubmit 1\ngive 2 3 4\ncompare 1 2\n",
+        0,
+        "1 edit event 1\n1 submit entry 1\n1 accept 1 ok\n2 accept 1 ok\n\
+         1 edit event 4\n2 edit event 2\n1 submit entry 2\n2 submit entry 3\n1 accept 2 ok\n2 accept 2 ok\n\
+         1 edit event 7\n1 submit entry 4\n1 submit waiting 4\n2 accept 3 refused wrong-history\n\
+         1 2 forked after 1\n",
+    ),
+    // Own edits keep others out.
+    (
+        "member 1 admin\nmember 2 editor\nedit 1 insert 0 \"abc\"\nsubmit 1\ngive 1 1 1\ngive 2 1 1\n\
+         edit 1 insert 3 \"d\"\nedit 2 insert 0 \"x\"\nsubmit 1\nsubmit 2\n\
+         give 1 2 2\ngive 1 3 3\ngive 2 2 2\ncompare 1 2\ncompare 2 1\ncompare 1 1\n",
+        0,
+        "1 edit event 1\n1 submit entry 1\n1 accept 1 ok\n2 accept 1 ok\n\
+         1 edit event 4\n2 edit event 2\n1 submit entry 2\n2 submit entry 3\n\
+         1 accept 2 ok\n1 accept 3 refused stale-base\n2 accept 2 refused has-pending\n\
+         1 2 longer\n2 1 prefix\n1 1 same\n",
     ),
     (
         "member 1 admin\nedit 1 insert x \"a\"\n",
@@ -151,7 +183,7 @@ fn knows_one_word(rt: HostRuntime) -> Result<(), Fail> {
 #[test]
 fn reads_scripts_up_to_a_size(rt: HostRuntime) -> Result<(), Fail> {
     let mut script = Vec::new(rt.alloc());
-    for _ in 0..16_777_216 {
+    for _ in 0..MAX_SCRIPT {
         script.push(b'#')?;
     }
     assert_eq!(rt;
@@ -166,7 +198,7 @@ fn reads_scripts_up_to_a_size(rt: HostRuntime) -> Result<(), Fail> {
 }
 
 #[test]
-fn tells_each_fault_of_the_outside(rt: HostRuntime) -> Result<(), Fail> {
+fn tells_each_failed_read_and_write(rt: HostRuntime) -> Result<(), Fail> {
     // Each read fails in turn, until no read is left to fail.
     let mut reads = 0;
     for k in 1..100 {
@@ -193,11 +225,11 @@ fn tells_each_fault_of_the_outside(rt: HostRuntime) -> Result<(), Fail> {
             assert_eq!(rt; k, THIN_REPORT.len() as u64 + 1);
             return Ok(());
         }
-        let front = THIN_REPORT
+        let prefix = THIN_REPORT
             .as_bytes()
             .get(..k as usize - 1)
             .ok_or("too many writes")?;
-        let text = written.strip_prefix(front).ok_or("no front of the report")?;
+        let text = written.strip_prefix(prefix).ok_or("no prefix of the report")?;
         assert_eq!(rt; text, b"fault outside\n".as_slice(), "write {k}");
         assert_eq!(rt; status, 6, "write {k}");
     }
@@ -205,7 +237,7 @@ fn tells_each_fault_of_the_outside(rt: HostRuntime) -> Result<(), Fail> {
 }
 
 #[test]
-fn keeps_the_status_where_the_line_is_not_written(rt: HostRuntime) -> Result<(), Fail> {
+fn keeps_the_status_if_the_line_is_not_written(rt: HostRuntime) -> Result<(), Fail> {
     for (word, script, status) in [("paly", "", 2), ("play", "x", 3)] {
         let (got, written) = answer(rt.alloc(), word, script.as_bytes(), 4, 0, 2)?;
         assert_eq!(rt; written.as_slice(), b"faul".as_slice());
@@ -221,62 +253,6 @@ fn report(alloc: Global, script: &str) -> Result<Vec<u8>, Fail> {
         return Err(Fail::from("not played"));
     }
     Ok(written)
-}
-
-const TWO_MEMBERS: &str = "member 1 admin\nmember 2 editor\n";
-
-// The expected lines of the next three tests are those of the worked examples, written before the program.
-#[test]
-fn an_entry_is_accepted_once(rt: HostRuntime) -> Result<(), Fail> {
-    let mut script = String::from_str(rt.alloc(), TWO_MEMBERS)?;
-    script.push_str(
-        "edit 1 insert 0 \"abc\"\nsubmit 1\ngive 1 1 1\ngive 2 1 1\ngive 2 2 1\nsubmit 1\n",
-    )?;
-    let expected = "1 edit event 1\n1 submit entry 1\n1 accept 1 ok\n2 accept 1 ok\n\
-         2 accept 2 refused wrong-number\n1 submit nothing\n";
-    assert_eq!(rt;
-        report(rt.alloc(), script.as_str())?.as_slice(),
-        expected.as_bytes()
-    );
-    Ok(())
-}
-
-#[test]
-fn a_fork_stays_a_fork(rt: HostRuntime) -> Result<(), Fail> {
-    let mut script = String::from_str(rt.alloc(), TWO_MEMBERS)?;
-    script.push_str(
-        "edit 1 insert 0 \"abc\"\nsubmit 1\ngive 1 1 1\ngive 2 1 1\n\
-         edit 1 insert 3 \"d\"\nedit 2 insert 3 \"e\"\nsubmit 1\nsubmit 2\ngive 1 2 2\ngive 2 2 3\n\
-         edit 1 insert 0 \"z\"\nsubmit 1\nsubmit 1\ngive 2 3 4\ncompare 1 2\n",
-    )?;
-    let expected = "1 edit event 1\n1 submit entry 1\n1 accept 1 ok\n2 accept 1 ok\n\
-         1 edit event 4\n2 edit event 2\n1 submit entry 2\n2 submit entry 3\n1 accept 2 ok\n2 accept 2 ok\n\
-         1 edit event 7\n1 submit entry 4\n1 submit waiting 4\n2 accept 3 refused wrong-history\n\
-         1 2 forked after 1\n";
-    assert_eq!(rt;
-        report(rt.alloc(), script.as_str())?.as_slice(),
-        expected.as_bytes()
-    );
-    Ok(())
-}
-
-#[test]
-fn own_edits_keep_others_out(rt: HostRuntime) -> Result<(), Fail> {
-    let mut script = String::from_str(rt.alloc(), TWO_MEMBERS)?;
-    script.push_str(
-        "edit 1 insert 0 \"abc\"\nsubmit 1\ngive 1 1 1\ngive 2 1 1\n\
-         edit 1 insert 3 \"d\"\nedit 2 insert 0 \"x\"\nsubmit 1\nsubmit 2\n\
-         give 1 2 2\ngive 1 3 3\ngive 2 2 2\ncompare 1 2\ncompare 2 1\ncompare 1 1\n",
-    )?;
-    let expected = "1 edit event 1\n1 submit entry 1\n1 accept 1 ok\n2 accept 1 ok\n\
-         1 edit event 4\n2 edit event 2\n1 submit entry 2\n2 submit entry 3\n\
-         1 accept 2 ok\n1 accept 3 refused stale-base\n2 accept 2 refused has-pending\n\
-         1 2 longer\n2 1 prefix\n1 1 same\n";
-    assert_eq!(rt;
-        report(rt.alloc(), script.as_str())?.as_slice(),
-        expected.as_bytes()
-    );
-    Ok(())
 }
 
 // All 64 accept one entry, and a declaration more is outside the grammar.

@@ -15,8 +15,8 @@ returns-in-TooLong-clause-ok g c = rw c.in-TooLong.is c.write_all-in-TooLong.ens
 pub returns-in-TooLong-clause-err : goal.returns-in-TooLong-clause-err
 returns-in-TooLong-clause-err g c = rw c.in-TooLong.is c.write_all-in-TooLong.ensures.err
 
-pub returns-in-Outside-clause-ok : goal.returns-in-Outside-clause-ok
-returns-in-Outside-clause-ok g c = rw c.in-Outside.is c.write_all-in-Outside.ensures.ok
+pub returns-in-Io-clause-ok : goal.returns-in-Io-clause-ok
+returns-in-Io-clause-ok g c = rw c.in-Io.is c.write_all-in-Io.ensures.ok
 
-pub returns-in-Outside-clause-err : goal.returns-in-Outside-clause-err
-returns-in-Outside-clause-err g c = rw c.in-Outside.is c.write_all-in-Outside.ensures.err
+pub returns-in-Io-clause-err : goal.returns-in-Io-clause-err
+returns-in-Io-clause-err g c = rw c.in-Io.is c.write_all-in-Io.ensures.err
