@@ -242,8 +242,8 @@ give rest =
     converted (ℕ × (ℕ × ℕ)) Give _ _ (λ p is. (record { member = p.0; position = p.1.0; entry = p.1.1 }, ((is.0.0, is.0.1.0, is.0.1.1), is.1)))
     (λ g is. ((g.member, (g.position, g.entry)), ((is.0.0, (is.0.1, is.0.2)), is.1)))
     (spaced (ℕ × ℕ) (λ q. (q.0 < 2 ^ 32) × (q.1 < 2 ^ 64)) (λ q. decimal q.0 ++ 32 ∷ decimal q.1)
-      (λ words. spaced ℕ (λ n. n < 2 ^ 64) decimal big (λ n. n < 2 ^ 32) (λ n low. omega (arith, low)) (number (2 ^ 32) (omega arith)) words)
-      IsMember member_fits member rest)
+    (λ words. spaced ℕ (λ n. n < 2 ^ 64) decimal big (λ n. n < 2 ^ 32) (λ n low. omega (arith, low)) (number (2 ^ 32) (omega arith)) words)
+    IsMember member_fits member rest)
 
 declaration : (rest : List ℕ) → Found Declaration (λ d. IsMember d.member × (rest ≡ declaration_spelling d))
 declaration rest =

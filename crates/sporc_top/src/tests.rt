@@ -229,7 +229,9 @@ fn tells_each_failed_read_and_write(rt: HostRuntime) -> Result<(), Fail> {
             .as_bytes()
             .get(..k as usize - 1)
             .ok_or("too many writes")?;
-        let text = written.strip_prefix(prefix).ok_or("no prefix of the report")?;
+        let text = written
+            .strip_prefix(prefix)
+            .ok_or("no prefix of the report")?;
         assert_eq!(rt; text, b"fault outside\n".as_slice(), "write {k}");
         assert_eq!(rt; status, 6, "write {k}");
     }
