@@ -1,7 +1,10 @@
 -- The keys of epochs, as a member reads them off a history.
-use Rattle.std.specs.Prelude.{ℕ, suc, zero, List, take, Option, None, Some, if◌then◌else◌, is_some, map, slice_get}
+use Rattle.std.specs.Prelude.{ℕ, suc, zero, ◌==◌, List, take, Option, None, Some, if◌then◌else◌, is_some, map, slice_get}
 use Rattle.std.specs.FinMap.{get}
+use Rattle.std.specs.List.{list_any}
 use Rattle.sporc_member.specs.Roster.{member_at, removes, roster_after}
+use Rattle.sporc_entry.specs.declared.change.ChangeBody.{ChangeBody}
+use Rattle.sporc_entry.specs.declared.header.Header.{Header}
 use Rattle.sporc_entry.specs.declared.genesis.Genesis.{Genesis}
 use Rattle.sporc_epoch.specs.Wraps.{wrap_opened}
 use Rattle.sporc_head.specs.History.{CommittedChange, changes}
@@ -23,3 +26,10 @@ key_after genesis kit committed (suc e) = key_started genesis kit (take (suc e) 
 -- the key of epoch e of a history
 abbrev pub key_of : Genesis → Kit → List (List ℕ) → ℕ → Option (List ℕ)
 key_of genesis kit entries e = key_after genesis kit (changes entries) e
+
+-- the same, where the change's wraps name the members after it: a member finds its own wrap, and a joiner to come none
+abbrev pub key_by_wraps : Kit → ℕ → Header → ChangeBody → Option (List ℕ)
+key_by_wraps kit e h c =
+    if removes kit.me c.change then None
+    else if list_any (λ w. w.member == kit.me) c.wraps then wrap_opened c h.author h.leaf kit.me kit.pairs
+    else get kit.ring e

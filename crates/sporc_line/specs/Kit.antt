@@ -7,3 +7,6 @@ pub record Kit : Type 0 where
   pub me : ℕ
   pub ring : Keys
   pub pairs : Keys
+
+abbrev pub kit_of : ℕ → Keys → Keys → Kit
+kit_of me ring pairs = record { me = me; ring = ring; pairs = pairs }

@@ -5,6 +5,8 @@
 #![tactic(auto)]
 
 mod fault;
+mod keys;
+mod kit;
 pub mod laws;
 
 pub use fault::LineOpenFault;

@@ -1,0 +1,115 @@
+//! What a member was given.
+
+ghost use Rattle.std.specs.Prelude.{◌≡◌, ◌==◌, Option, Some, IfOk, if◌then◌else◌};
+ghost use Rattle.std.specs.FinMap as map;
+ghost use Rattle.std.specs.List.{list_any};
+ghost use Rattle.sporc_member.specs.Roster.{removes};
+ghost use Rattle.sporc_epoch.specs.Keys.{pairs_in};
+ghost use Rattle.sporc_line.specs.Kit.{kit_of};
+ghost use Rattle.sporc_line.specs.Keys.{key_by_wraps};
+
+use sporc_base::Memory;
+use sporc_entry::{ChangeBody, Header, Wrap};
+use sporc_epoch::{Pairs, Ring, open_wrap};
+use sporc_member::Change;
+use std::marker::Model;
+
+/// A member's number, its keys of epochs, and the keys that it shares with other members.
+#[derive(Drop)]
+pub(crate) struct MemberKit {
+    me: u16,
+    ring: Ring,
+    pairs: Pairs,
+}
+
+impl Model for MemberKit {
+    ghost use Rattle.sporc_line.specs.Kit.{Kit};
+    ghost use Rattle.sporc_line.specs.Codes.{kit_code};
+    ghost use Rattle.sporc_epoch.specs.Keys.{pairs_in};
+
+    ghost Value = { Kit };
+
+    ghost coded = { kit_code };
+
+    ghost view = { λ k. record { me = k.me; ring = k.ring.keys; pairs = pairs_in k.pairs } };
+}
+
+impl MemberKit {
+    /// The kit of these parts.
+    pub(crate) fn new(me: u16, ring: Ring, pairs: Pairs) -> MemberKit
+        ensures value { result ≡ kit_of me ring.keys (pairs_in pairs) }
+    {
+        MemberKit { me, ring, pairs }
+    }
+
+    /// The member's number.
+    pub(crate) fn me(&self) -> u16
+        ensures value { result ≡ self.now.me }
+    {
+        self.me
+    }
+
+    /// The keys that it shares with other members.
+    pub(crate) fn pairs(&self) -> &Pairs
+        ensures value { pairs_in result.now ≡ self.now.pairs }
+    {
+        &self.pairs
+    }
+
+    /// A key of its ring.
+    pub(crate) fn hint(&self, epoch: u32) -> Option<[u8; 32]>
+        ensures value { result ≡ map.get self.now.ring epoch }
+    {
+        self.ring.key(epoch).copied()
+    }
+
+    /// A copy.
+    pub(crate) fn copy(&self) -> Result<MemberKit, Memory>
+        ensures ok { IfOk result (λ copy. copy ≡ self.now) }
+    {
+        let ring = self.ring.copy()?;
+        let pairs = self.pairs.clone()?;
+        Ok(MemberKit {
+            me: self.me,
+            ring,
+            pairs,
+        })
+    }
+
+    /// The key of the epoch that a change starts: from the member's own wrap, or its hint, if the change has no wrap for
+    /// it. None if the change removes the member.
+    pub(crate) fn started_key(
+        &self,
+        header: &Header,
+        body: &ChangeBody,
+        epoch: u32,
+    ) -> Option<[u8; 32]>
+        ensures value { result ≡ key_by_wraps self.now epoch header.now body.now }
+    {
+        if is_removal(&body.change, self.me) {
+            return None;
+        }
+        if has_wrap(body.wraps.as_slice(), self.me) {
+            open_wrap(body, header.author, header.leaf, self.me, &self.pairs)
+        } else {
+            self.hint(epoch)
+        }
+    }
+}
+
+/// Whether a change removes this member.
+pub(crate) fn is_removal(change: &Change, me: u16) -> bool
+    ensures value { result ≡ removes me change.now }
+{
+    match change {
+        Change::Remove { member } => *member == me,
+        _ => false,
+    }
+}
+
+// Whether a change has a wrap for this member.
+fn has_wrap(wraps: &[Wrap], me: u16) -> bool
+    ensures value { result ≡ list_any (λ w. w.member == me) wraps.now }
+{
+    wraps.iter().any(|w| w.member == me)
+}
