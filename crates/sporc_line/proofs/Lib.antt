@@ -5,3 +5,4 @@ pub mod MoreForms
 mod Examples
 pub mod FormLengths
 pub mod SameKeys
+pub mod NextEntry

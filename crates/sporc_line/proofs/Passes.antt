@@ -10,6 +10,7 @@ use Rattle.sporc_entry.specs.declared.entry.Entry.{Entry}
 use Rattle.sporc_entry.specs.declared.genesis.Genesis.{Genesis}
 use Rattle.sporc_entry.specs.Entry.{entry_of, change_of, signed_string}
 use Rattle.sporc_head.specs.declared.refusal.Refusal.TheVariants.{WrongDocument, WrongPosition, Removed, HistoryFull, UnknownAuthor, BaseAhead, BeforeBarrier, WrongHistory, WrongNumber, BehindOwn, WrongEpoch, NoRight, LeafMismatch, BadSignature}
+use Rattle.sporc_head.specs.declared.limits.TheConstants.{MAX_ENTRIES}
 use Rattle.sporc_head.specs.History.{epoch_of, roster_of, is_removed, barrier_of, last_of, count_of, hash_of}
 use Rattle.sporc_head.specs.HeadChecks.{place_checks, history_checks, author_checks, roster_checks, head_checks, allows_member, names_leaf, verifies_member, fault_read}
 use Rattle.sporc_head.proofs.ChecksPass.{first_of-none}
@@ -30,7 +31,7 @@ pub record Passes (g : Genesis) (kit : Kit) (entries : List (List ℕ)) (pos : �
   pub document : e.header.document ≡ g.document
   pub position : pos ≡ length entries + 1
   pub not_removed : is_removed kit.me entries ≡ false
-  pub room : length entries < 16384
+  pub room : length entries < MAX_ENTRIES
   pub member : is_some (member_at (roster_of g entries) e.header.author) ≡ true
   pub base : e.header.base ≤ length entries
   pub barrier : barrier_of entries ≤ e.header.base

@@ -8,3 +8,4 @@ pub mod LineStrings
 pub mod LineModel
 pub mod Codes
 pub mod Openings
+pub mod Prepared

@@ -1,11 +1,9 @@
 -- What a member must hold to open a document.
 use Rattle.std.specs.Prelude.{ℕ, Bool, false, List, [], ◌∷◌, Option, None, Some, is_some}
 use Rattle.std.specs.Str.{bytes_eq}
-use Rattle.std.specs.FinMap.{get}
 use Rattle.sporc_base.specs.FirstFault.{unless}
 use Rattle.sporc_hash.specs.Chain.{commitment_of}
 use Rattle.sporc_entry.specs.declared.genesis.Genesis.{Genesis}
-use Rattle.sporc_epoch.specs.Keys.{Keys}
 use Rattle.sporc_line.specs.declared.fault.LineOpenFault.{LineOpenFault}
 use Rattle.sporc_line.specs.declared.fault.LineOpenFault.TheVariants.{NoKey, WrongKey}
 
@@ -14,9 +12,9 @@ abbrev pub opens : Genesis → Option (List ℕ) → Bool
 opens genesis None = false
 opens genesis (Some key) = bytes_eq (commitment_of genesis.document 0 key) genesis.commitment
 
--- the checks of a ring
-abbrev pub open_checks : Genesis → Keys → List (Option LineOpenFault)
-open_checks genesis ring =
-    unless (is_some (get ring 0)) NoKey
-    ∷ unless (opens genesis (get ring 0)) WrongKey
+-- the checks of a ring's key of epoch 0, if it has one
+abbrev pub open_checks : Genesis → Option (List ℕ) → List (Option LineOpenFault)
+open_checks genesis key =
+    unless (is_some key) NoKey
+    ∷ unless (opens genesis key) WrongKey
     ∷ []

@@ -1,6 +1,6 @@
 // Forms in their order.
 
-ghost use Rattle.std.specs.Prelude.{◌≡◌, ◌+◌, ◌-◌, ◌≤◌, ◌<◌, ◌^◌, ◌∷◌, ◌++◌, ◌==◌, [], drop, take, length, IfOk, IfErr, OnOk, OnErr};
+ghost use Rattle.std.specs.Prelude.{◌≡◌, ◌+◌, ◌-◌, ◌≤◌, ◌<◌, ◌^◌, ◌∷◌, ◌++◌, ◌==◌, [], drop, take, length, slice_get, Some, IfOk, IfErr, OnOk, OnErr};
 ghost use Rattle.sporc_delta.specs.Marks.{base_len, inserted_len};
 ghost use Rattle.sporc_suffix.specs.Forms.{Follow, all_inserted, later_over, reached};
 
@@ -47,6 +47,15 @@ impl Model for ReadyForm {
     ghost view = { λ r. r.form };
 }
 
+impl ReadyForm {
+    /// The form.
+    pub fn form(&self) -> &Delta
+        ensures value { result.now ≡ self.now }
+    {
+        &self.form
+    }
+}
+
 impl Blocks {
     /// No forms, over a text of `base` characters.
     pub fn new(alloc: Global, base: u64) -> Result<Blocks, AllocError>
@@ -72,6 +81,14 @@ impl Blocks {
         ensures { result ≡ (length self.now.forms == 0) }
     {
         self.forms.is_empty()
+    }
+
+    /// The form at a place, counted from 0.
+    pub fn form(&self, place: u32) -> &Delta
+        requires { place < length self.now.forms }
+        ensures value { slice_get self.now.forms place ≡ Some result.now }
+    {
+        &self.forms[place as usize]
     }
 
     /// Takes the memory of one more form, which is handed back where there is none.

@@ -1,0 +1,27 @@
+-- What contracts see of an entry that was prepared, and when it can be committed.
+use Rattle.std.specs.Prelude.{◌≡◌, ℕ, ◌+◌, ◌≤◌, List, [], ◌∷◌, ◌++◌, length, Option, None}
+use Rattle.sporc_delta.specs.Marks.{Mark, apply, inserted_len}
+use Rattle.sporc_entry.specs.declared.genesis.Genesis.{Genesis}
+use Rattle.sporc_head.specs.CheckedModel.{CheckedModel}
+use Rattle.sporc_head.specs.IsChecked.{IsChecked}
+use Rattle.sporc_head.specs.History.{epoch_of}
+use Rattle.sporc_line.specs.Kit.{Kit}
+use Rattle.sporc_line.specs.Keys.{key_of}
+use Rattle.sporc_line.specs.Document.{next_form, text_of}
+use Rattle.sporc_line.specs.LineChecks.{first_fault}
+
+-- the entry that was checked, its form, the text after it, and the key of the last epoch then
+pub record PreparedModel : Type 0 where
+  pub checked : CheckedModel
+  pub form : List Mark
+  pub text : List ℕ
+  pub key : Option (List ℕ)
+
+-- it was prepared at this history
+pub record IsPrepared (genesis : Genesis) (kit : Kit) (entries : List (List ℕ)) (p : PreparedModel) : Type 0 where
+  pub checked : IsChecked genesis entries p.checked
+  pub passed : first_fault genesis kit entries (length entries + 1) p.checked.bytes ≡ None
+  pub form_is : p.form ≡ next_form genesis kit entries p.checked.bytes
+  pub small : inserted_len p.form ≤ 1048576
+  pub text_is : p.text ≡ apply p.form (text_of genesis kit entries)
+  pub key_is : p.key ≡ key_of genesis kit (entries ++ p.checked.bytes ∷ []) (epoch_of (entries ++ p.checked.bytes ∷ []))

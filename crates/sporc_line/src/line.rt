@@ -1,0 +1,234 @@
+//! A history as one member reads it.
+
+ghost use Rattle.std.specs.Prelude.{◌≡◌, ◌+◌, ◌-◌, ◌≤◌, ◌^◌, ◌∷◌, ◌++◌, [], length, take, map, slice_get, Some, IfOk, OnOk, OnErr, is_none, option_copied};
+ghost use Rattle.std.specs.String.{string_bytes};
+ghost use Rattle.std.specs.Str.{encode_utf8_all};
+ghost use Rattle.std.specs.FinMap as map;
+ghost use Rattle.std.specs.List.{All};
+ghost use Rattle.sporc_base.specs.FirstFault.{AnswersUnless, first_of};
+ghost use Rattle.sporc_hash.specs.Chain.{chain, commitment_of};
+ghost use Rattle.sporc_entry.specs.Entry.{entry_limit};
+ghost use Rattle.sporc_entry.specs.Genesis.{genesis_bytes, IsGenesis};
+ghost use Rattle.sporc_epoch.specs.Keys.{pairs_in};
+ghost use Rattle.sporc_head.specs.declared.limits.TheConstants.{MAX_ENTRIES};
+ghost use Rattle.sporc_head.specs.History.{epoch_of, hash_of, is_removed};
+ghost use Rattle.sporc_line.specs.Kit.{kit_of};
+ghost use Rattle.sporc_line.specs.Keys.{key_of};
+ghost use Rattle.sporc_line.specs.Document.{forms_of, text_of};
+ghost use Rattle.sporc_line.specs.LineChecks.{first_fault};
+ghost use Rattle.sporc_line.specs.Good.{Good};
+ghost use Rattle.sporc_line.specs.Openings.{open_checks};
+ghost use Rattle.sporc_line.specs.Prepared.{IsPrepared};
+
+use crate::fault::LineOpenFault;
+use crate::kit::MemberKit;
+use crate::opening::opening_key;
+use crate::prepared::Prepared;
+use sporc_base::Memory;
+use sporc_delta::Delta;
+use sporc_entry::Genesis;
+use sporc_epoch::{Pairs, Ring};
+use sporc_hash::Digest32;
+use sporc_head::{Checked, Heads, Refusal};
+use sporc_suffix::Blocks;
+use sporc_text::Doc;
+use std::alloc::Global;
+use std::marker::Model;
+
+/// A history as one member reads it: the entries that it accepted, with their forms, the text and the key of the last
+/// epoch.
+///
+/// Contracts see the document's genesis, what the member was given, the entries, and `spare`: how many more entries take
+/// no memory.
+#[derive(Drop)]
+pub struct Line {
+    alloc: Global,
+    heads: Heads,
+    kit: MemberKit,
+    // The key of the last epoch, unless the member was removed.
+    key: Option<[u8; 32]>,
+    forms: Blocks,
+    text: Doc,
+}
+
+impl Model for Line {
+    ghost use Rattle.std.specs.Prelude.{min};
+    ghost use Rattle.sporc_line.specs.LineModel.{LineModel, LineInvariant};
+    ghost use Rattle.sporc_line.specs.Codes.{line_code};
+
+    ghost Value = { LineModel };
+
+    ghost coded = { line_code };
+
+    ghost view = { λ l. record { genesis = l.heads.genesis; kit = l.kit; entries = l.heads.entries; spare = min l.heads.spare l.forms.spare } };
+
+    ghost invariant = { λ l. LineInvariant l.heads.genesis l.kit l.heads.entries l.key l.forms.base l.forms.forms l.text };
+}
+
+impl Line {
+    /// The empty history of a document for a member, by its number, a ring with the key of epoch 0 or a joiner's hints,
+    /// and its pairwise keys.
+    pub fn open(
+        alloc: Global,
+        genesis: Genesis,
+        me: u16,
+        ring: Ring,
+        pairs: Pairs,
+    ) -> Result<Line, LineOpenFault>
+        requires { IsGenesis genesis }
+        ensures fault { AnswersUnless LineOpenFault.Memory result (first_of (open_checks genesis (map.get ring.keys 0))) }
+        ensures genesis { IfOk result (λ line. line.genesis ≡ genesis) }
+        ensures kit { IfOk result (λ line. line.kit ≡ kit_of me ring.keys (pairs_in pairs)) }
+        ensures empty { IfOk result (λ line. line.entries ≡ []) }
+    {
+        let kit = MemberKit::new(me, ring, pairs);
+        let key = opening_key(&genesis, kit.hint(0))?;
+        let line = Line::empty(alloc, genesis, kit, key)?;
+        Ok(line)
+    }
+
+    // The empty history of a document for a member that holds this key of epoch 0.
+    fn empty(
+        alloc: Global,
+        genesis: Genesis,
+        kit: MemberKit,
+        key: [u8; 32],
+    ) -> Result<Line, Memory>
+        requires genesis { IsGenesis genesis }
+        requires holds { map.get kit.ring 0 ≡ Some key }
+        requires meets { commitment_of genesis.document 0 key ≡ genesis.commitment }
+        ensures genesis { IfOk result (λ line. line.genesis ≡ genesis) }
+        ensures kit { IfOk result (λ line. line.kit ≡ kit) }
+        ensures empty { IfOk result (λ line. line.entries ≡ []) }
+    {
+        let heads = Heads::open(alloc, genesis)?;
+        let forms = Blocks::new(alloc, 0)?;
+        Ok(Line {
+            alloc,
+            heads,
+            kit,
+            key: Some(key),
+            forms,
+            text: Doc::new(alloc),
+        })
+    }
+
+    /// The empty history of the same document for the same member, with what it was given at the opening.
+    pub fn reopen(&self) -> Result<Line, Memory>
+        ensures genesis { IfOk result (λ line. line.genesis ≡ self.now.genesis) }
+        ensures kit { IfOk result (λ line. line.kit ≡ self.now.kit) }
+        ensures empty { IfOk result (λ line. line.entries ≡ []) }
+    {
+        let genesis = self.heads.genesis().copy()?;
+        let kit = self.kit.copy()?;
+        match kit.hint(0) {
+            Some(key) => Line::empty(self.alloc, genesis, kit, key),
+            None => unreachable!(),
+        }
+    }
+
+    /// How many entries there are, at most 16,384.
+    pub fn len(&self) -> u32
+        ensures value { result ≡ length self.now.entries }
+        ensures within { result ≤ MAX_ENTRIES }
+        // The history is one that the member accepted, entry by entry.
+        ensures good { Good self.now.genesis self.now.kit self.now.entries }
+    {
+        self.heads.len()
+    }
+
+    /// The value of the chain after the last entry.
+    pub fn hash(&self) -> Digest32
+        ensures value { result ≡ hash_of self.now.genesis self.now.entries }
+    {
+        self.heads.hash_at(self.heads.len())
+    }
+
+    /// The form of the entry at position `i`, from 1 on.
+    pub fn form(&self, i: u32) -> &Delta
+        requires first { 1 ≤ i }
+        requires within { i ≤ length self.now.entries }
+        ensures value { slice_get (forms_of self.now.genesis self.now.kit self.now.entries) (i - 1) ≡ Some result.now }
+    {
+        self.forms.form(i - 1)
+    }
+
+    /// How many characters the text had after `i` entries.
+    pub fn text_len_at(&self, i: u32) -> u64
+        requires { i ≤ length self.now.entries }
+        ensures value { result ≡ length (text_of self.now.genesis self.now.kit (take i self.now.entries)) }
+        ensures small { result ≤ 2 ^ 35 }
+    {
+        if i == self.heads.len() {
+            self.text.len()
+        } else {
+            self.forms.form(i).base_len()
+        }
+    }
+
+    /// The bytes of the entries, oldest first.
+    pub fn entries(&self) -> &[Vec<u8>]
+        ensures value { map (λ v. v.items) result.now ≡ self.now.entries }
+        ensures sized { All (λ bytes. length bytes ≤ entry_limit) self.now.entries }
+    {
+        self.heads.entries()
+    }
+
+    /// The values of the chain after 0, 1, .. and all entries.
+    pub fn hashes(&self) -> &[Digest32]
+        ensures value { result.now ≡ chain (genesis_bytes self.now.genesis) self.now.entries }
+    {
+        self.heads.hashes()
+    }
+
+    /// Whether a change removed the member.
+    pub fn removed(&self) -> bool
+        ensures value { result ≡ is_removed self.now.kit.me self.now.entries }
+    {
+        self.heads.is_removed(self.kit.me())
+    }
+
+    /// The history with what its checks look up.
+    pub fn heads(&self) -> &Heads
+        ensures genesis { result.now.genesis ≡ self.now.genesis }
+        ensures entries { result.now.entries ≡ self.now.entries }
+    {
+        &self.heads
+    }
+
+    /// The member's number.
+    pub fn me(&self) -> u16
+        ensures value { result ≡ self.now.kit.me }
+    {
+        self.kit.me()
+    }
+
+    /// The document's number.
+    pub fn document(&self) -> &[u8; 16]
+        ensures value { result.now ≡ self.now.genesis.document }
+    {
+        &self.heads.genesis().document
+    }
+
+    /// The pairwise keys.
+    pub fn pairs(&self) -> &Pairs
+        ensures value { pairs_in result.now ≡ self.now.kit.pairs }
+    {
+        self.kit.pairs()
+    }
+
+    /// The key of the last epoch. None if the member was removed.
+    pub fn key(&self) -> Option<&[u8; 32]>
+        ensures value { option_copied result ≡ key_of self.now.genesis self.now.kit self.now.entries (epoch_of self.now.entries) }
+        ensures none { is_none result ≡ is_removed self.now.kit.me self.now.entries }
+    {
+        self.key.as_ref()
+    }
+
+    /// The committed text as UTF-8.
+    pub fn text(&self) -> Result<String, Memory>
+        ensures ok { IfOk result (λ t. string_bytes t ≡ encode_utf8_all (text_of self.now.genesis self.now.kit self.now.entries)) }
+    {
+        self.text.text()
+    }
+}

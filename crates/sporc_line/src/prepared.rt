@@ -1,0 +1,52 @@
+//! Entries that were prepared.
+
+ghost use Rattle.std.specs.Prelude.{◌≡◌, Option, is_some};
+ghost use Rattle.sporc_entry.specs.Entry.{change_of};
+
+use sporc_delta::Delta;
+use sporc_head::Checked;
+use sporc_suffix::ReadyForm;
+use sporc_text::ReadyText;
+use std::marker::Model;
+
+/// An entry that failed no check at a line, with all that its commit needs.
+///
+/// Contracts see the checked entry, its form, and the text and the key of the last epoch after it.
+#[derive(Drop)]
+pub struct Prepared {
+    pub(crate) checked: Checked,
+    pub(crate) form: ReadyForm,
+    pub(crate) text: ReadyText,
+    pub(crate) key: Option<[u8; 32]>,
+}
+
+impl Model for Prepared {
+    ghost use Rattle.sporc_line.specs.Prepared.{PreparedModel};
+
+    ghost Value = { PreparedModel };
+
+    ghost view = { λ p. record { checked = p.checked; form = p.form; text = p.text; key = p.key } };
+}
+
+impl Prepared {
+    /// The number of its author.
+    pub fn author(&self) -> u16
+        ensures value { result ≡ self.now.checked.entry.header.author }
+    {
+        self.checked.header().author
+    }
+
+    /// Whether it is a change.
+    pub fn is_change(&self) -> bool
+        ensures value { result ≡ is_some (change_of self.now.checked.entry) }
+    {
+        self.checked.change().is_some()
+    }
+
+    /// Its form: an edit's marks, restated behind the forms since its base; or, of a change, the delta that keeps all.
+    pub fn form(&self) -> &Delta
+        ensures value { result.now ≡ self.now.form }
+    {
+        self.form.form()
+    }
+}
