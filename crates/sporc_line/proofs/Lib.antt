@@ -6,3 +6,4 @@ mod Examples
 pub mod FormLengths
 pub mod SameKeys
 pub mod NextEntry
+pub mod LineKeeps

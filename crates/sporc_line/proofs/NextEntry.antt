@@ -1,7 +1,7 @@
 -- One entry more: its first fault by its parts, the key after it, and what holds of the line with it.
 use Rattle.std.proofs.Common.{◌≡◌, ℕ, suc, zero, ◌+◌, ◌*◌, ◌<◌, ◌≤◌, Bool, true, false, cond, List, [], ◌∷◌, ◌++◌, length, take, drop, map, refl, ap, sym, ◌∙◌, subst, arith, Option, None, Some, Result, Ok, Err, length-append}
 use Rattle.std.specs.Prelude.{is_some, not, ◌||◌, find, ◌==◌}
-use Rattle.std.specs.List.{list_any}
+use Rattle.std.specs.List.{list_any, slice_get}
 use Rattle.std.specs.FinMap.{get}
 use Rattle.std.proofs.lemmas.List.{append-nil, take_all}
 use Rattle.std.proofs.lemmas.Slice.Eq.{bytes_eq-Decides}
@@ -12,7 +12,7 @@ use Rattle.sporc_member.specs.declared.founder.Founder.{Founder}
 use Rattle.sporc_member.specs.Roster.{Roster, removes, member_at, numbers_of, after_change, roster_after}
 use Rattle.sporc_member.proofs.Checks.{passes}
 use Rattle.sporc_entry.specs.declared.entry.Entry.{Entry}
-use Rattle.sporc_entry.specs.declared.wraps.Wrap.{Wrap}
+use Rattle.sporc_entry.specs.declared.wrap.Wrap.{Wrap}
 use Rattle.sporc_entry.specs.declared.change.ChangeBody.{ChangeBody}
 use Rattle.sporc_entry.specs.declared.genesis.Genesis.{Genesis}
 use Rattle.sporc_entry.specs.Entry.{entry_of, change_of}
@@ -106,7 +106,7 @@ started_by_wraps g kit A b e c is has h =
     let s = committed e c in
     let some : change_in b ≡ Some s = change_in_read b e (Some c) is (sym has) in
     let roster : roster_after g.founders (map (λ (c : CommittedChange). c.body.change) (changes A ++ s ∷ [])) ≡ after_change (roster_of g A) c.change
-        = ap (λ (cs : List CommittedChange). roster_after g.founders (map (λ (c : CommittedChange). c.body.change) cs)) (sym (changes_push A b (Some s) some)) ∙ roster_change g A b s some in
+    = ap (λ (cs : List CommittedChange). roster_after g.founders (map (λ (c : CommittedChange). c.body.change) cs)) (sym (changes_push A b (Some s) some)) ∙ roster_change g A b s some in
     let there = wrapped kit.me (roster_of g A) c (ap (λ (o : Option ChangeBody). first_of (roster_checks (roster_of g A) o)) (sym has) ∙ h) in
     key_last g kit (changes A) s
     ∙ ap (λ (r : Roster). cond (removes kit.me c.change) None (cond (is_some (member_at r kit.me)) (wrap_opened c e.header.author e.header.leaf kit.me kit.pairs) (get kit.ring (epoch_of A + 1)))) roster

@@ -8,5 +8,10 @@ mod fault;
 mod keys;
 mod kit;
 pub mod laws;
+mod line;
+mod opening;
+mod prepared;
 
 pub use fault::LineOpenFault;
+pub use line::Line;
+pub use prepared::Prepared;

@@ -88,12 +88,7 @@ impl Line {
     }
 
     // The empty history of a document for a member that holds this key of epoch 0.
-    fn empty(
-        alloc: Global,
-        genesis: Genesis,
-        kit: MemberKit,
-        key: [u8; 32],
-    ) -> Result<Line, Memory>
+    fn empty(alloc: Global, genesis: Genesis, kit: MemberKit, key: [u8; 32]) -> Result<Line, Memory>
         requires genesis { IsGenesis genesis }
         requires holds { map.get kit.ring 0 ≡ Some key }
         requires meets { commitment_of genesis.document 0 key ≡ genesis.commitment }

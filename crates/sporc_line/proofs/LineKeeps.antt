@@ -1,0 +1,125 @@
+-- What holds of a line's fields.
+use Rattle.std.proofs.Common.{◌≡◌, ℕ, suc, zero, ◌+◌, ◌*◌, ◌^◌, ◌<◌, ◌≤◌, Bool, true, List, [], ◌∷◌, ◌++◌, length, take, refl, ap, sym, ◌∙◌, subst, arith, Option, None, Some, length-append}
+use Rattle.std.specs.Prelude.{is_some}
+use Rattle.std.specs.List.{slice_get}
+use Rattle.std.specs.FinMap.{get}
+use Rattle.sporc_hash.specs.Chain.{commitment_of}
+use Rattle.sporc_delta.specs.Marks.{Mark, base_len, out_len, inserted_len, apply}
+use Rattle.sporc_suffix.specs.Forms.{reached, Follow, all_inserted}
+use Rattle.sporc_entry.specs.declared.genesis.Genesis.{Genesis}
+use Rattle.sporc_head.specs.declared.limits.TheConstants.{MAX_ENTRIES}
+use Rattle.sporc_head.specs.History.{epoch_of}
+use Rattle.sporc_line.specs.Kit.{Kit}
+use Rattle.sporc_line.specs.Keys.{key_after, key_of}
+use Rattle.sporc_line.specs.Document.{forms_from, forms_of, text_of}
+use Rattle.sporc_line.specs.LineModel.{LineInvariant}
+use Rattle.sporc_line.specs.Prepared.{PreparedModel, IsPrepared}
+use Rattle.sporc_line.specs.Good.{Good, Meets}
+use Rattle.sporc_line.proofs.Goods.{good_none, good_take, good_push}
+use Rattle.sporc_line.proofs.MoreForms.{forms_push, text_push}
+use Rattle.sporc_line.proofs.FormLengths.{length-text, all_inserted-append, reached-le, length-forms, forms_take, text_at, forms_follow}
+use Rattle.sporc_line.proofs.NextEntry.{keyed_push}
+
+-- ---- the empty line
+
+opening : (g : Genesis) (kit : Kit) (key : List ℕ) → get kit.ring 0 ≡ Some key → commitment_of g.document 0 key ≡ g.commitment → Meets g 0 (key_of g kit [] 0) g.commitment
+unfolding key_after
+opening g kit key holds meets = subst (λ k. Meets g 0 k g.commitment) (sym holds) meets
+
+line_empty : (g : Genesis) (kit : Kit) (key : List ℕ) → get kit.ring 0 ≡ Some key → commitment_of g.document 0 key ≡ g.commitment → LineInvariant g kit [] (Some key) 0 [] []
+unfolding key_after forms_from
+line_empty g kit key holds meets = record {
+  good = good_none g kit (opening g kit key holds meets);
+  key_is = sym holds;
+  keyed = refl;
+  base_is = refl;
+  forms_are = refl;
+  text_is = refl;
+  few = omega arith;
+}
+
+pub line_opens : (genesis g : Genesis) (kit : Kit) (A : List (List ℕ)) (key : List ℕ) (base : ℕ) (forms : List (List Mark)) (text : List ℕ) → get kit.ring 0 ≡ Some key → commitment_of g.document 0 key ≡ g.commitment
+    → genesis ≡ g → A ≡ [] → base ≡ 0 → forms ≡ [] → text ≡ [] → LineInvariant genesis kit A (Some key) base forms text
+line_opens genesis g kit A key base forms text holds meets is a b f t =
+    subst (λ (x : Genesis). LineInvariant x kit A (Some key) base forms text) (sym is)
+    (subst (λ (x : List (List ℕ)). LineInvariant g kit x (Some key) base forms text) (sym a)
+    (subst (λ (x : ℕ). LineInvariant g kit [] (Some key) x forms text) (sym b)
+    (subst (λ (x : List (List Mark)). LineInvariant g kit [] (Some key) 0 x text) (sym f)
+    (subst (λ (x : List ℕ). LineInvariant g kit [] (Some key) 0 [] x) (sym t) (line_empty g kit key holds meets)))))
+
+-- the key of epoch 0 of a member whose history is good
+pub opens_with : (g : Genesis) (kit : Kit) (A : List (List ℕ)) (k : Option (List ℕ)) → Good g kit A → k ≡ get kit.ring 0 → Meets g 0 k g.commitment
+unfolding key_after
+opens_with g kit A k good is = subst (λ k. Meets g 0 k g.commitment) (sym is) good.opens
+
+-- ---- lengths
+
+Follow-at : (base : ℕ) (forms : List (List Mark)) (i : ℕ) (f : List Mark) → Follow base forms → slice_get forms i ≡ Some f → base_len f ≡ reached base (take i forms)
+Follow-at base [] i f h at = absurd cc
+Follow-at base (g ∷ gs) zero f h at = let same : g ≡ f = cc in subst (λ (f : List Mark). base_len f ≡ base) same h.0
+Follow-at base (g ∷ gs) (suc i) f h at = Follow-at (out_len g) gs i f h.1 at
+
+all_inserted-take : (forms : List (List Mark)) (i : ℕ) → all_inserted (take i forms) ≤ all_inserted forms
+all_inserted-take forms zero = omega arith
+all_inserted-take [] (suc i) = omega arith
+all_inserted-take (f ∷ fs) (suc i) = omega (arith, all_inserted-take fs i)
+
+module _ {g : Genesis} {kit : Kit} {A : List (List ℕ)} {key : Option (List ℕ)} {base : ℕ} {forms : List (List Mark)} {text : List ℕ} (k : LineInvariant g kit A key base forms text) where
+  -- each entry has its form
+  pub form_place : (i : ℕ) → i < length A → i < length forms
+  form_place i h = omega (arith, h, ap length k.forms_are, length-forms g kit A)
+
+  follow_at : (i : ℕ) → Follow 0 (forms_of g kit (take i A))
+  follow_at i = forms_follow g kit (take i A) (good_take g kit A i k.good)
+
+  -- a form is stated on the text after the entries before it
+  pub before_form : (i : ℕ) (f : List Mark) → slice_get forms i ≡ Some f → base_len f ≡ length (text_of g kit (take i A))
+  before_form i f at =
+      Follow-at 0 (forms_of g kit A) i f (forms_follow g kit A k.good) (ap (λ (fs : List (List Mark)). slice_get fs i) (sym k.forms_are) ∙ at)
+      ∙ sym (text_at g kit A i k.good (follow_at i))
+
+  -- texts are short
+  pub before_small : (i : ℕ) → length A ≤ MAX_ENTRIES → length (text_of g kit (take i A)) ≤ 2 ^ 35
+  before_small i room =
+      let r = reached-le 0 (forms_of g kit (take i A)) (follow_at i) in
+      let l = length-text (forms_of g kit (take i A)) (follow_at i) in
+      let t = ap all_inserted (forms_take g kit A k.good i) in
+      let m = all_inserted-take (forms_of g kit A) i in
+      let f = ap all_inserted k.forms_are in
+      omega (arith, l, r, t, m, f, k.few, room)
+
+  pub text_small : length A ≤ MAX_ENTRIES → length text ≤ 2 ^ 35
+  text_small room =
+      let l = length-text (forms_of g kit A) (forms_follow g kit A k.good) in
+      let r = reached-le 0 (forms_of g kit A) (forms_follow g kit A k.good) in
+      let t = ap length k.text_is in
+      let f = ap all_inserted k.forms_are in
+      omega (arith, l, r, t, f, k.few, room)
+
+-- ---- one entry more
+
+pub line_push : (g : Genesis) (kit : Kit) (A : List (List ℕ)) (key : Option (List ℕ)) (base : ℕ) (forms : List (List Mark)) (text : List ℕ) (p : PreparedModel) → LineInvariant g kit A key base forms text → IsPrepared g kit A p
+    → LineInvariant g kit (A ++ p.checked.bytes ∷ []) p.key base (forms ++ p.form ∷ []) p.text
+line_push g kit A key base forms text p k q =
+    let good = good_push g kit A p.checked.bytes k.good q.passed in
+    record {
+      good = good;
+      key_is = q.key_is;
+      keyed = ap is_some q.key_is ∙ keyed_push g kit A p.checked.bytes (length A + 1) (ap is_some (sym k.key_is) ∙ k.keyed) q.passed;
+      base_is = k.base_is;
+      forms_are = ap (λ (fs : List (List Mark)). fs ++ p.form ∷ []) k.forms_are ∙ ap (λ (f : List Mark). forms_of g kit A ++ f ∷ []) q.form_is ∙ sym (forms_push g kit A p.checked.bytes good);
+      text_is = q.text_is ∙ ap (λ (f : List Mark). apply f (text_of g kit A)) q.form_is ∙ sym (text_push g kit A p.checked.bytes good);
+      few = omega (arith, all_inserted-append forms (p.form ∷ []), k.few, q.small, length-append A (p.checked.bytes ∷ []));
+    }
+
+-- the same over what the fields became
+pub line_pushed : (g g' : Genesis) (kit : Kit) (A A' : List (List ℕ)) (key key' : Option (List ℕ)) (base base' : ℕ) (forms forms' : List (List Mark)) (text text' : List ℕ) (p : PreparedModel)
+    → LineInvariant g kit A key base forms text → IsPrepared g kit A p → g' ≡ g → A' ≡ A ++ p.checked.bytes ∷ [] → key' ≡ p.key → base' ≡ base → forms' ≡ forms ++ p.form ∷ [] → text' ≡ p.text
+    → LineInvariant g' kit A' key' base' forms' text'
+line_pushed g g' kit A A' key key' base base' forms forms' text text' p k q is a e b f t =
+    subst (λ (x : Genesis). LineInvariant x kit A' key' base' forms' text') (sym is)
+    (subst (λ (x : List (List ℕ)). LineInvariant g kit x key' base' forms' text') (sym a)
+    (subst (λ (x : Option (List ℕ)). LineInvariant g kit (A ++ p.checked.bytes ∷ []) x base' forms' text') (sym e)
+    (subst (λ (x : ℕ). LineInvariant g kit (A ++ p.checked.bytes ∷ []) p.key x forms' text') (sym b)
+    (subst (λ (x : List (List Mark)). LineInvariant g kit (A ++ p.checked.bytes ∷ []) p.key base x text') (sym f)
+    (subst (λ (x : List ℕ). LineInvariant g kit (A ++ p.checked.bytes ∷ []) p.key base (forms ++ p.form ∷ []) x) (sym t) (line_push g kit A key base forms text p k q))))))

@@ -1,0 +1,9 @@
+use Rattle.std.proofs.Common.{◌<◌, ◌≤◌, ◌-◌, length, arith, sym, subst}
+use Rattle.sporc_line.specs.LineModel.{LineModel}
+use Rattle.sporc_line.proofs.LineKeeps.{form_place}
+use Rattle.sporc_line.proofs.line.Line.form.Goals as goal
+
+pub form-requires : goal.form-requires
+form-requires c =
+    let within : c.args.i ≤ length c.self.inside.heads.entries = subst (λ (m : LineModel). c.args.i ≤ length m.entries) (sym c.self.view_is) c.requires.within in
+    form_place c.self.invariant (c.args.i - 1) (omega (arith, within, c.requires.first))
