@@ -16,10 +16,16 @@ fn has_form(key: &LmsPublic, signature: &[u8]) -> bool
 {
     let height = key.lms.height();
     let ots_len = key.ots.signature_len();
-    signature.len() == 8 + ots_len + 32 * height as usize
-        && number_at(signature, 0) < 1u32 << height
-        && number_at(signature, 4) == key.ots.code()
-        && number_at(signature, 4 + ots_len) == key.lms.code()
+    if signature.len() != 8 + ots_len + 32 * height as usize {
+        return false;
+    }
+    if number_at(signature, 0) >= 1u32 << height {
+        return false;
+    }
+    if number_at(signature, 4) != key.ots.code() {
+        return false;
+    }
+    number_at(signature, 4 + ots_len) == key.lms.code()
 }
 
 // The root to which a one-time public key at leaf `q` leads.
