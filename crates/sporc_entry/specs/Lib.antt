@@ -4,3 +4,4 @@ pub mod ChangeBody
 pub mod Entry
 pub mod Genesis
 pub mod EntryView
+pub mod CommittedChanges

@@ -6,6 +6,7 @@
 #![tactic(auto)]
 
 mod change;
+mod committed;
 mod entry;
 mod fault;
 mod fields;
@@ -16,6 +17,7 @@ mod view;
 mod wrap;
 
 pub use change::{ChangeBody, read_change, write_change};
+pub use committed::{CommittedChange, read_committed};
 pub use entry::{Entry, read_entry, signed_part, write_entry};
 pub use fault::{EntryFault, GenesisFault};
 pub use genesis::{Founders, Genesis, read_genesis, write_genesis};

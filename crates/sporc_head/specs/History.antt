@@ -1,37 +1,21 @@
 -- What a history, the list of its entries' bytes, oldest first, says of itself. Everything is recomputed from the first
 -- entry.
-use Rattle.std.specs.Prelude.{Result, Ok, Err, ℕ, suc, ◌==◌, Bool, false, List, [], ◌∷◌, length, map, Option, None, Some, if◌then◌else◌, is_some, option_map, count_by}
-use Rattle.std.specs.List.{filter_map, list_any}
+use Rattle.std.specs.Prelude.{Result, Ok, Err, ℕ, suc, ◌==◌, Bool, false, List, [], ◌∷◌, length, map, Option, if◌then◌else◌, is_some, option_map, count_by}
+use Rattle.std.specs.List.{list_any}
 use Rattle.sporc_hash.specs.Chain.{last_value}
 use Rattle.sporc_member.specs.declared.change.Change.{Change}
 use Rattle.sporc_member.specs.Roster.{Roster, roster_after, removes}
-use Rattle.sporc_entry.specs.declared.header.Header.{Header}
 use Rattle.sporc_entry.specs.declared.entry.Entry.{Entry}
-use Rattle.sporc_entry.specs.declared.change.ChangeBody.{ChangeBody}
 use Rattle.sporc_entry.specs.declared.genesis.Genesis.{Genesis}
 use Rattle.sporc_entry.specs.Entry.{entry_of, change_of}
+pub use Rattle.sporc_entry.specs.declared.committed.CommittedChange.{CommittedChange}
+pub use Rattle.sporc_entry.specs.CommittedChanges.{committed_by, change_read, changes}
+unfoldable pub use Rattle.sporc_entry.specs.CommittedChanges.{change_in}
 use Rattle.sporc_entry.specs.Genesis.{genesis_bytes}
-
--- a change with the header that it stands under
-pub record CommittedChange : Type 0 where
-  pub header : Header
-  pub body : ChangeBody
 
 -- what an entry does to the members, if it is a change
 abbrev pub member_change_of : Entry → Option Change
 member_change_of e = option_map (λ c. c.change) (change_of e)
-
-abbrev pub committed_by : Entry → Option ChangeBody → Option CommittedChange
-committed_by e None = None
-committed_by e (Some c) = Some (record { header = e.header; body = c })
-
-abbrev pub change_read : Result Entry ℕ → Option CommittedChange
-change_read (Ok e) = committed_by e (change_of e)
-change_read (Err at) = None
-
--- the change that an entry's bytes hold
-unfoldable pub change_in : List ℕ → Option CommittedChange
-change_in bytes = change_read (entry_of bytes)
 
 abbrev pub is_read_by : ℕ → Result Entry ℕ → Bool
 is_read_by author (Ok e) = e.header.author == author
@@ -40,10 +24,6 @@ is_read_by author (Err at) = false
 -- whether an entry is by this author
 unfoldable pub is_by : ℕ → List ℕ → Bool
 is_by author bytes = is_read_by author (entry_of bytes)
-
--- the changes of a history, in order
-abbrev pub changes : List (List ℕ) → List CommittedChange
-changes entries = filter_map change_in entries
 
 -- how many changes a history has
 abbrev pub epoch_of : List (List ℕ) → ℕ
