@@ -1,2 +1,4 @@
+pub mod Joinings
 pub mod Lookups
 pub mod SealedKeys
+pub mod WalkBack

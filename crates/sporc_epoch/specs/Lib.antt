@@ -1,3 +1,4 @@
+pub mod Hints
 pub mod Keys
 pub mod RingModel
 pub mod Sealing

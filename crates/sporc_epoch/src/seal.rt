@@ -1,6 +1,6 @@
 //! Keys, sealed.
 
-ghost use Rattle.std.specs.Prelude.{◌≡◌, ◌<◌, ◌-◌, ◌^◌, IfOk, filter, fold, is_none};
+ghost use Rattle.std.specs.Prelude.{◌≡◌, ◌<◌, IfOk, filter, fold, is_none};
 ghost use Rattle.std.specs.FinMap as map;
 ghost use Rattle.sporc_base.specs.Outcome.{GivesUnless};
 ghost use Rattle.sporc_epoch.specs.Keys.{pairs_in};
@@ -8,7 +8,7 @@ ghost use Rattle.sporc_epoch.specs.Sealing.{wrap_sealed, wraps_sealed, lesser, l
 
 use crate::fault::SealFault;
 use crate::pairs::Pairs;
-use crate::streams::{entry_stream, masked, previous_stream};
+use crate::streams::{MAX_EPOCH, entry_stream, masked, previous_stream};
 use sporc_base::Memory;
 use sporc_entry::{ChangeBody, Wrap, Wraps};
 use sporc_hash::commit;
@@ -31,7 +31,7 @@ pub fn seal_change(
     new: &[u8; 32],
     pairs: &Pairs,
 ) -> Result<ChangeBody, SealFault>
-    requires epoch { epoch < 2 ^ 32 - 1 }
+    requires epoch { epoch < MAX_EPOCH }
     ensures value { GivesUnless SealFault.Memory (λ body. body) result (change_sealed (record {
       change = change.now;
       members = members.now;

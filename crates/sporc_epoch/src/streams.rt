@@ -6,6 +6,9 @@ ghost use Rattle.sporc_epoch.specs.Streams.{entry_stream, previous_stream};
 
 use sporc_cipher::mask;
 
+/// The greatest number of an epoch. No change ends it.
+pub const MAX_EPOCH: u32 = u32::MAX;
+
 // The number of an author's first stream is a multiple of this.
 const AUTHOR_STREAMS: u64 = 1 << 40;
 

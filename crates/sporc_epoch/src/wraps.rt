@@ -27,7 +27,7 @@ pub fn open_wrap(
 }
 
 // The first wrap for a member.
-fn wrap_for(wraps: &[Wrap], member: u16) -> Option<Wrap>
+pub(crate) fn wrap_for(wraps: &[Wrap], member: u16) -> Option<Wrap>
     ensures value { result ≡ wrap_for member wraps.now }
 {
     wraps.iter().copied().find(|w| w.member == member)
