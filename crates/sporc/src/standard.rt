@@ -5,7 +5,7 @@ ghost use Rattle.std.specs.Prelude.{◌≡◌};
 use sporc_outside::{Counted, Failed, Sink, Source};
 use std::io::{Read, Write};
 
-/// A reader as a source of the bytes that it has left, where it tells them.
+/// A reader as a source of the bytes that it has left, if it tells them.
 #[derive(Drop)]
 pub struct StandardInput<R> {
     reader: R,
@@ -43,7 +43,7 @@ impl<R: Read> Source for StandardInput<R> {
     }
 }
 
-/// A writer as a sink that holds what the writer does, where it tells it. A write that takes none
+/// A writer as a sink that holds what the writer does, if it tells that. A write that takes none
 /// of some bytes counts as a fault.
 #[derive(Drop)]
 pub struct StandardOutput<W> {

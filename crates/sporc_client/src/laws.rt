@@ -9,6 +9,15 @@ ghost use Rattle.sporc_client.specs.Checks.{IsGood};
 ghost use Rattle.sporc_client.specs.Run.{Move, IsTypedMove};
 ghost use Rattle.sporc_client.specs.Agree.{HistoriesCollisionFree, Agree};
 
+use crate::{MAX_EDIT_BYTES, MAX_ENTRIES, MAX_PENDING};
+
+/// The limits of a client: its entries, its pending edits, and the bytes of an edit.
+pub fn limits()
+    ensures entries { MAX_ENTRIES ≡ 16384 }
+    ensures pending { MAX_PENDING ≡ 1024 }
+    ensures edit { MAX_EDIT_BYTES ≡ 65536 }
+{}
+
 /// Two histories of one genesis whose chains end in one value are one history, where no two different strings hashed
 /// for them have one digest.
 pub fn one_hash_one_history()

@@ -27,7 +27,7 @@ fn commit(
 #[test]
 fn edits_are_committed_until_the_history_is_full(rt: HostRuntime) -> Result<(), Fail> {
     let mut client = PlainClient::open(rt.alloc(), 1, &[0, 1])?;
-    for position in 1..=16_384u32 {
+    for position in 1..=MAX_ENTRIES as u32 {
         let text = if position % 2 == 0 { "" } else { "text" };
         let events = commit(&rt, rt.alloc(), &mut client, position, text)?;
         assert_eq!(rt; events, 3 * u64::from(position));

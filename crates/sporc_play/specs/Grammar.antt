@@ -33,7 +33,7 @@ named_by (Give g) = g.member ∷ []
 named_by (Show m) = m ∷ []
 named_by (Compare c) = c.first ∷ c.second ∷ []
 
--- declarations come first, at most 64 and each of another number; commands follow where there is an admin, and name declared members
+-- declarations come first, no more than there may be members and each of another number; commands follow if there is an admin, and name declared members
 abbrev pub may_follow : Declared → Command → Bool
 may_follow d (Member m) = not d.begun && (nat_lt (length d.members) MAX_MEMBERS && not (is_declared d.members m.member))
 may_follow d c = d.has_admin && list_all (λ m. is_declared d.members m) (named_by c)

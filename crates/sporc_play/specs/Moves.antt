@@ -16,7 +16,7 @@ abbrev pub opening_moves : ℕ → Option Seat → List Move
 opening_moves m None = Open m ∷ []
 opening_moves m (Some seat) = []
 
--- an edit by these marks, where the change lies within the text
+-- an edit by these marks, if the change lies within the text
 abbrev pub marks_moves : ℕ → Option (List Mark) → List Move
 marks_moves m None = []
 marks_moves m (Some d) = Edit m d ∷ []

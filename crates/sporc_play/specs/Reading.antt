@@ -6,7 +6,7 @@ use Rattle.sporc_play.specs.Preamble.{Declared, declared_after}
 use Rattle.sporc_play.specs.Grammar.{IsSkipped, may_follow}
 use Rattle.sporc_play.specs.Spelling.{Spells}
 
--- line n, where this is declared before it, is skipped, or is a part of the script
+-- line n, after these declarations, is skipped, or is a part of the script
 abbrev pub ReadsLine : Declared → ℕ → List ℕ → Option PlayLine → Type 0
 ReadsLine declared n line None = IsSkipped line
 ReadsLine declared n line (Some l) = (l.number ≡ n) × Spells line l.command × (may_follow declared l.command ≡ true)

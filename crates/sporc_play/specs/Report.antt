@@ -35,7 +35,7 @@ abbrev pub edit_line : ℕ → PlainState → Option (List Mark) → List ℕ
 edit_line m c None = decimal m ++ codes " edit outside " ++ decimal (length (shown_of c)) ++ codes "\n"
 edit_line m c (Some d) = edit_answer m (c.events + 1) (first_of (edit_checks c d))
 
--- submit, where the next entry that is made has this number and the member's last one has that
+-- submit: the next entry that is made has this number, and the member's last one has that
 abbrev pub submit_line : ℕ → ℕ → ℕ → Result PlainSubmitted PlainSubmitFault → List ℕ
 submit_line m next last (Ok (Entry e)) = decimal m ++ codes " submit entry " ++ decimal next ++ codes "\n"
 submit_line m next last (Ok Nothing) = decimal m ++ codes " submit nothing\n"
@@ -75,7 +75,7 @@ abbrev pub line_by : (Seat → List ℕ) → Option Seat → List ℕ
 line_by line None = []
 line_by line (Some seat) = line seat
 
--- the line of a comparison of two clients: where values of both chains meet again after they parted, any place at which they part may stand in it
+-- the line of a comparison of two clients: if values of both chains meet again after they parted, any place at which they part may stand in it
 abbrev pub Compares : Comparison → Option Seat → Option Seat → List ℕ → Type 0
 Compares c (Some a) (Some b) line = (v : Verdict) × Stands (hashes_of a.client.genesis a.client.entries) (hashes_of b.client.genesis b.client.entries) v × (line ≡ compare_line c v)
 Compares c None b line = line ≡ []

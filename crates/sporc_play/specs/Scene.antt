@@ -73,7 +73,7 @@ entries_in (Ok Nothing) = []
 entries_in (Ok Waiting) = []
 entries_in (Err fault) = []
 
--- the number of the entry that a member made last, where the next that is made has this number
+-- the number of the entry that a member made last, if the next that is made has this number
 abbrev pub last_after : ℕ → ℕ → Result PlainSubmitted PlainSubmitFault → ℕ
 last_after next last (Ok (Entry e)) = next
 last_after next last (Ok Nothing) = last

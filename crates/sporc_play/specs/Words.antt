@@ -10,7 +10,7 @@ Lacks b bytes = AllByRecursion (λ x. x ≢ b) bytes
 abbrev pub Splits : ℕ → List ℕ → List ℕ → List ℕ → Type 0
 Splits b bytes front rest = Lacks b front × (bytes ≡ front ++ b ∷ rest)
 
--- as a number is written: not empty, with no plus and no zero in front
+-- as a number is written: not empty, with no plus and no leading zero
 pub record IsPlain (word : List ℕ) : Type 0 where
   pub some : 0 < length word
   pub no_plus : slice_index word 0 ≢ 43

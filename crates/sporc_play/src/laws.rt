@@ -2,6 +2,7 @@
 
 ghost use Rattle.std.specs.Prelude.{◌≡◌, ◌⊎◌, ℕ, List};
 ghost use Rattle.sporc_play.specs.Grammar.{IsFaultLine, IsScript};
+ghost use Rattle.sporc_play.specs.Moves.{IsOneRun};
 ghost use Rattle.sporc_play.specs.declared.script.command.PlayLine.{PlayLine};
 
 use crate::playing::MAX_SCRIPT;
@@ -16,6 +17,11 @@ pub fn limits()
 /// A text is a script, or has a first line outside the grammar.
 pub fn script_or_fault_line()
     ensures { (text : List ℕ) → ((script : List PlayLine) × IsScript text script) ⊎ ((line : ℕ) × IsFaultLine text line) }
+{}
+
+/// Each script's play is a run of the clients, who agree at any two of its moments.
+pub fn each_play_is_one_run()
+    ensures { (text : List ℕ) (script : List PlayLine) → IsScript text script → IsOneRun script }
 {}
 
 /// A text is one script.

@@ -24,7 +24,7 @@ use std::fmt::Write;
 pub struct Seat {
     pub member: u16,
     pub client: PlainClient,
-    /// The number of the entry that it made last, 0 where it made none.
+    /// The number of the entry that it made last, 0 if it made none.
     pub last: u64,
 }
 
@@ -63,7 +63,7 @@ pub fn edit(alloc: Global, seat: &mut Seat, edit: &Edit, out: &mut String) -> Re
     }
 }
 
-// The fault of an edit, unless memory was wanting.
+// The fault of an edit, unless memory ran out.
 fn edit_fault(fault: EditFault) -> Result<EditFault, AllocError>
     ensures { IfOk result (λ f. (f ≡ fault) × (fault ≢ EditFault.Memory)) }
 {
@@ -73,7 +73,7 @@ fn edit_fault(fault: EditFault) -> Result<EditFault, AllocError>
     }
 }
 
-// The delta of a change of a text of this length; none, where the change lies outside it.
+// The delta of a change of a text of this length; none, if the change lies outside it.
 #[tactic(auto, using(crate::proofs::Edits::base_of_insertion, crate::proofs::Edits::base_of_removal))]
 fn delta_of(alloc: Global, change: &Change, len: u64) -> Result<Option<Delta>, AllocError>
     requires small { len ≤ 2 ^ 35 }
@@ -161,7 +161,7 @@ pub fn give(
     }
 }
 
-// Why an entry is refused, unless memory was wanting.
+// Why an entry is refused, unless memory ran out.
 fn give_refusal(refusal: PlainRefusal) -> Result<PlainRefusal, AllocError>
     ensures { IfOk result (λ r. (r ≡ refusal) × (refusal ≢ PlainRefusal.Memory)) }
 {

@@ -1,6 +1,6 @@
 //! Faults of the program: a status and a line for each.
 
-ghost use Rattle.std.specs.Prelude.{◌≡◌, ◌≤◌, ◌++◌, ℕ, OnOk, OnErr};
+ghost use Rattle.std.specs.Prelude.{◌≡◌, ◌≤◌, OnOk, OnErr};
 ghost use Rattle.std.specs.Io.KnownBytes.{Appends};
 ghost use Rattle.sporc_outside.specs.Counts.{CountsFaults};
 ghost use Rattle.sporc_outside.specs.Writing.{AppendsPrefix};
@@ -38,7 +38,7 @@ impl From<PlayFault> for Fault {
 impl Fault {
     /// The exit status.
     pub fn status(self) -> u8
-        ensures { result ≡ status_of self }
+        ensures value { result ≡ status_of self }
     {
         match self {
             Fault::Memory => 1,

@@ -14,7 +14,7 @@ use crate::script::command::{
     Change, Command, Comparison, Declaration, Edit, Give, Insertion, Removal, Role,
 };
 use crate::script::quoted::quoted_text;
-use crate::script::words::{after, before, parse_member, parse_u32, parse_u64, split_once};
+use crate::script::words::{after, parse_member, parse_u32, parse_u64, split_once};
 use std::alloc::{AllocError, Global};
 
 // The command that the whole line spells, if there is one.

@@ -1,6 +1,6 @@
 //! A whole script.
 
-ghost use Rattle.std.specs.Prelude.{◌≡◌, ◌+◌, ◌^◌, ◌<◌, ◌≤◌, ◌↔◌, ◌∷◌, ◌++◌, [], ℕ, List, All, IsTrue, length, true, IfOk, IfErr, OnOk, OnErr, MatchOption};
+ghost use Rattle.std.specs.Prelude.{◌≡◌, ◌+◌, ◌^◌, ◌<◌, ◌≤◌, ◌↔◌, ◌∷◌, ◌++◌, [], ℕ, List, All, IsTrue, length, true, IfOk, OnOk, MatchOption};
 ghost use Rattle.std.specs.Option.{option_to_list};
 ghost use Rattle.sporc_play.specs.declared.script.command.Command.{Command};
 ghost use Rattle.sporc_play.specs.declared.script.reader.LineFault.TheVariants as faults;
@@ -34,7 +34,7 @@ impl Model for PlayScript {
 impl PlayScript {
     /// The lines that are not skipped, in order.
     pub fn lines(&self) -> &[PlayLine]
-        ensures { result.now ≡ self.now }
+        ensures value { result.now ≡ self.now }
     {
         self.lines.as_slice()
     }
@@ -69,10 +69,10 @@ impl<T: Drop> From<AllocFailed<T>> for LineFault {
 /// Reads a script, up to its first line outside the grammar.
 pub fn read_play(alloc: Global, text: &[u8]) -> Result<PlayScript, LineFault>
     requires { length text.now ≤ 2 ^ 30 }
-    ensures script { IfOk result (λ script. IsScript text.now script) }
+    ensures ok { IfOk result (λ script. IsScript text.now script) }
     ensures count { IfOk result (λ script. length script ≤ length text.now) }
     ensures sizes { IfOk result (λ script. All (λ l. text_size l.command ≤ length text.now) script) }
-    ensures fault { (k : ℕ) → result ≡ Err (LineFault.Line k) → IsFaultLine text.now k }
+    ensures err { (k : ℕ) → result ≡ Err (LineFault.Line k) → IsFaultLine text.now k }
 {
     let mut lines = Vec::new(alloc);
     let mut rest = text;
@@ -113,7 +113,7 @@ fn is_skipped(line: &[u8]) -> bool
     }
 }
 
-// A line as a part of the script; none, where it is skipped.
+// A line as a part of the script; none, if it is skipped.
 fn read_numbered(
     alloc: Global,
     declared: &Members,
@@ -121,7 +121,7 @@ fn read_numbered(
     line: &[u8],
 ) -> Result<Option<PlayLine>, LineFault>
     ensures ok { IfOk result (λ found. ReadsLine declared.now number line.now found) }
-    ensures fault { (k : ℕ) → result ≡ Err (LineFault.Line k) → IsBadLine declared.now number line.now k }
+    ensures err { (k : ℕ) → result ≡ Err (LineFault.Line k) → IsBadLine declared.now number line.now k }
 {
     if is_skipped(line) {
         return Ok(None);
@@ -132,7 +132,7 @@ fn read_numbered(
     }
 }
 
-// The command of a line, where it may come next.
+// The command of a line, if it may come next.
 fn next_command(
     alloc: Global,
     declared: &Members,

@@ -7,4 +7,4 @@ returns-in-Ok-clause-outcome g c = Played c.in-Ok.ensures.outcome.0 c.in-Ok.ensu
 
 pub returns-in-Err-clause-outcome : goal.returns-in-Err-clause-outcome
 returns-in-Err-clause-outcome g c =
-    told_as c.status.result _ _ _ _ _ _ _ _ c.in-Err.fault c.in-Err.ensures.outcome c.perform.ensures.out_kept c.tell.ensures.kept c.tell.ensures.line c.status.ensures
+    told_as c.status.result _ _ _ _ _ _ _ _ c.in-Err.fault c.in-Err.ensures.outcome c.perform.ensures.out_kept c.tell.ensures.kept c.tell.ensures.line c.status.ensures.value

@@ -30,8 +30,8 @@ loop-rest-preserved c =
       sizes = rw kept (sizes-kept c.loop-rest.declared c.loop-rest.number line before c.in_ok-read.read (length c.args.text.now) c.in_ok-read.ensures.ok (omega (arith, c.next_line.ensures.within, c.loop-rest.invariant.count)) c.loop-rest.invariant.sizes);
     }
 
-pub returns-clause-script : goal.returns-clause-script
-returns-clause-script c =
+pub returns-clause-ok : goal.returns-clause-ok
+returns-clause-ok c =
     let none : c.loop-rest.rest.now ≡ [] = nil_from_length c.loop-rest.rest.now (eqb-true (length c.loop-rest.rest.now) 0 (sym c.is_empty.ensures ∙ c.loop-rest-test.false)) in
     subst (λ (zs : List PlayLine). IsScript c.args.text.now zs) (append-nil c.loop-rest.lines.items)
     (c.loop-rest.invariant.reads [] (rw none refl))
