@@ -1,12 +1,12 @@
 -- A field that is read is spelled by the bytes that it took, and a spelled field is read again.
 use Rattle.std.proofs.Common.{◌≡◌, ℕ, ◌+◌, ◌^◌, ◌<◌, ◌≤◌, Bool, true, false, cond, ltb, leb, List, [], ◌∷◌, ◌++◌, length, get_or, take, drop, Result, Ok, Err, refl, sym, ap, subst, ◌∙◌, append_assoc, arith, inl, inr}
 use Rattle.std.specs.Int.{Width, w8, w16, w32, w64, byte_len, from_be_bytes, to_be_bytes}
-use Rattle.std.proofs.lemmas.Bool.{cases_lt, ltb-false, le-ltb, leb-true, le-leb}
-use Rattle.std.proofs.lemmas.List.{take_at, drop_at, take-append-drop, length-append, length-take, get_or-drop, get_or-take, get_or_past}
+use Rattle.std.proofs.lemmas.Bool.{ltb-false, le-ltb, leb-true, le-leb}
+use Rattle.std.proofs.lemmas.List.{take_at, drop_at, take-append-drop, length-append, length-take, length-drop}
 use Rattle.std.proofs.lemmas.Nat.{be_bytes_2, be_bytes_4, be_bytes_8, from_be_bytes-to_be_bytes_2, from_be_bytes-to_be_bytes_4, from_be_bytes-to_be_bytes_8}
 use Rattle.sporc_base.specs.Bytes.{IsBytes}
 use Rattle.sporc_base.proofs.ByteLemmas.{IsBytes-drop, IsBytes-take}
-use Rattle.sporc_bytes.specs.Fields.{Reading, past, ◌>>=◌, bytes_at, number_at, only_if, counted_at, counted, end_at}
+use Rattle.sporc_bytes.specs.Fields.{Reading, past, ◌>>=◌, fault_as, bytes_at, number_at, only_if, counted_at, counted, end_at}
 
 -- ---- steps
 
@@ -14,6 +14,11 @@ use Rattle.sporc_bytes.specs.Fields.{Reading, past, ◌>>=◌, bytes_at, number_
 pub bind_ok : {A B F : Type 0} (r : Result A F) (f : A → Result B F) (y : B) → (r >>= f) ≡ Ok y → (x : A) × (r ≡ Ok x) × (f x ≡ Ok y)
 bind_ok (Ok x) f y e = (x, refl, e)
 bind_ok (Err d) f y e = absurd cc
+
+-- a value whose fault is told in other words
+pub fault_as_ok : {A D F : Type 0} (f : D → F) (r : Result A D) (x : A) → fault_as f r ≡ Ok x → r ≡ Ok x
+fault_as_ok f (Ok y) x e = cc
+fault_as_ok f (Err d) x e = absurd cc
 
 -- a step that did not fail, and what reads on
 pub read_on : {A B F : Type 0} (r : Result A F) (x : A) (f : A → Result B F) → r ≡ Ok x → (r >>= f) ≡ f x
@@ -60,6 +65,18 @@ bytes_takes n r x h e =
     taken : (b : Bool) → cond b (Err r.at) (Ok (take n r.rest, past n r)) ≡ Ok x → (b ≡ false) × ((take n r.rest, past n r) ≡ x)
     taken true e = absurd cc
     taken false e = (refl, cc)
+
+-- what is left after so many bytes
+pub bytes_len : (n : ℕ) (r : Reading) (x : List ℕ × Reading) → bytes_at n r ≡ Ok x → n + length x.1.rest ≡ length r.rest
+unfolding bytes_at
+bytes_len n r x e = by (ltb (length r.rest) n) refl e
+  where
+    by : (b : Bool) → ltb (length r.rest) n ≡ b → cond b (Err r.at) (Ok (take n r.rest, past n r)) ≡ Ok x → n + length x.1.rest ≡ length r.rest
+    by true is e = absurd cc
+    by false is e =
+        let same : (take n r.rest, past n r) ≡ x = cc in
+        let len : length (drop n r.rest) ≡ length x.1.rest = ap (λ (y : List ℕ × Reading). length y.1.rest) same in
+        omega (arith, ltb-false _ _ is, length-drop n r.rest, len)
 
 pub bytes_again : (n at : ℕ) (xs rest : List ℕ) → length xs ≡ n → bytes_at n (record { rest = xs ++ rest; at = at }) ≡ Ok (xs, record { rest = rest; at = at + n })
 unfolding bytes_at

@@ -1,7 +1,6 @@
 pub mod Lengths
 pub mod Histories
 pub mod Counts
-pub mod SameLists
 pub mod Passes
 pub mod Same
 pub mod Sound

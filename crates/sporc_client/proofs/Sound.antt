@@ -7,7 +7,7 @@ use Rattle.std.proofs.lemmas.List.Folds.{list_all-append}
 use Rattle.std.proofs.lemmas.List.Sums.{fold-append}
 use Rattle.sporc_delta.specs.Format.{delta_bytes}
 use Rattle.sporc_delta.specs.Marks.{Mark, base_len, apply}
-use Rattle.sporc_text.proofs.EditLemmas.{marks_of-runs}
+use Rattle.sporc_delta.proofs.Runs.{marks_of-runs}
 use Rattle.sporc_client.specs.declared.limits.TheConstants.{MAX_EDIT_BYTES, MAX_ENTRIES, MAX_PENDING}
 use Rattle.sporc_client.specs.declared.entry.PlainEntry.{PlainEntry}
 use Rattle.sporc_client.specs.History.{text_of, text_after}
@@ -19,7 +19,8 @@ use Rattle.sporc_client.specs.Submission.{first_submission, submission_of}
 use Rattle.sporc_client.specs.ClientKeeps.{is_small, is_of_first, in_flight, IsSound}
 use Rattle.sporc_client.proofs.Lengths.{length-apply, out_len-bytes}
 use Rattle.sporc_client.proofs.Histories.{text_of-push}
-use Rattle.sporc_client.proofs.Same.{same_delta-Decides, same_entry_is}
+use Rattle.sporc_delta.proofs.Same.{same_delta-Decides}
+use Rattle.sporc_client.proofs.Same.{same_entry_is}
 
 -- a text after one delta more
 pub text_after-push : (s : List ℕ) (ds : List (List Mark)) (d : List Mark) → text_after s (ds ++ d ∷ []) ≡ apply d (text_after s ds)

@@ -12,10 +12,11 @@ use Rattle.sporc_delta.specs.declared.part.Part.TheVariants.{Keep, Insert, Remov
 use Rattle.sporc_delta.specs.Marks.{Mark}
 use Rattle.sporc_delta.specs.Parts.{marks_of, runs}
 use Rattle.sporc_delta.specs.Format.{part_bytes, parts_bytes, delta_bytes}
-use Rattle.sporc_text.proofs.EditLemmas.{marks_of-runs}
+use Rattle.sporc_delta.proofs.Runs.{marks_of-runs}
 use Rattle.sporc_client.specs.declared.entry.PlainEntry.{PlainEntry}
 use Rattle.sporc_client.specs.Entry.{entry_bytes}
-use Rattle.sporc_client.specs.Typed.{IsTypedPart, IsTypedDelta, IsTypedEntry}
+use Rattle.sporc_delta.specs.Typed.{IsTypedPart, IsTypedDelta}
+use Rattle.sporc_client.specs.Typed.{IsTypedEntry}
 
 -- two splits of one list whose first parts are equally long
 same_fronts : {X : Type 0} (a b x y : List X) → length a ≡ length b → a ++ x ≡ b ++ y → (a ≡ b) × (x ≡ y)

@@ -6,7 +6,7 @@ use Rattle.sporc_delta.specs.Marks.{Mark}
 use Rattle.sporc_client.specs.declared.limits.TheConstants.{MAX_EDIT_BYTES, MAX_ENTRIES, MAX_PENDING}
 use Rattle.sporc_client.specs.declared.entry.PlainEntry.{PlainEntry}
 use Rattle.sporc_client.specs.declared.client.PlainClient.TheInside.{Inside}
-use Rattle.sporc_client.specs.SameEntry.{same_delta}
+use Rattle.sporc_delta.specs.Same.{same_delta}
 use Rattle.sporc_client.specs.Client.{PlainState, shown_of}
 
 abbrev pub client_value : Inside → PlainState

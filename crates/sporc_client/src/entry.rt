@@ -1,11 +1,11 @@
 // Entries.
 
 ghost use Rattle.std.specs.Prelude.{◌≡◌, IfOk};
-ghost use Rattle.sporc_client.specs.SameEntry.{same_part, same_parts, same_delta, same_entry};
+ghost use Rattle.sporc_client.specs.SameEntry.{same_entry};
 ghost use Rattle.sporc_client.specs.Entry.{entry_bytes};
 
 use crate::Memory;
-use sporc_delta::{Delta, Part};
+use sporc_delta::Delta;
 use sporc_hash::Digest32;
 
 /// An edit that stands in a history, or is to stand there.
@@ -60,39 +60,6 @@ impl PlainEntry {
             && self.number == other.number
             && self.base == other.base
             && self.base_hash == other.base_hash
-            && is_same_delta(&self.delta, &other.delta)
-    }
-}
-
-// Whether two deltas are one.
-fn is_same_delta(a: &Delta, b: &Delta) -> bool
-    ensures { result ≡ same_delta a.now b.now }
-{
-    are_same_parts(a.parts(), b.parts())
-}
-
-// Whether two lists of parts are one.
-fn are_same_parts(a: &[Part], b: &[Part]) -> bool
-    ensures { result ≡ same_parts a.now b.now }
-{
-    if a.len() != b.len() {
-        return false;
-    }
-    for (i, part) in a.iter().enumerate() {
-        if !is_same_part(part, &b[i]) {
-            return false;
-        }
-    }
-    true
-}
-
-// Whether two parts are one.
-fn is_same_part(a: &Part, b: &Part) -> bool
-    ensures { result ≡ same_part a.now b.now }
-{
-    match (a, b) {
-        (Part::Keep(m), Part::Keep(n)) | (Part::Remove(m), Part::Remove(n)) => m == n,
-        (Part::Insert(s), Part::Insert(t)) => s.as_str() == t.as_str(),
-        _ => false,
+            && self.delta.is_same(&other.delta)
     }
 }

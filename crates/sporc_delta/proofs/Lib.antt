@@ -6,3 +6,6 @@ pub mod Sound
 pub mod Spelled
 pub mod Decoding
 pub mod Grammar
+pub mod SameLists
+pub mod Same
+pub mod Typing

@@ -1,5 +1,6 @@
 -- The parts of a delta: its runs of equal marks.
-use Rattle.std.specs.Prelude.{◌≡◌, ℕ, suc, ◌≤◌, ◌<◌, ◌^◌, Bool, true, false, Option, Some, slice_get, ◌-◌, List, [], ◌∷◌, ◌++◌, length, ⊤}
+use Rattle.std.specs.Prelude.{◌≡◌, ℕ, suc, ◌≤◌, ◌<◌, Bool, true, false, Option, Some, slice_get, ◌-◌, List, [], ◌∷◌, ◌++◌, length, ⊤}
+use Rattle.sporc_delta.specs.declared.limits.TheConstants.{MAX_TEXT_LEN}
 use Rattle.sporc_delta.specs.declared.part.Kind.{Kind}
 use Rattle.sporc_delta.specs.declared.part.Kind.TheVariants as kinds
 use Rattle.sporc_delta.specs.declared.part.Part.{Part}
@@ -71,8 +72,8 @@ pub record IsSound (parts : List Part) (base out : ℕ) : Type 0 where
   pub are_runs : AreRuns parts
   pub base_is : base ≡ base_len (marks_of parts)
   pub out_is : out ≡ out_len (marks_of parts)
-  pub base_limit : base ≤ 2 ^ 60
-  pub out_limit : out ≤ 2 ^ 60
+  pub base_limit : base ≤ MAX_TEXT_LEN
+  pub out_limit : out ≤ MAX_TEXT_LEN
 
 -- how many characters a last part keeps, and removes, and whether one inserts
 abbrev pub kept_by : Option Part → ℕ

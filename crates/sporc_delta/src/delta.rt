@@ -1,18 +1,23 @@
 // Deltas.
 
-ghost use Rattle.std.specs.Prelude.{◌≡◌, ◌+◌, ◌≤◌, ◌^◌, ◌++◌, [], length, IfOk, OnOk, OnErr};
+ghost use Rattle.std.specs.Prelude.{◌≡◌, ◌≢◌, ◌+◌, ◌≤◌, ◌^◌, ◌++◌, ◌↔◌, [], length, IsTrue, Ok, Err, IfOk, IfErr, OnOk, OnErr};
 ghost use Rattle.std.specs.Str.{chars};
+ghost use Rattle.sporc_delta.specs.declared.limits.TheConstants.{MAX_COUNT, MAX_DELTA_BYTES, MAX_TEXT_LEN};
+ghost use Rattle.sporc_delta.specs.declared.fault.DeltaFault.TheVariants as faults;
 ghost use Rattle.sporc_delta.specs.Format.{delta_bytes};
 ghost use Rattle.sporc_delta.specs.Marks.{base_len, out_len, retains, deletes, inserts, insertion, removal, replacement};
 ghost use Rattle.sporc_delta.specs.Parts.{AreRuns, marks_of, owned, part_marks, runs};
-ghost use Rattle.sporc_delta.specs.Reading.{Gives, read_delta};
+ghost use Rattle.sporc_delta.specs.Same.{same_delta};
+ghost use Rattle.sporc_delta.specs.Reading.{read_delta};
 
 use crate::decode::read_part;
 use crate::encode::{parts_encoded, parts_len};
 use crate::ends::{append_keep, append_remove, append_text};
-use crate::part::copies;
+use crate::part::{are_same_parts, copies};
 use crate::{DeltaFault, Part, Piece, TextSlice};
-use std::alloc::{AllocError, Global};
+use sporc_base::Memory;
+use sporc_bytes::Cursor;
+use std::alloc::Global;
 use std::marker::Model;
 
 /// A delta, seen as the list of its marks.
@@ -38,7 +43,7 @@ impl Model for Delta {
 impl Delta {
     /// The delta over the empty text that changes nothing.
     pub fn new(alloc: Global) -> Delta
-        ensures { result ≡ [] }
+        ensures value { result ≡ [] }
     {
         Delta {
             parts: Vec::new(alloc),
@@ -49,28 +54,28 @@ impl Delta {
 
     /// The delta that bytes spell (see `encode`), or the first fault from the left.
     pub fn decode(alloc: Global, bytes: &[u8]) -> Result<Delta, DeltaFault>
-        requires { length bytes.now ≤ 4194304 }
-        ensures { Gives (λ d. d) result (read_delta bytes.now) }
+        requires size { length bytes.now ≤ MAX_DELTA_BYTES }
+        ensures ok { IfOk result (λ delta. read_delta bytes.now ≡ Ok delta) }
+        ensures err { IfErr result (λ e. e ≢ faults.Memory → read_delta bytes.now ≡ Err e) }
     {
         let mut delta = Delta::new(alloc);
         let mut before = None;
-        let mut rest = bytes;
-        while !rest.is_empty() {
-            let (piece, after) = read_part(before, rest)?;
+        let mut cursor = Cursor::new(bytes);
+        while !cursor.end() {
+            let piece = read_part(before, &mut cursor)?;
             delta.push(&piece)?;
             before = Some(piece.kind());
-            rest = after;
         }
         Ok(delta)
     }
 
     /// Inserts a text before the character at a place of a text of `len` characters.
     #[tactic(auto, using(crate::proofs::Lengths::lengths))]
-    pub fn insert_at(alloc: Global, len: u64, at: u64, text: &str) -> Result<Delta, AllocError>
+    pub fn insert_at(alloc: Global, len: u64, at: u64, text: &str) -> Result<Delta, Memory>
         requires within { at ≤ len }
-        requires limit { len ≤ 2 ^ 40 }
-        requires text_limit { length text.now ≤ 2 ^ 40 }
-        ensures { IfOk result (λ d. d ≡ insertion len at (chars text.now)) }
+        requires limit { len ≤ MAX_COUNT }
+        requires text_limit { length text.now ≤ MAX_COUNT }
+        ensures ok { IfOk result (λ d. d ≡ insertion len at (chars text.now)) }
     {
         let mut delta = Delta::new(alloc);
         delta.push_keep(at)?;
@@ -81,10 +86,10 @@ impl Delta {
 
     /// Removes `count` characters from a place of a text of `len` characters on.
     #[tactic(auto, using(crate::proofs::Lengths::lengths))]
-    pub fn remove_at(alloc: Global, len: u64, at: u64, count: u64) -> Result<Delta, AllocError>
+    pub fn remove_at(alloc: Global, len: u64, at: u64, count: u64) -> Result<Delta, Memory>
         requires within { at + count ≤ len }
-        requires limit { len ≤ 2 ^ 40 }
-        ensures { IfOk result (λ d. d ≡ removal len at count) }
+        requires limit { len ≤ MAX_COUNT }
+        ensures ok { IfOk result (λ d. d ≡ removal len at count) }
     {
         let mut delta = Delta::new(alloc);
         delta.push_keep(at)?;
@@ -94,9 +99,9 @@ impl Delta {
     }
 
     /// Keeps all of a text of `len` characters.
-    pub fn keep_all(alloc: Global, len: u64) -> Result<Delta, AllocError>
-        requires { len ≤ 2 ^ 40 }
-        ensures { IfOk result (λ d. d ≡ retains len) }
+    pub fn keep_all(alloc: Global, len: u64) -> Result<Delta, Memory>
+        requires { len ≤ MAX_COUNT }
+        ensures ok { IfOk result (λ d. d ≡ retains len) }
     {
         let mut delta = Delta::new(alloc);
         delta.push_keep(len)?;
@@ -105,10 +110,10 @@ impl Delta {
 
     /// Puts a text in place of all of a text of `len` characters.
     #[tactic(auto, using(crate::proofs::Lengths::lengths))]
-    pub fn replace_all(alloc: Global, len: u64, text: &str) -> Result<Delta, AllocError>
-        requires limit { len ≤ 2 ^ 40 }
-        requires text_limit { length text.now ≤ 2 ^ 40 }
-        ensures { IfOk result (λ d. d ≡ replacement len (chars text.now)) }
+    pub fn replace_all(alloc: Global, len: u64, text: &str) -> Result<Delta, Memory>
+        requires limit { len ≤ MAX_COUNT }
+        requires text_limit { length text.now ≤ MAX_COUNT }
+        ensures ok { IfOk result (λ d. d ≡ replacement len (chars text.now)) }
     {
         let mut delta = Delta::new(alloc);
         delta.push_remove(len)?;
@@ -119,7 +124,7 @@ impl Delta {
     /// The number of characters of the text before.
     pub fn base_len(&self) -> u64
         ensures value { result ≡ base_len self.now }
-        ensures small { result ≤ 2 ^ 60 }
+        ensures small { result ≤ MAX_TEXT_LEN }
     {
         self.base
     }
@@ -127,7 +132,7 @@ impl Delta {
     /// The number of characters of the text after.
     pub fn out_len(&self) -> u64
         ensures value { result ≡ out_len self.now }
-        ensures small { result ≤ 2 ^ 60 }
+        ensures small { result ≤ MAX_TEXT_LEN }
     {
         self.out
     }
@@ -137,14 +142,14 @@ impl Delta {
         ensures value { result.now ≡ runs self.now }
         ensures marks { marks_of result.now ≡ self.now }
         ensures are_runs { AreRuns result.now }
-        ensures small { (base_len self.now ≤ 2 ^ 60) × (out_len self.now ≤ 2 ^ 60) }
+        ensures small { (base_len self.now ≤ MAX_TEXT_LEN) × (out_len self.now ≤ MAX_TEXT_LEN) }
     {
         self.parts.as_slice()
     }
 
     /// A copy.
-    pub fn copy(&self) -> Result<Delta, AllocError>
-        ensures { IfOk result (λ d. d ≡ self.now) }
+    pub fn copy(&self) -> Result<Delta, Memory>
+        ensures ok { IfOk result (λ d. d ≡ self.now) }
     {
         let parts = copies(*self.parts.allocator(), self.parts.as_slice())?;
         Ok(Delta {
@@ -154,9 +159,18 @@ impl Delta {
         })
     }
 
+    /// Whether two deltas are the same.
+    #[tactic(auto, using(crate::proofs::Same::sameness))]
+    pub fn is_same(&self, other: &Delta) -> bool
+        ensures value { result ≡ same_delta self.now other.now }
+        ensures meaning { IsTrue result ↔ (self.now ≡ other.now) }
+    {
+        are_same_parts(self.parts(), other.parts())
+    }
+
     /// The number of bytes that `encode` gives.
     pub fn encoded_len(&self) -> u64
-        ensures { result ≡ length (delta_bytes self.now) }
+        ensures value { result ≡ length (delta_bytes self.now) }
     {
         parts_len(self.parts.as_slice())
     }
@@ -164,19 +178,19 @@ impl Delta {
     /// The bytes of the delta: for each part a byte for its kind (1 keeps, 2 inserts, 3 removes),
     /// eight bytes for its count, the high ones first, and for an insertion its text in UTF-8,
     /// whose bytes are counted.
-    pub fn encode(&self) -> Result<Vec<u8>, AllocError>
-        ensures { IfOk result (λ v. v.items ≡ delta_bytes self.now) }
+    pub fn encode(&self) -> Result<Vec<u8>, Memory>
+        ensures ok { IfOk result (λ v. v.items ≡ delta_bytes self.now) }
     {
         parts_encoded(*self.parts.allocator(), self.parts.as_slice())
     }
 
     /// Appends a part.
     #[tactic(auto, using(crate::proofs::Lengths::lengths))]
-    pub fn push(&mut self, piece: &Piece<'_>) -> Result<(), AllocError>
-        requires base { base_len self.old + base_len (part_marks (owned piece.now)) ≤ 2 ^ 60 }
-        requires out { out_len self.old + out_len (part_marks (owned piece.now)) ≤ 2 ^ 60 }
+    pub fn push(&mut self, piece: &Piece<'_>) -> Result<(), Memory>
+        requires base { base_len self.old + base_len (part_marks (owned piece.now)) ≤ MAX_TEXT_LEN }
+        requires out { out_len self.old + out_len (part_marks (owned piece.now)) ≤ MAX_TEXT_LEN }
         ensures ok { OnOk result (self.new ≡ self.old ++ part_marks (owned piece.now)) }
-        ensures err { OnErr result (self.new ≡ self.old) }
+        ensures memory { OnErr result (self.new ≡ self.old) }
     {
         match piece {
             Piece::Keep(count) => self.push_keep(*count),
@@ -186,11 +200,11 @@ impl Delta {
     }
 
     /// Keeps so many more characters behind what is there.
-    pub fn push_keep(&mut self, count: u64) -> Result<(), AllocError>
-        requires base { base_len self.old + count ≤ 2 ^ 60 }
-        requires out { out_len self.old + count ≤ 2 ^ 60 }
+    pub fn push_keep(&mut self, count: u64) -> Result<(), Memory>
+        requires base { base_len self.old + count ≤ MAX_TEXT_LEN }
+        requires out { out_len self.old + count ≤ MAX_TEXT_LEN }
         ensures ok { OnOk result (self.new ≡ self.old ++ retains count) }
-        ensures err { OnErr result (self.new ≡ self.old) }
+        ensures memory { OnErr result (self.new ≡ self.old) }
     {
         if count == 0 {
             return Ok(());
@@ -202,10 +216,10 @@ impl Delta {
     }
 
     /// Removes so many more characters behind what is there.
-    pub fn push_remove(&mut self, count: u64) -> Result<(), AllocError>
-        requires { base_len self.old + count ≤ 2 ^ 60 }
+    pub fn push_remove(&mut self, count: u64) -> Result<(), Memory>
+        requires { base_len self.old + count ≤ MAX_TEXT_LEN }
         ensures ok { OnOk result (self.new ≡ self.old ++ deletes count) }
-        ensures err { OnErr result (self.new ≡ self.old) }
+        ensures memory { OnErr result (self.new ≡ self.old) }
     {
         if count == 0 {
             return Ok(());
@@ -216,10 +230,10 @@ impl Delta {
     }
 
     /// Inserts a text behind what is there.
-    pub fn push_insert(&mut self, text: &TextSlice<'_>) -> Result<(), AllocError>
-        requires { out_len self.old + length text.now ≤ 2 ^ 60 }
+    pub fn push_insert(&mut self, text: &TextSlice<'_>) -> Result<(), Memory>
+        requires { out_len self.old + length text.now ≤ MAX_TEXT_LEN }
         ensures ok { OnOk result (self.new ≡ self.old ++ inserts text.now) }
-        ensures err { OnErr result (self.new ≡ self.old) }
+        ensures memory { OnErr result (self.new ≡ self.old) }
     {
         if text.is_empty() {
             return Ok(());

@@ -2,12 +2,14 @@
 
 ghost use Rattle.std.specs.Prelude.{◌≡◌, ◌<◌, ◌≤◌, ◌^◌, ◌∷◌, ◌++◌, length, IfOk, OnOk};
 ghost use Rattle.std.specs.Int.{w64, to_be_bytes};
+ghost use Rattle.sporc_delta.specs.declared.limits.TheConstants.{MAX_TEXT_LEN};
 ghost use Rattle.sporc_delta.specs.Marks.{out_len};
 ghost use Rattle.sporc_delta.specs.Parts.{marks_of};
 ghost use Rattle.sporc_delta.specs.Format.{part_bytes, parts_bytes};
 
 use crate::Part;
-use std::alloc::{AllocError, Global};
+use sporc_base::Memory;
+use std::alloc::Global;
 
 // The byte for each kind of part.
 pub(crate) const KEEP: u8 = 1;
@@ -19,7 +21,7 @@ pub(crate) const REMOVE: u8 = 3;
 // The number of bytes of a part.
 fn part_len(part: &Part) -> u64
     requires { length (part_bytes part.now) < 2 ^ 64 }
-    ensures { result ≡ length (part_bytes part.now) }
+    ensures value { result ≡ length (part_bytes part.now) }
 {
     match part {
         Part::Keep(_) | Part::Remove(_) => 9,
@@ -29,8 +31,8 @@ fn part_len(part: &Part) -> u64
 
 // The number of bytes of all parts.
 pub(crate) fn parts_len(parts: &[Part]) -> u64
-    requires { out_len (marks_of parts.now) ≤ 2 ^ 60 }
-    ensures { result ≡ length (parts_bytes parts.now) }
+    requires { out_len (marks_of parts.now) ≤ MAX_TEXT_LEN }
+    ensures value { result ≡ length (parts_bytes parts.now) }
 {
     let mut total = 0;
     for part in parts {
@@ -40,8 +42,8 @@ pub(crate) fn parts_len(parts: &[Part]) -> u64
 }
 
 // Writes the kind and the count of a part.
-fn put_head(bytes: &mut Vec<u8>, kind: u8, count: u64) -> Result<(), AllocError>
-    ensures { OnOk result (bytes.new.items ≡ bytes.old.items ++ kind ∷ to_be_bytes w64 count) }
+fn put_head(bytes: &mut Vec<u8>, kind: u8, count: u64) -> Result<(), Memory>
+    ensures ok { OnOk result (bytes.new.items ≡ bytes.old.items ++ kind ∷ to_be_bytes w64 count) }
 {
     bytes.push(kind)?;
     bytes.extend_from_slice(&count.to_be_bytes())?;
@@ -49,8 +51,8 @@ fn put_head(bytes: &mut Vec<u8>, kind: u8, count: u64) -> Result<(), AllocError>
 }
 
 // Writes a part.
-fn put_part(bytes: &mut Vec<u8>, part: &Part) -> Result<(), AllocError>
-    ensures { OnOk result (bytes.new.items ≡ bytes.old.items ++ part_bytes part.now) }
+fn put_part(bytes: &mut Vec<u8>, part: &Part) -> Result<(), Memory>
+    ensures ok { OnOk result (bytes.new.items ≡ bytes.old.items ++ part_bytes part.now) }
 {
     match part {
         Part::Keep(count) => put_head(bytes, KEEP, *count)?,
@@ -65,9 +67,9 @@ fn put_part(bytes: &mut Vec<u8>, part: &Part) -> Result<(), AllocError>
 }
 
 // The bytes of all parts.
-pub(crate) fn parts_encoded(alloc: Global, parts: &[Part]) -> Result<Vec<u8>, AllocError>
-    requires { out_len (marks_of parts.now) ≤ 2 ^ 60 }
-    ensures { IfOk result (λ v. v.items ≡ parts_bytes parts.now) }
+pub(crate) fn parts_encoded(alloc: Global, parts: &[Part]) -> Result<Vec<u8>, Memory>
+    requires { out_len (marks_of parts.now) ≤ MAX_TEXT_LEN }
+    ensures ok { IfOk result (λ v. v.items ≡ parts_bytes parts.now) }
 {
     let mut bytes = Vec::with_capacity(alloc, parts_len(parts) as usize)?;
     for part in parts {

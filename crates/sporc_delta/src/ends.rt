@@ -5,11 +5,11 @@ ghost use Rattle.sporc_delta.specs.Marks.{base_len, out_len, retains, deletes, i
 ghost use Rattle.sporc_delta.specs.Parts.{Appends, marks_of, kept_at_end, removed_at_end, text_at_end};
 
 use crate::{Part, Text, TextSlice};
-use std::alloc::AllocError;
+use sporc_base::Memory;
 
 // The number of characters that a last part keeps.
 fn kept_last(parts: &[Part]) -> u64
-    ensures { result ≡ kept_at_end parts.now }
+    ensures value { result ≡ kept_at_end parts.now }
 {
     match parts.last() {
         Some(Part::Keep(count)) => *count,
@@ -19,7 +19,7 @@ fn kept_last(parts: &[Part]) -> u64
 
 // The number of characters that a last part removes.
 fn removed_last(parts: &[Part]) -> u64
-    ensures { result ≡ removed_at_end parts.now }
+    ensures value { result ≡ removed_at_end parts.now }
 {
     match parts.last() {
         Some(Part::Remove(count)) => *count,
@@ -29,17 +29,17 @@ fn removed_last(parts: &[Part]) -> u64
 
 // Whether the last part inserts.
 fn inserts_last(parts: &[Part]) -> bool
-    ensures { result ≡ text_at_end parts.now }
+    ensures value { result ≡ text_at_end parts.now }
 {
     matches!(parts.last(), Some(Part::Insert(_)))
 }
 
 // Appends a part that keeps, joined with a last one that does too.
-pub(crate) fn append_keep(parts: &mut Vec<Part>, count: u64) -> Result<(), AllocError>
+pub(crate) fn append_keep(parts: &mut Vec<Part>, count: u64) -> Result<(), Memory>
     requires some { 0 < count }
     requires fits { out_len (marks_of parts.old.items) + count < 2 ^ 64 }
     ensures ok { OnOk result (Appends parts.old.items parts.new.items (retains count)) }
-    ensures err { OnErr result (parts.new.items ≡ parts.old.items) }
+    ensures memory { OnErr result (parts.new.items ≡ parts.old.items) }
 {
     let kept = kept_last(parts.as_slice());
     if kept == 0 {
@@ -52,11 +52,11 @@ pub(crate) fn append_keep(parts: &mut Vec<Part>, count: u64) -> Result<(), Alloc
 }
 
 // Appends a part that removes, joined with a last one that does too.
-pub(crate) fn append_remove(parts: &mut Vec<Part>, count: u64) -> Result<(), AllocError>
+pub(crate) fn append_remove(parts: &mut Vec<Part>, count: u64) -> Result<(), Memory>
     requires some { 0 < count }
     requires fits { base_len (marks_of parts.old.items) + count < 2 ^ 64 }
     ensures ok { OnOk result (Appends parts.old.items parts.new.items (deletes count)) }
-    ensures err { OnErr result (parts.new.items ≡ parts.old.items) }
+    ensures memory { OnErr result (parts.new.items ≡ parts.old.items) }
 {
     let removed = removed_last(parts.as_slice());
     if removed == 0 {
@@ -69,11 +69,11 @@ pub(crate) fn append_remove(parts: &mut Vec<Part>, count: u64) -> Result<(), All
 }
 
 // Appends a part that inserts, joined with a last one that does too.
-pub(crate) fn append_text(parts: &mut Vec<Part>, text: &TextSlice<'_>) -> Result<(), AllocError>
+pub(crate) fn append_text(parts: &mut Vec<Part>, text: &TextSlice<'_>) -> Result<(), Memory>
     requires some { 0 < length text.now }
     requires fits { out_len (marks_of parts.old.items) + length text.now < 2 ^ 64 }
     ensures ok { OnOk result (Appends parts.old.items parts.new.items (inserts text.now)) }
-    ensures err { OnErr result (parts.new.items ≡ parts.old.items) }
+    ensures memory { OnErr result (parts.new.items ≡ parts.old.items) }
 {
     if inserts_last(parts.as_slice()) {
         return grow_text(parts, text);
@@ -84,12 +84,12 @@ pub(crate) fn append_text(parts: &mut Vec<Part>, text: &TextSlice<'_>) -> Result
 }
 
 // Appends a text to that of the last part, which inserts.
-fn grow_text(parts: &mut Vec<Part>, text: &TextSlice<'_>) -> Result<(), AllocError>
+fn grow_text(parts: &mut Vec<Part>, text: &TextSlice<'_>) -> Result<(), Memory>
     requires inserts { text_at_end parts.old.items ≡ true }
     requires some { 0 < length text.now }
     requires fits { out_len (marks_of parts.old.items) + length text.now < 2 ^ 64 }
     ensures ok { OnOk result (Appends parts.old.items parts.new.items (inserts text.now)) }
-    ensures err { OnErr result (parts.new.items ≡ parts.old.items) }
+    ensures memory { OnErr result (parts.new.items ≡ parts.old.items) }
 {
     match parts.pop() {
         Some(Part::Insert(mut last)) => {

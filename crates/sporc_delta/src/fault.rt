@@ -1,5 +1,6 @@
 // What keeps bytes from being a delta.
 
+use sporc_bytes::Short;
 use std::alloc::{AllocError, AllocFailed};
 use thiserror::Error;
 
@@ -22,7 +23,7 @@ pub enum DeltaFault {
     /// The text is not UTF-8.
     #[error("not UTF-8")]
     NotUtf8,
-    /// Memory was wanting.
+    /// Memory ran out.
     #[error("want of memory")]
     Memory,
 }
@@ -46,5 +47,16 @@ impl<T: Drop> From<AllocFailed<T>> for DeltaFault {
 
     fn from(_: AllocFailed<T>) -> DeltaFault {
         DeltaFault::Memory
+    }
+}
+
+impl From<Short> for DeltaFault {
+    ghost use Rattle.std.specs.Prelude.{◌≡◌};
+    ghost use Rattle.sporc_delta.specs.declared.fault.DeltaFault.TheVariants as faults;
+
+    ghost from_gives = { λ _ e. e ≡ faults.Short };
+
+    fn from(_: Short) -> DeltaFault {
+        DeltaFault::Short
     }
 }

@@ -2,9 +2,11 @@
 
 ghost use Rattle.std.specs.Prelude.{◌≡◌, IfOk};
 ghost use Rattle.sporc_delta.specs.Parts.{kind_of, owned};
+ghost use Rattle.sporc_delta.specs.Same.{same_part, same_parts};
 
 use crate::{Text, TextSlice};
-use std::alloc::{AllocError, Global};
+use sporc_base::Memory;
+use std::alloc::Global;
 
 /// A part of a delta. Lengths are in characters.
 #[derive(Debug, Drop)]
@@ -37,9 +39,9 @@ pub enum Kind {
 }
 
 impl Part {
-    /// A copy of a part.
-    pub fn copy(&self, alloc: Global) -> Result<Part, AllocError>
-        ensures { IfOk result (λ p. p ≡ self.now) }
+    /// A copy.
+    pub fn copy(&self, alloc: Global) -> Result<Part, Memory>
+        ensures ok { IfOk result (λ copy. copy ≡ self.now) }
     {
         match self {
             Part::Keep(count) => Ok(Part::Keep(*count)),
@@ -47,12 +49,23 @@ impl Part {
             Part::Remove(count) => Ok(Part::Remove(*count)),
         }
     }
+
+    /// Whether two parts are the same.
+    pub fn is_same(&self, other: &Part) -> bool
+        ensures value { result ≡ same_part self.now other.now }
+    {
+        match (self, other) {
+            (Part::Keep(m), Part::Keep(n)) | (Part::Remove(m), Part::Remove(n)) => m == n,
+            (Part::Insert(s), Part::Insert(t)) => s.as_str() == t.as_str(),
+            _ => false,
+        }
+    }
 }
 
 impl Piece<'_> {
     /// The kind.
     pub fn kind(&self) -> Kind
-        ensures { result ≡ kind_of (owned self.now) }
+        ensures value { result ≡ kind_of (owned self.now) }
     {
         match self {
             Piece::Keep(_) => Kind::Keep,
@@ -62,13 +75,28 @@ impl Piece<'_> {
     }
 }
 
-/// Copies of parts.
-pub(crate) fn copies(alloc: Global, parts: &[Part]) -> Result<Vec<Part>, AllocError>
-    ensures { IfOk result (λ v. v.items ≡ parts.now) }
+// Copies of parts.
+pub(crate) fn copies(alloc: Global, parts: &[Part]) -> Result<Vec<Part>, Memory>
+    ensures ok { IfOk result (λ copies. copies.items ≡ parts.now) }
 {
     let mut copies = Vec::with_capacity(alloc, parts.len())?;
     for part in parts {
         copies.push(part.copy(alloc)?)?;
     }
     Ok(copies)
+}
+
+// Whether two lists of parts are the same.
+pub(crate) fn are_same_parts(a: &[Part], b: &[Part]) -> bool
+    ensures value { result ≡ same_parts a.now b.now }
+{
+    if a.len() != b.len() {
+        return false;
+    }
+    for (i, part) in a.iter().enumerate() {
+        if !part.is_same(&b[i]) {
+            return false;
+        }
+    }
+    true
 }

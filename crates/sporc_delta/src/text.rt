@@ -4,7 +4,8 @@ ghost use Rattle.std.specs.Prelude.{◌≡◌, ◌+◌, ◌≤◌, ◌<◌, ◌^
 ghost use Rattle.std.specs.Str.{chars, encode_utf8_all};
 ghost use Rattle.std.specs.String.{string_bytes};
 
-use std::alloc::{AllocError, Global};
+use sporc_base::Memory;
+use std::alloc::Global;
 use std::marker::Model;
 
 /// A text that counts its characters, seen as the list of them.
@@ -29,8 +30,8 @@ impl Model for Text {
 
 impl Text {
     /// A copy of a text.
-    pub fn new(alloc: Global, text: &TextSlice<'_>) -> Result<Text, AllocError>
-        ensures { IfOk result (λ t. t ≡ text.now) }
+    pub fn new(alloc: Global, text: &TextSlice<'_>) -> Result<Text, Memory>
+        ensures ok { IfOk result (λ t. t ≡ text.now) }
     {
         let string = String::from_str(alloc, text.text)?;
         Ok(Text {
@@ -41,29 +42,37 @@ impl Text {
 
     /// The text of a string, which is moved.
     pub fn from_string(string: String) -> Text
-        ensures { result ≡ chars (string_bytes string) }
+        ensures value { result ≡ chars (string_bytes string) }
     {
         let len = string.as_str().chars().count() as u64;
         Text { string, len }
     }
 
+    /// The string of the text, which takes no memory.
+    pub fn into_string(self) -> String
+        ensures characters { chars (string_bytes result) ≡ self }
+        ensures bytes { string_bytes result ≡ encode_utf8_all self }
+    {
+        self.string
+    }
+
     /// The number of characters.
     pub fn len(&self) -> u64
-        ensures { result ≡ length self.now }
+        ensures value { result ≡ length self.now }
     {
         self.len
     }
 
     /// Whether there are no characters.
     pub fn is_empty(&self) -> bool
-        ensures { IsTrue result ↔ (length self.now ≡ 0) }
+        ensures meaning { IsTrue result ↔ (length self.now ≡ 0) }
     {
         self.len == 0
     }
 
     /// The whole text.
     pub fn as_slice(&self) -> TextSlice<'_>
-        ensures { result ≡ self.now }
+        ensures value { result ≡ self.now }
     {
         TextSlice {
             text: self.string.as_str(),
@@ -80,10 +89,10 @@ impl Text {
     }
 
     /// Appends a text.
-    pub fn push(&mut self, more: &TextSlice<'_>) -> Result<(), AllocError>
+    pub fn push(&mut self, more: &TextSlice<'_>) -> Result<(), Memory>
         requires { length self.old + length more.now < 2 ^ 64 }
         ensures ok { OnOk result (self.new ≡ self.old ++ more.now) }
-        ensures err { OnErr result (self.new ≡ self.old) }
+        ensures memory { OnErr result (self.new ≡ self.old) }
     {
         self.string.push_str(more.text)?;
         self.len += more.len;
@@ -122,14 +131,14 @@ impl<'a> TextSlice<'a> {
 
     /// The number of characters.
     pub fn len(&self) -> u64
-        ensures { result ≡ length self.now }
+        ensures value { result ≡ length self.now }
     {
         self.len
     }
 
     /// Whether there are no characters.
     pub fn is_empty(&self) -> bool
-        ensures { IsTrue result ↔ (length self.now ≡ 0) }
+        ensures meaning { IsTrue result ↔ (length self.now ≡ 0) }
     {
         self.len == 0
     }
@@ -165,7 +174,7 @@ impl<'a> TextSlice<'a> {
 // The place of the byte where a character begins, or the text ends.
 fn place_of(text: &str, at: u64) -> usize
     requires { at ≤ length (chars text.now) }
-    ensures { result ≡ length (encode_utf8_all (take at (chars text.now))) }
+    ensures value { result ≡ length (encode_utf8_all (take at (chars text.now))) }
 {
     let mut rest = text.chars();
     for _ in 0..at {

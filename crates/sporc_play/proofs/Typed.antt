@@ -16,7 +16,7 @@ use Rattle.sporc_delta.specs.Format.{delta_bytes, part_bytes, parts_bytes}
 use Rattle.sporc_delta.specs.Marks.{Mark, Retain, Delete, Insert, base_len, deletes, insertion, inserts, removal, retains}
 use Rattle.sporc_delta.specs.Parts.{marks_of, part_marks, runs}
 use Rattle.sporc_delta.proofs.Lengths.{base_len-append, base_len-retains, base_len-deletes}
-use Rattle.sporc_text.proofs.EditLemmas.{marks_of-runs}
+use Rattle.sporc_delta.proofs.Runs.{marks_of-runs}
 use Rattle.sporc_base.specs.FirstFault.{first_of}
 use Rattle.sporc_client.specs.declared.limits.TheConstants.{MAX_EDIT_BYTES, MAX_ENTRIES}
 use Rattle.sporc_client.specs.declared.entry.PlainEntry.{PlainEntry}
@@ -56,74 +56,7 @@ all_at P [] i x all is = absurd cc
 all_at P (y ∷ ys) zero x all is = let same : y ≡ x = cc in subst P same all.0
 all_at P (y ∷ ys) (suc i) x all is = all_at P ys i x all.1 is
 
-scalars_append : (xs ys : List ℕ) → all_scalars (xs ++ ys) ≡ (all_scalars xs && all_scalars ys)
-scalars_append [] ys = refl
-scalars_append (x ∷ xs) ys = grind (arith, scalars_append xs ys)
-
-both : (a b : Bool) → (a && b) ≡ true → (a ≡ true) × (b ≡ true)
-both true b h = (refl, h)
-both false b h = absurd cc
-
 -- ---- deltas
-
--- the characters that marks insert
-abbrev inserted : List Mark → List ℕ
-inserted [] = []
-inserted (Retain ∷ ms) = inserted ms
-inserted (Delete ∷ ms) = inserted ms
-inserted (Insert c ∷ ms) = c ∷ inserted ms
-
-inserted-append : (ms ns : List Mark) → inserted (ms ++ ns) ≡ inserted ms ++ inserted ns
-inserted-append [] ns = refl
-inserted-append (Retain ∷ ms) ns = inserted-append ms ns
-inserted-append (Delete ∷ ms) ns = inserted-append ms ns
-inserted-append (Insert c ∷ ms) ns = ap (λ (t : List ℕ). c ∷ t) (inserted-append ms ns)
-
-inserted-retains : (n : ℕ) → inserted (retains n) ≡ []
-inserted-retains zero = refl
-inserted-retains (suc n) = inserted-retains n
-
-inserted-deletes : (n : ℕ) → inserted (deletes n) ≡ []
-inserted-deletes zero = refl
-inserted-deletes (suc n) = inserted-deletes n
-
-inserted-inserts : (text : List ℕ) → inserted (inserts text) ≡ text
-inserted-inserts [] = refl
-inserted-inserts (c ∷ text) = ap (λ (t : List ℕ). c ∷ t) (inserted-inserts text)
-
--- a delta of a short text, with few bytes and characters that are Unicode scalar values
-record Fits (ms : List Mark) (bytes : List ℕ) : Type 0 where
-  base : base_len ms < 2 ^ 64
-  size : length bytes < 2 ^ 64
-  scalars : all_scalars (inserted ms) ≡ true
-
-typed_part : (p : Part) → Fits (part_marks p) (part_bytes p) → IsTypedPart p
-typed_part (Keep n) fits = omega (arith, fits.base, base_len-retains n)
-typed_part (Remove n) fits = omega (arith, fits.base, base_len-deletes n)
-typed_part (InsertText text) fits = (
-  omega (arith, fits.size, length-append (to_be_bytes w64 (length (encode_utf8_all text))) (encode_utf8_all text)),
-  ap all_scalars (sym (inserted-inserts text)) ∙ fits.scalars,
-)
-
-typed_parts : (ps : List Part) → Fits (marks_of ps) (parts_bytes ps) → AllByRecursion IsTypedPart ps
-typed_parts [] fits = tt
-typed_parts (p ∷ ps) fits =
-    let scalars = both (all_scalars (inserted (part_marks p))) (all_scalars (inserted (marks_of ps)))
-    (sym (scalars_append (inserted (part_marks p)) (inserted (marks_of ps))) ∙ ap all_scalars (sym (inserted-append (part_marks p) (marks_of ps))) ∙ fits.scalars) in (
-      typed_part p (record {
-        base = omega (arith, fits.base, base_len-append (part_marks p) (marks_of ps));
-        size = omega (arith, fits.size, length-append (part_bytes p) (parts_bytes ps));
-        scalars = scalars.0;
-      }),
-      typed_parts ps (record {
-        base = omega (arith, fits.base, base_len-append (part_marks p) (marks_of ps));
-        size = omega (arith, fits.size, length-append (part_bytes p) (parts_bytes ps));
-        scalars = scalars.1;
-      }),
-    )
-
-typed_delta : (ms : List Mark) → Fits ms (delta_bytes ms) → IsTypedDelta ms
-typed_delta ms fits = typed_parts (runs ms) (subst (λ (ns : List Mark). Fits ns (delta_bytes ms)) (sym (marks_of-runs ms)) fits)
 
 scalars_of_change : (change : Change) (len : ℕ) (d : List Mark) → ChangeInRange change → change_marks change len ≡ Some d → all_scalars (inserted d) ≡ true
 scalars_of_change (changes.Insert c) len d range is =
@@ -192,7 +125,7 @@ typed_entry : (c : PlainState) (d : List Mark) (ds : List (List Mark)) → IsTyp
 typed_entry c d ds typed is =
     let all : AllByRecursion IsTypedDelta (d ∷ ds) = subst (AllByRecursion IsTypedDelta) is typed.pending in
     let edits : list_all is_small (d ∷ ds) ≡ true = ap (list_all is_small) (sym is) ∙ typed.sound.edits in
-    let small : is_small d ≡ true = (both (is_small d) (list_all is_small ds) edits).0 in (
+    let small : is_small d ≡ true = (and_parts (is_small d) (list_all is_small ds) edits).0 in (
       record {
         author = typed.me;
         number = omega (arith, count_by-le-length (λ (e : PlainEntry). e.author == c.me) c.entries, typed.sound.entries);

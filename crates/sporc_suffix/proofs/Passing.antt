@@ -1,6 +1,7 @@
 -- A delta that passes forms one after the other.
-use Rattle.std.proofs.Common.{◌≡◌, ℕ, zero, suc, ◌+◌, ◌^◌, ◌≤◌, ◌<◌, List, [], ◌∷◌, ◌++◌, length, take, drop, get_or, refl, ap, sym, subst, ◌∙◌, arith, add-one}
+use Rattle.std.proofs.Common.{◌≡◌, ℕ, zero, suc, ◌+◌, ◌≤◌, ◌<◌, List, [], ◌∷◌, ◌++◌, length, take, drop, get_or, refl, ap, sym, subst, ◌∙◌, arith, add-one}
 use Rattle.std.proofs.Math.Seq.{drop-cons}
+use Rattle.sporc_delta.specs.declared.limits.TheConstants.{MAX_TEXT_LEN}
 use Rattle.sporc_delta.specs.Marks.{Mark, base_len, out_len, inserted_len}
 use Rattle.sporc_delta.specs.Transforms.{later}
 use Rattle.sporc_xform.proofs.LengthLemmas.{base_len-later, inserted_len-later, out_len-le}
@@ -9,12 +10,12 @@ use Rattle.sporc_suffix.specs.Forms.{reached, Follow, all_inserted}
 -- a delta and the forms that it is yet to pass
 pub record Fits (q : List Mark) (forms : List (List Mark)) : Type 0 where
   pub follow : Follow (base_len q) forms
-  pub limit : base_len q + inserted_len q + all_inserted forms ≤ 2 ^ 60
+  pub limit : base_len q + inserted_len q + all_inserted forms ≤ MAX_TEXT_LEN
 
 -- it fits the next form, and then those after it
 pub record Passes (q f : List Mark) (rest : List (List Mark)) : Type 0 where
   pub base : base_len q ≡ base_len f
-  pub limit : base_len f + inserted_len f + inserted_len q ≤ 2 ^ 60
+  pub limit : base_len f + inserted_len f + inserted_len q ≤ MAX_TEXT_LEN
   pub fits : Fits (later q f) rest
 
 pub passes : (q f : List Mark) (rest : List (List Mark)) → Fits q (f ∷ rest) → Passes q f rest
@@ -36,10 +37,6 @@ pub form_at : (forms : List (List Mark)) (i : ℕ) (f : List Mark) → i < lengt
 form_at forms i f within is = rw add-one (drop-cons forms i f within ∙ ap (λ g. g ∷ drop (suc i) forms) (sym is))
 
 -- ---- the forms of a list, from a place on
-
-pub reached-append : (base : ℕ) (fs gs : List (List Mark)) → reached base (fs ++ gs) ≡ reached (reached base fs) gs
-reached-append base [] gs = refl
-reached-append base (f ∷ fs) gs = reached-append (out_len f) fs gs
 
 pub Follow-append : (base : ℕ) (fs : List (List Mark)) (f : List Mark) → Follow base fs → base_len f ≡ reached base fs → Follow base (fs ++ f ∷ [])
 Follow-append base [] f h is = (is, tt)

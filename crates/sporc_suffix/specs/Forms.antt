@@ -3,8 +3,8 @@ use Rattle.std.specs.Prelude.{◌≡◌, ℕ, ◌+◌, ◌^◌, ◌<◌, List, [
 use Rattle.sporc_delta.specs.Marks.{Mark, base_len, out_len, inserted_len}
 use Rattle.sporc_delta.specs.Transforms.{later}
 
--- a list of forms over a text of so many characters, with room for so many more that takes no memory
-pub record Forms : Type 0 where
+-- forms over a text of so many characters, with room for so many more that takes no memory
+pub record BlocksModel : Type 0 where
   pub base : ℕ
   pub forms : List (List Mark)
   pub spare : ℕ
@@ -29,8 +29,7 @@ abbrev pub later_over : List Mark → List (List Mark) → List Mark
 later_over q [] = q
 later_over q (f ∷ fs) = later_over (later q f) fs
 
--- what blocks keep of their forms
-pub record IsKept (base end : ℕ) (forms : List (List Mark)) : Type 0 where
+-- what holds of blocks at every moment
+pub record BlocksInvariant (base : ℕ) (forms : List (List Mark)) : Type 0 where
   pub follow : Follow base forms
-  pub end_is : end ≡ reached base forms
   pub few : length forms < 2 ^ 32

@@ -1,13 +1,15 @@
 // Forms in their order.
 
 ghost use Rattle.std.specs.Prelude.{◌≡◌, ◌+◌, ◌-◌, ◌≤◌, ◌<◌, ◌^◌, ◌∷◌, ◌++◌, ◌==◌, [], drop, take, length, slice_get, Some, IfOk, IfErr, OnOk, OnErr};
+ghost use Rattle.sporc_delta.specs.declared.limits.TheConstants.{MAX_TEXT_LEN};
 ghost use Rattle.sporc_delta.specs.Marks.{base_len, inserted_len};
 ghost use Rattle.sporc_suffix.specs.Forms.{Follow, all_inserted, later_over, reached};
 
 use crate::Steps;
+use sporc_base::Memory;
 use sporc_delta::Delta;
 use sporc_xform::later;
-use std::alloc::{AllocError, Global};
+use std::alloc::Global;
 use std::marker::Model;
 use std::sync::ledger::Ledger;
 
@@ -17,19 +19,18 @@ use std::sync::ledger::Ledger;
 pub struct Blocks {
     forms: Vec<Delta>,
     base: u64,
-    end: u64,
 }
 
 impl Model for Blocks {
     ghost use Rattle.std.specs.Prelude.{◌-◌};
     ghost use Rattle.std.specs.Vec.{vec_capacity, vec_len};
-    ghost use Rattle.sporc_suffix.specs.Forms.{Forms, IsKept};
+    ghost use Rattle.sporc_suffix.specs.Forms.{BlocksInvariant, BlocksModel};
 
-    ghost Value = { Forms };
+    ghost Value = { BlocksModel };
 
     ghost view = { λ b. record { base = b.base; forms = b.forms.items; spare = vec_capacity b.forms - vec_len b.forms } };
 
-    ghost invariant = { λ b. IsKept b.base b.end b.forms.items };
+    ghost invariant = { λ b. BlocksInvariant b.base b.forms.items };
 }
 
 /// A form for which the memory to put it is there, seen as its marks.
@@ -58,27 +59,26 @@ impl ReadyForm {
 
 impl Blocks {
     /// No forms, over a text of `base` characters.
-    pub fn new(alloc: Global, base: u64) -> Result<Blocks, AllocError>
+    pub fn new(alloc: Global, base: u64) -> Result<Blocks, Memory>
         ensures base { IfOk result (λ b. b.base ≡ base) }
         ensures forms { IfOk result (λ b. b.forms ≡ []) }
     {
         Ok(Blocks {
             forms: Vec::new(alloc),
             base,
-            end: base,
         })
     }
 
     /// The number of forms.
     pub fn len(&self) -> u32
-        ensures { result ≡ length self.now.forms }
+        ensures value { result ≡ length self.now.forms }
     {
         self.forms.len() as u32
     }
 
     /// Whether there are no forms.
     pub fn is_empty(&self) -> bool
-        ensures { result ≡ (length self.now.forms == 0) }
+        ensures value { result ≡ (length self.now.forms == 0) }
     {
         self.forms.is_empty()
     }
@@ -92,14 +92,14 @@ impl Blocks {
     }
 
     /// Takes the memory of one more form, which is handed back where there is none.
-    pub fn ready(&mut self, form: Delta) -> Result<ReadyForm, (Delta, AllocError)>
+    pub fn ready(&mut self, form: Delta) -> Result<ReadyForm, (Delta, Memory)>
         requires base { base_len form ≡ reached self.old.base self.old.forms }
         requires few { length self.old.forms < 2 ^ 32 - 1 }
         ensures ok { IfOk result (λ ready. ready ≡ form) }
         ensures spare { OnOk result (0 < self.new.spare) }
-        ensures handed_back { IfErr result (λ e. e.0 ≡ form) }
-        ensures same_base { self.new.base ≡ self.old.base }
-        ensures same_forms { self.new.forms ≡ self.old.forms }
+        ensures returned { IfErr result (λ e. e.0 ≡ form) }
+        ensures unchanged_base { self.new.base ≡ self.old.base }
+        ensures unchanged_forms { self.new.forms ≡ self.old.forms }
     {
         match self.forms.reserve(1) {
             Ok(()) => Ok(ReadyForm { form }),
@@ -116,18 +116,17 @@ impl Blocks {
         ensures forms { self.new.forms ≡ self.old.forms ++ ready ∷ [] }
     {
         let ReadyForm { form } = ready;
-        self.end = form.out_len();
         self.forms.push(form).unwrap();
     }
 
     /// Appends a form, which is handed back where there is no memory.
-    pub fn push(&mut self, form: Delta) -> Result<(), (Delta, AllocError)>
+    pub fn push(&mut self, form: Delta) -> Result<(), (Delta, Memory)>
         requires base { base_len form ≡ reached self.old.base self.old.forms }
         requires few { length self.old.forms < 2 ^ 32 - 1 }
         ensures ok { OnOk result (self.new.forms ≡ self.old.forms ++ form ∷ []) }
-        ensures err { OnErr result (self.new.forms ≡ self.old.forms) }
-        ensures handed_back { IfErr result (λ e. e.0 ≡ form) }
-        ensures same_base { self.new.base ≡ self.old.base }
+        ensures memory { OnErr result (self.new.forms ≡ self.old.forms) }
+        ensures returned { IfErr result (λ e. e.0 ≡ form) }
+        ensures unchanged { self.new.base ≡ self.old.base }
     {
         match self.ready(form) {
             Ok(ready) => {
@@ -145,11 +144,11 @@ impl Blocks {
         q: &Delta,
         from: u32,
         steps: &mut Steps<L>,
-    ) -> Result<Delta, AllocError>
+    ) -> Result<Delta, Memory>
         requires within { from ≤ length self.now.forms }
         requires base { base_len q.now ≡ reached self.now.base (take from self.now.forms) }
-        requires limit { base_len q.now + inserted_len q.now + all_inserted (drop from self.now.forms) ≤ 2 ^ 60 }
-        ensures value { IfOk result (λ d. d ≡ later_over q.now (drop from self.now.forms)) }
+        requires limit { base_len q.now + inserted_len q.now + all_inserted (drop from self.now.forms) ≤ MAX_TEXT_LEN }
+        ensures ok { IfOk result (λ d. d ≡ later_over q.now (drop from self.now.forms)) }
         ensures cost { OnOk result (steps.new ≡ steps.old + (length self.now.forms - from)) }
     {
         let alloc = *self.forms.allocator();
@@ -163,10 +162,10 @@ fn over_all<L: Ledger>(
     q: &Delta,
     forms: &[Delta],
     steps: &mut Steps<L>,
-) -> Result<Delta, AllocError>
+) -> Result<Delta, Memory>
     requires follow { Follow (base_len q.now) forms.now }
-    requires limit { base_len q.now + inserted_len q.now + all_inserted forms.now ≤ 2 ^ 60 }
-    ensures value { IfOk result (λ d. d ≡ later_over q.now forms.now) }
+    requires limit { base_len q.now + inserted_len q.now + all_inserted forms.now ≤ MAX_TEXT_LEN }
+    ensures ok { IfOk result (λ d. d ≡ later_over q.now forms.now) }
     ensures cost { OnOk result (steps.new ≡ steps.old + length forms.now) }
 {
     let mut passed = q.copy()?;

@@ -28,7 +28,7 @@ impl<L: Ledger> Steps<L> {
         requires name { blank.name ≡ L.name }
         requires parts { blank.parts ≡ L.parts }
         requires some { 0 < blank.parts }
-        ensures { result ≡ 0 }
+        ensures value { result ≡ 0 }
     {
         let (book, share) = blank.open();
         Steps { book, share }
@@ -36,7 +36,7 @@ impl<L: Ledger> Steps<L> {
 
     /// Counts a step.
     pub fn tick(&mut self)
-        ensures { self.new ≡ self.old + 1 }
+        ensures value { self.new ≡ self.old + 1 }
     {
         self.book.add(&mut self.share, 1);
     }

@@ -2,14 +2,15 @@ ghost use Rattle.std.specs.Prelude.{◌≡◌, ◌≤◌, ◌<◌, ◌∷◌, []
 ghost use Rattle.sporc_delta.specs.Marks.{base_len, inserted_len, out_len};
 
 use crate::{Blocks, Steps};
+use sporc_base::Memory;
 use sporc_delta::{Delta, Part};
-use std::alloc::{AllocError, Global};
+use std::alloc::Global;
 use std::marker::Brand;
 use std::sync::ledger::{Blank, Ledger};
 use std::test::Fail;
 
 // Two forms, the second of which is stated on the text after the first.
-fn two_forms(alloc: Global, first: Delta, second: Delta) -> Result<Blocks, AllocError>
+fn two_forms(alloc: Global, first: Delta, second: Delta) -> Result<Blocks, Memory>
     requires { base_len second ≡ out_len first }
     ensures base { IfOk result (λ b. b.base ≡ base_len first) }
     ensures forms { IfOk result (λ b. b.forms ≡ first ∷ second ∷ []) }
@@ -46,7 +47,7 @@ fn behind<L: Ledger>(
     second: Delta,
     q: &Delta,
     late: &Delta,
-) -> Result<(u32, Delta, Delta), AllocError>
+) -> Result<(u32, Delta, Delta), Memory>
     requires name { blank.name ≡ L.name }
     requires parts { blank.parts ≡ L.parts }
     requires some { 0 < blank.parts }
@@ -74,7 +75,7 @@ fn restated(
     second: Delta,
     q: &Delta,
     late: &Delta,
-) -> Result<Option<(u32, Delta, Delta)>, AllocError> {
+) -> Result<Option<(u32, Delta, Delta)>, Memory> {
     if q.base_len() != first.base_len() || second.base_len() != first.out_len() {
         return Ok(None);
     }

@@ -3,29 +3,11 @@ use Rattle.std.proofs.Common.{◌≡◌, ℕ, zero, suc, ◌+◌, ◌<◌, ◌�
 use Rattle.std.proofs.lemmas.List.{drop-drop}
 use Rattle.sporc_delta.specs.declared.part.Part.{Part}
 use Rattle.sporc_delta.specs.declared.part.Part.TheVariants.{Keep, Insert as InsertText, Remove}
-use Rattle.sporc_delta.specs.Marks.{Mark, Retain, Delete, Insert, base_len, apply, retains, deletes, inserts}
-use Rattle.sporc_delta.specs.Parts.{part_marks, marks_of, with_mark, runs}
+use Rattle.sporc_delta.specs.Marks.{Mark, base_len, apply, retains, deletes, inserts}
+use Rattle.sporc_delta.specs.Parts.{part_marks, marks_of, runs}
+use Rattle.sporc_delta.proofs.Runs.{marks_of-runs}
 use Rattle.sporc_delta.proofs.Lengths.{base_len-append, base_len-retains, base_len-deletes, base_len-inserts}
 use Rattle.sporc_text.specs.Edit.{characters_read, characters_written}
-
--- a delta's runs have its marks
-marks_of-with_mark : (m : Mark) (ps : List Part) → marks_of (with_mark m ps) ≡ m ∷ marks_of ps
-marks_of-with_mark Retain [] = refl
-marks_of-with_mark Retain (Keep n ∷ ps) = refl
-marks_of-with_mark Retain (InsertText t ∷ ps) = refl
-marks_of-with_mark Retain (Remove n ∷ ps) = refl
-marks_of-with_mark Delete [] = refl
-marks_of-with_mark Delete (Keep n ∷ ps) = refl
-marks_of-with_mark Delete (InsertText t ∷ ps) = refl
-marks_of-with_mark Delete (Remove n ∷ ps) = refl
-marks_of-with_mark (Insert c) [] = refl
-marks_of-with_mark (Insert c) (Keep n ∷ ps) = refl
-marks_of-with_mark (Insert c) (InsertText t ∷ ps) = refl
-marks_of-with_mark (Insert c) (Remove n ∷ ps) = refl
-
-pub marks_of-runs : (ms : List Mark) → marks_of (runs ms) ≡ ms
-marks_of-runs [] = refl
-marks_of-runs (m ∷ ms) = marks_of-with_mark m (runs ms) ∙ ap (λ l. m ∷ l) (marks_of-runs ms)
 
 -- a part in front reads so many characters more
 base_len-part : (p : Part) (ms : List Mark) → base_len (part_marks p ++ ms) ≡ characters_read p + base_len ms

@@ -7,11 +7,9 @@ ghost use Rattle.sporc_delta.specs.Marks.{base_len, apply};
 
 use crate::edit::edited;
 use sporc_delta::Delta;
-use std::alloc::{AllocError, Global};
+use sporc_base::Memory;
+use std::alloc::Global;
 use std::marker::Model;
-
-/// Memory was wanting.
-pub type Memory = AllocError;
 
 /// The text of a document, seen as the list of its characters (Unicode scalar values).
 #[derive(Debug, Drop)]
@@ -44,7 +42,7 @@ impl Model for ReadyText {
 impl Doc {
     /// The empty text.
     pub fn new(alloc: Global) -> Doc
-        ensures { result ≡ [] }
+        ensures value { result ≡ [] }
     {
         Doc {
             characters: Vec::new(alloc),
@@ -53,21 +51,21 @@ impl Doc {
 
     /// The number of characters.
     pub fn len(&self) -> u64
-        ensures { result ≡ length self.now }
+        ensures value { result ≡ length self.now }
     {
         self.characters.len() as u64
     }
 
     /// Whether there are no characters.
     pub fn is_empty(&self) -> bool
-        ensures { IsTrue result ↔ (self.now ≡ []) }
+        ensures meaning { IsTrue result ↔ (self.now ≡ []) }
     {
         self.characters.is_empty()
     }
 
     /// The text as UTF-8.
     pub fn text(&self) -> Result<String, Memory>
-        ensures { IfOk result (λ t. string_bytes t ≡ encode_utf8_all self.now) }
+        ensures ok { IfOk result (λ t. string_bytes t ≡ encode_utf8_all self.now) }
     {
         let alloc = *self.characters.allocator();
         self.characters.iter().copied().collect(alloc)
@@ -89,7 +87,7 @@ impl Doc {
 
     /// Makes the text that was made ready.
     pub fn put(&mut self, ready: ReadyText)
-        ensures { self.new ≡ ready }
+        ensures value { self.new ≡ ready }
     {
         self.characters = ready.characters;
     }
@@ -98,7 +96,7 @@ impl Doc {
     pub fn apply(&mut self, delta: &Delta) -> Result<(), Memory>
         requires { base_len delta.now ≡ length self.old }
         ensures ok { OnOk result (self.new ≡ apply delta.now self.old) }
-        ensures err { OnErr result (self.new ≡ self.old) }
+        ensures memory { OnErr result (self.new ≡ self.old) }
     {
         let ready = self.ready(delta)?;
         self.put(ready);

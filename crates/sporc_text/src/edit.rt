@@ -5,12 +5,13 @@ ghost use Rattle.sporc_delta.specs.Marks.{base_len, apply};
 ghost use Rattle.sporc_text.specs.Edit.{characters_read, characters_written};
 
 use sporc_delta::{Delta, Part, Text};
-use std::alloc::{AllocError, Global};
+use sporc_base::Memory;
+use std::alloc::Global;
 
 // The characters after a delta.
-pub fn edited(alloc: Global, text: &[char], delta: &Delta) -> Result<Vec<char>, AllocError>
+pub fn edited(alloc: Global, text: &[char], delta: &Delta) -> Result<Vec<char>, Memory>
     requires { base_len delta.now ≡ length text.now }
-    ensures { IfOk result (λ v. v.items ≡ apply delta.now text.now) }
+    ensures ok { IfOk result (λ v. v.items ≡ apply delta.now text.now) }
 {
     let mut out = Vec::with_capacity(alloc, delta.out_len() as usize)?;
     let mut at = 0;
@@ -26,7 +27,7 @@ fn edit_part(
     text: &[char],
     at: usize,
     part: &Part,
-) -> Result<usize, AllocError>
+) -> Result<usize, Memory>
     requires { at + characters_read part.now ≤ length text.now }
     ensures next { IfOk result (λ n. n ≡ at + characters_read part.now) }
     ensures written { OnOk result (out.new.items ≡ out.old.items ++ characters_written part.now (drop at text.now)) }
@@ -46,8 +47,8 @@ fn edit_part(
 }
 
 // Appends the characters of a text.
-fn push_text(out: &mut Vec<char>, text: &Text) -> Result<(), AllocError>
-    ensures { OnOk result (out.new.items ≡ out.old.items ++ text.now) }
+fn push_text(out: &mut Vec<char>, text: &Text) -> Result<(), Memory>
+    ensures ok { OnOk result (out.new.items ≡ out.old.items ++ text.now) }
 {
     for c in text.as_str().chars() {
         out.push(c)?;

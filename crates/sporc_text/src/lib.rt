@@ -4,4 +4,5 @@
 mod doc;
 mod edit;
 
-pub use doc::{Doc, Memory, ReadyText};
+pub use doc::{Doc, ReadyText};
+pub use sporc_base::Memory;

@@ -3,6 +3,7 @@ use Rattle.std.proofs.Common.{◌≡◌, ℕ, zero, suc, ◌+◌, ◌^◌, ◌<�
 use Rattle.std.specs.Prelude.{replicate}
 use Rattle.std.proofs.lemmas.List.{append-nil, take_all, take-append-drop, map-append, length-take, length-append, length-map, length-replicate}
 use Rattle.std.proofs.lemmas.Bool.{eqb-true, eqb-false}
+use Rattle.sporc_delta.specs.declared.limits.TheConstants.{MAX_TEXT_LEN}
 use Rattle.sporc_delta.specs.declared.part.Part.{Part}
 use Rattle.sporc_delta.specs.declared.part.Part.TheVariants.{Keep, Insert as InsertText, Remove}
 use Rattle.sporc_delta.specs.Marks.{Mark, Retain, Delete, Insert, base_len, out_len, retains, deletes, inserts}
@@ -195,16 +196,16 @@ no_chunk ps qs row hq hp none = go (eqb (first_len ps) 0) refl
 -- the delta so far, with the marks that are left, is the whole
 pub record Composed (delta left whole : List Mark) : Type 0 where
   pub so_far : delta ++ left ≡ whole
-  pub base_limit : base_len whole ≤ 2 ^ 60
-  pub out_limit : out_len whole ≤ 2 ^ 60
+  pub base_limit : base_len whole ≤ MAX_TEXT_LEN
+  pub out_limit : out_len whole ≤ MAX_TEXT_LEN
 
-pub Composed-start : (delta p q first second : List Mark) → delta ≡ [] → first ≡ p → second ≡ q → out_len p ≡ base_len q → base_len p ≤ 2 ^ 60 → out_len q ≤ 2 ^ 60 → Composed delta (compose first second) (compose p q)
+pub Composed-start : (delta p q first second : List Mark) → delta ≡ [] → first ≡ p → second ≡ q → out_len p ≡ base_len q → base_len p ≤ MAX_TEXT_LEN → out_len q ≤ MAX_TEXT_LEN → Composed delta (compose first second) (compose p q)
 Composed-start delta p q first second none f s between base out =
     let lens = composes p q between in
     rw (none, f, s) record { so_far = refl; base_limit = omega (arith, lens.base); out_limit = omega (arith, lens.out) }
 
 -- there is room for the next chunk
-pub Composed-room : (delta left chunk after whole : List Mark) → left ≡ chunk ++ after → Composed delta left whole → (base_len delta + base_len chunk ≤ 2 ^ 60) × (out_len delta + out_len chunk ≤ 2 ^ 60)
+pub Composed-room : (delta left chunk after whole : List Mark) → left ≡ chunk ++ after → Composed delta left whole → (base_len delta + base_len chunk ≤ MAX_TEXT_LEN) × (out_len delta + out_len chunk ≤ MAX_TEXT_LEN)
 Composed-room delta left chunk after whole is c =
     let all : delta ++ (chunk ++ after) ≡ whole = ap (λ ms. delta ++ ms) (sym is) ∙ c.so_far in
     (omega (arith, c.base_limit, ap base_len all, base_len-append delta (chunk ++ after), base_len-append chunk after), omega (arith, c.out_limit, ap out_len all, out_len-append delta (chunk ++ after), out_len-append chunk after))

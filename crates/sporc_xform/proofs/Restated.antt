@@ -4,6 +4,7 @@ use Rattle.std.specs.Prelude.{replicate}
 use Rattle.std.specs.List.{flat_map}
 use Rattle.std.proofs.lemmas.List.{length-append, append-nil}
 use Rattle.std.proofs.lemmas.Grind.{flat_map-append}
+use Rattle.sporc_delta.specs.declared.limits.TheConstants.{MAX_TEXT_LEN}
 use Rattle.sporc_delta.specs.Marks.{Mark, Retain, Delete, Insert, base_len, out_len, inserted_len, retains, inserts}
 use Rattle.sporc_delta.specs.Transforms.{Step, Earlier, Later, Both, last_steps, steps_to, steps, later_step, earlier_step}
 use Rattle.sporc_delta.proofs.Lengths.{base_len-append, out_len-append}
@@ -109,10 +110,10 @@ length-steps (Delete ∷ p) q = omega (arith, length-steps_to Delete (base_len p
 -- the delta so far, with what the steps that are left leave, is the whole
 pub record Restates (f : Step → List Mark) (delta : List Mark) (left : List Step) (whole : List Mark) : Type 0 where
   pub so_far : delta ++ flat_map f left ≡ whole
-  pub base : base_len delta + length left ≤ 2 ^ 60
-  pub out : out_len delta + length left ≤ 2 ^ 60
+  pub base : base_len delta + length left ≤ MAX_TEXT_LEN
+  pub out : out_len delta + length left ≤ MAX_TEXT_LEN
 
-pub Restates-start : (f : Step → List Mark) (delta p q : List Mark) (left : List Step) → delta ≡ [] → left ≡ steps p q → base_len p + inserted_len p + inserted_len q ≤ 2 ^ 60
+pub Restates-start : (f : Step → List Mark) (delta p q : List Mark) (left : List Step) → delta ≡ [] → left ≡ steps p q → base_len p + inserted_len p + inserted_len q ≤ MAX_TEXT_LEN
     → Restates f delta left (flat_map f (steps p q))
 Restates-start f delta p q left none is small = rw (none, is) record {
   so_far = refl;
@@ -122,7 +123,7 @@ Restates-start f delta p q left none is small = rw (none, is) record {
 
 -- there is room for the next run
 pub Restates-room : (f : Step → List Mark) (delta : List Mark) (left run after : List Step) (whole : List Mark) → left ≡ run ++ after → Restates f delta left whole
-    → (base_len delta + length run ≤ 2 ^ 60) × (out_len delta + length run ≤ 2 ^ 60)
+    → (base_len delta + length run ≤ MAX_TEXT_LEN) × (out_len delta + length run ≤ MAX_TEXT_LEN)
 Restates-room f delta left run after whole is r =
     let all = ap length is ∙ length-append run after in
     (omega (arith, r.base), omega (arith, r.out))

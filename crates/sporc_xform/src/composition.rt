@@ -1,6 +1,7 @@
 // Two deltas in one.
 
 ghost use Rattle.std.specs.Prelude.{◌≡◌, ◌+◌, ◌≤◌, ◌<◌, ◌^◌, ◌++◌, [], length, IfOk, IfSome, IfNone, OnSome};
+ghost use Rattle.sporc_delta.specs.declared.limits.TheConstants.{MAX_TEXT_LEN};
 ghost use Rattle.sporc_delta.specs.Marks.{base_len, out_len};
 ghost use Rattle.sporc_delta.specs.Parts.{marks_of};
 ghost use Rattle.sporc_delta.specs.Transforms.{compose};
@@ -9,13 +10,14 @@ ghost use Rattle.sporc_xform.specs.Left.{AreInARow};
 
 use crate::cursor::Cursor;
 use sporc_delta::{Delta, Piece, TextSlice};
-use std::alloc::{AllocError, Global};
+use sporc_base::Memory;
+use std::alloc::Global;
 use std::marker::Model;
 
 /// `p1` and then `p2`, which is stated on the text after `p1`, in one delta.
-pub fn compose(alloc: Global, p1: &Delta, p2: &Delta) -> Result<Delta, AllocError>
+pub fn compose(alloc: Global, p1: &Delta, p2: &Delta) -> Result<Delta, Memory>
     requires { out_len p1.now ≡ base_len p2.now }
-    ensures { IfOk result (λ d. d ≡ compose p1.now p2.now) }
+    ensures ok { IfOk result (λ d. d ≡ compose p1.now p2.now) }
 {
     let mut row = InARow::new(p1, p2);
     let mut delta = Delta::new(alloc);
@@ -60,8 +62,8 @@ impl<'a> InARow<'a> {
         requires { out_len first.now ≡ base_len second.now }
         ensures first { result.first ≡ first.entry.now }
         ensures second { result.second ≡ second.entry.now }
-        ensures base { base_len first.entry.now ≤ 2 ^ 60 }
-        ensures out { out_len second.entry.now ≤ 2 ^ 60 }
+        ensures base { base_len first.entry.now ≤ MAX_TEXT_LEN }
+        ensures out { out_len second.entry.now ≤ MAX_TEXT_LEN }
     {
         InARow {
             first: Cursor::new(first),
@@ -111,7 +113,7 @@ fn next_chunk<'a>(p: &mut Cursor<'a>, q: &mut Cursor<'a>) -> Option<Chunk<'a>>
 // What two deltas do with so many characters between them, which the first inserts or keeps and the
 // second removes or keeps.
 fn through(inserted: bool, removed: bool, text: TextSlice<'_>, count: u64) -> Chunk<'_>
-    ensures { chunk_marks result ≡ through_marks inserted removed text.entry count }
+    ensures value { chunk_marks result ≡ through_marks inserted removed text.entry count }
 {
     if inserted && removed {
         return Chunk::Gone;

@@ -1,6 +1,7 @@
 // A walk along the parts of a delta.
 
 ghost use Rattle.std.specs.Prelude.{◌≡◌, ◌≤◌, ◌<◌, ◌^◌, take};
+ghost use Rattle.sporc_delta.specs.declared.limits.TheConstants.{MAX_TEXT_LEN};
 ghost use Rattle.sporc_delta.specs.Marks.{base_len, out_len};
 ghost use Rattle.sporc_delta.specs.Parts.{marks_of, runs};
 ghost use Rattle.sporc_xform.specs.Left.{NoneEmpty, first_inserts, first_len, first_removes, first_text, without};
@@ -37,28 +38,28 @@ impl<'a> Cursor<'a> {
         ensures value { result ≡ runs delta.entry.now }
         ensures marks { marks_of result ≡ delta.entry.now }
         ensures none_empty { NoneEmpty result }
-        ensures small { (base_len delta.entry.now ≤ 2 ^ 60) × (out_len delta.entry.now ≤ 2 ^ 60) }
+        ensures small { (base_len delta.entry.now ≤ MAX_TEXT_LEN) × (out_len delta.entry.now ≤ MAX_TEXT_LEN) }
     {
         at_start(delta.parts())
     }
 
     /// The number of marks that are left of the first part, 0 at the end.
     pub fn len(&self) -> u64
-        ensures { result ≡ first_len self.now }
+        ensures value { result ≡ first_len self.now }
     {
         self.left
     }
 
     /// Whether the first part inserts.
     pub fn inserts(&self) -> bool
-        ensures { result ≡ first_inserts self.now }
+        ensures value { result ≡ first_inserts self.now }
     {
         matches!(self.parts.first(), Some(Part::Insert(_)))
     }
 
     /// Whether the first part removes.
     pub fn removes(&self) -> bool
-        ensures { result ≡ first_removes self.now }
+        ensures value { result ≡ first_removes self.now }
     {
         matches!(self.parts.first(), Some(Part::Remove(_)))
     }
@@ -90,7 +91,7 @@ impl<'a> Cursor<'a> {
 // A walk from the first of these parts on.
 fn at_start(parts: &[Part]) -> Cursor<'_>
     requires { NoneEmpty parts.now }
-    ensures { result ≡ parts.now }
+    ensures value { result ≡ parts.now }
 {
     let (left, text) = match parts.first() {
         Some(Part::Keep(count)) | Some(Part::Remove(count)) => (*count, TextSlice::new("")),

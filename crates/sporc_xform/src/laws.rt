@@ -14,5 +14,5 @@ pub fn both_orders_lead_to_one_text()
 
 /// A delta restated behind two in one is that delta restated behind each of them in turn.
 pub fn a_composition_is_passed_like_both_deltas()
-    ensures { (p r q : List Mark) → out_len p ≡ base_len r → later q (compose p r) ≡ later (later q p) r }
+    ensures same { (p r q : List Mark) → out_len p ≡ base_len r → later q (compose p r) ≡ later (later q p) r }
 {}

@@ -50,7 +50,7 @@ impl<'a> SideBySide<'a> {
     /// All steps of two deltas, the first of which is ordered earlier.
     pub fn new(earlier: &'a Delta, later: &'a Delta) -> SideBySide<'a>
         requires { base_len earlier.now ≡ base_len later.now }
-        ensures { result ≡ steps earlier.entry.now later.entry.now }
+        ensures value { result ≡ steps earlier.entry.now later.entry.now }
     {
         SideBySide {
             earlier: Cursor::new(earlier),

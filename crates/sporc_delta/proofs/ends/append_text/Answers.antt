@@ -6,6 +6,6 @@ use Rattle.sporc_delta.proofs.ends.append_text.Goals as goal
 
 pub returns-clause-ok : goal.returns-clause-ok
 returns-clause-ok c =
-    let other : text_at_end c.args.parts.now.items ≡ false = cc (c.if-inserts_last.ensures, c.as_slice.ensures.value) in
-    let pushed : c.push.new.self.items ≡ c.args.parts.now.items ++ Insert c.args.text.now ∷ [] = cc (c.in_ok-push.ensures.items, c.in_ok-new.ensures) in
+    let other : text_at_end c.args.parts.now.items ≡ false = cc (c.if-inserts_last.ensures.value, c.as_slice.ensures.value) in
+    let pushed : c.push.new.self.items ≡ c.args.parts.now.items ++ Insert c.args.text.now ∷ [] = cc (c.in_ok-push.ensures.items, c.in_ok-new.ensures.ok) in
     text_pushed c.args.parts.now.items c.push.new.self.items c.args.text.now other c.requires.some pushed

@@ -19,4 +19,4 @@ overflow_sub-result c =
 pub returns : goal.returns
 returns c =
     let all : c.loop.counter ≡ c.args.at = omega arith in
-    omega (arith, Walked-len c.args.text.now _ c.loop.counter c.args.at all c.loop.invariant, ap length c.as_str.ensures)
+    record { value = omega (arith, Walked-len c.args.text.now _ c.loop.counter c.args.at all c.loop.invariant, ap length c.as_str.ensures) }

@@ -10,7 +10,7 @@ loop-form-preserved g c =
     let P : List (List Mark) → Type 0 = λ fs. Fits c.loop-form.passed fs in
     let next = passes c.loop-form.passed c.form-item.result (drop (c.loop-form.form-index + 1) c.args.forms.now) (subst P here c.loop-form.invariant.fits) in
     record {
-      value = rw c.in_ok-passed-2.ensures (sym (ap (later_over c.loop-form.passed) here) ∙ c.loop-form.invariant.value);
-      fits = rw c.in_ok-passed-2.ensures next.fits;
-      cost = omega (arith, c.tick.ensures, c.loop-form.invariant.cost);
+      value = rw c.in_ok-passed-2.ensures.ok (sym (ap (later_over c.loop-form.passed) here) ∙ c.loop-form.invariant.value);
+      fits = rw c.in_ok-passed-2.ensures.ok next.fits;
+      cost = omega (arith, c.tick.ensures.value, c.loop-form.invariant.cost);
     }

@@ -6,7 +6,7 @@ use Rattle.sporc_xform.proofs.composition.compose.Goals as goal
 
 pub chunks-init : goal.chunks-init
 chunks-init c =
-    Composed-start c.new-delta.result c.args.p1.now c.args.p2.now c.new-row.result.first c.new-row.result.second c.new-delta.ensures c.new-row.ensures.first c.new-row.ensures.second c.requires c.new-row.ensures.base c.new-row.ensures.out
+    Composed-start c.new-delta.result c.args.p1.now c.args.p2.now c.new-row.result.first c.new-row.result.second c.new-delta.ensures.value c.new-row.ensures.first c.new-row.ensures.second c.requires c.new-row.ensures.base c.new-row.ensures.out
 
 pub push-requires-clause-base : goal.push-requires-clause-base
 push-requires-clause-base c =

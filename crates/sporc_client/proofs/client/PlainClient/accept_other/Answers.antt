@@ -18,6 +18,6 @@ invariant_of-self-2 c =
     ap (λ g. record (other_accepted old e) { genesis = g; entries = c.push.new.self.entries }) genesis
     ∙ ap (λ es. record (other_accepted old e) { entries = es }) entries in
     record {
-      shown = c.put.ensures ∙ c.in_ok-ready.ensures.ok ∙ ap (apply e.delta) c.self.invariant.shown ∙ sym (other_shown old e none) ∙ ap shown_of (sym new);
+      shown = c.put.ensures.value ∙ c.in_ok-ready.ensures.ok ∙ ap (apply e.delta) c.self.invariant.shown ∙ sym (other_shown old e none) ∙ ap shown_of (sym new);
       sound = subst IsSound (sym new) (other_sound old e c.self.invariant.sound none next c.requires.small);
     }

@@ -16,9 +16,9 @@ invariant_of-self-2 c =
     let fits : base_len delta ≡ length (shown_of old) = subst (λ (s : PlainState). base_len delta ≡ length (shown_of s)) (sym c.self.view_is) c.requires in
     let none : first_of (edit_checks old delta) ≡ None = subst (λ (s : PlainState). first_of (edit_checks s delta) ≡ None) (sym c.self.view_is) c.in_ok-check_edit.ensures in
     let passed = edit_passes old delta none in
-    let pending : c.push_back_reserved.new.self.items ≡ old.pending ++ delta ∷ [] = pushed old.pending _ _ c.in_ok-copy.copy delta c.push_back_reserved.ensures.items c.in_ok-reserve.ensures.items c.in_ok-copy.ensures in
+    let pending : c.push_back_reserved.new.self.items ≡ old.pending ++ delta ∷ [] = pushed old.pending _ _ c.in_ok-copy.copy delta c.push_back_reserved.ensures.items c.in_ok-reserve.ensures.items c.in_ok-copy.ensures.ok in
     let new : record (edited old delta) { pending = c.push_back_reserved.new.self.items } ≡ edited old delta = ap (λ ps. record (edited old delta) { pending = ps }) pending in
     record {
-      shown = c.put.ensures ∙ c.in_ok-ready.ensures.ok ∙ ap (apply delta) c.self.invariant.shown ∙ sym (text_after-push (text_of old.entries) old.pending delta) ∙ ap shown_of (sym new);
+      shown = c.put.ensures.value ∙ c.in_ok-ready.ensures.ok ∙ ap (apply delta) c.self.invariant.shown ∙ sym (text_after-push (text_of old.entries) old.pending delta) ∙ ap shown_of (sym new);
       sound = subst IsSound (sym new) (edited_sound old delta c.self.invariant.sound fits passed.0 passed.1);
     }

@@ -5,7 +5,7 @@ use Rattle.sporc_client.specs.Entry.{entry_bytes}
 use Rattle.sporc_client.specs.Checks.{IsNext}
 use Rattle.sporc_client.specs.HistoryValue.{HistoryValue}
 use Rattle.sporc_client.specs.History.{hashes_of, hash_of, count_of, text_of}
-use Rattle.sporc_text.proofs.EditLemmas.{marks_of-runs}
+use Rattle.sporc_delta.proofs.Runs.{marks_of-runs}
 use Rattle.sporc_client.proofs.Counts.{counts_push}
 use Rattle.sporc_client.proofs.Histories.{length-hashes_of, last_hash_read, hashes_of-push, text_of-push, pushed}
 use Rattle.sporc_client.proofs.Lengths.{length-apply, out_len-bytes}

@@ -1,6 +1,6 @@
 use Rattle.std.proofs.Common.{◌≡◌, length, drop}
-use Rattle.sporc_client.specs.SameEntry.{same_parts}
-use Rattle.sporc_client.proofs.entry.are_same_parts.Given as goal
+use Rattle.sporc_delta.specs.Same.{same_parts}
+use Rattle.sporc_delta.proofs.part.are_same_parts.Given as goal
 
 abbrev pub invariant-loop-i : goal.invariant-loop-i
 invariant-loop-i l = record {
