@@ -1,5 +1,5 @@
 -- Deltas of short texts are typed.
-use Rattle.std.proofs.Common.{◌≡◌, ℕ, zero, suc, ◌^◌, ◌<◌, true, ◌&&◌, List, [], ◌∷◌, ◌++◌, length, refl, sym, ap, ◌∙◌, subst, arith, length-append}
+use Rattle.std.proofs.Common.{◌≡◌, ℕ, zero, suc, ◌+◌, ◌-◌, ◌^◌, ◌<◌, true, ◌&&◌, List, [], ◌∷◌, ◌++◌, length, refl, sym, ap, ap₂, ◌∙◌, subst, arith, length-append, append-nil}
 use Rattle.std.specs.Int.{w64, to_be_bytes}
 use Rattle.std.specs.List.{AllByRecursion}
 use Rattle.std.specs.Str.{all_scalars, encode_utf8_all}
@@ -7,7 +7,7 @@ use Rattle.std.proofs.lemmas.Bool.{and_parts}
 use Rattle.sporc_delta.specs.declared.part.Part.{Part}
 use Rattle.sporc_delta.specs.declared.part.Part.TheVariants.{Keep, Insert as InsertText, Remove}
 use Rattle.sporc_delta.specs.Format.{delta_bytes, part_bytes, parts_bytes}
-use Rattle.sporc_delta.specs.Marks.{Mark, Retain, Delete, Insert, base_len, deletes, inserts, retains}
+use Rattle.sporc_delta.specs.Marks.{Mark, Retain, Delete, Insert, base_len, deletes, insertion, inserts, removal, retains}
 use Rattle.sporc_delta.specs.Parts.{marks_of, part_marks, runs}
 use Rattle.sporc_delta.specs.Typed.{IsTypedDelta, IsTypedPart}
 use Rattle.sporc_delta.proofs.Lengths.{base_len-append, base_len-retains, base_len-deletes}
@@ -41,6 +41,18 @@ inserted-deletes (suc n) = inserted-deletes n
 pub inserted-inserts : (text : List ℕ) → inserted (inserts text) ≡ text
 inserted-inserts [] = refl
 inserted-inserts (c ∷ text) = ap (λ (t : List ℕ). c ∷ t) (inserted-inserts text)
+
+-- what the makers' deltas insert
+pub inserted-insertion : (len at : ℕ) (text : List ℕ) → inserted (insertion len at text) ≡ text
+inserted-insertion len at text =
+    inserted-append (retains at ++ inserts text) (retains (len - at))
+    ∙ ap₂ (λ (a b : List ℕ). a ++ b) (inserted-append (retains at) (inserts text) ∙ ap₂ (λ (a b : List ℕ). a ++ b) (inserted-retains at) (inserted-inserts text)) (inserted-retains (len - at))
+    ∙ append-nil text
+
+pub inserted-removal : (len at count : ℕ) → inserted (removal len at count) ≡ []
+inserted-removal len at count =
+    inserted-append (retains at ++ deletes count) (retains (len - (at + count)))
+    ∙ ap₂ (λ (a b : List ℕ). a ++ b) (inserted-append (retains at) (deletes count) ∙ ap₂ (λ (a b : List ℕ). a ++ b) (inserted-retains at) (inserted-deletes count)) (inserted-retains (len - (at + count)))
 
 -- a delta of a short text, with few bytes and characters that are Unicode scalar values
 pub record Fits (ms : List Mark) (bytes : List ℕ) : Type 0 where

@@ -1,22 +1,18 @@
 -- The moves of a script are typed.
-use Rattle.std.proofs.Common.{◌≡◌, ℕ, zero, suc, ◌+◌, ◌^◌, ◌<◌, ◌≤◌, Bool, true, false, ◌&&◌, cond, List, [], ◌∷◌, ◌++◌, length, Option, None, Some, Result, Ok, Err, refl, sym, ap, ap₂, ◌∙◌, subst, inl, inr, arith, length-append, append-nil, map, drop, ◌-◌}
+use Rattle.std.proofs.Common.{◌≡◌, ℕ, zero, suc, ◌+◌, ◌^◌, ◌<◌, ◌≤◌, Bool, true, false, cond, List, [], ◌∷◌, ◌++◌, length, Option, None, Some, Result, Ok, Err, refl, sym, ap, ◌∙◌, subst, inl, inr, arith, map, drop}
 use Rattle.std.specs.Prelude.{◌==◌, is_some, nat_le, nat_lt, slice_get}
-use Rattle.std.specs.Int.{w64, to_be_bytes}
 use Rattle.std.specs.List.{AllByRecursion, list_all}
-use Rattle.std.specs.Str.{all_scalars, encode_utf8_all}
-use Rattle.std.proofs.lemmas.Bool.{eqb-true, leb-true}
+use Rattle.std.specs.Str.{all_scalars}
+use Rattle.std.proofs.lemmas.Bool.{and_parts, eqb-true, leb-true}
 use Rattle.std.proofs.lemmas.Bool.Decides.{eqb_tells}
 use Rattle.std.proofs.lemmas.List.Sums.{count_by-le-length}
 use Rattle.sha2.specs.Sha256.{sha256}
 use Rattle.sha2.proofs.Facts256.{length-sha256}
 use Rattle.sporc_hash.specs.Chain.{genesis_string, link_string, next_value, value_after}
-use Rattle.sporc_delta.specs.declared.part.Part.{Part}
-use Rattle.sporc_delta.specs.declared.part.Part.TheVariants.{Keep, Insert as InsertText, Remove}
-use Rattle.sporc_delta.specs.Format.{delta_bytes, part_bytes, parts_bytes}
-use Rattle.sporc_delta.specs.Marks.{Mark, Retain, Delete, Insert, base_len, deletes, insertion, inserts, removal, retains}
-use Rattle.sporc_delta.specs.Parts.{marks_of, part_marks, runs}
-use Rattle.sporc_delta.proofs.Lengths.{base_len-append, base_len-retains, base_len-deletes}
-use Rattle.sporc_delta.proofs.Runs.{marks_of-runs}
+use Rattle.sporc_delta.specs.Format.{delta_bytes}
+use Rattle.sporc_delta.specs.Marks.{Mark, base_len, insertion, removal}
+use Rattle.sporc_delta.specs.Typed.{IsTypedDelta}
+use Rattle.sporc_delta.proofs.Typing.{inserted, inserted-insertion, inserted-removal, typed_delta}
 use Rattle.sporc_base.specs.FirstFault.{first_of}
 use Rattle.sporc_client.specs.declared.limits.TheConstants.{MAX_EDIT_BYTES, MAX_ENTRIES}
 use Rattle.sporc_client.specs.declared.entry.PlainEntry.{PlainEntry}
@@ -31,7 +27,7 @@ use Rattle.sporc_client.specs.ClientKeeps.{IsSound, is_small}
 use Rattle.sporc_client.specs.Entry.{entry_bytes}
 use Rattle.sporc_client.specs.Run.{IsTypedMove, after_answer, after_edit, after_give, unless_refused}
 use Rattle.sporc_client.specs.Submission.{first_submission, submission_of}
-use Rattle.sporc_client.specs.Typed.{IsTypedDelta, IsTypedEntry, IsTypedPart}
+use Rattle.sporc_client.specs.Typed.{IsTypedEntry}
 use Rattle.sporc_client.proofs.Passes.{edit_passes, passes}
 use Rattle.sporc_client.proofs.Sound.{accepted_other, accepted_own, edited_sound, no_pending, opened_sound, other_sound, own_sound, sent_sound}
 use Rattle.sporc_play.specs.declared.seat.Seat.{Seat}
@@ -67,7 +63,7 @@ scalars_of_change (changes.Insert c) len d range is =
     by true some =
         let same : insertion len c.at c.text ≡ d = cc in
         ap (λ (ms : List Mark). all_scalars (inserted ms)) (sym same)
-        ∙ ap all_scalars (inserted-append (retains c.at ++ inserts c.text) (retains (len - c.at)) ∙ ap₂ (λ (a b : List ℕ). a ++ b) (inserted-append (retains c.at) (inserts c.text) ∙ ap₂ (λ (a b : List ℕ). a ++ b) (inserted-retains c.at) (inserted-inserts c.text)) (inserted-retains (len - c.at)) ∙ append-nil c.text)
+        ∙ ap all_scalars (inserted-insertion len c.at c.text)
         ∙ range.1
 scalars_of_change (changes.Remove c) len d range is =
     by (nat_le (c.at + c.count) len) is
@@ -77,7 +73,7 @@ scalars_of_change (changes.Remove c) len d range is =
     by true some =
         let same : removal len c.at c.count ≡ d = cc in
         ap (λ (ms : List Mark). all_scalars (inserted ms)) (sym same)
-        ∙ ap all_scalars (inserted-append (retains c.at ++ deletes c.count) (retains (len - (c.at + c.count))) ∙ ap₂ (λ (a b : List ℕ). a ++ b) (inserted-append (retains c.at) (deletes c.count) ∙ ap₂ (λ (a b : List ℕ). a ++ b) (inserted-retains c.at) (inserted-deletes c.count)) (inserted-retains (len - (c.at + c.count))))
+        ∙ ap all_scalars (inserted-removal len c.at c.count)
 
 -- ---- clients
 

@@ -12,7 +12,7 @@ returns-in_default-2 c = λ t utf8 is.
 pub returns-in-Ok : goal.returns-in-Ok
 returns-in-Ok c =
     let utf8 = IsUtf8-string_bytes c.in-Ok.text in
-    rw c.from_string.ensures (
+    rw c.from_string.ensures.value (
       scalars-chars (string_bytes c.in-Ok.text) utf8,
       quoted_of c.args.word.now c.in-Some.rest.now c.in-Some-before.body.now (string_bytes c.in-Ok.text) c.in-Some.ensures c.in-Some-before.ensures utf8
           (sym (rw c.in-Some-2.is at c.in_ok-bytes.ensures) ∙ ap (λ (v : Vec ℕ Global). Some v.items) (sym c.in-Ok.ensures.ok)),
