@@ -1,9 +1,10 @@
+ghost use Rattle.std.specs.Prelude.{◌≤◌, length};
+
 use super::*;
 use sporc_base::{Bytes, Items};
 use sporc_head::Refusal;
 use sporc_member::ChangeFault;
 use std::alloc::Global;
-use std::process::Abort;
 use std::test::Fail;
 
 const HELLO: [u8; 23] = [
@@ -11,6 +12,16 @@ const HELLO: [u8; 23] = [
 ];
 
 const PULL: [u8; 9] = [0, 0, 0, 5, 3, 0, 1, 0, 2];
+
+const SUBMIT: [u8; 7] = [0, 0, 0, 3, 2, 8, 9];
+
+const ORDERED: [u8; 9] = [0, 0, 0, 5, 1, 0, 0, 0, 8];
+
+const REJECTED: [u8; 10] = [0, 0, 0, 6, 2, 18, 0, 0, 0, 4];
+
+const ENTRIES: [u8; 20] = [0, 0, 0, 16, 3, 0, 0, 0, 3, 2, 0, 0, 0, 2, 8, 9, 0, 0, 0, 0];
+
+const EMPTY: [u8; 5] = [0, 0, 0, 1, 4];
 
 fn is_hello(found: &Option<ToServer>) -> bool {
     match found {
@@ -70,8 +81,8 @@ fn a_length_above_the_limit_stays(rt: HostRuntime) -> Result<(), Fail> {
 
 // The frame of a body.
 fn framed(alloc: Global, body: &[u8]) -> Result<Vec<u8>, Fail> {
-    let mut frame = Vec::with_capacity(alloc, 4)?;
-    frame.extend_from_slice((body.len() as u32).to_be_bytes().as_slice())?;
+    let len = (body.len() as u64).to_be_bytes();
+    let mut frame = Vec::from_slice(alloc, &len[4..])?;
     frame.extend_from_slice(body)?;
     Ok(frame)
 }
@@ -112,151 +123,134 @@ const BAD_TO_CLIENT: [(&[u8], u64); 17] = [
     (&[4, 0], 1),
 ];
 
-// A stream that begins with a good message: the fault of the second stays.
-fn refused_at(
-    rt: &impl Abort,
-    alloc: Global,
-    body: &[u8],
-    to_server: bool,
-) -> Result<FrameFault, Fail> {
+// The fault of this body, after a good message to a server.
+fn fault_to_server(alloc: Global, body: &[u8]) -> Result<Option<FrameFault>, Fail> {
     let mut frames = Frames::new(alloc);
-    let good: &[u8] = if to_server {
-        &PULL
-    } else {
-        &[0, 0, 0, 5, 1, 0, 0, 0, 8]
-    };
-    frames.feed(good)?;
-    let frame = framed(alloc, body)?;
-    frames.feed(frame.as_slice())?;
-    frames.feed(&[0, 0])?;
-    for _ in 0..2 {
-        let fault = if to_server {
-            frames.next_to_server().err()
-        } else {
-            frames.next_to_client().err()
-        };
-        if let Some(fault) = fault {
-            assert_eq!(rt; frames.feed(&[1]), Err(fault));
-            assert_eq!(rt; frames.next_to_server().err(), Some(fault));
-            return Ok(fault);
-        }
-    }
-    panic!(rt; "no fault")
+    frames.feed(&PULL)?;
+    frames.feed(framed(alloc, body)?.as_slice())?;
+    frames.next_to_server()?;
+    Ok(frames.next_to_server().err())
+}
+
+// The fault of this body, after a good message to a client.
+fn fault_to_client(alloc: Global, body: &[u8]) -> Result<Option<FrameFault>, Fail> {
+    let mut frames = Frames::new(alloc);
+    frames.feed(&ORDERED)?;
+    frames.feed(framed(alloc, body)?.as_slice())?;
+    frames.next_to_client()?;
+    Ok(frames.next_to_client().err())
 }
 
 #[test]
 fn a_body_that_is_no_message_is_refused_at_its_field(rt: HostRuntime) -> Result<(), Fail> {
     for (body, place) in BAD_TO_SERVER {
-        let fault = refused_at(&rt, rt.alloc(), body, true)?;
-        assert_eq!(rt; fault, FrameFault::BadMessage(place.wrapping_add(13)));
+        let fault = fault_to_server(rt.alloc(), body)?;
+        assert_eq!(rt; fault, Some(FrameFault::BadMessage(place.wrapping_add(13))));
     }
     for (body, place) in BAD_TO_CLIENT {
-        let fault = refused_at(&rt, rt.alloc(), body, false)?;
-        assert_eq!(rt; fault, FrameFault::BadMessage(place.wrapping_add(13)));
+        let fault = fault_to_client(rt.alloc(), body)?;
+        assert_eq!(rt; fault, Some(FrameFault::BadMessage(place.wrapping_add(13))));
     }
     Ok(())
 }
 
-// Nothing is handed out of any front of a frame, and something is of the whole.
-fn cut_everywhere(
-    rt: &impl Abort,
-    alloc: Global,
-    frame: &[u8],
-    to_server: bool,
-) -> Result<(), Fail> {
-    for len in 0..frame.len() {
-        let mut frames = Frames::new(alloc);
-        let (front, rest) = frame.split_at(len);
-        frames.feed(front)?;
-        if to_server {
-            assert!(rt; frames.next_to_server()?.is_none());
-        } else {
-            assert!(rt; frames.next_to_client()?.is_none());
+// Whether nothing is handed out of a front of this length, and a message to a server of the whole.
+fn is_cut_to_server(alloc: Global, frame: &[u8], len: usize) -> Result<bool, Fail>
+    requires { len ≤ length frame.now }
+{
+    let mut frames = Frames::new(alloc);
+    let (front, rest) = frame.split_at(len);
+    frames.feed(front)?;
+    let early = frames.next_to_server()?;
+    frames.feed(rest)?;
+    let whole = frames.next_to_server()?;
+    Ok(early.is_none() && whole.is_some())
+}
+
+// The same of a message to a client.
+fn is_cut_to_client(alloc: Global, frame: &[u8], len: usize) -> Result<bool, Fail>
+    requires { len ≤ length frame.now }
+{
+    let mut frames = Frames::new(alloc);
+    let (front, rest) = frame.split_at(len);
+    frames.feed(front)?;
+    let early = frames.next_to_client()?;
+    frames.feed(rest)?;
+    let whole = frames.next_to_client()?;
+    Ok(early.is_none() && whole.is_some())
+}
+
+#[test]
+fn a_front_of_a_frame_gives_nothing(rt: HostRuntime) -> Result<(), Fail> {
+    for frame in [HELLO.as_slice(), PULL.as_slice(), SUBMIT.as_slice()] {
+        for len in 0..frame.len() {
+            assert!(rt; is_cut_to_server(rt.alloc(), frame, len)?);
         }
-        frames.feed(rest)?;
-        if to_server {
-            assert!(rt; frames.next_to_server()?.is_some());
-            assert!(rt; frames.next_to_server()?.is_none());
-        } else {
-            assert!(rt; frames.next_to_client()?.is_some());
-            assert!(rt; frames.next_to_client()?.is_none());
+    }
+    for frame in [
+        ORDERED.as_slice(),
+        REJECTED.as_slice(),
+        ENTRIES.as_slice(),
+        EMPTY.as_slice(),
+    ] {
+        for len in 0..frame.len() {
+            assert!(rt; is_cut_to_client(rt.alloc(), frame, len)?);
         }
     }
     Ok(())
 }
 
 #[test]
-fn messages_are_written_in_their_one_spelling(rt: HostRuntime) -> Result<(), Fail> {
+fn messages_to_a_server_are_written(rt: HostRuntime) -> Result<(), Fail> {
     let alloc = rt.alloc();
     let document = [7u8; 16];
-    let to_server: [(ToServer, &[u8]); 3] = [
-        (
-            ToServer::Hello {
-                document,
-                member: 9,
-            },
-            &HELLO,
-        ),
-        (ToServer::Pull { from: 65_538 }, &PULL),
-        (
-            ToServer::Submit {
-                entry: Bytes::copy_of(alloc, &[8, 9])?,
-            },
-            &[0, 0, 0, 3, 2, 8, 9],
-        ),
-    ];
-    for (message, bytes) in &to_server {
-        let written = write_to_server(alloc, message)?;
-        assert_eq!(rt; written.as_slice(), *bytes);
-        cut_everywhere(&rt, alloc, written.as_slice(), true)?;
-    }
+    let hello = write_to_server(
+        alloc,
+        &ToServer::Hello {
+            document,
+            member: 9,
+        },
+    )?;
+    assert_eq!(rt; hello.as_slice(), HELLO.as_slice());
+    let pull = write_to_server(alloc, &ToServer::Pull { from: 65_538 })?;
+    assert_eq!(rt; pull.as_slice(), PULL.as_slice());
+    let entry = Bytes::copy_of(alloc, &[8, 9])?;
+    let submit = write_to_server(alloc, &ToServer::Submit { entry })?;
+    assert_eq!(rt; submit.as_slice(), SUBMIT.as_slice());
+    Ok(())
+}
+
+#[test]
+fn messages_to_a_client_are_written(rt: HostRuntime) -> Result<(), Fail> {
+    let alloc = rt.alloc();
+    let ordered = write_to_client(alloc, &ToClient::Ordered { pos: 8 })?;
+    assert_eq!(rt; ordered.as_slice(), ORDERED.as_slice());
+    let refusal = Refusal::BadChange(ChangeFault::LastAdmin);
+    let rejected = write_to_client(alloc, &ToClient::Rejected { refusal })?;
+    assert_eq!(rt; rejected.as_slice(), REJECTED.as_slice());
+    let empty = write_to_client(alloc, &ToClient::Empty)?;
+    assert_eq!(rt; empty.as_slice(), EMPTY.as_slice());
+    Ok(())
+}
+
+#[test]
+fn entries_are_written(rt: HostRuntime) -> Result<(), Fail> {
+    let alloc = rt.alloc();
     let mut entries = Vec::new(alloc);
     entries.push(Bytes::copy_of(alloc, &[8, 9])?)?;
     entries.push(Bytes::copy_of(alloc, &[])?)?;
-    let refusals = [
-        (Refusal::Malformed(515), [0u8, 0, 0, 6, 2, 1, 0, 0, 2, 3]),
-        (Refusal::WrongHistory, [0, 0, 0, 6, 2, 9, 0, 0, 0, 0]),
-        (
-            Refusal::BadChange(ChangeFault::LastAdmin),
-            [0, 0, 0, 6, 2, 18, 0, 0, 0, 4],
-        ),
-        (Refusal::WrongKey, [0, 0, 0, 6, 2, 21, 0, 0, 0, 0]),
-    ];
-    for (refusal, bytes) in refusals {
-        let written = write_to_client(alloc, &ToClient::Rejected { refusal })?;
-        assert_eq!(rt; written.as_slice(), bytes.as_slice());
-        cut_everywhere(&rt, alloc, written.as_slice(), false)?;
-    }
-    let to_client: [(ToClient, &[u8]); 3] = [
-        (ToClient::Ordered { pos: 8 }, &[0, 0, 0, 5, 1, 0, 0, 0, 8]),
-        (
-            ToClient::Entries {
-                first: 3,
-                entries: Items::new(entries),
-            },
-            &[0, 0, 0, 16, 3, 0, 0, 0, 3, 2, 0, 0, 0, 2, 8, 9, 0, 0, 0, 0],
-        ),
-        (ToClient::Empty, &[0, 0, 0, 1, 4]),
-    ];
-    for (message, bytes) in &to_client {
-        let written = write_to_client(alloc, message)?;
-        assert_eq!(rt; written.as_slice(), *bytes);
-        cut_everywhere(&rt, alloc, written.as_slice(), false)?;
-    }
+    let entries = Items::new(entries);
+    let written = write_to_client(alloc, &ToClient::Entries { first: 3, entries })?;
+    assert_eq!(rt; written.as_slice(), ENTRIES.as_slice());
     Ok(())
 }
 
 #[test]
-fn a_body_at_the_limit_is_written_and_one_above_is_not(rt: HostRuntime) -> Result<(), Fail> {
+fn a_body_above_the_limit_is_not_written(rt: HostRuntime) -> Result<(), Fail> {
     let alloc = rt.alloc();
     let entry = Bytes::new(vec![in alloc; 0; 4_194_303]?);
     let frame = write_to_server(alloc, &ToServer::Submit { entry })?;
-    let mut frames = Frames::new(alloc);
-    frames.feed(frame.as_slice())?;
-    match frames.next_to_server()? {
-        Some(ToServer::Submit { entry }) => assert_eq!(rt; entry.as_slice().len(), 4_194_303),
-        _ => panic!(rt; "no entry"),
-    }
+    assert_eq!(rt; frame.len(), 4_194_308);
     let entry = Bytes::new(vec![in alloc; 0; 4_194_304]?);
     let long = write_to_server(alloc, &ToServer::Submit { entry });
     assert_eq!(rt; long.err(), Some(FrameFault::TooLong(4_194_305)));
