@@ -1,6 +1,6 @@
 //! Standard input and output, each error of the system counted.
 
-ghost use Rattle.std.specs.Prelude.{◌≡◌};
+ghost use Rattle.std.specs.Prelude.{◌≡◌, None};
 
 use sporc_outside::{Counted, Failed, Sink, Source};
 use std::io::{Read, Write};
@@ -31,6 +31,8 @@ impl<R: Read> Counted for StandardInput<R> {
 
 impl<R: Read> Source for StandardInput<R> {
     ghost left = { λ s. R.remaining s.reader };
+
+    ghost sent = { λ _. None };
 
     fn read(&mut self, buf: &mut [u8]) -> Result<usize, Failed> {
         match self.reader.read(buf) {
@@ -70,6 +72,8 @@ impl<W: Write> Counted for StandardOutput<W> {
 
 impl<W: Write> Sink for StandardOutput<W> {
     ghost written = { λ s. W.contents s.writer };
+
+    ghost pending = { λ _. None };
 
     fn write(&mut self, bytes: &[u8]) -> Result<usize, Failed> {
         match self.writer.write(bytes) {

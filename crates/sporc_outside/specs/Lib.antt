@@ -1,4 +1,7 @@
 pub mod CallRecord
+pub mod LinkContent
+pub mod ListedWords
+pub mod Words
 pub mod Counts
 pub mod MemoryContent
 pub mod Reading

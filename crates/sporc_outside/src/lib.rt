@@ -7,12 +7,17 @@
 #![tactic(auto)]
 
 mod calls;
+mod chance;
 mod counted;
 mod disk_call;
 #[cfg(test)]
 mod disk_tests;
+mod gate;
 mod leaf_disk;
+mod link;
+mod listed_chance;
 mod memory_disk;
+mod memory_link;
 mod memory_sink;
 mod memory_source;
 mod sink;
@@ -23,8 +28,13 @@ mod tests;
 pub use crate::calls::Calls;
 pub use crate::counted::{Counted, Failed};
 pub use crate::disk_call::{DiskBytes, DiskCall, DiskRequest};
+pub use crate::chance::Chance;
+pub use crate::gate::{Gate, OpenGate};
 pub use crate::leaf_disk::LeafDisk;
+pub use crate::link::Link;
+pub use crate::listed_chance::ListedChance;
 pub use crate::memory_disk::MemoryDisk;
+pub use crate::memory_link::MemoryLink;
 pub use crate::memory_sink::MemorySink;
 pub use crate::memory_source::MemorySource;
 pub use crate::sink::{Sink, write_all};

@@ -10,11 +10,15 @@ pub trait Sink: Counted {
     // The bytes written so far, where it tells them.
     ghost written: { Self → Option (List ℕ) };
 
+    // Of a link the bytes that are left to be read, where it tells them: a write leaves them.
+    ghost pending: { Self → Option (List ℕ) };
+
     /// Takes a front of the bytes, and says how many: at least one, where there are any.
     fn write(&mut self, bytes: &[u8]) -> Result<usize, Failed>
         ensures bound { IfOk result (λ n. n ≤ length bytes.now) }
         ensures some { IfOk result (λ n. 0 < length bytes.now → 0 < n) }
         ensures bytes { WriteAppends (written self.old) (written self.new) result bytes.now }
+        ensures pending { pending self.new ≡ pending self.old }
         ensures count { CountsFaults (Self.faults self.old) (Self.faults self.new) result };
 }
 
@@ -22,6 +26,7 @@ pub trait Sink: Counted {
 pub fn write_all<O: Sink>(out: &mut O, bytes: &[u8]) -> Result<(), Failed>
     ensures ok { OnOk result (Appends (O.written out.old) (O.written out.new) bytes.now) }
     ensures err { OnErr result (AppendsPrefix (O.written out.old) (O.written out.new) bytes.now) }
+    ensures pending { O.pending out.new ≡ O.pending out.old }
     ensures count { CountsFaults (O.faults out.old) (O.faults out.new) result }
 {
     let mut at = 0;

@@ -1,4 +1,4 @@
-use Rattle.std.proofs.Common.{arith}
+use Rattle.std.proofs.Common.{◌∙◌, arith}
 use Rattle.sporc_outside.proofs.Known.{Appends_then, take-front, front_fits}
 use Rattle.sporc_outside.proofs.sink.write_all.Goals as goal
 
@@ -6,5 +6,6 @@ pub loop-at-preserved : goal.loop-at-preserved
 loop-at-preserved g c = record {
   within = front_fits c.args.bytes.now c.loop-at.at c.in_ok-at.field-0 c.loop-at.invariant.within c.in_ok-at.ensures.bound;
   written = rw take-front (Appends_then _ _ _ _ _ c.loop-at.invariant.written c.in_ok-at.ensures.bytes);
+  pending = c.in_ok-at.ensures.pending ∙ c.loop-at.invariant.pending;
   kept = omega (arith, c.in_ok-at.ensures.count.kept);
 }

@@ -1,0 +1,19 @@
+//! Connections.
+
+ghost use Rattle.std.specs.Prelude.{◌≡◌};
+
+use crate::sink::Sink;
+use crate::source::Source;
+
+/// Both directions of one connection, with one count of faults for both. After [`Link::shut`] it is only handed back.
+pub trait Link: Source + Sink {
+    /// Shuts both directions.
+    fn shut(&mut self)
+        ensures left { Self.left self.new ≡ Self.left self.old }
+        ensures written { Self.written self.new ≡ Self.written self.old }
+        ensures count { Self.faults self.new ≡ Self.faults self.old };
+
+    // What a read leaves are the bytes written, and what a write leaves those that are left to be read.
+    ghost sent_is: { (l : Self) → Self.sent l ≡ Self.written l };
+    ghost pending_is: { (l : Self) → Self.pending l ≡ Self.left l };
+}

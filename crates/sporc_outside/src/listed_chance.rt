@@ -1,0 +1,70 @@
+//! Listed words in place of random ones.
+
+ghost use Rattle.std.specs.Prelude.{◌≡◌, ◌∷◌, ◌++◌, [], IfOk, OnErr, Some};
+ghost use Rattle.sporc_outside.specs.Counts.{CountsFaults};
+ghost use Rattle.sporc_outside.specs.Words.{AppendsWord};
+
+use crate::calls::Calls;
+use crate::chance::Chance;
+use crate::counted::{Counted, Failed};
+use std::marker::Model;
+
+/// Gives the words of a list in order, and tells them. A call behind the last word fails, and so do the listed calls.
+#[derive(Debug, Drop)]
+pub struct ListedChance {
+    words: Vec<[u8; 32]>,
+    at: usize,
+    calls: Calls,
+}
+
+impl Model for ListedChance {
+    ghost use Rattle.std.specs.Prelude.{◌≤◌, take, drop, vec_len};
+    ghost use Rattle.sporc_outside.specs.ListedWords.{ListedWords};
+
+    ghost Value = { ListedWords };
+
+    ghost view = { λ c. record { given = take c.at c.words.items; left = drop c.at c.words.items; calls = c.calls } };
+
+    ghost invariant = { λ c. c.at ≤ vec_len c.words };
+}
+
+impl ListedChance {
+    /// Gives these words. The listed calls fail.
+    pub fn new(words: Vec<[u8; 32]>, calls: Calls) -> ListedChance
+        ensures { result ≡ record { given = []; left = words.items; calls = calls } }
+    {
+        ListedChance {
+            words,
+            at: 0,
+            calls,
+        }
+    }
+}
+
+impl Counted for ListedChance {
+    ghost faults = { λ c. c.calls.faults };
+
+    fn faults(&self) -> u64 {
+        self.calls.faults()
+    }
+}
+
+impl Chance for ListedChance {
+    ghost given = { λ c. Some c.given };
+
+    fn fill32(&mut self) -> Result<[u8; 32], Failed>
+        ensures ok { IfOk result (λ word. AppendsWord (Some self.old.given) (Some self.new.given) word) }
+        ensures next { IfOk result (λ word. self.old.left ≡ word ∷ self.new.left) }
+        ensures err { OnErr result (Some self.new.given ≡ Some self.old.given) }
+        ensures count { CountsFaults self.old.calls.faults self.new.calls.faults result }
+    {
+        self.calls.begin()?;
+        match self.words.get(self.at) {
+            Some(word) => {
+                self.at += 1;
+                Ok(*word)
+            }
+            None => Err(self.calls.fail()),
+        }
+    }
+}

@@ -1,0 +1,118 @@
+//! Links over listed bytes.
+
+ghost use Rattle.std.specs.Prelude.{◌≡◌, ◌<◌, ◌≤◌, ◌↔◌, [], length, min, IsErr, IfOk, Contains, Some, refl};
+ghost use Rattle.std.specs.Io.KnownBytes.{ReadConsumes, WriteAppends};
+ghost use Rattle.sporc_outside.specs.Counts.{CountsFaults, next_count};
+
+use crate::calls::Calls;
+use crate::counted::{Counted, Failed};
+use crate::link::Link;
+use crate::sink::Sink;
+use crate::source::Source;
+use std::alloc::Global;
+use std::marker::Model;
+
+/// A link whose other end sends listed bytes. It keeps the bytes that are written, and tells both. A write that finds no
+/// memory fails, and so do the listed calls.
+#[derive(Debug, Drop)]
+pub struct MemoryLink {
+    bytes: Vec<u8>,
+    at: usize,
+    written: Vec<u8>,
+    piece: usize,
+    calls: Calls,
+}
+
+impl Model for MemoryLink {
+    ghost use Rattle.std.specs.Prelude.{◌≤◌, ◌<◌, drop, vec_len};
+    ghost use Rattle.sporc_outside.specs.LinkContent.{LinkContent};
+
+    ghost Value = { LinkContent };
+
+    ghost view = { λ l. record { left = drop l.at l.bytes.items; written = l.written.items; piece = l.piece; calls = l.calls } };
+
+    ghost invariant = { λ l. (l.at ≤ vec_len l.bytes) × (0 < l.piece) };
+}
+
+impl MemoryLink {
+    /// Gives these bytes, and moves at most `piece` bytes a call. The listed calls fail.
+    pub fn new(alloc: Global, bytes: Vec<u8>, piece: usize, calls: Calls) -> MemoryLink
+        requires { 0 < piece }
+        ensures { result ≡ record { left = bytes.items; written = []; piece = piece; calls = calls } }
+    {
+        MemoryLink {
+            bytes,
+            at: 0,
+            written: Vec::new(alloc),
+            piece,
+            calls,
+        }
+    }
+
+    /// The bytes written so far.
+    pub fn written(&self) -> &[u8]
+        ensures { result.now ≡ self.now.written }
+    {
+        self.written.as_slice()
+    }
+}
+
+impl Counted for MemoryLink {
+    ghost faults = { λ l. l.calls.faults };
+
+    fn faults(&self) -> u64 {
+        self.calls.faults()
+    }
+}
+
+impl Source for MemoryLink {
+    ghost left = { λ l. Some l.left };
+
+    ghost sent = { λ l. Some l.written };
+
+    fn read(&mut self, buf: &mut [u8]) -> Result<usize, Failed>
+        ensures bound { IfOk result (λ n. n ≤ length buf.new) }
+        ensures bytes { ReadConsumes (Some self.old.left) (Some self.new.left) result buf.new }
+        ensures sent { Some self.new.written ≡ Some self.old.written }
+        ensures count { CountsFaults self.old.calls.faults self.new.calls.faults result }
+        ensures listed { IsErr result ↔ Contains self.old.calls.failing (next_count self.old.calls.made) }
+    {
+        self.calls.begin()?;
+        let left = &self.bytes[self.at..];
+        let n = buf.len().min(self.piece).min(left.len());
+        buf[..n].copy_from_slice(&left[..n]);
+        self.at += n;
+        Ok(n)
+    }
+}
+
+impl Sink for MemoryLink {
+    ghost written = { λ l. Some l.written };
+
+    ghost pending = { λ l. Some l.left };
+
+    fn write(&mut self, bytes: &[u8]) -> Result<usize, Failed>
+        ensures bound { IfOk result (λ n. n ≤ length bytes.now) }
+        ensures some { IfOk result (λ n. 0 < length bytes.now → 0 < n) }
+        ensures bytes { WriteAppends (Some self.old.written) (Some self.new.written) result bytes.now }
+        ensures pending { Some self.new.left ≡ Some self.old.left }
+        ensures count { CountsFaults self.old.calls.faults self.new.calls.faults result }
+        ensures listed { Contains self.old.calls.failing (next_count self.old.calls.made) → IsErr result }
+        ensures piece { IfOk result (λ n. n ≡ min (length bytes.now) self.old.piece) }
+    {
+        self.calls.begin()?;
+        let n = bytes.len().min(self.piece);
+        match self.written.extend_from_slice(&bytes[..n]) {
+            Ok(()) => Ok(n),
+            Err(_) => Err(self.calls.fail()),
+        }
+    }
+}
+
+impl Link for MemoryLink {
+    ghost sent_is = { λ _. refl };
+
+    ghost pending_is = { λ _. refl };
+
+    fn shut(&mut self) {}
+}
