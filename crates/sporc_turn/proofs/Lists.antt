@@ -1,4 +1,4 @@
--- Lists read by place, beginnings of a list, and the items with one number.
+-- Lists read by place, prefixes of a list, and the items with one number.
 use Rattle.std.proofs.Common.{◌≡◌, ◌≢◌, ◌⊎◌, ℕ, zero, suc, ◌<◌, ◌≤◌, ◌==◌, cond, leb, eq-eqb, ne_eqb, Bool, true, false, true≢false, List, [], ◌∷◌, ◌++◌, length, drop, set, sym, refl, ap, ◌∙◌, subst, inl, inr, ⊎_elim, arith, length-append, append_assoc}
 use Rattle.std.specs.Prelude.{All, Contains}
 use mathlib.Core.Option.{some, some-injective, some-ne-none}
@@ -45,7 +45,7 @@ module _ {A : Type 0} where
   pub All-of_each : (P : A → Type 0) (xs : List A) → ((a : A) → Contains xs a → P a) → All P xs
   All-of_each P xs each = All-weaker (Contains xs) P each xs (All-contains_itself xs)
 
-  -- beginnings of one list
+  -- prefixes of one list
   pub starts_self : (xs : List A) → StartsWith xs xs
   starts_self xs = ([], sym (append-nil xs))
 
@@ -78,8 +78,8 @@ module _ {A : Type 0} where
   shorter_is P xs ys p q = elim (leb (length ys) (length xs)) as (λ b. P (cond b ys xs)) [ true ↦ q | false ↦ p ]
 
   -- the shorter one, where it is known to begin the longer one, makes both begin it
-  pub both_begin : (xs ys : List A) → (length (shorter xs ys) ≤ length (longer xs ys) → StartsWith (longer xs ys) (shorter xs ys)) → StartsWith (longer xs ys) xs × StartsWith (longer xs ys) ys
-  both_begin xs ys begins = ⊎_elim
+  pub both_prefixes : (xs ys : List A) → (length (shorter xs ys) ≤ length (longer xs ys) → StartsWith (longer xs ys) (shorter xs ys)) → StartsWith (longer xs ys) xs × StartsWith (longer xs ys) ys
+  both_prefixes xs ys begins = ⊎_elim
       (λ (t : (leb (length ys) (length xs) ≡ true) × (length ys ≤ length xs)). subst (λ b. (length (cond b ys xs) ≤ length (cond b xs ys) → StartsWith (cond b xs ys) (cond b ys xs)) → StartsWith (cond b xs ys) xs × StartsWith (cond b xs ys) ys) (sym t.0) (λ f. (starts_self xs, f t.1)) begins)
       (λ (t : (leb (length ys) (length xs) ≡ false) × (length xs < length ys)). subst (λ b. (length (cond b ys xs) ≤ length (cond b xs ys) → StartsWith (cond b xs ys) (cond b ys xs)) → StartsWith (cond b xs ys) xs × StartsWith (cond b xs ys) ys) (sym t.0) (λ f. (f (omega (arith, t.1)), starts_self ys)) begins)
       (leb_tells (length ys) (length xs))
@@ -92,7 +92,7 @@ module _ {A : Type 0} where
   drop_length [] = refl
   drop_length (x ∷ xs) = drop_length xs
 
-  -- what comes after a beginning
+  -- what comes after a prefix
   pub drop_seen : (seen more : List A) → drop (length seen) (seen ++ more) ≡ more
   drop_seen [] more = refl
   drop_seen (x ∷ xs) more = drop_seen xs more
@@ -122,7 +122,7 @@ module _ {E : Type 0} (by : E → ℕ) where
   pub own_more : (n start : ℕ) (log extra : List E) → start ≤ length log → ((e : E) → Contains extra e → by e ≡ n) → own by n start (log ++ extra) ≡ own by n start log ++ extra
   own_more n start log extra low each = own_append n start log extra low ∙ ap (λ l. own by n start log ++ l) (filter_whole n extra each)
 
-  -- where a beginning and the whole have the same items with a number, so has what lies between
+  -- if a prefix and the whole have the same items with a number, so has what lies between
   pub between : (n start : ℕ) (xs ys log m : List E) → StartsWith ys xs → StartsWith log ys → start ≤ length xs → own by n start xs ≡ m → own by n start log ≡ m → own by n start ys ≡ m
   between n start xs ys log m p q low a b =
       let F : List E → List E = filter (λ e. by e == n) in

@@ -13,7 +13,7 @@ use Rattle.sporc_turn.specs.declared.known.Known.{Known}
 use Rattle.sporc_turn.specs.declared.known.Joined.{Joined}
 use Rattle.sporc_turn.specs.Log.{StartsWith, longer, own, HasNumber, Agrees}
 use Rattle.sporc_turn.specs.Knowing.{splitting, copied, joining, nothing_known}
-use Rattle.sporc_turn.specs.Rule.{spent_of, one_if, KnowledgeFits, IsFirst, Ended, IsShared}
+use Rattle.sporc_turn.specs.Rule.{spent_of, one_if, KnowledgeInvariant, IsFirst, NoLivePass, LogInvariant}
 use Rattle.sporc_turn.proofs.Lists
 
 abbrev number_of : {E : Type 0} → Known E → ℕ
@@ -44,12 +44,12 @@ all_spent (k ∷ ks) e (suc j) u at = let b : one_if k.spent ≡ 1 = ap one_if (
 
 module _ {E : Type 0} (by : E → ℕ) (start : ℕ) where
   -- one pass learns, or adds items with its own number
-  pub updates : (log extra : List E) (ks : List (Known E)) (i : ℕ) (k l : Known E) (o : IsShared by start log ks) → get_elem? ks i ≡ some k → k.spent ≡ false
+  pub updates : (log extra : List E) (ks : List (Known E)) (i : ℕ) (k l : Known E) (o : LogInvariant by start log ks) → get_elem? ks i ≡ some k → k.spent ≡ false
       → (l.number ≡ k.number) × (l.spent ≡ false) × (l.splits ≡ k.splits) × (l.joined ≡ k.joined)
       → ((e : E) → Contains extra e → by e ≡ k.number)
-      → KnowledgeFits by start (log ++ extra) o.seat o.splits i l
+      → KnowledgeInvariant by start (log ++ extra) o.seat o.splits i l
       → ((n : ℕ) (es : List E) → own by n start k.seen ≡ es → own by n start (log ++ extra) ≡ es → own by n start l.seen ≡ es)
-      → IsShared by start (log ++ extra) (set ks i l)
+      → LogInvariant by start (log ++ extra) (set ks i l)
   updates log extra ks i k l o at live same mine knows stands =
       let f = o.each i k at live in
       let long : start ≤ length log = omega (arith, f.whole, Lists.starts_length log k.seen f.sees) in
@@ -64,12 +64,12 @@ module _ {E : Type 0} (by : E → ℕ) (start : ℕ) where
               live = same.1;
               splits_is = same.2 ∙ H.splits_is;
               joined_is = same.3 ∙ H.joined_is;
-              stand = λ j has. stands j.number j.items (H.stand j has) (other j.number (λ is. (o.ended j has).2 i k at live (sym is)) ∙ (o.ended j has).1);
+              stand = λ j has. stands j.number j.items (H.stand j has) (other j.number (λ is. (o.joins j has).2 i k at live (sym is)) ∙ (o.joins j has).1);
             } in subst (IsFirst by start o.splits o.joined) x.1 new))
             (λ (x : (0 ≢ i) × (get_elem? ks 0 ≡ some h)). o.first h x.1)
             (at_set ks i 0 l h e);
         each = λ j u e here. ⊎_elim
-            (λ (x : (j ≡ i) × (l ≡ u)). subst (λ (y : ℕ × Known E). KnowledgeFits by start (log ++ extra) o.seat o.splits y.0 y.1) (λ m. (sym x.0 m, x.1 m)) knows)
+            (λ (x : (j ≡ i) × (l ≡ u)). subst (λ (y : ℕ × Known E). KnowledgeInvariant by start (log ++ extra) o.seat o.splits y.0 y.1) (λ m. (sym x.0 m, x.1 m)) knows)
             (λ (x : (j ≢ i) × (get_elem? ks j ≡ some u)). (let g = o.each j u x.1 here in record {
               starts = g.starts;
               place_is = g.place_is;
@@ -82,7 +82,7 @@ module _ {E : Type 0} (by : E → ℕ) (start : ℕ) where
               news = omega (arith, g.news, length-append log extra);
             }))
             (at_set ks i j l u e);
-        ended = λ j has. let t = o.ended j has in (
+        joins = λ j has. let t = o.joins j has in (
           t.0,
           other j.number (λ is. t.2 i k at live (sym is)) ∙ t.1,
           λ p u e here. ⊎_elim
@@ -102,7 +102,7 @@ module _ {E : Type 0} (by : E → ℕ) (start : ℕ) where
       }
 
   -- the first pass is the only one with the number 0
-  pub at_zero : (log : List E) (ks : List (Known E)) (i : ℕ) (k : Known E) (o : IsShared by start log ks) → get_elem? ks i ≡ some k → k.spent ≡ false → k.number ≡ 0 → 0 ≡ i
+  pub at_zero : (log : List E) (ks : List (Known E)) (i : ℕ) (k : Known E) (o : LogInvariant by start log ks) → get_elem? ks i ≡ some k → k.spent ≡ false → k.number ≡ 0 → 0 ≡ i
   at_zero log ks i k o at live zero' =
       let t : (h : Known E) × (get_elem? ks 0 ≡ some h) = head ks o.counted in
       let H = o.first t.0 t.1 in
@@ -114,11 +114,11 @@ module _ {E : Type 0} (by : E → ℕ) (start : ℕ) where
       head [] e = absurd (omega arith)
       head (x ∷ xs) e = (x, refl)
 
-  is_first : (log : List E) (ks : List (Known E)) (i : ℕ) (k : Known E) (o : IsShared by start log ks) → get_elem? ks i ≡ some k → k.spent ≡ false → k.number ≡ 0 → IsFirst by start o.splits o.joined k
+  is_first : (log : List E) (ks : List (Known E)) (i : ℕ) (k : Known E) (o : LogInvariant by start log ks) → get_elem? ks i ≡ some k → k.spent ≡ false → k.number ≡ 0 → IsFirst by start o.splits o.joined k
   is_first log ks i k o at live zero' = o.first k (ap (λ n. get_elem? ks n) (at_zero log ks i k o at live zero') ∙ at)
 
   -- where the first has joined back all that it split, each other pass is spent
-  alone : (log : List E) (ks : List (Known E)) (i : ℕ) (k : Known E) (o : IsShared by start log ks) → get_elem? ks i ≡ some k → k.spent ≡ false → k.number ≡ 0 → k.splits ≡ length k.joined
+  alone : (log : List E) (ks : List (Known E)) (i : ℕ) (k : Known E) (o : LogInvariant by start log ks) → get_elem? ks i ≡ some k → k.spent ≡ false → k.number ≡ 0 → k.splits ≡ length k.joined
       → (j : ℕ) (u : Known E) → get_elem? ks j ≡ some u → u.spent ≡ false → j ≡ 0
   alone log ks i k o at live zero' all =
       let H = is_first log ks i k o at live zero' in
@@ -131,7 +131,7 @@ module _ {E : Type 0} (by : E → ℕ) (start : ℕ) where
       only (x ∷ xs) e m (suc j) u p here = let z : one_if x.spent ≡ 0 = ap one_if (ap (λ (y : Known E). y.spent) (some-injective x k e) ∙ live) in Lists.no_both u.spent here (all_spent xs (omega arith) j u p)
 
   -- and each number is of one of those that were joined
-  all_back : (log : List E) (ks : List (Known E)) (i : ℕ) (k : Known E) (o : IsShared by start log ks) → get_elem? ks i ≡ some k → k.spent ≡ false → k.number ≡ 0 → k.splits ≡ length k.joined
+  all_back : (log : List E) (ks : List (Known E)) (i : ℕ) (k : Known E) (o : LogInvariant by start log ks) → get_elem? ks i ≡ some k → k.spent ≡ false → k.number ≡ 0 → k.splits ≡ length k.joined
       → (n : ℕ) → n ≢ 0 → n ≤ k.splits → HasNumber k.joined n
   all_back log ks i k o at live zero' all n ne low =
       let H = is_first log ks i k o at live zero' in
@@ -143,7 +143,7 @@ module _ {E : Type 0} (by : E → ℕ) (start : ℕ) where
       (o.numbers n (omega (arith, H.splits_is)))
 
   -- the log agrees with what a pass knows
-  pub agrees : (log : List E) (ks : List (Known E)) (i : ℕ) (k : Known E) (o : IsShared by start log ks) → get_elem? ks i ≡ some k → k.spent ≡ false → Agrees by k log
+  pub agrees : (log : List E) (ks : List (Known E)) (i : ℕ) (k : Known E) (o : LogInvariant by start log ks) → get_elem? ks i ≡ some k → k.spent ≡ false → Agrees by k log
   agrees log ks i k o at live =
       let f = o.each i k at live in record {
         begins = f.sees;
@@ -151,7 +151,7 @@ module _ {E : Type 0} (by : E → ℕ) (start : ℕ) where
         mine = ap (λ n. own by k.number n log) f.starts ∙ f.mine;
         joined = λ zero'. (let H = is_first log ks i k o at live zero' in
             Lists.All-of_each (λ (j : Joined E). own by j.number k.start log ≡ j.items) k.joined
-            (λ j has. ap (λ n. own by j.number n log) f.starts ∙ (o.ended j (subst (λ js. Contains js j) H.joined_is has)).1));
+            (λ j has. ap (λ n. own by j.number n log) f.starts ∙ (o.joins j (subst (λ js. Contains js j) H.joined_is has)).1));
         numbers = λ zero'. (let H = is_first log ks i k o at live zero' in
             Lists.All-of_each (λ e. by e ≤ k.splits) (drop k.start log)
             (λ e has. omega (arith, H.splits_is, o.numbered e (subst (λ n. Contains (drop n log) e) f.starts has))));
@@ -159,7 +159,7 @@ module _ {E : Type 0} (by : E → ℕ) (start : ℕ) where
       }
 
   -- and so does what the pass has seen of it
-  pub agrees_seen : (log : List E) (ks : List (Known E)) (i : ℕ) (k : Known E) (o : IsShared by start log ks) → get_elem? ks i ≡ some k → k.spent ≡ false → Agrees by k k.seen
+  pub agrees_seen : (log : List E) (ks : List (Known E)) (i : ℕ) (k : Known E) (o : LogInvariant by start log ks) → get_elem? ks i ≡ some k → k.spent ≡ false → Agrees by k k.seen
   agrees_seen log ks i k o at live =
       let f = o.each i k at live in record {
         begins = Lists.starts_self k.seen;
@@ -178,7 +178,7 @@ module _ {E : Type 0} (by : E → ℕ) (start : ℕ) where
       in_log log' seen s low e has = subst (λ xs. Contains xs e) (sym (ap (drop start) s.1 ∙ drop-append-le start seen s.0 low)) (Contains-append_left (drop start seen) s.0 e has)
 
   -- the first has joined no more than it split
-  pub no_more : (log : List E) (ks : List (Known E)) (i : ℕ) (k : Known E) (o : IsShared by start log ks) → get_elem? ks i ≡ some k → k.spent ≡ false → k.number ≡ 0 → length k.joined ≤ k.splits
+  pub no_more : (log : List E) (ks : List (Known E)) (i : ℕ) (k : Known E) (o : LogInvariant by start log ks) → get_elem? ks i ≡ some k → k.spent ≡ false → k.number ≡ 0 → length k.joined ≤ k.splits
   no_more log ks i k o at live zero' =
       let H = is_first log ks i k o at live zero' in
       omega (arith, few ks (ap (λ n. get_elem? ks n) (at_zero log ks i k o at live zero') ∙ at), o.spents, o.counted, H.splits_is, ap length H.joined_is)
@@ -188,8 +188,8 @@ module _ {E : Type 0} (by : E → ℕ) (start : ℕ) where
       few (x ∷ xs) e = let z : one_if x.spent ≡ 0 = ap one_if (ap (λ (y : Known E). y.spent) (some-injective x k e) ∙ live) in omega (arith, spent_low xs)
 
   -- a pass is split from the first
-  pub splits : (log : List E) (ks : List (Known E)) (i : ℕ) (k : Known E) (o : IsShared by start log ks) → get_elem? ks i ≡ some k → k.spent ≡ false → k.number ≡ 0
-      → IsShared by start log (set ks i (splitting k) ++ copied k ∷ [])
+  pub splits : (log : List E) (ks : List (Known E)) (i : ℕ) (k : Known E) (o : LogInvariant by start log ks) → get_elem? ks i ≡ some k → k.spent ≡ false → k.number ≡ 0
+      → LogInvariant by start log (set ks i (splitting k) ++ copied k ∷ [])
   splits log ks i k o at live zero' =
       let is0 = at_zero log ks i k o at live zero' in
       let H = is_first log ks i k o at live zero' in
@@ -204,7 +204,7 @@ module _ {E : Type 0} (by : E → ℕ) (start : ℕ) where
       let none' : own by n' start log ≡ [] = Lists.filter_none by n' (drop start log) (λ e has is. omega (arith, o.numbered e has, H.splits_is)) in
       let cut : (xs : List E) → StartsWith log xs → start ≤ length xs → own by n' start xs ≡ [] = λ xs s low. Lists.filter_none by n' (drop start xs)
       (λ e has is. (let more = Contains-append_left (drop start xs) s.0 e has in let in_log = subst (λ ys. Contains ys e) (sym (ap (drop start) s.1 ∙ drop-append-le start xs s.0 low)) more in omega (arith, o.numbered e in_log, H.splits_is))) in
-      let Q : ℕ → Known E → Type 0 = KnowledgeFits by start log seat' (o.splits + 1) in record {
+      let Q : ℕ → Known E → Type 0 = KnowledgeInvariant by start log seat' (o.splits + 1) in record {
         seat = seat';
         splits = o.splits + 1;
         joined = o.joined;
@@ -235,7 +235,7 @@ module _ {E : Type 0} (by : E → ℕ) (start : ℕ) where
               news = f.news;
             } in new))
             (Lists.at_end vs c u j e);
-        ended = λ j has. let t = o.ended j has in (
+        joins = λ j has. let t = o.joins j has in (
           omega (arith, t.0),
           t.1,
           λ p u e here. ⊎_elim
@@ -260,9 +260,9 @@ module _ {E : Type 0} (by : E → ℕ) (start : ℕ) where
       }
 
   -- a pass is joined to the first
-  pub joins : (log : List E) (ks : List (Known E)) (i j : ℕ) (k l : Known E) (o : IsShared by start log ks) → get_elem? ks i ≡ some k → k.spent ≡ false → k.number ≡ 0
+  pub joins : (log : List E) (ks : List (Known E)) (i j : ℕ) (k l : Known E) (o : LogInvariant by start log ks) → get_elem? ks i ≡ some k → k.spent ≡ false → k.number ≡ 0
       → j ≢ i → get_elem? ks j ≡ some l → l.spent ≡ false
-      → IsShared by start log (set (set ks i (joining k l)) j nothing_known)
+      → LogInvariant by start log (set (set ks i (joining k l)) j nothing_known)
   joins log ks i j k l o at live zero' apart there live' =
       let is0 = at_zero log ks i k o at live zero' in
       let H = is_first log ks i k o at live zero' in
@@ -277,7 +277,7 @@ module _ {E : Type 0} (by : E → ℕ) (start : ℕ) where
       let starts = Lists.longer_starts k.seen l.seen log f.sees g.sees in
       let sees : StartsWith log top = Lists.longer_is (λ xs. StartsWith log xs) k.seen l.seen f.sees g.sees in
       let distinct : l.number ≢ k.number = λ is. apart (sym g.place_is ∙ ap o.seat is ∙ f.place_is) in
-      let Q : ℕ → Known E → Type 0 = KnowledgeFits by start log o.seat o.splits in
+      let Q : ℕ → Known E → Type 0 = KnowledgeInvariant by start log o.seat o.splits in
       let split_at : (R : ℕ → Known E → Type 0) → R i b → ((m : ℕ) (u : Known E) → m ≢ i → m ≢ j → get_elem? ks m ≡ some u → u.spent ≡ false → R m u) → (m : ℕ) (u : Known E) → get_elem? (set vs j nothing_known) m ≡ some u → u.spent ≡ false → R m u =
       λ R mine others m u e here. ⊎_elim
       (λ (x : (m ≡ j) × (nothing_known ≡ u)). Lists.no_both u.spent here (sym (ap (λ (y : Known E). y.spent) x.1)))
@@ -299,7 +299,7 @@ module _ {E : Type 0} (by : E → ℕ) (start : ℕ) where
               joined_is = ap (λ xs. new' ∷ xs) H.joined_is;
               stand = λ q has. ⊎_elim
                   (λ (z : new' ≡ q). subst (λ (w : Joined E). own by w.number start top ≡ w.items) z (Lists.between by l.number start l.seen top log l.mine starts.1 sees g.whole g.mine_seen g.mine))
-                  (λ old. Lists.between by q.number start k.seen top log q.items starts.0 sees f.whole (H.stand q old) (o.ended q old).1)
+                  (λ old. Lists.between by q.number start k.seen top log q.items starts.0 sees f.whole (H.stand q old) (o.joins q old).1)
                   (Lists.Contains-cons new' o.joined q has);
             } in subst (IsFirst by start o.splits joined') y.1 new))
             (λ (y : (0 ≢ i) × (get_elem? ks 0 ≡ some h)). absurd (y.0 is0))
@@ -318,10 +318,10 @@ module _ {E : Type 0} (by : E → ℕ) (start : ℕ) where
               news = omega (arith, f.news, g.news);
             })
             (λ m u _ _ e here. o.each m u e here);
-        ended = λ q has. ⊎_elim
-            (λ (z : new' ≡ q). subst (λ (w : Joined E). (w.number ≤ o.splits) × (own by w.number start log ≡ w.items) × Ended (set vs j nothing_known) w.number) z
+        joins = λ q has. ⊎_elim
+            (λ (z : new' ≡ q). subst (λ (w : Joined E). (w.number ≤ o.splits) × (own by w.number start log ≡ w.items) × NoLivePass (set vs j nothing_known) w.number) z
             (g.number, g.mine, split_at (λ m u. u.number ≢ l.number) (λ is. distinct (sym is)) (λ m u _ ne e here is. ne (sym (o.each m u e here).place_is ∙ ap o.seat is ∙ g.place_is))))
-            (λ old. let t = o.ended q old in (t.0, t.1, split_at (λ m u. u.number ≢ q.number) (t.2 i k at live) (λ m u _ _ e here. t.2 m u e here)))
+            (λ old. let t = o.joins q old in (t.0, t.1, split_at (λ m u. u.number ≢ q.number) (t.2 i k at live) (λ m u _ _ e here. t.2 m u e here)))
             (Lists.Contains-cons new' o.joined q has);
         numbered = o.numbered;
         numbers = λ n low. ⊎_elim
@@ -337,7 +337,7 @@ module _ {E : Type 0} (by : E → ℕ) (start : ℕ) where
       }
 
   -- where the first has joined back all its copies, each other pass is spent, and the log is what the first has seen
-  pub closes : (log : List E) (ks : List (Known E)) (i : ℕ) (k : Known E) (o : IsShared by start log ks) → get_elem? ks i ≡ some k → k.spent ≡ false → k.number ≡ 0 → k.splits ≡ length k.joined
+  pub closes : (log : List E) (ks : List (Known E)) (i : ℕ) (k : Known E) (o : LogInvariant by start log ks) → get_elem? ks i ≡ some k → k.spent ≡ false → k.number ≡ 0 → k.splits ≡ length k.joined
       → ((j : ℕ) (u : Known E) → get_elem? ks j ≡ some u → u.spent ≡ false → j ≡ i) × (log ≡ k.seen)
   closes log ks i k o at live zero' all =
       let is0 = at_zero log ks i k o at live zero' in
@@ -350,7 +350,7 @@ module _ {E : Type 0} (by : E → ℕ) (start : ℕ) where
       let number : k.number ≡ n = ap number_of same ∙ t.4 in
       subst (λ m. filter (λ e. by e == m) f.sees.0 ≡ []) number (Lists.behind by k.number start k.seen f.sees.0 k.mine f.whole f.mine_seen (ap (own by k.number start) (sym f.sees.1) ∙ f.mine))))
       (λ (t : HasNumber o.joined n).
-      subst (λ m. filter (λ e. by e == m) f.sees.0 ≡ []) t.2 (Lists.behind by t.0.number start k.seen f.sees.0 t.0.items f.whole (H.stand t.0 t.1) (ap (own by t.0.number start) (sym f.sees.1) ∙ (o.ended t.0 t.1).1)))
+      subst (λ m. filter (λ e. by e == m) f.sees.0 ≡ []) t.2 (Lists.behind by t.0.number start k.seen f.sees.0 t.0.items f.whole (H.stand t.0 t.1) (ap (own by t.0.number start) (sym f.sees.1) ∙ (o.joins t.0 t.1).1)))
       (o.numbers n low) in
       let empty : f.sees.0 ≡ [] = Lists.filter_all by f.sees.0 (λ e has. none' (by e) (o.numbered e (in_log e has))) in
       ((λ j u e here. alone' j u e here ∙ is0), f.sees.1 ∙ ap (λ l. k.seen ++ l) empty ∙ append-nil k.seen)

@@ -1,5 +1,5 @@
 -- Each step on a word keeps the rule of the lock, and tells what it says.
-use Rattle.std.proofs.Common.{◌≡◌, ◌≢◌, ◌⊎◌, ℕ, ◌+◌, ◌<◌, ◌≤◌, ◌^◌, ◌==◌, cond, eqb, eq-eqb, ne_eqb, true, false, true≢false, List, [], ◌∷◌, ◌++◌, map, length, get_or, set, drop, Some, None, sym, refl, ap, ◌∙◌, subst, inl, inr, ⊎_elim, arith, length-append}
+use Rattle.std.proofs.Common.{◌≡◌, ◌≢◌, ◌⊎◌, ℕ, ◌+◌, ◌<◌, ◌≤◌, ◌==◌, cond, eqb, eq-eqb, ne_eqb, true, false, true≢false, List, [], ◌∷◌, ◌++◌, map, length, get_or, set, drop, Some, None, sym, refl, ap, ◌∙◌, subst, inl, inr, ⊎_elim, arith, length-append}
 use Rattle.std.specs.Prelude.{slice_index, Contains, All}
 use Rattle.std.specs.Prelude as std
 use mathlib.Core.Option.{Option, none, some}
@@ -11,15 +11,16 @@ use Rattle.std.proofs.lemmas.List.{map-set, append-nil}
 use Rattle.std.proofs.lemmas.List.Elements.{All-contains}
 use Rattle.atomic_table.specs.Table.{State, Me, Act, stepped, Valid, carried_after, keeps, takes, gives, Allows}
 use Rattle.atomic_table.proofs.Lists.{at_map, set_again, exchanged}
+use Rattle.sporc_turn.specs.declared.limits.TheConstants.{MAX_TICKETS}
 use Rattle.sporc_turn.specs.declared.known.View.{View}
 use Rattle.sporc_turn.specs.declared.known.Known.{Known}
 use Rattle.sporc_turn.specs.Log.{StartsWith, own, Extends, Agrees}
 use Rattle.sporc_turn.specs.Knowing.{seeing, adding, hearing, matched}
-use Rattle.sporc_turn.specs.Rule.{known, TicketFits, HasTicket, HasTurn, There, KnowledgeFits, IsShared, IsInOrder}
-use Rattle.sporc_turn.specs.Steps.{reading, drawing, serving, raising, resting, ReadsTicket, DrawsTicket, ReadsServing, RaisesCount, PassesServing, ReadsCount, Compares}
-use Rattle.sporc_turn.specs.Seats.{Rests}
+use Rattle.sporc_turn.specs.Rule.{known, TicketInvariant, HasTicket, HasTurn, HoldsAt, KnowledgeInvariant, LogInvariant, TurnInvariant}
+use Rattle.sporc_turn.specs.Steps.{reading, drawing, serving, raising, idling, ReadsTicket, DrawsTicket, ReadsServing, RaisesCount, PassesServing, ReadsCount, Compares}
+use Rattle.sporc_turn.specs.Seats.{IsIdle}
 use Rattle.sporc_turn.proofs.Lists.{no_both, set_at, same_at, starts_length, starts_self, starts_more, starts_shorter, drop_seen, own_more, Contains-nil}
-use Rattle.sporc_turn.proofs.Views.{is_live, each_set, there_set, same_known}
+use Rattle.sporc_turn.proofs.Views.{is_live, each_set, holds_at_set, same_known}
 use Rattle.sporc_turn.proofs.Logs
 
 -- the value in the first slot that a seat has
@@ -30,25 +31,25 @@ some_of d ((k, None) ∷ cs) = d
 
 module _ {S E : Type 0} (logs : S → List E) (by : E → ℕ) (start : ℕ) where
   abbrev Rule : State (std.Option S) (View E) → Type 0
-  Rule = IsInOrder by logs start
+  Rule = TurnInvariant by logs start
 
   abbrev Does : State (std.Option S) (View E) → ℕ → Me (std.Option S) (View E) → ℕ → ℕ → (Me (std.Option S) (View E) → Type 0) → Type 0
-  Does s id me i n then = (w : View E) × (a : Act (std.Option S)) × Valid s.homes me.1 a × IsInOrder by logs start (stepped s i n id me.1 w a) × then (w, carried_after me.1 a)
+  Does s id me i n then = (w : View E) × (a : Act (std.Option S)) × Valid s.homes me.1 a × TurnInvariant by logs start (stepped s i n id me.1 w a) × then (w, carried_after me.1 a)
 
-  same_words : (s : State (std.Option S) (View E)) (o : IsInOrder by logs start s) → (set s.words 0 (get_or s.words 0 0) ≡ s.words) × (set s.words 1 (get_or s.words 1 0) ≡ s.words) × (set s.words 2 (get_or s.words 2 0) ≡ s.words)
+  same_words : (s : State (std.Option S) (View E)) (o : TurnInvariant by logs start s) → (set s.words 0 (get_or s.words 0 0) ≡ s.words) × (set s.words 1 (get_or s.words 1 0) ≡ s.words) × (set s.words 2 (get_or s.words 2 0) ≡ s.words)
   same_words s o = (ap (λ (ws : List ℕ). set ws 0 (get_or ws 0 0)) o.words ∙ sym o.words, ap (λ (ws : List ℕ). set ws 1 (get_or ws 1 0)) o.words ∙ sym o.words, ap (λ (ws : List ℕ). set ws 2 (get_or ws 2 0)) o.words ∙ sym o.words)
 
   -- a view with a ticket was not joined to another
-  pub live_of : (s : State (std.Option S) (View E)) (o : IsInOrder by logs start s) (id : ℕ) (v : View E) → get_elem? s.views id ≡ some v → (v.waits ≡ true) ⊎ (v.turns ≡ true) → v.known.spent ≡ false
+  pub live_of : (s : State (std.Option S) (View E)) (o : TurnInvariant by logs start s) (id : ℕ) (v : View E) → get_elem? s.views id ≡ some v → (v.waits ≡ true) ⊎ (v.turns ≡ true) → v.known.spent ≡ false
   live_of s o id v at t = is_live v.known (λ sp. let q = (o.each id v at).still sp in ⊎_elim (λ a. true≢false (sym a ∙ q.0)) (λ a. true≢false (sym a ∙ q.1)) t)
 
   -- a step that leaves the words as they are, at which a pass reads a number or learns of the log
-  rereads : (s : State (std.Option S) (View E)) (o : IsInOrder by logs start s) (id i : ℕ) (v : View E) (r : ℕ) (l : Known E) → get_elem? s.views id ≡ some v → r ≤ o.ticket → (set s.words i (get_or s.words i 0) ≡ s.words)
-      → l.seen ≡ v.known.seen → l.spent ≡ v.known.spent → IsShared by start o.log (set (map known s.views) id l)
-      → IsInOrder by logs start record { words = set s.words i (get_or s.words i 0); homes = s.homes; views = set s.views id (record v { read = r; known = l }) }
+  rereads : (s : State (std.Option S) (View E)) (o : TurnInvariant by logs start s) (id i : ℕ) (v : View E) (r : ℕ) (l : Known E) → get_elem? s.views id ≡ some v → r ≤ o.ticket → (set s.words i (get_or s.words i 0) ≡ s.words)
+      → l.seen ≡ v.known.seen → l.spent ≡ v.known.spent → LogInvariant by start o.log (set (map known s.views) id l)
+      → TurnInvariant by logs start record { words = set s.words i (get_or s.words i 0); homes = s.homes; views = set s.views id (record v { read = r; known = l }) }
   rereads s o id i v r l at low same seen spent shared =
       let w : View E = record v { read = r; known = l } in
-      let P : ℕ → View E → Type 0 = TicketFits o.ticket o.serving o.busy o.owner in
+      let P : ℕ → View E → Type 0 = TicketInvariant o.ticket o.serving o.busy o.owner in
       let f = o.each id v at in record {
         ticket = o.ticket;
         serving = o.serving;
@@ -59,27 +60,27 @@ module _ {S E : Type 0} (logs : S → List E) (by : E → ℕ) (start : ℕ) whe
         in_order = o.in_order;
         bounded = o.bounded;
         each = each_set P P s.views id w o.each (λ j u ne e h. h) (record { read = low; waiting = f.waiting; turning = f.turning; still = λ t. f.still (sym spent ∙ t) });
-        drawn = λ n from below. there_set (HasTicket n) (HasTicket n) s.views id (o.owner n) v w at (o.drawn n from below) (λ u _ h. h) (λ _ h. h);
-        holder = λ b. there_set (HasTurn o.log) (HasTurn o.log) s.views id (o.owner o.serving) v w at (o.holder b) (λ u _ h. h) (λ _ h. (h.0, seen ∙ h.1));
+        drawn = λ n from below. holds_at_set (HasTicket n) (HasTicket n) s.views id (o.owner n) v w at (o.drawn n from below) (λ u _ h. h) (λ _ h. h);
+        holder = λ b. holds_at_set (HasTurn o.log) (HasTurn o.log) s.views id (o.owner o.serving) v w at (o.holder b) (λ u _ h. h) (λ _ h. (h.0, seen ∙ h.1));
         out = o.out;
         home = o.home;
-        shared = subst (IsShared by start o.log) (sym (map-set known s.views id w)) shared;
+        shared = subst (LogInvariant by start o.log) (sym (map-set known s.views id w)) shared;
       }
 
   -- one at which the pass learns nothing of the log
-  reread : (s : State (std.Option S) (View E)) (o : IsInOrder by logs start s) (id i : ℕ) (v : View E) (r : ℕ) → get_elem? s.views id ≡ some v → r ≤ o.ticket → (set s.words i (get_or s.words i 0) ≡ s.words)
-      → IsInOrder by logs start record { words = set s.words i (get_or s.words i 0); homes = s.homes; views = set s.views id (reading v r) }
-  reread s o id i v r at low same = rereads s o id i v r v.known at low same refl refl (subst (IsShared by start o.log) (sym (set_again (map known s.views) id v.known (at_map known s.views id v at))) o.shared)
+  reread : (s : State (std.Option S) (View E)) (o : TurnInvariant by logs start s) (id i : ℕ) (v : View E) (r : ℕ) → get_elem? s.views id ≡ some v → r ≤ o.ticket → (set s.words i (get_or s.words i 0) ≡ s.words)
+      → TurnInvariant by logs start record { words = set s.words i (get_or s.words i 0); homes = s.homes; views = set s.views id (reading v r) }
+  reread s o id i v r at low same = rereads s o id i v r v.known at low same refl refl (subst (LogInvariant by start o.log) (sym (set_again (map known s.views) id v.known (at_map known s.views id v at))) o.shared)
 
-  pub reads : (slots id : ℕ) (me : Me (std.Option S) (View E)) → Allows (IsInOrder by logs start) slots id me 0 (λ n. n) (ReadsTicket me)
+  pub reads : (slots id : ℕ) (me : Me (std.Option S) (View E)) → Allows (TurnInvariant by logs start) slots id me 0 (λ n. n) (ReadsTicket me)
   reads slots id me s o len at fits =
       let r : ℕ = slice_index s.words 0 in
       let is : r ≡ o.ticket = ap (λ ws. slice_index ws 0) o.words in
       let low : r ≤ o.ticket = omega arith in
-      let top : r ≤ 2 ^ 62 = omega (arith, o.bounded) in
+      let top : r ≤ MAX_TICKETS = omega (arith, o.bounded) in
       (reading me.0 r, keeps, tt, reread s o id 0 me.0 r at low (same_words s o).0, (refl, omega (arith, (o.each id me.0 at).read), top))
 
-  draws_here : (s : State (std.Option S) (View E)) (o : IsInOrder by logs start s) (id k : ℕ) (me : Me (std.Option S) (View E)) → Rests me.0 → k < 2 ^ 62 → get_elem? s.views id ≡ some me.0 → slice_index s.words 0 ≡ k
+  draws_here : (s : State (std.Option S) (View E)) (o : TurnInvariant by logs start s) (id k : ℕ) (me : Me (std.Option S) (View E)) → IsIdle me.0 → k < MAX_TICKETS → get_elem? s.views id ≡ some me.0 → slice_index s.words 0 ≡ k
       → Does s id me 0 (k + 1) (DrawsTicket me k (slice_index s.words 0))
   draws_here s o id k me idle low at here =
       let v = me.0 in
@@ -89,8 +90,8 @@ module _ {S E : Type 0} (logs : S → List E) (by : E → ℕ) (start : ℕ) whe
       let mine : owner' k ≡ id = ap (λ t. cond t id (o.owner k)) (eq-eqb k k refl) in
       let other : (n : ℕ) → n ≢ k → owner' n ≡ o.owner n = λ n ne. ap (λ t. cond t id (o.owner n)) (ne_eqb n k ne) in
       let f = o.each id v at in
-      let P : ℕ → View E → Type 0 = TicketFits o.ticket o.serving o.busy o.owner in
-      let Q : ℕ → View E → Type 0 = TicketFits (k + 1) o.serving o.busy owner' in
+      let P : ℕ → View E → Type 0 = TicketInvariant o.ticket o.serving o.busy o.owner in
+      let Q : ℕ → View E → Type 0 = TicketInvariant (k + 1) o.serving o.busy owner' in
       let T : View E → Type 0 = HasTurn o.log in (
         w,
         keeps,
@@ -113,19 +114,19 @@ module _ {S E : Type 0} (logs : S → List E) (by : E → ℕ) (start : ℕ) whe
               })
               (record { read = omega (arith, f.read); waiting = λ _. (mine, omega (arith, o.in_order), omega arith, refl); turning = λ t. no_both false refl t; still = λ t. no_both v.known.spent idle.2 t });
           drawn = λ n from below. dite (ℕ_discrete n k)
-              (λ (e : n ≡ k). subst (λ m. There (HasTicket m) (set s.views id w) (owner' m)) (sym e) (w, ap (λ m. get_elem? (set s.views id w) m) mine ∙ set_at s.views id w v at, (inl refl, refl)))
-              (λ (ne : n ≢ k). subst (There (HasTicket n) (set s.views id w)) (sym (other n ne))
-              (there_set (HasTicket n) (HasTicket n) s.views id (o.owner n) v w at (o.drawn n from (omega arith)) (λ u _ h. h) (λ _ h. absurd (⊎_elim (λ t. no_both v.waits idle.0 t) (λ t. no_both v.turns idle.1 t) h.0))));
+              (λ (e : n ≡ k). subst (λ m. HoldsAt (HasTicket m) (set s.views id w) (owner' m)) (sym e) (w, ap (λ m. get_elem? (set s.views id w) m) mine ∙ set_at s.views id w v at, (inl refl, refl)))
+              (λ (ne : n ≢ k). subst (HoldsAt (HasTicket n) (set s.views id w)) (sym (other n ne))
+              (holds_at_set (HasTicket n) (HasTicket n) s.views id (o.owner n) v w at (o.drawn n from (omega arith)) (λ u _ h. h) (λ _ h. absurd (⊎_elim (λ t. no_both v.waits idle.0 t) (λ t. no_both v.turns idle.1 t) h.0))));
           holder = λ b. let t = o.holder b in let g = (o.each (o.owner o.serving) t.0 t.1).turning t.2.0 in let ne : o.serving ≢ k = λ (x : o.serving ≡ k). (let a = g.2 in let c = g.1 in omega arith) in
-              subst (There T (set s.views id w)) (sym (other o.serving ne)) (there_set T T s.views id (o.owner o.serving) v w at t (λ u _ h. h) (λ _ h. no_both v.turns idle.1 h.0));
+              subst (HoldsAt T (set s.views id w)) (sym (other o.serving ne)) (holds_at_set T T s.views id (o.owner o.serving) v w at t (λ u _ h. h) (λ _ h. no_both v.turns idle.1 h.0));
           out = o.out;
           home = o.home;
-          shared = subst (IsShared by start o.log) (sym (same_known s.views id v w at refl)) o.shared;
+          shared = subst (LogInvariant by start o.log) (sym (same_known s.views id v w at refl)) o.shared;
         },
         ((λ _. refl), (λ ne. absurd (ne here))),
       )
 
-  pub draws : (slots id k : ℕ) (me : Me (std.Option S) (View E)) → Rests me.0 → k < 2 ^ 62 → Allows (IsInOrder by logs start) slots id me 0 (λ n. either (n == k) (k + 1) n) (DrawsTicket me k)
+  pub draws : (slots id k : ℕ) (me : Me (std.Option S) (View E)) → IsIdle me.0 → k < MAX_TICKETS → Allows (TurnInvariant by logs start) slots id me 0 (λ n. either (n == k) (k + 1) n) (DrawsTicket me k)
   draws slots id k me idle low s o len at fits =
       let r : ℕ = slice_index s.words 0 in
       let F : ℕ → Type 0 = λ n. Does s id me 0 n (DrawsTicket me k r) in
@@ -134,25 +135,25 @@ module _ {S E : Type 0} (logs : S → List E) (by : E → ℕ) (start : ℕ) whe
       (λ ne. (me.0, keeps, tt, reread s o id 0 me.0 me.0.read at (o.each id me.0 at).read (same_words s o).0, ((λ e. absurd (ne e)), (λ _. refl))))
 
   -- what the rule on the log says to a pass that is live
-  knows : (s : State (std.Option S) (View E)) (o : IsInOrder by logs start s) (id : ℕ) (v : View E) → get_elem? s.views id ≡ some v → v.known.spent ≡ false
-      → KnowledgeFits by start o.log o.shared.seat o.shared.splits id v.known × Agrees by v.known o.log
+  knows : (s : State (std.Option S) (View E)) (o : TurnInvariant by logs start s) (id : ℕ) (v : View E) → get_elem? s.views id ≡ some v → v.known.spent ≡ false
+      → KnowledgeInvariant by start o.log o.shared.seat o.shared.splits id v.known × Agrees by v.known o.log
   knows s o id v at live = let at' = at_map known s.views id v at in (o.shared.each id v.known at' live, Logs.agrees by start o.log (map known s.views) id v.known o.shared at' live)
 
   -- a live pass learns of the log
-  learns : (s : State (std.Option S) (View E)) (o : IsInOrder by logs start s) (id : ℕ) (v : View E) (l : Known E) → get_elem? s.views id ≡ some v → v.known.spent ≡ false
+  learns : (s : State (std.Option S) (View E)) (o : TurnInvariant by logs start s) (id : ℕ) (v : View E) (l : Known E) → get_elem? s.views id ≡ some v → v.known.spent ≡ false
       → (l.number ≡ v.known.number) × (l.spent ≡ false) × (l.splits ≡ v.known.splits) × (l.joined ≡ v.known.joined)
-      → (KnowledgeFits by start o.log o.shared.seat o.shared.splits id v.known → KnowledgeFits by start o.log o.shared.seat o.shared.splits id l)
+      → (KnowledgeInvariant by start o.log o.shared.seat o.shared.splits id v.known → KnowledgeInvariant by start o.log o.shared.seat o.shared.splits id l)
       → ((n : ℕ) (es : List E) → own by n start v.known.seen ≡ es → own by n start o.log ≡ es → own by n start l.seen ≡ es)
-      → IsShared by start o.log (set (map known s.views) id l)
+      → LogInvariant by start o.log (set (map known s.views) id l)
   learns s o id v l at live same fits stands =
       let all : o.log ++ [] ≡ o.log = append-nil o.log in
       let at' = at_map known s.views id v at in
-      subst (λ g. IsShared by start g (set (map known s.views) id l)) all
+      subst (λ g. LogInvariant by start g (set (map known s.views) id l)) all
       (Logs.updates by start o.log [] (map known s.views) id v.known l o.shared at' live same (λ e has. absurd (Contains-nil e has))
-      (subst (λ g. KnowledgeFits by start g o.shared.seat o.shared.splits id l) (sym all) (fits (o.shared.each id v.known at' live)))
+      (subst (λ g. KnowledgeInvariant by start g o.shared.seat o.shared.splits id l) (sym all) (fits (o.shared.each id v.known at' live)))
       (λ n es a b. stands n es a (ap (own by n start) (sym all) ∙ b)))
 
-  serves_here : (s : State (std.Option S) (View E)) (o : IsInOrder by logs start s) (id : ℕ) (me : Me (std.Option S) (View E)) → me.0.waits ≡ true → get_elem? s.views id ≡ some me.0 → slice_index s.words 1 ≡ me.0.ticket
+  serves_here : (s : State (std.Option S) (View E)) (o : TurnInvariant by logs start s) (id : ℕ) (me : Me (std.Option S) (View E)) → me.0.waits ≡ true → get_elem? s.views id ≡ some me.0 → slice_index s.words 1 ≡ me.0.ticket
       → Does s id me 1 (slice_index s.words 1) (ReadsServing me logs by (slice_index s.words 1))
   serves_here s o id me waits at here =
       let v = me.0 in
@@ -166,8 +167,8 @@ module _ {S E : Type 0} (logs : S → List E) (by : E → ℕ) (start : ℕ) whe
       let x = o.home free in
       let l = seeing v.known (logs x.0) in
       let w = serving v (logs x.0) in
-      let P : ℕ → View E → Type 0 = TicketFits o.ticket o.serving o.busy o.owner in
-      let Q : ℕ → View E → Type 0 = TicketFits o.ticket o.serving true o.owner in
+      let P : ℕ → View E → Type 0 = TicketInvariant o.ticket o.serving o.busy o.owner in
+      let Q : ℕ → View E → Type 0 = TicketInvariant o.ticket o.serving true o.owner in
       let k' = knows s o id v at live in (
         w,
         takes 0 (Some x.0),
@@ -183,11 +184,11 @@ module _ {S E : Type 0} (logs : S → List E) (by : E → ℕ) (start : ℕ) whe
           bounded = o.bounded;
           each = each_set P Q s.views id w o.each (λ j u ne e h. record { read = h.read; waiting = h.waiting; turning = λ t. let g = h.turning t in (g.0, g.1, g.2, refl); still = h.still })
               (record { read = (o.each id v at).read; waiting = λ t. no_both false refl t; turning = λ _. (f.0, is, f.2, refl); still = λ t. no_both v.known.spent live t });
-          drawn = λ n from below. there_set (HasTicket n) (HasTicket n) s.views id (o.owner n) v w at (o.drawn n from below) (λ u _ h. h) (λ _ h. (inr refl, h.1));
+          drawn = λ n from below. holds_at_set (HasTicket n) (HasTicket n) s.views id (o.owner n) v w at (o.drawn n from below) (λ u _ h. h) (λ _ h. (inr refl, h.1));
           holder = λ _. (w, ap (λ m. get_elem? (set s.views id w) m) (ap o.owner (sym is) ∙ f.0) ∙ set_at s.views id w v at, (refl, x.2));
           out = λ _. ap (λ (hs : List (Option (std.Option S))). set hs 0 none) x.1;
           home = λ t. no_both true t refl;
-          shared = subst (IsShared by start o.log) (sym (map-set known s.views id w)) (learns s o id v l at live (refl, live, refl, refl)
+          shared = subst (LogInvariant by start o.log) (sym (map-set known s.views id w)) (learns s o id v l at live (refl, live, refl, refl)
               (λ g. record {
                 starts = g.starts;
                 place_is = g.place_is;
@@ -204,7 +205,7 @@ module _ {S E : Type 0} (logs : S → List E) (by : E → ℕ) (start : ℕ) whe
         ((λ _. (x.0, refl, subst (Agrees by v.known) (sym x.2) k'.1, omega (arith, k'.0.news, ap length x.2))), (λ ne. absurd (ne here))),
       )
 
-  pub serves : (slots id : ℕ) (me : Me (std.Option S) (View E)) → me.0.waits ≡ true → Allows (IsInOrder by logs start) slots id me 1 (λ n. n) (ReadsServing me logs by)
+  pub serves : (slots id : ℕ) (me : Me (std.Option S) (View E)) → me.0.waits ≡ true → Allows (TurnInvariant by logs start) slots id me 1 (λ n. n) (ReadsServing me logs by)
   serves slots id me waits s o len at fits =
       let r : ℕ = slice_index s.words 1 in
       dite (ℕ_discrete r me.0.ticket)
@@ -212,14 +213,14 @@ module _ {S E : Type 0} (logs : S → List E) (by : E → ℕ) (start : ℕ) whe
       (λ (ne : r ≢ me.0.ticket). (me.0, keeps, tt, reread s o id 1 me.0 me.0.read at (o.each id me.0 at).read (same_words s o).1, ((λ e. absurd (ne e)), (λ _. refl))))
 
   -- the log that the holder has seen is the log
-  seen_whole : (s : State (std.Option S) (View E)) (o : IsInOrder by logs start s) (id : ℕ) (v : View E) → get_elem? s.views id ≡ some v → v.turns ≡ true → v.known.seen ≡ o.log
+  seen_whole : (s : State (std.Option S) (View E)) (o : TurnInvariant by logs start s) (id : ℕ) (v : View E) → get_elem? s.views id ≡ some v → v.turns ≡ true → v.known.seen ≡ o.log
   seen_whole s o id v at turns =
       let f = (o.each id v at).turning turns in
       let h = o.holder f.3 in
       ap (λ (u : View E). u.known.seen) (same_at s.views id (o.owner o.serving) v h.0 (sym f.0 ∙ ap o.owner f.1) at h.1) ∙ h.2.1
 
   -- what the pass knows of the log that it extended
-  raised_fits : (log : List E) (seat : ℕ → ℕ) (splits id : ℕ) (k : Known E) (log' : List E) → KnowledgeFits by start log seat splits id k → k.seen ≡ log → (x : Extends by k log') → KnowledgeFits by start (log ++ x.more) seat splits id (adding k log')
+  raised_fits : (log : List E) (seat : ℕ → ℕ) (splits id : ℕ) (k : Known E) (log' : List E) → KnowledgeInvariant by start log seat splits id k → k.seen ≡ log → (x : Extends by k log') → KnowledgeInvariant by start (log ++ x.more) seat splits id (adding k log')
   raised_fits log seat splits id k log' g seen_is x =
       let e : log' ≡ log ++ x.more = x.log_is ∙ ap (λ l. l ++ x.more) seen_is in
       let tail : drop (length k.seen) log' ≡ x.more = ap (drop (length k.seen)) x.log_is ∙ drop_seen k.seen x.more in
@@ -236,7 +237,7 @@ module _ {S E : Type 0} (logs : S → List E) (by : E → ℕ) (start : ℕ) whe
         news = omega (arith, g.news, length-append log x.more);
       }
 
-  raises_at : (slots id : ℕ) (v : View E) (x : S) (new : ℕ) → v.turns ≡ true → new ≡ length (logs x) → Extends by v.known (logs x) → Allows (IsInOrder by logs start) slots id (v, (0, Some x) ∷ []) 2 (λ _. new) (λ _. RaisesCount (v, (0, Some x) ∷ []) logs by)
+  raises_at : (slots id : ℕ) (v : View E) (x : S) (new : ℕ) → v.turns ≡ true → new ≡ length (logs x) → Extends by v.known (logs x) → Allows (TurnInvariant by logs start) slots id (v, (0, Some x) ∷ []) 2 (λ _. new) (λ _. RaisesCount (v, (0, Some x) ∷ []) logs by)
   raises_at slots id v x new turns is more s o len at fits =
       let f = (o.each id v at).turning turns in
       let live = live_of s o id v at (inr turns) in
@@ -247,10 +248,10 @@ module _ {S E : Type 0} (logs : S → List E) (by : E → ℕ) (start : ℕ) whe
       let l = adding k (logs x) in
       let w = raising v (logs x) in
       let at' = at_map known s.views id v at in
-      let P : ℕ → View E → Type 0 = TicketFits o.ticket o.serving o.busy o.owner in
+      let P : ℕ → View E → Type 0 = TicketInvariant o.ticket o.serving o.busy o.owner in
       let RaisesOf : S → Me (std.Option S) (View E) → Type 0 = λ u n. (n ≡ (raising v (logs u), (0, Some x) ∷ [])) × Agrees by (adding k (logs u)) (logs u) in
       let here : (n : ℕ) → n ≡ o.serving → o.owner n ≡ id = λ n m. ap o.owner (m ∙ sym f.1) ∙ f.0 in
-      let shared' : IsShared by start log' (set (map known s.views) id l) = Logs.updates by start o.log more.more (map known s.views) id k l o.shared at' live (refl, live, refl, refl)
+      let shared' : LogInvariant by start log' (set (map known s.views) id l) = Logs.updates by start o.log more.more (map known s.views) id k l o.shared at' live (refl, live, refl, refl)
       (λ y has. All-contains (λ z. by z ≡ k.number) more.more y more.by_this has)
       (raised_fits o.log o.shared.seat o.shared.splits id k (logs x) (o.shared.each id k at' live) seen_is more)
       (λ n es a b. ap (own by n start) e ∙ b) in
@@ -268,28 +269,28 @@ module _ {S E : Type 0} (logs : S → List E) (by : E → ℕ) (start : ℕ) whe
           in_order = o.in_order;
           bounded = o.bounded;
           each = let q = o.each id v at in each_set P P s.views id w o.each (λ j u ne e' h. h) (record { read = q.read; waiting = q.waiting; turning = q.turning; still = q.still });
-          drawn = λ n from below. there_set (HasTicket n) (HasTicket n) s.views id (o.owner n) v w at (o.drawn n from below) (λ u _ h. h) (λ _ h. h);
-          holder = λ b. there_set (HasTurn o.log) (HasTurn log') s.views id (o.owner o.serving) v w at (o.holder b) (λ u ne _. absurd (ne (here o.serving refl))) (λ _ _. (turns, e));
+          drawn = λ n from below. holds_at_set (HasTicket n) (HasTicket n) s.views id (o.owner n) v w at (o.drawn n from below) (λ u _ h. h) (λ _ h. h);
+          holder = λ b. holds_at_set (HasTurn o.log) (HasTurn log') s.views id (o.owner o.serving) v w at (o.holder b) (λ u ne _. absurd (ne (here o.serving refl))) (λ _ _. (turns, e));
           out = o.out;
           home = λ b. no_both o.busy b f.3;
-          shared = subst (IsShared by start log') (sym (map-set known s.views id w)) shared';
+          shared = subst (LogInvariant by start log') (sym (map-set known s.views id w)) shared';
         },
         (λ y m. (let z : x ≡ y = ap (some_of x) m in subst (λ (u : S). RaisesOf u (w, (0, Some x) ∷ [])) z (refl, agrees))),
       )
 
   pub raises : (slots id : ℕ) (me : Me (std.Option S) (View E)) (x : S) (new : ℕ) → me.1 ≡ (0, Some x) ∷ [] → me.0.turns ≡ true → new ≡ length (logs x) → Extends by me.0.known (logs x)
-      → Allows (IsInOrder by logs start) slots id me 2 (λ _. new) (λ _. RaisesCount me logs by)
+      → Allows (TurnInvariant by logs start) slots id me 2 (λ _. new) (λ _. RaisesCount me logs by)
   raises slots id me x new has turns is more =
-      let A : List (ℕ × std.Option S) → Type 0 = λ c. Allows (IsInOrder by logs start) slots id (me.0, c) 2 (λ _. new) (λ _. RaisesCount (me.0, c) logs by) in
+      let A : List (ℕ × std.Option S) → Type 0 = λ c. Allows (TurnInvariant by logs start) slots id (me.0, c) 2 (λ _. new) (λ _. RaisesCount (me.0, c) logs by) in
       subst A (sym has) (raises_at slots id me.0 x new turns is more)
 
-  passes_at : (slots id : ℕ) (v : View E) (x : S) → v.turns ≡ true → v.known.seen ≡ logs x → Allows (IsInOrder by logs start) slots id (v, (0, Some x) ∷ []) 1 (λ _. v.ticket + 1) (λ _. PassesServing (v, (0, Some x) ∷ []))
+  passes_at : (slots id : ℕ) (v : View E) (x : S) → v.turns ≡ true → v.known.seen ≡ logs x → Allows (TurnInvariant by logs start) slots id (v, (0, Some x) ∷ []) 1 (λ _. v.ticket + 1) (λ _. PassesServing (v, (0, Some x) ∷ []))
   passes_at slots id v x turns whole s o len at fits =
       let f = (o.each id v at).turning turns in
       let live = live_of s o id v at (inr turns) in
-      let w = resting v in
-      let P : ℕ → View E → Type 0 = TicketFits o.ticket o.serving o.busy o.owner in
-      let Q : ℕ → View E → Type 0 = TicketFits o.ticket (v.ticket + 1) false o.owner in
+      let w = idling v in
+      let P : ℕ → View E → Type 0 = TicketInvariant o.ticket o.serving o.busy o.owner in
+      let Q : ℕ → View E → Type 0 = TicketInvariant o.ticket (v.ticket + 1) false o.owner in
       let apart : (j k : ℕ) → j ≢ id → o.owner k ≡ j → k ≢ v.ticket = λ j k ne own' e. ne (sym own' ∙ ap o.owner e ∙ f.0) in (
         w,
         gives,
@@ -311,22 +312,22 @@ module _ {S E : Type 0} (logs : S → List E) (by : E → ℕ) (start : ℕ) whe
                 still = h'.still;
               })
               (record { read = (o.each id v at).read; waiting = λ t. no_both false refl t; turning = λ t. no_both false refl t; still = λ t. no_both v.known.spent live t });
-          drawn = λ n from below. there_set (HasTicket n) (HasTicket n) s.views id (o.owner n) v w at (o.drawn n (let a = f.1 in omega arith) below) (λ u _ h'. h') (λ _ h'. (let a = h'.1 in absurd (omega arith)));
+          drawn = λ n from below. holds_at_set (HasTicket n) (HasTicket n) s.views id (o.owner n) v w at (o.drawn n (let a = f.1 in omega arith) below) (λ u _ h'. h') (λ _ h'. (let a = h'.1 in absurd (omega arith)));
           holder = λ t. no_both false refl t;
           out = λ t. no_both false refl t;
           home = λ _. (x, ap (λ (hs : List (Option (std.Option S))). set hs 0 (some (Some x))) (o.out f.3), sym whole ∙ seen_whole s o id v at turns);
-          shared = subst (IsShared by start o.log) (sym (same_known s.views id v w at refl)) o.shared;
+          shared = subst (LogInvariant by start o.log) (sym (same_known s.views id v w at refl)) o.shared;
         },
         refl,
       )
 
   pub passes : (slots id : ℕ) (me : Me (std.Option S) (View E)) (x : S) (new : ℕ) → me.1 ≡ (0, Some x) ∷ [] → me.0.turns ≡ true → me.0.known.seen ≡ logs x → new ≡ me.0.ticket + 1
-      → Allows (IsInOrder by logs start) slots id me 1 (λ _. new) (λ _. PassesServing me)
+      → Allows (TurnInvariant by logs start) slots id me 1 (λ _. new) (λ _. PassesServing me)
   passes slots id me x new has turns whole is =
-      let A : List (ℕ × std.Option S) → ℕ → Type 0 = λ c n. Allows (IsInOrder by logs start) slots id (me.0, c) 1 (λ _. n) (λ _. PassesServing (me.0, c)) in
+      let A : List (ℕ × std.Option S) → ℕ → Type 0 = λ c n. Allows (TurnInvariant by logs start) slots id (me.0, c) 1 (λ _. n) (λ _. PassesServing (me.0, c)) in
       subst (λ (y : List (ℕ × std.Option S) × ℕ). A y.0 y.1) (λ i. (sym has i, sym is i)) (passes_at slots id me.0 x turns whole)
 
-  pub hears : (slots id : ℕ) (me : Me (std.Option S) (View E)) → me.0.known.spent ≡ false → Allows (IsInOrder by logs start) slots id me 2 (λ n. n) (ReadsCount me)
+  pub hears : (slots id : ℕ) (me : Me (std.Option S) (View E)) → me.0.known.spent ≡ false → Allows (TurnInvariant by logs start) slots id me 2 (λ n. n) (ReadsCount me)
   hears slots id me live s o len at fits =
       let r : ℕ = slice_index s.words 2 in
       let is : r ≡ length o.log = ap (λ ws. slice_index ws 2) o.words in
@@ -341,7 +342,7 @@ module _ {S E : Type 0} (logs : S → List E) (by : E → ℕ) (start : ℕ) whe
         (refl, omega (arith, starts_length o.log me.0.known.seen f.sees), omega (arith, f.news)),
       )
 
-  pub compares : (slots id : ℕ) (me : Me (std.Option S) (View E)) → me.0.known.spent ≡ false → Allows (IsInOrder by logs start) slots id me 0 (λ n. n) (λ _. Compares me by)
+  pub compares : (slots id : ℕ) (me : Me (std.Option S) (View E)) → me.0.known.spent ≡ false → Allows (TurnInvariant by logs start) slots id me 0 (λ n. n) (λ _. Compares me by)
   compares slots id me live s o len at fits =
       let k = me.0.known in
       let l = matched k in

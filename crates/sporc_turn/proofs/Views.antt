@@ -8,7 +8,7 @@ use Rattle.std.proofs.lemmas.List.{map-set}
 use Rattle.atomic_table.proofs.Lists.{at_set, at_map, set_else, set_again}
 use Rattle.sporc_turn.specs.declared.known.View.{View}
 use Rattle.sporc_turn.specs.declared.known.Known.{Known}
-use Rattle.sporc_turn.specs.Rule.{known, There}
+use Rattle.sporc_turn.specs.Rule.{known, HoldsAt}
 use Rattle.sporc_turn.proofs.Lists.{set_at, same_at}
 
 pub is_live : {E : Type 0} (k : Known E) → (k.spent ≡ true → ⊥) → k.spent ≡ false
@@ -25,8 +25,8 @@ module _ {E : Type 0} where
       (at_set views id j w v e)
 
   -- a view that is there, after one has changed
-  pub there_set : (Q R : View E → Type 0) (views : List (View E)) (id k : ℕ) (v w : View E) → get_elem? views id ≡ some v → There Q views k → ((u : View E) → k ≢ id → Q u → R u) → (k ≡ id → Q v → R w) → There R (set views id w) k
-  there_set Q R views id k v w at t others mine =
+  pub holds_at_set : (Q R : View E → Type 0) (views : List (View E)) (id k : ℕ) (v w : View E) → get_elem? views id ≡ some v → HoldsAt Q views k → ((u : View E) → k ≢ id → Q u → R u) → (k ≡ id → Q v → R w) → HoldsAt R (set views id w) k
+  holds_at_set Q R views id k v w at t others mine =
       dite (ℕ_discrete k id)
       (λ (e : k ≡ id). (w, ap (λ n. get_elem? (set views id w) n) e ∙ set_at views id w v at, mine e (subst Q (same_at views k id t.0 v e t.1 at) t.2)))
       (λ (ne : k ≢ id). (t.0, set_else views id k w ne ∙ t.1, others t.0 ne t.2))

@@ -5,6 +5,7 @@ use Rattle.std.specs.Prelude as std
 use mathlib.Core.Option.{none, some}
 use lib.ListN.{get_elem?}
 use Rattle.atomic_table.specs.Table.{State}
+use Rattle.sporc_turn.specs.declared.limits.TheConstants.{MAX_TICKETS}
 use Rattle.sporc_turn.specs.declared.known.View.{View}
 use Rattle.sporc_turn.specs.declared.known.Known.{Known}
 use Rattle.sporc_turn.specs.declared.known.Joined.{Joined}
@@ -23,7 +24,7 @@ spent_of [] = 0
 spent_of (k ∷ ks) = one_if k.spent + spent_of ks
 
 -- what the rule says of one view's ticket. The view at `owner n` has the ticket n
-pub record TicketFits {E : Type 0} (ticket serving : ℕ) (busy : Bool) (owner : ℕ → ℕ) (place : ℕ) (v : View E) : Type 0 where
+pub record TicketInvariant {E : Type 0} (ticket serving : ℕ) (busy : Bool) (owner : ℕ → ℕ) (place : ℕ) (v : View E) : Type 0 where
   pub read : v.read ≤ ticket
   pub waiting : v.waits ≡ true → (owner v.ticket ≡ place) × (serving ≤ v.ticket) × (v.ticket < ticket) × (v.turns ≡ false)
   pub turning : v.turns ≡ true → (owner v.ticket ≡ place) × (v.ticket ≡ serving) × (v.ticket < ticket) × (busy ≡ true)
@@ -38,17 +39,17 @@ abbrev pub HasTurn : {E : Type 0} → List E → View E → Type 0
 HasTurn log v = (v.turns ≡ true) × (v.known.seen ≡ log)
 
 -- Q holds of the view at this place
-abbrev pub There : {E : Type 0} → (View E → Type 0) → List (View E) → ℕ → Type 0
-There {E} Q views place = (v : View E) × (get_elem? views place ≡ some v) × Q v
+abbrev pub HoldsAt : {E : Type 0} → (View E → Type 0) → List (View E) → ℕ → Type 0
+HoldsAt {E} Q views place = (v : View E) × (get_elem? views place ≡ some v) × Q v
 
 -- no pass has this number any more
-abbrev pub Ended : {E : Type 0} → List (Known E) → ℕ → Type 0
-Ended {E} ks number = (place : ℕ) (k : Known E) → get_elem? ks place ≡ some k → k.spent ≡ false → k.number ≢ number
+abbrev pub NoLivePass : {E : Type 0} → List (Known E) → ℕ → Type 0
+NoLivePass {E} ks number = (place : ℕ) (k : Known E) → get_elem? ks place ≡ some k → k.spent ≡ false → k.number ≢ number
 
 module _ {E : Type 0} (by : E → ℕ) where
   module _ (start : ℕ) (log : List E) (seat : ℕ → ℕ) (splits : ℕ) where
     -- what the rule says of one pass that was not joined to another. The pass with number n is at `seat n`
-    pub record KnowledgeFits (place : ℕ) (k : Known E) : Type 0 where
+    pub record KnowledgeInvariant (place : ℕ) (k : Known E) : Type 0 where
       pub starts : k.start ≡ start
       pub place_is : seat k.number ≡ place
       pub number : k.number ≤ splits
@@ -68,20 +69,20 @@ module _ {E : Type 0} (by : E → ℕ) where
     pub stand : (j : Joined E) → Contains joined j → own by j.number start k.seen ≡ j.items
 
   -- The rule on the log, over what all passes know: each log's item after the start is of a pass that was split, each pass knows its own items, and those of a pass that was joined stay as they are
-  pub record IsShared (start : ℕ) (log : List E) (ks : List (Known E)) : Type 0 where
+  pub record LogInvariant (start : ℕ) (log : List E) (ks : List (Known E)) : Type 0 where
     pub seat : ℕ → ℕ
     pub splits : ℕ
     pub joined : List (Joined E)
     pub first : (k : Known E) → get_elem? ks 0 ≡ some k → IsFirst start splits joined k
-    pub each : (place : ℕ) (k : Known E) → get_elem? ks place ≡ some k → k.spent ≡ false → KnowledgeFits start log seat splits place k
-    pub ended : (j : Joined E) → Contains joined j → (j.number ≤ splits) × (own by j.number start log ≡ j.items) × Ended ks j.number
+    pub each : (place : ℕ) (k : Known E) → get_elem? ks place ≡ some k → k.spent ≡ false → KnowledgeInvariant start log seat splits place k
+    pub joins : (j : Joined E) → Contains joined j → (j.number ≤ splits) × (own by j.number start log ≡ j.items) × NoLivePass ks j.number
     pub numbered : (e : E) → Contains (drop start log) e → by e ≤ splits
     pub numbers : (n : ℕ) → n ≤ splits → ((place : ℕ) × (k : Known E) × (get_elem? ks place ≡ some k) × (k.spent ≡ false) × (k.number ≡ n)) ⊎ HasNumber joined n
     pub counted : length ks ≡ suc splits
     pub spents : spent_of ks ≡ length joined
 
   -- The rule on tickets, words and the slot, with that on the log
-  pub record IsInOrder {S : Type 0} (logs : S → List E) (start : ℕ) (s : State (std.Option S) (View E)) : Type 0 where
+  pub record TurnInvariant {S : Type 0} (logs : S → List E) (start : ℕ) (s : State (std.Option S) (View E)) : Type 0 where
     pub ticket : ℕ
     pub serving : ℕ
     pub busy : Bool
@@ -89,10 +90,10 @@ module _ {E : Type 0} (by : E → ℕ) where
     pub log : List E
     pub words : s.words ≡ ticket ∷ serving ∷ length log ∷ []
     pub in_order : serving ≤ ticket
-    pub bounded : ticket ≤ 2 ^ 62
-    pub each : (place : ℕ) (v : View E) → get_elem? s.views place ≡ some v → TicketFits ticket serving busy owner place v
-    pub drawn : (n : ℕ) → serving ≤ n → n < ticket → There (HasTicket n) s.views (owner n)
-    pub holder : busy ≡ true → There (HasTurn log) s.views (owner serving)
+    pub bounded : ticket ≤ MAX_TICKETS
+    pub each : (place : ℕ) (v : View E) → get_elem? s.views place ≡ some v → TicketInvariant ticket serving busy owner place v
+    pub drawn : (n : ℕ) → serving ≤ n → n < ticket → HoldsAt (HasTicket n) s.views (owner n)
+    pub holder : busy ≡ true → HoldsAt (HasTurn log) s.views (owner serving)
     pub out : busy ≡ true → s.homes ≡ none ∷ []
     pub home : busy ≡ false → (x : S) × (s.homes ≡ some (Some x) ∷ []) × (logs x ≡ log)
-    pub shared : IsShared start log (map known s.views)
+    pub shared : LogInvariant start log (map known s.views)

@@ -2,6 +2,7 @@
 use Rattle.std.specs.Prelude.{◌≡◌, ◌≢◌, ℕ, ◌+◌, ◌<◌, ◌≤◌, ◌^◌, true, false, List, [], ◌∷◌, length, Some}
 use Rattle.std.specs.Prelude as std
 use Rattle.atomic_table.specs.Table.{Me}
+use Rattle.sporc_turn.specs.declared.limits.TheConstants.{MAX_TICKETS}
 use Rattle.sporc_turn.specs.declared.known.View.{View}
 use Rattle.sporc_turn.specs.Log.{StartsWith, Agrees}
 use Rattle.sporc_turn.specs.Knowing.{first_known, seeing, adding, hearing, splitting, copied, joining, matched, nothing_known}
@@ -28,8 +29,8 @@ module _ {E : Type 0} where
   raising v log = record v { known = adding v.known log }
 
   -- the turn was passed on
-  abbrev pub resting : View E → View E
-  resting v = record v { waits = false; turns = false; ticket = 0 }
+  abbrev pub idling : View E → View E
+  idling v = record v { waits = false; turns = false; ticket = 0 }
 
   -- a split: the view that stays, and the new one
   abbrev pub left_of_split : View E → View E
@@ -42,13 +43,13 @@ module _ {E : Type 0} where
   abbrev pub of_both : View E → View E → View E
   of_both v w = record v { known = joining v.known w.known }
 
-  abbrev pub gone : View E
-  gone = record { waits = false; turns = false; ticket = 0; read = 0; known = nothing_known }
+  abbrev pub spent_view : View E
+  spent_view = record { waits = false; turns = false; ticket = 0; read = 0; known = nothing_known }
 
 module _ {S E : Type 0} (m : Me (std.Option S) (View E)) where
   -- the next ticket was read, which is none below the one that was read before
   abbrev pub ReadsTicket : ℕ → Me (std.Option S) (View E) → Type 0
-  ReadsTicket r n = (n ≡ (reading m.0 r, m.1)) × (m.0.read ≤ r) × (r ≤ 2 ^ 62)
+  ReadsTicket r n = (n ≡ (reading m.0 r, m.1)) × (m.0.read ≤ r) × (r ≤ MAX_TICKETS)
 
   -- the ticket was drawn, if it was still the next
   abbrev pub DrawsTicket : ℕ → ℕ → Me (std.Option S) (View E) → Type 0
@@ -68,13 +69,13 @@ module _ {S E : Type 0} (m : Me (std.Option S) (View E)) where
 
   -- the value is home, and the turn was passed on
   abbrev pub PassesServing : Me (std.Option S) (View E) → Type 0
-  PassesServing n = n ≡ (resting m.0, [])
+  PassesServing n = n ≡ (idling m.0, [])
 
   -- the length of the log was read
   abbrev pub ReadsCount : ℕ → Me (std.Option S) (View E) → Type 0
   ReadsCount r n = (n ≡ (record m.0 { known = hearing m.0.known r }, m.1)) × (length m.0.known.seen ≤ r) × (m.0.known.news ≤ r)
 
-  -- both lists that were seen are beginnings of one log, and the longer one agrees with what the pass knows
+  -- both lists that were seen are prefixes of one log, and the longer one agrees with what the pass knows
   abbrev pub Compares : (E → ℕ) → Me (std.Option S) (View E) → Type 0
   Compares by n =
       (n ≡ (record m.0 { known = matched m.0.known }, m.1))

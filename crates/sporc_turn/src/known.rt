@@ -14,7 +14,7 @@ pub struct Known<E> {
     pub spent: bool,
     /// The length of the log as the lock was opened.
     pub start: u64,
-    /// The beginning of the log that was seen.
+    /// The prefix of the log that was seen.
     pub seen: LinkedList<E>,
     /// The items that were added through this pass.
     pub mine: LinkedList<E>,

@@ -2,21 +2,32 @@
 //!
 //! The value under the lock stands for a list of items, its log ([`Kept`]). Whoever wants the value
 //! has a [`Pass`]. A pass draws a ticket and waits for its turn ([`Turn::take`]), changes the value
-//! through the [`Held`] that it gets, and gives it back ([`Turn::give`]). Each pass knows a beginning
-//! of the log, all that it has seen, and its own items in it. No pass ever finds a log that doesn't
-//! begin with what it has seen, nor one that lacks an item of its own or has one twice.
+//! through the [`Held`] that it gets, and gives it back ([`Turn::give`]). Each pass knows a prefix
+//! of the log, all that it has seen, and its own items in it.
 //!
-//! [`Turn::news`], [`Turn::give`], [`Turn::split`], [`Turn::join`] and [`Turn::close`] take no runtime,
-//! so they wait for nobody: a mutex round the whole lock could not meet these signatures, since its
-//! `lock` takes one. Only [`Turn::take`] waits.
+//! ```rust
+//! let (turn, first) = Turn::open(alloc, value)?;
+//! let (first, second) = turn.split(first)?;      // one pass for each thread
+//! let mut held = turn.take(&rt, second)?;        // waits for its turn
+//! held.value().add(7);
+//! let second = turn.give(held);
+//! let first = turn.join(first, second);
+//! let value = turn.close(first)?;
+//! ```
 //!
-//! Nothing is said of progress: not that a turn comes, nor whose turn comes first.
+//! Proved, over every way in which the threads' steps on the lock's words may follow one another: no pass finds a log that
+//! doesn't begin with what it has seen, nor one that lacks an item of its own or has one twice; and `close` gives back a
+//! value whose log is what the last pass has seen. [`Turn::news`], [`Turn::give`], [`Turn::split`], [`Turn::join`] and
+//! [`Turn::close`] take no runtime, so they wait for nobody: a mutex round the whole lock could not meet these signatures,
+//! since its `lock` takes one. Only [`Turn::take`] waits. Tested only: that threads which take turns get to their ends.
+//! Neither: that a turn comes, and whose turn comes first.
 #![tactic(auto)]
 
 mod held;
 mod kept;
 mod known;
 pub mod laws;
+mod limits;
 mod numbers;
 mod pass;
 mod rule;
@@ -26,8 +37,10 @@ mod value;
 pub use held::Held;
 pub use kept::Kept;
 pub use known::{Joined, Known, View};
+pub use limits::MAX_TICKETS;
 pub use pass::{Away, Pass};
-pub use turn::{Memory, Turn, Worn};
+pub use sporc_base::Memory;
+pub use turn::{Turn, Worn};
 
 #[cfg(test)]
 mod tests;

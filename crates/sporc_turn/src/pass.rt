@@ -1,5 +1,5 @@
 ghost use Rattle.std.specs.Prelude.{◌≡◌, ◌≢◌, length, IfNone, IfSome};
-ghost use Rattle.sporc_turn.specs.Seats.{Rests, Counts, view_of};
+ghost use Rattle.sporc_turn.specs.Seats.{IsIdle, Counts, view_of};
 
 use crate::known::View;
 use crate::numbers::Numbers;
@@ -17,7 +17,7 @@ pub struct Pass<E> {
     pub(crate) badge: Badge<View<E>>,
     pub(crate) numbers: Numbers,
     ghost one: { length badge.views ≡ 1 },
-    ghost rests: { Rests (view_of badge) },
+    ghost idle: { IsIdle (view_of badge) },
     ghost counted: { Counts numbers (view_of badge).known },
 }
 

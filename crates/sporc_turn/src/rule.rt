@@ -3,8 +3,8 @@
 // Word 0 is the next ticket, word 1 the ticket that is served, and word 2 the length of the log. The
 // one slot holds the value, or nothing while the value is out.
 ghost use Rattle.std.specs.Prelude.{length};
-ghost use Rattle.sporc_turn.specs.Rule.{IsInOrder};
-ghost use Rattle.sporc_turn.specs.Steps.{newcomer, left_of_split, right_of_split, of_both, gone, ReadsTicket, DrawsTicket, ReadsServing, RaisesCount, PassesServing, ReadsCount, Compares};
+ghost use Rattle.sporc_turn.specs.Rule.{TurnInvariant};
+ghost use Rattle.sporc_turn.specs.Steps.{newcomer, left_of_split, right_of_split, of_both, spent_view, ReadsTicket, DrawsTicket, ReadsServing, RaisesCount, PassesServing, ReadsCount, Compares};
 
 use crate::kept::Kept;
 use crate::known::View;
@@ -15,7 +15,7 @@ use std::snapshot::Snapshot;
 pub(crate) struct Rule;
 
 impl<S: Kept> TableRule<Option<S>, View<S::Item>, Snapshot<S>> for Rule {
-    ghost holds = { λ key. IsInOrder S.by S.log (length (S.log key.value)) };
+    ghost holds = { λ key. TurnInvariant S.by S.log (length (S.log key.value)) };
 
     ghost first = { λ key. newcomer (S.log key.value) };
 }
@@ -84,5 +84,5 @@ pub(crate) struct JoinPass;
 impl<E> Join<View<E>> for JoinPass {
     ghost both = { of_both };
 
-    ghost spent = { gone };
+    ghost spent = { spent_view };
 }

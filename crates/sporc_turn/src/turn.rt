@@ -1,12 +1,13 @@
 ghost use Rattle.std.specs.Prelude.{◌≡◌, ◌≢◌, ◌+◌, ◌^◌, ◌<◌, ◌≤◌, IfOk, IfErr, MatchResult, [], length, true};
 ghost use Rattle.sporc_turn.specs.Log.{StartsWith, Extends, Agrees};
 ghost use Rattle.sporc_turn.specs.Knowing.{first_known, seeing, adding, hearing, splitting, copied, joined_with};
-ghost use Rattle.sporc_turn.specs.Seats.{Rests, has_room};
+ghost use Rattle.sporc_turn.specs.Seats.{IsIdle, has_room};
 ghost use Rattle.sporc_turn.specs.Steps.{drawing, serving, reading};
 
 use crate::held::{Held, Holder};
 use crate::kept::Kept;
 use crate::known::View;
+use crate::limits::MAX_TICKETS;
 use crate::numbers::Numbers;
 use crate::pass::{Away, Pass};
 use crate::rule::{
@@ -14,6 +15,7 @@ use crate::rule::{
     Rule, SplitPass,
 };
 use atomic_table::{Refused, Seat, Table};
+use sporc_base::Memory;
 use std::alloc::{AllocError, AllocFailed, Global};
 use std::snapshot::Snapshot;
 use std::sync::Wait;
@@ -24,12 +26,6 @@ const TICKET: usize = 0;
 const SERVING: usize = 1;
 
 const COUNT: usize = 2;
-
-// The ticket that is never drawn.
-const LAST: u64 = 1 << 62;
-
-/// There was no memory.
-pub type Memory = AllocError;
 
 /// The next ticket, which was read and not drawn: all tickets below it were drawn.
 #[derive(Debug, Drop)]
@@ -49,7 +45,7 @@ impl<S: Kept> Turn<S> {
     pub fn open(alloc: Global, value: S) -> Result<(Turn<S>, Pass<S::Item>), (S, Memory)>
         ensures lock { IfOk result (λ t. IsPassOf t.0 t.1) }
         ensures first { IfOk result (λ t. known_of t.1 ≡ first_known (S.log value)) }
-        ensures err { IfErr result (λ e. e.0 ≡ value) }
+        ensures returned { IfErr result (λ e. e.0 ≡ value) }
     {
         let count = value.logged();
         let about = Snapshot::of(&value);
@@ -78,19 +74,19 @@ impl<S: Kept> Turn<S> {
         }
     }
 
-    // The ticket that was drawn. It was read below 2^62.
+    // The ticket that was drawn, which was read as the next one.
     fn draw<R: Wait>(&self, rt: &R, seat: &mut Seat<Option<S>, View<S::Item>>) -> Result<u64, Worn>
         requires table { seat.old.table_id ≡ self.now.table.shared.table_id }
-        requires rests { Rests seat.old.me.0 }
+        requires idle { IsIdle seat.old.me.0 }
         requires bare { seat.old.me.1 ≡ [] }
         ensures table { seat.new.table_id ≡ seat.old.table_id }
         ensures bare { seat.new.me.1 ≡ [] }
-        ensures ticket { MatchResult result (λ n. (seat.old.me.0.read ≤ n) × (n < 2 ^ 62)) (λ w. w.0 ≡ 2 ^ 62) }
+        ensures ticket { MatchResult result (λ n. (seat.old.me.0.read ≤ n) × (n < MAX_TICKETS)) (λ w. w.0 ≡ MAX_TICKETS) }
         ensures view { MatchResult result (λ n. seat.new.me.0 ≡ drawing (reading seat.old.me.0 n) n) (λ w. seat.new.me.0 ≡ reading seat.old.me.0 w.0) }
     {
         'tries: for _ in rt.forever() {
             let next = self.table.shared.load::<ReadTicket>(seat, TICKET);
-            if next >= LAST {
+            if next >= MAX_TICKETS {
                 return Err(Worn(next));
             }
             let found = self
@@ -129,8 +125,8 @@ impl<S: Kept> Turn<S> {
     /// Draws a ticket, waits until it is served, and takes the value out. The log of the value
     /// agrees with all that the pass knows, and is no shorter than its last news.
     ///
-    /// No ticket is drawn where the next one is 2^62: then the pass comes back, and has read it. The
-    /// next ticket is never below one that was read before, so then it stays 2^62.
+    /// No ticket is drawn if all of them were: then the pass comes back, and has read `MAX_TICKETS` as the next ticket. The
+    /// next ticket is never below one that was read before, so it stays that.
     pub fn take<R: Wait>(
         &self,
         rt: &R,
@@ -141,10 +137,10 @@ impl<S: Kept> Turn<S> {
         ensures found { IfOk result (λ h. Agrees S.by (known_of pass) (S.log (value_of h))) }
         ensures news { IfOk result (λ h. (known_of pass).news ≤ length (S.log (value_of h))) }
         ensures held { IfOk result (λ h. known_held h ≡ seeing (known_of pass) (S.log (value_of h))) }
-        ensures drawn { IfOk result (λ h. (read_of pass ≤ read_held h) × (read_held h < 2 ^ 62)) }
-        ensures worn { IfErr result (λ e. e.1.0 ≡ 2 ^ 62) }
+        ensures drawn { IfOk result (λ h. (read_of pass ≤ read_held h) × (read_held h < MAX_TICKETS)) }
+        ensures worn { IfErr result (λ e. e.1.0 ≡ MAX_TICKETS) }
         ensures read { IfErr result (λ e. read_of e.0 ≡ e.1.0) }
-        ensures same { IfErr result (λ e. known_of e.0 ≡ known_of pass) }
+        ensures unchanged { IfErr result (λ e. known_of e.0 ≡ known_of pass) }
     {
         let Pass { badge, numbers } = pass;
         let mut seat = badge.into_seat();
@@ -227,7 +223,7 @@ impl<S: Kept> Turn<S> {
         ensures lock { IfOk result (λ r. IsPassOf self.now r.0 × IsPassOf self.now r.1) }
         ensures old { IfOk result (λ r. known_of r.0 ≡ splitting (known_of pass)) }
         ensures new { IfOk result (λ r. known_of r.1 ≡ copied (known_of pass)) }
-        ensures err { IfErr result (λ e. e.0 ≡ pass) }
+        ensures returned { IfErr result (λ e. e.0 ≡ pass) }
     {
         let Pass { badge, numbers } = pass;
         let mut seat = badge.into_seat::<Option<S>>();
@@ -254,7 +250,7 @@ impl<S: Kept> Turn<S> {
     }
 
     /// Joins a pass back to number 0, which keeps its items. It has seen the longer of both lists,
-    /// and each of them is a beginning of that one.
+    /// and each of them is a prefix of that one.
     pub fn join(&self, a: Pass<S::Item>, b: Pass<S::Item>) -> Pass<S::Item>
         requires lock { IsPassOf self.now a × IsPassOf self.now b }
         requires first { (known_of a).number ≡ 0 }
@@ -285,8 +281,8 @@ impl<S: Kept> Turn<S> {
         }
     }
 
-    /// The value, where each pass that was split was joined back. Its log is what number 0 has seen.
-    /// Else the lock and the pass come back, with the number of passes that are out.
+    /// The value, if each pass that was split was joined back. Its log is what number 0 has seen.
+    /// Otherwise the lock and the pass come back, with the number of passes that are out.
     pub fn close(self, pass: Pass<S::Item>) -> Result<S, (Turn<S>, Pass<S::Item>, Away)>
         requires lock { IsPassOf self pass }
         requires first { (known_of pass).number ≡ 0 }
@@ -294,7 +290,7 @@ impl<S: Kept> Turn<S> {
         ensures log { IfOk result (λ x. S.log x ≡ (known_of pass).seen) }
         ensures agrees { IfOk result (λ x. Agrees S.by (known_of pass) (S.log x)) }
         ensures away { IfErr result (λ e. (e.2.out ≡ out_of pass) × (e.2.out ≢ 0)) }
-        ensures same { IfErr result (λ e. (e.0 ≡ self) × (e.1 ≡ pass)) }
+        ensures returned { IfErr result (λ e. (e.0 ≡ self) × (e.1 ≡ pass)) }
     {
         if let Some(away) = pass.away() {
             return Err((self, pass, away));

@@ -1,11 +1,11 @@
 use Rattle.std.proofs.Common.{◌≡◌, ◌≤◌, []}
-use Rattle.sporc_turn.specs.Seats.{Rests}
+use Rattle.sporc_turn.specs.Seats.{IsIdle}
 use Rattle.sporc_turn.specs.Steps.{reading}
 use Rattle.sporc_turn.proofs.turn.Turn.draw.Given as goal
 
--- the pass still rests, and may have read the next ticket
+-- the pass is still idle, and may have read the next ticket
 abbrev pub invariant-tries : goal.invariant-tries
 invariant-tries g l =
     (goal.iterator-tries g).can_next l.iterator' × (goal.iterator-tries g).is_finite l.iterator'
-    × (l.seat.table_id ≡ l.initial.seat.table_id) × (l.seat.me.1 ≡ []) × Rests l.seat.me.0
+    × (l.seat.table_id ≡ l.initial.seat.table_id) × (l.seat.me.1 ≡ []) × IsIdle l.seat.me.0
     × (l.seat.me.0 ≡ reading l.initial.seat.me.0 l.seat.me.0.read) × (l.initial.seat.me.0.read ≤ l.seat.me.0.read)

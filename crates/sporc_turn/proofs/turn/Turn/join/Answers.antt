@@ -1,6 +1,6 @@
 use Rattle.std.proofs.Common.{rules, subst, ap, ◌∙◌, sym}
 use Rattle.sporc_turn.specs.Log.{Agrees}
-use Rattle.sporc_turn.specs.Seats.{Rests}
+use Rattle.sporc_turn.specs.Seats.{IsIdle}
 use Rattle.sporc_turn.proofs.Turns.{compares}
 use Rattle.sporc_turn.proofs.Passes.{joins, view_there}
 use Rattle.sporc_turn.proofs.turn.Turn.join.Goals as goal
@@ -12,13 +12,13 @@ join_seat-requires g c =
       search rules,
       search rules,
       search rules,
-      joins g.S.Kept.log g.S.Kept.by _ _ _ _ _ (subst Rests is c.args.a.rests) (ap (λ v. v.known.number) (sym is) ∙ c.requires.first) (subst Rests (view_there _ _ c.into_seat.ensures.2) c.args.b.rests),
+      joins g.S.Kept.log g.S.Kept.by _ _ _ _ _ (subst IsIdle is c.args.a.idle) (ap (λ v. v.known.number) (sym is) ∙ c.requires.first) (subst IsIdle (view_there _ _ c.into_seat.ensures.2) c.args.b.idle),
     )
 
 pub load-requires : goal.load-requires
 load-requires g c =
-    let rests = subst Rests (view_there _ _ c.into_seat-seat.ensures.2) c.args.a.rests in
-    (search rules, search rules, compares g.S.Kept.log g.S.Kept.by _ _ _ _ (ap (λ m. m.0.known.spent) c.join_seat.ensures.2 ∙ rests.2))
+    let first_idle = subst IsIdle (view_there _ _ c.into_seat-seat.ensures.2) c.args.a.idle in
+    (search rules, search rules, compares g.S.Kept.log g.S.Kept.by _ _ _ _ (ap (λ m. m.0.known.spent) c.join_seat.ensures.2 ∙ first_idle.2))
 
 pub returns-clause-agrees : goal.returns-clause-agrees
 returns-clause-agrees g c =

@@ -1,6 +1,6 @@
 use Rattle.std.proofs.Common.{rules, subst, sym, ◌∷◌, [], Some, length}
 use Rattle.atomic_table.specs.Table.{opening}
-use Rattle.sporc_turn.specs.Rule.{IsInOrder}
+use Rattle.sporc_turn.specs.Rule.{TurnInvariant}
 use Rattle.sporc_turn.specs.Steps.{newcomer}
 use Rattle.sporc_turn.proofs.Passes.{opens}
 use Rattle.sporc_turn.proofs.turn.Turn.open.Goals as goal
@@ -9,5 +9,5 @@ pub new-requires : goal.new-requires
 new-requires g c =
     let logs = g.S.Kept.log in
     let by = g.S.Kept.by in
-    subst (λ xs. IsInOrder by logs (length (logs c.of-about.result.value)) (opening (0 ∷ 0 ∷ c.logged-count.result ∷ []) xs (newcomer (logs c.of-about.result.value)))) {x = Some c.args.value ∷ []} (search rules)
-    (subst (λ v. IsInOrder by logs (length (logs v)) (opening (0 ∷ 0 ∷ c.logged-count.result ∷ []) (Some c.args.value ∷ []) (newcomer (logs v)))) (sym c.of-about.ensures) (opens logs by c.args.value c.logged-count.result c.logged-count.ensures))
+    subst (λ xs. TurnInvariant by logs (length (logs c.of-about.result.value)) (opening (0 ∷ 0 ∷ c.logged-count.result ∷ []) xs (newcomer (logs c.of-about.result.value)))) {x = Some c.args.value ∷ []} (search rules)
+    (subst (λ v. TurnInvariant by logs (length (logs v)) (opening (0 ∷ 0 ∷ c.logged-count.result ∷ []) (Some c.args.value ∷ []) (newcomer (logs v)))) (sym c.of-about.ensures) (opens logs by c.args.value c.logged-count.result c.logged-count.ensures))
