@@ -5,6 +5,16 @@
 //! and 15 the 64-bit stream number, the low word first in each. Constants, key, rounds and final
 //! addition are those of RFC 8439. A mask hides what it is put on as long as no key and stream
 //! number mask two texts; keeping the numbers apart is up to the caller.
+//!
+//! ```rust
+//! let mut bytes = *b"hello";
+//! mask(&key, 3, &mut bytes);      // hidden
+//! mask(&key, 3, &mut bytes);      // b"hello" again
+//! ```
+//!
+//! Proved: the mask is exactly the exclusive or with that stream, written as a definition from the RFC's text in `specs/`;
+//! a mask put on twice is taken off ([`laws`]). Tested only: that this definition gives the streams that OpenSSL gives.
+//! Neither: that nobody can tell a masked text from chance.
 #![tactic(auto)]
 
 ghost use Rattle.std.specs.Prelude.{◌≡◌, ◌≤◌, length, bit_xor, slice_index, EachIndex};
