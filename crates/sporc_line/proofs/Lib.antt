@@ -7,3 +7,6 @@ pub mod FormLengths
 pub mod SameKeys
 pub mod NextEntry
 pub mod LineKeeps
+pub mod Payloads
+pub mod ReadLengths
+pub mod Effects

@@ -1,23 +1,33 @@
 -- What holds of a line's fields.
-use Rattle.std.proofs.Common.{◌≡◌, ℕ, suc, zero, ◌+◌, ◌*◌, ◌^◌, ◌<◌, ◌≤◌, Bool, true, List, [], ◌∷◌, ◌++◌, length, take, refl, ap, sym, ◌∙◌, subst, arith, Option, None, Some, length-append}
-use Rattle.std.specs.Prelude.{is_some}
+use Rattle.std.proofs.Common.{◌≡◌, ℕ, suc, zero, ◌+◌, ◌*◌, ◌^◌, ◌<◌, ◌≤◌, Bool, true, List, [], ◌∷◌, ◌++◌, length, take, drop, ◌-◌, Result, Ok, Err, refl, ap, sym, ◌∙◌, subst, arith, Option, None, Some, length-append}
+use Rattle.std.specs.Prelude.{is_some, OnOk, IsOk}
 use Rattle.std.specs.List.{slice_get}
 use Rattle.std.specs.FinMap.{get}
 use Rattle.sporc_hash.specs.Chain.{commitment_of}
+use Rattle.sporc_delta.specs.declared.limits.TheConstants.{MAX_TEXT_LEN}
 use Rattle.sporc_delta.specs.Marks.{Mark, base_len, out_len, inserted_len, apply}
 use Rattle.sporc_suffix.specs.Forms.{reached, Follow, all_inserted}
 use Rattle.sporc_entry.specs.declared.genesis.Genesis.{Genesis}
+use Rattle.sporc_entry.specs.declared.view.TheConstants.{MAX_EDIT_BODY}
+use Rattle.sporc_head.specs.CheckedModel.{CheckedModel}
 use Rattle.sporc_head.specs.declared.limits.TheConstants.{MAX_ENTRIES}
 use Rattle.sporc_head.specs.History.{epoch_of}
 use Rattle.sporc_line.specs.Kit.{Kit}
 use Rattle.sporc_line.specs.Keys.{key_after, key_of}
-use Rattle.sporc_line.specs.Document.{forms_from, forms_of, text_of}
-use Rattle.sporc_line.specs.LineModel.{LineInvariant}
-use Rattle.sporc_line.specs.Prepared.{PreparedModel, IsPrepared}
+use Rattle.sporc_line.specs.Document.{forms_from, forms_of, next_form, text_of}
+use Rattle.sporc_line.specs.declared.line.Line.TheInside as line
+use Rattle.sporc_line.specs.declared.prepared.Prepared.TheInside as prepared
+use Rattle.sporc_line.specs.LineModel.{LineModel, LineInvariant}
+use Rattle.sporc_line.specs.LineFields.{model_of, invariant_of}
+use Rattle.sporc_line.specs.PreparedFields.{prepared_of}
+use Rattle.sporc_line.specs.declared.effect.Effect.{Effect}
+use Rattle.sporc_line.specs.LineChecks.{first_fault}
+use Rattle.sporc_line.specs.Prepared.{PreparedModel, IsEffect, IsPrepared}
 use Rattle.sporc_line.specs.Good.{Good, Meets}
 use Rattle.sporc_line.proofs.Goods.{good_none, good_take, good_push}
 use Rattle.sporc_line.proofs.MoreForms.{forms_push, text_push}
-use Rattle.sporc_line.proofs.FormLengths.{length-text, all_inserted-append, reached-le, length-forms, forms_take, text_at, forms_follow}
+use Rattle.sporc_line.proofs.FormLengths.{length-text, all_inserted-append, reached-le, length-forms, forms_take, text_at, forms_follow, edit_follows, next_form_base}
+use Rattle.sporc_line.proofs.Passes.{Passes, passed}
 use Rattle.sporc_line.proofs.NextEntry.{keyed_push}
 
 -- ---- the empty line
@@ -30,6 +40,7 @@ line_empty : (g : Genesis) (kit : Kit) (key : List ℕ) → get kit.ring 0 ≡ S
 unfolding key_after forms_from
 line_empty g kit key holds meets = record {
   good = good_none g kit (opening g kit key holds meets);
+  room = omega arith;
   key_is = sym holds;
   keyed = refl;
   base_is = refl;
@@ -79,22 +90,72 @@ module _ {g : Genesis} {kit : Kit} {A : List (List ℕ)} {key : Option (List ℕ
       ∙ sym (text_at g kit A i k.good (follow_at i))
 
   -- texts are short
-  pub before_small : (i : ℕ) → length A ≤ MAX_ENTRIES → length (text_of g kit (take i A)) ≤ 2 ^ 35
-  before_small i room =
+  pub before_small : (i : ℕ) → length (text_of g kit (take i A)) ≤ 2 ^ 35
+  before_small i =
       let r = reached-le 0 (forms_of g kit (take i A)) (follow_at i) in
       let l = length-text (forms_of g kit (take i A)) (follow_at i) in
       let t = ap all_inserted (forms_take g kit A k.good i) in
       let m = all_inserted-take (forms_of g kit A) i in
       let f = ap all_inserted k.forms_are in
-      omega (arith, l, r, t, m, f, k.few, room)
+      omega (arith, l, r, t, m, f, k.few, k.room)
 
-  pub text_small : length A ≤ MAX_ENTRIES → length text ≤ 2 ^ 35
-  text_small room =
+  pub text_small : length text ≤ 2 ^ 35
+  text_small =
       let l = length-text (forms_of g kit A) (forms_follow g kit A k.good) in
       let r = reached-le 0 (forms_of g kit A) (forms_follow g kit A k.good) in
       let t = ap length k.text_is in
       let f = ap all_inserted k.forms_are in
-      omega (arith, l, r, t, f, k.few, room)
+      omega (arith, l, r, t, f, k.few, k.room)
+
+-- ---- what calls on the fields require
+
+all_inserted-drop : (forms : List (List Mark)) (i : ℕ) → all_inserted (drop i forms) ≤ all_inserted forms
+all_inserted-drop forms zero = omega arith
+all_inserted-drop [] (suc i) = omega arith
+all_inserted-drop (f ∷ fs) (suc i) = omega (arith, all_inserted-drop fs i)
+
+-- marks over the text after n entries can pass the forms after these
+pub record CanPass (m : List Mark) (n base : ℕ) (forms : List (List Mark)) : Type 0 where
+  pub within : n ≤ length forms
+  pub base_is : base_len m ≡ reached base (take n forms)
+  pub limit : base_len m + inserted_len m + all_inserted (drop n forms) ≤ MAX_TEXT_LEN
+
+-- a form over the last text can be put
+pub record CanPut (f : List Mark) (base : ℕ) (forms : List (List Mark)) (text : List ℕ) : Type 0 where
+  pub over_text : base_len f ≡ length text
+  pub over_forms : base_len f ≡ reached base forms
+  pub few : length forms < 2 ^ 32 - 1
+
+module _ {g : Genesis} {kit : Kit} {A : List (List ℕ)} {key : Option (List ℕ)} {base : ℕ} {forms : List (List Mark)} {text : List ℕ} (k : LineInvariant g kit A key base forms text) where
+  pub can_pass : (m : List Mark) (n : ℕ) → n ≤ length A → base_len m ≡ length (text_of g kit (take n A)) → inserted_len m ≤ MAX_EDIT_BODY → CanPass m n base forms
+  can_pass m n within over small =
+      let f = edit_follows g kit A n m k.good (forms_follow g kit A k.good) over in
+      record {
+        within = omega (arith, within, ap length k.forms_are, length-forms g kit A);
+        base_is = f.0 ∙ ap (λ (fs : List (List Mark)). reached 0 (take n fs)) (sym k.forms_are) ∙ ap (λ (b : ℕ). reached b (take n forms)) (sym k.base_is);
+        limit = omega (arith, over, before_small k n, small, all_inserted-drop forms n, k.few, k.room);
+      }
+
+  next_over : (b : List ℕ) (f : List Mark) → first_fault g kit A (length A + 1) b ≡ None → f ≡ next_form g kit A b → CanPut f base forms text
+  next_over b f none is =
+      let p = passed g kit A (length A + 1) b none in
+      let over = ap base_len is ∙ next_form_base g kit A b (length A + 1) p.0 k.good (forms_follow g kit A k.good) p.1 p.2 in
+      record {
+        over_text = over ∙ sym (ap length k.text_is ∙ length-text (forms_of g kit A) (forms_follow g kit A k.good));
+        over_forms = over ∙ ap (reached 0) (sym k.forms_are) ∙ ap (λ (b : ℕ). reached b forms) (sym k.base_is);
+        few = omega (arith, ap length k.forms_are, length-forms g kit A, k.room);
+      }
+
+  pub effect_fits : (c : CheckedModel) (effect : Effect) → first_fault g kit A (length A + 1) c.bytes ≡ None → IsEffect g kit A c effect → CanPut effect.form base forms text
+  effect_fits c effect none q = next_over c.bytes effect.form none q.form_is
+
+  pub prepared_fits : (p : PreparedModel) → IsPrepared g kit A p → CanPut p.form base forms text
+  prepared_fits p q = next_over p.checked.bytes p.form q.passed q.form_is
+
+-- what holds where a call answers Ok, where it does
+pub ok_of : {X E : Type 0} (r : Result X E) (P : Type 0) → OnOk r P → IsOk r → P
+ok_of (Ok x) P h ok = h
+ok_of (Err e) P h ok = absurd cc
 
 -- ---- one entry more
 
@@ -104,6 +165,7 @@ line_push g kit A key base forms text p k q =
     let good = good_push g kit A p.checked.bytes k.good q.passed in
     record {
       good = good;
+      room = omega (arith, (passed g kit A (length A + 1) p.checked.bytes q.passed).2.room, length-append A (p.checked.bytes ∷ []));
       key_is = q.key_is;
       keyed = ap is_some q.key_is ∙ keyed_push g kit A p.checked.bytes (length A + 1) (ap is_some (sym k.key_is) ∙ k.keyed) q.passed;
       base_is = k.base_is;
@@ -123,3 +185,16 @@ line_pushed g g' kit A A' key key' base base' forms forms' text text' p k q is a
     (subst (λ (x : ℕ). LineInvariant g kit (A ++ p.checked.bytes ∷ []) p.key x forms' text') (sym b)
     (subst (λ (x : List (List Mark)). LineInvariant g kit (A ++ p.checked.bytes ∷ []) p.key base x text') (sym f)
     (subst (λ (x : List ℕ). LineInvariant g kit (A ++ p.checked.bytes ∷ []) p.key base (forms ++ p.form ∷ []) x) (sym t) (line_push g kit A key base forms text p k q))))))
+
+-- ---- facts of a model are facts of the fields
+
+pub prepared_here : (i : line.Inside) (j : prepared.Inside) (m : LineModel) (p : PreparedModel) → model_of i ≡ m → prepared_of j ≡ p → IsPrepared m.genesis m.kit m.entries p
+    → IsPrepared i.heads.genesis i.kit i.heads.entries (prepared_of j)
+prepared_here i j m p is here q =
+    subst (λ (m : LineModel). IsPrepared m.genesis m.kit m.entries (prepared_of j)) (sym is) (subst (λ (p : PreparedModel). IsPrepared m.genesis m.kit m.entries p) (sym here) q)
+
+pub effect_here : (i : line.Inside) (m : LineModel) (c : CheckedModel) (effect : Effect) → model_of i ≡ m → invariant_of i → first_fault m.genesis m.kit m.entries (length m.entries + 1) c.bytes ≡ None → IsEffect m.genesis m.kit m.entries c effect
+    → CanPut effect.form i.forms.base i.forms.forms i.text
+effect_here i m c effect is k none q =
+    effect_fits k c effect (subst (λ (m : LineModel). first_fault m.genesis m.kit m.entries (length m.entries + 1) c.bytes ≡ None) (sym is) none)
+    (subst (λ (m : LineModel). IsEffect m.genesis m.kit m.entries c effect) (sym is) q)

@@ -9,3 +9,6 @@ pub mod LineModel
 pub mod Codes
 pub mod Openings
 pub mod Prepared
+pub mod LineFields
+pub mod PreparedFields
+pub mod Payload

@@ -3,6 +3,8 @@ use Rattle.std.specs.Prelude.{◌≡◌, ℕ, ◌*◌, ◌≤◌, not, List, len
 use Rattle.sporc_delta.specs.Marks.{Mark}
 use Rattle.sporc_suffix.specs.Forms.{all_inserted}
 use Rattle.sporc_entry.specs.declared.genesis.Genesis.{Genesis}
+use Rattle.sporc_entry.specs.declared.view.TheConstants.{MAX_EDIT_BODY}
+use Rattle.sporc_head.specs.declared.limits.TheConstants.{MAX_ENTRIES}
 use Rattle.sporc_head.specs.History.{epoch_of, is_removed}
 use Rattle.sporc_line.specs.Kit.{Kit}
 use Rattle.sporc_line.specs.Keys.{key_of}
@@ -19,9 +21,10 @@ pub record LineModel : Type 0 where
 -- the history is good, and what is kept at hand of it is what the entries say
 pub record LineInvariant (genesis : Genesis) (kit : Kit) (entries : List (List ℕ)) (key : Option (List ℕ)) (base : ℕ) (forms : List (List Mark)) (text : List ℕ) : Type 0 where
   pub good : Good genesis kit entries
+  pub room : length entries ≤ MAX_ENTRIES
   pub key_is : key ≡ key_of genesis kit entries (epoch_of entries)
   pub keyed : is_some key ≡ not (is_removed kit.me entries)
   pub base_is : base ≡ 0
   pub forms_are : forms ≡ forms_of genesis kit entries
   pub text_is : text ≡ text_of genesis kit entries
-  pub few : all_inserted forms ≤ 1048576 * length entries
+  pub few : all_inserted forms ≤ MAX_EDIT_BODY * length entries

@@ -2,9 +2,11 @@
 use Rattle.std.specs.Prelude.{◌≡◌, ℕ, ◌+◌, ◌≤◌, List, [], ◌∷◌, ◌++◌, length, Option, None}
 use Rattle.sporc_delta.specs.Marks.{Mark, apply, inserted_len}
 use Rattle.sporc_entry.specs.declared.genesis.Genesis.{Genesis}
+use Rattle.sporc_entry.specs.declared.view.TheConstants.{MAX_EDIT_BODY}
 use Rattle.sporc_head.specs.CheckedModel.{CheckedModel}
 use Rattle.sporc_head.specs.IsChecked.{IsChecked}
 use Rattle.sporc_head.specs.History.{epoch_of}
+use Rattle.sporc_line.specs.declared.effect.Effect.{Effect}
 use Rattle.sporc_line.specs.Kit.{Kit}
 use Rattle.sporc_line.specs.Keys.{key_of}
 use Rattle.sporc_line.specs.Document.{next_form, text_of}
@@ -17,11 +19,17 @@ pub record PreparedModel : Type 0 where
   pub text : List ℕ
   pub key : Option (List ℕ)
 
+-- an entry that was checked does this: it has this form, and this is the key of the last epoch after it
+pub record IsEffect (genesis : Genesis) (kit : Kit) (entries : List (List ℕ)) (checked : CheckedModel) (effect : Effect) : Type 0 where
+  pub form_is : effect.form ≡ next_form genesis kit entries checked.bytes
+  pub small : inserted_len effect.form ≤ MAX_EDIT_BODY
+  pub key_is : effect.key ≡ key_of genesis kit (entries ++ checked.bytes ∷ []) (epoch_of (entries ++ checked.bytes ∷ []))
+
 -- it was prepared at this history
 pub record IsPrepared (genesis : Genesis) (kit : Kit) (entries : List (List ℕ)) (p : PreparedModel) : Type 0 where
   pub checked : IsChecked genesis entries p.checked
   pub passed : first_fault genesis kit entries (length entries + 1) p.checked.bytes ≡ None
   pub form_is : p.form ≡ next_form genesis kit entries p.checked.bytes
-  pub small : inserted_len p.form ≤ 1048576
+  pub small : inserted_len p.form ≤ MAX_EDIT_BODY
   pub text_is : p.text ≡ apply p.form (text_of genesis kit entries)
   pub key_is : p.key ≡ key_of genesis kit (entries ++ p.checked.bytes ∷ []) (epoch_of (entries ++ p.checked.bytes ∷ []))

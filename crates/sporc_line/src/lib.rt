@@ -4,12 +4,15 @@
 //! `specs/` has the definitions; each recomputes everything from the first entry.
 #![tactic(auto)]
 
+mod effect;
 mod fault;
 mod keys;
 mod kit;
 pub mod laws;
 mod line;
 mod opening;
+mod passing;
+mod payload;
 mod prepared;
 
 pub use fault::LineOpenFault;

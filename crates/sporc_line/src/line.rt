@@ -20,6 +20,8 @@ ghost use Rattle.sporc_line.specs.Good.{Good};
 ghost use Rattle.sporc_line.specs.Openings.{open_checks};
 ghost use Rattle.sporc_line.specs.Prepared.{IsPrepared};
 
+mod accepting;
+
 use crate::fault::LineOpenFault;
 use crate::kit::MemberKit;
 use crate::opening::opening_key;
@@ -52,17 +54,18 @@ pub struct Line {
 }
 
 impl Model for Line {
-    ghost use Rattle.std.specs.Prelude.{min};
-    ghost use Rattle.sporc_line.specs.LineModel.{LineModel, LineInvariant};
+    ghost use Rattle.sporc_line.specs.LineModel.{LineModel};
     ghost use Rattle.sporc_line.specs.Codes.{line_code};
 
     ghost Value = { LineModel };
 
     ghost coded = { line_code };
 
-    ghost view = { λ l. record { genesis = l.heads.genesis; kit = l.kit; entries = l.heads.entries; spare = min l.heads.spare l.forms.spare } };
+    ghost use Rattle.sporc_line.specs.LineFields.{model_of, invariant_of};
 
-    ghost invariant = { λ l. LineInvariant l.heads.genesis l.kit l.heads.entries l.key l.forms.base l.forms.forms l.text };
+    ghost view = { model_of };
+
+    ghost invariant = { invariant_of };
 }
 
 impl Line {
@@ -120,6 +123,18 @@ impl Line {
             Some(key) => Line::empty(self.alloc, genesis, kit, key),
             None => unreachable!(),
         }
+    }
+
+    // Where memory is taken from.
+    fn allocator(&self) -> Global {
+        self.alloc
+    }
+
+    // What the member was given.
+    fn kit(&self) -> &MemberKit
+        ensures value { result.now ≡ self.now.kit }
+    {
+        &self.kit
     }
 
     /// How many entries there are, at most 16,384.

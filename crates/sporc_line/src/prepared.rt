@@ -25,7 +25,9 @@ impl Model for Prepared {
 
     ghost Value = { PreparedModel };
 
-    ghost view = { λ p. record { checked = p.checked; form = p.form; text = p.text; key = p.key } };
+    ghost use Rattle.sporc_line.specs.PreparedFields.{prepared_of};
+
+    ghost view = { prepared_of };
 }
 
 impl Prepared {

@@ -1,5 +1,4 @@
 use Rattle.std.proofs.Common.{◌≡◌, ◌≤◌, ◌∙◌, length, take, arith, sym, subst}
-use Rattle.sporc_head.specs.declared.limits.TheConstants.{MAX_ENTRIES}
 use Rattle.sporc_line.specs.Document.{text_of}
 use Rattle.sporc_line.specs.LineModel.{LineModel}
 use Rattle.sporc_line.proofs.LineKeeps.{form_place, before_form, before_small, text_small}
@@ -12,8 +11,7 @@ form-requires c =
 
 pub returns-then-i-len-clause-small : goal.returns-then-i-len-clause-small
 returns-then-i-len-clause-small c =
-    let room : length c.self.inside.heads.entries ≤ MAX_ENTRIES = omega arith in
-    omega (arith, text_small c.self.invariant room)
+    omega (arith, text_small c.self.invariant)
 
 pub returns-else-i-len-clause-value : goal.returns-else-i-len-clause-value
 returns-else-i-len-clause-value c =
@@ -22,6 +20,5 @@ returns-else-i-len-clause-value c =
 
 pub returns-else-i-len-clause-small : goal.returns-else-i-len-clause-small
 returns-else-i-len-clause-small c =
-    let room : length c.self.inside.heads.entries ≤ MAX_ENTRIES = omega arith in
     let same = c.base_len.ensures.value ∙ before_form c.self.invariant c.args.i c.form.result.now c.form.ensures.value in
-    omega (arith, same, before_small c.self.invariant c.args.i room)
+    omega (arith, same, before_small c.self.invariant c.args.i)

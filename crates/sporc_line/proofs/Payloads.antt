@@ -1,0 +1,23 @@
+-- What a body that was read says.
+use Rattle.std.proofs.Common.{◌≡◌, ◌≢◌, List, Option, Some, None, Result, Ok, Err, refl, ap}
+use Rattle.std.specs.Prelude.{is_some}
+use Rattle.std.specs.Result.{result_ok}
+use Rattle.sporc_base.specs.FirstFault.{unless}
+use Rattle.sporc_delta.specs.Marks.{Mark}
+use Rattle.sporc_delta.specs.declared.fault.DeltaFault.{DeltaFault}
+use Rattle.sporc_delta.specs.declared.fault.DeltaFault.TheVariants as faults
+use Rattle.sporc_head.specs.declared.refusal.Refusal.{Refusal}
+use Rattle.sporc_head.specs.declared.refusal.Refusal.TheVariants.{BadPayload, Memory}
+use Rattle.sporc_line.specs.Payload.{payload_refusal}
+
+failed : (read : Result (List Mark) DeltaFault) (fault : DeltaFault) → read ≡ Err fault → unless (is_some (result_ok read)) BadPayload ≡ Some BadPayload
+failed read fault h = ap (λ (r : Result (List Mark) DeltaFault). unless (is_some (result_ok r)) BadPayload) h
+
+-- a fault of reading is that of the check
+pub payload_fault : (read : Result (List Mark) DeltaFault) (fault : DeltaFault) → (fault ≢ faults.Memory → read ≡ Err fault) → payload_refusal fault ≢ Memory → unless (is_some (result_ok read)) BadPayload ≡ Some (payload_refusal fault)
+payload_fault read faults.Memory h other = absurd (other refl)
+payload_fault read faults.Short h other = failed read faults.Short (h (λ e. cc))
+payload_fault read faults.BadKind h other = failed read faults.BadKind (h (λ e. cc))
+payload_fault read faults.BadCount h other = failed read faults.BadCount (h (λ e. cc))
+payload_fault read faults.SameNeighbours h other = failed read faults.SameNeighbours (h (λ e. cc))
+payload_fault read faults.NotUtf8 h other = failed read faults.NotUtf8 (h (λ e. cc))
