@@ -1,5 +1,5 @@
 -- What an entry that passed the head's checks does, and its first fault of the checks that need keys.
-use Rattle.std.proofs.Common.{◌≡◌, ◌≢◌, ℕ, suc, zero, ◌+◌, ◌*◌, ◌<◌, ◌≤◌, Bool, true, false, List, [], ◌∷◌, ◌++◌, length, take, drop, refl, ap, sym, ◌∙◌, subst, arith, Option, None, Some, Result, Ok, Err}
+use Rattle.std.proofs.Common.{◌≡◌, ◌≢◌, ℕ, ◌+◌, ◌≤◌, Bool, true, false, List, [], ◌∷◌, ◌++◌, length, take, drop, refl, ap, sym, ◌∙◌, subst, arith, Option, None, Some, Result, Err}
 use Rattle.std.specs.Prelude.{is_some, nat_lt, nat_le, ◌==◌}
 use Rattle.std.specs.Str.{bytes_eq}
 use Rattle.std.proofs.lemmas.Bool.{leb-true, eqb-true, eq-eqb}
@@ -15,18 +15,18 @@ use Rattle.sporc_entry.specs.declared.genesis.Genesis.{Genesis}
 use Rattle.sporc_entry.specs.declared.view.TheConstants.{MAX_EDIT_BODY}
 use Rattle.sporc_entry.specs.Entry.{entry_of, change_of}
 use Rattle.sporc_head.specs.declared.refusal.Refusal.{Refusal}
-use Rattle.sporc_head.specs.declared.refusal.Refusal.TheVariants.{BadPayload, WrongLength, Memory}
+use Rattle.sporc_head.specs.declared.refusal.Refusal.TheVariants.{BadPayload, WrongLength}
 use Rattle.sporc_head.specs.CheckedModel.{CheckedModel}
 use Rattle.sporc_head.specs.IsChecked.{IsChecked}
 use Rattle.sporc_head.specs.declared.limits.TheConstants.{MAX_ENTRIES}
-use Rattle.sporc_head.specs.History.{CommittedChange, change_in, changes, epoch_of, roster_of, barrier_of, last_of, count_of, hash_of}
+use Rattle.sporc_head.specs.History.{change_in, changes, epoch_of, roster_of, barrier_of, last_of, count_of, hash_of}
 use Rattle.sporc_head.specs.HeadChecks.{place_checks, history_checks, author_checks, roster_checks, head_checks, fault_read, head_fault}
 use Rattle.sporc_head.proofs.Grows.{change_in_read}
 use Rattle.sporc_line.specs.declared.effect.Effect.{Effect}
 use Rattle.sporc_line.specs.Kit.{Kit}
 use Rattle.sporc_line.specs.Keys.{key_after, key_of, key_by_wraps}
 use Rattle.sporc_line.specs.Operations.{marks_in, edit_marks}
-use Rattle.sporc_line.specs.Document.{forms_of, next_form, text_of}
+use Rattle.sporc_line.specs.Document.{forms_of, text_of}
 use Rattle.sporc_line.specs.LineChecks.{is_over, edit_checks, new_key_checks, key_checks_of, key_checks, first_fault}
 use Rattle.sporc_line.specs.Prepared.{IsEffect}
 use Rattle.sporc_line.proofs.Passes.{both_pass}

@@ -1,5 +1,5 @@
 -- What holds of a line's fields.
-use Rattle.std.proofs.Common.{◌≡◌, ℕ, suc, zero, ◌+◌, ◌*◌, ◌^◌, ◌<◌, ◌≤◌, Bool, true, List, [], ◌∷◌, ◌++◌, length, take, drop, ◌-◌, Result, Ok, Err, refl, ap, sym, ◌∙◌, subst, arith, Option, None, Some, length-append}
+use Rattle.std.proofs.Common.{◌≡◌, ℕ, suc, zero, ◌+◌, ◌^◌, ◌<◌, ◌≤◌, List, [], ◌∷◌, ◌++◌, length, take, drop, ◌-◌, Result, Ok, Err, refl, ap, sym, ◌∙◌, subst, arith, Option, None, Some, length-append}
 use Rattle.std.specs.Prelude.{is_some, OnOk, IsOk}
 use Rattle.std.specs.List.{slice_get}
 use Rattle.std.specs.FinMap.{get}
@@ -10,8 +10,6 @@ use Rattle.sporc_suffix.specs.Forms.{reached, Follow, all_inserted}
 use Rattle.sporc_entry.specs.declared.genesis.Genesis.{Genesis}
 use Rattle.sporc_entry.specs.declared.view.TheConstants.{MAX_EDIT_BODY}
 use Rattle.sporc_head.specs.CheckedModel.{CheckedModel}
-use Rattle.sporc_head.specs.declared.limits.TheConstants.{MAX_ENTRIES}
-use Rattle.sporc_head.specs.History.{epoch_of}
 use Rattle.sporc_line.specs.Kit.{Kit}
 use Rattle.sporc_line.specs.Keys.{key_after, key_of}
 use Rattle.sporc_line.specs.Document.{forms_from, forms_of, next_form, text_of}
@@ -27,7 +25,7 @@ use Rattle.sporc_line.specs.Good.{Good, Meets}
 use Rattle.sporc_line.proofs.Goods.{good_none, good_take, good_push}
 use Rattle.sporc_line.proofs.MoreForms.{forms_push, text_push}
 use Rattle.sporc_line.proofs.FormLengths.{length-text, all_inserted-append, reached-le, length-forms, forms_take, text_at, forms_follow, edit_follows, next_form_base}
-use Rattle.sporc_line.proofs.Passes.{Passes, passed}
+use Rattle.sporc_line.proofs.Passes.{passed}
 use Rattle.sporc_line.proofs.NextEntry.{keyed_push}
 
 -- ---- the empty line

@@ -1,13 +1,11 @@
 -- One entry more: its first fault by its parts, the key after it, and what holds of the line with it.
-use Rattle.std.proofs.Common.{◌≡◌, ℕ, suc, zero, ◌+◌, ◌*◌, ◌<◌, ◌≤◌, Bool, true, false, cond, List, [], ◌∷◌, ◌++◌, length, take, drop, map, refl, ap, sym, ◌∙◌, subst, arith, Option, None, Some, Result, Ok, Err, length-append}
+use Rattle.std.proofs.Common.{◌≡◌, ℕ, suc, ◌+◌, ◌≤◌, Bool, true, false, cond, List, [], ◌∷◌, ◌++◌, length, map, refl, ap, sym, ◌∙◌, subst, arith, Option, None, Some, Result, Ok, Err, length-append}
 use Rattle.std.specs.Prelude.{is_some, not, ◌||◌, find, ◌==◌}
 use Rattle.std.specs.List.{list_any, slice_get}
 use Rattle.std.specs.FinMap.{get}
 use Rattle.std.proofs.lemmas.List.{append-nil, take_all}
 use Rattle.std.proofs.lemmas.Slice.Eq.{bytes_eq-Decides}
 use Rattle.sporc_base.specs.FirstFault.{unless, first_of}
-use Rattle.sporc_delta.specs.Marks.{Mark, apply, inserted_len}
-use Rattle.sporc_suffix.specs.Forms.{all_inserted}
 use Rattle.sporc_member.specs.declared.founder.Founder.{Founder}
 use Rattle.sporc_member.specs.Roster.{Roster, removes, member_at, numbers_of, after_change, roster_after}
 use Rattle.sporc_member.proofs.Checks.{passes}
@@ -20,16 +18,14 @@ use Rattle.sporc_epoch.specs.Wraps.{wrap_opened}
 use Rattle.sporc_head.specs.declared.refusal.Refusal.{Refusal}
 use Rattle.sporc_head.specs.declared.refusal.Refusal.TheVariants.{WrongWraps}
 use Rattle.sporc_head.specs.History.{CommittedChange, change_in, changes, epoch_of, roster_of, is_removed}
-use Rattle.sporc_head.specs.HeadChecks.{names, bad_change, roster_checks, head_checks, fault_read, head_fault}
+use Rattle.sporc_head.specs.HeadChecks.{names, roster_checks, head_checks, fault_read, head_fault}
 use Rattle.sporc_head.proofs.ChecksPass.{first_of-none, first_of-some}
-use Rattle.sporc_head.proofs.Grows.{changes_push, epoch_push, removed_push, removes_in, change_in_read, roster_change}
+use Rattle.sporc_head.proofs.Grows.{changes_push, removed_push, removes_in, change_in_read, roster_change}
 use Rattle.sporc_line.specs.Kit.{Kit}
 use Rattle.sporc_line.specs.Keys.{key_started, key_after, key_of, key_by_wraps}
 use Rattle.sporc_line.specs.LineChecks.{key_checks, line_checks, first_fault}
-use Rattle.sporc_line.specs.Good.{Good}
 use Rattle.sporc_line.proofs.Lists.{slice_get_last}
 use Rattle.sporc_line.proofs.Passes.{Passes, passed}
-use Rattle.sporc_line.proofs.MoreForms.{key_of_push}
 use Rattle.sporc_line.proofs.SameKeys.{committed, change_key}
 
 -- ---- the first fault by its parts

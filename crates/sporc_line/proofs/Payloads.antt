@@ -1,12 +1,11 @@
 -- What a body that was read says.
-use Rattle.std.proofs.Common.{◌≡◌, ◌≢◌, List, Option, Some, None, Result, Ok, Err, refl, ap}
+use Rattle.std.proofs.Common.{◌≡◌, ◌≢◌, List, Some, Result, Err, refl, ap}
 use Rattle.std.specs.Prelude.{is_some}
 use Rattle.std.specs.Result.{result_ok}
 use Rattle.sporc_base.specs.FirstFault.{unless}
 use Rattle.sporc_delta.specs.Marks.{Mark}
 use Rattle.sporc_delta.specs.declared.fault.DeltaFault.{DeltaFault}
 use Rattle.sporc_delta.specs.declared.fault.DeltaFault.TheVariants as faults
-use Rattle.sporc_head.specs.declared.refusal.Refusal.{Refusal}
 use Rattle.sporc_head.specs.declared.refusal.Refusal.TheVariants.{BadPayload, Memory}
 use Rattle.sporc_line.specs.Payload.{payload_refusal}
 

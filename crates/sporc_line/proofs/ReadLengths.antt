@@ -1,7 +1,7 @@
 -- The sizes of what is read: a body is within its limit, and a delta inserts no more characters than its bytes are many.
-use Rattle.std.proofs.Common.{◌≡◌, ℕ, zero, suc, ◌+◌, ◌≤◌, Bool, true, false, cond, List, [], ◌∷◌, ◌++◌, length, take, drop, Option, Some, None, Result, Ok, Err, refl, ap, sym, ◌∙◌, subst, arith}
+use Rattle.std.proofs.Common.{◌≡◌, ℕ, zero, suc, ◌+◌, ◌≤◌, Bool, true, false, cond, List, [], ◌∷◌, ◌++◌, length, take, Option, Some, None, Result, Ok, Err, refl, ap, sym, ◌∙◌, subst, arith}
 use Rattle.std.specs.Prelude.{nat_lt, nat_le, ◌==◌}
-use Rattle.std.specs.Int.{w8, w16, w32}
+use Rattle.std.specs.Int.{w32}
 use Rattle.std.specs.Result.{result_ok}
 use Rattle.std.proofs.lemmas.Bool.{ltb-false, leb-true}
 use Rattle.std.proofs.lemmas.List.{length-take-le}
@@ -22,7 +22,6 @@ use Rattle.sporc_delta.specs.Reading.{head_at, text_at, body_at, part_at, parts_
 use Rattle.sporc_delta.proofs.Counted.{length-chars}
 use Rattle.sporc_delta.proofs.Decoding.{head_ok, text_ok}
 use Rattle.sporc_entry.specs.declared.entry.Entry.{Entry}
-use Rattle.sporc_entry.specs.declared.header.Header.{Header}
 use Rattle.sporc_entry.specs.declared.view.TheConstants.{MAX_EDIT_BODY}
 use Rattle.sporc_entry.specs.Entry.{header_at, body_limit, body_read, entry_of}
 use Rattle.sporc_epoch.specs.Streams.{entry_stream}

@@ -4,7 +4,7 @@ use Rattle.std.specs.List.{each_same}
 use Rattle.std.specs.Ordering.{nat_cmp}
 use Rattle.std.proofs.lemmas.Map.Entries.{entries_from_clone}
 use Rattle.sporc_epoch.specs.Keys.{Keys}
-use Rattle.sporc_line.specs.Kit.{Kit, kit_of}
+use Rattle.sporc_line.specs.Kit.{kit_of}
 use Rattle.sporc_line.proofs.kit.MemberKit.copy.Goals as goal
 
 pub returns : goal.returns

@@ -1,7 +1,7 @@
 use Rattle.std.proofs.Common.{◌≡◌, ◌≤◌, ◌++◌, ◌∷◌, [], arith, min, refl, sym, subst}
 use Rattle.sporc_line.specs.LineModel.{LineModel}
 use Rattle.sporc_line.specs.PreparedFields.{prepared_of}
-use Rattle.sporc_line.proofs.LineKeeps.{CanPut, prepared_here, prepared_fits, line_pushed, ok_of}
+use Rattle.sporc_line.proofs.LineKeeps.{prepared_here, prepared_fits, line_pushed, ok_of}
 use Rattle.sporc_line.proofs.line.Line.commit.Goals as goal
 
 pub put-requires-clause-base : goal.put-requires-clause-base

@@ -2,7 +2,7 @@ use Rattle.std.proofs.Common.{◌≡◌, ◌≤◌, length, take, sym, subst}
 use Rattle.sporc_delta.specs.Marks.{base_len}
 use Rattle.sporc_line.specs.Document.{text_of}
 use Rattle.sporc_line.specs.LineModel.{LineModel}
-use Rattle.sporc_line.proofs.LineKeeps.{CanPass, can_pass}
+use Rattle.sporc_line.proofs.LineKeeps.{can_pass}
 use Rattle.sporc_line.proofs.line.Line.over_forms.Goals as goal
 
 pub pass_forms-requires-clause-within : goal.pass_forms-requires-clause-within

@@ -1,4 +1,4 @@
-use Rattle.sporc_line.proofs.LineKeeps.{CanPut, effect_here}
+use Rattle.sporc_line.proofs.LineKeeps.{effect_here}
 use Rattle.sporc_line.proofs.line.Line.ready.Goals as goal
 
 pub ready-requires : goal.ready-requires

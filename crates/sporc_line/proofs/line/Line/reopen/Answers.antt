@@ -1,4 +1,4 @@
-use Rattle.std.proofs.Common.{◌≡◌, Option, List, ℕ, Some, None, ap, sym, ◌∙◌, subst}
+use Rattle.std.proofs.Common.{◌≡◌, Some, None, ap, sym, ◌∙◌, subst}
 use Rattle.std.specs.FinMap.{get}
 use Rattle.sporc_entry.specs.declared.genesis.Genesis.{Genesis}
 use Rattle.sporc_line.specs.Kit.{Kit}
