@@ -3,8 +3,10 @@
 #![tactic(auto)]
 
 mod order;
+mod session;
 
 pub use order::{Memory, Order};
+pub use session::{Answer, Session};
 
 #[cfg(test)]
 mod tests;

@@ -10,6 +10,7 @@ use sporc_entry::{
 };
 use sporc_hash::{Digest32, genesis_hash, next_hash};
 use sporc_head::Refusal;
+use sporc_wire::{ToClient, ToServer};
 use std::alloc::Global;
 use std::process::Abort;
 use std::test::Fail;
@@ -117,5 +118,53 @@ fn sixteen_entries_are_pulled(rt: HostRuntime) -> Result<(), Fail> {
     assert_eq!(rt; order.len(), 18);
     assert_eq!(rt; order.pull(0).len(), 16);
     assert_eq!(rt; order.pull(5).len(), 13);
+    Ok(())
+}
+
+// What a session answers to the message.
+fn answer(
+    alloc: Global,
+    session: &mut Session,
+    order: &mut Order,
+    message: &ToServer,
+) -> Result<Answer, Fail> {
+    Ok(session.step(alloc, order, message)?)
+}
+
+#[test]
+fn a_session_is_greeted_once(rt: HostRuntime) -> Result<(), Fail> {
+    let alloc = rt.alloc();
+    let tree = Tree::build(alloc, &[1; 32], &[1; 16], LmsType::H5, OtsType::W1)?;
+    let (mut order, _) = opened(alloc, &tree)?;
+    let mut session = Session::new();
+    let pull = ToServer::Pull { from: 0 };
+    let early = answer(alloc, &mut session, &mut order, &pull)?;
+    assert!(rt; matches!(early, Answer::Close));
+    let hello = ToServer::Hello { document: DOCUMENT, member: 1 };
+    let first = answer(alloc, &mut session, &mut order, &hello)?;
+    assert!(rt; matches!(first, Answer::Silent));
+    let empty = answer(alloc, &mut session, &mut order, &pull)?;
+    assert!(rt; matches!(empty, Answer::Send(ToClient::Empty)));
+    let again = answer(alloc, &mut session, &mut order, &hello)?;
+    assert!(rt; matches!(again, Answer::Close));
+    Ok(())
+}
+
+#[test]
+fn a_session_orders_an_entry_once(rt: HostRuntime) -> Result<(), Fail> {
+    let alloc = rt.alloc();
+    let tree = Tree::build(alloc, &[1; 32], &[1; 16], LmsType::H5, OtsType::W1)?;
+    let (mut order, start) = opened(alloc, &tree)?;
+    let mut session = Session::new();
+    let hello = ToServer::Hello { document: DOCUMENT, member: 1 };
+    answer(alloc, &mut session, &mut order, &hello)?;
+    let entry = Bytes::new(edit(&rt, alloc, &tree, 0, start)?);
+    let submit = ToServer::Submit { entry };
+    let ordered = answer(alloc, &mut session, &mut order, &submit)?;
+    assert!(rt; matches!(ordered, Answer::Send(ToClient::Ordered { pos: 1 })));
+    let again = answer(alloc, &mut session, &mut order, &submit)?;
+    assert!(rt; matches!(again, Answer::Send(ToClient::Rejected { refusal: Refusal::WrongNumber })));
+    let pulled = answer(alloc, &mut session, &mut order, &ToServer::Pull { from: 0 })?;
+    assert!(rt; matches!(pulled, Answer::Send(ToClient::Entries { first: 1, .. })));
     Ok(())
 }

@@ -1,0 +1,135 @@
+//! Sessions of one client with an order.
+
+ghost use Rattle.std.specs.Prelude.{◌≡◌, ◌+◌, true, false, map, length, None, IfOk, OnOk, OnErr};
+ghost use Rattle.sporc_wire.specs.declared.to_client.ToClient.{ToClient};
+ghost use Rattle.sporc_order.specs.Orders.{pulled};
+ghost use Rattle.sporc_order.specs.Sessions.{step_of, greeted, submitted, entries_after, only, IsSendable, IsFramed};
+ghost use Rattle.sporc_head.specs.HeadChecks.{head_fault};
+
+use crate::order::Order;
+use sporc_base::{Bytes, Items, Memory, is_same};
+use sporc_head::Refusal;
+use sporc_wire::{ToClient, ToServer};
+use std::alloc::{AllocError, Global};
+use std::marker::Model;
+
+/// What a session answers to a message.
+#[derive(Debug, Drop)]
+pub enum Answer {
+    /// This message is sent.
+    Send(ToClient),
+    /// Nothing is sent.
+    Silent,
+    /// The session ends.
+    Close,
+}
+
+/// A session of one client with an order.
+///
+/// Contracts see whether the client was greeted.
+#[derive(Debug, Drop)]
+pub struct Session {
+    is_greeted: bool,
+}
+
+impl Model for Session {
+    ghost use Rattle.std.specs.Prelude.{Bool};
+
+    ghost Value = { Bool };
+
+    ghost view = { λ s. s.is_greeted };
+}
+
+impl Session {
+    /// A session before its first message.
+    pub fn new() -> Session
+        ensures value { result ≡ false }
+    {
+        Session { is_greeted: false }
+    }
+
+    /// Answers a message: Close exactly where the first message isn't Hello with the order's document, or a later one is
+    /// Hello. Silent for the first Hello.
+    pub fn step(
+        &mut self,
+        alloc: Global,
+        order: &mut Order,
+        message: &ToServer,
+    ) -> Result<Answer, Memory>
+        ensures answer { IfOk result (λ answer. answer ≡ (step_of order.old self.old message.now).answer) }
+        ensures order { OnOk result (order.new ≡ (step_of order.old self.old message.now).order) }
+        ensures greeted { OnOk result (self.new ≡ (step_of order.old self.old message.now).is_greeted) }
+        ensures memory { OnErr result (order.new ≡ order.old) }
+        ensures unchanged { OnErr result (self.new ≡ self.old) }
+    {
+        match message {
+            ToServer::Hello { document, .. } => Ok(self.greet(order, document)),
+            ToServer::Submit { entry } => {
+                if !self.is_greeted {
+                    return Ok(Answer::Close);
+                }
+                submit(order, entry.as_slice())
+            }
+            ToServer::Pull { from } => {
+                if !self.is_greeted {
+                    return Ok(Answer::Close);
+                }
+                pull(alloc, order, *from)
+            }
+        }
+    }
+
+    // Answers a Hello.
+    fn greet(&mut self, order: &Order, document: &[u8; 16]) -> Answer
+        ensures first { self.old ≡ false → result ≡ (greeted order.now document.now).answer }
+        ensures greeted { self.old ≡ false → self.new ≡ (greeted order.now document.now).is_greeted }
+        ensures later { self.old ≡ true → result ≡ Answer.Close }
+        ensures unchanged { self.old ≡ true → self.new ≡ true }
+    {
+        if self.is_greeted || !is_same(document, order.document()) {
+            return Answer::Close;
+        }
+        self.is_greeted = true;
+        Answer::Silent
+    }
+}
+
+// Answers a Submit.
+fn submit(order: &mut Order, entry: &[u8]) -> Result<Answer, Memory>
+    ensures answer { IfOk result (λ answer. answer ≡ (submitted order.old entry.now
+        (head_fault order.old.genesis None order.old.entries (length order.old.entries + 1) entry.now)).answer) }
+    ensures order { OnOk result (order.new ≡ (submitted order.old entry.now
+        (head_fault order.old.genesis None order.old.entries (length order.old.entries + 1) entry.now)).order) }
+    ensures memory { OnErr result (order.new ≡ order.old) }
+{
+    match order.submit(entry) {
+        Ok(pos) => Ok(Answer::Send(ToClient::Ordered { pos })),
+        Err(Refusal::Memory) => Err(AllocError),
+        Err(refusal) => Ok(Answer::Send(ToClient::Rejected { refusal })),
+    }
+}
+
+// Answers a Pull.
+fn pull(alloc: Global, order: &Order, from: u32) -> Result<Answer, Memory>
+    ensures answer { IfOk result (λ answer. answer ≡ Answer.Send (entries_after from (pulled order.now.entries from))) }
+{
+    if from >= order.len() {
+        return Ok(Answer::Send(ToClient::Empty));
+    }
+    let entries = Items::new(copied(alloc, order.pull(from))?);
+    Ok(Answer::Send(ToClient::Entries {
+        first: from + 1,
+        entries,
+    }))
+}
+
+// A copy of entries.
+fn copied(alloc: Global, entries: &[Vec<u8>]) -> Result<Vec<Bytes>, Memory>
+    ensures { IfOk result (λ copy. copy.items ≡ map (λ v. v.items) entries.now) }
+{
+    let mut copy = Vec::with_capacity(alloc, entries.len())?;
+    for entry in entries {
+        copy.push(Bytes::copy_of(alloc, entry.as_slice())?)?;
+    }
+    Ok(copy)
+}
