@@ -1,6 +1,20 @@
 //! Fields of bytes: a cursor that reads them from the front, and a buffer that they are written into.
 //!
 //! All numbers are big-endian. A counted string is a `u32` length and then so many bytes.
+//!
+//! ```text
+//! let mut cursor = Cursor::new(&[0, 7, 97, 98]);
+//! let n = cursor.u16()?;        // 7
+//! let rest = cursor.take(2)?;   // "ab"
+//! let end = cursor.u8();        // Err(Short(4)): the field that is cut short begins at place 4
+//! ```
+//!
+//! `specs/Fields.antt` is the one reading of fields that all formats are written over: a function that gives a value and what
+//! is left, or the first fault, whose type is a parameter. `proofs/Fields.antt` has its laws: a field that is read is spelled
+//! by the bytes that it took, and a spelled field is read again.
+//!
+//! Proved: what each call reads or writes, where it stands after, and which place it names where a field is cut short. Only
+//! tested: the bytes of one example, and that memory suffices where there is ample.
 #![tactic(auto)]
 
 mod cursor;

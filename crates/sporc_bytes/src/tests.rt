@@ -33,17 +33,3 @@ fn fields_are_read_as_they_are_written(rt: HostRuntime) -> Result<(), Fail> {
     assert_eq!(rt; cursor.u8(), Err(Short(25)));
     Ok(())
 }
-
-#[test]
-fn a_short_field_is_left(rt: HostRuntime) -> Result<(), Fail> {
-    let mut cursor = Cursor::within(&[0, 0, 0, 9, 97], 72);
-    assert_eq!(rt; cursor.u64(), Err(Short(72)));
-    assert_eq!(rt; cursor.take(6), Err(Short(72)));
-    assert_eq!(rt; cursor.array::<6>(), Err(Short(72)));
-    assert_eq!(rt; cursor.counted(9), Err(Short(76)));
-    assert_eq!(rt; cursor.at(), 72);
-    assert_eq!(rt; cursor.u32()?, 9);
-    assert_eq!(rt; cursor.u16(), Err(Short(76)));
-    assert_eq!(rt; cursor.u32(), Err(Short(76)));
-    Ok(())
-}

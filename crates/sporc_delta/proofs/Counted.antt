@@ -6,18 +6,18 @@ use Rattle.std.proofs.lemmas.Str.{chars-append, encodes-chars, length-le-encodes
 use lib.Utf8.{scalar}
 use Rattle.std.specs.Char.{encode_utf8}
 use Rattle.std.specs.Str.{chars, all_scalars, IsUtf8, IsCharBoundary, is_utf8, encode_utf8_all}
-use Rattle.sporc_delta.specs.Texts.{IsCounted}
+use Rattle.sporc_delta.specs.Texts.{TextInvariant}
 
 -- the bytes are those of their characters
 pub encode_chars : (bytes text : List ℕ) → is_utf8 bytes ≡ true → chars bytes ≡ text → bytes ≡ encode_utf8_all text
 encode_chars bytes text utf8 is = sym (encodes-chars bytes (IsUtf8-from_is_utf8 bytes utf8)) ∙ ap encode_utf8_all is
 
 -- a text behind a text
-pub chars_joined : (xs ys bytes : List ℕ) (m : ℕ) → IsCounted xs m → bytes ≡ xs ++ ys → chars bytes ≡ chars xs ++ chars ys
+pub chars_joined : (xs ys bytes : List ℕ) (m : ℕ) → TextInvariant xs m → bytes ≡ xs ++ ys → chars bytes ≡ chars xs ++ chars ys
 chars_joined xs ys bytes m counted is = ap chars is ∙ chars-append xs ys (IsUtf8-from_is_utf8 xs counted.utf8)
 
-pub IsCounted-append : (xs ys bytes : List ℕ) (m n : ℕ) → IsCounted xs m → IsCounted ys n → bytes ≡ xs ++ ys → IsCounted bytes (m + n)
-IsCounted-append xs ys bytes m n a b is = record {
+pub TextInvariant-append : (xs ys bytes : List ℕ) (m n : ℕ) → TextInvariant xs m → TextInvariant ys n → bytes ≡ xs ++ ys → TextInvariant bytes (m + n)
+TextInvariant-append xs ys bytes m n a b is = record {
   utf8 = rw is (is_utf8-from_IsUtf8 (xs ++ ys) (IsUtf8-append xs ys (IsUtf8-from_is_utf8 xs a.utf8) (IsUtf8-from_is_utf8 ys b.utf8)));
   count_is = rw (chars_joined xs ys bytes m a is, length-append, a.count_is, b.count_is) refl;
 }
@@ -97,8 +97,8 @@ Walked-len text rest i n same w = rw (← same) (sym (length-append (encode_utf8
 -- a text that is cut at the place behind its first n characters
 pub record CutAt (text : List ℕ) (n place : ℕ) : Type 0 where
   pub boundary : IsCharBoundary text place
-  pub front : IsCounted (take place text) n
-  pub back : IsCounted (drop place text) (length (chars text) - n)
+  pub front : TextInvariant (take place text) n
+  pub back : TextInvariant (drop place text) (length (chars text) - n)
   pub front_is : chars (take place text) ≡ take n (chars text)
   pub back_is : chars (drop place text) ≡ drop n (chars text)
 

@@ -67,8 +67,8 @@ abbrev pub AreRuns : List Part → Type 0
 AreRuns [] = ⊤
 AreRuns (p ∷ ps) = (0 < part_len p) × BeginsUnlike p ps × AreRuns ps
 
--- what a delta keeps of its parts: they are runs, and their lengths are these, which are small
-pub record IsSound (parts : List Part) (base out : ℕ) : Type 0 where
+-- what holds of a delta at every moment: its parts are runs, and their lengths are these, which are small
+pub record DeltaInvariant (parts : List Part) (base out : ℕ) : Type 0 where
   pub are_runs : AreRuns parts
   pub base_is : base ≡ base_len (marks_of parts)
   pub out_is : out ≡ out_len (marks_of parts)

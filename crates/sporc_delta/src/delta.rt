@@ -31,13 +31,13 @@ pub struct Delta {
 impl Model for Delta {
     ghost use Rattle.std.specs.Prelude.{List};
     ghost use Rattle.sporc_delta.specs.Marks.{Mark};
-    ghost use Rattle.sporc_delta.specs.Parts.{marks_of, IsSound};
+    ghost use Rattle.sporc_delta.specs.Parts.{marks_of, DeltaInvariant};
 
     ghost Value = { List Mark };
 
     ghost view = { λ d. marks_of d.parts.items };
 
-    ghost invariant = { λ d. IsSound d.parts.items d.base d.out };
+    ghost invariant = { λ d. DeltaInvariant d.parts.items d.base d.out };
 }
 
 impl Delta {
@@ -116,8 +116,9 @@ impl Delta {
         ensures ok { IfOk result (λ d. d ≡ replacement len (chars text.now)) }
     {
         let mut delta = Delta::new(alloc);
+        let text = TextSlice::new(text);
         delta.push_remove(len)?;
-        delta.push_insert(&TextSlice::new(text))?;
+        delta.push_insert(&text)?;
         Ok(delta)
     }
 

@@ -19,13 +19,13 @@ impl Model for Text {
     ghost use Rattle.std.specs.Prelude.{List, ℕ};
     ghost use Rattle.std.specs.Str.{chars};
     ghost use Rattle.std.specs.String.{string_bytes};
-    ghost use Rattle.sporc_delta.specs.Texts.{IsCounted};
+    ghost use Rattle.sporc_delta.specs.Texts.{TextInvariant};
 
     ghost Value = { List ℕ };
 
     ghost view = { λ t. chars (string_bytes t.string) };
 
-    ghost invariant = { λ t. IsCounted (string_bytes t.string) t.len };
+    ghost invariant = { λ t. TextInvariant (string_bytes t.string) t.len };
 }
 
 impl Text {
@@ -110,13 +110,13 @@ pub struct TextSlice<'a> {
 impl<'a> Model for TextSlice<'a> {
     ghost use Rattle.std.specs.Prelude.{List, ℕ};
     ghost use Rattle.std.specs.Str.{chars};
-    ghost use Rattle.sporc_delta.specs.Texts.{IsCounted};
+    ghost use Rattle.sporc_delta.specs.Texts.{TextInvariant};
 
     ghost Value = { List ℕ };
 
     ghost view = { λ t. chars t.text.now };
 
-    ghost invariant = { λ t. IsCounted t.text.now t.len };
+    ghost invariant = { λ t. TextInvariant t.text.now t.len };
 }
 
 impl<'a> TextSlice<'a> {

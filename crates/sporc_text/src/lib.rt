@@ -1,4 +1,15 @@
 //! The text of a document, to which deltas are applied.
+//!
+//! A [`Doc`] is a list of characters (Unicode scalar values). An edit has two halves: `ready` takes all memory and leaves the
+//! text, `put` makes the text that was made ready and takes none.
+//!
+//! ```text
+//! let ready = doc.ready(&delta)?;    // the text stays
+//! doc.put(ready);                    // and is now the one after the delta
+//! ```
+//!
+//! Proved: the text after each call is the one that the definition `apply` of `sporc_delta` gives, and after want of memory
+//! the text is as before. Only tested: that memory suffices where there is ample.
 #![tactic(auto)]
 
 mod doc;

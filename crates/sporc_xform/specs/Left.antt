@@ -47,7 +47,7 @@ left_of (InsertText t ∷ ps) left text = InsertText text ∷ ps
 left_of (Remove n ∷ ps) left text = Remove left ∷ ps
 
 -- what a cursor keeps of its place
-pub record IsPlace (parts : List Part) (left : ℕ) (text : List ℕ) : Type 0 where
+pub record CursorInvariant (parts : List Part) (left : ℕ) (text : List ℕ) : Type 0 where
   pub none_empty : NoneEmpty parts
   pub left_is : left ≡ first_len (left_of parts left text)
   pub text_is : text ≡ first_text (left_of parts left text)
@@ -65,6 +65,6 @@ pub record AreInARow (ps qs : List Part) : Type 0 where
   pub second_none_empty : NoneEmpty qs
 
 -- what is left of two such deltas
-pub record Row : Type 0 where
+pub record RowModel : Type 0 where
   pub first : List Mark
   pub second : List Mark

@@ -47,9 +47,9 @@ struct InARow<'a> {
 
 impl<'a> Model for InARow<'a> {
     ghost use Rattle.sporc_delta.specs.Parts.{marks_of};
-    ghost use Rattle.sporc_xform.specs.Left.{AreInARow, Row};
+    ghost use Rattle.sporc_xform.specs.Left.{AreInARow, RowModel};
 
-    ghost Value = { Row };
+    ghost Value = { RowModel };
 
     ghost view = { λ r. record { first = marks_of r.first; second = marks_of r.second } };
 

@@ -23,13 +23,13 @@ pub(crate) struct Cursor<'a> {
 impl<'a> Model for Cursor<'a> {
     ghost use Rattle.std.specs.Prelude.{List};
     ghost use Rattle.sporc_delta.specs.declared.part.Part.{Part};
-    ghost use Rattle.sporc_xform.specs.Left.{IsPlace, left_of};
+    ghost use Rattle.sporc_xform.specs.Left.{CursorInvariant, left_of};
 
     ghost Value = { List Part };
 
     ghost view = { λ c. left_of c.parts.now c.left c.text };
 
-    ghost invariant = { λ c. IsPlace c.parts.now c.left c.text };
+    ghost invariant = { λ c. CursorInvariant c.parts.now c.left c.text };
 }
 
 impl<'a> Cursor<'a> {

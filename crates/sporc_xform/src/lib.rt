@@ -1,7 +1,17 @@
 //! Transforms of deltas of texts.
 //!
-//! Of two deltas over one text, each is restated behind the other, so that both orders lead to one
-//! text; and a delta and one over the text after it are put together.
+//! Of two deltas over one text, each is restated behind the other, so that both orders lead to one text; and a delta and one
+//! over the text after it are put together. At one place the insertion that is ordered earlier stands left.
+//!
+//! ```text
+//! let x = Delta::insert_at(alloc, 1, 1, "X")?;    // "a" becomes "aX"
+//! let y = Delta::insert_at(alloc, 1, 1, "Y")?;    // "a" becomes "aY"
+//! let y = later(alloc, &y, &x)?;                  // "aX" becomes "aXY"
+//! ```
+//!
+//! Proved: that each call gives what the definitions of `sporc_delta` say; that both orders lead
+//! to one text; that a delta passes a composition as it passes its two deltas. Only tested: the worked rows of two inserts at
+//! one place, of overlapping removals and of texts cut in their midst, and that memory suffices where there is ample.
 #![tactic(auto)]
 
 mod composition;
