@@ -6,8 +6,8 @@ ghost use Rattle.std.specs.Str.{encode_utf8_all};
 ghost use Rattle.sporc_delta.specs.Marks.{base_len, apply};
 
 use crate::edit::edited;
-use sporc_delta::Delta;
 use sporc_base::Memory;
+use sporc_delta::Delta;
 use std::alloc::Global;
 use std::marker::Model;
 

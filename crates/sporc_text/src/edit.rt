@@ -4,8 +4,8 @@ ghost use Rattle.std.specs.Prelude.{◌≡◌, ◌+◌, ◌≤◌, ◌++◌, len
 ghost use Rattle.sporc_delta.specs.Marks.{base_len, apply};
 ghost use Rattle.sporc_text.specs.Edit.{characters_read, characters_written};
 
-use sporc_delta::{Delta, Part, Text};
 use sporc_base::Memory;
+use sporc_delta::{Delta, Part, Text};
 use std::alloc::Global;
 
 // The characters after a delta.
@@ -22,12 +22,7 @@ pub fn edited(alloc: Global, text: &[char], delta: &Delta) -> Result<Vec<char>, 
 }
 
 // Appends what one part makes of the characters from a place on, and says where the next part stands.
-fn edit_part(
-    out: &mut Vec<char>,
-    text: &[char],
-    at: usize,
-    part: &Part,
-) -> Result<usize, Memory>
+fn edit_part(out: &mut Vec<char>, text: &[char], at: usize, part: &Part) -> Result<usize, Memory>
     requires { at + characters_read part.now ≤ length text.now }
     ensures next { IfOk result (λ n. n ≡ at + characters_read part.now) }
     ensures written { OnOk result (out.new.items ≡ out.old.items ++ characters_written part.now (drop at text.now)) }

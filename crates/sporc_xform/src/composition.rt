@@ -9,8 +9,8 @@ ghost use Rattle.sporc_xform.specs.Chunks.{chunk_marks, through_marks};
 ghost use Rattle.sporc_xform.specs.Left.{AreInARow};
 
 use crate::cursor::Cursor;
-use sporc_delta::{Delta, Piece, TextSlice};
 use sporc_base::Memory;
+use sporc_delta::{Delta, Piece, TextSlice};
 use std::alloc::Global;
 use std::marker::Model;
 

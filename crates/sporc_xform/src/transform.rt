@@ -8,8 +8,8 @@ ghost use Rattle.sporc_delta.specs.Transforms.{earlier, earlier_step, later, lat
 ghost use Rattle.sporc_xform.specs.Runs.{base_marks, run_steps};
 
 use crate::side_by_side::{Run, SideBySide};
-use sporc_delta::Delta;
 use sporc_base::Memory;
+use sporc_delta::Delta;
 use std::alloc::Global;
 
 /// What `q` becomes on the text after `p`, where `p` is ordered earlier: where both insert at one
