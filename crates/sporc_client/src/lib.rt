@@ -1,4 +1,4 @@
-//! Clients of a shared text, and the comparison of what two of them hold.
+//! Clients of a shared text.
 #![tactic(auto)]
 
 mod client;
@@ -14,4 +14,3 @@ pub use client::{PlainClient, PlainSubmitted};
 pub use entry::PlainEntry;
 pub use fault::{EditFault, Memory, PlainRefusal, PlainSubmitFault};
 pub use limits::{MAX_EDIT_BYTES, MAX_ENTRIES, MAX_PENDING};
-pub use sporc_hash::{Verdict, compare};

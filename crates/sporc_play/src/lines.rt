@@ -7,7 +7,8 @@ ghost use Rattle.sporc_play.specs.Report.{compare_line, show_line};
 ghost use Rattle.std.specs.Str.{chars};
 
 use crate::script::Comparison;
-use sporc_client::{PlainClient, Verdict};
+use sporc_client::PlainClient;
+use sporc_hash::Verdict;
 use std::alloc::AllocError;
 use std::fmt::Write;
 
