@@ -1,3 +1,4 @@
+mod Examples
 pub mod Joinings
 pub mod Lookups
 pub mod SealedKeys

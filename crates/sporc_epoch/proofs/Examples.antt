@@ -1,0 +1,86 @@
+-- Worked examples of the definitions.
+use Rattle.std.proofs.Common.{◌≡◌, ℕ, ◌+◌, ◌-◌, ◌^◌, true, false, cond, List, [], ◌∷◌, Some, None, refl, ap, ◌∙◌}
+use Rattle.std.specs.Prelude.{Ok, Err}
+use Rattle.std.specs.Ordering.{nat_cmp}
+use Rattle.std.specs.FinMap.{get, insert, empty, gets}
+use Rattle.sporc_cipher.specs.Mask.{mask_of}
+use Rattle.sporc_member.specs.declared.role.Role.TheVariants.{Editor}
+use Rattle.sporc_member.specs.declared.change.Change.TheVariants.{Add, Remove}
+use Rattle.sporc_entry.specs.declared.wrap.Wrap.{Wrap}
+use Rattle.sporc_entry.specs.declared.committed.CommittedChange.{CommittedChange}
+use Rattle.sporc_epoch.specs.declared.fault.HintFault.TheVariants.{WrongKey}
+use Rattle.sporc_epoch.specs.declared.start.EpochStart.{EpochStart}
+use Rattle.sporc_epoch.specs.declared.streams.TheConstants.{MAX_EPOCH}
+use Rattle.sporc_epoch.specs.Keys.{Keys}
+use Rattle.sporc_epoch.specs.Streams.{entry_stream, previous_stream}
+use Rattle.sporc_epoch.specs.Wraps.{wrap_for}
+use Rattle.sporc_epoch.specs.Sealing.{least_unpaired, wraps_sealed}
+use Rattle.sporc_epoch.specs.Hints.{adds, is_committed, keys_back}
+
+greatest_epoch : MAX_EPOCH ≡ 2 ^ 32 - 1
+greatest_epoch = refl
+
+-- leaf 5 of member 3
+stream_of_an_entry : entry_stream 3 5 ≡ 0x030000000005
+stream_of_an_entry = refl
+
+stream_of_the_key_before_epoch_2 : previous_stream 2 ≡ 0x1000000000000002
+stream_of_the_key_before_epoch_2 = refl
+
+-- of two wraps for member 4 the first counts
+abbrev wraps : List Wrap
+wraps =
+    record { member = 1; sealed = 10 ∷ [] } ∷ record { member = 4; sealed = 20 ∷ [] }
+    ∷ record { member = 4; sealed = 30 ∷ [] } ∷ []
+
+first_of_two : wrap_for 4 wraps ≡ Some (record { member = 4; sealed = 20 ∷ [] })
+first_of_two = refl
+
+none_for_5 : wrap_for 5 wraps ≡ None
+none_for_5 = refl
+
+-- keys with members 1 and 4
+abbrev pairs : Keys
+pairs = insert (insert empty 1 (7 ∷ [])) 4 (8 ∷ [])
+
+-- the least of the members without one, whatever their order
+least_of_three : least_unpaired pairs (5 ∷ 4 ∷ 3 ∷ 9 ∷ []) ≡ Some 3
+least_of_three = simp gets
+
+all_have_one : least_unpaired pairs (4 ∷ 1 ∷ []) ≡ None
+all_have_one = simp gets
+
+-- each wrap is masked under the key with its member
+two_wraps : (key : List ℕ)
+    → wraps_sealed 5 key pairs (1 ∷ 4 ∷ []) ≡ record { member = 1; sealed = mask_of (7 ∷ []) 5 key } ∷ record { member = 4; sealed = mask_of (8 ∷ []) 5 key } ∷ []
+two_wraps key = simp gets
+
+adds_4 : adds 4 (Add 4 Editor []) ≡ true
+adds_4 = refl
+
+removes_4 : adds 4 (Remove 4) ≡ false
+removes_4 = refl
+
+-- two epochs back from epoch 2, past a change that started epoch 7: the key of epoch 0 ends the walk
+abbrev first_start : EpochStart
+first_start = record { ended = 0; document = []; commitment = 1 ∷ []; previous = 40 ∷ [] }
+
+abbrev other_start : EpochStart
+other_start = record { ended = 6; document = []; commitment = 2 ∷ []; previous = 41 ∷ [] }
+
+abbrev second_start : EpochStart
+second_start = record { ended = 1; document = []; commitment = 3 ∷ []; previous = 42 ∷ [] }
+
+abbrev key_1 : List ℕ → List ℕ
+key_1 key = mask_of key (previous_stream 2) (42 ∷ [])
+
+three_keys : (key : List ℕ) → is_committed second_start 2 key ≡ true → is_committed first_start 1 (key_1 key) ≡ true
+    → keys_back 2 key (second_start ∷ other_start ∷ first_start ∷ [])
+    ≡ Ok ((2, key) ∷ (1, key_1 key) ∷ (0, mask_of (key_1 key) (previous_stream 1) (40 ∷ [])) ∷ [])
+unfolding keys_back
+three_keys key second first = rw (second, first)
+
+-- the walk ends where a key is not the one committed to
+wrong_key : (key : List ℕ) → is_committed second_start 2 key ≡ false → keys_back 2 key (second_start ∷ first_start ∷ []) ≡ Err (WrongKey 2)
+unfolding keys_back
+wrong_key key second = rw second

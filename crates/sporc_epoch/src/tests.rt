@@ -1,0 +1,231 @@
+use super::*;
+use sporc_base::Bytes;
+use sporc_entry::{ChangeBody, Entry, Header, Wrap, Wraps, write_change, write_entry};
+use sporc_member::{Change, Role};
+use std::alloc::Global;
+use std::process::Abort;
+use std::test::Fail;
+
+const DOCUMENT: [u8; 16] = [9; 16];
+
+const REMOVE: Change = Change::Remove { member: 7 };
+
+const ADD: Change = Change::Add {
+    member: 4,
+    role: Role::Editor,
+    key: [0; 56],
+};
+
+// SHA-256, by Python's hashlib, of 4, the document, epoch 1 and the key.
+const COMMITMENT: [u8; 32] = [
+    0x37, 0x0a, 0x6c, 0x0f, 0xee, 0x36, 0xc6, 0xa3, 0x3d, 0xbb, 0xf7, 0xd8, 0x9d, 0xa5, 0xa7, 0x6d,
+    0xa0, 0x14, 0x64, 0x2c, 0xbd, 0x7b, 0x11, 0x99, 0x5f, 0xaa, 0xc9, 0xc5, 0xaa, 0x29, 0xf7, 0x1a,
+];
+
+// Masked by OpenSSL's ChaCha20, whose nonce of 16 bytes is the block number and then the stream number.
+const PREVIOUS: [u8; 32] = [
+    0x9a, 0xf1, 0x0e, 0x9d, 0x2c, 0xa6, 0x6d, 0xd3, 0x74, 0xcf, 0x18, 0x55, 0x83, 0x11, 0xf7, 0x8c,
+    0x6d, 0x48, 0x3c, 0xe0, 0x23, 0x83, 0x61, 0x14, 0x98, 0x59, 0x30, 0x95, 0xfb, 0xab, 0x72, 0x2a,
+];
+
+const WRAPS: [Wrap; 2] = [
+    Wrap {
+        member: 1,
+        sealed: [
+            0xdd, 0xcc, 0xe5, 0x43, 0x82, 0xfa, 0xe9, 0x3b, 0xca, 0x7a, 0x3d, 0x13, 0x77, 0x71,
+            0x5b, 0x24, 0x1e, 0xcf, 0x53, 0xdc, 0x1e, 0xcf, 0x31, 0xb2, 0x06, 0xf6, 0xd7, 0xfc,
+            0xbc, 0x4e, 0xa5, 0x22,
+        ],
+    },
+    Wrap {
+        member: 4,
+        sealed: [
+            0x27, 0xd3, 0xd7, 0xc6, 0x5f, 0xb5, 0x95, 0x37, 0x1c, 0x60, 0x0e, 0x39, 0x93, 0xb3,
+            0x07, 0x03, 0x36, 0xa1, 0xf7, 0xe5, 0xce, 0x0c, 0x91, 0xd1, 0x20, 0xe5, 0xc3, 0x33,
+            0xc7, 0x73, 0x0d, 0x08,
+        ],
+    },
+];
+
+// Pairwise keys, each of one byte 32 times.
+fn pairs_of(alloc: Global, keys: &[(u16, u8)]) -> Result<Pairs, Fail> {
+    let mut pairs = Pairs::new(alloc);
+    for (member, byte) in keys {
+        pairs.insert(*member, [*byte; 32])?;
+    }
+    Ok(pairs)
+}
+
+// A change by member 1, signed by leaf 5, for itself and for member 4.
+fn sealed(alloc: Global, change: &Change, epoch: u8) -> Result<ChangeBody, Fail> {
+    let pairs = pairs_of(alloc, &[(1, 101), (4, 104)])?;
+    let (old, new) = ([10 + epoch % 100; 32], [11 + epoch % 100; 32]);
+    let ended = u32::from(epoch);
+    Ok(seal_change(
+        alloc,
+        change,
+        &[1, 4],
+        &DOCUMENT,
+        1,
+        5,
+        ended,
+        &old,
+        &new,
+        &pairs,
+    )?)
+}
+
+// The bytes of an entry that holds a change, without a signature.
+fn entry_bytes(
+    rt: &impl Abort,
+    alloc: Global,
+    epoch: u32,
+    body: &ChangeBody,
+) -> Result<Vec<u8>, Fail> {
+    assert!(rt; body.wraps.as_slice().len() < 65_536);
+    let body = write_change(alloc, body)?;
+    assert!(rt; body.len() < 4_294_967_296);
+    let header = Header {
+        document: DOCUMENT,
+        author: 1,
+        number: 1,
+        base: 0,
+        base_hash: [0; 32],
+        epoch,
+        leaf: 5,
+        kind: 2,
+    };
+    let entry = Entry {
+        header,
+        body: Bytes::new(body),
+        signature: Bytes::new(Vec::new(alloc)),
+    };
+    Ok(write_entry(alloc, &entry)?)
+}
+
+// Bytes that are no entry, and three changes that start epochs 1 to 3, the last of which adds member 4. The one that
+// starts the epoch `spoilt` commits to another key.
+fn history(rt: &impl Abort, alloc: Global, spoilt: u8) -> Result<Vec<Vec<u8>>, Fail> {
+    let mut entries = Vec::new(alloc);
+    entries.push(Vec::from_slice(alloc, b"no entry")?)?;
+    for epoch in 0..3u8 {
+        let mut body = sealed(alloc, if epoch == 2 { &ADD } else { &REMOVE }, epoch)?;
+        if epoch + 1 == spoilt {
+            body.commitment = [0; 32];
+        }
+        entries.push(entry_bytes(rt, alloc, u32::from(epoch), &body)?)?;
+    }
+    Ok(entries)
+}
+
+// The keys that member 4 finds in a history, under a key with one other member.
+fn hints(
+    rt: &impl Abort,
+    alloc: Global,
+    spoilt: u8,
+    other: u16,
+    me: u16,
+) -> Result<Result<Ring, HintFault>, Fail> {
+    let entries = history(rt, alloc, spoilt)?;
+    let mine = pairs_of(alloc, &[(other, 104)])?;
+    Ok(hints_from(alloc, entries.as_slice(), me, &mine))
+}
+
+#[test]
+fn a_ring_gives_the_keys_that_were_put(rt: HostRuntime) -> Result<(), Fail> {
+    let mut ring = Ring::new(rt.alloc());
+    ring.reserve()?;
+    ring.put(3, [7; 32])?;
+    ring.put(3, [3; 32])?;
+    let copy = ring.copy()?;
+    assert_eq!(rt; copy.key(3).copied(), Some([3; 32]));
+    assert_eq!(rt; copy.key(7).copied(), None);
+    Ok(())
+}
+
+#[test]
+fn a_sealed_change_is_that_of_openssl(rt: HostRuntime) -> Result<(), Fail> {
+    let body = sealed(rt.alloc(), &REMOVE, 0)?;
+    assert_eq!(rt; body.change, REMOVE);
+    assert_eq!(rt; body.commitment, COMMITMENT);
+    assert_eq!(rt; body.previous, PREVIOUS);
+    assert_eq!(rt; body.wraps.as_slice(), WRAPS.as_slice());
+    assert_eq!(rt; open_previous(&body, 1, &[11; 32]), [10; 32]);
+    Ok(())
+}
+
+#[test]
+fn the_least_member_without_a_key_is_named(rt: HostRuntime) -> Result<(), Fail> {
+    let pairs = pairs_of(rt.alloc(), &[(4, 104)])?;
+    let (members, key) = ([7, 4, 3, 5], [0; 32]);
+    let fault = seal_change(
+        rt.alloc(),
+        &REMOVE,
+        &members,
+        &DOCUMENT,
+        1,
+        5,
+        0,
+        &key,
+        &key,
+        &pairs,
+    )
+    .err();
+    assert_eq!(rt; fault, Some(SealFault::NoPairKey(3)));
+    Ok(())
+}
+
+#[test]
+fn the_first_wrap_for_a_member_is_opened(rt: HostRuntime) -> Result<(), Fail> {
+    let mine = pairs_of(rt.alloc(), &[(1, 104)])?;
+    let mut body = sealed(rt.alloc(), &REMOVE, 0)?;
+    let again = Wrap {
+        member: 4,
+        sealed: [0; 32],
+    };
+    body.wraps = Wraps::copy_of(rt.alloc(), &[WRAPS[0], WRAPS[1], again])?;
+    assert_eq!(rt; open_wrap(&body, 1, 5, 4, &mine), Some([11; 32]));
+    assert_eq!(rt; open_wrap(&body, 1, 5, 3, &mine), None, "no wrap");
+    assert_eq!(rt; open_wrap(&body, 2, 5, 4, &mine), None, "no pairwise key");
+    Ok(())
+}
+
+#[test]
+fn the_keys_of_four_epochs_are_found_backwards(rt: HostRuntime) -> Result<(), Fail> {
+    let ring = hints(&rt, rt.alloc(), 0, 1, 4)??;
+    for epoch in 0..4u8 {
+        let key = ring.key(u32::from(epoch)).copied();
+        assert_eq!(rt; key, Some([10 + epoch; 32]), "epoch {epoch}");
+    }
+    assert_eq!(rt; ring.key(4).copied(), None);
+    Ok(())
+}
+
+// The epoch that a history spoils, whom the member holds a key with, the member, and the fault.
+const FAULTS: [(u8, u16, u16, HintFault); 5] = [
+    (0, 1, 3, HintFault::NotAdded),
+    (0, 2, 4, HintFault::NoPairKey(1)),
+    (3, 1, 4, HintFault::WrongKey(3)),
+    (2, 1, 4, HintFault::WrongKey(2)),
+    (1, 1, 4, HintFault::WrongKey(1)),
+];
+
+#[test]
+fn each_fault_of_hints(rt: HostRuntime) -> Result<(), Fail> {
+    for (spoilt, other, me, fault) in &FAULTS {
+        let found = hints(&rt, rt.alloc(), *spoilt, *other, *me)?.err();
+        assert_eq!(rt; found, Some(*fault));
+    }
+    Ok(())
+}
+
+#[test]
+fn no_epoch_follows_the_last(rt: HostRuntime) -> Result<(), Fail> {
+    let mine = pairs_of(rt.alloc(), &[(1, 104)])?;
+    let body = sealed(rt.alloc(), &ADD, 0)?;
+    let last = entry_bytes(&rt, rt.alloc(), MAX_EPOCH, &body)?;
+    let entries = Vec::from_array(rt.alloc(), [last])?;
+    let fault = hints_from(rt.alloc(), entries.as_slice(), 4, &mine).err();
+    assert_eq!(rt; fault, Some(HintFault::NotAdded));
+    Ok(())
+}
