@@ -6,9 +6,10 @@ use Rattle.std.specs.Int.{w8, w16, to_be_bytes}
 use Rattle.std.proofs.lemmas.Bool.{eqb-true, eqb-false}
 use Rattle.std.proofs.lemmas.List.{append-nil}
 use Rattle.std.proofs.lemmas.List.Concat.{flat_map-cons}
-use Rattle.sporc_bytes.specs.Fields.{Reading, ◌>>=◌, bytes_at, end_at}
+use Rattle.sporc_bytes.specs.Fields.{Reading, ◌>>=◌, fault_as, bytes_at, end_at}
 use Rattle.sporc_base.specs.Bytes.{IsBytes}
 use Rattle.sporc_bytes.proofs.Fields.{bind_ok, ok_is, Takes, Takes-then, Takes-nothing, wide16, number_takes, bytes_takes, bytes_again, u16_again, end_takes}
+use Rattle.sporc_member.specs.declared.limits.TheConstants.{MAX_MEMBERS}
 use Rattle.sporc_member.specs.declared.change.Change.{Change}
 use Rattle.sporc_member.specs.declared.change.Change.TheVariants.{Add, Remove, SetRole}
 use Rattle.sporc_member.specs.Role.{role_code_of}
@@ -16,9 +17,10 @@ use Rattle.sporc_entry.specs.declared.change.ChangeBody.{ChangeBody}
 use Rattle.sporc_entry.specs.declared.fault.EntryFault.{EntryFault}
 use Rattle.sporc_entry.specs.declared.wrap.Wrap.{Wrap}
 use Rattle.sporc_entry.specs.Fields.{number_within, role_at, values_at}
-use Rattle.sporc_entry.specs.Outcomes.{EntryReads}
+use Rattle.sporc_entry.specs.declared.fault.EntryFault.TheVariants.{Malformed, Memory}
+use Rattle.sporc_base.specs.Outcome.{GivesUnless}
 use Rattle.sporc_entry.specs.ChangeBody.{change_of_kind, change_at, wrap_at, change_body_at, change_body_from, change_bytes, wrap_bytes, change_body_bytes, IsMember, IsChange, IsWrap, IsChangeBody}
-use Rattle.sporc_entry.proofs.FieldLaws.{Leaves, within_takes, byte_takes, u16_within_again, byte_again, role_takes, role_again}
+use Rattle.sporc_entry.proofs.FieldLaws.{Leaves, is_read, within_takes, byte_takes, u16_within_again, byte_again, role_takes, role_again}
 
 -- ---- changes
 
@@ -184,7 +186,7 @@ fields_take r x h e =
     let ta = change_takes r a.0 h a.1 in
     let tb = bytes_takes 32 a.0.1 b.0 ta.0.bytes b.1 in
     let tc = bytes_takes 32 b.0.1 c.0 tb.0.bytes c.1 in
-    let tn = within_takes 0 64 w16 (2 ^ 16) wide16 c.0.1 n.0 tc.0.bytes n.1 in
+    let tn = within_takes 0 MAX_MEMBERS w16 (2 ^ 16) wide16 c.0.1 n.0 tc.0.bytes n.1 in
     let tw = wraps_take n.0.0 n.0.1 w.0 tn.0.bytes w.1 in
     let body : ChangeBody = record { change = a.0.0; commitment = b.0.0; previous = c.0.0; wraps = w.0.0 } in
     let made : ChangeBody × Reading = (body, w.0.1) in
@@ -222,15 +224,15 @@ change_body_again at c is =
       first.1,
       bytes_again 32 first.0 c.commitment (c.previous ++ tail) is.commitment,
       bytes_again 32 (first.0 + 32) c.previous tail is.previous,
-      u16_within_again 0 64 (length c.wraps) (first.0 + 32 + 32) (flat_map wrap_bytes c.wraps) (omega arith) is.count (omega (arith, is.count)),
+      u16_within_again 0 MAX_MEMBERS (length c.wraps) (first.0 + 32 + 32) (flat_map wrap_bytes c.wraps) (omega arith) is.count (omega (arith, is.count)),
       last,
     ) refl
 
 -- what a call that read so found
-pub change_found : (bytes : List ℕ) (r : Result ChangeBody EntryFault) → IsBytes bytes → EntryReads (λ c. c) r (change_body_from 0 bytes) → IfOk r (λ c. IsChangeBody c × (bytes ≡ change_body_bytes c))
-change_found bytes (Ok c) h read = change_body_takes 0 bytes c h read
+pub change_found : (bytes : List ℕ) (r : Result ChangeBody EntryFault) → IsBytes bytes → GivesUnless Memory (λ c. c) r (fault_as Malformed (change_body_from 0 bytes)) → IfOk r (λ c. IsChangeBody c × (bytes ≡ change_body_bytes c))
+change_found bytes (Ok c) h read = change_body_takes 0 bytes c h (is_read Malformed (change_body_from 0 bytes) c read)
 change_found bytes (Err fault) h read = tt
 
-pub change_only : (bytes : List ℕ) (r : Result ChangeBody EntryFault) → EntryReads (λ c. c) r (change_body_from 0 bytes)
-    → (c : ChangeBody) → IsChangeBody c → bytes ≡ change_body_bytes c → EntryReads (λ c. c) r (Ok c)
-change_only bytes r read c is e = let P : Result ChangeBody ℕ → Type 0 = λ given. EntryReads (λ c. c) r given in subst P (ap (change_body_from 0) e ∙ change_body_again 0 c is) read
+pub change_only : (bytes : List ℕ) (r : Result ChangeBody EntryFault) → GivesUnless Memory (λ c. c) r (fault_as Malformed (change_body_from 0 bytes))
+    → (c : ChangeBody) → IsChangeBody c → bytes ≡ change_body_bytes c → GivesUnless Memory (λ c. c) r (Ok c)
+change_only bytes r read c is e = let P : Result ChangeBody EntryFault → Type 0 = λ given. GivesUnless Memory (λ c. c) r given in subst P (ap (λ (bs : List ℕ). fault_as Malformed (change_body_from 0 bs)) e ∙ ap (fault_as Malformed) (change_body_again 0 c is)) read

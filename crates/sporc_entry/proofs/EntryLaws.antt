@@ -4,7 +4,7 @@ use Rattle.std.specs.Prelude.{IfOk}
 use Rattle.std.specs.Int.{w16, w32, to_be_bytes}
 use Rattle.std.proofs.lemmas.Bool.{eqb-false}
 use Rattle.std.proofs.lemmas.List.{take_at, drop_at}
-use Rattle.sporc_bytes.specs.Fields.{Reading, ◌>>=◌, counted_at, counted}
+use Rattle.sporc_bytes.specs.Fields.{Reading, ◌>>=◌, fault_as, counted_at, counted}
 use Rattle.sporc_base.specs.Bytes.{IsBytes}
 use Rattle.sporc_base.proofs.ByteLemmas.{IsBytes-drop, IsBytes-take}
 use Rattle.sporc_bytes.proofs.Fields.{bind_ok, ok_is, wide16, wide32, number_takes, bytes_takes, bytes_again, u16_again, u32_again, counted_takes, counted_again, end_takes}
@@ -12,10 +12,12 @@ use Rattle.sporc_entry.specs.declared.change.ChangeBody.{ChangeBody}
 use Rattle.sporc_entry.specs.declared.entry.Entry.{Entry}
 use Rattle.sporc_entry.specs.declared.fault.EntryFault.{EntryFault}
 use Rattle.sporc_entry.specs.declared.header.Header.{Header}
-use Rattle.sporc_entry.specs.Outcomes.{EntryReads}
+use Rattle.sporc_entry.specs.declared.fault.EntryFault.TheVariants.{Malformed, Memory}
+use Rattle.sporc_base.specs.Outcome.{GivesUnless}
 use Rattle.sporc_entry.specs.ChangeBody.{change_body_from, IsChangeBody, SpellsChange}
-use Rattle.sporc_entry.specs.Entry.{header_at, body_limit, body_read, entry_limit, entry_of, change_of, header_bytes, counted_bytes, entry_bytes, IsHeader, IsEntry}
-use Rattle.sporc_entry.proofs.FieldLaws.{Leaves, is_one, byte_takes, byte_again}
+use Rattle.sporc_entry.specs.declared.limits.TheConstants.{MAX_EDIT_BODY, MAX_CHANGE_BODY, MAX_SIGNATURE, MAX_ENTRY}
+use Rattle.sporc_entry.specs.Entry.{header_at, body_limit, body_read, entry_of, change_of, header_bytes, counted_bytes, entry_bytes, IsHeader, IsEntry}
+use Rattle.sporc_entry.proofs.FieldLaws.{Leaves, is_read, is_one, byte_takes, byte_again}
 use Rattle.sporc_entry.proofs.ChangeLaws.{change_body_takes, change_body_again}
 
 -- ---- headers
@@ -118,7 +120,7 @@ body_again kind body low high change = go (eqb kind 1) refl
 limit_small : (kind : ℕ) → body_limit kind < 2 ^ 32
 limit_small kind = go (eqb kind 1)
   where
-    go : (b : Bool) → cond b 1048576 65536 < 2 ^ 32
+    go : (b : Bool) → cond b MAX_EDIT_BODY MAX_CHANGE_BODY < 2 ^ 32
     go true = omega arith
     go false = omega arith
 
@@ -133,7 +135,7 @@ entry_takes bytes e h read =
     let r : Reading = record { rest = bytes; at = 0 } in
     let ta = header_takes r a.0 h a.1 in
     let tb = counted_takes (body_limit a.0.0.kind) a.0.1 b.0 ta.0.bytes b.1 in
-    let ts = counted_takes 9324 b.0.1 s.0 tb.0.bytes s.1 in
+    let ts = counted_takes MAX_SIGNATURE b.0.1 s.0 tb.0.bytes s.1 in
     let nothing : s.0.1.rest ≡ [] = end_takes s.0.1 n.1 in
     let made : Entry = record { header = a.0.0; body = b.0.0; signature = s.0.0 } in
     let body_is_bytes = counted_is_bytes a.0.1.rest b.0.0 b.0.1.rest ta.0.bytes tb.0.parts in
@@ -147,10 +149,10 @@ entry_takes bytes e h read =
 
 -- ---- lengths
 
-limit_most : (kind : ℕ) → body_limit kind ≤ 1048576
+limit_most : (kind : ℕ) → body_limit kind ≤ MAX_EDIT_BODY
 limit_most kind = go (eqb kind 1)
   where
-    go : (b : Bool) → cond b 1048576 65536 ≤ 1048576
+    go : (b : Bool) → cond b MAX_EDIT_BODY MAX_CHANGE_BODY ≤ MAX_EDIT_BODY
     go true = omega arith
     go false = omega arith
 
@@ -168,7 +170,7 @@ length-header_bytes h rest is = omega (
 pub length-counted_bytes : (bytes rest : List ℕ) → length (counted_bytes bytes rest) ≡ 4 + length bytes + length rest
 length-counted_bytes bytes rest = omega (arith, length-append bytes rest)
 
-pub entry_size : (e : Entry) → IsEntry e → length (entry_bytes e) ≤ entry_limit
+pub entry_size : (e : Entry) → IsEntry e → length (entry_bytes e) ≤ MAX_ENTRY
 unfolding entry_bytes
 entry_size e is = omega (
   arith,
@@ -188,8 +190,8 @@ entry_again e is =
     let small = limit_small h.kind in
     let body : counted_at (body_limit h.kind) (record { rest = counted_bytes e.body rest; at = 68 }) ≡ Ok (e.body, record { rest = rest; at = 68 + 4 + length e.body }) =
     ap (λ (bs : List ℕ). counted_at (body_limit h.kind) (record { rest = bs; at = 68 })) (sym (counted_text e.body rest)) ∙ counted_again (body_limit h.kind) 68 e.body rest (omega (arith, is.body, small)) is.body in
-    let signature : counted_at 9324 (record { rest = rest; at = 68 + 4 + length e.body }) ≡ Ok (e.signature, record { rest = []; at = 68 + 4 + length e.body + 4 + length e.signature }) =
-    ap (λ (bs : List ℕ). counted_at 9324 (record { rest = bs; at = 68 + 4 + length e.body })) (sym (counted_text e.signature [])) ∙ counted_again 9324 (68 + 4 + length e.body) e.signature [] (omega (arith, is.signature)) is.signature in
+    let signature : counted_at MAX_SIGNATURE (record { rest = rest; at = 68 + 4 + length e.body }) ≡ Ok (e.signature, record { rest = []; at = 68 + 4 + length e.body + 4 + length e.signature }) =
+    ap (λ (bs : List ℕ). counted_at MAX_SIGNATURE (record { rest = bs; at = 68 + 4 + length e.body })) (sym (counted_text e.signature [])) ∙ counted_again MAX_SIGNATURE (68 + 4 + length e.body) e.signature [] (omega (arith, is.signature)) is.signature in
     rw (
       header_again h (counted_bytes e.body rest) is.header,
       body,
@@ -198,16 +200,16 @@ entry_again e is =
     ) refl
 
 -- what a call that read so found
-pub entry_found : (bytes : List ℕ) (r : Result Entry EntryFault) → IsBytes bytes → EntryReads (λ e. e) r (entry_of bytes) → IfOk r (λ e. IsEntry e × (bytes ≡ entry_bytes e))
-entry_found bytes (Ok e) h read = entry_takes bytes e h read
+pub entry_found : (bytes : List ℕ) (r : Result Entry EntryFault) → IsBytes bytes → GivesUnless Memory (λ e. e) r (fault_as Malformed (entry_of bytes)) → IfOk r (λ e. IsEntry e × (bytes ≡ entry_bytes e))
+entry_found bytes (Ok e) h read = entry_takes bytes e h (is_read Malformed (entry_of bytes) e read)
 entry_found bytes (Err fault) h read = tt
 
-pub entry_sized : (bytes : List ℕ) (r : Result Entry EntryFault) → IfOk r (λ e. IsEntry e × (bytes ≡ entry_bytes e)) → IfOk r (λ _. length bytes ≤ entry_limit)
-entry_sized bytes (Ok e) found = let P : List ℕ → Type 0 = λ b. length b ≤ entry_limit in subst P (sym found.1) (entry_size e found.0)
+pub entry_sized : (bytes : List ℕ) (r : Result Entry EntryFault) → IfOk r (λ e. IsEntry e × (bytes ≡ entry_bytes e)) → IfOk r (λ _. length bytes ≤ MAX_ENTRY)
+entry_sized bytes (Ok e) found = let P : List ℕ → Type 0 = λ b. length b ≤ MAX_ENTRY in subst P (sym found.1) (entry_size e found.0)
 entry_sized bytes (Err fault) found = tt
 
-pub entry_only : (bytes : List ℕ) (r : Result Entry EntryFault) → EntryReads (λ e. e) r (entry_of bytes) → (e : Entry) → IsEntry e → bytes ≡ entry_bytes e → EntryReads (λ e. e) r (Ok e)
-entry_only bytes r read e is spelled = let P : Result Entry ℕ → Type 0 = λ given. EntryReads (λ e. e) r given in subst P (ap entry_of spelled ∙ entry_again e is) read
+pub entry_only : (bytes : List ℕ) (r : Result Entry EntryFault) → GivesUnless Memory (λ e. e) r (fault_as Malformed (entry_of bytes)) → (e : Entry) → IsEntry e → bytes ≡ entry_bytes e → GivesUnless Memory (λ e. e) r (Ok e)
+entry_only bytes r read e is spelled = let P : Result Entry EntryFault → Type 0 = λ given. GivesUnless Memory (λ e. e) r given in subst P (ap (λ (bs : List ℕ). fault_as Malformed (entry_of bs)) spelled ∙ ap (fault_as Malformed) (entry_again e is)) read
 
 pub change_of_entry : (e : Entry) → IsEntry e → e.header.kind ≡ 2 → (c : ChangeBody) × IsChangeBody c × (change_of e ≡ Some c)
 unfolding change_of

@@ -1,15 +1,20 @@
 -- A limited field that is read is spelled by the bytes that it took, and a spelled field is read again.
-use Rattle.std.proofs.Common.{◌≡◌, ℕ, ◌+◌, ◌^◌, ◌<◌, ◌≤◌, Bool, true, false, cond, leb, List, [], ◌∷◌, ◌++◌, Option, Some, None, Ok, refl, sym, ap, subst, ◌∙◌, arith}
+use Rattle.std.proofs.Common.{◌≡◌, ℕ, ◌+◌, ◌^◌, ◌<◌, ◌≤◌, Bool, true, false, cond, leb, List, [], ◌∷◌, ◌++◌, Option, Some, None, Result, Ok, Err, refl, sym, ap, subst, ◌∙◌, arith}
 use Rattle.std.specs.Prelude.{◌&&◌, find, ◌==◌}
 use Rattle.std.specs.Int.{Width, w8, w16, byte_len, to_be_bytes}
 use Rattle.std.proofs.lemmas.Bool.{eqb-true, leb-true, le-leb, and_parts}
-use Rattle.sporc_bytes.specs.Fields.{Reading, ◌>>=◌, number_at, only_if, present}
+use Rattle.sporc_bytes.specs.Fields.{Reading, ◌>>=◌, number_at, only_if, present, fault_as}
 use Rattle.sporc_base.specs.Bytes.{IsBytes}
 use Rattle.sporc_bytes.proofs.Fields.{bind_ok, ok_is, only_if_ok, Takes, IsWide, wide8, wide16, number_takes, number_again, u8_again}
 use Rattle.sporc_member.specs.declared.role.Role.{Role}
 use Rattle.sporc_member.specs.declared.role.Role.TheVariants.{Reader, Editor, Admin}
 use Rattle.sporc_member.specs.Role.{role_code_of, role_with_code}
 use Rattle.sporc_entry.specs.Fields.{number_within, role_at}
+
+-- what was read, whatever the words for its fault
+pub is_read : {A D F : Type 0} (f : D → F) (read : Result A D) (x : A) → fault_as f read ≡ Ok x → read ≡ Ok x
+is_read {A} {D} f (Ok y) x h = let e : y ≡ x = cc in let made : A → Result A D = λ z. Ok z in ap made e
+is_read f (Err fault) x h = absurd cc
 
 -- reading took the bytes that are spelled so, what is left among them
 pub record Leaves (old : Reading) (spelled : List ℕ → List ℕ) (new : Reading) : Type 0 where

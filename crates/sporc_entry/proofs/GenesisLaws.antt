@@ -6,16 +6,18 @@ use Rattle.std.specs.List.Sorted.{IsStrictlyIncreasing}
 use Rattle.std.specs.Int.{w16, to_be_bytes}
 use Rattle.std.proofs.lemmas.List.{append-nil}
 use Rattle.std.proofs.lemmas.List.Concat.{flat_map-cons}
-use Rattle.sporc_bytes.specs.Fields.{Reading, ◌>>=◌, end_at}
+use Rattle.sporc_bytes.specs.Fields.{Reading, ◌>>=◌, fault_as, end_at}
 use Rattle.sporc_base.specs.Bytes.{IsBytes}
 use Rattle.sporc_bytes.proofs.Fields.{bind_ok, ok_is, Takes, Takes-then, Takes-nothing, wide16, bytes_takes, bytes_again, end_takes}
+use Rattle.sporc_member.specs.declared.limits.TheConstants.{MAX_MEMBERS}
 use Rattle.sporc_member.specs.declared.founder.Founder.{Founder}
 use Rattle.sporc_member.specs.Role.{role_code_of}
 use Rattle.sporc_member.specs.Roster.{numbers_of}
 use Rattle.sporc_entry.specs.declared.fault.GenesisFault.{GenesisFault}
+use Rattle.sporc_entry.specs.declared.fault.GenesisFault.TheVariants.{Malformed, Memory}
 use Rattle.sporc_entry.specs.declared.genesis.Genesis.{Genesis}
 use Rattle.sporc_entry.specs.Fields.{values_at}
-use Rattle.sporc_entry.specs.Outcomes.{or_malformed, GenesisReads}
+use Rattle.sporc_base.specs.Outcome.{GivesUnless}
 use Rattle.sporc_entry.specs.Genesis.{founder_at, next_founder, founders_at, genesis_at, genesis_in, founders_fault, accepted, tested, genesis_of, founder_bytes, genesis_bytes, IsFounder, IsGenesis}
 use Rattle.sporc_entry.proofs.FieldLaws.{Leaves, is_one, within_takes, byte_takes, u16_within_again, byte_again, role_takes, role_again}
 
@@ -174,7 +176,7 @@ genesis_parts g r0 r1 r2 r3 r4 r5 e0 e1 e2 e3 e4 =
 pub record IsInRange (g : Genesis) : Type 0 where
   pub document : length g.document ≡ 16
   pub commitment : length g.commitment ≡ 32
-  pub count : (1 ≤ length g.founders) × (length g.founders ≤ 64)
+  pub count : (1 ≤ length g.founders) × (length g.founders ≤ MAX_MEMBERS)
   pub founders : AllByRecursion IsFounder g.founders
   pub ascending : IsStrictlyIncreasing (numbers_of g.founders)
 
@@ -189,7 +191,7 @@ fields_take r x h e =
     let tv = byte_takes 1 1 r v.0 (lit< tt) h v.1 in
     let td = bytes_takes 16 v.0.1 d.0 tv.0.bytes d.1 in
     let tc = bytes_takes 32 d.0.1 c.0 td.0.bytes c.1 in
-    let tn = within_takes 1 64 w16 (2 ^ 16) wide16 c.0.1 n.0 tc.0.bytes n.1 in
+    let tn = within_takes 1 MAX_MEMBERS w16 (2 ^ 16) wide16 c.0.1 n.0 tc.0.bytes n.1 in
     let tf = founders_take n.0.0 n.0.1 f.0 tn.0.bytes f.1 in
     let genesis : Genesis = record { document = d.0.0; commitment = c.0.0; founders = f.0.0 } in
     let made : Genesis × Reading = (genesis, f.0.1) in
@@ -224,7 +226,7 @@ genesis_in_again g is =
       byte_again 1 1 1 0 (g.document ++ (g.commitment ++ tail)) (omega arith) (omega arith) (omega arith),
       bytes_again 16 1 g.document (g.commitment ++ tail) is.document,
       bytes_again 32 17 g.commitment tail is.commitment,
-      u16_within_again 1 64 (length g.founders) 49 (flat_map founder_bytes g.founders) is.count.0 is.count.1 (omega (arith, is.count.1)),
+      u16_within_again 1 MAX_MEMBERS (length g.founders) 49 (flat_map founder_bytes g.founders) is.count.0 is.count.1 (omega (arith, is.count.1)),
       founders.1,
     ) refl
 
@@ -239,7 +241,7 @@ made_is g h e = cc
 abbrev ok_read : Genesis → Result Genesis ℕ
 ok_read g = Ok g
 
-tested_ok : (read : Result Genesis ℕ) (g : Genesis) → tested (or_malformed read) ≡ Ok g → (read ≡ Ok g) × (founders_fault g.founders ≡ None)
+tested_ok : (read : Result Genesis ℕ) (g : Genesis) → tested (fault_as Malformed read) ≡ Ok g → (read ≡ Ok g) × (founders_fault g.founders ≡ None)
 tested_ok (Err at) g e = absurd cc
 tested_ok (Ok h) g e = go (founders_fault h.founders) refl e
   where
@@ -259,10 +261,10 @@ unfolding genesis_of
 genesis_again g is = rw (genesis_in_again g is, is.accepted) refl
 
 -- what a call that read so found
-pub genesis_found : (bytes : List ℕ) (r : Result Genesis GenesisFault) → IsBytes bytes → GenesisReads (λ g. g) r (genesis_of bytes) → IfOk r (λ g. IsGenesis g × (bytes ≡ genesis_bytes g))
+pub genesis_found : (bytes : List ℕ) (r : Result Genesis GenesisFault) → IsBytes bytes → GivesUnless Memory (λ g. g) r (genesis_of bytes) → IfOk r (λ g. IsGenesis g × (bytes ≡ genesis_bytes g))
 genesis_found bytes (Ok g) h read = genesis_takes bytes g h read
 genesis_found bytes (Err fault) h read = tt
 
-pub genesis_only : (bytes : List ℕ) (r : Result Genesis GenesisFault) → GenesisReads (λ g. g) r (genesis_of bytes)
-    → (g : Genesis) → IsGenesis g → bytes ≡ genesis_bytes g → GenesisReads (λ g. g) r (Ok g)
-genesis_only bytes r read g is spelled = let P : Result Genesis GenesisFault → Type 0 = λ given. GenesisReads (λ g. g) r given in subst P (ap genesis_of spelled ∙ genesis_again g is) read
+pub genesis_only : (bytes : List ℕ) (r : Result Genesis GenesisFault) → GivesUnless Memory (λ g. g) r (genesis_of bytes)
+    → (g : Genesis) → IsGenesis g → bytes ≡ genesis_bytes g → GivesUnless Memory (λ g. g) r (Ok g)
+genesis_only bytes r read g is spelled = let P : Result Genesis GenesisFault → Type 0 = λ given. GivesUnless Memory (λ g. g) r given in subst P (ap genesis_of spelled ∙ genesis_again g is) read

@@ -4,15 +4,16 @@ use Rattle.std.specs.Prelude.{◌&&◌, MatchResult, option_map}
 use Rattle.std.specs.Int.{Width, w8, w16, w32, byte_len}
 use Rattle.std.proofs.lemmas.Bool.{ltb-false}
 use Rattle.std.proofs.lemmas.List.{length-take, length-drop}
-use Rattle.sporc_bytes.specs.Fields.{Reading, ◌>>=◌, bytes_at, number_at, only_if, counted_at, end_at, present}
+use Rattle.sporc_bytes.specs.Fields.{Reading, ◌>>=◌, bytes_at, number_at, only_if, counted_at, end_at, present, fault_as}
 use Rattle.sporc_base.specs.FirstFault.{unless, first_of}
+use Rattle.sporc_member.specs.declared.limits.TheConstants.{MAX_MEMBERS}
 use Rattle.sporc_member.specs.declared.founder.Founder.{Founder}
 use Rattle.sporc_member.specs.Role.{role_with_code}
 use Rattle.sporc_member.specs.Roster.{founded, has_admin}
+use Rattle.sporc_entry.specs.declared.limits.TheConstants.{MAX_SIGNATURE}
 use Rattle.sporc_entry.specs.declared.fault.GenesisFault.TheVariants.{Malformed, NoAdmin, BadKey}
 use Rattle.sporc_entry.specs.declared.genesis.Genesis.{Genesis}
 use Rattle.sporc_entry.specs.Fields.{number_within, role_at, values_at}
-use Rattle.sporc_entry.specs.Outcomes.{or_malformed}
 use Rattle.sporc_entry.specs.ChangeBody.{change_of_kind, change_at, wrap_at, change_body_at, change_body_from}
 use Rattle.sporc_entry.specs.Entry.{header_at, body_limit, body_read, entry_of}
 use Rattle.sporc_entry.specs.Genesis.{founder_at, next_founder, founders_at, genesis_at, genesis_in, bad_key, accepted, tested, genesis_of}
@@ -139,7 +140,7 @@ change_body_ends : (end : ℕ) (r : Reading) → r.at + length r.rest ≡ end �
 unfolding change_body_at
 change_body_ends end r e =
     then end _ _ (change_at r) _ (change_ends end r e) (λ change h. then end _ _ (bytes_at 32 change.1) _ (bytes_begin 32 end _ change.1 (from_here end change.1 h))
-    (λ commitment k. then end _ _ (bytes_at 32 commitment.1) _ (bytes_begin 32 end _ commitment.1 k.1) (λ previous l. then end _ _ (number_within 0 64 w16 previous.1) _ (within_begins 0 64 w16 end _ previous.1 l.1)
+    (λ commitment k. then end _ _ (bytes_at 32 commitment.1) _ (bytes_begin 32 end _ commitment.1 k.1) (λ previous l. then end _ _ (number_within 0 MAX_MEMBERS w16 previous.1) _ (within_begins 0 MAX_MEMBERS w16 end _ previous.1 l.1)
     (λ count m. then end _ _ (values_at wrap_at count.0 count.1) _ (values_end end (λ r. r.at + length r.rest ≡ end) wrap_at (wrap_ends end) count.0 count.1 m.ends) (λ wraps n. n)))))
 
 change_bounded : (at : ℕ) (bytes : List ℕ) → Bounded (at + length bytes) (λ _. Unit {0}) (change_body_from at bytes)
@@ -181,7 +182,7 @@ entry_bounded bytes =
     let r : Reading = record { rest = bytes; at = 0 } in
     let left : Left end 0 r = record { place = refl; ends = omega arith } in
     then end _ _ (header_at r) _ (header_begins end r left) (λ header h. then end _ _ (counted_at (body_limit header.0.kind) header.1) _ (counted_begins (body_limit header.0.kind) end 68 header.1 h)
-    (λ body k. then end _ _ (body_read header.0.kind 72 body.0) _ (body_bounded header.0.kind end body.0 (omega (arith, k.place, k.ends))) (λ read _. then end _ _ (counted_at 9324 body.1) _ (counted_begins 9324 end _ body.1 k)
+    (λ body k. then end _ _ (body_read header.0.kind 72 body.0) _ (body_bounded header.0.kind end body.0 (omega (arith, k.place, k.ends))) (λ read _. then end _ _ (counted_at MAX_SIGNATURE body.1) _ (counted_begins MAX_SIGNATURE end _ body.1 k)
     (λ signature l. then end _ _ (end_at signature.1) _ (end_bounded end signature.1 l.ends) (λ _ _. tt)))))
 
 -- ---- geneses
@@ -207,7 +208,7 @@ genesis_in_bounded bytes =
     let left : Left end 0 r = record { place = refl; ends = omega arith } in
     then end (Ends end) _ (genesis_at r) _ (
     then end _ _ (number_within 1 1 w8 r) _ (within_begins 1 1 w8 end 0 r left) (λ version a. then end _ _ (bytes_at 16 version.1) _ (bytes_begin 16 end 1 version.1 a)
-    (λ document b. then end _ _ (bytes_at 32 document.1) _ (bytes_begin 32 end 17 document.1 b.1) (λ commitment c. then end _ _ (number_within 1 64 w16 commitment.1) _ (within_begins 1 64 w16 end 49 commitment.1 c.1)
+    (λ document b. then end _ _ (bytes_at 32 document.1) _ (bytes_begin 32 end 17 document.1 b.1) (λ commitment c. then end _ _ (number_within 1 MAX_MEMBERS w16 commitment.1) _ (within_begins 1 MAX_MEMBERS w16 end 49 commitment.1 c.1)
     (λ count d. then end _ _ (founders_at count.0 count.1) _ (founders_end end count.0 count.1 d.ends) (λ founders h. h)))))
     ) (λ genesis h. then end _ _ (end_at genesis.1) _ (end_bounded end genesis.1 h) (λ _ _. tt))
 
@@ -229,7 +230,7 @@ not_malformed true (Some m) g at e = cc
 not_malformed false o g at e = cc
 
 -- the place of a genesis that can't be read
-malformed_is : (read : Result Genesis ℕ) (at : ℕ) → tested (or_malformed read) ≡ Err (Malformed at) → read ≡ Err at
+malformed_is : (read : Result Genesis ℕ) (at : ℕ) → tested (fault_as Malformed read) ≡ Err (Malformed at) → read ≡ Err at
 malformed_is (Err b) at e = cc
 malformed_is (Ok g) at e = absurd (not_malformed (has_admin (founded g.founders)) (bad_key g.founders) g at e)
 

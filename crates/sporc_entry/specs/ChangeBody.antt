@@ -7,12 +7,13 @@
 -- | key | 56 | of a new member alone |
 -- | commitment | 32 | |
 -- | previous key, sealed | 32 | |
--- | count | 2 | at most 64 |
+-- | count | 2 | at most MAX_MEMBERS |
 -- | wraps, each | 2 member, 32 sealed key | |
 use Rattle.std.specs.Prelude.{◌≡◌, ℕ, ◌<◌, ◌≤◌, ◌^◌, ◌==◌, List, ◌∷◌, ◌++◌, length, Result, Ok, if◌then◌else◌}
 use Rattle.std.specs.List.{AllByRecursion, flat_map}
 use Rattle.std.specs.Int.{w8, w16, to_be_bytes}
 use Rattle.sporc_bytes.specs.Fields.{Reading, ◌>>=◌, bytes_at, number_at, end_at}
+use Rattle.sporc_member.specs.declared.limits.TheConstants.{MAX_MEMBERS}
 use Rattle.sporc_member.specs.declared.change.Change.{Change}
 use Rattle.sporc_member.specs.declared.change.Change.TheVariants.{Add, Remove, SetRole}
 use Rattle.sporc_member.specs.Role.{role_code_of}
@@ -54,7 +55,7 @@ change_body_at r = do
   change ← change_at r
   commitment ← bytes_at 32 change.1
   previous ← bytes_at 32 commitment.1
-  count ← number_within 0 64 w16 previous.1
+  count ← number_within 0 MAX_MEMBERS w16 previous.1
   wraps ← values_at wrap_at count.0 count.1
   Ok (record { change = change.0; commitment = commitment.0; previous = previous.0; wraps = wraps.0 }, wraps.1)
 
@@ -101,7 +102,7 @@ pub record IsChangeBody (c : ChangeBody) : Type 0 where
   pub change : IsChange c.change
   pub commitment : length c.commitment ≡ 32
   pub previous : length c.previous ≡ 32
-  pub count : length c.wraps ≤ 64
+  pub count : length c.wraps ≤ MAX_MEMBERS
   pub wraps : AllByRecursion IsWrap c.wraps
 
 -- bytes that spell the body of a change

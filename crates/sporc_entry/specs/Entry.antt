@@ -10,8 +10,8 @@
 -- | 59 | epoch | 4 | |
 -- | 63 | leaf | 4 | |
 -- | 67 | kind | 1 | 1 an edit, 2 a change |
--- | 68 | body | counted | an edit's at most 1,048,576; a change's at most 65,536, and read where it stands |
--- | after it | signature | counted | at most 9,324 |
+-- | 68 | body | counted | an edit's at most MAX_EDIT_BODY; a change's at most MAX_CHANGE_BODY, and read where it stands |
+-- | after it | signature | counted | at most MAX_SIGNATURE |
 use Rattle.std.specs.Prelude.{◌≡◌, ℕ, ◌<◌, ◌≤◌, ◌^◌, ◌==◌, List, [], ◌∷◌, ◌++◌, length, Option, None, Result, Ok, if◌then◌else◌}
 use Rattle.std.specs.Result.{result_ok}
 use Rattle.std.specs.Int.{w8, w16, w32, to_be_bytes}
@@ -19,6 +19,7 @@ use Rattle.sporc_bytes.specs.Fields.{Reading, ◌>>=◌, bytes_at, number_at, co
 use Rattle.sporc_entry.specs.declared.change.ChangeBody.{ChangeBody}
 use Rattle.sporc_entry.specs.declared.entry.Entry.{Entry}
 use Rattle.sporc_entry.specs.declared.header.Header.{Header}
+use Rattle.sporc_entry.specs.declared.limits.TheConstants.{MAX_EDIT_BODY, MAX_CHANGE_BODY, MAX_SIGNATURE}
 use Rattle.sporc_entry.specs.Fields.{number_within}
 use Rattle.sporc_entry.specs.ChangeBody.{change_body_from, SpellsChange}
 
@@ -40,11 +41,7 @@ header_at r = do
 
 -- how long the body of an entry of this kind may be
 abbrev pub body_limit : ℕ → ℕ
-body_limit kind = if kind == 1 then 1048576 else 65536
-
--- how long an entry may be: an edit with the longest body and signature
-abbrev pub entry_limit : ℕ
-entry_limit = 1057976
+body_limit kind = if kind == 1 then MAX_EDIT_BODY else MAX_CHANGE_BODY
 
 -- whether a body is one of this kind, the first of its bytes at this place: that of an edit may be anything
 abbrev pub body_read : ℕ → ℕ → List ℕ → Result (Unit {0}) ℕ
@@ -59,7 +56,7 @@ entry_of bytes = do
   header ← header_at (record { rest = bytes; at = 0 })
   body ← counted_at (body_limit header.0.kind) header.1
   read ← body_read header.0.kind 72 body.0
-  signature ← counted_at 9324 body.1
+  signature ← counted_at MAX_SIGNATURE body.1
   end ← end_at signature.1
   Ok (record { header = header.0; body = body.0; signature = signature.0 })
 
@@ -103,4 +100,4 @@ pub record IsEntry (e : Entry) : Type 0 where
   pub header : IsHeader e.header
   pub body : length e.body ≤ body_limit e.header.kind
   pub change : e.header.kind ≡ 2 → SpellsChange e.body
-  pub signature : length e.signature ≤ 9324
+  pub signature : length e.signature ≤ MAX_SIGNATURE

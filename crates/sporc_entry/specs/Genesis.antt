@@ -4,23 +4,23 @@
 -- | version | 1 | 1 |
 -- | document | 16 | |
 -- | commitment | 32 | |
--- | count | 2 | 1 to 64 |
+-- | count | 2 | 1 to MAX_MEMBERS |
 -- | founders, each | 2 number, 1 role, 56 key | number not 0, strictly ascending; role 1, 2 or 3 |
 use Rattle.std.specs.Prelude.{◌≡◌, ℕ, ◌+◌, ◌≤◌, List, [], ◌∷◌, ◌++◌, length, Option, None, Some, is_none, find, option_map, Result, Ok, Err}
 use Rattle.std.specs.List.{AllByRecursion, flat_map}
 use Rattle.std.specs.List.Sorted.{IsStrictlyIncreasing}
 use Rattle.std.specs.Int.{w8, w16, to_be_bytes}
 use Rattle.lms_tree.specs.LmsPublic.{public_key_in}
-use Rattle.sporc_bytes.specs.Fields.{Reading, ◌>>=◌, bytes_at, end_at}
+use Rattle.sporc_bytes.specs.Fields.{Reading, ◌>>=◌, fault_as, bytes_at, end_at}
+use Rattle.sporc_member.specs.declared.limits.TheConstants.{MAX_MEMBERS}
 use Rattle.sporc_member.specs.declared.founder.Founder.{Founder}
 use Rattle.sporc_base.specs.FirstFault.{unless, first_of}
 use Rattle.sporc_member.specs.Role.{role_code_of}
 use Rattle.sporc_member.specs.Roster.{numbers_of, founded, has_admin}
 use Rattle.sporc_entry.specs.declared.fault.GenesisFault.{GenesisFault}
-use Rattle.sporc_entry.specs.declared.fault.GenesisFault.TheVariants.{NoAdmin, BadKey}
+use Rattle.sporc_entry.specs.declared.fault.GenesisFault.TheVariants.{Malformed, NoAdmin, BadKey}
 use Rattle.sporc_entry.specs.declared.genesis.Genesis.{Genesis}
 use Rattle.sporc_entry.specs.Fields.{number_within, role_at, values_at}
-use Rattle.sporc_entry.specs.Outcomes.{or_malformed}
 use Rattle.sporc_entry.specs.ChangeBody.{IsMember}
 
 -- ---- reading
@@ -51,7 +51,7 @@ genesis_at r = do
   version ← number_within 1 1 w8 r
   document ← bytes_at 16 version.1
   commitment ← bytes_at 32 document.1
-  count ← number_within 1 64 w16 commitment.1
+  count ← number_within 1 MAX_MEMBERS w16 commitment.1
   founders ← founders_at count.0 count.1
   Ok (record { document = document.0; commitment = commitment.0; founders = founders.0 }, founders.1)
 
@@ -83,7 +83,7 @@ tested (Err fault) = Err fault
 
 -- the genesis that bytes spell
 unfoldable pub genesis_of : List ℕ → Result Genesis GenesisFault
-genesis_of bytes = tested (or_malformed (genesis_in bytes))
+genesis_of bytes = tested (fault_as Malformed (genesis_in bytes))
 
 -- ---- writing
 
@@ -105,7 +105,7 @@ pub record IsFounder (m : Founder) : Type 0 where
 pub record IsGenesis (g : Genesis) : Type 0 where
   pub document : length g.document ≡ 16
   pub commitment : length g.commitment ≡ 32
-  pub count : (1 ≤ length g.founders) × (length g.founders ≤ 64)
+  pub count : (1 ≤ length g.founders) × (length g.founders ≤ MAX_MEMBERS)
   pub founders : AllByRecursion IsFounder g.founders
   pub ascending : IsStrictlyIncreasing (numbers_of g.founders)
   pub accepted : founders_fault g.founders ≡ None

@@ -1,5 +1,4 @@
 pub mod Fields
-pub mod Outcomes
 pub mod ChangeBody
 pub mod Entry
 pub mod Genesis

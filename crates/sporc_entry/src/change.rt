@@ -4,7 +4,8 @@ ghost use Rattle.std.specs.Prelude.{◌≡◌, ◌+◌, ◌<◌, ◌^◌, ◌++�
 ghost use Rattle.std.specs.List.{flat_map};
 ghost use Rattle.sporc_bytes.specs.Fields.{Reads};
 ghost use Rattle.sporc_entry.specs.Fields.{values_at};
-ghost use Rattle.sporc_entry.specs.Outcomes.{EntryReads};
+ghost use Rattle.sporc_base.specs.Outcome.{GivesUnless};
+ghost use Rattle.sporc_bytes.specs.Fields.{fault_as};
 ghost use Rattle.sporc_entry.specs.declared.change.ChangeBody.{ChangeBody};
 ghost use Rattle.sporc_entry.specs.ChangeBody.{change_at, wrap_at, change_body_at, change_body_from, change_bytes, wrap_bytes, change_body_bytes, IsChangeBody};
 
@@ -14,7 +15,7 @@ use crate::wrap::{Wrap, Wraps};
 use sporc_base::Memory;
 use sporc_bytes::{Cursor, Out, Short};
 use sporc_hash::Digest32;
-use sporc_member::Change;
+use sporc_member::{Change, MAX_MEMBERS};
 use std::alloc::Global;
 
 /// The body of a change, which begins an epoch.
@@ -63,8 +64,8 @@ fn read_wrap(cursor: &mut Cursor<'_>) -> Result<Wrap, Short>
 
 // The sealed keys that stand next.
 fn read_wraps(alloc: Global, cursor: &mut Cursor<'_>, count: u16) -> Result<Vec<Wrap>, EntryFault>
-    ensures { EntryReads (λ wraps. (wraps.items, cursor.new)) result
-        (values_at wrap_at count cursor.old) }
+    ensures { GivesUnless EntryFault.Memory (λ wraps. (wraps.items, cursor.new)) result
+        (fault_as EntryFault.Malformed (values_at wrap_at count cursor.old)) }
 {
     let mut wraps = Vec::with_capacity(alloc, usize::from(count))?;
     for _ in 0..count {
@@ -77,12 +78,13 @@ fn read_wraps(alloc: Global, cursor: &mut Cursor<'_>, count: u16) -> Result<Vec<
 // The fields of a change's body that stand next.
 #[tactic(auto, unfolding(crate::specs::ChangeBody::change_body_at))]
 fn read_fields(alloc: Global, cursor: &mut Cursor<'_>) -> Result<ChangeBody, EntryFault>
-    ensures { EntryReads (λ body. (body, cursor.new)) result (change_body_at cursor.old) }
+    ensures { GivesUnless EntryFault.Memory (λ body. (body, cursor.new)) result
+        (fault_as EntryFault.Malformed (change_body_at cursor.old)) }
 {
     let change = read_member_change(cursor)?;
     let commitment = cursor.array()?;
     let previous = cursor.array()?;
-    let count = read_u16(cursor, 0, 64)?;
+    let count = read_u16(cursor, 0, u32::from(MAX_MEMBERS))?;
     let wraps = read_wraps(alloc, cursor, count)?;
     Ok(ChangeBody {
         change,
@@ -96,7 +98,8 @@ fn read_fields(alloc: Global, cursor: &mut Cursor<'_>) -> Result<ChangeBody, Ent
 #[tactic(auto, unfolding(crate::specs::ChangeBody::change_body_from))]
 pub(crate) fn read_body(alloc: Global, body: &[u8], at: usize) -> Result<ChangeBody, EntryFault>
     requires { at + length body.now < 2 ^ 64 }
-    ensures { EntryReads (λ c. c) result (change_body_from at body.now) }
+    ensures { GivesUnless EntryFault.Memory (λ c. c) result
+        (fault_as EntryFault.Malformed (change_body_from at body.now)) }
 {
     let mut cursor = Cursor::within(body, at);
     let change = read_fields(alloc, &mut cursor)?;
@@ -110,9 +113,10 @@ pub fn read_change(alloc: Global, body: &[u8]) -> Result<ChangeBody, EntryFault>
     ensures found { IfOk result (λ c. IsChangeBody c × (body.now ≡ change_body_bytes c)) }
     // What is spelled so is read, unless memory runs out.
     ensures only { (c : ChangeBody) → IsChangeBody c → body.now ≡ change_body_bytes c
-        → EntryReads (λ c. c) result (Ok c) }
+        → GivesUnless EntryFault.Memory (λ c. c) result (Ok c) }
     // Which fault it is.
-    ensures exact { EntryReads (λ c. c) result (change_body_from 0 body.now) }
+    ensures exact { GivesUnless EntryFault.Memory (λ c. c) result
+        (fault_as EntryFault.Malformed (change_body_from 0 body.now)) }
 {
     read_body(alloc, body, 0)
 }

@@ -1,9 +1,11 @@
 // Entries of a history.
 
 ghost use Rattle.std.specs.Prelude.{◌≡◌, ◌≤◌, ◌<◌, ◌^◌, length, Ok, IfOk};
-ghost use Rattle.sporc_entry.specs.Outcomes.{EntryReads};
+ghost use Rattle.sporc_base.specs.Outcome.{GivesUnless};
+ghost use Rattle.sporc_bytes.specs.Fields.{fault_as};
 ghost use Rattle.sporc_entry.specs.declared.entry.Entry.{Entry};
-ghost use Rattle.sporc_entry.specs.Entry.{entry_limit, entry_of, entry_bytes, signed_string, IsEntry};
+ghost use Rattle.sporc_entry.specs.declared.limits.TheConstants.{MAX_ENTRY};
+ghost use Rattle.sporc_entry.specs.Entry.{entry_of, entry_bytes, signed_string, IsEntry};
 
 use crate::fault::EntryFault;
 use crate::header::{Header, put_header};
@@ -27,19 +29,21 @@ pub fn read_entry(alloc: Global, bytes: &[u8]) -> Result<Entry, EntryFault>
     // What is read is spelled so.
     ensures found { IfOk result (λ e. IsEntry e × (bytes.now ≡ entry_bytes e)) }
     // Such bytes are no more than those of an edit with the longest body and signature.
-    ensures sized { IfOk result (λ _. length bytes.now ≤ entry_limit) }
+    ensures sized { IfOk result (λ _. length bytes.now ≤ MAX_ENTRY) }
     // What is spelled so is read, unless memory runs out.
     ensures only { (e : Entry) → IsEntry e → bytes.now ≡ entry_bytes e
-        → EntryReads (λ e. e) result (Ok e) }
+        → GivesUnless EntryFault.Memory (λ e. e) result (Ok e) }
     // Which fault it is.
-    ensures exact { EntryReads (λ e. e) result (entry_of bytes.now) }
+    ensures exact { GivesUnless EntryFault.Memory (λ e. e) result
+        (fault_as EntryFault.Malformed (entry_of bytes.now)) }
 {
     read_copied(alloc, bytes)
 }
 
 // The entry that these bytes spell, copied out of them.
 fn read_copied(alloc: Global, bytes: &[u8]) -> Result<Entry, EntryFault>
-    ensures { EntryReads (λ e. e) result (entry_of bytes.now) }
+    ensures { GivesUnless EntryFault.Memory (λ e. e) result
+        (fault_as EntryFault.Malformed (entry_of bytes.now)) }
 {
     let view = EntryView::read(alloc, bytes)?;
     let entry = view.to_entry(alloc)?;

@@ -2,9 +2,9 @@
 
 ghost use Rattle.std.specs.Prelude.{◌≡◌, ◌++◌, Ok, IfOk, OnOk};
 ghost use Rattle.std.specs.List.{flat_map};
-ghost use Rattle.sporc_bytes.specs.Fields.{Reads};
+ghost use Rattle.sporc_bytes.specs.Fields.{Reads, fault_as};
 ghost use Rattle.sporc_member.specs.Roster.{founded, has_admin};
-ghost use Rattle.sporc_entry.specs.Outcomes.{or_malformed, GenesisReads};
+ghost use Rattle.sporc_base.specs.Outcome.{GivesUnless};
 ghost use Rattle.sporc_entry.specs.declared.genesis.Genesis.{Genesis};
 ghost use Rattle.sporc_entry.specs.Genesis.{founder_at, founders_at, genesis_at, genesis_in, genesis_of, bad_key, founders_fault, founder_bytes, genesis_bytes, IsGenesis};
 
@@ -14,7 +14,7 @@ use lms_tree::LmsPublic;
 use sporc_base::{Items, Memory};
 use sporc_bytes::{Cursor, Out, Short};
 use sporc_hash::Digest32;
-use sporc_member::Founder;
+use sporc_member::{Founder, MAX_MEMBERS};
 use std::alloc::Global;
 
 /// The members that a document begins with, seen as the list of them.
@@ -64,8 +64,8 @@ fn read_founders(
     cursor: &mut Cursor<'_>,
     count: u16,
 ) -> Result<Vec<Founder>, GenesisFault>
-    ensures { GenesisReads (λ founders. (founders.items, cursor.new)) result
-        (or_malformed (founders_at count cursor.old)) }
+    ensures { GivesUnless GenesisFault.Memory (λ founders. (founders.items, cursor.new)) result
+        (fault_as GenesisFault.Malformed (founders_at count cursor.old)) }
 {
     let mut founders = Vec::with_capacity(alloc, usize::from(count))?;
     let mut least = 1;
@@ -80,13 +80,13 @@ fn read_founders(
 // The fields of a genesis that stand next.
 #[tactic(auto, unfolding(crate::specs::Genesis::genesis_at))]
 fn read_fields(alloc: Global, cursor: &mut Cursor<'_>) -> Result<Genesis, GenesisFault>
-    ensures { GenesisReads (λ genesis. (genesis, cursor.new)) result
-        (or_malformed (genesis_at cursor.old)) }
+    ensures { GivesUnless GenesisFault.Memory (λ genesis. (genesis, cursor.new)) result
+        (fault_as GenesisFault.Malformed (genesis_at cursor.old)) }
 {
     read_u8(cursor, VERSION, VERSION)?;
     let document = cursor.array()?;
     let commitment = cursor.array()?;
-    let count = read_u16(cursor, 1, 64)?;
+    let count = read_u16(cursor, 1, u32::from(MAX_MEMBERS))?;
     let founders = read_founders(alloc, cursor, count)?;
     Ok(Genesis {
         document,
@@ -98,7 +98,7 @@ fn read_fields(alloc: Global, cursor: &mut Cursor<'_>) -> Result<Genesis, Genesi
 // The genesis that these bytes spell, whoever its founders are.
 #[tactic(auto, unfolding(crate::specs::Genesis::genesis_in))]
 fn read_all(alloc: Global, bytes: &[u8]) -> Result<Genesis, GenesisFault>
-    ensures { GenesisReads (λ genesis. genesis) result (or_malformed (genesis_in bytes.now)) }
+    ensures { GivesUnless GenesisFault.Memory (λ genesis. genesis) result (fault_as GenesisFault.Malformed (genesis_in bytes.now)) }
 {
     let mut cursor = Cursor::new(bytes);
     let genesis = read_fields(alloc, &mut cursor)?;
@@ -139,7 +139,7 @@ fn fault_of(founders: &[Founder]) -> Option<GenesisFault>
 // The genesis that these bytes spell.
 #[tactic(auto, unfolding(crate::specs::Genesis::genesis_of))]
 fn read_tested(alloc: Global, bytes: &[u8]) -> Result<Genesis, GenesisFault>
-    ensures { GenesisReads (λ genesis. genesis) result (genesis_of bytes.now) }
+    ensures { GivesUnless GenesisFault.Memory (λ genesis. genesis) result (genesis_of bytes.now) }
 {
     let genesis = read_all(alloc, bytes)?;
     match fault_of(genesis.founders.as_slice()) {
@@ -155,9 +155,9 @@ pub fn read_genesis(alloc: Global, bytes: &[u8]) -> Result<Genesis, GenesisFault
     ensures found { IfOk result (λ g. IsGenesis g × (bytes.now ≡ genesis_bytes g)) }
     // What is spelled so is read, unless memory runs out.
     ensures only { (g : Genesis) → IsGenesis g → bytes.now ≡ genesis_bytes g
-        → GenesisReads (λ g. g) result (Ok g) }
+        → GivesUnless GenesisFault.Memory (λ g. g) result (Ok g) }
     // Which fault it is.
-    ensures exact { GenesisReads (λ g. g) result (genesis_of bytes.now) }
+    ensures exact { GivesUnless GenesisFault.Memory (λ g. g) result (genesis_of bytes.now) }
 {
     read_tested(alloc, bytes)
 }

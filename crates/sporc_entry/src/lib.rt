@@ -13,6 +13,7 @@ mod fields;
 mod genesis;
 mod header;
 pub mod laws;
+mod limits;
 mod view;
 mod wrap;
 
@@ -22,8 +23,9 @@ pub use entry::{Entry, read_entry, signed_part, write_entry};
 pub use fault::{EntryFault, GenesisFault};
 pub use genesis::{Founders, Genesis, read_genesis, write_genesis};
 pub use header::Header;
+pub use limits::{MAX_CHANGE_BODY, MAX_EDIT_BODY, MAX_ENTRY, MAX_SIGNATURE};
 pub use sporc_base::{Bytes, Memory};
-pub use view::{EntryView, MAX_CHANGE_BODY, MAX_EDIT_BODY, MAX_SIGNATURE};
+pub use view::EntryView;
 pub use wrap::{Wrap, Wraps};
 
 #[cfg(test)]

@@ -3,9 +3,11 @@
 ghost use Rattle.std.specs.Prelude.{◌≡◌, ◌≤◌, ◌<◌, ◌^◌, ◌∷◌, length, Ok, IfOk, None};
 ghost use Rattle.std.specs.Option.{option_copied};
 ghost use Rattle.std.specs.Result.{result_ok};
-ghost use Rattle.sporc_entry.specs.Outcomes.{EntryReads};
+ghost use Rattle.sporc_base.specs.Outcome.{GivesUnless};
+ghost use Rattle.sporc_bytes.specs.Fields.{fault_as};
 ghost use Rattle.sporc_entry.specs.ChangeBody.{change_body_from};
-ghost use Rattle.sporc_entry.specs.Entry.{body_limit, body_read, entry_limit, entry_of, entry_bytes, change_of, signed_string, IsEntry};
+ghost use Rattle.sporc_entry.specs.declared.limits.TheConstants.{MAX_EDIT_BODY, MAX_ENTRY};
+ghost use Rattle.sporc_entry.specs.Entry.{body_limit, body_read, entry_of, entry_bytes, change_of, signed_string, IsEntry};
 ghost use Rattle.sporc_entry.specs.EntryView.{parts_entry};
 
 use crate::change::{ChangeBody, read_body};
@@ -13,19 +15,11 @@ use crate::entry::Entry;
 use crate::fault::EntryFault;
 use crate::fields::read_end;
 use crate::header::{Header, read_header};
+use crate::limits::{MAX_CHANGE_BODY, MAX_EDIT_BODY, MAX_SIGNATURE};
 use sporc_base::{Bytes, Memory};
 use sporc_bytes::Cursor;
 use std::alloc::Global;
 use std::marker::Model;
-
-/// The longest body of an edit, in bytes.
-pub const MAX_EDIT_BODY: u32 = 1_048_576;
-
-/// The longest body of a change, in bytes.
-pub const MAX_CHANGE_BODY: u32 = 65_536;
-
-/// The longest signature, in bytes.
-pub const MAX_SIGNATURE: u32 = 9_324;
 
 // The kind of an entry that is an edit.
 const EDIT: u8 = 1;
@@ -65,7 +59,7 @@ impl<'a> Model for EntryView<'a> {
 // How many bytes the body of an entry of this kind may have.
 fn limit_of(kind: u8) -> u32
     ensures value { result ≡ body_limit kind }
-    ensures small { result ≤ 1048576 }
+    ensures small { result ≤ MAX_EDIT_BODY }
 {
     if kind == EDIT {
         MAX_EDIT_BODY
@@ -76,8 +70,9 @@ fn limit_of(kind: u8) -> u32
 
 // The change that a body of this kind is, if it is one.
 fn read_kind(alloc: Global, kind: u8, body: &[u8]) -> Result<Option<ChangeBody>, EntryFault>
-    requires { length body.now ≤ 1048576 }
-    ensures exact { EntryReads (λ _. tt) result (body_read kind 72 body.now) }
+    requires { length body.now ≤ MAX_EDIT_BODY }
+    ensures exact { GivesUnless EntryFault.Memory (λ _. tt) result
+        (fault_as EntryFault.Malformed (body_read kind 72 body.now)) }
     ensures edit { IfOk result (λ change. kind ≡ 1 → change ≡ None) }
     ensures change { IfOk result (λ change. kind ≡ 2 → change ≡ result_ok (change_body_from 0 body.now)) }
 {
@@ -91,7 +86,8 @@ fn read_kind(alloc: Global, kind: u8, body: &[u8]) -> Result<Option<ChangeBody>,
 // The fields of the entry that these bytes spell.
 #[tactic(auto, unfolding(crate::specs::Entry::entry_of))]
 fn read_parts<'a>(alloc: Global, bytes: &'a [u8]) -> Result<Parts<'a>, EntryFault>
-    ensures exact { EntryReads (λ p. parts_entry p.header p.body.now p.signature.now) result (entry_of bytes.now) }
+    ensures exact { GivesUnless EntryFault.Memory (λ p. parts_entry p.header p.body.now p.signature.now) result
+        (fault_as EntryFault.Malformed (entry_of bytes.now)) }
     ensures edit { IfOk result (λ p. p.header.kind ≡ 1 → p.change ≡ None) }
     ensures change { IfOk result (λ p. p.header.kind ≡ 2 → p.change ≡ result_ok (change_body_from 0 p.body.now)) }
 {
@@ -113,10 +109,11 @@ impl<'a> EntryView<'a> {
     /// Reads the entry that these bytes spell. A change's body is read where it stands, which alone takes memory: that
     /// of its sealed keys.
     pub fn read(alloc: Global, bytes: &'a [u8]) -> Result<EntryView<'a>, EntryFault>
-        ensures exact { EntryReads (λ v. v.entry) result (entry_of bytes.entry.now) }
+        ensures exact { GivesUnless EntryFault.Memory (λ v. v.entry) result
+            (fault_as EntryFault.Malformed (entry_of bytes.entry.now)) }
         ensures bytes { IfOk result (λ v. v.bytes ≡ bytes.entry.now) }
         ensures found { IfOk result (λ v. IsEntry v.entry × (bytes.entry.now ≡ entry_bytes v.entry)) }
-        ensures sized { IfOk result (λ _. length bytes.entry.now ≤ entry_limit) }
+        ensures sized { IfOk result (λ _. length bytes.entry.now ≤ MAX_ENTRY) }
     {
         let parts = read_parts(alloc, bytes)?;
         Ok(EntryView { parts, bytes })

@@ -6,7 +6,7 @@ use Rattle.sporc_member.specs.declared.change.Change.{Change}
 use Rattle.sporc_member.specs.declared.change.Change.TheVariants.{Add, Remove, SetRole}
 use Rattle.sporc_member.specs.Roster.{Roster, after_change, founded, removes}
 use Rattle.sporc_entry.specs.declared.genesis.Genesis.{Genesis}
-use Rattle.sporc_entry.specs.Entry.{entry_limit}
+use Rattle.sporc_entry.specs.declared.limits.TheConstants.{MAX_ENTRY}
 use Rattle.sporc_entry.specs.Genesis.{genesis_bytes, IsGenesis}
 use Rattle.std.specs.List.{All}
 use Rattle.std.proofs.lemmas.Bool.{eqb-true}
@@ -82,16 +82,16 @@ keeps_open g entries hashes roster counts lasts removed is e h r t = subst (λ (
   changes = refl;
   tables = t;
   room = omega arith;
-  sized = All-nil (λ b. length b ≤ entry_limit);
+  sized = All-nil (λ b. length b ≤ MAX_ENTRY);
 })
 
 -- ---- one entry more
 
-sized_push : (entries : List (List ℕ)) (b : List ℕ) → All (λ e. length e ≤ entry_limit) entries → length b ≤ entry_limit → All (λ e. length e ≤ entry_limit) (entries ++ b ∷ [])
-sized_push entries b all size = let P : List ℕ → Type 0 = λ e. length e ≤ entry_limit in All-append P entries (b ∷ []) all (All-cons P b [] size (All-nil P))
+sized_push : (entries : List (List ℕ)) (b : List ℕ) → All (λ e. length e ≤ MAX_ENTRY) entries → length b ≤ MAX_ENTRY → All (λ e. length e ≤ MAX_ENTRY) (entries ++ b ∷ [])
+sized_push entries b all size = let P : List ℕ → Type 0 = λ e. length e ≤ MAX_ENTRY in All-append P entries (b ∷ []) all (All-cons P b [] size (All-nil P))
 
 pub keeps_edit : (g : Genesis) (entries hashes : List (List ℕ)) (roster : Roster) (barrier epoch : ℕ) (counts lasts : List ℕ) (removed : List Bool) (b h : List ℕ) (a : ℕ) (entries' hashes' : List (List ℕ)) (counts' lasts' : List ℕ)
-    → HeadsInvariant g entries hashes roster barrier epoch counts lasts removed → length entries < MAX_ENTRIES → length b ≤ entry_limit
+    → HeadsInvariant g entries hashes roster barrier epoch counts lasts removed → length entries < MAX_ENTRIES → length b ≤ MAX_ENTRY
     → a < 65536 → ((n : ℕ) → is_by n b ≡ eqb a n) → change_in b ≡ None → h ≡ next_value (hash_of g entries) b
     → entries' ≡ entries ++ b ∷ [] → hashes' ≡ hashes ++ h ∷ [] → counts' ≡ set counts a (get_or counts a 0 + 1) → lasts' ≡ set lasts a (length entries + 1)
     → HeadsInvariant g entries' hashes' roster barrier epoch counts' lasts' removed
@@ -111,7 +111,7 @@ keeps_edit g entries hashes roster barrier epoch counts lasts removed b h a entr
     }))))
 
 pub keeps_change : (g : Genesis) (entries hashes : List (List ℕ)) (roster : Roster) (barrier epoch : ℕ) (counts lasts : List ℕ) (removed : List Bool) (b h : List ℕ) (a : ℕ) (s : CommittedChange) (entries' hashes' : List (List ℕ)) (roster' : Roster) (barrier' epoch' : ℕ) (counts' lasts' : List ℕ) (removed' : List Bool)
-    → HeadsInvariant g entries hashes roster barrier epoch counts lasts removed → length entries < MAX_ENTRIES → length b ≤ entry_limit
+    → HeadsInvariant g entries hashes roster barrier epoch counts lasts removed → length entries < MAX_ENTRIES → length b ≤ MAX_ENTRY
     → a < 65536 → ((n : ℕ) → is_by n b ≡ eqb a n) → change_in b ≡ Some s → h ≡ next_value (hash_of g entries) b
     → entries' ≡ entries ++ b ∷ [] → hashes' ≡ hashes ++ h ∷ [] → roster' ≡ after_change roster s.body.change → barrier' ≡ length entries + 1 → epoch' ≡ epoch + 1
     → counts' ≡ set counts a (get_or counts a 0 + 1) → lasts' ≡ set lasts a (length entries + 1) → removed' ≡ marked s.body.change removed

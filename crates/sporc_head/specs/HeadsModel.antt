@@ -4,7 +4,7 @@ use Rattle.std.specs.List.{All}
 use Rattle.sporc_hash.specs.Chain.{chain}
 use Rattle.sporc_member.specs.Roster.{Roster}
 use Rattle.sporc_entry.specs.declared.genesis.Genesis.{Genesis}
-use Rattle.sporc_entry.specs.Entry.{entry_limit}
+use Rattle.sporc_entry.specs.declared.limits.TheConstants.{MAX_ENTRY}
 use Rattle.sporc_entry.specs.Genesis.{genesis_bytes, IsGenesis}
 use Rattle.sporc_head.specs.declared.limits.TheConstants.{MAX_ENTRIES}
 use Rattle.sporc_head.specs.declared.heads.Heads.TheInside.{Inside}
@@ -37,7 +37,7 @@ pub record HeadsInvariant (g : Genesis) (entries hashes : List (List ℕ)) (rost
   pub changes : epoch ≡ epoch_of entries
   pub tables : TablesMatch counts lasts removed entries
   pub room : length entries ≤ MAX_ENTRIES
-  pub sized : All (λ b. length b ≤ entry_limit) entries
+  pub sized : All (λ b. length b ≤ MAX_ENTRY) entries
 
 abbrev pub invariant_of : Inside → Type 0
 invariant_of a = HeadsInvariant a.genesis (entries_in a) a.hashes.items a.roster.roster a.barrier a.epoch a.tables.counts.items a.tables.lasts.items a.tables.removed.items

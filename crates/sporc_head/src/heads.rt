@@ -5,7 +5,7 @@ ghost use Rattle.std.specs.List.{All};
 ghost use Rattle.sporc_base.specs.FirstFault.{Answers, AnswersUnless, first_of};
 ghost use Rattle.sporc_hash.specs.Chain.{chain, next_value};
 ghost use Rattle.sporc_entry.specs.Genesis.{IsGenesis, genesis_bytes};
-ghost use Rattle.sporc_entry.specs.Entry.{entry_limit};
+ghost use Rattle.sporc_entry.specs.declared.limits.TheConstants.{MAX_ENTRY};
 ghost use Rattle.sporc_member.specs.Roster.{member_at};
 ghost use Rattle.sporc_head.specs.History.{member_change_of, roster_of, barrier_of, epoch_of, count_of, last_of, hash_of, is_removed};
 ghost use Rattle.sporc_head.specs.HeadChecks.{place_checks, history_checks, head_checks, head_fault, is_not_removed};
@@ -90,7 +90,7 @@ impl Heads {
     /// The bytes of the entries, oldest first.
     pub fn entries(&self) -> &[Vec<u8>]
         ensures value { map (λ v. v.items) result.now ≡ self.now.entries }
-        ensures sized { All (λ bytes. length bytes ≤ entry_limit) self.now.entries }
+        ensures sized { All (λ bytes. length bytes ≤ MAX_ENTRY) self.now.entries }
     {
         self.entries.as_slice()
     }

@@ -1,62 +1,15 @@
-ghost use Rattle.std.specs.Prelude.{◌<◌, ◌^◌, length, IfOk};
-ghost use Rattle.sporc_entry.specs.Genesis.{IsGenesis};
-
 use super::*;
-use lms_ots::OtsType;
-use lms_tree::{LmsType, Tree};
-use sporc_bytes::Out;
-use sporc_entry::{
-    Bytes, ChangeBody, Entry, Genesis, Header, Wrap, Wraps, read_genesis, signed_part,
-    write_change, write_entry,
-};
-use sporc_member::{Change, ChangeFault, Role};
+use sporc_entry::Header;
+use sporc_member::{Change, ChangeFault};
+use sporc_samples::{CHANGE, Cast, DOCUMENT, Draft, EDIT, change_body, short_history};
 use std::alloc::Global;
 use std::process::Abort;
 use std::test::Fail;
 
-const DOCUMENT: [u8; 16] = [7; 16];
-
-// The trees of members 1 to 5: height 5, one bit a coefficient, which are the quickest to build.
-fn trees(alloc: Global) -> Result<Vec<Tree>, Fail> {
-    let mut trees = Vec::new(alloc);
-    for member in [1u8, 2, 3, 4, 5] {
-        let seed = [member; 32];
-        let id = [member; 16];
-        trees.push(Tree::build(alloc, &seed, &id, LmsType::H5, OtsType::W1)?)?;
-    }
-    Ok(trees)
-}
-
-// A document founded by admin 1, editors 2, 4 and 5, and reader 3.
-fn genesis(alloc: Global, trees: &[Tree]) -> Result<Genesis, Fail>
-    ensures { IfOk result (λ g. IsGenesis g) }
-{
-    let roles = [
-        Role::Admin,
-        Role::Editor,
-        Role::Reader,
-        Role::Editor,
-        Role::Editor,
-    ];
-    let mut out = Out::new(alloc);
-    out.put_u8(1)?;
-    out.put_bytes(&DOCUMENT)?;
-    out.put_bytes(&[9; 32])?;
-    out.put_u16(5)?;
-    let mut number = 0u16;
-    for (tree, role) in trees.iter().zip(roles) {
-        number = number.wrapping_add(1);
-        out.put_u16(number)?;
-        out.put_u8(role.code())?;
-        out.put_bytes(&tree.public().to_bytes())?;
-    }
-    let bytes = out.into_bytes();
-    Ok(read_genesis(alloc, bytes.as_slice())?)
-}
-
-// An entry at a history, and who checks it at which position. Leaf 0 signs each: no check asks which leaves have signed.
+// The next entry at a history, and who checks it at which position. Leaf 0 signs each: no check asks which leaves have
+// signed.
 #[derive(Clone, Copy)]
-struct Draft {
+struct Attempt {
     me: Option<u16>,
     pos: u32,
     document: [u8; 16],
@@ -75,8 +28,26 @@ struct Draft {
     sealed_for: [u16; 4],
 }
 
-impl Draft {
-    // Makes it fail the check of this refusal, at the history of four entries.
+impl Attempt {
+    // The next edit of editor 2, which no check refuses.
+    fn good(heads: &Heads) -> Attempt {
+        Attempt {
+            me: Some(2),
+            pos: heads.len().wrapping_add(1),
+            document: DOCUMENT,
+            author: 2,
+            ahead: 0,
+            base: heads.len(),
+            foreign: false,
+            epoch: heads.epoch(),
+            leaf: 0,
+            turned: false,
+            removes: None,
+            sealed_for: [1, 2, 3, 5],
+        }
+    }
+
+    // Makes it fail the check of this refusal, at a history that begins with the short one.
     fn spoil(&mut self, refusal: Refusal) {
         match refusal {
             Refusal::WrongDocument => self.document = [8; 16],
@@ -119,135 +90,56 @@ impl Draft {
             base_hash,
             epoch: self.epoch,
             leaf: self.leaf,
-            kind: if self.removes.is_some() { 2 } else { 1 },
+            kind: if self.removes.is_some() { CHANGE } else { EDIT },
         }
     }
 
-    fn body(&self, rt: &impl Abort, alloc: Global) -> Result<Vec<u8>, Fail>
-        ensures { IfOk result (λ v. length v.items < 2 ^ 32) }
-    {
+    fn bytes(&self, alloc: Global, heads: &Heads, cast: &Cast) -> Result<Vec<u8>, Fail> {
         let body = match self.removes {
-            Some(member) => removal(rt, alloc, member, &self.sealed_for)?,
+            Some(member) => change_body(
+                alloc,
+                Change::Remove { member },
+                self.author,
+                self.leaf,
+                self.epoch,
+                &self.sealed_for,
+            )?,
             None => Vec::new(alloc),
         };
-        assert!(rt; body.len() < 10_000);
-        Ok(body)
-    }
-
-    fn bytes(
-        &self,
-        rt: &impl Abort,
-        alloc: Global,
-        heads: &Heads,
-        trees: &[Tree],
-    ) -> Result<Vec<u8>, Fail> {
-        let author = usize::from(self.author);
-        assert!(rt; author > 0 && author <= trees.len());
-        let mut entry = Entry {
+        let draft = Draft {
             header: self.header(heads),
-            body: Bytes::new(self.body(rt, alloc)?),
-            signature: Bytes::new(Vec::new(alloc)),
+            signing_leaf: 0,
+            turned: self.turned,
         };
-        let message = signed_part(alloc, &entry)?;
-        let mut signature = signed(rt, alloc, &trees[author - 1], message.as_slice())?;
-        if self.turned {
-            signature[8] ^= 1;
-        }
-        entry.signature = Bytes::new(signature);
-        Ok(write_entry(alloc, &entry)?)
-    }
-}
-
-// The bytes of a change that removes a member.
-fn removal(
-    rt: &impl Abort,
-    alloc: Global,
-    member: u16,
-    sealed_for: &[u16],
-) -> Result<Vec<u8>, Fail> {
-    let mut wraps = Vec::new(alloc);
-    for member in sealed_for {
-        wraps.push(Wrap {
-            member: *member,
-            sealed: [3; 32],
-        })?;
-    }
-    assert!(rt; wraps.len() < 65);
-    let body = ChangeBody {
-        change: Change::Remove { member },
-        commitment: [1; 32],
-        previous: [2; 32],
-        wraps: Wraps::new(wraps),
-    };
-    Ok(write_change(alloc, &body)?)
-}
-
-// A signature of the tree's first leaf.
-fn signed(rt: &impl Abort, alloc: Global, tree: &Tree, message: &[u8]) -> Result<Vec<u8>, Fail>
-    ensures { IfOk result (λ v. (8 < length v.items) × (length v.items < 2 ^ 32)) }
-{
-    let height = tree.public().lms.height();
-    assert!(rt; height == 5);
-    let signature = tree.sign(alloc, 0, &[5; 32], message)?;
-    let len = signature.len();
-    assert!(rt; len > 8 && len < 10_000);
-    Ok(signature)
-}
-
-// The next edit of editor 2 at a history, which no check refuses.
-fn good(heads: &Heads) -> Draft {
-    Draft {
-        me: Some(2),
-        pos: heads.len().wrapping_add(1),
-        document: DOCUMENT,
-        author: 2,
-        ahead: 0,
-        base: heads.len(),
-        foreign: false,
-        epoch: heads.epoch(),
-        leaf: 0,
-        turned: false,
-        removes: None,
-        sealed_for: [1, 2, 3, 5],
+        Ok(draft.signed(alloc, cast.member(self.author)?, body.as_slice())?)
     }
 }
 
 // Appends an entry.
-fn take(
-    rt: &impl Abort,
-    alloc: Global,
-    heads: &mut Heads,
-    trees: &[Tree],
-    draft: &Draft,
-) -> Result<(), Fail> {
-    let bytes = draft.bytes(rt, alloc, heads, trees)?;
-    let checked = heads.check(draft.me, draft.pos, bytes.as_slice())?;
-    assert_eq!(rt; checked.bytes(), bytes.as_slice());
+fn take(rt: &impl Abort, heads: &mut Heads, bytes: &[u8]) -> Result<(), Fail> {
+    let checked = heads.check(Some(2), heads.len().wrapping_add(1), bytes)?;
+    assert_eq!(rt; checked.bytes(), bytes);
     match heads.push(checked) {
         Ok(()) => Ok(()),
         Err((_, memory)) => Err(memory.into()),
     }
 }
 
-// A history of four entries: edits by 2 and 4, a change by 1 that removes 4, and an edit by 5.
-fn history(rt: &impl Abort, alloc: Global, trees: &[Tree]) -> Result<Heads, Fail> {
-    let mut heads = Heads::open(alloc, genesis(alloc, trees)?)?;
+// The short history: edits by 2 and 4, a change by 1 that removes 4, and an edit by 5.
+fn short(rt: &impl Abort, alloc: Global, cast: &Cast) -> Result<Heads, Fail> {
+    let mut heads = Heads::open(alloc, cast.genesis(alloc)?)?;
     heads.reserve()?;
-    for (author, removes) in [(2, None), (4, None), (1, Some(4)), (5, None)] {
-        let draft = Draft {
-            author,
-            removes,
-            ..good(&heads)
-        };
-        take(rt, alloc, &mut heads, trees, &draft)?;
+    let sample = short_history(alloc, cast)?;
+    for bytes in sample.entries() {
+        take(rt, &mut heads, bytes.as_slice())?;
     }
     Ok(heads)
 }
 
 #[test]
 fn a_history_grows(rt: HostRuntime) -> Result<(), Fail> {
-    let trees = trees(rt.alloc())?;
-    let heads = history(&rt, rt.alloc(), trees.as_slice())?;
+    let cast = Cast::new(rt.alloc())?;
+    let heads = short(&rt, rt.alloc(), &cast)?;
     let counts = (
         heads.len(),
         heads.barrier(),
@@ -265,18 +157,19 @@ fn refused(
     rt: &impl Abort,
     alloc: Global,
     heads: &Heads,
-    trees: &[Tree],
-    draft: &Draft,
+    cast: &Cast,
+    attempt: &Attempt,
     refusal: Refusal,
 ) -> Result<(), Fail> {
-    let bytes = draft.bytes(rt, alloc, heads, trees)?;
-    let found = heads.check(draft.me, draft.pos, bytes.as_slice()).err();
+    let bytes = attempt.bytes(alloc, heads, cast)?;
+    let found = heads.check(attempt.me, attempt.pos, bytes.as_slice()).err();
     assert_eq!(rt; found, Some(refusal));
     Ok(())
 }
 
-// Why the entries of the next tests are refused, by the last check and those before it.
-const REFUSALS: [Refusal; 12] = [
+// The refusals of a history that is not full, by the last check and those before it. A base that is ahead is neither
+// before the barrier nor behind the author's last entry.
+const REFUSALS: [Refusal; 15] = [
     Refusal::WrongWraps,
     Refusal::BadChange(ChangeFault::NotMember),
     Refusal::BadSignature,
@@ -289,72 +182,54 @@ const REFUSALS: [Refusal; 12] = [
     Refusal::BeforeBarrier,
     Refusal::BaseAhead,
     Refusal::UnknownAuthor,
+    Refusal::Removed,
+    Refusal::WrongPosition,
+    Refusal::WrongDocument,
 ];
 
+// Each check refuses an entry that fails it alone, and one that fails all later checks too.
 #[test]
 fn each_check_refuses(rt: HostRuntime) -> Result<(), Fail> {
     let alloc = rt.alloc();
-    let trees = trees(alloc)?;
-    let heads = history(&rt, alloc, trees.as_slice())?;
-    // It fails ever more checks, the last one first. A base that is ahead is neither before the barrier nor behind the
-    // author's last entry.
-    let mut worse = good(&heads);
+    let cast = Cast::new(alloc)?;
+    let heads = short(&rt, alloc, &cast)?;
+    let mut worse = Attempt::good(&heads);
     for refusal in REFUSALS {
-        let mut alone = good(&heads);
+        let mut alone = Attempt::good(&heads);
         alone.spoil(refusal);
-        refused(&rt, alloc, &heads, trees.as_slice(), &alone, refusal)?;
+        refused(&rt, alloc, &heads, &cast, &alone, refusal)?;
         worse.spoil(refusal);
-        refused(&rt, alloc, &heads, trees.as_slice(), &worse, refusal)?;
+        refused(&rt, alloc, &heads, &cast, &worse, refusal)?;
     }
-    for refusal in [
-        Refusal::Removed,
-        Refusal::WrongPosition,
-        Refusal::WrongDocument,
-    ] {
-        let mut alone = good(&heads);
-        alone.spoil(refusal);
-        refused(&rt, alloc, &heads, trees.as_slice(), &alone, refusal)?;
-    }
-    let found = heads.check(None, 5, b"").err();
-    assert_eq!(rt; found, Some(Refusal::Malformed(0)));
-    Ok(())
-}
-
-#[test]
-fn a_full_history_refuses(rt: HostRuntime) -> Result<(), Fail> {
-    let alloc = rt.alloc();
-    let trees = trees(alloc)?;
-    let mut heads = history(&rt, alloc, trees.as_slice())?;
-    for _ in 4..16_384u32 {
-        let draft = good(&heads);
-        take(&rt, alloc, &mut heads, trees.as_slice(), &draft)?;
-    }
-    let mut worse = good(&heads);
-    refused(
-        &rt,
-        alloc,
-        &heads,
-        trees.as_slice(),
-        &worse,
-        Refusal::HistoryFull,
-    )?;
-    for refusal in REFUSALS {
-        worse.spoil(refusal);
-    }
-    for refusal in [
-        Refusal::HistoryFull,
-        Refusal::Removed,
-        Refusal::WrongPosition,
-        Refusal::WrongDocument,
-    ] {
-        worse.spoil(refusal);
-        refused(&rt, alloc, &heads, trees.as_slice(), &worse, refusal)?;
-    }
-    let mut bytes = worse.bytes(&rt, alloc, &heads, trees.as_slice())?;
+    let mut bytes = worse.bytes(alloc, &heads, &cast)?;
     let len = bytes.len();
     bytes.push(0)?;
     let found = heads.check(worse.me, worse.pos, bytes.as_slice()).err();
     assert_eq!(rt; found, Some(Refusal::Malformed(len)));
+    Ok(())
+}
+
+// So does a full history, before all but the first three.
+#[test]
+fn a_full_history_refuses(rt: HostRuntime) -> Result<(), Fail> {
+    let alloc = rt.alloc();
+    let cast = Cast::new(alloc)?;
+    let mut heads = short(&rt, alloc, &cast)?;
+    for _ in 4..MAX_ENTRIES {
+        let bytes = Attempt::good(&heads).bytes(alloc, &heads, &cast)?;
+        take(&rt, &mut heads, bytes.as_slice())?;
+    }
+    let full = Refusal::HistoryFull;
+    let mut worse = Attempt::good(&heads);
+    refused(&rt, alloc, &heads, &cast, &worse, full)?;
+    for refusal in REFUSALS {
+        worse.spoil(refusal);
+        let first = match refusal {
+            Refusal::Removed | Refusal::WrongPosition | Refusal::WrongDocument => refusal,
+            _ => full,
+        };
+        refused(&rt, alloc, &heads, &cast, &worse, first)?;
+    }
     Ok(())
 }
 

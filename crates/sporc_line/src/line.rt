@@ -7,7 +7,7 @@ ghost use Rattle.std.specs.FinMap as map;
 ghost use Rattle.std.specs.List.{All};
 ghost use Rattle.sporc_base.specs.FirstFault.{AnswersUnless, first_of};
 ghost use Rattle.sporc_hash.specs.Chain.{chain, commitment_of};
-ghost use Rattle.sporc_entry.specs.Entry.{entry_limit};
+ghost use Rattle.sporc_entry.specs.declared.limits.TheConstants.{MAX_ENTRY};
 ghost use Rattle.sporc_entry.specs.Genesis.{genesis_bytes, IsGenesis};
 ghost use Rattle.sporc_epoch.specs.Keys.{pairs_in};
 ghost use Rattle.sporc_head.specs.declared.limits.TheConstants.{MAX_ENTRIES};
@@ -179,7 +179,7 @@ impl Line {
     /// The bytes of the entries, oldest first.
     pub fn entries(&self) -> &[Vec<u8>]
         ensures value { map (λ v. v.items) result.now ≡ self.now.entries }
-        ensures sized { All (λ bytes. length bytes ≤ entry_limit) self.now.entries }
+        ensures sized { All (λ bytes. length bytes ≤ MAX_ENTRY) self.now.entries }
     {
         self.heads.entries()
     }

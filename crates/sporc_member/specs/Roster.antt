@@ -2,6 +2,7 @@
 use Rattle.std.specs.Prelude.{ℕ, ◌==◌, Bool, false, not, ◌&&◌, nat_lt, List, [], ◌∷◌, ◌++◌, length, Option, None, Some, is_some, if◌then◌else◌, filter, find, map, fold}
 use Rattle.std.specs.List.{list_any}
 use Rattle.lms_tree.specs.LmsPublic.{public_key_in}
+use Rattle.sporc_member.specs.declared.limits.TheConstants.{MAX_MEMBERS}
 use Rattle.sporc_member.specs.declared.role.Role.{Role}
 use Rattle.sporc_member.specs.declared.change.Change.{Change}
 use Rattle.sporc_member.specs.declared.change.Change.TheVariants.{Add, Remove, SetRole}
@@ -29,9 +30,9 @@ abbrev pub is_used : Roster → ℕ → Bool
 is_used roster number = list_any (λ n. n == number) roster.ever
 
 -- a member among those in order
-abbrev pub placed : Founder → List Founder → List Founder
-placed m [] = m ∷ []
-placed m (n ∷ ns) = if nat_lt m.member n.member then m ∷ n ∷ ns else n ∷ placed m ns
+abbrev pub insert_sorted : Founder → List Founder → List Founder
+insert_sorted m [] = m ∷ []
+insert_sorted m (n ∷ ns) = if nat_lt m.member n.member then m ∷ n ∷ ns else n ∷ insert_sorted m ns
 
 -- the role of a member, once the one with this number has this role
 abbrev pub role_once : ℕ → Role → Founder → Role
@@ -44,7 +45,7 @@ with_role number role m = record { member = m.member; role = role_once number ro
 -- the roster after a change
 abbrev pub after_change : Roster → Change → Roster
 after_change roster (Add member role key) =
-    record { members = placed (record { member = member; role = role; key = key }) roster.members; ever = roster.ever ++ member ∷ [] }
+    record { members = insert_sorted (record { member = member; role = role; key = key }) roster.members; ever = roster.ever ++ member ∷ [] }
 after_change roster (Remove member) =
     record { members = filter (λ m. not (m.member == member)) roster.members; ever = roster.ever }
 after_change roster (SetRole member role) =
@@ -63,7 +64,7 @@ has_role (Some m) role = same_role m.role role
 abbrev pub change_checks : Roster → Change → List (Option ChangeFault)
 change_checks roster (Add member role key) =
     unless (not (member == 0) && not (is_used roster member)) NumberUsed
-    ∷ unless (nat_lt (length roster.members) 64) RosterFull
+    ∷ unless (nat_lt (length roster.members) MAX_MEMBERS) RosterFull
     ∷ unless (is_some (public_key_in key)) BadKey
     ∷ []
 change_checks roster (Remove member) =

@@ -1,11 +1,11 @@
 -- What contracts see of a `Roster`, and what its fields keep.
-use Rattle.std.specs.Prelude.{◌≡◌, ℕ, ◌-◌, ◌≤◌, ◌==◌, Bool, true, min, List, length, vec_len, vec_capacity}
+use Rattle.std.specs.Prelude.{◌≡◌, ℕ, ◌-◌, ◌≤◌, ◌==◌, true, min, List, length, vec_len, vec_capacity}
 use Rattle.std.specs.List.{list_any}
 use Rattle.std.specs.List.Sorted.{IsStrictlyIncreasing}
+use Rattle.sporc_member.specs.declared.limits.TheConstants.{MAX_MEMBERS}
 use Rattle.sporc_member.specs.declared.founder.Founder.{Founder}
 use Rattle.sporc_member.specs.declared.roster.Roster.TheInside.{Inside}
 use Rattle.sporc_member.specs.Roster.{Roster, numbers_of}
-use Rattle.sporc_member.specs.Lists.{Marks}
 
 -- the roster, and how many changes it can make without memory
 pub record RosterModel : Type 0 where
@@ -23,13 +23,12 @@ spare_in a = min (vec_capacity a.members - vec_len a.members) (min (vec_capacity
 abbrev pub model_of : Inside → RosterModel
 model_of a = record { roster = roster_in a; spare = spare_in a }
 
--- the numbers are the members', ascending, and each of them was ever used; the table marks those ever used
-pub record Keeps (members : List Founder) (numbers ever : List ℕ) (used : List Bool) : Type 0 where
+-- the numbers are the members', ascending, and each of them was ever used
+pub record RosterInvariant (members : List Founder) (numbers ever : List ℕ) : Type 0 where
   pub same : numbers ≡ numbers_of members
   pub ascending : IsStrictlyIncreasing numbers
   pub among : (n : ℕ) → list_any (λ m. m == n) numbers ≡ true → list_any (λ m. m == n) ever ≡ true
-  pub room : length members ≤ 64
-  pub marks : Marks used ever
+  pub room : length members ≤ MAX_MEMBERS
 
-abbrev pub keeps_in : Inside → Type 0
-keeps_in a = Keeps a.members.items a.numbers.items a.ever.items a.used.items
+abbrev pub invariant_of : Inside → Type 0
+invariant_of a = RosterInvariant a.members.items a.numbers.items a.ever.items

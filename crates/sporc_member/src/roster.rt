@@ -2,21 +2,21 @@
 
 ghost use Rattle.std.specs.Prelude.{◌≡◌, ◌≤◌, length, option_map, IfOk, OnOk, OnErr, IsOk, None};
 ghost use Rattle.std.specs.Option.{option_copied};
+ghost use Rattle.sporc_member.specs.declared.limits.TheConstants.{MAX_MEMBERS};
 ghost use Rattle.std.specs.List.Sorted.{IsStrictlyIncreasing};
 
 use crate::change::{Change, ChangeFault};
 use crate::founder::Founder;
+use crate::limits::MAX_MEMBERS;
 use crate::lists::{
-    give_role, has_admin_with, has_admin_without, insert_ready, marks_of, numbers_in, numbers_with,
+    give_role, has_admin_with, has_admin_without, insert_ready, numbers_in, numbers_with,
     numbers_without, place_of, take_out_member, take_out_number,
 };
 use crate::role::Role;
 use lms_tree::LmsPublic;
-use std::alloc::{AllocError, Global};
+use sporc_base::Memory;
+use std::alloc::Global;
 use std::marker::Model;
-
-/// No memory was left; all is as it was before the call.
-pub type Memory = AllocError;
 
 /// The members in ascending order of their numbers, with every number that was ever a member's.
 ///
@@ -26,38 +26,35 @@ pub struct Roster {
     members: Vec<Founder>,
     numbers: Vec<u16>,
     ever: Vec<u16>,
-    used: Vec<bool>,
 }
 
 impl Model for Roster {
-    ghost use Rattle.sporc_member.specs.RosterModel.{RosterModel, model_of, keeps_in};
+    ghost use Rattle.sporc_member.specs.RosterModel.{RosterModel, model_of, invariant_of};
 
     ghost Value = { RosterModel };
 
     ghost view = { model_of };
 
-    ghost invariant = { keeps_in };
+    ghost invariant = { invariant_of };
 }
 
 impl Roster {
     ghost use Rattle.sporc_base.specs.FirstFault.{Answers};
-    ghost use Rattle.sporc_member.specs.Roster.{numbers_of, member_at, change_fault_of, after_change, founded};
+    ghost use Rattle.sporc_member.specs.Roster.{numbers_of, member_at, is_used, change_fault_of, after_change, founded};
 
     /// The roster of the founders.
     pub fn found(alloc: Global, founders: &[Founder]) -> Result<Roster, Memory>
         requires ascending { IsStrictlyIncreasing (numbers_of founders.now) }
-        requires room { length founders.now ≤ 64 }
+        requires room { length founders.now ≤ MAX_MEMBERS }
         ensures { IfOk result (λ roster. roster.roster ≡ founded founders.now) }
     {
         let members = Vec::from_slice(alloc, founders)?;
         let numbers = numbers_in(alloc, founders)?;
         let ever = Vec::from_slice(alloc, numbers.as_slice())?;
-        let used = marks_of(alloc, numbers.as_slice())?;
         Ok(Roster {
             members,
             numbers,
             ever,
-            used,
         })
     }
 
@@ -74,6 +71,13 @@ impl Roster {
         ensures { option_copied result ≡ member_at self.now.roster number }
     {
         self.members.iter().find(|m| m.member == number)
+    }
+
+    // Whether a number was ever a member's.
+    fn is_used(&self, number: u16) -> bool
+        ensures { result ≡ is_used self.now.roster number }
+    {
+        self.ever.iter().any(|n| *n == number)
     }
 
     /// The role of the member with this number.
@@ -105,10 +109,10 @@ impl Roster {
         ensures { Answers result (change_fault_of self.now.roster (Change.Add member role key.now)) }
     {
         let _ = role;
-        if member == 0 || self.used[member as usize] {
+        if member == 0 || self.is_used(member) {
             return Err(ChangeFault::NumberUsed);
         }
-        if self.members.len() >= 64 {
+        if self.members.len() >= usize::from(MAX_MEMBERS) {
             return Err(ChangeFault::RosterFull);
         }
         if LmsPublic::from_bytes(key).is_none() {
@@ -147,7 +151,7 @@ impl Roster {
 
     /// Takes the memory of one change: the next `make` takes none.
     pub fn reserve(&mut self) -> Result<(), Memory>
-        ensures same { self.new.roster ≡ self.old.roster }
+        ensures unchanged { self.new.roster ≡ self.old.roster }
         ensures ok { OnOk result (1 ≤ self.new.spare) }
         ensures ready { 1 ≤ self.old.spare → IsOk result }
     {
@@ -187,7 +191,6 @@ impl Roster {
         insert_ready(&mut self.members, place, Founder { member, role, key });
         insert_ready(&mut self.numbers, place, member);
         self.ever.push_reserved(member);
-        self.used[member as usize] = true;
         Ok(())
     }
 

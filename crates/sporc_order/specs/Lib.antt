@@ -1,3 +1,3 @@
-pub mod Orders
+pub mod Batches
 pub mod OrderModel
 pub mod Sessions

@@ -9,7 +9,7 @@ use Rattle.sporc_wire.specs.declared.to_server.ToServer.TheVariants.{Hello, Subm
 use Rattle.sporc_wire.specs.declared.to_client.ToClient.{ToClient}
 use Rattle.sporc_wire.specs.declared.to_client.ToClient.TheVariants.{Ordered, Rejected, Entries, Empty}
 use Rattle.sporc_wire.specs.ToClient.{to_client_bytes, IsToClient}
-use Rattle.sporc_order.specs.Orders.{pulled}
+use Rattle.sporc_order.specs.Batches.{batch_after}
 use Rattle.sporc_order.specs.OrderModel.{OrderModel}
 use Rattle.sporc_order.specs.declared.session.Answer.{Answer}
 use Rattle.sporc_order.specs.declared.session.Answer.TheVariants.{Send, Silent, Close}
@@ -46,7 +46,7 @@ step_of o false (Submit entry) = only o false Close
 step_of o false (Pull from) = only o false Close
 step_of o true (Hello document member) = only o true Close
 step_of o true (Submit entry) = submitted o entry (head_fault o.genesis None o.entries (length o.entries + 1) entry)
-step_of o true (Pull from) = only o true (Send (entries_after from (pulled o.entries from)))
+step_of o true (Pull from) = only o true (Send (entries_after from (batch_after o.entries from)))
 
 -- what is sent is a message in range, whose body is within the limit of a frame
 abbrev pub IsSendable : Answer → Type 0

@@ -4,22 +4,20 @@ ghost use Rattle.std.specs.Prelude.{◌≡◌, ◌≢◌, ◌+◌, ◌∷◌, �
 ghost use Rattle.sporc_base.specs.FirstFault.{AnswersUnless};
 ghost use Rattle.sporc_entry.specs.Genesis.{IsGenesis};
 ghost use Rattle.sporc_head.specs.HeadChecks.{head_fault};
-ghost use Rattle.sporc_order.specs.Orders.{pulled, run_of};
+ghost use Rattle.sporc_wire.specs.declared.to_client.TheConstants.{MAX_PULLED};
+ghost use Rattle.sporc_order.specs.declared.order.TheConstants.{MAX_PULLED_BYTES};
+ghost use Rattle.sporc_order.specs.Batches.{batch_after, longest_batch};
 
+use sporc_base::Memory;
 use sporc_entry::Genesis;
 use sporc_head::{Heads, Refusal};
-use std::alloc::{AllocError, Global};
+use sporc_wire::{MAX_BODY, MAX_PULLED};
+use std::alloc::Global;
 use std::marker::Model;
 
-/// No memory was left; all is as it was before the call.
-pub type Memory = AllocError;
-
-/// How many entries one answer holds at most.
-const MOST_ENTRIES: usize = 16;
-
-/// How many bytes the entries of one answer have at most, each with the four of its length: what a frame's body of
-/// 4,194,304 bytes leaves them.
-const MOST_BYTES: usize = 4_194_298;
+/// How many bytes the entries of one answer have at most, each with the four of its length: what a frame's body leaves
+/// them beside the six of its head.
+pub const MAX_PULLED_BYTES: usize = MAX_BODY as usize - 6;
 
 /// The order of a document's entries.
 ///
@@ -75,28 +73,29 @@ impl Order {
         let checked = self.heads.check(None, position, bytes)?;
         match self.heads.push(checked) {
             Ok(()) => Ok(position),
-            Err((_, AllocError)) => Err(Refusal::Memory),
+            Err(_) => Err(Refusal::Memory),
         }
     }
 
-    /// The entries after the first `from`: as many of them, up to 16, as one answer holds.
+    /// The entries after the first `from`: as many of them as one answer holds, up to
+    /// [`MAX_PULLED`].
     pub fn pull(&self, from: u32) -> &[Vec<u8>]
-        ensures entries { map (λ v. v.items) result.now ≡ pulled self.now.entries from }
+        ensures entries { map (λ v. v.items) result.now ≡ batch_after self.now.entries from }
         ensures empty { length result.now ≡ 0 ↔ length self.now.entries ≤ from }
     {
         let entries = self.heads.entries();
         let from = (from as usize).min(entries.len());
         let after = &entries[from..];
-        &after[..run_len(after)]
+        &after[..batch_len(after)]
     }
 }
 
 // How many of the first entries one answer holds.
-fn run_len(entries: &[Vec<u8>]) -> usize
+fn batch_len(entries: &[Vec<u8>]) -> usize
     ensures within { result ≤ length entries.now }
-    ensures run { take result (map (λ v. v.items) entries.now) ≡ run_of 16 4194298 (map (λ v. v.items) entries.now) }
+    ensures value { take result (map (λ v. v.items) entries.now) ≡ longest_batch MAX_PULLED MAX_PULLED_BYTES (map (λ v. v.items) entries.now) }
 {
-    let mut room = MOST_BYTES;
+    let mut room = MAX_PULLED_BYTES;
     for (i, entry) in entries.iter().enumerate() {
         if !has_room(i, room, entry.len()) {
             return i;
@@ -108,7 +107,7 @@ fn run_len(entries: &[Vec<u8>]) -> usize
 
 // Whether an answer of so many entries has room for one more of this length.
 fn has_room(count: usize, room: usize, len: usize) -> bool
-    ensures { result ≡ (nat_lt count 16 && nat_le (len + 4) room) }
+    ensures { result ≡ (nat_lt count MAX_PULLED && nat_le (len + 4) room) }
 {
-    count < MOST_ENTRIES && room >= 4 && len <= room - 4
+    count < usize::from(MAX_PULLED) && room >= 4 && len <= room - 4
 }

@@ -2,7 +2,7 @@
 
 ghost use Rattle.std.specs.Prelude.{◌≡◌, ◌+◌, true, false, map, length, None, IfOk, OnOk, OnErr};
 ghost use Rattle.sporc_wire.specs.declared.to_client.ToClient.{ToClient};
-ghost use Rattle.sporc_order.specs.Orders.{pulled};
+ghost use Rattle.sporc_order.specs.Batches.{batch_after};
 ghost use Rattle.sporc_order.specs.Sessions.{step_of, greeted, submitted, entries_after, only, IsSendable, IsFramed};
 ghost use Rattle.sporc_head.specs.HeadChecks.{head_fault};
 
@@ -111,7 +111,7 @@ fn submit(order: &mut Order, entry: &[u8]) -> Result<Answer, Memory>
 
 // Answers a Pull.
 fn pull(alloc: Global, order: &Order, from: u32) -> Result<Answer, Memory>
-    ensures answer { IfOk result (λ answer. answer ≡ Answer.Send (entries_after from (pulled order.now.entries from))) }
+    ensures answer { IfOk result (λ answer. answer ≡ Answer.Send (entries_after from (batch_after order.now.entries from))) }
 {
     if from >= order.len() {
         return Ok(Answer::Send(ToClient::Empty));

@@ -12,7 +12,7 @@ returns-in_err-founder c =
     let at = c.in_err-founder.field-0.0.0 in
     let h = next_fails c.loop.least c.loop.cursor at c.in_err-founder.ensures in
     let total = ends next_founder c.loop.founders.items c.args.count c.loop.counter (c.loop.least, c.loop.cursor) at (values_at next_founder c.args.count (1, c.args.cursor.now)) c.loop-test.true h c.loop.invariant in
-    rw (p.1, p.2, founders_fail c.args.count c.args.cursor.now at total) refl
+    rw (p.1, p.2, founders_fail c.args.count c.args.cursor.now at total) (λ _. refl)
 
 pub loop-preserved : goal.loop-preserved
 loop-preserved c =

@@ -2,7 +2,10 @@ use Rattle.std.proofs.Common.{◌≡◌, ◌≤◌, ℕ, List, length, take, ap,
 use Rattle.std.proofs.lemmas.List.{take_all}
 use Rattle.sporc_hash.specs.Chain.{next_value}
 use Rattle.sporc_entry.specs.declared.entry.Entry.{Entry}
-use Rattle.sporc_entry.specs.Entry.{entry_limit, entry_of}
+use Rattle.sporc_entry.specs.declared.limits.TheConstants.{MAX_ENTRY}
+use Rattle.sporc_entry.specs.Entry.{entry_of}
+use Rattle.sporc_entry.specs.declared.fault.EntryFault.TheVariants.{Malformed}
+use Rattle.sporc_entry.proofs.FieldLaws.{is_read}
 use Rattle.sporc_head.specs.History.{hash_of}
 use Rattle.sporc_head.proofs.ChecksPass.{fault_for_nobody}
 use Rattle.sporc_head.proofs.OnceChecked.{passed_of}
@@ -15,13 +18,14 @@ returns-clause-checked c =
     let checked = c.in_ok-checked.checked in
     let same : checked.bytes ≡ c.args.bytes.now = c.in_ok-checked.ensures.bytes ∙ c.in_ok-view.ensures.bytes in
     let made : Entry → Result Entry ℕ = λ e. Ok e in
-    let read : entry_of checked.bytes ≡ Ok checked.entry = ap entry_of same ∙ c.in_ok-view.ensures.exact ∙ ap made (sym c.in_ok-checked.ensures.entry) in
-    let seen : entry_of checked.bytes ≡ Ok c.in_ok-view.view.entry = ap entry_of same ∙ c.in_ok-view.ensures.exact in
+    let found : entry_of c.args.bytes.now ≡ Ok c.in_ok-view.view.entry = is_read Malformed (entry_of c.args.bytes.now) c.in_ok-view.view.entry c.in_ok-view.ensures.exact in
+    let read : entry_of checked.bytes ≡ Ok checked.entry = ap entry_of same ∙ found ∙ ap made (sym c.in_ok-checked.ensures.entry) in
+    let seen : entry_of checked.bytes ≡ Ok c.in_ok-view.view.entry = ap entry_of same ∙ found in
     let all : length entries ≤ length entries = omega arith in
     let last : c.hash_at-before.result ≡ hash_of g entries = c.hash_at-before.ensures ∙ ap (λ (n : ℕ). hash_of g (take n entries)) c.len.ensures.value ∙ ap (hash_of g) (take_all (length entries) entries all) in
     record {
       read = read;
-      sized = subst (λ (b : List ℕ). length b ≤ entry_limit) (sym same) c.in_ok-view.ensures.sized;
+      sized = subst (λ (b : List ℕ). length b ≤ MAX_ENTRY) (sym same) c.in_ok-view.ensures.sized;
       hash = c.in_ok-checked.ensures.hash ∙ ap (λ (v : List ℕ). next_value v c.in_ok-view.view.bytes) last ∙ ap (next_value (hash_of g entries)) (sym c.in_ok-checked.ensures.bytes);
       passed = fault_for_nobody g c.args.me entries c.args.pos checked.bytes (passed_of g c.args.me entries c.args.pos checked.bytes c.in_ok-view.view.entry seen c.in_ok-check_entry.ensures);
     }

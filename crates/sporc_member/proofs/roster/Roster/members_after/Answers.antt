@@ -2,7 +2,7 @@ use Rattle.std.proofs.Common.{sym, ap, ◌∙◌, ℕ, List, filter, not, eqb}
 use Rattle.std.specs.List.{insert}
 use Rattle.std.proofs.lemmas.Result.{IfOk-weaker}
 use Rattle.sporc_member.specs.Lists.{place_among}
-use Rattle.sporc_member.proofs.Places.{numbers_of-placed, numbers_of-with_role, numbers_of-filter}
+use Rattle.sporc_member.proofs.Places.{numbers_of-insert_sorted, numbers_of-with_role, numbers_of-filter}
 use Rattle.sporc_member.proofs.roster.Roster.members_after.Goals as goal
 
 pub returns-in-Add : goal.returns-in-Add
@@ -10,7 +10,7 @@ returns-in-Add c =
     let n = c.in-Add.member in
     rw (c.in-Add.is, ← c.self.view_is) (IfOk-weaker c.numbers_with.result _ _ (λ v is.
     is ∙ ap (λ (ns : List ℕ). insert ns (place_among n ns) n) (c.as_slice.ensures.value ∙ c.self.invariant.same)
-    ∙ sym (numbers_of-placed (record { member = n; role = c.in-Add.role; key = c.in-Add.key }) c.self.inside.members.items)) c.numbers_with.ensures)
+    ∙ sym (numbers_of-insert_sorted (record { member = n; role = c.in-Add.role; key = c.in-Add.key }) c.self.inside.members.items)) c.numbers_with.ensures)
 
 pub returns-in-Remove : goal.returns-in-Remove
 returns-in-Remove c =

@@ -1,0 +1,97 @@
+//! Bodies of entries.
+
+use crate::cast::DOCUMENT;
+use crate::fault::SampleFault;
+use crate::keys::{epoch_key, pair_key};
+use sporc_base::Memory;
+use sporc_bytes::Out;
+use sporc_cipher::mask;
+use sporc_entry::{ChangeBody, Wrap, Wraps, write_change};
+use sporc_hash::commit;
+use sporc_member::Change;
+use std::alloc::Global;
+
+/// The bytes of the delta that keeps so many characters and inserts a text behind them.
+pub fn insertion(alloc: Global, keep: u64, text: &[u8]) -> Result<Vec<u8>, Memory> {
+    let mut out = Out::new(alloc);
+    if keep > 0 {
+        out.put_u8(1)?;
+        out.put_u64(keep)?;
+    }
+    out.put_u8(2)?;
+    out.put_u64(text.len() as u64)?;
+    out.put_bytes(text)?;
+    Ok(out.into_bytes())
+}
+
+/// The body of an edit: the bytes of a delta, masked under the key of its epoch.
+pub fn edit_body(
+    alloc: Global,
+    author: u16,
+    leaf: u32,
+    epoch: u32,
+    delta: &[u8],
+) -> Result<Vec<u8>, Memory> {
+    let mut body = Vec::from_slice(alloc, delta)?;
+    mask(
+        &epoch_key(epoch),
+        entry_stream(author, leaf),
+        body.as_mut_slice(),
+    );
+    Ok(body)
+}
+
+/// The body of a change that an author makes in an epoch, with the next key sealed for these members.
+pub fn change_body(
+    alloc: Global,
+    change: Change,
+    author: u16,
+    leaf: u32,
+    epoch: u32,
+    members: &[u16],
+) -> Result<Vec<u8>, SampleFault> {
+    let next = epoch.wrapping_add(1);
+    let key = epoch_key(next);
+    let mut previous = epoch_key(epoch);
+    mask(&key, (1 << 60) + u64::from(next), &mut previous);
+    let wraps = wraps_of(alloc, &key, author, leaf, members)?;
+    if wraps.len() > 64 {
+        return Err(SampleFault::TooLong);
+    }
+    let body = ChangeBody {
+        change,
+        commitment: commit(&DOCUMENT, next, &key),
+        previous,
+        wraps: Wraps::new(wraps),
+    };
+    Ok(write_change(alloc, &body)?)
+}
+
+// A key sealed for members.
+fn wraps_of(
+    alloc: Global,
+    key: &[u8; 32],
+    author: u16,
+    leaf: u32,
+    members: &[u16],
+) -> Result<Vec<Wrap>, SampleFault> {
+    let mut wraps = Vec::new(alloc);
+    for member in members {
+        let mut sealed = *key;
+        mask(
+            &pair_key(author, *member),
+            entry_stream(author, leaf),
+            &mut sealed,
+        );
+        wraps.push(Wrap {
+            member: *member,
+            sealed,
+        })?;
+    }
+    Ok(wraps)
+}
+
+// The number of the stream that masks what an entry holds.
+fn entry_stream(author: u16, leaf: u32) -> u64 {
+    u64::from(author) * (1 << 40) + u64::from(leaf)
+}

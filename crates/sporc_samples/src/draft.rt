@@ -1,0 +1,62 @@
+//! Entries to be signed.
+
+use crate::fault::SampleFault;
+use crate::member::Member;
+use sporc_entry::{Bytes, Entry, Header, signed_part, write_entry};
+use std::alloc::Global;
+
+/// The kind of an edit.
+pub const EDIT: u8 = 1;
+
+/// The kind of a change.
+pub const CHANGE: u8 = 2;
+
+/// An entry to be signed: whatever stands in its header is signed as it stands.
+#[derive(Clone, Copy, Debug, PartialEq, Eq)]
+pub struct Draft {
+    pub header: Header,
+    /// The leaf whose key signs: at first the one that the header names.
+    pub signing_leaf: u32,
+    /// Whether a bit of the signature is turned.
+    pub turned: bool,
+}
+
+impl Draft {
+    /// A draft with this header.
+    pub fn new(header: Header) -> Draft {
+        Draft {
+            header,
+            signing_leaf: header.leaf,
+            turned: false,
+        }
+    }
+
+    /// The bytes of the entry with this body, signed by a member.
+    pub fn signed(
+        &self,
+        alloc: Global,
+        signer: &Member,
+        body: &[u8],
+    ) -> Result<Vec<u8>, SampleFault> {
+        if body.len() > 0xffff_ffff {
+            return Err(SampleFault::TooLong);
+        }
+        let mut entry = Entry {
+            header: self.header,
+            body: Bytes::copy_of(alloc, body)?,
+            signature: Bytes::new(Vec::new(alloc)),
+        };
+        let message = signed_part(alloc, &entry)?;
+        let mut signature = signer.sign(alloc, self.signing_leaf, message.as_slice())?;
+        if self.turned
+            && let Some(byte) = signature.get_mut(8)
+        {
+            *byte ^= 1;
+        }
+        if signature.len() > 0xffff_ffff {
+            return Err(SampleFault::TooLong);
+        }
+        entry.signature = Bytes::new(signature);
+        Ok(write_entry(alloc, &entry)?)
+    }
+}

@@ -1,0 +1,38 @@
+//! Samples for tests: members with keys, a document that they founded, and signed histories of it. No program stands on
+//! this crate.
+//!
+//! - [`Cast`]: five members with their one-time keys, and the genesis of the document that they founded.
+//! - [`Draft`]: an entry to be signed, each field of whose header can be spoilt first.
+//! - [`History`]: a history that grows by signed edits and changes; [`short_history`] and [`forked_history`] part after three.
+//! - [`epoch_key`], [`pair_key`]: the keys that its edits are masked with and its changes seal.
+//!
+//! ```text
+//! let cast = Cast::new(alloc)?;
+//! let mut sample = History::new(alloc, &cast.genesis(alloc)?)?;
+//! sample.edit(alloc, &cast, 2, insertion(alloc, 0, b"hi")?.as_slice())?;
+//! let mut draft = Draft::new(sample.header(2, EDIT));
+//! draft.header.number += 1;                        // no check but that of the number fails
+//! let bytes = draft.signed(alloc, cast.member(2)?, body)?;
+//! ```
+//!
+//! The bytes follow the formats by their tables and not by the crates that read them back. Proved: nothing but that each
+//! call is safe and ends, and that the genesis is one.
+#![tactic(auto)]
+
+mod bodies;
+mod cast;
+mod draft;
+mod fault;
+mod histories;
+mod history;
+mod keys;
+mod member;
+
+pub use bodies::{change_body, edit_body, insertion};
+pub use cast::{Cast, DOCUMENT};
+pub use draft::{CHANGE, Draft, EDIT};
+pub use fault::SampleFault;
+pub use histories::{forked_history, short_history};
+pub use history::History;
+pub use keys::{epoch_key, pair_key};
+pub use member::Member;
