@@ -8,7 +8,7 @@ use Rattle.sporc_delta.specs.declared.limits.TheConstants.{MAX_TEXT_LEN}
 use Rattle.sporc_delta.specs.Marks.{Mark, base_len, out_len, inserted_len, apply}
 use Rattle.sporc_suffix.specs.Forms.{reached, Follow, all_inserted}
 use Rattle.sporc_entry.specs.declared.genesis.Genesis.{Genesis}
-use Rattle.sporc_entry.specs.declared.view.TheConstants.{MAX_EDIT_BODY}
+use Rattle.sporc_entry.specs.declared.limits.TheConstants.{MAX_EDIT_BODY}
 use Rattle.sporc_head.specs.CheckedModel.{CheckedModel}
 use Rattle.sporc_line.specs.Kit.{Kit}
 use Rattle.sporc_line.specs.Keys.{key_after, key_of}

@@ -22,7 +22,7 @@ use Rattle.sporc_delta.specs.Reading.{head_at, text_at, body_at, part_at, parts_
 use Rattle.sporc_delta.proofs.Counted.{length-chars}
 use Rattle.sporc_delta.proofs.Decoding.{head_ok, text_ok}
 use Rattle.sporc_entry.specs.declared.entry.Entry.{Entry}
-use Rattle.sporc_entry.specs.declared.view.TheConstants.{MAX_EDIT_BODY}
+use Rattle.sporc_entry.specs.declared.limits.TheConstants.{MAX_EDIT_BODY}
 use Rattle.sporc_entry.specs.Entry.{header_at, body_limit, body_read, entry_of}
 use Rattle.sporc_epoch.specs.Streams.{entry_stream}
 use Rattle.sporc_line.specs.Operations.{marks_in}

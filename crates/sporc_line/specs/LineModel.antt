@@ -3,7 +3,7 @@ use Rattle.std.specs.Prelude.{◌≡◌, ℕ, ◌*◌, ◌≤◌, not, List, len
 use Rattle.sporc_delta.specs.Marks.{Mark}
 use Rattle.sporc_suffix.specs.Forms.{all_inserted}
 use Rattle.sporc_entry.specs.declared.genesis.Genesis.{Genesis}
-use Rattle.sporc_entry.specs.declared.view.TheConstants.{MAX_EDIT_BODY}
+use Rattle.sporc_entry.specs.declared.limits.TheConstants.{MAX_EDIT_BODY}
 use Rattle.sporc_head.specs.declared.limits.TheConstants.{MAX_ENTRIES}
 use Rattle.sporc_head.specs.History.{epoch_of, is_removed}
 use Rattle.sporc_line.specs.Kit.{Kit}

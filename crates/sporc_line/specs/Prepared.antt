@@ -2,7 +2,7 @@
 use Rattle.std.specs.Prelude.{◌≡◌, ℕ, ◌+◌, ◌≤◌, List, [], ◌∷◌, ◌++◌, length, Option, None}
 use Rattle.sporc_delta.specs.Marks.{Mark, apply, inserted_len}
 use Rattle.sporc_entry.specs.declared.genesis.Genesis.{Genesis}
-use Rattle.sporc_entry.specs.declared.view.TheConstants.{MAX_EDIT_BODY}
+use Rattle.sporc_entry.specs.declared.limits.TheConstants.{MAX_EDIT_BODY}
 use Rattle.sporc_head.specs.CheckedModel.{CheckedModel}
 use Rattle.sporc_head.specs.IsChecked.{IsChecked}
 use Rattle.sporc_head.specs.History.{epoch_of}

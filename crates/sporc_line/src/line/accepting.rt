@@ -4,7 +4,7 @@ ghost use Rattle.std.specs.Prelude.{◌≡◌, ◌+◌, ◌≤◌, ◌∷◌, �
 ghost use Rattle.sporc_base.specs.FirstFault.{AnswersUnless, first_of};
 ghost use Rattle.sporc_delta.specs.Marks.{base_len, inserted_len};
 ghost use Rattle.sporc_suffix.specs.Forms.{later_over};
-ghost use Rattle.sporc_entry.specs.declared.view.TheConstants.{MAX_EDIT_BODY};
+ghost use Rattle.sporc_entry.specs.declared.limits.TheConstants.{MAX_EDIT_BODY};
 ghost use Rattle.sporc_entry.specs.Entry.{change_of};
 ghost use Rattle.sporc_head.specs.IsChecked.{IsChecked};
 ghost use Rattle.sporc_line.specs.Document.{forms_of, text_of};
