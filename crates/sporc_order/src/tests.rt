@@ -56,7 +56,10 @@ fn a_session_is_greeted_once(rt: HostRuntime) -> Result<(), Fail> {
     let pull = ToServer::Pull { from: 0 };
     let early = answer(alloc, &mut session, &mut order, &pull)?;
     assert!(rt; matches!(early, Answer::Close));
-    let hello = ToServer::Hello { document: DOCUMENT, member: 1 };
+    let hello = ToServer::Hello {
+        document: DOCUMENT,
+        member: 1,
+    };
     let first = answer(alloc, &mut session, &mut order, &hello)?;
     assert!(rt; matches!(first, Answer::Silent));
     let empty = answer(alloc, &mut session, &mut order, &pull)?;
@@ -83,13 +86,23 @@ fn a_session_orders_an_entry_once(rt: HostRuntime) -> Result<(), Fail> {
     let (mut order, mut sample) = opened(alloc, &cast)?;
     sample.edit(alloc, &cast, 1, b"")?;
     let mut session = Session::new();
-    let hello = ToServer::Hello { document: DOCUMENT, member: 1 };
+    let hello = ToServer::Hello {
+        document: DOCUMENT,
+        member: 1,
+    };
     answer(alloc, &mut session, &mut order, &hello)?;
     let submit = submission(alloc, &sample)?;
     let ordered = answer(alloc, &mut session, &mut order, &submit)?;
     assert!(rt; matches!(ordered, Answer::Send(ToClient::Ordered { pos: 1 })));
     let again = answer(alloc, &mut session, &mut order, &submit)?;
-    assert!(rt; matches!(again, Answer::Send(ToClient::Rejected { refusal: Refusal::WrongNumber })));
+    assert!(rt;
+        matches!(
+            again,
+            Answer::Send(ToClient::Rejected {
+                refusal: Refusal::WrongNumber
+            })
+        )
+    );
     let pulled = answer(alloc, &mut session, &mut order, &ToServer::Pull { from: 0 })?;
     assert!(rt; matches!(pulled, Answer::Send(ToClient::Entries { first: 1, .. })));
     Ok(())
