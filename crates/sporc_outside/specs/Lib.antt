@@ -1,5 +1,6 @@
 pub mod CallRecord
 pub mod LinkContent
+pub mod Nets
 pub mod ListedWords
 pub mod Words
 pub mod Counts
