@@ -1,13 +1,11 @@
 -- Worked examples of the definitions.
-use Rattle.std.proofs.Common.{◌≡◌, ℕ, ◌+◌, ◌-◌, ◌^◌, true, false, cond, List, [], ◌∷◌, Some, None, refl, ap, ◌∙◌}
+use Rattle.std.proofs.Common.{◌≡◌, ℕ, ◌-◌, ◌^◌, true, false, List, [], ◌∷◌, Some, None, refl}
 use Rattle.std.specs.Prelude.{Ok, Err}
-use Rattle.std.specs.Ordering.{nat_cmp}
-use Rattle.std.specs.FinMap.{get, insert, empty, gets}
+use Rattle.std.specs.FinMap.{insert, empty, gets}
 use Rattle.sporc_cipher.specs.Mask.{mask_of}
 use Rattle.sporc_member.specs.declared.role.Role.TheVariants.{Editor}
 use Rattle.sporc_member.specs.declared.change.Change.TheVariants.{Add, Remove}
 use Rattle.sporc_entry.specs.declared.wrap.Wrap.{Wrap}
-use Rattle.sporc_entry.specs.declared.committed.CommittedChange.{CommittedChange}
 use Rattle.sporc_epoch.specs.declared.fault.HintFault.TheVariants.{WrongKey}
 use Rattle.sporc_epoch.specs.declared.start.EpochStart.{EpochStart}
 use Rattle.sporc_epoch.specs.declared.streams.TheConstants.{MAX_EPOCH}
