@@ -27,9 +27,9 @@ mod source;
 mod tests;
 
 pub use crate::calls::Calls;
+pub use crate::chance::Chance;
 pub use crate::counted::{Counted, Failed};
 pub use crate::disk_call::{DiskBytes, DiskCall, DiskRequest};
-pub use crate::chance::Chance;
 pub use crate::gate::{Gate, OpenGate};
 pub use crate::leaf_disk::LeafDisk;
 pub use crate::link::Link;

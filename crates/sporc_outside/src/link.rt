@@ -15,5 +15,6 @@ pub trait Link: Source + Sink {
 
     // What a read leaves are the bytes written, and what a write leaves those that are left to be read.
     ghost sent_is: { (l : Self) → Self.sent l ≡ Self.written l };
+
     ghost pending_is: { (l : Self) → Self.pending l ≡ Self.left l };
 }

@@ -5,11 +5,11 @@ use Rattle.std.proofs.lemmas.Bool.Decides.{eqb_tells}
 use Rattle.sporc_delta.specs.Marks.{Mark, base_len, deletes, insertion, inserts, removal, retains}
 use Rattle.sporc_delta.proofs.Lengths.{base_len-append, base_len-retains, base_len-deletes, base_len-inserts}
 use Rattle.sporc_base.specs.FirstFault.{first_of}
-use Rattle.sporc_client.specs.declared.entry.PlainEntry.{PlainEntry}
-use Rattle.sporc_client.specs.declared.fault.EditFault.{EditFault}
-use Rattle.sporc_client.specs.declared.fault.PlainRefusal.{PlainRefusal}
-use Rattle.sporc_client.specs.Client.{PlainState, accepted, edit_checks, edited, entry_checks, shown_of}
-use Rattle.sporc_client.specs.Run.{after_edit, after_give, unless_refused}
+use Rattle.sporc_plain.specs.declared.entry.PlainEntry.{PlainEntry}
+use Rattle.sporc_plain.specs.declared.fault.EditFault.{EditFault}
+use Rattle.sporc_plain.specs.declared.fault.PlainRefusal.{PlainRefusal}
+use Rattle.sporc_plain.specs.Client.{PlainState, accepted, edit_checks, edited, entry_checks, shown_of}
+use Rattle.sporc_plain.specs.Run.{after_edit, after_give, unless_refused}
 
 pub base_of_insertion : (len at : ℕ) (text : List ℕ) → at ≤ len → base_len (insertion len at text) ≡ len
 base_of_insertion len at text low =

@@ -1,6 +1,6 @@
 -- Every script's play is one run.
 use Rattle.std.proofs.Common.{List, ℕ}
-use Rattle.sporc_client.proofs.Runs.{runs_agree}
+use Rattle.sporc_plain.proofs.Runs.{runs_agree}
 use Rattle.sporc_play.specs.declared.script.command.PlayLine.{PlayLine}
 use Rattle.sporc_play.specs.Grammar.{IsScript}
 use Rattle.sporc_play.specs.Moves.{IsOneRun, moves_of}

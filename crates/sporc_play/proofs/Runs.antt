@@ -4,11 +4,11 @@ use Rattle.std.specs.Prelude.{◌==◌, option_map}
 use Rattle.std.proofs.lemmas.Bool.Decides.{eqb_tells}
 use Rattle.std.proofs.lemmas.List.{take-append-drop, take-append-le, take_all}
 use Rattle.sporc_delta.specs.Marks.{Mark}
-use Rattle.sporc_client.specs.declared.entry.PlainEntry.{PlainEntry}
-use Rattle.sporc_client.specs.Client.{PlainState, opened}
-use Rattle.sporc_client.specs.Run.{World, Move, Edit, Submit, Give, after_all, after_edit, after_give, after_submit, start, with_call}
-use Rattle.sporc_client.specs.Run as run
-use Rattle.sporc_client.specs.Submission.{submission_of}
+use Rattle.sporc_plain.specs.declared.entry.PlainEntry.{PlainEntry}
+use Rattle.sporc_plain.specs.Client.{PlainState, opened}
+use Rattle.sporc_plain.specs.Run.{World, Move, Edit, Submit, Give, after_all, after_edit, after_give, after_submit, start, with_call}
+use Rattle.sporc_plain.specs.Run as run
+use Rattle.sporc_plain.specs.Submission.{submission_of}
 use Rattle.sporc_play.specs.declared.seat.Seat.{Seat}
 use Rattle.sporc_play.specs.declared.script.command.Change.{Change}
 use Rattle.sporc_play.specs.declared.script.command.Command.{Command}

@@ -5,14 +5,14 @@ use Rattle.std.proofs.lemmas.List.Elements.{All-get_or}
 use Rattle.std.proofs.lemmas.Option.{slice_get_cases}
 use Rattle.std.specs.Prelude.{◌↔◌, All, slice_get, slice_set}
 use Rattle.sporc_delta.specs.Marks.{Mark}
-use Rattle.sporc_client.specs.declared.entry.PlainEntry.{PlainEntry}
+use Rattle.sporc_plain.specs.declared.entry.PlainEntry.{PlainEntry}
 use Rattle.sporc_delta.specs.Format.{delta_bytes}
-use Rattle.sporc_client.specs.declared.limits.TheConstants.{MAX_EDIT_BYTES}
+use Rattle.sporc_plain.specs.declared.limits.TheConstants.{MAX_EDIT_BYTES}
 use Rattle.sporc_hash.specs.declared.verdict.Verdict.{Verdict}
 use Rattle.sporc_hash.specs.declared.verdict.Verdict.TheVariants.{Same, Prefix, Longer, ForkedAfter}
 use Rattle.sporc_hash.specs.Verdict.{SameTip, TipIsIn, IfForked, DivergesAfter}
-use Rattle.sporc_client.specs.History.{hashes_of}
-use Rattle.sporc_client.specs.Submission.{submission_of}
+use Rattle.sporc_plain.specs.History.{hashes_of}
+use Rattle.sporc_plain.specs.Submission.{submission_of}
 use Rattle.sporc_play.specs.declared.seat.Seat.{Seat}
 use Rattle.sporc_play.specs.declared.script.command.Command.TheVariants as commands
 use Rattle.sporc_play.specs.declared.script.command.Comparison.{Comparison}

@@ -14,22 +14,22 @@ use Rattle.sporc_delta.specs.Marks.{Mark, base_len, insertion, removal}
 use Rattle.sporc_delta.specs.Typed.{IsTypedDelta}
 use Rattle.sporc_delta.proofs.Typing.{inserted, inserted-insertion, inserted-removal, typed_delta}
 use Rattle.sporc_base.specs.FirstFault.{first_of}
-use Rattle.sporc_client.specs.declared.limits.TheConstants.{MAX_EDIT_BYTES, MAX_ENTRIES}
-use Rattle.sporc_client.specs.declared.entry.PlainEntry.{PlainEntry}
-use Rattle.sporc_client.specs.declared.client.PlainSubmitted.{PlainSubmitted}
-use Rattle.sporc_client.specs.declared.client.PlainSubmitted.TheVariants.{Waiting, Entry}
-use Rattle.sporc_client.specs.declared.fault.EditFault.{EditFault}
-use Rattle.sporc_client.specs.declared.fault.PlainRefusal.{PlainRefusal}
-use Rattle.sporc_client.specs.declared.fault.PlainSubmitFault.{PlainSubmitFault}
-use Rattle.sporc_client.specs.declared.fault.PlainSubmitFault.TheVariants.{HistoryFull}
-use Rattle.sporc_client.specs.Client.{PlainState, accepted, admits, edit_checks, edited, entry_checks, entry_of, is_flight, opened, shown_of}
-use Rattle.sporc_client.specs.ClientKeeps.{IsSound, is_small}
-use Rattle.sporc_client.specs.Entry.{entry_bytes}
-use Rattle.sporc_client.specs.Run.{IsTypedMove, after_answer, after_edit, after_give, unless_refused}
-use Rattle.sporc_client.specs.Submission.{first_submission, submission_of}
-use Rattle.sporc_client.specs.Typed.{IsTypedEntry}
-use Rattle.sporc_client.proofs.Passes.{edit_passes, passes}
-use Rattle.sporc_client.proofs.Sound.{accepted_other, accepted_own, edited_sound, no_pending, opened_sound, other_sound, own_sound, sent_sound}
+use Rattle.sporc_plain.specs.declared.limits.TheConstants.{MAX_EDIT_BYTES, MAX_ENTRIES}
+use Rattle.sporc_plain.specs.declared.entry.PlainEntry.{PlainEntry}
+use Rattle.sporc_plain.specs.declared.client.PlainSubmitted.{PlainSubmitted}
+use Rattle.sporc_plain.specs.declared.client.PlainSubmitted.TheVariants.{Waiting, Entry}
+use Rattle.sporc_plain.specs.declared.fault.EditFault.{EditFault}
+use Rattle.sporc_plain.specs.declared.fault.PlainRefusal.{PlainRefusal}
+use Rattle.sporc_plain.specs.declared.fault.PlainSubmitFault.{PlainSubmitFault}
+use Rattle.sporc_plain.specs.declared.fault.PlainSubmitFault.TheVariants.{HistoryFull}
+use Rattle.sporc_plain.specs.Client.{PlainState, accepted, admits, edit_checks, edited, entry_checks, entry_of, is_flight, opened, shown_of}
+use Rattle.sporc_plain.specs.ClientKeeps.{IsSound, is_small}
+use Rattle.sporc_plain.specs.Entry.{entry_bytes}
+use Rattle.sporc_plain.specs.Run.{IsTypedMove, after_answer, after_edit, after_give, unless_refused}
+use Rattle.sporc_plain.specs.Submission.{first_submission, submission_of}
+use Rattle.sporc_plain.specs.Typed.{IsTypedEntry}
+use Rattle.sporc_plain.proofs.Passes.{edit_passes, passes}
+use Rattle.sporc_plain.proofs.Sound.{accepted_other, accepted_own, edited_sound, no_pending, opened_sound, other_sound, own_sound, sent_sound}
 use Rattle.sporc_play.specs.declared.seat.Seat.{Seat}
 use Rattle.sporc_play.specs.declared.script.command.Change.{Change}
 use Rattle.sporc_play.specs.declared.script.command.Change.TheVariants as changes

@@ -1,9 +1,9 @@
 -- A script's play as a run of the clients.
 use Rattle.std.specs.Prelude.{◌≡◌, ℕ, List, [], ◌∷◌, ◌++◌, length, take, Option, Some, None}
 use Rattle.sporc_delta.specs.Marks.{Mark}
-use Rattle.sporc_client.specs.declared.entry.PlainEntry.{PlainEntry}
-use Rattle.sporc_client.specs.Agree.{Agree}
-use Rattle.sporc_client.specs.Run.{Move, Open, Edit, Submit, Give, after_all, start}
+use Rattle.sporc_plain.specs.declared.entry.PlainEntry.{PlainEntry}
+use Rattle.sporc_plain.specs.Agree.{Agree}
+use Rattle.sporc_plain.specs.Run.{Move, Open, Edit, Submit, Give, after_all, start}
 use Rattle.sporc_play.specs.declared.seat.Seat.{Seat}
 use Rattle.sporc_play.specs.declared.script.command.Change.{Change}
 use Rattle.sporc_play.specs.declared.script.command.Command.{Command}

@@ -4,18 +4,18 @@ use Rattle.std.specs.Fmt.{decimal}
 use Rattle.std.specs.Io.KnownBytes.{Appends}
 use Rattle.sporc_delta.specs.Marks.{Mark}
 use Rattle.sporc_base.specs.FirstFault.{first_of}
-use Rattle.sporc_client.specs.declared.entry.PlainEntry.{PlainEntry}
-use Rattle.sporc_client.specs.declared.client.PlainSubmitted.{PlainSubmitted}
-use Rattle.sporc_client.specs.declared.client.PlainSubmitted.TheVariants.{Waiting, Nothing, Entry}
-use Rattle.sporc_client.specs.declared.fault.EditFault.{EditFault}
-use Rattle.sporc_client.specs.declared.fault.PlainRefusal.{PlainRefusal}
-use Rattle.sporc_client.specs.declared.fault.PlainSubmitFault.{PlainSubmitFault}
+use Rattle.sporc_plain.specs.declared.entry.PlainEntry.{PlainEntry}
+use Rattle.sporc_plain.specs.declared.client.PlainSubmitted.{PlainSubmitted}
+use Rattle.sporc_plain.specs.declared.client.PlainSubmitted.TheVariants.{Waiting, Nothing, Entry}
+use Rattle.sporc_plain.specs.declared.fault.EditFault.{EditFault}
+use Rattle.sporc_plain.specs.declared.fault.PlainRefusal.{PlainRefusal}
+use Rattle.sporc_plain.specs.declared.fault.PlainSubmitFault.{PlainSubmitFault}
 use Rattle.sporc_hash.specs.declared.verdict.Verdict.{Verdict}
 use Rattle.sporc_hash.specs.declared.verdict.Verdict.TheVariants.{Same, Prefix, Longer, ForkedAfter}
-use Rattle.sporc_client.specs.Client.{PlainState, edit_checks, entry_checks, shown_of}
-use Rattle.sporc_client.specs.History.{hashes_of}
-use Rattle.sporc_client.specs.Names.{edit_fault_name, refusal_name, submit_fault_name}
-use Rattle.sporc_client.specs.Submission.{submission_of}
+use Rattle.sporc_plain.specs.Client.{PlainState, edit_checks, entry_checks, shown_of}
+use Rattle.sporc_plain.specs.History.{hashes_of}
+use Rattle.sporc_plain.specs.Names.{edit_fault_name, refusal_name, submit_fault_name}
+use Rattle.sporc_plain.specs.Submission.{submission_of}
 use Rattle.sporc_hash.specs.Verdict.{SameTip, TipIsIn, DivergesAfter}
 use Rattle.sporc_outside.specs.Writing.{AppendsPrefix}
 use Rattle.sporc_play.specs.declared.seat.Seat.{Seat}

@@ -1,13 +1,13 @@
 -- What the commands of a script do.
 use Rattle.std.specs.Prelude.{ℕ, zero, suc, ◌+◌, ◌==◌, nat_le, if◌then◌else◌, List, [], ◌∷◌, ◌++◌, length, find, fold, take, option_map, Option, Some, None, Result, Ok, Err, slice_get}
 use Rattle.sporc_delta.specs.Marks.{Mark, insertion, removal}
-use Rattle.sporc_client.specs.declared.entry.PlainEntry.{PlainEntry}
-use Rattle.sporc_client.specs.declared.client.PlainSubmitted.{PlainSubmitted}
-use Rattle.sporc_client.specs.declared.client.PlainSubmitted.TheVariants.{Waiting, Nothing, Entry}
-use Rattle.sporc_client.specs.declared.fault.PlainSubmitFault.{PlainSubmitFault}
-use Rattle.sporc_client.specs.Client.{PlainState, opened, shown_of}
-use Rattle.sporc_client.specs.Run.{after_answer, after_edit, after_give}
-use Rattle.sporc_client.specs.Submission.{submission_of}
+use Rattle.sporc_plain.specs.declared.entry.PlainEntry.{PlainEntry}
+use Rattle.sporc_plain.specs.declared.client.PlainSubmitted.{PlainSubmitted}
+use Rattle.sporc_plain.specs.declared.client.PlainSubmitted.TheVariants.{Waiting, Nothing, Entry}
+use Rattle.sporc_plain.specs.declared.fault.PlainSubmitFault.{PlainSubmitFault}
+use Rattle.sporc_plain.specs.Client.{PlainState, opened, shown_of}
+use Rattle.sporc_plain.specs.Run.{after_answer, after_edit, after_give}
+use Rattle.sporc_plain.specs.Submission.{submission_of}
 use Rattle.sporc_play.specs.declared.seat.Seat.{Seat}
 use Rattle.sporc_play.specs.declared.script.command.Change.{Change}
 use Rattle.sporc_play.specs.declared.script.command.Change.TheVariants.{Insert, Remove}

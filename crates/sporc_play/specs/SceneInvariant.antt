@@ -1,8 +1,8 @@
 -- The invariant of the state of a play.
 use Rattle.std.specs.Prelude.{◌≡◌, ℕ, ◌≤◌, All, List, length}
 use Rattle.sporc_delta.specs.Format.{delta_bytes}
-use Rattle.sporc_client.specs.declared.limits.TheConstants.{MAX_EDIT_BYTES}
-use Rattle.sporc_client.specs.declared.entry.PlainEntry.{PlainEntry}
+use Rattle.sporc_plain.specs.declared.limits.TheConstants.{MAX_EDIT_BYTES}
+use Rattle.sporc_plain.specs.declared.entry.PlainEntry.{PlainEntry}
 use Rattle.sporc_play.specs.declared.seat.Seat.{Seat}
 
 -- all clients were opened over the genesis, and no entry is longer than an edit may be

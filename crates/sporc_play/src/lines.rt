@@ -1,14 +1,14 @@
 //! The texts of a report's lines.
 
 ghost use Rattle.std.specs.Prelude.{◌≡◌, ◌++◌, OnOk, flat_map, string_bytes};
-ghost use Rattle.sporc_client.specs.Client.{shown_of};
+ghost use Rattle.sporc_plain.specs.Client.{shown_of};
 ghost use Rattle.sporc_play.specs.Quoted.{escape, quoted};
 ghost use Rattle.sporc_play.specs.Report.{compare_line, show_line};
 ghost use Rattle.std.specs.Str.{chars};
 
 use crate::script::Comparison;
-use sporc_client::PlainClient;
 use sporc_hash::Verdict;
+use sporc_plain::PlainClient;
 use std::alloc::AllocError;
 use std::fmt::Write;
 

@@ -4,18 +4,18 @@ ghost use Rattle.std.specs.Prelude.{◌≡◌, ◌≢◌, ◌^◌, ◌≤◌, �
 ghost use Rattle.std.specs.Option.{ForSome, option_to_list};
 ghost use Rattle.sporc_delta.specs.Format.{delta_bytes};
 ghost use Rattle.sporc_delta.specs.Marks.{base_len};
-ghost use Rattle.sporc_client.specs.declared.limits.TheConstants.{MAX_EDIT_BYTES};
-ghost use Rattle.sporc_client.specs.Submission.{submission_of};
+ghost use Rattle.sporc_plain.specs.declared.limits.TheConstants.{MAX_EDIT_BYTES};
+ghost use Rattle.sporc_plain.specs.Submission.{submission_of};
 ghost use Rattle.sporc_play.specs.Report.{edit_line, give_line, submit_line};
 ghost use Rattle.sporc_play.specs.Scene.{change_marks, entries_in, marks_by, seat_edited, seat_given, seat_of, seat_submitted};
 ghost use Rattle.sporc_play.specs.SeatPlace.{IsSeatAt};
 ghost use Rattle.sporc_play.specs.Spelling.{change_size};
 
 use crate::script::{Change, Edit};
-use sporc_client::{
+use sporc_delta::Delta;
+use sporc_plain::{
     EditFault, PlainClient, PlainEntry, PlainRefusal, PlainSubmitFault, PlainSubmitted,
 };
-use sporc_delta::Delta;
 use std::alloc::{AllocError, Global};
 use std::fmt::Write;
 

@@ -1,6 +1,6 @@
 -- The rule of the lock: what holds of its words, its slot and all views between any two steps.
 -- Word 0 is the next ticket, word 1 the ticket that is served, and word 2 the length of the log. The slot has the value, or the value is out with the one view whose turn it is.
-use Rattle.std.specs.Prelude.{◌≡◌, ◌≢◌, ◌⊎◌, ℕ, suc, ◌+◌, ◌<◌, ◌≤◌, ◌^◌, Bool, true, false, List, [], ◌∷◌, map, length, drop, Some, Contains}
+use Rattle.std.specs.Prelude.{◌≡◌, ◌≢◌, ◌⊎◌, ℕ, suc, ◌+◌, ◌<◌, ◌≤◌, Bool, true, false, List, [], ◌∷◌, map, length, drop, Some, Contains}
 use Rattle.std.specs.Prelude as std
 use mathlib.Core.Option.{none, some}
 use lib.ListN.{get_elem?}

@@ -1,5 +1,5 @@
 -- What a view becomes at each kind of step, and what the step tells its caller. `m` is the view with the slots that its seat has, before the step, `n` after it, and `r` the number that the step found.
-use Rattle.std.specs.Prelude.{◌≡◌, ◌≢◌, ℕ, ◌+◌, ◌<◌, ◌≤◌, ◌^◌, true, false, List, [], ◌∷◌, length, Some}
+use Rattle.std.specs.Prelude.{◌≡◌, ◌≢◌, ℕ, ◌≤◌, true, false, List, [], ◌∷◌, length, Some}
 use Rattle.std.specs.Prelude as std
 use Rattle.atomic_table.specs.Table.{Me}
 use Rattle.sporc_turn.specs.declared.limits.TheConstants.{MAX_TICKETS}

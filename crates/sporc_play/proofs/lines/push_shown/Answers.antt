@@ -1,6 +1,6 @@
 use Rattle.std.proofs.Common.{◌++◌, string_bytes, sym, ap, ◌∙◌}
 use Rattle.std.proofs.lemmas.Str.{chars_from_encodes}
-use Rattle.sporc_client.specs.Client.{shown_of}
+use Rattle.sporc_plain.specs.Client.{shown_of}
 use Rattle.sporc_play.specs.Quoted.{quoted}
 use Rattle.sporc_play.proofs.lines.push_shown.Goals as goal
 

@@ -1,8 +1,8 @@
 use Rattle.std.proofs.Common.{◌≡◌, ◌+◌, List, ℕ, ◌++◌, Some, string_bytes, sym, ap, ◌∙◌, subst}
 use Rattle.std.specs.Result.{OnOk}
 use Rattle.sporc_base.specs.FirstFault.{first_of}
-use Rattle.sporc_client.specs.Client.{edit_checks}
-use Rattle.sporc_client.specs.Names.{edit_fault_name}
+use Rattle.sporc_plain.specs.Client.{edit_checks}
+use Rattle.sporc_plain.specs.Names.{edit_fault_name}
 use Rattle.sporc_play.specs.Report.{edit_answer, edit_line}
 use Rattle.sporc_play.specs.Scene.{change_marks, marks_by}
 use Rattle.sporc_play.proofs.seat.edit.Goals as goal

@@ -4,7 +4,7 @@ use Rattle.sporc_play.specs.declared.script.command.Command.TheVariants as comma
 use Rattle.sporc_play.specs.Scene.{Scene}
 use Rattle.sporc_play.specs.SeatPlace.{IsSeatAt}
 use Rattle.sporc_play.specs.Lines.{AppendsLine}
-use Rattle.sporc_client.specs.History.{hashes_of}
+use Rattle.sporc_plain.specs.History.{hashes_of}
 use Rattle.sporc_play.specs.declared.script.command.Comparison.{Comparison}
 use Rattle.sporc_play.specs.Report.{Stands}
 use Rattle.sporc_play.proofs.States.{comparison_told, stands}

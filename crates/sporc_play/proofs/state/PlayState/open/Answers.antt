@@ -1,7 +1,7 @@
 use Rattle.std.proofs.Common.{◌≡◌, ap, ◌∙◌}
 use Rattle.sporc_play.specs.declared.seat.Seat.{Seat}
 use Rattle.std.proofs.lemmas.List.Elements.{All-push}
-use Rattle.sporc_client.specs.Client.{PlainState}
+use Rattle.sporc_plain.specs.Client.{PlainState}
 use Rattle.sporc_play.proofs.state.PlayState.open.Goals as goal
 
 pub invariant_of-self-2 : goal.invariant_of-self-2
