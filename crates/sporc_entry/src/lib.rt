@@ -2,7 +2,16 @@
 //!
 //! All numbers are big-endian. Each genesis, entry and body of a change has exactly one spelling. A reader answers the
 //! value that its bytes spell, or the place of the first byte of the first field that is cut short or has a forbidden
-//! value.
+//! value. [`EntryView`] reads an entry where its bytes stand and copies nothing of it; [`read_entry`] copies it out.
+//!
+//! ```text
+//! let view = EntryView::read(alloc, bytes)?;
+//! let message = view.signed();              // what the author signs, behind a byte 3: a part of the bytes
+//! if let Some(change) = view.change() { .. }
+//! ```
+//!
+//! Proved: what is read is spelled so, what is spelled so is read, and which fault it is otherwise ([`laws`]). Tested only:
+//! the layout against bytes that are spelled by hand.
 #![tactic(auto)]
 
 mod change;
