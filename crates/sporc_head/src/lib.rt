@@ -17,6 +17,7 @@ mod authors;
 mod changes;
 mod checked;
 mod heads;
+pub mod laws;
 mod limits;
 mod refusal;
 mod tables;

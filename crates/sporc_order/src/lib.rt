@@ -1,5 +1,17 @@
 //! The order of a document's entries, as its server keeps it: a list that grows by each entry that passes the checks
 //! which need no key, and that hands out its entries in order.
+//!
+//! [`Order`] is the list, and [`Session`] answers the messages of one client from it.
+//!
+//! ```text
+//! let position = order.submit(entry)?;      // the first check that fails is the refusal
+//! order.pull(0)                             // the longest run from the first entry on that its limits allow
+//! session.step(&mut order, &message)        // what is sent, nothing, or that the session ends
+//! ```
+//!
+//! Proved: an entry is appended exactly if no check fails, an answer is the longest run within its limits, empty exactly
+//! if there are no more entries, and each answer of a session is the order's at its entries. Tested only: that the calls
+//! succeed with ample memory. Neither: that a client gets an answer.
 #![tactic(auto)]
 
 pub mod laws;
