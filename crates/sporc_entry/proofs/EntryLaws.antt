@@ -64,7 +64,7 @@ header_takes r x h e =
       record { document = td.1; author = ta.1; number = tn.1; base = tb.1; base_hash = ts.1; epoch = tp.1; leaf = tl.1; kind = (tk.1, tk.2) },
     )
 
-header_again : (h : Header) (rest : List ℕ) → IsHeader h → header_at (record { rest = header_bytes h rest; at = 0 }) ≡ Ok (h, record { rest = rest; at = 68 })
+pub header_again : (h : Header) (rest : List ℕ) → IsHeader h → header_at (record { rest = header_bytes h rest; at = 0 }) ≡ Ok (h, record { rest = rest; at = 68 })
 unfolding header_at header_bytes
 header_again h rest is = rw (
   byte_again 1 1 1 0 (h.document ++ (to_be_bytes w16 h.author ++ (to_be_bytes w32 h.number ++ (to_be_bytes w32 h.base ++ (h.base_hash ++ (to_be_bytes w32 h.epoch ++ (to_be_bytes w32 h.leaf ++ h.kind ∷ rest))))))) (omega arith) (omega arith) (omega arith),
