@@ -27,11 +27,12 @@ pub record KeepsStable {D : Type 0} (moment : D → ℕ) (images : D → ℕ →
   pub each : (at : ℕ) → IsStable (images old (moment old)) at
       → (m : ℕ) → moment old ≤ m → m ≤ moment new → IsStable (images new m) at
 
--- a draw gives the next number and goes on to the one after it; its block is marked by a one, which is stable
--- then, and no other byte changes
+-- a draw gives the next number, one from the opening's on, and goes on to the one after it; its block is marked by a
+-- one, which is stable then, and no other byte changes
 pub record Draws {D : Type 0} (stored : D → Option (List ℕ)) (moment : D → ℕ) (images : D → ℕ → List ℕ → Type 0)
     (old : LeavesContent D) (result : Result ℕ LeafFault) (new : LeavesContent D) : Type 0 where
   pub given : IfOk result (λ leaf. leaf ≡ old.next)
+  pub forward : IfOk result (λ leaf. old.next_at_open ≤ leaf)
   pub within : IfOk result (λ leaf. leaf < old.leaf_count)
   pub next : new.next ≡ (if is_ok result then old.next + 1 else old.next)
   pub next_at_open : new.next_at_open ≡ old.next_at_open
