@@ -1,13 +1,15 @@
 //! Laws of histories as members read them.
 
-ghost use Rattle.std.specs.Prelude.{◌≡◌, ℕ, ◌+◌, ◌≤◌, List, ◌++◌, length, take, Option, None, false};
+ghost use Rattle.std.specs.Prelude.{◌≡◌, ℕ, ◌+◌, ◌≤◌, List, [], ◌∷◌, ◌++◌, length, Option, None, false};
 ghost use Rattle.sporc_hash.specs.Strings.{CollisionFree};
 ghost use Rattle.sporc_entry.specs.declared.genesis.Genesis.{Genesis};
 ghost use Rattle.sporc_head.specs.History.{epoch_of, is_removed};
 ghost use Rattle.sporc_line.specs.Kit.{Kit};
 ghost use Rattle.sporc_line.specs.Keys.{key_of};
 ghost use Rattle.sporc_line.specs.Operations.{operations};
-ghost use Rattle.sporc_line.specs.Document.{text_of};
+ghost use Rattle.sporc_delta.specs.Marks.{apply};
+ghost use Rattle.sporc_line.specs.Document.{forms_of, next_form, text_of};
+ghost use Rattle.sporc_line.specs.LineChecks.{first_fault};
 ghost use Rattle.sporc_line.specs.LineStrings.{line_strings};
 ghost use Rattle.sporc_line.specs.Good.{Good};
 
@@ -24,4 +26,15 @@ pub fn one_history_is_read_alike()
         → CollisionFree (line_strings genesis mine entries ++ line_strings genesis yours entries)
         → is_removed mine.me entries ≡ false → is_removed yours.me entries ≡ false → epoch ≤ epoch_of entries
         → key_of genesis mine entries epoch ≡ key_of genesis yours entries epoch }
+{}
+
+/// A good history stays good with one entry more that fails no check, and has the entry's form at the end of its forms and
+/// that form applied to its text.
+pub fn one_entry_more()
+    ensures good { (genesis : Genesis) (kit : Kit) (entries : List (List ℕ)) (bytes : List ℕ) → Good genesis kit entries
+        → first_fault genesis kit entries (length entries + 1) bytes ≡ None → Good genesis kit (entries ++ bytes ∷ []) }
+    ensures forms { (genesis : Genesis) (kit : Kit) (entries : List (List ℕ)) (bytes : List ℕ) → Good genesis kit (entries ++ bytes ∷ [])
+        → forms_of genesis kit (entries ++ bytes ∷ []) ≡ forms_of genesis kit entries ++ next_form genesis kit entries bytes ∷ [] }
+    ensures text { (genesis : Genesis) (kit : Kit) (entries : List (List ℕ)) (bytes : List ℕ) → Good genesis kit (entries ++ bytes ∷ [])
+        → text_of genesis kit (entries ++ bytes ∷ []) ≡ apply (next_form genesis kit entries bytes) (text_of genesis kit entries) }
 {}

@@ -1,7 +1,23 @@
-//! A history as one member reads it: the keys of its epochs, its operations, forms and text, and the first check that an
-//! entry fails.
+//! A history as one member reads it: the entries that it accepted, with their forms, the text and the key of the last
+//! epoch, and the first check that an entry fails.
 //!
-//! `specs/` has the definitions; each recomputes everything from the first entry.
+//! - [`Line`]: opened with a document's genesis and what the member was given. `accept` appends an entry or answers the
+//!   first of the 21 checks that fails; `prepare` and `commit` are its two halves, the second of which takes no memory.
+//! - `specs/`: each of the definitions recomputes everything from the first entry: the keys of epochs (`Keys`), what each
+//!   entry does (`Operations`), forms and text (`Document`), the checks (`LineChecks`), good histories (`Good`), and the
+//!   strings that are hashed for one (`LineStrings`).
+//! - [`laws`]: members with one good history read it alike; what one entry more makes of a good history.
+//!
+//! ```text
+//! let mut line = Line::open(alloc, genesis, me, ring, pairs)?;     // NoKey, WrongKey
+//! line.accept(1, entry)?;                                          // or the first check that fails
+//! let text = line.text()?;
+//! ```
+//!
+//! Proved: `prepare` and `accept` answer exactly the first fault of the definition, unless memory runs out, and leave the
+//! line as it is, or append; every getter is its definition over the list; the history stays good after any calls; both
+//! laws. Nothing is looked up in the list while an entry is checked. Neither proved nor tested: how
+//! long a call takes.
 #![tactic(auto)]
 
 mod effect;
