@@ -10,6 +10,7 @@ use Rattle.sporc_suffix.specs.Forms.{reached, Follow, all_inserted}
 use Rattle.sporc_entry.specs.declared.genesis.Genesis.{Genesis}
 use Rattle.sporc_entry.specs.declared.limits.TheConstants.{MAX_EDIT_BODY}
 use Rattle.sporc_head.specs.CheckedModel.{CheckedModel}
+use Rattle.sporc_text.specs.Rewrite.{rewritten}
 use Rattle.sporc_line.specs.Kit.{Kit}
 use Rattle.sporc_line.specs.Keys.{key_after, key_of}
 use Rattle.sporc_line.specs.Document.{forms_from, forms_of, next_form, text_of}
@@ -158,7 +159,7 @@ ok_of (Err e) P h ok = absurd cc
 -- ---- one entry more
 
 pub line_push : (g : Genesis) (kit : Kit) (A : List (List ℕ)) (key : Option (List ℕ)) (base : ℕ) (forms : List (List Mark)) (text : List ℕ) (p : PreparedModel) → LineInvariant g kit A key base forms text → IsPrepared g kit A p
-    → LineInvariant g kit (A ++ p.checked.bytes ∷ []) p.key base (forms ++ p.form ∷ []) p.text
+    → LineInvariant g kit (A ++ p.checked.bytes ∷ []) p.key base (forms ++ p.form ∷ []) (rewritten p.text text)
 line_push g kit A key base forms text p k q =
     let good = good_push g kit A p.checked.bytes k.good q.passed in
     record {
@@ -168,13 +169,13 @@ line_push g kit A key base forms text p k q =
       keyed = ap is_some q.key_is ∙ keyed_push g kit A p.checked.bytes (length A + 1) (ap is_some (sym k.key_is) ∙ k.keyed) q.passed;
       base_is = k.base_is;
       forms_are = ap (λ (fs : List (List Mark)). fs ++ p.form ∷ []) k.forms_are ∙ ap (λ (f : List Mark). forms_of g kit A ++ f ∷ []) q.form_is ∙ sym (forms_push g kit A p.checked.bytes good);
-      text_is = q.text_is ∙ ap (λ (f : List Mark). apply f (text_of g kit A)) q.form_is ∙ sym (text_push g kit A p.checked.bytes good);
+      text_is = ap (rewritten p.text) k.text_is ∙ q.text_is ∙ ap (λ (f : List Mark). apply f (text_of g kit A)) q.form_is ∙ sym (text_push g kit A p.checked.bytes good);
       few = omega (arith, all_inserted-append forms (p.form ∷ []), k.few, q.small, length-append A (p.checked.bytes ∷ []));
     }
 
 -- the same over what the fields became
 pub line_pushed : (g g' : Genesis) (kit : Kit) (A A' : List (List ℕ)) (key key' : Option (List ℕ)) (base base' : ℕ) (forms forms' : List (List Mark)) (text text' : List ℕ) (p : PreparedModel)
-    → LineInvariant g kit A key base forms text → IsPrepared g kit A p → g' ≡ g → A' ≡ A ++ p.checked.bytes ∷ [] → key' ≡ p.key → base' ≡ base → forms' ≡ forms ++ p.form ∷ [] → text' ≡ p.text
+    → LineInvariant g kit A key base forms text → IsPrepared g kit A p → g' ≡ g → A' ≡ A ++ p.checked.bytes ∷ [] → key' ≡ p.key → base' ≡ base → forms' ≡ forms ++ p.form ∷ [] → text' ≡ rewritten p.text text
     → LineInvariant g' kit A' key' base' forms' text'
 line_pushed g g' kit A A' key key' base base' forms forms' text text' p k q is a e b f t =
     subst (λ (x : Genesis). LineInvariant x kit A' key' base' forms' text') (sym is)

@@ -1,5 +1,6 @@
 -- What contracts see of an entry that was prepared, and when it can be committed.
 use Rattle.std.specs.Prelude.{◌≡◌, ℕ, ◌+◌, ◌≤◌, List, [], ◌∷◌, ◌++◌, length, Option, None}
+use Rattle.sporc_text.specs.Rewrite.{Rewrite, rewritten}
 use Rattle.sporc_delta.specs.Marks.{Mark, apply, inserted_len}
 use Rattle.sporc_entry.specs.declared.genesis.Genesis.{Genesis}
 use Rattle.sporc_entry.specs.declared.limits.TheConstants.{MAX_EDIT_BODY}
@@ -12,11 +13,11 @@ use Rattle.sporc_line.specs.Keys.{key_of}
 use Rattle.sporc_line.specs.Document.{next_form, text_of}
 use Rattle.sporc_line.specs.LineChecks.{first_fault}
 
--- the entry that was checked, its form, the text after it, and the key of the last epoch then
+-- the entry that was checked, its form, how it rewrites the text, and the key of the last epoch after it
 pub record PreparedModel : Type 0 where
   pub checked : CheckedModel
   pub form : List Mark
-  pub text : List ℕ
+  pub text : Rewrite
   pub key : Option (List ℕ)
 
 -- an entry that was checked does this: it has this form, and this is the key of the last epoch after it
@@ -31,5 +32,5 @@ pub record IsPrepared (genesis : Genesis) (kit : Kit) (entries : List (List ℕ)
   pub passed : first_fault genesis kit entries (length entries + 1) p.checked.bytes ≡ None
   pub form_is : p.form ≡ next_form genesis kit entries p.checked.bytes
   pub small : inserted_len p.form ≤ MAX_EDIT_BODY
-  pub text_is : p.text ≡ apply p.form (text_of genesis kit entries)
+  pub text_is : rewritten p.text (text_of genesis kit entries) ≡ apply p.form (text_of genesis kit entries)
   pub key_is : p.key ≡ key_of genesis kit (entries ++ p.checked.bytes ∷ []) (epoch_of (entries ++ p.checked.bytes ∷ []))

@@ -2,7 +2,7 @@
 
 ghost use Rattle.std.specs.Prelude.{◌≡◌, ◌+◌, ◌-◌, ◌≤◌, ◌^◌, ◌∷◌, ◌++◌, [], length, take, map, slice_get, Some, IfOk, OnOk, OnErr, is_none, option_copied};
 ghost use Rattle.std.specs.String.{string_bytes};
-ghost use Rattle.std.specs.Str.{encode_utf8_all};
+ghost use Rattle.std.specs.Str.{chars, encode_utf8_all};
 ghost use Rattle.std.specs.FinMap as map;
 ghost use Rattle.std.specs.List.{All};
 ghost use Rattle.sporc_base.specs.FirstFault.{AnswersUnless, first_of};
@@ -238,6 +238,8 @@ impl Line {
     /// The committed text as UTF-8.
     pub fn text(&self) -> Result<String, Memory>
         ensures ok { IfOk result (λ t. string_bytes t ≡ encode_utf8_all (text_of self.now.genesis self.now.kit self.now.entries)) }
+        ensures chars { IfOk result (λ t. chars (string_bytes t) ≡ text_of self.now.genesis self.now.kit self.now.entries) }
+        ensures small { length (text_of self.now.genesis self.now.kit self.now.entries) ≤ 2 ^ 35 }
     {
         self.text.text()
     }

@@ -4,8 +4,7 @@ use Rattle.std.proofs.lemmas.List.{drop-drop}
 use Rattle.sporc_delta.specs.declared.part.Part.{Part}
 use Rattle.sporc_delta.specs.declared.part.Part.TheVariants.{Keep, Insert as InsertText, Remove}
 use Rattle.sporc_delta.specs.Marks.{Mark, base_len, apply, retains, deletes, inserts}
-use Rattle.sporc_delta.specs.Parts.{part_marks, marks_of, runs}
-use Rattle.sporc_delta.proofs.Runs.{marks_of-runs}
+use Rattle.sporc_delta.specs.Parts.{part_marks, marks_of}
 use Rattle.sporc_delta.proofs.Lengths.{base_len-append, base_len-retains, base_len-deletes, base_len-inserts}
 use Rattle.sporc_text.specs.Edit.{characters_read, characters_written}
 
@@ -40,10 +39,17 @@ pub record IsEditedTo (parts : List Part) (i : ℕ) (text : List ℕ) (at : ℕ)
   pub reads : at + base_len (marks_of (drop i parts)) ≡ length text
   pub writes : out ++ apply (marks_of (drop i parts)) (drop at text) ≡ whole
 
-pub edit_begins : (delta : List Mark) (parts : List Part) (text out : List ℕ) → parts ≡ runs delta → base_len delta ≡ length text → out ≡ [] → IsEditedTo parts 0 text 0 out (apply delta text)
-edit_begins delta parts text out is fits none =
-    let same : marks_of parts ≡ delta = ap marks_of is ∙ marks_of-runs delta in
-    record { reads = omega (arith, ap base_len same, fits); writes = ap (λ o. o ++ apply (marks_of parts) text) none ∙ ap (λ ms. apply ms text) same }
+pub edit_begins : (parts : List Part) (text : List ℕ) (at : ℕ) (out : List ℕ) → at + base_len (marks_of parts) ≡ length text → IsEditedTo parts 0 text at out (out ++ apply (marks_of parts) (drop at text))
+edit_begins parts text at out fits = record { reads = fits; writes = refl }
+
+-- a delta that keeps characters in front reads them, and the others go on behind them
+pub kept_reads : (delta marks others : List Mark) (kept len : ℕ) → marks ≡ delta → marks ≡ retains kept ++ others → base_len delta ≡ len → kept + base_len others ≡ len
+kept_reads delta marks others kept len is split fits = omega (arith, ap base_len (sym is ∙ split), base_len-append (retains kept) others, base_len-retains kept, fits)
+
+pub kept_writes : (delta marks others : List Mark) (kept : ℕ) (text : List ℕ) → marks ≡ delta → marks ≡ retains kept ++ others → base_len delta ≡ length text → take kept text ++ apply others (drop kept text) ≡ apply delta text
+kept_writes delta marks others kept text is split fits =
+    let within : kept ≤ length text = omega (arith, kept_reads delta marks others kept (length text) is split fits) in
+    sym (apply-retains kept others text within) ∙ ap (λ ms. apply ms text) (sym split ∙ is)
 
 -- the part at i stands before the others
 part_first : (parts : List Part) (i : ℕ) (p : Part) → i < length parts → p ≡ get_or parts i p → marks_of (drop i parts) ≡ part_marks p ++ marks_of (drop (suc i) parts)

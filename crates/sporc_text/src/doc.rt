@@ -2,10 +2,11 @@
 
 ghost use Rattle.std.specs.Prelude.{◌≡◌, ◌↔◌, [], length, IsTrue, IfOk, OnOk, OnErr};
 ghost use Rattle.std.specs.String.{string_bytes};
-ghost use Rattle.std.specs.Str.{encode_utf8_all};
+ghost use Rattle.std.specs.Str.{chars, encode_utf8_all};
 ghost use Rattle.sporc_delta.specs.Marks.{base_len, apply};
+ghost use Rattle.sporc_text.specs.Rewrite.{rewritten};
 
-use crate::edit::edited;
+use crate::ready::ReadyText;
 use sporc_base::Memory;
 use sporc_delta::Delta;
 use std::alloc::Global;
@@ -23,20 +24,6 @@ impl Model for Doc {
     ghost Value = { List ℕ };
 
     ghost view = { λ d. d.characters.items };
-}
-
-/// All that the next [`Doc::put`] needs, seen as the text that it makes.
-#[derive(Debug, Drop)]
-pub struct ReadyText {
-    characters: Vec<char>,
-}
-
-impl Model for ReadyText {
-    ghost use Rattle.std.specs.Prelude.{List, ℕ};
-
-    ghost Value = { List ℕ };
-
-    ghost view = { λ r. r.characters.items };
 }
 
 impl Doc {
@@ -64,32 +51,35 @@ impl Doc {
     }
 
     /// The text as UTF-8.
+    #[tactic(auto, using(crate::proofs::Spelled::spelled))]
     pub fn text(&self) -> Result<String, Memory>
         ensures ok { IfOk result (λ t. string_bytes t ≡ encode_utf8_all self.now) }
+        ensures chars { IfOk result (λ t. chars (string_bytes t) ≡ self.now) }
     {
         let alloc = *self.characters.allocator();
-        self.characters.iter().copied().collect(alloc)
+        let text: String = self.characters.iter().copied().collect(alloc)?;
+        Ok(text)
     }
 
-    /// Takes all the memory that applying a delta wants, and leaves the text.
+    /// Takes all the memory that applying a delta wants, and leaves the text. The characters before the first change are
+    /// not copied.
     pub fn ready(&mut self, delta: &Delta) -> Result<ReadyText, Memory>
         requires { base_len delta.now ≡ length self.old }
-        ensures ok { IfOk result (λ r. r ≡ apply delta.now self.old) }
+        ensures ok { IfOk result (λ r. rewritten r self.old ≡ apply delta.now self.old) }
         ensures unchanged { self.new ≡ self.old }
     {
-        let characters = edited(
+        ReadyText::new(
             *self.characters.allocator(),
             self.characters.as_slice(),
             delta,
-        )?;
-        Ok(ReadyText { characters })
+        )
     }
 
-    /// Makes the text that was made ready.
+    /// Makes the text that was made ready. It takes no memory.
     pub fn put(&mut self, ready: ReadyText)
-        ensures value { self.new ≡ ready }
+        ensures value { self.new ≡ rewritten ready self.old }
     {
-        self.characters = ready.characters;
+        ready.put_into(&mut self.characters);
     }
 
     /// Applies a delta. Where memory is wanting the text stays.

@@ -1,21 +1,36 @@
-// The application of a delta to a list of characters.
+// The application of parts of a delta to a list of characters.
 
 ghost use Rattle.std.specs.Prelude.{◌≡◌, ◌+◌, ◌≤◌, ◌++◌, length, drop, IfOk, OnOk};
-ghost use Rattle.sporc_delta.specs.Marks.{base_len, apply};
+ghost use Rattle.sporc_delta.specs.Marks.{base_len, apply, retains};
+ghost use Rattle.sporc_delta.specs.Parts.{marks_of};
 ghost use Rattle.sporc_text.specs.Edit.{characters_read, characters_written};
 
 use sporc_base::Memory;
-use sporc_delta::{Delta, Part, Text};
-use std::alloc::Global;
+use sporc_delta::{Part, Text};
 
-// The characters after a delta.
-pub fn edited(alloc: Global, text: &[char], delta: &Delta) -> Result<Vec<char>, Memory>
-    requires { base_len delta.now ≡ length text.now }
-    ensures ok { IfOk result (λ v. v.items ≡ apply delta.now text.now) }
+// How many characters parts keep before their first change, and the parts from there on.
+pub(crate) fn without_keep(parts: &[Part]) -> (u64, &[Part])
+    ensures marks { marks_of parts.now ≡ retains result.0 ++ marks_of result.1.now }
 {
-    let mut out = Vec::with_capacity(alloc, delta.out_len() as usize)?;
-    let mut at = 0;
-    for part in delta.parts() {
+    match parts.split_first() {
+        Some((Part::Keep(count), others)) => (*count, others),
+        _ => (0, parts),
+    }
+}
+
+// Appends what parts make of the characters from a place on.
+pub(crate) fn edited(
+    before: Vec<char>,
+    text: &[char],
+    from: usize,
+    parts: &[Part],
+) -> Result<Vec<char>, Memory>
+    requires { from + base_len (marks_of parts.now) ≡ length text.now }
+    ensures ok { IfOk result (λ v. v.items ≡ before.items ++ apply (marks_of parts.now) (drop from text.now)) }
+{
+    let mut out = before;
+    let mut at = from;
+    for part in parts {
         at = edit_part(&mut out, text, at, part)?;
     }
     Ok(out)

@@ -14,6 +14,8 @@
 
 mod doc;
 mod edit;
+mod ready;
 
-pub use doc::{Doc, ReadyText};
+pub use doc::Doc;
+pub use ready::ReadyText;
 pub use sporc_base::Memory;

@@ -5,7 +5,7 @@ pub edit_part-requires : goal.edit_part-requires
 edit_part-requires c = edit_fits _ _ _ _ _ _ _ c.loop-part.invariant c.loop-part-test.true c.part-item.is
 
 pub loop-part-init : goal.loop-part-init
-loop-part-init c = edit_begins c.args.delta.now _ _ _ c.parts-part-items.ensures.value c.requires c.in_ok-out.ensures.items
+loop-part-init c = edit_begins _ _ _ _ c.requires
 
 pub loop-part-preserved : goal.loop-part-preserved
 loop-part-preserved c = edit_goes_on _ _ _ _ _ _ _ _ _ c.loop-part.invariant c.loop-part-test.true c.part-item.is c.in_ok-at.ensures.next c.in_ok-at.ensures.written

@@ -2,6 +2,7 @@ use Rattle.std.proofs.Common.{◌≡◌, ◌∷◌, ◌++◌, [], ap, sym, subst
 use Rattle.sporc_delta.specs.Marks.{apply}
 use Rattle.sporc_plain.specs.Checks.{IsNext}
 use Rattle.sporc_plain.specs.Client.{PlainState, shown_of}
+use Rattle.sporc_text.specs.Rewrite.{rewritten}
 use Rattle.sporc_plain.specs.ClientKeeps.{client_value, IsSound}
 use Rattle.sporc_plain.proofs.Sound.{other_accepted, other_shown, other_sound}
 use Rattle.sporc_plain.proofs.client.PlainClient.accept_other.Goals as goal
@@ -18,6 +19,6 @@ invariant_of-self-2 c =
     ap (λ g. record (other_accepted old e) { genesis = g; entries = c.push.new.self.entries }) genesis
     ∙ ap (λ es. record (other_accepted old e) { entries = es }) entries in
     record {
-      shown = c.put.ensures.value ∙ c.in_ok-ready.ensures.ok ∙ ap (apply e.delta) c.self.invariant.shown ∙ sym (other_shown old e none) ∙ ap shown_of (sym new);
+      shown = c.put.ensures.value ∙ ap (rewritten c.in_ok-ready.ready) c.in_ok-ready.ensures.unchanged ∙ c.in_ok-ready.ensures.ok ∙ ap (apply e.delta) c.self.invariant.shown ∙ sym (other_shown old e none) ∙ ap shown_of (sym new);
       sound = subst IsSound (sym new) (other_sound old e c.self.invariant.sound none next c.requires.small);
     }

@@ -3,6 +3,7 @@ use Rattle.sporc_delta.specs.Marks.{base_len, apply}
 use Rattle.sporc_base.specs.FirstFault.{first_of}
 use Rattle.sporc_plain.specs.History.{text_of}
 use Rattle.sporc_plain.specs.Client.{PlainState, shown_of, edit_checks, edited}
+use Rattle.sporc_text.specs.Rewrite.{rewritten}
 use Rattle.sporc_plain.specs.ClientKeeps.{client_value, IsSound}
 use Rattle.sporc_plain.proofs.Histories.{pushed}
 use Rattle.sporc_plain.proofs.Passes.{edit_passes}
@@ -19,6 +20,6 @@ invariant_of-self-2 c =
     let pending : c.push_back_reserved.new.self.items ≡ old.pending ++ delta ∷ [] = pushed old.pending _ _ c.in_ok-copy.copy delta c.push_back_reserved.ensures.items c.in_ok-reserve.ensures.items c.in_ok-copy.ensures.ok in
     let new : record (edited old delta) { pending = c.push_back_reserved.new.self.items } ≡ edited old delta = ap (λ ps. record (edited old delta) { pending = ps }) pending in
     record {
-      shown = c.put.ensures.value ∙ c.in_ok-ready.ensures.ok ∙ ap (apply delta) c.self.invariant.shown ∙ sym (text_after-push (text_of old.entries) old.pending delta) ∙ ap shown_of (sym new);
+      shown = c.put.ensures.value ∙ ap (rewritten c.in_ok-ready.ready) c.in_ok-ready.ensures.unchanged ∙ c.in_ok-ready.ensures.ok ∙ ap (apply delta) c.self.invariant.shown ∙ sym (text_after-push (text_of old.entries) old.pending delta) ∙ ap shown_of (sym new);
       sound = subst IsSound (sym new) (edited_sound old delta c.self.invariant.sound fits passed.0 passed.1);
     }
