@@ -3,3 +3,4 @@ pub mod Joinings
 pub mod Lookups
 pub mod SealedKeys
 pub mod WalkBack
+pub mod SpelledBodies

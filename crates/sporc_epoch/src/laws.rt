@@ -1,8 +1,11 @@
 //! Laws of sealed keys.
 
-ghost use Rattle.std.specs.Prelude.{◌≡◌, ℕ, ◌+◌, map, Ok, Some, Contains};
+ghost use Rattle.std.specs.Prelude.{◌≡◌, ℕ, ◌+◌, ◌<◌, ◌≤◌, ◌^◌, length, map, Ok, Some, Contains};
+ghost use Rattle.std.specs.List.{All};
 ghost use Rattle.std.specs.FinMap.{get};
+ghost use Rattle.sporc_member.specs.declared.limits.TheConstants.{MAX_MEMBERS};
 ghost use Rattle.sporc_entry.specs.declared.change.ChangeBody.{ChangeBody};
+ghost use Rattle.sporc_entry.specs.ChangeBody.{IsChange, IsChangeBody};
 ghost use Rattle.sporc_epoch.specs.Keys.{Keys};
 ghost use Rattle.sporc_epoch.specs.Sealing.{Sealing, change_sealed};
 ghost use Rattle.sporc_epoch.specs.Wraps.{wrap_opened, previous_opened};
@@ -22,4 +25,12 @@ pub fn sealed_keys_open()
 pub fn wraps_name_the_members()
     ensures { (s : Sealing) (pairs : Keys) (body : ChangeBody)
         → change_sealed s pairs ≡ Ok body → map (λ w. w.member) body.wraps ≡ s.members }
+{}
+
+/// The body of a sealed change has a spelling, which is read again, if the change has one, its keys have 32 bytes, and it
+/// is sealed for at most as many members as a document can have.
+pub fn sealed_changes_are_spelled()
+    ensures { (s : Sealing) (pairs : Keys) (body : ChangeBody)
+        → change_sealed s pairs ≡ Ok body → IsChange s.change → length s.old ≡ 32 → length s.new ≡ 32
+        → All (λ m. m < 2 ^ 16) s.members → length s.members ≤ MAX_MEMBERS → IsChangeBody body }
 {}

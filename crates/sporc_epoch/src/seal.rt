@@ -1,8 +1,10 @@
 //! Keys, sealed.
 
-ghost use Rattle.std.specs.Prelude.{◌≡◌, ◌<◌, IfOk, filter, fold, is_none};
+ghost use Rattle.std.specs.Prelude.{◌≡◌, ◌<◌, ◌≤◌, length, IfOk, filter, fold, is_none};
 ghost use Rattle.std.specs.FinMap as map;
 ghost use Rattle.sporc_base.specs.Outcome.{GivesUnless};
+ghost use Rattle.sporc_member.specs.declared.limits.TheConstants.{MAX_MEMBERS};
+ghost use Rattle.sporc_entry.specs.ChangeBody.{IsChange, IsChangeBody};
 ghost use Rattle.sporc_epoch.specs.Keys.{pairs_in};
 ghost use Rattle.sporc_epoch.specs.Sealing.{wrap_sealed, wraps_sealed, lesser, least_unpaired, change_sealed};
 
@@ -42,6 +44,8 @@ pub fn seal_change(
       old = old.now;
       new = new.now;
     }) (pairs_in pairs.now)) }
+    // The body has a spelling.
+    ensures spelled { IsChange change.now → length members.now ≤ MAX_MEMBERS → IfOk result IsChangeBody }
 {
     if let Some(member) = least_unpaired(members, pairs) {
         return Err(SealFault::NoPairKey(member));

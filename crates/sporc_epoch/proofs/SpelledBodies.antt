@@ -1,0 +1,65 @@
+-- The body of a sealed change has a spelling.
+use Rattle.std.proofs.Common.{◌≡◌, ℕ, zero, suc, ◌+◌, ◌<◌, ◌≤◌, ◌^◌, List, [], ◌∷◌, length, get_or, None, Some, refl, ap, subst, sym, ◌∙◌, arith}
+use Rattle.std.specs.Prelude.{Option, Ok, option_map}
+use Rattle.std.specs.List.{All, AllByRecursion, cons_option}
+use Rattle.std.specs.FinMap.{get}
+use Rattle.sha2.proofs.Facts256.{length-sha256}
+use Rattle.sporc_cipher.specs.Mask.{mask_of}
+use Rattle.sporc_cipher.proofs.Stream.{length-mask_from}
+use Rattle.sporc_member.specs.declared.limits.TheConstants.{MAX_MEMBERS}
+use Rattle.sporc_entry.specs.declared.change.ChangeBody.{ChangeBody}
+use Rattle.sporc_entry.specs.declared.wrap.Wrap.{Wrap}
+use Rattle.sporc_entry.specs.ChangeBody.{IsChange, IsWrap, IsChangeBody}
+use Rattle.sporc_epoch.specs.Keys.{Keys}
+use Rattle.sporc_epoch.specs.Streams.{entry_stream, previous_stream}
+use Rattle.sporc_epoch.specs.Sealing.{Sealing, wraps_sealed, body_sealed, change_sealed}
+use Rattle.sporc_epoch.proofs.SealedKeys.{sealed}
+
+-- a wrap, where there is a pairwise key, and those of the others
+first_wrap : (stream : ℕ) (key : List ℕ) (member : ℕ) (pair : Option (List ℕ)) (rest : List Wrap) → length key ≡ 32 → member < 2 ^ 16 → AllByRecursion IsWrap rest
+    → AllByRecursion IsWrap (cons_option (option_map (λ (p : List ℕ). let w : Wrap = record { member = member; sealed = mask_of p stream key } in w) pair) rest)
+first_wrap stream key member None rest size small others = others
+first_wrap stream key member (Some p) rest size small others =
+    (record { member = small; sealed = length-mask_from p stream 0 key ∙ size }, others)
+
+-- each of some numbers is small, by its place
+pub all_small : (members : List ℕ) → ((i : ℕ) → get_or members i 0 < 2 ^ 16) → All (λ m. m < 2 ^ 16) members
+all_small [] h k d l = absurd (omega (arith, l))
+all_small (m ∷ ms) h zero d l = h 0
+all_small (m ∷ ms) h (suc k) d l = all_small ms (λ i. h (suc i)) k d (omega (arith, l))
+
+-- wraps have the numbers of members and sealed keys of 32 bytes
+wraps_typed : (stream : ℕ) (key : List ℕ) (pairs : Keys) (members : List ℕ) → length key ≡ 32 → All (λ m. m < 2 ^ 16) members → AllByRecursion IsWrap (wraps_sealed stream key pairs members)
+wraps_typed stream key pairs [] size small = tt
+wraps_typed stream key pairs (m ∷ ms) size small =
+    first_wrap stream key m (get pairs m) (wraps_sealed stream key pairs ms) size (small 0 m (omega arith))
+    (wraps_typed stream key pairs ms size (λ k d l. small (suc k) d (omega (arith, l))))
+
+one_wrap : (stream : ℕ) (key : List ℕ) (member : ℕ) (pair : Option (List ℕ)) (rest : List Wrap)
+    → length (cons_option (option_map (λ (p : List ℕ). let w : Wrap = record { member = member; sealed = mask_of p stream key } in w) pair) rest) ≤ suc (length rest)
+one_wrap stream key member None rest = omega arith
+one_wrap stream key member (Some p) rest = omega arith
+
+-- there are no more wraps than members
+wraps_few : (stream : ℕ) (key : List ℕ) (pairs : Keys) (members : List ℕ) → length (wraps_sealed stream key pairs members) ≤ length members
+wraps_few stream key pairs [] = omega arith
+wraps_few stream key pairs (m ∷ ms) = omega (arith, one_wrap stream key m (get pairs m) (wraps_sealed stream key pairs ms), wraps_few stream key pairs ms)
+
+-- a body whose wraps are sealed for members
+pub spelled_with : (body : ChangeBody) (stream : ℕ) (key : List ℕ) (pairs : Keys) (members : List ℕ) → IsChange body.change → length body.commitment ≡ 32 → length body.previous ≡ 32
+    → body.wraps ≡ wraps_sealed stream key pairs members → length key ≡ 32 → All (λ m. m < 2 ^ 16) members → length members ≤ MAX_MEMBERS → IsChangeBody body
+spelled_with body stream key pairs members change commitment previous wraps size small few = record {
+  change = change;
+  commitment = commitment;
+  previous = previous;
+  count = omega (arith, ap length wraps, wraps_few stream key pairs members, few);
+  wraps = subst (AllByRecursion IsWrap) (sym wraps) (wraps_typed stream key pairs members size small);
+}
+
+-- the body of a change that was sealed
+pub body_spelled : (s : Sealing) (pairs : Keys) (body : ChangeBody) → change_sealed s pairs ≡ Ok body → IsChange s.change → length s.old ≡ 32 → length s.new ≡ 32
+    → All (λ m. m < 2 ^ 16) s.members → length s.members ≤ MAX_MEMBERS → IsChangeBody body
+unfolding body_sealed
+body_spelled s pairs body h change old new small few =
+    subst IsChangeBody (sym (sealed s pairs body h).0)
+    (spelled_with (body_sealed s pairs) (entry_stream s.author s.leaf) s.new pairs s.members change (length-sha256 _) (length-mask_from s.new (previous_stream (s.epoch + 1)) 0 s.old ∙ old) refl new small few)
