@@ -2,7 +2,8 @@
 //!
 //! A [`Signer`] joins a tree of keys and the leaf numbers of its leaf file. It draws [`Ticket`]s,
 //! and a ticket signs one message: the signature that succeeds spends it, and a ticket that is not
-//! to sign is given up. A ticket has no `Drop`, so none is forgotten on the way.
+//! to sign is given up. A ticket has no `Drop`, so none is forgotten on the way; a [`KeptTicket`] has, for
+//! a value that holds one over several calls.
 //!
 //! ```text
 //! let mut signer = Signer::open(tree, leaves);
@@ -25,4 +26,4 @@ mod tests;
 mod ticket;
 
 pub use crate::signer::Signer;
-pub use crate::ticket::Ticket;
+pub use crate::ticket::{KeptTicket, Ticket};

@@ -30,8 +30,37 @@ impl Ticket {
         self.leaf
     }
 
+    /// Keeps the ticket for later.
+    pub fn keep(self) -> KeptTicket
+        ensures value { result ≡ self }
+    {
+        let Ticket { leaf } = self;
+        KeptTicket { leaf }
+    }
+
     /// Spends the ticket without a signature.
     pub fn give_up(self) {
         let Ticket { leaf: _ } = self;
+    }
+}
+
+/// A ticket that is kept for later, in a value that may be let go: then the ticket is given up.
+#[derive(Debug, Drop)]
+pub struct KeptTicket {
+    leaf: u32,
+}
+
+impl Model for KeptTicket {
+    ghost Value = { ℕ };
+
+    ghost view = { λ t. t.leaf };
+}
+
+impl KeptTicket {
+    /// The ticket, to sign with.
+    pub fn take(self) -> Ticket
+        ensures value { result ≡ self }
+    {
+        Ticket { leaf: self.leaf }
     }
 }
