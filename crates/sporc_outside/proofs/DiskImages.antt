@@ -9,7 +9,7 @@ use Rattle.std.proofs.lemmas.List.Sums.{fold-append}
 use Rattle.sporc_outside.specs.declared.disk_call.DiskCall.{DiskCall}
 use Rattle.sporc_outside.specs.declared.disk_call.DiskRequest.TheVariants.{Write, Sync}
 use Rattle.sporc_outside.specs.LeafDisk.{overwrite, IsSameOutside, CrashStep}
-use Rattle.sporc_outside.specs.MemoryDisk.{DiskState, state_after, MemoryDiskContent, after_call, IsLoose, IsImage, images_of}
+use Rattle.sporc_outside.specs.MemoryDisk.{DiskState, state_after, MemoryDiskContent, after_call, IsUnsynced, IsImage, images_of}
 use Rattle.sporc_outside.proofs.Overwrites.{length-overwrite, slice_index-overwrite_outside, slice_index-overwrite_inside}
 
 -- what a crash after the first m of these calls may leave
@@ -18,7 +18,7 @@ images_in first log m image = IsImage (state_after first (take m log)) image
 
 pub state_after-more : (first : List ℕ) (log : List DiskCall) (call : DiskCall)
     → state_after first (log ++ call ∷ []) ≡ after_call (state_after first log) call
-state_after-more first log call = fold-append after_call (record { bytes = first; loose = [] }) log (call ∷ [])
+state_after-more first log call = fold-append after_call (record { bytes = first; unsynced = [] }) log (call ∷ [])
 
 -- no call more
 passes_none : (first : List ℕ) (log : List DiskCall) (step : List ℕ → List ℕ → Type 0) → ((image : List ℕ) → step image image)
@@ -75,21 +75,21 @@ passes_logged old first log new calls call step is more stays steps =
     (subst (P (record { first = first; log = log; calls = calls })) (sym more) (passes_one first log call step stays steps))
 
 -- after a sync an image is what a read gives
-pub synced : (bytes image : List ℕ) → IsImage (record { bytes = bytes; loose = [] }) image → image ≡ bytes
-synced bytes image h = ext_get_or 0 image bytes h.length (λ i below. elim (h.firm i) [ inl loose ↦ absurd loose | inr same ↦ same ])
+pub synced_bytes : (bytes image : List ℕ) → IsImage (record { bytes = bytes; unsynced = [] }) image → image ≡ bytes
+synced_bytes bytes image h = ext_get_or 0 image bytes h.length (λ i below. elim (h.synced i) [ inl unsynced ↦ absurd unsynced | inr same ↦ same ])
 
 -- after a sync that succeeded only what a read gives
 pub synced_log : (first : List ℕ) (log new : List DiskCall) (image : List ℕ) → new ≡ log ++ record { request = Sync; done = true } ∷ []
     → images_in first new (length new) image → Some (state_after first new).bytes ≡ Some image
 synced_log first log new image more h =
-    let state : state_after first new ≡ record (state_after first log) { loose = [] } =
+    let state : state_after first new ≡ record (state_after first log) { unsynced = [] } =
     ap (state_after first) more ∙ state_after-more first log (record { request = Sync; done = true }) in
     let got = rw (take_all (length new) new (omega arith), state) at h in
-    rw state (ap Some (sym (synced (state_after first log).bytes image got)))
+    rw state (ap Some (sym (synced_bytes (state_after first log).bytes image got)))
 
 -- so it was one before
-pub image_synced : (s : DiskState) (image : List ℕ) → IsImage (record s { loose = [] }) image → IsImage s image
-image_synced s image h = record { length = h.length; firm = λ i. elim (h.firm i) [ inl loose ↦ absurd loose | inr same ↦ inr same ] }
+pub image_synced : (s : DiskState) (image : List ℕ) → IsImage (record s { unsynced = [] }) image → IsImage s image
+image_synced s image h = record { length = h.length; synced = λ i. elim (h.synced i) [ inl unsynced ↦ absurd unsynced | inr same ↦ inr same ] }
 
 -- a write leaves the bytes outside its range, in what a read gives and in each image
 pub overwrite_outside : (old : List ℕ) (at : ℕ) (bytes : List ℕ) → at + length bytes ≤ length old
@@ -105,7 +105,7 @@ same_outside at n xs = record { length = refl; others = λ i out. refl }
 -- the image with what a read gave in place of what was written
 before_write : (s : DiskState) (at : ℕ) (bytes now image : List ℕ) → at + length bytes ≤ length s.bytes
     → IsSameOutside at (length bytes) s.bytes now
-    → IsImage (record { bytes = now; loose = (at, length bytes) ∷ s.loose }) image
+    → IsImage (record { bytes = now; unsynced = (at, length bytes) ∷ s.unsynced }) image
     → (before : List ℕ) × IsImage s before × IsSameOutside at (length bytes) before image
 before_write s at bytes now image fits outside h =
     let n = length bytes in
@@ -116,15 +116,15 @@ before_write s at bytes now image fits outside h =
     let long = length-overwrite image at mid room in
     let kept : (i : ℕ) → (i < at) ⊎ (at + length mid ≤ i) → slice_index before i ≡ slice_index image i = λ i out. slice_index-overwrite_outside image at mid i room out in
     let far : (i : ℕ) → (i < at) ⊎ (at + n ≤ i) → (i < at) ⊎ (at + length mid ≤ i) = λ i out. rw len out in
-    let firm_outside : (i : ℕ) → (i < at) ⊎ (at + n ≤ i) → IsLoose s.loose i ⊎ (slice_index before i ≡ slice_index s.bytes i) = λ i out.
-    elim (h.firm i) [
-      | inl loose ↦ elim loose [
+    let synced_outside : (i : ℕ) → (i < at) ⊎ (at + n ≤ i) → IsUnsynced s.unsynced i ⊎ (slice_index before i ≡ slice_index s.bytes i) = λ i out.
+    elim (h.synced i) [
+      | inl unsynced ↦ elim unsynced [
         | inl here ↦ absurd (elim out [ inl below ↦ omega arith | inr above ↦ omega arith ])
         | inr there ↦ inl there
       ]
       | inr same ↦ inr (kept i (far i out) ∙ same ∙ outside.others i out)
     ] in
-    let firm_inside : (i : ℕ) → at ≤ i → i < at + n → slice_index before i ≡ slice_index s.bytes i = λ i low high.
+    let synced_inside : (i : ℕ) → at ≤ i → i < at + n → slice_index before i ≡ slice_index s.bytes i = λ i low high.
     let back : at + (i - at) ≡ i = omega arith in
     slice_index-overwrite_inside image at mid i (omega arith) low (omega arith)
     ∙ get_or-take n (drop at s.bytes) (i - at) 0 (omega arith) ∙ get_or-drop at s.bytes (i - at) 0
@@ -132,9 +132,9 @@ before_write s at bytes now image fits outside h =
       before,
       record {
         length = long ∙ h.length ∙ outside.length;
-        firm = λ i. elim (cases_lt i at) [
-          | inl below ↦ firm_outside i (inl below)
-          | inr low ↦ elim (cases_lt i (at + n)) [ inl high ↦ inr (firm_inside i low high) | inr above ↦ firm_outside i (inr above) ]
+        synced = λ i. elim (cases_lt i at) [
+          | inl below ↦ synced_outside i (inl below)
+          | inr low ↦ elim (cases_lt i (at + n)) [ inl high ↦ inr (synced_inside i low high) | inr above ↦ synced_outside i (inr above) ]
         ];
       },
       record { length = sym long; others = λ i out. sym (kept i (far i out)) },

@@ -1,5 +1,5 @@
 -- Prefixes of what is written in pieces.
-use Rattle.std.proofs.Common.{ℕ, ◌+◌, List, [], ◌++◌, length, Option, sym, subst, arith, length-append}
+use Rattle.std.proofs.Common.{ℕ, ◌+◌, List, ◌++◌, length, Option, sym, subst, arith, length-append}
 use Rattle.std.proofs.lemmas.List.{take-append-le, take_all}
 use Rattle.std.proofs.Math.Seq.{take-append-add}
 use Rattle.std.proofs.KnownBytes.{Appends-nil, Appends-trans}

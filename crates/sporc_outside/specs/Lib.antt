@@ -1,8 +1,8 @@
 pub mod CallRecord
 pub mod LinkContent
-pub mod Nets
+pub mod NetContent
+pub mod Told
 pub mod ListedWords
-pub mod Words
 pub mod Counts
 pub mod MemoryContent
 pub mod Reading
@@ -10,3 +10,5 @@ pub mod Uses
 pub mod Writing
 pub mod LeafDisk
 pub mod MemoryDisk
+pub mod Files
+pub mod FolderContent

@@ -17,15 +17,15 @@ pub record MemoryDiskContent : Type 0 where
 -- what a read gives, and the ranges (from, length) that were written since the last sync that succeeded
 pub record DiskState : Type 0 where
   pub bytes : List ℕ
-  pub loose : List (ℕ × ℕ)
+  pub unsynced : List (ℕ × ℕ)
 
 -- the state after a request that succeeded or failed; a write that failed leaves what a read gives
 abbrev pub after_request : DiskState → Bool → DiskRequest → DiskState
 after_request s done (Write at bytes) = record {
   bytes = if done then overwrite s.bytes at bytes else s.bytes;
-  loose = (at, length bytes) ∷ s.loose;
+  unsynced = (at, length bytes) ∷ s.unsynced;
 }
-after_request s done Sync = record s { loose = if done then [] else s.loose }
+after_request s done Sync = record s { unsynced = if done then [] else s.unsynced }
 after_request s done Len = s
 after_request s done (Read at len) = s
 
@@ -34,17 +34,17 @@ after_call s call = after_request s call.done call.request
 
 -- the state after these calls on a disk of these bytes
 abbrev pub state_after : List ℕ → List DiskCall → DiskState
-state_after first log = fold after_call (record { bytes = first; loose = [] }) log
+state_after first log = fold after_call (record { bytes = first; unsynced = [] }) log
 
 -- the place is in one of the ranges
-abbrev pub IsLoose : List (ℕ × ℕ) → ℕ → Type 0
-IsLoose [] i = ⊥
-IsLoose (range ∷ ranges) i = ((range.0 ≤ i) × (i < range.0 + range.1)) ⊎ IsLoose ranges i
+abbrev pub IsUnsynced : List (ℕ × ℕ) → ℕ → Type 0
+IsUnsynced [] i = ⊥
+IsUnsynced (range ∷ ranges) i = ((range.0 ≤ i) × (i < range.0 + range.1)) ⊎ IsUnsynced ranges i
 
--- what a crash in this state may leave: anything in the loose ranges, and elsewhere what a read gives
+-- what a crash in this state may leave: anything in the unsynced ranges, and elsewhere what a read gives
 pub record IsImage (s : DiskState) (image : List ℕ) : Type 0 where
   pub length : length image ≡ length s.bytes
-  pub firm : (i : ℕ) → IsLoose s.loose i ⊎ (slice_index image i ≡ slice_index s.bytes i)
+  pub synced : (i : ℕ) → IsUnsynced s.unsynced i ⊎ (slice_index image i ≡ slice_index s.bytes i)
 
 -- what a crash after the first m calls may leave
 abbrev pub images_of : MemoryDiskContent → ℕ → List ℕ → Type 0
@@ -52,7 +52,7 @@ images_of disk m image = IsImage (state_after disk.first (take m disk.log)) imag
 
 -- what a read gives is an image
 image_itself : (s : DiskState) → IsImage s s.bytes
-image_itself s = record { length = refl; firm = λ i. inr refl }
+image_itself s = record { length = refl; synced = λ i. inr refl }
 
 pub bytes_are_image : (disk : MemoryDiskContent) → images_of disk (length disk.log) (state_after disk.first disk.log).bytes
 bytes_are_image disk =

@@ -1,5 +1,5 @@
 ghost use Rattle.std.specs.Prelude.{◌≡◌, ◌≤◌, ◌↔◌, IsErr, OnOk, OnErr, Contains};
-ghost use Rattle.sporc_outside.specs.Counts.{CountsFaults, Rose, next_count};
+ghost use Rattle.sporc_outside.specs.Counts.{CountsFaults, Rose, next_count, count_of_both};
 
 use crate::counted::Failed;
 use std::marker::Model;
@@ -65,5 +65,12 @@ impl Calls {
     {
         self.faults = self.faults.saturating_add(1);
         Failed
+    }
+
+    /// Counts the faults of an object that was taken back.
+    pub fn add_faults(&mut self, faults: u64)
+        ensures { self.new ≡ record self.old { faults = count_of_both self.old.faults faults } }
+    {
+        self.faults = self.faults.saturating_add(faults);
     }
 }

@@ -2,7 +2,7 @@
 
 ghost use Rattle.std.specs.Prelude.{◌≡◌, ℕ, List, [], ◌∷◌, ◌++◌, Option, IfOk, OnErr};
 ghost use Rattle.sporc_outside.specs.Counts.{CountsFaults};
-ghost use Rattle.sporc_outside.specs.Words.{AppendsWord};
+ghost use Rattle.sporc_outside.specs.Told.{AppendsItem};
 
 use crate::counted::{Counted, Failed};
 
@@ -13,7 +13,7 @@ pub trait Chance: Counted {
 
     /// A random word.
     fn fill32(&mut self) -> Result<[u8; 32], Failed>
-        ensures ok { IfOk result (λ word. AppendsWord (given self.old) (given self.new) word) }
+        ensures ok { IfOk result (λ word. AppendsItem (given self.old) (given self.new) word) }
         ensures err { OnErr result (given self.new ≡ given self.old) }
         ensures count { CountsFaults (Self.faults self.old) (Self.faults self.new) result };
 }

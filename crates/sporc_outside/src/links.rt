@@ -1,8 +1,8 @@
 //! Nets that make links.
 
-ghost use Rattle.std.specs.Prelude.{◌≡◌, ◌≤◌, ◌+◌, ℕ, List, Option, IfOk, OnErr};
+ghost use Rattle.std.specs.Prelude.{◌≡◌, ◌≤◌, ◌+◌, ℕ, List, Option, option_map, IfOk, OnOk, OnErr};
 ghost use Rattle.sporc_outside.specs.Counts.{CountsFaults, count_of_both};
-ghost use Rattle.sporc_outside.specs.Nets.{AppendsLink, TakesLink};
+ghost use Rattle.sporc_outside.specs.Told.{AppendsItem, MayAppend, TakesItem, IsPositive};
 
 use crate::counted::{Counted, Failed};
 use crate::link::Link;
@@ -14,6 +14,15 @@ pub trait Links: Counted {
 
     ghost link_faults: { Self → ℕ };
 
+    // The addresses asked for so far, where it tells them.
+    ghost asked: { Self → Option (List (List ℕ)) };
+
+    // The links that are still to come, where it tells them.
+    ghost coming: { Self → Option (List Self.Link) };
+
+    // How many links are out, where it tells that.
+    ghost out: { Self → Option ℕ };
+
     // The links that were taken back, where it tells them.
     ghost returned: { Self → Option (List Self.Link) };
 
@@ -21,22 +30,28 @@ pub trait Links: Counted {
     fn link_faults(&self) -> u64
         ensures { result ≡ link_faults self.now };
 
-    /// Takes a link back.
+    /// Takes back a link that it made.
     fn take_back(&mut self, link: Self::Link)
-        ensures returned { AppendsLink (returned self.old) (returned self.new) link }
+        requires { IsPositive (out self.old) }
+        ensures out { out self.old ≡ option_map (λ n. n + 1) (out self.new) }
+        ensures returned { AppendsItem (returned self.old) (returned self.new) link }
+        ensures asked { asked self.new ≡ asked self.old }
+        ensures coming { coming self.new ≡ coming self.old }
         ensures count { Self.faults self.new ≡ Self.faults self.old }
         ensures links { count_of_both (link_faults self.old) (Self.Link.faults link) ≤ link_faults self.new };
 }
 
 /// Calls the other end.
 pub trait Dial: Links {
-    // The addresses asked so far, where it tells them.
-    ghost dialled: { Self → Option (List (List ℕ)) };
-
     /// A new link to the address.
     fn connect<R: Wait>(&mut self, rt: &R, address: &str) -> Result<Self::Link, Failed>
         ensures fresh { IfOk result (λ link. Self.Link.faults link ≡ 0) }
-        ensures dialled { AppendsLink (dialled self.old) (dialled self.new) address.now }
+        ensures next { IfOk result (λ link. TakesItem (Self.coming self.old) (Self.coming self.new) link) }
+        ensures same { OnErr result (Self.coming self.new ≡ Self.coming self.old) }
+        ensures out { OnOk result (Self.out self.new ≡ option_map (λ n. n + 1) (Self.out self.old)) }
+        ensures not_out { OnErr result (Self.out self.new ≡ Self.out self.old) }
+        ensures asked { OnOk result (AppendsItem (Self.asked self.old) (Self.asked self.new) address.now) }
+        ensures may_ask { MayAppend (Self.asked self.old) (Self.asked self.new) address.now }
         ensures returned { Self.returned self.new ≡ Self.returned self.old }
         ensures links { Self.link_faults self.new ≡ Self.link_faults self.old }
         ensures count { CountsFaults (Self.faults self.old) (Self.faults self.new) result };
@@ -44,16 +59,12 @@ pub trait Dial: Links {
 
 /// Is called by the other end.
 pub trait Listen: Links {
-    // The addresses asked so far, where it tells them.
-    ghost listened: { Self → Option (List (List ℕ)) };
-
-    // The links that are still to come, where it tells them.
-    ghost coming: { Self → Option (List Self.Link) };
-
     /// Begins to listen at the address.
     fn listen(&mut self, address: &str) -> Result<(), Failed>
-        ensures listened { AppendsLink (listened self.old) (listened self.new) address.now }
-        ensures coming { coming self.new ≡ coming self.old }
+        ensures asked { OnOk result (AppendsItem (Self.asked self.old) (Self.asked self.new) address.now) }
+        ensures may_ask { MayAppend (Self.asked self.old) (Self.asked self.new) address.now }
+        ensures coming { Self.coming self.new ≡ Self.coming self.old }
+        ensures out { Self.out self.new ≡ Self.out self.old }
         ensures returned { Self.returned self.new ≡ Self.returned self.old }
         ensures links { Self.link_faults self.new ≡ Self.link_faults self.old }
         ensures count { CountsFaults (Self.faults self.old) (Self.faults self.new) result };
@@ -61,9 +72,11 @@ pub trait Listen: Links {
     /// Waits for the next link.
     fn accept<R: Wait>(&mut self, rt: &R) -> Result<Self::Link, Failed>
         ensures fresh { IfOk result (λ link. Self.Link.faults link ≡ 0) }
-        ensures ok { IfOk result (λ link. TakesLink (coming self.old) (coming self.new) link) }
-        ensures err { OnErr result (coming self.new ≡ coming self.old) }
-        ensures listened { listened self.new ≡ listened self.old }
+        ensures next { IfOk result (λ link. TakesItem (Self.coming self.old) (Self.coming self.new) link) }
+        ensures same { OnErr result (Self.coming self.new ≡ Self.coming self.old) }
+        ensures out { OnOk result (Self.out self.new ≡ option_map (λ n. n + 1) (Self.out self.old)) }
+        ensures not_out { OnErr result (Self.out self.new ≡ Self.out self.old) }
+        ensures asked { Self.asked self.new ≡ Self.asked self.old }
         ensures returned { Self.returned self.new ≡ Self.returned self.old }
         ensures links { Self.link_faults self.new ≡ Self.link_faults self.old }
         ensures count { CountsFaults (Self.faults self.old) (Self.faults self.new) result };

@@ -2,7 +2,7 @@
 
 ghost use Rattle.std.specs.Prelude.{◌≡◌, ◌∷◌, ◌++◌, [], IfOk, OnErr, Some};
 ghost use Rattle.sporc_outside.specs.Counts.{CountsFaults};
-ghost use Rattle.sporc_outside.specs.Words.{AppendsWord};
+ghost use Rattle.sporc_outside.specs.Told.{AppendsItem};
 
 use crate::calls::Calls;
 use crate::chance::Chance;
@@ -53,7 +53,7 @@ impl Chance for ListedChance {
     ghost given = { λ c. Some c.given };
 
     fn fill32(&mut self) -> Result<[u8; 32], Failed>
-        ensures ok { IfOk result (λ word. AppendsWord (Some self.old.given) (Some self.new.given) word) }
+        ensures ok { IfOk result (λ word. AppendsItem (Some self.old.given) (Some self.new.given) word) }
         ensures next { IfOk result (λ word. self.old.left ≡ word ∷ self.new.left) }
         ensures err { OnErr result (Some self.new.given ≡ Some self.old.given) }
         ensures count { CountsFaults self.old.calls.faults self.new.calls.faults result }

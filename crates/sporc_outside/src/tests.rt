@@ -44,3 +44,22 @@ fn writes_all_in_pieces_or_a_front(rt: HostRuntime) -> Result<(), Fail> {
     }
     Ok(())
 }
+
+#[test]
+fn a_link_gives_its_bytes_and_keeps_what_is_written(rt: HostRuntime) -> Result<(), Fail> {
+    let calls = Calls::failing(Vec::new(rt.alloc()));
+    let mut link = MemoryLink::new(rt.alloc(), b"hi".to_vec(rt.alloc())?, 8, calls);
+    let mut buffer = [0u8; 2];
+    assert_eq!(rt; link.read(&mut buffer), Ok(2));
+    assert_eq!(rt; link.write(&buffer), Ok(2));
+    assert_eq!(rt; link.written(), b"hi".as_slice());
+    Ok(())
+}
+
+#[test]
+fn a_listed_word_is_given(rt: HostRuntime) -> Result<(), Fail> {
+    let calls = Calls::failing(Vec::new(rt.alloc()));
+    let mut chance = ListedChance::new(vec![in rt.alloc(); [1; 32]; 1]?, calls);
+    assert_eq!(rt; chance.fill32(), Ok([1; 32]));
+    Ok(())
+}

@@ -1,0 +1,119 @@
+-- Where the file with a name stands.
+use Rattle.std.proofs.Common.{rules, ◌≡◌, ℕ, zero, suc, ◌<◌, Bool, true, false, List, [], ◌∷◌, ◌++◌, length, take, cond, Option, Some, None, IsSome, refl, ap, sym, subst, ◌∙◌, arith, get_or, set, length-append}
+use Rattle.std.specs.Str.{bytes_eq}
+use Rattle.std.proofs.Math.ListN.{get_or-append}
+use Rattle.std.proofs.lemmas.Slice.Eq.{bytes_eq-Decides}
+use Rattle.sporc_outside.specs.declared.named_file.NamedFile.{NamedFile}
+use Rattle.sporc_outside.specs.Files.{file_in, with_file, IsPlaceOf}
+use Rattle.sporc_outside.specs.FolderContent.{HasEach}
+
+-- no file before this one has the name, nor has it
+pub none_more : (files : List NamedFile) (name : List ℕ) (i : ℕ) (f : NamedFile) → i < length files → f ≡ get_or files i f
+    → bytes_eq f.name name ≡ false → file_in (take i files) name ≡ None → file_in (take (suc i) files) name ≡ None
+none_more [] name i f lt at other none = absurd (omega arith)
+none_more (g ∷ gs) name zero f lt at other none =
+    let here : bytes_eq g.name name ≡ false = subst (λ (x : NamedFile). bytes_eq x.name name ≡ false) at other in
+    rw here refl
+none_more (g ∷ gs) name (suc i) f lt at other none = go (bytes_eq g.name name) refl (none_more gs name i f (omega arith) at other)
+  where
+    go : (b : Bool) → bytes_eq g.name name ≡ b → (file_in (take i gs) name ≡ None → file_in (take (suc i) gs) name ≡ None)
+        → file_in (take (suc (suc i)) (g ∷ gs)) name ≡ None
+    go true e more = let clash = rw e at none in absurd cc
+    go false e more = rw e (more (rw e at none))
+
+-- no file before this one has the name, and this one has it
+pub place_from : (files : List NamedFile) (name : List ℕ) (i : ℕ) (f : NamedFile) → i < length files → f ≡ get_or files i f
+    → bytes_eq f.name name ≡ true → file_in (take i files) name ≡ None → IsPlaceOf files name i
+place_from [] name i f lt at same none = absurd (omega arith)
+place_from (g ∷ gs) name zero f lt at same none =
+    let here : bytes_eq g.name name ≡ true = subst (λ (x : NamedFile). bytes_eq x.name name ≡ true) at same in
+    record { within = omega arith; file = g; is = λ d. refl; found = rw here refl; others = λ bytes. rw here refl }
+place_from (g ∷ gs) name (suc i) f lt at same none = go (bytes_eq g.name name) refl (place_from gs name i f (omega arith) at same)
+  where
+    go : (b : Bool) → bytes_eq g.name name ≡ b → (file_in (take i gs) name ≡ None → IsPlaceOf gs name i) → IsPlaceOf (g ∷ gs) name (suc i)
+    go true e more = let clash = rw e at none in absurd cc
+    go false e more =
+        let p = more (rw e at none) in
+        record {
+          within = omega (arith, p.within);
+          file = p.file;
+          is = λ d. p.is d;
+          found = rw e p.found;
+          others = λ bytes. rw e (ap (λ (l : List NamedFile). g ∷ l) (p.others bytes));
+        }
+
+-- the item at the place is the file
+pub found_at : (files : List NamedFile) (name : List ℕ) (place : ℕ) (f : NamedFile) → IsPlaceOf files name place
+    → f ≡ get_or files place f → file_in files name ≡ Some f.bytes
+found_at files name place f p at = p.found ∙ ap (λ (x : NamedFile). Some x.bytes) (sym (at ∙ p.is f))
+
+pub put_at : (files : List NamedFile) (name : List ℕ) (place : ℕ) (f : NamedFile) (bytes : List ℕ) → IsPlaceOf files name place
+    → f ≡ get_or files place f → set files place (record f { bytes = bytes }) ≡ with_file files name bytes
+put_at files name place f bytes p at =
+    ap (λ (x : NamedFile). set files place (record x { bytes = bytes })) (at ∙ p.is f) ∙ sym (p.others bytes)
+
+-- a file of a place is there
+pub place_some : (files : List NamedFile) (name : List ℕ) (place : ℕ) → IsPlaceOf files name place → IsSome (file_in files name)
+place_some files name place p = rw p.found refl
+
+-- a file that is written anew, or at the end
+pub with_new_file : (files : List NamedFile) (name bytes : List ℕ) → file_in files name ≡ None
+    → with_file files name bytes ≡ files ++ record { name = name; bytes = bytes } ∷ []
+with_new_file [] name bytes none = refl
+with_new_file (g ∷ gs) name bytes none = go (bytes_eq g.name name) refl (with_new_file gs name bytes)
+  where
+    go : (b : Bool) → bytes_eq g.name name ≡ b
+        → (file_in gs name ≡ None → with_file gs name bytes ≡ gs ++ record { name = name; bytes = bytes } ∷ [])
+        → with_file (g ∷ gs) name bytes ≡ g ∷ gs ++ record { name = name; bytes = bytes } ∷ []
+    go true e more = let clash = rw e at none in absurd cc
+    go false e more = rw e (ap (λ (l : List NamedFile). g ∷ l) (more (rw e at none)))
+
+-- ---- what a write leaves
+
+same_bytes : (a b : List ℕ) → bytes_eq a b ≡ true → a ≡ b
+same_bytes a b e = search (rules, bytes_eq-Decides)
+
+-- other files stay
+pub file_in-other : (files : List NamedFile) (name bytes other : List ℕ) → bytes_eq name other ≡ false
+    → file_in (with_file files name bytes) other ≡ file_in files other
+file_in-other [] name bytes other apart = rw apart refl
+file_in-other (g ∷ gs) name bytes other apart = go (bytes_eq g.name name) refl (file_in-other gs name bytes other apart)
+  where
+    go : (b : Bool) → bytes_eq g.name name ≡ b → file_in (with_file gs name bytes) other ≡ file_in gs other
+        → file_in (with_file (g ∷ gs) name bytes) other ≡ file_in (g ∷ gs) other
+    go true e more =
+        let differs : bytes_eq g.name other ≡ false = subst (λ (n : List ℕ). bytes_eq n other ≡ false) (sym (same_bytes g.name name e)) apart in
+        rw (e, differs) refl
+    go false e more = rw e (ap (λ (r : Option (List ℕ)). cond (bytes_eq g.name other) (Some g.bytes) r) more)
+
+-- a file that was there is there
+pub file_in-some : (files : List NamedFile) (name bytes other : List ℕ) → IsSome (file_in files other)
+    → IsSome (file_in (with_file files name bytes) other)
+file_in-some [] name bytes other h = absurd cc
+file_in-some (g ∷ gs) name bytes other h = go (bytes_eq g.name name) refl (bytes_eq g.name other) refl (file_in-some gs name bytes other)
+  where
+    go : (b : Bool) → bytes_eq g.name name ≡ b → (o : Bool) → bytes_eq g.name other ≡ o
+        → (IsSome (file_in gs other) → IsSome (file_in (with_file gs name bytes) other)) → IsSome (file_in (with_file (g ∷ gs) name bytes) other)
+    go true e true o more = rw (e, o) refl
+    go true e false o more = rw (e, o) (rw o at h)
+    go false e true o more = rw (e, o) refl
+    go false e false o more = rw (e, o) (more (rw o at h))
+
+pub HasEach-with_file : (files : List NamedFile) (names : List (List ℕ)) (name bytes : List ℕ) → HasEach files names
+    → HasEach (with_file files name bytes) names
+HasEach-with_file files names name bytes h k d lt = file_in-some files name bytes (get_or names k d) (h k d lt)
+
+-- each name still has its file once one was written
+pub each_written : (files more : List NamedFile) (names : List (List ℕ)) (name bytes : List ℕ) → more ≡ with_file files name bytes
+    → HasEach files names → HasEach more names
+each_written files more names name bytes is h =
+    subst (λ (fs : List NamedFile). HasEach fs names) (sym is) (HasEach-with_file files names name bytes h)
+
+-- and once the last one's file was
+pub each_left : (files more : List NamedFile) (names rest last : List (List ℕ)) (name bytes : List ℕ) → names ≡ rest ++ last
+    → more ≡ with_file files name bytes → HasEach files names → HasEach more rest
+each_left files more names rest last name bytes split is h =
+    let both : HasEach files (rest ++ last) = subst (λ (ns : List (List ℕ)). HasEach files ns) split h in
+    each_written files more rest name bytes is
+    (λ k d lt. subst (λ (n : List ℕ). IsSome (file_in files n)) (get_or-append rest last d k lt)
+    (both k d (omega (arith, lt, length-append rest last))))

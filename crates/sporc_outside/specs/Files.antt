@@ -1,0 +1,107 @@
+-- Files by name, as a folder tells them.
+use Rattle.std.specs.Prelude.{◌≡◌, ◌≤◌, ◌<◌, ℕ, List, [], ◌∷◌, length, Option, None, Some, IsSome, false, slice_set, slice_index_or, if◌then◌else◌}
+use Rattle.std.specs.Str.{bytes_eq}
+use Rattle.sporc_outside.specs.Counts.{Rose}
+use Rattle.sporc_outside.specs.declared.file_fault.FileFault.{FileFault}
+use Rattle.sporc_outside.specs.declared.file_fault.FileFault.TheVariants.{Missing, Failed, TooLong, Exists, Memory}
+use Rattle.sporc_outside.specs.declared.file_fault.TheConstants.{MAX_FILE}
+use Rattle.sporc_outside.specs.declared.named_file.NamedFile.{NamedFile}
+
+-- the bytes of the file with this name, if there is one
+abbrev pub file_in : List NamedFile → List ℕ → Option (List ℕ)
+file_in [] name = None
+file_in (f ∷ fs) name = if bytes_eq f.name name then Some f.bytes else file_in fs name
+
+-- the same files, with these bytes in the one with this name
+abbrev pub with_file : List NamedFile → List ℕ → List ℕ → List NamedFile
+with_file [] name bytes = record { name = name; bytes = bytes } ∷ []
+with_file (f ∷ fs) name bytes = if bytes_eq f.name name then record f { bytes = bytes } ∷ fs else f ∷ with_file fs name bytes
+
+-- told files have these bytes at a name
+abbrev pub HasFile : Option (List NamedFile) → List ℕ → List ℕ → Type 0
+HasFile None name bytes = Unit {0}
+HasFile (Some files) name bytes = file_in files name ≡ Some bytes
+
+-- told files have some file at a name
+abbrev pub HasSomeFile : Option (List NamedFile) → List ℕ → Type 0
+HasSomeFile None name = Unit {0}
+HasSomeFile (Some files) name = IsSome (file_in files name)
+
+-- told files have none at a name
+abbrev pub HasNoFile : Option (List NamedFile) → List ℕ → Type 0
+HasNoFile None name = Unit {0}
+HasNoFile (Some files) name = file_in files name ≡ None
+
+-- a told file is longer than a file that is read, and has this length
+abbrev pub IsTooLong : Option (List NamedFile) → List ℕ → ℕ → Type 0
+IsTooLong files name len = (MAX_FILE < len) × (bytes : List ℕ) × (length bytes ≡ len) × HasFile files name bytes
+
+-- told files became these, where only the one with this name may have changed
+abbrev pub ChangesFile : Option (List NamedFile) → Option (List NamedFile) → List ℕ → Type 0
+ChangesFile None new name = Unit {0}
+ChangesFile (Some files) None name = ⊥
+ChangesFile (Some files) (Some more) name = (other : List ℕ) → bytes_eq name other ≡ false → file_in more other ≡ file_in files other
+
+-- Why a file is not read, where the count of faults went from `before` to `after`: it is not there, a call failed, it is too long, or memory ran out
+abbrev pub IsReadFault : Option (List NamedFile) → List ℕ → ℕ → ℕ → FileFault → Type 0
+IsReadFault files name before after Missing = HasNoFile files name
+IsReadFault files name before after Failed = Rose before after
+IsReadFault files name before after (TooLong len) = IsTooLong files name len
+IsReadFault files name before after Exists = ⊥
+IsReadFault files name before after Memory = Unit {0}
+
+-- why a file's disk is not handed out
+abbrev pub IsDiskFault : Option (List NamedFile) → List ℕ → ℕ → ℕ → FileFault → Type 0
+IsDiskFault files name before after Missing = HasNoFile files name
+IsDiskFault files name before after Failed = Rose before after
+IsDiskFault files name before after (TooLong len) = IsTooLong files name len
+IsDiskFault files name before after Exists = ⊥
+IsDiskFault files name before after Memory = ⊥
+
+-- why a new file is not made
+abbrev pub IsNewFault : Option (List NamedFile) → List ℕ → ℕ → ℕ → FileFault → Type 0
+IsNewFault files name before after Missing = ⊥
+IsNewFault files name before after Failed = Rose before after
+IsNewFault files name before after (TooLong len) = ⊥
+IsNewFault files name before after Exists = HasSomeFile files name
+IsNewFault files name before after Memory = ⊥
+
+-- a disk tells the bytes of a told file
+abbrev pub IsDiskOf : Option (List NamedFile) → List ℕ → Option (List ℕ) → Type 0
+IsDiskOf None name stored = Unit {0}
+IsDiskOf (Some files) name None = ⊥
+IsDiskOf (Some files) name (Some bytes) = (file_in files name ≡ Some bytes) × (length bytes ≤ MAX_FILE)
+
+-- a disk is out
+abbrev pub IsLent : Option (List (List ℕ)) → Type 0
+IsLent None = Unit {0}
+IsLent (Some []) = ⊥
+IsLent (Some (name ∷ names)) = Unit {0}
+
+-- the bytes of a disk, where it tells them, are those of a file
+abbrev pub with_stored : List NamedFile → List ℕ → Option (List ℕ) → List NamedFile
+with_stored files name None = files
+with_stored files name (Some bytes) = with_file files name bytes
+
+-- the disk of the first of these names is back, and its bytes are the file's
+abbrev pub TakesBack : Option (List (List ℕ)) → Option (List NamedFile) → Option (List NamedFile) → Option (List ℕ) → Type 0
+TakesBack (Some (name ∷ names)) (Some files) new stored = new ≡ Some (with_stored files name stored)
+TakesBack (Some []) files new stored = Unit {0}
+TakesBack None files new stored = Unit {0}
+TakesBack (Some (name ∷ names)) None new stored = Unit {0}
+
+-- why the bytes of a file in memory are not handed out
+abbrev pub IsAbsence : List NamedFile → List ℕ → FileFault → Type 0
+IsAbsence files name Missing = file_in files name ≡ None
+IsAbsence files name Failed = ⊥
+IsAbsence files name (TooLong len) = IsTooLong (Some files) name len
+IsAbsence files name Exists = ⊥
+IsAbsence files name Memory = ⊥
+
+-- the first file with this name stands at a place
+pub record IsPlaceOf (files : List NamedFile) (name : List ℕ) (place : ℕ) : Type 0 where
+  pub within : place < length files
+  pub file : NamedFile
+  pub is : (other : NamedFile) → slice_index_or files place other ≡ file
+  pub found : file_in files name ≡ Some file.bytes
+  pub others : (bytes : List ℕ) → with_file files name bytes ≡ slice_set files place (record file { bytes = bytes })

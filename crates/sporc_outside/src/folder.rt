@@ -1,0 +1,82 @@
+//! Files by name.
+
+ghost use Rattle.std.specs.Prelude.{◌≡◌, ◌≤◌, ◌∷◌, ℕ, List, Option, length, drop, option_map, IfOk, IfErr, OnOk, OnErr};
+ghost use Rattle.sporc_outside.specs.Counts.{CountsFaults, count_of_both};
+ghost use Rattle.sporc_outside.specs.Files.{HasFile, HasNoFile, with_file, ChangesFile, IsReadFault, IsDiskFault, IsNewFault, IsDiskOf, IsLent, TakesBack};
+ghost use Rattle.sporc_outside.specs.Told.{AppendsItem, MayAppend};
+ghost use Rattle.sporc_outside.specs.declared.named_file.NamedFile.{NamedFile};
+ghost use Rattle.sporc_outside.specs.declared.file_fault.TheConstants.{MAX_FILE};
+
+use crate::counted::{Counted, Failed};
+use crate::file_fault::FileFault;
+use crate::leaf_disk::LeafDisk;
+use std::alloc::Global;
+
+/// Files by name, and disks over them, which are taken back in the reverse of the order in which they were handed out.
+///
+/// A folder may tell contracts its files and the names asked for, or not tell them, as a real one does.
+pub trait Folder: Counted {
+    type Disk: LeafDisk;
+
+    // The files, where it tells them.
+    ghost files: { Self → Option (List NamedFile) };
+
+    // The names asked for so far, where it tells them.
+    ghost asked: { Self → Option (List (List ℕ)) };
+
+    // The names of the files whose disks are out, the last one first, where it tells them.
+    ghost lent: { Self → Option (List (List ℕ)) };
+
+    /// The bytes of a file.
+    fn read_file(&mut self, alloc: Global, name: &str) -> Result<Vec<u8>, FileFault>
+        ensures ok { IfOk result (λ bytes. HasFile (files self.old) name.now bytes.items) }
+        ensures within { IfOk result (λ bytes. length bytes.items ≤ MAX_FILE) }
+        ensures err { IfErr result (IsReadFault (files self.old) name.now (Self.faults self.old) (Self.faults self.new)) }
+        ensures files { files self.new ≡ files self.old }
+        ensures lent { lent self.new ≡ lent self.old }
+        ensures asked { OnOk result (AppendsItem (asked self.old) (asked self.new) name.now) }
+        ensures may_ask { MayAppend (asked self.old) (asked self.new) name.now }
+        ensures count { Self.faults self.old ≤ Self.faults self.new };
+
+    /// Writes a file, in place of the one with this name if there is one. After a call that failed, that one may have
+    /// changed.
+    fn write_file(&mut self, name: &str, bytes: &[u8]) -> Result<(), Failed>
+        ensures ok { OnOk result (files self.new ≡ option_map (λ old. with_file old name.now bytes.now) (files self.old)) }
+        ensures err { OnErr result (ChangesFile (files self.old) (files self.new) name.now) }
+        ensures lent { lent self.new ≡ lent self.old }
+        ensures asked { OnOk result (AppendsItem (asked self.old) (asked self.new) name.now) }
+        ensures may_ask { MayAppend (asked self.old) (asked self.new) name.now }
+        ensures count { CountsFaults (Self.faults self.old) (Self.faults self.new) result };
+
+    /// Writes a file, unless there is one with this name. After a call that failed there may be one.
+    fn write_new(&mut self, name: &str, bytes: &[u8]) -> Result<(), FileFault>
+        ensures was_new { OnOk result (HasNoFile (files self.old) name.now) }
+        ensures ok { OnOk result (files self.new ≡ option_map (λ old. with_file old name.now bytes.now) (files self.old)) }
+        ensures err { IfErr result (IsNewFault (files self.old) name.now (Self.faults self.old) (Self.faults self.new)) }
+        ensures changes { OnErr result (ChangesFile (files self.old) (files self.new) name.now) }
+        ensures exists { result ≡ Err FileFault.Exists → files self.new ≡ files self.old }
+        ensures lent { lent self.new ≡ lent self.old }
+        ensures asked { OnOk result (AppendsItem (asked self.old) (asked self.new) name.now) }
+        ensures may_ask { MayAppend (asked self.old) (asked self.new) name.now }
+        ensures count { Self.faults self.old ≤ Self.faults self.new };
+
+    /// A disk over the bytes of a file.
+    fn leaf_disk(&mut self, name: &str) -> Result<Self::Disk, FileFault>
+        ensures ok { IfOk result (λ disk. IsDiskOf (files self.old) name.now (Self.Disk.stored disk)) }
+        ensures fresh { IfOk result (λ disk. Self.Disk.faults disk ≡ 0) }
+        ensures err { IfErr result (IsDiskFault (files self.old) name.now (Self.faults self.old) (Self.faults self.new)) }
+        ensures files { files self.new ≡ files self.old }
+        ensures lent { OnOk result (lent self.new ≡ option_map (λ names. name.now ∷ names) (lent self.old)) }
+        ensures not_lent { OnErr result (lent self.new ≡ lent self.old) }
+        ensures asked { OnOk result (AppendsItem (asked self.old) (asked self.new) name.now) }
+        ensures may_ask { MayAppend (asked self.old) (asked self.new) name.now }
+        ensures count { Self.faults self.old ≤ Self.faults self.new };
+
+    /// Takes back the disk that it handed out last of those that are out. Its bytes are the file's.
+    fn take_back(&mut self, disk: Self::Disk)
+        requires { IsLent (lent self.old) }
+        ensures lent { lent self.new ≡ option_map (λ names. drop 1 names) (lent self.old) }
+        ensures back { TakesBack (lent self.old) (files self.old) (files self.new) (Self.Disk.stored disk) }
+        ensures asked { asked self.new ≡ asked self.old }
+        ensures count { count_of_both (Self.faults self.old) (Self.Disk.faults disk) ≤ Self.faults self.new };
+}

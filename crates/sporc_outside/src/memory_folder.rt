@@ -1,0 +1,226 @@
+//! Folders in memory.
+
+ghost use Rattle.std.specs.Prelude.{◌≡◌, ◌≤◌, ◌++◌, ◌∷◌, [], length, Some, None, IsSome, IfOk, IfErr, IfSome, IfNone, OnOk, OnErr};
+ghost use Rattle.std.specs.Str.{bytes_eq};
+ghost use Rattle.sporc_outside.specs.Files.{file_in, with_file, IsPlaceOf, IsAbsence};
+ghost use Rattle.sporc_outside.specs.declared.file_fault.TheConstants.{MAX_FILE};
+
+use crate::asked::ask;
+use crate::calls::Calls;
+use crate::counted::{Counted, Failed};
+use crate::disk_call::DiskBytes;
+use crate::file_fault::{FileFault, MAX_FILE};
+use crate::folder::Folder;
+use crate::memory_disk::MemoryDisk;
+use crate::named_file::NamedFile;
+use std::alloc::{AllocError, Global};
+use std::marker::Model;
+
+/// A folder that keeps its files and tells them. A call that finds no memory fails, and so do the listed calls.
+#[derive(Drop)]
+pub struct MemoryFolder {
+    alloc: Global,
+    files: Vec<NamedFile>,
+    asked: Vec<DiskBytes>,
+    lent: Vec<DiskBytes>,
+    calls: Calls,
+    disk_calls: Vec<u64>,
+}
+
+impl Model for MemoryFolder {
+    ghost use Rattle.std.specs.Prelude.{reverse};
+    ghost use Rattle.sporc_outside.specs.FolderContent.{FolderContent, HasEach};
+
+    ghost Value = { FolderContent };
+
+    ghost view = { λ f. record { files = f.files.items; asked = f.asked.items; lent = reverse f.lent.items; calls = f.calls } };
+
+    ghost invariant = { λ f. HasEach f.files.items f.lent.items };
+}
+
+impl MemoryFolder {
+    /// Holds these files. The listed calls fail.
+    pub fn new(alloc: Global, files: Vec<NamedFile>, calls: Calls) -> MemoryFolder
+        ensures { result ≡ record { files = files.items; asked = []; lent = []; calls = calls } }
+    {
+        MemoryFolder {
+            alloc,
+            files,
+            asked: Vec::new(alloc),
+            lent: Vec::new(alloc),
+            calls,
+            disk_calls: Vec::new(alloc),
+        }
+    }
+
+    /// Of the next disk that is handed out, the calls with these numbers fail.
+    pub fn fail_disk_calls(&mut self, failing: Vec<u64>)
+        ensures { self.new ≡ self.old }
+    {
+        self.disk_calls = failing;
+    }
+
+    /// The files.
+    pub fn files(&self) -> &[NamedFile]
+        ensures { result.now ≡ self.now.files }
+    {
+        self.files.as_slice()
+    }
+
+    /// The names asked for.
+    pub fn asked(&self) -> &[DiskBytes]
+        ensures { result.now ≡ self.now.asked }
+    {
+        self.asked.as_slice()
+    }
+}
+
+impl Counted for MemoryFolder {
+    ghost faults = { λ f. f.calls.faults };
+
+    fn faults(&self) -> u64 {
+        self.calls.faults()
+    }
+}
+
+impl Folder for MemoryFolder {
+    type Disk = MemoryDisk;
+
+    ghost use Rattle.std.specs.Prelude.{Some};
+
+    ghost files = { λ f. Some f.files };
+
+    ghost asked = { λ f. Some f.asked };
+
+    ghost lent = { λ f. Some f.lent };
+
+    fn read_file(&mut self, alloc: Global, name: &str) -> Result<Vec<u8>, FileFault> {
+        ask(self.alloc, &mut self.calls, &mut self.asked, name)?;
+        let bytes = found(&self.files, name.as_bytes())?;
+        Ok(Vec::from_slice(alloc, bytes)?)
+    }
+
+    fn write_file(&mut self, name: &str, bytes: &[u8]) -> Result<(), Failed> {
+        ask(self.alloc, &mut self.calls, &mut self.asked, name)?;
+        match write(self.alloc, &mut self.files, name.as_bytes(), bytes) {
+            Ok(()) => Ok(()),
+            Err(_) => Err(self.calls.fail()),
+        }
+    }
+
+    fn write_new(&mut self, name: &str, bytes: &[u8]) -> Result<(), FileFault> {
+        ask(self.alloc, &mut self.calls, &mut self.asked, name)?;
+        if place_of(&self.files, name.as_bytes()).is_some() {
+            return Err(FileFault::Exists);
+        }
+        match write(self.alloc, &mut self.files, name.as_bytes(), bytes) {
+            Ok(()) => Ok(()),
+            Err(_) => Err(FileFault::from(self.calls.fail())),
+        }
+    }
+
+    fn leaf_disk(&mut self, name: &str) -> Result<MemoryDisk, FileFault> {
+        ask(self.alloc, &mut self.calls, &mut self.asked, name)?;
+        let bytes = found(&self.files, name.as_bytes())?;
+        let failing = std::mem::replace(&mut self.disk_calls, Vec::new(self.alloc));
+        match lend(self.alloc, &mut self.lent, name.as_bytes(), bytes, failing) {
+            Ok(disk) => Ok(disk),
+            Err(_) => Err(FileFault::from(self.calls.fail())),
+        }
+    }
+
+    fn take_back(&mut self, disk: MemoryDisk) {
+        self.calls.add_faults(disk.faults());
+        if let Some(name) = self.lent.pop() {
+            put(&mut self.files, name.as_slice(), disk.into_bytes());
+        }
+    }
+}
+
+// Whether a file has this name.
+fn is_named(file: &NamedFile, name: &[u8]) -> bool
+    ensures { result ≡ bytes_eq file.now.name name.now }
+{
+    file.name.as_slice() == name
+}
+
+// Where the file with this name stands.
+fn place_of(files: &[NamedFile], name: &[u8]) -> Option<usize>
+    ensures found { IfSome result (IsPlaceOf files.now name.now) }
+    ensures none { IfNone result (file_in files.now name.now ≡ None) }
+{
+    for (i, file) in files.iter().enumerate() {
+        if is_named(file, name) {
+            return Some(i);
+        }
+    }
+    None
+}
+
+// The bytes of the file with this name.
+fn found<'a>(files: &'a [NamedFile], name: &[u8]) -> Result<&'a [u8], FileFault>
+    ensures ok { IfOk result (λ bytes. file_in files.now name.now ≡ Some bytes.now) }
+    ensures within { IfOk result (λ bytes. length bytes.now ≤ MAX_FILE) }
+    ensures err { IfErr result (IsAbsence files.now name.now) }
+{
+    let Some(place) = place_of(files, name) else {
+        return Err(FileFault::Missing);
+    };
+    let bytes = files[place].bytes.as_slice();
+    let len = bytes.len() as u64;
+    if len > MAX_FILE {
+        return Err(FileFault::TooLong(len));
+    }
+    Ok(bytes)
+}
+
+// Puts these bytes in the file with this name, which there is.
+fn put(files: &mut Vec<NamedFile>, name: &[u8], bytes: Vec<u8>)
+    requires { IsSome (file_in files.old.items name.now) }
+    ensures { files.new.items ≡ with_file files.old.items name.now bytes.items }
+{
+    if let Some(place) = place_of(files, name) {
+        files[place].bytes = DiskBytes::new(bytes);
+    }
+}
+
+// Writes these bytes to the file with this name.
+#[tactic(auto, using(crate::proofs::Files::with_new_file))]
+fn write(
+    alloc: Global,
+    files: &mut Vec<NamedFile>,
+    name: &[u8],
+    bytes: &[u8],
+) -> Result<(), AllocError>
+    ensures ok { OnOk result (files.new.items ≡ with_file files.old.items name.now bytes.now) }
+    ensures err { OnErr result (files.new.items ≡ files.old.items) }
+{
+    let bytes = Vec::from_slice(alloc, bytes)?;
+    if place_of(files, name).is_some() {
+        put(files, name, bytes);
+        return Ok(());
+    }
+    let name = DiskBytes::new(Vec::from_slice(alloc, name)?);
+    let bytes = DiskBytes::new(bytes);
+    files.push(NamedFile { name, bytes })?;
+    Ok(())
+}
+
+// A disk over a copy of these bytes, with the name kept for its return.
+fn lend(
+    alloc: Global,
+    lent: &mut Vec<DiskBytes>,
+    name: &[u8],
+    bytes: &[u8],
+    failing: Vec<u64>,
+) -> Result<MemoryDisk, AllocError>
+    ensures ok { IfOk result (λ disk. disk ≡ record { first = bytes.now; log = []; calls = record { failing = failing.items; made = 0; faults = 0 } }) }
+    ensures lent { OnOk result (lent.new.items ≡ lent.old.items ++ name.now ∷ []) }
+    ensures err { OnErr result (lent.new.items ≡ lent.old.items) }
+{
+    let name = DiskBytes::new(Vec::from_slice(alloc, name)?);
+    let bytes = Vec::from_slice(alloc, bytes)?;
+    let disk = MemoryDisk::new(alloc, bytes, Calls::failing(failing))?;
+    lent.push(name)?;
+    Ok(disk)
+}
