@@ -1,0 +1,195 @@
+//! What members read of a history.
+
+use crate::refusals::{assert_refused, spoilt, tried};
+use crate::scene::{empty_history, founded, insert, opened, paired, take, unpaired};
+use sporc_epoch::hints_from;
+use sporc_head::Refusal;
+use sporc_line::Line;
+use sporc_member::{Change, Role};
+use sporc_samples::{Cast, Draft, EDIT, History, Member, epoch_key, short_history};
+use std::alloc::Global;
+use std::process::Abort;
+use std::test::Fail;
+
+// How many entries a line has, its text, and the key of the last epoch.
+fn reads(
+    rt: &impl Abort,
+    line: &Line,
+    len: u32,
+    text: &str,
+    key: Option<[u8; 32]>,
+) -> Result<(), Fail> {
+    assert_eq!(rt; line.len(), len);
+    assert_eq!(rt; line.text()?.as_str(), text);
+    assert!(rt; line.key().copied() == key);
+    assert!(rt; line.removed() == key.is_none());
+    Ok(())
+}
+
+// What a founder reads of the short history.
+fn reads_short(
+    rt: &impl Abort,
+    alloc: Global,
+    cast: &Cast,
+    sample: &History,
+    me: u16,
+) -> Result<(), Fail> {
+    let mut line = founded(alloc, cast, me)?;
+    take(rt, &mut line, sample, None)?;
+    assert_eq!(rt; line.hash(), sample.hash());
+    reads(rt, &line, 4, "abcd", Some(epoch_key(1)))
+}
+
+// An admin, an editor and a reader read it alike.
+fn all_read_short(rt: &impl Abort, alloc: Global, cast: &Cast) -> Result<(), Fail> {
+    let sample = short_history(alloc, cast)?;
+    reads_short(rt, alloc, cast, &sample, 1)?;
+    reads_short(rt, alloc, cast, &sample, 2)?;
+    reads_short(rt, alloc, cast, &sample, 3)
+}
+
+#[test]
+fn members_read_a_history_alike(rt: HostRuntime) -> Result<(), Fail> {
+    let cast = Cast::new(rt.alloc())?;
+    all_read_short(&rt, rt.alloc(), &cast)
+}
+
+// Gives member 4 the short history, whose third entry removes it.
+fn is_removed(rt: &impl Abort, line: &mut Line, sample: &History) -> Result<(), Fail> {
+    take(rt, line, sample, Some(Refusal::Removed))?;
+    reads(rt, line, 3, "abc", None)
+}
+
+fn reopened(line: &Line) -> Result<Line, Fail> {
+    let again = line.reopen()?;
+    Ok(again)
+}
+
+// And once more, from the beginning.
+fn is_removed_again(rt: &impl Abort, line: &Line, sample: &History) -> Result<(), Fail> {
+    let mut again = reopened(line)?;
+    is_removed(rt, &mut again, sample)
+}
+
+// It refuses an edit that fails all later checks, too.
+fn refuses_worse(
+    rt: &impl Abort,
+    alloc: Global,
+    cast: &Cast,
+    line: &mut Line,
+    sample: &History,
+) -> Result<(), Fail> {
+    let worse = spoilt(&Draft::new(sample.header(2, EDIT)), line.hashes());
+    let found = tried(alloc, cast, line, &worse, 4, &[5])?;
+    assert_refused(rt, found, Refusal::Removed);
+    Ok(())
+}
+
+fn removed_twice(
+    rt: &impl Abort,
+    alloc: Global,
+    cast: &Cast,
+    sample: &History,
+) -> Result<(), Fail> {
+    let mut line = unpaired(alloc, cast, 4)?;
+    is_removed(rt, &mut line, sample)?;
+    refuses_worse(rt, alloc, cast, &mut line, sample)?;
+    is_removed_again(rt, &line, sample)
+}
+
+fn removed_by_short(rt: &impl Abort, alloc: Global, cast: &Cast) -> Result<(), Fail> {
+    let sample = short_history(alloc, cast)?;
+    removed_twice(rt, alloc, cast, &sample)
+}
+
+// Member 4 accepts the change that removes it, has no key from then on, and accepts nothing more; its line can begin anew.
+#[test]
+fn a_removed_member_accepts_nothing_more(rt: HostRuntime) -> Result<(), Fail> {
+    let cast = Cast::new(rt.alloc())?;
+    removed_by_short(&rt, rt.alloc(), &cast)
+}
+
+// Appends a change by the admin, with the next key sealed for these members.
+fn change(
+    alloc: Global,
+    cast: &Cast,
+    sample: &mut History,
+    change: Change,
+    members: &[u16],
+) -> Result<(), Fail> {
+    sample.change(alloc, cast, 1, change, members)?;
+    Ok(())
+}
+
+// The change that adds member 6.
+fn addition(alloc: Global) -> Result<Change, Fail> {
+    let founder = Member::new(alloc, 6, Role::Editor)?.founder();
+    Ok(Change::Add {
+        member: founder.member,
+        role: founder.role,
+        key: founder.key,
+    })
+}
+
+const READER: Change = Change::SetRole {
+    member: 5,
+    role: Role::Reader,
+};
+
+const REMOVE: Change = Change::Remove { member: 4 };
+
+// A history of three epochs: three changes, each with an edit before it, the last of which adds member 6.
+fn three_epochs(alloc: Global, cast: &Cast) -> Result<History, Fail> {
+    let add = addition(alloc)?;
+    let mut sample = empty_history(alloc, cast)?;
+    insert(alloc, cast, &mut sample, 2, 0, b"a")?;
+    change(alloc, cast, &mut sample, READER, &[1, 2, 3, 4, 5])?;
+    insert(alloc, cast, &mut sample, 4, 1, b"b")?;
+    change(alloc, cast, &mut sample, REMOVE, &[1, 2, 3, 5])?;
+    insert(alloc, cast, &mut sample, 2, 2, b"c")?;
+    change(alloc, cast, &mut sample, add, &[1, 2, 3, 5, 6])?;
+    Ok(sample)
+}
+
+// The empty line of joiner 6, with the hints that it finds in the history.
+fn joined(alloc: Global, cast: &Cast, sample: &History) -> Result<Line, Fail> {
+    let pairs = paired(alloc, 6)?;
+    let ring = hints_from(alloc, sample.entries(), 6, &pairs)?;
+    opened(alloc, cast, 6, ring, pairs)
+}
+
+fn reads_by_hints(
+    rt: &impl Abort,
+    alloc: Global,
+    cast: &Cast,
+    sample: &History,
+) -> Result<(), Fail> {
+    let mut line = joined(alloc, cast, sample)?;
+    take(rt, &mut line, sample, None)?;
+    reads(rt, &line, 6, "abc", Some(epoch_key(3)))
+}
+
+fn reads_without_hints(
+    rt: &impl Abort,
+    alloc: Global,
+    cast: &Cast,
+    sample: &History,
+) -> Result<(), Fail> {
+    let mut line = founded(alloc, cast, 6)?;
+    take(rt, &mut line, sample, Some(Refusal::NoKey))?;
+    reads(rt, &line, 1, "a", Some(epoch_key(0)))
+}
+
+fn joiner_reads(rt: &impl Abort, alloc: Global, cast: &Cast) -> Result<(), Fail> {
+    let sample = three_epochs(alloc, cast)?;
+    reads_by_hints(rt, alloc, cast, &sample)?;
+    reads_without_hints(rt, alloc, cast, &sample)
+}
+
+// A joiner reads the epochs before it by hints, which it opens backwards from the change that adds it. Without the hint of
+// epoch 1 it refuses the change that starts it.
+#[test]
+fn a_joiner_reads_by_hints(rt: HostRuntime) -> Result<(), Fail> {
+    let cast = Cast::new(rt.alloc())?;
+    joiner_reads(&rt, rt.alloc(), &cast)
+}
