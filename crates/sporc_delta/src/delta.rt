@@ -8,6 +8,7 @@ ghost use Rattle.sporc_delta.specs.Format.{delta_bytes};
 ghost use Rattle.sporc_delta.specs.Marks.{base_len, out_len, retains, deletes, inserts, insertion, removal, replacement};
 ghost use Rattle.sporc_delta.specs.Parts.{AreRuns, marks_of, owned, part_marks, runs};
 ghost use Rattle.sporc_delta.specs.Same.{same_delta};
+ghost use Rattle.sporc_delta.specs.Typed.{IsTypedDelta};
 ghost use Rattle.sporc_delta.specs.Reading.{read_delta};
 
 use crate::decode::read_part;
@@ -181,6 +182,8 @@ impl Delta {
     /// whose bytes are counted.
     pub fn encode(&self) -> Result<Vec<u8>, Memory>
         ensures ok { IfOk result (λ v. v.items ≡ delta_bytes self.now) }
+        // Its counts and its characters are such as a delta's bytes can have.
+        ensures typed { OnOk result (IsTypedDelta self.now) }
     {
         parts_encoded(*self.parts.allocator(), self.parts.as_slice())
     }

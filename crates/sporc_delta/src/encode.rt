@@ -2,10 +2,12 @@
 
 ghost use Rattle.std.specs.Prelude.{◌≡◌, ◌<◌, ◌≤◌, ◌^◌, ◌∷◌, ◌++◌, length, IfOk, OnOk};
 ghost use Rattle.std.specs.Int.{w64, to_be_bytes};
+ghost use Rattle.std.specs.List.{AllByRecursion};
 ghost use Rattle.sporc_delta.specs.declared.limits.TheConstants.{MAX_TEXT_LEN};
 ghost use Rattle.sporc_delta.specs.Marks.{out_len};
 ghost use Rattle.sporc_delta.specs.Parts.{marks_of};
 ghost use Rattle.sporc_delta.specs.Format.{part_bytes, parts_bytes};
+ghost use Rattle.sporc_delta.specs.Typed.{IsTypedPart};
 
 use crate::Part;
 use sporc_base::Memory;
@@ -53,6 +55,7 @@ fn put_head(bytes: &mut Vec<u8>, kind: u8, count: u64) -> Result<(), Memory>
 // Writes a part.
 fn put_part(bytes: &mut Vec<u8>, part: &Part) -> Result<(), Memory>
     ensures ok { OnOk result (bytes.new.items ≡ bytes.old.items ++ part_bytes part.now) }
+    ensures typed { OnOk result (IsTypedPart part.now) }
 {
     match part {
         Part::Keep(count) => put_head(bytes, KEEP, *count)?,
@@ -70,6 +73,7 @@ fn put_part(bytes: &mut Vec<u8>, part: &Part) -> Result<(), Memory>
 pub(crate) fn parts_encoded(alloc: Global, parts: &[Part]) -> Result<Vec<u8>, Memory>
     requires { out_len (marks_of parts.now) ≤ MAX_TEXT_LEN }
     ensures ok { IfOk result (λ v. v.items ≡ parts_bytes parts.now) }
+    ensures typed { OnOk result (AllByRecursion IsTypedPart parts.now) }
 {
     let mut bytes = Vec::with_capacity(alloc, parts_len(parts) as usize)?;
     for part in parts {

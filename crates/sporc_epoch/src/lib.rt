@@ -37,7 +37,7 @@ pub use fault::{HintFault, SealFault};
 pub use hints::hints_from;
 pub use pairs::Pairs;
 pub use ring::Ring;
-pub use seal::seal_change;
+pub use seal::{least_unpaired, seal_change};
 pub use sporc_base::Memory;
 pub use streams::{MAX_EPOCH, entry_stream};
 pub use wraps::{open_previous, open_wrap};

@@ -59,9 +59,9 @@ pub fn seal_change(
     })
 }
 
-// The least of some members without a pairwise key.
+/// The least of some members without a pairwise key.
 #[tactic(auto, using(crate::proofs::Lookups::get_pairs))]
-fn least_unpaired(members: &[u16], pairs: &Pairs) -> Option<u16>
+pub fn least_unpaired(members: &[u16], pairs: &Pairs) -> Option<u16>
     ensures value { result ≡ least_unpaired (pairs_in pairs.now) members.now }
 {
     members

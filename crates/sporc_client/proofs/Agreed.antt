@@ -1,0 +1,221 @@
+-- Every run keeps the headline.
+use Rattle.std.proofs.Common.{◌≡◌, ℕ, suc, zero, ◌+◌, ◌≤◌, Bool, true, false, cond, List, ◌++◌, length, take, refl, ap, sym, ◌∙◌, subst, arith, Option, None, Some}
+use Rattle.std.specs.Prelude.{fold, is_some, slice_get, ◌==◌}
+use Rattle.std.proofs.lemmas.Bool.{eqb-true}
+use Rattle.std.proofs.lemmas.List.{take_all}
+use Rattle.sporc_hash.specs.Strings.{CollisionFree}
+use Rattle.sporc_member.specs.declared.founder.Founder.{Founder}
+use Rattle.sporc_member.specs.Roster.{member_at}
+use Rattle.sporc_entry.specs.declared.entry.Entry.{Entry}
+use Rattle.sporc_entry.specs.declared.genesis.Genesis.{Genesis}
+use Rattle.sporc_entry.specs.Entry.{signed_string}
+use Rattle.sporc_head.specs.declared.refusal.Refusal.{Refusal}
+use Rattle.sporc_head.specs.HeadChecks.{allows_member, verifies_member}
+use Rattle.sporc_head.specs.History.{CommittedChange, changes, count_of, hash_of, roster_of}
+use Rattle.sporc_line.specs.Keys.{key_of}
+use Rattle.sporc_line.specs.LineStrings.{line_strings}
+use Rattle.sporc_line.specs.Operations.{operations}
+use Rattle.sporc_line.specs.Document.{text_of}
+use Rattle.sporc_line.specs.Good.{Good, Meets}
+use Rattle.sporc_line.proofs.Passes.{Passes}
+use Rattle.sporc_line.proofs.Goods.{good_entry}
+use Rattle.sporc_line.proofs.SameKeys.{has_left, has_right, keys_meet, one_reading, one_text, same_key}
+use Rattle.sporc_line.proofs.SameKeys.{commitment_at as met_at}
+use Rattle.sporc_client.specs.declared.fault.AcceptFault.TheVariants.{Refused}
+use Rattle.sporc_client.specs.PlainClient.{PlainClient, after_pending, committed_of}
+use Rattle.sporc_client.specs.Answers.{accept_fault, journal_has_room, or_full, refusal_of}
+use Rattle.sporc_client.specs.Run.{Setup, World, Move, start, after_all, IsRun, given, gives_to, with_client}
+use Rattle.sporc_client.specs.Agree.{Agree, AuthorsBase, BySigner, HistoriesCollisionFree, InOrder, IsRightful, IsSameWorld, OnceEach, OneBase, OneHistory, OneKey, Refuses, RefusesFor, SameHistoryAndText, commitment_at}
+use Rattle.sporc_client.specs.Reached.{IsReached}
+use Rattle.sporc_client.specs.WellFormed.{IsWellFormed}
+use Rattle.sporc_client.proofs.InHistories.{named_prefix, one_hash, one_place, one_prefix, same_base}
+use Rattle.sporc_client.proofs.Reached.{reached_at, run_front}
+use Rattle.sporc_client.proofs.SignedEntries.{signing_at}
+use Rattle.sporc_client.proofs.Sourced.{all_genuine, genuine_front}
+
+-- ---- what a client of a run knows, over the genesis of the run
+
+genesis_of : (s : Setup) (who : ℕ) (c : PlainClient) → IsReached s who c → c.opening.genesis ≡ s.genesis
+genesis_of s who c reached = rw (reached.opening) refl
+
+good_of : (s : Setup) (who : ℕ) (c : PlainClient) → IsReached s who c → Good s.genesis c.opening.kit c.entries
+good_of s who c reached = subst (λ (g : Genesis). Good g c.opening.kit c.entries) (genesis_of s who c reached) reached.good
+
+abbrev Free : Genesis → PlainClient → PlainClient → Type 0
+Free g c d = CollisionFree (line_strings g c.opening.kit c.entries ++ line_strings g d.opening.kit d.entries)
+
+free_of : (s : Setup) (i j : ℕ) (c d : PlainClient) → IsReached s i c → IsReached s j d → HistoriesCollisionFree c d → Free s.genesis c d
+free_of s i j c d one two free =
+    let P : Genesis → Type 0 = λ g. CollisionFree (line_strings g c.opening.kit c.entries ++ line_strings d.opening.genesis d.opening.kit d.entries) in
+    let Q : Genesis → Type 0 = λ g. CollisionFree (line_strings s.genesis c.opening.kit c.entries ++ line_strings g d.opening.kit d.entries) in
+    subst Q (genesis_of s j d two) (subst P (genesis_of s i c one) free)
+
+-- ---- one history
+
+-- over one genesis
+record Alike (g : Genesis) (c d : PlainClient) : Type 0 where
+  entries : c.entries ≡ d.entries
+  operations : operations g c.opening.kit c.entries ≡ operations g d.opening.kit d.entries
+  text : text_of g c.opening.kit c.entries ≡ text_of g d.opening.kit d.entries
+
+alike : (g : Genesis) (c d : PlainClient) → Good g c.opening.kit c.entries → Good g d.opening.kit d.entries → Free g c d → hash_of g c.entries ≡ hash_of g d.entries → Alike g c d
+alike g c d good good' free h =
+    let entries : c.entries ≡ d.entries = one_hash g c.opening.kit d.opening.kit c.entries d.entries free h in
+    let good'' : Good g d.opening.kit c.entries = subst (Good g d.opening.kit) (sym entries) good' in
+    let F : List (List ℕ) → Type 0 = λ es. CollisionFree (line_strings g c.opening.kit c.entries ++ line_strings g d.opening.kit es) in
+    let free' = subst F (sym entries) free in
+    record {
+      entries = entries;
+      operations = one_reading g c.opening.kit d.opening.kit c.entries good good'' free' ∙ ap (operations g d.opening.kit) entries;
+      text = one_text g c.opening.kit d.opening.kit c.entries good good'' free' ∙ ap (text_of g d.opening.kit) entries;
+    }
+
+same_history : (s : Setup) (i j : ℕ) (c d : PlainClient) → IsReached s i c → IsReached s j d → HistoriesCollisionFree c d → hash_of s.genesis c.entries ≡ hash_of s.genesis d.entries → SameHistoryAndText c d
+same_history s i j c d one two free h =
+    let g = s.genesis in
+    let gc = genesis_of s i c one in
+    let gd = genesis_of s j d two in
+    let same = alike g c d (good_of s i c one) (good_of s j d two) (free_of s i j c d one two free) h in
+    let text : committed_of c ≡ committed_of d =
+    ap (λ (g : Genesis). text_of g c.opening.kit c.entries) gc ∙ same.text ∙ sym (ap (λ (g : Genesis). text_of g d.opening.kit d.entries) gd) in
+    record {
+      entries = same.entries;
+      operations = ap (λ (g : Genesis). operations g c.opening.kit c.entries) gc ∙ same.operations ∙ sym (ap (λ (g : Genesis). operations g d.opening.kit d.entries) gd);
+      members = ap (λ (g : Genesis). roster_of g c.entries) gc ∙ ap (roster_of g) same.entries ∙ sym (ap (λ (g : Genesis). roster_of g d.entries) gd);
+      text = text;
+      shown = λ p q. ap (fold after_pending (committed_of c)) p ∙ text ∙ sym (ap (fold after_pending (committed_of d)) q);
+    }
+
+one_history : (s : Setup) (moves : List Move) → IsRun s start moves → OneHistory s moves
+one_history s moves run m n i j c d at at' free h = same_history s i j c d (reached_at s moves m i c run at) (reached_at s moves n j d run at') free h
+
+-- ---- one key
+
+commitment_is : (g : Genesis) (cs : List CommittedChange) (epoch : ℕ) → commitment_at g cs epoch ≡ met_at g cs epoch
+commitment_is g cs zero = refl
+commitment_is g cs (suc epoch) = go (slice_get cs epoch) refl
+  where
+    go : (o : Option CommittedChange) → slice_get cs epoch ≡ o → commitment_at g cs (suc epoch) ≡ met_at g cs (suc epoch)
+    go None is = rw is refl
+    go (Some change) is = rw is refl
+
+one_key : (s : Setup) (moves : List Move) → IsRun s start moves → OneKey s moves
+one_key s moves run m n i j epoch c d at at' free there there' le le' same =
+    let g = s.genesis in
+    let one = reached_at s moves m i c run at in
+    let two = reached_at s moves n j d run at' in
+    let mine = line_strings g c.opening.kit c.entries in
+    let yours = line_strings g d.opening.kit d.entries in
+    let met : met_at g (changes d.entries) epoch ≡ met_at g (changes c.entries) epoch =
+    sym (commitment_is g (changes d.entries) epoch) ∙ sym same ∙ commitment_is g (changes c.entries) epoch in
+    let its = keys_meet g c.opening.kit c.entries (good_of s i c one) there epoch le in
+    let theirs = keys_meet g d.opening.kit d.entries (good_of s j d two) there' epoch le' in
+    ap (λ (g : Genesis). key_of g c.opening.kit c.entries epoch) (genesis_of s i c one)
+    ∙ same_key g epoch (mine ++ yours) (key_of g c.opening.kit c.entries epoch) (key_of g d.opening.kit d.entries epoch) (met_at g (changes c.entries) epoch) (free_of s i j c d one two free)
+    (λ x h. has_left g c.opening.kit c.entries yours epoch x le h)
+    (λ x h. has_right g d.opening.kit d.entries mine epoch x le' h)
+    its
+    (subst (Meets g epoch (key_of g d.opening.kit d.entries epoch)) met theirs)
+    ∙ sym (ap (λ (g : Genesis). key_of g d.opening.kit d.entries epoch) (genesis_of s j d two))
+
+-- ---- one base
+
+one_base : (s : Setup) (moves : List Move) → IsRun s start moves → OneBase s moves
+one_base s moves run m n i j x y c d bytes e at at' in_c in_d is free =
+    let one = reached_at s moves m i c run at in
+    let two = reached_at s moves n j d run at' in
+    same_base s.genesis c.opening.kit d.opening.kit c.entries d.entries x y bytes e (good_of s i c one) (good_of s j d two) (free_of s i j c d one two free) in_c in_d is
+
+authors_base : (s : Setup) (moves : List Move) → IsWellFormed s → IsRun s start moves → AuthorsBase s moves
+authors_base s moves well run m n i x c bytes e signing at in_c is signed same free =
+    let g = s.genesis in
+    let d = signing.client in
+    let one = reached_at s moves m i c run at in
+    let told = signing_at s moves n signing well run signed in
+    let read = told.reads in
+    let entry : told.entry ≡ e = cc in
+    let base : e.header.base ≡ length d.entries = ap (λ (e : Entry). e.header.base) (sym entry) ∙ told.base in
+    let history : e.header.base_hash ≡ hash_of g d.entries = ap (λ (e : Entry). e.header.base_hash) (sym entry) ∙ told.history in
+    let named = named_prefix g c.opening.kit c.entries x bytes e (good_of s i c one) in_c is in
+    let l : length d.entries ≤ e.header.base = omega (arith, base) in
+    let whole : take e.header.base d.entries ≡ d.entries = take_all e.header.base d.entries l in
+    sym whole
+    ∙ sym (one_prefix g c.opening.kit d.opening.kit c.entries d.entries e.header.base e.header.base (free_of s i signing.who c d one told.signer free) (sym named.1 ∙ history ∙ sym (ap (hash_of g) whole)))
+
+-- ---- in order
+
+rightful_by : (s : Setup) (entries : List (List ℕ)) (x : ℕ) (e : Entry) (o : Option Founder) → member_at (roster_of s.genesis (take x entries)) e.header.author ≡ o
+    → is_some o ≡ true → allows_member e.header.kind o ≡ true → verifies_member (signed_string e) e.signature o ≡ true
+    → e.header.number ≡ count_of e.header.author (take x entries) + 1 → IsRightful s entries x e
+rightful_by s entries x e None is some right verifies number = absurd cc
+rightful_by s entries x e (Some member) is some right verifies number = record { member = member; is_member = is; role = right; signature = verifies; number = number }
+
+in_order : (s : Setup) (moves : List Move) → IsRun s start moves → InOrder s moves
+in_order s moves run n i x c bytes at in_c =
+    let g = s.genesis in
+    let p = good_entry g c.opening.kit c.entries x bytes (good_of s i c (reached_at s moves n i c run at)) in_c in
+    let q : Passes g c.opening.kit (take x c.entries) (x + 1) p.0 = p.2 in
+    (p.0, p.1, rightful_by s c.entries x p.0 (member_at (roster_of g (take x c.entries)) p.0.header.author) refl q.member q.right q.signature q.number)
+
+once_each : (s : Setup) (moves : List Move) → IsRun s start moves → OnceEach s moves
+once_each s moves run n i x y c b b' e e' at in_x in_y is is' author number =
+    one_place s.genesis c.opening.kit c.entries x y b b' e e' (good_of s i c (reached_at s moves n i c run at)) in_x in_y is is' author number
+
+by_signer : (s : Setup) (moves : List Move) → IsWellFormed s → IsRun s start moves → BySigner s moves
+by_signer s moves well run genuine n i x who c bytes e member at in_c is is_member among key =
+    let r = all_genuine s (take n moves) (run_front s start moves n run) (genuine_front s start moves n genuine) i c at x bytes in_c e member who is is_member among key in
+    let signed = r.2 in
+    let told = signing_at s moves n signed.0 well run signed.1 in
+    let read = told.reads in
+    let same_bytes = signed.3 in
+    let entry : told.entry ≡ e = cc in
+    let author : e.header.author ≡ r.0 = ap (λ (e : Entry). e.header.author) (sym entry) ∙ told.author ∙ signed.2 in
+    (r.0, r.1, r.2, author)
+
+-- ---- refusals
+
+refused_only : (room : Bool) (o : Option Refusal) (refusal : Refusal) → or_full room o ≡ Some (Refused refusal) → o ≡ Some refusal
+refused_only room (Some other) refusal h = cc
+refused_only true None refusal h = absurd cc
+refused_only false None refusal h = absurd cc
+
+-- the clients with one in the place that it has
+put_back : (clients : ℕ → Option PlainClient) (i : ℕ) (c : PlainClient) (other : ℕ) → clients i ≡ Some c → with_client clients i c other ≡ clients other
+put_back clients i c other at = go (other == i) refl
+  where
+    go : (same : Bool) → (other == i) ≡ same → cond same (Some c) (clients other) ≡ clients other
+    go true is = sym (ap clients (eqb-true other i is) ∙ at)
+    go false is = refl
+
+refuses_at : (s : Setup) (w : World) (i position : ℕ) (c : PlainClient) (bytes : List ℕ) (refusal : Refusal) → w.clients i ≡ Some c → RefusesFor s w i position c bytes refusal
+unfolding accept_fault
+refuses_at s w i position c bytes refusal at = record {
+  first = (refused_only (journal_has_room c) (refusal_of c position bytes) refusal, λ is. ap (or_full (journal_has_room c)) is);
+  unchanged = unchanged;
+}
+  where
+    stays : refusal_of c position bytes ≡ Some refusal → given c bytes (refusal_of c position bytes) ≡ c
+    stays is = ap (given c bytes) is
+
+    unchanged : refusal_of c position bytes ≡ Some refusal → IsSameWorld w (gives_to w i position bytes (w.clients i))
+    unchanged is = subst (λ (o : Option PlainClient). IsSameWorld w (gives_to w i position bytes o)) (sym at) (record {
+      clients = λ who. ap (λ (d : PlainClient). with_client w.clients i d who) (stays is) ∙ put_back w.clients i c who at;
+      signed = refl;
+    })
+
+refuses : (s : Setup) (moves : List Move) → Refuses s moves
+refuses s moves n i position c bytes refusal at = refuses_at s (after_all s start (take n moves)) i position c bytes refusal at
+
+-- ---- the headline
+
+pub agree : (s : Setup) (moves : List Move) → IsWellFormed s → IsRun s start moves → Agree s moves
+agree s moves well run = record {
+  one_history = one_history s moves run;
+  one_key = one_key s moves run;
+  one_base = one_base s moves run;
+  authors_base = authors_base s moves well run;
+  in_order = in_order s moves run;
+  once_each = once_each s moves run;
+  by_signer = by_signer s moves well run;
+  refuses = refuses s moves;
+}

@@ -1,0 +1,269 @@
+-- No one forges in a run in which a server hands out only what clients of the run signed.
+use Rattle.std.proofs.Common.{◌≡◌, ℕ, zero, suc, Bool, true, false, cond, List, [], ◌∷◌, ◌++◌, map, take, drop, refl, ap, sym, ◌∙◌, subst, arith, Option, None, Some, IfSome, Ok, inl, inr}
+use Rattle.std.specs.Prelude.{Contains, IsSomeAnd, find, fold, is_some, not, ⊤, ◌==◌}
+use Rattle.std.specs.List.{AllByRecursion, cons_option}
+use Rattle.std.proofs.lemmas.Bool.{eqb-true}
+use Rattle.std.proofs.lemmas.List.Elements.{Contains-append_cases}
+use Rattle.sporc_delta.specs.Marks.{Mark}
+use Rattle.sporc_delta.specs.Transforms.{earlier}
+use Rattle.sporc_member.specs.declared.change.Change.{Change as MemberChange}
+use Rattle.sporc_member.specs.declared.change.Change.TheVariants.{Add, Remove, SetRole}
+use Rattle.sporc_member.specs.declared.founder.Founder.{Founder}
+use Rattle.sporc_member.specs.Roster.{Roster, after_change, founded}
+use Rattle.sporc_entry.specs.declared.entry.Entry.{Entry}
+use Rattle.sporc_entry.specs.Entry.{entry_of}
+use Rattle.sporc_head.proofs.Grows.{change_in_read}
+use Rattle.sporc_head.specs.declared.refusal.Refusal.{Refusal}
+use Rattle.sporc_head.specs.History.{CommittedChange, change_in, changes, roster_of}
+use Rattle.sporc_client.specs.declared.pending.Pending.{Pending}
+use Rattle.sporc_client.specs.declared.pending.Pending.TheVariants as items
+use Rattle.sporc_client.specs.Allowed.{allows}
+use Rattle.sporc_client.specs.Answers.{journal_has_room, refusal_of}
+use Rattle.sporc_client.specs.Closed.{AddsItsKey, AreClosed, HasItsKey, IsClosed, IsClosedMove, IsSigned}
+use Rattle.sporc_client.specs.Log.{Logged}
+use Rattle.sporc_client.specs.Log as events
+use Rattle.sporc_client.specs.PlainClient.{PlainClient, opened}
+use Rattle.sporc_client.specs.Reached.{IsReached}
+use Rattle.sporc_client.specs.Rebasing.{rebased}
+use Rattle.sporc_client.specs.Run.{Setup, World, Signing, Move, Open, Happen, Give, Restart, Adds, Genuine, IsGenuine, IsRun, May, after, given, gives_to, happens_to, key_of_member, opening_of, restarted, restarts, signings, start, with_client}
+use Rattle.sporc_client.specs.Soundness.{IsOfFirst}
+use Rattle.sporc_client.specs.Step.{accepted, change_comes, edit_comes, form_coming, is_flight, log_of_entries, own_comes, replay, replay_from, restated, step}
+use Rattle.sporc_client.specs.Typed.{IsTypedEvent, IsTypedMove, IsTypedRun}
+use Rattle.sporc_client.specs.WellFormed.{IsWellFormed}
+use Rattle.sporc_client.proofs.AcceptedHistories.{accepted_as}
+use Rattle.sporc_client.proofs.Reached.{AllReached, reached_after, reached_start, with_client_cases}
+use Rattle.sporc_client.proofs.RosterFacts.{all_added, all_filter, all_roles}
+use Rattle.sporc_client.proofs.SignedEntries.{AllSignings, IsSigning, none_signed, signings_after}
+use Rattle.sporc_client.proofs.SoundClients.{IsSoundAndTyped, made_in_flight}
+use Rattle.sporc_client.proofs.SoundRuns.{AllSound, sound_after}
+use Rattle.sporc_client.proofs.Submitting.{made_by_submission}
+
+-- ---- pending items and histories whose changes add members under their own keys
+
+abbrev OwnItems : Setup → List Pending → Type 0
+OwnItems s [] = ⊤
+OwnItems s (items.Edit marks ∷ pending) = OwnItems s pending
+OwnItems s (items.Change change ∷ pending) = AddsItsKey s change × OwnItems s pending
+
+abbrev OwnCommitted : Setup → CommittedChange → Type 0
+OwnCommitted s c = AddsItsKey s c.body.change
+
+abbrev OwnEntry : Setup → List ℕ → Type 0
+OwnEntry s bytes = IfSome (change_in bytes) (OwnCommitted s)
+
+own_edit : (s : Setup) (pending : List Pending) (item : Pending) → OwnItems s pending → OwnItems s (item ∷ []) → OwnItems s (pending ++ item ∷ [])
+own_edit s [] item all one = one
+own_edit s (items.Edit marks ∷ pending) item all one = own_edit s pending item all one
+own_edit s (items.Change change ∷ pending) item all one = (all.0, own_edit s pending item all.1 one)
+
+own_drop : (s : Setup) (pending : List Pending) → OwnItems s pending → OwnItems s (drop 1 pending)
+own_drop s [] all = tt
+own_drop s (items.Edit marks ∷ pending) all = all
+own_drop s (items.Change change ∷ pending) all = all.1
+
+own_rebased : (s : Setup) (form : List Mark) (pending : List Pending) → OwnItems s pending → OwnItems s (rebased form pending)
+own_rebased s form [] all = tt
+own_rebased s form (items.Edit marks ∷ pending) all = own_rebased s (earlier form marks) pending all
+own_rebased s form (items.Change change ∷ pending) all = (all.0, own_rebased s form pending all.1)
+
+own_push : (s : Setup) (entries : List (List ℕ)) (bytes : List ℕ) → AllByRecursion (OwnEntry s) entries → OwnEntry s bytes → AllByRecursion (OwnEntry s) (entries ++ bytes ∷ [])
+own_push s [] bytes all one = (one, tt)
+own_push s (b ∷ entries) bytes all one = (all.0, own_push s entries bytes all.1 one)
+
+own_take : (s : Setup) (k : ℕ) (entries : List (List ℕ)) → AllByRecursion (OwnEntry s) entries → AllByRecursion (OwnEntry s) (take k entries)
+own_take s zero entries all = tt
+own_take s (suc k) [] all = tt
+own_take s (suc k) (b ∷ entries) all = (all.0, own_take s k entries all.1)
+
+-- ---- their members have their own keys
+
+own_changes : (s : Setup) (entries : List (List ℕ)) → AllByRecursion (OwnEntry s) entries → AllByRecursion (OwnCommitted s) (changes entries)
+own_changes s [] all = tt
+own_changes s (bytes ∷ entries) all = go (change_in bytes) all.0 (own_changes s entries all.1)
+  where
+    go : (o : Option CommittedChange) → IfSome o (OwnCommitted s) → AllByRecursion (OwnCommitted s) (changes entries) → AllByRecursion (OwnCommitted s) (cons_option o (changes entries))
+    go None here rest = rest
+    go (Some c) here rest = (here, rest)
+
+own_change : (s : Setup) (roster : Roster) (change : MemberChange) → AddsItsKey s change → AllByRecursion (HasItsKey s) roster.members → AllByRecursion (HasItsKey s) (after_change roster change).members
+own_change s roster (Add member role key) own all = all_added (HasItsKey s) (record { member = member; role = role; key = key }) roster.members own all
+own_change s roster (Remove member) own all = all_filter (HasItsKey s) (λ m. not (m.member == member)) roster.members all
+own_change s roster (SetRole member role) own all = all_roles (HasItsKey s) (λ m role h. h) member role roster.members all
+
+own_members : (s : Setup) (roster : Roster) (cs : List CommittedChange) → AllByRecursion (OwnCommitted s) cs → AllByRecursion (HasItsKey s) roster.members
+    → AllByRecursion (HasItsKey s) (fold after_change roster (map (λ (c : CommittedChange). c.body.change) cs)).members
+own_members s roster [] own all = all
+own_members s roster (c ∷ cs) own all = own_members s (after_change roster c.body.change) cs own.1 (own_change s roster c.body.change own.0 all)
+
+own_roster : (s : Setup) (entries : List (List ℕ)) → AllByRecursion (HasItsKey s) s.genesis.founders → AllByRecursion (OwnEntry s) entries → AllByRecursion (HasItsKey s) (roster_of s.genesis entries).members
+own_roster s entries founders own = own_members s (founded s.genesis.founders) (changes entries) (own_changes s entries own) founders
+
+own_found : (s : Setup) (number : ℕ) (members : List Founder) (member : Founder) → AllByRecursion (HasItsKey s) members → find (λ (m : Founder). m.member == number) members ≡ Some member
+    → Contains s.members number → member.key ≡ key_of_member s number
+own_found s number [] member all found among = absurd cc
+own_found s number (m ∷ members) member all found among = go (m.member == number) refl found (own_found s number members member all.1)
+  where
+    go : (here : Bool) → (m.member == number) ≡ here → cond here (Some m) (find (λ (m : Founder). m.member == number) members) ≡ Some member
+        → (find (λ (m : Founder). m.member == number) members ≡ Some member → Contains s.members number → member.key ≡ key_of_member s number) → member.key ≡ key_of_member s number
+    go true is found rest =
+        let same : m ≡ member = cc in
+        let its : m.member ≡ number = eqb-true m.member number is in
+        ap (λ (m : Founder). m.key) (sym same) ∙ all.0 (subst (Contains s.members) (sym its) among) ∙ ap (key_of_member s) its
+    go false is found rest = rest found among
+
+-- ---- each move keeps clients and signed entries so
+
+record IsOwn (s : Setup) (c : PlainClient) : Type 0 where
+  items : OwnItems s c.pending
+  entries : AllByRecursion (OwnEntry s) c.entries
+
+record AllOwn (s : Setup) (w : World) : Type 0 where
+  clients : (who : ℕ) (c : PlainClient) → w.clients who ≡ Some c → IsOwn s c
+  signed : (x : Signing) → Contains w.signed x → OwnEntry s x.entry
+
+accept_own : (s : Setup) (c : PlainClient) (bytes : List ℕ) → IsOwn s c → OwnEntry s bytes → IsOwn s (accepted c bytes)
+accept_own s c bytes own one = record {
+  items = go (is_flight c bytes) (is_some (change_in bytes));
+  entries = subst (AllByRecursion (OwnEntry s)) (sym (accepted_as c bytes).entries) (own_push s c.entries bytes own.entries one);
+}
+  where
+    go : (mine change : Bool) → OwnItems s (cond mine (own_comes c bytes) (cond change (change_comes c bytes) (edit_comes c bytes))).pending
+    go true change = own_drop s c.pending own.items
+    go false true = own.items
+    go false false = own_rebased s (form_coming c bytes) c.pending own.items
+
+accepts_own : (s : Setup) (c : PlainClient) (entries : List (List ℕ)) → IsOwn s c → AllByRecursion (OwnEntry s) entries → IsOwn s (replay_from c (log_of_entries entries))
+accepts_own s c [] own all = own
+accepts_own s c (bytes ∷ entries) own all = accepts_own s (accepted c bytes) entries (accept_own s c bytes own all.0) all.1
+
+restarted_own : (s : Setup) (c : PlainClient) (k : ℕ) → IsOwn s c → IsOwn s (restarted c k)
+unfolding replay
+restarted_own s c k own = accepts_own s (opened c.opening) (take k c.entries) (record { items = tt; entries = tt }) (own_take s k c.entries own.entries)
+
+signed_own : (s : Setup) (w : World) (bytes : List ℕ) → AllOwn s w → IsSigned w bytes → OwnEntry s bytes
+signed_own s w bytes all signed =
+    let by = signed.1 in
+    subst (OwnEntry s) by.3 (all.signed by.0 by.1)
+
+step_own : (s : Setup) (w : World) (who : ℕ) (c : PlainClient) (event : Logged) → AllOwn s w → IsClosedMove s w (Happen who event) → IsOwn s c → IsOwn s (step c event)
+step_own s w who c (events.Edit by seen marks) all closed own = record { items = own_edit s c.pending (items.Edit (restated c seen marks)) own.items tt; entries = own.entries }
+step_own s w who c (events.Change by change) all closed own = record { items = own_edit s c.pending (items.Change change) own.items (closed, tt); entries = own.entries }
+step_own s w who c (events.Submit by bytes) all closed own = record { items = own.items; entries = own.entries }
+step_own s w who c (events.Dropped by fault) all closed own = record { items = own_drop s c.pending own.items; entries = own.entries }
+step_own s w who c (events.Accept by bytes) all closed own = accept_own s c bytes own (signed_own s w bytes all closed)
+step_own s w who c (events.Discard by) all closed own = record { items = tt; entries = own.entries }
+
+-- the entry of a pending item
+entry_own : (s : Setup) (c : PlainClient) (bytes : List ℕ) (e : Entry) (pending : List Pending) → entry_of bytes ≡ Ok e → IsOfFirst c e pending → OwnItems s pending → OwnEntry s bytes
+entry_own s c bytes e [] reads first own = absurd first
+entry_own s c bytes e (items.Edit marks ∷ pending) reads first own = subst (λ (o : Option CommittedChange). IfSome o (OwnCommitted s)) (sym (change_in_read bytes e None reads (sym first.no_change))) tt
+entry_own s c bytes e (items.Change change ∷ pending) reads first own =
+    subst (λ (o : Option CommittedChange). IfSome o (OwnCommitted s)) (sym (change_in_read bytes e (Some first.body) reads (sym first.reads)))
+    (subst (AddsItsKey s) (sym first.same) own.0)
+
+none_own : (s : Setup) (x : Signing) → Contains [] x → OwnEntry s x.entry
+none_own s x (place, within, at) = absurd (omega (arith, within))
+
+signings_own : (s : Setup) (who : ℕ) (c : PlainClient) (event : Logged) → IsWellFormed s → IsReached s who c → IsSoundAndTyped c → IsTypedEvent event → allows c event ≡ true → IsOwn s c
+    → (x : Signing) → Contains (signings who c event) x → OwnEntry s x.entry
+signings_own s who c (events.Edit by seen marks) well reached known typed may own x at = none_own s x at
+signings_own s who c (events.Change by change) well reached known typed may own x at = none_own s x at
+signings_own s who c (events.Submit by bytes) well reached known typed may own x at = one x at
+  where
+    made : OwnEntry s bytes
+    made =
+        let sent = made_in_flight s who c bytes well reached known.sound known.typed typed (made_by_submission c by bytes may) in
+        entry_own s c bytes sent.entry c.pending sent.reads sent.first own.items
+
+    one : (x : Signing) → Contains (record { who = who; entry = bytes; client = c } ∷ []) x → OwnEntry s x.entry
+    one x (zero, within, at) = subst (λ (x : Signing). OwnEntry s x.entry) at made
+    one x (suc place, within, at) = absurd (omega (arith, within))
+signings_own s who c (events.Dropped by fault) well reached known typed may own x at = none_own s x at
+signings_own s who c (events.Accept by bytes) well reached known typed may own x at = none_own s x at
+signings_own s who c (events.Discard by) well reached known typed may own x at = none_own s x at
+
+own_with : (s : Setup) (w : World) (i : ℕ) (c : PlainClient) (signed : List Signing) → AllOwn s w → IsOwn s c → ((x : Signing) → Contains signed x → OwnEntry s x.entry)
+    → AllOwn s (record { clients = with_client w.clients i c; signed = signed })
+own_with s w i c signed all own entries = record {
+  clients = λ j d at. elim (with_client_cases w.clients i j c d at) [
+    | inl p ↦ subst (IsOwn s) p.1 own
+    | inr p ↦ all.clients j d p
+  ];
+  signed = entries;
+}
+
+given_own : (s : Setup) (w : World) (c : PlainClient) (bytes : List ℕ) (refusal : Option Refusal) → AllOwn s w → IsSigned w bytes → IsOwn s c → IsOwn s (given c bytes refusal)
+given_own s w c bytes (Some refusal) all signed own = own
+given_own s w c bytes None all signed own = go (journal_has_room c)
+  where
+    go : (room : Bool) → IsOwn s (cond room (accepted c bytes) c)
+    go true = accept_own s c bytes own (signed_own s w bytes all signed)
+    go false = own
+
+own_after : (s : Setup) (w : World) (move : Move) → IsWellFormed s → AllReached s w → AllSound w → IsTypedMove move → May s w move → IsClosedMove s w move → AllOwn s w → AllOwn s (after s w move)
+own_after s w (Open who ring) well reached sound typed may closed all = own_with s w who (opened (opening_of s who ring)) w.signed all (record { items = tt; entries = tt }) all.signed
+own_after s w (Happen who event) well reached sound typed may closed all = go (w.clients who) refl may
+  where
+    go : (o : Option PlainClient) → w.clients who ≡ o → IsSomeAnd o (λ c. allows c event ≡ true) → AllOwn s (happens_to w who event o)
+    go None is may = absurd may
+    go (Some c) is may = own_with s w who (step c event) (w.signed ++ signings who c event) all (step_own s w who c event all closed (all.clients who c is)) (λ x at. elim (Contains-append_cases w.signed (signings who c event) x at) [
+      | inl p ↦ all.signed x p
+      | inr p ↦ signings_own s who c event well (reached who c is) (sound who c is) typed may (all.clients who c is) x p
+    ])
+own_after s w (Give who position bytes) well reached sound typed may closed all = go (w.clients who) refl
+  where
+    go : (o : Option PlainClient) → w.clients who ≡ o → AllOwn s (gives_to w who position bytes o)
+    go None is = all
+    go (Some c) is = own_with s w who (given c bytes (refusal_of c position bytes)) w.signed all (given_own s w c bytes (refusal_of c position bytes) all closed (all.clients who c is)) all.signed
+own_after s w (Restart who k) well reached sound typed may closed all = go (w.clients who) refl
+  where
+    go : (o : Option PlainClient) → w.clients who ≡ o → AllOwn s (restarts w who k o)
+    go None is = all
+    go (Some c) is = own_with s w who (restarted c k) w.signed all (restarted_own s c k (all.clients who c is)) all.signed
+
+-- ---- no one forges
+
+is_genuine : (s : Setup) (w : World) (who : ℕ) (c : PlainClient) (bytes : List ℕ) → AllByRecursion (HasItsKey s) s.genesis.founders → AllSignings s w → AllOwn s w → w.clients who ≡ Some c → IsSigned w bytes
+    → IsGenuine s w c.entries bytes
+is_genuine s w who c bytes founders signings all at signed e member m reads is_member among key =
+    let by = signed.1 in
+    let told : IsSigning s by.0 = signings by.0 by.1 in
+    let read = told.reads in
+    let same_bytes = by.3 in
+    let entry : told.entry ≡ e = cc in
+    let author : e.header.author ≡ by.0.who = ap (λ (e : Entry). e.header.author) (sym entry) ∙ told.author in
+    let its : member.key ≡ key_of_member s e.header.author =
+    own_found s e.header.author (roster_of s.genesis c.entries).members member (own_roster s c.entries founders (all.clients who c at).entries) is_member
+    (subst (Contains s.members) (sym author) told.signer.is_member) in
+    (signed.0, sym (its ∙ ap (key_of_member s) (author ∙ by.2)), signed.1)
+
+adds_genuine : (s : Setup) (w : World) (move : Move) → AllByRecursion (HasItsKey s) s.genesis.founders → AllSignings s w → AllOwn s w → IsClosedMove s w move
+    → (who : ℕ) (c : PlainClient) (bytes : List ℕ) → Adds w move who c bytes → IsGenuine s w c.entries bytes
+adds_genuine s w (Open i ring) founders signings all closed who c bytes adds = absurd adds
+adds_genuine s w (Happen i (events.Edit by seen marks)) founders signings all closed who c bytes adds = absurd adds
+adds_genuine s w (Happen i (events.Change by change)) founders signings all closed who c bytes adds = absurd adds
+adds_genuine s w (Happen i (events.Submit by entry)) founders signings all closed who c bytes adds = absurd adds
+adds_genuine s w (Happen i (events.Dropped by fault)) founders signings all closed who c bytes adds = absurd adds
+adds_genuine s w (Happen i (events.Accept by entry)) founders signings all closed who c bytes adds =
+    is_genuine s w i c bytes founders signings all adds.1 (subst (IsSigned w) adds.2 closed)
+adds_genuine s w (Happen i (events.Discard by)) founders signings all closed who c bytes adds = absurd adds
+adds_genuine s w (Give i position entry) founders signings all closed who c bytes adds =
+    is_genuine s w i c bytes founders signings all adds.1 (subst (IsSigned w) adds.2 closed)
+adds_genuine s w (Restart i k) founders signings all closed who c bytes adds = absurd adds
+
+genuine_from : (s : Setup) (w : World) (moves : List Move) → IsWellFormed s → AllByRecursion IsTypedMove moves → AllByRecursion (HasItsKey s) s.genesis.founders → AllReached s w → AllSound w → AllSignings s w → AllOwn s w
+    → IsRun s w moves → AreClosed s w moves → Genuine s w moves
+genuine_from s w [] well typed founders reached sound signings all run closed = tt
+genuine_from s w (move ∷ moves) well typed founders reached sound signings all run closed = (
+  adds_genuine s w move founders signings all closed.0,
+  genuine_from s (after s w move) moves well typed.1 founders
+      (reached_after s w move reached run.0)
+      (sound_after s w move well reached sound typed.0 run.0)
+      (signings_after s w move well reached signings run.0)
+      (own_after s w move well reached sound typed.0 run.0 closed.0 all)
+      run.1 closed.1,
+)
+
+pub closed_runs_are_genuine : (s : Setup) (moves : List Move) → IsTypedRun s moves → IsClosed s moves → Genuine s start moves
+closed_runs_are_genuine s moves run closed =
+    genuine_from s start moves run.setup run.typed closed.founders (reached_start s) (λ who c at. absurd cc) (none_signed s) (record { clients = λ who c at. absurd cc; signed = none_own s }) run.run closed.closed

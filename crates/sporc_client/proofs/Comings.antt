@@ -1,0 +1,314 @@
+-- What an entry that comes does, by its kinds, with what the fields become.
+use Rattle.std.proofs.Common.{◌≡◌, ℕ, ◌+◌, ◌<◌, ◌≤◌, ◌^◌, Bool, true, false, if◌then◌else◌, List, [], ◌∷◌, ◌++◌, length, Option, None, Some, Ok, refl, ap, sym, ◌∙◌, subst, arith, length-append}
+use Rattle.std.specs.Prelude.{◌==◌}
+use Rattle.std.specs.Option.{is_some}
+use Rattle.std.specs.Prelude.{IsErr, nat_lt, Result, Err}
+use Rattle.std.proofs.lemmas.Bool.{ltb-true}
+use Rattle.std.proofs.lemmas.List.{append-nil as append_nil}
+use Rattle.lms_sign.specs.Signer.{SignerContent}
+use Rattle.sporc_delta.specs.declared.limits.TheConstants.{MAX_COUNT}
+use Rattle.sporc_delta.specs.Marks.{Mark, apply, base_len, inserted_len, out_len}
+use Rattle.sporc_suffix.specs.Forms.{Follow, reached}
+use Rattle.sporc_entry.specs.declared.change.ChangeBody.{ChangeBody}
+use Rattle.sporc_entry.specs.declared.entry.Entry.{Entry}
+use Rattle.sporc_entry.specs.declared.genesis.Genesis.{Genesis}
+use Rattle.sporc_entry.specs.Entry.{change_of, entry_of}
+use Rattle.sporc_head.specs.declared.refusal.Refusal.{Refusal}
+use Rattle.sporc_head.specs.History.{change_in, committed_by, is_by, is_read_by}
+use Rattle.sporc_line.specs.Document.{text_after}
+use Rattle.sporc_line.specs.Kit.{Kit}
+use Rattle.sporc_line.specs.LineModel.{LineModel}
+use Rattle.sporc_line.specs.Prepared.{IsPrepared, PreparedModel}
+use Rattle.sporc_line.proofs.FormLengths.{length-apply}
+use Rattle.sporc_client.specs.declared.coming.Coming.{Coming}
+use Rattle.sporc_client.specs.declared.event.Event.{Event}
+use Rattle.sporc_client.specs.declared.event.Event.TheVariants as events
+use Rattle.sporc_client.specs.declared.limits.TheConstants.{MAX_EVENTS}
+use Rattle.sporc_client.specs.declared.pending.Pending.{Pending}
+use Rattle.sporc_client.specs.declared.pending.Pending.TheVariants as items
+use Rattle.sporc_client.specs.Answers.{accept_fault, added, journal_has_room, or_full, refusal_of}
+use Rattle.sporc_client.specs.ClientInvariant.{ClientInvariant, client_model, plain_of}
+use Rattle.sporc_client.specs.ClientModel.{ClientModel}
+use Rattle.sporc_client.specs.Coming.{coming_of, flight_after, pending_after, shown_form}
+use Rattle.sporc_client.specs.Log.{Logged, Accept, log_of}
+use Rattle.sporc_client.specs.PlainClient.{Opening, PlainClient, committed_of, me_of, shown_of}
+use Rattle.sporc_client.specs.Rebasing.{AreOver, AreStated, beyond, inserted_by, rebased}
+use Rattle.sporc_client.specs.Step.{accepted, change_comes, form_coming, is_flight, is_same_as, own_comes}
+use Rattle.sporc_client.specs.Workspace.{Workspace}
+use Rattle.sporc_client.proofs.Accepting.{accepted_small, accepted_sound, allowed_accept, change_in_is}
+use Rattle.sporc_client.proofs.Events.{length_of_shown, rises, shown_length}
+use Rattle.sporc_client.proofs.Kept.{Recorded, Records, opening_of, recorded}
+use Rattle.sporc_client.proofs.Small.{lengths}
+use Rattle.sporc_client.proofs.Soundness.{comes}
+
+-- ---- by the kinds of an entry
+
+-- a client after an entry that does this, with this shown delta
+abbrev pub after_coming : PlainClient → List ℕ → Coming → List Mark → PlainClient
+after_coming c bytes coming form = record c {
+  entries = c.entries ++ bytes ∷ [];
+  pending = pending_after coming c.pending;
+  flight = flight_after coming c.flight;
+  shown = c.shown ++ form ∷ [];
+}
+
+abbrev edit_by : PlainClient → List ℕ → Bool → PlainClient
+edit_by c bytes own = record c {
+  entries = c.entries ++ bytes ∷ [];
+  pending = rebased (form_coming c bytes) c.pending;
+  flight = if own then None else c.flight;
+  shown = c.shown ++ beyond (form_coming c bytes) c.pending ∷ [];
+}
+
+abbrev comes_by : PlainClient → List ℕ → (on_its_way change own : Bool) → PlainClient
+comes_by c bytes on_its_way change own =
+    if on_its_way then own_comes c bytes
+    else if change then change_comes c bytes
+    else edit_by c bytes own
+
+by_kinds : (c : PlainClient) (bytes : List ℕ) (on_its_way change own : Bool)
+    → comes_by c bytes on_its_way change own
+    ≡ after_coming c bytes (coming_of on_its_way change own (form_coming c bytes) c.pending) (shown_form on_its_way change (length (shown_of c)) (form_coming c bytes) c.pending)
+by_kinds c bytes true change own = refl
+by_kinds c bytes false true own = refl
+by_kinds c bytes false false own = refl
+
+some_same : (e : Entry) (o : Option ChangeBody) → is_some (committed_by e o) ≡ is_some o
+some_same e None = refl
+some_same e (Some body) = refl
+
+by_author : (me : ℕ) (bytes : List ℕ) (e : Entry) → entry_of bytes ≡ Ok e → is_by me bytes ≡ (e.header.author == me)
+unfolding is_by
+by_author me bytes e reads = ap (is_read_by me) reads
+
+pub accepted_is : (c : PlainClient) (bytes : List ℕ) (e : Entry) → entry_of bytes ≡ Ok e
+    → accepted c bytes
+    ≡ after_coming c bytes (coming_of (is_flight c bytes) (is_some (change_of e)) (e.header.author == me_of c) (form_coming c bytes) c.pending) (shown_form (is_flight c bytes) (is_some (change_of e)) (length (shown_of c)) (form_coming c bytes) c.pending)
+accepted_is c bytes e reads =
+    let change : is_some (change_in bytes) ≡ is_some (change_of e) = ap is_some (change_in_is bytes e reads) ∙ some_same e (change_of e) in
+    let own : is_by (me_of c) bytes ≡ (e.header.author == me_of c) = by_author (me_of c) bytes e reads in
+    ap (λ (b : Bool). comes_by c bytes (is_flight c bytes) b (is_by (me_of c) bytes)) change
+    ∙ ap (λ (b : Bool). comes_by c bytes (is_flight c bytes) (is_some (change_of e)) b) own
+    ∙ by_kinds c bytes (is_flight c bytes) (is_some (change_of e)) (e.header.author == me_of c)
+
+-- ---- lengths
+
+pub stated_over : (text : List ℕ) (pending : List Pending) → AreStated text pending → AreOver (length text) pending
+stated_over text [] stated = tt
+stated_over text (items.Change change ∷ ps) stated = stated_over text ps stated
+stated_over text (items.Edit marks ∷ ps) stated =
+    let P : ℕ → Type 0 = λ n. AreOver n ps in
+    (stated.0, subst P (length-apply marks text stated.0) (stated_over (apply marks text) ps stated.1))
+
+pub follow_last : (base : ℕ) (forms : List (List Mark)) (form : List Mark) → Follow base (forms ++ form ∷ []) → base_len form ≡ reached base forms
+follow_last base [] form h = h.0
+follow_last base (f ∷ fs) form h = follow_last (out_len f) fs form h.1
+
+-- ---- an entry that was prepared
+
+-- what it does
+abbrev pub coming_at : LineModel → Workspace → PreparedModel → Coming
+coming_at line own p = coming_of (is_same_as own.flight p.checked.bytes) (is_some (change_of p.checked.entry)) (p.checked.entry.header.author == line.kit.me) p.form own.pending
+
+-- and its shown delta
+abbrev pub form_at : Workspace → PreparedModel → List Mark
+form_at own p = shown_form (is_same_as own.flight p.checked.bytes) (is_some (change_of p.checked.entry)) (length (text_after own.shown)) p.form own.pending
+
+-- what settling it asks
+pub record SettleLimits (own : Workspace) (form : List Mark) : Type 0 where
+  pub follow : Follow 0 own.shown
+  pub short : length (text_after own.shown) ≤ MAX_COUNT
+  pub over : AreOver (base_len form) own.pending
+  pub limit : base_len form + inserted_len form + inserted_by own.pending ≤ 2 ^ 60
+
+module _ {D : Type 0} (line : LineModel) (signer : SignerContent D) (ticket : Option ℕ) (own : Workspace) (known : ClientInvariant line signer ticket own) (p : PreparedModel) (prepared : IsPrepared line.genesis line.kit line.entries p) where
+  pub settle_limits : SettleLimits own p.form
+  settle_limits =
+      let c = plain_of signer.key line own in
+      let l = lengths c known.small in
+      let come = comes c p.checked.bytes known.sound.good prepared.passed in
+      let base : base_len p.form ≡ length (committed_of c) = ap base_len prepared.form_is ∙ come.base in
+      let P : ℕ → Type 0 = λ n. AreOver n own.pending in
+      record {
+        follow = known.sound.follow;
+        short = omega (arith, shown_length line signer ticket own known);
+        over = subst P (sym base) (stated_over (committed_of c) own.pending known.sound.stated);
+        limit = omega (arith, base, l.committed, l.pending, prepared.small);
+      }
+
+  -- the definition's step
+  accepted_here : accepted (plain_of signer.key line own) p.checked.bytes ≡ after_coming (plain_of signer.key line own) p.checked.bytes (coming_at line own p) (form_at own p)
+  accepted_here =
+      let c = plain_of signer.key line own in
+      let bytes = p.checked.bytes in
+      let e = p.checked.entry in
+      let became : List Mark → ℕ → PlainClient =
+      λ form len. after_coming c bytes (coming_of (is_flight c bytes) (is_some (change_of e)) (e.header.author == me_of c) form c.pending) (shown_form (is_flight c bytes) (is_some (change_of e)) len form c.pending) in
+      accepted_is c bytes e prepared.checked.read
+      ∙ ap (λ (form : List Mark). became form (length (shown_of c))) (sym prepared.form_is)
+      ∙ ap (λ (len : ℕ). became p.form len) (sym (length_of_shown line signer ticket own known))
+
+  pub form_base : base_len (form_at own p) ≡ reached 0 own.shown
+  form_base =
+      let c = plain_of signer.key line own in
+      let F : PlainClient → Type 0 = λ d. Follow 0 d.shown in
+      follow_last 0 own.shown (form_at own p) (subst F accepted_here (accepted_sound c p.checked.bytes known.sound prepared.passed).follow)
+
+  pub accept_records : (line' : LineModel) (own' : Workspace) (by : ℕ) → length own.shown < MAX_EVENTS
+      → line'.genesis ≡ line.genesis → line'.kit ≡ line.kit → line'.entries ≡ line.entries ++ p.checked.bytes ∷ []
+      → own'.pending ≡ pending_after (coming_at line own p) own.pending → own'.flight ≡ flight_after (coming_at line own p) own.flight
+      → own'.shown ≡ own.shown ++ form_at own p ∷ [] → own'.journal ≡ own.journal ++ events.Accept by (length line.entries + 1) ∷ []
+      → Records line line' signer signer ticket own own' (Accept by p.checked.bytes)
+  accept_records line' own' by room genesis kit entries pending flight shown journal =
+      let c = plain_of signer.key line own in
+      let bytes = p.checked.bytes in
+      record {
+        key = refl;
+        entries = entries;
+        journal = journal;
+        state = rw (genesis, kit, entries, pending, flight, shown) (sym accepted_here);
+        allowed = allowed_accept c by bytes prepared.passed room;
+        sound = accepted_sound c bytes known.sound prepared.passed;
+        small = accepted_small c bytes known.sound known.small prepared.passed (omega (arith, prepared.small, ap inserted_len prepared.form_is)) room;
+        unspent = known.unspent;
+        leaves = rises line signer ticket own known (Accept by bytes) refl;
+      }
+
+-- ---- fields that say the same
+
+abbrev line_with : ℕ → Genesis → Kit → List (List ℕ) → LineModel
+line_with spare genesis kit entries = record { genesis = genesis; kit = kit; entries = entries; spare = spare }
+
+abbrev own_with : ℕ → List Pending → Option (List ℕ) → List (List Mark) → List Event → Workspace
+own_with spare pending flight shown journal = record { pending = pending; flight = flight; shown = shown; journal = journal; spare = spare }
+
+pub record SameLine (line line' : LineModel) : Type 0 where
+  pub genesis : line'.genesis ≡ line.genesis
+  pub kit : line'.kit ≡ line.kit
+  pub entries : line'.entries ≡ line.entries
+
+pub record SameOwn (own own' : Workspace) : Type 0 where
+  pub pending : own'.pending ≡ own.pending
+  pub flight : own'.flight ≡ own.flight
+  pub shown : own'.shown ≡ own.shown
+  pub journal : own'.journal ≡ own.journal
+
+line_same : (line line' : LineModel) → SameLine line line' → line_with line'.spare line.genesis line.kit line.entries ≡ line'
+line_same line line' same =
+    ap (λ (g : Genesis). line_with line'.spare g line.kit line.entries) (sym same.genesis)
+    ∙ ap (λ (k : Kit). line_with line'.spare line'.genesis k line.entries) (sym same.kit)
+    ∙ ap (λ (es : List (List ℕ)). line_with line'.spare line'.genesis line'.kit es) (sym same.entries)
+
+own_same : (own own' : Workspace) → SameOwn own own' → own_with own'.spare own.pending own.flight own.shown own.journal ≡ own'
+own_same own own' same =
+    ap (λ (ps : List Pending). own_with own'.spare ps own.flight own.shown own.journal) (sym same.pending)
+    ∙ ap (λ (f : Option (List ℕ)). own_with own'.spare own'.pending f own.shown own.journal) (sym same.flight)
+    ∙ ap (λ (fs : List (List Mark)). own_with own'.spare own'.pending own'.flight fs own.journal) (sym same.shown)
+    ∙ ap (λ (es : List Event). own_with own'.spare own'.pending own'.flight own'.shown es) (sym same.journal)
+
+-- how much may be added without memory makes no difference
+module _ {D : Type 0} (line : LineModel) (signer : SignerContent D) (ticket : Option ℕ) (own : Workspace) (known : ClientInvariant line signer ticket own) where
+  with_spare : (s t : ℕ) → ClientInvariant (line_with s line.genesis line.kit line.entries) signer ticket (own_with t own.pending own.flight own.shown own.journal)
+  with_spare s t = record {
+    stores = record { entries = known.stores.entries; journal = known.stores.journal };
+    state = known.state;
+    allowed = known.allowed;
+    sound = known.sound;
+    small = known.small;
+    unspent = known.unspent;
+    leaves = known.leaves;
+  }
+
+  pub same_fields : (line' : LineModel) (own' : Workspace) → SameLine line line' → SameOwn own own' → ClientInvariant line' signer ticket own'
+  same_fields line' own' lines owns =
+      subst (λ (l : LineModel). ClientInvariant l signer ticket own') (line_same line line' lines)
+      (subst (λ (w : Workspace). ClientInvariant (line_with line'.spare line.genesis line.kit line.entries) signer ticket w) (own_same own own' owns) (with_spare line'.spare own'.spare))
+
+-- nor to what contracts see
+pub same_model : {D : Type 0} (line line' : LineModel) (signer : SignerContent D) (ticket : Option ℕ) (own own' : Workspace) → SameLine line line' → SameOwn own own'
+    → client_model line' signer ticket own' ≡ client_model line signer ticket own
+same_model line line' signer ticket own own' lines owns =
+    ap (λ (l : LineModel). client_model l signer ticket own') (sym (line_same line line' lines))
+    ∙ ap (λ (w : Workspace). client_model (line_with line'.spare line.genesis line.kit line.entries) signer ticket w) (sym (own_same own own' owns))
+
+-- ---- what a call comes to
+
+-- the model with one event more
+abbrev pub more_with : {D : Type 0} → LineModel → SignerContent D → Option ℕ → Workspace → Logged → ClientModel D
+more_with line signer ticket own event = record (client_model line signer ticket own) { log = log_of line.entries own.journal ++ event ∷ [] }
+
+abbrev model_with : {D : Type 0} → SignerContent D → Option ℕ → Opening → List Logged → ClientModel D
+model_with signer ticket opening log = record { opening = opening; log = log; leaves = signer.leaves; ticket = ticket }
+
+pub model_more : {D : Type 0} (line line' : LineModel) (signer : SignerContent D) (ticket : Option ℕ) (own own' : Workspace) (event : Logged) → Recorded line line' signer signer ticket own own' event
+    → client_model line' signer ticket own' ≡ more_with line signer ticket own event
+model_more line line' signer ticket own own' event did =
+    ap (λ (o : Opening). model_with signer ticket o (log_of line'.entries own'.journal)) did.opening_is ∙ ap (model_with signer ticket (opening_of line signer)) did.log_is
+
+-- no event more
+pub no_more : {X F D : Type 0} (result : Result X F) (event : Logged) (m m' : ClientModel D) → IsErr result → m' ≡ m → m' ≡ record m { log = m.log ++ added result event }
+no_more (Ok x) event m m' err is = absurd cc
+no_more (Err fault) event m m' err is = is ∙ ap (λ (log : List Logged). record m { log = log }) (sym (append_nil m.log))
+
+pub accept_fault_is : (c : PlainClient) (position : ℕ) (bytes : List ℕ) → accept_fault c position bytes ≡ or_full (journal_has_room c) (refusal_of c position bytes)
+unfolding accept_fault
+accept_fault_is c position bytes = refl
+
+room_left : (room : Bool) (refusal : Option Refusal) → or_full room refusal ≡ None → room ≡ true
+room_left true refusal h = refl
+room_left false None h = absurd cc
+room_left false (Some refusal) h = absurd cc
+
+pub accept_room : (events : ℕ) (refusal : Option Refusal) → or_full (nat_lt events MAX_EVENTS) refusal ≡ None → events < MAX_EVENTS
+accept_room events refusal h = ltb-true events MAX_EVENTS (room_left (nat_lt events MAX_EVENTS) refusal h)
+
+-- what the code settles on is what the definition does
+pub coming_there : (line : LineModel) (own : Workspace) (p : PreparedModel) (bytes : List ℕ) (me : ℕ) (coming : Coming) → p.checked.bytes ≡ bytes → me ≡ line.kit.me
+    → coming ≡ coming_of (is_same_as own.flight bytes) (is_some (change_of p.checked.entry)) (p.checked.entry.header.author == me) p.form own.pending → coming ≡ coming_at line own p
+coming_there line own p bytes me coming is me_is settled =
+    settled
+    ∙ ap (λ (b : List ℕ). coming_of (is_same_as own.flight b) (is_some (change_of p.checked.entry)) (p.checked.entry.header.author == me) p.form own.pending) (sym is)
+    ∙ ap (λ (n : ℕ). coming_of (is_same_as own.flight p.checked.bytes) (is_some (change_of p.checked.entry)) (p.checked.entry.header.author == n) p.form own.pending) me_is
+
+pub form_there : (own : Workspace) (p : PreparedModel) (bytes : List ℕ) (form : List Mark) → p.checked.bytes ≡ bytes
+    → form ≡ shown_form (is_same_as own.flight bytes) (is_some (change_of p.checked.entry)) (length (text_after own.shown)) p.form own.pending → form ≡ form_at own p
+form_there own p bytes form is settled =
+    settled ∙ ap (λ (b : List ℕ). shown_form (is_same_as own.flight b) (is_some (change_of p.checked.entry)) (length (text_after own.shown)) p.form own.pending) (sym is)
+
+-- the steps of taking an entry: the line and the own part as they were, once memory is taken, and afterwards
+pub record Takes (line line1 line' : LineModel) (own own1 own' : Workspace) (p : PreparedModel) (bytes : List ℕ) (me by place : ℕ) (coming : Coming) (form ready : List Mark) : Type 0 where
+  pub bytes_are : p.checked.bytes ≡ bytes
+  pub lines : SameLine line line1
+  pub me_is : me ≡ line1.kit.me
+  pub settled : coming ≡ coming_of (is_same_as own.flight bytes) (is_some (change_of p.checked.entry)) (p.checked.entry.header.author == me) p.form own.pending
+  pub form_is : form ≡ shown_form (is_same_as own.flight bytes) (is_some (change_of p.checked.entry)) (length (text_after own.shown)) p.form own.pending
+  pub ready_is : ready ≡ form
+  pub owns : SameOwn own own1
+  pub genesis : line'.genesis ≡ line1.genesis
+  pub kit : line'.kit ≡ line1.kit
+  pub entries : line'.entries ≡ line1.entries ++ p.checked.bytes ∷ []
+  pub place_is : place ≡ length line'.entries
+  pub pending : own'.pending ≡ pending_after coming own1.pending
+  pub flight : own'.flight ≡ flight_after coming own1.flight
+  pub shown : own'.shown ≡ own1.shown ++ ready ∷ []
+  pub journal : own'.journal ≡ own1.journal ++ events.Accept by place ∷ []
+
+pub accept_recorded : {D : Type 0} (line line1 line' : LineModel) (signer : SignerContent D) (ticket : Option ℕ) (own own1 own' : Workspace) (p : PreparedModel) (bytes : List ℕ) (me by place : ℕ) (coming : Coming) (form ready : List Mark)
+    → ClientInvariant line signer ticket own → IsPrepared line.genesis line.kit line.entries p → length own.shown < MAX_EVENTS
+    → Takes line line1 line' own own1 own' p bytes me by place coming form ready → Recorded line line' signer signer ticket own own' (Accept by p.checked.bytes)
+accept_recorded line line1 line' signer ticket own own1 own' p bytes me by place coming form ready known prepared room takes =
+    let b = p.checked.bytes in
+    let coming_is : coming ≡ coming_at line own p =
+    coming_there line own p bytes me coming takes.bytes_are (takes.me_is ∙ ap (λ (k : Kit). k.me) takes.lines.kit) takes.settled in
+    let ready_is : ready ≡ form_at own p = takes.ready_is ∙ form_there own p bytes form takes.bytes_are takes.form_is in
+    let entries : line'.entries ≡ line.entries ++ b ∷ [] = takes.entries ∙ ap (λ (es : List (List ℕ)). es ++ b ∷ []) takes.lines.entries in
+    let place_is : place ≡ length line.entries + 1 = omega (arith, takes.place_is, ap length entries, length-append line.entries (b ∷ [])) in
+    recorded line line' signer signer ticket ticket own own' (Accept by b) known
+    (accept_records line signer ticket own known p prepared line' own' by room
+    (takes.genesis ∙ takes.lines.genesis)
+    (takes.kit ∙ takes.lines.kit)
+    entries
+    (takes.pending ∙ ap (pending_after coming) takes.owns.pending ∙ ap (λ (k : Coming). pending_after k own.pending) coming_is)
+    (takes.flight ∙ ap (flight_after coming) takes.owns.flight ∙ ap (λ (k : Coming). flight_after k own.flight) coming_is)
+    (takes.shown ∙ ap (λ (fs : List (List Mark)). fs ++ ready ∷ []) takes.owns.shown ∙ ap (λ (f : List Mark). own.shown ++ f ∷ []) ready_is)
+    (takes.journal ∙ ap (λ (es : List Event). es ++ events.Accept by place ∷ []) takes.owns.journal ∙ ap (λ (n : ℕ). own.journal ++ events.Accept by n ∷ []) place_is))

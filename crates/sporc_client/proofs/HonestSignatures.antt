@@ -1,0 +1,93 @@
+-- What a client signs verifies under its member's key in its history.
+use Rattle.std.proofs.Common.{◌≡◌, ℕ, zero, suc, ◌^◌, ◌<◌, ◌≤◌, Bool, true, false, ◌&&◌, List, ◌++◌, length, refl, ap, ◌∙◌, arith, Some, length-append}
+use Rattle.std.specs.Prelude.{IsTrue}
+use Rattle.std.specs.Int.{w32, from_be_bytes, to_be_bytes}
+use Rattle.std.proofs.lemmas.Bool.{eq-eqb, le-leb}
+use Rattle.std.proofs.lemmas.Nat.{from_be_bytes-to_be_bytes_4}
+use Rattle.sha2.proofs.Facts256.{length-sha256}
+use Rattle.lms_ots.specs.declared.ots_type.OtsType.{OtsType}
+use Rattle.lms_ots.specs.declared.ots_type.OtsType.TheVariants.{W1, W2, W4, W8}
+use Rattle.lms_ots.specs.OtsType.{ots_code_of, part_count_of, width_of}
+use Rattle.lms_ots.specs.Chains.{concatenated}
+use Rattle.lms_ots.specs.Coefficients.{coef_of, with_checksum}
+use Rattle.lms_ots.specs.Signatures.{message_digest, ots_signature_of, signed_part}
+use Rattle.lms_ots.proofs.ChainLemmas.{length-chain_of}
+use Rattle.lms_ots.proofs.ConcatenatedLemmas.{length-concatenated}
+use Rattle.lms_tree.specs.LmsPrivate.{LmsPrivate, lms_public_of, sibling_value}
+use Rattle.lms_tree.specs.LmsPublic.{public_key_bytes, public_key_in}
+use Rattle.lms_tree.specs.LmsType.{height_of, lms_code_of}
+use Rattle.lms_tree.specs.Nodes.{node_of}
+use Rattle.lms_tree.specs.Signatures.{lms_signature_of}
+use Rattle.lms_tree.specs.Verification.{leaf_in, verifies}
+use Rattle.lms_tree.proofs.PublicKeyLemmas.{public_key_read_back}
+use Rattle.lms_tree.proofs.SignatureLemmas.{field_one, signatures_verify}
+use Rattle.lms_tree.proofs.VerificationLemmas.{verifies_decides}
+use Rattle.sporc_member.specs.declared.founder.Founder.{Founder}
+use Rattle.sporc_head.specs.HeadChecks.{names_leaf, verifies_member, verifies_under}
+
+-- ---- how long a signature is at least
+
+few_parts : (t : OtsType) → 34 ≤ part_count_of t
+few_parts W1 = omega arith
+few_parts W2 = omega arith
+few_parts W4 = omega arith
+few_parts W8 = omega arith
+
+signed_part_len : (t : OtsType) (id : List ℕ) (q : ℕ) (seed string : List ℕ) (i : ℕ) → length (signed_part t id q seed string i) ≡ 32
+signed_part_len t id q seed string i = length-chain_of id q i 0 (coef_of string i (width_of t)) _ (length-sha256 _)
+
+pub signature_len : (key : LmsPrivate) (q : ℕ) (c message : List ℕ) → 1096 ≤ length (lms_signature_of key q c message)
+unfolding lms_signature_of ots_signature_of
+signature_len key q c message =
+    let string = with_checksum (message_digest key.id q c message) key.ots in
+    let part = signed_part key.ots key.id q key.seed string in
+    let n = part_count_of key.ots in
+    let code = to_be_bytes w32 (ots_code_of key.ots) in
+    let parts = length-concatenated part (signed_part_len key.ots key.id q key.seed string) n in
+    let ots = code ++ c ++ concatenated part n in
+    let front = to_be_bytes w32 q in
+    let types = to_be_bytes w32 (lms_code_of key.lms) in
+    let path = concatenated (sibling_value key q) (height_of key.lms) in
+    omega (
+      arith,
+      few_parts key.ots,
+      parts,
+      length-append (code ++ c) (concatenated part n),
+      length-append code c,
+      length-append (front ++ ots ++ types) path,
+      length-append (front ++ ots) types,
+      length-append front ots,
+    )
+
+-- ---- the leaf that it names
+
+begins_with_leaf : (key : LmsPrivate) (q : ℕ) (c message : List ℕ) → q < 2 ^ 32 → leaf_in (lms_signature_of key q c message) ≡ q
+unfolding lms_signature_of
+begins_with_leaf key q c message small =
+    ap (from_be_bytes w32)
+    (field_one (to_be_bytes w32 q) (ots_signature_of key.ots key.id q key.seed c message) (to_be_bytes w32 (lms_code_of key.lms)) (concatenated (sibling_value key q) (height_of key.lms)) 4 refl)
+    ∙ from_be_bytes-to_be_bytes_4 q small
+
+both : (a b : Bool) → a ≡ true → b ≡ true → (a && b) ≡ true
+both true b p r = r
+both false b p r = absurd cc
+
+pub names_own_leaf : (key : LmsPrivate) (q : ℕ) (c message : List ℕ) → q < 2 ^ 32 → names_leaf q (lms_signature_of key q c message) ≡ true
+names_own_leaf key q c message small =
+    let long : 4 ≤ length (lms_signature_of key q c message) = omega (arith, signature_len key q c message) in
+    both _ _ (le-leb 4 (length (lms_signature_of key q c message)) long) (eq-eqb (leaf_in (lms_signature_of key q c message)) q (begins_with_leaf key q c message small))
+
+-- ---- and that it verifies
+
+root_len : (key : LmsPrivate) (k r : ℕ) → length (node_of key.ots key.id key.seed (height_of key.lms) k r) ≡ 32
+unfolding node_of
+root_len key zero r = length-sha256 _
+root_len key (suc k) r = length-sha256 _
+
+pub verifies_own : (key : LmsPrivate) (q : ℕ) (c message : List ℕ) (member : Founder) → length key.id ≡ 16 → length c ≡ 32 → q < 2 ^ height_of key.lms
+    → member.key ≡ public_key_bytes (lms_public_of key) → verifies_member message (lms_signature_of key q c message) (Some member) ≡ true
+verifies_own key q c message member id size fits own =
+    let read : public_key_in member.key ≡ Some (lms_public_of key) = ap public_key_in own ∙ public_key_read_back (lms_public_of key) id (root_len key (height_of key.lms) 1) in
+    let computes : IsTrue (verifies (lms_public_of key) message (lms_signature_of key q c message)) =
+    (verifies_decides (lms_public_of key) message (lms_signature_of key q c message)).1 (signatures_verify key q c message size fits) in
+    ap (verifies_under message (lms_signature_of key q c message)) read ∙ computes

@@ -1,0 +1,87 @@
+-- The shown text after one more event.
+use Rattle.std.proofs.Common.{◌≡◌, ℕ, zero, suc, ◌+◌, List, [], ◌∷◌, ◌++◌, length, take, drop, fold, refl, ap, sym, ◌∙◌, subst, add-one, Some}
+use Rattle.std.specs.List.{slice_get}
+use Rattle.sporc_line.proofs.Lists.{take_slice_get_more}
+use Rattle.std.proofs.lemmas.List.{take-append-drop}
+use Rattle.sporc_delta.specs.Marks.{Mark, apply, base_len, inserts, out_len, replacement, retains}
+use Rattle.sporc_delta.proofs.Lengths.{base_len-retains}
+use Rattle.sporc_suffix.specs.Forms.{Follow, later_over, reached}
+use Rattle.sporc_suffix.proofs.Passing.{Follow-append, Follow-drop}
+use Rattle.sporc_line.specs.Document.{text_after}
+use Rattle.sporc_line.proofs.FormLengths.{base_len-over, length-text}
+
+pub fold_more : {A B : Type 0} (f : B → A → B) (b : B) (xs : List A) (x : A) → fold f b (xs ++ x ∷ []) ≡ f (fold f b xs) x
+fold_more f b [] x = refl
+fold_more f b (y ∷ ys) x = fold_more f (f b y) ys x
+
+pub apply-retains : (s : List ℕ) → apply (retains (length s)) s ≡ s
+apply-retains [] = refl
+apply-retains (c ∷ s) = ap (λ t. c ∷ t) (apply-retains s)
+
+pub apply-inserts : (t : List ℕ) → apply (inserts t) [] ≡ t
+apply-inserts [] = refl
+apply-inserts (c ∷ t) = ap (λ u. c ∷ u) (apply-inserts t)
+
+pub apply-replacement : (s t : List ℕ) → apply (replacement (length s) t) s ≡ t
+apply-replacement [] t = apply-inserts t
+apply-replacement (c ∷ s) t = apply-replacement s t
+
+pub base_len-inserts : (t : List ℕ) → base_len (inserts t) ≡ 0
+base_len-inserts [] = refl
+base_len-inserts (c ∷ t) = base_len-inserts t
+
+pub base_len-replacement : (n : ℕ) (t : List ℕ) → base_len (replacement n t) ≡ n
+base_len-replacement zero t = base_len-inserts t
+base_len-replacement (suc n) t = ap suc (base_len-replacement n t)
+
+reached-append : (base : ℕ) (fs gs : List (List Mark)) → reached base (fs ++ gs) ≡ reached (reached base fs) gs
+reached-append base [] gs = refl
+reached-append base (f ∷ fs) gs = reached-append (out_len f) fs gs
+
+-- the forms so far lead to a text
+pub record LeadTo (forms : List (List Mark)) (text : List ℕ) : Type 0 where
+  pub follow : Follow 0 forms
+  pub text_is : text_after forms ≡ text
+
+pub length_shown : (forms : List (List Mark)) (text : List ℕ) → LeadTo forms text → reached 0 forms ≡ length text
+length_shown forms text leads = sym (length-text forms leads.follow) ∙ ap length leads.text_is
+
+-- one form more
+pub leads_on : (forms : List (List Mark)) (form : List Mark) (text next : List ℕ) → LeadTo forms text → base_len form ≡ length text → apply form text ≡ next
+    → LeadTo (forms ++ form ∷ []) next
+leads_on forms form text next leads base is = record {
+  follow = Follow-append 0 forms form leads.follow (base ∙ sym (length_shown forms text leads));
+  text_is = fold_more (λ text form. apply form text) [] forms form ∙ ap (apply form) leads.text_is ∙ is;
+}
+
+-- one that keeps the text
+pub leads_on_same : (forms : List (List Mark)) (text : List ℕ) → LeadTo forms text → LeadTo (forms ++ retains (length text) ∷ []) text
+leads_on_same forms text leads = leads_on forms (retains (length text)) text text leads (base_len-retains (length text)) (apply-retains text)
+
+pub follow_take : (base n : ℕ) (fs : List (List Mark)) → Follow base fs → Follow base (take n fs)
+follow_take base zero fs h = tt
+follow_take base (suc n) [] h = tt
+follow_take base (suc n) (f ∷ fs) h = (h.0, follow_take (out_len f) n fs h.1)
+
+-- marks stated after the first forms, restated behind the others
+pub base_restated : (forms : List (List Mark)) (text : List ℕ) (seen : ℕ) (marks : List Mark) → LeadTo forms text
+    → base_len marks ≡ length (text_after (take seen forms)) → base_len (later_over marks (drop seen forms)) ≡ length text
+base_restated forms text seen marks leads base =
+    let begin : Follow 0 (take seen forms) = follow_take 0 seen forms leads.follow in
+    let from : base_len marks ≡ reached 0 (take seen forms) = base ∙ length-text (take seen forms) begin in
+    let P : ℕ → Type 0 = λ n. Follow n (drop seen forms) in
+    base_len-over marks (drop seen forms) (subst P (sym from) (Follow-drop 0 seen forms leads.follow))
+    ∙ ap (λ (n : ℕ). reached n (drop seen forms)) from
+    ∙ sym (reached-append 0 (take seen forms) (drop seen forms))
+    ∙ ap (reached 0) (take-append-drop seen forms)
+    ∙ length_shown forms text leads
+
+-- the first forms reach as far as the last of them does
+pub reached_last : (forms : List (List Mark)) (m n : ℕ) (form : List Mark) → n + 1 ≡ m → slice_get forms n ≡ Some form → reached 0 (take m forms) ≡ out_len form
+reached_last forms m n form next is =
+    let more : take m forms ≡ take n forms ++ form ∷ [] = ap (λ (i : ℕ). take i forms) (sym next ∙ add-one n) ∙ take_slice_get_more forms n form is in
+    ap (reached 0) more ∙ reached-append 0 (take n forms) (form ∷ [])
+
+-- so the text after the first forms is as long
+pub length_last : (forms : List (List Mark)) (m n : ℕ) (form : List Mark) → Follow 0 forms → n + 1 ≡ m → slice_get forms n ≡ Some form → length (text_after (take m forms)) ≡ out_len form
+length_last forms m n form follow next is = length-text (take m forms) (follow_take 0 m forms follow) ∙ reached_last forms m n form next is

@@ -1,0 +1,197 @@
+-- What each entry that a client of a run signed says: who signed it, and on which history.
+use Rattle.std.proofs.Common.{◌≡◌, ℕ, zero, suc, ◌^◌, ◌<◌, ◌≤◌, true, List, [], ◌∷◌, length, take, refl, ap, sym, ◌∙◌, subst, arith, Option, None, Some, Result, Ok, inl, inr}
+use Rattle.std.specs.Prelude.{Contains, IsSomeAnd}
+use Rattle.std.proofs.lemmas.List.Elements.{Contains-append_cases}
+use Rattle.std.proofs.lemmas.List.Sums.{count_by-le-length}
+use Rattle.sha2.proofs.Facts256.{length-sha256}
+use Rattle.lms_tree.specs.declared.lms_type.LmsType.{LmsType}
+use Rattle.lms_tree.specs.declared.lms_type.LmsType.TheVariants.{H5, H10, H15, H20, H25}
+use Rattle.lms_tree.specs.LmsType.{height_of}
+use Rattle.sporc_hash.specs.Chain.{genesis_string, genesis_value, link_string, next_value, value_after}
+use Rattle.sporc_bytes.specs.Fields.{Reading, ◌>>=◌, counted_at, end_at}
+use Rattle.sporc_bytes.proofs.Fields.{bind_ok, ok_is}
+use Rattle.sporc_entry.specs.declared.entry.Entry.{Entry}
+use Rattle.sporc_entry.specs.declared.genesis.Genesis.{Genesis}
+use Rattle.sporc_entry.specs.declared.header.Header.{Header}
+use Rattle.sporc_entry.specs.declared.limits.TheConstants.{MAX_SIGNATURE}
+use Rattle.sporc_entry.specs.Entry.{IsHeader, body_limit, body_read, counted_bytes, entry_bytes, entry_of, header_bytes}
+use Rattle.sporc_entry.specs.Genesis.{genesis_bytes}
+use Rattle.sporc_entry.proofs.EntryLaws.{header_again}
+use Rattle.sporc_head.specs.declared.limits.TheConstants.{MAX_ENTRIES}
+use Rattle.sporc_head.specs.History.{hash_of, is_by}
+use Rattle.sporc_head.proofs.Grows.{epoch_le}
+use Rattle.sporc_client.specs.declared.pending.Pending.{Pending}
+use Rattle.sporc_client.specs.declared.pending.Pending.TheVariants.{Edit, Change}
+use Rattle.sporc_client.specs.Entries.{Chosen, entry_made, kind_of, next_header}
+use Rattle.sporc_client.specs.Log.{Logged}
+use Rattle.sporc_client.specs.Log as events
+use Rattle.sporc_client.specs.PlainClient.{PlainClient, me_of}
+use Rattle.sporc_client.specs.Allowed.{allows}
+use Rattle.sporc_client.specs.Run.{Setup, World, Signing, Move, Open, Happen, Give, Restart, start, after, after_all, May, IsRun, gives_to, happens_to, restarts, signings}
+use Rattle.sporc_client.specs.Reached.{IsReached}
+use Rattle.sporc_client.specs.WellFormed.{IsWellFormed}
+use Rattle.sporc_client.proofs.Reached.{AllReached, reached_after, reached_start, run_front}
+use Rattle.sporc_client.proofs.Submitting.{IsMadeBy, chosen_in, made_by_submission}
+
+-- ---- an entry is read with the header that it was made with
+
+-- what is read behind the header
+abbrev all_read : Header → List ℕ → List ℕ → Unit {0} → Result Entry ℕ
+all_read h body signature end = Ok (record { header = h; body = body; signature = signature })
+
+abbrev after_body : Header → List ℕ → List ℕ × Reading → Result Entry ℕ
+after_body h body signature = end_at signature.1 >>= all_read h body signature.0
+
+abbrev after_kind : Header → List ℕ × Reading → Unit {0} → Result Entry ℕ
+after_kind h body read = counted_at MAX_SIGNATURE body.1 >>= after_body h body.0
+
+abbrev after_header : Header → List ℕ × Reading → Result Entry ℕ
+after_header h body = body_read h.kind 72 body.0 >>= after_kind h body
+
+abbrev behind : Header × Reading → Result Entry ℕ
+behind x = counted_at (body_limit x.0.kind) x.1 >>= after_header x.0
+
+header_stays : (x : Header × Reading) (e : Entry) → behind x ≡ Ok e → e.header ≡ x.0
+header_stays x e read =
+    let b = bind_ok (counted_at (body_limit x.0.kind) x.1) (after_header x.0) e read in
+    let u = bind_ok (body_read x.0.kind 72 b.0.0) (after_kind x.0 b.0) e b.2 in
+    let s = bind_ok (counted_at MAX_SIGNATURE b.0.1) (after_body x.0 b.0.0) e u.2 in
+    let n = bind_ok (end_at s.0.1) (all_read x.0 b.0.0 s.0.0) e s.2 in
+    let made : Entry = record { header = x.0; body = b.0.0; signature = s.0.0 } in
+    sym (ap (λ (e : Entry). e.header) (ok_is made e n.2))
+
+pub header_read : (h : Header) (rest : List ℕ) (e : Entry) → IsHeader h → entry_of (header_bytes h rest) ≡ Ok e → e.header ≡ h
+unfolding entry_of
+header_read h rest e is read =
+    let header : Header × Reading = (h, record { rest = rest; at = 68 }) in
+    header_stays header e (ap (λ (r : Result (Header × Reading) ℕ). r >>= behind) (sym (header_again h rest is)) ∙ read)
+
+-- ---- the header of a client's next entry has a spelling
+
+length-value_after : (v : List ℕ) (entries : List (List ℕ)) → length v ≡ 32 → length (value_after v entries) ≡ 32
+unfolding value_after
+length-value_after v [] h = h
+length-value_after v (b ∷ entries) h = length-value_after (next_value v b) entries (length-sha256 (link_string v b))
+
+pub length-hash_of : (g : Genesis) (entries : List (List ℕ)) → length (hash_of g entries) ≡ 32
+length-hash_of g entries = length-value_after (genesis_value (genesis_bytes g)) entries (length-sha256 (genesis_string (genesis_bytes g)))
+
+pub leaf_small : (t : LmsType) (q : ℕ) → q < 2 ^ height_of t → q < 2 ^ 32
+leaf_small H5 q h = omega (arith, h)
+leaf_small H10 q h = omega (arith, h)
+leaf_small H15 q h = omega (arith, h)
+leaf_small H20 q h = omega (arith, h)
+leaf_small H25 q h = omega (arith, h)
+
+kind_small : (item : Pending) → (1 ≤ kind_of item) × (kind_of item ≤ 2)
+kind_small (Edit marks) = (omega arith, omega arith)
+kind_small (Change change) = (omega arith, omega arith)
+
+-- that of any item, by any leaf, while the history has room
+pub next_is_header : (s : Setup) (who : ℕ) (c : PlainClient) (leaf : ℕ) (item : Pending) → IsWellFormed s → IsReached s who c → length c.entries < MAX_ENTRIES → leaf < 2 ^ height_of c.opening.key.lms
+    → IsHeader (next_header c leaf item)
+next_is_header s who c leaf item well reached room within =
+    let count = count_by-le-length (is_by (me_of c)) c.entries in
+    let epoch = epoch_le c.entries in
+    let document : length c.opening.genesis.document ≡ 16 = rw (reached.opening) well.genesis.document in
+    let author : me_of c < 2 ^ 16 = rw (reached.opening) (well.members who reached.is_member) in
+    record {
+      document = document;
+      author = author;
+      number = omega (arith, count, room);
+      base = omega (arith, room);
+      base_hash = length-hash_of c.opening.genesis c.entries;
+      epoch = omega (arith, epoch, room);
+      leaf = leaf_small c.opening.key.lms leaf within;
+      kind = kind_small item;
+    }
+
+pub made_header : (s : Setup) (who : ℕ) (c : PlainClient) (bytes : List ℕ) → IsWellFormed s → IsReached s who c → (makes : IsMadeBy c bytes) → IsHeader (next_header c makes.entry.header.leaf makes.item)
+made_header s who c bytes well reached makes = next_is_header s who c makes.entry.header.leaf makes.item well reached makes.due.room makes.leaf
+
+-- the bytes that are made begin with the header
+made_bytes : (c : PlainClient) (chosen : Chosen) (item : Pending) → (rest : List ℕ) × (entry_bytes (entry_made c chosen item) ≡ header_bytes (next_header c chosen.leaf item) rest)
+unfolding entry_bytes entry_made
+made_bytes c chosen item = (counted_bytes (entry_made c chosen item).body (counted_bytes (entry_made c chosen item).signature []), refl)
+
+-- and so an entry that was made has the header that its client gave it
+pub header_made : (s : Setup) (who : ℕ) (c : PlainClient) (bytes : List ℕ) → IsWellFormed s → IsReached s who c → (makes : IsMadeBy c bytes) → makes.entry.header ≡ next_header c makes.entry.header.leaf makes.item
+header_made s who c bytes well reached makes =
+    let made = made_bytes c (chosen_in c makes.entry) makes.item in
+    let spelled : bytes ≡ header_bytes (next_header c makes.entry.header.leaf makes.item) made.0 = sym makes.made ∙ made.1 in
+    header_read (next_header c makes.entry.header.leaf makes.item) made.0 makes.entry (made_header s who c bytes well reached makes) (ap entry_of (sym spelled) ∙ makes.reads)
+
+-- ---- all that was signed
+
+-- the author of an entry that a client signed, and the history that it was signed on
+pub record IsSigning (s : Setup) (x : Signing) : Type 0 where
+  pub signer : IsReached s x.who x.client
+  pub entry : Entry
+  pub reads : entry_of x.entry ≡ Ok entry
+  pub author : entry.header.author ≡ x.who
+  pub base : entry.header.base ≡ length x.client.entries
+  pub history : entry.header.base_hash ≡ hash_of s.genesis x.client.entries
+
+signing_made : (s : Setup) (who : ℕ) (c : PlainClient) (bytes : List ℕ) → IsWellFormed s → IsReached s who c → IsMadeBy c bytes → IsSigning s (record { who = who; entry = bytes; client = c })
+signing_made s who c bytes well reached makes =
+    let header = header_made s who c bytes well reached makes in
+    let author : me_of c ≡ who = rw (reached.opening) refl in
+    let history : hash_of c.opening.genesis c.entries ≡ hash_of s.genesis c.entries = rw (reached.opening) refl in
+    record {
+      signer = reached;
+      entry = makes.entry;
+      reads = makes.reads;
+      author = ap (λ (h : Header). h.author) header ∙ author;
+      base = ap (λ (h : Header). h.base) header;
+      history = ap (λ (h : Header). h.base_hash) header ∙ history;
+    }
+
+abbrev pub AllSignings : Setup → World → Type 0
+AllSignings s w = (x : Signing) → Contains w.signed x → IsSigning s x
+
+pub none_signed : (s : Setup) (x : Signing) → Contains [] x → IsSigning s x
+none_signed s x (place, within, at) = absurd (omega (arith, within))
+
+event_signings : (s : Setup) (who : ℕ) (c : PlainClient) (event : Logged) → IsWellFormed s → IsReached s who c → allows c event ≡ true → (x : Signing) → Contains (signings who c event) x → IsSigning s x
+event_signings s who c (events.Edit by seen marks) well reached may x at = none_signed s x at
+event_signings s who c (events.Change by change) well reached may x at = none_signed s x at
+event_signings s who c (events.Submit by bytes) well reached may x at = one x at
+  where
+    made : IsSigning s (record { who = who; entry = bytes; client = c })
+    made = signing_made s who c bytes well reached (made_by_submission c by bytes may)
+
+    one : (x : Signing) → Contains (record { who = who; entry = bytes; client = c } ∷ []) x → IsSigning s x
+    one x (zero, within, at) = subst (IsSigning s) at made
+    one x (suc place, within, at) = absurd (omega (arith, within))
+event_signings s who c (events.Dropped by fault) well reached may x at = none_signed s x at
+event_signings s who c (events.Accept by bytes) well reached may x at = none_signed s x at
+event_signings s who c (events.Discard by) well reached may x at = none_signed s x at
+
+pub signings_after : (s : Setup) (w : World) (move : Move) → IsWellFormed s → AllReached s w → AllSignings s w → May s w move → AllSignings s (after s w move)
+signings_after s w (Open who ring) well reached all may = all
+signings_after s w (Happen who event) well reached all may = go (w.clients who) refl may
+  where
+    go : (o : Option PlainClient) → w.clients who ≡ o → IsSomeAnd o (λ c. allows c event ≡ true) → AllSignings s (happens_to w who event o)
+    go None is may x at = absurd may
+    go (Some c) is may x at = elim (Contains-append_cases w.signed (signings who c event) x at) [
+      | inl p ↦ all x p
+      | inr p ↦ event_signings s who c event well (reached who c is) may x p
+    ]
+signings_after s w (Give who position bytes) well reached all may = go (w.clients who)
+  where
+    go : (o : Option PlainClient) → AllSignings s (gives_to w who position bytes o)
+    go None = all
+    go (Some c) = all
+signings_after s w (Restart who k) well reached all may = go (w.clients who)
+  where
+    go : (o : Option PlainClient) → AllSignings s (restarts w who k o)
+    go None = all
+    go (Some c) = all
+
+signings_all : (s : Setup) (w : World) (moves : List Move) → IsWellFormed s → AllReached s w → AllSignings s w → IsRun s w moves → AllSignings s (after_all s w moves)
+signings_all s w [] well reached all run = all
+signings_all s w (move ∷ moves) well reached all run =
+    signings_all s (after s w move) moves well (reached_after s w move reached run.0) (signings_after s w move well reached all run.0) run.1
+
+pub signing_at : (s : Setup) (moves : List Move) (n : ℕ) (x : Signing) → IsWellFormed s → IsRun s start moves → Contains (after_all s start (take n moves)).signed x → IsSigning s x
+signing_at s moves n x well run at = signings_all s start (take n moves) well (reached_start s) (none_signed s) (run_front s start moves n run) x at

@@ -1,0 +1,181 @@
+-- Each event keeps the limits.
+use Rattle.std.proofs.Common.{◌≡◌, ℕ, zero, suc, ◌+◌, ◌*◌, ◌^◌, ◌<◌, ◌≤◌, List, [], ◌∷◌, ◌++◌, length, drop, fold, refl, ap, arith, length-append}
+use Rattle.std.proofs.Math.Nat.{mul-le-mul_left}
+use Rattle.std.proofs.lemmas.Str.{length-encode, len_utf8_bounds}
+use Rattle.std.specs.Char.{encode_utf8}
+use Rattle.std.specs.Int.{w64, to_be_bytes}
+use Rattle.std.specs.Str.{encode_utf8_all}
+use Rattle.sporc_delta.specs.declared.part.Part.{Part}
+use Rattle.sporc_delta.specs.declared.part.Part.TheVariants.{Keep, Insert as InsertText, Remove}
+use Rattle.sporc_delta.specs.Format.{delta_bytes, part_bytes, parts_bytes}
+use Rattle.sporc_delta.specs.Marks.{Mark, Retain, Delete, Insert, apply, deletes, inserted_len, inserts, replacement, retains}
+use Rattle.sporc_delta.specs.Parts.{marks_of, part_marks, runs}
+use Rattle.sporc_delta.specs.Transforms.{earlier}
+use Rattle.sporc_delta.proofs.Runs.{marks_of-runs}
+use Rattle.sporc_xform.proofs.LengthLemmas.{inserted_len-later, out_len-le}
+use Rattle.sporc_suffix.specs.Forms.{all_inserted}
+use Rattle.sporc_head.specs.declared.limits.TheConstants.{MAX_ENTRIES}
+use Rattle.sporc_line.proofs.FormLengths.{all_inserted-append, inserted_len-over, inserted_len-retains, length-apply}
+use Rattle.sporc_member.specs.declared.change.Change.{Change as MemberChange}
+use Rattle.sporc_client.specs.declared.limits.TheConstants.{MAX_EDIT_BYTES, MAX_EVENTS, MAX_HEAD_BYTES, MAX_PENDING}
+use Rattle.sporc_client.specs.declared.pending.Pending.{Pending}
+use Rattle.sporc_client.specs.declared.pending.Pending.TheVariants as items
+use Rattle.sporc_client.specs.Log.{Edit, Change, Discard}
+use Rattle.sporc_client.specs.PlainClient.{PlainClient, after_pending, committed_of, shown_of}
+use Rattle.sporc_client.specs.Rebasing.{AreStated, beyond, inserted_by, rebased}
+use Rattle.sporc_client.specs.Small.{AreShort, IsSmall}
+use Rattle.sporc_client.specs.Step.{restated, step}
+use Rattle.sporc_client.proofs.Rebased.{inserted_len-earlier}
+
+-- ---- a delta inserts no more characters than it has bytes
+
+inserted_len-append : (ms ns : List Mark) → inserted_len (ms ++ ns) ≡ inserted_len ms + inserted_len ns
+inserted_len-append [] ns = omega arith
+inserted_len-append (Retain ∷ ms) ns = inserted_len-append ms ns
+inserted_len-append (Delete ∷ ms) ns = inserted_len-append ms ns
+inserted_len-append (Insert c ∷ ms) ns = omega (arith, inserted_len-append ms ns)
+
+inserted_len-deletes : (n : ℕ) → inserted_len (deletes n) ≡ 0
+inserted_len-deletes zero = refl
+inserted_len-deletes (suc n) = inserted_len-deletes n
+
+inserted_len-inserts : (text : List ℕ) → inserted_len (inserts text) ≡ length text
+inserted_len-inserts [] = refl
+inserted_len-inserts (c ∷ text) = ap suc (inserted_len-inserts text)
+
+length-encode_all : (text : List ℕ) → length text ≤ length (encode_utf8_all text)
+length-encode_all [] = omega arith
+length-encode_all (c ∷ text) = omega (arith, length-encode_all text, length-append (encode_utf8 c) (encode_utf8_all text), length-encode c, len_utf8_bounds c)
+
+-- a character has at most four bytes
+pub encode_all-le : (text : List ℕ) → length (encode_utf8_all text) ≤ 4 * length text
+encode_all-le [] = omega arith
+encode_all-le (c ∷ text) = omega (arith, encode_all-le text, length-append (encode_utf8 c) (encode_utf8_all text), length-encode c, len_utf8_bounds c)
+
+inserted_len-part : (p : Part) → inserted_len (part_marks p) ≤ length (part_bytes p)
+inserted_len-part (Keep n) = omega (arith, inserted_len-retains n)
+inserted_len-part (InsertText text) = omega (arith, inserted_len-inserts text, length-encode_all text, length-append (to_be_bytes w64 (length (encode_utf8_all text))) (encode_utf8_all text))
+inserted_len-part (Remove n) = omega (arith, inserted_len-deletes n)
+
+inserted_len-parts : (ps : List Part) → inserted_len (marks_of ps) ≤ length (parts_bytes ps)
+inserted_len-parts [] = omega arith
+inserted_len-parts (p ∷ ps) =
+    omega (arith, inserted_len-part p, inserted_len-parts ps, inserted_len-append (part_marks p) (marks_of ps), length-append (part_bytes p) (parts_bytes ps))
+
+pub inserted_len-bytes : (ms : List Mark) → inserted_len ms ≤ length (delta_bytes ms)
+inserted_len-bytes ms = omega (arith, inserted_len-parts (runs ms), ap inserted_len (marks_of-runs ms))
+
+inserted_len-replacement : (n : ℕ) (text : List ℕ) → inserted_len (replacement n text) ≡ length text
+inserted_len-replacement n text = omega (arith, inserted_len-append (deletes n) (inserts text), inserted_len-deletes n, inserted_len-inserts text)
+
+-- ---- pending items
+
+short_more : (pending : List Pending) (marks : List Mark) → AreShort pending → inserted_len marks ≤ MAX_EDIT_BYTES → AreShort (pending ++ items.Edit marks ∷ [])
+short_more [] marks short few = (few, tt)
+short_more (items.Edit m ∷ ps) marks short few = (short.0, short_more ps marks short.1 few)
+short_more (items.Change c ∷ ps) marks short few = short_more ps marks short few
+
+short_change : (pending : List Pending) (change : MemberChange) → AreShort pending → AreShort (pending ++ items.Change change ∷ [])
+short_change [] change short = tt
+short_change (items.Edit m ∷ ps) change short = (short.0, short_change ps change short.1)
+short_change (items.Change c ∷ ps) change short = short_change ps change short
+
+pub short_drop : (pending : List Pending) → AreShort pending → AreShort (drop 1 pending)
+short_drop [] short = tt
+short_drop (items.Edit m ∷ ps) short = short.1
+short_drop (items.Change c ∷ ps) short = short
+
+pub short_rebased : (form : List Mark) (pending : List Pending) → AreShort pending → AreShort (rebased form pending)
+short_rebased form [] short = tt
+short_rebased form (items.Change c ∷ ps) short = short_rebased form ps short
+short_rebased form (items.Edit m ∷ ps) short = (omega (arith, short.0, inserted_len-later form m), short_rebased (earlier form m) ps short.1)
+
+pub length-rebased : (form : List Mark) (pending : List Pending) → length (rebased form pending) ≡ length pending
+length-rebased form [] = refl
+length-rebased form (items.Change c ∷ ps) = ap suc (length-rebased form ps)
+length-rebased form (items.Edit m ∷ ps) = ap suc (length-rebased (earlier form m) ps)
+
+pub inserted_len-beyond : (form : List Mark) (pending : List Pending) → inserted_len (beyond form pending) ≤ inserted_len form
+inserted_len-beyond form [] = omega arith
+inserted_len-beyond form (items.Change c ∷ ps) = inserted_len-beyond form ps
+inserted_len-beyond form (items.Edit m ∷ ps) = omega (arith, inserted_len-beyond (earlier form m) ps, inserted_len-earlier form m)
+
+-- short edits insert few characters
+pub inserted_by-short : (pending : List Pending) → AreShort pending → inserted_by pending ≤ MAX_EDIT_BYTES * length pending
+inserted_by-short [] short = omega arith
+inserted_by-short (items.Change c ∷ ps) short = omega (arith, inserted_by-short ps short)
+inserted_by-short (items.Edit m ∷ ps) short = omega (arith, short.0, inserted_by-short ps short.1)
+
+-- and make the shown text little longer than the committed one
+pub length-shown : (text : List ℕ) (pending : List Pending) → AreStated text pending → length (fold after_pending text pending) ≤ length text + inserted_by pending
+length-shown text [] stated = omega arith
+length-shown text (items.Change c ∷ ps) stated = length-shown text ps stated
+length-shown text (items.Edit m ∷ ps) stated = omega (arith, length-shown (apply m text) ps stated.1, length-apply m text stated.0, out_len-le m, stated.0)
+
+-- the committed text and the pending edits are short
+pub record Lengths (c : PlainClient) : Type 0 where
+  pub committed : length (committed_of c) ≤ 2 ^ 34
+  pub pending : inserted_by c.pending ≤ 2 ^ 26
+  pub shown : all_inserted c.shown ≤ 2 ^ 55
+
+pub lengths : (c : PlainClient) → IsSmall c → Lengths c
+lengths c small =
+    let a : MAX_HEAD_BYTES * length c.entries ≤ MAX_HEAD_BYTES * MAX_ENTRIES = mul-le-mul_left MAX_HEAD_BYTES small.entries in
+    let b : MAX_EDIT_BYTES * length c.pending ≤ MAX_EDIT_BYTES * MAX_PENDING = mul-le-mul_left MAX_EDIT_BYTES small.pending in
+    let d : 2 ^ 35 * length c.shown ≤ 2 ^ 35 * MAX_EVENTS = mul-le-mul_left (2 ^ 35) small.events in
+    record {
+      committed = omega (arith, a, small.committed);
+      pending = omega (arith, b, inserted_by-short c.pending small.short);
+      shown = omega (arith, d, small.shown);
+    }
+
+-- ---- one shown delta more
+
+pub record FewMore (forms : List (List Mark)) (form : List Mark) : Type 0 where
+  pub events : length (forms ++ form ∷ []) ≤ MAX_EVENTS
+  pub inserted : all_inserted (forms ++ form ∷ []) ≤ 2 ^ 35 * length (forms ++ form ∷ [])
+
+pub few_more : (forms : List (List Mark)) (form : List Mark) → length forms < MAX_EVENTS → all_inserted forms ≤ 2 ^ 35 * length forms → inserted_len form ≤ 2 ^ 35 → FewMore forms form
+few_more forms form room few here = record {
+  events = omega (arith, room, length-append forms (form ∷ []));
+  inserted = omega (arith, few, here, all_inserted-append forms (form ∷ []), length-append forms (form ∷ []));
+}
+
+pub edit_small : (c : PlainClient) (by seen : ℕ) (marks : List Mark) → IsSmall c → length c.pending < MAX_PENDING → length c.shown < MAX_EVENTS → length (delta_bytes marks) ≤ MAX_EDIT_BYTES
+    → IsSmall (step c (Edit by seen marks))
+edit_small c by seen marks small pending events bytes =
+    let few : inserted_len (restated c seen marks) ≤ MAX_EDIT_BYTES = omega (arith, bytes, inserted_len-bytes marks, inserted_len-over marks (drop seen c.shown)) in
+    let more = few_more c.shown (restated c seen marks) events small.shown (omega (arith, few)) in
+    record {
+      entries = small.entries;
+      committed = small.committed;
+      pending = omega (arith, pending, length-append c.pending (items.Edit (restated c seen marks) ∷ []));
+      short = short_more c.pending (restated c seen marks) small.short few;
+      events = more.events;
+      shown = more.inserted;
+    }
+
+pub change_small : (c : PlainClient) (by : ℕ) (change : MemberChange) → IsSmall c → length c.pending < MAX_PENDING → length c.shown < MAX_EVENTS → IsSmall (step c (Change by change))
+change_small c by change small pending events =
+    let more = few_more c.shown (retains (length (shown_of c))) events small.shown (omega (arith, inserted_len-retains (length (shown_of c)))) in
+    record {
+      entries = small.entries;
+      committed = small.committed;
+      pending = omega (arith, pending, length-append c.pending (items.Change change ∷ []));
+      short = short_change c.pending change small.short;
+      events = more.events;
+      shown = more.inserted;
+    }
+
+pub discard_small : (c : PlainClient) (by : ℕ) → IsSmall c → length c.shown < MAX_EVENTS → IsSmall (step c (Discard by))
+discard_small c by small events =
+    let form = replacement (length (shown_of c)) (committed_of c) in
+    let more = few_more c.shown form events small.shown (omega (arith, inserted_len-replacement (length (shown_of c)) (committed_of c), (lengths c small).committed)) in
+    record {
+      entries = small.entries;
+      committed = small.committed;
+      pending = omega arith;
+      short = tt;
+      events = more.events;
+      shown = more.inserted;
+    }

@@ -1,0 +1,157 @@
+-- Pending edits have spellings: their characters are Unicode scalar values, and stay so when edits pass others.
+use Rattle.std.proofs.Common.{◌≡◌, ℕ, ◌≤◌, Bool, true, false, ◌&&◌, List, [], ◌∷◌, ◌++◌, length, drop, refl, ap, sym, ◌∙◌, subst, arith, length-append}
+use Rattle.std.specs.Prelude.{⊤}
+use Rattle.std.specs.List.{AllByRecursion, flat_map}
+use Rattle.std.specs.Int.{w64, to_be_bytes}
+use Rattle.std.specs.Str.{all_scalars, encode_utf8_all}
+use Rattle.std.proofs.lemmas.Bool.{and_parts}
+use Rattle.sporc_delta.specs.declared.limits.TheConstants.{MAX_COUNT}
+use Rattle.sporc_delta.specs.declared.part.Part.{Part}
+use Rattle.sporc_delta.specs.declared.part.Part.TheVariants.{Keep, Insert as InsertText, Remove}
+use Rattle.sporc_delta.specs.Format.{HasSpelling, HaveSpellings, Spells, delta_bytes, part_bytes, parts_bytes}
+use Rattle.sporc_delta.specs.Marks.{Mark, Retain, Delete, Insert, base_len}
+use Rattle.sporc_delta.specs.Parts.{marks_of, part_marks, runs}
+use Rattle.sporc_delta.specs.Transforms.{earlier, last_steps, later, later_step}
+use Rattle.sporc_delta.specs.Typed.{IsTypedDelta, IsTypedPart}
+use Rattle.sporc_delta.proofs.Lengths.{base_len-append, base_len-deletes, base_len-retains}
+use Rattle.sporc_delta.proofs.Runs.{marks_of-runs}
+use Rattle.sporc_delta.proofs.Typing.{inserted, inserted-append, inserted-deletes, inserted-inserts, inserted-retains}
+use Rattle.sporc_suffix.specs.Forms.{later_over}
+use Rattle.sporc_member.specs.declared.change.Change.{Change as MemberChange}
+use Rattle.sporc_client.specs.declared.pending.Pending.{Pending}
+use Rattle.sporc_client.specs.declared.pending.Pending.TheVariants.{Edit, Change}
+use Rattle.sporc_client.specs.Rebasing.{rebased}
+use Rattle.sporc_client.specs.Typed.{IsTypedChange}
+
+-- ---- the characters that a delta inserts
+
+abbrev pub HasScalars : List Mark → Type 0
+HasScalars marks = all_scalars (inserted marks) ≡ true
+
+scalars_append : (xs ys : List ℕ) → all_scalars (xs ++ ys) ≡ (all_scalars xs && all_scalars ys)
+scalars_append [] ys = refl
+scalars_append (x ∷ xs) ys = grind (arith, scalars_append xs ys)
+
+both_true : (a b : Bool) → a ≡ true → b ≡ true → (a && b) ≡ true
+both_true true b p q = q
+both_true false b p q = absurd cc
+
+scalars_of_parts : (ps : List Part) → AllByRecursion IsTypedPart ps → HasScalars (marks_of ps)
+scalars_of_parts [] typed = refl
+scalars_of_parts (p ∷ ps) typed =
+    ap all_scalars (inserted-append (part_marks p) (marks_of ps)) ∙ scalars_append (inserted (part_marks p)) (inserted (marks_of ps))
+    ∙ both_true (all_scalars (inserted (part_marks p))) (all_scalars (inserted (marks_of ps))) (of_part p typed.0) (scalars_of_parts ps typed.1)
+  where
+    of_part : (p : Part) → IsTypedPart p → all_scalars (inserted (part_marks p)) ≡ true
+    of_part (Keep n) typed = ap all_scalars (inserted-retains n)
+    of_part (InsertText text) typed = ap all_scalars (inserted-inserts text) ∙ typed.1
+    of_part (Remove n) typed = ap all_scalars (inserted-deletes n)
+
+pub scalars_of : (marks : List Mark) → IsTypedDelta marks → HasScalars marks
+scalars_of marks typed = subst HasScalars (marks_of-runs marks) (scalars_of_parts (runs marks) typed)
+
+-- ---- a delta that passes another inserts what it inserted
+
+scalar_front : (c : ℕ) (text : List ℕ) (rest : List ℕ) → all_scalars (c ∷ text) ≡ true → (all_scalars text ≡ true → all_scalars rest ≡ true) → all_scalars (c ∷ rest) ≡ true
+scalar_front c text rest all more =
+    let split : (all_scalars (c ∷ []) && all_scalars text) ≡ true = sym (scalars_append (c ∷ []) text) ∙ all in
+    let p = and_parts (all_scalars (c ∷ [])) (all_scalars text) split in
+    scalars_append (c ∷ []) rest ∙ both_true (all_scalars (c ∷ [])) (all_scalars rest) p.0 (more p.1)
+
+last_scalars : (q : List Mark) → HasScalars q → HasScalars (flat_map later_step (last_steps q))
+last_scalars [] h = refl
+last_scalars (Insert c ∷ q) h = scalar_front c (inserted q) (inserted (flat_map later_step (last_steps q))) h (last_scalars q)
+last_scalars (Retain ∷ q) h = refl
+last_scalars (Delete ∷ q) h = refl
+
+abbrev KeepsScalars : List Mark → Type 0
+KeepsScalars p = (q : List Mark) → HasScalars q → HasScalars (later q p)
+
+retain_scalars : (p : List Mark) → KeepsScalars p → KeepsScalars (Retain ∷ p)
+retain_scalars p before [] h = refl
+retain_scalars p before (Insert c ∷ q) h = scalar_front c (inserted q) (inserted (later q (Retain ∷ p))) h (retain_scalars p before q)
+retain_scalars p before (Retain ∷ q) h = before q h
+retain_scalars p before (Delete ∷ q) h = before q h
+
+delete_scalars : (p : List Mark) → KeepsScalars p → KeepsScalars (Delete ∷ p)
+delete_scalars p before [] h = refl
+delete_scalars p before (Insert c ∷ q) h = scalar_front c (inserted q) (inserted (later q (Delete ∷ p))) h (delete_scalars p before q)
+delete_scalars p before (Retain ∷ q) h = before q h
+delete_scalars p before (Delete ∷ q) h = before q h
+
+pub later_scalars : (p : List Mark) → KeepsScalars p
+later_scalars [] q h = last_scalars q h
+later_scalars (Insert c ∷ p) q h = later_scalars p q h
+later_scalars (Retain ∷ p) q h = retain_scalars p (later_scalars p) q h
+later_scalars (Delete ∷ p) q h = delete_scalars p (later_scalars p) q h
+
+pub over_scalars : (q : List Mark) (forms : List (List Mark)) → HasScalars q → HasScalars (later_over q forms)
+over_scalars q [] h = h
+over_scalars q (form ∷ forms) h = over_scalars (later q form) forms (later_scalars form q h)
+
+-- ---- pending items
+
+-- each edit's characters are Unicode scalar values, and each change is typed
+abbrev pub AreTypedItems : List Pending → Type 0
+AreTypedItems [] = ⊤
+AreTypedItems (Edit marks ∷ items) = HasScalars marks × AreTypedItems items
+AreTypedItems (Change change ∷ items) = IsTypedChange change × AreTypedItems items
+
+pub typed_edit : (pending : List Pending) (marks : List Mark) → AreTypedItems pending → HasScalars marks → AreTypedItems (pending ++ Edit marks ∷ [])
+typed_edit [] marks all h = (h, tt)
+typed_edit (Edit m ∷ items) marks all h = (all.0, typed_edit items marks all.1 h)
+typed_edit (Change c ∷ items) marks all h = (all.0, typed_edit items marks all.1 h)
+
+pub typed_change : (pending : List Pending) (change : MemberChange) → AreTypedItems pending → IsTypedChange change → AreTypedItems (pending ++ Change change ∷ [])
+typed_change [] change all h = (h, tt)
+typed_change (Edit m ∷ items) change all h = (all.0, typed_change items change all.1 h)
+typed_change (Change c ∷ items) change all h = (all.0, typed_change items change all.1 h)
+
+pub typed_drop : (pending : List Pending) → AreTypedItems pending → AreTypedItems (drop 1 pending)
+typed_drop [] all = tt
+typed_drop (Edit m ∷ items) all = all.1
+typed_drop (Change c ∷ items) all = all.1
+
+pub typed_rebased : (form : List Mark) (pending : List Pending) → AreTypedItems pending → AreTypedItems (rebased form pending)
+typed_rebased form [] all = tt
+typed_rebased form (Edit m ∷ items) all = (later_scalars form m all.0, typed_rebased (earlier form m) items all.1)
+typed_rebased form (Change c ∷ items) all = (all.0, typed_rebased form items all.1)
+
+-- ---- spellings
+
+-- a delta of a text that isn't too long, with few bytes
+pub record IsShort (marks : List Mark) (bytes : List ℕ) : Type 0 where
+  pub base : base_len marks ≤ MAX_COUNT
+  pub size : length bytes ≤ MAX_COUNT
+  pub scalars : HasScalars marks
+
+part_spelled : (p : Part) → IsShort (part_marks p) (part_bytes p) → HasSpelling p
+part_spelled (Keep n) short = omega (arith, short.base, base_len-retains n)
+part_spelled (Remove n) short = omega (arith, short.base, base_len-deletes n)
+part_spelled (InsertText text) short = (
+  ap all_scalars (sym (inserted-inserts text)) ∙ short.scalars,
+  omega (arith, short.size, length-append (to_be_bytes w64 (length (encode_utf8_all text))) (encode_utf8_all text)),
+)
+
+parts_spelled : (ps : List Part) → IsShort (marks_of ps) (parts_bytes ps) → HaveSpellings ps
+parts_spelled [] short = tt
+parts_spelled (p ∷ ps) short =
+    let scalars = and_parts (all_scalars (inserted (part_marks p))) (all_scalars (inserted (marks_of ps)))
+    (sym (scalars_append (inserted (part_marks p)) (inserted (marks_of ps))) ∙ ap all_scalars (sym (inserted-append (part_marks p) (marks_of ps))) ∙ short.scalars) in (
+      part_spelled p (record {
+        base = omega (arith, short.base, base_len-append (part_marks p) (marks_of ps));
+        size = omega (arith, short.size, length-append (part_bytes p) (parts_bytes ps));
+        scalars = scalars.0;
+      }),
+      parts_spelled ps (record {
+        base = omega (arith, short.base, base_len-append (part_marks p) (marks_of ps));
+        size = omega (arith, short.size, length-append (part_bytes p) (parts_bytes ps));
+        scalars = scalars.1;
+      }),
+    )
+
+pub spelled : (marks : List Mark) → IsShort marks (delta_bytes marks) → Spells marks (delta_bytes marks)
+spelled marks short = record {
+  in_range = parts_spelled (runs marks) (subst (λ (ms : List Mark). IsShort ms (delta_bytes marks)) (sym (marks_of-runs marks)) short);
+  bytes_are = refl;
+}

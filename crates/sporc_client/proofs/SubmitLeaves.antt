@@ -1,0 +1,109 @@
+-- The leaf that a draw gave, and the order of leaves.
+use Rattle.std.proofs.Common.{◌≡◌, ℕ, ◌+◌, ◌<◌, ◌≤◌, Bool, true, false, cond, List, [], ◌∷◌, ◌++◌, refl, ap, sym, subst, arith, Option, None, Some, Result, Ok, Err}
+use Rattle.std.specs.Prelude.{IsSomeAnd, ◌==◌}
+use Rattle.std.specs.Result.{result_ok}
+use Rattle.std.proofs.lemmas.Bool.{eq-eqb, eqb-false, eqb-true}
+use Rattle.lms_leaf.specs.Leaves.{DrawFaults, Draws, LeavesContent}
+use Rattle.lms_leaf.specs.declared.faults.LeafFault.{LeafFault}
+use Rattle.lms_leaf.specs.declared.faults.LeafFault.TheVariants.{Exhausted, DiskFault}
+use Rattle.sporc_client.specs.ClientModel.{AreInOrder, Rise}
+use Rattle.sporc_client.specs.Drawing.{IsDraw, at_hand, drawn, leaf_for}
+
+-- ---- what a draw answered is read off the leaf numbers
+
+module _ {D : Type 0} (stored : D → Option (List ℕ)) (moment : D → ℕ) (images : D → ℕ → List ℕ → Type 0) (faults : D → ℕ) (old new : LeavesContent D) where
+  abbrev by_tests : Bool → Bool → Result ℕ LeafFault
+  by_tests full faulty = cond full (Err (Exhausted old.next)) (cond faulty (Err DiskFault) (Ok old.next))
+
+  pub drawn_is : (r : Result ℕ LeafFault) → Draws stored moment images old r new → DrawFaults faults old r new → drawn old new ≡ r
+  drawn_is (Ok leaf) d f = go (old.next == old.leaf_count) new.faulty refl refl
+    where
+      go : (full faulty : Bool) → (old.next == old.leaf_count) ≡ full → new.faulty ≡ faulty → by_tests full faulty ≡ Ok leaf
+      go true faulty e g = absurd (omega (arith, eqb-true old.next old.leaf_count e, d.given, d.within))
+      go false true e g = let no : Ok leaf ≡ Err DiskFault = f.faulty.0 g in absurd cc
+      go false false e g = ap Ok (sym d.given)
+  drawn_is (Err (Exhausted n)) d f =
+      let both = (f.exhausted n).0 refl in
+      go (old.next == old.leaf_count) new.faulty refl both.0 both.1
+    where
+      go : (full faulty : Bool) → (old.next == old.leaf_count) ≡ full → old.next ≡ old.leaf_count → n ≡ old.next → by_tests full faulty ≡ Err (Exhausted n)
+      go true faulty e all is = ap (λ (k : ℕ). Err (Exhausted k)) (sym is)
+      go false faulty e all is = absurd (eqb-false old.next old.leaf_count e all)
+  drawn_is (Err DiskFault) d f = go (old.next == old.leaf_count) new.faulty refl refl
+    where
+      go : (full faulty : Bool) → (old.next == old.leaf_count) ≡ full → new.faulty ≡ faulty → by_tests full faulty ≡ Err DiskFault
+      go true faulty e g = let no : Err DiskFault ≡ Err (Exhausted old.next) = (f.exhausted old.next).1 (eqb-true old.next old.leaf_count e, refl) in absurd cc
+      go false true e g = refl
+      go false false e g = let no : new.faulty ≡ true = f.faulty.1 refl in absurd cc
+
+  -- and so is the leaf that it gave
+  pub drawn_at_hand : (r : Result ℕ LeafFault) → Draws stored moment images old r new → at_hand None old new ≡ result_ok r
+  drawn_at_hand (Ok leaf) d = go (new.next == old.next) refl
+    where
+      go : (same : Bool) → (new.next == old.next) ≡ same → cond same None (Some old.next) ≡ Some leaf
+      go true e = absurd (omega (arith, eqb-true new.next old.next e, d.next))
+      go false e = ap Some (sym d.given)
+  drawn_at_hand (Err fault) d = ap (λ (same : Bool). cond same None (Some old.next)) (eq-eqb new.next old.next d.next)
+
+  pub is_draw : (r : Result ℕ LeafFault) → Draws stored moment images old r new → DrawFaults faults old r new → IsDraw stored moment images faults old new
+  is_draw r d f =
+      let same = sym (drawn_is r d f) in
+      record {
+        leaf = subst (λ (r : Result ℕ LeafFault). Draws stored moment images old r new) same d;
+        fault = subst (λ (r : Result ℕ LeafFault). DrawFaults faults old r new) same f;
+      }
+
+-- a submission for which no leaf was drawn
+pub no_leaf : {D : Type 0} (kept : Option ℕ) (old new : LeavesContent D) (fault : LeafFault) → ((leaf : ℕ) → kept ≡ Some leaf → Err fault ≡ Ok leaf) → (kept ≡ None → drawn old new ≡ Err fault) → leaf_for kept old new ≡ Err fault
+no_leaf (Some leaf) old new fault is none = let no = is leaf refl in absurd cc
+no_leaf None old new fault is none = none refl
+
+-- ---- the order of leaves
+
+pub rise_end : (first leaf end : ℕ) (ns : List ℕ) → Rise first leaf ns → leaf ≤ end → Rise first end ns
+rise_end first leaf end [] rise le = tt
+rise_end first leaf end (n ∷ ns) rise le = (rise.0, omega (arith, rise.1, le), rise_end (n + 1) leaf end ns rise.2 le)
+
+pub rise_push : (first leaf end : ℕ) (ns : List ℕ) → Rise first leaf ns → first ≤ leaf → leaf < end → Rise first end (ns ++ leaf ∷ [])
+rise_push first leaf end [] rise after within = (after, within, tt)
+rise_push first leaf end (n ∷ ns) rise after within = (rise.0, omega (arith, rise.1, within), rise_push (n + 1) leaf end ns rise.2 (omega (arith, rise.1)) within)
+
+-- a leaf that was just drawn comes after all that signed
+pub kept_drawn : (first next end leaf : ℕ) (signed : List ℕ) → AreInOrder first next None signed → leaf ≡ next → first ≤ leaf → end ≡ next + 1 → AreInOrder first end (Some leaf) signed
+kept_drawn first next end leaf signed order is after more = record {
+  rise = rise_end first next end signed order.rise (omega (arith, more));
+  kept = record { after = after; drawn = omega (arith, is, more); unsigned = rise_end first next leaf signed order.rise (omega (arith, is)) };
+}
+
+-- a kept leaf that signed
+pub signed_kept : (first end leaf : ℕ) (signed : List ℕ) → AreInOrder first end (Some leaf) signed → AreInOrder first end None (signed ++ leaf ∷ [])
+signed_kept first end leaf signed order = record { rise = rise_push first leaf end signed order.kept.unsigned order.kept.after order.kept.drawn; kept = tt }
+
+-- a ticket that is given up
+pub given_up : (first end : ℕ) (ticket : Option ℕ) (signed : List ℕ) → AreInOrder first end ticket signed → AreInOrder first end None signed
+given_up first end ticket signed order = record { rise = order.rise; kept = tt }
+
+-- ---- after a submission
+
+-- the leaf at hand comes after all that signed
+module _ {D : Type 0} (stored : D → Option (List ℕ)) (moment : D → ℕ) (images : D → ℕ → List ℕ → Type 0) (faults : D → ℕ) (old new : LeavesContent D) (signed : List ℕ) where
+  order_drawn : (r : Result ℕ LeafFault) → AreInOrder old.next_at_open old.next None signed → Draws stored moment images old r new → AreInOrder new.next_at_open new.next (result_ok r) signed
+  order_drawn (Ok leaf) order d =
+      let kept = kept_drawn old.next_at_open old.next new.next leaf signed order d.given d.forward d.next in
+      subst (λ (first : ℕ). AreInOrder first new.next (Some leaf) signed) (sym d.next_at_open) kept
+  order_drawn (Err fault) order d =
+      let same = subst (λ (end : ℕ). AreInOrder old.next_at_open end None signed) (sym d.next) order in
+      subst (λ (first : ℕ). AreInOrder first new.next None signed) (sym d.next_at_open) same
+
+  pub order_at_hand : (ticket : Option ℕ) → AreInOrder old.next_at_open old.next ticket signed → ((leaf : ℕ) → ticket ≡ Some leaf → new ≡ old) → (ticket ≡ None → IsDraw stored moment images faults old new)
+      → AreInOrder new.next_at_open new.next (at_hand ticket old new) signed
+  order_at_hand (Some leaf) order same draw = subst (λ (l : LeavesContent D). AreInOrder l.next_at_open l.next (Some leaf) signed) (sym (same leaf refl)) order
+  order_at_hand None order same draw =
+      let is = draw refl in
+      let d = is.leaf in
+      subst (λ (t : Option ℕ). AreInOrder new.next_at_open new.next t signed) (sym (drawn_at_hand stored moment images faults old new (drawn old new) d)) (order_drawn (drawn old new) order d)
+
+-- the leaf, where there is one
+pub leaf_there : (P : ℕ → Type 0) (o : Option ℕ) → IsSomeAnd o P → (leaf : ℕ) × (o ≡ Some leaf) × P leaf
+leaf_there P None h = absurd h
+leaf_there P (Some leaf) h = (leaf, refl, h)

@@ -1,0 +1,189 @@
+-- The members of a good history: not too many, each with a number above 0. So a change that they accept can be written.
+use Rattle.std.proofs.Common.{◌≡◌, ℕ, suc, ◌<◌, ◌≤◌, Bool, true, false, cond, List, [], ◌∷◌, ◌++◌, length, refl, ap, sym, ◌∙◌, subst, arith, Option, None, Some, Ok, Err}
+use Rattle.std.specs.Prelude.{filter, find, is_some, nat_lt, not, unwrap_or, ◌==◌, ◌&&◌}
+use Rattle.std.specs.List.{AllByRecursion}
+use Rattle.std.proofs.lemmas.Bool.{and_parts, eqb-false, eqb-true, ltb-true}
+use Rattle.sporc_base.specs.FirstFault.{first_of}
+use Rattle.std.proofs.lemmas.List.{length-map}
+use Rattle.sporc_hash.proofs.Lists.{from_end}
+use Rattle.sporc_member.specs.declared.change.Change.{Change as MemberChange}
+use Rattle.sporc_member.specs.declared.change.Change.TheVariants.{Add, Remove, SetRole}
+use Rattle.sporc_member.specs.declared.change.ChangeFault.{ChangeFault}
+use Rattle.sporc_member.specs.declared.change.ChangeFault.TheVariants as faults
+use Rattle.sporc_member.specs.declared.founder.Founder.{Founder}
+use Rattle.sporc_member.specs.declared.limits.TheConstants.{MAX_MEMBERS}
+use Rattle.sporc_member.specs.Roster.{Roster, after_change, change_fault_of, insert_sorted, is_used, member_at, numbers_of, with_role}
+use Rattle.sporc_member.proofs.Checks.{passes}
+use Rattle.sporc_entry.specs.declared.change.ChangeBody.{ChangeBody}
+use Rattle.sporc_entry.specs.declared.entry.Entry.{Entry}
+use Rattle.sporc_entry.specs.declared.genesis.Genesis.{Genesis}
+use Rattle.sporc_entry.specs.ChangeBody.{IsChange}
+use Rattle.sporc_entry.specs.Entry.{change_of, entry_of}
+use Rattle.sporc_entry.specs.Genesis.{IsFounder, IsGenesis}
+use Rattle.sporc_epoch.specs.declared.fault.SealFault.TheVariants.{NoPairKey}
+use Rattle.sporc_epoch.specs.Keys.{Keys}
+use Rattle.sporc_epoch.specs.Sealing.{Sealing, body_sealed, body_unless, change_sealed, least_unpaired}
+use Rattle.sporc_epoch.proofs.SealedKeys.{sealed}
+use Rattle.sporc_head.specs.HeadChecks.{bad_change, roster_checks}
+use Rattle.sporc_head.specs.declared.refusal.Refusal.{Refusal}
+use Rattle.sporc_head.specs.History.{CommittedChange, change_in, epoch_of, roster_of}
+use Rattle.sporc_head.proofs.Grows.{change_in_read, roster_change, roster_edit}
+use Rattle.sporc_line.specs.Good.{Good}
+use Rattle.sporc_line.specs.Kit.{Kit}
+use Rattle.sporc_line.proofs.Goods.{good_front, last_passes}
+use Rattle.sporc_line.specs.Keys.{key_of}
+use Rattle.sporc_line.specs.LineModel.{LineModel}
+use Rattle.sporc_client.specs.declared.pending.Pending.TheVariants as items
+use Rattle.sporc_client.specs.Contents.{CanTake}
+use Rattle.sporc_client.specs.Entries.{Chosen, current_key, sealing_of}
+use Rattle.sporc_client.specs.PlainClient.{PlainClient, me_of}
+use Rattle.sporc_client.specs.Typed.{IsTypedChange}
+use Rattle.sporc_client.proofs.RosterFacts.{all_added, all_filter, all_roles}
+
+abbrev IsPositive : Founder → Type 0
+IsPositive m = 0 < m.member
+
+pub record IsFew (roster : Roster) : Type 0 where
+  pub positive : AllByRecursion IsPositive roster.members
+  pub few : length roster.members ≤ MAX_MEMBERS
+
+-- ---- after a change that they accept
+
+length-inserted : (m : Founder) (members : List Founder) → length (insert_sorted m members) ≡ suc (length members)
+length-inserted m [] = refl
+length-inserted m (n ∷ members) = go (nat_lt m.member n.member) (length-inserted m members)
+  where
+    go : (before : Bool) → length (insert_sorted m members) ≡ suc (length members) → length (cond before (m ∷ n ∷ members) (n ∷ insert_sorted m members)) ≡ suc (suc (length members))
+    go true h = refl
+    go false h = ap suc h
+
+length-filter : (p : Founder → Bool) (members : List Founder) → length (filter p members) ≤ length members
+length-filter p [] = omega arith
+length-filter p (m ∷ members) = go (p m) (length-filter p members)
+  where
+    go : (keep : Bool) → length (filter p members) ≤ length members → length (cond keep (m ∷ filter p members) (filter p members)) ≤ suc (length members)
+    go true h = omega (arith, h)
+    go false h = omega (arith, h)
+
+-- a new number isn't 0
+not_zero : (n : ℕ) → not (n == 0) ≡ true → 0 < n
+not_zero n h = go (n == 0) refl h
+  where
+    go : (zero : Bool) → (n == 0) ≡ zero → not zero ≡ true → 0 < n
+    go true is h = absurd cc
+    go false is h = omega (arith, eqb-false n 0 is)
+
+positive_new : (roster : Roster) (member : ℕ) → (not (member == 0) && not (is_used roster member)) ≡ true → 0 < member
+positive_new roster member h = not_zero member (and_parts (not (member == 0)) (not (is_used roster member)) h).0
+
+pub few_after : (roster : Roster) (change : MemberChange) → IsFew roster → change_fault_of roster change ≡ None → IsFew (after_change roster change)
+few_after roster (Add member role key) is none =
+    let a = passes (not (member == 0) && not (is_used roster member)) faults.NumberUsed _ none in
+    let b = passes (nat_lt (length roster.members) MAX_MEMBERS) faults.RosterFull _ a.1 in
+    let new : Founder = record { member = member; role = role; key = key } in
+    record {
+      positive = all_added IsPositive new roster.members (positive_new roster member a.0) is.positive;
+      few = omega (arith, length-inserted new roster.members, ltb-true (length roster.members) MAX_MEMBERS b.0);
+    }
+few_after roster (Remove member) is none = record {
+  positive = all_filter IsPositive (λ m. not (m.member == member)) roster.members is.positive;
+  few = omega (arith, length-filter (λ m. not (m.member == member)) roster.members, is.few);
+}
+few_after roster (SetRole member role) is none = record {
+  positive = all_roles IsPositive (λ m role h. h) member role roster.members is.positive;
+  few = omega (arith, length-map roster.members (with_role member role), is.few);
+}
+
+-- ---- and so in a good history
+
+abbrev FewIf : Genesis → Kit → List (List ℕ) → Type 0
+FewIf g kit entries = Good g kit entries → IsFew (roster_of g entries)
+
+founders_positive : (founders : List Founder) → AllByRecursion IsFounder founders → AllByRecursion IsPositive founders
+founders_positive [] all = tt
+founders_positive (m ∷ founders) all = (all.0.member.positive, founders_positive founders all.1)
+
+no_bad_change : (fault : Option ChangeFault) (rest : List (Option Refusal)) → first_of (bad_change fault ∷ rest) ≡ None → fault ≡ None
+no_bad_change None rest h = refl
+no_bad_change (Some fault) rest h = absurd cc
+
+few_more : (g : Genesis) (kit : Kit) (entries : List (List ℕ)) (bytes : List ℕ) → FewIf g kit entries → FewIf g kit (entries ++ bytes ∷ [])
+few_more g kit entries bytes before good =
+    let last = last_passes g kit entries bytes good in
+    let is = before (good_front g kit entries bytes good) in
+    go last.0 last.1 last.2.roster is (change_of last.0) refl
+  where
+    go : (e : Entry) → entry_of bytes ≡ Ok e → first_of (roster_checks (roster_of g entries) (change_of e)) ≡ None → IsFew (roster_of g entries)
+        → (o : Option ChangeBody) → change_of e ≡ o → IsFew (roster_of g (entries ++ bytes ∷ []))
+    go e reads checks is None of =
+        let no_change : change_in bytes ≡ None = change_in_read bytes e None reads (sym of) in
+        subst IsFew (sym (roster_edit g entries bytes no_change)) is
+    go e reads checks is (Some body) of =
+        let committed : CommittedChange = record { header = e.header; body = body } in
+        let its : change_in bytes ≡ Some committed = change_in_read bytes e (Some body) reads (sym of) in
+        let fault : change_fault_of (roster_of g entries) body.change ≡ None =
+        no_bad_change (change_fault_of (roster_of g entries) body.change) _ (ap (λ (o : Option ChangeBody). first_of (roster_checks (roster_of g entries) o)) (sym of) ∙ checks) in
+        subst IsFew (sym (roster_change g entries bytes committed its)) (few_after (roster_of g entries) body.change is fault)
+
+pub few_members : (g : Genesis) (kit : Kit) (entries : List (List ℕ)) → IsGenesis g → Good g kit entries → IsFew (roster_of g entries)
+few_members g kit entries is = from_end (FewIf g kit) (λ good. record { positive = founders_positive g.founders is.founders; few = is.count.1 }) (few_more g kit) entries
+
+-- ---- such a change can be written
+
+positive_if : (b : Bool) (m n : ℕ) (rest : Option Founder) (o : Founder) → (m == n) ≡ b → 0 < m → (is_some rest ≡ true → 0 < n) → is_some (cond b (Some o) rest) ≡ true → 0 < n
+positive_if true m n rest o is here later h = omega (arith, eqb-true m n is, here)
+positive_if false m n rest o is here later h = later h
+
+found_positive : (n : ℕ) (members : List Founder) → AllByRecursion IsPositive members → is_some (find (λ (m : Founder). m.member == n) members) ≡ true → 0 < n
+found_positive n [] all h = absurd cc
+found_positive n (m ∷ members) all h = positive_if (m.member == n) m.member n (find (λ (m : Founder). m.member == n) members) m refl all.0 (found_positive n members all.1) h
+
+pub change_written : (roster : Roster) (change : MemberChange) → IsFew roster → change_fault_of roster change ≡ None → IsTypedChange change → IsChange change
+change_written roster (Add member role key) is none typed =
+    let a = passes (not (member == 0) && not (is_used roster member)) faults.NumberUsed _ none in
+    (record { positive = positive_new roster member a.0; small = typed.0 }, typed.1)
+change_written roster (Remove member) is none typed =
+    let a = passes (is_some (member_at roster member)) faults.NotMember _ none in
+    record { positive = found_positive member roster.members is.positive a.0; small = typed }
+change_written roster (SetRole member role) is none typed =
+    let a = passes (is_some (member_at roster member)) faults.NotMember _ none in
+    record { positive = found_positive member roster.members is.positive a.0; small = typed }
+
+pub few_numbers : (roster : Roster) → IsFew roster → length (numbers_of roster.members) ≤ MAX_MEMBERS
+few_numbers roster is = omega (arith, length-map roster.members (λ (m : Founder). m.member), is.few)
+
+-- ---- what sealing a change asks
+
+pub record CanSeal (change : MemberChange) (members : List ℕ) : Type 0 where
+  pub is_change : IsChange change
+  pub few : length members ≤ MAX_MEMBERS
+
+pub can_seal : (line : LineModel) (change : MemberChange) (members : List ℕ) → CanTake line (items.Change change) → IsGenesis line.genesis → IsTypedChange change
+    → members ≡ numbers_of (after_change (roster_of line.genesis line.entries) change).members → CanSeal change members
+can_seal line change members may genesis typed are =
+    let roster = roster_of line.genesis line.entries in
+    let few = few_members line.genesis line.kit line.entries genesis may.good in
+    record {
+      is_change = change_written roster change few may.fits.0 typed;
+      few = omega (arith, ap length are, few_numbers (after_change roster change) (few_after roster change few may.fits.0));
+    }
+
+-- what is sealed, as its parts are found
+pub sealing_same : (c : PlainClient) (chosen : Chosen) (change : MemberChange) (members document : List ℕ) (author epoch : ℕ) (old : List ℕ)
+    → members ≡ numbers_of (after_change (roster_of c.opening.genesis c.entries) change).members → document ≡ c.opening.genesis.document → author ≡ me_of c → epoch ≡ epoch_of c.entries
+    → key_of c.opening.genesis c.opening.kit c.entries (epoch_of c.entries) ≡ Some old
+    → let s : Sealing = record { change = change; members = members; document = document; author = author; leaf = chosen.leaf; epoch = epoch; old = old; new = chosen.new_key } in s ≡ sealing_of c chosen change
+sealing_same c chosen change members document author epoch old m d a e k =
+    let key : old ≡ current_key c = sym (ap (λ (key : Option (List ℕ)). unwrap_or key []) k) in
+    rw (m, d, a, e, key) refl
+
+pub sealed_same : (s t : Sealing) (pairs kit : Keys) (body : ChangeBody) → change_sealed s pairs ≡ Ok body → s ≡ t → pairs ≡ kit → body ≡ body_sealed t kit
+sealed_same s t pairs kit body h same keys = (sealed s pairs body h).0 ∙ ap (λ (s : Sealing). body_sealed s pairs) same ∙ ap (body_sealed t) keys
+
+-- no member is without a pairwise key
+pub all_paired : (s : Sealing) (pairs kit : Keys) (members : List ℕ) (member : ℕ) → s.members ≡ members → pairs ≡ kit → least_unpaired kit members ≡ None → change_sealed s pairs ≡ Err (NoPairKey member) → ⊥
+unfolding change_sealed
+all_paired s pairs kit members member are keys none h =
+    let paired : least_unpaired pairs s.members ≡ None = ap (least_unpaired pairs) are ∙ ap (λ (keys : Keys). least_unpaired keys members) keys ∙ none in
+    let ok : Ok (body_sealed s pairs) ≡ Err (NoPairKey member) = sym (ap (body_unless (body_sealed s pairs)) paired) ∙ h in
+    absurd cc

@@ -1,0 +1,77 @@
+use Rattle.std.proofs.Common.{rules, ◌≡◌, List, ℕ, [], ◌∷◌, ◌++◌, Some, length, ap, sym, ◌∙◌, arith}
+use Rattle.std.specs.Str.{chars}
+use Rattle.sporc_delta.specs.Marks.{Mark, replacement}
+use Rattle.sporc_line.specs.Document.{text_of}
+use Rattle.sporc_client.specs.declared.event.Event.{Event}
+use Rattle.sporc_client.specs.declared.event.Event.TheVariants as events
+use Rattle.sporc_client.specs.Answers.{discard_fault}
+use Rattle.sporc_client.specs.ClientInvariant.{plain_of}
+use Rattle.sporc_client.specs.ClientModel.{state_of}
+use Rattle.sporc_client.specs.Log.{Discard}
+use Rattle.sporc_client.specs.PlainClient.{committed_of, shown_of}
+use Rattle.sporc_client.proofs.Checked.{events_left}
+use Rattle.sporc_client.proofs.Events.{discard_records, length_of_shown, replaced_base, shown_length}
+use Rattle.sporc_client.proofs.Kept.{recorded}
+use Rattle.sporc_client.proofs.Small.{encode_all-le}
+use Rattle.sporc_client.proofs.client.Client.discard.Goals as goal
+
+pub returns-in_err-check_events-clause-fault : goal.returns-in_err-check_events-clause-fault
+returns-in_err-check_events-clause-fault g c =
+    let plain = plain_of c.self.inside.signer.key c.self.inside.line c.self.inside.own in
+    let state : state_of c.args.self.now ≡ plain = ap state_of (sym c.self.view_is) ∙ sym c.self.invariant.state in
+    let fault : discard_fault (state_of c.args.self.now) ≡ Some c.in_err-check_events.field-0.0 = ap discard_fault state ∙ c.in_err-check_events.ensures.fault in
+    rw fault (search rules)
+
+pub replace_all-requires-clause-limit : goal.replace_all-requires-clause-limit
+replace_all-requires-clause-limit g c =
+    let inside = c.self.inside in
+    omega (arith, c.shown_len.ensures.value, shown_length inside.line inside.signer inside.ticket inside.own c.self.invariant)
+
+pub replace_all-requires-clause-text_limit : goal.replace_all-requires-clause-text_limit
+replace_all-requires-clause-text_limit g c =
+    let line = c.self.inside.line in
+    let text = text_of line.genesis line.kit line.entries in
+    omega (arith, ap length c.as_str.ensures.value, ap length c.in_ok-text.ensures.ok, encode_all-le text, c.in_ok-text.ensures.small)
+
+pub ready-requires : goal.ready-requires
+ready-requires g c =
+    let inside = c.self.inside in
+    record { base = replaced_base inside.line inside.signer inside.ticket inside.own c.self.invariant c.in_ok-form.form c.shown_len.result _ c.in_ok-form.ensures.ok c.shown_len.ensures.value }
+
+pub record_discard-requires-clause-base : goal.record_discard-requires-clause-base
+record_discard-requires-clause-base g c =
+    let inside = c.self.inside in
+    rw (c.in_ok-ready.ensures.ok, c.in_ok-ready.ensures.shown)
+    (replaced_base inside.line inside.signer inside.ticket inside.own c.self.invariant c.in_ok-form.form c.shown_len.result _ c.in_ok-form.ensures.ok c.shown_len.ensures.value)
+
+pub record_discard-requires-clause-room : goal.record_discard-requires-clause-room
+record_discard-requires-clause-room g c = rw c.in_ok-ready.ensures.shown (events_left (length c.self.inside.own.shown) c.in_ok-check_events.ensures.fault)
+
+pub invariant_of-self-2 : goal.invariant_of-self-2
+invariant_of-self-2 g c =
+    let inside = c.self.inside in
+    let line = inside.line in
+    let signer = inside.signer in
+    let own = inside.own in
+    let known = c.self.invariant in
+    let plain = plain_of signer.key line own in
+    let did = c.record_discard.ensures in
+    let ready = c.in_ok-ready.ensures in
+    let text : chars c.as_str.result.now ≡ committed_of plain = ap chars c.as_str.ensures.value ∙ c.in_ok-text.ensures.chars in
+    let form : c.in_ok-ready.ready ≡ replacement (length (shown_of plain)) (committed_of plain) =
+    ready.ok
+    ∙ c.in_ok-form.ensures.ok
+    ∙ ap (λ (n : ℕ). replacement n (chars c.as_str.result.now)) (c.shown_len.ensures.value ∙ length_of_shown line signer inside.ticket own known)
+    ∙ ap (replacement (length (shown_of plain))) text in
+    let records = discard_records line signer inside.ticket own known c.record_discard.new.self c.args.by (events_left (length own.shown) c.in_ok-check_events.ensures.fault)
+    did.pending
+    did.flight
+    (did.shown ∙ ap (λ (fs : List (List Mark)). fs ++ c.in_ok-ready.ready ∷ []) ready.shown ∙ ap (λ (f : List Mark). own.shown ++ f ∷ []) form)
+    (did.journal ∙ ap (λ (es : List Event). es ++ events.Discard c.args.by ∷ []) ready.journal) in
+    (recorded line line signer signer inside.ticket inside.ticket own c.record_discard.new.self (Discard c.args.by) known records).invariant
+
+pub returns-clause-fault : goal.returns-clause-fault
+returns-clause-fault g c =
+    let plain = plain_of c.self.inside.signer.key c.self.inside.line c.self.inside.own in
+    let state : state_of c.args.self.now ≡ plain = ap state_of (sym c.self.view_is) ∙ sym c.self.invariant.state in
+    ap discard_fault state ∙ c.in_ok-check_events.ensures.fault

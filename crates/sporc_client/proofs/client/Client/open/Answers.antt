@@ -1,0 +1,7 @@
+use Rattle.sporc_client.proofs.Opened.{opened_invariant}
+use Rattle.sporc_client.proofs.client.Client.open.Goals as goal
+
+pub invariant_of-result : goal.invariant_of-result
+invariant_of-result g c =
+    let known = c.in-Ok.ensures in
+    opened_invariant c.in-Ok.line c.args.signer c.in-Ok.own known.good known.empty known.pending known.flight known.shown known.journal

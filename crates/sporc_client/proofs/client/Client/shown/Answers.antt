@@ -1,0 +1,56 @@
+use Rattle.std.proofs.Common.{◌≡◌, ℕ, List, length, ap, sym, subst, ◌∙◌, arith}
+use Rattle.std.specs.Str.{chars, encode_utf8_all}
+use Rattle.sporc_delta.specs.Marks.{Mark, apply, base_len, retains}
+use Rattle.sporc_line.specs.Document.{text_of}
+use Rattle.sporc_client.specs.declared.pending.Pending.{Pending}
+use Rattle.sporc_client.specs.ClientInvariant.{plain_of}
+use Rattle.sporc_client.specs.ClientModel.{state_of}
+use Rattle.sporc_client.specs.PlainClient.{PlainClient, committed_of, shown_of}
+use Rattle.sporc_client.specs.Rebasing.{AreOver, in_one}
+use Rattle.sporc_client.proofs.Comings.{stated_over}
+use Rattle.sporc_client.proofs.InOne.{pending_in_one}
+use Rattle.sporc_client.proofs.Small.{encode_all-le}
+use Rattle.sporc_client.proofs.client.Client.shown.Goals as goal
+
+pub in_one-requires-clause-over : goal.in_one-requires-clause-over
+in_one-requires-clause-over g c =
+    let inside = c.self.inside in
+    let committed = committed_of (plain_of inside.signer.key inside.line inside.own) in
+    let P : ℕ → Type 0 = λ n. AreOver n inside.own.pending in
+    let Q : List Pending → Type 0 = λ ps. AreOver c.committed_len-len.result ps in
+    subst Q (sym c.pending-pending.ensures.value) (subst P (sym c.committed_len-len.ensures.value) (stated_over committed inside.own.pending c.self.invariant.sound.stated))
+
+pub edited-requires-clause-base : goal.edited-requires-clause-base
+edited-requires-clause-base g c =
+    let inside = c.self.inside in
+    let committed = committed_of (plain_of inside.signer.key inside.line inside.own) in
+    let text : chars c.as_str.result.now ≡ committed = ap chars c.as_str.ensures.value ∙ c.in_ok-text.ensures.chars in
+    let all : c.in_ok-all.all ≡ in_one (retains (length committed)) inside.own.pending =
+    c.in_ok-all.ensures.value
+    ∙ ap (λ (n : ℕ). in_one (retains n) c.pending-pending.result.now) c.committed_len-len.ensures.value
+    ∙ ap (in_one (retains (length committed))) c.pending-pending.ensures.value in
+    ap base_len all ∙ (pending_in_one committed inside.own.pending c.self.invariant.sound.stated).0.base ∙ ap length (sym text)
+
+pub edited-requires-clause-short : goal.edited-requires-clause-short
+edited-requires-clause-short g c =
+    let line = c.self.inside.line in
+    let text = text_of line.genesis line.kit line.entries in
+    omega (arith, ap length c.as_str.ensures.value, ap length c.in_ok-text.ensures.ok, encode_all-le text, c.in_ok-text.ensures.small)
+
+pub returns : goal.returns
+returns g c =
+    let inside = c.self.inside in
+    let plain = plain_of inside.signer.key inside.line inside.own in
+    let state : state_of c.args.self.now ≡ plain = ap state_of (sym c.self.view_is) ∙ sym c.self.invariant.state in
+    let committed = committed_of plain in
+    let text : chars c.as_str.result.now ≡ committed = ap chars c.as_str.ensures.value ∙ c.in_ok-text.ensures.chars in
+    let all : c.in_ok-all.all ≡ in_one (retains (length committed)) inside.own.pending =
+    c.in_ok-all.ensures.value
+    ∙ ap (λ (n : ℕ). in_one (retains n) c.pending-pending.result.now) c.committed_len-len.ensures.value
+    ∙ ap (in_one (retains (length committed))) c.pending-pending.ensures.value in
+    let shown : apply c.in_ok-all.all (chars c.as_str.result.now) ≡ shown_of (state_of c.args.self.now) =
+    ap (λ (ms : List Mark). apply ms (chars c.as_str.result.now)) all
+    ∙ ap (apply (in_one (retains (length committed)) inside.own.pending)) text
+    ∙ (pending_in_one committed inside.own.pending c.self.invariant.sound.stated).1
+    ∙ ap (λ (p : PlainClient). shown_of p) (sym state) in
+    record { value = c.in_ok-shown.ensures.value ∙ ap encode_utf8_all shown }

@@ -1,0 +1,22 @@
+use Rattle.std.proofs.Common.{◌<◌, ◌++◌, ◌∷◌, [], List, ℕ, length, take, ap, sym, ◌∙◌, arith}
+use Rattle.std.proofs.lemmas.List.{length-map}
+use Rattle.sporc_client.proofs.Resumed.{take_read}
+use Rattle.sporc_client.proofs.client.restarting.first_entries.Goals as goal
+
+pub loop-i-preserved : goal.loop-i-preserved
+loop-i-preserved c =
+    let loop = c.loop-i in
+    let did = c.in_ok-take_next.ensures in
+    let vs = c.entries-entries.result.now in
+    let within : loop.i < length vs =
+    omega (arith, c.loop-i-test.true, c.requires, ap length c.entries-entries.ensures.value, length-map vs (λ v. v.items)) in
+    let more = take_read (λ v. v.items) vs c.args.line.now.entries loop.i c.index-entries-i.result c.entries-entries.ensures.value within c.index-entries-i.is in
+    record {
+      genesis = did.genesis ∙ loop.invariant.genesis;
+      kit = did.kit ∙ loop.invariant.kit;
+      entries =
+          did.entries
+          ∙ ap (λ (es : List (List ℕ)). es ++ c.as_slice.result.now ∷ []) loop.invariant.entries
+          ∙ ap (λ (b : List ℕ). take loop.i c.args.line.now.entries ++ b ∷ []) c.as_slice.ensures.value
+          ∙ sym more;
+    }

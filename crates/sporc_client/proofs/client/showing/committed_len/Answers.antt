@@ -1,0 +1,10 @@
+use Rattle.std.proofs.Common.{◌≤◌, ℕ, List, length, ap, ◌∙◌, arith}
+use Rattle.std.proofs.lemmas.List.{take_all}
+use Rattle.sporc_line.specs.Document.{text_of}
+use Rattle.sporc_client.proofs.client.showing.committed_len.Goals as goal
+
+pub returns-clause-value : goal.returns-clause-value
+returns-clause-value c =
+    let line = c.args.line.now in
+    let all : length line.entries ≤ c.len.result = omega (arith, c.len.ensures.value) in
+    c.text_len_at.ensures.value ∙ ap (λ (es : List (List ℕ)). length (text_of line.genesis line.kit es)) (take_all c.len.result line.entries all)

@@ -1,0 +1,85 @@
+-- What the calls of a client answer: edits, changes, entries that come, and going back.
+use Rattle.std.specs.Prelude.{ℕ, ◌==◌, nat_le, nat_lt, Bool, not, List, [], ◌∷◌, length, Option, None, Some, Result, Ok, Err}
+use Rattle.sporc_base.specs.FirstFault.{unless, first_of}
+use Rattle.sporc_delta.specs.Format.{delta_bytes}
+use Rattle.sporc_delta.specs.Marks.{Mark, base_len}
+use Rattle.sporc_head.specs.declared.refusal.Refusal.{Refusal}
+use Rattle.sporc_head.specs.HeadChecks.{allows_member}
+use Rattle.sporc_head.specs.History.{is_removed, roster_of}
+use Rattle.sporc_member.specs.Roster.{member_at}
+use Rattle.sporc_line.specs.LineChecks.{first_fault}
+use Rattle.sporc_client.specs.declared.limits.TheConstants.{MAX_EDIT_BYTES, MAX_EVENTS, MAX_PENDING}
+use Rattle.sporc_client.specs.declared.fault.AcceptFault.{AcceptFault}
+use Rattle.sporc_client.specs.declared.fault.AcceptFault.TheVariants as accepts
+use Rattle.sporc_client.specs.declared.fault.EditFault.{EditFault}
+use Rattle.sporc_client.specs.declared.fault.EditFault.TheVariants as edits
+use Rattle.sporc_client.specs.declared.fault.RestartFault.{RestartFault}
+use Rattle.sporc_client.specs.declared.fault.RestartFault.TheVariants as restarts
+use Rattle.sporc_client.specs.Log.{Logged}
+use Rattle.sporc_client.specs.PlainClient.{PlainClient, me_of, shown_after}
+
+-- whether the history removes the client's member
+abbrev pub is_out : PlainClient → Bool
+is_out c = is_removed (me_of c) c.entries
+
+-- whether the client's member may make entries of this kind, 1 for edits and 2 for changes
+abbrev pub has_right : PlainClient → ℕ → Bool
+has_right c kind = allows_member kind (member_at (roster_of c.opening.genesis c.entries) (me_of c))
+
+-- whether one more event may be
+abbrev pub journal_has_room : PlainClient → Bool
+journal_has_room c = nat_lt (length c.shown) MAX_EVENTS
+
+-- the checks of one more pending item and one more event, where there are so many
+abbrev pub room_checks : ℕ → ℕ → List (Option EditFault)
+room_checks pending events =
+    unless (nat_lt pending MAX_PENDING) edits.PendingFull
+    ∷ unless (nat_lt events MAX_EVENTS) edits.JournalFull
+    ∷ []
+
+-- the checks of an edit, which is stated on the text that was shown after so many events
+abbrev pub edit_checks : PlainClient → ℕ → List Mark → List (Option EditFault)
+edit_checks c seen marks =
+    unless (not (is_out c)) edits.Removed
+    ∷ unless (has_right c 1) edits.NoRight
+    ∷ unless (nat_le seen (length c.shown)) (edits.SeenAhead (length c.shown))
+    ∷ unless (base_len marks == length (shown_after seen c)) edits.WrongLength
+    ∷ unless (nat_le (length (delta_bytes marks)) MAX_EDIT_BYTES) (edits.TooLong (length (delta_bytes marks)))
+    ∷ room_checks (length c.pending) (length c.shown)
+
+unfoldable pub edit_fault : PlainClient → ℕ → List Mark → Option EditFault
+edit_fault c seen marks = first_of (edit_checks c seen marks)
+
+-- the checks of a change, whatever it changes
+abbrev pub change_checks : PlainClient → List (Option EditFault)
+change_checks c =
+    unless (not (is_out c)) edits.Removed
+    ∷ unless (has_right c 2) edits.NoRight
+    ∷ room_checks (length c.pending) (length c.shown)
+
+unfoldable pub change_fault : PlainClient → Option EditFault
+change_fault c = first_of (change_checks c)
+
+-- why nothing is given up
+abbrev pub discard_fault : PlainClient → Option EditFault
+discard_fault c = unless (journal_has_room c) edits.JournalFull
+
+-- an entry's first failed check, or else that the journal is full
+abbrev pub or_full : Bool → Option Refusal → Option AcceptFault
+or_full room (Some refusal) = Some (accepts.Refused refusal)
+or_full room None = unless room accepts.JournalFull
+
+abbrev pub refusal_of : PlainClient → ℕ → List ℕ → Option Refusal
+refusal_of c position bytes = first_fault c.opening.genesis c.opening.kit c.entries position bytes
+
+unfoldable pub accept_fault : PlainClient → ℕ → List ℕ → Option AcceptFault
+accept_fault c position bytes = or_full (journal_has_room c) (refusal_of c position bytes)
+
+-- why a client doesn't go back to its first k entries
+abbrev pub restart_fault : PlainClient → ℕ → Option RestartFault
+restart_fault c k = unless (nat_le k (length c.entries)) (restarts.Ahead (length c.entries))
+
+-- what a call added to the log: its event if it answered Ok
+abbrev pub added : {X F : Type 0} → Result X F → Logged → List Logged
+added (Ok x) event = event ∷ []
+added (Err fault) event = []

@@ -1,0 +1,46 @@
+-- What contracts see of a client, and of its leaves.
+use Rattle.std.specs.Prelude.{ℕ, ◌+◌, ◌<◌, ◌≤◌, List, [], ◌∷◌, Option, None, IfSome, ⊤}
+use Rattle.std.specs.List.{filter_map}
+use Rattle.std.specs.Option.{option_map}
+use Rattle.std.specs.Result.{result_ok}
+use Rattle.lms_leaf.specs.Leaves.{LeavesContent}
+use Rattle.sporc_entry.specs.Entry.{entry_of}
+use Rattle.sporc_client.specs.Log.{Logged, Submit}
+use Rattle.sporc_client.specs.PlainClient.{Opening, PlainClient}
+use Rattle.sporc_client.specs.Step.{replay}
+
+-- what it was opened with, its log, its leaf numbers, and the leaf of a ticket that is kept
+pub record ClientModel (D : Type 0) : Type 0 where
+  pub opening : Opening
+  pub log : List Logged
+  pub leaves : LeavesContent D
+  pub ticket : Option ℕ
+
+-- all that follows from its log
+abbrev pub state_of : {D : Type 0} → ClientModel D → PlainClient
+state_of c = replay c.opening c.log
+
+-- the leaf that signed an event's entry
+abbrev pub leaf_in : Logged → Option ℕ
+leaf_in (Submit by bytes) = option_map (λ e. e.header.leaf) (result_ok (entry_of bytes))
+leaf_in _ = None
+
+-- the leaves of a log's submissions
+abbrev pub leaves_of : List Logged → List ℕ
+leaves_of log = filter_map leaf_in log
+
+-- numbers that rise, from the first on and below the end: each stands once
+abbrev pub Rise : ℕ → ℕ → List ℕ → Type 0
+Rise first end [] = ⊤
+Rise first end (n ∷ ns) = (first ≤ n) × (n < end) × Rise (n + 1) end ns
+
+-- the leaf of a ticket that is kept: it was drawn after all leaves that signed
+pub record IsKept (first end : ℕ) (signed : List ℕ) (leaf : ℕ) : Type 0 where
+  pub after : first ≤ leaf
+  pub drawn : leaf < end
+  pub unsigned : Rise first leaf signed
+
+-- the leaves that signed rise, from the first on and below the end, and that of a kept ticket comes after them
+pub record AreInOrder (first end : ℕ) (ticket : Option ℕ) (signed : List ℕ) : Type 0 where
+  pub rise : Rise first end signed
+  pub kept : IfSome ticket (IsKept first end signed)

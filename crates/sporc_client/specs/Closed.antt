@@ -1,0 +1,39 @@
+-- Runs in which a server hands out only what clients of the run signed.
+use Rattle.std.specs.Prelude.{◌≡◌, ℕ, List, [], ◌∷◌, Contains, ⊤}
+use Rattle.std.specs.List.{AllByRecursion}
+use Rattle.sporc_member.specs.declared.change.Change.{Change as MemberChange}
+use Rattle.sporc_member.specs.declared.change.Change.TheVariants.{Add, Remove, SetRole}
+use Rattle.sporc_member.specs.declared.founder.Founder.{Founder}
+use Rattle.sporc_client.specs.Log.{Change, Accept}
+use Rattle.sporc_client.specs.Run.{Setup, World, Move, Open, Happen, Give, Restart, IsSignedBy, after, key_of_member, start}
+
+-- a founder has its own key, if it is a member of the run
+abbrev pub HasItsKey : Setup → Founder → Type 0
+HasItsKey s founder = Contains s.members founder.member → founder.key ≡ key_of_member s founder.member
+
+-- a change adds a member of the run under its own key
+abbrev pub AddsItsKey : Setup → MemberChange → Type 0
+AddsItsKey s (Add member role key) = Contains s.members member → key ≡ key_of_member s member
+AddsItsKey s (Remove member) = ⊤
+AddsItsKey s (SetRole member role) = ⊤
+
+-- a client of the run signed the bytes
+abbrev pub IsSigned : World → List ℕ → Type 0
+IsSigned w bytes = (signer : ℕ) × IsSignedBy w signer bytes
+
+-- what comes in was signed by a client of the run, and a change that a client makes adds a member under its own key
+abbrev pub IsClosedMove : Setup → World → Move → Type 0
+IsClosedMove s w (Open who ring) = ⊤
+IsClosedMove s w (Happen who (Change by change)) = AddsItsKey s change
+IsClosedMove s w (Happen who (Accept by bytes)) = IsSigned w bytes
+IsClosedMove s w (Happen who event) = ⊤
+IsClosedMove s w (Give who position bytes) = IsSigned w bytes
+IsClosedMove s w (Restart who k) = ⊤
+
+abbrev pub AreClosed : Setup → World → List Move → Type 0
+AreClosed s w [] = ⊤
+AreClosed s w (move ∷ moves) = IsClosedMove s w move × AreClosed s (after s w move) moves
+
+pub record IsClosed (s : Setup) (moves : List Move) : Type 0 where
+  pub founders : AllByRecursion (HasItsKey s) s.genesis.founders
+  pub closed : AreClosed s start moves

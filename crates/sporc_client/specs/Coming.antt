@@ -1,0 +1,33 @@
+-- What an entry that comes does to a client's own part.
+use Rattle.std.specs.Prelude.{ℕ, Bool, List, drop, Option, None, if◌then◌else◌}
+use Rattle.sporc_delta.specs.Marks.{Mark, retains}
+use Rattle.sporc_client.specs.declared.coming.Coming.{Coming}
+use Rattle.sporc_client.specs.declared.coming.Coming.TheVariants.{Own, Change, Edit}
+use Rattle.sporc_client.specs.declared.pending.Pending.{Pending}
+use Rattle.sporc_client.specs.Rebasing.{beyond, rebased}
+
+-- by whether it is the entry on its way, whether it is a change, whether it is one of the member's own, and its form
+abbrev pub coming_of : (on_its_way change own : Bool) → List Mark → List Pending → Coming
+coming_of on_its_way change own form pending =
+    if on_its_way then Own
+    else if change then Change
+    else Edit (rebased form pending) own
+
+-- its shown delta, where the shown text has this length
+abbrev pub shown_form : (on_its_way change : Bool) → ℕ → List Mark → List Pending → List Mark
+shown_form on_its_way change len form pending =
+    if on_its_way then retains len
+    else if change then retains len
+    else beyond form pending
+
+-- the pending items afterwards
+abbrev pub pending_after : Coming → List Pending → List Pending
+pending_after Own pending = drop 1 pending
+pending_after Change pending = pending
+pending_after (Edit items own) pending = items
+
+-- and the entry on its way
+abbrev pub flight_after : Coming → Option (List ℕ) → Option (List ℕ)
+flight_after Own flight = None
+flight_after Change flight = None
+flight_after (Edit items own) flight = if own then None else flight

@@ -1,0 +1,164 @@
+-- Clients of one document, under a server that hands any bytes to anyone.
+use Rattle.std.specs.Prelude.{◌≡◌, ℕ, ◌≤◌, ◌==◌, true, List, [], ◌∷◌, ◌++◌, length, take, Option, None, Some, if◌then◌else◌, IsSomeAnd, Contains, Ok, refl, ⊤}
+use Rattle.std.specs.FinMap.{get}
+use Rattle.lms_tree.specs.LmsPrivate.{LmsPrivate, lms_public_of}
+use Rattle.lms_tree.specs.LmsPublic.{public_key_bytes}
+use Rattle.sporc_member.specs.declared.founder.Founder.{Founder}
+use Rattle.sporc_member.specs.Roster.{member_at}
+use Rattle.sporc_entry.specs.declared.entry.Entry.{Entry}
+use Rattle.sporc_entry.specs.declared.genesis.Genesis.{Genesis}
+use Rattle.sporc_entry.specs.Entry.{entry_of}
+use Rattle.sporc_epoch.specs.Keys.{Keys}
+use Rattle.sporc_head.specs.declared.refusal.Refusal.{Refusal}
+use Rattle.sporc_head.specs.History.{roster_of}
+use Rattle.sporc_line.specs.Good.{Meets}
+use Rattle.sporc_client.specs.Log.{Logged, Submit, Accept}
+use Rattle.sporc_client.specs.PlainClient.{Opening, PlainClient, opened}
+use Rattle.sporc_client.specs.Step.{accepted, log_of_entries, replay, step}
+use Rattle.sporc_client.specs.Answers.{journal_has_room, refusal_of}
+use Rattle.sporc_client.specs.Allowed.{allows}
+
+-- a document, its members that run this program, and what each was given: its pairwise keys and its private key
+pub record Setup : Type 0 where
+  pub genesis : Genesis
+  pub members : List ℕ
+  pub pairs : ℕ → Keys
+  pub private : ℕ → LmsPrivate
+
+-- what a member's client is opened with, where it has this ring
+abbrev pub opening_of : Setup → ℕ → Keys → Opening
+opening_of s who ring = record { genesis = s.genesis; kit = record { me = who; ring = ring; pairs = s.pairs who }; key = s.private who }
+
+-- the bytes of a member's public key
+abbrev pub key_of_member : Setup → ℕ → List ℕ
+key_of_member s who = public_key_bytes (lms_public_of (s.private who))
+
+-- an entry that a client signed, with what the client was then
+pub record Signing : Type 0 where
+  pub who : ℕ
+  pub entry : List ℕ
+  pub client : PlainClient
+
+-- the clients that are open, by their members' numbers, and all that was ever signed
+pub record World : Type 0 where
+  pub clients : ℕ → Option PlainClient
+  pub signed : List Signing
+
+-- nothing has happened
+abbrev pub start : World
+start = record { clients = λ who. None; signed = [] }
+
+-- what happens next
+pub data Move : Type 0 where
+  -- a member opens a client with this ring
+  Open : (who : ℕ) → Keys → Move
+  -- an event of a client
+  Happen : (who : ℕ) → Logged → Move
+  -- the server hands it bytes as the entry at a position
+  Give : (who position : ℕ) → List ℕ → Move
+  -- it goes back to its first k entries
+  Restart : (who k : ℕ) → Move
+
+-- the clients with this one in its place
+abbrev pub with_client : (ℕ → Option PlainClient) → ℕ → PlainClient → ℕ → Option PlainClient
+with_client clients who c other = if other == who then Some c else clients other
+
+abbrev pub put : World → ℕ → PlainClient → World
+put w who c = record w { clients = with_client w.clients who c }
+
+-- what a client signs by an event
+abbrev pub signings : ℕ → PlainClient → Logged → List Signing
+signings who c (Submit by bytes) = record { who = who; entry = bytes; client = c } ∷ []
+signings who c event = []
+
+abbrev pub happens_to : World → ℕ → Logged → Option PlainClient → World
+happens_to w who event None = w
+happens_to w who event (Some c) = record { clients = with_client w.clients who (step c event); signed = w.signed ++ signings who c event }
+
+-- a client after bytes were handed to it: as it was if it refuses them, or if its journal is full
+abbrev pub given : PlainClient → List ℕ → Option Refusal → PlainClient
+given c bytes (Some refusal) = c
+given c bytes None = if journal_has_room c then accepted c bytes else c
+
+abbrev pub gives_to : World → ℕ → ℕ → List ℕ → Option PlainClient → World
+gives_to w who position bytes None = w
+gives_to w who position bytes (Some c) = put w who (given c bytes (refusal_of c position bytes))
+
+-- a client that went back to its first k entries
+abbrev pub restarted : PlainClient → ℕ → PlainClient
+restarted c k = replay c.opening (log_of_entries (take k c.entries))
+
+abbrev pub restarts : World → ℕ → ℕ → Option PlainClient → World
+restarts w who k None = w
+restarts w who k (Some c) = put w who (restarted c k)
+
+-- the world after a move
+abbrev pub after : Setup → World → Move → World
+after s w (Open who ring) = put w who (opened (opening_of s who ring))
+after s w (Happen who event) = happens_to w who event (w.clients who)
+after s w (Give who position bytes) = gives_to w who position bytes (w.clients who)
+after s w (Restart who k) = restarts w who k (w.clients who)
+
+-- after moves in order
+abbrev pub after_all : Setup → World → List Move → World
+after_all s w [] = w
+after_all s w (move ∷ moves) = after_all s (after s w move) moves
+
+-- a move may happen
+abbrev pub May : Setup → World → Move → Type 0
+May s w (Open who ring) = Contains s.members who × Meets s.genesis 0 (get ring 0) s.genesis.commitment
+May s w (Happen who event) = IsSomeAnd (w.clients who) (λ c. allows c event ≡ true)
+May s w (Give who position bytes) = IsSomeAnd (w.clients who) (λ c. ⊤)
+May s w (Restart who k) = IsSomeAnd (w.clients who) (λ c. k ≤ length c.entries)
+
+-- each of the moves may happen where it stands
+abbrev pub IsRun : Setup → World → List Move → Type 0
+IsRun s w [] = ⊤
+IsRun s w (move ∷ moves) = May s w move × IsRun s (after s w move) moves
+
+-- the member's client after the first n moves
+abbrev pub IsAt : Setup → List Move → ℕ → ℕ → PlainClient → Type 0
+IsAt s moves n who c = (after_all s start (take n moves)).clients who ≡ Some c
+
+-- ---- worked examples: member 1 opens a client and signs the entry 7
+
+abbrev signs : Keys → List Move
+signs ring = Open 1 ring ∷ Happen 1 (Submit 0 (7 ∷ [])) ∷ []
+
+-- what the client was is kept with what it signed, also if it goes back
+its_client_is_kept : (s : Setup) (ring : Keys) → (after_all s start (signs ring)).signed ≡ record { who = 1; entry = 7 ∷ []; client = opened (opening_of s 1 ring) } ∷ []
+its_client_is_kept s ring = refl
+
+signed_for_good : (s : Setup) (ring : Keys) → (after_all s start (signs ring ++ Restart 1 0 ∷ [])).signed ≡ (after_all s start (signs ring)).signed
+signed_for_good s ring = refl
+
+-- nobody else has a client then, and what is handed to one who has none changes nothing
+no_one_else : (s : Setup) (ring : Keys) → (after_all s start (signs ring ++ Give 2 1 (7 ∷ []) ∷ [])).clients 2 ≡ None
+no_one_else s ring = refl
+
+-- ---- no one forges
+
+-- a member's client signed the entry
+abbrev pub IsSignedBy : World → ℕ → List ℕ → Type 0
+IsSignedBy w who bytes = (x : Signing) × Contains w.signed x × (x.who ≡ who) × (x.entry ≡ bytes)
+
+-- if the author's key in the history is that of clients of the run, one of them with that key signed the entry
+abbrev pub IsGenuine : Setup → World → List (List ℕ) → List ℕ → Type 0
+IsGenuine s w entries bytes =
+    (e : Entry) (member : Founder) (who : ℕ) → entry_of bytes ≡ Ok e → member_at (roster_of s.genesis entries) e.header.author ≡ Some member
+    → Contains s.members who → member.key ≡ key_of_member s who
+    → (signer : ℕ) × (key_of_member s signer ≡ member.key) × IsSignedBy w signer bytes
+
+-- the entry that a move adds to a client's history
+abbrev pub Adds : World → Move → ℕ → PlainClient → List ℕ → Type 0
+Adds w (Happen who (Accept by entry)) other c bytes = (who ≡ other) × (w.clients who ≡ Some c) × (entry ≡ bytes)
+Adds w (Give who position entry) other c bytes =
+    (who ≡ other) × (w.clients who ≡ Some c) × (entry ≡ bytes) × (refusal_of c position entry ≡ None) × (journal_has_room c ≡ true)
+Adds w move other c bytes = ⊥
+
+-- each entry that is accepted is genuine there
+abbrev pub Genuine : Setup → World → List Move → Type 0
+Genuine s w [] = ⊤
+Genuine s w (move ∷ moves) =
+    ((who : ℕ) (c : PlainClient) (bytes : List ℕ) → Adds w move who c bytes → IsGenuine s w c.entries bytes)
+    × Genuine s (after s w move) moves

@@ -1,0 +1,304 @@
+// A member's client.
+
+ghost use Rattle.std.specs.Prelude.{◌≡◌, ◌≢◌, ◌≤◌, ◌<◌, ◌++◌, [], map as map_, length, true, None, Some, IfOk, IfErr, OnOk, option_copied};
+ghost use Rattle.std.specs.FinMap as map;
+ghost use Rattle.sporc_hash.specs.Chain.{chain};
+ghost use Rattle.sporc_entry.specs.Genesis.{IsGenesis, genesis_bytes};
+ghost use Rattle.sporc_epoch.specs.Keys.{pairs_in};
+ghost use Rattle.sporc_line.specs.Good.{Good};
+ghost use Rattle.sporc_line.specs.Kit.{kit_of};
+ghost use Rattle.sporc_line.specs.Openings.{open_checks};
+ghost use Rattle.sporc_base.specs.FirstFault.{Answers, AnswersUnless, first_of};
+ghost use Rattle.sporc_client.specs.declared.limits.TheConstants.{MAX_EVENTS, MAX_PENDING};
+ghost use Rattle.sporc_client.specs.Log.{Edit as Edited, Change as Changed, journal_of};
+ghost use Rattle.sporc_client.specs.Answers.{added, change_checks, change_fault, edit_checks, edit_fault, is_out, room_checks};
+ghost use Rattle.sporc_head.specs.HeadChecks.{allows_member};
+ghost use Rattle.sporc_head.specs.History.{roster_of};
+ghost use Rattle.sporc_member.specs.Roster.{member_at};
+ghost use Rattle.sporc_client.specs.ClientInvariant.{plain_of};
+ghost use Rattle.lms_tree.specs.LmsPrivate.{LmsPrivate};
+ghost use Rattle.sporc_suffix.specs.Forms.{Follow};
+ghost use Rattle.sporc_line.specs.Document.{text_after};
+ghost use Rattle.sporc_client.specs.Allowed.{is_allowed};
+ghost use Rattle.sporc_client.specs.Soundness.{IsSound};
+ghost use Rattle.sporc_client.specs.ClientModel.{Rise, leaves_of, state_of};
+
+mod accepting;
+mod discarding;
+mod restarting;
+mod showing;
+mod submitting;
+
+use crate::event::Event;
+use crate::fault::{ClientOpenFault, EditFault};
+use crate::limits::{MAX_EDIT_BYTES, MAX_EVENTS, MAX_PENDING};
+use crate::pending::Pending;
+use crate::workspace::Workspace;
+use lms_sign::{KeptTicket, Signer};
+use sporc_base::Bytes;
+use sporc_delta::Delta;
+use sporc_entry::Genesis;
+use sporc_epoch::{Pairs, Ring};
+use sporc_hash::Digest32;
+use sporc_line::{Line, LineOpenFault};
+use sporc_member::{Change, Role, Roster};
+use sporc_outside::LeafDisk;
+use std::alloc::Global;
+use std::marker::Model;
+
+/// A member's client of a shared text: a history, and the member's own edits and changes that are not committed yet.
+///
+/// Contracts see what it was opened with, its log (the journal, with the bytes of each accepted entry), its leaf numbers,
+/// and the leaf of a ticket that it keeps. All else follows from the log.
+#[derive(Drop)]
+pub struct Client<D: LeafDisk> {
+    alloc: Global,
+    line: Line,
+    signer: Signer<D>,
+    // A leaf that was drawn for a submission that ran out of memory.
+    ticket: Option<KeptTicket>,
+    own: Workspace,
+}
+
+impl<D: LeafDisk> Model for Client<D> {
+    ghost use Rattle.sporc_client.specs.ClientModel.{ClientModel};
+    ghost use Rattle.sporc_client.specs.Codes.{client_code};
+
+    ghost Value = { ClientModel D };
+
+    ghost coded = { client_code D.code };
+
+    ghost use Rattle.sporc_client.specs.ClientInvariant.{client_model, ClientInvariant};
+
+    ghost view = { λ c. client_model c.line c.signer c.ticket c.own };
+
+    ghost invariant = { λ c. ClientInvariant c.line c.signer c.ticket c.own };
+}
+
+impl<D: LeafDisk> Client<D> {
+    /// The client of a member with an empty history, by its number, a ring with the key of epoch 0 or a joiner's hints,
+    /// its pairwise keys and its signer.
+    pub fn open(
+        alloc: Global,
+        genesis: Genesis,
+        me: u16,
+        ring: Ring,
+        pairs: Pairs,
+        signer: Signer<D>,
+    ) -> Result<Client<D>, (ClientOpenFault, Signer<D>)>
+        requires { IsGenesis genesis }
+        ensures ok { OnOk result (first_of (open_checks genesis (map.get ring.keys 0)) ≡ None) }
+        ensures err { IfErr result (λ e. e.0 ≢ LineOpenFault.Memory → first_of (open_checks genesis (map.get ring.keys 0)) ≡ Some e.0) }
+        ensures returned { IfErr result (λ e. e.1 ≡ signer) }
+        ensures value { IfOk result (λ client. client ≡ record {
+          opening = record { genesis = genesis; kit = kit_of me ring.keys (pairs_in pairs); key = signer.key };
+          log = [];
+          leaves = signer.leaves;
+          ticket = None;
+        }) }
+    {
+        match opened(alloc, genesis, me, ring, pairs) {
+            Ok((line, own)) => Ok(Client {
+                alloc,
+                line,
+                signer,
+                ticket: None,
+                own,
+            }),
+            Err(fault) => Err((fault, signer)),
+        }
+    }
+
+    /// The journal. Each of its events is one that the client's own calls make there; and what it shows is the committed
+    /// text with the pending edits.
+    pub fn journal(&self) -> &[Event]
+        ensures value { result.now ≡ journal_of self.now.log }
+        ensures allowed { is_allowed self.now.opening self.now.log ≡ true }
+        ensures sound { IsSound (state_of self.now) }
+        ensures leaves { Rise self.now.leaves.next_at_open self.now.leaves.next (leaves_of self.now.log) }
+        ensures few { length result.now ≤ MAX_EVENTS }
+    {
+        self.own.journal()
+    }
+
+    /// The bytes of the entries, oldest first.
+    pub fn entries(&self) -> &[Vec<u8>]
+        ensures value { map_ (λ v. v.items) result.now ≡ (state_of self.now).entries }
+    {
+        self.line.entries()
+    }
+
+    /// The values of the chain after 0, 1, .. and all entries.
+    pub fn hashes(&self) -> &[Digest32]
+        ensures value { result.now ≡ chain (genesis_bytes self.now.opening.genesis) (state_of self.now).entries }
+    {
+        self.line.hashes()
+    }
+
+    /// The members after the last entry.
+    pub fn roster(&self) -> &Roster
+        ensures value { result.now.roster ≡ roster_of self.now.opening.genesis (state_of self.now).entries }
+    {
+        self.line.heads().roster()
+    }
+
+    /// Whether a change removed the member.
+    pub fn removed(&self) -> bool
+        ensures value { result ≡ is_out (state_of self.now) }
+    {
+        self.line.removed()
+    }
+
+    /// The member's number.
+    pub fn me(&self) -> u16
+        ensures value { result ≡ self.now.opening.kit.me }
+    {
+        self.line.me()
+    }
+
+    /// The document's number.
+    pub fn document(&self) -> &[u8; 16]
+        ensures value { result.now ≡ self.now.opening.genesis.document }
+    {
+        self.line.document()
+    }
+
+    /// How many items are pending.
+    pub fn pending(&self) -> u32
+        ensures value { result ≡ length (state_of self.now).pending }
+        ensures few { result ≤ MAX_PENDING }
+    {
+        self.own.pending().len() as u32
+    }
+
+    /// The bytes of the entry on its way.
+    pub fn flight(&self) -> Option<&Bytes>
+        ensures value { option_copied result ≡ (state_of self.now).flight }
+    {
+        self.own.flight()
+    }
+
+    /// Gives the signer back. A ticket that is kept is given up.
+    pub fn close(self) -> Signer<D>
+        ensures value { result ≡ record { key = self.opening.key; leaves = self.leaves } }
+    {
+        self.signer
+    }
+
+    /// Edits the text that was shown after `seen` events. The length of the journal.
+    pub fn edit(&mut self, by: u32, seen: u64, delta: &Delta) -> Result<u64, EditFault>
+        ensures fault { AnswersUnless EditFault.Memory result (edit_fault (state_of self.old) seen delta.now) }
+        ensures ok { IfOk result (λ n. n ≡ length self.new.log) }
+        ensures log { self.new ≡ record self.old { log = self.old.log ++ added result (Edited by seen delta.now) } }
+    {
+        check_edit(&self.line, &self.own, seen, delta)?;
+        let restated = self.own.restated(delta, seen as u32)?;
+        let item = Pending::Edit(restated.copy()?);
+        let delta = delta.copy()?;
+        let ready = self.own.ready(restated)?;
+        self.own
+            .record_item(Event::Edit { by, seen, delta }, ready, item);
+        Ok(self.own.journal().len() as u64)
+    }
+
+    /// Changes the members. The length of the journal.
+    pub fn change(&mut self, by: u32, change: Change) -> Result<u64, EditFault>
+        ensures fault { AnswersUnless EditFault.Memory result (change_fault (state_of self.old)) }
+        ensures ok { IfOk result (λ n. n ≡ length self.new.log) }
+        ensures log { self.new ≡ record self.old { log = self.old.log ++ added result (Changed by change) } }
+    {
+        check_change(&self.line, &self.own)?;
+        let keep = Delta::keep_all(self.alloc, self.own.shown_len())?;
+        let ready = self.own.ready(keep)?;
+        self.own.record_item(Event::Change { by, change }, ready, Pending::Change(change));
+        Ok(self.own.journal().len() as u64)
+    }
+}
+
+// An empty history, and nothing of one's own.
+fn opened(
+    alloc: Global,
+    genesis: Genesis,
+    me: u16,
+    ring: Ring,
+    pairs: Pairs,
+) -> Result<(Line, Workspace), LineOpenFault>
+    requires { IsGenesis genesis }
+    ensures fault { AnswersUnless LineOpenFault.Memory result (first_of (open_checks genesis (map.get ring.keys 0))) }
+    ensures genesis { IfOk result (λ both. both.0.genesis ≡ genesis) }
+    ensures kit { IfOk result (λ both. both.0.kit ≡ kit_of me ring.keys (pairs_in pairs)) }
+    ensures empty { IfOk result (λ both. both.0.entries ≡ []) }
+    ensures good { IfOk result (λ both. Good both.0.genesis both.0.kit both.0.entries) }
+    ensures pending { IfOk result (λ both. both.1.pending ≡ []) }
+    ensures flight { IfOk result (λ both. both.1.flight ≡ None) }
+    ensures shown { IfOk result (λ both. both.1.shown ≡ []) }
+    ensures journal { IfOk result (λ both. both.1.journal ≡ []) }
+{
+    let line = Line::open(alloc, genesis, me, ring, pairs)?;
+    let own = Workspace::new(alloc)?;
+    let _good = line.len();
+    Ok((line, own))
+}
+
+// Whether the member has the right to entries of this kind, 1 for edits and 2 for changes.
+pub(crate) fn has_right(line: &Line, kind: u8) -> bool
+    requires { kind < 3 }
+    ensures value { result ≡ allows_member kind (member_at (roster_of line.now.genesis line.now.entries) line.now.kit.me) }
+{
+    match line.heads().roster().role(line.me()) {
+        None | Some(Role::Reader) => false,
+        Some(Role::Editor) => kind == 1,
+        Some(Role::Admin) => true,
+    }
+}
+
+// The checks of an edit.
+fn check_edit(line: &Line, own: &Workspace, seen: u64, delta: &Delta) -> Result<(), EditFault>
+    requires follow { Follow 0 own.now.shown }
+    ensures fault { (key : LmsPrivate) → Answers result (first_of (edit_checks (plain_of key line.now own.now) seen delta.now)) }
+{
+    if line.removed() {
+        return Err(EditFault::Removed);
+    }
+    if !has_right(line, 1) {
+        return Err(EditFault::NoRight);
+    }
+    let events = own.journal().len() as u64;
+    if seen > events {
+        return Err(EditFault::SeenAhead(events));
+    }
+    if delta.base_len() != own.shown_len_at(seen as u32) {
+        return Err(EditFault::WrongLength);
+    }
+    let bytes = delta.encoded_len();
+    if bytes > MAX_EDIT_BYTES {
+        return Err(EditFault::TooLong(bytes));
+    }
+    check_room(own)
+}
+
+// The checks of a change.
+fn check_change(line: &Line, own: &Workspace) -> Result<(), EditFault>
+    ensures fault { (key : LmsPrivate) → Answers result (first_of (change_checks (plain_of key line.now own.now))) }
+{
+    if line.removed() {
+        return Err(EditFault::Removed);
+    }
+    if !has_right(line, 2) {
+        return Err(EditFault::NoRight);
+    }
+    check_room(own)
+}
+
+// Whether one more item may be pending, and one more event be.
+fn check_room(own: &Workspace) -> Result<(), EditFault>
+    ensures fault { Answers result (first_of (room_checks (length own.now.pending) (length own.now.shown))) }
+{
+    if own.pending().len() >= MAX_PENDING {
+        return Err(EditFault::PendingFull);
+    }
+    if own.journal().len() >= MAX_EVENTS {
+        return Err(EditFault::JournalFull);
+    }
+    Ok(())
+}

@@ -1,0 +1,84 @@
+// The texts of a client, and the key of the last epoch.
+
+ghost use Rattle.std.specs.Prelude.{◌≡◌, ◌<◌, ◌≤◌, ◌^◌, ◌↔◌, length, IsNone, IfSome, IfOk, is_none, option_copied};
+ghost use Rattle.std.specs.String.{string_bytes};
+ghost use Rattle.std.specs.Str.{chars, encode_utf8_all};
+ghost use Rattle.sporc_delta.specs.Marks.{apply, base_len};
+ghost use Rattle.sporc_delta.specs.declared.limits.TheConstants.{MAX_COUNT};
+ghost use Rattle.sporc_head.specs.History.{epoch_of};
+ghost use Rattle.sporc_line.specs.Document.{text_of};
+ghost use Rattle.sporc_line.specs.Keys.{key_of};
+ghost use Rattle.sporc_client.specs.Answers.{is_out};
+ghost use Rattle.sporc_client.specs.ClientModel.{state_of};
+ghost use Rattle.sporc_client.specs.PlainClient.{committed_of, shown_after, shown_of};
+
+use super::Client;
+use crate::rebasing::in_one;
+use sporc_base::Memory;
+use sporc_delta::Delta;
+use sporc_line::Line;
+use sporc_outside::LeafDisk;
+use sporc_text::Doc;
+use std::alloc::Global;
+
+impl<D: LeafDisk> Client<D> {
+    /// The committed text as UTF-8.
+    pub fn committed(&self) -> Result<String, Memory>
+        ensures value { IfOk result (λ t. string_bytes t ≡ encode_utf8_all (committed_of (state_of self.now))) }
+    {
+        self.line.text()
+    }
+
+    /// The committed text with the pending edits, as UTF-8.
+    pub fn shown(&self) -> Result<String, Memory>
+        ensures value { IfOk result (λ t. string_bytes t ≡ encode_utf8_all (shown_of (state_of self.now))) }
+    {
+        let text = self.line.text()?;
+        let len = committed_len(&self.line);
+        let pending = self.own.pending();
+        let all = in_one(self.alloc, len, pending)?;
+        let shown = edited(self.alloc, text.as_str(), &all)?;
+        Ok(shown)
+    }
+
+    /// How many characters the text had that was shown after `seen` events. None if there are fewer events.
+    pub fn shown_len_at(&self, seen: u64) -> Option<u64>
+        ensures some { IfSome result (λ len. len ≡ length (shown_after seen (state_of self.now))) }
+        ensures none { IsNone result ↔ (length self.now.log < seen) }
+    {
+        if seen > self.own.journal().len() as u64 {
+            return None;
+        }
+        Some(self.own.shown_len_at(seen as u32))
+    }
+
+    /// The key of the last epoch. None if a change removed the member.
+    pub fn key(&self) -> Option<&[u8; 32]>
+        ensures value { option_copied result ≡ key_of self.now.opening.genesis self.now.opening.kit (state_of self.now).entries (epoch_of (state_of self.now).entries) }
+        ensures none { is_none result ≡ is_out (state_of self.now) }
+    {
+        self.line.key()
+    }
+}
+
+// How many characters the committed text has.
+fn committed_len(line: &Line) -> u64
+    ensures value { result ≡ length (text_of line.now.genesis line.now.kit line.now.entries) }
+    ensures small { result ≤ 2 ^ 35 }
+{
+    line.text_len_at(line.len())
+}
+
+// A text after a delta.
+fn edited(alloc: Global, text: &str, delta: &Delta) -> Result<String, Memory>
+    requires base { base_len delta.now ≡ length (chars text.now) }
+    requires short { length text.now ≤ MAX_COUNT }
+    ensures value { IfOk result (λ t. string_bytes t ≡ encode_utf8_all (apply delta.now (chars text.now))) }
+{
+    let all = Delta::insert_at(alloc, 0, 0, text)?;
+    let mut doc = Doc::new(alloc);
+    doc.apply(&all)?;
+    doc.apply(delta)?;
+    let text = doc.text()?;
+    Ok(text)
+}

@@ -1,0 +1,186 @@
+// The entry of a pending item, before it is signed.
+
+ghost use Rattle.std.specs.Prelude.{◌≡◌, ◌+◌, ◌≤◌, [], length, Some, IfOk, OnOk};
+ghost use Rattle.lms_tree.specs.LmsPrivate.{LmsPrivate};
+ghost use Rattle.sporc_cipher.specs.Mask.{mask_of};
+ghost use Rattle.sporc_delta.specs.Format.{delta_bytes};
+ghost use Rattle.sporc_delta.specs.Typed.{IsTypedDelta};
+ghost use Rattle.sporc_entry.specs.ChangeBody.{IsChangeBody};
+ghost use Rattle.sporc_entry.specs.Entry.{IsHeader};
+ghost use Rattle.sporc_epoch.specs.Sealing.{body_sealed};
+ghost use Rattle.sporc_epoch.specs.Streams.{entry_stream};
+ghost use Rattle.sporc_head.specs.declared.limits.TheConstants.{MAX_ENTRIES};
+ghost use Rattle.sporc_head.specs.History.{count_of, epoch_of, hash_of};
+ghost use Rattle.sporc_line.specs.Keys.{key_of};
+ghost use Rattle.sporc_client.specs.ClientInvariant.{plain_of};
+ghost use Rattle.sporc_client.specs.Contents.{CanTake, IsSpelled};
+ghost use Rattle.sporc_client.specs.Entries.{body_of, sealing_of, unsigned_entry};
+ghost use Rattle.sporc_client.specs.Typed.{IsTypedChange};
+ghost use Rattle.sporc_client.specs.Workspace.{Workspace as WorkspaceModel};
+ghost use Rattle.sporc_client.specs.declared.pending.Pending.TheVariants as items;
+
+use super::due::kind_of;
+use crate::pending::Pending;
+use sporc_base::{Bytes, Memory};
+use sporc_cipher::mask;
+use sporc_delta::Delta;
+use sporc_entry::{ChangeBody, Entry, Header, write_change};
+use sporc_epoch::{SealFault, entry_stream, seal_change};
+use sporc_line::Line;
+use sporc_member::Change;
+use std::alloc::{AllocError, Global};
+
+// The next entry of an item, unsigned, by the leaf that is to sign it and 32 random bytes, which are the key of the next
+// epoch if it is a change.
+pub(crate) fn unsigned_entry(
+    alloc: Global,
+    line: &Line,
+    item: &Pending,
+    leaf: u32,
+    new_key: &[u8; 32],
+) -> Result<Entry, Memory>
+    requires { CanTake line.now item.now }
+    ensures value { IfOk result (λ e. (key : LmsPrivate) (own : WorkspaceModel) → e ≡ unsigned_entry (plain_of key line.now own) (record { leaf = leaf; randomizer = []; new_key = new_key.now }) item.now) }
+    ensures header { IfOk result (λ e. IsHeader e.header) }
+    ensures spelled { OnOk result ((key : LmsPrivate) (own : WorkspaceModel) → IsSpelled (plain_of key line.now own) (record { leaf = leaf; randomizer = []; new_key = new_key.now }) item.now) }
+{
+    let header = next_header(line, leaf, kind_of(item));
+    let body = entry_body(alloc, line, item, leaf, new_key)?;
+    Ok(Entry {
+        header,
+        body,
+        signature: Bytes::new(Vec::new(alloc)),
+    })
+}
+
+// What stands before the body of the member's next entry of this kind.
+fn next_header(line: &Line, leaf: u32, kind: u8) -> Header
+    requires room { length line.now.entries + 1 ≤ MAX_ENTRIES }
+    requires kind { (1 ≤ kind) × (kind ≤ 2) }
+    ensures document { result.document ≡ line.now.genesis.document }
+    ensures author { result.author ≡ line.now.kit.me }
+    ensures number { result.number ≡ count_of line.now.kit.me line.now.entries + 1 }
+    ensures base { result.base ≡ length line.now.entries }
+    ensures base_hash { result.base_hash ≡ hash_of line.now.genesis line.now.entries }
+    ensures epoch { result.epoch ≡ epoch_of line.now.entries }
+    ensures leaf { result.leaf ≡ leaf }
+    ensures kind { result.kind ≡ kind }
+    ensures is_header { IsHeader result }
+{
+    let heads = line.heads();
+    Header {
+        document: heads.genesis().document,
+        author: line.me(),
+        number: heads.count_of(line.me()) + 1,
+        base: line.len(),
+        base_hash: line.hash(),
+        epoch: heads.epoch(),
+        leaf,
+        kind,
+    }
+}
+
+// The body of the entry of an item.
+fn entry_body(
+    alloc: Global,
+    line: &Line,
+    item: &Pending,
+    leaf: u32,
+    new_key: &[u8; 32],
+) -> Result<Bytes, Memory>
+    requires { CanTake line.now item.now }
+    ensures value { IfOk result (λ body. (key : LmsPrivate) (own : WorkspaceModel) → body ≡ body_of (plain_of key line.now own) (record { leaf = leaf; randomizer = []; new_key = new_key.now }) item.now) }
+    ensures spelled { OnOk result ((key : LmsPrivate) (own : WorkspaceModel) → IsSpelled (plain_of key line.now own) (record { leaf = leaf; randomizer = []; new_key = new_key.now }) item.now) }
+{
+    let Some(key) = line.key() else {
+        unreachable!()
+    };
+    match item {
+        Pending::Edit(delta) => edit_body(key, line.me(), leaf, delta),
+        Pending::Change(change) => change_body(alloc, line, key, change, leaf, new_key),
+    }
+}
+
+// The bytes of a delta, masked under the key of its epoch.
+fn edit_body(key: &[u8; 32], author: u16, leaf: u32, delta: &Delta) -> Result<Bytes, Memory>
+    ensures value { IfOk result (λ body. body ≡ mask_of key.now (entry_stream author leaf) (delta_bytes delta.now)) }
+    ensures typed { OnOk result (IsTypedDelta delta.now) }
+{
+    let mut bytes = delta.encode()?;
+    mask(key, entry_stream(author, leaf), bytes.as_mut_slice());
+    Ok(Bytes::new(bytes))
+}
+
+// The bytes of the body of a change.
+fn change_body(
+    alloc: Global,
+    line: &Line,
+    old_key: &[u8; 32],
+    change: &Change,
+    leaf: u32,
+    new_key: &[u8; 32],
+) -> Result<Bytes, Memory>
+    requires can_take { CanTake line.now (items.Change change.now) }
+    requires key { key_of line.now.genesis line.now.kit line.now.entries (epoch_of line.now.entries) ≡ Some old_key.now }
+    ensures value { IfOk result (λ body. (key : LmsPrivate) (own : WorkspaceModel) → body ≡ body_of (plain_of key line.now own) (record { leaf = leaf; randomizer = []; new_key = new_key.now }) (items.Change change.now)) }
+    ensures spelled { OnOk result ((key : LmsPrivate) (own : WorkspaceModel) → IsSpelled (plain_of key line.now own) (record { leaf = leaf; randomizer = []; new_key = new_key.now }) (items.Change change.now)) }
+{
+    let body = seal(alloc, line, old_key, change, leaf, new_key)?;
+    let bytes = write_change(alloc, &body)?;
+    Ok(Bytes::new(bytes))
+}
+
+// The body of a change, with the new key sealed for each member after it.
+fn seal(
+    alloc: Global,
+    line: &Line,
+    old_key: &[u8; 32],
+    change: &Change,
+    leaf: u32,
+    new_key: &[u8; 32],
+) -> Result<ChangeBody, Memory>
+    requires can_take { CanTake line.now (items.Change change.now) }
+    requires key { key_of line.now.genesis line.now.kit line.now.entries (epoch_of line.now.entries) ≡ Some old_key.now }
+    ensures value { IfOk result (λ body. (key : LmsPrivate) (own : WorkspaceModel) → body ≡ body_sealed (sealing_of (plain_of key line.now own) (record { leaf = leaf; randomizer = []; new_key = new_key.now }) change.now) line.now.kit.pairs) }
+    ensures spelled { IfOk result IsChangeBody }
+{
+    let heads = line.heads();
+    let members = heads.roster().members_after(change)?;
+    let _subject = subject_of(change);
+    match seal_change(
+        alloc,
+        change,
+        members.as_slice(),
+        &heads.genesis().document,
+        line.me(),
+        leaf,
+        heads.epoch(),
+        old_key,
+        new_key,
+        line.pairs(),
+    ) {
+        Ok(body) => Ok(body),
+        Err(SealFault::Memory) => Err(AllocError),
+        Err(SealFault::NoPairKey(_)) => unreachable!(),
+    }
+}
+
+// The number of the member that a change is of. What the change says is in range.
+fn subject_of(change: &Change) -> u16
+    ensures typed { IsTypedChange change.now }
+{
+    match change {
+        Change::Add { member, key, .. } => {
+            let _len = key_len(key);
+            *member
+        }
+        Change::Remove { member } | Change::SetRole { member, .. } => *member,
+    }
+}
+
+// The length of a public key.
+fn key_len(key: &[u8; 56]) -> usize
+    ensures { length key.now ≡ 56 }
+{
+    key.len()
+}

@@ -1,0 +1,9 @@
+use sporc_delta::Delta;
+use sporc_member::Change;
+
+/// An edit or a change of a client's own that is not committed yet.
+#[derive(Debug, Drop)]
+pub enum Pending {
+    Edit(Delta),
+    Change(Change),
+}

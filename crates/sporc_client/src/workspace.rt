@@ -1,0 +1,275 @@
+// A client's own part.
+
+ghost use Rattle.std.specs.Prelude.{◌≡◌, ◌+◌, ◌≤◌, ◌<◌, ◌^◌, ◌∷◌, ◌++◌, [], drop, take, length, None, Some, option_copied, IfOk, OnOk};
+ghost use Rattle.sporc_delta.specs.Marks.{base_len, inserted_len};
+ghost use Rattle.sporc_suffix.specs.Forms.{Follow, all_inserted, later_over, reached};
+ghost use Rattle.sporc_line.specs.Document.{text_after};
+ghost use Rattle.sporc_client.specs.declared.limits.TheConstants.{MAX_EVENTS};
+ghost use Rattle.sporc_client.specs.Coming.{flight_after, pending_after};
+ghost use Rattle.sporc_client.specs.Step.{is_same_as};
+
+use crate::coming::Coming;
+use crate::event::Event;
+use crate::pending::Pending;
+use sporc_base::{Bytes, Memory, is_same};
+use sporc_delta::Delta;
+use sporc_suffix::{Blocks, ReadyForm, Steps};
+use std::alloc::Global;
+use std::marker::{Brand, Model};
+use std::sync::ledger::{Blank, Ledger};
+
+/// The pending items, the entry on its way, a shown delta for each event, and the journal.
+#[derive(Drop)]
+pub(crate) struct Workspace {
+    pending: Vec<Pending>,
+    flight: Option<Bytes>,
+    shown: Blocks,
+    journal: Vec<Event>,
+}
+
+impl Model for Workspace {
+    ghost use Rattle.std.specs.Prelude.{◌-◌, min};
+    ghost use Rattle.std.specs.Vec.{vec_capacity, vec_len};
+    ghost use Rattle.sporc_client.specs.Workspace.{Workspace as WorkspaceModel, WorkspaceInvariant};
+
+    ghost Value = { WorkspaceModel };
+
+    ghost view = { λ w. record {
+      pending = w.pending.items;
+      flight = w.flight;
+      shown = w.shown.forms;
+      journal = w.journal.items;
+      spare = min (min (vec_capacity w.pending - vec_len w.pending) (vec_capacity w.journal - vec_len w.journal)) w.shown.spare;
+    } };
+
+    ghost invariant = { λ w. WorkspaceInvariant w.shown.base w.shown.forms w.journal.items };
+}
+
+impl Workspace {
+    /// Nothing of one's own, and no events.
+    pub(crate) fn new(alloc: Global) -> Result<Workspace, Memory>
+        ensures pending { IfOk result (λ w. w.pending ≡ []) }
+        ensures flight { IfOk result (λ w. w.flight ≡ None) }
+        ensures shown { IfOk result (λ w. w.shown ≡ []) }
+        ensures journal { IfOk result (λ w. w.journal ≡ []) }
+    {
+        Ok(Workspace {
+            pending: Vec::new(alloc),
+            flight: None,
+            shown: Blocks::new(alloc, 0)?,
+            journal: Vec::new(alloc),
+        })
+    }
+
+    /// The pending items.
+    pub(crate) fn pending(&self) -> &[Pending]
+        ensures value { result.now ≡ self.now.pending }
+    {
+        self.pending.as_slice()
+    }
+
+    /// The entry on its way.
+    pub(crate) fn flight(&self) -> Option<&Bytes>
+        ensures value { option_copied result ≡ self.now.flight }
+    {
+        self.flight.as_ref()
+    }
+
+    /// Whether these are the bytes of the entry on its way.
+    pub(crate) fn is_on_its_way(&self, bytes: &[u8]) -> bool
+        ensures value { result ≡ is_same_as self.now.flight bytes.now }
+    {
+        match &self.flight {
+            None => false,
+            Some(entry) => is_same(entry.as_slice(), bytes),
+        }
+    }
+
+    /// The journal.
+    pub(crate) fn journal(&self) -> &[Event]
+        ensures value { result.now ≡ self.now.journal }
+        ensures each { length self.now.shown ≡ length result.now }
+        ensures few { length result.now ≤ MAX_EVENTS }
+    {
+        self.journal.as_slice()
+    }
+
+    /// The length of the text shown now.
+    pub(crate) fn shown_len(&self) -> u64
+        requires follow { Follow 0 self.now.shown }
+        ensures value { result ≡ length (text_after self.now.shown) }
+    {
+        self.shown_len_at(self.journal.len() as u32)
+    }
+
+    /// The length of the text shown after so many events.
+    #[tactic(auto, using(crate::proofs::Shown::length_last))]
+    pub(crate) fn shown_len_at(&self, events: u32) -> u64
+        requires within { events ≤ length self.now.shown }
+        requires follow { Follow 0 self.now.shown }
+        ensures value { result ≡ length (text_after (take events self.now.shown)) }
+    {
+        if events == 0 {
+            return 0;
+        }
+        self.shown.form(events - 1).out_len()
+    }
+
+    /// A delta that is stated on the text shown after `seen` events, restated on the text shown now.
+    pub(crate) fn restated(&self, delta: &Delta, seen: u32) -> Result<Delta, Memory>
+        requires within { seen ≤ length self.now.shown }
+        requires base { base_len delta.now ≡ reached 0 (take seen self.now.shown) }
+        requires limit { base_len delta.now + inserted_len delta.now + all_inserted (drop seen self.now.shown) ≤ 2 ^ 60 }
+        ensures value { IfOk result (λ d. d ≡ later_over delta.now (drop seen self.now.shown)) }
+    {
+        behind::<Brand>(Blank::new(1), &self.shown, delta, seen)
+    }
+
+    /// Takes the memory of one more event, with this shown delta, and of one more pending item.
+    pub(crate) fn ready(&mut self, form: Delta) -> Result<ReadyForm, Memory>
+        requires base { base_len form ≡ reached 0 self.old.shown }
+        ensures ok { IfOk result (λ ready. ready ≡ form) }
+        ensures spare { OnOk result (0 < self.new.spare) }
+        ensures pending { self.new.pending ≡ self.old.pending }
+        ensures flight { self.new.flight ≡ self.old.flight }
+        ensures shown { self.new.shown ≡ self.old.shown }
+        ensures journal { self.new.journal ≡ self.old.journal }
+    {
+        self.pending.reserve(1)?;
+        self.journal.reserve(1)?;
+        match self.shown.ready(form) {
+            Ok(ready) => Ok(ready),
+            Err((_, memory)) => Err(memory),
+        }
+    }
+
+    /// Appends an event with the shown delta that was made ready.
+    pub(crate) fn record_event(&mut self, event: Event, ready: ReadyForm)
+        requires base { base_len ready ≡ reached 0 self.old.shown }
+        requires room { length self.old.shown < MAX_EVENTS }
+        requires spare { 0 < self.old.spare }
+        ensures pending { self.new.pending ≡ self.old.pending }
+        ensures flight { self.new.flight ≡ self.old.flight }
+        ensures shown { self.new.shown ≡ self.old.shown ++ ready ∷ [] }
+        ensures journal { self.new.journal ≡ self.old.journal ++ event ∷ [] }
+    {
+        self.journal.push_reserved(event);
+        self.shown.put(ready);
+    }
+
+    /// Appends an event with the shown delta that was made ready, and an item.
+    pub(crate) fn record_item(&mut self, event: Event, ready: ReadyForm, item: Pending)
+        requires base { base_len ready ≡ reached 0 self.old.shown }
+        requires room { length self.old.shown < MAX_EVENTS }
+        requires spare { 0 < self.old.spare }
+        ensures pending { self.new.pending ≡ self.old.pending ++ item ∷ [] }
+        ensures flight { self.new.flight ≡ self.old.flight }
+        ensures shown { self.new.shown ≡ self.old.shown ++ ready ∷ [] }
+        ensures journal { self.new.journal ≡ self.old.journal ++ event ∷ [] }
+    {
+        self.pending.push_reserved(item);
+        self.journal.push_reserved(event);
+        self.shown.put(ready);
+    }
+
+    /// Does what an entry that comes does, and appends its event with the shown delta that was made ready.
+    pub(crate) fn record_coming(&mut self, event: Event, ready: ReadyForm, coming: Coming)
+        requires base { base_len ready ≡ reached 0 self.old.shown }
+        requires room { length self.old.shown < MAX_EVENTS }
+        requires spare { 0 < self.old.spare }
+        ensures pending { self.new.pending ≡ pending_after coming self.old.pending }
+        ensures flight { self.new.flight ≡ flight_after coming self.old.flight }
+        ensures shown { self.new.shown ≡ self.old.shown ++ ready ∷ [] }
+        ensures journal { self.new.journal ≡ self.old.journal ++ event ∷ [] }
+    {
+        self.record_event(event, ready);
+        match coming {
+            Coming::Own => {
+                self.drop_first();
+                self.flight = None;
+            }
+            Coming::Change => self.flight = None,
+            Coming::Edit(items, by_me) => {
+                self.pending = items.into_vec();
+                if by_me {
+                    self.flight = None;
+                }
+            }
+        }
+    }
+
+    /// Takes the first pending item off, if there is one.
+    fn drop_first(&mut self)
+        ensures pending { self.new.pending ≡ drop 1 self.old.pending }
+        ensures flight { self.new.flight ≡ self.old.flight }
+        ensures shown { self.new.shown ≡ self.old.shown }
+        ensures journal { self.new.journal ≡ self.old.journal }
+    {
+        if !self.pending.is_empty() {
+            let _ = self.pending.remove(0);
+        }
+    }
+
+    /// Appends an event with the shown delta that was made ready, and puts an entry on its way.
+    pub(crate) fn record_submission(&mut self, event: Event, ready: ReadyForm, entry: Bytes)
+        requires base { base_len ready ≡ reached 0 self.old.shown }
+        requires room { length self.old.shown < MAX_EVENTS }
+        requires spare { 0 < self.old.spare }
+        ensures pending { self.new.pending ≡ self.old.pending }
+        ensures flight { self.new.flight ≡ Some entry }
+        ensures shown { self.new.shown ≡ self.old.shown ++ ready ∷ [] }
+        ensures journal { self.new.journal ≡ self.old.journal ++ event ∷ [] }
+    {
+        self.record_event(event, ready);
+        self.flight = Some(entry);
+    }
+
+    /// Appends an event with the shown delta that was made ready, and takes the first item off, if there is one.
+    pub(crate) fn record_drop(&mut self, event: Event, ready: ReadyForm)
+        requires base { base_len ready ≡ reached 0 self.old.shown }
+        requires room { length self.old.shown < MAX_EVENTS }
+        requires spare { 0 < self.old.spare }
+        ensures pending { self.new.pending ≡ drop 1 self.old.pending }
+        ensures flight { self.new.flight ≡ self.old.flight }
+        ensures shown { self.new.shown ≡ self.old.shown ++ ready ∷ [] }
+        ensures journal { self.new.journal ≡ self.old.journal ++ event ∷ [] }
+    {
+        self.record_event(event, ready);
+        self.drop_first();
+    }
+
+    /// Gives all of it up, and appends the event of that with the shown delta that was made ready.
+    pub(crate) fn record_discard(&mut self, event: Event, ready: ReadyForm)
+        requires base { base_len ready ≡ reached 0 self.old.shown }
+        requires room { length self.old.shown < MAX_EVENTS }
+        requires spare { 0 < self.old.spare }
+        ensures pending { self.new.pending ≡ [] }
+        ensures flight { self.new.flight ≡ None }
+        ensures shown { self.new.shown ≡ self.old.shown ++ ready ∷ [] }
+        ensures journal { self.new.journal ≡ self.old.journal ++ event ∷ [] }
+    {
+        self.record_event(event, ready);
+        self.pending.clear();
+        let _ = self.flight.take();
+    }
+}
+
+// A delta that is stated after the first `seen` forms, restated behind all of them, with no count of steps.
+fn behind<L: Ledger>(
+    blank: Blank,
+    forms: &Blocks,
+    delta: &Delta,
+    seen: u32,
+) -> Result<Delta, Memory>
+    requires name { blank.name ≡ L.name }
+    requires parts { blank.parts ≡ L.parts }
+    requires some { 0 < blank.parts }
+    requires within { seen ≤ length forms.now.forms }
+    requires base { base_len delta.now ≡ reached forms.now.base (take seen forms.now.forms) }
+    requires limit { base_len delta.now + inserted_len delta.now + all_inserted (drop seen forms.now.forms) ≤ 2 ^ 60 }
+    ensures value { IfOk result (λ d. d ≡ later_over delta.now (drop seen forms.now.forms)) }
+{
+    let mut steps: Steps<L> = Steps::new(blank);
+    let restated = forms.later_over(delta, seen, &mut steps)?;
+    Ok(restated)
+}
