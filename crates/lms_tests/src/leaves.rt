@@ -1,4 +1,4 @@
-use super::*;
+use lms_leaf::{Leaves, blank, laws};
 use sporc_base::Memory;
 use sporc_outside::{Calls, DiskRequest, MemoryDisk};
 use std::alloc::Global;

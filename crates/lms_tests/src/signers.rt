@@ -1,7 +1,7 @@
-use super::*;
 use hex::FromHex;
 use lms_leaf::Leaves;
 use lms_ots::OtsType;
+use lms_sign::Signer;
 use lms_tree::{LmsType, Tree, verify};
 use sha2::{Digest, Sha256};
 use sporc_outside::{Calls, MemoryDisk};
