@@ -25,8 +25,6 @@ mod faults;
 pub mod laws;
 mod leaf_file;
 mod leaves;
-#[cfg(test)]
-mod tests;
 
 pub use crate::faults::{LeafFault, LeafOpenFault};
 pub use crate::leaf_file::{LEAVES_PER_BLOCK, blank};

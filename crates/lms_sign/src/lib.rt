@@ -21,8 +21,6 @@
 #![tactic(auto)]
 
 mod signer;
-#[cfg(test)]
-mod tests;
 mod ticket;
 
 pub use crate::signer::Signer;

@@ -33,6 +33,3 @@ pub use public_key::LmsPublic;
 pub use sporc_base::Memory;
 pub use tree::Tree;
 pub use verification::{verify, verify_parts};
-
-#[cfg(test)]
-mod tests;

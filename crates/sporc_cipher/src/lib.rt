@@ -26,8 +26,6 @@ use rand_core::SeedableRng;
 use rand_core::utils::NextWord;
 
 pub mod laws;
-#[cfg(test)]
-mod tests;
 
 /// Masks the bytes under a key, from the first byte of the stream of that number on. A second call
 /// takes the mask off again ([`laws::mask_twice`]).

@@ -36,6 +36,3 @@ pub use limits::{MAX_CHANGE_BODY, MAX_EDIT_BODY, MAX_ENTRY, MAX_SIGNATURE};
 pub use sporc_base::{Bytes, Memory};
 pub use view::EntryView;
 pub use wrap::{Wrap, Wraps};
-
-#[cfg(test)]
-mod tests;

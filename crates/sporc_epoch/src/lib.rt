@@ -41,6 +41,3 @@ pub use seal::{least_unpaired, seal_change};
 pub use sporc_base::Memory;
 pub use streams::{MAX_EPOCH, entry_stream};
 pub use wraps::{open_previous, open_wrap};
-
-#[cfg(test)]
-mod tests;

@@ -24,6 +24,3 @@ mod verdict;
 
 pub use chain::{Digest32, commit, genesis_hash, next_hash};
 pub use verdict::{Verdict, compare};
-
-#[cfg(test)]
-mod tests;

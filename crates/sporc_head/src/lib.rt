@@ -27,6 +27,3 @@ pub use heads::Heads;
 pub use limits::MAX_ENTRIES;
 pub use refusal::Refusal;
 pub use sporc_base::Memory;
-
-#[cfg(test)]
-mod tests;

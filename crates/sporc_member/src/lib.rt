@@ -29,6 +29,3 @@ pub use limits::MAX_MEMBERS;
 pub use role::Role;
 pub use roster::Roster;
 pub use sporc_base::Memory;
-
-#[cfg(test)]
-mod tests;

@@ -22,6 +22,3 @@ pub use order::{MAX_PULLED_BYTES, Order};
 pub use session::{Answer, Session};
 pub use sporc_base::Memory;
 pub use sporc_wire::MAX_PULLED;
-
-#[cfg(test)]
-mod tests;

@@ -7,8 +7,6 @@ mod fault;
 mod history;
 pub mod laws;
 mod limits;
-#[cfg(test)]
-mod tests;
 
 pub use client::{PlainClient, PlainSubmitted};
 pub use entry::PlainEntry;

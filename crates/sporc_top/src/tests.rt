@@ -5,6 +5,7 @@ use sporc_outside::{Calls, MemorySink, MemorySource};
 use sporc_play::MAX_SCRIPT;
 use std::alloc::{AllocError, Global};
 use std::fmt::Write;
+use std::process::Abort;
 use std::test::Fail;
 
 const THIN: &str = "member 1 admin\nedit 1 insert 0 \"abc\"\nsubmit 1\ngive 1 1 1\nshow 1\n";
@@ -155,116 +156,165 @@ const SCRIPTS: [(&str, u8, &str); 35] = [
     ("member 1 admin\nedit 1 insert 0 a\n", 3, "fault line 2\n"),
 ];
 
-#[test]
-fn answers_scripts(rt: HostRuntime) -> Result<(), Fail> {
-    for (script, status, report) in SCRIPTS {
-        let (got, written) = answer(rt.alloc(), "play", script.as_bytes(), 4096, 0, 0)?;
-        assert_eq!(rt; written.as_slice(), report.as_bytes(), "{script}");
-        assert_eq!(rt; got, status, "{script}");
-    }
-    for script in [b"# \xff\n", b"\xc3\n\n\n"] {
-        let (got, written) = answer(rt.alloc(), "play", script.as_slice(), 4096, 0, 0)?;
-        assert_eq!(rt; written.as_slice(), b"fault line 1\n".as_slice());
-        assert_eq!(rt; got, 3);
-    }
+// Whether so the words and the script are answered, where nothing fails.
+fn answers(
+    rt: &impl Abort,
+    alloc: Global,
+    words: &str,
+    script: &[u8],
+    status: u8,
+    report: &[u8],
+) -> Result<(), Fail> {
+    let (got, written) = answer(alloc, words, script, 1 << 20, 0, 0)?;
+    assert_eq!(rt; written.as_slice(), report);
+    assert!(rt; got == status);
     Ok(())
 }
 
 #[test]
+fn answers_scripts(rt: HostRuntime) -> Result<(), Fail> {
+    for (script, status, report) in &SCRIPTS {
+        answers(
+            &rt,
+            rt.alloc(),
+            "play",
+            script.as_bytes(),
+            *status,
+            report.as_bytes(),
+        )?;
+    }
+    answers(&rt, rt.alloc(), "play", b"# \xff\n", 3, b"fault line 1\n")?;
+    answers(&rt, rt.alloc(), "play", b"\xc3\n\n\n", 3, b"fault line 1\n")
+}
+
+const OTHER_WORDS: [&str; 5] = ["paly", "", "play play", "--help", "Play"];
+
+#[test]
 fn knows_one_word(rt: HostRuntime) -> Result<(), Fail> {
-    for words in ["paly", "", "play play", "--help", "Play"] {
-        let (status, written) = answer(rt.alloc(), words, THIN.as_bytes(), 9, 0, 0)?;
-        assert_eq!(rt; written.as_slice(), b"fault words\n".as_slice());
-        assert_eq!(rt; status, 2);
+    for words in &OTHER_WORDS {
+        answers(
+            &rt,
+            rt.alloc(),
+            *words,
+            THIN.as_bytes(),
+            2,
+            b"fault words\n",
+        )?;
     }
     Ok(())
 }
 
 #[test]
 fn reads_scripts_up_to_a_size(rt: HostRuntime) -> Result<(), Fail> {
-    let mut script = Vec::new(rt.alloc());
-    for _ in 0..MAX_SCRIPT {
-        script.push(b'#')?;
-    }
-    assert_eq!(rt;
-        answer(rt.alloc(), "play", script.as_slice(), 1 << 20, 0, 0)?.0,
-        0
-    );
+    let mut script = vec![in rt.alloc(); b'#'; MAX_SCRIPT]?;
+    answers(&rt, rt.alloc(), "play", script.as_slice(), 0, b"")?;
     script.push(b'\n')?;
-    let (status, written) = answer(rt.alloc(), "play", script.as_slice(), 1 << 20, 0, 0)?;
-    assert_eq!(rt; written.as_slice(), b"fault too long script\n".as_slice());
-    assert_eq!(rt; status, 3);
+    answers(
+        &rt,
+        rt.alloc(),
+        "play",
+        script.as_slice(),
+        3,
+        b"fault too long script\n",
+    )
+}
+
+// Whether the run ends, since no read is left that fails; else the fault is told.
+fn ends_without_read(rt: &impl Abort, alloc: Global, failing: u64) -> Result<bool, Fail> {
+    let (status, written) = answer(alloc, "play", THIN.as_bytes(), 7, failing, 0)?;
+    if status == 0 {
+        assert!(rt; written.as_slice() == THIN_REPORT.as_bytes());
+        return Ok(true);
+    }
+    assert!(rt;
+        written.as_slice() == b"fault outside\n".as_slice(),
+        "read {failing}"
+    );
+    assert!(rt; status == 6, "read {failing}");
+    Ok(false)
+}
+
+// Each read fails in turn, until no read is left to fail.
+#[test]
+fn tells_each_failed_read(rt: HostRuntime) -> Result<(), Fail> {
+    let mut last = 0;
+    for k in 1..100 {
+        if ends_without_read(&rt, rt.alloc(), k)? {
+            last = k;
+            break;
+        }
+    }
+    // As many reads of 7 bytes as the script takes, and one that finds its end.
+    assert!(rt; last == THIN.len().div_ceil(7) as u64 + 2);
     Ok(())
 }
 
+// The same of writes of one byte: the fault is told after the prefix of the report that was written.
+fn ends_without_write(rt: &impl Abort, alloc: Global, failing: u64) -> Result<bool, Fail> {
+    let (status, written) = answer(alloc, "play", THIN.as_bytes(), 1, 0, failing)?;
+    if status == 0 {
+        assert!(rt; written.as_slice() == THIN_REPORT.as_bytes());
+        return Ok(true);
+    }
+    let before = (failing as usize).saturating_sub(1);
+    let prefix = THIN_REPORT
+        .as_bytes()
+        .get(..before)
+        .ok_or("too many writes")?;
+    let text = written
+        .strip_prefix(prefix)
+        .ok_or("no prefix of the report")?;
+    assert!(rt; text == b"fault outside\n".as_slice(), "write {failing}");
+    assert!(rt; status == 6, "write {failing}");
+    Ok(false)
+}
+
 #[test]
-fn tells_each_failed_read_and_write(rt: HostRuntime) -> Result<(), Fail> {
-    // Each read fails in turn, until no read is left to fail.
-    let mut reads = 0;
-    for k in 1..100 {
-        let (status, written) = answer(rt.alloc(), "play", THIN.as_bytes(), 7, k, 0)?;
-        if status == 0 {
-            assert_eq!(rt; written.as_slice(), THIN_REPORT.as_bytes());
-            reads = k;
+fn tells_each_failed_write(rt: HostRuntime) -> Result<(), Fail> {
+    let mut last = 0;
+    for k in 1..1000 {
+        if ends_without_write(&rt, rt.alloc(), k)? {
+            last = k;
             break;
         }
-        assert_eq!(rt;
-            written.as_slice(),
-            b"fault outside\n".as_slice(),
-            "read {k}"
-        );
-        assert_eq!(rt; status, 6, "read {k}");
     }
-    // As many reads of 7 bytes as the script takes, and one that finds its end.
-    assert_eq!(rt; reads, THIN.len().div_ceil(7) as u64 + 2);
-    // And each write of one byte.
-    for k in 1..1000 {
-        let (status, written) = answer(rt.alloc(), "play", THIN.as_bytes(), 1, 0, k)?;
-        if status == 0 {
-            assert_eq!(rt; written.as_slice(), THIN_REPORT.as_bytes());
-            assert_eq!(rt; k, THIN_REPORT.len() as u64 + 1);
-            return Ok(());
-        }
-        let prefix = THIN_REPORT
-            .as_bytes()
-            .get(..k as usize - 1)
-            .ok_or("too many writes")?;
-        let text = written
-            .strip_prefix(prefix)
-            .ok_or("no prefix of the report")?;
-        assert_eq!(rt; text, b"fault outside\n".as_slice(), "write {k}");
-        assert_eq!(rt; status, 6, "write {k}");
-    }
-    Err(Fail::from("each run failed"))
+    assert!(rt; last == THIN_REPORT.len() as u64 + 1);
+    Ok(())
+}
+
+// The second write of four bytes fails.
+fn keeps(
+    rt: &impl Abort,
+    alloc: Global,
+    word: &str,
+    script: &[u8],
+    status: u8,
+) -> Result<(), Fail> {
+    let (got, written) = answer(alloc, word, script, 4, 0, 2)?;
+    assert!(rt; written.as_slice() == b"faul".as_slice());
+    assert!(rt; got == status);
+    Ok(())
 }
 
 #[test]
 fn keeps_the_status_if_the_line_is_not_written(rt: HostRuntime) -> Result<(), Fail> {
-    for (word, script, status) in [("paly", "", 2), ("play", "x", 3)] {
-        let (got, written) = answer(rt.alloc(), word, script.as_bytes(), 4, 0, 2)?;
-        assert_eq!(rt; written.as_slice(), b"faul".as_slice());
-        assert_eq!(rt; got, status);
-    }
-    Ok(())
+    keeps(&rt, rt.alloc(), "paly", b"", 2)?;
+    keeps(&rt, rt.alloc(), "play", b"x", 3)
 }
 
-// Plays a script whole, where nothing fails.
-fn report(alloc: Global, script: &str) -> Result<Vec<u8>, Fail> {
-    let (status, written) = answer(alloc, "play", script.as_bytes(), 4096, 0, 0)?;
-    if status != 0 {
-        return Err(Fail::from("not played"));
-    }
-    Ok(written)
-}
-
-// All 64 accept one entry, and a declaration more is outside the grammar.
-#[test]
-fn sixty_four_members_share_an_entry(rt: HostRuntime) -> Result<(), Fail> {
-    let mut script = String::new(rt.alloc());
+// The declarations of 64 members.
+fn declarations(alloc: Global) -> Result<String, Fail> {
+    let mut script = String::new(alloc);
     for m in 1..=64u16 {
         writeln!(script, "member {m} admin")?;
     }
-    let more = String::from_str(rt.alloc(), script.as_str())?;
+    Ok(script)
+}
+
+// All 64 accept one entry.
+#[test]
+fn sixty_four_members_share_an_entry(rt: HostRuntime) -> Result<(), Fail> {
+    let mut script = declarations(rt.alloc())?;
     script.push_str("edit 64 insert 0 \"a\"\nsubmit 64\n")?;
     let mut expected = String::from_str(rt.alloc(), "64 edit event 1\n64 submit entry 1\n")?;
     for m in 1..=64u16 {
@@ -273,21 +323,34 @@ fn sixty_four_members_share_an_entry(rt: HostRuntime) -> Result<(), Fail> {
     }
     script.push_str("compare 1 64\nshow 32\n")?;
     expected.push_str("1 64 same\n32 at 1 pending 0 text \"a\"\n")?;
-    assert_eq!(rt;
-        report(rt.alloc(), script.as_str())?.as_slice(),
-        expected.as_bytes()
-    );
-    let mut full = more;
-    full.push_str("member 65 editor\n")?;
-    let (status, written) = answer(rt.alloc(), "play", full.as_bytes(), 4096, 0, 0)?;
-    assert_eq!(rt; written.as_slice(), b"fault line 65\n".as_slice());
-    assert_eq!(rt; status, 3);
-    Ok(())
+    answers(
+        &rt,
+        rt.alloc(),
+        "play",
+        script.as_bytes(),
+        0,
+        expected.as_bytes(),
+    )
 }
 
-// 1,024 edits are pending, and the next is refused; the longest edit has 65,536 bytes, 9 of them beside its text.
+// A declaration more is outside the grammar.
 #[test]
-fn edits_are_limited(rt: HostRuntime) -> Result<(), Fail> {
+fn a_member_more_is_a_fault(rt: HostRuntime) -> Result<(), Fail> {
+    let mut script = declarations(rt.alloc())?;
+    script.push_str("member 65 editor\n")?;
+    answers(
+        &rt,
+        rt.alloc(),
+        "play",
+        script.as_bytes(),
+        3,
+        b"fault line 65\n",
+    )
+}
+
+// 1,024 edits are pending, and the next is refused.
+#[test]
+fn pending_edits_are_limited(rt: HostRuntime) -> Result<(), Fail> {
     let mut script = String::from_str(rt.alloc(), "member 1 admin\n")?;
     let mut expected = String::new(rt.alloc());
     for event in 1..=1_024u64 {
@@ -296,23 +359,29 @@ fn edits_are_limited(rt: HostRuntime) -> Result<(), Fail> {
     }
     script.push_str("edit 1 insert 0 \"\"\n")?;
     expected.push_str("1 edit refused pending-full\n")?;
-    assert_eq!(rt;
-        report(rt.alloc(), script.as_str())?.as_slice(),
-        expected.as_bytes()
-    );
-    for (len, line) in [
-        (65_527, "1 edit event 1\n"),
-        (65_528, "1 edit refused too-long\n"),
-    ] {
-        let mut script = String::from_str(rt.alloc(), "member 1 admin\nedit 1 insert 0 \"")?;
-        for _ in 0..len {
-            script.push('a')?;
-        }
-        script.push_str("\"\n")?;
-        assert_eq!(rt;
-            report(rt.alloc(), script.as_str())?.as_slice(),
-            line.as_bytes()
-        );
+    answers(
+        &rt,
+        rt.alloc(),
+        "play",
+        script.as_bytes(),
+        0,
+        expected.as_bytes(),
+    )
+}
+
+// What an insertion of so many letters is answered.
+fn inserts(rt: &impl Abort, alloc: Global, len: u32, report: &str) -> Result<(), Fail> {
+    let mut script = String::from_str(alloc, "member 1 admin\nedit 1 insert 0 \"")?;
+    for _ in 0..len {
+        script.push('a')?;
     }
-    Ok(())
+    script.push_str("\"\n")?;
+    answers(rt, alloc, "play", script.as_bytes(), 0, report.as_bytes())
+}
+
+// The longest edit has 65,536 bytes, 9 of them beside its text.
+#[test]
+fn bytes_of_an_edit_are_limited(rt: HostRuntime) -> Result<(), Fail> {
+    inserts(&rt, rt.alloc(), 65_527, "1 edit event 1\n")?;
+    inserts(&rt, rt.alloc(), 65_528, "1 edit refused too-long\n")
 }

@@ -33,6 +33,3 @@ pub use fault::FrameFault;
 pub use frames::Frames;
 pub use to_client::{MAX_PULLED, ToClient, write_to_client};
 pub use to_server::{ToServer, write_to_server};
-
-#[cfg(test)]
-mod tests;

@@ -1,5 +1,8 @@
-use crate::*;
+use crate::compare::same_bytes;
 use sporc_delta::Delta;
+use sporc_plain::{
+    MAX_EDIT_BYTES, MAX_ENTRIES, PlainClient, PlainEntry, PlainSubmitFault, PlainSubmitted,
+};
 use std::alloc::Global;
 use std::process::Abort;
 use std::test::Fail;
@@ -15,7 +18,7 @@ fn commit(
     let len = client.shown_len();
     assert!(rt; text.len() < 100);
     let delta = Delta::replace_all(alloc, len, text)?;
-    assert_eq!(rt; delta.base_len(), client.shown_len());
+    assert!(rt; delta.base_len() == client.shown_len());
     client.edit(&delta)?;
     let PlainSubmitted::Entry(entry) = client.submit()? else {
         panic!(rt; "no entry");
@@ -30,13 +33,13 @@ fn edits_are_committed_until_the_history_is_full(rt: HostRuntime) -> Result<(), 
     for position in 1..=MAX_ENTRIES as u32 {
         let text = if position % 2 == 0 { "" } else { "text" };
         let events = commit(&rt, rt.alloc(), &mut client, position, text)?;
-        assert_eq!(rt; events, 3 * u64::from(position));
+        assert!(rt; events == 3 * u64::from(position));
     }
     let delta = Delta::replace_all(rt.alloc(), 0, "more")?;
-    assert_eq!(rt; delta.base_len(), client.shown_len());
+    assert!(rt; delta.base_len() == client.shown_len());
     client.edit(&delta)?;
     assert!(rt; matches!(client.submit(), Err(PlainSubmitFault::HistoryFull)));
-    assert_eq!(rt; client.shown()?.as_str(), "more");
+    assert!(rt; client.shown()?.as_str() == "more");
     Ok(())
 }
 
@@ -55,6 +58,6 @@ fn an_entry_has_its_bytes(rt: HostRuntime) -> Result<(), Fail> {
     let mut expected = vec![in rt.alloc(); 0, 1, 0, 0, 0, 2, 0, 0, 0, 3]?;
     expected.extend_from_slice(&[7; 32])?;
     expected.extend_from_slice(&[2, 0, 0, 0, 0, 0, 0, 0, 1, b'd'])?;
-    assert_eq!(rt; bytes, expected);
+    same_bytes(&rt, bytes.as_slice(), expected.as_slice());
     Ok(())
 }

@@ -1,4 +1,4 @@
-use super::*;
+use lms_leaf::{Leaves, blank, laws};
 use sporc_base::Memory;
 use sporc_outside::{Calls, DiskRequest, MemoryDisk};
 use std::alloc::Global;
@@ -20,29 +20,30 @@ fn name_of(request: &DiskRequest) -> &'static str {
 
 #[test]
 fn blank_files_are_zeros(rt: HostRuntime) -> Result<(), Fail> {
-    assert_eq!(rt; blank(rt.alloc(), 5)?.as_slice(), [0; 8].as_slice());
-    assert_eq!(rt; blank(rt.alloc(), 10)?.len(), 256);
-    assert_eq!(rt; blank(rt.alloc(), 15)?.len(), 8192);
+    assert!(rt; blank(rt.alloc(), 5)?.as_slice() == [0; 8].as_slice());
+    assert!(rt; blank(rt.alloc(), 10)?.len() == 256);
+    assert!(rt; blank(rt.alloc(), 15)?.len() == 8192);
     laws::no_leaf_is_drawn_twice::<MemoryDisk>();
     Ok(())
 }
+
+// The calls of an opening and of a block that is taken.
+const CALLS: [&str; 5] = ["sync", "len", "read", "write", "sync"];
 
 // What an opening calls before it reads, and that a block of four leaves is written and synced once.
 #[test]
 fn opening_begins_with_a_sync(rt: HostRuntime) -> Result<(), Fail> {
     let disk = disk_of(rt.alloc(), [0, 9, 0, 0, 0, 0, 0, 0].to_vec(rt.alloc())?)?;
     let mut leaves = Leaves::open(rt.alloc(), disk, 5).map_err(|fault| fault.0)?;
-    assert_eq!(rt; leaves.next(), 8);
+    assert!(rt; leaves.next() == 8);
     for leaf in 8..12 {
-        assert_eq!(rt; leaves.draw(), Ok(leaf));
+        assert!(rt; leaves.draw() == Ok(leaf));
     }
     let disk = leaves.close();
-    assert_eq!(rt; disk.as_slice(), [0, 9, 1, 0, 0, 0, 0, 0].as_slice());
-    let names = ["sync", "len", "read", "write", "sync"];
-    assert_eq!(rt; disk.log().len(), names.len());
-    for (call, name) in disk.log().iter().zip(names) {
-        assert_eq!(rt; name_of(&call.request), name);
-        assert!(rt; call.done, "{name}");
+    assert!(rt; disk.as_slice() == [0, 9, 1, 0, 0, 0, 0, 0].as_slice());
+    assert!(rt; disk.log().len() == CALLS.len());
+    for (call, name) in disk.log().iter().zip(&CALLS) {
+        assert!(rt; call.done && name_of(&call.request) == *name, "{name}");
     }
     Ok(())
 }

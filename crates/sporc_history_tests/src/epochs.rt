@@ -1,6 +1,9 @@
-use super::*;
+use crate::compare::same_bytes;
 use sporc_base::Bytes;
 use sporc_entry::{ChangeBody, Entry, Header, Wrap, Wraps, write_change, write_entry};
+use sporc_epoch::{
+    HintFault, MAX_EPOCH, Pairs, Ring, SealFault, hints_from, open_previous, open_wrap, seal_change,
+};
 use sporc_member::{Change, Role};
 use std::alloc::Global;
 use std::process::Abort;
@@ -131,6 +134,10 @@ fn hints(
     Ok(hints_from(alloc, entries.as_slice(), me, &mine))
 }
 
+fn is_key(rt: &impl Abort, found: Option<[u8; 32]>, wanted: Option<[u8; 32]>) {
+    assert_eq!(rt; found, wanted);
+}
+
 #[test]
 fn a_ring_gives_the_keys_that_were_put(rt: HostRuntime) -> Result<(), Fail> {
     let mut ring = Ring::new(rt.alloc());
@@ -138,19 +145,19 @@ fn a_ring_gives_the_keys_that_were_put(rt: HostRuntime) -> Result<(), Fail> {
     ring.put(3, [7; 32])?;
     ring.put(3, [3; 32])?;
     let copy = ring.copy()?;
-    assert_eq!(rt; copy.key(3).copied(), Some([3; 32]));
-    assert_eq!(rt; copy.key(7).copied(), None);
+    is_key(&rt, copy.key(3).copied(), Some([3; 32]));
+    is_key(&rt, copy.key(7).copied(), None);
     Ok(())
 }
 
 #[test]
 fn a_sealed_change_is_that_of_openssl(rt: HostRuntime) -> Result<(), Fail> {
     let body = sealed(rt.alloc(), &REMOVE, 0)?;
-    assert_eq!(rt; body.change, REMOVE);
-    assert_eq!(rt; body.commitment, COMMITMENT);
-    assert_eq!(rt; body.previous, PREVIOUS);
-    assert_eq!(rt; body.wraps.as_slice(), WRAPS.as_slice());
-    assert_eq!(rt; open_previous(&body, 1, &[11; 32]), [10; 32]);
+    assert!(rt; body.change == REMOVE);
+    same_bytes(&rt, &body.commitment, &COMMITMENT);
+    same_bytes(&rt, &body.previous, &PREVIOUS);
+    assert!(rt; body.wraps.as_slice() == WRAPS.as_slice());
+    same_bytes(&rt, &open_previous(&body, 1, &[11; 32]), &[10; 32]);
     Ok(())
 }
 
@@ -171,7 +178,7 @@ fn the_least_member_without_a_key_is_named(rt: HostRuntime) -> Result<(), Fail> 
         &pairs,
     )
     .err();
-    assert_eq!(rt; fault, Some(SealFault::NoPairKey(3)));
+    assert!(rt; fault == Some(SealFault::NoPairKey(3)));
     Ok(())
 }
 
@@ -184,9 +191,10 @@ fn the_first_wrap_for_a_member_is_opened(rt: HostRuntime) -> Result<(), Fail> {
         sealed: [0; 32],
     };
     body.wraps = Wraps::copy_of(rt.alloc(), &[WRAPS[0], WRAPS[1], again])?;
-    assert_eq!(rt; open_wrap(&body, 1, 5, 4, &mine), Some([11; 32]));
-    assert_eq!(rt; open_wrap(&body, 1, 5, 3, &mine), None, "no wrap");
-    assert_eq!(rt; open_wrap(&body, 2, 5, 4, &mine), None, "no pairwise key");
+    is_key(&rt, open_wrap(&body, 1, 5, 4, &mine), Some([11; 32]));
+    // No wrap, and then no pairwise key.
+    is_key(&rt, open_wrap(&body, 1, 5, 3, &mine), None);
+    is_key(&rt, open_wrap(&body, 2, 5, 4, &mine), None);
     Ok(())
 }
 
@@ -195,9 +203,9 @@ fn the_keys_of_four_epochs_are_found_backwards(rt: HostRuntime) -> Result<(), Fa
     let ring = hints(&rt, rt.alloc(), 0, 1, 4)??;
     for epoch in 0..4u8 {
         let key = ring.key(u32::from(epoch)).copied();
-        assert_eq!(rt; key, Some([10 + epoch; 32]), "epoch {epoch}");
+        is_key(&rt, key, Some([10 + epoch; 32]));
     }
-    assert_eq!(rt; ring.key(4).copied(), None);
+    is_key(&rt, ring.key(4).copied(), None);
     Ok(())
 }
 
@@ -226,6 +234,6 @@ fn no_epoch_follows_the_last(rt: HostRuntime) -> Result<(), Fail> {
     let last = entry_bytes(&rt, rt.alloc(), MAX_EPOCH, &body)?;
     let entries = Vec::from_array(rt.alloc(), [last])?;
     let fault = hints_from(rt.alloc(), entries.as_slice(), 4, &mine).err();
-    assert_eq!(rt; fault, Some(HintFault::NotAdded));
+    assert!(rt; fault == Some(HintFault::NotAdded));
     Ok(())
 }

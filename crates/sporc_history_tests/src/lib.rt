@@ -1,0 +1,28 @@
+//! The tests of `sporc_hash`, `sporc_cipher`, `sporc_member`, `sporc_entry`, `sporc_epoch`, `sporc_head`, `sporc_plain`,
+//! `sporc_wire` and `sporc_order`. They stand in a crate of their own, since a crate with tests is proved twice. No program
+//! stands on it.
+//!
+//! Digests are compared with those of Python's hashlib, masks with those of OpenSSL; formats with bytes that are spelled out by
+//! hand; each refusal comes of an entry that fails its check alone, and of one that fails all later checks too.
+#![tactic(auto)]
+
+#[cfg(test)]
+mod chains;
+#[cfg(test)]
+mod compare;
+#[cfg(test)]
+mod entries;
+#[cfg(test)]
+mod epochs;
+#[cfg(test)]
+mod frames;
+#[cfg(test)]
+mod heads;
+#[cfg(test)]
+mod masks;
+#[cfg(test)]
+mod members;
+#[cfg(test)]
+mod orders;
+#[cfg(test)]
+mod plain_clients;

@@ -1,0 +1,123 @@
+ghost use Rattle.std.specs.Prelude.{◌≡◌};
+
+use sporc_member::{Change, ChangeFault, Founder, Role, Roster};
+use std::process::Abort;
+use std::test::Fail;
+
+// A key of the types 5 (LMS_SHA256_M32_H5) and 3 (LMOTS_SHA256_N32_W4), numbered in its last byte.
+fn key(number: u8) -> [u8; 56] {
+    let mut key = [0u8; 56];
+    key[3] = 5;
+    key[7] = 3;
+    key[55] = number;
+    key
+}
+
+fn founder(member: u16, role: Role) -> Founder
+    ensures { result.member ≡ member }
+{
+    let key = key(7);
+    Founder { member, role, key }
+}
+
+fn add(member: u16, role: Role) -> Change {
+    let key = key(9);
+    Change::Add { member, role, key }
+}
+
+fn add_without_key(member: u16) -> Change {
+    Change::Add {
+        member,
+        role: Role::Editor,
+        key: [0; 56],
+    }
+}
+
+fn remove(member: u16) -> Change {
+    Change::Remove { member }
+}
+
+fn set_role(member: u16, role: Role) -> Change {
+    Change::SetRole { member, role }
+}
+
+fn is_refused(rt: &impl Abort, roster: &Roster, change: Change, fault: ChangeFault) {
+    assert_eq!(rt; roster.test(&change), Err(fault), "{change:?}");
+}
+
+#[test]
+fn one_admin_alone(rt: HostRuntime) -> Result<(), Fail> {
+    let roster = Roster::found(rt.alloc(), &[founder(1, Role::Admin)])?;
+    is_refused(&rt, &roster, add(1, Role::Reader), ChangeFault::NumberUsed);
+    is_refused(&rt, &roster, remove(1), ChangeFault::LastAdmin);
+    is_refused(
+        &rt,
+        &roster,
+        set_role(1, Role::Admin),
+        ChangeFault::SameRole,
+    );
+    is_refused(
+        &rt,
+        &roster,
+        set_role(1, Role::Editor),
+        ChangeFault::LastAdmin,
+    );
+    is_refused(&rt, &roster, remove(2), ChangeFault::NotMember);
+    is_refused(&rt, &roster, add_without_key(2), ChangeFault::BadKey);
+    Ok(())
+}
+
+// Makes a change, after which these are the members.
+fn make(rt: &impl Abort, roster: &mut Roster, change: Change, numbers: &[u16]) -> Result<(), Fail> {
+    roster.reserve()?;
+    assert!(rt; roster.members_after(&change)?.as_slice() == numbers);
+    let accepted = roster.test(&change);
+    assert!(rt; accepted.is_ok(), "{change:?}");
+    if accepted.is_ok() {
+        roster.make(&change)?;
+    }
+    assert!(rt; roster.members() == numbers);
+    Ok(())
+}
+
+#[test]
+fn changes_are_made_in_order(rt: HostRuntime) -> Result<(), Fail> {
+    let founders = [founder(1, Role::Admin), founder(5, Role::Editor)];
+    let mut roster = Roster::found(rt.alloc(), &founders)?;
+    make(&rt, &mut roster, add(3, Role::Reader), &[1, 3, 5])?;
+    make(&rt, &mut roster, set_role(3, Role::Admin), &[1, 3, 5])?;
+    make(&rt, &mut roster, remove(1), &[3, 5])?;
+    make(&rt, &mut roster, add(65535, Role::Editor), &[3, 5, 65535])?;
+    make(&rt, &mut roster, remove(5), &[3, 65535])?;
+    assert!(rt; roster.role(3) == Some(Role::Admin));
+    assert!(rt; roster.role(1).is_none());
+    assert!(rt; roster.key(65535).copied() == Some(key(9)));
+    is_refused(&rt, &roster, add(1, Role::Editor), ChangeFault::NumberUsed);
+    Ok(())
+}
+
+// By their numbers, from 1 on.
+const FAULTS: [(ChangeFault, &str); 6] = [
+    (ChangeFault::NumberUsed, "number-used"),
+    (ChangeFault::NotMember, "not-member"),
+    (ChangeFault::SameRole, "same-role"),
+    (ChangeFault::LastAdmin, "last-admin"),
+    (ChangeFault::RosterFull, "roster-full"),
+    (ChangeFault::BadKey, "bad-key"),
+];
+
+#[test]
+fn names_and_numbers(rt: HostRuntime) {
+    let mut number = 1u8;
+    for (fault, name) in &FAULTS {
+        assert!(rt; fault.name() == *name, "{name}");
+        assert!(rt; fault.code() == number, "{name}");
+        assert!(rt;
+            ChangeFault::from_code(u32::from(number)) == Some(*fault),
+            "{name}"
+        );
+        number = number.wrapping_add(1);
+    }
+    assert!(rt; Role::from_code(2) == Some(Role::Editor));
+    assert!(rt; Role::from_code(4).is_none());
+}
