@@ -29,6 +29,3 @@ use std::alloc::AllocError;
 
 /// No memory was left.
 pub type Memory = AllocError;
-
-#[cfg(test)]
-mod tests;

@@ -23,6 +23,3 @@ mod out;
 pub use cursor::{Cursor, Short};
 pub use out::Out;
 pub use sporc_base::Memory;
-
-#[cfg(test)]
-mod tests;

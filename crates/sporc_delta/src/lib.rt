@@ -33,6 +33,3 @@ pub use crate::fault::DeltaFault;
 pub use crate::limits::{MAX_COUNT, MAX_DELTA_BYTES, MAX_TEXT_LEN};
 pub use crate::part::{Kind, Part, Piece};
 pub use crate::text::{Text, TextSlice};
-
-#[cfg(test)]
-mod tests;

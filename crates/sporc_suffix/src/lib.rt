@@ -18,8 +18,6 @@
 
 mod blocks;
 mod steps;
-#[cfg(test)]
-mod tests;
 
 pub use crate::blocks::{Blocks, ReadyForm};
 pub use crate::steps::Steps;

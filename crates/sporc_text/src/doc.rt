@@ -93,37 +93,3 @@ impl Doc {
         Ok(())
     }
 }
-
-#[cfg(test)]
-mod tests {
-    use super::*;
-    use std::process::Abort;
-    use std::test::Fail;
-
-    fn apply(rt: &impl Abort, doc: &mut Doc, delta: &Delta) -> Result<(), Memory> {
-        assert_eq!(rt; delta.base_len(), doc.len());
-        doc.apply(delta)
-    }
-
-    // Characters of one to four bytes.
-    #[test]
-    fn edits_by_characters(rt: HostRuntime) -> Result<(), Fail> {
-        let alloc = rt.alloc();
-        let mut doc = Doc::new(alloc);
-        assert!(rt; doc.is_empty());
-        apply(&rt, &mut doc, &Delta::insert_at(alloc, 0, 0, "aé€😀")?)?;
-        apply(&rt, &mut doc, &Delta::remove_at(alloc, 4, 1, 2)?)?;
-        assert_eq!(rt; doc.text()?.as_str(), "a😀");
-
-        let insertion = Delta::insert_at(alloc, 2, 1, "日本")?;
-        assert_eq!(rt; insertion.base_len(), doc.len());
-        let ready = doc.ready(&insertion)?;
-        assert_eq!(rt; doc.text()?.as_str(), "a😀");
-        doc.put(ready);
-        assert_eq!(rt; doc.text()?.as_str(), "a日本😀");
-        apply(&rt, &mut doc, &Delta::replace_all(alloc, 4, "ß")?)?;
-        assert_eq!(rt; doc.text()?.as_str(), "ß");
-        assert_eq!(rt; doc.len(), 1);
-        Ok(())
-    }
-}

@@ -22,6 +22,3 @@ mod transform;
 
 pub use crate::composition::compose;
 pub use crate::transform::{both, earlier, later};
-
-#[cfg(test)]
-mod tests;

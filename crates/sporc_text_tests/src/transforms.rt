@@ -1,5 +1,5 @@
-use crate::{both, compose, earlier, later};
 use sporc_delta::{Delta, Part, TextSlice};
+use sporc_xform::{both, compose, earlier, later};
 use std::alloc::{AllocError, Global};
 use std::process::Abort;
 use std::test::Fail;
@@ -153,25 +153,31 @@ fn chars_of(alloc: Global, text: &str) -> Result<Vec<char>, AllocError> {
     Ok(marks)
 }
 
+// Whether the delta is of these marks.
+fn is_of(rt: &impl Abort, alloc: Global, delta: &Delta, marks: &[char]) -> Result<(), Fail> {
+    assert_eq!(rt; marks_of(alloc, delta)?.as_slice(), marks);
+    Ok(())
+}
+
 // Both transforms of two deltas over one text, each call compared with these marks.
-#[tactic(auto, using(crate::proofs::LengthLemmas::inserted_len_le))]
+#[tactic(auto, using(sporc_xform::proofs::LengthLemmas::inserted_len_le))]
 fn check_both(
     rt: &impl Abort,
     alloc: Global,
-    (p, q): (&[char], &[char]),
-    (first, second): (&[char], &[char]),
+    p: &[char],
+    q: &[char],
+    first: &[char],
+    second: &[char],
 ) -> Result<(), Fail> {
-    let (p, q) = (delta_of(alloc, p)?, delta_of(alloc, q)?);
+    let p = delta_of(alloc, p)?;
+    let q = delta_of(alloc, q)?;
     assert!(rt; p.base_len() == q.base_len());
     assert!(rt; p.base_len() + p.out_len() + q.out_len() < 1000);
-    assert_eq!(rt;
-        marks_of(alloc, &earlier(alloc, &p, &q)?)?.as_slice(),
-        first
-    );
-    assert_eq!(rt; marks_of(alloc, &later(alloc, &q, &p)?)?.as_slice(), second);
+    is_of(rt, alloc, &earlier(alloc, &p, &q)?, first)?;
+    is_of(rt, alloc, &later(alloc, &q, &p)?, second)?;
     let (one, other) = both(alloc, &p, &q)?;
-    assert_eq!(rt; marks_of(alloc, &one)?.as_slice(), first);
-    assert_eq!(rt; marks_of(alloc, &other)?.as_slice(), second);
+    is_of(rt, alloc, &one, first)?;
+    is_of(rt, alloc, &other, second)?;
     Ok(())
 }
 
@@ -182,54 +188,56 @@ fn check_compose(
     q: &[char],
     marks: &[char],
 ) -> Result<(), Fail> {
-    let (p, q) = (delta_of(alloc, p)?, delta_of(alloc, q)?);
+    let p = delta_of(alloc, p)?;
+    let q = delta_of(alloc, q)?;
     assert!(rt; p.out_len() == q.base_len());
-    let composed = compose(alloc, &p, &q)?;
-    assert_eq!(rt; marks_of(alloc, &composed)?.as_slice(), marks);
-    Ok(())
+    is_of(rt, alloc, &compose(alloc, &p, &q)?, marks)
 }
 
 // Two deltas, the first ordered earlier, and what each becomes behind the other.
+const TRANSFORMS: [(&str, &str, &str, &str); 7] = [
+    // An insertion inside a removal.
+    ("KRR", "KKZK", "KRKR", "KZ"),
+    // Two insertions at one place: that of the first stands left.
+    ("KaK", "KbK", "KaKK", "KKbK"),
+    // Both remove one character.
+    ("KRK", "KRK", "KK", "KK"),
+    // Characters of several bytes.
+    ("é€K", "K😀", "é€KK", "KKK😀"),
+    // Three authors: a removal, and two insertions at one place of the text after it.
+    ("KRK", "KYKK", "KKRK", "KYK"),
+    ("KRK", "KKXK", "KRKK", "KXK"),
+    ("KXK", "KYK", "KXKK", "KKYK"),
+];
+
 #[test]
 fn worked_transforms(rt: HostRuntime) -> Result<(), Fail> {
     let alloc = rt.alloc();
-    let rows = [
-        // An insertion inside a removal.
-        ("KRR", "KKZK", "KRKR", "KZ"),
-        // Two insertions at one place: that of the first stands left.
-        ("KaK", "KbK", "KaKK", "KKbK"),
-        // Both remove one character.
-        ("KRK", "KRK", "KK", "KK"),
-        // Characters of several bytes.
-        ("é€K", "K😀", "é€KK", "KKK😀"),
-        // Three authors: a removal, and two insertions at one place of the text after it.
-        ("KRK", "KYKK", "KKRK", "KYK"),
-        ("KRK", "KKXK", "KRKK", "KXK"),
-        ("KXK", "KYK", "KXKK", "KKYK"),
-    ];
-    for (p, q, first, second) in rows {
-        let (p, q) = (chars_of(alloc, p)?, chars_of(alloc, q)?);
-        let (first, second) = (chars_of(alloc, first)?, chars_of(alloc, second)?);
-        check_both(&rt, alloc, (&p, &q), (&first, &second))?;
+    for (p, q, first, second) in &TRANSFORMS {
+        let p = chars_of(alloc, *p)?;
+        let q = chars_of(alloc, *q)?;
+        let first = chars_of(alloc, *first)?;
+        let second = chars_of(alloc, *second)?;
+        check_both(&rt, alloc, &p, &q, &first, &second)?;
     }
     Ok(())
 }
 
+// Two deltas that follow one another, and their composition.
+const COMPOSITIONS: [(&str, &str, &str); 3] = [
+    ("KRK", "KYK", "KYRK"),
+    ("KXKK", "KRKK", "KKK"),
+    // An insertion that is then removed in part.
+    ("xyéK", "KRKK", "xéK"),
+];
+
 #[test]
 fn worked_compositions(rt: HostRuntime) -> Result<(), Fail> {
     let alloc = rt.alloc();
-    let rows = [
-        ("KRK", "KYK", "KYRK"),
-        ("KXKK", "KRKK", "KKK"),
-        // An insertion that is then removed in part.
-        ("xyéK", "KRKK", "xéK"),
-    ];
-    for (p, q, marks) in rows {
-        let (p, q, marks) = (
-            chars_of(alloc, p)?,
-            chars_of(alloc, q)?,
-            chars_of(alloc, marks)?,
-        );
+    for (p, q, marks) in &COMPOSITIONS {
+        let p = chars_of(alloc, *p)?;
+        let q = chars_of(alloc, *q)?;
+        let marks = chars_of(alloc, *marks)?;
         check_compose(&rt, alloc, &p, &q, &marks)?;
     }
     Ok(())
@@ -258,20 +266,27 @@ fn small_delta(
     Ok(marks)
 }
 
+// Two deltas over a text of so many characters, transformed and composed.
+fn check_pair(rt: &impl Abort, alloc: Global, base: u32, i: u32, j: u32) -> Result<(), Fail> {
+    let p = small_delta(alloc, base, i, 'a')?;
+    let q = small_delta(alloc, base, j, 'é')?;
+    let first = plain_earlier(alloc, &p, &q)?;
+    let second = plain_later(alloc, &q, &p)?;
+    check_both(rt, alloc, &p, &q, &first, &second)?;
+    // The earlier one behind the later one is stated on the text after it.
+    let marks = plain_compose(alloc, &q, &first)?;
+    check_compose(rt, alloc, &q, &first, &marks)
+}
+
+// The characters of a text, and how many such deltas there are.
+const SMALL: [(u32, u32); 4] = [(0, 2), (1, 8), (2, 32), (3, 128)];
+
 #[test]
 fn small_deltas_are_like_the_rules_on_marks(rt: HostRuntime) -> Result<(), Fail> {
-    let alloc = rt.alloc();
-    for (base, count) in [(0, 2), (1, 8), (2, 32), (3, 128)] {
-        for i in 0..count {
-            let p = small_delta(alloc, base, i, 'a')?;
-            for j in 0..count {
-                let q = small_delta(alloc, base, j, 'é')?;
-                let first = plain_earlier(alloc, &p, &q)?;
-                let second = plain_later(alloc, &q, &p)?;
-                check_both(&rt, alloc, (&p, &q), (&first, &second))?;
-                // The earlier one behind the later one is stated on the text after it.
-                let marks = plain_compose(alloc, &q, &first)?;
-                check_compose(&rt, alloc, &q, &first, &marks)?;
+    for (base, count) in &SMALL {
+        for i in 0..*count {
+            for j in 0..*count {
+                check_pair(&rt, rt.alloc(), *base, i, j)?;
             }
         }
     }

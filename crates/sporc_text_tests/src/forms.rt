@@ -1,9 +1,9 @@
 ghost use Rattle.std.specs.Prelude.{◌≡◌, ◌≤◌, ◌<◌, ◌∷◌, [], IsTrue, IfOk};
 ghost use Rattle.sporc_delta.specs.Marks.{base_len, inserted_len, out_len};
 
-use crate::{Blocks, Steps};
 use sporc_base::Memory;
 use sporc_delta::{Delta, Part};
+use sporc_suffix::{Blocks, Steps};
 use std::alloc::Global;
 use std::marker::Brand;
 use std::sync::ledger::{Blank, Ledger};
