@@ -1,0 +1,74 @@
+-- The lines of an editor script: how each is spelled, and how it is read.
+use Rattle.std.specs.Prelude.{◌≡◌, ℕ, ◌==◌, Bool, true, List, [], ◌∷◌, ◌++◌, length, codes, Option, option_map}
+use Rattle.std.specs.Fmt.{decimal}
+use Rattle.std.specs.Str.{all_scalars}
+use Rattle.hex.specs.Hex.{encode_lower}
+use Rattle.sporc_base.specs.Bytes.{IsBytes}
+use Rattle.sporc_member.specs.declared.founder.Founder.{Founder}
+use Rattle.sporc_script.specs.declared.editor_line.EditorCommand.{EditorCommand}
+use Rattle.sporc_script.specs.declared.editor_line.EditorCommand.TheVariants as commands
+use Rattle.sporc_script.specs.declared.editor_line.EditorWord.{EditorWord}
+use Rattle.sporc_script.specs.declared.editor_line.EditorWord.TheVariants as words
+use Rattle.sporc_script.specs.declared.editor_line.TheConstants.{KEY_BYTES}
+use Rattle.sporc_script.specs.Edits.{insertion_of, removal_of}
+use Rattle.sporc_script.specs.Hex.{hex_of}
+use Rattle.sporc_script.specs.Plain.{member_role_of, role_of}
+use Rattle.sporc_script.specs.Quoted.{quoted}
+use Rattle.sporc_script.specs.Readers.{keyed_of, member_of, named_of, pair_of, passing}
+use Rattle.sporc_script.specs.Spelling.{IsMember, IsU64, member_role_spelling, role_name}
+
+abbrev pub editor_word_name : EditorWord → List ℕ
+editor_word_name words.Insert = codes "insert"
+editor_word_name words.Remove = codes "remove"
+editor_word_name words.Add = codes "add"
+editor_word_name words.Drop = codes "drop"
+editor_word_name words.Role = codes "role"
+
+abbrev pub newcomer_spelling : Founder → List ℕ
+newcomer_spelling f = decimal f.member ++ (codes " " ++ (role_name f.role ++ (codes " " ++ encode_lower f.key)))
+
+abbrev pub editor_spelling : EditorCommand → List ℕ
+editor_spelling (commands.Insert e) = codes "insert " ++ (decimal e.at ++ (codes " " ++ quoted e.text))
+editor_spelling (commands.Remove e) = codes "remove " ++ (decimal e.at ++ (codes " " ++ decimal e.count))
+editor_spelling (commands.Add f) = codes "add " ++ newcomer_spelling f
+editor_spelling (commands.Drop m) = codes "drop " ++ decimal m
+editor_spelling (commands.SetRole m) = codes "role " ++ member_role_spelling m
+
+abbrev pub IsKey : List ℕ → Type 0
+IsKey key = IsBytes key × (length key ≡ KEY_BYTES)
+
+abbrev pub EditorInRange : EditorCommand → Type 0
+EditorInRange (commands.Insert e) = IsU64 e.at × (all_scalars e.text ≡ true)
+EditorInRange (commands.Remove e) = IsU64 e.at × IsU64 e.count
+EditorInRange (commands.Add f) = IsMember f.member × IsKey f.key
+EditorInRange (commands.Drop m) = IsMember m
+EditorInRange (commands.SetRole m) = IsMember m.member
+
+abbrev pub SpellsEditor : List ℕ → EditorCommand → Type 0
+SpellsEditor bytes command = EditorInRange command × (bytes ≡ editor_spelling command)
+
+-- ---- reading
+
+abbrev pub is_key : List ℕ → Bool
+is_key bytes = length bytes == KEY_BYTES
+
+unfoldable pub key_of : List ℕ → Option (List ℕ)
+key_of word = passing is_key (hex_of word)
+
+unfoldable pub newcomer_of : List ℕ → Option Founder
+newcomer_of words =
+    option_map (λ p. record { member = p.0; role = p.1.0; key = p.1.1 }) (pair_of member_of (pair_of role_of key_of) words)
+
+unfoldable pub editor_word_of : List ℕ → Option EditorWord
+editor_word_of word = named_of editor_word_name (words.Insert ∷ words.Remove ∷ words.Add ∷ words.Drop ∷ words.Role ∷ []) word
+
+abbrev pub editor_with : EditorWord → List ℕ → Option EditorCommand
+editor_with words.Insert rest = option_map commands.Insert (insertion_of rest)
+editor_with words.Remove rest = option_map commands.Remove (removal_of rest)
+editor_with words.Add rest = option_map commands.Add (newcomer_of rest)
+editor_with words.Drop rest = option_map commands.Drop (member_of rest)
+editor_with words.Role rest = option_map commands.SetRole (member_role_of rest)
+
+-- the command that the line spells
+unfoldable pub editor_of : List ℕ → Option EditorCommand
+editor_of line = keyed_of editor_word_of editor_with line

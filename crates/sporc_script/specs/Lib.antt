@@ -1,0 +1,17 @@
+pub mod Commands
+pub mod Declarations
+pub mod EditorLines
+pub mod Edits
+pub mod Grammar
+pub mod Hex
+pub mod Lines
+pub mod Numbers
+pub mod Plain
+pub mod Quoted
+pub mod Readers
+pub mod Reading
+pub mod Signs
+pub mod Spelling
+pub mod Texts
+pub mod Unescape
+pub mod Words

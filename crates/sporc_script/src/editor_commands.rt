@@ -1,0 +1,119 @@
+//! One line of an editor script, read.
+
+ghost use Rattle.std.specs.Prelude.{◌≡◌, ◌≢◌, IfOk, MatchOption};
+ghost use Rattle.sporc_script.specs.declared.editor_line.EditorWord.{EditorWord};
+ghost use Rattle.sporc_script.specs.EditorLines.{editor_of, editor_with, editor_word_name, editor_word_of, key_of, newcomer_of};
+
+use crate::editor_line::{EditorCommand, EditorWord, KEY_BYTES};
+use crate::edits::{read_insertion, read_removal};
+use crate::hex_word::parse_hex;
+use crate::names::parse_role;
+use crate::plain::read_member_role;
+use crate::words::{cut, parse_member};
+use sporc_base::Memory;
+use sporc_member::Founder;
+use std::alloc::Global;
+
+// The command that the whole line spells, if there is one.
+#[tactic(auto, unfolding(crate::specs::EditorLines::editor_of))]
+pub fn read_editor_command(alloc: Global, line: &[u8]) -> Result<Option<EditorCommand>, Memory>
+    ensures { IfOk result (λ found. found ≡ editor_of line.now) }
+{
+    let Some((first, words)) = cut(line) else {
+        return Ok(None);
+    };
+    let Some(word) = parse_editor_word(first) else {
+        return Ok(None);
+    };
+    read_editor_words(alloc, word, words)
+}
+
+// What follows the first word.
+fn read_editor_words(
+    alloc: Global,
+    word: EditorWord,
+    words: &[u8],
+) -> Result<Option<EditorCommand>, Memory>
+    ensures { IfOk result (λ found. found ≡ editor_with word words.now) }
+{
+    match word {
+        EditorWord::Insert => match read_insertion(alloc, words)? {
+            Some(insertion) => Ok(Some(EditorCommand::Insert(insertion))),
+            None => Ok(None),
+        },
+        EditorWord::Add => match read_newcomer(alloc, words)? {
+            Some(newcomer) => Ok(Some(EditorCommand::Add(newcomer))),
+            None => Ok(None),
+        },
+        EditorWord::Remove => match read_removal(words) {
+            Some(removal) => Ok(Some(EditorCommand::Remove(removal))),
+            None => Ok(None),
+        },
+        EditorWord::Drop => match parse_member(words) {
+            Some(member) => Ok(Some(EditorCommand::Drop(member))),
+            None => Ok(None),
+        },
+        EditorWord::Role => match read_member_role(words) {
+            Some(role) => Ok(Some(EditorCommand::SetRole(role))),
+            None => Ok(None),
+        },
+    }
+}
+
+// `N ROLE HEX`
+#[tactic(auto, unfolding(crate::specs::EditorLines::newcomer_of))]
+fn read_newcomer(alloc: Global, words: &[u8]) -> Result<Option<Founder>, Memory>
+    ensures { IfOk result (λ found. found ≡ newcomer_of words.now) }
+{
+    let Some((first, rest)) = cut(words) else {
+        return Ok(None);
+    };
+    let Some(member) = parse_member(first) else {
+        return Ok(None);
+    };
+    let Some((second, third)) = cut(rest) else {
+        return Ok(None);
+    };
+    let Some(role) = parse_role(second) else {
+        return Ok(None);
+    };
+    let Some(key) = parse_key(alloc, third)? else {
+        return Ok(None);
+    };
+    Ok(Some(Founder { member, role, key }))
+}
+
+#[tactic(auto, unfolding(crate::specs::EditorLines::key_of))]
+fn parse_key(alloc: Global, word: &[u8]) -> Result<Option<[u8; 56]>, Memory>
+    ensures { IfOk result (λ found. found ≡ key_of word.now) }
+{
+    let Some(bytes) = parse_hex(alloc, word)? else {
+        return Ok(None);
+    };
+    let bytes = bytes.as_slice();
+    if bytes.len() != KEY_BYTES {
+        return Ok(None);
+    }
+    let mut key = [0; KEY_BYTES];
+    key.copy_from_slice(bytes);
+    Ok(Some(key))
+}
+
+fn parse_editor_word(word: &[u8]) -> Option<EditorWord>
+    ensures { result ≡ editor_word_of word.now }
+{
+    editor_word_named(word)
+}
+
+fn editor_word_named(word: &[u8]) -> Option<EditorWord>
+    ensures { MatchOption result ((w : EditorWord) → word.now ≢ editor_word_name w) (λ w. word.now ≡ editor_word_name w) }
+{
+    match word {
+        b"insert" => Some(EditorWord::Insert),
+        b"remove" => Some(EditorWord::Remove),
+        b"add" => Some(EditorWord::Add),
+        b"drop" => Some(EditorWord::Drop),
+        b"role" => Some(EditorWord::Role),
+        _ => None,
+    }
+}

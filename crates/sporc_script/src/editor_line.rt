@@ -1,0 +1,40 @@
+//! Lines of editor scripts.
+
+use crate::member_role::MemberRole;
+use crate::text_edit::{Insertion, Removal};
+use sporc_member::Founder;
+
+/// The bytes of a public key (RFC 8554, section 5.3).
+pub const KEY_BYTES: usize = 56;
+
+/// A line of a script that is not skipped.
+#[derive(Debug, Drop)]
+pub struct EditorLine {
+    /// Counted from 1, skipped lines counted too.
+    pub number: u32,
+    pub command: EditorCommand,
+}
+
+#[derive(Debug, Drop)]
+pub enum EditorCommand {
+    /// `insert AT TEXT`
+    Insert(Insertion),
+    /// `remove AT COUNT`
+    Remove(Removal),
+    /// `add N ROLE HEX`, with the digits of the new member's key.
+    Add(Founder),
+    /// `drop N`
+    Drop(u16),
+    /// `role N ROLE`
+    SetRole(MemberRole),
+}
+
+/// The first word of a line.
+#[derive(Clone, Copy)]
+pub enum EditorWord {
+    Insert,
+    Remove,
+    Add,
+    Drop,
+    Role,
+}

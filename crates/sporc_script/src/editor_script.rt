@@ -1,0 +1,81 @@
+//! Editor scripts.
+
+ghost use Rattle.std.specs.Prelude.{◌≡◌, ◌^◌, ◌≤◌, ◌++◌, ℕ, IfOk, OnOk, length};
+ghost use Rattle.std.specs.Option.{option_to_list};
+ghost use Rattle.sporc_script.specs.declared.lines.LineFault.TheVariants as faults;
+ghost use Rattle.sporc_script.specs.Grammar.{IsEditorFault, IsEditorScript};
+ghost use Rattle.sporc_script.specs.Reading.{IsBadEditorLine, ReadsEditorLine};
+
+use crate::editor_commands::read_editor_command;
+use crate::editor_line::EditorLine;
+use crate::lines::{LineFault, is_skipped, next_line};
+use sporc_base::Memory;
+use std::alloc::Global;
+use std::marker::Model;
+
+/// An editor script, seen as the list of its lines that are not skipped.
+#[derive(Debug, Drop)]
+pub struct EditorScript {
+    lines: Vec<EditorLine>,
+}
+
+impl Model for EditorScript {
+    ghost use Rattle.std.specs.Prelude.{List};
+    ghost use Rattle.sporc_script.specs.declared.editor_line.EditorLine.{EditorLine};
+
+    ghost Value = { List EditorLine };
+
+    ghost view = { λ s. s.lines.items };
+}
+
+impl EditorScript {
+    /// The lines that are not skipped, in order.
+    pub fn lines(&self) -> &[EditorLine]
+        ensures value { result.now ≡ self.now }
+    {
+        self.lines.as_slice()
+    }
+}
+
+/// Reads an editor script, up to its first line outside the grammar.
+pub fn read_editor(alloc: Global, text: &[u8]) -> Result<EditorScript, LineFault>
+    requires { length text.now ≤ 2 ^ 30 }
+    ensures ok { IfOk result (λ script. IsEditorScript text.now script) }
+    ensures count { IfOk result (λ script. length script ≤ length text.now) }
+    ensures err { (k : ℕ) → result ≡ Err (faults.Line k) → IsEditorFault text.now k }
+{
+    let mut lines = Vec::new(alloc);
+    let mut rest = text;
+    let mut number = 1;
+    while !rest.is_empty() {
+        let (line, after) = next_line(rest);
+        let read = read_numbered(alloc, number, line)?;
+        keep(&mut lines, read)?;
+        rest = after;
+        number += 1;
+    }
+    Ok(EditorScript { lines })
+}
+
+// A line as a part of the script; none, if it is skipped.
+fn read_numbered(alloc: Global, number: u32, line: &[u8]) -> Result<Option<EditorLine>, LineFault>
+    ensures ok { IfOk result (λ found. ReadsEditorLine number line.now found) }
+    ensures err { (k : ℕ) → result ≡ Err (faults.Line k) → IsBadEditorLine number line.now k }
+{
+    if is_skipped(line) {
+        return Ok(None);
+    }
+    match read_editor_command(alloc, line)? {
+        Some(command) => Ok(Some(EditorLine { number, command })),
+        None => Err(LineFault::Line { line: number }),
+    }
+}
+
+fn keep(lines: &mut Vec<EditorLine>, read: Option<EditorLine>) -> Result<(), Memory>
+    ensures { OnOk result (lines.new.items ≡ lines.old.items ++ option_to_list read) }
+{
+    if let Some(line) = read {
+        lines.push(line)?;
+    }
+    Ok(())
+}

@@ -1,0 +1,47 @@
+//! Laws over the definitions that contracts cite. Their functions do nothing.
+
+ghost use Rattle.std.specs.Prelude.{◌≡◌, ◌⊎◌, ℕ, List};
+ghost use Rattle.sporc_script.specs.Grammar.{IsEditorFault, IsEditorScript, IsPlayFault, IsPlayScript};
+ghost use Rattle.sporc_script.specs.declared.editor_line.EditorLine.{EditorLine};
+ghost use Rattle.sporc_script.specs.declared.play_line.PlayLine.{PlayLine};
+
+use crate::declared::MAX_DECLARED;
+use crate::editor_line::KEY_BYTES;
+
+/// The limits of a script: those whom it declares, and the bytes of a key.
+pub fn limits()
+    ensures declared { MAX_DECLARED ≡ 64 }
+    ensures key { KEY_BYTES ≡ 56 }
+{}
+
+/// A text is a play script, or has a first line outside the grammar.
+pub fn play_script_or_fault()
+    ensures { (text : List ℕ) → ((script : List PlayLine) × IsPlayScript text script) ⊎ ((line : ℕ) × IsPlayFault text line) }
+{}
+
+/// A text is one play script.
+pub fn one_play_script()
+    ensures { (text : List ℕ) (script other : List PlayLine) → IsPlayScript text script → IsPlayScript text other → script ≡ other }
+{}
+
+/// A text has one first line outside the grammar of play scripts, and none if it is one.
+pub fn one_play_fault()
+    ensures one { (text : List ℕ) (line other : ℕ) → IsPlayFault text line → IsPlayFault text other → line ≡ other }
+    ensures none { (text : List ℕ) (script : List PlayLine) (line : ℕ) → IsPlayScript text script → ¬ IsPlayFault text line }
+{}
+
+/// A text is an editor script, or has a first line outside the grammar.
+pub fn editor_script_or_fault()
+    ensures { (text : List ℕ) → ((script : List EditorLine) × IsEditorScript text script) ⊎ ((line : ℕ) × IsEditorFault text line) }
+{}
+
+/// A text is one editor script.
+pub fn one_editor_script()
+    ensures { (text : List ℕ) (script other : List EditorLine) → IsEditorScript text script → IsEditorScript text other → script ≡ other }
+{}
+
+/// A text has one first line outside the grammar of editor scripts, and none if it is one.
+pub fn one_editor_fault()
+    ensures one { (text : List ℕ) (line other : ℕ) → IsEditorFault text line → IsEditorFault text other → line ≡ other }
+    ensures none { (text : List ℕ) (script : List EditorLine) (line : ℕ) → IsEditorScript text script → ¬ IsEditorFault text line }
+{}

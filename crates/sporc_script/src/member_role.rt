@@ -1,0 +1,9 @@
+//! A member and its role.
+
+use sporc_member::Role;
+
+#[derive(Clone, Copy, Debug)]
+pub struct MemberRole {
+    pub member: u16,
+    pub role: Role,
+}

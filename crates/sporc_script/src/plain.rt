@@ -1,0 +1,81 @@
+//! Lines that are words and numbers alone.
+
+ghost use Rattle.std.specs.Prelude.{◌≡◌};
+ghost use Rattle.sporc_script.specs.Plain.{flip_of, give_of, member_role_of, restart_of, tree_of, two_members_of};
+
+use crate::command::{Flip, Give, Pair, Restart, Tree};
+use crate::member_role::MemberRole;
+use crate::names::{parse_height, parse_role, parse_width};
+use crate::words::{cut, parse_member, parse_u32, parse_u64};
+
+// `H W`
+#[tactic(auto, unfolding(crate::specs::Plain::tree_of))]
+pub fn read_tree(words: &[u8]) -> Option<Tree>
+    ensures { result ≡ tree_of words.now }
+{
+    let (first, second) = cut(words)?;
+    let height = parse_height(first)?;
+    let width = parse_width(second)?;
+    Some(Tree { height, width })
+}
+
+// `M ROLE`
+#[tactic(auto, unfolding(crate::specs::Plain::member_role_of))]
+pub fn read_member_role(words: &[u8]) -> Option<MemberRole>
+    ensures { result ≡ member_role_of words.now }
+{
+    let (first, second) = cut(words)?;
+    let member = parse_member(first)?;
+    let role = parse_role(second)?;
+    Some(MemberRole { member, role })
+}
+
+// `M N`
+#[tactic(auto, unfolding(crate::specs::Plain::two_members_of))]
+pub fn read_two_members(words: &[u8]) -> Option<Pair>
+    ensures { result ≡ two_members_of words.now }
+{
+    let (m, n) = cut(words)?;
+    let first = parse_member(m)?;
+    let second = parse_member(n)?;
+    Some(Pair { first, second })
+}
+
+// `M POS E`
+#[tactic(auto, unfolding(crate::specs::Plain::give_of))]
+pub fn read_give(words: &[u8]) -> Option<Give>
+    ensures { result ≡ give_of words.now }
+{
+    let (first, rest) = cut(words)?;
+    let member = parse_member(first)?;
+    let (second, third) = cut(rest)?;
+    let position = parse_u32(second)?;
+    let entry = parse_u64(third)?;
+    Some(Give {
+        member,
+        position,
+        entry,
+    })
+}
+
+// `M K`
+#[tactic(auto, unfolding(crate::specs::Plain::restart_of))]
+pub fn read_restart(words: &[u8]) -> Option<Restart>
+    ensures { result ≡ restart_of words.now }
+{
+    let (first, second) = cut(words)?;
+    let member = parse_member(first)?;
+    let events = parse_u64(second)?;
+    Some(Restart { member, events })
+}
+
+// `E AT`
+#[tactic(auto, unfolding(crate::specs::Plain::flip_of))]
+pub fn read_flip(words: &[u8]) -> Option<Flip>
+    ensures { result ≡ flip_of words.now }
+{
+    let (first, second) = cut(words)?;
+    let entry = parse_u64(first)?;
+    let at = parse_u64(second)?;
+    Some(Flip { entry, at })
+}

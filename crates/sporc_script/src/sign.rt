@@ -1,0 +1,80 @@
+//! What a script signs for a rogue.
+
+use crate::roster_change::RosterChange;
+use crate::text_edit::Insertion;
+use sporc_base::Bytes;
+
+#[derive(Debug, Drop)]
+pub struct Forgery {
+    /// The rogue that signs.
+    pub member: u16,
+    /// The member whose client's history the entry follows.
+    pub from: u16,
+    pub signed: Signed,
+}
+
+#[derive(Debug, Drop)]
+pub struct Signed {
+    pub what: What,
+    /// What is wrong about the entry, if that is stated.
+    pub suffix: Option<Suffix>,
+}
+
+#[derive(Debug, Drop)]
+pub enum What {
+    /// `insert AT TEXT`
+    Insert(Insertion),
+    /// `raw HEX` is the payload before masking.
+    Raw(Bytes),
+    /// `add N ROLE`, `remove N` or `role N ROLE`
+    Change(RosterChange),
+}
+
+/// The last four stand behind a change of the members alone.
+#[derive(Clone, Copy, Debug)]
+pub enum Suffix {
+    /// `with number K`
+    Number(u32),
+    /// `with base B`
+    Base(u32),
+    /// `with epoch K`
+    Epoch(u32),
+    /// `with leaf K`
+    Leaf(u32),
+    /// `with wrap N` changes the member's wrap.
+    Wrap(u16),
+    /// `with drop N` leaves the member's wrap out.
+    Drop(u16),
+    /// `with commit` changes the commitment.
+    Commit,
+    /// `with previous` changes the sealed previous key.
+    Previous,
+}
+
+/// The first word of what is signed.
+#[derive(Clone, Copy)]
+pub enum WhatWord {
+    Insert,
+    Raw,
+    Add,
+    Remove,
+    Role,
+}
+
+/// The word behind `with`, where a number follows it.
+#[derive(Clone, Copy)]
+pub enum SuffixWord {
+    Number,
+    Base,
+    Epoch,
+    Leaf,
+    Wrap,
+    Drop,
+}
+
+/// The word behind `with`, where nothing follows it.
+#[derive(Clone, Copy)]
+pub enum LoneWord {
+    Commit,
+    Previous,
+}

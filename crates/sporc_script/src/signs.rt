@@ -1,0 +1,287 @@
+//! What a script signs for a rogue, read.
+
+ghost use Rattle.std.specs.Prelude.{◌≡◌, ◌≢◌, IfOk, MatchOption, None, Some};
+ghost use Rattle.sporc_script.specs.declared.sign.LoneWord.{LoneWord};
+ghost use Rattle.sporc_script.specs.declared.sign.SuffixWord.{SuffixWord};
+ghost use Rattle.sporc_script.specs.declared.sign.WhatWord.{WhatWord};
+ghost use Rattle.sporc_script.specs.declared.sign.WhatWord.TheVariants as what_words;
+ghost use Rattle.sporc_script.specs.Plain.{role_of};
+ghost use Rattle.sporc_script.specs.Readers.{behind_of, member_of, pair_of};
+ghost use Rattle.sporc_script.specs.Signs.{forgery_of, last_of, lone_suffix, lone_word_name, lone_word_of, needs_change, signed_of, signed_with, suffix_fits, suffix_of, suffix_with, suffix_word_name, suffix_word_of, what_word_name, what_word_of};
+
+use crate::hex_word::parse_hex;
+use crate::member_role::MemberRole;
+use crate::names::parse_role;
+use crate::quoted::parse_text;
+use crate::roster_change::RosterChange;
+use crate::sign::{Forgery, LoneWord, Signed, Suffix, SuffixWord, What, WhatWord};
+use crate::text_edit::Insertion;
+use crate::words::{cut, parse_member, parse_u32, parse_u64};
+use sporc_base::{Memory, is_same};
+use sporc_member::Role;
+use std::alloc::Global;
+
+// `M from C ..`
+#[tactic(auto, unfolding(crate::specs::Signs::forgery_of))]
+pub fn read_forgery(alloc: Global, words: &[u8]) -> Result<Option<Forgery>, Memory>
+    ensures { IfOk result (λ found. found ≡ forgery_of words.now) }
+{
+    let Some((first, rest)) = cut(words) else {
+        return Ok(None);
+    };
+    let Some(member) = parse_member(first) else {
+        return Ok(None);
+    };
+    let Some(source) = behind(rest, b"from") else {
+        return Ok(None);
+    };
+    let Some((second, rest)) = cut(source) else {
+        return Ok(None);
+    };
+    let Some(from) = parse_member(second) else {
+        return Ok(None);
+    };
+    let Some(signed) = read_signed(alloc, rest)? else {
+        return Ok(None);
+    };
+    Ok(Some(Forgery {
+        member,
+        from,
+        signed,
+    }))
+}
+
+// What stands behind this word.
+fn behind<'a>(words: &'a [u8], name: &[u8]) -> Option<&'a [u8]>
+    ensures { MatchOption result (behind_of name.now Some words.now ≡ None) (λ rest. behind_of name.now Some words.now ≡ Some rest.now) }
+{
+    let (first, rest) = cut(words)?;
+    if is_same(first, name) {
+        return Some(rest);
+    }
+    None
+}
+
+// What is signed, and what is wrong about it.
+#[tactic(auto, unfolding(crate::specs::Signs::signed_of))]
+fn read_signed(alloc: Global, words: &[u8]) -> Result<Option<Signed>, Memory>
+    ensures { IfOk result (λ found. found ≡ signed_of words.now) }
+{
+    let Some((first, rest)) = cut(words) else {
+        return Ok(None);
+    };
+    let Some(word) = parse_what_word(first) else {
+        return Ok(None);
+    };
+    let Some(signed) = read_what(alloc, word, rest)? else {
+        return Ok(None);
+    };
+    if suffix_fits(&signed) {
+        return Ok(Some(signed));
+    }
+    Ok(None)
+}
+
+fn suffix_fits(signed: &Signed) -> bool
+    ensures { result ≡ suffix_fits signed.now }
+{
+    match (&signed.what, &signed.suffix) {
+        (What::Change(_), _) | (_, None) => true,
+        (_, Some(suffix)) => !needs_change(*suffix),
+    }
+}
+
+fn needs_change(suffix: Suffix) -> bool
+    ensures { result ≡ needs_change suffix }
+{
+    match suffix {
+        Suffix::Number(_) | Suffix::Base(_) | Suffix::Epoch(_) | Suffix::Leaf(_) => false,
+        Suffix::Wrap(_) | Suffix::Drop(_) | Suffix::Commit | Suffix::Previous => true,
+    }
+}
+
+fn read_what(alloc: Global, word: WhatWord, words: &[u8]) -> Result<Option<Signed>, Memory>
+    ensures { IfOk result (λ found. found ≡ signed_with word words.now) }
+{
+    match word {
+        WhatWord::Insert => read_signed_text(alloc, words),
+        WhatWord::Raw => read_raw(alloc, words),
+        WhatWord::Add => Ok(read_signed_add(words)),
+        WhatWord::Remove => Ok(read_signed_removal(words)),
+        WhatWord::Role => Ok(read_signed_role(words)),
+    }
+}
+
+// `AT TEXT ..`
+fn read_signed_text(alloc: Global, words: &[u8]) -> Result<Option<Signed>, Memory>
+    ensures { IfOk result (λ found. found ≡ signed_with what_words.Insert words.now) }
+{
+    let Some((first, rest)) = cut(words) else {
+        return Ok(None);
+    };
+    let Some(at) = parse_u64(first) else {
+        return Ok(None);
+    };
+    let Some((last, suffix)) = split_suffix(rest) else {
+        return Ok(None);
+    };
+    let Some(text) = parse_text(alloc, last)? else {
+        return Ok(None);
+    };
+    let what = What::Insert(Insertion { at, text });
+    Ok(Some(Signed { what, suffix }))
+}
+
+// `HEX ..`
+fn read_raw(alloc: Global, words: &[u8]) -> Result<Option<Signed>, Memory>
+    ensures { IfOk result (λ found. found ≡ signed_with what_words.Raw words.now) }
+{
+    let Some((last, suffix)) = split_suffix(words) else {
+        return Ok(None);
+    };
+    let Some(bytes) = parse_hex(alloc, last)? else {
+        return Ok(None);
+    };
+    let what = What::Raw(bytes);
+    Ok(Some(Signed { what, suffix }))
+}
+
+// `N ROLE ..`
+fn read_signed_add(words: &[u8]) -> Option<Signed>
+    ensures { result ≡ signed_with what_words.Add words.now }
+{
+    let (member, role, suffix) = read_role_suffix(words)?;
+    let what = What::Change(RosterChange::Add(MemberRole { member, role }));
+    Some(Signed { what, suffix })
+}
+
+// `N ROLE ..`
+fn read_signed_role(words: &[u8]) -> Option<Signed>
+    ensures { result ≡ signed_with what_words.Role words.now }
+{
+    let (member, role, suffix) = read_role_suffix(words)?;
+    let what = What::Change(RosterChange::SetRole(MemberRole { member, role }));
+    Some(Signed { what, suffix })
+}
+
+fn read_role_suffix(words: &[u8]) -> Option<(u16, Role, Option<Suffix>)>
+    ensures { MatchOption result (pair_of member_of (last_of role_of) words.now ≡ None)
+        (λ p. pair_of member_of (last_of role_of) words.now ≡ Some (p.0, (p.1, p.2))) }
+{
+    let (first, rest) = cut(words)?;
+    let member = parse_member(first)?;
+    let (last, suffix) = split_suffix(rest)?;
+    let role = parse_role(last)?;
+    Some((member, role, suffix))
+}
+
+// `N ..`
+fn read_signed_removal(words: &[u8]) -> Option<Signed>
+    ensures { result ≡ signed_with what_words.Remove words.now }
+{
+    let (last, suffix) = split_suffix(words)?;
+    let member = parse_member(last)?;
+    let what = What::Change(RosterChange::Remove(member));
+    Some(Signed { what, suffix })
+}
+
+// The first word, and the suffix that may follow it.
+fn split_suffix(words: &[u8]) -> Option<(&[u8], Option<Suffix>)>
+    ensures { MatchOption result (last_of Some words.now ≡ None) (λ parts. last_of Some words.now ≡ Some (parts.0.now, parts.1)) }
+{
+    let Some((first, rest)) = cut(words) else {
+        return Some((words, None));
+    };
+    let suffix = read_suffix(rest)?;
+    Some((first, Some(suffix)))
+}
+
+// `with ..`
+#[tactic(auto, unfolding(crate::specs::Signs::suffix_of))]
+fn read_suffix(words: &[u8]) -> Option<Suffix>
+    ensures { result ≡ suffix_of words.now }
+{
+    let rest = behind(words, b"with")?;
+    let Some((first, last)) = cut(rest) else {
+        return Some(lone_suffix(parse_lone_word(rest)?));
+    };
+    let word = parse_suffix_word(first)?;
+    read_suffix_number(word, last)
+}
+
+fn read_suffix_number(word: SuffixWord, last: &[u8]) -> Option<Suffix>
+    ensures { result ≡ suffix_with word last.now }
+{
+    match word {
+        SuffixWord::Number => Some(Suffix::Number(parse_u32(last)?)),
+        SuffixWord::Base => Some(Suffix::Base(parse_u32(last)?)),
+        SuffixWord::Epoch => Some(Suffix::Epoch(parse_u32(last)?)),
+        SuffixWord::Leaf => Some(Suffix::Leaf(parse_u32(last)?)),
+        SuffixWord::Wrap => Some(Suffix::Wrap(parse_member(last)?)),
+        SuffixWord::Drop => Some(Suffix::Drop(parse_member(last)?)),
+    }
+}
+
+fn lone_suffix(word: LoneWord) -> Suffix
+    ensures { result ≡ lone_suffix word }
+{
+    match word {
+        LoneWord::Commit => Suffix::Commit,
+        LoneWord::Previous => Suffix::Previous,
+    }
+}
+
+fn parse_what_word(word: &[u8]) -> Option<WhatWord>
+    ensures { result ≡ what_word_of word.now }
+{
+    what_word_named(word)
+}
+
+fn what_word_named(word: &[u8]) -> Option<WhatWord>
+    ensures { MatchOption result ((w : WhatWord) → word.now ≢ what_word_name w) (λ w. word.now ≡ what_word_name w) }
+{
+    match word {
+        b"insert" => Some(WhatWord::Insert),
+        b"raw" => Some(WhatWord::Raw),
+        b"add" => Some(WhatWord::Add),
+        b"remove" => Some(WhatWord::Remove),
+        b"role" => Some(WhatWord::Role),
+        _ => None,
+    }
+}
+
+fn parse_suffix_word(word: &[u8]) -> Option<SuffixWord>
+    ensures { result ≡ suffix_word_of word.now }
+{
+    suffix_word_named(word)
+}
+
+fn suffix_word_named(word: &[u8]) -> Option<SuffixWord>
+    ensures { MatchOption result ((w : SuffixWord) → word.now ≢ suffix_word_name w) (λ w. word.now ≡ suffix_word_name w) }
+{
+    match word {
+        b"number" => Some(SuffixWord::Number),
+        b"base" => Some(SuffixWord::Base),
+        b"epoch" => Some(SuffixWord::Epoch),
+        b"leaf" => Some(SuffixWord::Leaf),
+        b"wrap" => Some(SuffixWord::Wrap),
+        b"drop" => Some(SuffixWord::Drop),
+        _ => None,
+    }
+}
+
+fn parse_lone_word(word: &[u8]) -> Option<LoneWord>
+    ensures { result ≡ lone_word_of word.now }
+{
+    lone_word_named(word)
+}
+
+fn lone_word_named(word: &[u8]) -> Option<LoneWord>
+    ensures { MatchOption result ((w : LoneWord) → word.now ≢ lone_word_name w) (λ w. word.now ≡ lone_word_name w) }
+{
+    match word {
+        b"commit" => Some(LoneWord::Commit),
+        b"previous" => Some(LoneWord::Previous),
+        _ => None,
+    }
+}
