@@ -23,12 +23,8 @@ mod calls;
 mod chance;
 mod counted;
 mod disk_call;
-#[cfg(test)]
-mod disk_tests;
 mod file_fault;
 mod folder;
-#[cfg(test)]
-mod folder_tests;
 mod gate;
 mod leaf_disk;
 mod link;
@@ -41,15 +37,11 @@ mod memory_net;
 mod memory_sink;
 mod memory_source;
 mod named_file;
-#[cfg(test)]
-mod net_tests;
 mod pipe;
 mod pipe_link;
 mod pipe_net;
 mod sink;
 mod source;
-#[cfg(test)]
-mod tests;
 
 pub use crate::calls::Calls;
 pub use crate::chance::Chance;

@@ -1,6 +1,6 @@
 //! Links between threads.
 
-ghost use Rattle.std.specs.Prelude.{◌≡◌, ◌≤◌, ℕ, None};
+ghost use Rattle.std.specs.Prelude.{◌≡◌, None};
 
 use crate::counted::{Counted, Failed};
 use crate::link::Link;

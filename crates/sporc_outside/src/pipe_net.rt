@@ -1,6 +1,6 @@
 //! Nets between threads.
 
-ghost use Rattle.std.specs.Prelude.{◌≡◌, None};
+ghost use Rattle.std.specs.Prelude.{None};
 
 use crate::counted::{Counted, Failed};
 use crate::links::{Dial, Links, Listen};
