@@ -1,5 +1,5 @@
 -- An entry read where its bytes stand.
-use Rattle.std.specs.Prelude.{◌≡◌, ℕ, ◌+◌, List, take, drop, length, Option}
+use Rattle.std.specs.Prelude.{◌≡◌, ℕ, ◌+◌, List, take, drop, Option}
 use Rattle.sporc_entry.specs.declared.change.ChangeBody.{ChangeBody}
 use Rattle.sporc_entry.specs.declared.entry.Entry.{Entry}
 use Rattle.sporc_entry.specs.declared.header.Header.{Header}

@@ -1,6 +1,6 @@
 -- Fields whose values are limited, and lists of fields. Reading a field gives its value and what is left, or the place
 -- of the field's first byte.
-use Rattle.std.specs.Prelude.{ℕ, zero, suc, ◌&&◌, nat_le, List, [], ◌∷◌, Option, None, Some, Result, Ok, Err}
+use Rattle.std.specs.Prelude.{ℕ, zero, suc, ◌&&◌, nat_le, List, [], ◌∷◌, Result, Ok}
 use Rattle.std.specs.Int.{Width, w8}
 use Rattle.sporc_bytes.specs.Fields.{Reading, ◌>>=◌, number_at, only_if, present}
 use Rattle.sporc_member.specs.declared.role.Role.{Role}

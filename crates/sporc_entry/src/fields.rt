@@ -1,6 +1,5 @@
 // Fields whose values are limited. `Short` has the place of a field that is cut short or has a forbidden value.
 
-ghost use Rattle.std.specs.Prelude.{◌≡◌};
 ghost use Rattle.std.specs.Int.{w8, w16};
 ghost use Rattle.sporc_bytes.specs.Fields.{Reads, end_at};
 ghost use Rattle.sporc_entry.specs.Fields.{number_within, role_at};

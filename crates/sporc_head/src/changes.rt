@@ -3,7 +3,7 @@
 ghost use Rattle.std.specs.Prelude.{◌≡◌, map, IfOk, Some};
 ghost use Rattle.std.specs.Str.{bytes_eq};
 ghost use Rattle.sporc_base.specs.FirstFault.{AnswersUnless, first_of};
-ghost use Rattle.sporc_head.specs.HeadChecks.{roster_checks, names};
+ghost use Rattle.sporc_head.specs.HeadChecks.{roster_checks};
 
 use crate::refusal::Refusal;
 use sporc_base::Memory;

@@ -1,6 +1,6 @@
 // The bytes are spelled out by hand, field by field, from the tables of the formats.
 
-ghost use Rattle.std.specs.Prelude.{◌≡◌, ◌+◌, length, IfOk};
+ghost use Rattle.std.specs.Prelude.{◌≡◌, length, IfOk};
 
 use crate::compare::same_bytes;
 use sporc_entry::{

@@ -1,6 +1,5 @@
-//! The tests of `sporc_hash`, `sporc_cipher`, `sporc_member`, `sporc_entry`, `sporc_epoch`, `sporc_head`, `sporc_plain`,
-//! `sporc_wire` and `sporc_order`. They stand in a crate of their own, since a crate with tests is proved twice. No program
-//! stands on it.
+//! The tests of `sporc_hash`, `sporc_cipher`, `sporc_member`, `sporc_entry`, `sporc_epoch`, `sporc_head`, `sporc_wire` and
+//! `sporc_order`. They stand in a crate of their own, since a crate with tests is proved twice. No program stands on it.
 //!
 //! Digests are compared with those of Python's hashlib, masks with those of OpenSSL; formats with bytes that are spelled out by
 //! hand; each refusal comes of an entry that fails its check alone, and of one that fails all later checks too.
@@ -24,5 +23,3 @@ mod masks;
 mod members;
 #[cfg(test)]
 mod orders;
-#[cfg(test)]
-mod plain_clients;

@@ -1,6 +1,6 @@
 //! Laws of histories as members read them.
 
-ghost use Rattle.std.specs.Prelude.{◌≡◌, ℕ, ◌+◌, ◌≤◌, List, [], ◌∷◌, ◌++◌, length, Option, None, false};
+ghost use Rattle.std.specs.Prelude.{◌≡◌, ℕ, ◌+◌, ◌≤◌, List, [], ◌∷◌, ◌++◌, length, None, false};
 ghost use Rattle.sporc_hash.specs.Strings.{CollisionFree};
 ghost use Rattle.sporc_entry.specs.declared.genesis.Genesis.{Genesis};
 ghost use Rattle.sporc_head.specs.History.{epoch_of, is_removed};

@@ -1,6 +1,6 @@
 //! A history as one member reads it.
 
-ghost use Rattle.std.specs.Prelude.{◌≡◌, ◌+◌, ◌-◌, ◌≤◌, ◌^◌, ◌∷◌, ◌++◌, [], length, take, map, slice_get, Some, IfOk, OnOk, OnErr, is_none, option_copied};
+ghost use Rattle.std.specs.Prelude.{◌≡◌, ◌-◌, ◌≤◌, ◌^◌, [], length, take, map, slice_get, Some, IfOk, is_none, option_copied};
 ghost use Rattle.std.specs.String.{string_bytes};
 ghost use Rattle.std.specs.Str.{chars, encode_utf8_all};
 ghost use Rattle.std.specs.FinMap as map;
@@ -15,10 +15,8 @@ ghost use Rattle.sporc_head.specs.History.{epoch_of, hash_of, is_removed};
 ghost use Rattle.sporc_line.specs.Kit.{kit_of};
 ghost use Rattle.sporc_line.specs.Keys.{key_of};
 ghost use Rattle.sporc_line.specs.Document.{forms_of, text_of};
-ghost use Rattle.sporc_line.specs.LineChecks.{first_fault};
 ghost use Rattle.sporc_line.specs.Good.{Good};
 ghost use Rattle.sporc_line.specs.Openings.{open_checks};
-ghost use Rattle.sporc_line.specs.Prepared.{IsPrepared};
 
 mod accepting;
 

@@ -1,6 +1,6 @@
 //! An order of entries.
 
-ghost use Rattle.std.specs.Prelude.{◌≡◌, ◌≢◌, ◌+◌, ◌∷◌, ◌++◌, [], ◌≤◌, ◌<◌, ◌↔◌, length, take, drop, map, None, nat_lt, nat_le, ◌&&◌, IfOk, OnOk, OnErr};
+ghost use Rattle.std.specs.Prelude.{◌≡◌, ◌+◌, ◌∷◌, ◌++◌, [], ◌≤◌, ◌<◌, ◌↔◌, length, take, map, None, nat_lt, nat_le, ◌&&◌, IfOk, OnOk, OnErr};
 ghost use Rattle.sporc_base.specs.FirstFault.{AnswersUnless};
 ghost use Rattle.sporc_entry.specs.Genesis.{IsGenesis};
 ghost use Rattle.sporc_head.specs.HeadChecks.{head_fault};

@@ -3,7 +3,7 @@
 ghost use Rattle.std.specs.Prelude.{◌≡◌, ◌+◌, true, false, map, length, None, IfOk, OnOk, OnErr};
 ghost use Rattle.sporc_wire.specs.declared.to_client.ToClient.{ToClient};
 ghost use Rattle.sporc_order.specs.Batches.{batch_after};
-ghost use Rattle.sporc_order.specs.Sessions.{step_of, greeted, submitted, entries_after, only, IsSendable, IsFramed};
+ghost use Rattle.sporc_order.specs.Sessions.{step_of, greeted, submitted, entries_after};
 ghost use Rattle.sporc_head.specs.HeadChecks.{head_fault};
 
 use crate::order::Order;

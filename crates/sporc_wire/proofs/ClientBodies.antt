@@ -3,14 +3,13 @@ use Rattle.std.proofs.Common.{◌≡◌, ℕ, zero, suc, ◌+◌, ◌^◌, ◌<�
 use Rattle.std.proofs.lemmas.Bool.{eqb-true}
 use Rattle.std.proofs.lemmas.List.{append-nil}
 use Rattle.std.proofs.lemmas.List.Concat.{flat_map-cons}
-use Rattle.std.specs.List.{AllByRecursion, flat_map}
+use Rattle.std.specs.List.{flat_map}
 use Rattle.std.specs.Int.{w8, w32, to_be_bytes}
 use Rattle.sporc_base.specs.Bytes.{IsBytes}
 use Rattle.sporc_bytes.specs.Fields.{Reading, ◌>>=◌, number_at, counted_at, counted, end_at, present}
 use Rattle.sporc_bytes.proofs.Fields.{bind_ok, ok_is, Takes, Takes-then, Takes-nothing, wide8, wide32, number_takes, u8_again, u32_again, counted_takes, counted_again, end_takes}
-use Rattle.sporc_entry.specs.Fields.{number_within, values_at}
+use Rattle.sporc_entry.specs.Fields.{values_at}
 use Rattle.sporc_entry.proofs.FieldLaws.{byte_takes, byte_again}
-use Rattle.sporc_head.specs.declared.refusal.Refusal.{Refusal}
 use Rattle.sporc_head.specs.Refusal.{refusal_code_of}
 use Rattle.sporc_wire.specs.declared.cutter.TheConstants.{MAX_BODY}
 use Rattle.sporc_wire.specs.declared.to_client.ToClient.{ToClient}
@@ -19,7 +18,7 @@ use Rattle.sporc_wire.specs.declared.to_client.TheConstants.{ORDERED, REJECTED, 
 use Rattle.sporc_wire.specs.Refusals.{refusal_detail_of, refusal_with}
 use Rattle.sporc_wire.specs.ToClient.{ordered_at, rejected_at, entries_at, empty_at, to_client_of_kind, to_client_of, to_client_bytes, IsToClient}
 use Rattle.sporc_wire.proofs.ServerBodies.{byte_is}
-use Rattle.sporc_wire.proofs.RefusalNumbers.{HasNumbers, refusal_takes, refusal_again, code_within}
+use Rattle.sporc_wire.proofs.RefusalNumbers.{refusal_takes, refusal_again, code_within}
 
 -- the message was read from bytes that are these
 abbrev IsSpelled : ℕ → List ℕ → ToClient → Type 0

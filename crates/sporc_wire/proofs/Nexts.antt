@@ -1,15 +1,14 @@
 -- The next message of a stream, by what stands at its front.
-use Rattle.std.proofs.Common.{◌≡◌, ℕ, List, length, Option, Some, None, Result, Ok, Err, refl, sym, ap, ◌∙◌, subst}
-use Rattle.std.specs.Prelude.{MatchOption, ◌+◌, ◌≢◌}
+use Rattle.std.proofs.Common.{◌≡◌, ℕ, List, length, Option, Some, None, Result, Ok, Err, sym, ap, ◌∙◌, subst}
+use Rattle.std.specs.Prelude.{MatchOption, ◌≢◌}
 use Rattle.sporc_base.specs.Outcome.{GivesUnless}
 use Rattle.sporc_bytes.specs.Fields.{fault_as}
 use Rattle.sporc_wire.specs.declared.fault.FrameFault.{FrameFault}
-use Rattle.sporc_wire.specs.declared.fault.FrameFault.TheVariants.{BadMessage, TooLong}
 use Rattle.sporc_wire.specs.declared.fault.FrameFault.TheVariants as faults
 use Rattle.sporc_wire.specs.declared.message.BodyFault.{BodyFault}
 use Rattle.sporc_wire.specs.declared.message.BodyFault.TheVariants.{Bad, Memory}
-use Rattle.sporc_wire.specs.Stream.{Front, partial, too_long, whole, front}
-use Rattle.sporc_wire.specs.Messages.{Unread, Next, waits, stops, next_read, next_front, next_unless, next}
+use Rattle.sporc_wire.specs.Stream.{Front, whole, front}
+use Rattle.sporc_wire.specs.Messages.{Unread, stops, next_read, next_front, next_unless, next}
 
 -- a stream by its parts
 abbrev pub unread_of : ℕ → List ℕ → Option FrameFault → Unread

@@ -1,15 +1,14 @@
 -- A stream has one reading, whatever pieces it comes in.
-use Rattle.std.proofs.Common.{◌≡◌, ℕ, ◌≤◌, ◌<◌, ◌+◌, List, [], ◌∷◌, ◌++◌, length, take, drop, Option, Some, None, Result, Ok, Err, refl, sym, ap, ap₂, ◌∙◌, subst, arith, inl, inr, length-append, length-drop}
+use Rattle.std.proofs.Common.{◌≡◌, ℕ, ◌+◌, List, [], ◌∷◌, ◌++◌, length, take, drop, Option, Some, None, Result, Ok, Err, refl, sym, ap, ap₂, ◌∙◌, subst, arith, inl, inr, length-append}
 use Rattle.std.proofs.lemmas.Bool.{cases_lt}
 use Rattle.std.proofs.lemmas.List.{take-append-le, drop-append-le}
 use Rattle.std.specs.Int.{w32, from_be_bytes}
 use Rattle.sporc_wire.specs.declared.cutter.TheConstants.{MAX_BODY}
 use Rattle.sporc_wire.specs.declared.fault.FrameFault.{FrameFault}
-use Rattle.sporc_wire.specs.declared.fault.FrameFault.TheVariants.{TooLong, BadMessage}
 use Rattle.sporc_wire.specs.Stream.{Front, partial, too_long, whole, front, body_front}
-use Rattle.sporc_wire.specs.Messages.{Unread, Next, Reads, AreMessages, stream_of, fed, next, next_unless, next_front, next_read, counted_to_end}
+use Rattle.sporc_wire.specs.Messages.{Unread, Reads, AreMessages, stream_of, fed, next, next_unless, next_front, next_read}
 use Rattle.sporc_wire.proofs.Fronts.{body_front-big, body_front-short, body_front-whole, front-short, front-long}
-use Rattle.sporc_wire.proofs.Nexts.{next-stopped, next-at, next-message}
+use Rattle.sporc_wire.proofs.Nexts.{next-message}
 
 -- ---- a body that is there in whole stays so where more bytes come
 

@@ -3,7 +3,7 @@ use Rattle.std.specs.Prelude.{ℕ, ◌==◌, List, [], ◌∷◌, Option, None, 
 use Rattle.sporc_member.specs.declared.change.ChangeFault.{ChangeFault}
 use Rattle.sporc_member.specs.ChangeFault.{change_fault_code_of, change_fault_with_code}
 use Rattle.sporc_head.specs.declared.refusal.Refusal.{Refusal}
-use Rattle.sporc_head.specs.declared.refusal.Refusal.TheVariants.{Malformed, WrongDocument, WrongPosition, Removed, HistoryFull, UnknownAuthor, BaseAhead, BeforeBarrier, WrongHistory, WrongNumber, BehindOwn, WrongEpoch, NoRight, LeafMismatch, BadSignature, BadPayload, WrongLength, BadChange, WrongWraps, NoKey, WrongKey, Memory}
+use Rattle.sporc_head.specs.declared.refusal.Refusal.TheVariants.{Malformed, WrongDocument, WrongPosition, Removed, HistoryFull, UnknownAuthor, BaseAhead, BeforeBarrier, WrongHistory, WrongNumber, BehindOwn, WrongEpoch, NoRight, LeafMismatch, BadSignature, BadPayload, WrongLength, BadChange, WrongWraps, NoKey, WrongKey}
 use Rattle.sporc_head.specs.Refusal.{refusal_code_of}
 
 -- the detail: where an entry is malformed, which fault a change has, and else 0

@@ -5,12 +5,11 @@
 -- | Rejected | the byte 2, the number of the refusal's check as u8, its detail as u32 |
 -- | Entries | the byte 3, the position of the first as u32, how many as u8 (1 to 16), and each entry counted |
 -- | Empty | the byte 4 |
-use Rattle.std.specs.Prelude.{◌≡◌, ◌≢◌, ℕ, ◌<◌, ◌≤◌, ◌^◌, ◌==◌, ◌&&◌, nat_le, List, [], ◌∷◌, ◌++◌, length, Result, Ok, Err, if◌then◌else◌}
-use Rattle.std.specs.List.{AllByRecursion, flat_map}
+use Rattle.std.specs.Prelude.{◌≢◌, ℕ, ◌<◌, ◌≤◌, ◌^◌, ◌==◌, List, [], ◌∷◌, ◌++◌, length, Result, Ok, Err, if◌then◌else◌}
+use Rattle.std.specs.List.{flat_map}
 use Rattle.std.specs.Int.{w8, w32, to_be_bytes}
-use Rattle.sporc_bytes.specs.Fields.{Reading, ◌>>=◌, number_at, counted_at, counted, end_at, only_if, present}
+use Rattle.sporc_bytes.specs.Fields.{Reading, ◌>>=◌, number_at, counted_at, counted, end_at, present}
 use Rattle.sporc_entry.specs.Fields.{values_at, number_within}
-use Rattle.sporc_head.specs.declared.refusal.Refusal.{Refusal}
 use Rattle.sporc_head.specs.declared.refusal.Refusal.TheVariants.{Memory}
 use Rattle.sporc_head.specs.Refusal.{refusal_code_of}
 use Rattle.sporc_wire.specs.Refusals.{refusal_detail_of, refusal_with}

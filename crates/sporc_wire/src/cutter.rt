@@ -1,6 +1,6 @@
 // Cutting a stream of bytes into the bodies of its frames.
 
-ghost use Rattle.std.specs.Prelude.{◌≡◌, ◌≤◌, ◌++◌, ℕ, length, take, [], None, Some, Err, IfOk, OnOk, OnErr, IfSome, IfNone, IfErr, IsOkUnless, MatchOption};
+ghost use Rattle.std.specs.Prelude.{◌≡◌, ◌≤◌, ◌++◌, ℕ, length, take, [], None, Some, Err, IfOk, OnOk, OnErr, MatchOption};
 ghost use Rattle.std.specs.Int.{w32, from_be_bytes};
 ghost use Rattle.sporc_base.specs.Bytes.{IsBytes};
 ghost use Rattle.sporc_wire.specs.Stream.{front, partial, too_long, whole};

@@ -1,14 +1,12 @@
 //! Laws of streams and messages: what is written reads back, what reads is written so, and the pieces of a stream don't
 //! matter.
 
-ghost use Rattle.std.specs.Prelude.{◌≡◌, ◌≤◌, ℕ, List, [], ◌∷◌, ◌++◌, length, Option, None, Some, Ok, Err};
-ghost use Rattle.std.specs.List.{AllByRecursion, flat_map};
+ghost use Rattle.std.specs.Prelude.{◌≡◌, ◌≤◌, ℕ, List, [], ◌∷◌, ◌++◌, length, Option, Some, Ok, Err};
 ghost use Rattle.sporc_base.specs.Bytes.{IsBytes};
 ghost use Rattle.sporc_wire.specs.declared.fault.FrameFault.{FrameFault};
 ghost use Rattle.sporc_wire.specs.declared.to_client.ToClient.{ToClient};
 ghost use Rattle.sporc_wire.specs.declared.to_server.ToServer.{ToServer};
-ghost use Rattle.sporc_wire.specs.Stream.{frame};
-ghost use Rattle.sporc_wire.specs.Messages.{Unread, Next, Reads, AreMessages, stream_of, fed, next};
+ghost use Rattle.sporc_wire.specs.Messages.{Unread, Reads, AreMessages, stream_of, fed, next};
 ghost use Rattle.sporc_wire.specs.ToClient.{to_client_of, to_client_bytes, IsToClient};
 ghost use Rattle.sporc_wire.specs.ToServer.{to_server_of, to_server_bytes, IsToServer};
 

@@ -1,6 +1,6 @@
 // Refusals as two numbers.
 
-ghost use Rattle.std.specs.Prelude.{◌≡◌, ◌≢◌, ◌^◌, ◌<◌, find, ◌==◌};
+ghost use Rattle.std.specs.Prelude.{◌≡◌, ◌^◌, ◌<◌, find, ◌==◌};
 ghost use Rattle.sporc_head.specs.Refusal.{refusal_code_of};
 ghost use Rattle.sporc_wire.specs.Refusals.{refusal_detail_of, plain_refusals, refusal_with};
 

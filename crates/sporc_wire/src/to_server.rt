@@ -1,6 +1,6 @@
 //! Messages to the server.
 
-ghost use Rattle.std.specs.Prelude.{◌≡◌, ◌++◌, ◌∷◌, [], length, OnOk};
+ghost use Rattle.std.specs.Prelude.{◌≡◌, ◌++◌, length, OnOk};
 ghost use Rattle.sporc_base.specs.Outcome.{GivesUnless};
 ghost use Rattle.sporc_bytes.specs.Fields.{Reads};
 ghost use Rattle.sporc_wire.specs.Messages.{framed, counted_to_end};

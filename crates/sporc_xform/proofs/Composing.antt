@@ -1,5 +1,5 @@
 -- The pieces of two deltas that follow each other.
-use Rattle.std.proofs.Common.{◌≡◌, ℕ, zero, suc, ◌+◌, ◌^◌, ◌<◌, ◌≤◌, Bool, true, false, List, [], ◌∷◌, ◌++◌, length, drop, take, min, refl, ap, sym, ◌∙◌, append_assoc, arith, eqb, cond}
+use Rattle.std.proofs.Common.{◌≡◌, ℕ, zero, suc, ◌+◌, ◌<◌, ◌≤◌, Bool, true, false, List, [], ◌∷◌, ◌++◌, length, drop, take, min, refl, ap, sym, ◌∙◌, append_assoc, arith, eqb, cond}
 use Rattle.std.specs.Prelude.{replicate}
 use Rattle.std.proofs.lemmas.List.{append-nil, take_all, take-append-drop, map-append, length-take, length-append, length-map, length-replicate}
 use Rattle.std.proofs.lemmas.Bool.{eqb-true, eqb-false}

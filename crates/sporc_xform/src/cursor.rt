@@ -1,6 +1,6 @@
 // A walk along the parts of a delta.
 
-ghost use Rattle.std.specs.Prelude.{◌≡◌, ◌≤◌, ◌<◌, ◌^◌, take};
+ghost use Rattle.std.specs.Prelude.{◌≡◌, ◌≤◌, ◌<◌, take};
 ghost use Rattle.sporc_delta.specs.declared.limits.TheConstants.{MAX_TEXT_LEN};
 ghost use Rattle.sporc_delta.specs.Marks.{base_len, out_len};
 ghost use Rattle.sporc_delta.specs.Parts.{marks_of, runs};

@@ -1,8 +1,5 @@
-use Rattle.std.proofs.Common.{◌≡◌, Ok, Err, ℕ, subst, sym, ap, ◌∙◌}
-use Rattle.sporc_wire.specs.Stream.{front, too_long}
-use Rattle.sporc_wire.specs.CutterModel.{rest_of}
-use Rattle.sporc_wire.specs.declared.cutter.CutFault.{CutFault}
-use Rattle.sporc_wire.specs.declared.cutter.CutFault.TheVariants.{TooLong}
+use Rattle.std.proofs.Common.{◌≡◌, Ok, Err, sym, ap, ◌∙◌}
+use Rattle.sporc_wire.specs.Stream.{too_long}
 use Rattle.sporc_wire.proofs.Cuts.{head_of}
 use Rattle.sporc_wire.proofs.Decoding.{Says, says, says_ours, says_fits, says_same, says_front, says_err}
 use Rattle.sporc_wire.proofs.cutter.take_body.Goals as goal

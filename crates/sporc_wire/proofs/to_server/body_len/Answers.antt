@@ -1,5 +1,4 @@
-use Rattle.std.proofs.Common.{◌≡◌, ℕ, ◌+◌, List, length, sym, ap, arith, length-append}
-use Rattle.std.specs.Prelude.{min}
+use Rattle.std.proofs.Common.{◌≡◌, ℕ, ◌+◌, List, length, ap, arith, length-append}
 use Rattle.std.specs.Int.{w16, to_be_bytes}
 use Rattle.sporc_wire.specs.declared.to_server.ToServer.TheVariants.{Hello}
 use Rattle.sporc_wire.specs.ToServer.{to_server_bytes}

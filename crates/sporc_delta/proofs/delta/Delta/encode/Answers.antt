@@ -1,5 +1,3 @@
-use Rattle.std.proofs.Common.{◌≡◌, List, sym, ◌∙◌, subst}
-use Rattle.std.specs.List.{AllByRecursion}
 use Rattle.sporc_delta.proofs.Runs.{runs-marks_of}
 use Rattle.sporc_delta.proofs.delta.Delta.encode.Goals as goal
 

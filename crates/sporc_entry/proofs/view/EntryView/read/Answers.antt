@@ -1,4 +1,4 @@
-use Rattle.std.proofs.Common.{arith, ◌≡◌, ◌≤◌, ℕ, List, length, subst, sym}
+use Rattle.std.proofs.Common.{arith, ◌≤◌, ℕ, List, length, subst, sym}
 use Rattle.sporc_entry.specs.declared.limits.TheConstants.{MAX_ENTRY}
 use Rattle.sporc_entry.specs.Entry.{entry_of}
 use Rattle.sporc_entry.proofs.EntryLaws.{entry_takes, entry_size}

@@ -1,4 +1,4 @@
-use Rattle.std.proofs.Common.{arith, ◌≡◌, ◌+◌, length, ap, ◌∙◌}
+use Rattle.std.proofs.Common.{arith, ◌+◌, length, ap, ◌∙◌}
 use Rattle.std.proofs.lemmas.List.{length-take}
 use Rattle.sporc_entry.specs.Entry.{signed_string}
 use Rattle.sporc_entry.specs.EntryView.{EntryViewModel, parts_entry}

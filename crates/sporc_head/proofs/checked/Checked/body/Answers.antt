@@ -1,4 +1,4 @@
-use Rattle.std.proofs.Common.{◌≡◌, ◌+◌, ◌≤◌, length, drop, ap, arith, length-drop}
+use Rattle.std.proofs.Common.{length, drop, ap, arith, length-drop}
 use Rattle.std.proofs.lemmas.List.{length-take}
 use Rattle.sporc_entry.proofs.ViewLaws.{view_bound}
 use Rattle.sporc_head.specs.CheckedModel.{entry_in}

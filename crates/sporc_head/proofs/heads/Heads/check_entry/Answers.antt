@@ -1,10 +1,8 @@
-use Rattle.std.proofs.Common.{◌≡◌, ap, sym, ◌∙◌, Some, Option, None, ℕ}
+use Rattle.std.proofs.Common.{◌≡◌, ap, sym, ◌∙◌, Some, None}
 use Rattle.std.proofs.lemmas.Result.{err_from_is_err_and}
 use Rattle.sporc_base.specs.FirstFault.{first_of}
-use Rattle.sporc_member.specs.declared.founder.Founder.{Founder}
 use Rattle.sporc_member.specs.Roster.{Roster, member_at}
 use Rattle.sporc_entry.specs.declared.header.Header.{Header}
-use Rattle.sporc_head.specs.declared.refusal.Refusal.{Refusal}
 use Rattle.sporc_head.specs.declared.refusal.Refusal.TheVariants.{Memory}
 use Rattle.sporc_head.specs.HeadChecks.{place_checks, history_checks, roster_checks}
 use Rattle.sporc_head.specs.History.{roster_of}

@@ -1,4 +1,4 @@
-use Rattle.std.proofs.Common.{◌≡◌, sym, ap, ◌∙◌, ℕ, List, refl, None, arith}
+use Rattle.std.proofs.Common.{◌≡◌, sym, ap, ◌∙◌, ℕ, List, None}
 use Rattle.std.specs.List.{insert}
 use Rattle.sporc_member.specs.declared.change.Change.TheVariants.{Add}
 use Rattle.sporc_member.specs.declared.founder.Founder.{Founder}

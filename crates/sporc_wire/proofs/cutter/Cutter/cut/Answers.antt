@@ -2,7 +2,7 @@ use Rattle.std.proofs.Common.{◌≡◌, Option, Some, None, List, ℕ, true, su
 use Rattle.std.specs.Prelude.{MatchOption, is_some, not}
 use Rattle.bytes.specs.Filled.{Filled}
 use Rattle.sporc_wire.specs.Stream.{front, partial, whole}
-use Rattle.sporc_wire.specs.CutterModel.{CutterModel, rest_of, put_back, unread, filled, FitsLimit}
+use Rattle.sporc_wire.specs.CutterModel.{CutterModel, rest_of, unread, filled, FitsLimit}
 use Rattle.sporc_wire.proofs.Fronts.{front-frame}
 use Rattle.sporc_wire.proofs.cutter.Cutter.cut.Goals as goal
 

@@ -1,12 +1,10 @@
-use Rattle.std.proofs.Common.{◌≡◌, ℕ, ◌+◌, List, length, Option, Some, None, Result, Ok, Err, refl, sym, ap, ap₂, ◌∙◌, subst, arith}
-use Rattle.std.specs.Prelude.{MatchOption, ◌≢◌}
-use Rattle.sporc_base.specs.Outcome.{GivesUnless}
+use Rattle.std.proofs.Common.{◌≡◌, ◌+◌, length, Some, None, Ok, Err, sym, ap, ap₂, ◌∙◌, arith}
 use Rattle.sporc_wire.specs.declared.fault.FrameFault.{FrameFault}
-use Rattle.sporc_wire.specs.declared.fault.FrameFault.TheVariants.{BadMessage, TooLong, Memory}
+use Rattle.sporc_wire.specs.declared.fault.FrameFault.TheVariants.{BadMessage, TooLong}
 use Rattle.sporc_wire.specs.Stream.{front, partial, too_long, whole}
-use Rattle.sporc_wire.specs.CutterModel.{CutterModel, unread, put_back}
-use Rattle.sporc_wire.specs.Messages.{Unread, Next, next, waits, stops, next_read, counted_to_end}
-use Rattle.sporc_wire.proofs.Nexts.{unread_of, unread_is, next-stopped, next-at, next-message, read_ok, read_bad, cut_some, cut_none, stops_value, stops_after}
+use Rattle.sporc_wire.specs.CutterModel.{unread, put_back}
+use Rattle.sporc_wire.specs.Messages.{Unread, next, counted_to_end}
+use Rattle.sporc_wire.proofs.Nexts.{unread_is, next-stopped, next-at, next-message, read_ok, read_bad, cut_some, cut_none, stops_value, stops_after}
 use Rattle.sporc_wire.proofs.frames.Frames.next.Goals as goal
 
 pub returns-in-Some-clause-value : goal.returns-in-Some-clause-value
