@@ -59,7 +59,7 @@ use Rattle.sporc_client.proofs.LaterEdits.{barrier_before, changes_stay, count_s
 use Rattle.sporc_client.proofs.Reached.{reached_at}
 use Rattle.sporc_client.proofs.SameSpelling.{ChangeRead, body_change_same, change_read_of, typed_of}
 use Rattle.sporc_client.proofs.SignedEntries.{header_made, leaf_small}
-use Rattle.sporc_client.proofs.SoundClients.{HasKey, IsSoundAndTyped, body_of_change, edit_spelled, entry_read, has_key, header_of_made, no_change, reads_edit, sealed_change}
+use Rattle.sporc_client.proofs.SoundClients.{HasKey, IsSoundAndTyped, body_of_change, edit_spelled, entry_read, header_of_made, key_there, no_change, reads_edit, sealed_change}
 use Rattle.sporc_client.proofs.SoundRuns.{sound_and_typed_at}
 use Rattle.sporc_client.proofs.Spellings.{AreTypedItems}
 use Rattle.sporc_client.proofs.Submitting.{IsDue, IsMadeBy, chosen_in, made_by_submission}
@@ -302,7 +302,7 @@ module _ (s : Setup) (i j : ℕ) (c d : PlainClient) (bytes : List ℕ) (sent : 
 
   pub edit_passes_there : (marks : List Mark) → e ≡ entry_made c (chosen_in c e) (items.Edit marks) → IsDue c (items.Edit marks) → refusal_of d (length d.entries + 1) bytes ≡ None
   edit_passes_there marks same due =
-      let has = has_key s i c (items.Edit marks) sent.sender due in
+      let has = key_there c sent.sender.good due.not_removed in
       let spells = edit_spelled c marks sent.known.sound sent.known.typed due in
       let read = edit_reads c (chosen_in c e) marks e same has spells in
       let S : List Pending → Type 0 = λ ps. AreStated (committed_of c) ps in
@@ -364,7 +364,7 @@ module _ (s : Setup) (i j : ℕ) (c d : PlainClient) (bytes : List ℕ) (sent : 
       ap length shown_new ∙ new_key_size pairs (entry_stream sent.makes.entry.header.author sent.makes.entry.header.leaf) (change_of sent.makes.entry) body
 
   has : HasKey c
-  has = has_key s i c (items.Change change) sent.sender due
+  has = key_there c sent.sender.good due.not_removed
 
   current : current_key c ≡ has.key
   current = ap (λ (key : Option (List ℕ)). unwrap_or key []) has.is

@@ -40,7 +40,7 @@ use Rattle.sporc_client.proofs.HonestChanges.{IsSmall, numbers_small, sealed_cha
 use Rattle.sporc_client.proofs.HonestEntries.{current_size, shown_size}
 use Rattle.sporc_client.proofs.Reached.{reached_at}
 use Rattle.sporc_client.proofs.SignedEntries.{next_is_header}
-use Rattle.sporc_client.proofs.SoundClients.{IsSoundAndTyped, edit_spelled, entry_read, has_key}
+use Rattle.sporc_client.proofs.SoundClients.{IsSoundAndTyped, edit_spelled, entry_read, key_there}
 use Rattle.sporc_client.proofs.SoundRuns.{sound_and_typed_at}
 use Rattle.sporc_client.proofs.Spellings.{AreTypedItems}
 use Rattle.sporc_client.proofs.SubmitEntries.{chosen_by, made_is_made}
@@ -124,7 +124,7 @@ due_spelled s who c random leaf (items.Change change) well reached known size du
     let small = numbers_small members (small_change roster change written (small_roster g c.entries is.founders known.bytes)) in
     let new : length (drop 32 random) ≡ 32 = omega (arith, length-drop 32 random, size) in
     body_spelled sealing c.opening.kit.pairs (body_sealed sealing c.opening.kit.pairs) (sealed_change_of sealing c.opening.kit.pairs due.fits.1) written
-    (current_size c known (has_key s who c (items.Change change) reached due)) new (all_of (numbers_of members) small)
+    (current_size c known (key_there c reached.good due.not_removed)) new (all_of (numbers_of members) small)
     (omega (arith, length-map members (λ (m : Founder). m.member), (few_after roster change few due.fits.0).few))
 
 pub made_allowed : (s : Setup) (moves : List Move) (n who by : ℕ) (c : PlainClient) (entry : List ℕ) → IsTypedRun s moves → IsAt s moves n who c → CanMake c entry → allows c (Submit by entry) ≡ true

@@ -26,7 +26,7 @@ use Rattle.sporc_entry.proofs.EntryLaws.{entry_takes}
 use Rattle.sporc_epoch.specs.Keys.{Keys}
 use Rattle.sporc_epoch.specs.Sealing.{Sealing, body_sealed}
 use Rattle.sporc_epoch.specs.Streams.{entry_stream}
-use Rattle.sporc_head.specs.History.{change_in, epoch_of}
+use Rattle.sporc_head.specs.History.{change_in, epoch_of, is_removed}
 use Rattle.sporc_line.specs.Keys.{key_of}
 use Rattle.sporc_line.specs.Good.{Good, Meets}
 use Rattle.sporc_line.specs.Operations.{edit_marks}
@@ -83,10 +83,11 @@ pub record HasKey (c : PlainClient) : Type 0 where
   pub key : List ℕ
   pub is : key_of c.opening.genesis c.opening.kit c.entries (epoch_of c.entries) ≡ Some key
 
-pub has_key : (s : Setup) (who : ℕ) (c : PlainClient) (item : Pending) → IsReached s who c → IsDue c item → HasKey c
-has_key s who c item reached due =
+-- a client that isn't removed has it
+pub key_there : (c : PlainClient) → Good c.opening.genesis c.opening.kit c.entries → is_removed (me_of c) c.entries ≡ false → HasKey c
+key_there c good kept =
     let l : epoch_of c.entries ≤ epoch_of c.entries = omega arith in
-    go _ (key_of c.opening.genesis c.opening.kit c.entries (epoch_of c.entries)) refl (keys_meet c.opening.genesis c.opening.kit c.entries reached.good due.not_removed (epoch_of c.entries) l)
+    go _ (key_of c.opening.genesis c.opening.kit c.entries (epoch_of c.entries)) refl (keys_meet c.opening.genesis c.opening.kit c.entries good kept (epoch_of c.entries) l)
   where
     go : (commitment : List ℕ) (key : Option (List ℕ)) → key_of c.opening.genesis c.opening.kit c.entries (epoch_of c.entries) ≡ key → Meets c.opening.genesis (epoch_of c.entries) key commitment → HasKey c
     go commitment None is meets = absurd meets
@@ -95,13 +96,15 @@ has_key s who c item reached due =
 -- ---- what a submission made is the entry of the first pending item
 
 -- an edit that is due has a spelling
-pub edit_spelled : (c : PlainClient) (marks : List Mark) → IsSound c → AreTypedItems c.pending → (due : IsDue c (items.Edit marks)) → Spells marks (delta_bytes marks)
-edit_spelled c marks sound typed due =
+pub spelled_due : (c : PlainClient) (marks : List Mark) → IsSound c → HasScalars marks → (due : IsDue c (items.Edit marks)) → Spells marks (delta_bytes marks)
+spelled_due c marks sound scalars due =
     let S : List Pending → Type 0 = λ ps. AreStated (committed_of c) ps in
     let base : base_len marks ≡ length (committed_of c) = (subst S due.first sound.stated).0 in
-    let scalars : HasScalars marks = (subst AreTypedItems due.first typed).0 in
     let long = length-text_of c.opening.genesis c.opening.kit c.entries sound.good in
     spelled marks (record { base = omega (arith, base, long, due.room); size = omega (arith, due.fits); scalars = scalars })
+
+pub edit_spelled : (c : PlainClient) (marks : List Mark) → IsSound c → AreTypedItems c.pending → (due : IsDue c (items.Edit marks)) → Spells marks (delta_bytes marks)
+edit_spelled c marks sound typed due = spelled_due c marks sound (subst AreTypedItems due.first typed).0 due
 
 -- and is read again under the key of the epoch
 pub reads_edit : (c : PlainClient) (chosen : Chosen) (marks : List Mark) → HasKey c → Spells marks (delta_bytes marks)
@@ -119,7 +122,7 @@ pub no_change : (c : PlainClient) (chosen : Chosen) (marks : List Mark) → chan
 unfolding entry_made change_of
 no_change c chosen marks = refl
 
-edit_made : (c : PlainClient) (chosen : Chosen) (marks : List Mark) → HasKey c → Spells marks (delta_bytes marks) → IsEditOf c (entry_made c chosen (items.Edit marks)) marks
+pub edit_made : (c : PlainClient) (chosen : Chosen) (marks : List Mark) → HasKey c → Spells marks (delta_bytes marks) → IsEditOf c (entry_made c chosen (items.Edit marks)) marks
 edit_made c chosen marks has spells =
     let m = entry_made c chosen (items.Edit marks) in
     let forms = forms_of c.opening.genesis c.opening.kit c.entries in
@@ -169,7 +172,7 @@ made_in_flight s who c bytes well reached sound typed are_bytes makes =
     let header = header_made s who c bytes well reached makes in
     let base : makes.entry.header.base ≡ length c.entries = ap (λ (h : Header). h.base) header in
     let epoch : makes.entry.header.epoch ≡ epoch_of c.entries = ap (λ (h : Header). h.epoch) header in
-    let of = entry_of_item c (chosen_in c makes.entry) makes.item makes.entry read.0 read.1 sound typed makes.due (has_key s who c makes.item reached makes.due) in
+    let of = entry_of_item c (chosen_in c makes.entry) makes.item makes.entry read.0 read.1 sound typed makes.due (key_there c reached.good makes.due.not_removed) in
     record {
       entry = makes.entry;
       reads = makes.reads;

@@ -6,17 +6,16 @@ use Rattle.std.specs.Int.{w16, to_be_bytes}
 use Rattle.std.specs.List.{AllByRecursion, cons_option, flat_map}
 use Rattle.std.specs.Result.{result_ok}
 use Rattle.std.proofs.lemmas.Bool.{lt-ltb}
-use Rattle.std.proofs.lemmas.List.{drop_all, drop_at, length-take-le, take_at}
+use Rattle.std.proofs.lemmas.List.{drop_at, length-take-le, take_at}
 use Rattle.std.proofs.lemmas.List.Concat.{flat_map-cons}
 use Rattle.std.proofs.lemmas.Slice.Eq.{bytes_eq-Decides}
 use Rattle.lms_tree.specs.LmsType.{height_of}
 use Rattle.lms_tree.specs.Signatures.{lms_signature_of}
 use Rattle.sporc_cipher.specs.Mask.{mask_of}
 use Rattle.sporc_cipher.proofs.Stream.{length-mask_from, mask_from-mask_from}
-use Rattle.sporc_delta.specs.Format.{Spells, delta_bytes}
-use Rattle.sporc_delta.specs.Marks.{Mark, base_len}
+use Rattle.sporc_delta.specs.Format.{delta_bytes}
+use Rattle.sporc_delta.specs.Marks.{Mark}
 use Rattle.sporc_delta.specs.Typed.{IsTypedDelta}
-use Rattle.sporc_suffix.specs.Forms.{later_over}
 use Rattle.sporc_member.specs.declared.change.Change.{Change as MemberChange}
 use Rattle.sporc_member.specs.declared.change.Change.TheVariants.{Add, Remove, SetRole}
 use Rattle.sporc_member.specs.Role.{role_code_of}
@@ -32,29 +31,21 @@ use Rattle.sporc_entry.proofs.EntryLaws.{entry_again}
 use Rattle.sporc_epoch.specs.Keys.{Keys}
 use Rattle.sporc_epoch.specs.Sealing.{Sealing, body_sealed, least_unpaired, wraps_sealed}
 use Rattle.sporc_epoch.specs.Streams.{entry_stream}
-use Rattle.sporc_head.specs.History.{epoch_of, is_removed, roster_of}
-use Rattle.sporc_line.specs.Keys.{key_of}
-use Rattle.sporc_line.specs.Good.{Good, Meets}
-use Rattle.sporc_line.specs.Document.{forms_of}
-use Rattle.sporc_line.proofs.FormLengths.{length-forms}
-use Rattle.sporc_line.proofs.SameKeys.{keys_meet}
-use Rattle.sporc_line.specs.Operations.{edit_marks}
+use Rattle.sporc_head.specs.History.{epoch_of, roster_of}
 use Rattle.sporc_client.specs.declared.pending.Pending.{Pending}
 use Rattle.sporc_client.specs.declared.pending.Pending.TheVariants as items
 use Rattle.sporc_client.specs.declared.submitted.Submitted.TheVariants as submitted
 use Rattle.sporc_client.specs.Allowed.{first_sealed, is_entry, is_made, new_key_in, new_key_of, randomizer_in}
 use Rattle.sporc_client.specs.Contents.{IsSpelled, IsSubmission}
 use Rattle.sporc_client.specs.Entries.{Chosen, bytes_made, current_key, entry_made, next_header, sealing_of, unsigned_entry}
-use Rattle.sporc_client.specs.PlainClient.{PlainClient, committed_of, me_of}
-use Rattle.sporc_client.specs.Rebasing.{AreStated}
+use Rattle.sporc_client.specs.PlainClient.{PlainClient, me_of}
 use Rattle.sporc_client.specs.Soundness.{IsEditOf, IsEntryOf, IsInFlight, IsOfFirst, IsSound}
 use Rattle.sporc_client.specs.Submissions.{Sign, answered, due, submission}
-use Rattle.sporc_client.proofs.SoundClients.{HasKey, header_of_made, no_change, reads_edit, sealed_change}
-use Rattle.sporc_client.proofs.Spellings.{scalars_of, spelled}
+use Rattle.sporc_client.proofs.SoundClients.{edit_made, header_of_made, key_there, sealed_change, spelled_due}
+use Rattle.sporc_client.proofs.Spellings.{scalars_of}
 use Rattle.sporc_client.proofs.SubmitMembers.{paired_first, some_member}
 use Rattle.sporc_client.proofs.SubmitSignatures.{shown_randomizer, signature_size}
 use Rattle.sporc_client.proofs.Submitting.{IsDue, is_due}
-use Rattle.sporc_client.proofs.TextLengths.{length-text_of}
 
 -- a leaf and 64 random bytes
 abbrev pub chosen_by : List ℕ → ℕ → Chosen
@@ -258,38 +249,8 @@ made_is_made c random leaf item m =
 
 -- ---- and it is that of the first pending item
 
--- a client that isn't removed has the key of the epoch
-pub key_there : (c : PlainClient) → Good c.opening.genesis c.opening.kit c.entries → is_removed (me_of c) c.entries ≡ false → HasKey c
-key_there c good kept =
-    let l : epoch_of c.entries ≤ epoch_of c.entries = omega arith in
-    go _ (key_of c.opening.genesis c.opening.kit c.entries (epoch_of c.entries)) refl (keys_meet c.opening.genesis c.opening.kit c.entries good kept (epoch_of c.entries) l)
-  where
-    go : (commitment : List ℕ) (key : Option (List ℕ)) → key_of c.opening.genesis c.opening.kit c.entries (epoch_of c.entries) ≡ key → Meets c.opening.genesis (epoch_of c.entries) key commitment → HasKey c
-    go commitment None is meets = absurd meets
-    go commitment (Some key) is meets = record { key = key; is = is }
-
--- an edit that is due has a spelling
-typed_spelled : (c : PlainClient) (marks : List Mark) → IsSound c → IsTypedDelta marks → (due : IsDue c (items.Edit marks)) → Spells marks (delta_bytes marks)
-typed_spelled c marks sound typed due =
-    let S : List Pending → Type 0 = λ ps. AreStated (committed_of c) ps in
-    let base : base_len marks ≡ length (committed_of c) = (subst S due.first sound.stated).0 in
-    let long = length-text_of c.opening.genesis c.opening.kit c.entries sound.good in
-    spelled marks (record { base = omega (arith, base, long, due.room); size = omega (arith, due.fits); scalars = scalars_of marks typed })
-
 edit_is_of : (c : PlainClient) (chosen : Chosen) (marks : List Mark) → IsSound c → IsTypedDelta marks → IsDue c (items.Edit marks) → IsEditOf c (entry_made c chosen (items.Edit marks)) marks
-edit_is_of c chosen marks sound typed due =
-    let m = entry_made c chosen (items.Edit marks) in
-    let forms = forms_of c.opening.genesis c.opening.kit c.entries in
-    let header = header_of_made c chosen (items.Edit marks) in
-    let epoch : m.header.epoch ≡ epoch_of c.entries = ap (λ (h : Header). h.epoch) header in
-    let base : m.header.base ≡ length c.entries = ap (λ (h : Header). h.base) header in
-    let past : length forms ≤ m.header.base = omega (arith, base, length-forms c.opening.genesis c.opening.kit c.entries) in
-    record {
-      no_change = no_change c chosen marks;
-      held = marks;
-      reads = ap (λ (e : ℕ). edit_marks (key_of c.opening.genesis c.opening.kit c.entries e) m) epoch ∙ reads_edit c chosen marks (key_there c sound.good due.not_removed) (typed_spelled c marks sound typed due);
-      restated = ap (later_over marks) (drop_all m.header.base forms past);
-    }
+edit_is_of c chosen marks sound typed due = edit_made c chosen marks (key_there c sound.good due.not_removed) (spelled_due c marks sound (scalars_of marks typed) due)
 
 item_of : (c : PlainClient) (random : List ℕ) (leaf : ℕ) (item : Pending) → IsSound c → IsSpelled c (chosen_by random leaf) item → IsDue c item → IsEntryOf c (entry_made c (chosen_by random leaf) item) item
 item_of c random leaf (items.Edit marks) sound typed due = edit_is_of c (chosen_by random leaf) marks sound typed due

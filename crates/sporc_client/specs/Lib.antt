@@ -15,6 +15,7 @@ pub mod Agree
 pub mod Small
 pub mod ClientModel
 pub mod Drawing
+pub mod LeafUses
 pub mod Codes
 pub mod ClientInvariant
 pub mod Contents

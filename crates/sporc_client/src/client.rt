@@ -40,6 +40,7 @@ use sporc_delta::Delta;
 use sporc_entry::Genesis;
 use sporc_epoch::{Pairs, Ring};
 use sporc_hash::Digest32;
+use sporc_head::Heads;
 use sporc_line::{Line, LineOpenFault};
 use sporc_member::{Change, Role, Roster};
 use sporc_outside::LeafDisk;
@@ -133,6 +134,14 @@ impl<D: LeafDisk> Client<D> {
         ensures value { result.now ≡ chain (genesis_bytes self.now.opening.genesis) (state_of self.now).entries }
     {
         self.line.hashes()
+    }
+
+    /// The history with what its checks look up.
+    pub fn heads(&self) -> &Heads
+        ensures genesis { result.now.genesis ≡ self.now.opening.genesis }
+        ensures entries { result.now.entries ≡ (state_of self.now).entries }
+    {
+        self.line.heads()
     }
 
     /// The members after the last entry.

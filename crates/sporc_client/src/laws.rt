@@ -12,6 +12,7 @@ ghost use Rattle.sporc_client.specs.Calls.{LeadTo, events_of};
 ghost use Rattle.sporc_client.specs.ClientModel.{Rise, leaves_of};
 ghost use Rattle.sporc_client.specs.Closed.{IsClosed};
 ghost use Rattle.sporc_client.specs.HonestEntries.{CanReceive, SubmitsUnderOwnKey};
+ghost use Rattle.sporc_client.specs.LeafUses.{AreUses, IsUse, LeafSupply, LeafUse, leaves_used};
 ghost use Rattle.sporc_client.specs.Log.{Logged, Submit};
 ghost use Rattle.sporc_client.specs.Makings.{CanMake};
 ghost use Rattle.sporc_client.specs.PlainClient.{Opening, PlainClient};
@@ -81,4 +82,13 @@ pub fn leaves_sign_once()
     ensures once { (first end : ℕ) (log : List Logged) (x y leaf : ℕ) → Rise first end (leaves_of log) → slice_get (leaves_of log) x ≡ Some leaf
         → slice_get (leaves_of log) y ≡ Some leaf → x ≡ y }
     ensures streams { (author leaf other : ℕ) → entry_stream author leaf ≡ entry_stream author other → leaf ≡ other }
+{}
+
+/// No two entries that a client gives carry one leaf, over all its calls: also if it goes back in between, or is closed and its
+/// leaves are opened again. Each call is a use of leaves: `submit` by its contract, and all others since they leave the kept
+/// ticket and the leaves as they were.
+pub fn leaves_never_repeat()
+    ensures once { (next : ℕ) (uses : List LeafUse) (x y leaf : ℕ) → AreUses (record { next = next; ticket = None }) uses
+        → slice_get (leaves_used uses) x ≡ Some leaf → slice_get (leaves_used uses) y ≡ Some leaf → x ≡ y }
+    ensures others { (s : LeafSupply) → IsUse s None s }
 {}

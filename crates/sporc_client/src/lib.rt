@@ -18,8 +18,9 @@
 //! ```
 //!
 //! Proved: each call answers what its definition over the journal answers, unless memory runs out, and the journal grows by
-//! that call's event or stays; the state is the replay of the journal; both texts are the definition's; the leaves of all
-//! submissions rise; all laws. Neither proved nor tested yet: that a call succeeds with ample memory, and how long it takes.
+//! that call's event or stays; the state is the replay of the journal; both texts are the definition's; no two entries carry
+//! one leaf, over all calls; all laws. Tested only (`sporc_client_tests`): that calls succeed with ample memory. Neither: how
+//! long they take.
 #![tactic(auto)]
 
 mod client;
@@ -39,3 +40,4 @@ pub use crate::fault::{AcceptFault, ClientOpenFault, EditFault, RestartFault, Su
 pub use crate::limits::{MAX_EDIT_BYTES, MAX_EVENTS, MAX_HEAD_BYTES, MAX_PENDING};
 pub use crate::pending::Pending;
 pub use crate::submitted::Submitted;
+pub use sporc_hash::{Verdict, compare};

@@ -1,6 +1,6 @@
 // The texts of a client, and the key of the last epoch.
 
-ghost use Rattle.std.specs.Prelude.{◌≡◌, ◌<◌, ◌≤◌, ◌^◌, ◌↔◌, length, IsNone, IfSome, IfOk, is_none, option_copied};
+ghost use Rattle.std.specs.Prelude.{◌≡◌, ◌<◌, ◌≤◌, ◌^◌, ◌↔◌, length, IsNone, IfSome, IfOk, OnOk, is_none, option_copied};
 ghost use Rattle.std.specs.String.{string_bytes};
 ghost use Rattle.std.specs.Str.{chars, encode_utf8_all};
 ghost use Rattle.sporc_delta.specs.Marks.{apply, base_len};
@@ -25,6 +25,7 @@ impl<D: LeafDisk> Client<D> {
     /// The committed text as UTF-8.
     pub fn committed(&self) -> Result<String, Memory>
         ensures value { IfOk result (λ t. string_bytes t ≡ encode_utf8_all (committed_of (state_of self.now))) }
+        ensures small { length (committed_of (state_of self.now)) ≤ 2 ^ 35 }
     {
         self.line.text()
     }
@@ -32,6 +33,7 @@ impl<D: LeafDisk> Client<D> {
     /// The committed text with the pending edits, as UTF-8.
     pub fn shown(&self) -> Result<String, Memory>
         ensures value { IfOk result (λ t. string_bytes t ≡ encode_utf8_all (shown_of (state_of self.now))) }
+        ensures small { OnOk result (length (shown_of (state_of self.now)) ≤ 2 ^ 35) }
     {
         let text = self.line.text()?;
         let len = committed_len(&self.line);
@@ -39,6 +41,14 @@ impl<D: LeafDisk> Client<D> {
         let all = in_one(self.alloc, len, pending)?;
         let shown = edited(self.alloc, text.as_str(), &all)?;
         Ok(shown)
+    }
+
+    /// How many characters the committed text has.
+    pub fn committed_len(&self) -> u64
+        ensures value { result ≡ length (committed_of (state_of self.now)) }
+        ensures small { result ≤ 2 ^ 35 }
+    {
+        committed_len(&self.line)
     }
 
     /// How many characters the text had that was shown after `seen` events. None if there are fewer events.

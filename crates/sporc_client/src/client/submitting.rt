@@ -4,6 +4,7 @@ ghost use Rattle.std.specs.Prelude.{◌≡◌, ℕ, ◌⊎◌, ◌++◌, true, f
 ghost use Rattle.sporc_base.specs.Outcome.{GivesUnless};
 ghost use Rattle.sporc_client.specs.ClientModel.{state_of};
 ghost use Rattle.sporc_client.specs.Drawing.{IsDraw, asks_draw, gives_entry, kept_after, leaf_for};
+ghost use Rattle.sporc_client.specs.LeafUses.{IsUse, leaf_given, supply_of};
 ghost use Rattle.sporc_client.specs.Submissions.{Drop, due, is_signing, submission, submission_added};
 
 mod draft;
@@ -35,6 +36,7 @@ impl<D: LeafDisk> Client<D> {
           leaves = self.new.leaves;
           ticket = kept_after self.old.ticket self.old.leaves self.new.leaves (gives_entry result);
         } }
+        ensures leaf { IsUse (supply_of self.old) (leaf_given result) (supply_of self.new) }
         ensures undrawn { asks_draw self.old ≡ false → self.new.leaves ≡ self.old.leaves }
         ensures drawn { asks_draw self.old ≡ true → ((result ≡ Err SubmitFault.Memory) × (self.new.leaves ≡ self.old.leaves)) ⊎ IsDraw D.stored D.moment D.images D.faults self.old.leaves self.new.leaves }
     {
@@ -68,6 +70,7 @@ impl<D: LeafDisk> Client<D> {
           leaves = self.new.leaves;
           ticket = kept_after self.old.ticket self.old.leaves self.new.leaves (gives_entry result);
         } }
+        ensures leaf { IsUse (supply_of self.old) (leaf_given result) (supply_of self.new) }
         ensures undrawn { (leaf : ℕ) → self.old.ticket ≡ Some leaf → self.new.leaves ≡ self.old.leaves }
         ensures drawn { self.old.ticket ≡ None → ((result ≡ Err SubmitFault.Memory) × (self.new.leaves ≡ self.old.leaves)) ⊎ IsDraw D.stored D.moment D.images D.faults self.old.leaves self.new.leaves }
     {

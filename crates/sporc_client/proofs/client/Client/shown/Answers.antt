@@ -9,7 +9,7 @@ use Rattle.sporc_client.specs.PlainClient.{PlainClient, committed_of, shown_of}
 use Rattle.sporc_client.specs.Rebasing.{AreOver, in_one}
 use Rattle.sporc_client.proofs.Comings.{stated_over}
 use Rattle.sporc_client.proofs.InOne.{pending_in_one}
-use Rattle.sporc_client.proofs.Small.{encode_all-le}
+use Rattle.sporc_client.proofs.Small.{encode_all-le, length-shown, lengths}
 use Rattle.sporc_client.proofs.client.Client.shown.Goals as goal
 
 pub in_one-requires-clause-over : goal.in_one-requires-clause-over
@@ -53,4 +53,9 @@ returns g c =
     ∙ ap (apply (in_one (retains (length committed)) inside.own.pending)) text
     ∙ (pending_in_one committed inside.own.pending c.self.invariant.sound.stated).1
     ∙ ap (λ (p : PlainClient). shown_of p) (sym state) in
-    record { value = c.in_ok-shown.ensures.value ∙ ap encode_utf8_all shown }
+    let few = lengths plain c.self.invariant.small in
+    let all_few = length-shown committed inside.own.pending c.self.invariant.sound.stated in
+    record {
+      value = c.in_ok-shown.ensures.value ∙ ap encode_utf8_all shown;
+      small = omega (arith, ap (λ (p : PlainClient). length (shown_of p)) state, all_few, few.committed, few.pending);
+    }

@@ -1,0 +1,98 @@
+//! Edits of texts that were shown before, giving up what is pending, and how much may be.
+
+use crate::room::{ABC, Room, edit, shown_len};
+use crate::scene::{MemoryClient, insertion, joined};
+use sporc_client::EditFault;
+use sporc_samples::Cast;
+use std::alloc::Global;
+use std::process::Abort;
+use std::test::Fail;
+
+// Edits of the text shown now and of older ones: each is restated behind what came since, and at one place comes behind it.
+const REBASED: &str = "
+1 insert 0 z -> event 4
+1 append 3 3 d -> event 5
+1 show -> [abc] [zabcd]
+1 append 9 3 q -> SeenAhead(5)
+1 append 3 4 q -> WrongLength
+1 append 5 4 q -> WrongLength
+1 append 0 0 y -> event 6
+1 show -> [abc] [zabcdy]
+";
+
+// What is given up takes the entry on its way with it, which then comes as any other's.
+const GIVEN_UP: &str = "
+1 insert 3 d -> event 4
+1 insert 4 e -> event 5
+1 submit -> entry
+1 submit -> waiting
+1 discard -> event 7
+1 show -> [abc] [abc]
+1 submit -> nothing
+1 give 2 2 -> event 8
+1 show -> [abcd] [abcd]
+";
+
+fn tries(rt: &impl Abort, alloc: Global, cast: &Cast, rows: &str) -> Result<(), Fail> {
+    let mut room = Room::new(alloc, cast, 2)?;
+    room.tries(rt, alloc, ABC)?;
+    room.tries(rt, alloc, rows)
+}
+
+#[test]
+fn edits_are_of_the_text_that_was_shown(rt: HostRuntime) -> Result<(), Fail> {
+    let cast = Cast::new(rt.alloc())?;
+    tries(&rt, rt.alloc(), &cast, REBASED)?;
+    tries(&rt, rt.alloc(), &cast, GIVEN_UP)
+}
+
+// ---- how much may be pending
+
+// Inserts a text in front of the one that is shown: why that is refused, if it is.
+fn inserts(
+    alloc: Global,
+    client: &mut MemoryClient,
+    text: &str,
+) -> Result<Option<EditFault>, Fail> {
+    let delta = insertion(alloc, shown_len(client), 0, text)?;
+    Ok(edit(client, &delta).err())
+}
+
+// The bytes of an edit are nine and its text's.
+fn length_is_limited(
+    rt: &impl Abort,
+    alloc: Global,
+    client: &mut MemoryClient,
+) -> Result<(), Fail> {
+    let mut text = "a".repeat(alloc, 65_528)?;
+    assert!(rt; inserts(alloc, client, text.as_str())? == Some(EditFault::TooLong(65_537)));
+    let _ = text.pop();
+    assert!(rt; inserts(alloc, client, text.as_str())?.is_none());
+    Ok(())
+}
+
+// 1,024 edits are pending, and no more may be.
+fn number_is_limited(
+    rt: &impl Abort,
+    alloc: Global,
+    client: &mut MemoryClient,
+) -> Result<(), Fail> {
+    for _ in 1..1_024 {
+        assert!(rt; inserts(alloc, client, "b")?.is_none());
+    }
+    assert!(rt; inserts(alloc, client, "c")? == Some(EditFault::PendingFull));
+    assert!(rt; client.pending() == 1_024);
+    Ok(())
+}
+
+fn is_limited(rt: &impl Abort, alloc: Global, cast: &Cast) -> Result<(), Fail> {
+    let mut client = joined(alloc, cast, 2)?;
+    length_is_limited(rt, alloc, &mut client)?;
+    number_is_limited(rt, alloc, &mut client)
+}
+
+#[test]
+fn few_and_short_edits_are_pending(rt: HostRuntime) -> Result<(), Fail> {
+    let cast = Cast::new(rt.alloc())?;
+    is_limited(&rt, rt.alloc(), &cast)
+}

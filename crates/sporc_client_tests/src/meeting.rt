@@ -1,0 +1,146 @@
+//! Clients whose edits meet. Before the rows, members 1 and 2 hold "abc".
+
+use crate::room::{ABC, Room};
+use sporc_samples::Cast;
+use std::alloc::Global;
+use std::process::Abort;
+use std::test::Fail;
+
+// Both insert at one place: the text that is ordered first comes first.
+const TIE: &str = "
+1 insert 1 X -> event 4
+2 insert 1 Y -> event 2
+1 submit -> entry
+2 submit -> entry
+1 give 2 2 -> event 6
+2 give 2 2 -> event 4
+1 show -> [aXbc] [aXbc]
+2 show -> [aXbc] [aXYbc]
+1 give 3 3 -> event 7
+2 give 3 3 -> event 5
+1 show -> [aXYbc] [aXYbc]
+2 show -> [aXYbc] [aXYbc]
+";
+
+// An insertion inside what the other removes stays.
+const INSERTION_IN_REMOVAL: &str = "
+1 remove 1 2 -> event 4
+2 insert 2 Z -> event 2
+1 submit -> entry
+2 submit -> entry
+1 give 2 2 -> event 6
+2 give 2 2 -> event 4
+2 show -> [a] [aZ]
+1 give 3 3 -> event 7
+2 give 3 3 -> event 5
+1 show -> [aZ] [aZ]
+2 show -> [aZ] [aZ]
+";
+
+// What both remove is removed once.
+const REMOVED_TWICE: &str = "
+1 remove 1 1 -> event 4
+2 remove 1 1 -> event 2
+1 submit -> entry
+2 submit -> entry
+1 give 2 2 -> event 6
+2 give 2 2 -> event 4
+1 give 3 3 -> event 7
+2 give 3 3 -> event 5
+1 show -> [ac] [ac]
+2 show -> [ac] [ac]
+";
+
+// Another's entry passes two pending edits, the first of which is on its way. That entry then commits what it said.
+const PASSED_BY: &str = "
+2 insert 3 d -> event 2
+2 insert 0 < -> event 3
+2 submit -> entry
+1 remove 0 2 -> event 4
+1 submit -> entry
+1 give 2 3 -> event 6
+2 give 2 3 -> event 5
+2 show -> [c] [<cd]
+2 give 3 2 -> event 6
+2 show -> [cd] [<cd]
+2 submit -> entry
+2 give 4 4 -> event 8
+2 show -> [<cd] [<cd]
+";
+
+// Insertions on both sides of a character that is removed before them come to one place: the one that is ordered first comes
+// first, for all.
+const FALSE_TIE: &str = "
+4 give 1 1 -> event 1
+1 remove 1 1 -> event 4
+2 insert 2 X -> event 2
+4 insert 1 Y -> event 2
+1 submit -> entry
+2 submit -> entry
+4 submit -> entry
+1 give 2 2 -> event 6
+2 give 2 2 -> event 4
+4 give 2 2 -> event 4
+2 show -> [ac] [aXc]
+4 show -> [ac] [aYc]
+1 give 3 3 -> event 7
+2 give 3 3 -> event 5
+4 give 3 3 -> event 5
+4 show -> [aXc] [aXYc]
+1 give 4 4 -> event 8
+2 give 4 4 -> event 6
+4 give 4 4 -> event 6
+1 show -> [aXYc] [aXYc]
+2 show -> [aXYc] [aXYc]
+4 show -> [aXYc] [aXYc]
+";
+
+// An entry comes twice; its author has nothing more to submit.
+const REPEATED: &str = "
+2 give 2 1 -> Refused(WrongNumber)
+1 submit -> nothing
+2 show -> [abc] [abc]
+";
+
+// Each is given another entry at one position, and one of them then what the other made behind its own.
+const FORK: &str = "
+1 insert 3 d -> event 4
+2 insert 3 e -> event 2
+1 submit -> entry
+2 submit -> entry
+1 give 2 2 -> event 6
+2 give 2 3 -> event 4
+1 insert 0 z -> event 7
+1 submit -> entry
+1 submit -> waiting
+2 give 3 4 -> Refused(WrongHistory)
+2 show -> [abce] [abce]
+";
+
+fn tries(
+    rt: &impl Abort,
+    alloc: Global,
+    cast: &Cast,
+    members: u16,
+    rows: &str,
+) -> Result<(), Fail> {
+    let mut room = Room::new(alloc, cast, members)?;
+    room.tries(rt, alloc, ABC)?;
+    room.tries(rt, alloc, rows)
+}
+
+#[test]
+fn edits_meet(rt: HostRuntime) -> Result<(), Fail> {
+    let cast = Cast::new(rt.alloc())?;
+    for rows in [TIE, INSERTION_IN_REMOVAL, REMOVED_TWICE, PASSED_BY] {
+        tries(&rt, rt.alloc(), &cast, 2, rows)?;
+    }
+    tries(&rt, rt.alloc(), &cast, 4, FALSE_TIE)
+}
+
+#[test]
+fn a_client_takes_an_entry_of_its_history_alone(rt: HostRuntime) -> Result<(), Fail> {
+    let cast = Cast::new(rt.alloc())?;
+    tries(&rt, rt.alloc(), &cast, 2, REPEATED)?;
+    tries(&rt, rt.alloc(), &cast, 2, FORK)
+}
