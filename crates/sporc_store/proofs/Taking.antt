@@ -1,0 +1,122 @@
+-- Entries of a saved history, taken one after another as a loop does.
+use Rattle.std.proofs.Common.{◌≡◌, ℕ, zero, suc, ◌+◌, ◌-◌, ◌^◌, ◌<◌, ◌≤◌, List, [], ◌∷◌, ◌++◌, length, take, drop, Bool, true, false, cond, eqb, Option, None, Some, Result, Ok, Err, refl, sym, ap, ◌∙◌, append_assoc, length-append, arith}
+use Rattle.std.proofs.lemmas.List.{append-nil, take_at}
+use Rattle.std.specs.List.{starts_with}
+use Rattle.sporc_bytes.specs.Fields.{Reading, fault_as, counted_at, end_at}
+use Rattle.sporc_head.specs.declared.refusal.Refusal.{Refusal}
+use Rattle.sporc_store.specs.declared.head.TheConstants.{HEAD_LEN}
+use Rattle.sporc_store.specs.declared.stop.Stop.{Stop}
+use Rattle.sporc_store.specs.declared.stop.Stop.TheVariants.{Foreign, Cut, Refused}
+use Rattle.sporc_store.specs.SavedFile.{Taken, read_to, first_and, stop_behind, entry_and, entries_at, head_bytes, count_at, opened, listed, saved_in, IsPrefix, IsUnchecked}
+use Rattle.sporc_store.specs.Loading.{Checker, fault_behind, appended, accepted_behind, accepted, loaded, nobody}
+
+-- what was taken, and what is taken behind it of so many entries that stand next
+abbrev pub taken_from : Checker → List (List ℕ) → ℕ → Reading → Taken
+taken_from checker front n r =
+    let behind = accepted_behind checker front (entries_at n r).entries (entries_at n r).stop in
+    read_to (front ++ behind.entries) behind.stop
+
+-- an entry that a checker like this one answered with no fault
+pub goes_on : (checker k : Checker) (front more : List (List ℕ)) (count i : ℕ) (r after : Reading) (e : List ℕ) (fault : Option Refusal) (total : Taken) → k ≡ checker → i < count → counted_at (2 ^ 32 - 1) r ≡ Ok (e, after)
+    → fault ≡ fault_behind k front e → more ≡ appended fault e front → fault ≡ None → taken_from checker front (count - i) r ≡ total → taken_from checker more (count - (i + 1)) after ≡ total
+unfolding entries_at accepted_behind
+goes_on checker k front more count i r after e fault total same lt read is grown none so_far =
+    let left : count - i ≡ suc (count - (i + 1)) = omega arith in
+    let pass : fault_behind checker front e ≡ None = ap (λ (k : Checker). fault_behind k front e) (sym same) ∙ sym is ∙ none in
+    let longer : more ≡ front ++ e ∷ [] = grown ∙ ap (λ (f : Option Refusal). appended f e front) none in
+    let rest : Taken = entries_at (count - (i + 1)) after in
+    let behind : Taken = accepted_behind checker (front ++ e ∷ []) rest.entries rest.stop in
+    let one : taken_from checker front (count - i) r ≡ read_to (front ++ (e ∷ behind.entries)) behind.stop = rw (left, read, pass) refl in
+    ap (λ (es : List (List ℕ)). taken_from checker es (count - (i + 1)) after) longer
+    ∙ ap (λ (es : List (List ℕ)). read_to es behind.stop) (append_assoc front (e ∷ []) behind.entries) ∙ sym one ∙ so_far
+
+pub one_more : (front more : List (List ℕ)) (i : ℕ) (e : List ℕ) (fault : Option Refusal) → more ≡ appended fault e front → fault ≡ None → length front ≡ i → length more ≡ i + 1
+one_more front more i e fault grown none len =
+    ap length (grown ∙ ap (λ (f : Option Refusal). appended f e front) none) ∙ length-append front (e ∷ []) ∙ ap (λ (n : ℕ). n + 1) len
+
+-- an entry that a checker like this one refused
+pub is_refused : (checker k : Checker) (front more : List (List ℕ)) (count i : ℕ) (r after : Reading) (e : List ℕ) (fault : Option Refusal) (refusal : Refusal) (total : Taken) → k ≡ checker → length front ≡ i → i < count
+    → counted_at (2 ^ 32 - 1) r ≡ Ok (e, after) → fault ≡ fault_behind k front e → more ≡ appended fault e front → fault ≡ Some refusal → taken_from checker front (count - i) r ≡ total
+    → read_to more (Refused (i + 1) refusal) ≡ total
+unfolding entries_at accepted_behind
+is_refused checker k front more count i r after e fault refusal total same len lt read is grown refused so_far =
+    let left : count - i ≡ suc (count - (i + 1)) = omega arith in
+    let fail : fault_behind checker front e ≡ Some refusal = ap (λ (k : Checker). fault_behind k front e) (sym same) ∙ sym is ∙ refused in
+    let as_before : more ≡ front = grown ∙ ap (λ (f : Option Refusal). appended f e front) refused in
+    let one : taken_from checker front (count - i) r ≡ read_to (front ++ []) (Refused (length front + 1) refusal) = rw (left, read, fail) refl in
+    ap (λ (es : List (List ℕ)). read_to es (Refused (i + 1) refusal)) as_before
+    ∙ ap (λ (n : ℕ). read_to front (Refused (n + 1) refusal)) (sym len)
+    ∙ ap (λ (es : List (List ℕ)). read_to es (Refused (length front + 1) refusal)) (sym (append-nil front)) ∙ sym one ∙ so_far
+
+-- an entry that is cut short
+pub is_cut : (checker : Checker) (front : List (List ℕ)) (count i : ℕ) (r : Reading) (at : ℕ) (total : Taken) → i < count → counted_at (2 ^ 32 - 1) r ≡ Err at
+    → taken_from checker front (count - i) r ≡ total → read_to front (Cut at) ≡ total
+unfolding entries_at accepted_behind
+is_cut checker front count i r at total lt read so_far =
+    let k : count - i ≡ suc (count - (i + 1)) = omega arith in
+    let one : taken_from checker front (count - i) r ≡ read_to (front ++ []) (Cut at) = rw (k, read) refl in
+    ap (λ (es : List (List ℕ)). read_to es (Cut at)) (sym (append-nil front)) ∙ sym one ∙ so_far
+
+-- behind the last entry
+pub is_done : (checker : Checker) (front : List (List ℕ)) (count i : ℕ) (r : Reading) (total : Taken) → count ≤ i → taken_from checker front (count - i) r ≡ total
+    → read_to front (stop_behind (end_at r)) ≡ total
+unfolding entries_at accepted_behind
+is_done checker front count i r total le so_far =
+    let k : count - i ≡ 0 = omega arith in
+    let one : taken_from checker front (count - i) r ≡ read_to (front ++ []) (stop_behind (end_at r)) = rw k refl in
+    ap (λ (es : List (List ℕ)). read_to es (stop_behind (end_at r))) (sym (append-nil front)) ∙ sym one ∙ so_far
+
+-- at any moment
+pub is_front : (checker : Checker) (front : List (List ℕ)) (n : ℕ) (r : Reading) (total : Taken) → taken_from checker front n r ≡ total → IsPrefix front total.entries
+is_front checker front n r total so_far =
+    let behind : Taken = accepted_behind checker front (entries_at n r).entries (entries_at n r).stop in
+    let all : front ++ behind.entries ≡ total.entries = ap (λ (t : Taken). t.entries) so_far in
+    sym (take_at front behind.entries (length front) refl) ∙ ap (take (length front)) all
+
+-- nothing was taken yet
+pub at_first : (checker : Checker) (front : List (List ℕ)) (n : ℕ) (r : Reading) → front ≡ [] → taken_from checker front n r ≡ accepted checker (entries_at n r)
+at_first checker front n r none = rw none refl
+
+-- a file with these entries
+pub is_opened : (document bytes : List ℕ) (found : ℕ × Reading) → opened document bytes ≡ Ok found → saved_in document bytes ≡ entries_at found.0 found.1
+unfolding saved_in
+is_opened document bytes found e = ap listed e
+
+-- a file that is foreign, or cut short before its entries
+pub is_stopped : (checker : Checker) (front : List (List ℕ)) (document bytes : List ℕ) (stop : Stop) → front ≡ [] → opened document bytes ≡ Err stop → read_to front stop ≡ loaded checker document bytes
+unfolding saved_in accepted_behind
+is_stopped checker front document bytes stop none e = rw (e, none) refl
+
+-- ---- entries that nobody checks
+
+all_taken : (front es : List (List ℕ)) (stop : Stop) → accepted_behind nobody front es stop ≡ read_to es stop
+unfolding fault_behind accepted_behind
+all_taken front [] stop = refl
+all_taken front (e ∷ es) stop = ap (first_and e) (all_taken (front ++ e ∷ []) es stop)
+
+pub loaded-nobody : (document bytes : List ℕ) → loaded nobody document bytes ≡ saved_in document bytes
+loaded-nobody document bytes = all_taken [] (saved_in document bytes).entries (saved_in document bytes).stop
+
+-- ---- stops that no check made
+
+end_unchecked : (read : Result (Unit {0}) ℕ) → IsUnchecked (stop_behind read)
+end_unchecked (Ok end) = tt
+end_unchecked (Err at) = tt
+
+entries_unchecked : (n : ℕ) (r : Reading) → IsUnchecked (entries_at n r).stop
+unfolding entries_at
+entries_unchecked zero r = end_unchecked (end_at r)
+entries_unchecked (suc n) r = by (entries_unchecked n) (counted_at (2 ^ 32 - 1) r)
+  where
+    by : ((r : Reading) → IsUnchecked (entries_at n r).stop) → (read : Result (List ℕ × Reading) ℕ) → IsUnchecked (entry_and read (entries_at n)).stop
+    by others (Ok e) = others e.1
+    by others (Err at) = tt
+
+pub saved_unchecked : (document bytes : List ℕ) → IsUnchecked (saved_in document bytes).stop
+unfolding saved_in opened
+saved_unchecked document bytes = by (starts_with eqb bytes (head_bytes document)) (count_at (record { rest = drop HEAD_LEN bytes; at = HEAD_LEN }))
+  where
+    by : (own : Bool) (count : Result (ℕ × Reading) ℕ) → IsUnchecked (listed (cond own (fault_as Cut count) (Err Foreign))).stop
+    by true (Ok found) = entries_unchecked found.0 found.1
+    by true (Err at) = tt
+    by false count = tt

@@ -1,0 +1,2 @@
+pub mod SavedFile
+pub mod Loading

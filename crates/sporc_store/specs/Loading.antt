@@ -1,0 +1,54 @@
+-- What is loaded of a saved history: its entries, one after another, until one is refused.
+use Rattle.std.specs.Prelude.{◌≢◌, ℕ, ◌+◌, List, [], ◌∷◌, ◌++◌, length, Option, None, Some}
+use Rattle.sporc_entry.specs.declared.genesis.Genesis.{Genesis}
+use Rattle.sporc_head.specs.declared.refusal.Refusal.{Refusal}
+use Rattle.sporc_head.specs.declared.refusal.Refusal.TheVariants.{Memory}
+use Rattle.sporc_head.specs.HeadChecks.{head_fault}
+use Rattle.sporc_line.specs.Kit.{Kit}
+use Rattle.sporc_line.specs.LineChecks.{first_fault}
+use Rattle.sporc_store.specs.declared.stop.Stop.{Stop}
+use Rattle.sporc_store.specs.declared.stop.Stop.TheVariants.{End, Foreign, Cut, Refused}
+use Rattle.sporc_store.specs.SavedFile.{Taken, read_to, first_and, saved_in}
+
+-- who checks entries: nobody, the order of a document, or a member by what it was given
+pub data Checker : Type 0 where
+  nobody : Checker
+  an_order : Genesis → Checker
+  a_member : Genesis → Kit → Checker
+
+-- the first check that an entry fails behind these
+unfoldable pub fault_behind : Checker → List (List ℕ) → List ℕ → Option Refusal
+fault_behind nobody entries bytes = None
+fault_behind (an_order genesis) entries bytes = head_fault genesis None entries (length entries + 1) bytes
+fault_behind (a_member genesis kit) entries bytes = first_fault genesis kit entries (length entries + 1) bytes
+
+-- entries, and one more unless it is refused
+abbrev pub appended : Option Refusal → List ℕ → List (List ℕ) → List (List ℕ)
+appended None bytes entries = entries ++ bytes ∷ []
+appended (Some refusal) bytes entries = entries
+
+-- what is taken from a position on, unless the entry there is refused
+abbrev pub unless_refused : Option Refusal → ℕ → Taken → Taken
+unless_refused None position taken = taken
+unless_refused (Some refusal) position taken = read_to [] (Refused position refusal)
+
+-- of entries that follow those before, up to a stop, the ones that are accepted
+unfoldable pub accepted_behind : Checker → List (List ℕ) → List (List ℕ) → Stop → Taken
+accepted_behind checker before [] stop = read_to [] stop
+accepted_behind checker before (e ∷ es) stop =
+    unless_refused (fault_behind checker before e) (length before + 1) (first_and e (accepted_behind checker (before ++ e ∷ []) es stop))
+
+-- of entries that were read, the longest prefix that is accepted
+abbrev pub accepted : Checker → Taken → Taken
+accepted checker read = accepted_behind checker [] read.entries read.stop
+
+-- what is loaded of a file
+abbrev pub loaded : Checker → List ℕ → List ℕ → Taken
+loaded checker document bytes = accepted checker (saved_in document bytes)
+
+-- a refusal that a stop carries names a check
+abbrev pub NamesCheck : Stop → Type 0
+NamesCheck End = Unit {0}
+NamesCheck Foreign = Unit {0}
+NamesCheck (Cut at) = Unit {0}
+NamesCheck (Refused position refusal) = refusal ≢ Memory

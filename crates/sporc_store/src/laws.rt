@@ -1,0 +1,53 @@
+//! Laws of saved histories: what was saved is read again, and what is loaded is the longest prefix that is accepted.
+
+ghost use Rattle.std.specs.Prelude.{◌≡◌, ℕ, ◌+◌, ◌≤◌, ◌<◌, ◌^◌, List, length, take, Some, None, slice_get, IsSomeAnd};
+ghost use Rattle.std.specs.List.{All};
+ghost use Rattle.sporc_base.specs.Bytes.{IsBytes};
+ghost use Rattle.sporc_entry.specs.declared.genesis.Genesis.{Genesis};
+ghost use Rattle.sporc_entry.specs.declared.limits.TheConstants.{MAX_ENTRY};
+ghost use Rattle.sporc_entry.specs.Genesis.{IsGenesis};
+ghost use Rattle.sporc_head.specs.declared.limits.TheConstants.{MAX_ENTRIES};
+ghost use Rattle.sporc_head.specs.HeadChecks.{head_fault};
+ghost use Rattle.sporc_line.specs.Kit.{Kit};
+ghost use Rattle.sporc_line.specs.Good.{Good};
+ghost use Rattle.sporc_store.specs.SavedFile.{saved_bytes, saved_in, read_to, IsPrefix};
+ghost use Rattle.sporc_store.specs.Loading.{Checker, an_order, a_member, fault_behind, loaded};
+
+use crate::stop::Stop;
+
+/// The file of a history is read as that history, to its end, and no other file is.
+pub fn history_and_its_file()
+    ensures read_again { (document : List ℕ) (entries : List (List ℕ)) → length document ≡ 16 → length entries ≤ MAX_ENTRIES
+        → All (λ e. length e < 2 ^ 32) entries → saved_in document (saved_bytes document entries) ≡ read_to entries Stop.End }
+    ensures written_so { (document bytes : List ℕ) (entries : List (List ℕ)) → length document ≡ 16 → IsBytes bytes
+        → saved_in document bytes ≡ read_to entries Stop.End → bytes ≡ saved_bytes document entries }
+{}
+
+/// What is loaded of a file is the longest prefix of its entries that is accepted: each of them fails no check where it
+/// stands, and either they are all, and loading stops where the file does, or the next entry fails the check that the stop
+/// names, with its position.
+pub fn longest_accepted_prefix()
+    ensures prefix { (checker : Checker) (document bytes : List ℕ)
+        → IsPrefix (loaded checker document bytes).entries (saved_in document bytes).entries }
+    ensures accepted { (checker : Checker) (document bytes : List ℕ) (i : ℕ) (e : List ℕ)
+        → slice_get (loaded checker document bytes).entries i ≡ Some e
+        → fault_behind checker (take i (loaded checker document bytes).entries) e ≡ None }
+    ensures whole { (checker : Checker) (document bytes : List ℕ)
+        → (loaded checker document bytes).entries ≡ (saved_in document bytes).entries
+        → (loaded checker document bytes).stop ≡ (saved_in document bytes).stop }
+    ensures refused { (checker : Checker) (document bytes : List ℕ) (e : List ℕ)
+        → slice_get (saved_in document bytes).entries (length (loaded checker document bytes).entries) ≡ Some e
+        → IsSomeAnd (fault_behind checker (loaded checker document bytes).entries e)
+        (λ refusal. (loaded checker document bytes).stop ≡ Stop.Refused (length (loaded checker document bytes).entries + 1) refusal) }
+{}
+
+/// A history that was accepted and saved is loaded again, whole: that of a line for its member, and that of an order.
+pub fn saved_history_is_loaded()
+    ensures for_a_member { (genesis : Genesis) (kit : Kit) (entries : List (List ℕ)) → IsGenesis genesis → Good genesis kit entries
+        → length entries ≤ MAX_ENTRIES → All (λ e. length e ≤ MAX_ENTRY) entries
+        → loaded (a_member genesis kit) genesis.document (saved_bytes genesis.document entries) ≡ read_to entries Stop.End }
+    ensures by_an_order { (genesis : Genesis) (entries : List (List ℕ)) → IsGenesis genesis
+        → ((i : ℕ) (e : List ℕ) → slice_get entries i ≡ Some e → head_fault genesis None (take i entries) (i + 1) e ≡ None)
+        → length entries ≤ MAX_ENTRIES → All (λ e. length e ≤ MAX_ENTRY) entries
+        → loaded (an_order genesis) genesis.document (saved_bytes genesis.document entries) ≡ read_to entries Stop.End }
+{}

@@ -1,0 +1,41 @@
+//! Saved histories: the file that a document's entries are kept in, and how it is read and loaded again.
+//!
+//! A file is `SPH1`, the 16 bytes of the document, the number of entries as a `u32`, at most 16,384, and each entry as a
+//! `u32` length and so many bytes, oldest first. Nothing follows.
+//!
+//! - [`save`]: the file of entries.
+//! - [`read_saved`]: the entries of a file, unchecked, as far as it is whole, and where it stops.
+//! - [`load`], [`load_order`]: the longest prefix of a file's entries that a member's line, or an order, accepts.
+//! - [`Stop`]: where reading stops: at the end, at another document's file, at a place that is cut short or forbidden, or
+//!   before an entry that a check refuses.
+//! - [`laws`]: what was saved is read and loaded again, whole, and what is loaded is the longest prefix that is accepted.
+//!
+//! ```text
+//! let file = save(alloc, &document, line.entries())?;          // TooLong
+//! let (entries, stop) = read_saved(alloc, &document, file.as_slice())?;
+//! let (line, stop) = load(alloc, file.as_slice(), empty_line)?;   // Stop::Refused(2, Refusal::BadSignature)
+//! ```
+//!
+//! A file is read in one pass, and each entry is copied once, out of the bytes as they stand there. A number of entries takes
+//! no memory before there are as many.
+//!
+//! Proved: the bytes that `save` gives, and when they are too many; what each call takes of any bytes, and where it stops; that
+//! line and order keep the entries taken if memory runs out; the laws. Tested, in `sporc_store_tests`: loading of entries with
+//! real signatures, files cut at each byte, and that the calls succeed with ample memory. Neither: how long a call takes.
+#![tactic(auto)]
+
+mod appending;
+mod fault;
+mod head;
+mod history;
+pub mod laws;
+mod loading;
+mod reading;
+mod saving;
+mod stop;
+
+pub use fault::SaveFault;
+pub use loading::{load, load_order, read_saved};
+pub use saving::save;
+pub use sporc_base::Memory;
+pub use stop::Stop;

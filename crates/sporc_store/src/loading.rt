@@ -1,0 +1,72 @@
+// Saved histories that are read again.
+
+ghost use Rattle.std.specs.Prelude.{◌≡◌, [], map, IfOk, IfErr};
+ghost use Rattle.sporc_store.specs.SavedFile.{saved_in, read_to, IsPrefix, IsUnchecked};
+ghost use Rattle.sporc_store.specs.Loading.{a_member, an_order, loaded, NamesCheck};
+
+use crate::appending::append_saved;
+use crate::stop::Stop;
+use sporc_base::Memory;
+use sporc_line::Line;
+use sporc_order::Order;
+use std::alloc::Global;
+
+/// The entries of a document's saved history, unchecked, up to where its reading stops: at its end, or at the first place
+/// that is cut short or forbidden. No check is made, so the stop is never `Refused`.
+pub fn read_saved(
+    alloc: Global,
+    document: &[u8; 16],
+    bytes: &[u8],
+) -> Result<(Vec<Vec<u8>>, Stop), Memory>
+    ensures ok { IfOk result (λ read. read_to (map (λ entry. entry.items) read.0.items) read.1 ≡ saved_in document.now bytes.now) }
+    ensures unchecked { IfOk result (λ read. IsUnchecked read.1) }
+{
+    let mut entries = Vec::new(alloc);
+    let stop = append_saved(alloc, &mut entries, document, bytes)?;
+    Ok((entries, stop))
+}
+
+/// Appends the entries of a saved history to the empty line of its document, up to the first that is cut short or that
+/// the line refuses. After want of memory the line has the entries taken so far.
+pub fn load(alloc: Global, bytes: &[u8], line: Line) -> Result<(Line, Stop), (Line, Memory)>
+    requires { line.entries ≡ [] }
+    ensures ok { IfOk result (λ done. read_to done.0.entries done.1
+        ≡ loaded (a_member line.genesis line.kit) line.genesis.document bytes.now) }
+    ensures named { IfOk result (λ done. NamesCheck done.1) }
+    ensures memory { IfErr result (λ failed. IsPrefix failed.0.entries
+        (loaded (a_member line.genesis line.kit) line.genesis.document bytes.now).entries) }
+    ensures genesis { IfOk result (λ done. done.0.genesis ≡ line.genesis) }
+    ensures kit { IfOk result (λ done. done.0.kit ≡ line.kit) }
+    ensures returned_genesis { IfErr result (λ failed. failed.0.genesis ≡ line.genesis) }
+    ensures returned_kit { IfErr result (λ failed. failed.0.kit ≡ line.kit) }
+{
+    let mut line = line;
+    let document = *line.document();
+    match append_saved(alloc, &mut line, &document, bytes) {
+        Ok(stop) => Ok((line, stop)),
+        Err(memory) => Err((line, memory)),
+    }
+}
+
+/// The same over the empty order of the document, which makes the checks that need no key.
+pub fn load_order(
+    alloc: Global,
+    bytes: &[u8],
+    order: Order,
+) -> Result<(Order, Stop), (Order, Memory)>
+    requires { order.entries ≡ [] }
+    ensures ok { IfOk result (λ done. read_to done.0.entries done.1
+        ≡ loaded (an_order order.genesis) order.genesis.document bytes.now) }
+    ensures named { IfOk result (λ done. NamesCheck done.1) }
+    ensures memory { IfErr result (λ failed. IsPrefix failed.0.entries
+        (loaded (an_order order.genesis) order.genesis.document bytes.now).entries) }
+    ensures genesis { IfOk result (λ done. done.0.genesis ≡ order.genesis) }
+    ensures returned_genesis { IfErr result (λ failed. failed.0.genesis ≡ order.genesis) }
+{
+    let mut order = order;
+    let document = *order.document();
+    match append_saved(alloc, &mut order, &document, bytes) {
+        Ok(stop) => Ok((order, stop)),
+        Err(memory) => Err((order, memory)),
+    }
+}

@@ -1,0 +1,53 @@
+// The head of a saved history that is read.
+
+ghost use Rattle.std.specs.Prelude.{◌≡◌, IfErr};
+ghost use Rattle.sporc_base.specs.Outcome.{Gives};
+ghost use Rattle.sporc_bytes.specs.Fields.{Reads, end_at};
+ghost use Rattle.sporc_store.specs.SavedFile.{count_at, opened, stop_behind};
+ghost use Rattle.sporc_store.specs.Loading.{NamesCheck};
+
+use crate::head::{HEAD_LEN, head_of};
+use crate::stop::Stop;
+use sporc_bytes::{Cursor, Short};
+use sporc_head::MAX_ENTRIES;
+
+// How many entries a document's saved history has, and its bytes from the first of them on.
+#[tactic(auto, unfolding(crate::specs::SavedFile::opened))]
+pub(crate) fn open<'a>(document: &[u8; 16], bytes: &'a [u8]) -> Result<(u32, Cursor<'a>), Stop>
+    ensures value { Gives (λ found. (found.0, found.1)) result (opened document.now bytes.entry.now) }
+    ensures named { IfErr result NamesCheck }
+{
+    if !bytes.starts_with(&head_of(document)) {
+        return Err(Stop::Foreign);
+    }
+    let mut cursor = Cursor::within(&bytes[HEAD_LEN..], HEAD_LEN);
+    match read_count(&mut cursor) {
+        Ok(count) => Ok((count, cursor)),
+        Err(Short(at)) => Err(Stop::Cut(at)),
+    }
+}
+
+// The number of entries that stands next.
+#[tactic(auto, unfolding(crate::specs::SavedFile::count_at))]
+fn read_count(cursor: &mut Cursor<'_>) -> Result<u32, Short>
+    ensures { Reads (λ count. (count, cursor.new)) result (count_at cursor.old) }
+{
+    let at = cursor.at();
+    let count = cursor.u32()?;
+    if count > MAX_ENTRIES {
+        return Err(Short(at));
+    }
+    Ok(count)
+}
+
+// Where reading stops behind the last entry.
+pub(crate) fn stop_at_end(cursor: &Cursor<'_>) -> Stop
+    ensures value { result ≡ stop_behind (end_at cursor.now) }
+    ensures named { NamesCheck result }
+{
+    if cursor.end() {
+        Stop::End
+    } else {
+        Stop::Cut(cursor.at())
+    }
+}

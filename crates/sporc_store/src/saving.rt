@@ -1,0 +1,65 @@
+// Histories that are saved.
+
+ghost use Rattle.std.specs.Prelude.{◌≡◌, ◌<◌, ◌≤◌, ◌^◌, ◌+◌, ◌++◌, length, map, OnOk};
+ghost use Rattle.std.specs.List.{flat_map};
+ghost use Rattle.sporc_base.specs.Outcome.{GivesUnless};
+ghost use Rattle.sporc_bytes.specs.Fields.{counted};
+ghost use Rattle.sporc_head.specs.declared.limits.TheConstants.{MAX_ENTRIES};
+ghost use Rattle.sporc_wire.specs.Messages.{counted_to_end};
+ghost use Rattle.sporc_store.specs.SavedFile.{saved_bytes, saved_file};
+
+use crate::fault::SaveFault;
+use crate::head::{HEAD_LEN, head_of};
+use sporc_base::Memory;
+use sporc_outside::MAX_FILE;
+use std::alloc::Global;
+
+/// The file of a document's history: its entries, oldest first. `TooLong` exactly where the file would have more bytes
+/// than a file may have, 1,073,741,824. Its memory is taken before anything is written.
+pub fn save(alloc: Global, document: &[u8; 16], entries: &[Vec<u8>]) -> Result<Vec<u8>, SaveFault>
+    requires { length entries.now ≤ MAX_ENTRIES }
+    ensures value { GivesUnless SaveFault.Memory (λ file. file.items) result
+        (saved_file document.now (map (λ entry. entry.items) entries.now)) }
+{
+    let len = saved_len(entries);
+    if len > MAX_FILE {
+        return Err(SaveFault::TooLong(len));
+    }
+    let mut file = Vec::with_capacity(alloc, len as usize)?;
+    file.extend_from_slice(&head_of(document))?;
+    file.extend_from_slice(&(entries.len() as u32).to_be_bytes())?;
+    put_entries(&mut file, entries)?;
+    Ok(file)
+}
+
+// How many bytes the file of these entries has.
+fn saved_len(entries: &[Vec<u8>]) -> u64
+    ensures { result ≡ counted_to_end (24 + length (flat_map (λ entry. counted entry.items) entries.now)) }
+{
+    let mut len = HEAD_LEN as u64 + 4;
+    for entry in entries {
+        len = len.saturating_add((entry.len() as u64).saturating_add(4));
+    }
+    len
+}
+
+// Appends counted entries.
+fn put_entries(file: &mut Vec<u8>, entries: &[Vec<u8>]) -> Result<(), Memory>
+    requires { length (flat_map (λ entry. counted entry.items) entries.now) < 2 ^ 32 }
+    ensures { OnOk result (file.new.items ≡ file.old.items ++ flat_map (λ entry. counted entry.items) entries.now) }
+{
+    for entry in entries {
+        put_counted(file, entry.as_slice())?;
+    }
+    Ok(())
+}
+
+// Appends a counted entry.
+fn put_counted(file: &mut Vec<u8>, entry: &[u8]) -> Result<(), Memory>
+    requires { length entry.now < 2 ^ 32 }
+    ensures { OnOk result (file.new.items ≡ file.old.items ++ counted entry.now) }
+{
+    file.extend_from_slice(&(entry.len() as u32).to_be_bytes())?;
+    file.extend_from_slice(entry)?;
+    Ok(())
+}

@@ -1,0 +1,153 @@
+//! The file of two entries, worked by hand, and what is read of it whole, cut and changed.
+
+use sporc_base::{is_same, put_at};
+use sporc_store::{Stop, read_saved, save};
+use std::alloc::Global;
+use std::process::Abort;
+use std::test::Fail;
+
+const DOCUMENT: [u8; 16] = [7; 16];
+
+// The file of the entries "ab" and "c": the format, the document, the number of entries, and each entry behind its length.
+const FILE: &str = "5350483107070707070707070707070707070707000000020000000261620000000163";
+
+// Bytes that are changed: the place of one, and what it is then; how many entries are taken, and where reading stops.
+const CHANGES: [(usize, u8, usize, Stop); 6] = [
+    (0, 0x52, 0, Stop::Foreign),
+    (3, 0x32, 0, Stop::Foreign),
+    (4, 8, 0, Stop::Foreign),
+    (19, 8, 0, Stop::Foreign),
+    (24, 1, 0, Stop::Cut(28)),
+    (33, 2, 1, Stop::Cut(34)),
+];
+
+// So many bytes of the file, from one number up to another; how many entries are taken of them, and where reading stops.
+const CUTS: [(usize, usize, usize, Stop); 7] = [
+    (0, 20, 0, Stop::Foreign),
+    (20, 24, 0, Stop::Cut(20)),
+    (24, 28, 0, Stop::Cut(24)),
+    (28, 30, 0, Stop::Cut(28)),
+    (30, 34, 1, Stop::Cut(30)),
+    (34, 35, 1, Stop::Cut(34)),
+    (35, 36, 2, Stop::End),
+];
+
+// Numbers of entries that the file states; how many are taken, and where reading stops.
+const COUNTS: [(u32, usize, Stop); 6] = [
+    (0, 0, Stop::Cut(24)),
+    (1, 1, Stop::Cut(30)),
+    (3, 2, Stop::Cut(35)),
+    (16_384, 2, Stop::Cut(35)),
+    (16_385, 0, Stop::Cut(20)),
+    (u32::MAX, 0, Stop::Cut(20)),
+];
+
+// The entries are the first of the two.
+fn are_first(rt: &impl Abort, entries: &[Vec<u8>]) {
+    let both: [&[u8]; 2] = [b"ab", b"c"];
+    for (entry, expected) in entries.iter().zip(both) {
+        assert!(rt; is_same(entry.as_slice(), expected));
+    }
+}
+
+// What is read of a file: so many of the two entries, and where reading stops.
+fn reads(rt: &impl Abort, alloc: Global, file: &[u8], len: usize, stop: Stop) -> Result<(), Fail> {
+    let (entries, found) = read_saved(alloc, &DOCUMENT, file)?;
+    assert!(rt; found == stop);
+    assert!(rt; entries.len() == len);
+    are_first(rt, entries.as_slice());
+    Ok(())
+}
+
+// The file of entries.
+fn saved(rt: &impl Abort, alloc: Global, entries: &[Vec<u8>]) -> Result<Vec<u8>, Fail> {
+    assert!(rt; entries.len() <= 16_384);
+    let file = save(alloc, &DOCUMENT, entries)?;
+    Ok(file)
+}
+
+fn two_entries(alloc: Global) -> Result<Vec<Vec<u8>>, Fail> {
+    let mut entries = Vec::new(alloc);
+    entries.push(Vec::from_slice(alloc, b"ab")?)?;
+    entries.push(Vec::from_slice(alloc, b"c")?)?;
+    Ok(entries)
+}
+
+fn is_spelled(rt: &impl Abort, alloc: Global, file: &[u8]) -> Result<(), Fail> {
+    let expected = hex::decode(alloc, FILE)?;
+    assert!(rt; is_same(file, expected.as_slice()));
+    Ok(())
+}
+
+fn saves(rt: &impl Abort, alloc: Global, entries: &[Vec<u8>]) -> Result<(), Fail> {
+    let file = saved(rt, alloc, entries)?;
+    is_spelled(rt, alloc, file.as_slice())
+}
+
+#[test]
+fn two_entries_are_saved(rt: HostRuntime) -> Result<(), Fail> {
+    let entries = two_entries(rt.alloc())?;
+    saves(&rt, rt.alloc(), entries.as_slice())
+}
+
+fn cut(
+    rt: &impl Abort,
+    alloc: Global,
+    file: &[u8],
+    row: &(usize, usize, usize, Stop),
+) -> Result<(), Fail> {
+    let (from, to, entries, stop) = *row;
+    for len in from..to {
+        let part = file.get(..len).ok_or("the file is shorter")?;
+        reads(rt, alloc, part, entries, stop)?;
+    }
+    Ok(())
+}
+
+#[test]
+fn a_file_is_cut_at_each_byte(rt: HostRuntime) -> Result<(), Fail> {
+    let file = hex::decode(rt.alloc(), FILE)?;
+    for row in &CUTS {
+        cut(&rt, rt.alloc(), file.as_slice(), row)?;
+    }
+    Ok(())
+}
+
+#[test]
+fn a_byte_follows(rt: HostRuntime) -> Result<(), Fail> {
+    let mut file = hex::decode(rt.alloc(), FILE)?;
+    file.push(0)?;
+    reads(&rt, rt.alloc(), file.as_slice(), 2, Stop::Cut(35))
+}
+
+fn changed(
+    rt: &impl Abort,
+    alloc: Global,
+    place: usize,
+    field: &[u8],
+    entries: usize,
+    stop: Stop,
+) -> Result<(), Fail> {
+    let mut file = hex::decode(alloc, FILE)?;
+    assert!(rt; place < 64);
+    assert!(rt; field.len() < 64);
+    assert!(rt; place + field.len() <= file.len());
+    put_at(file.as_mut_slice(), place, field);
+    reads(rt, alloc, file.as_slice(), entries, stop)
+}
+
+#[test]
+fn a_byte_is_changed(rt: HostRuntime) -> Result<(), Fail> {
+    for (place, byte, entries, stop) in &CHANGES {
+        changed(&rt, rt.alloc(), *place, &[*byte], *entries, *stop)?;
+    }
+    Ok(())
+}
+
+#[test]
+fn a_number_of_entries_is_stated(rt: HostRuntime) -> Result<(), Fail> {
+    for (count, entries, stop) in &COUNTS {
+        changed(&rt, rt.alloc(), 20, &count.to_be_bytes(), *entries, *stop)?;
+    }
+    Ok(())
+}

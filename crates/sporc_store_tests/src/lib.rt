@@ -1,0 +1,11 @@
+//! The tests of `sporc_store`. They stand in a crate of their own, since a crate with tests is proved twice. No program stands
+//! on it.
+//!
+//! Files are spelled out by hand, or hold entries that real keys signed. A function owns at most one of keys, history, file
+//! and line, and hands it down: one that owns more is slow to prove.
+#![tactic(auto)]
+
+#[cfg(test)]
+mod files;
+#[cfg(test)]
+mod loads;

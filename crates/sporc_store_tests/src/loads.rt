@@ -1,0 +1,184 @@
+//! Files of signed entries, loaded into lines and orders.
+
+ghost use Rattle.std.specs.Prelude.{◌≡◌, [], IfOk};
+
+use sporc_epoch::{Pairs, Ring};
+use sporc_head::Refusal;
+use sporc_line::Line;
+use sporc_order::Order;
+use sporc_samples::{Cast, DOCUMENT, History, epoch_key, pair_key, short_history};
+use sporc_store::{Stop, load, load_order, read_saved, save};
+use std::alloc::Global;
+use std::process::Abort;
+use std::test::Fail;
+
+// The empty line of a founder who shares a key with the admin.
+fn founded(alloc: Global, cast: &Cast, me: u16) -> Result<Line, Fail>
+    ensures { IfOk result (λ line. line.entries ≡ []) }
+{
+    let mut ring = Ring::new(alloc);
+    ring.put(0, epoch_key(0))?;
+    let mut pairs = Pairs::new(alloc);
+    pairs.insert(1, pair_key(me, 1))?;
+    let genesis = cast.genesis(alloc)?;
+    let line = Line::open(alloc, genesis, me, ring, pairs)?;
+    Ok(line)
+}
+
+// What a member's line takes of a file.
+fn loaded(alloc: Global, cast: &Cast, me: u16, file: &[u8]) -> Result<(Line, Stop), Fail> {
+    let line = founded(alloc, cast, me)?;
+    match load(alloc, file, line) {
+        Ok(done) => Ok(done),
+        Err((_, memory)) => Err(memory.into()),
+    }
+}
+
+// A member's line takes so many entries of a file.
+fn line_takes(
+    rt: &impl Abort,
+    alloc: Global,
+    cast: &Cast,
+    me: u16,
+    file: &[u8],
+    len: u32,
+    stop: Stop,
+) -> Result<(), Fail> {
+    let (line, found) = loaded(alloc, cast, me, file)?;
+    assert!(rt; found == stop);
+    assert!(rt; line.len() == len);
+    Ok(())
+}
+
+// What an order takes of a file.
+fn loaded_order(alloc: Global, cast: &Cast, file: &[u8]) -> Result<(Order, Stop), Fail> {
+    let order = Order::open(alloc, cast.genesis(alloc)?)?;
+    match load_order(alloc, file, order) {
+        Ok(done) => Ok(done),
+        Err((_, memory)) => Err(memory.into()),
+    }
+}
+
+// An order takes so many entries of a file.
+fn order_takes(
+    rt: &impl Abort,
+    alloc: Global,
+    cast: &Cast,
+    file: &[u8],
+    len: u32,
+    stop: Stop,
+) -> Result<(), Fail> {
+    let (order, found) = loaded_order(alloc, cast, file)?;
+    assert!(rt; found == stop);
+    assert!(rt; order.len() == len);
+    Ok(())
+}
+
+// So many entries of a file are read unchecked.
+fn reads(rt: &impl Abort, alloc: Global, file: &[u8], len: usize, stop: Stop) -> Result<(), Fail> {
+    let (entries, found) = read_saved(alloc, &DOCUMENT, file)?;
+    assert!(rt; found == stop);
+    assert!(rt; entries.len() == len);
+    Ok(())
+}
+
+// The file of the short history, of four entries.
+fn saved(rt: &impl Abort, alloc: Global, sample: &History) -> Result<Vec<u8>, Fail> {
+    let entries = sample.entries();
+    assert!(rt; entries.len() <= 16_384);
+    let file = save(alloc, &DOCUMENT, entries)?;
+    Ok(file)
+}
+
+// A line reads the history that was saved.
+fn line_reads(
+    rt: &impl Abort,
+    alloc: Global,
+    cast: &Cast,
+    sample: &History,
+    file: &[u8],
+) -> Result<(), Fail> {
+    let (line, stop) = loaded(alloc, cast, 2, file)?;
+    assert!(rt; stop == Stop::End);
+    assert!(rt; line.hash() == sample.hash());
+    assert!(rt; line.text()?.as_str() == "abcd");
+    Ok(())
+}
+
+// Member 4, whom the third entry removes, loads as far as that.
+fn whole(rt: &impl Abort, alloc: Global, cast: &Cast, sample: &History) -> Result<(), Fail> {
+    let file = saved(rt, alloc, sample)?;
+    line_reads(rt, alloc, cast, sample, file.as_slice())?;
+    order_takes(rt, alloc, cast, file.as_slice(), 4, Stop::End)?;
+    let removed = Stop::Refused(4, Refusal::Removed);
+    line_takes(rt, alloc, cast, 4, file.as_slice(), 3, removed)
+}
+
+fn whole_history(rt: &impl Abort, alloc: Global, cast: &Cast) -> Result<(), Fail> {
+    let sample = short_history(alloc, cast)?;
+    whole(rt, alloc, cast, &sample)
+}
+
+#[test]
+fn a_saved_history_is_loaded(rt: HostRuntime) -> Result<(), Fail> {
+    let cast = Cast::new(rt.alloc())?;
+    whole_history(&rt, rt.alloc(), &cast)
+}
+
+// The place of the file behind its head and these entries.
+fn place_behind(entries: &[Vec<u8>]) -> usize {
+    let mut place = 24usize;
+    for entry in entries {
+        place = place.saturating_add(entry.len().saturating_add(4));
+    }
+    place
+}
+
+// A line, an order and an unchecked reading take as many entries.
+fn all_take(
+    rt: &impl Abort,
+    alloc: Global,
+    cast: &Cast,
+    file: &[u8],
+    len: u32,
+    stop: Stop,
+) -> Result<(), Fail> {
+    line_takes(rt, alloc, cast, 2, file, len, stop)?;
+    order_takes(rt, alloc, cast, file, len, stop)?;
+    reads(rt, alloc, file, len as usize, stop)
+}
+
+// Without the file's last byte.
+fn cut(rt: &impl Abort, alloc: Global, cast: &Cast, sample: &History) -> Result<(), Fail> {
+    let three = sample.entries().get(..3).ok_or("three entries")?;
+    let last = place_behind(three).saturating_add(4);
+    let mut file = saved(rt, alloc, sample)?;
+    file.pop();
+    all_take(rt, alloc, cast, file.as_slice(), 3, Stop::Cut(last))
+}
+
+// With a bit of the second entry's signature turned, which only checks find.
+fn turned(rt: &impl Abort, alloc: Global, cast: &Cast, sample: &History) -> Result<(), Fail> {
+    let two = sample.entries().get(..2).ok_or("two entries")?;
+    let last = place_behind(two).saturating_sub(1);
+    let mut file = saved(rt, alloc, sample)?;
+    if let Some(byte) = file.get_mut(last) {
+        *byte ^= 1;
+    }
+    let refused = Stop::Refused(2, Refusal::BadSignature);
+    line_takes(rt, alloc, cast, 2, file.as_slice(), 1, refused)?;
+    order_takes(rt, alloc, cast, file.as_slice(), 1, refused)?;
+    reads(rt, alloc, file.as_slice(), 4, Stop::End)
+}
+
+fn spoilt_history(rt: &impl Abort, alloc: Global, cast: &Cast) -> Result<(), Fail> {
+    let sample = short_history(alloc, cast)?;
+    cut(rt, alloc, cast, &sample)?;
+    turned(rt, alloc, cast, &sample)
+}
+
+#[test]
+fn a_spoilt_file_is_loaded_as_far_as_it_goes(rt: HostRuntime) -> Result<(), Fail> {
+    let cast = Cast::new(rt.alloc())?;
+    spoilt_history(&rt, rt.alloc(), &cast)
+}
