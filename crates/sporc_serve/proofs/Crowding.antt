@@ -1,0 +1,154 @@
+-- Sessions beside one another.
+use Rattle.std.proofs.Common.{◌≡◌, ℕ, false, suc, ◌≤◌, List, [], ◌∷◌, ◌++◌, Option, Some, None, Result, Ok, Err, refl, ap, sym, subst, ◌∙◌, append_assoc, append-nil, inl, inr}
+use Rattle.sporc_outside.specs.Counts.{Rose}
+use Rattle.sporc_outside.specs.Told.{AppendsItem, TakesItem}
+use Rattle.sporc_entry.specs.declared.genesis.Genesis.{Genesis}
+use Rattle.sporc_turn.specs.declared.known.Known.{Known}
+use Rattle.sporc_turn.specs.declared.limits.TheConstants.{MAX_TICKETS}
+use Rattle.sporc_turn.specs.Log.{StartsWith, Agrees}
+use Rattle.sporc_turn.specs.Knowing.{splitting, copied, joined_with}
+use Rattle.sporc_wire.specs.Messages.{stream_of}
+use Rattle.sporc_serve.specs.declared.end.SessionEnd.{SessionEnd}
+use Rattle.sporc_serve.specs.declared.end.SessionEnd.TheVariants.{Closed, LinkEnded, LinkFault, BadFrame, Worn, Memory}
+use Rattle.sporc_serve.specs.declared.fault.ServeFault.{ServeFault}
+use Rattle.sporc_serve.specs.declared.fault.ServeFault.TheVariants as faults
+use Rattle.sporc_serve.specs.declared.item.Item.{Item}
+use Rattle.sporc_serve.specs.Logs.{by_of, IsLogOf, OfDocument}
+use Rattle.sporc_serve.specs.Courses.{Stand, stand, IsEnd}
+use Rattle.sporc_serve.specs.Visits.{Visit, visit, IsSession, came, went, AreFrom, AreBehind, TellsOf, with_end}
+use Rattle.sporc_serve.specs.Crowds.{Net, IsCrowd}
+use Rattle.sporc_serve.proofs.Going.{rose_before}
+
+-- a session that ended for want of a ticket did so for want of the last
+abbrev pub IsLastTicket : SessionEnd → Type 0
+IsLastTicket (Worn ticket) = ticket ≡ MAX_TICKETS
+IsLastTicket Closed = Unit {0}
+IsLastTicket LinkEnded = Unit {0}
+IsLastTicket LinkFault = Unit {0}
+IsLastTicket BadFrame = Unit {0}
+IsLastTicket Memory = Unit {0}
+
+pub last_ticket : (g : Genesis) (a b : Stand) (end : SessionEnd) → IsEnd g a b end → IsLastTicket end
+last_ticket g a b (Worn ticket) h = h.2.3
+last_ticket g a b Closed h = tt
+last_ticket g a b LinkEnded h = tt
+last_ticket g a b LinkFault h = tt
+last_ticket g a b BadFrame h = tt
+last_ticket g a b Memory h = tt
+
+module _ {L : Type 0} where
+  tells_more : (n f0 f1 f2 : ℕ) (b a : L) (end : SessionEnd) (vs : List (Visit L)) (rest : Result (Unit {0}) ServeFault) → f0 ≤ f1 → TellsOf n f1 f2 vs rest
+      → IsLastTicket end → TellsOf (suc n) f0 f2 (record { before = b; after = a; end = end } ∷ vs) (with_end rest end)
+  tells_more n f0 f1 f2 b a end vs (Err faults.ListenFault) le h last = rose_before f0 f1 f2 le h
+  tells_more n f0 f1 f2 b a end vs (Err (faults.Worn t)) le h last = (h.0, inr h.1)
+  tells_more n f0 f1 f2 b a (Worn t) vs (Err faults.Memory) le h last = (last, inl refl)
+  tells_more n f0 f1 f2 b a Closed vs (Err faults.Memory) le h last = tt
+  tells_more n f0 f1 f2 b a LinkEnded vs (Err faults.Memory) le h last = tt
+  tells_more n f0 f1 f2 b a LinkFault vs (Err faults.Memory) le h last = tt
+  tells_more n f0 f1 f2 b a BadFrame vs (Err faults.Memory) le h last = tt
+  tells_more n f0 f1 f2 b a Memory vs (Err faults.Memory) le h last = tt
+  tells_more n f0 f1 f2 b a (Worn t) vs (Ok done) le h last = (last, inl refl)
+  tells_more n f0 f1 f2 b a Memory vs (Ok done) le h last = tt
+  tells_more n f0 f1 f2 b a Closed vs (Ok done) le h last = (ap suc h.0, ((λ w. elim w [ inl e ↦ absurd cc | inr e ↦ absurd cc ]), h.1))
+  tells_more n f0 f1 f2 b a LinkEnded vs (Ok done) le h last = (ap suc h.0, ((λ w. elim w [ inl e ↦ absurd cc | inr e ↦ absurd cc ]), h.1))
+  tells_more n f0 f1 f2 b a LinkFault vs (Ok done) le h last = (ap suc h.0, ((λ w. elim w [ inl e ↦ absurd cc | inr e ↦ absurd cc ]), h.1))
+  tells_more n f0 f1 f2 b a BadFrame vs (Ok done) le h last = (ap suc h.0, ((λ w. elim w [ inl e ↦ absurd cc | inr e ↦ absurd cc ]), h.1))
+
+  from_more : (old mid new : Option (List L)) (l : L) (ls : List L) → TakesItem old mid l → AreFrom mid new ls → AreFrom old new (l ∷ ls)
+  from_more None mid new l ls first more = tt
+  from_more (Some o) None new l ls first more = absurd first
+  from_more (Some o) (Some m) None l ls first more = more
+  from_more (Some o) (Some m) (Some n) l ls first more = first ∙ ap (λ (t : List L). l ∷ t) more
+
+  pub from_none : (old : Option (List L)) → AreFrom old old []
+  from_none None = tt
+  from_none (Some ls) = refl
+
+  behind_more : (old mid new : Option (List L)) (l : L) (ls : List L) → AreBehind old mid ls → AppendsItem mid new l → AreBehind old new (ls ++ l ∷ [])
+  behind_more None mid new l ls first more = tt
+  behind_more (Some o) None new l ls first more = absurd first
+  behind_more (Some o) (Some m) None l ls first more = more
+  behind_more (Some o) (Some m) (Some n) l ls first more = more ∙ ap (λ (t : List L). t ++ l ∷ []) first ∙ append_assoc o ls (l ∷ [])
+
+  pub behind_none : (old : Option (List L)) → AreBehind old old []
+  behind_none None = tt
+  behind_none (Some ls) = sym (append-nil ls)
+
+  module _ (left written : L → Option (List ℕ)) (faults' : L → ℕ) (g : Genesis) where
+    -- no session
+    pub crowd_none : (k : Known Item) (old : Net L) (n : ℕ) → n ≡ 0 → IsCrowd left written faults' g k k old old n (Ok tt)
+    crowd_none k old n none =
+        ([], record { visits_are = refl; coming = from_none old.coming; returned = behind_none old.returned; result_is = (sym none, tt) })
+
+    -- no link came
+    pub crowd_failed : (k : Known Item) (old new : Net L) (n : ℕ) → new.coming ≡ old.coming → new.returned ≡ old.returned → Rose old.faults new.faults
+        → IsCrowd left written faults' g k k old new n (Err faults.ListenFault)
+    crowd_failed k old new n coming returned rose = (
+      [],
+      record {
+        visits_are = refl;
+        coming = subst (λ (c : Option (List L)). AreFrom old.coming c []) (sym coming) (from_none old.coming);
+        returned = subst (λ (c : Option (List L)). AreBehind old.returned c []) (sym returned) (behind_none old.returned);
+        result_is = rose;
+      },
+    )
+
+    -- a link came, and no pass could be split for it
+    pub crowd_unserved : (k k' : Known Item) (old mid new : Net L) (n : ℕ) (b a : L) → k' ≡ k → TakesItem old.coming mid.coming b → new.coming ≡ mid.coming
+        → mid.returned ≡ old.returned → AppendsItem mid.returned new.returned a → left a ≡ left b → written a ≡ written b → faults' a ≡ faults' b
+        → IsCrowd left written faults' g k k' old new n (Err faults.Memory)
+    crowd_unserved k k' old mid new n b a same took coming returned back is_left is_written is_faults =
+        let first : AreBehind old.returned mid.returned [] = subst (λ (c : Option (List L)). AreBehind old.returned c []) (sym returned) (behind_none old.returned) in
+        let rest : AreFrom mid.coming new.coming [] = subst (λ (c : Option (List L)). AreFrom mid.coming c []) (sym coming) (from_none mid.coming) in (
+          record { before = b; after = a; end = Memory } ∷ [],
+          record {
+            visits_are = inl (record { end_is = refl; left_is = is_left; written_is = is_written; faults_are = is_faults }, refl, same);
+            coming = from_more old.coming mid.coming new.coming b [] took rest;
+            returned = behind_more old.returned mid.returned new.returned a [] first back;
+            result_is = tt;
+          },
+        )
+
+    -- a link came and was served beside the others
+    pub crowd_more : (k rest last k' : Known Item) (old mid low new : Net L) (n m : ℕ) (b a : L) (end : SessionEnd) (result : Result (Unit {0}) ServeFault)
+        → IsSession left written faults' g (copied k) last (record { before = b; after = a; end = end })
+        → IsCrowd left written faults' g (splitting k) rest mid low n result → last.number ≡ (copied k).number → k' ≡ joined_with rest last
+        → StartsWith k'.seen rest.seen → StartsWith k'.seen last.seen → Agrees by_of k' k'.seen
+        → TakesItem old.coming mid.coming b → mid.returned ≡ old.returned → old.faults ≤ mid.faults → new.coming ≡ low.coming
+        → AppendsItem low.returned new.returned a → new.faults ≡ low.faults → m ≡ suc n
+        → IsCrowd left written faults' g k k' old new m (with_end result end)
+    crowd_more k rest last k' old mid low new n m b a end result session crowd number joined seen seen' agrees took back le coming returned count size =
+        let vs = crowd.0 in
+        let c = crowd.1 in (
+          record { before = b; after = a; end = end } ∷ vs,
+          record {
+            visits_are = inr (rest, last, session, c.visits_are, number, joined, seen, seen', agrees);
+            coming = from_more old.coming mid.coming new.coming b (came vs) took
+                (subst (λ (x : Option (List L)). AreFrom mid.coming x (came vs)) (sym coming) c.coming);
+            returned = behind_more old.returned low.returned new.returned a (went vs)
+                (subst (λ (x : Option (List L)). AreBehind x low.returned (went vs)) back c.returned) returned;
+            result_is = subst (λ (z : ℕ × ℕ). TellsOf z.0 old.faults z.1 (record { before = b; after = a; end = end } ∷ vs) (with_end result end))
+                (λ i. (sym size i, sym count i))
+                (tells_more n old.faults mid.faults low.faults b a end vs result le c.result_is (last_ticket g (stand (copied k) (left b) (written b) (faults' b) (stream_of []) false)
+                (stand last (left a) (written a) (faults' a) (stream_of []) false) end session));
+          },
+        )
+
+    -- and so it goes with the passes that were split for both
+    pub crowd_joined : (k k0 k1 rest last k' : Known Item) (old mid low new : Net L) (n m : ℕ) (b a : L) (end : SessionEnd)
+        (result result' : Result (Unit {0}) ServeFault) → IsLogOf g k.seen → k0 ≡ splitting k → k1 ≡ copied k
+        → OfDocument k1.seen (λ h. IsSession left written faults' h k1 last (visit b a end))
+        → OfDocument k0.seen (λ h. IsCrowd left written faults' h k0 rest mid low n result) → last.number ≡ k1.number → k' ≡ joined_with rest last
+        → StartsWith k'.seen rest.seen → StartsWith k'.seen last.seen → Agrees by_of k' k'.seen
+        → TakesItem old.coming mid.coming b → mid.returned ≡ old.returned → old.faults ≤ mid.faults → new.coming ≡ low.coming
+        → AppendsItem low.returned new.returned a → new.faults ≡ low.faults → m ≡ suc n → result' ≡ with_end result end
+        → IsCrowd left written faults' g k k' old new m result'
+    crowd_joined k k0 k1 rest last k' old mid low new n m b a end result result' log is0 is1 session crowd number joined seen seen' agrees took back le coming
+        returned count size ended =
+        let session' : IsSession left written faults' g (copied k) last (visit b a end) =
+        subst (λ (x : Known Item). OfDocument x.seen (λ h. IsSession left written faults' h x last (visit b a end))) is1 session g log in
+        let crowd' : IsCrowd left written faults' g (splitting k) rest mid low n result =
+        subst (λ (x : Known Item). OfDocument x.seen (λ h. IsCrowd left written faults' h x rest mid low n result)) is0 crowd g log in
+        subst (λ (r : Result (Unit {0}) ServeFault). IsCrowd left written faults' g k k' old new m r) (sym ended)
+        (crowd_more k rest last k' old mid low new n m b a end result session' crowd' (number ∙ ap (λ (x : Known Item). x.number) is1) joined seen seen'
+        agrees took back le coming returned count size)

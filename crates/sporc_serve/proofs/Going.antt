@@ -1,0 +1,190 @@
+-- A session goes on, or ends.
+use Rattle.std.proofs.Common.{◌≡◌, ℕ, ◌≤◌, Bool, false, List, [], ◌∷◌, ◌++◌, length, take, Option, Some, None, Result, Ok, Err, refl, ap, sym, subst, ◌∙◌, append-nil, arith, IfNone, IfSome}
+use Rattle.std.specs.Io.KnownBytes.{Consumes, Appends}
+use Rattle.std.proofs.KnownBytes.{Consumes-trans, Appends-trans}
+use Rattle.sporc_outside.specs.Counts.{Rose}
+use Rattle.sporc_entry.specs.declared.genesis.Genesis.{Genesis}
+use Rattle.sporc_turn.specs.declared.known.Known.{Known}
+use Rattle.sporc_wire.specs.declared.fault.FrameFault.{FrameFault}
+use Rattle.sporc_wire.specs.declared.to_server.ToServer.{ToServer}
+use Rattle.sporc_wire.specs.Stream.{Front, partial, too_long, whole, front}
+use Rattle.sporc_wire.specs.Messages.{Unread, fed, next, next_unless, next_front, next_read}
+use Rattle.sporc_wire.specs.ToServer.{to_server_of}
+use Rattle.sporc_order.specs.declared.session.Answer.{Answer}
+use Rattle.sporc_serve.specs.declared.end.SessionEnd.{SessionEnd}
+use Rattle.sporc_serve.specs.declared.end.SessionEnd.TheVariants.{Closed, LinkEnded, LinkFault, BadFrame, Worn, Memory}
+use Rattle.sporc_serve.specs.declared.item.Item.{Item}
+use Rattle.sporc_serve.specs.Sending.{bytes_of, sent_of}
+use Rattle.sporc_serve.specs.Turns.{IsAnswered, TakesTurn}
+use Rattle.sporc_serve.specs.Endings.{IsSendEnd, Inlet, inlet, IsNextEnd, IsNext}
+use Rattle.sporc_serve.specs.Courses.{Exchange, Stand, answers_of, Did, Course, all, part, IsEnd, GoesOn}
+use Rattle.sporc_serve.proofs.Coursing.{did_more, answer_more, course_fed, course_unanswered, sent_of-append}
+
+-- a stream that waits for more stays as it is
+pub next_waits : {M : Type 0} (read : List ℕ → Result M ℕ) (s : Unread) → (next read s).answer ≡ Ok None → (next read s).after ≡ s
+unfolding next
+next_waits {M = M} read s waits = by_fault s.fault waits
+  where
+    by_read : (len : ℕ) (rest : List ℕ) (r : Result M ℕ) → (next_read s len rest r).answer ≡ Ok None → (next_read s len rest r).after ≡ s
+    by_read len rest (Ok m) h = absurd cc
+    by_read len rest (Err place) h = absurd cc
+
+    by_front : (f : Front) → (next_front read s f).answer ≡ Ok None → (next_front read s f).after ≡ s
+    by_front partial h = refl
+    by_front (too_long len) h = absurd cc
+    by_front (whole body rest) h = by_read (length body) rest (read body) h
+
+    by_fault : (f : Option FrameFault) → (next_unless read s f).answer ≡ Ok None → (next_unless read s f).after ≡ s
+    by_fault (Some fault) h = absurd cc
+    by_fault None h = by_front (front s.rest) h
+
+-- a link that was given nothing
+written_as : (g : Genesis) (a b : Stand) (bytes : List ℕ) (xs : List Exchange) (written : Option (List ℕ)) → written ≡ b.written
+    → Course g a b bytes xs → Course g a (record b { written = written }) bytes xs
+written_as g a b bytes xs written same c = subst (λ (w : Option (List ℕ)). Course g a (record b { written = w }) bytes xs) (sym same) c
+
+pub rose_before : (x y z : ℕ) → x ≤ y → Rose y z → Rose x z
+rose_before x y z le rose = omega (arith, le, rose)
+
+module _ (g : Genesis) (a b : Stand) (bytes : List ℕ) (xs : List Exchange) (c : Course g a b bytes xs) where
+  -- nothing was taken
+  course_kept : (left : Option (List ℕ)) (faults : ℕ) → Consumes b.left left [] → b.faults ≤ faults
+      → Course g a (record b { left = left; faults = faults }) bytes xs
+  course_kept left faults taken more = record {
+    did = record {
+      taken = subst (λ (t : List ℕ). Consumes a.left left t) (append-nil bytes) (Consumes-trans a.left b.left left bytes [] c.did.taken taken);
+      reads = c.did.reads;
+      greeted = c.did.greeted;
+      number = c.did.number;
+      start = c.did.start;
+      mine = c.did.mine;
+      grows = c.did.grows;
+      faults = omega (arith, c.did.faults, more);
+    };
+    sent = c.sent;
+  }
+
+  pub kept : (left : Option (List ℕ)) (faults : ℕ) (written : Option (List ℕ)) → Consumes b.left left [] → b.faults ≤ faults → written ≡ b.written
+      → Course g a (record b { left = left; written = written; faults = faults }) bytes xs
+  kept left faults written taken more same =
+      written_as g a (record b { left = left; faults = faults }) bytes xs written same (course_kept left faults taken more)
+
+  -- a piece more was taken
+  pub goes_fed : (d : Inlet) (written : Option (List ℕ)) → IsNext (inlet b.left b.faults b.unread) d (Ok None) → written ≡ b.written → b.faults ≤ d.faults
+      → GoesOn g a (record b { left = d.left; written = written; faults = d.faults; unread = d.unread }) None
+  goes_fed d written h same more =
+      let went = course_fed g a b bytes h.0 xs d.left d.faults d.unread c h.1.taken more h.1.unread in
+      (bytes ++ h.0, xs, written_as g a (record b { left = d.left; faults = d.faults; unread = d.unread }) (bytes ++ h.0) xs written same went)
+
+  -- no message is to follow
+  pub goes_no_further : (d : Inlet) (written : Option (List ℕ)) (end : SessionEnd) → IsNextEnd (inlet b.left b.faults b.unread) d end → written ≡ b.written
+      → b.faults ≤ d.faults → IsEnd g a (record b { left = d.left; written = written; faults = d.faults; unread = d.unread }) end
+  goes_no_further d written LinkEnded h same more =
+      (b.unread, b.greeted, (bytes, xs, kept d.left d.faults written h.0 more same, h.1, h.2))
+  goes_no_further d written LinkFault h same more =
+      (b.unread, b.greeted, (bytes, xs, all (kept d.left d.faults written h.0 more same), rose_before a.faults b.faults d.faults c.did.faults h.1))
+  goes_no_further d written BadFrame h same more =
+      (b.unread, b.greeted, (bytes, xs, h.1, kept d.left d.faults written h.0 more same, h.2))
+  goes_no_further d written Memory h same more =
+      let unread = fed h.0 b.unread in (
+        unread,
+        b.greeted,
+        (
+          bytes ++ h.0,
+          xs,
+          all (written_as g a (record b { left = d.left; faults = d.faults; unread = unread }) (bytes ++ h.0) xs written same
+              (course_fed g a b bytes h.0 xs d.left d.faults unread c h.1 more refl)),
+        ),
+      )
+  goes_no_further d written Closed h same more = absurd h
+  goes_no_further d written (Worn ticket) h same more = absurd h
+
+  -- a turn without an answer
+  pub goes_unanswered : (m : ToServer) (known : Known Item) (s : Bool) (end : SessionEnd) (unread : Unread)
+      → TakesTurn g b.known known b.greeted s m (Err end) → IsEnd g a (record b { known = known; unread = unread; greeted = s }) end
+  goes_unanswered m known s (Worn ticket) unread h =
+      (b.unread, b.greeted, (bytes, xs, course_unanswered g a b bytes xs known s h.0 c h.1, h.2))
+  goes_unanswered m known s Memory unread h =
+      (b.unread, b.greeted, (bytes, xs, all (course_unanswered g a b bytes xs known s h.0 c h.1)))
+  goes_unanswered m known s Closed unread h = absurd h.2
+  goes_unanswered m known s LinkEnded unread h = absurd h.2
+  goes_unanswered m known s LinkFault unread h = absurd h.2
+  goes_unanswered m known s BadFrame unread h = absurd h.2
+
+  module _ (m : ToServer) (known : Known Item) (greeted : Bool) (answer : Answer) (found : List Item)
+      (here : (next to_server_of b.unread).answer ≡ Ok (Some m)) (h : IsAnswered g b.known known b.greeted greeted m answer found)
+      (written : Option (List ℕ)) (faults : ℕ) (more : b.faults ≤ faults) where
+    abbrev x : Exchange
+    x = record { message = m; log = found }
+
+    abbrev b' : Stand
+    b' = record b { known = known; written = written; faults = faults; unread = (next to_server_of b.unread).after; greeted = greeted }
+
+    did : Did g a b' bytes (xs ++ x ∷ [])
+    did = did_more g a b bytes xs m known (next to_server_of b.unread).after greeted answer found c here refl h written faults more
+
+    answers : answers_of g false (xs ++ x ∷ []) ≡ answers_of g false xs ++ answer ∷ []
+    answers = answer_more g b xs m known greeted answer found c.did.greeted h
+
+    -- the answer was sent
+    answered : Appends b.written written (bytes_of answer) → Course g a b' bytes (xs ++ x ∷ [])
+    answered sent = record {
+      did = did;
+      sent = subst (λ (t : List ℕ). Appends a.written written t)
+          (ap (λ (t : List ℕ). sent_of (answers_of g false xs) ++ t) (sym (append-nil (bytes_of answer)))
+          ∙ sym (sent_of-append (answers_of g false xs) (answer ∷ [])) ∙ ap sent_of (sym answers))
+          (Appends-trans a.written b.written written (sent_of (answers_of g false xs)) (bytes_of answer) c.sent sent);
+    }
+
+    pub goes_answered : Appends b.written written (bytes_of answer) → GoesOn g a b' None
+    goes_answered sent = (bytes, xs ++ x ∷ [], answered sent)
+
+    -- or it was not, or is the last one
+    pub goes_cut : (end : SessionEnd) → IsSendEnd answer b.written written b.faults faults end → IsEnd g a b' end
+    goes_cut Closed e = (
+      (next to_server_of b.unread).after,
+      greeted,
+      (
+        bytes,
+        xs ++ x ∷ [],
+        answers_of g false xs,
+        answered (subst (λ (z : Answer). Appends b.written written (bytes_of z)) (sym e.0) e.1),
+        answers ∙ ap (λ (z : Answer). answers_of g false xs ++ z ∷ []) e.0,
+      ),
+    )
+    goes_cut LinkFault e = (
+      (next to_server_of b.unread).after,
+      greeted,
+      (
+        bytes,
+        xs ++ x ∷ [],
+        part (answers_of g false xs) answer (record {
+          did = did;
+          answers = answers;
+          sent = (e.0.0, Appends-trans a.written b.written written (sent_of (answers_of g false xs)) (take e.0.0 (bytes_of answer)) c.sent e.0.2);
+        }),
+        rose_before a.faults b.faults faults c.did.faults e.1,
+      ),
+    )
+    goes_cut Memory e = (
+      (next to_server_of b.unread).after,
+      greeted,
+      (
+        bytes,
+        xs ++ x ∷ [],
+        part (answers_of g false xs) answer (record {
+          did = did;
+          answers = answers;
+          sent = (0, Appends-trans a.written b.written written (sent_of (answers_of g false xs)) [] c.sent e);
+        }),
+      ),
+    )
+    goes_cut LinkEnded e = absurd e
+    goes_cut BadFrame e = absurd e
+    goes_cut (Worn ticket) e = absurd e
+
+    -- whatever became of the answer
+    pub sent_goes : (left : Option (List ℕ)) (e : Option SessionEnd) → left ≡ b.left → IfNone e (Appends b.written written (bytes_of answer))
+        → IfSome e (IsSendEnd answer b.written written b.faults faults) → GoesOn g a (record b' { left = left }) e
+    sent_goes left None same none some = subst (λ (l : Option (List ℕ)). GoesOn g a (record b' { left = l }) None) (sym same) (goes_answered none)
+    sent_goes left (Some end) same none some = subst (λ (l : Option (List ℕ)). GoesOn g a (record b' { left = l }) (Some end)) (sym same) (goes_cut end some)

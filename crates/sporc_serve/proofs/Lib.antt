@@ -1,0 +1,9 @@
+pub mod Logs
+pub mod Turning
+pub mod Coursing
+pub mod Going
+pub mod Framed
+pub mod Sendable
+pub mod Stepping
+pub mod Crowding
+pub mod Serving

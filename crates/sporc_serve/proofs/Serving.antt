@@ -1,0 +1,199 @@
+-- What a server did, from what number 0 knew at last.
+use Rattle.std.proofs.Common.{◌≡◌, ◌≢◌, ℕ, zero, suc, ◌+◌, ◌≤◌, ◌==◌, Bool, true, false, List, [], ◌∷◌, ◌-◌, length, drop, replicate, filter, All, Option, Result, Ok, Err, refl, ap, sym, subst, ◌∙◌, arith, inl, inr, get_or}
+use Rattle.std.proofs.lemmas.List.{drop_all, length-replicate}
+use Rattle.std.proofs.lemmas.List.Elements.{All-head, All-tail, All-nil, All-cons}
+use Rattle.sporc_entry.specs.declared.genesis.Genesis.{Genesis}
+use Rattle.sporc_turn.specs.declared.known.Known.{Known}
+use Rattle.sporc_turn.specs.declared.known.Joined.{Joined}
+use Rattle.sporc_turn.specs.Log.{StartsWith, Agrees, own}
+use Rattle.sporc_turn.specs.Knowing.{first_known, splitting, copied}
+use Rattle.sporc_order.specs.OrderModel.{OrderModel}
+use Rattle.sporc_serve.specs.declared.item.Item.{Item}
+use Rattle.sporc_serve.specs.Logs.{by_of, log_of, order_at, placed, IsLogOf, OfDocument}
+use Rattle.sporc_serve.specs.declared.fault.ServeFault.{ServeFault}
+use Rattle.sporc_serve.specs.declared.fault.ServeFault.TheVariants as faults
+use Rattle.sporc_serve.specs.Visits.{Visit, Visits, came, went, AreFrom, AreBehind, TellsOf}
+use Rattle.sporc_serve.specs.Crowds.{Net, IsCrowd}
+use Rattle.sporc_serve.specs.Served.{log_at_first, Attended, Served, IsServed}
+use Rattle.sporc_serve.proofs.Logs.{order_is}
+use Rattle.sporc_serve.proofs.Turning.{starts_log}
+use Rattle.sporc_serve.proofs.Coursing.{starts_then, starts_same}
+use Rattle.sporc_serve.proofs.Going.{rose_before}
+use Rattle.sporc_serve.proofs.Crowding.{from_none, behind_none}
+
+-- no item of a list has a number
+none_of : (n : ℕ) (xs : List Item) → filter (λ e. by_of e == n) xs ≡ [] → All (λ e. by_of e ≢ n) xs
+none_of n [] h = All-nil (λ (e : Item). by_of e ≢ n)
+none_of n (x ∷ xs) h = go (by_of x == n) refl (none_of n xs)
+  where
+    go : (b : Bool) → (by_of x == n) ≡ b → (filter (λ e. by_of e == n) xs ≡ [] → All (λ e. by_of e ≢ n) xs) → All (λ e. by_of e ≢ n) (x ∷ xs)
+    go true is more = let clash = rw is at h in absurd cc
+    go false is more = All-cons (λ (e : Item). by_of e ≢ n) x xs (λ same. grind (arith, is, same)) (more (rw is at h))
+
+positive : (n : ℕ) → n ≢ 0 → 1 ≤ n
+positive zero h = absurd (h refl)
+positive (suc n) h = omega arith
+
+module _ {L : Type 0} (left written : L → Option (List ℕ)) (faults : L → ℕ) (g : Genesis) where
+  -- what number 0 keeps, and how many passes it split and joined
+  visits_keep : (k k' : Known Item) (vs : List (Visit L)) → Visits left written faults g k k' vs
+      → (k'.number ≡ k.number) × (k'.mine ≡ k.mine) × (k'.start ≡ k.start)
+      × (k'.splits + length k.joined ≡ k.splits + length k'.joined) × (k'.splits ≤ k.splits + length vs)
+  visits_keep k k' [] is = (
+    ap (λ (x : Known Item). x.number) is,
+    ap (λ (x : Known Item). x.mine) is,
+    ap (λ (x : Known Item). x.start) is,
+    subst (λ (x : Known Item). x.splits + length k.joined ≡ k.splits + length x.joined) (sym is) refl,
+    subst (λ (x : Known Item). x.splits ≤ k.splits + 0) (sym is) (omega arith),
+  )
+  visits_keep k k' (v ∷ vs) (inl h) = (
+    ap (λ (x : Known Item). x.number) h.2,
+    ap (λ (x : Known Item). x.mine) h.2,
+    ap (λ (x : Known Item). x.start) h.2,
+    subst (λ (x : Known Item). x.splits + length k.joined ≡ k.splits + length x.joined) (sym h.2) refl,
+    subst (λ (x : Known Item). x.splits ≤ k.splits + length (v ∷ vs)) (sym h.2) (omega arith),
+  )
+  visits_keep k k' (v ∷ vs) (inr h) =
+      let more = visits_keep (splitting k) h.0 vs h.3 in
+      let is = h.5 in
+      let low : h.0.splits + length k.joined ≡ k.splits + 1 + length h.0.joined = more.3 in
+      let high : h.0.splits ≤ k.splits + 1 + length vs = more.4 in (
+        ap (λ (x : Known Item). x.number) is ∙ more.0,
+        ap (λ (x : Known Item). x.mine) is ∙ more.1,
+        ap (λ (x : Known Item). x.start) is ∙ more.2,
+        subst (λ (x : Known Item). x.splits + length k.joined ≡ k.splits + length x.joined) (sym is) (omega (arith, low)),
+        subst (λ (x : Known Item). x.splits ≤ k.splits + length (v ∷ vs)) (sym is) (omega (arith, high)),
+      )
+
+  begins_first : (k k' : Known Item) (vs : List (Visit L)) → Visits left written faults g k k' vs → StartsWith k'.seen k.seen
+  begins_first k k' [] is = subst (λ (x : Known Item). StartsWith x.seen k.seen) (sym is) (starts_same k.seen)
+  begins_first k k' (v ∷ vs) (inl h) = subst (λ (x : Known Item). StartsWith x.seen k.seen) (sym h.2) (starts_same k.seen)
+  begins_first k k' (v ∷ vs) (inr h) = starts_then k.seen h.0.seen k'.seen (begins_first (splitting k) h.0 vs h.3) h.6
+
+  module _ (start log : List Item) where
+    -- each session's items are those of the log with its number
+    attended : (k k' : Known Item) (vs : List (Visit L)) → Visits left written faults g k k' vs → StartsWith log k'.seen
+        → All (λ (j : Joined Item). own by_of j.number (length start) log ≡ j.items) k'.joined → StartsWith k.seen start
+        → Attended left written faults g start log (k.splits + 1) vs
+    attended k k' [] is seen owns begins = tt
+    attended k k' (v ∷ vs) (inl h) seen owns begins = inl h.0
+    attended k k' (v ∷ vs) (inr h) seen owns begins =
+        let rest = h.0 in
+        let last = h.1 in
+        let owns' : All (λ (j : Joined Item). own by_of j.number (length start) log ≡ j.items) (record { number = last.number; items = last.mine } ∷ rest.joined) =
+        subst (λ (x : Known Item). All (λ (j : Joined Item). own by_of j.number (length start) log ≡ j.items) x.joined) h.5 owns in
+        let here = All-head (λ (j : Joined Item). own by_of j.number (length start) log ≡ j.items) (record { number = last.number; items = last.mine }) rest.joined owns' in
+        let there = All-tail (λ (j : Joined Item). own by_of j.number (length start) log ≡ j.items) (record { number = last.number; items = last.mine }) rest.joined owns' in
+        inr (
+          copied k,
+          last,
+          record {
+            number_is = refl;
+            none = refl;
+            begins = begins;
+            session = h.2;
+            known = starts_then last.seen k'.seen log h.7 seen;
+            own_are = subst (λ (n : ℕ). own by_of n (length start) log ≡ last.mine) h.4 here;
+          },
+          attended (splitting k) rest vs h.3 (starts_then rest.seen k'.seen log h.6 seen) there begins,
+        )
+
+pub served : {L : Type 0} (left written : L → Option (List ℕ)) (faults : L → ℕ) (o : OrderModel) (after : OrderModel) (k : Known Item) (vs : List (Visit L))
+    (log : List Item) → Visits left written faults o.genesis (first_known (log_at_first o)) k vs → log ≡ k.seen → Agrees by_of k log
+    → after ≡ order_at o.genesis log → Served left written faults o after vs log
+served left written faults o after k vs log h is agrees at =
+    let first = first_known (log_at_first o) in
+    let keep = visits_keep left written faults o.genesis first k vs h in
+    let n = length (log_at_first o) in
+    let zero' : k.number ≡ 0 = keep.0 in
+    let same : k.start ≡ n = keep.2 in
+    let none : own by_of 0 n log ≡ [] = subst (λ (z : ℕ × ℕ). own by_of z.0 z.1 log ≡ []) (λ i. (zero' i, same i)) (agrees.mine ∙ keep.1) in
+    let owns = subst (λ (s : ℕ). All (λ (j : Joined Item). own by_of j.number s log ≡ j.items) k.joined) same (agrees.joined zero') in
+    let numbers = subst (λ (s : ℕ). All (λ e. by_of e ≤ k.splits) (drop s log)) same (agrees.numbers zero') in
+    let others = none_of 0 (drop n log) none in
+    record {
+      order_is = at;
+      begins = starts_then (log_at_first o) k.seen log (begins_first left written faults o.genesis first k vs h) (subst (λ (l : List Item). StartsWith l k.seen) (sym is) (starts_same k.seen));
+      sessions = attended left written faults o.genesis (log_at_first o) log first k vs h (subst (λ (l : List Item). StartsWith l k.seen) (sym is) (starts_same k.seen)) owns (starts_same (log_at_first o));
+      numbered = λ i d lt. (positive (by_of (get_or (drop n log) i d)) (others i d lt), omega (arith, numbers i d lt, keep.4));
+    }
+
+-- the first log is of the order's document, and its entries are the order's
+first_is : (o : OrderModel) → o ≡ order_at o.genesis (log_at_first o)
+first_is o =
+    order_is o.genesis o (replicate (length o.entries) 0) (length-replicate (length o.entries) 0) (placed (replicate (length o.entries) 0) o.entries, refl)
+
+-- what is told where the net's count rose before too
+tells_before : {L : Type 0} (n x y z : ℕ) (vs : List (Visit L)) (result : Result (Unit {0}) ServeFault) → x ≤ y → TellsOf n y z vs result → TellsOf n x z vs result
+tells_before n x y z vs (Ok done) le h = h
+tells_before n x y z vs (Err faults.ListenFault) le h = rose_before x y z le h
+tells_before n x y z vs (Err (faults.Worn ticket)) le h = h
+tells_before n x y z vs (Err faults.Memory) le h = h
+
+module _ {L : Type 0} (left written : L → Option (List ℕ)) (faults : L → ℕ) (o : OrderModel) where
+  -- no session began
+  pub serves_none : (after : OrderModel) (old new : Net L) (n : ℕ) (result : Result (Unit {0}) ServeFault) → after ≡ o → new.coming ≡ old.coming
+      → new.returned ≡ old.returned → TellsOf {L = L} n old.faults new.faults [] result → IsServed left written faults o after old new n result
+  serves_none after old new n result same coming returned tells = (
+    [],
+    log_at_first o,
+    record {
+      served = record {
+        order_is = same ∙ first_is o;
+        begins = starts_same (log_at_first o);
+        sessions = tt;
+        numbered = subst (λ (l : List Item). All (λ e. (1 ≤ by_of e) × (by_of e ≤ 0)) l) (sym (drop_all (length (log_at_first o)) (log_at_first o) (omega arith)))
+            (All-nil (λ e. (1 ≤ by_of e) × (by_of e ≤ 0)));
+      };
+      coming = subst (λ (c : Option (List L)). AreFrom old.coming c []) (sym coming) (from_none old.coming);
+      returned = subst (λ (c : Option (List L)). AreBehind old.returned c []) (sym returned) (behind_none old.returned);
+      result_is = tells;
+    },
+  )
+
+  module _ (k : Known Item) (vs : List (Visit L)) (visits : Visits left written faults o.genesis (first_known (log_at_first o)) k vs) where
+    -- each pass that was split was joined back
+    all_back : k.splits - length k.joined ≡ 0
+    all_back =
+        let h = (visits_keep left written faults o.genesis (first_known (log_at_first o)) k vs visits).3 in
+        let same : k.splits + 0 ≡ 0 + length k.joined = h in
+        omega (arith, same)
+
+  -- what number 0 knows at first, once the order is on a desk
+  first_at : (o' : OrderModel) (ns : List ℕ) (k : Known Item) → o' ≡ o → ns ≡ replicate (length o.entries) 0 → k ≡ first_known (log_of o' ns)
+      → k ≡ first_known (log_at_first o)
+  first_at o' ns k order numbers is = is ∙ (λ i. first_known (log_of (order i) (numbers i)))
+
+  module _ (o' : OrderModel) (ns : List ℕ) (k0 k : Known Item) (old mid new : Net L) (n : ℕ) (result : Result (Unit {0}) ServeFault) (order : o' ≡ o)
+      (numbers : ns ≡ replicate (length o.entries) 0) (is0 : k0 ≡ first_known (log_of o' ns))
+      (crowd : OfDocument k0.seen (λ g. IsCrowd left written faults g k0 k mid new n result)) where
+    -- the crowd's part of it
+    crowd_first : IsCrowd left written faults o.genesis (first_known (log_at_first o)) k mid new n result
+    crowd_first =
+        subst (λ (x : Known Item). OfDocument x.seen (λ g. IsCrowd left written faults g x k mid new n result)) (first_at o' ns k0 order numbers is0) crowd
+        o.genesis (placed (replicate (length o.entries) 0) o.entries, refl)
+
+    -- no pass is out
+    pub none_out : k.splits - length k.joined ≡ 0
+    none_out = all_back k crowd_first.0 crowd_first.1.visits_are
+
+    -- the sessions, once the lock is closed
+    pub serves : (back after : OrderModel) (ms : List ℕ) → back ≡ after → mid.coming ≡ old.coming → mid.returned ≡ old.returned → old.faults ≤ mid.faults
+        → length ms ≡ length after.entries → log_of after ms ≡ k.seen → Agrees by_of k (log_of after ms) → IsServed left written faults o back old new n result
+    serves back after ms same_order coming returned le same is agrees =
+        let c = crowd_first.1 in
+        let vs = crowd_first.0 in
+        let log = log_of after ms in
+        let begins = begins_first left written faults o.genesis (first_known (log_at_first o)) k vs c.visits_are in
+        let of_it : IsLogOf o.genesis log =
+        starts_log o.genesis log (log_at_first o) (subst (λ (l : List Item). StartsWith l (log_at_first o)) (sym is) begins)
+        (placed (replicate (length o.entries) 0) o.entries, refl) in (
+          vs,
+          log,
+          record {
+            served = served left written faults o back k vs log c.visits_are is agrees (same_order ∙ order_is o.genesis after ms same of_it);
+            coming = subst (λ (x : Option (List L)). AreFrom x new.coming (came vs)) coming c.coming;
+            returned = subst (λ (x : Option (List L)). AreBehind x new.returned (went vs)) returned c.returned;
+            result_is = tells_before n old.faults mid.faults new.faults vs result le c.result_is;
+          },
+        )

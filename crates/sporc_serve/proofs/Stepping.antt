@@ -1,0 +1,131 @@
+-- A step of a session: a message that is answered, or a piece more of its stream.
+use Rattle.std.proofs.Common.{◌≡◌, ◌≢◌, ◌∙◌, ℕ, ◌≤◌, Bool, false, List, [], Option, Some, None, Result, Ok, Err, IfOk, OnErr, IfNone, IfSome, sym, subst}
+use Rattle.std.specs.Io.KnownBytes.{Consumes, Appends}
+use Rattle.std.proofs.KnownBytes.{Consumes-nil}
+use Rattle.sporc_entry.specs.declared.genesis.Genesis.{Genesis}
+use Rattle.sporc_turn.specs.declared.known.Known.{Known}
+use Rattle.sporc_base.specs.Outcome.{GivesUnless}
+use Rattle.sporc_wire.specs.declared.fault.FrameFault.{FrameFault}
+use Rattle.sporc_wire.specs.declared.fault.FrameFault.TheVariants as faults
+use Rattle.sporc_wire.specs.declared.to_server.ToServer.{ToServer}
+use Rattle.sporc_wire.specs.Messages.{Unread, stream_of, next}
+use Rattle.sporc_wire.specs.ToServer.{to_server_of}
+use Rattle.sporc_order.specs.declared.session.Answer.{Answer}
+use Rattle.sporc_order.specs.Sessions.{IsSendable, IsFramed}
+use Rattle.sporc_serve.specs.declared.end.SessionEnd.{SessionEnd}
+use Rattle.sporc_serve.specs.declared.end.SessionEnd.TheVariants.{Memory}
+use Rattle.sporc_serve.specs.declared.item.Item.{Item}
+use Rattle.sporc_serve.specs.Logs.{IsLogOf, OfDocument}
+use Rattle.sporc_serve.specs.Sending.{bytes_of}
+use Rattle.sporc_serve.specs.Turns.{TakesTurn}
+use Rattle.sporc_serve.specs.Endings.{IsSendEnd, Inlet, inlet, TakesMessage, IsNext}
+use Rattle.sporc_serve.specs.Courses.{Stand, stand, GoesOn, Carries}
+use Rattle.sporc_serve.specs.Visits.{visit, IsSession}
+use Rattle.sporc_serve.proofs.Turning.{starts_log}
+use Rattle.sporc_serve.proofs.Coursing.{grows_starts, course_begins}
+use Rattle.sporc_serve.proofs.Framed.{next_framed}
+use Rattle.sporc_serve.proofs.Going.{next_waits, kept, goes_fed, goes_no_further, goes_unanswered, sent_goes}
+
+-- ---- one turn
+
+-- what a turn answers can be sent
+pub turn_sendable : {E : Type 0} (r : Result Answer E) (result : Result Answer SessionEnd) → IfOk r IsSendable → IfOk r (λ a. result ≡ Ok a)
+    → OnErr r (result ≡ Err Memory) → IfOk result IsSendable
+turn_sendable (Ok a) result sendable ok err = subst (λ (x : Result Answer SessionEnd). IfOk x IsSendable) (sym ok) sendable
+turn_sendable (Err e) result sendable ok err = subst (λ (x : Result Answer SessionEnd). IfOk x IsSendable) (sym err) tt
+
+-- ---- an answer
+
+module _ (known known' : Known Item) (left left' written written' : Option (List ℕ)) (faults faults' : ℕ) (unread : Unread) (s s' : Bool) (m : ToServer)
+    (r : Result Answer SessionEnd) (turn : OfDocument known.seen (λ g. TakesTurn g known known' s s' m r))
+    (here : (next to_server_of unread).answer ≡ Ok (Some m)) where
+  -- the turn answered, whatever became of the answer
+  pub answer_goes : (answer : Answer) (e : Option SessionEnd) → r ≡ Ok answer → left' ≡ left → faults ≤ faults'
+      → IfNone e (Appends written written' (bytes_of answer)) → IfSome e (IsSendEnd answer written written' faults faults')
+      → Carries (stand known left written faults unread s) (stand known' left' written' faults' (next to_server_of unread).after s') e
+  answer_goes answer e is same more none some g a bytes xs log c =
+      let t = subst (λ (x : Result Answer SessionEnd). TakesTurn g known known' s s' m x) is (turn g log) in
+      sent_goes g a (stand known left written faults unread s) bytes xs c m known' s' answer t.0 here t.1 written' faults' more left' e same none some
+
+  -- the turn did not answer
+  pub answer_ends : (end : SessionEnd) → r ≡ Err end
+      → Carries (stand known left written faults unread s) (stand known' left written faults (next to_server_of unread).after s') (Some end)
+  answer_ends end is g a bytes xs log c =
+      goes_unanswered g a (stand known left written faults unread s) bytes xs c m known' s' end (next to_server_of unread).after
+      (subst (λ (x : Result Answer SessionEnd). TakesTurn g known known' s s' m x) is (turn g log))
+
+-- ---- the next message
+
+-- no whole frame was left, and the stream stays
+pub next_none : (s s' : Unread) (r : Result (Option ToServer) FrameFault) → r ≡ Ok None → GivesUnless faults.Memory (λ found. found) r (next to_server_of s).answer
+    → (r ≢ Err faults.Memory → s' ≡ (next to_server_of s).after) → ((next to_server_of s).answer ≡ Ok None) × (s' ≡ s)
+next_none s s' (Ok None) is gives after =
+    (gives, after (λ e. absurd cc) ∙ next_waits to_server_of s gives)
+next_none s s' (Ok (Some m)) is gives after = absurd cc
+next_none s s' (Err fault) is gives after = absurd cc
+
+-- a message that was found fits an order's frame
+pub found_framed : (a b : Inlet) (r : Result (Option ToServer) SessionEnd) (m : ToServer) → r ≡ Ok (Some m) → IsNext a b r → IsFramed m
+found_framed a b r m is found =
+    let t : TakesMessage a b m = subst (λ (x : Result (Option ToServer) SessionEnd). IsNext a b x) is found in
+    next_framed a.unread m t.answer
+
+-- ---- a step
+
+module _ (known : Known Item) (left left' written written' : Option (List ℕ)) (faults faults' : ℕ) (unread unread' : Unread) (s : Bool)
+    (r : Result (Option ToServer) SessionEnd) (found : IsNext (inlet left faults unread) (inlet left' faults' unread') r) (same : written' ≡ written)
+    (more : faults ≤ faults') where
+  -- no message is to follow
+  pub step_ends : (end : SessionEnd) → r ≡ Err end
+      → Carries (stand known left written faults unread s) (stand known left' written' faults' unread' s) (Some end)
+  step_ends end is g a bytes xs log c =
+      goes_no_further g a (stand known left written faults unread s) bytes xs c (inlet left' faults' unread') written' end
+      (subst (λ (x : Result (Option ToServer) SessionEnd). IsNext (inlet left faults unread) (inlet left' faults' unread') x) is found) same more
+
+  -- a piece more of the stream was taken
+  pub step_waits : r ≡ Ok None → Carries (stand known left written faults unread s) (stand known left' written' faults' unread' s) None
+  step_waits is g a bytes xs log c =
+      goes_fed g a (stand known left written faults unread s) bytes xs c (inlet left' faults' unread') written'
+      (subst (λ (x : Result (Option ToServer) SessionEnd). IsNext (inlet left faults unread) (inlet left' faults' unread') x) is found) same more
+
+  -- a message was taken and answered
+  pub step_answers : (m : ToServer) (known' : Known Item) (left'' written'' : Option (List ℕ)) (faults'' : ℕ) (s' : Bool) (e : Option SessionEnd) → r ≡ Ok (Some m)
+      → ((u : Unread) → (next to_server_of u).answer ≡ Ok (Some m)
+      → Carries (stand known left' written' faults' u s) (stand known' left'' written'' faults'' (next to_server_of u).after s') e)
+      → Carries (stand known left written faults unread s) (stand known' left'' written'' faults'' unread' s') e
+  step_answers m known' left'' written'' faults'' s' e is carries g a bytes xs log c =
+      let t : TakesMessage (inlet left faults unread) (inlet left' faults' unread') m =
+      subst (λ (x : Result (Option ToServer) SessionEnd). IsNext (inlet left faults unread) (inlet left' faults' unread') x) is found in
+      subst (λ (u : Unread). GoesOn g a (stand known' left'' written'' faults'' u s') e) (sym t.unread)
+      (carries unread t.answer g a bytes xs log
+      (kept g a (stand known left written faults unread s) bytes xs c left' faults' written'
+      (subst (λ (l : Option (List ℕ)). Consumes left l []) (sym t.left) (Consumes-nil left)) more same))
+
+-- ---- a session
+
+-- no step yet
+pub begun : (g : Genesis) (known : Known Item) (left written : Option (List ℕ)) (faults : ℕ) (unread : Unread) (s : Bool) → unread ≡ stream_of [] → s ≡ false
+    → GoesOn g (stand known left written faults (stream_of []) false) (stand known left written faults unread s) None
+begun g known left written faults unread s empty fresh =
+    subst (λ (u : Unread). GoesOn g (stand known left written faults (stream_of []) false) (stand known left written faults u s) None) (sym empty)
+    (subst (λ (b : Bool). GoesOn g (stand known left written faults (stream_of []) false) (stand known left written faults (stream_of []) b) None) (sym fresh)
+    ([], [], course_begins g known left written faults))
+
+-- after some steps one step more
+pub carried : (g : Genesis) (a b b' : Stand) (e : Option SessionEnd) → IsLogOf g a.known.seen → GoesOn g a b None → Carries b b' e → GoesOn g a b' e
+carried g a b b' e log went carries =
+    carries g a went.0 went.1 (starts_log g b.known.seen a.known.seen
+    (grows_starts g a.known.number a.known.seen false went.1 b.known.seen went.2.did.grows) log) went.2
+
+module _ {L : Type 0} (left written : L → Option (List ℕ)) (faults : L → ℕ) where
+  -- a link was shut as its session ended
+  pub session_ended : (g : Genesis) (first last : Known Item) (before mid after : L) (unread : Unread) (s : Bool) (end : SessionEnd)
+      → GoesOn g (stand first (left before) (written before) (faults before) (stream_of []) false) (stand last (left mid) (written mid) (faults mid) unread s) (Some end)
+      → left after ≡ left mid → written after ≡ written mid → faults after ≡ faults mid → IsSession left written faults g first last (visit before after end)
+  session_ended g first last before mid after unread s end h is_left is_written is_faults =
+      subst (λ (n : ℕ). GoesOn g (stand first (left before) (written before) (faults before) (stream_of []) false) (stand last (left after) (written after) n unread s) (Some end))
+      (sym is_faults)
+      (subst (λ (w : Option (List ℕ)). GoesOn g (stand first (left before) (written before) (faults before) (stream_of []) false) (stand last (left after) w (faults mid) unread s) (Some end))
+      (sym is_written)
+      (subst (λ (l : Option (List ℕ)). GoesOn g (stand first (left before) (written before) (faults before) (stream_of []) false) (stand last l (written mid) (faults mid) unread s) (Some end))
+      (sym is_left) h))

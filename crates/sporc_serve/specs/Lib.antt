@@ -1,0 +1,8 @@
+pub mod Logs
+pub mod Turns
+pub mod Sending
+pub mod Endings
+pub mod Courses
+pub mod Visits
+pub mod Crowds
+pub mod Served

@@ -1,0 +1,17 @@
+-- What a server sends.
+use Rattle.std.specs.Prelude.{ℕ, List, [], ◌∷◌, ◌++◌}
+use Rattle.sporc_wire.specs.Stream.{frame}
+use Rattle.sporc_wire.specs.ToClient.{to_client_bytes}
+use Rattle.sporc_order.specs.declared.session.Answer.{Answer}
+use Rattle.sporc_order.specs.declared.session.Answer.TheVariants.{Send, Silent, Close}
+
+-- the bytes of an answer
+abbrev pub bytes_of : Answer → List ℕ
+bytes_of (Send message) = frame (to_client_bytes message)
+bytes_of Silent = []
+bytes_of Close = []
+
+-- the bytes of answers
+abbrev pub sent_of : List Answer → List ℕ
+sent_of [] = []
+sent_of (answer ∷ answers) = bytes_of answer ++ sent_of answers

@@ -1,0 +1,49 @@
+-- What a session does in one turn at the order.
+use Rattle.std.specs.Prelude.{◌≡◌, Bool, List, [], ◌++◌, Result, Ok, Err}
+use Rattle.sporc_turn.specs.declared.known.Known.{Known}
+use Rattle.sporc_turn.specs.declared.limits.TheConstants.{MAX_TICKETS}
+use Rattle.sporc_turn.specs.Log.{StartsWith}
+use Rattle.sporc_entry.specs.declared.genesis.Genesis.{Genesis}
+use Rattle.sporc_wire.specs.declared.to_server.ToServer.{ToServer}
+use Rattle.sporc_order.specs.declared.session.Answer.{Answer}
+use Rattle.sporc_order.specs.Sessions.{step_of}
+use Rattle.sporc_serve.specs.declared.end.SessionEnd.{SessionEnd}
+use Rattle.sporc_serve.specs.declared.end.SessionEnd.TheVariants.{Closed, LinkEnded, LinkFault, BadFrame, Worn, Memory}
+use Rattle.sporc_serve.specs.declared.item.Item.{Item}
+use Rattle.sporc_serve.specs.Logs.{order_at, added_of, placed_by}
+
+-- a pass found a log, and added these items to it
+pub record Adds (before after : Known Item) (found items : List Item) : Type 0 where
+  pub begins : StartsWith found before.seen
+  pub seen : after.seen ≡ found ++ items
+  pub mine : after.mine ≡ before.mine ++ items
+  pub number : after.number ≡ before.number
+  pub start : after.start ≡ before.start
+
+-- a message was answered at the log that was found
+pub record IsAnswered (genesis : Genesis) (before after : Known Item) (greeted greeted' : Bool) (message : ToServer) (answer : Answer)
+    (found : List Item) : Type 0 where
+  pub answer_is : answer ≡ (step_of (order_at genesis found) greeted message).answer
+  pub greeted_is : greeted' ≡ (step_of (order_at genesis found) greeted message).is_greeted
+  pub adds : Adds before after found (placed_by before.number (added_of (order_at genesis found) greeted message))
+
+-- a turn ended without an answer, and changed nothing
+pub record IsUnanswered (before after : Known Item) (greeted greeted' : Bool) (found : List Item) : Type 0 where
+  pub greeted_is : greeted' ≡ greeted
+  pub adds : Adds before after found []
+
+-- why a turn has no answer
+abbrev pub IsTurnEnd : SessionEnd → Type 0
+IsTurnEnd Closed = ⊥
+IsTurnEnd LinkEnded = ⊥
+IsTurnEnd LinkFault = ⊥
+IsTurnEnd BadFrame = ⊥
+IsTurnEnd (Worn ticket) = ticket ≡ MAX_TICKETS
+IsTurnEnd Memory = Unit {0}
+
+-- one turn of a session, from what its pass knew before to what it knows after
+abbrev pub TakesTurn : Genesis → Known Item → Known Item → Bool → Bool → ToServer → Result Answer SessionEnd → Type 0
+TakesTurn genesis before after greeted greeted' message (Ok answer) =
+    (found : List Item) × IsAnswered genesis before after greeted greeted' message answer found
+TakesTurn genesis before after greeted greeted' message (Err end) =
+    (found : List Item) × IsUnanswered before after greeted greeted' found × IsTurnEnd end

@@ -1,0 +1,107 @@
+// The sessions of a server, each in a thread of its own where one can be made.
+
+ghost use Rattle.std.specs.Prelude.{◌≡◌, ◌+◌, ◌-◌, ◌^◌, ◌<◌, ◌≤◌, IfSome};
+ghost use Rattle.std.specs.Thread.{IsSync, IsSend};
+ghost use Rattle.sporc_turn.specs.Passes.{known_of, IsPassOf};
+ghost use Rattle.sporc_serve.specs.Logs.{OfDocument};
+ghost use Rattle.sporc_serve.specs.Crowds.{IsCrowd, net_of, IsFirst, IsOther};
+ghost use Rattle.sporc_serve.specs.Visits.{visit, IsSession, with_end};
+
+use crate::desk::Desk;
+use crate::end::SessionEnd;
+use crate::fault::ServeFault;
+use crate::item::Item;
+use crate::session::serve_link;
+use sporc_outside::{Gate, Link, Listen};
+use sporc_turn::{Pass, Turn};
+use std::alloc::Global;
+use std::sync::Wait;
+use std::thread::{Threads, join_mut};
+
+// What the server answers, once a session more has ended.
+fn with_end(rest: Result<(), ServeFault>, end: SessionEnd) -> Result<(), ServeFault>
+    ensures { result ≡ with_end rest end }
+{
+    match end {
+        SessionEnd::Worn(ticket) => with_worn(rest, ticket),
+        SessionEnd::Memory => match rest {
+            Ok(()) => Err(ServeFault::Memory),
+            Err(fault) => Err(fault),
+        },
+        SessionEnd::Closed | SessionEnd::LinkEnded | SessionEnd::LinkFault | SessionEnd::BadFrame =>
+            rest,
+    }
+}
+
+fn with_worn(rest: Result<(), ServeFault>, ticket: u64) -> Result<(), ServeFault>
+    ensures { result ≡ with_end rest (SessionEnd.Worn ticket) }
+{
+    match rest {
+        Ok(()) => Err(ServeFault::Worn(ticket)),
+        Err(fault) => match fault {
+            ServeFault::Memory => Err(ServeFault::Worn(ticket)),
+            ServeFault::ListenFault | ServeFault::Worn(_) => Err(fault),
+        },
+    }
+}
+
+// Takes so many links, and serves each with a pass that is split from number 0 and joined back.
+pub(crate) fn crowd<R: Threads + Wait + Sync, N: Listen, G: Gate + Sync>(
+    rt: &R,
+    alloc: Global,
+    net: &mut N,
+    turn: &Turn<Desk>,
+    gate: &G,
+    first: Pass<Item>,
+    sessions: u32,
+) -> (Result<(), ServeFault>, Pass<Item>)
+where
+    N::Link: Send,
+    requires lock { IsPassOf turn.now first }
+    requires first { (known_of first).number ≡ 0 }
+    requires room { (known_of first).splits + sessions < 2 ^ 32 }
+    ensures lock { IsPassOf turn.now result.1 }
+    ensures first { (known_of result.1).number ≡ 0 }
+    ensures crowd { OfDocument (known_of first).seen
+        (λ genesis. IsCrowd N.Link.left N.Link.written N.Link.faults genesis (known_of first) (known_of result.1)
+        (net_of (N.coming net.old) (N.returned net.old) (N.faults net.old)) (net_of (N.coming net.new) (N.returned net.new) (N.faults net.new)) sessions result.0) }
+    ensures out { N.out net.new ≡ N.out net.old }
+    ensures count { N.faults net.old ≤ N.faults net.new }
+{
+    if sessions == 0 {
+        return (Ok(()), first);
+    }
+    let Ok(mut link) = net.accept(rt) else {
+        return (Err(ServeFault::ListenFault), first);
+    };
+    let (first, second) = match turn.split(first) {
+        Ok(both) => both,
+        Err((first, _)) => {
+            link.shut();
+            net.take_back(link);
+            return (Err(ServeFault::Memory), first);
+        }
+    };
+    let others = sessions - 1;
+    let mut first = Some(first);
+    let mut second = Some(second);
+    let ((end, second), (rest, first)) = join_mut(
+        rt,
+        &mut || -> (SessionEnd, Pass<Item>)
+            requires { IsSync R.row × IsSync G.row × IsOther turn.now second }
+            ensures { IfSome second.entry (λ p. IsPassOf turn.entry.now result.1 × ((known_of result.1).number ≡ (known_of p).number)
+                × OfDocument (known_of p).seen
+                (λ genesis. IsSession N.Link.left N.Link.written N.Link.faults genesis (known_of p) (known_of result.1) (visit link.entry link.exit result.0))) }
+        { serve_link(rt, alloc, turn, gate, &mut link, second.take().unwrap()) },
+        &mut || -> (Result<(), ServeFault>, Pass<Item>)
+            requires { IsSync R.row × IsSync G.row × IsSend N.Link.row × IsFirst turn.now first others }
+            ensures { IfSome first.entry (λ p. IsPassOf turn.entry.now result.1 × ((known_of result.1).number ≡ 0)
+                × OfDocument (known_of p).seen
+                (λ genesis. IsCrowd N.Link.left N.Link.written N.Link.faults genesis (known_of p) (known_of result.1)
+                (net_of (N.coming net.entry.now) (N.returned net.entry.now) (N.faults net.entry.now)) (net_of (N.coming net.exit.now) (N.returned net.exit.now) (N.faults net.exit.now)) others result.0)
+                × (N.out net.exit.now ≡ N.out net.entry.now) × (N.faults net.entry.now ≤ N.faults net.exit.now)) }
+        { crowd(rt, alloc, net, turn, gate, first.take().unwrap(), others) },
+    );
+    net.take_back(link);
+    (with_end(rest, end), turn.join(first, second))
+}

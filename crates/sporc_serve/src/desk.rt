@@ -1,0 +1,81 @@
+// The order that the sessions share.
+
+ghost use Rattle.std.specs.Prelude.{◌≡◌, ◌++◌, length, replicate, OnOk, OnErr, IfOk, IfErr};
+ghost use Rattle.sporc_order.specs.Sessions.{step_of, IsSendable, IsFramed};
+ghost use Rattle.sporc_serve.specs.Logs.{log_of, added_of, placed_by};
+
+use crate::item::Item;
+use sporc_base::Memory;
+use sporc_order::{Answer, Order, Session};
+use sporc_turn::Kept;
+use sporc_wire::ToServer;
+use std::alloc::{AllocError, Global};
+
+// An order, and the number of the pass that submitted each entry.
+#[derive(Drop)]
+pub(crate) struct Desk {
+    order: Order,
+    numbers: Vec<u32>,
+    ghost matched: { length numbers.items ≡ length order.entries },
+}
+
+impl Kept for Desk {
+    type Item = Item;
+
+    ghost use Rattle.sporc_serve.specs.Logs.{by_of, log_of};
+
+    ghost log = { λ d. log_of d.order d.numbers.items };
+
+    ghost by = { by_of };
+
+    #[tactic(auto, using(crate::proofs::Logs::placed_length))]
+    fn logged(&self) -> u64 {
+        u64::from(self.order.len()) + 1
+    }
+}
+
+impl Desk {
+    // The order, whose entries have number 0.
+    pub(crate) fn new(alloc: Global, order: Order) -> Result<Desk, (Order, Memory)>
+        ensures order { IfOk result (λ desk. desk.order ≡ order) }
+        ensures numbers { IfOk result (λ desk. desk.numbers.items ≡ replicate (length order.entries) 0) }
+        ensures err { IfErr result (λ e. e.0 ≡ order) }
+    {
+        match vec![in alloc; 0; order.len() as usize] {
+            Ok(numbers) => Ok(Desk { order, numbers }),
+            Err(_) => Err((order, AllocError)),
+        }
+    }
+
+    // Answers a message of the session that has the pass with this number.
+    pub(crate) fn step(
+        &mut self,
+        alloc: Global,
+        number: u32,
+        session: &mut Session,
+        message: &ToServer,
+    ) -> Result<Answer, Memory>
+        ensures sendable { IsFramed message.now → IfOk result IsSendable }
+        ensures answer { IfOk result (λ answer. answer ≡ (step_of self.old.order session.old message.now).answer) }
+        ensures greeted { OnOk result (session.new ≡ (step_of self.old.order session.old message.now).is_greeted) }
+        ensures log { OnOk result (log_of self.new.order self.new.numbers.items ≡ log_of self.old.order self.old.numbers.items
+            ++ placed_by number (added_of self.old.order session.old message.now)) }
+        ensures same { OnErr result (session.new ≡ session.old) }
+        ensures memory { OnErr result (log_of self.new.order self.new.numbers.items ≡ log_of self.old.order self.old.numbers.items) }
+    {
+        self.numbers.reserve(1)?;
+        let before = self.order.len();
+        let answer = session.step(alloc, &mut self.order, message)?;
+        if self.order.len() > before {
+            self.numbers.push_reserved(number);
+        }
+        Ok(answer)
+    }
+
+    // The order.
+    pub(crate) fn into_order(self) -> Order
+        ensures { result ≡ self.order }
+    {
+        self.order
+    }
+}

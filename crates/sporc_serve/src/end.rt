@@ -1,0 +1,18 @@
+//! How a session ended.
+
+/// How a session of a server ended.
+#[derive(Clone, Copy, Debug, PartialEq, Eq, Drop)]
+pub enum SessionEnd {
+    /// The first message was no Hello with this document, or a later one was a Hello.
+    Closed,
+    /// The link gave its end.
+    LinkEnded,
+    /// A call on the link failed, which counts it.
+    LinkFault,
+    /// A frame of the link's bytes is no message, or too long.
+    BadFrame,
+    /// This ticket of the lock is never drawn.
+    Worn(u64),
+    /// Memory ran out.
+    Memory,
+}

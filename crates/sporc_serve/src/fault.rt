@@ -1,0 +1,29 @@
+//! Why a server stopped, or didn't begin.
+
+use std::alloc::AllocError;
+use thiserror::Error;
+
+/// What a server answers where not all went well.
+#[derive(Clone, Copy, Debug, PartialEq, Eq, Error)]
+pub enum ServeFault {
+    /// A call of the net failed, which counts it.
+    #[error("the net failed")]
+    ListenFault,
+    /// This ticket of the lock is never drawn.
+    #[error("ticket {0} is never drawn")]
+    Worn(u64),
+    /// Memory ran out, of the server or in a session.
+    #[error("out of memory")]
+    Memory,
+}
+
+impl From<AllocError> for ServeFault {
+    ghost use Rattle.std.specs.Prelude.{◌≡◌};
+    ghost use Rattle.sporc_serve.specs.declared.fault.ServeFault.TheVariants as faults;
+
+    ghost from_gives = { λ _ e. e ≡ faults.Memory };
+
+    fn from(_: AllocError) -> ServeFault {
+        ServeFault::Memory
+    }
+}

@@ -1,0 +1,31 @@
+//! A server of many sessions at once, round one order.
+//!
+//! [`serve`] listens, takes so many links, and runs a session over each, in a thread of its own where one can be made. The
+//! order lies under a ticket lock, with the number of the pass that submitted each entry. A session takes a turn for each
+//! message, and holds none while it reads, sends, or calls the gate.
+//!
+//! ```text
+//! let (order, answer) = serve(&rt, alloc, &mut net, "localhost:4000", order, 2, &OpenGate);
+//! ```
+//!
+//! Proved, over every way in which the turns of the sessions may follow one another: each session's answers are the order's to
+//! the messages of its link, at lists that begin with one another, and were sent; why it ended; that the order handed back
+//! begins with the one handed in, and each further entry is one session's; that each link comes back. Tested only: that
+//! sessions go on beside one another, and that the calls succeed with ample memory. Neither: that a client gets an answer.
+#![tactic(auto)]
+
+mod crowd;
+mod desk;
+mod end;
+mod fault;
+mod item;
+pub mod laws;
+mod sending;
+mod server;
+mod session;
+mod turns;
+
+pub use crate::end::SessionEnd;
+pub use crate::fault::ServeFault;
+pub use crate::item::Item;
+pub use crate::server::serve;

@@ -1,0 +1,55 @@
+//! A server of many sessions.
+
+ghost use Rattle.std.specs.Prelude.{◌≡◌, ◌≤◌};
+ghost use Rattle.sporc_serve.specs.Crowds.{net_of};
+ghost use Rattle.sporc_serve.specs.Served.{IsServed};
+
+use crate::crowd::crowd;
+use crate::desk::Desk;
+use crate::fault::ServeFault;
+use sporc_order::Order;
+use sporc_outside::{Gate, Listen};
+use sporc_turn::Turn;
+use std::alloc::Global;
+use std::sync::Wait;
+use std::thread::Threads;
+
+/// Listens at the address, takes so many links, and answers the messages of each from one order: a session each, in a
+/// thread of its own where one can be made. Each link is shut as its session ends, and handed back to the net.
+///
+/// A fault of a link or of its frames ends that session alone, and so does want of memory in it.
+pub fn serve<R: Threads + Wait + Sync, N: Listen, G: Gate + Sync>(
+    rt: &R,
+    alloc: Global,
+    net: &mut N,
+    address: &str,
+    order: Order,
+    sessions: u32,
+    gate: &G,
+) -> (Order, Result<(), ServeFault>)
+where
+    N::Link: Send,
+    requires some { 1 ≤ sessions }
+    requires limit { sessions ≤ 1024 }
+    ensures served { IsServed N.Link.left N.Link.written N.Link.faults order result.0
+        (net_of (N.coming net.old) (N.returned net.old) (N.faults net.old)) (net_of (N.coming net.new) (N.returned net.new) (N.faults net.new)) sessions result.1 }
+    ensures out { N.out net.new ≡ N.out net.old }
+    ensures count { N.faults net.old ≤ N.faults net.new }
+{
+    let Ok(()) = net.listen(address) else {
+        return (order, Err(ServeFault::ListenFault));
+    };
+    let desk = match Desk::new(alloc, order) {
+        Ok(desk) => desk,
+        Err((order, _)) => return (order, Err(ServeFault::Memory)),
+    };
+    let (turn, first) = match Turn::open(alloc, desk) {
+        Ok(both) => both,
+        Err((desk, _)) => return (desk.into_order(), Err(ServeFault::Memory)),
+    };
+    let (answer, first) = crowd(rt, alloc, net, &turn, gate, first, sessions);
+    match turn.close(first) {
+        Ok(desk) => (desk.into_order(), answer),
+        Err(_) => unreachable!(),
+    }
+}

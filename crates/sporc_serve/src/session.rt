@@ -1,0 +1,157 @@
+// One session, from its first message to its end.
+
+ghost use Rattle.std.specs.Prelude.{◌≡◌, ◌≢◌, ◌≤◌, Ok, Err, Some, None, IfErr, OnOk};
+ghost use Rattle.sporc_turn.specs.Passes.{known_of, IsPassOf};
+ghost use Rattle.sporc_wire.specs.Messages.{Unread, next};
+ghost use Rattle.sporc_wire.specs.ToServer.{to_server_of};
+ghost use Rattle.sporc_order.specs.Sessions.{IsFramed};
+ghost use Rattle.sporc_serve.specs.Logs.{OfDocument};
+ghost use Rattle.sporc_serve.specs.Courses.{stand, Carries};
+ghost use Rattle.sporc_serve.specs.Endings.{inlet, IsNext};
+ghost use Rattle.sporc_serve.specs.Visits.{visit, IsSession};
+
+use crate::desk::Desk;
+use crate::end::SessionEnd;
+use crate::item::Item;
+use crate::sending::send;
+use crate::turns::take_turn;
+use sporc_order::Session;
+use sporc_outside::{Gate, Link};
+use sporc_turn::{Pass, Turn};
+use sporc_wire::{FrameFault, Frames, ToServer};
+use std::alloc::Global;
+use std::sync::Wait;
+
+// The most bytes that one call asks for.
+const PIECE: usize = 4096;
+
+// Takes a piece more of the link's bytes.
+fn take_piece<L: Link>(link: &mut L, frames: &mut Frames) -> Result<(), SessionEnd>
+    requires { (next to_server_of frames.old).answer ≡ Ok None }
+    ensures ok { OnOk result (IsNext (inlet (L.left link.old) (L.faults link.old) frames.old) (inlet (L.left link.new) (L.faults link.new) frames.new) (Ok None)) }
+    ensures err { IfErr result (λ end. IsNext (inlet (L.left link.old) (L.faults link.old) frames.old) (inlet (L.left link.new) (L.faults link.new) frames.new) (Err end)) }
+    ensures written { L.written link.new ≡ L.written link.old }
+    ensures count { L.faults link.old ≤ L.faults link.new }
+{
+    let mut buffer = [0u8; PIECE];
+    let Ok(n) = link.read(&mut buffer) else {
+        return Err(SessionEnd::LinkFault);
+    };
+    if n == 0 {
+        return Err(SessionEnd::LinkEnded);
+    }
+    match frames.feed(&buffer[..n]) {
+        Ok(()) => Ok(()),
+        Err(_) => Err(SessionEnd::Memory),
+    }
+}
+
+// How a session ends at a fault of its frames.
+fn end_of(fault: FrameFault) -> SessionEnd
+    ensures memory { fault ≡ FrameFault.Memory → result ≡ SessionEnd.Memory }
+    ensures bad { fault ≢ FrameFault.Memory → result ≡ SessionEnd.BadFrame }
+{
+    match fault {
+        FrameFault::Memory => SessionEnd::Memory,
+        FrameFault::BadMessage(_) | FrameFault::TooLong(_) => SessionEnd::BadFrame,
+    }
+}
+
+// The next message of the link's bytes, or none: then a piece more of them was taken.
+fn next_message<L: Link>(link: &mut L, frames: &mut Frames) -> Result<Option<ToServer>, SessionEnd>
+    ensures next { IsNext (inlet (L.left link.old) (L.faults link.old) frames.old) (inlet (L.left link.new) (L.faults link.new) frames.new) result }
+    ensures written { L.written link.new ≡ L.written link.old }
+    ensures count { L.faults link.old ≤ L.faults link.new }
+{
+    let found = match frames.next_to_server() {
+        Ok(found) => found,
+        Err(fault) => return Err(end_of(fault)),
+    };
+    let Some(message) = found else {
+        take_piece(link, frames)?;
+        return Ok(None);
+    };
+    Ok(Some(message))
+}
+
+// Answers a message, and says why the session ends, if it does.
+fn answer<R: Wait, L: Link, G: Gate>(
+    rt: &R,
+    alloc: Global,
+    turn: &Turn<Desk>,
+    gate: &G,
+    link: &mut L,
+    session: &mut Session,
+    pass: Pass<Item>,
+    message: &ToServer,
+) -> (Option<SessionEnd>, Pass<Item>)
+    requires lock { IsPassOf turn.now pass }
+    requires framed { IsFramed message.now }
+    ensures lock { IsPassOf turn.now result.1 }
+    ensures number { (known_of result.1).number ≡ (known_of pass).number }
+    ensures goes { (unread : Unread) → (next to_server_of unread).answer ≡ Ok (Some message.now)
+        → Carries (stand (known_of pass) (L.left link.old) (L.written link.old) (L.faults link.old) unread session.old)
+        (stand (known_of result.1) (L.left link.new) (L.written link.new) (L.faults link.new) (next to_server_of unread).after session.new) result.0 }
+{
+    let (answer, pass) = take_turn(rt, alloc, turn, pass, session, message);
+    match answer {
+        Ok(answer) => (send(rt, alloc, gate, link, &answer), pass),
+        Err(end) => (Some(end), pass),
+    }
+}
+
+// Takes the next message and answers it, or takes a piece more of the link's bytes.
+fn step<R: Wait, L: Link, G: Gate>(
+    rt: &R,
+    alloc: Global,
+    turn: &Turn<Desk>,
+    gate: &G,
+    link: &mut L,
+    frames: &mut Frames,
+    session: &mut Session,
+    pass: Pass<Item>,
+) -> (Option<SessionEnd>, Pass<Item>)
+    requires lock { IsPassOf turn.now pass }
+    ensures lock { IsPassOf turn.now result.1 }
+    ensures number { (known_of result.1).number ≡ (known_of pass).number }
+    ensures goes { Carries (stand (known_of pass) (L.left link.old) (L.written link.old) (L.faults link.old) frames.old session.old)
+        (stand (known_of result.1) (L.left link.new) (L.written link.new) (L.faults link.new) frames.new session.new) result.0 }
+{
+    let found = match next_message(link, frames) {
+        Ok(found) => found,
+        Err(end) => return (Some(end), pass),
+    };
+    let Some(message) = found else {
+        return (None, pass);
+    };
+    answer(rt, alloc, turn, gate, link, session, pass, &message)
+}
+
+// A session over a link.
+pub(crate) fn serve_link<R: Wait, L: Link, G: Gate>(
+    rt: &R,
+    alloc: Global,
+    turn: &Turn<Desk>,
+    gate: &G,
+    link: &mut L,
+    pass: Pass<Item>,
+) -> (SessionEnd, Pass<Item>)
+    requires lock { IsPassOf turn.now pass }
+    ensures lock { IsPassOf turn.now result.1 }
+    ensures number { (known_of result.1).number ≡ (known_of pass).number }
+    ensures session { OfDocument (known_of pass).seen
+        (λ genesis. IsSession L.left L.written L.faults genesis (known_of pass) (known_of result.1) (visit link.old link.new result.0)) }
+{
+    let mut frames = Frames::new(alloc);
+    let mut session = Session::new();
+    let mut pass = pass;
+    for _ in rt.forever() {
+        let (end, after) = step(rt, alloc, turn, gate, link, &mut frames, &mut session, pass);
+        pass = after;
+        if let Some(end) = end {
+            link.shut();
+            return (end, pass);
+        }
+    }
+    unreachable!()
+}

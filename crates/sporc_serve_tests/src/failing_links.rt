@@ -1,0 +1,78 @@
+use crate::replies::count;
+use crate::server::{Outcome, Peers, served};
+use crate::streams::{PULL, first_entry, hello_and_submit};
+use sporc_outside::{Counted, OpenGate};
+use sporc_samples::Cast;
+use std::alloc::Global;
+use std::process::Abort;
+use std::sync::Wait;
+use std::test::Fail;
+use std::thread::Threads;
+
+// How many calls are made on a link that submits an entry and pulls, at the most.
+const CALLS: u64 = 16;
+
+// A client that submits an entry and then pulls.
+fn stream(alloc: Global, entry: &[u8]) -> Result<Vec<u8>, Fail> {
+    let mut stream = hello_and_submit(alloc, entry)?;
+    stream.extend_from_slice(&PULL)?;
+    Ok(stream)
+}
+
+// Two such clients. The second one's link fails at this call.
+fn peers(alloc: Global, entries: &[Vec<u8>; 2], failing: u64) -> Result<Peers, Fail> {
+    let [good, cut] = entries;
+    let mut failing_calls = Vec::new(alloc);
+    failing_calls.push(failing)?;
+    let mut peers = Peers::new(alloc);
+    peers.add(
+        alloc,
+        stream(alloc, good.as_slice())?,
+        1000,
+        Vec::new(alloc),
+    )?;
+    peers.add(alloc, stream(alloc, cut.as_slice())?, 1000, failing_calls)?;
+    Ok(peers)
+}
+
+// The first client has its two answers, and no entry is lost that was answered Ordered. Whether the other one's link failed.
+fn is_cut(rt: &impl Abort, alloc: Global, outcome: &Outcome) -> Result<bool, Fail> {
+    let [good, cut] = outcome.net.returned() else {
+        assert!(rt; false);
+        return Ok(false);
+    };
+    let counts = count(alloc, good.written(), &mut [])?;
+    assert_eq!(rt; (counts.ordered, counts.entries), (1, 1));
+    let counts = count(alloc, cut.written(), &mut [])?;
+    assert!(rt; outcome.order.len() == 2 || counts.ordered == 0);
+    Ok(cut.faults() == 1)
+}
+
+// Serves two clients, of which one has a link that fails at this call.
+fn serve_both<R: Threads + Wait + Sync + Abort>(
+    rt: &R,
+    alloc: Global,
+    cast: &Cast,
+    entries: &[Vec<u8>; 2],
+    failing: u64,
+) -> Result<bool, Fail> {
+    let peers = peers(alloc, entries, failing)?;
+    let outcome = served(rt, alloc, cast, peers, 2, &OpenGate)?;
+    assert_eq!(rt; outcome.answer, Ok(()));
+    is_cut(rt, alloc, &outcome)
+}
+
+#[test]
+fn a_link_may_fail_at_any_call(rt: HostRuntime) -> Result<(), Fail> {
+    let alloc = rt.alloc();
+    let cast = Cast::new(alloc)?;
+    let entries = [first_entry(alloc, &cast, 2)?, first_entry(alloc, &cast, 4)?];
+    let mut cut = 0u32;
+    for failing in 1..=CALLS {
+        if serve_both(&rt, alloc, &cast, &entries, failing)? {
+            cut = cut.saturating_add(1);
+        }
+    }
+    assert!(rt; cut >= 7 && u64::from(cut) < CALLS);
+    Ok(())
+}

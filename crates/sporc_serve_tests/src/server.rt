@@ -1,0 +1,95 @@
+//! A server over links in memory.
+
+ghost use Rattle.std.specs.Prelude.{◌≤◌, ◌<◌, [], vec_len, OnOk};
+ghost use Rattle.sporc_outside.specs.NetContent.{AreFresh};
+
+use sporc_order::Order;
+use sporc_outside::{Calls, Gate, MemoryLink, MemoryNet};
+use sporc_samples::Cast;
+use sporc_serve::{ServeFault, serve};
+use std::alloc::Global;
+use std::process::Abort;
+use std::sync::Wait;
+use std::test::Fail;
+use std::thread::Threads;
+
+/// The links that a server is to take, the last one first.
+#[derive(Drop)]
+pub struct Peers {
+    links: Vec<MemoryLink>,
+    ghost fresh: { AreFresh links.items },
+}
+
+impl Peers {
+    /// No links.
+    pub fn new(alloc: Global) -> Peers {
+        Peers {
+            links: Vec::new(alloc),
+        }
+    }
+
+    /// One link more, whose other end sends these bytes. At most `piece` bytes move in one call, and the calls with these
+    /// numbers fail.
+    pub fn add(
+        &mut self,
+        alloc: Global,
+        stream: Vec<u8>,
+        piece: usize,
+        failing: Vec<u64>,
+    ) -> Result<(), Fail>
+        requires { 0 < piece }
+    {
+        let link = MemoryLink::new(alloc, stream, piece, Calls::failing(failing));
+        self.links.push(link)?;
+        Ok(())
+    }
+}
+
+/// What a server left.
+#[derive(Drop)]
+pub struct Outcome {
+    pub order: Order,
+    pub net: MemoryNet,
+    pub answer: Result<(), ServeFault>,
+}
+
+impl Outcome {
+    /// Fails unless the order has these entries.
+    pub fn has_entries(&self, rt: &impl Abort, entries: &[Vec<u8>]) {
+        let mut from = 0u32;
+        for entry in entries {
+            match self.order.pull(from) {
+                [first, ..] => assert_eq!(rt; first.as_slice(), entry.as_slice()),
+                [] => assert!(rt; false),
+            }
+            from = from.saturating_add(1);
+        }
+        assert_eq!(rt; self.order.len(), from);
+    }
+
+    /// Fails unless this was written on the link that was taken as the last but so many.
+    pub fn is_written(&self, rt: &impl Abort, place: usize, wanted: &[u8]) {
+        match self.net.returned().get(place) {
+            Some(link) => assert_eq!(rt; link.written(), wanted),
+            None => assert!(rt; false),
+        }
+    }
+}
+
+/// Serves so many links from the empty order of the cast's document.
+pub fn served<R: Threads + Wait + Sync, G: Gate + Sync>(
+    rt: &R,
+    alloc: Global,
+    cast: &Cast,
+    peers: Peers,
+    sessions: u32,
+    gate: &G,
+) -> Result<Outcome, Fail>
+    requires some { 1 ≤ sessions }
+    requires limit { sessions ≤ 1024 }
+{
+    let order = Order::open(alloc, cast.genesis(alloc)?)?;
+    let mut net = MemoryNet::new(alloc, peers.links, Calls::failing(Vec::new(alloc)));
+    let (order, answer) = serve(rt, alloc, &mut net, "address", order, sessions, gate);
+    Ok(Outcome { order, net, answer })
+}
