@@ -1,0 +1,79 @@
+-- The shown text of a client is short, since each of its edits is.
+use Rattle.std.proofs.Common.{◌≡◌, ℕ, ◌*◌, ◌^◌, ◌≤◌, Bool, true, false, cond, ◌&&◌, List, [], ◌∷◌, ◌++◌, length, drop, Option, None, Some, refl, arith}
+use Rattle.std.proofs.Math.Nat.{mul-le-mul_left}
+use Rattle.std.specs.Option.{is_some}
+use Rattle.std.specs.Prelude.{is_none}
+use Rattle.sporc_base.specs.FirstFault.{first_of}
+use Rattle.sporc_delta.specs.Marks.{Mark, inserted_len}
+use Rattle.sporc_head.specs.History.{change_in}
+use Rattle.sporc_line.proofs.FormLengths.{inserted_len-over}
+use Rattle.sporc_member.specs.declared.change.Change.{Change as MemberChange}
+use Rattle.sporc_client.specs.declared.limits.TheConstants.{MAX_EDIT_BYTES, MAX_PENDING}
+use Rattle.sporc_client.specs.declared.pending.Pending.{Pending}
+use Rattle.sporc_client.specs.declared.pending.Pending.TheVariants as items
+use Rattle.sporc_client.specs.Allowed.{allows, allows_all, is_allowed}
+use Rattle.sporc_client.specs.Answers.{edit_checks, edit_fault}
+use Rattle.sporc_client.specs.Log.{Logged, Edit, Change, Submit, Dropped, Accept, Discard}
+use Rattle.sporc_client.specs.PlainClient.{Opening, PlainClient, committed_of, opened, shown_of}
+use Rattle.sporc_client.specs.Small.{AreShort}
+use Rattle.sporc_client.specs.Soundness.{IsSound}
+use Rattle.sporc_client.specs.Step.{accepted, change_comes, edit_comes, form_coming, is_flight, own_comes, replay, replay_from, restated, step}
+use Rattle.sporc_client.proofs.Checked.{edit_passed}
+use Rattle.sporc_client.proofs.Small.{inserted_by-short, inserted_len-bytes, length-shown, short_drop, short_rebased}
+
+none_of : {A : Type 0} (found : Option A) → is_none found ≡ true → found ≡ None
+none_of None is = refl
+none_of (Some x) is = absurd cc
+
+both_true : (a b : Bool) → a && b ≡ true → (a ≡ true) × (b ≡ true)
+both_true true b is = (refl, is)
+both_true false b is = absurd cc
+
+short_edit : (pending : List Pending) (marks : List Mark) → AreShort pending → inserted_len marks ≤ MAX_EDIT_BYTES → AreShort (pending ++ items.Edit marks ∷ [])
+short_edit [] marks short few = (few, tt)
+short_edit (items.Edit m ∷ ps) marks short few = (short.0, short_edit ps marks short.1 few)
+short_edit (items.Change c ∷ ps) marks short few = short_edit ps marks short few
+
+short_change : (pending : List Pending) (change : MemberChange) → AreShort pending → AreShort (pending ++ items.Change change ∷ [])
+short_change [] change short = tt
+short_change (items.Edit m ∷ ps) change short = (short.0, short_change ps change short.1)
+short_change (items.Change c ∷ ps) change short = short_change ps change short
+
+accepted_short : (c : PlainClient) (bytes : List ℕ) → AreShort c.pending → AreShort (accepted c bytes).pending
+accepted_short c bytes short =
+    elim (is_flight c bytes) as (λ (b : Bool). AreShort (cond b (own_comes c bytes) (cond (is_some (change_in bytes)) (change_comes c bytes) (edit_comes c bytes))).pending) [
+      | true ↦ short_drop c.pending short
+      | false ↦ elim (is_some (change_in bytes)) as (λ (b : Bool). AreShort (cond b (change_comes c bytes) (edit_comes c bytes)).pending) [
+        | true ↦ short
+        | false ↦ short_rebased (form_coming c bytes) c.pending short
+      ]
+    ]
+
+-- each event that a client allows leaves its pending edits short
+step_short : (c : PlainClient) (event : Logged) → AreShort c.pending → allows c event ≡ true → AreShort (step c event).pending
+unfolding allows edit_fault
+step_short c (Edit by seen marks) short may =
+    let passed = edit_passed c seen marks (none_of (first_of (edit_checks c seen marks)) may) in
+    short_edit c.pending (restated c seen marks) short (omega (arith, passed.bytes, inserted_len-bytes marks, inserted_len-over marks (drop seen c.shown)))
+step_short c (Change by change) short may = short_change c.pending change short
+step_short c (Submit by bytes) short may = short
+step_short c (Dropped by fault) short may = short_drop c.pending short
+step_short c (Accept by bytes) short may = accepted_short c bytes short
+step_short c (Discard by) short may = tt
+
+short_from : (c : PlainClient) (log : List Logged) → AreShort c.pending → allows_all c log ≡ true → AreShort (replay_from c log).pending
+short_from c [] short may = short
+short_from c (event ∷ log) short may =
+    let both = both_true (allows c event) (allows_all (step c event) log) may in
+    short_from (step c event) log (step_short c event short both.0) both.1
+
+short_replay : (opening : Opening) (log : List Logged) → is_allowed opening log ≡ true → AreShort (replay opening log).pending
+unfolding replay is_allowed
+short_replay opening log may = short_from (opened opening) log tt may
+
+pub shown_short : (opening : Opening) (log : List Logged) → is_allowed opening log ≡ true → IsSound (replay opening log) → length (committed_of (replay opening log)) ≤ 2 ^ 35
+    → length (replay opening log).pending ≤ MAX_PENDING → length (shown_of (replay opening log)) ≤ 2 ^ 36
+shown_short opening log may sound committed few =
+    let pending = (replay opening log).pending in
+    let bytes : MAX_EDIT_BYTES * length pending ≤ MAX_EDIT_BYTES * MAX_PENDING = mul-le-mul_left MAX_EDIT_BYTES few in
+    omega (arith, bytes, committed, inserted_by-short pending (short_replay opening log may), length-shown (committed_of (replay opening log)) pending sound.stated)

@@ -1,0 +1,23 @@
+use Rattle.std.proofs.Common.{◌≡◌, ◌≤◌, ◌^◌, ℕ, length, ap, ◌∙◌, arith}
+use Rattle.sporc_client.specs.declared.limits.TheConstants.{MAX_PENDING}
+use Rattle.sporc_client.specs.ClientModel.{state_of}
+use Rattle.sporc_client.specs.PlainClient.{committed_of, shown_after, shown_of}
+use Rattle.sporc_shared.proofs.Journals.{shown_last}
+use Rattle.sporc_shared.proofs.Lengths.{shown_short}
+use Rattle.sporc_shared.proofs.look.shown_len.Goals as goal
+
+pub returns-clause-value : goal.returns-clause-value
+returns-clause-value g c =
+    let client = c.args.client.now in
+    c.in-Some.ensures.some
+    ∙ ap (λ (n : ℕ). length (shown_after n (state_of client))) c.count_events.ensures.value
+    ∙ shown_last client.opening client.log c.count_events.ensures.sound
+
+pub returns-clause-short : goal.returns-clause-short
+returns-clause-short g c =
+    let client = c.args.client.now in
+    let value : c.in-Some.len ≡ length (shown_of (state_of client)) = returns-clause-value g c in
+    let committed : length (committed_of (state_of client)) ≤ 2 ^ 35 = omega (arith, c.committed_len-committed.ensures.value, c.committed_len-committed.ensures.small) in
+    let pending : length (state_of client).pending ≤ MAX_PENDING = omega (arith, c.pending-pending.ensures.value, c.pending-pending.ensures.few) in
+    let short : length (shown_of (state_of client)) ≤ 2 ^ 36 = shown_short client.opening client.log c.count_events.ensures.allowed c.count_events.ensures.sound committed pending in
+    omega (arith, value, short)

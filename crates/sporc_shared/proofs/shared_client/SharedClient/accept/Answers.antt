@@ -1,0 +1,29 @@
+use Rattle.std.proofs.Common.{◌≡◌, ℕ, ap, ◌∙◌}
+use Rattle.sporc_turn.specs.Knowing.{seeing}
+use Rattle.sporc_turn.specs.Passes.{known_held, known_of, value_of}
+use Rattle.sporc_client.specs.Answers.{added}
+use Rattle.sporc_client.specs.Log.{Accept}
+use Rattle.sporc_shared.specs.Items.{items_of, past_of, with_events}
+use Rattle.sporc_shared.proofs.Calling.{added_by, call_extends, call_front, call_is}
+use Rattle.sporc_shared.proofs.shared_client.SharedClient.accept.Goals as goal
+
+pub give-requires-clause-log : goal.give-requires-clause-log
+give-requires-clause-log g c =
+    let k = known_of c.args.pass in
+    let before = past_of (value_of c.in_ok-held.held).client in
+    let held : known_held c.accept-answer.new.held ≡ seeing k (items_of before) = rw c.accept-answer.ensures.turn c.in_ok-held.ensures.held in
+    call_extends k _ before _ _ held c.accept-answer.ensures.past (added_by c.accept-answer.result.0 (Accept c.number-by.result c.args.bytes.now) k.number c.number-by.ensures)
+
+pub returns-clause-call : goal.returns-clause-call
+returns-clause-call g c =
+    let k = known_of c.args.pass in
+    let before = past_of (value_of c.in_ok-held.held).client in
+    let answer = c.accept-answer.result.0 in
+    let held : known_held c.accept-answer.new.held ≡ seeing k (items_of before) = rw c.accept-answer.ensures.turn c.in_ok-held.ensures.held in
+    let became = c.accept-answer.ensures.past ∙ ap (λ (n : ℕ). with_events before (added answer (Accept n c.args.bytes.now))) c.number-by.ensures in
+    let call =
+    call_is k _ (known_of c.give.result.pass) before _ _ held became c.in_ok-held.ensures.found c.give.ensures.known c.give.ensures.agrees c.accept-answer.ensures.allowed in
+    rw c.give.ensures.answer (before, call, c.accept-answer.ensures.fault)
+
+pub returns-clause-front : goal.returns-clause-front
+returns-clause-front g c = rw c.give.ensures.front (call_front _ (known_of c.give.result.pass) _ c.accept-answer.result.1 c.give.ensures.known c.accept-answer.ensures.events)

@@ -1,0 +1,4 @@
+pub mod Items
+pub mod Looks
+pub mod Calls
+pub mod Passes

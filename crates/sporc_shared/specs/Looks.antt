@@ -1,0 +1,18 @@
+-- A client at a glance.
+use Rattle.std.specs.Prelude.{◌≡◌, ◌≤◌, ◌^◌, length}
+use Rattle.sporc_head.specs.declared.limits.TheConstants.{MAX_ENTRIES}
+use Rattle.sporc_head.specs.History.{hash_of}
+use Rattle.sporc_client.specs.Answers.{is_out}
+use Rattle.sporc_client.specs.PlainClient.{shown_of}
+use Rattle.sporc_shared.specs.declared.look.Look.{Look}
+use Rattle.sporc_shared.specs.Items.{Past, client_of}
+
+-- what is seen of a client with this past
+pub record IsLookAt (past : Past) (look : Look) : Type 0 where
+  pub at : look.at ≡ length (client_of past).entries
+  pub few : look.at ≤ MAX_ENTRIES
+  pub pending : look.pending ≡ length (client_of past).pending
+  pub len : look.len ≡ length (shown_of (client_of past))
+  pub short : look.len ≤ 2 ^ 36
+  pub hash : look.hash ≡ hash_of past.opening.genesis (client_of past).entries
+  pub removed : look.removed ≡ is_out (client_of past)

@@ -1,0 +1,25 @@
+use crate::item::Item;
+use crate::journal::count_events;
+use sporc_client::Client;
+use sporc_outside::LeafDisk;
+use sporc_turn::Kept;
+
+// The client under the lock. Its log begins with what the client was opened with, and goes on with its events.
+#[derive(Drop)]
+pub struct Desk<D: LeafDisk> {
+    pub client: Client<D>,
+}
+
+impl<D: LeafDisk> Kept for Desk<D> {
+    type Item = Item;
+
+    ghost use Rattle.sporc_shared.specs.Items.{by_of, items_of, past_of};
+
+    ghost log = { λ d. items_of (past_of d.client) };
+
+    ghost by = { by_of };
+
+    fn logged(&self) -> u64 {
+        count_events(&self.client) + 1
+    }
+}

@@ -1,0 +1,108 @@
+// What calls do to the client while it is out with a pass. Each answers, beside the call's answer, how many events the journal then has.
+
+ghost use Rattle.std.specs.Prelude.{◌≡◌, length};
+ghost use Rattle.std.specs.Result.{result_ok};
+ghost use Rattle.sporc_base.specs.FirstFault.{AnswersUnless};
+ghost use Rattle.sporc_client.specs.Answers.{accept_fault, added, change_fault, edit_fault};
+ghost use Rattle.sporc_client.specs.Log.{Accept as Accepted, Change as Changed, Edit as Edited};
+ghost use Rattle.sporc_client.specs.Submissions.{submission_added};
+ghost use Rattle.sporc_turn.specs.Passes.{IsSameTurn, value_of};
+ghost use Rattle.sporc_shared.specs.Calls.{Submits};
+ghost use Rattle.sporc_shared.specs.Items.{IsAllowed, client_of, past_of, with_events};
+ghost use Rattle.sporc_shared.specs.Looks.{IsLookAt};
+
+use crate::desk::Desk;
+use crate::journal::count_events;
+use crate::look::{Look, look_at};
+use sporc_client::{AcceptFault, EditFault, SubmitFault, Submitted};
+use sporc_delta::Delta;
+use sporc_member::Change;
+use sporc_outside::LeafDisk;
+use sporc_turn::Held;
+
+// An edit of the text that was shown after so many events.
+pub(crate) fn edit<D: LeafDisk>(
+    held: &mut Held<Desk<D>>,
+    by: u32,
+    seen: u64,
+    delta: &Delta,
+) -> (Result<u64, EditFault>, u64)
+    ensures turn { IsSameTurn held.old held.new }
+    ensures fault { AnswersUnless EditFault.Memory result.0 (edit_fault (client_of (past_of (value_of held.old).client)) seen delta.now) }
+    ensures past { past_of (value_of held.new).client ≡ with_events (past_of (value_of held.old).client) (added result.0 (Edited by seen delta.now)) }
+    ensures allowed { IsAllowed (past_of (value_of held.new).client) }
+    ensures events { result.1 ≡ length (past_of (value_of held.new).client).log }
+{
+    let desk = held.value();
+    let answer = desk.client.edit(by, seen, delta);
+    let events = count_events(&desk.client);
+    (answer, events)
+}
+
+// A change of the members.
+pub(crate) fn change<D: LeafDisk>(
+    held: &mut Held<Desk<D>>,
+    by: u32,
+    change: Change,
+) -> (Result<u64, EditFault>, u64)
+    ensures turn { IsSameTurn held.old held.new }
+    ensures fault { AnswersUnless EditFault.Memory result.0 (change_fault (client_of (past_of (value_of held.old).client))) }
+    ensures past { past_of (value_of held.new).client ≡ with_events (past_of (value_of held.old).client) (added result.0 (Changed by change)) }
+    ensures allowed { IsAllowed (past_of (value_of held.new).client) }
+    ensures events { result.1 ≡ length (past_of (value_of held.new).client).log }
+{
+    let desk = held.value();
+    let answer = desk.client.change(by, change);
+    let events = count_events(&desk.client);
+    (answer, events)
+}
+
+// A submission by 64 random bytes.
+pub(crate) fn submit<D: LeafDisk>(
+    held: &mut Held<Desk<D>>,
+    by: u32,
+    random: &[u8; 64],
+) -> (Result<Submitted, SubmitFault>, u64)
+    ensures turn { IsSameTurn held.old held.new }
+    ensures answer { Submits (past_of (value_of held.old).client) random.now result.0 }
+    ensures past { past_of (value_of held.new).client ≡ with_events (past_of (value_of held.old).client) (submission_added by result.0) }
+    ensures allowed { IsAllowed (past_of (value_of held.new).client) }
+    ensures events { result.1 ≡ length (past_of (value_of held.new).client).log }
+{
+    let desk = held.value();
+    let answer = desk.client.submit(by, random);
+    let events = count_events(&desk.client);
+    (answer, events)
+}
+
+// An entry that is to stand at a position.
+pub(crate) fn accept<D: LeafDisk>(
+    held: &mut Held<Desk<D>>,
+    by: u32,
+    pos: u32,
+    bytes: &[u8],
+) -> (Result<u64, AcceptFault>, u64)
+    ensures turn { IsSameTurn held.old held.new }
+    ensures fault { AnswersUnless AcceptFault.Memory result.0 (accept_fault (client_of (past_of (value_of held.old).client)) pos bytes.now) }
+    ensures past { past_of (value_of held.new).client ≡ with_events (past_of (value_of held.old).client) (added result.0 (Accepted by bytes.now)) }
+    ensures allowed { IsAllowed (past_of (value_of held.new).client) }
+    ensures events { result.1 ≡ length (past_of (value_of held.new).client).log }
+{
+    let desk = held.value();
+    let answer = desk.client.accept(by, pos, bytes);
+    let events = count_events(&desk.client);
+    (answer, events)
+}
+
+// The client at a glance.
+pub(crate) fn look<D: LeafDisk>(held: &mut Held<Desk<D>>) -> (Look, u64)
+    ensures same { held.new ≡ held.old }
+    ensures seen { IsLookAt (past_of (value_of held.old).client) result.0 }
+    ensures allowed { IsAllowed (past_of (value_of held.old).client) }
+    ensures events { result.1 ≡ length (past_of (value_of held.old).client).log }
+{
+    let desk = held.value();
+    let look = look_at(&desk.client);
+    let events = count_events(&desk.client);
+    (look, events)
+}
