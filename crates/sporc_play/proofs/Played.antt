@@ -1,19 +1,23 @@
 -- What a play did, from what its parts did.
-use Rattle.std.proofs.Common.{◌≡◌, ◌≤◌, List, ℕ, length, Result, Ok, Err, sym, subst, inr}
+use Rattle.std.proofs.Common.{◌≡◌, ◌≤◌, List, ℕ, length, true, Result, Ok, Err, sym, subst, inr}
 use Rattle.std.specs.Io.KnownBytes.{Consumes, IsAtEnd}
 use Rattle.std.specs.Result.{IfErr, OnOk, OnErr}
 use Rattle.sporc_outside.specs.Uses.{SinkUse, SourceUse}
+use Rattle.sporc_script.specs.Grammar.{IsPlayScript}
+use Rattle.sporc_script.specs.declared.play_line.PlayLine.{PlayLine}
 use Rattle.sporc_play.specs.declared.fault.PlayFault.{PlayFault}
 use Rattle.sporc_play.specs.declared.fault.PlayFault.TheVariants as faults
 use Rattle.sporc_play.specs.declared.playing.TheConstants.{MAX_SCRIPT}
-use Rattle.sporc_play.specs.declared.script.command.PlayLine.{PlayLine}
-use Rattle.sporc_play.specs.Grammar.{IsScript}
+use Rattle.sporc_play.specs.Cast.{has_admin}
+use Rattle.sporc_play.specs.Moves.{IsOneRun}
 use Rattle.sporc_play.specs.Playing.{IsWriteCause, PlayOutcome, ReadsScript, ReadsWhole}
 use Rattle.sporc_play.specs.Report.{Reports, ReportsPrefix}
+use Rattle.sporc_play.specs.Scene.{commands_of}
+use Rattle.sporc_play.proofs.ClosedPlays.{own_play}
 use Rattle.sporc_play.proofs.OneRun.{one_run}
 
-reads_script : (source : SourceUse) (text : List ℕ) (script : List PlayLine) → ReadsWhole source text → IsScript text script → ReadsScript source script
-reads_script source text script whole is = record { text = text; whole = whole; reads = is; one_run = one_run text script is }
+reads_script : (source : SourceUse) (text : List ℕ) (script : List PlayLine) → ReadsWhole source text → IsPlayScript text script → ReadsScript source script
+reads_script source text script whole is = record { text = text; whole = whole; reads = is; one_run = one_run text script is; genuine = own_play text script is }
 
 -- a script whose report was written, or a prefix of it
 reported : {T : Type 0} (source : SourceUse) (out : SinkUse) (script : List PlayLine) (r : Result T PlayFault) → ReadsScript source script
@@ -27,10 +31,10 @@ reported source out script (Err (faults.LineFault k)) reads ok err cause = absur
 reported source out script (Err faults.TooLong) reads ok err cause = absurd cause
 
 pub played : {T : Type 0} (source : SourceUse) (out : SinkUse) (text seen : List ℕ) (script performed : List PlayLine) (r : Result T PlayFault)
-    → Consumes source.left_before source.left_after text → IsAtEnd source.left_after → length text ≤ MAX_SCRIPT → seen ≡ text → IsScript seen script → performed ≡ script
+    → Consumes source.left_before source.left_after text → IsAtEnd source.left_after → length text ≤ MAX_SCRIPT → seen ≡ text → IsPlayScript seen script → performed ≡ script
     → OnOk r (Reports performed out.written_before out.written_after) → OnErr r (ReportsPrefix performed out.written_before out.written_after)
     → IfErr r (IsWriteCause out.faults_before out.faults_after) → PlayOutcome source out r
 played source out text seen script performed r all ended within same is one ok err cause =
     let whole : ReadsWhole source text = record { all = all; ended = ended; within = within } in
-    let reads = reads_script source text performed whole (subst (λ (t : List ℕ). IsScript t performed) same (subst (λ (s : List PlayLine). IsScript seen s) (sym one) is)) in
+    let reads = reads_script source text performed whole (subst (λ (t : List ℕ). IsPlayScript t performed) same (subst (λ (s : List PlayLine). IsPlayScript seen s) (sym one) is)) in
     reported source out performed r reads ok err cause

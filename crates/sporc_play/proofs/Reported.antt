@@ -1,43 +1,60 @@
 -- A report, line by line.
-use Rattle.std.proofs.Common.{◌≡◌, ℕ, zero, suc, ◌+◌, ◌<◌, ◌≤◌, List, [], ◌∷◌, ◌++◌, length, take, get_or, Option, refl, sym, ap, ◌∙◌, subst, arith, add-one, append-nil, append_assoc}
+use Rattle.std.proofs.Common.{◌≡◌, ℕ, zero, suc, ◌+◌, ◌<◌, ◌≤◌, List, [], ◌∷◌, ◌++◌, length, map, take, get_or, Option, refl, sym, ap, ◌∙◌, subst, arith, add-one, append-nil, append_assoc}
 use Rattle.std.proofs.lemmas.List.{take_all}
 use Rattle.std.proofs.lemmas.List.Sums.{fold-append}
 use Rattle.std.specs.Io.KnownBytes.{Appends}
 use Rattle.sporc_outside.proofs.Prefixes.{AppendsPrefix-all, AppendsPrefix-none, AppendsPrefix-then}
+use Rattle.sporc_client.specs.Run.{Setup}
+use Rattle.sporc_script.specs.declared.command.Command.{Command}
+use Rattle.sporc_script.specs.declared.play_line.PlayLine.{PlayLine}
 use Rattle.sporc_play.specs.declared.fault.PlayFault.{PlayFault}
 use Rattle.sporc_play.specs.declared.fault.PlayFault.TheVariants as faults
-use Rattle.sporc_play.specs.declared.script.command.PlayLine.{PlayLine}
-use Rattle.sporc_play.specs.Playing.{IsWriteCause}
-use Rattle.sporc_play.specs.Report.{Reports, ReportsPrefix, ReportsFrom, Writes}
-use Rattle.sporc_play.specs.Scene.{Scene, after, after_lines, opening, scene_at}
+use Rattle.sporc_play.specs.Cast.{setup_of}
 use Rattle.sporc_play.specs.Lines.{WritesPrefix}
+use Rattle.sporc_play.specs.Playing.{IsWriteCause}
+use Rattle.sporc_play.specs.Report.{Reports, ReportsFrom, ReportsPrefix, Writes}
+use Rattle.sporc_play.specs.Scene.{Scene, after, after_each, commands_of, opening, scene_at}
 
 take_suc : (lines : List PlayLine) (i : ℕ) (l : PlayLine) → i < length lines → l ≡ get_or lines i l → take (suc i) lines ≡ take i lines ++ l ∷ []
 take_suc [] i l low is = absurd (omega arith)
 take_suc (x ∷ xs) zero l low is = ap (λ (y : PlayLine). y ∷ []) (sym is)
 take_suc (x ∷ xs) (suc i) l low is = ap (λ (ys : List PlayLine). x ∷ ys) (take_suc xs i l (omega arith) is)
 
-take_more : (lines : List PlayLine) (i : ℕ) (l : PlayLine) → i < length lines → l ≡ get_or lines i l → take (i + 1) lines ≡ take i lines ++ l ∷ []
+pub take_more : (lines : List PlayLine) (i : ℕ) (l : PlayLine) → i < length lines → l ≡ get_or lines i l → take (i + 1) lines ≡ take i lines ++ l ∷ []
 take_more lines i l low is = rw add-one (take_suc lines i l low is)
 
-pub scene_more : (lines : List PlayLine) (i : ℕ) (l : PlayLine) → i < length lines → l ≡ get_or lines i l → scene_at lines (i + 1) ≡ after l.command (scene_at lines i)
+-- ---- scenes
+
+commands_push : (ls : List PlayLine) (l : PlayLine) → commands_of (ls ++ l ∷ []) ≡ commands_of ls ++ (λ scene. l.command) ∷ []
+commands_push [] l = refl
+commands_push (x ∷ xs) l = ap (λ (cs : List (Scene → Command)). (λ scene. x.command) ∷ cs) (commands_push xs l)
+
+pub after_push : (s : Setup) (scene : Scene) (commands : List (Scene → Command)) (command : Scene → Command)
+    → after_each s scene (commands ++ command ∷ []) ≡ after s (after_each s scene commands) (command (after_each s scene commands))
+after_push s scene commands command = fold-append (λ (now : Scene) (c : Scene → Command). after s now (c now)) scene commands (command ∷ [])
+
+pub scene_more : (lines : List PlayLine) (i : ℕ) (l : PlayLine) → i < length lines → l ≡ get_or lines i l → scene_at lines (i + 1) ≡ after (setup_of lines) (scene_at lines i) l.command
 scene_more lines i l low is =
-    ap (after_lines (opening lines)) (take_more lines i l low is) ∙ fold-append (λ (s : Scene) (x : PlayLine). after x.command s) (opening lines) (take i lines) (l ∷ [])
+    ap (λ (ls : List PlayLine). after_each (setup_of lines) (opening lines) (commands_of ls)) (take_more lines i l low is)
+    ∙ ap (after_each (setup_of lines) (opening lines)) (commands_push (take i lines) l)
+    ∙ after_push (setup_of lines) (opening lines) (commands_of (take i lines)) (λ scene. l.command)
 
-reports_push : (ls : List PlayLine) (s : Scene) (l : PlayLine) (report line : List ℕ) → ReportsFrom s ls report → Writes l.command (after_lines s ls) line → ReportsFrom s (ls ++ l ∷ []) (report ++ line)
-reports_push [] s l report line is writes = (line, [], writes, refl, ap (λ (t : List ℕ). t ++ line) is ∙ sym (append-nil line))
-reports_push (x ∷ xs) s l report line r writes =
-    (r.0, r.1 ++ line, r.2, reports_push xs (after x.command s) l r.1 line r.3 writes, ap (λ (t : List ℕ). t ++ line) r.4 ∙ append_assoc r.0 r.1 line)
+-- ---- reports
 
-pub reports_more : (lines : List PlayLine) (i : ℕ) (l : PlayLine) (s : Scene) (report line : List ℕ) → i < length lines → l ≡ get_or lines i l → s ≡ scene_at lines i
-    → ReportsFrom (opening lines) (take i lines) report → Writes l.command s line → ReportsFrom (opening lines) (take (i + 1) lines) (report ++ line)
-reports_more lines i l s report line low is scene so_far writes =
-    subst (λ (ls : List PlayLine). ReportsFrom (opening lines) ls (report ++ line)) (sym (take_more lines i l low is))
-    (reports_push (take i lines) (opening lines) l report line so_far (subst (λ (t : Scene). Writes l.command t line) scene writes))
+reports_push : (s : Setup) (ls : List PlayLine) (scene : Scene) (l : PlayLine) (report line : List ℕ) → ReportsFrom s scene ls report → Writes s (after_each s scene (commands_of ls)) l.command line → ReportsFrom s scene (ls ++ l ∷ []) (report ++ line)
+reports_push s [] scene l report line is writes = (line, [], writes, refl, ap (λ (t : List ℕ). t ++ line) is ∙ sym (append-nil line))
+reports_push s (x ∷ xs) scene l report line r writes =
+    (r.0, r.1 ++ line, r.2, reports_push s xs (after s scene x.command) l r.1 line r.3 writes, ap (λ (t : List ℕ). t ++ line) r.4 ∙ append_assoc r.0 r.1 line)
+
+pub reports_more : (lines : List PlayLine) (i : ℕ) (l : PlayLine) (report line : List ℕ) → i < length lines → l ≡ get_or lines i l
+    → ReportsFrom (setup_of lines) (opening lines) (take i lines) report → Writes (setup_of lines) (scene_at lines i) l.command line → ReportsFrom (setup_of lines) (opening lines) (take (i + 1) lines) (report ++ line)
+reports_more lines i l report line low is so_far writes =
+    subst (λ (ls : List PlayLine). ReportsFrom (setup_of lines) (opening lines) ls (report ++ line)) (sym (take_more lines i l low is))
+    (reports_push (setup_of lines) (take i lines) (opening lines) l report line so_far writes)
 
 pub reports_all : (lines : List PlayLine) (i : ℕ) (a b : Option (List ℕ)) → length lines ≤ i
-    → (report : List ℕ) × ReportsFrom (opening lines) (take i lines) report × Appends a b report → Reports lines a b
-reports_all lines i a b low r = (r.0, subst (λ (ls : List PlayLine). ReportsFrom (opening lines) ls r.0) (take_all i lines low) r.1, r.2)
+    → (report : List ℕ) × ReportsFrom (setup_of lines) (opening lines) (take i lines) report × Appends a b report → Reports lines a b
+reports_all lines i a b low r = (r.0, subst (λ (ls : List PlayLine). ReportsFrom (setup_of lines) (opening lines) ls r.0) (take_all i lines low) r.1, r.2)
 
 -- nothing is a prefix of each report
 pub reports_none : (lines : List PlayLine) (a : Option (List ℕ)) → ReportsPrefix lines a a
@@ -45,20 +62,20 @@ reports_none lines a = (0, [], refl, AppendsPrefix-none a [])
 
 -- the report of the lines so far, and the same with a prefix of the next line
 reports_so_far : (lines : List PlayLine) (i : ℕ) (a b : Option (List ℕ))
-    → (report : List ℕ) × ReportsFrom (opening lines) (take i lines) report × Appends a b report → ReportsPrefix lines a b
+    → (report : List ℕ) × ReportsFrom (setup_of lines) (opening lines) (take i lines) report × Appends a b report → ReportsPrefix lines a b
 reports_so_far lines i a b r = (i, r.0, r.1, AppendsPrefix-all a b r.0 r.2)
 
-reports_prefix : (lines : List PlayLine) (i : ℕ) (l : PlayLine) (s : Scene) (a b c : Option (List ℕ)) → i < length lines → l ≡ get_or lines i l → s ≡ scene_at lines i
-    → (report : List ℕ) × ReportsFrom (opening lines) (take i lines) report × Appends a b report → WritesPrefix l.command s b c → ReportsPrefix lines a c
-reports_prefix lines i l s a b c low is scene r w =
-    (i + 1, r.0 ++ w.0, reports_more lines i l s r.0 w.0 low is scene r.1 w.1, AppendsPrefix-then a b c r.0 w.0 r.2 w.2)
+reports_prefix : (lines : List PlayLine) (i : ℕ) (l : PlayLine) (a b c : Option (List ℕ)) → i < length lines → l ≡ get_or lines i l
+    → (report : List ℕ) × ReportsFrom (setup_of lines) (opening lines) (take i lines) report × Appends a b report → WritesPrefix (setup_of lines) (scene_at lines i) l.command b c → ReportsPrefix lines a c
+reports_prefix lines i l a b c low is r w =
+    (i + 1, r.0 ++ w.0, reports_more lines i l r.0 w.0 low is r.1 w.1, AppendsPrefix-then a b c r.0 w.0 r.2 w.2)
 
 -- after a fault of the next line
-pub reports_failed : (lines : List PlayLine) (i : ℕ) (l : PlayLine) (s : Scene) (a b c : Option (List ℕ)) (before after : ℕ) (fault : PlayFault) → i < length lines → l ≡ get_or lines i l → s ≡ scene_at lines i
-    → (report : List ℕ) × ReportsFrom (opening lines) (take i lines) report × Appends a b report → IsWriteCause before after fault
-    → (fault ≡ faults.Memory → c ≡ b) → (fault ≡ faults.WriteFault → WritesPrefix l.command s b c) → ReportsPrefix lines a c
-reports_failed lines i l s a b c before after faults.Memory low is scene r cause memory prefix = subst (λ (o : Option (List ℕ)). ReportsPrefix lines a o) (sym (memory refl)) (reports_so_far lines i a b r)
-reports_failed lines i l s a b c before after faults.WriteFault low is scene r cause memory prefix = reports_prefix lines i l s a b c low is scene r (prefix refl)
-reports_failed lines i l s a b c before after faults.ReadFault low is scene r cause memory prefix = absurd cause
-reports_failed lines i l s a b c before after (faults.LineFault k) low is scene r cause memory prefix = absurd cause
-reports_failed lines i l s a b c before after faults.TooLong low is scene r cause memory prefix = absurd cause
+pub reports_failed : (lines : List PlayLine) (i : ℕ) (l : PlayLine) (a b c : Option (List ℕ)) (before after : ℕ) (fault : PlayFault) → i < length lines → l ≡ get_or lines i l
+    → (report : List ℕ) × ReportsFrom (setup_of lines) (opening lines) (take i lines) report × Appends a b report → IsWriteCause before after fault
+    → (fault ≡ faults.Memory → c ≡ b) → (fault ≡ faults.WriteFault → WritesPrefix (setup_of lines) (scene_at lines i) l.command b c) → ReportsPrefix lines a c
+reports_failed lines i l a b c before after faults.Memory low is r cause memory prefix = subst (λ (o : Option (List ℕ)). ReportsPrefix lines a o) (sym (memory refl)) (reports_so_far lines i a b r)
+reports_failed lines i l a b c before after faults.WriteFault low is r cause memory prefix = reports_prefix lines i l a b c low is r (prefix refl)
+reports_failed lines i l a b c before after faults.ReadFault low is r cause memory prefix = absurd cause
+reports_failed lines i l a b c before after (faults.LineFault k) low is r cause memory prefix = absurd cause
+reports_failed lines i l a b c before after faults.TooLong low is r cause memory prefix = absurd cause

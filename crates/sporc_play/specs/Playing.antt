@@ -1,20 +1,26 @@
 -- What a play does with its source and its sink.
-use Rattle.std.specs.Prelude.{ℕ, ◌+◌, ◌≤◌, ◌⊎◌, List, length, Result, Ok, Err}
-use Rattle.std.specs.Io.KnownBytes.{Consumes, IsAtEnd}
+use Rattle.std.specs.Prelude.{◌≡◌, true, ℕ, ◌+◌, ◌≤◌, ◌⊎◌, List, length, Result, Ok, Err}
+use Rattle.std.specs.Io.KnownBytes.{Appends, Consumes, IsAtEnd}
 use Rattle.sporc_outside.specs.declared.source.ReadFault.{ReadFault}
 use Rattle.sporc_outside.specs.declared.source.ReadFault.TheVariants as reading
 use Rattle.sporc_outside.specs.Counts.{Rose}
 use Rattle.sporc_outside.specs.Reading.{ConsumesExactly}
 use Rattle.sporc_outside.specs.Uses.{IsUnwritten, SinkUse, SourceUse}
+use Rattle.sporc_outside.specs.Writing.{AppendsPrefix}
 use Rattle.sporc_play.specs.declared.fault.PlayFault.{PlayFault}
 use Rattle.sporc_play.specs.declared.fault.PlayFault.TheVariants as faults
 use Rattle.sporc_play.specs.declared.playing.TheConstants.{MAX_SCRIPT}
-use Rattle.sporc_play.specs.declared.script.command.PlayLine.{PlayLine}
-use Rattle.sporc_play.specs.declared.script.reader.LineFault.{LineFault}
-use Rattle.sporc_play.specs.declared.script.reader.LineFault.TheVariants as lines
-use Rattle.sporc_play.specs.Grammar.{IsFaultLine, IsScript}
-use Rattle.sporc_play.specs.Moves.{IsOneRun}
+use Rattle.sporc_script.specs.declared.lines.LineFault.{LineFault}
+use Rattle.sporc_script.specs.declared.lines.LineFault.TheVariants as lines
+use Rattle.sporc_script.specs.declared.play_line.PlayLine.{PlayLine}
+use Rattle.sporc_script.specs.Grammar.{IsPlayFault, IsPlayScript}
+use Rattle.sporc_client.specs.Run.{Genuine, start}
+use Rattle.sporc_play.specs.Cast.{has_admin, setup_of}
+use Rattle.sporc_play.specs.Generated.{Summarizes, generated_cast, generated_commands, generated_scene}
+use Rattle.sporc_play.specs.Moves.{IsOneRun, moves_of}
+use Rattle.sporc_play.specs.OwnPlays.{AreByClients}
 use Rattle.sporc_play.specs.Report.{Reports, ReportsPrefix}
+use Rattle.sporc_play.specs.Scene.{commands_of}
 
 -- the fault of a play that a fault of its source or its script is
 abbrev pub read_fault : ReadFault → PlayFault
@@ -32,16 +38,22 @@ pub record ReadsWhole (source : SourceUse) (text : List ℕ) : Type 0 where
   pub ended : IsAtEnd source.left_after
   pub within : length text ≤ MAX_SCRIPT
 
--- the source was read to its end as this script, whose play is a run of the clients, who agree at any two of its moments
+-- a text that is not too long is this script
+abbrev pub IsShortScript : List PlayLine → Type 0
+IsShortScript script = (text : List ℕ) × (length text ≤ MAX_SCRIPT) × IsPlayScript text script
+
+-- the source was read to its end as this script; if it has an admin, without whom it has no command, its play is a run of the clients, who agree at any two of its moments,
+-- and without `sign`, `flip` and `cut` it is a genuine one
 pub record ReadsScript (source : SourceUse) (script : List PlayLine) : Type 0 where
   pub text : List ℕ
   pub whole : ReadsWhole source text
-  pub reads : IsScript text script
-  pub one_run : IsOneRun script
+  pub reads : IsPlayScript text script
+  pub one_run : has_admin script ≡ true → IsOneRun script (commands_of script)
+  pub genuine : has_admin script ≡ true → AreByClients script → Genuine (setup_of script) start (moves_of script (commands_of script))
 
 -- the source was read to its end, and its first line outside the grammar is line k
 abbrev pub HasFaultLine : SourceUse → ℕ → Type 0
-HasFaultLine source k = (text : List ℕ) × ReadsWhole source text × IsFaultLine text k
+HasFaultLine source k = (text : List ℕ) × ReadsWhole source text × IsPlayFault text k
 
 -- one byte above the limit was taken, and no more
 abbrev pub IsTooLong : SourceUse → Type 0
@@ -69,3 +81,21 @@ abbrev pub IsWriteCause : ℕ → ℕ → PlayFault → Type 0
 IsWriteCause before after faults.Memory = Unit {0}
 IsWriteCause before after faults.WriteFault = Rose before after
 IsWriteCause before after fault = ⊥
+
+-- ---- generated runs
+
+-- the summary of the generated run of so many edits was written, nothing else; that run is one of the clients, who agree
+abbrev pub PlaysGenerated : ℕ → SinkUse → Type 0
+PlaysGenerated n out =
+    IsOneRun generated_cast (generated_commands n) × ((line : List ℕ) × Summarizes (generated_scene n) line × Appends out.written_before out.written_after line)
+
+-- a prefix of that summary was written, nothing else
+abbrev pub PlaysGeneratedPrefix : ℕ → SinkUse → Type 0
+PlaysGeneratedPrefix n out =
+    IsOneRun generated_cast (generated_commands n) × ((line : List ℕ) × Summarizes (generated_scene n) line × AppendsPrefix out.written_before out.written_after line)
+
+-- why that summary was not written whole: memory, and nothing was written, or the sink, whose count rose
+abbrev pub GeneratedFault : ℕ → SinkUse → PlayFault → Type 0
+GeneratedFault n out faults.Memory = IsUnwritten out
+GeneratedFault n out faults.WriteFault = Rose out.faults_before out.faults_after × PlaysGeneratedPrefix n out
+GeneratedFault n out fault = ⊥

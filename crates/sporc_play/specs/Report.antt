@@ -1,106 +1,240 @@
 -- The lines that the commands of a script write.
-use Rattle.std.specs.Prelude.{◌≡◌, ℕ, ◌+◌, List, [], ◌∷◌, ◌++◌, length, codes, take, Option, Some, None, Result, Ok, Err}
+use Rattle.std.specs.Prelude.{◌≡◌, ℕ, ◌+◌, ◌-◌, nat_lt, Bool, true, false, List, [], ◌∷◌, ◌++◌, length, codes, flat_map, slice_get, take, Option, Some, None, Result, Ok, Err}
+use Rattle.std.specs.FinMap.{get}
 use Rattle.std.specs.Fmt.{decimal}
 use Rattle.std.specs.Io.KnownBytes.{Appends}
-use Rattle.sporc_delta.specs.Marks.{Mark}
+use Rattle.hex.specs.Hex.{encode_lower}
+use Rattle.lms_leaf.specs.declared.faults.LeafFault.{LeafFault}
 use Rattle.sporc_base.specs.FirstFault.{first_of}
-use Rattle.sporc_plain.specs.declared.entry.PlainEntry.{PlainEntry}
-use Rattle.sporc_plain.specs.declared.client.PlainSubmitted.{PlainSubmitted}
-use Rattle.sporc_plain.specs.declared.client.PlainSubmitted.TheVariants.{Waiting, Nothing, Entry}
-use Rattle.sporc_plain.specs.declared.fault.EditFault.{EditFault}
-use Rattle.sporc_plain.specs.declared.fault.PlainRefusal.{PlainRefusal}
-use Rattle.sporc_plain.specs.declared.fault.PlainSubmitFault.{PlainSubmitFault}
+use Rattle.sporc_delta.specs.Marks.{Mark}
+use Rattle.sporc_entry.specs.Genesis.{genesis_bytes}
+use Rattle.sporc_epoch.specs.Hints.{hints_of}
+use Rattle.sporc_epoch.specs.Keys.{Keys}
+use Rattle.sporc_epoch.specs.declared.fault.HintFault.{HintFault}
+use Rattle.sporc_hash.specs.Chain.{chain}
 use Rattle.sporc_hash.specs.declared.verdict.Verdict.{Verdict}
 use Rattle.sporc_hash.specs.declared.verdict.Verdict.TheVariants.{Same, Prefix, Longer, ForkedAfter}
-use Rattle.sporc_plain.specs.Client.{PlainState, edit_checks, entry_checks, shown_of}
-use Rattle.sporc_plain.specs.History.{hashes_of}
-use Rattle.sporc_plain.specs.Names.{edit_fault_name, refusal_name, submit_fault_name}
-use Rattle.sporc_plain.specs.Submission.{submission_of}
 use Rattle.sporc_hash.specs.Verdict.{SameTip, TipIsIn, DivergesAfter}
+use Rattle.sporc_head.specs.History.{hash_of, roster_of}
+use Rattle.sporc_line.specs.Openings.{open_checks}
+use Rattle.sporc_line.specs.declared.fault.LineOpenFault.{LineOpenFault}
+use Rattle.sporc_member.specs.ChangeFault.{change_fault_name}
+use Rattle.sporc_member.specs.declared.founder.Founder.{Founder}
 use Rattle.sporc_outside.specs.Writing.{AppendsPrefix}
-use Rattle.sporc_play.specs.declared.seat.Seat.{Seat}
-use Rattle.sporc_play.specs.declared.script.command.Command.{Command}
-use Rattle.sporc_play.specs.declared.script.command.Command.TheVariants as commands
-use Rattle.sporc_play.specs.declared.script.command.Comparison.{Comparison}
-use Rattle.sporc_play.specs.declared.script.command.PlayLine.{PlayLine}
-use Rattle.sporc_play.specs.Quoted.{quoted}
-use Rattle.sporc_play.specs.Scene.{Scene, after, entry_at, marks_by, opening, seat_of}
+use Rattle.sporc_client.specs.declared.fault.AcceptFault.{AcceptFault}
+use Rattle.sporc_client.specs.declared.fault.EditFault.{EditFault}
+use Rattle.sporc_client.specs.declared.fault.SubmitFault.{SubmitFault}
+use Rattle.sporc_client.specs.declared.submitted.Submitted.{Submitted}
+use Rattle.sporc_client.specs.declared.submitted.Submitted.TheVariants as submitted
+use Rattle.sporc_client.specs.Answers.{accept_fault, change_fault, discard_fault, edit_fault, is_out}
+use Rattle.sporc_client.specs.Log.{journal_of}
+use Rattle.sporc_client.specs.PlainClient.{PlainClient, shown_after, shown_of}
+use Rattle.sporc_client.specs.Run.{Setup}
+use Rattle.sporc_script.specs.Quoted.{quoted}
+use Rattle.sporc_script.specs.declared.command.Command.{Command}
+use Rattle.sporc_script.specs.declared.command.Command.TheVariants as commands
+use Rattle.sporc_script.specs.declared.command.Edit.{Edit}
+use Rattle.sporc_script.specs.declared.command.Pair.{Pair}
+use Rattle.sporc_script.specs.declared.play_line.PlayLine.{PlayLine}
+use Rattle.sporc_play.specs.Cast.{setup_of}
+use Rattle.sporc_play.specs.JournalLines.{journal_lines}
+use Rattle.sporc_play.specs.Names.{accept_fault_name, edit_fault_name, hint_fault_name, open_fault_name, role_name, submit_fault_name}
+use Rattle.sporc_play.specs.Scene.{Scene, after, delta_by, entries_at, entry_at, leaf_after, opening, seen_by, submission_in}
 
--- edit
-abbrev pub edit_answer : ℕ → ℕ → Option EditFault → List ℕ
-edit_answer m events None = decimal m ++ (codes " edit event " ++ (decimal events ++ codes "\n"))
-edit_answer m events (Some fault) = decimal m ++ (codes " edit refused " ++ (edit_fault_name fault ++ codes "\n"))
+-- ---- lines that several commands write
 
-abbrev pub edit_line : ℕ → PlainState → Option (List Mark) → List ℕ
-edit_line m c None = decimal m ++ codes " edit outside " ++ decimal (length (shown_of c)) ++ codes "\n"
-edit_line m c (Some d) = edit_answer m (c.events + 1) (first_of (edit_checks c d))
+abbrev pub not_open_line : ℕ → List ℕ
+not_open_line m = decimal m ++ codes " not open\n"
 
--- submit: the next entry that is made has this number, and the member's last one has that
-abbrev pub submit_line : ℕ → ℕ → ℕ → Result PlainSubmitted PlainSubmitFault → List ℕ
-submit_line m next last (Ok (Entry e)) = decimal m ++ codes " submit entry " ++ decimal next ++ codes "\n"
-submit_line m next last (Ok Nothing) = decimal m ++ codes " submit nothing\n"
-submit_line m next last (Ok Waiting) = decimal m ++ codes " submit waiting " ++ decimal last ++ codes "\n"
-submit_line m next last (Err fault) = decimal m ++ codes " submit refused " ++ submit_fault_name fault ++ codes "\n"
+abbrev pub no_entry_line : ℕ → List ℕ
+no_entry_line number = codes "no entry " ++ (decimal number ++ codes "\n")
 
--- give
-abbrev pub give_answer : ℕ → ℕ → Option PlainRefusal → List ℕ
-give_answer m position None = decimal m ++ codes " accept " ++ decimal position ++ codes " ok\n"
-give_answer m position (Some r) = decimal m ++ (codes " accept " ++ (decimal position ++ (codes " refused " ++ (refusal_name r ++ codes "\n"))))
+-- the number of an entry that was made of another
+abbrev pub entry_line : ℕ → List ℕ
+entry_line next = codes "entry " ++ (decimal next ++ codes "\n")
 
-abbrev pub give_line : ℕ → ℕ → PlainState → Option PlainEntry → List ℕ
+-- a call that adds an event, unless it is refused; the journal has so many with it
+abbrev pub event_line : ℕ → List ℕ → ℕ → Option EditFault → List ℕ
+event_line m word events None = decimal m ++ (codes " " ++ (word ++ (codes " event " ++ (decimal events ++ codes "\n"))))
+event_line m word events (Some fault) = decimal m ++ (codes " " ++ (word ++ (codes " refused " ++ (edit_fault_name fault ++ codes "\n"))))
+
+-- ---- edits, changes and discards
+
+abbrev pub edit_line : ℕ → PlainClient → ℕ → Option (List Mark) → List ℕ
+edit_line m c seen None = decimal m ++ (codes " edit outside " ++ (decimal (length (shown_after seen c)) ++ codes "\n"))
+edit_line m c seen (Some marks) = event_line m (codes "edit") (length c.shown + 1) (edit_fault c seen marks)
+
+-- of what a member sees, or saw
+abbrev pub edited_line : Edit → PlainClient → List ℕ
+edited_line e c = edit_line e.member c (seen_by c e.seen) (delta_by c (seen_by c e.seen) e.change)
+
+abbrev pub change_line : ℕ → PlainClient → List ℕ
+change_line m c = event_line m (codes "change") (length c.shown + 1) (change_fault c)
+
+abbrev pub discard_line : ℕ → PlainClient → List ℕ
+discard_line m c = event_line m (codes "discard") (length c.shown + 1) (discard_fault c)
+
+-- ---- submissions: the next entry that is made has this number, and the client's last one has that
+
+abbrev pub submit_line : ℕ → ℕ → ℕ → Result Submitted SubmitFault → List ℕ
+submit_line m next last (Ok (submitted.Entry entry)) = decimal m ++ (codes " submit entry " ++ (decimal next ++ codes "\n"))
+submit_line m next last (Ok submitted.Nothing) = decimal m ++ codes " submit nothing\n"
+submit_line m next last (Ok submitted.Waiting) = decimal m ++ (codes " submit waiting " ++ (decimal last ++ codes "\n"))
+submit_line m next last (Ok (submitted.Dropped fault)) = decimal m ++ (codes " submit dropped " ++ (change_fault_name fault ++ codes "\n"))
+submit_line m next last (Err fault) = decimal m ++ (codes " submit refused " ++ (submit_fault_name fault ++ codes "\n"))
+
+-- ---- what is handed out, and going back
+
+abbrev pub accept_line : ℕ → ℕ → Option AcceptFault → List ℕ
+accept_line m position None = decimal m ++ (codes " accept " ++ (decimal position ++ codes " ok\n"))
+accept_line m position (Some fault) = decimal m ++ (codes " accept " ++ (decimal position ++ (codes " refused " ++ (accept_fault_name fault ++ codes "\n"))))
+
+abbrev pub give_line : ℕ → ℕ → PlainClient → Option (List ℕ) → List ℕ
 give_line m position c None = decimal m ++ (codes " accept " ++ (decimal position ++ codes " no entry\n"))
-give_line m position c (Some e) = give_answer m position (first_of (entry_checks c position e))
+give_line m position c (Some bytes) = accept_line m position (accept_fault c position bytes)
 
--- show
-abbrev pub show_line : ℕ → PlainState → List ℕ
+abbrev pub restart_answer : Bool → ℕ → ℕ → ℕ → List ℕ
+restart_answer true m k len = decimal m ++ (codes " restart " ++ (decimal k ++ (codes " ahead " ++ (decimal len ++ codes "\n"))))
+restart_answer false m k len = decimal m ++ (codes " restart " ++ (decimal k ++ codes " ok\n"))
+
+abbrev pub restart_line : ℕ → ℕ → PlainClient → List ℕ
+restart_line m k c = restart_answer (nat_lt (length c.entries) k) m k (length c.entries)
+
+-- ---- joiners
+
+abbrev pub open_line : ℕ → Option LineOpenFault → List ℕ
+open_line m None = decimal m ++ codes " join ok\n"
+open_line m (Some fault) = decimal m ++ (codes " join refused " ++ (open_fault_name fault ++ codes "\n"))
+
+abbrev pub hints_line : Setup → ℕ → Result Keys HintFault → List ℕ
+hints_line s m (Ok ring) = open_line m (first_of (open_checks s.genesis (get ring 0)))
+hints_line s m (Err fault) = decimal m ++ (codes " join refused " ++ (hint_fault_name fault ++ codes "\n"))
+
+abbrev pub joined_line : Setup → ℕ → Result (List (List ℕ)) ℕ → List ℕ
+joined_line s m (Ok entries) = hints_line s m (hints_of entries m (s.pairs m))
+joined_line s m (Err missing) = no_entry_line missing
+
+abbrev pub join_line : Setup → ℕ → Result (List (List ℕ)) ℕ → Option PlainClient → List ℕ
+join_line s m entries (Some c) = decimal m ++ codes " already open\n"
+join_line s m entries None = joined_line s m entries
+
+-- ---- what a client shows
+
+abbrev pub if_removed : Bool → List ℕ
+if_removed true = codes " removed"
+if_removed false = []
+
+abbrev pub show_line : ℕ → PlainClient → List ℕ
 show_line m c =
-    decimal m ++ codes " at " ++ decimal (length c.entries) ++ codes " pending " ++ decimal (length c.pending) ++ codes " text "
-    ++ quoted (shown_of c) ++ codes "\n"
+    decimal m ++ (codes " at " ++ (decimal (length c.entries) ++ (codes " pending " ++ (decimal (length c.pending) ++ (codes " text "
+    ++ (quoted (shown_of c) ++ (if_removed (is_out c) ++ codes "\n")))))))
 
--- compare: how one chain of values stands to another
+abbrev pub member_text : Founder → List ℕ
+member_text f = codes " " ++ (decimal f.member ++ (codes "=" ++ role_name f.role))
+
+abbrev pub text_of_member : Option Founder → List ℕ
+text_of_member None = []
+text_of_member (Some f) = member_text f
+
+abbrev pub members_line : ℕ → PlainClient → List ℕ
+members_line m c = decimal m ++ (codes " members" ++ (flat_map member_text (roster_of c.opening.genesis c.entries).members ++ codes "\n"))
+
+abbrev pub hash_line : ℕ → PlainClient → List ℕ
+hash_line m c = decimal m ++ (codes " hash " ++ (encode_lower (hash_of c.opening.genesis c.entries) ++ codes "\n"))
+
+-- ---- how the history of one member stands to another's
+
 abbrev pub Stands : List (List ℕ) → List (List ℕ) → Verdict → Type 0
 Stands a b Same = SameTip a b
 Stands a b Prefix = TipIsIn a b
 Stands a b Longer = TipIsIn b a
 Stands a b (ForkedAfter k) = DivergesAfter a b k
 
-abbrev pub compare_line : Comparison → Verdict → List ℕ
-compare_line c Same = decimal c.first ++ codes " " ++ decimal c.second ++ codes " same\n"
-compare_line c Prefix = decimal c.first ++ codes " " ++ decimal c.second ++ codes " prefix\n"
-compare_line c Longer = decimal c.first ++ codes " " ++ decimal c.second ++ codes " longer\n"
-compare_line c (ForkedAfter k) = decimal c.first ++ (codes " " ++ (decimal c.second ++ (codes " forked after " ++ (decimal k ++ codes "\n"))))
+abbrev pub compare_line : Pair → Verdict → List ℕ
+compare_line p Same = decimal p.first ++ (codes " " ++ (decimal p.second ++ codes " same\n"))
+compare_line p Prefix = decimal p.first ++ (codes " " ++ (decimal p.second ++ codes " prefix\n"))
+compare_line p Longer = decimal p.first ++ (codes " " ++ (decimal p.second ++ codes " longer\n"))
+compare_line p (ForkedAfter k) = decimal p.first ++ (codes " " ++ (decimal p.second ++ (codes " forked after " ++ (decimal k ++ codes "\n"))))
 
--- the line of a command for a member's client; a member without one writes none
-abbrev pub line_by : (Seat → List ℕ) → Option Seat → List ℕ
-line_by line None = []
-line_by line (Some seat) = line seat
+abbrev pub chain_of : PlainClient → List (List ℕ)
+chain_of c = chain (genesis_bytes c.opening.genesis) c.entries
 
--- the line of a comparison of two clients: if values of both chains meet again after they parted, any place at which they part may stand in it
-abbrev pub Compares : Comparison → Option Seat → Option Seat → List ℕ → Type 0
-Compares c (Some a) (Some b) line = (v : Verdict) × Stands (hashes_of a.client.genesis a.client.entries) (hashes_of b.client.genesis b.client.entries) v × (line ≡ compare_line c v)
-Compares c None b line = line ≡ []
-Compares c (Some a) None line = line ≡ []
+-- if values of both chains meet again after they parted, any place at which they part may stand in the line
+abbrev pub Compares : Pair → Option PlainClient → Option PlainClient → List ℕ → Type 0
+Compares p (Some a) (Some b) line = (v : Verdict) × Stands (chain_of a) (chain_of b) v × (line ≡ compare_line p v)
+Compares p None b line = line ≡ not_open_line p.first
+Compares p (Some a) None line = line ≡ not_open_line p.second
 
--- the line that a command writes in a scene; a declaration writes none
-abbrev pub Writes : Command → Scene → List ℕ → Type 0
-Writes (commands.Member d) s line = line ≡ []
-Writes (commands.Edit e) s line = line ≡ line_by (λ seat. edit_line e.member seat.client (marks_by seat.client e.change)) (seat_of e.member s.seats)
-Writes (commands.Submit m) s line = line ≡ line_by (λ seat. submit_line m (length s.made + 1) seat.last (submission_of seat.client)) (seat_of m s.seats)
-Writes (commands.Give g) s line = line ≡ line_by (λ seat. give_line g.member g.position seat.client (entry_at s.made g.entry)) (seat_of g.member s.seats)
-Writes (commands.Show m) s line = line ≡ line_by (λ seat. show_line m seat.client) (seat_of m s.seats)
-Writes (commands.Compare c) s line = Compares c (seat_of c.first s.seats) (seat_of c.second s.seats) line
+-- ---- entries that are changed or forged
 
--- the lines of all commands, performed one after another from a scene on
-abbrev pub ReportsFrom : Scene → List PlayLine → List ℕ → Type 0
-ReportsFrom s [] report = report ≡ []
-ReportsFrom s (l ∷ ls) report =
-    (line : List ℕ) × (rest : List ℕ) × Writes l.command s line × ReportsFrom (after l.command s) ls rest × (report ≡ line ++ rest)
+abbrev pub flipped_line : ℕ → ℕ → Option ℕ → List ℕ
+flipped_line next at None = codes "no byte " ++ (decimal at ++ codes "\n")
+flipped_line next at (Some byte) = entry_line next
+
+abbrev pub flip_line : ℕ → ℕ → ℕ → Option (List ℕ) → List ℕ
+flip_line next number at None = no_entry_line number
+flip_line next number at (Some bytes) = flipped_line next at (slice_get bytes at)
+
+abbrev pub cut_line : ℕ → ℕ → Option (List ℕ) → List ℕ
+cut_line next number None = no_entry_line number
+cut_line next number (Some bytes) = entry_line next
+
+-- by the leaf that the rogue draws
+abbrev pub sign_line : ℕ → ℕ → Result ℕ LeafFault → List ℕ
+sign_line m next (Ok leaf) = decimal m ++ (codes " sign entry " ++ (decimal next ++ codes "\n"))
+sign_line m next (Err fault) = decimal m ++ codes " sign exhausted\n"
+
+-- ---- commands
+
+-- the line of a call of a client, if there is one
+abbrev pub line_by : ℕ → Option PlainClient → (PlainClient → List ℕ) → List ℕ
+line_by m None line = not_open_line m
+line_by m (Some c) line = line c
+
+-- the number of the next entry that is made
+abbrev pub next_number : Scene → ℕ
+next_number scene = length scene.made + 1
+
+-- the line that a command writes in a scene, but for a comparison; a declaration writes none
+abbrev pub line_of : Setup → Scene → Command → List ℕ
+line_of s scene (commands.Edit e) = line_by e.member (scene.world.clients e.member) (edited_line e)
+line_of s scene (commands.Change e) = line_by e.member (scene.world.clients e.member) (change_line e.member)
+line_of s scene (commands.Discard m) = line_by m (scene.world.clients m) (discard_line m)
+line_of s scene (commands.Submit m) =
+    line_by m (scene.world.clients m) (λ c. submit_line m (next_number scene) (scene.last m) (submission_in s scene m c))
+line_of s scene (commands.Give g) =
+    line_by g.member (scene.world.clients g.member) (λ c. give_line g.member g.position c (entry_at scene.made g.entry))
+line_of s scene (commands.Restart r) = line_by r.member (scene.world.clients r.member) (restart_line r.member r.events)
+line_of s scene (commands.Join j) = join_line s j.member (entries_at scene.made j.entries) (scene.world.clients j.member)
+line_of s scene (commands.Show m) = line_by m (scene.world.clients m) (show_line m)
+line_of s scene (commands.Members m) = line_by m (scene.world.clients m) (members_line m)
+line_of s scene (commands.Journal m) = line_by m (scene.world.clients m) (λ c. journal_lines (journal_of (scene.logs m)))
+line_of s scene (commands.Hash m) = line_by m (scene.world.clients m) (hash_line m)
+line_of s scene (commands.Flip f) = flip_line (next_number scene) f.entry f.at (entry_at scene.made f.entry)
+line_of s scene (commands.Cut number) = cut_line (next_number scene) number (entry_at scene.made number)
+line_of s scene (commands.Sign f) =
+    line_by f.from (scene.world.clients f.from) (λ c. sign_line f.member (next_number scene) (leaf_after (s.private f.member) (scene.leaves f.member)))
+line_of s scene command = []
+
+-- a line that the command may write
+abbrev pub Writes : Setup → Scene → Command → List ℕ → Type 0
+Writes s scene (commands.Compare p) line = Compares p (scene.world.clients p.first) (scene.world.clients p.second) line
+Writes s scene command line = line ≡ line_of s scene command
+
+-- ---- scripts
+
+-- the lines of commands, performed one after another from a scene on
+abbrev pub ReportsFrom : Setup → Scene → List PlayLine → List ℕ → Type 0
+ReportsFrom s scene [] report = report ≡ []
+ReportsFrom s scene (l ∷ ls) report =
+    (line : List ℕ) × (rest : List ℕ) × Writes s scene l.command line × ReportsFrom s (after s scene l.command) ls rest × (report ≡ line ++ rest)
 
 -- the report of a script was written, nothing else
 abbrev pub Reports : List PlayLine → Option (List ℕ) → Option (List ℕ) → Type 0
-Reports script written written' = (report : List ℕ) × ReportsFrom (opening script) script report × Appends written written' report
+Reports script written written' =
+    (report : List ℕ) × ReportsFrom (setup_of script) (opening script) script report × Appends written written' report
 
 -- a prefix of the report of its first n lines was written, nothing else
 abbrev pub ReportsPrefix : List PlayLine → Option (List ℕ) → Option (List ℕ) → Type 0
 ReportsPrefix script written written' =
-    (n : ℕ) × (report : List ℕ) × ReportsFrom (opening script) (take n script) report × AppendsPrefix written written' report
+    (n : ℕ) × (report : List ℕ) × ReportsFrom (setup_of script) (opening script) (take n script) report × AppendsPrefix written written' report

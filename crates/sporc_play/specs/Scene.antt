@@ -1,119 +1,293 @@
--- What the commands of a script do.
-use Rattle.std.specs.Prelude.{ℕ, zero, suc, ◌+◌, ◌==◌, nat_le, if◌then◌else◌, List, [], ◌∷◌, ◌++◌, length, find, fold, take, option_map, Option, Some, None, Result, Ok, Err, slice_get}
+-- What the commands of a script do: each acts on the clients by its moves.
+use Rattle.std.specs.Prelude.{ℕ, zero, suc, ◌+◌, ◌-◌, ◌^◌, ◌==◌, nat_le, nat_lt, List, [], ◌∷◌, ◌++◌, length, map, take, fold, set, slice_get, bit_xor, Option, None, Some, Result, Ok, Err, if◌then◌else◌}
+use Rattle.std.specs.FinMap.{get}
+use Rattle.std.specs.Str.{encode_utf8_all}
+use Rattle.lms_leaf.specs.declared.faults.LeafFault.{LeafFault}
+use Rattle.lms_leaf.specs.declared.faults.LeafFault.TheVariants.{Exhausted}
+use Rattle.lms_tree.specs.LmsPrivate.{LmsPrivate}
+use Rattle.lms_tree.specs.LmsType.{height_of}
+use Rattle.sporc_base.specs.FirstFault.{first_of}
 use Rattle.sporc_delta.specs.Marks.{Mark, insertion, removal}
-use Rattle.sporc_plain.specs.declared.entry.PlainEntry.{PlainEntry}
-use Rattle.sporc_plain.specs.declared.client.PlainSubmitted.{PlainSubmitted}
-use Rattle.sporc_plain.specs.declared.client.PlainSubmitted.TheVariants.{Waiting, Nothing, Entry}
-use Rattle.sporc_plain.specs.declared.fault.PlainSubmitFault.{PlainSubmitFault}
-use Rattle.sporc_plain.specs.Client.{PlainState, opened, shown_of}
-use Rattle.sporc_plain.specs.Run.{after_answer, after_edit, after_give}
-use Rattle.sporc_plain.specs.Submission.{submission_of}
-use Rattle.sporc_play.specs.declared.seat.Seat.{Seat}
-use Rattle.sporc_play.specs.declared.script.command.Change.{Change}
-use Rattle.sporc_play.specs.declared.script.command.Change.TheVariants.{Insert, Remove}
-use Rattle.sporc_play.specs.declared.script.command.Command.{Command}
-use Rattle.sporc_play.specs.declared.script.command.Command.TheVariants as commands
-use Rattle.sporc_play.specs.declared.script.command.PlayLine.{PlayLine}
-use Rattle.sporc_play.specs.Preamble.{genesis_of}
+use Rattle.sporc_epoch.specs.Hints.{hints_of}
+use Rattle.sporc_epoch.specs.Keys.{Keys}
+use Rattle.sporc_epoch.specs.declared.fault.HintFault.{HintFault}
+use Rattle.sporc_line.specs.Openings.{open_checks}
+use Rattle.sporc_line.specs.declared.fault.LineOpenFault.{LineOpenFault}
+use Rattle.sporc_client.specs.declared.fault.EditFault.{EditFault}
+use Rattle.sporc_client.specs.declared.fault.SubmitFault.{SubmitFault}
+use Rattle.sporc_client.specs.declared.submitted.Submitted.{Submitted}
+use Rattle.sporc_client.specs.declared.submitted.Submitted.TheVariants as submitted
+use Rattle.sporc_client.specs.ClientModel.{ClientModel}
+use Rattle.sporc_client.specs.Log.{Logged}
+use Rattle.sporc_client.specs.PlainClient.{PlainClient, shown_after}
+use Rattle.sporc_client.specs.Run.{Setup, World, Move, Open, Happen, Give, Restart, after_all, key_of_member, start}
+use Rattle.sporc_client.specs.Submissions.{submission, submission_added}
+use Rattle.sporc_script.specs.declared.command.Command.{Command}
+use Rattle.sporc_script.specs.declared.command.Command.TheVariants as commands
+use Rattle.sporc_script.specs.declared.command.Edit.{Edit}
+use Rattle.sporc_script.specs.declared.play_line.PlayLine.{PlayLine}
+use Rattle.sporc_script.specs.declared.text_edit.TextEdit.{TextEdit}
+use Rattle.sporc_script.specs.declared.text_edit.TextEdit.TheVariants.{Insert, Remove}
+use Rattle.sporc_script.specs.declared.sign.Forgery.{Forgery}
+use Rattle.sporc_script.specs.declared.sign.What.{What}
+use Rattle.sporc_script.specs.declared.sign.What.TheVariants as whats
+use Rattle.sporc_play.specs.Cast.{first_ring, has_admin, member_change, openers_by, setup_of}
+use Rattle.sporc_play.specs.Derived.{random_of}
+use Rattle.sporc_play.specs.Forged.{forged_entry}
+use Rattle.sporc_play.specs.Logs.{change_events, discard_events, edit_logged, logs_after}
 
 pub record Scene : Type 0 where
-  -- what all clients are opened over
-  pub genesis : List ℕ
-  -- the members with their clients, in the order of their declarations
-  pub seats : List Seat
+  -- the members' clients, and all that they signed
+  pub world : World
+  -- the log of each client
+  pub logs : ℕ → List Logged
   -- all entries, in the order in which they were made
-  pub made : List PlainEntry
+  pub made : List (List ℕ)
+  -- the number of the entry that each client made last
+  pub last : ℕ → ℕ
+  -- how often each member was to submit or to sign, and how many of its leaves have signed
+  pub asked : ℕ → ℕ
+  pub leaves : ℕ → ℕ
 
--- the seat of a member
-abbrev pub seat_of : ℕ → List Seat → Option Seat
-seat_of who seats = find (λ s. s.member == who) seats
+-- what a command does to the clients, and the entries that it makes
+pub record Act : Type 0 where
+  pub moves : List Move
+  pub entries : List (List ℕ)
 
--- the client of a member
-abbrev pub client_of : ℕ → List Seat → Option PlainState
-client_of who seats = option_map (λ s. s.client) (seat_of who seats)
+abbrev pub nothing : Act
+nothing = record { moves = []; entries = [] }
 
--- the seats with this one in the place of its member's
-abbrev pub with_seat : Seat → List Seat → List Seat
-with_seat new [] = []
-with_seat new (s ∷ ss) = if s.member == new.member then new ∷ ss else s ∷ with_seat new ss
+abbrev pub moved : List Move → Act
+moved moves = record { moves = moves; entries = [] }
+
+abbrev pub made_entry : List ℕ → Act
+made_entry bytes = record { moves = []; entries = bytes ∷ [] }
+
+-- a client adds these events
+abbrev pub adds : ℕ → List Logged → Act
+adds member events = moved (map (Happen member) events)
 
 -- entry E, counted from 1
-abbrev pub entry_at : List PlainEntry → ℕ → Option PlainEntry
+abbrev pub entry_at : List (List ℕ) → ℕ → Option (List ℕ)
 entry_at made zero = None
 entry_at made (suc n) = slice_get made n
 
--- member: a client over the genesis
-abbrev pub new_seat : List ℕ → ℕ → Seat
-new_seat genesis m = record { member = m; client = opened genesis m; last = 0 }
+-- ---- edits and changes
 
-abbrev pub after_member : ℕ → Option Seat → Scene → Scene
-after_member m (Some seat) s = s
-after_member m None s = record s { seats = s.seats ++ new_seat s.genesis m ∷ [] }
+-- the delta of an edit of a text of this length, unless the edit lies outside it
+abbrev pub marks_of : TextEdit → ℕ → Option (List Mark)
+marks_of (Insert e) len = if nat_le e.at len then Some (insertion len e.at e.text) else None
+marks_of (Remove e) len = if nat_le (e.at + e.count) len then Some (removal len e.at e.count) else None
 
--- edit: the delta of a change of a text of this length, unless the change lies outside it
-abbrev pub change_marks : Change → ℕ → Option (List Mark)
-change_marks (Insert c) len = if nat_le c.at len then Some (insertion len c.at c.text) else None
-change_marks (Remove c) len = if nat_le (c.at + c.count) len then Some (removal len c.at c.count) else None
+-- how many bytes the text of an edit has
+abbrev pub edit_size : TextEdit → ℕ
+edit_size (Insert e) = length (encode_utf8_all e.text)
+edit_size (Remove e) = 0
 
-abbrev pub marks_by : PlainState → Change → Option (List Mark)
-marks_by c change = change_marks change (length (shown_of c))
+-- how many events an edit has seen: all, unless it says so
+abbrev pub seen_by : PlainClient → Option ℕ → ℕ
+seen_by c None = length c.shown
+seen_by c (Some seen) = seen
 
-abbrev pub seat_edited : Option (List Mark) → Seat → Seat
-seat_edited None seat = seat
-seat_edited (Some d) seat = record seat { client = after_edit seat.client d }
+-- the delta that a client is called with. One who has seen more events than there are asks for the empty delta
+abbrev pub delta_by : PlainClient → ℕ → TextEdit → Option (List Mark)
+delta_by c seen edit = if nat_lt (length c.shown) seen then Some [] else marks_of edit (length (shown_after seen c))
 
-abbrev pub after_change : Change → Option Seat → Scene → Scene
-after_change change None s = s
-after_change change (Some seat) s = record s { seats = with_seat (seat_edited (marks_by seat.client change) seat) s.seats }
+-- what an edit adds to the log of its client
+abbrev pub edit_events : Edit → PlainClient → List Logged
+edit_events e c = edit_logged c (seen_by c e.seen) (delta_by c (seen_by c e.seen) e.change)
 
--- submit: the entry that an answer hands out
-abbrev pub entries_in : Result PlainSubmitted PlainSubmitFault → List PlainEntry
-entries_in (Ok (Entry e)) = e ∷ []
-entries_in (Ok Nothing) = []
-entries_in (Ok Waiting) = []
+-- ---- submissions
+
+-- the leaf that a member draws after so many
+abbrev pub leaf_after : LmsPrivate → ℕ → Result ℕ LeafFault
+leaf_after key n = if nat_lt n (2 ^ height_of key.lms) then Ok n else Err (Exhausted n)
+
+-- the leaf that a client draws next
+abbrev pub leaf_next : {D : Type 0} → ClientModel D → Result ℕ LeafFault
+leaf_next c = leaf_after c.opening.key c.leaves.next
+
+-- the answer to a submission in a scene
+abbrev pub submission_in : Setup → Scene → ℕ → PlainClient → Result Submitted SubmitFault
+submission_in s scene member c = submission c (random_of member (scene.asked member + 1)) (leaf_after (s.private member) (scene.leaves member))
+
+-- the entry that an answer hands out
+abbrev pub entries_in : Result Submitted SubmitFault → List (List ℕ)
+entries_in (Ok (submitted.Entry entry)) = entry ∷ []
+entries_in (Ok submitted.Waiting) = []
+entries_in (Ok submitted.Nothing) = []
+entries_in (Ok (submitted.Dropped fault)) = []
 entries_in (Err fault) = []
 
--- the number of the entry that a member made last, if the next that is made has this number
-abbrev pub last_after : ℕ → ℕ → Result PlainSubmitted PlainSubmitFault → ℕ
-last_after next last (Ok (Entry e)) = next
-last_after next last (Ok Nothing) = last
-last_after next last (Ok Waiting) = last
-last_after next last (Err fault) = last
+abbrev pub submits : ℕ → Result Submitted SubmitFault → Act
+submits member answer = record { moves = map (Happen member) (submission_added 0 answer); entries = entries_in answer }
 
-abbrev pub seat_submitted : ℕ → Result PlainSubmitted PlainSubmitFault → Seat → Seat
-seat_submitted next answer seat = record seat { client = after_answer seat.client answer; last = last_after next seat.last answer }
+-- ---- what is handed out
 
-abbrev pub after_submission : Option Seat → Scene → Scene
-after_submission None s = s
-after_submission (Some seat) s =
-    let answer = submission_of seat.client in
-    record s { seats = with_seat (seat_submitted (length s.made + 1) answer seat) s.seats; made = s.made ++ entries_in answer }
+abbrev pub gives : ℕ → ℕ → Option (List ℕ) → Act
+gives member position None = nothing
+gives member position (Some bytes) = moved (Give member position bytes ∷ [])
 
--- give
-abbrev pub seat_given : ℕ → PlainEntry → Seat → Seat
-seat_given position e seat = record seat { client = after_give seat.client position e }
+abbrev pub restarts : ℕ → ℕ → PlainClient → Act
+restarts member k c = if nat_le k (length c.entries) then moved (Restart member k ∷ []) else nothing
 
-abbrev pub after_handing : ℕ → Option PlainEntry → Option Seat → Scene → Scene
-after_handing position None o s = s
-after_handing position (Some e) None s = s
-after_handing position (Some e) (Some seat) s = record s { seats = with_seat (seat_given position e seat) s.seats }
+-- ---- joiners
 
--- the scene after a command; a command of a member without a client does nothing
-abbrev pub after : Command → Scene → Scene
-after (commands.Member d) s = after_member d.member (seat_of d.member s.seats) s
-after (commands.Edit e) s = after_change e.change (seat_of e.member s.seats) s
-after (commands.Submit m) s = after_submission (seat_of m s.seats) s
-after (commands.Give g) s = after_handing g.position (entry_at s.made g.entry) (seat_of g.member s.seats) s
-after (commands.Show m) s = s
-after (commands.Compare c) s = s
+-- entries by their numbers, or the first number that none has
+abbrev pub with_entry : ℕ → Option (List ℕ) → Result (List (List ℕ)) ℕ → Result (List (List ℕ)) ℕ
+with_entry number None rest = Err number
+with_entry number (Some bytes) (Ok entries) = Ok (bytes ∷ entries)
+with_entry number (Some bytes) (Err missing) = Err missing
 
--- the scene after lines
-abbrev pub after_lines : Scene → List PlayLine → Scene
-after_lines s lines = fold (λ s l. after l.command s) s lines
+abbrev pub entries_at : List (List ℕ) → List ℕ → Result (List (List ℕ)) ℕ
+entries_at made [] = Ok []
+entries_at made (number ∷ numbers) = with_entry number (entry_at made number) (entries_at made numbers)
 
--- the scene before the first line of a script, and after its first n lines
+-- a client opens with the hints that entries give, if there are hints and its line opens
+abbrev pub opens_unless : ℕ → Keys → Option LineOpenFault → Act
+opens_unless member ring None = moved (Open member ring ∷ [])
+opens_unless member ring (Some fault) = nothing
+
+abbrev pub opens_with : Setup → ℕ → Result Keys HintFault → Act
+opens_with s member (Ok ring) = opens_unless member ring (first_of (open_checks s.genesis (get ring 0)))
+opens_with s member (Err fault) = nothing
+
+abbrev pub joins_with : Setup → ℕ → Result (List (List ℕ)) ℕ → Act
+joins_with s member (Ok entries) = opens_with s member (hints_of entries member (s.pairs member))
+joins_with s member (Err missing) = nothing
+
+-- one who has a client already does not join
+abbrev pub joins : Setup → ℕ → Result (List (List ℕ)) ℕ → Option PlainClient → Act
+joins s member entries (Some c) = nothing
+joins s member entries None = joins_with s member entries
+
+-- ---- entries that are changed
+
+-- a byte with its lowest bit changed
+abbrev pub flipped : ℕ → ℕ
+flipped byte = bit_xor byte 1
+
+abbrev pub flip_byte : List ℕ → ℕ → Option ℕ → Act
+flip_byte bytes at None = nothing
+flip_byte bytes at (Some byte) = made_entry (set bytes at (flipped byte))
+
+abbrev pub flips : ℕ → Option (List ℕ) → Act
+flips at None = nothing
+flips at (Some bytes) = flip_byte bytes at (slice_get bytes at)
+
+abbrev pub cuts : Option (List ℕ) → Act
+cuts None = nothing
+cuts (Some bytes) = made_entry (take (length bytes - 1) bytes)
+
+-- ---- rogues
+
+abbrev pub signs_by : Option (List ℕ) → Act
+signs_by None = nothing
+signs_by (Some bytes) = made_entry bytes
+
+-- ---- commands
+
+-- what a call of a client does, if there is one
+abbrev pub if_open : Option PlainClient → (PlainClient → Act) → Act
+if_open None act = nothing
+if_open (Some c) act = act c
+
+abbrev pub act_of : Setup → Scene → Command → Act
+act_of s scene (commands.Edit e) =
+    if_open (scene.world.clients e.member) (λ c. adds e.member (edit_events e c))
+act_of s scene (commands.Change e) =
+    if_open (scene.world.clients e.member) (λ c. adds e.member (change_events (member_change s e.change) c))
+act_of s scene (commands.Discard member) = if_open (scene.world.clients member) (λ c. adds member (discard_events c))
+act_of s scene (commands.Submit member) = if_open (scene.world.clients member) (λ c. submits member (submission_in s scene member c))
+act_of s scene (commands.Give g) = if_open (scene.world.clients g.member) (λ c. gives g.member g.position (entry_at scene.made g.entry))
+act_of s scene (commands.Restart r) = if_open (scene.world.clients r.member) (restarts r.member r.events)
+act_of s scene (commands.Join j) = joins s j.member (entries_at scene.made j.entries) (scene.world.clients j.member)
+act_of s scene (commands.Flip f) = flips f.at (entry_at scene.made f.entry)
+act_of s scene (commands.Cut entry) = cuts (entry_at scene.made entry)
+act_of s scene (commands.Sign f) =
+    if_open (scene.world.clients f.from) (λ c. signs_by (forged_entry s c f (scene.asked f.member + 1) (leaf_after (s.private f.member) (scene.leaves f.member))))
+act_of s scene command = nothing
+
+-- how many bytes the text or the payload of a command has
+abbrev pub what_size : What → ℕ
+what_size (whats.Insert e) = length (encode_utf8_all e.text)
+what_size (whats.Raw payload) = length payload
+what_size (whats.Change change) = 0
+
+abbrev pub text_size : Command → ℕ
+text_size (commands.Edit e) = edit_size e.change
+text_size (commands.Sign f) = what_size f.signed.what
+text_size command = 0
+
+-- who is to submit or to sign by a command
+abbrev pub signer_of : Command → Option ℕ
+signer_of (commands.Submit member) = Some member
+signer_of (commands.Sign f) = Some f.member
+signer_of command = None
+
+-- counts, with so many more of one member's
+abbrev pub with_more : (ℕ → ℕ) → Option ℕ → ℕ → ℕ → ℕ
+with_more counts None more other = counts other
+with_more counts (Some member) more other = if other == member then counts other + more else counts other
+
+-- the number of the entry that a member's client made last, if it has just made these
+abbrev pub last_made : (ℕ → ℕ) → ℕ → ℕ → List (List ℕ) → ℕ → ℕ
+last_made last member next [] other = last other
+last_made last member next (entry ∷ entries) other = if other == member then next else last other
+
+-- those numbers after a command whose entries get numbers from the next on
+abbrev pub last_by : (ℕ → ℕ) → Command → ℕ → List (List ℕ) → ℕ → ℕ
+last_by last (commands.Submit member) next entries = last_made last member next entries
+last_by last command next entries = last
+
+-- a scene after a command
+abbrev pub performed : Setup → Scene → Command → Act → Scene
+performed s scene command act = record {
+  world = after_all s scene.world act.moves;
+  logs = logs_after s scene.world scene.logs act.moves;
+  made = scene.made ++ act.entries;
+  last = last_by scene.last command (length scene.made + 1) act.entries;
+  asked = with_more scene.asked (signer_of command) 1;
+  leaves = with_more scene.leaves (signer_of command) (length act.entries);
+}
+
+abbrev pub after : Setup → Scene → Command → Scene
+after s scene command = performed s scene command (act_of s scene command)
+
+-- those whom these lines declare as founders with clients open them
+abbrev pub openings : List PlayLine → List Move
+openings lines = map (λ member. Open member first_ring) (openers_by lines)
+
+-- the scene after moves of the members of a script, before any command
+abbrev pub scene_moved : List PlayLine → List Move → Scene
+scene_moved script moves = record {
+  world = after_all (setup_of script) start moves;
+  logs = logs_after (setup_of script) start (λ member. []) moves;
+  made = [];
+  last = λ member. 0;
+  asked = λ member. 0;
+  leaves = λ member. 0;
+}
+
+-- the founders open their clients, if one of them is an admin
+abbrev pub opening_moves : List PlayLine → List Move
+opening_moves script = if has_admin script then openings script else []
+
 abbrev pub opening : List PlayLine → Scene
-opening script = record { genesis = genesis_of script; seats = []; made = [] }
+opening script = scene_moved script (opening_moves script)
 
+-- the scene in which the clients of the first n lines of a script are open
+abbrev pub scene_opened : List PlayLine → ℕ → Scene
+scene_opened script n = scene_moved script (openings (take n script))
+
+-- a scene after commands, each of which may depend on the scene that it is performed in
+abbrev pub after_each : Setup → Scene → List (Scene → Command) → Scene
+after_each s scene commands = fold (λ now command. after s now (command now)) scene commands
+
+-- the commands of a script, which depend on no scene
+abbrev pub commands_of : List PlayLine → List (Scene → Command)
+commands_of script = map (λ line scene. line.command) script
+
+-- the scene after the first n lines of a script
 abbrev pub scene_at : List PlayLine → ℕ → Scene
-scene_at script n = after_lines (opening script) (take n script)
+scene_at script n = after_each (setup_of script) (opening script) (commands_of (take n script))

@@ -2,8 +2,8 @@ ghost use Rattle.std.specs.Prelude.{◌≡◌};
 ghost use Rattle.sporc_play.specs.Playing.{line_fault, read_fault};
 ghost use Rattle.sporc_play.specs.declared.fault.PlayFault.TheVariants as faults;
 
-use crate::script::LineFault;
 use sporc_outside::{Failed, ReadFault};
+use sporc_script::LineFault;
 use std::alloc::AllocError;
 use thiserror::Error;
 
@@ -58,7 +58,7 @@ impl From<LineFault> for PlayFault {
     fn from(cause: LineFault) -> PlayFault {
         match cause {
             LineFault::Memory => PlayFault::Memory,
-            LineFault::Line(line) => PlayFault::LineFault(line),
+            LineFault::Line { line } => PlayFault::LineFault(line),
         }
     }
 }

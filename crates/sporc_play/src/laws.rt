@@ -1,40 +1,29 @@
 //! Laws over the definitions that contracts cite. Their functions do nothing.
 
-ghost use Rattle.std.specs.Prelude.{◌≡◌, ◌⊎◌, ℕ, List};
-ghost use Rattle.sporc_play.specs.Grammar.{IsFaultLine, IsScript};
-ghost use Rattle.sporc_play.specs.Moves.{IsOneRun};
-ghost use Rattle.sporc_play.specs.declared.script.command.PlayLine.{PlayLine};
+ghost use Rattle.std.specs.Prelude.{◌≡◌, ◌≤◌, ℕ, List, true};
+ghost use Rattle.sporc_script.specs.Grammar.{IsPlayScript};
+ghost use Rattle.sporc_script.specs.declared.play_line.PlayLine.{PlayLine};
+ghost use Rattle.sporc_client.specs.Run.{Genuine, start};
+ghost use Rattle.sporc_play.specs.Cast.{has_admin, setup_of};
+ghost use Rattle.sporc_play.specs.Generated.{generated_cast, generated_commands};
+ghost use Rattle.sporc_play.specs.Moves.{IsOneRun, moves_of};
+ghost use Rattle.sporc_play.specs.OwnPlays.{AreByClients};
+ghost use Rattle.sporc_play.specs.Scene.{commands_of};
 
-use crate::playing::MAX_SCRIPT;
-use crate::script::MAX_MEMBERS;
+use crate::generated::MAX_GENERATED;
 
-/// The limits of a script: its bytes, and its members.
-pub fn limits()
-    ensures bytes { MAX_SCRIPT ≡ 16777216 }
-    ensures members { MAX_MEMBERS ≡ 64 }
-{}
-
-/// A text is a script, or has a first line outside the grammar.
-pub fn script_or_fault_line()
-    ensures { (text : List ℕ) → ((script : List PlayLine) × IsScript text script) ⊎ ((line : ℕ) × IsFaultLine text line) }
-{}
-
-/// Each script's play is a run of the clients, who agree at any two of its moments.
+/// A script's play is a run of the clients, who agree at any two of its moments.
 pub fn each_play_is_one_run()
-    ensures { (text : List ℕ) (script : List PlayLine) → IsScript text script → IsOneRun script }
+    ensures { (text : List ℕ) (script : List PlayLine) → IsPlayScript text script → has_admin script ≡ true → IsOneRun script (commands_of script) }
 {}
 
-/// A text is one script.
-pub fn one_script()
-    ensures { (text : List ℕ) (script other : List PlayLine) → IsScript text script → IsScript text other → script ≡ other }
+/// In the play of a script without `sign`, `flip` and `cut` each entry that is accepted was signed by its author's client.
+pub fn each_play_of_clients_is_genuine()
+    ensures { (text : List ℕ) (script : List PlayLine) → IsPlayScript text script → has_admin script ≡ true → AreByClients script
+        → Genuine (setup_of script) start (moves_of script (commands_of script)) }
 {}
 
-/// A text has one first line outside the grammar.
-pub fn one_fault_line()
-    ensures { (text : List ℕ) (line other : ℕ) → IsFaultLine text line → IsFaultLine text other → line ≡ other }
-{}
-
-/// A text that is a script has no line outside the grammar.
-pub fn no_fault_line()
-    ensures { (text : List ℕ) (script : List PlayLine) (line : ℕ) → IsScript text script → ¬ IsFaultLine text line }
+/// The generated run is a run as well.
+pub fn the_generated_run_is_one()
+    ensures { (n : ℕ) → n ≤ MAX_GENERATED → IsOneRun generated_cast (generated_commands n) }
 {}

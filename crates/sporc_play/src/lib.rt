@@ -1,7 +1,8 @@
-//! Plays: scripts of what the members of a group do, performed one command after another.
+//! Plays: scripts of what the members of a group do, performed one command after another on signing clients.
 //!
 //! [`play`] reads a script from a source, performs it on the members' clients, and writes to a sink what each command
-//! answers. [`read_play`] reads a script alone. The script on the left has the report on the right:
+//! answers. [`play_generated`] performs a run of three members that needs no script, and writes its summary. The script on
+//! the left has the report on the right:
 //!
 //! ```text
 //! member 1 admin
@@ -10,24 +11,27 @@
 //! give 1 1 1                1 accept 1 ok
 //! show 1                    1 at 1 pending 0 text "abc"
 //! ```
-//!
-//! Proved: a text is one script or has one first line outside the grammar, and [`read_play`] answers which; the report is,
-//! byte for byte, what `specs/Report.antt` says of the commands that `specs/Scene.antt` performs; a play is one run of the
-//! clients, who agree at any two of its moments (`specs/Moves.antt`); what was read and written after each answer. Tested
-//! only, in `sporc_top`: that a play does not run out of memory if there is ample. Neither: how long a play takes.
 #![tactic(auto)]
 
+mod acting;
+mod cast;
+mod derived;
 mod fault;
+mod forging;
+mod generated;
+mod joining;
+mod journal;
 pub mod laws;
-mod lines;
+mod made;
+mod names;
+mod opening;
 mod playing;
-mod script;
+mod quoted;
 mod seat;
+mod showing;
+mod signing;
 mod state;
 
 pub use crate::fault::PlayFault;
+pub use crate::generated::{MAX_GENERATED, play_generated};
 pub use crate::playing::{MAX_SCRIPT, play};
-pub use crate::script::{
-    Change, Command, Comparison, Declaration, Edit, Give, Insertion, LineFault, MAX_MEMBERS,
-    PlayLine, PlayScript, Removal, Role, read_play,
-};

@@ -1,15 +1,16 @@
-ghost use Rattle.std.specs.Prelude.{◌≡◌, ◌≢◌, ◌+◌, ◌≤◌, All, IfErr, OnOk, OnErr};
+ghost use Rattle.std.specs.Prelude.{◌≡◌, ◌≢◌, ◌+◌, ◌≤◌, List, IfErr, OnOk, OnErr};
 ghost use Rattle.sporc_outside.specs.Reading.{ConsumesAtMost};
+ghost use Rattle.sporc_play.specs.Cast.{setup_of};
 ghost use Rattle.sporc_play.specs.Lines.{WritesLine, WritesPrefix};
-ghost use Rattle.sporc_play.specs.Playing.{IsWriteCause, PlayOutcome};
+ghost use Rattle.sporc_play.specs.Playing.{IsShortScript, IsWriteCause, PlayOutcome};
 ghost use Rattle.sporc_play.specs.Report.{Reports, ReportsPrefix};
-ghost use Rattle.sporc_play.specs.Scene.{after};
-ghost use Rattle.sporc_play.specs.Spelling.{text_size};
+ghost use Rattle.sporc_play.specs.Scene.{Scene};
+ghost use Rattle.sporc_play.specs.Stage.{Becomes, CanPerform, StandsFor};
 
 use crate::fault::PlayFault;
-use crate::script::{Command, PlayLine, genesis, read_play};
 use crate::state::PlayState;
 use sporc_outside::{Sink, Source, read_all, write_all};
+use sporc_script::{Command, PlayLine, read_play};
 use std::alloc::Global;
 
 /// The most bytes of a script.
@@ -52,13 +53,13 @@ pub fn play<S: Source, O: Sink>(alloc: Global, source: &mut S, out: &mut O) -> R
 
 // Performs the lines, and writes their report. Fails only by memory or the sink.
 fn write_report<O: Sink>(alloc: Global, lines: &[PlayLine], out: &mut O) -> Result<(), PlayFault>
-    requires { All (λ l. text_size l.command ≤ MAX_SCRIPT) lines.now }
+    requires { IsShortScript lines.now }
     ensures ok { OnOk result (Reports lines.now (O.written out.old) (O.written out.new)) }
     ensures err { OnErr result (ReportsPrefix lines.now (O.written out.old) (O.written out.new)) }
     ensures causes { IfErr result (IsWriteCause (O.faults out.old) (O.faults out.new)) }
     ensures kept { O.faults out.old ≤ O.faults out.new }
 {
-    let mut state = PlayState::new(alloc, genesis(alloc, lines)?);
+    let mut state = PlayState::new(alloc, lines)?;
     for line in lines {
         write_line(alloc, &mut state, &line.command, out)?;
     }
@@ -72,12 +73,13 @@ fn write_line<O: Sink>(
     command: &Command,
     out: &mut O,
 ) -> Result<(), PlayFault>
-    requires { text_size command.now ≤ MAX_SCRIPT }
-    ensures state { OnOk result (state.new ≡ after command.now state.old) }
-    ensures ok { OnOk result (WritesLine command.now state.old (O.written out.old) (O.written out.new)) }
+    requires { CanPerform state.old command.now }
+    ensures state { OnOk result (Becomes state.old command.now state.new) }
+    ensures ok { OnOk result ((script : List PlayLine) (scene : Scene) → StandsFor script scene state.old
+        → WritesLine (setup_of script) scene command.now (O.written out.old) (O.written out.new)) }
     ensures memory { result ≡ Err PlayFault.Memory → out.new ≡ out.old }
-    ensures prefix { result ≡ Err PlayFault.WriteFault
-        → WritesPrefix command.now state.old (O.written out.old) (O.written out.new) }
+    ensures prefix { result ≡ Err PlayFault.WriteFault → (script : List PlayLine) (scene : Scene) → StandsFor script scene state.old
+        → WritesPrefix (setup_of script) scene command.now (O.written out.old) (O.written out.new) }
     ensures causes { IfErr result (IsWriteCause (O.faults out.old) (O.faults out.new)) }
     ensures kept { O.faults out.old ≤ O.faults out.new }
 {

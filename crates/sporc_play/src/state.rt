@@ -1,47 +1,100 @@
 //! The state of a play.
 
-ghost use Rattle.std.specs.Prelude.{◌≡◌, ◌^◌, ◌≤◌, [], MatchOption, OnOk, string_bytes};
-ghost use Rattle.sporc_play.specs.Scene.{after, after_member, entry_at, seat_of};
-ghost use Rattle.sporc_play.specs.Spelling.{change_size, text_size};
-ghost use Rattle.sporc_play.specs.Lines.{AppendsLine};
+ghost use Rattle.std.specs.Option.{option_copied, option_to_list};
+ghost use Rattle.std.specs.Prelude.{◌≡◌, ℕ, ◌+◌, ◌<◌, [], ◌∷◌, ◌++◌, length, Contains, IfOk, OnOk, List, get_or, map as map_, None, Some, option_map, set, slice_get, string_bytes};
+ghost use Rattle.std.specs.List.{list_any};
+ghost use Rattle.sporc_entry.specs.Genesis.{IsGenesis};
+ghost use Rattle.sporc_member.specs.Role.{is_admin};
+ghost use Rattle.sporc_script.specs.declared.member_role.MemberRole.{MemberRole};
+ghost use Rattle.sporc_play.specs.Report.{entry_line, flipped_line};
+ghost use Rattle.sporc_play.specs.Scene.{flipped, opening, scene_opened};
+ghost use Rattle.sporc_play.specs.Seats.{IsSeatAt, seated};
+ghost use Rattle.sporc_play.specs.Stage.{AreDeclared, AreOfOneDocument, Becomes, CanPerform, HasSameMembers, StandsFor, Tells};
 
-use crate::lines::{push_show, push_verdict};
-use crate::script::{Command, Comparison, Edit, Give};
-use crate::seat::{Seat, edit, give, seat_at, submit};
+use crate::cast::{Cast, tree_of};
+use crate::journal::push_journal;
+use crate::made::entry_at;
+use crate::opening::{declare, open_founder};
+use crate::seat::{PlayClient, Rogue, Seat, client_of, rogue_at, seat_at};
+use crate::showing::{push_hash, push_members, push_show, push_verdict};
+use crate::{acting, joining, signing};
+use sporc_base::Memory;
+use sporc_entry::Genesis;
 use sporc_hash::compare;
-use sporc_plain::{PlainClient, PlainEntry};
-use std::alloc::{AllocError, Global};
+use sporc_script::{Command, Edit, Flip, Forgery, Give, Join, Pair, PlayLine, Restart, RosterEdit};
+use std::alloc::Global;
 use std::fmt::Write;
-use std::marker::Model;
 
-/// The members with their clients, and all entries that were made, in order.
-#[derive(Debug, Drop)]
+/// The members with their clients, the rogues, and all entries that were made, in order.
+#[derive(Drop)]
 pub struct PlayState {
-    genesis: Vec<u8>,
+    cast: Cast,
+    genesis: Genesis,
     seats: Vec<Seat>,
-    made: Vec<PlainEntry>,
-}
-
-impl Model for PlayState {
-    ghost use Rattle.sporc_play.specs.Scene.{Scene};
-    ghost use Rattle.sporc_play.specs.SceneInvariant.{SceneInvariant};
-
-    ghost Value = { Scene };
-
-    ghost view = { λ s. record { genesis = s.genesis.items; seats = s.seats.items; made = s.made.items } };
-
-    ghost invariant = { λ s. SceneInvariant s.genesis.items s.seats.items s.made.items };
+    rogues: Vec<Rogue>,
+    made: Vec<Vec<u8>>,
 }
 
 impl PlayState {
-    /// Before the first line.
-    pub fn new(alloc: Global, genesis: Vec<u8>) -> PlayState
-        ensures { result ≡ record { genesis = genesis.items; seats = []; made = [] } }
+    /// Before the first command: the founders' clients are open.
+    pub fn new(alloc: Global, lines: &[PlayLine]) -> Result<PlayState, Memory>
+        requires { AreDeclared lines.now }
+        ensures { IfOk result (λ state. StandsFor lines.now (opening lines.now) state) }
     {
-        PlayState {
+        let mut cast = Cast::new(alloc, tree_of(lines));
+        let mut seats = Vec::new(alloc);
+        let mut rogues = Vec::new(alloc);
+        for line in lines {
+            declare(alloc, &mut cast, &mut seats, &mut rogues, line)?;
+        }
+        let genesis = cast.genesis(alloc)?;
+        let mut state = PlayState {
+            cast,
             genesis,
-            seats: Vec::new(alloc),
+            seats,
+            rogues,
             made: Vec::new(alloc),
+        };
+        if !state.has_admin() {
+            return Ok(state);
+        }
+        state.open_founders(alloc, lines)?;
+        Ok(state)
+    }
+
+    // Whether a founder is an admin. Without one there is no document.
+    fn has_admin(&self) -> bool
+        ensures { result ≡ list_any (λ f. is_admin f.role) self.now.cast.founders.items }
+    {
+        self.cast.founders.iter().any(|f| f.role.is_admin())
+    }
+
+    // Opens the clients of the founders.
+    fn open_founders(&mut self, alloc: Global, lines: &[PlayLine]) -> Result<(), Memory>
+        requires genesis { IsGenesis self.old.genesis }
+        requires stands { StandsFor lines.now (scene_opened lines.now 0) self.old }
+        ensures { OnOk result (StandsFor lines.now (scene_opened lines.now (length lines.now)) self.new) }
+    {
+        for line in lines {
+            self.open_by(alloc, line)?;
+        }
+        Ok(())
+    }
+
+    // Opens the client of a founder, if the line declares one.
+    fn open_by(&mut self, alloc: Global, line: &PlayLine) -> Result<(), Memory>
+        requires genesis { IsGenesis self.old.genesis }
+        requires seated { (m : MemberRole) → line.now.command ≡ Command.Member m → Contains (seated self.old.seats.items) m.member }
+        ensures stands { OnOk result ((script : List PlayLine) (i : ℕ) → i < length script → line.now ≡ get_or script i line.now
+            → StandsFor script (scene_opened script i) self.old → StandsFor script (scene_opened script (i + 1)) self.new) }
+        ensures genesis { self.new.genesis ≡ self.old.genesis }
+    {
+        match &line.command {
+            Command::Member(founder) => {
+                let i = seat_at(self.seats.as_slice(), founder.member);
+                open_founder(alloc, &self.cast, &self.genesis, &mut self.seats[i])
+            }
+            _ => Ok(()),
         }
     }
 
@@ -51,114 +104,260 @@ impl PlayState {
         alloc: Global,
         command: &Command,
         out: &mut String,
-    ) -> Result<(), AllocError>
-        requires { text_size command.now ≤ 2 ^ 40 }
-        ensures state { OnOk result (self.new ≡ after command.now self.old) }
-        ensures line { OnOk result (AppendsLine command.now self.old (string_bytes out.old) (string_bytes out.new)) }
+    ) -> Result<(), Memory>
+        requires can { CanPerform self.old command.now }
+        ensures state { OnOk result (Becomes self.old command.now self.new) }
+        ensures line { OnOk result (Tells self.old command.now (string_bytes out.old) (string_bytes out.new)) }
     {
         match command {
-            Command::Member(declaration) => self.open(alloc, declaration.member),
+            Command::Tree(_)
+            | Command::Member(_)
+            | Command::Rogue(_)
+            | Command::Joiner(_)
+            | Command::Unpaired(_) => Ok(()),
             Command::Edit(edit) => self.edit(alloc, edit, out),
+            Command::Change(edit) => self.change(alloc, edit, out),
+            Command::Discard(member) => self.discard(*member, out),
             Command::Submit(member) => self.submit(*member, out),
-            Command::Give(give) => self.give(give, out),
+            Command::Give(give) => self.give(alloc, give, out),
+            Command::Restart(restart) => self.restart(restart, out),
+            Command::Join(join) => self.join(alloc, join, out),
+            Command::Flip(flip) => self.flip(alloc, flip, out),
+            Command::Cut(entry) => self.cut(alloc, *entry, out),
+            Command::Sign(forgery) => self.sign(alloc, forgery, out),
             Command::Show(member) => self.show(*member, out),
-            Command::Compare(comparison) => self.compare(comparison, out),
+            Command::Members(member) => self.members(*member, out),
+            Command::Hash(member) => self.hash(alloc, *member, out),
+            Command::Journal(member) => self.journal(alloc, *member, out),
+            Command::Compare(pair) => self.compare(pair, out),
         }
     }
 
-    fn open(&mut self, alloc: Global, member: u16) -> Result<(), AllocError>
-        ensures { OnOk result (self.new ≡ after_member member (seat_of member self.old.seats) self.old) }
+    /// The client of a member, if it is open.
+    pub fn client(&self, member: u16) -> Option<&PlayClient>
+        requires { Contains (seated self.now.seats.items) member }
+        ensures { (i : ℕ) × (seat : Seat) × IsSeatAt self.now.seats.items i member seat × (option_copied result ≡ seat.client) }
     {
-        if seat_at(self.seats.as_slice(), member).is_some() {
-            return Ok(());
+        client_of(self.seats.as_slice(), member)
+    }
+
+    // ---- commands that act on one client
+
+    fn edit(&mut self, alloc: Global, edit: &Edit, out: &mut String) -> Result<(), Memory>
+        requires can { CanPerform self.old (Command.Edit edit.now) }
+        ensures state { OnOk result (Becomes self.old (Command.Edit edit.now) self.new) }
+        ensures line { OnOk result (Tells self.old (Command.Edit edit.now) (string_bytes out.old) (string_bytes out.new)) }
+    {
+        let i = seat_at(self.seats.as_slice(), edit.member);
+        acting::edit(alloc, &mut self.seats[i], edit, out)
+    }
+
+    fn change(&mut self, alloc: Global, edit: &RosterEdit, out: &mut String) -> Result<(), Memory>
+        requires can { CanPerform self.old (Command.Change edit.now) }
+        ensures state { OnOk result (Becomes self.old (Command.Change edit.now) self.new) }
+        ensures line { OnOk result (Tells self.old (Command.Change edit.now) (string_bytes out.old) (string_bytes out.new)) }
+    {
+        let change = self.cast.member_change(alloc, &edit.change)?;
+        let i = seat_at(self.seats.as_slice(), edit.member);
+        acting::change(&mut self.seats[i], edit.member, change, out)
+    }
+
+    fn discard(&mut self, member: u16, out: &mut String) -> Result<(), Memory>
+        requires can { CanPerform self.old (Command.Discard member) }
+        ensures state { OnOk result (Becomes self.old (Command.Discard member) self.new) }
+        ensures line { OnOk result (Tells self.old (Command.Discard member) (string_bytes out.old) (string_bytes out.new)) }
+    {
+        let i = seat_at(self.seats.as_slice(), member);
+        acting::discard(&mut self.seats[i], member, out)
+    }
+
+    fn submit(&mut self, member: u16, out: &mut String) -> Result<(), Memory>
+        requires can { CanPerform self.old (Command.Submit member) }
+        ensures state { OnOk result (Becomes self.old (Command.Submit member) self.new) }
+        ensures line { OnOk result (Tells self.old (Command.Submit member) (string_bytes out.old) (string_bytes out.new)) }
+    {
+        let i = seat_at(self.seats.as_slice(), member);
+        let next = self.made.len() as u64 + 1;
+        let made = acting::submit(&mut self.seats[i], next, out)?;
+        self.keep_made(made)
+    }
+
+    fn give(&mut self, alloc: Global, give: &Give, out: &mut String) -> Result<(), Memory>
+        requires can { CanPerform self.old (Command.Give give.now) }
+        ensures state { OnOk result (Becomes self.old (Command.Give give.now) self.new) }
+        ensures line { OnOk result (Tells self.old (Command.Give give.now) (string_bytes out.old) (string_bytes out.new)) }
+    {
+        let i = seat_at(self.seats.as_slice(), give.member);
+        let entry = entry_at(self.made.as_slice(), give.entry);
+        acting::give(alloc, &mut self.seats[i], give, entry, out)
+    }
+
+    fn restart(&mut self, restart: &Restart, out: &mut String) -> Result<(), Memory>
+        requires can { CanPerform self.old (Command.Restart restart.now) }
+        ensures state { OnOk result (Becomes self.old (Command.Restart restart.now) self.new) }
+        ensures line { OnOk result (Tells self.old (Command.Restart restart.now) (string_bytes out.old) (string_bytes out.new)) }
+    {
+        let i = seat_at(self.seats.as_slice(), restart.member);
+        acting::restart(&mut self.seats[i], restart, out)
+    }
+
+    fn join(&mut self, alloc: Global, join: &Join, out: &mut String) -> Result<(), Memory>
+        requires can { CanPerform self.old (Command.Join join.now) }
+        ensures state { OnOk result (Becomes self.old (Command.Join join.now) self.new) }
+        ensures line { OnOk result (Tells self.old (Command.Join join.now) (string_bytes out.old) (string_bytes out.new)) }
+    {
+        let i = seat_at(self.seats.as_slice(), join.member);
+        joining::join(
+            alloc,
+            &self.cast,
+            &self.genesis,
+            self.made.as_slice(),
+            &mut self.seats[i],
+            join,
+            out,
+        )
+    }
+
+    // ---- commands that make entries
+
+    fn flip(&mut self, alloc: Global, flip: &Flip, out: &mut String) -> Result<(), Memory>
+        ensures state { OnOk result (Becomes self.old (Command.Flip flip.now) self.new) }
+        ensures line { OnOk result (Tells self.old (Command.Flip flip.now) (string_bytes out.old) (string_bytes out.new)) }
+    {
+        let at = flip.at;
+        let number = flip.entry;
+        let Some(entry) = entry_at(self.made.as_slice(), number) else {
+            return writeln!(out, "no entry {number}");
+        };
+        if at >= entry.len() as u64 {
+            return push_no_byte(out, at);
         }
-        let client = PlainClient::open(alloc, member, self.genesis.as_slice())?;
-        self.seats.push(Seat {
-            member,
-            client,
-            last: 0,
-        })?;
-        Ok(())
+        let bytes = with_flipped(alloc, entry, at)?;
+        self.keep(bytes, out)
     }
 
-    fn edit(&mut self, alloc: Global, change: &Edit, out: &mut String) -> Result<(), AllocError>
-        requires { change_size change.now.change ≤ 2 ^ 40 }
-        ensures state { OnOk result (self.new ≡ after (Command.Edit change.now) self.old) }
-        ensures line { OnOk result (AppendsLine (Command.Edit change.now) self.old (string_bytes out.old) (string_bytes out.new)) }
+    fn cut(&mut self, alloc: Global, number: u64, out: &mut String) -> Result<(), Memory>
+        ensures state { OnOk result (Becomes self.old (Command.Cut number) self.new) }
+        ensures line { OnOk result (Tells self.old (Command.Cut number) (string_bytes out.old) (string_bytes out.new)) }
     {
-        let Some(i) = seat_at(self.seats.as_slice(), change.member) else {
-            return Ok(());
+        let Some(entry) = entry_at(self.made.as_slice(), number) else {
+            return writeln!(out, "no entry {number}");
         };
-        edit(alloc, &mut self.seats[i], change, out)?;
-        Ok(())
+        let len = entry.len().saturating_sub(1);
+        let bytes = Vec::from_slice(alloc, &entry[..len])?;
+        self.keep(bytes, out)
     }
 
-    fn submit(&mut self, member: u16, out: &mut String) -> Result<(), AllocError>
-        ensures state { OnOk result (self.new ≡ after (Command.Submit member) self.old) }
-        ensures line { OnOk result (AppendsLine (Command.Submit member) self.old (string_bytes out.old) (string_bytes out.new)) }
+    // Keeps an entry that was made of another.
+    fn keep(&mut self, bytes: Vec<u8>, out: &mut String) -> Result<(), Memory>
+        ensures made { OnOk result (map_ (λ b. b.items) self.new.made.items ≡ map_ (λ b. b.items) self.old.made.items ++ bytes.items ∷ []) }
+        ensures others { OnOk result (HasSameMembers self.old self.new) }
+        ensures line { OnOk result (string_bytes out.new ≡ string_bytes out.old ++ entry_line (length self.old.made.items + 1)) }
     {
-        let Some(i) = seat_at(self.seats.as_slice(), member) else {
-            return Ok(());
-        };
-        let number = self.made.as_slice().len() as u64 + 1;
-        self.made.reserve(1)?;
-        if let Some(entry) = submit(&mut self.seats[i], number, out)? {
-            self.made.push_reserved(entry);
+        let next = self.made.len() as u64 + 1;
+        self.made.push(bytes)?;
+        writeln!(out, "entry {next}")
+    }
+
+    fn sign(&mut self, alloc: Global, forgery: &Forgery, out: &mut String) -> Result<(), Memory>
+        requires can { CanPerform self.old (Command.Sign forgery.now) }
+        ensures state { OnOk result (Becomes self.old (Command.Sign forgery.now) self.new) }
+        ensures line { OnOk result (Tells self.old (Command.Sign forgery.now) (string_bytes out.old) (string_bytes out.new)) }
+    {
+        let i = rogue_at(self.rogues.as_slice(), forgery.member);
+        let next = self.made.len() as u64 + 1;
+        let client = client_of(self.seats.as_slice(), forgery.from);
+        let rogue = &mut self.rogues[i];
+        let made = signing::sign(alloc, rogue, &self.cast, client, forgery, next, out)?;
+        self.keep_made(made)
+    }
+
+    // Keeps the entry that was made, if one was.
+    fn keep_made(&mut self, made: Option<Vec<u8>>) -> Result<(), Memory>
+        ensures made { OnOk result (map_ (λ b. b.items) self.new.made.items ≡ map_ (λ b. b.items) self.old.made.items ++ option_to_list (option_map (λ b. b.items) made)) }
+        ensures others { OnOk result (HasSameMembers self.old self.new) }
+    {
+        match made {
+            Some(entry) => {
+                self.made.push(entry)?;
+                Ok(())
+            }
+            None => Ok(()),
         }
-        Ok(())
     }
 
-    fn give(&mut self, handed: &Give, out: &mut String) -> Result<(), AllocError>
-        ensures state { OnOk result (self.new ≡ after (Command.Give handed.now) self.old) }
-        ensures line { OnOk result (AppendsLine (Command.Give handed.now) self.old (string_bytes out.old) (string_bytes out.new)) }
+    // ---- commands that only show
+
+    fn show(&self, member: u16, out: &mut String) -> Result<(), Memory>
+        requires { Contains (seated self.now.seats.items) member }
+        ensures { OnOk result (Tells self.now (Command.Show member) (string_bytes out.old) (string_bytes out.new)) }
     {
-        let member = handed.member;
-        let position = handed.position;
-        let Some(i) = seat_at(self.seats.as_slice(), member) else {
-            return Ok(());
-        };
-        let Some(entry) = entry_at(self.made.as_slice(), handed.entry) else {
-            writeln!(out, "{member} accept {position} no entry")?;
-            return Ok(());
-        };
-        give(&mut self.seats[i], position, entry, out)?;
-        Ok(())
+        match self.client(member) {
+            Some(client) => push_show(out, client),
+            None => acting::push_not_open(out, member),
+        }
     }
 
-    fn show(&self, member: u16, out: &mut String) -> Result<(), AllocError>
-        ensures { OnOk result (AppendsLine (Command.Show member) self.now (string_bytes out.old) (string_bytes out.new)) }
+    fn members(&self, member: u16, out: &mut String) -> Result<(), Memory>
+        requires { Contains (seated self.now.seats.items) member }
+        ensures { OnOk result (Tells self.now (Command.Members member) (string_bytes out.old) (string_bytes out.new)) }
     {
-        let Some(i) = seat_at(self.seats.as_slice(), member) else {
-            return Ok(());
-        };
-        let seat = &self.seats[i];
-        push_show(out, member, &seat.client)?;
-        Ok(())
+        match self.client(member) {
+            Some(client) => push_members(out, client),
+            None => acting::push_not_open(out, member),
+        }
     }
 
-    fn compare(&self, comparison: &Comparison, out: &mut String) -> Result<(), AllocError>
-        ensures { OnOk result (AppendsLine (Command.Compare comparison.now) self.now (string_bytes out.old) (string_bytes out.new)) }
+    fn hash(&self, alloc: Global, member: u16, out: &mut String) -> Result<(), Memory>
+        requires { Contains (seated self.now.seats.items) member }
+        ensures { OnOk result (Tells self.now (Command.Hash member) (string_bytes out.old) (string_bytes out.new)) }
     {
-        let Some(i) = seat_at(self.seats.as_slice(), comparison.first) else {
-            return Ok(());
+        match self.client(member) {
+            Some(client) => push_hash(alloc, out, client),
+            None => acting::push_not_open(out, member),
+        }
+    }
+
+    fn journal(&self, alloc: Global, member: u16, out: &mut String) -> Result<(), Memory>
+        requires { Contains (seated self.now.seats.items) member }
+        ensures { OnOk result (Tells self.now (Command.Journal member) (string_bytes out.old) (string_bytes out.new)) }
+    {
+        match self.client(member) {
+            Some(client) => push_journal(alloc, out, client.journal()),
+            None => acting::push_not_open(out, member),
+        }
+    }
+
+    fn compare(&self, pair: &Pair, out: &mut String) -> Result<(), Memory>
+        requires first { Contains (seated self.now.seats.items) pair.now.first }
+        requires second { Contains (seated self.now.seats.items) pair.now.second }
+        requires one_document { AreOfOneDocument self.now }
+        ensures { OnOk result (Tells self.now (Command.Compare pair.now) (string_bytes out.old) (string_bytes out.new)) }
+    {
+        let Some(first) = self.client(pair.first) else {
+            return acting::push_not_open(out, pair.first);
         };
-        let Some(j) = seat_at(self.seats.as_slice(), comparison.second) else {
-            return Ok(());
+        let Some(second) = self.client(pair.second) else {
+            return acting::push_not_open(out, pair.second);
         };
-        let first = &self.seats[i];
-        let second = &self.seats[j];
-        let verdict = compare(first.client.hashes(), second.client.hashes());
-        push_verdict(out, comparison, verdict)?;
-        Ok(())
+        let verdict = compare(first.hashes(), second.hashes());
+        push_verdict(out, pair.first, pair.second, verdict)
     }
 }
 
-// Entry E, counted from 1.
-fn entry_at(made: &[PlainEntry], number: u64) -> Option<&PlainEntry>
-    ensures { MatchOption result (entry_at made.now number ≡ None) (λ e. entry_at made.now number ≡ Some e.now) }
+// The line that says that an entry has no such byte.
+fn push_no_byte(out: &mut String, at: u64) -> Result<(), Memory>
+    ensures { OnOk result (string_bytes out.new ≡ string_bytes out.old ++ flipped_line 0 at None) }
 {
-    if number == 0 {
-        return None;
-    }
-    made.get(number as usize - 1)
+    writeln!(out, "no byte {at}")
+}
+
+// A copy of an entry, with the lowest bit of one byte changed.
+fn with_flipped(alloc: Global, entry: &[u8], at: u64) -> Result<Vec<u8>, Memory>
+    requires { at < length entry.now }
+    ensures { IfOk result (λ bytes. (byte : ℕ) × (slice_get entry.now at ≡ Some byte) × (bytes.items ≡ set entry.now at (flipped byte))) }
+{
+    let mut bytes = Vec::from_slice(alloc, entry)?;
+    bytes[at as usize] ^= 1;
+    Ok(bytes)
 }

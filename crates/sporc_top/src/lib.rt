@@ -6,15 +6,15 @@
 //! ```
 //!
 //! Proved: what was read and written for each status ([`run`], in `specs/Outcome.antt`), and what a source that tells its
-//! bytes calls for ([`laws`]). Tested only: that a run does not run out of memory if there is ample, and the reports of the
-//! worked examples. Neither: that a real file or terminal gives and keeps the bytes.
+//! bytes calls for ([`laws`]). Tested only, in `sporc_top_tests`: that a run does not run out of memory if there is ample, and
+//! the reports of worked examples. Neither: that a real file or terminal gives and keeps the bytes.
 #![tactic(auto)]
 
 mod fault;
 pub mod laws;
 mod program;
-#[cfg(test)]
-mod tests;
+mod task;
 
 pub use crate::fault::Fault;
 pub use crate::program::run;
+pub use crate::task::Task;

@@ -1,5 +1,16 @@
+use Rattle.std.proofs.Common.{ℕ, List, sym, subst}
+use Rattle.sporc_script.specs.Grammar.{IsPlayScript}
+use Rattle.sporc_script.specs.declared.play_line.PlayLine.{PlayLine}
 use Rattle.sporc_play.proofs.Played.{played}
 use Rattle.sporc_play.proofs.playing.play.Goals as goal
+
+pub write_report-requires : goal.write_report-requires
+write_report-requires g c = (
+  c.in_ok-text.text.items,
+  c.in_ok-text.ensures.within,
+  subst (λ (t : List ℕ). IsPlayScript t c.lines.result.now) c.as_slice.ensures.value
+      (subst (λ (s : List PlayLine). IsPlayScript c.as_slice.result.now s) (sym c.lines.ensures.value) c.in_ok-script.ensures.ok),
+)
 
 pub returns-clause-outcome : goal.returns-clause-outcome
 returns-clause-outcome g c =

@@ -1,14 +1,16 @@
 use Rattle.std.proofs.Common.{◌≡◌, ℕ, ◌≤◌, List, take}
 use Rattle.std.specs.Io.KnownBytes.{Appends}
+use Rattle.sporc_play.specs.Cast.{setup_of}
 use Rattle.sporc_play.specs.Report.{ReportsFrom}
 use Rattle.sporc_play.specs.Scene.{opening, scene_at}
+use Rattle.sporc_play.specs.Stage.{StandsFor}
 use Rattle.sporc_play.proofs.playing.write_report.Given as goal
 
 abbrev pub invariant-loop-line : goal.invariant-loop-line
 invariant-loop-line g l = record {
   -- the report of the lines so far is written
-  written : (report : List ℕ) × ReportsFrom (opening l.lines) (take l.line-index l.lines) report
+  written : (report : List ℕ) × ReportsFrom (setup_of l.lines) (opening l.lines) (take l.line-index l.lines) report
       × Appends (g.O.Sink.written l.initial.out) (g.O.Sink.written l.out) report;
-  scene : l.state ≡ scene_at l.lines l.line-index;
+  stands : StandsFor l.lines (scene_at l.lines l.line-index) l.state;
   kept : g.O.Counted.faults l.initial.out ≤ g.O.Counted.faults l.out;
 }

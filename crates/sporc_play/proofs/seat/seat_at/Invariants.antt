@@ -1,6 +1,7 @@
-use Rattle.std.proofs.Common.{◌≡◌, None, take}
-use Rattle.sporc_play.specs.Scene.{seat_of}
+use Rattle.std.proofs.Common.{take}
+use Rattle.sporc_play.specs.Apart.{IsNotIn}
+use Rattle.sporc_play.specs.Seats.{seated}
 use Rattle.sporc_play.proofs.seat.seat_at.Given as goal
 
 abbrev pub invariant-loop-i : goal.invariant-loop-i
-invariant-loop-i l = seat_of l.member (take l.i l.seats) ≡ None
+invariant-loop-i l = IsNotIn l.member (seated (take l.i l.seats))

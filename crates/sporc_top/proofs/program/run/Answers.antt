@@ -1,9 +1,9 @@
-use Rattle.sporc_top.specs.Outcome.{Played}
+use Rattle.sporc_top.specs.Outcome.{Done}
 use Rattle.sporc_top.proofs.Outcomes.{told_as}
 use Rattle.sporc_top.proofs.program.run.Goals as goal
 
 pub returns-in-Ok-clause-outcome : goal.returns-in-Ok-clause-outcome
-returns-in-Ok-clause-outcome g c = Played c.in-Ok.ensures.outcome.0 c.in-Ok.ensures.outcome.1
+returns-in-Ok-clause-outcome g c = Done c.in-Ok.ensures.outcome.0 c.in-Ok.ensures.outcome.1 c.in-Ok.ensures.outcome.2
 
 pub returns-in-Err-clause-outcome : goal.returns-in-Err-clause-outcome
 returns-in-Err-clause-outcome g c =

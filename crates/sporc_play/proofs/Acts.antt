@@ -1,0 +1,219 @@
+-- What single commands do may happen wherever a play has come to.
+use Rattle.std.proofs.Common.{◌≡◌, ℕ, zero, suc, ◌+◌, ◌-◌, ◌^◌, ◌<◌, ◌≤◌, Bool, true, false, cond, List, [], ◌∷◌, ◌++◌, length, take, map, set, refl, sym, ap, ◌∙◌, subst, arith, Option, None, Some, Result, Ok, Err}
+use Rattle.std.specs.Prelude.{bit_xor, is_none, nat_le, nat_lt, slice_get, ⊤, Contains, IsSomeAnd}
+use Rattle.std.specs.List.{AllByRecursion}
+use Rattle.std.specs.Str.{all_scalars}
+use Rattle.std.proofs.lemmas.Bool.{leb-true}
+use Rattle.std.proofs.lemmas.List.{take_all}
+use Rattle.std.proofs.lemmas.Nat.{xor_of_8}
+use Rattle.sporc_delta.specs.Marks.{Mark, insertion, removal}
+use Rattle.sporc_delta.specs.Typed.{IsTypedDelta}
+use Rattle.sporc_delta.proofs.Typing.{inserted, inserted-insertion, inserted-removal, typed_delta}
+use Rattle.sporc_client.specs.declared.limits.TheConstants.{MAX_EVENTS}
+use Rattle.sporc_client.specs.Allowed.{allows}
+use Rattle.sporc_client.specs.Answers.{change_fault, discard_fault, edit_fault}
+use Rattle.sporc_client.specs.declared.fault.EditFault.{EditFault}
+use Rattle.sporc_client.specs.Log.{Logged, Accept, Change, Discard, Edit}
+use Rattle.sporc_client.specs.PlainClient.{PlainClient, shown_after}
+use Rattle.sporc_client.specs.Reached.{IsReached}
+use Rattle.sporc_client.specs.Run.{Setup, Move, World, Happen, Restart as GoesBack, IsAt, IsRun, May, after_all, start}
+use Rattle.sporc_client.specs.Typed.{IsTypedChange, IsTypedEvent, IsTypedMove}
+use Rattle.sporc_client.specs.Soundness.{IsSound}
+use Rattle.sporc_client.proofs.Checked.{edit_fault_is, edit_passed}
+use Rattle.sporc_client.proofs.Reached.{reached_at}
+use Rattle.sporc_client.proofs.SoundRuns.{sound_and_typed_at}
+use Rattle.sporc_member.specs.declared.change.Change.{Change as MemberChange}
+use Rattle.sporc_script.specs.Commands.{InRange}
+use Rattle.sporc_script.specs.Spelling.{RosterChangeInRange, TextEditInRange}
+use Rattle.sporc_script.specs.declared.command.Edit.{Edit as ScriptEdit}
+use Rattle.sporc_script.specs.declared.text_edit.TextEdit.{TextEdit}
+use Rattle.sporc_script.specs.declared.text_edit.TextEdit.TheVariants.{Insert, Remove}
+use Rattle.sporc_script.specs.declared.command.Command.TheVariants as commands
+use Rattle.sporc_script.specs.declared.command.Flip.{Flip}
+use Rattle.sporc_script.specs.declared.command.Give.{Give}
+use Rattle.sporc_script.specs.declared.command.Restart.{Restart}
+use Rattle.sporc_script.specs.declared.command.RosterEdit.{RosterEdit}
+use Rattle.sporc_script.specs.declared.roster_change.RosterChange.{RosterChange}
+use Rattle.sporc_script.specs.declared.roster_change.RosterChange.TheVariants as changes
+use Rattle.sporc_script.specs.declared.play_line.PlayLine.{PlayLine}
+use Rattle.sporc_play.specs.Cast.{member_change, setup_of, tree_of}
+use Rattle.sporc_play.specs.Logs.{change_events, discard_events, edit_logged, logged_unless}
+use Rattle.sporc_play.specs.Scene.{Act, Scene, act_of, adds, cuts, delta_by, edit_events, entry_at, flip_byte, flips, gives, if_open, marks_of, nothing, restarts, seen_by}
+use Rattle.sporc_play.proofs.ByteFacts.{AreBytes, bytes_take, is_bytes}
+use Rattle.sporc_play.proofs.Founders.{key_len}
+use Rattle.sporc_play.proofs.ByteClients.{IsByteChange, IsByteEvent}
+use Rattle.sporc_play.proofs.SignedBytes.{key_bytes}
+use Rattle.sporc_play.proofs.Places.{at_place}
+use Rattle.sporc_play.proofs.ShortTexts.{short_texts_of}
+use Rattle.sporc_play.proofs.ShownForms.{shown_count}
+use Rattle.sporc_play.proofs.Runs.{HasCome, MayAct, MayBe}
+
+pub no_act : (s : Setup) (scene : Scene) → MayAct s scene nothing
+no_act s scene = record { run = tt; typed = tt; bytes = tt; entries = tt }
+
+-- what a client does, if there is one
+pub open_acts : (s : Setup) (scene : Scene) (m : ℕ) (act : PlainClient → Act) → ((c : PlainClient) → scene.world.clients m ≡ Some c → MayAct s scene (act c)) → MayAct s scene (if_open (scene.world.clients m) act)
+open_acts s scene m act each = go (scene.world.clients m) each
+  where
+    go : (o : Option PlainClient) → ((c : PlainClient) → o ≡ Some c → MayAct s scene (act c)) → MayAct s scene (if_open o act)
+    go None each = no_act s scene
+    go (Some c) each = each c refl
+
+-- the moment of a play's client
+pub client_at : (s : Setup) (moves : List Move) (scene : Scene) (m : ℕ) (c : PlainClient) → HasCome s moves scene → scene.world.clients m ≡ Some c → IsAt s moves (length moves) m c
+client_at s moves scene m c come at =
+    ap (λ (ms : List Move). (after_all s start ms).clients m) (take_all (length moves) moves (omega arith)) ∙ ap (λ (w : World). w.clients m) (sym come.world) ∙ at
+
+-- one event, unless there is a fault
+pub event_acts : {F : Type 0} (s : Setup) (scene : Scene) (m : ℕ) (c : PlainClient) (fault : Option F) (event : Logged) → scene.world.clients m ≡ Some c → (fault ≡ None → allows c event ≡ true) → (fault ≡ None → IsTypedEvent event) → IsByteEvent event → MayAct s scene (adds m (logged_unless fault event))
+event_acts s scene m c None event at may typed bytes = record {
+  run = (subst (λ (o : Option PlainClient). IsSomeAnd o (λ c. allows c event ≡ true)) (sym at) (may refl), tt);
+  typed = (typed refl, tt);
+  bytes = (bytes, tt);
+  entries = tt;
+}
+event_acts s scene m c (Some fault) event at may typed bytes = no_act s scene
+
+discard_may : (c : PlainClient) → discard_fault c ≡ None → allows c (Discard 0) ≡ true
+unfolding allows
+discard_may c none = ap is_none none
+
+pub discard_acts : (s : Setup) (m : ℕ) → MayBe s (λ scene. commands.Discard m)
+discard_acts s m moves scene come = open_acts s scene m (λ c. adds m (discard_events c)) (λ c at. event_acts s scene m c (discard_fault c) (Discard 0) at (discard_may c) (λ none. tt) tt)
+
+change_may : (c : PlainClient) (change : MemberChange) → change_fault c ≡ None → allows c (Change 0 change) ≡ true
+unfolding allows
+change_may c change none = ap is_none none
+
+typed_change : (script : List PlayLine) (change : RosterChange) → RosterChangeInRange change → IsTypedChange (member_change (setup_of script) change)
+unfolding setup_of
+typed_change script (changes.Add m) fits = (fits.1, key_len (tree_of script) m.member)
+typed_change script (changes.Remove m) fits = fits.1
+typed_change script (changes.SetRole m) fits = fits.1
+
+pub byte_change : (script : List PlayLine) (change : RosterChange) → IsByteChange (member_change (setup_of script) change)
+unfolding setup_of
+byte_change script (changes.Add m) = key_bytes (tree_of script) m.member
+byte_change script (changes.Remove m) = tt
+byte_change script (changes.SetRole m) = tt
+
+pub change_acts : (script : List PlayLine) (e : RosterEdit) → RosterChangeInRange e.change → MayBe (setup_of script) (λ scene. commands.Change e)
+change_acts script e fits moves scene come =
+    let s = setup_of script in
+    let change = member_change s e.change in
+    open_acts s scene e.member (λ c. adds e.member (change_events change c))
+    (λ c at. event_acts s scene e.member c (change_fault c) (Change 0 change) at (change_may c change) (λ none. typed_change script e.change fits) (byte_change script e.change))
+
+-- ---- what is handed out, and going back
+
+pub made_bytes : (made : List (List ℕ)) (number : ℕ) (bytes : List ℕ) → AllByRecursion AreBytes made → entry_at made number ≡ Some bytes → AreBytes bytes
+made_bytes made zero bytes all at = absurd cc
+made_bytes made (suc n) bytes all at = at_place AreBytes made n bytes all at
+
+pub give_acts : (s : Setup) (g : Give) → MayBe s (λ scene. commands.Give g)
+give_acts s g moves scene come = open_acts s scene g.member (λ c. gives g.member g.position (entry_at scene.made g.entry)) (λ c at. go c at (entry_at scene.made g.entry) refl)
+  where
+    go : (c : PlainClient) → scene.world.clients g.member ≡ Some c → (o : Option (List ℕ)) → entry_at scene.made g.entry ≡ o → MayAct s scene (gives g.member g.position o)
+    go c at None none = no_act s scene
+    go c at (Some bytes) some = record {
+      run = (subst (λ (o : Option PlainClient). IsSomeAnd o (λ c. ⊤)) (sym at) tt, tt);
+      typed = (is_bytes bytes (made_bytes scene.made g.entry bytes come.made some), tt);
+      bytes = (tt, tt);
+      entries = tt;
+    }
+
+pub restart_acts : (s : Setup) (r : Restart) → MayBe s (λ scene. commands.Restart r)
+restart_acts s r moves scene come = open_acts s scene r.member (restarts r.member r.events) (λ c at. go c at (nat_le r.events (length c.entries)) refl)
+  where
+    go : (c : PlainClient) → scene.world.clients r.member ≡ Some c → (b : Bool) → nat_le r.events (length c.entries) ≡ b → MayAct s scene (restarts r.member r.events c)
+    go c at false over = subst (λ (b : Bool). MayAct s scene (cond b (record { moves = GoesBack r.member r.events ∷ []; entries = [] }) nothing)) (sym over) (no_act s scene)
+    go c at true within = subst (λ (b : Bool). MayAct s scene (cond b (record { moves = GoesBack r.member r.events ∷ []; entries = [] }) nothing)) (sym within) (record {
+      run = (subst (λ (o : Option PlainClient). IsSomeAnd o (λ c. r.events ≤ length c.entries)) (sym at) (leb-true r.events (length c.entries) within), tt);
+      typed = (tt, tt);
+      bytes = (tt, tt);
+      entries = tt;
+    })
+
+-- ---- entries that are changed
+
+flipped_byte : (bytes : List ℕ) (at b : ℕ) → AreBytes bytes → slice_get bytes at ≡ Some b → AreBytes (set bytes at (bit_xor b 1))
+flipped_byte [] at b all is = absurd cc
+flipped_byte (x ∷ xs) zero b all is = let same : x ≡ b = cc in (subst (λ (y : ℕ). bit_xor y 1 < 256) same (xor_of_8 x 1 all.0 (omega arith)), all.1)
+flipped_byte (x ∷ xs) (suc at) b all is = (all.0, flipped_byte xs at b all.1 is)
+
+pub flip_acts : (s : Setup) (f : Flip) → MayBe s (λ scene. commands.Flip f)
+flip_acts s f moves scene come = go (entry_at scene.made f.entry) refl
+  where
+    byte : (bytes : List ℕ) → AreBytes bytes → (o : Option ℕ) → slice_get bytes f.at ≡ o → MayAct s scene (flip_byte bytes f.at o)
+    byte bytes all None is = no_act s scene
+    byte bytes all (Some b) is = record { run = tt; typed = tt; bytes = tt; entries = (flipped_byte bytes f.at b all is, tt) }
+
+    go : (o : Option (List ℕ)) → entry_at scene.made f.entry ≡ o → MayAct s scene (flips f.at o)
+    go None none = no_act s scene
+    go (Some bytes) some = byte bytes (made_bytes scene.made f.entry bytes come.made some) (slice_get bytes f.at) refl
+
+pub cut_acts : (s : Setup) (number : ℕ) → MayBe s (λ scene. commands.Cut number)
+cut_acts s number moves scene come = go (entry_at scene.made number) refl
+  where
+    go : (o : Option (List ℕ)) → entry_at scene.made number ≡ o → MayAct s scene (cuts o)
+    go None none = no_act s scene
+    go (Some bytes) some = record { run = tt; typed = tt; bytes = tt; entries = (bytes_take (length bytes - 1) bytes (made_bytes scene.made number bytes come.made some), tt) }
+
+-- ---- edits
+
+scalars_of_marks : (edit : TextEdit) (len : ℕ) (marks : List Mark) → TextEditInRange edit → marks_of edit len ≡ Some marks → all_scalars (inserted marks) ≡ true
+scalars_of_marks (Insert e) len marks fits is = go (nat_le e.at len) is
+  where
+    go : (b : Bool) → cond b (Some (insertion len e.at e.text)) None ≡ Some marks → all_scalars (inserted marks) ≡ true
+    go true is =
+        let same : insertion len e.at e.text ≡ marks = cc in
+        ap (λ (ms : List Mark). all_scalars (inserted ms)) (sym same) ∙ ap all_scalars (inserted-insertion len e.at e.text) ∙ fits.1
+    go false is = absurd cc
+scalars_of_marks (Remove e) len marks fits is = go (nat_le (e.at + e.count) len) is
+  where
+    go : (b : Bool) → cond b (Some (removal len e.at e.count)) None ≡ Some marks → all_scalars (inserted marks) ≡ true
+    go true is =
+        let same : removal len e.at e.count ≡ marks = cc in
+        ap (λ (ms : List Mark). all_scalars (inserted ms)) (sym same) ∙ ap all_scalars (inserted-removal len e.at e.count)
+    go false is = absurd cc
+
+scalars_of_delta : (c : PlainClient) (seen : ℕ) (edit : TextEdit) (marks : List Mark) → TextEditInRange edit → delta_by c seen edit ≡ Some marks → all_scalars (inserted marks) ≡ true
+scalars_of_delta c seen edit marks fits is = go (nat_lt (length c.shown) seen) is
+  where
+    go : (b : Bool) → cond b (Some []) (marks_of edit (length (shown_after seen c))) ≡ Some marks → all_scalars (inserted marks) ≡ true
+    go true is = let same : marks ≡ [] = cc in ap (λ (ms : List Mark). all_scalars (inserted ms)) same
+    go false is = scalars_of_marks edit (length (shown_after seen c)) marks fits is
+
+short_text : (s : Setup) (who : ℕ) (c : PlainClient) (seen : ℕ) → IsReached s who c → IsSound c → seen ≤ length c.shown → length c.shown ≤ MAX_EVENTS → length (shown_after seen c) ≤ 2 ^ 40
+short_text s who c seen reached sound low few =
+    let same = reached.state in
+    let count : length c.shown ≡ length reached.log = ap (λ (d : PlainClient). length d.shown) same ∙ shown_count c.opening reached.log in
+    ap_le (sym (ap (λ (d : PlainClient). length (shown_after seen d)) same))
+    (short_texts_of c.opening reached.log reached.allowed (subst IsSound same sound) (subst (λ (n : ℕ). n ≤ MAX_EVENTS) count few) seen (subst (λ (n : ℕ). seen ≤ n) count low))
+  where
+    ap_le : {a b : ℕ} → a ≡ b → a ≤ 2 ^ 40 → b ≤ 2 ^ 40
+    ap_le same low = omega (arith, same, low)
+
+edit_may : (c : PlainClient) (seen : ℕ) (marks : List Mark) → edit_fault c seen marks ≡ None → allows c (Edit 0 seen marks) ≡ true
+unfolding allows
+edit_may c seen marks none = ap is_none none
+
+pub edit_acts : (s : Setup) (e : ScriptEdit) → TextEditInRange e.change → MayBe s (λ scene. commands.Edit e)
+edit_acts s e fits moves scene come = open_acts s scene e.member (λ c. adds e.member (edit_events e c)) (λ c at. go c at (delta_by c (seen_by c e.seen) e.change) refl)
+  where
+    typed : (c : PlainClient) → scene.world.clients e.member ≡ Some c → (marks : List Mark) → delta_by c (seen_by c e.seen) e.change ≡ Some marks → edit_fault c (seen_by c e.seen) marks ≡ None → IsTypedDelta marks
+    typed c at marks is none =
+        let seen = seen_by c e.seen in
+        let there = client_at s moves scene e.member c come at in
+        let passed = edit_passed c seen marks (sym (edit_fault_is c seen marks) ∙ none) in
+        let known = sound_and_typed_at s moves (length moves) e.member c come.run there in
+        let short = short_text s e.member c seen (reached_at s moves (length moves) e.member c come.run.run there) known.sound passed.within (omega (arith, passed.room.events)) in
+        typed_delta marks (record {
+          base = omega (arith, passed.base, short);
+          size = omega (arith, passed.bytes);
+          scalars = scalars_of_delta c seen e.change marks fits is;
+        })
+
+    go : (c : PlainClient) → scene.world.clients e.member ≡ Some c → (o : Option (List Mark)) → delta_by c (seen_by c e.seen) e.change ≡ o → MayAct s scene (adds e.member (edit_logged c (seen_by c e.seen) o))
+    go c at None is = no_act s scene
+    go c at (Some marks) is = event_acts s scene e.member c (edit_fault c (seen_by c e.seen) marks) (Edit 0 (seen_by c e.seen) marks) at (edit_may c (seen_by c e.seen) marks) (typed c at marks is) tt

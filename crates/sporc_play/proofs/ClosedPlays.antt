@@ -1,0 +1,214 @@
+-- Plays in which clients make all entries are closed: what is handed out was signed by a client of the play.
+use Rattle.std.proofs.Common.{◌≡◌, ℕ, zero, suc, ◌+◌, Bool, true, false, cond, List, [], ◌∷◌, ◌++◌, length, map, refl, sym, ap, ◌∙◌, subst, arith, Option, None, Some, Result, Ok, Err}
+use Rattle.std.specs.Prelude.{⊤, Contains, if◌then◌else◌, nat_le}
+use Rattle.std.specs.List.{AllByRecursion}
+use Rattle.std.proofs.lemmas.List.Elements.{Contains-append_left, Contains-append_right}
+use Rattle.sporc_member.specs.declared.change.Change.{Change as MemberChange}
+use Rattle.sporc_member.specs.declared.founder.Founder.{Founder}
+use Rattle.sporc_member.specs.Roster.{insert_sorted}
+use Rattle.sporc_epoch.specs.Keys.{Keys}
+use Rattle.sporc_epoch.specs.Hints.{hints_of}
+use Rattle.sporc_epoch.specs.declared.fault.HintFault.{HintFault}
+use Rattle.sporc_line.specs.Openings.{open_checks}
+use Rattle.sporc_line.specs.declared.fault.LineOpenFault.{LineOpenFault}
+use Rattle.sporc_base.specs.FirstFault.{first_of}
+use Rattle.std.specs.FinMap.{get}
+use Rattle.sporc_client.specs.declared.fault.SubmitFault.{SubmitFault}
+use Rattle.sporc_client.specs.declared.submitted.Submitted.{Submitted}
+use Rattle.sporc_client.specs.declared.submitted.Submitted.TheVariants as submitted
+use Rattle.sporc_client.specs.Answers.{change_fault, discard_fault, edit_fault, refusal_of}
+use Rattle.sporc_client.specs.Closed.{AreClosed, HasItsKey, IsClosed, IsClosedMove, IsSigned}
+use Rattle.sporc_client.specs.Log.{Logged, Accept, Change, Discard, Dropped, Edit, Submit}
+use Rattle.sporc_client.specs.PlainClient.{PlainClient}
+use Rattle.sporc_client.specs.Run.{Setup, Signing, World, Move, Genuine, Give, Happen, Open, Restart, after, after_all, given, gives_to, happens_to, restarts as restarts_in, signings, start}
+use Rattle.sporc_client.specs.Typed.{IsTypedRun}
+use Rattle.sporc_client.proofs.Calls.{after_append}
+use Rattle.sporc_client.proofs.ClosedRuns.{closed_runs_are_genuine}
+use Rattle.sporc_client.proofs.RosterFacts.{all_added}
+use Rattle.sporc_delta.specs.Marks.{Mark}
+use Rattle.sporc_script.specs.Grammar.{IsPlayScript}
+use Rattle.sporc_script.specs.declared.command.Command.{Command}
+use Rattle.sporc_script.specs.declared.command.Command.TheVariants as commands
+use Rattle.sporc_script.specs.declared.command.Tree.{Tree}
+use Rattle.sporc_script.specs.declared.member_role.MemberRole.{MemberRole}
+use Rattle.sporc_script.specs.declared.play_line.PlayLine.{PlayLine}
+use Rattle.sporc_script.specs.declared.roster_change.RosterChange.{RosterChange}
+use Rattle.sporc_script.specs.declared.roster_change.RosterChange.TheVariants as changes
+use Rattle.sporc_play.specs.Cast.{first_ring, founder_of, has_admin, member_change, openers_by, private_of, public_of, setup_of, tree_of}
+use Rattle.sporc_play.specs.Logs.{change_events, discard_events, edit_logged, logged_unless}
+use Rattle.sporc_play.specs.Moves.{moves_from, moves_of}
+use Rattle.sporc_play.specs.OwnPlays.{AreByClients, IsByClients}
+use Rattle.sporc_play.specs.Scene.{Act, Scene, act_of, adds, commands_of, delta_by, edit_events, entries_at, entry_at, gives, if_open, joins, joins_with, nothing, opening, opening_moves, openings, opens_unless, opens_with, restarts, seen_by, submission_in, submits}
+use Rattle.sporc_play.specs.Scene as scenes
+use Rattle.sporc_play.proofs.Founders.{founders, inserted}
+use Rattle.sporc_play.proofs.OneRun.{one_run}
+use Rattle.sporc_play.proofs.Places.{at_place}
+
+-- ---- what was signed stays signed
+
+more_signed : (w v : World) (bytes : List ℕ) → ((x : Signing) → Contains w.signed x → Contains v.signed x) → IsSigned w bytes → IsSigned v bytes
+more_signed w v bytes keeps (signer, (x, there, who, entry)) = (signer, (x, keeps x there, who, entry))
+
+stays_signed : (s : Setup) (w : World) (move : Move) (bytes : List ℕ) → IsSigned w bytes → IsSigned (after s w move) bytes
+stays_signed s w (Open who ring) bytes is = is
+stays_signed s w (Happen who event) bytes is = go (w.clients who)
+  where
+    go : (o : Option PlainClient) → IsSigned (happens_to w who event o) bytes
+    go None = is
+    go (Some c) = more_signed w (happens_to w who event (Some c)) bytes (λ x there. Contains-append_left w.signed (signings who c event) x there) is
+stays_signed s w (Give who position entry) bytes is = go (w.clients who)
+  where
+    go : (o : Option PlainClient) → IsSigned (gives_to w who position entry o) bytes
+    go None = is
+    go (Some c) = is
+stays_signed s w (Restart who k) bytes is = go (w.clients who)
+  where
+    go : (o : Option PlainClient) → IsSigned (restarts_in w who k o) bytes
+    go None = is
+    go (Some c) = is
+
+all_stay : (s : Setup) (w : World) (moves : List Move) (made : List (List ℕ)) → AllByRecursion (IsSigned w) made → AllByRecursion (IsSigned (after_all s w moves)) made
+all_stay s w [] made all = all
+all_stay s w (move ∷ moves) made all = all_stay s (after s w move) moves made (each made all)
+  where
+    each : (made : List (List ℕ)) → AllByRecursion (IsSigned w) made → AllByRecursion (IsSigned (after s w move)) made
+    each [] all = tt
+    each (bytes ∷ rest) all = (stays_signed s w move bytes all.0, each rest all.1)
+
+-- ---- what single commands do
+
+record IsOwn (s : Setup) (scene : Scene) (act : Act) : Type 0 where
+  closed : AreClosed s scene.world act.moves
+  made : AllByRecursion (IsSigned (after_all s scene.world act.moves)) act.entries
+
+no_own : (s : Setup) (scene : Scene) → IsOwn s scene nothing
+no_own s scene = record { closed = tt; made = tt }
+
+own_if_open : (s : Setup) (scene : Scene) (m : ℕ) (act : PlainClient → Act) → ((c : PlainClient) → scene.world.clients m ≡ Some c → IsOwn s scene (act c)) → IsOwn s scene (if_open (scene.world.clients m) act)
+own_if_open s scene m act each = go (scene.world.clients m) each
+  where
+    go : (o : Option PlainClient) → ((c : PlainClient) → o ≡ Some c → IsOwn s scene (act c)) → IsOwn s scene (if_open o act)
+    go None each = no_own s scene
+    go (Some c) each = each c refl
+
+own_event : {F : Type 0} (s : Setup) (scene : Scene) (m : ℕ) (fault : Option F) (event : Logged) → IsClosedMove s scene.world (Happen m event) → IsOwn s scene (adds m (logged_unless fault event))
+own_event s scene m None event closed = record { closed = (closed, tt); made = tt }
+own_event s scene m (Some fault) event closed = no_own s scene
+
+own_edit : (s : Setup) (scene : Scene) (m : ℕ) (c : PlainClient) (seen : ℕ) (o : Option (List Mark)) → IsOwn s scene (adds m (edit_logged c seen o))
+own_edit s scene m c seen None = no_own s scene
+own_edit s scene m c seen (Some marks) = own_event s scene m (edit_fault c seen marks) (Edit 0 seen marks) tt
+
+own_change : (s : Setup) (scene : Scene) (m : ℕ) (change : RosterChange) → IsClosedMove s scene.world (Happen m (Change 0 (member_change s change)))
+own_change s scene m (changes.Add r) = λ among. refl
+own_change s scene m (changes.Remove r) = tt
+own_change s scene m (changes.SetRole r) = tt
+
+signed_now : (s : Setup) (w : World) (m : ℕ) (c : PlainClient) (bytes : List ℕ) → w.clients m ≡ Some c → IsSigned (after s w (Happen m (Submit 0 bytes))) bytes
+signed_now s w m c bytes at = subst (λ (o : Option PlainClient). IsSigned (happens_to w m (Submit 0 bytes) o) bytes) (sym at)
+    (m, (record { who = m; entry = bytes; client = c }, Contains-append_right w.signed (record { who = m; entry = bytes; client = c } ∷ []) (record { who = m; entry = bytes; client = c }) (0, omega arith, refl), refl, refl))
+
+own_submission : (s : Setup) (scene : Scene) (m : ℕ) (c : PlainClient) (r : Result Submitted SubmitFault) → scene.world.clients m ≡ Some c → IsOwn s scene (submits m r)
+own_submission s scene m c (Ok (submitted.Entry bytes)) at = record { closed = (tt, tt); made = (signed_now s scene.world m c bytes at, tt) }
+own_submission s scene m c (Ok (submitted.Dropped fault)) at = record { closed = (tt, tt); made = tt }
+own_submission s scene m c (Ok submitted.Waiting) at = no_own s scene
+own_submission s scene m c (Ok submitted.Nothing) at = no_own s scene
+own_submission s scene m c (Err fault) at = no_own s scene
+
+found_signed : (w : World) (made : List (List ℕ)) (number : ℕ) (bytes : List ℕ) → AllByRecursion (IsSigned w) made → entry_at made number ≡ Some bytes → IsSigned w bytes
+found_signed w made zero bytes all at = absurd cc
+found_signed w made (suc n) bytes all at = at_place (IsSigned w) made n bytes all at
+
+own_give : (s : Setup) (scene : Scene) (m position number : ℕ) (o : Option (List ℕ)) → AllByRecursion (IsSigned scene.world) scene.made → entry_at scene.made number ≡ o → IsOwn s scene (gives m position o)
+own_give s scene m position number None all at = no_own s scene
+own_give s scene m position number (Some bytes) all at = record { closed = (found_signed scene.world scene.made number bytes all at, tt); made = tt }
+
+own_restart : (s : Setup) (scene : Scene) (m k : ℕ) (c : PlainClient) → IsOwn s scene (restarts m k c)
+own_restart s scene m k c = go (nat_le k (length c.entries))
+  where
+    go : (b : Bool) → IsOwn s scene (cond b (record { moves = Restart m k ∷ []; entries = [] }) nothing)
+    go true = record { closed = (tt, tt); made = tt }
+    go false = no_own s scene
+
+own_join : (s : Setup) (scene : Scene) (m : ℕ) (r : Result (List (List ℕ)) ℕ) (o : Option PlainClient) → IsOwn s scene (joins s m r o)
+own_join s scene m r (Some c) = no_own s scene
+own_join s scene m (Err missing) None = no_own s scene
+own_join s scene m (Ok entries) None = hinted (hints_of entries m (s.pairs m))
+  where
+    opened : (ring : Keys) (fault : Option LineOpenFault) → IsOwn s scene (opens_unless m ring fault)
+    opened ring None = record { closed = (tt, tt); made = tt }
+    opened ring (Some fault) = no_own s scene
+
+    hinted : (hints : Result Keys HintFault) → IsOwn s scene (opens_with s m hints)
+    hinted (Ok ring) = opened ring (first_of (open_checks s.genesis (get ring 0)))
+    hinted (Err fault) = no_own s scene
+
+own_act : (s : Setup) (scene : Scene) (c : Command) → IsByClients c → AllByRecursion (IsSigned scene.world) scene.made → IsOwn s scene (act_of s scene c)
+own_act s scene (commands.Edit e) by all = own_if_open s scene e.member (λ c. adds e.member (edit_events e c)) (λ c at. own_edit s scene e.member c (seen_by c e.seen) (delta_by c (seen_by c e.seen) e.change))
+own_act s scene (commands.Change e) by all =
+    own_if_open s scene e.member (λ c. adds e.member (change_events (member_change s e.change) c))
+    (λ c at. own_event s scene e.member (change_fault c) (Change 0 (member_change s e.change)) (own_change s scene e.member e.change))
+own_act s scene (commands.Discard m) by all = own_if_open s scene m (λ c. adds m (discard_events c)) (λ c at. own_event s scene m (discard_fault c) (Discard 0) tt)
+own_act s scene (commands.Submit m) by all = own_if_open s scene m (λ c. submits m (submission_in s scene m c)) (λ c at. own_submission s scene m c (submission_in s scene m c) at)
+own_act s scene (commands.Give g) by all =
+    own_if_open s scene g.member (λ c. gives g.member g.position (entry_at scene.made g.entry)) (λ c at. own_give s scene g.member g.position g.entry (entry_at scene.made g.entry) all refl)
+own_act s scene (commands.Restart r) by all = own_if_open s scene r.member (restarts r.member r.events) (λ c at. own_restart s scene r.member r.events c)
+own_act s scene (commands.Join j) by all = own_join s scene j.member (entries_at scene.made j.entries) (scene.world.clients j.member)
+own_act s scene (commands.Flip f) by all = absurd by
+own_act s scene (commands.Cut n) by all = absurd by
+own_act s scene (commands.Sign f) by all = absurd by
+own_act s scene c by all = no_own s scene
+
+-- ---- all commands
+
+closed_append : (s : Setup) (w : World) (xs ys : List Move) → AreClosed s w xs → AreClosed s (after_all s w xs) ys → AreClosed s w (xs ++ ys)
+closed_append s w [] ys a b = b
+closed_append s w (x ∷ xs) ys a b = (a.0, closed_append s (after s w x) xs ys a.1 b)
+
+signed_append : (w : World) (xs ys : List (List ℕ)) → AllByRecursion (IsSigned w) xs → AllByRecursion (IsSigned w) ys → AllByRecursion (IsSigned w) (xs ++ ys)
+signed_append w [] ys a b = b
+signed_append w (x ∷ xs) ys a b = (a.0, signed_append w xs ys a.1 b)
+
+closed_from : (s : Setup) (scene : Scene) (lines : List PlayLine) → AreByClients lines → AllByRecursion (IsSigned scene.world) scene.made → AreClosed s scene.world (moves_from s scene (commands_of lines))
+closed_from s scene [] by all = tt
+closed_from s scene (l ∷ ls) by all =
+    let act = act_of s scene l.command in
+    let own = own_act s scene l.command by.0 all in
+    let world = after_all s scene.world act.moves in
+    closed_append s scene.world act.moves (moves_from s (scenes.after s scene l.command) (commands_of ls)) own.closed
+    (closed_from s (scenes.after s scene l.command) ls by.1 (signed_append world scene.made act.entries (all_stay s scene.world act.moves scene.made all) own.made))
+
+openings_closed : (s : Setup) (w : World) (ns : List ℕ) → AreClosed s w (map (λ (n : ℕ). Open n first_ring) ns)
+openings_closed s w [] = tt
+openings_closed s w (n ∷ ns) = (tt, openings_closed s (after s w (Open n first_ring)) ns)
+
+first_closed : (s : Setup) (script : List PlayLine) → AreClosed s start (opening_moves script)
+first_closed s script = go (has_admin script)
+  where
+    go : (b : Bool) → AreClosed s start (if b then openings script else [])
+    go true = openings_closed s start (openers_by script)
+    go false = tt
+
+-- ---- the founders
+
+keys_own : (script : List PlayLine) (founders : List Founder) → AllByRecursion (λ (f : Founder). f.key ≡ public_of (tree_of script) f.member) founders → AllByRecursion (HasItsKey (setup_of script)) founders
+unfolding setup_of
+keys_own script [] all = tt
+keys_own script (f ∷ fs) all = ((λ among. all.0), keys_own script fs all.1)
+
+founders_own : (tree : Tree) (fs : List Founder) (ms : List MemberRole) → AllByRecursion (λ (f : Founder). f.key ≡ public_of tree f.member) fs
+    → AllByRecursion (λ (f : Founder). f.key ≡ public_of tree f.member) (inserted tree fs ms)
+founders_own tree fs [] all = all
+founders_own tree fs (m ∷ ms) all = founders_own tree (insert_sorted (founder_of tree m) fs) ms (all_added (λ (f : Founder). f.key ≡ public_of tree f.member) (founder_of tree m) fs refl all)
+
+founders_keys : (script : List PlayLine) → AllByRecursion (HasItsKey (setup_of script)) (setup_of script).genesis.founders
+unfolding setup_of
+founders_keys script = keys_own script (inserted (tree_of script) [] (founders script)) (founders_own (tree_of script) [] (founders script) tt)
+
+pub own_play : (text : List ℕ) (script : List PlayLine) → IsPlayScript text script → has_admin script ≡ true → AreByClients script → Genuine (setup_of script) start (moves_of script (commands_of script))
+own_play text script is founded by =
+    let s = setup_of script in
+    closed_runs_are_genuine s (moves_of script (commands_of script)) (one_run text script is founded).run (record {
+      founders = founders_keys script;
+      closed = closed_append s start (opening_moves script) (moves_from s (opening script) (commands_of script)) (first_closed s script) (closed_from s (opening script) script by tt);
+    })

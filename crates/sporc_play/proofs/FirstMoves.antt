@@ -1,0 +1,115 @@
+-- The moves by which the founders open their clients are a run.
+use Rattle.std.proofs.Common.{◌≡◌, ℕ, zero, suc, ◌+◌, ◌^◌, ◌<◌, Bool, true, false, cond, eqb, List, [], ◌∷◌, ◌++◌, length, map, refl, sym, ap, ◌∙◌, subst, arith, Option, None, Some, IfSome, inl, inr}
+use Rattle.std.specs.Prelude.{Contains, IsSomeAnd, filter_map, if◌then◌else◌}
+use Rattle.std.specs.Cmp.{nat_cmp_total, unsigned_tied}
+use Rattle.std.specs.FinMap.{empty, get, insert, get-empty, get-insert}
+use Rattle.std.specs.List.{AllByRecursion, cons_option}
+use Rattle.std.specs.Ordering.{nat_cmp, eq_by_cmp}
+use Rattle.std.proofs.lemmas.Bool.Decides.{nat_tests}
+use Rattle.sha2.proofs.Facts256.{length-sha256}
+use Rattle.sporc_hash.specs.Chain.{commitment_of}
+use Rattle.sporc_epoch.specs.Keys.{Keys}
+use Rattle.sporc_client.specs.Run.{Setup, Move, World, IsRun, Open, after, start}
+use Rattle.sporc_client.specs.Typed.{AreEpochKeys, IsTypedMove, IsTypedRun}
+use Rattle.sporc_client.specs.WellFormed.{IsWellFormed}
+use Rattle.sporc_script.specs.Commands.{InRange}
+use Rattle.sporc_script.specs.Grammar.{IsPlayScript}
+use Rattle.sporc_script.specs.declared.command.Command.{Command}
+use Rattle.sporc_script.specs.declared.command.Command.TheVariants as commands
+use Rattle.sporc_script.specs.declared.play_line.PlayLine.{PlayLine}
+use Rattle.sporc_play.specs.Cast.{first_ring, has_admin, member_by, opener_by, openers_by, setup_of, tree_of}
+use Rattle.sporc_play.specs.Derived.{document_number, first_key}
+use Rattle.sporc_play.specs.Scene.{opening_moves, openings}
+use Rattle.sporc_play.specs.Stage.{AreDeclared}
+use Rattle.sporc_play.proofs.Founders.{are_declared, identifier_len}
+use Rattle.sporc_play.proofs.Places.{among_cases, among_here, among_more}
+use Rattle.sporc_play.proofs.Scripts.{Follows, script_follows}
+
+-- ---- the first ring
+
+abbrev no_keys : Keys
+no_keys = empty
+
+first_keys : AreEpochKeys first_ring
+first_keys epoch =
+    subst (λ (o : Option (List ℕ)). IfSome o (λ key. length key ≡ 32)) (sym (get-insert nat_cmp_total no_keys 0 first_key epoch)) (go (eq_by_cmp nat_cmp epoch 0))
+  where
+    go : (b : Bool) → IfSome (cond b (Some first_key) (get no_keys epoch)) (λ key. length key ≡ 32)
+    go true = length-sha256 _
+    go false = subst (λ (o : Option (List ℕ)). IfSome o (λ key. length key ≡ 32)) (sym (get-empty nat_cmp epoch)) tt
+
+first_there : get first_ring 0 ≡ Some first_key
+first_there =
+    let same : eq_by_cmp nat_cmp 0 0 ≡ true = unsigned_tied 0 0 ∙ zero_is in
+    get-insert nat_cmp_total no_keys 0 first_key 0 ∙ ap (λ (b : Bool). cond b (Some first_key) (get no_keys 0)) same
+  where
+    zero_is : eqb 0 0 ≡ true
+    zero_is = refl
+
+-- ---- who opens
+
+openers_in : (n : ℕ) (lines : List PlayLine) → Contains (openers_by lines) n → Contains (filter_map (λ (l : PlayLine). member_by l.command) lines) n
+openers_in n [] is = is
+openers_in n (l ∷ ls) is = elim (among_cases n (opener_by l.command) (openers_by ls) is) [
+  | inl here ↦ among_here n (member_by l.command) (filter_map (λ (l : PlayLine). member_by l.command) ls) (own l.command here)
+  | inr there ↦ among_more n (member_by l.command) (filter_map (λ (l : PlayLine). member_by l.command) ls) (openers_in n ls there)
+]
+  where
+    own : (c : Command) → opener_by c ≡ Some n → member_by c ≡ Some n
+    own (commands.Member m) is = is
+    own c is = absurd cc
+
+all_of : {X : Type 0} (P : X → Type 0) (xs : List X) → ((x : X) → Contains xs x → P x) → AllByRecursion P xs
+all_of P [] each = tt
+all_of P (x ∷ xs) each = (each x (0, omega arith, refl), all_of P xs (λ y is. each y (suc is.0, omega (arith, is.1), is.2)))
+
+pub openings_run : (s : Setup) (w : World) (ns : List ℕ) → AllByRecursion (λ n. Contains s.members n) ns → commitment_of s.genesis.document 0 first_key ≡ s.genesis.commitment → IsRun s w (map (λ (n : ℕ). Open n first_ring) ns)
+openings_run s w [] all meets = tt
+openings_run s w (n ∷ ns) all meets = (
+  (all.0, subst (λ (o : Option (List ℕ)). IsSomeAnd o (λ k. commitment_of s.genesis.document 0 k ≡ s.genesis.commitment)) (sym first_there) meets),
+  openings_run s (after s w (Open n first_ring)) ns all.1 meets,
+)
+
+pub openings_typed : (ns : List ℕ) → AllByRecursion IsTypedMove (map (λ (n : ℕ). Open n first_ring) ns)
+openings_typed [] = tt
+openings_typed (n ∷ ns) = (first_keys, openings_typed ns)
+
+-- ---- the setup
+
+member_small : (before lines : List PlayLine) (n : ℕ) → Follows before lines → Contains (filter_map (λ (l : PlayLine). member_by l.command) lines) n → n < 2 ^ 16
+member_small before [] n all is = absurd (omega (arith, is.1))
+member_small before (l ∷ ls) n all is = elim (among_cases n (member_by l.command) (filter_map (λ (l : PlayLine). member_by l.command) ls) is) [
+  | inl here ↦ own l.command all.1 here
+  | inr there ↦ member_small (before ++ l ∷ []) ls n all.2 there
+]
+  where
+    own : (c : Command) → InRange c → member_by c ≡ Some n → n < 2 ^ 16
+    own (commands.Member m) fits is = let same : m.member ≡ n = cc in subst (λ (k : ℕ). k < 2 ^ 16) same fits.1
+    own (commands.Joiner m) fits is = let same : m ≡ n = cc in subst (λ (k : ℕ). k < 2 ^ 16) same fits.1
+    own c fits is = absurd cc
+
+well_formed : (text : List ℕ) (script : List PlayLine) → IsPlayScript text script → has_admin script ≡ true → IsWellFormed (setup_of script)
+unfolding setup_of
+well_formed text script is founded = record {
+  genesis = (are_declared text script is).genesis founded;
+  members = λ who among. member_small [] script who (script_follows text script is) among;
+  identifiers = λ who among. identifier_len (tree_of script) who;
+}
+
+pub commits : (script : List PlayLine) → commitment_of (setup_of script).genesis.document 0 first_key ≡ (setup_of script).genesis.commitment
+unfolding setup_of
+commits script = refl
+
+pub among_members : (script : List PlayLine) → AllByRecursion (λ n. Contains (setup_of script).members n) (openers_by script)
+unfolding setup_of
+among_members script = all_of (λ (n : ℕ). Contains (filter_map (λ (l : PlayLine). member_by l.command) script) n) (openers_by script) (λ n is. openers_in n script is)
+
+pub first_run : (text : List ℕ) (script : List PlayLine) → IsPlayScript text script → has_admin script ≡ true → IsTypedRun (setup_of script) (opening_moves script)
+first_run text script is founded =
+    let s = setup_of script in
+    let run : IsTypedRun s (openings script) = record {
+      setup = well_formed text script is founded;
+      typed = openings_typed (openers_by script);
+      run = openings_run s start (openers_by script) (among_members script) (commits script);
+    } in
+    subst (λ (moves : List Move). IsTypedRun s moves) (sym (ap (λ (b : Bool). if b then openings script else []) founded)) run

@@ -1,0 +1,184 @@
+-- The keys of epochs that are read off a history of bytes are bytes.
+use Rattle.std.proofs.Common.{◌≡◌, ℕ, zero, suc, Bool, true, false, cond, List, [], ◌∷◌, ◌++◌, length, map, take, refl, sym, ap, ◌∙◌, subst, Option, None, Some, Result, Ok, Err, IfSome}
+use Rattle.std.specs.Prelude.{◌==◌, find, flat_map, is_some, option_and_then, slice_get, unwrap_or}
+use Rattle.std.specs.FinMap.{get}
+use Rattle.std.specs.Int.{w16, w32, to_be_bytes}
+use Rattle.std.specs.List.{AllByRecursion, cons_option}
+use Rattle.std.proofs.lemmas.Bool.{eqb-true}
+use Rattle.sporc_base.specs.Bytes.{IsBytes}
+use Rattle.sporc_member.specs.declared.change.Change.{Change as MemberChange}
+use Rattle.sporc_member.specs.declared.change.Change.TheVariants.{Add, Remove, SetRole}
+use Rattle.sporc_member.specs.Role.{role_code_of}
+use Rattle.sporc_member.specs.Roster.{member_at, removes, roster_after}
+use Rattle.sporc_entry.specs.declared.change.ChangeBody.{ChangeBody}
+use Rattle.sporc_entry.specs.declared.entry.Entry.{Entry}
+use Rattle.sporc_entry.specs.declared.genesis.Genesis.{Genesis}
+use Rattle.sporc_entry.specs.declared.header.Header.{Header}
+use Rattle.sporc_entry.specs.declared.wrap.Wrap.{Wrap}
+use Rattle.sporc_entry.specs.ChangeBody.{change_body_bytes, change_bytes, wrap_bytes}
+use Rattle.sporc_entry.specs.Entry.{IsEntry, change_of, entry_bytes, entry_of, header_bytes}
+use Rattle.sporc_entry.proofs.EntryLaws.{entry_takes}
+use Rattle.sporc_epoch.specs.Keys.{Keys}
+use Rattle.sporc_epoch.specs.Streams.{entry_stream}
+use Rattle.sporc_epoch.specs.Wraps.{opened_under, wrap_for, wrap_opened}
+use Rattle.sporc_head.specs.History.{CommittedChange, change_in, change_read, changes, committed_by, epoch_of}
+use Rattle.sporc_line.specs.Kit.{Kit}
+use Rattle.sporc_line.specs.Keys.{key_after, key_started}
+use Rattle.sporc_client.specs.Entries.{current_key}
+use Rattle.sporc_client.specs.PlainClient.{PlainClient}
+use Rattle.sporc_client.proofs.SameSpelling.{change_read_of}
+use Rattle.sporc_play.proofs.ByteClients.{AreByteKeys}
+use Rattle.sporc_play.proofs.ByteFacts.{AreBytes, are_bytes, bytes_mask}
+
+-- ---- parts of strings of bytes
+
+behind : (xs ys : List ℕ) → AreBytes (xs ++ ys) → AreBytes ys
+behind [] ys all = all
+behind (x ∷ xs) ys all = behind xs ys all.1
+
+front : (xs ys : List ℕ) → AreBytes (xs ++ ys) → AreBytes xs
+front [] ys all = tt
+front (x ∷ xs) ys all = (all.0, front xs ys all.1)
+
+after_header : (h : Header) (rest : List ℕ) → AreBytes (header_bytes h rest) → AreBytes rest
+unfolding header_bytes
+after_header h rest all =
+    let last = h.kind ∷ rest in
+    let leaf = to_be_bytes w32 h.leaf ++ last in
+    let epoch = to_be_bytes w32 h.epoch ++ leaf in
+    let hash = h.base_hash ++ epoch in
+    let base = to_be_bytes w32 h.base ++ hash in
+    let number = to_be_bytes w32 h.number ++ base in
+    let author = to_be_bytes w16 h.author ++ number in
+    let end : AreBytes last =
+    behind (to_be_bytes w32 h.leaf) last
+    (behind (to_be_bytes w32 h.epoch) leaf
+    (behind h.base_hash epoch (behind (to_be_bytes w32 h.base) hash (behind (to_be_bytes w32 h.number) base (behind (to_be_bytes w16 h.author) number (behind h.document author all.1)))))) in
+    end.1
+
+body_in : (e : Entry) → AreBytes (entry_bytes e) → AreBytes e.body
+unfolding entry_bytes
+body_in e all =
+    let signature = to_be_bytes w32 (length e.signature) ++ (e.signature ++ []) in
+    let body = e.body ++ signature in
+    front e.body signature (behind (to_be_bytes w32 (length e.body)) body (after_header e.header (to_be_bytes w32 (length e.body) ++ body) all))
+
+after_change : (change : MemberChange) (rest : List ℕ) → AreBytes (change_bytes change rest) → AreBytes rest
+after_change (Add member role key) rest all =
+    let end : AreBytes ((role_code_of role ∷ key) ++ rest) = behind (to_be_bytes w16 member) ((role_code_of role ∷ key) ++ rest) all.1 in
+    behind key rest end.1
+after_change (Remove member) rest all = behind (to_be_bytes w16 member) rest all.1
+after_change (SetRole member role) rest all =
+    let end : AreBytes (role_code_of role ∷ rest) = behind (to_be_bytes w16 member) (role_code_of role ∷ rest) all.1 in
+    end.1
+
+sealed_in : (wraps : List Wrap) → AreBytes (flat_map wrap_bytes wraps) → AllByRecursion (λ w. AreBytes w.sealed) wraps
+sealed_in [] all = tt
+sealed_in (w ∷ ws) all =
+    (behind (to_be_bytes w16 w.member) w.sealed (front (wrap_bytes w) (flat_map wrap_bytes ws) all), sealed_in ws (behind (wrap_bytes w) (flat_map wrap_bytes ws) all))
+
+-- ---- changes
+
+-- what a change seals
+pub record IsByteBody (body : ChangeBody) : Type 0 where
+  pub previous : AreBytes body.previous
+  pub wraps : AllByRecursion (λ w. AreBytes w.sealed) body.wraps
+
+body_parts : (body : ChangeBody) → AreBytes (change_body_bytes body) → IsByteBody body
+unfolding change_body_bytes
+body_parts body all =
+    let wraps = flat_map wrap_bytes body.wraps in
+    let counted = to_be_bytes w16 (length body.wraps) ++ wraps in
+    let previous = body.previous ++ counted in
+    let rest : AreBytes previous = behind body.commitment previous (after_change body.change (body.commitment ++ previous) all) in
+    record {
+      previous = front body.previous counted rest;
+      wraps = sealed_in body.wraps (behind (to_be_bytes w16 (length body.wraps)) wraps (behind body.previous counted rest));
+    }
+
+abbrev pub IsByteCommitted : CommittedChange → Type 0
+IsByteCommitted c = IsByteBody c.body
+
+body_bytes : (e : Entry) → IsEntry e → AreBytes e.body → IfSome (change_of e) IsByteBody
+unfolding change_of
+body_bytes e is all = go (e.header.kind == 2) refl
+  where
+    go : (two : Bool) → (e.header.kind == 2) ≡ two → IfSome (change_of e) IsByteBody
+    go true k =
+        let read = change_read_of e is (eqb-true e.header.kind 2 k) in
+        subst (λ (o : Option ChangeBody). IfSome o IsByteBody) (sym read.read) (body_parts read.body (subst AreBytes read.bytes all))
+    go false k = rw k tt
+
+change_bytes_in : (bytes : List ℕ) → IsBytes bytes → AreBytes bytes → IfSome (change_in bytes) IsByteCommitted
+unfolding change_in
+change_bytes_in bytes typed all = go (entry_of bytes) refl
+  where
+    of_body : (e : Entry) (o : Option ChangeBody) → IfSome o IsByteBody → IfSome (committed_by e o) IsByteCommitted
+    of_body e None h = tt
+    of_body e (Some body) h = h
+
+    go : (read : Result Entry ℕ) → entry_of bytes ≡ read → IfSome (change_read read) IsByteCommitted
+    go (Err at) is = tt
+    go (Ok e) is =
+        let takes = entry_takes bytes e typed is in
+        of_body e (change_of e) (body_bytes e takes.0 (body_in e (subst AreBytes takes.1 all)))
+
+pub changes_bytes : (entries : List (List ℕ)) → AllByRecursion IsBytes entries → AllByRecursion IsByteCommitted (changes entries)
+changes_bytes [] all = tt
+changes_bytes (bytes ∷ entries) all = go (change_in bytes) (change_bytes_in bytes all.0 (are_bytes bytes all.0)) (changes_bytes entries all.1)
+  where
+    go : (o : Option CommittedChange) → IfSome o IsByteCommitted → AllByRecursion IsByteCommitted (changes entries) → AllByRecursion IsByteCommitted (cons_option o (changes entries))
+    go None here rest = rest
+    go (Some c) here rest = (here, rest)
+
+-- ---- keys
+
+pub found : {X : Type 0} (P : X → Type 0) (test : X → Bool) (xs : List X) → AllByRecursion P xs → IfSome (find test xs) P
+found P test [] all = tt
+found P test (x ∷ xs) all = go (test x) (found P test xs all.1)
+  where
+    go : (here : Bool) → IfSome (find test xs) P → IfSome (cond here (Some x) (find test xs)) P
+    go true rest = all.0
+    go false rest = rest
+
+at : {X : Type 0} (P : X → Type 0) (xs : List X) (i : ℕ) → AllByRecursion P xs → IfSome (slice_get xs i) P
+at P [] i all = tt
+at P (x ∷ xs) zero all = all.0
+at P (x ∷ xs) (suc i) all = at P xs i all.1
+
+pub opened_bytes : (body : ChangeBody) (author leaf me : ℕ) (pairs : Keys) → IsByteBody body → IfSome (wrap_opened body author leaf me pairs) AreBytes
+unfolding wrap_opened
+opened_bytes body author leaf me pairs is = go (wrap_for me body.wraps) (found (λ (w : Wrap). AreBytes w.sealed) (λ (w : Wrap). w.member == me) body.wraps is.wraps)
+  where
+    under : (pair : Option (List ℕ)) (w : Wrap) → AreBytes w.sealed → IfSome (opened_under (entry_stream author leaf) pair w) AreBytes
+    under None w are = tt
+    under (Some pair) w are = bytes_mask pair (entry_stream author leaf) w.sealed are
+
+    go : (o : Option Wrap) → IfSome o (λ w. AreBytes w.sealed) → IfSome (option_and_then (opened_under (entry_stream author leaf) (get pairs author)) o) AreBytes
+    go None are = tt
+    go (Some w) are = under (get pairs author) w are
+
+key_bytes : (g : Genesis) (kit : Kit) (cs : List CommittedChange) (epoch : ℕ) → AreByteKeys kit.ring → AllByRecursion IsByteCommitted cs → IfSome (key_after g kit cs epoch) AreBytes
+unfolding key_after key_started
+key_bytes g kit cs zero ring all = ring 0
+key_bytes g kit cs (suc e) ring all = go (slice_get cs e) (at IsByteCommitted cs e all)
+  where
+    tests : (c : CommittedChange) (removed member : Bool) → IsByteCommitted c → IfSome (cond removed None (cond member (wrap_opened c.body c.header.author c.header.leaf kit.me kit.pairs) (get kit.ring (suc e)))) AreBytes
+    tests c true member is = tt
+    tests c false true is = opened_bytes c.body c.header.author c.header.leaf kit.me kit.pairs is
+    tests c false false is = ring (suc e)
+
+    go : (o : Option CommittedChange) → IfSome o IsByteCommitted → IfSome (key_started g kit (take (suc e) cs) (suc e) o) AreBytes
+    go None is = tt
+    go (Some c) is = tests c (removes kit.me c.body.change) (is_some (member_at (roster_after g.founders (map (λ c. c.body.change) (take (suc e) cs))) kit.me)) is
+
+-- the key of a client's epoch
+pub epoch_bytes : (c : PlainClient) → AreByteKeys c.opening.kit.ring → AllByRecursion IsBytes c.entries → IfSome (key_after c.opening.genesis c.opening.kit (changes c.entries) (epoch_of c.entries)) AreBytes
+epoch_bytes c ring all = key_bytes c.opening.genesis c.opening.kit (changes c.entries) (epoch_of c.entries) ring (changes_bytes c.entries all)
+
+pub current_bytes : (c : PlainClient) → AreByteKeys c.opening.kit.ring → AllByRecursion IsBytes c.entries → AreBytes (current_key c)
+current_bytes c ring all = go (key_after c.opening.genesis c.opening.kit (changes c.entries) (epoch_of c.entries)) (epoch_bytes c ring all)
+  where
+    go : (o : Option (List ℕ)) → IfSome o AreBytes → AreBytes (unwrap_or o [])
+    go None is = tt
+    go (Some key) is = is

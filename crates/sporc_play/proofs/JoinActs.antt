@@ -1,0 +1,218 @@
+-- A joiner's client opens with keys of epochs, one of which meets the commitment of the genesis.
+use Rattle.std.proofs.Common.{◌≡◌, ℕ, zero, suc, ◌+◌, Bool, true, false, cond, List, [], ◌∷◌, ◌++◌, length, map, reverse, take, refl, sym, ap, ◌∙◌, subst, not, Option, None, Some, Result, Ok, Err, IfOk, IfSome}
+use Rattle.std.specs.Prelude.{◌==◌, Contains, IsSomeAnd, find, is_some, option_and_then, take_while}
+use Rattle.std.specs.Cmp.{nat_cmp_total}
+use Rattle.std.specs.FinMap.{empty, get, insert, get-empty, get-insert}
+use Rattle.std.specs.List.{AllByRecursion}
+use Rattle.std.specs.Ordering.{nat_cmp, eq_by_cmp}
+use Rattle.std.specs.Str.{bytes_eq}
+use Rattle.std.proofs.lemmas.List.{map-append, reverse-append}
+use Rattle.std.proofs.lemmas.Slice.Eq.{bytes_eq-Decides}
+use Rattle.sporc_base.specs.Bytes.{IsBytes}
+use Rattle.sporc_base.specs.FirstFault.{first_of, unless}
+use Rattle.sporc_cipher.specs.Mask.{mask_of}
+use Rattle.sporc_cipher.proofs.Stream.{length-mask_from}
+use Rattle.sporc_hash.specs.Chain.{commitment_of}
+use Rattle.sporc_entry.specs.declared.change.ChangeBody.{ChangeBody}
+use Rattle.sporc_entry.specs.declared.genesis.Genesis.{Genesis}
+use Rattle.sporc_entry.specs.declared.wrap.Wrap.{Wrap}
+use Rattle.sporc_entry.specs.ChangeBody.{IsChangeBody, IsWrap}
+use Rattle.sporc_epoch.specs.declared.fault.HintFault.{HintFault}
+use Rattle.sporc_epoch.specs.declared.fault.HintFault.TheVariants.{WrongKey}
+use Rattle.sporc_epoch.specs.Hints.{hints_at, hints_of, hints_under, is_committed, is_of, joining, joins as joins_by, keys_back, ring_of, start_by, starts_before, with_key, with_keys}
+use Rattle.sporc_epoch.specs.Keys.{Keys}
+use Rattle.sporc_epoch.specs.Streams.{entry_stream, previous_stream}
+use Rattle.sporc_epoch.specs.Wraps.{opened_under, wrap_for, wrap_opened}
+use Rattle.sporc_head.specs.History.{CommittedChange, changes}
+use Rattle.sporc_line.specs.declared.fault.LineOpenFault.{LineOpenFault}
+use Rattle.sporc_line.specs.declared.fault.LineOpenFault.TheVariants as line_faults
+use Rattle.sporc_line.specs.Good.{Meets}
+use Rattle.sporc_line.specs.Openings.{open_checks, opens}
+use Rattle.sporc_client.specs.PlainClient.{PlainClient}
+use Rattle.sporc_client.specs.Run.{Setup}
+use Rattle.sporc_client.specs.Typed.{AreEpochKeys}
+use Rattle.sporc_client.proofs.TypedHistories.{IsTypedCommitted, changes_typed}
+use Rattle.sporc_script.specs.declared.command.Command.TheVariants as commands
+use Rattle.sporc_script.specs.declared.command.Join.{Join}
+use Rattle.sporc_play.specs.Scene.{Scene, entries_at, entry_at, joins, joins_with, opens_unless, opens_with, with_entry}
+use Rattle.sporc_play.proofs.Acts.{made_bytes, no_act}
+use Rattle.sporc_play.proofs.ByteClients.{AreByteKeys}
+use Rattle.sporc_play.proofs.ByteFacts.{AreBytes, bytes_mask, is_bytes}
+use Rattle.sporc_play.proofs.HistoryKeys.{IsByteCommitted, changes_bytes, found}
+use Rattle.sporc_play.proofs.Runs.{HasCome, MayAct, MayBe}
+
+-- ---- the entries that are handed over
+
+given_are : (made : List (List ℕ)) (numbers : List ℕ) → AllByRecursion AreBytes made → IfOk (entries_at made numbers) (AllByRecursion AreBytes)
+given_are made [] all = tt
+given_are made (n ∷ ns) all = go (entry_at made n) refl (entries_at made ns) (given_are made ns all)
+  where
+    go : (o : Option (List ℕ)) → entry_at made n ≡ o → (r : Result (List (List ℕ)) ℕ) → IfOk r (AllByRecursion AreBytes) → IfOk (with_entry n o r) (AllByRecursion AreBytes)
+    go None at r rest = tt
+    go (Some bytes) at (Ok entries) rest = (made_bytes made n bytes all at, rest)
+    go (Some bytes) at (Err missing) rest = tt
+
+each_bytes : (entries : List (List ℕ)) → AllByRecursion AreBytes entries → AllByRecursion IsBytes entries
+each_bytes [] all = tt
+each_bytes (b ∷ bs) all = (is_bytes b all.0, each_bytes bs all.1)
+
+-- ---- keys
+
+record IsKey (key : List ℕ) : Type 0 where
+  bytes : AreBytes key
+  size : length key ≡ 32
+
+masked : (key : List ℕ) (stream : ℕ) (sealed : List ℕ) → IsKey sealed → IsKey (mask_of key stream sealed)
+masked key stream sealed is = record { bytes = bytes_mask key stream sealed is.bytes; size = length-mask_from key stream 0 sealed ∙ is.size }
+
+abbrev AreKeys : List (ℕ × List ℕ) → Type 0
+AreKeys keys = AllByRecursion (λ (e : ℕ × List ℕ). IsKey e.1) keys
+
+-- ---- changes
+
+record IsSound (c : CommittedChange) : Type 0 where
+  bytes : IsByteCommitted c
+  typed : IsTypedCommitted c
+
+both : (cs : List CommittedChange) → AllByRecursion IsByteCommitted cs → AllByRecursion IsTypedCommitted cs → AllByRecursion IsSound cs
+both [] a b = tt
+both (c ∷ cs) a b = (record { bytes = a.0; typed = b.0 }, both cs a.1 b.1)
+
+taken : (n : ℕ) (cs : List CommittedChange) → AllByRecursion IsSound cs → AllByRecursion IsSound (take n cs)
+taken zero cs all = tt
+taken (suc n) [] all = tt
+taken (suc n) (c ∷ cs) all = (all.0, taken n cs all.1)
+
+joined : (xs ys : List CommittedChange) → AllByRecursion IsSound xs → AllByRecursion IsSound ys → AllByRecursion IsSound (xs ++ ys)
+joined [] ys a b = b
+joined (x ∷ xs) ys a b = (a.0, joined xs ys a.1 b)
+
+reversed : (xs : List CommittedChange) → AllByRecursion IsSound xs → AllByRecursion IsSound (reverse xs)
+reversed [] all = tt
+reversed (x ∷ xs) all = subst (AllByRecursion IsSound) (sym (reverse-append (x ∷ []) xs)) (joined (reverse xs) (x ∷ []) (reversed xs all.1) (all.0, tt))
+
+reverse_map : {X Y : Type 0} (f : X → Y) (xs : List X) → reverse (map f xs) ≡ map f (reverse xs)
+reverse_map f [] = refl
+reverse_map {Y = Y} f (x ∷ xs) =
+    reverse-append (f x ∷ []) (map f xs) ∙ ap (λ (ys : List Y). ys ++ f x ∷ []) (reverse_map f xs) ∙ sym (map-append f (reverse xs) (x ∷ [])) ∙ ap (map f) (sym (reverse-append (x ∷ []) xs))
+
+-- ---- keys back
+
+back_are : (epoch : ℕ) (key : List ℕ) (cs : List CommittedChange) → IsKey key → AllByRecursion IsSound cs → IfOk (keys_back epoch key (map start_by cs)) AreKeys
+unfolding keys_back
+back_are epoch key [] is all = (is, tt)
+back_are epoch key (c ∷ cs) is all =
+    let old = mask_of key (previous_stream epoch) c.body.previous in
+    let old_is : IsKey old = masked key (previous_stream epoch) c.body.previous (record { bytes = all.0.bytes.previous; size = all.0.typed.previous }) in
+    go (is_of (start_by c) epoch) (is_committed (start_by c) epoch key) (keys_back c.header.epoch old (map start_by cs)) (back_are c.header.epoch old cs old_is all.1)
+    (keys_back epoch key (map start_by cs)) (back_are epoch key cs is all.1)
+  where
+    go : (here met : Bool) → (a : Result (List (ℕ × List ℕ)) HintFault) → IfOk a AreKeys → (b : Result (List (ℕ × List ℕ)) HintFault) → IfOk b AreKeys
+        → IfOk (cond here (cond met (with_key epoch key a) (Err (WrongKey epoch))) b) AreKeys
+    go true true (Ok keys) first b rest = (is, first)
+    go true true (Err fault) first b rest = tt
+    go true false a first b rest = tt
+    go false met a first b rest = rest
+
+abbrev HoldsKeys : Keys → Type 0
+HoldsKeys ring = (epoch : ℕ) → IfSome (get ring epoch) IsKey
+
+with_are : (ring : Keys) (keys : List (ℕ × List ℕ)) → HoldsKeys ring → AreKeys keys → HoldsKeys (with_keys ring keys)
+with_are ring [] holds all = holds
+with_are ring ((e, k) ∷ keys) holds all = with_are (insert ring e k) keys (λ epoch. subst (λ (o : Option (List ℕ)). IfSome o IsKey) (sym (get-insert nat_cmp_total ring e k epoch)) (go epoch (eq_by_cmp nat_cmp epoch e))) all.1
+  where
+    go : (epoch : ℕ) (b : Bool) → IfSome (cond b (Some k) (get ring epoch)) IsKey
+    go epoch true = all.0
+    go epoch false = holds epoch
+
+abbrev no_keys : Keys
+no_keys = empty
+
+none_held : HoldsKeys no_keys
+none_held epoch = subst (λ (o : Option (List ℕ)). IfSome o IsKey) (sym (get-empty nat_cmp epoch)) tt
+
+ring_are : (r : Result (List (ℕ × List ℕ)) HintFault) → IfOk r AreKeys → IfOk (ring_of no_keys r) HoldsKeys
+ring_are (Ok keys) all = with_are no_keys keys none_held all
+ring_are (Err fault) all = tt
+
+-- ---- hints
+
+wraps_both : (wraps : List Wrap) → AllByRecursion (λ w. AreBytes w.sealed) wraps → AllByRecursion IsWrap wraps → AllByRecursion (λ (w : Wrap). IsKey w.sealed) wraps
+wraps_both [] a b = tt
+wraps_both (w ∷ ws) a b = (record { bytes = a.0; size = b.0.sealed }, wraps_both ws a.1 b.1)
+
+opened_is : (c : CommittedChange) (author leaf me : ℕ) (pairs : Keys) → IsSound c → IfSome (wrap_opened c.body author leaf me pairs) IsKey
+unfolding wrap_opened
+opened_is c author leaf me pairs is =
+    go (wrap_for me c.body.wraps) (found (λ (w : Wrap). IsKey w.sealed) (λ (w : Wrap). w.member == me) c.body.wraps (wraps_both c.body.wraps is.bytes.wraps is.typed.wraps))
+  where
+    under : (pair : Option (List ℕ)) (w : Wrap) → IsKey w.sealed → IfSome (opened_under (entry_stream author leaf) pair w) IsKey
+    under None w key = tt
+    under (Some pair) w key = masked pair (entry_stream author leaf) w.sealed key
+
+    go : (o : Option Wrap) → IfSome o (λ w. IsKey w.sealed) → IfSome (option_and_then (opened_under (entry_stream author leaf) (get pairs author)) o) IsKey
+    go None key = tt
+    go (Some w) key = under (get pairs author) w key
+
+under_is : (c : CommittedChange) (cs : List CommittedChange) (o : Option (List ℕ)) → IsSound c → AllByRecursion IsSound cs → IfSome o IsKey → IfOk (hints_under c (map start_by cs) o) HoldsKeys
+under_is c cs None is all key = tt
+under_is c cs (Some k) is all key = ring_are (keys_back (c.header.epoch + 1) k (map start_by (c ∷ cs))) (back_are (c.header.epoch + 1) k (c ∷ cs) key (is, all))
+
+at_is : (me : ℕ) (pairs : Keys) (cs : List CommittedChange) (o : Option CommittedChange) → AllByRecursion IsSound cs → IfSome o IsSound → IfOk (hints_at me pairs (map start_by cs) o) HoldsKeys
+at_is me pairs cs None all is = tt
+at_is me pairs cs (Some c) all is = under_is c cs (wrap_opened c.body c.header.author c.header.leaf me pairs) is all (opened_is c c.header.author c.header.leaf me pairs is)
+
+hints_are : (entries : List (List ℕ)) (me : ℕ) (pairs : Keys) → AllByRecursion AreBytes entries → IfOk (hints_of entries me pairs) HoldsKeys
+unfolding hints_of
+hints_are entries me pairs all =
+    let typed = each_bytes entries all in
+    let cs = changes entries in
+    let sound : AllByRecursion IsSound cs = both cs (changes_bytes entries typed) (changes_typed entries typed) in
+    let before = take_while (λ (c : CommittedChange). not (joins_by me c)) cs in
+    subst (λ starts. IfOk (hints_at me pairs starts (joining me cs)) HoldsKeys) (sym (reverse_map start_by before))
+    (at_is me pairs (reverse before) (joining me cs) (reversed before (taken _ cs sound)) (found IsSound (joins_by me) cs sound))
+
+-- ---- the opening
+
+meets : (g : Genesis) (key : Option (List ℕ)) → first_of (open_checks g key) ≡ None → Meets g 0 key g.commitment
+meets g None none = absurd cc
+meets g (Some key) none = go (bytes_eq (commitment_of g.document 0 key) g.commitment) refl none
+  where
+    go : (b : Bool) → bytes_eq (commitment_of g.document 0 key) g.commitment ≡ b → first_of (unless true line_faults.NoKey ∷ unless b line_faults.WrongKey ∷ []) ≡ None → commitment_of g.document 0 key ≡ g.commitment
+    go true is none = (bytes_eq-Decides (commitment_of g.document 0 key) g.commitment).0 is
+    go false is none = absurd cc
+
+sizes : (ring : Keys) → HoldsKeys ring → AreEpochKeys ring
+sizes ring holds epoch = go (get ring epoch) (holds epoch)
+  where
+    go : (o : Option (List ℕ)) → IfSome o IsKey → IfSome o (λ key. length key ≡ 32)
+    go None is = tt
+    go (Some key) is = is.size
+
+byte_keys : (ring : Keys) → HoldsKeys ring → AreByteKeys ring
+byte_keys ring holds epoch = go (get ring epoch) (holds epoch)
+  where
+    go : (o : Option (List ℕ)) → IfSome o IsKey → IfSome o AreBytes
+    go None is = tt
+    go (Some key) is = is.bytes
+
+unless_acts : (s : Setup) (scene : Scene) (m : ℕ) (ring : Keys) (fault : Option LineOpenFault) → Contains s.members m → HoldsKeys ring → first_of (open_checks s.genesis (get ring 0)) ≡ fault → MayAct s scene (opens_unless m ring fault)
+unless_acts s scene m ring None member holds none = record {
+  run = ((member, meets s.genesis (get ring 0) none), tt);
+  typed = (sizes ring holds, tt);
+  bytes = (byte_keys ring holds, tt);
+  entries = tt;
+}
+unless_acts s scene m ring (Some fault) member holds some = no_act s scene
+
+with_acts : (s : Setup) (scene : Scene) (m : ℕ) (hints : Result Keys HintFault) → Contains s.members m → IfOk hints HoldsKeys → MayAct s scene (opens_with s m hints)
+with_acts s scene m (Ok ring) member holds = unless_acts s scene m ring (first_of (open_checks s.genesis (get ring 0))) member holds refl
+with_acts s scene m (Err fault) member holds = no_act s scene
+
+pub join_acts : (s : Setup) (j : Join) → Contains s.members j.member → MayBe s (λ scene. commands.Join j)
+join_acts s j member moves scene come = go (scene.world.clients j.member) (entries_at scene.made j.entries) (given_are scene.made j.entries come.made)
+  where
+    go : (o : Option PlainClient) (r : Result (List (List ℕ)) ℕ) → IfOk r (AllByRecursion AreBytes) → MayAct s scene (joins s j.member r o)
+    go (Some c) r all = no_act s scene
+    go None (Err missing) all = no_act s scene
+    go None (Ok entries) all = with_acts s scene j.member (hints_of entries j.member (s.pairs j.member)) member (hints_are entries j.member (s.pairs j.member) all)

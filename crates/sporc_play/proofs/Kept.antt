@@ -1,0 +1,145 @@
+-- Entries that are made of others, and comparisons: what a state becomes, and what is told.
+use Rattle.std.proofs.Common.{◌≡◌, ℕ, zero, suc, ◌+◌, ◌-◌, ◌<◌, ◌≤◌, List, [], ◌∷◌, ◌++◌, length, take, map, set, get_or, refl, sym, ap, ap₂, ◌∙◌, subst, arith, append-nil, Option, None, Some, option_map}
+use Rattle.std.specs.Prelude.{◌↔◌, IfSome, slice_get}
+use Rattle.sporc_outside.specs.MemoryDisk.{MemoryDiskContent}
+use Rattle.sporc_client.specs.ClientModel.{ClientModel, state_of}
+use Rattle.sporc_client.specs.PlainClient.{Opening, PlainClient}
+use Rattle.sporc_client.specs.Run.{Setup}
+use Rattle.sporc_client.proofs.Calls.{replay_opening}
+use Rattle.sporc_entry.specs.declared.genesis.Genesis.{Genesis}
+use Rattle.sporc_entry.specs.Genesis.{genesis_bytes}
+use Rattle.sporc_hash.specs.Chain.{chain, last_value}
+use Rattle.sporc_hash.specs.Verdict.{DivergesAfter, IfForked, SameTip, TipIsIn}
+use Rattle.sporc_hash.specs.declared.verdict.Verdict.{Verdict}
+use Rattle.sporc_hash.specs.declared.verdict.Verdict.TheVariants.{ForkedAfter, Longer, Prefix, Same}
+use Rattle.sporc_hash.proofs.Prefixes.{slice_get-chain}
+use Rattle.sporc_script.specs.declared.command.Command.TheVariants as commands
+use Rattle.sporc_script.specs.declared.command.Flip.{Flip}
+use Rattle.sporc_script.specs.declared.command.Pair.{Pair}
+use Rattle.sporc_script.specs.declared.play_line.PlayLine.{PlayLine}
+use Rattle.sporc_play.specs.declared.seat.Seat.{Seat}
+use Rattle.sporc_play.specs.declared.state.PlayState.{PlayState}
+use Rattle.sporc_play.specs.Cast.{setup_of}
+use Rattle.sporc_play.specs.Report.{Compares, Stands, chain_of, compare_line, cut_line, flip_line, flipped_line}
+use Rattle.sporc_play.specs.Scene.{Act, Scene, cuts, entry_at, flip_byte, flipped, flips, performed}
+use Rattle.sporc_play.specs.Seats.{IsSeatAt}
+use Rattle.sporc_play.specs.Stage.{AreOfOneDocument, Becomes, HasSameMembers, StandsFor, Tells}
+use Rattle.sporc_play.proofs.Becoming.{entries_of}
+use Rattle.sporc_play.proofs.Commands.{client_there}
+use Rattle.sporc_play.proofs.MadeEntries.{made_stands, makes}
+use Rattle.sporc_play.proofs.Places.{at_place}
+
+-- ---- entries that are made of others
+
+pub flip_becomes : (old new : PlayState) (f : Flip) (entries : List (List ℕ)) → HasSameMembers old new → entries_of new ≡ entries_of old ++ entries → flips f.at (entry_at (entries_of old) f.entry) ≡ makes entries
+    → Becomes old (commands.Flip f) new
+flip_becomes old new f entries same grown act script scene stands =
+    let s = setup_of script in
+    let is : flips f.at (entry_at scene.made f.entry) ≡ makes entries = ap (λ (es : List (List ℕ)). flips f.at (entry_at es f.entry)) (sym stands.made) ∙ act in
+    subst (λ (a : Act). StandsFor script (performed s scene (commands.Flip f) a) new) (sym is)
+    (made_stands script scene (performed s scene (commands.Flip f) (makes entries)) old new stands same
+    (λ m. record { client = refl; log = refl; last = refl; asked = refl; leaves = refl })
+    (grown ∙ ap (λ (es : List (List ℕ)). es ++ entries) stands.made))
+
+pub cut_becomes : (old new : PlayState) (number : ℕ) (entries : List (List ℕ)) → HasSameMembers old new → entries_of new ≡ entries_of old ++ entries → cuts (entry_at (entries_of old) number) ≡ makes entries
+    → Becomes old (commands.Cut number) new
+cut_becomes old new number entries same grown act script scene stands =
+    let s = setup_of script in
+    let is : cuts (entry_at scene.made number) ≡ makes entries = ap (λ (es : List (List ℕ)). cuts (entry_at es number)) (sym stands.made) ∙ act in
+    subst (λ (a : Act). StandsFor script (performed s scene (commands.Cut number) a) new) (sym is)
+    (made_stands script scene (performed s scene (commands.Cut number) (makes entries)) old new stands same
+    (λ m. record { client = refl; log = refl; last = refl; asked = refl; leaves = refl })
+    (grown ∙ ap (λ (es : List (List ℕ)). es ++ entries) stands.made))
+
+pub flip_tells : (old : PlayState) (f : Flip) (out out' : List ℕ) → out' ≡ out ++ flip_line (length (entries_of old) + 1) f.entry f.at (entry_at (entries_of old) f.entry) → Tells old (commands.Flip f) out out'
+flip_tells old f out out' is script scene stands =
+    (flip_line (length scene.made + 1) f.entry f.at (entry_at scene.made f.entry), refl, is ∙ ap (λ (es : List (List ℕ)). out ++ flip_line (length es + 1) f.entry f.at (entry_at es f.entry)) stands.made)
+
+pub cut_tells : (old : PlayState) (number : ℕ) (out out' : List ℕ) → out' ≡ out ++ cut_line (length (entries_of old) + 1) number (entry_at (entries_of old) number) → Tells old (commands.Cut number) out out'
+cut_tells old number out out' is script scene stands =
+    (cut_line (length scene.made + 1) number (entry_at scene.made number), refl, is ∙ ap (λ (es : List (List ℕ)). out ++ cut_line (length es + 1) number (entry_at es number)) stands.made)
+
+-- nothing is made
+pub unchanged : (state : PlayState) → HasSameMembers state state
+unchanged state = record { genesis = refl; cast = refl; seats = refl; rogues = refl }
+
+-- a byte is flipped, or an entry is cut
+pub flip_act : (made : List (List ℕ)) (f : Flip) (bytes : List ℕ) (byte : ℕ) (new : List ℕ) → entry_at made f.entry ≡ Some bytes → slice_get bytes f.at ≡ Some byte → new ≡ set bytes f.at (flipped byte)
+    → flips f.at (entry_at made f.entry) ≡ makes (new ∷ [])
+flip_act made f bytes byte new found at is = ap (flips f.at) found ∙ ap (flip_byte bytes f.at) at ∙ ap (λ (b : List ℕ). makes (b ∷ [])) (sym is)
+
+pub flip_tale : (made : List (List ℕ)) (f : Flip) (next : ℕ) (bytes : List ℕ) (byte : ℕ) → entry_at made f.entry ≡ Some bytes → slice_get bytes f.at ≡ Some byte → flip_line next f.entry f.at (entry_at made f.entry) ≡ flipped_line next f.at (Some byte)
+flip_tale made f next bytes byte found at = ap (flip_line next f.entry f.at) found ∙ ap (flipped_line next f.at) at
+
+pub nothing_at : (bytes : List ℕ) (at : ℕ) → length bytes ≤ at → slice_get bytes at ≡ None
+nothing_at [] at over = refl
+nothing_at (b ∷ bs) zero over = absurd (omega (arith, over))
+nothing_at (b ∷ bs) (suc at) over = nothing_at bs at (omega (arith, over))
+
+pub no_byte_act : (made : List (List ℕ)) (f : Flip) (bytes : List ℕ) → entry_at made f.entry ≡ Some bytes → length bytes ≤ f.at → flips f.at (entry_at made f.entry) ≡ makes []
+no_byte_act made f bytes found over = ap (flips f.at) found ∙ ap (flip_byte bytes f.at) (nothing_at bytes f.at over)
+
+pub no_byte_line : (made : List (List ℕ)) (f : Flip) (next : ℕ) (bytes : List ℕ) → entry_at made f.entry ≡ Some bytes → length bytes ≤ f.at → flip_line next f.entry f.at (entry_at made f.entry) ≡ flipped_line next f.at None
+no_byte_line made f next bytes found over = ap (flip_line next f.entry f.at) found ∙ ap (flipped_line next f.at) (nothing_at bytes f.at over)
+
+pub cut_act : (made : List (List ℕ)) (number : ℕ) (bytes new : List ℕ) → entry_at made number ≡ Some bytes → new ≡ take (length bytes - 1) bytes → cuts (entry_at made number) ≡ makes (new ∷ [])
+cut_act made number bytes new found is = ap cuts found ∙ ap (λ (b : List ℕ). makes (b ∷ [])) (sym is)
+
+-- ---- clients that are compared
+
+-- the client of a member, as it was found
+pub record IsFound (state : PlayState) (m : ℕ) (found : Option (ClientModel MemoryDiskContent)) : Type 0 where
+  pub place : ℕ
+  pub seat : Seat
+  pub at : IsSeatAt state.seats.items place m seat
+  pub is : found ≡ seat.client
+
+pub found_by : (state : PlayState) (m : ℕ) (found : Option (ClientModel MemoryDiskContent)) → (i : ℕ) × (seat : Seat) × IsSeatAt state.seats.items i m seat × (found ≡ seat.client) → IsFound state m found
+found_by state m found (i, seat, at, is) = record { place = i; seat = seat; at = at; is = is }
+
+found_there : (script : List PlayLine) (scene : Scene) (state : PlayState) (m : ℕ) (found : Option (ClientModel MemoryDiskContent)) → StandsFor script scene state → IsFound state m found → scene.world.clients m ≡ option_map state_of found
+found_there script scene state m found stands f = client_there script scene state f.place m f.seat stands f.at ∙ ap (option_map state_of) (sym f.is)
+
+-- ---- their chains
+
+pub chain_is : (c : ClientModel MemoryDiskContent) → chain (genesis_bytes c.opening.genesis) (state_of c).entries ≡ chain_of (state_of c)
+chain_is c = ap (λ (o : Opening). chain (genesis_bytes o.genesis) (state_of c).entries) (sym (replay_opening c.opening c.log))
+
+first_value : (genesis : List ℕ) (entries : List (List ℕ)) → slice_get (chain genesis entries) 0 ≡ Some (last_value genesis [])
+first_value genesis entries = slice_get-chain genesis entries 0 (omega arith)
+
+begun : (xs : List (List ℕ)) (x : List ℕ) → slice_get xs 0 ≡ Some x → 0 < length xs
+begun [] x at = absurd cc
+begun (y ∷ ys) x at = omega arith
+
+pub begun_chain : (genesis : List ℕ) (entries : List (List ℕ)) → 0 < length (chain genesis entries)
+begun_chain genesis entries = begun (chain genesis entries) (last_value genesis []) (first_value genesis entries)
+
+document_of : (state : PlayState) (m : ℕ) (c : ClientModel MemoryDiskContent) → AreOfOneDocument state → IsFound state m (Some c) → c.opening.genesis ≡ state.genesis
+document_of state m c one f =
+    subst (λ (o : Option (ClientModel MemoryDiskContent)). IfSome o (λ c. c.opening.genesis ≡ state.genesis)) (sym f.is)
+    (at_place (λ (seat : Seat). IfSome seat.client (λ c. c.opening.genesis ≡ state.genesis)) state.seats.items f.place f.seat one f.at.there)
+
+pub one_beginning : (state : PlayState) (m n : ℕ) (a b : ClientModel MemoryDiskContent) → AreOfOneDocument state → IsFound state m (Some a) → IsFound state n (Some b)
+    → slice_get (chain (genesis_bytes a.opening.genesis) (state_of a).entries) 0 ≡ slice_get (chain (genesis_bytes b.opening.genesis) (state_of b).entries) 0
+one_beginning state m n a b one first second =
+    first_value (genesis_bytes a.opening.genesis) (state_of a).entries
+    ∙ ap (λ (g : Genesis). Some (last_value (genesis_bytes g) [])) (document_of state m a one first ∙ sym (document_of state n b one second))
+    ∙ sym (first_value (genesis_bytes b.opening.genesis) (state_of b).entries)
+
+-- ---- what is told of them
+
+pub stands : (a b : List (List ℕ)) (v : Verdict) → ((v ≡ Same) ↔ SameTip a b) → ((v ≡ Prefix) ↔ TipIsIn a b) → ((v ≡ Longer) ↔ TipIsIn b a) → IfForked v (DivergesAfter a b) → Stands a b v
+stands a b Same same prefix longer forked = same.0 refl
+stands a b Prefix same prefix longer forked = prefix.0 refl
+stands a b Longer same prefix longer forked = longer.0 refl
+stands a b (ForkedAfter k) same prefix longer forked = forked
+
+pub compare_tells : (state : PlayState) (p : Pair) (a b : ClientModel MemoryDiskContent) (v : Verdict) (out out' : List ℕ) → IsFound state p.first (Some a) → IsFound state p.second (Some b)
+    → Stands (chain_of (state_of a)) (chain_of (state_of b)) v → out' ≡ out ++ compare_line p v → Tells state (commands.Compare p) out out'
+compare_tells state p a b v out out' first second stand is script scene stands =
+    (compare_line p v, written, is)
+  where
+    written : Compares p (scene.world.clients p.first) (scene.world.clients p.second) (compare_line p v)
+    written = subst (λ (o : Option PlainClient). Compares p o (scene.world.clients p.second) (compare_line p v)) (sym (found_there script scene state p.first (Some a) stands first))
+        (subst (λ (o : Option PlainClient). Compares p (Some (state_of a)) o (compare_line p v)) (sym (found_there script scene state p.second (Some b) stands second)) (v, stand, refl))

@@ -1,0 +1,101 @@
+-- Commands that make entries without a client: of another entry, or for a rogue.
+use Rattle.std.proofs.Common.{◌≡◌, ◌≢◌, ℕ, ◌+◌, List, [], ◌∷◌, ◌++◌, length, map, refl, sym, ap, ap₂, ◌∙◌, subst, Option, None, Some, option_map, Result, Ok, Err}
+use Rattle.std.specs.Option.{option_to_list}
+use Rattle.lms_leaf.specs.declared.faults.LeafFault.{LeafFault}
+use Rattle.lms_tree.specs.LmsPrivate.{LmsPrivate}
+use Rattle.sporc_outside.specs.MemoryDisk.{MemoryDiskContent}
+use Rattle.sporc_client.specs.ClientModel.{ClientModel, state_of}
+use Rattle.sporc_client.specs.PlainClient.{PlainClient}
+use Rattle.sporc_client.specs.Run.{Setup}
+use Rattle.sporc_script.specs.declared.command.Command.TheVariants as commands
+use Rattle.sporc_script.specs.declared.command.Flip.{Flip}
+use Rattle.sporc_script.specs.declared.play_line.PlayLine.{PlayLine}
+use Rattle.sporc_script.specs.declared.sign.Forgery.{Forgery}
+use Rattle.sporc_play.specs.declared.seat.Rogue.{Rogue}
+use Rattle.sporc_play.specs.declared.state.PlayState.{PlayState}
+use Rattle.sporc_play.specs.Cast.{setup_of}
+use Rattle.sporc_play.specs.Forged.{forged_entry}
+use Rattle.sporc_play.specs.Report.{line_by, next_number, sign_line}
+use Rattle.sporc_play.specs.Scene.{Act, Scene, after, if_open, leaf_after, performed, signs_by, with_more}
+use Rattle.sporc_play.specs.Seats.{AreDrawn, IsRogueAt}
+use Rattle.sporc_play.specs.Signing.{HasSigned, forged_by, signing_line}
+use Rattle.sporc_play.specs.Stage.{HasSameMembers, IsRogueOf, StandsFor}
+use Rattle.sporc_play.proofs.Places.{at_place}
+use Rattle.sporc_play.proofs.Seating.{ChangesRogue, IsSameAt, stands_made, stands_rogue}
+use Rattle.sporc_play.proofs.Submissions.{more_other, more_own}
+
+-- ---- for a rogue
+
+pub rogue_there : (script : List PlayLine) (scene : Scene) (state : PlayState) (i m : ℕ) (rogue : Rogue) → StandsFor script scene state → IsRogueAt state.rogues.items i m rogue → IsRogueOf (setup_of script) scene rogue
+rogue_there script scene state i m rogue stands at = at_place (IsRogueOf (setup_of script) scene) state.rogues.items i rogue stands.rogues at.there
+
+-- entries alone
+abbrev pub makes : List (List ℕ) → Act
+makes entries = record { moves = []; entries = entries }
+
+signs_is : (o : Option (List ℕ)) → signs_by o ≡ makes (option_to_list o)
+signs_is None = refl
+signs_is (Some bytes) = refl
+
+forged_is : (s : Setup) (scene : Scene) (f : Forgery) (rogue : Rogue) (client : Option (ClientModel MemoryDiskContent)) → IsRogueOf s scene rogue → rogue.member ≡ f.member
+    → if_open (option_map state_of client) (λ c. signs_by (forged_entry s c f (scene.asked f.member + 1) (leaf_after (s.private f.member) (scene.leaves f.member)))) ≡ makes (option_to_list (forged_by s f rogue client))
+forged_is s scene f rogue None is own = refl
+forged_is s scene f rogue (Some c) is own =
+    signs_is (forged_entry s (state_of c) f (scene.asked f.member + 1) (leaf_after (s.private f.member) (scene.leaves f.member)))
+    ∙ ap₂ (λ (n : ℕ) (leaf : Result ℕ LeafFault). makes (option_to_list (forged_entry s (state_of c) f (n + 1) leaf)))
+    (ap scene.asked (sym own) ∙ sym is.asked)
+    (ap₂ leaf_after (ap s.private (sym own) ∙ sym is.signer.key) (ap scene.leaves (sym own) ∙ sym is.signer.leaves.next))
+
+pub sign_stands : (script : List PlayLine) (scene : Scene) (state state' : PlayState) (i : ℕ) (f : Forgery) (rogue new : Rogue) (client : Option (ClientModel MemoryDiskContent)) (made : Option (List ℕ)) → StandsFor script scene state
+    → IsRogueAt state.rogues.items i f.member rogue → scene.world.clients f.from ≡ option_map state_of client → HasSigned rogue made new → made ≡ forged_by (setup_of script) f rogue client
+    → ChangesRogue i new state state' → map (λ bytes. bytes.items) state'.made.items ≡ map (λ bytes. bytes.items) state.made.items ++ option_to_list made
+    → StandsFor script (after (setup_of script) scene (commands.Sign f)) state'
+sign_stands script scene state state' i f rogue new client made stands at client_is did forged changed grown =
+    let s = setup_of script in
+    let is = rogue_there script scene state i f.member rogue stands at in
+    let act : if_open (scene.world.clients f.from) (λ c. signs_by (forged_entry s c f (scene.asked f.member + 1) (leaf_after (s.private f.member) (scene.leaves f.member)))) ≡ makes (option_to_list made) =
+    ap (λ (o : Option PlainClient). if_open o (λ c. signs_by (forged_entry s c f (scene.asked f.member + 1) (leaf_after (s.private f.member) (scene.leaves f.member))))) client_is
+    ∙ forged_is s scene f rogue client is at.own ∙ ap (λ (o : Option (List ℕ)). makes (option_to_list o)) (sym forged) in
+    let own : new.member ≡ f.member = did.member ∙ at.own in
+    let count = length (option_to_list made) in
+    subst (λ (a : Act). StandsFor script (performed s scene (commands.Sign f) a) state') (sym act)
+    (stands_rogue script scene (performed s scene (commands.Sign f) (makes (option_to_list made))) state state' i f.member rogue new stands at
+    (λ other differs. record {
+      client = refl;
+      log = refl;
+      last = refl;
+      asked = more_other scene.asked f.member 1 other differs;
+      leaves = more_other scene.leaves f.member count other differs;
+    })
+    (record {
+      asked = did.asked ∙ ap (λ (n : ℕ). n + 1) (is.asked ∙ ap scene.asked at.own) ∙ sym (more_own scene.asked f.member 1) ∙ ap (with_more scene.asked (Some f.member) 1) (sym own);
+      signer = record {
+        key = did.key ∙ is.signer.key ∙ ap s.private (sym did.member);
+        leaves = subst (λ (n : ℕ). AreDrawn (s.private new.member) n new.signer.leaves)
+            (ap (λ (n : ℕ). n + count) (is.signer.leaves.next ∙ ap scene.leaves at.own) ∙ sym (more_own scene.leaves f.member count) ∙ ap (with_more scene.leaves (Some f.member) count) (sym own))
+            (subst (λ (k : LmsPrivate). AreDrawn k (rogue.signer.leaves.next + count) new.signer.leaves) (is.signer.key ∙ ap s.private (sym did.member)) did.leaves);
+      };
+    })
+    did.member changed
+    (grown ∙ ap (λ (es : List (List ℕ)). es ++ option_to_list made) stands.made))
+
+pub signing_told : (script : List PlayLine) (scene : Scene) (state : PlayState) (i next : ℕ) (f : Forgery) (rogue : Rogue) (client : Option (ClientModel MemoryDiskContent)) (old new : List ℕ) → StandsFor script scene state
+    → IsRogueAt state.rogues.items i f.member rogue → scene.world.clients f.from ≡ option_map state_of client → next ≡ next_number scene → new ≡ old ++ signing_line f next rogue client
+    → (l : List ℕ) × (l ≡ line_by f.from (scene.world.clients f.from) (λ c. sign_line f.member (next_number scene) (leaf_after ((setup_of script).private f.member) (scene.leaves f.member)))) × (new ≡ old ++ l)
+signing_told script scene state i next f rogue client old new stands at client_is number told =
+    let s = setup_of script in
+    let is = rogue_there script scene state i f.member rogue stands at in
+    let leaf : leaf_after rogue.signer.key rogue.signer.leaves.next ≡ leaf_after (s.private f.member) (scene.leaves f.member) =
+    ap₂ leaf_after (is.signer.key ∙ ap s.private at.own) (is.signer.leaves.next ∙ ap scene.leaves at.own) in (
+      signing_line f next rogue client,
+      ap₂ (λ (n : ℕ) (r : Result ℕ LeafFault). line_by f.from (option_map state_of client) (λ c. sign_line f.member n r)) number leaf
+          ∙ ap (λ (o : Option PlainClient). line_by f.from o (λ c. sign_line f.member (next_number scene) (leaf_after (s.private f.member) (scene.leaves f.member)))) (sym client_is),
+      told,
+    )
+
+-- ---- of another entry
+
+-- a command that makes these entries and does nothing else
+pub made_stands : (script : List PlayLine) (scene scene' : Scene) (state state' : PlayState) → StandsFor script scene state → HasSameMembers state state' → ((m : ℕ) → IsSameAt m scene scene')
+    → map (λ bytes. bytes.items) state'.made.items ≡ scene'.made → StandsFor script scene' state'
+made_stands script scene scene' state state' stands same all made = stands_made script scene scene' state state' stands all same made

@@ -1,0 +1,103 @@
+-- The state before the first command.
+use Rattle.std.proofs.Common.{◌≡◌, ℕ, ◌≤◌, Bool, true, false, List, [], ◌∷◌, ◌++◌, length, take, map, fold, refl, sym, ap, ap₂, ◌∙◌, subst, arith, Option, None, Some, option_map}
+use Rattle.std.specs.Prelude.{filter_map, if◌then◌else◌}
+use Rattle.std.specs.FinMap.{empty, insert}
+use Rattle.std.specs.List.{All, AllByRecursion, list_any}
+use Rattle.std.proofs.lemmas.List.{take_all}
+use Rattle.std.proofs.lemmas.List.Elements.{All-from_recursion}
+use Rattle.lms_sign.specs.Signer.{SignerContent}
+use Rattle.sporc_outside.specs.MemoryDisk.{MemoryDiskContent}
+use Rattle.sporc_member.specs.declared.founder.Founder.{Founder}
+use Rattle.sporc_member.specs.Role.{is_admin}
+use Rattle.sporc_epoch.specs.Keys.{Keys}
+use Rattle.sporc_client.specs.ClientModel.{ClientModel, state_of}
+use Rattle.sporc_client.specs.Run.{Move, Setup, key_of_member}
+use Rattle.sporc_script.specs.declared.command.Pair.{Pair}
+use Rattle.sporc_script.specs.declared.command.Tree.{Tree}
+use Rattle.sporc_script.specs.declared.play_line.PlayLine.{PlayLine}
+use Rattle.sporc_play.specs.declared.cast.Cast.{Cast}
+use Rattle.sporc_play.specs.declared.cast.Declared.{Declared}
+use Rattle.sporc_play.specs.declared.seat.Rogue.{Rogue}
+use Rattle.sporc_play.specs.declared.seat.Seat.{Seat}
+use Rattle.sporc_play.specs.declared.state.PlayState.{PlayState}
+use Rattle.sporc_play.specs.Cast.{founders_of, genesis_by, has_admin, is_pair, private_of, public_of, setup_of, tree_of}
+use Rattle.sporc_play.specs.Derived.{pair_key}
+use Rattle.sporc_play.specs.Opening.{HasBlank, HaveDeclared, IsBlank, IsFresh, IsFreshRogue}
+use Rattle.sporc_play.specs.Scene.{Scene, opening, openings, scene_moved, scene_opened}
+use Rattle.sporc_play.specs.Stage.{AreDeclared, Holds, IsCastOf, IsRogueOf, IsSeatOf, StandsFor, pairs_among}
+
+-- ---- who takes part
+
+pairs_by : ℕ → List Pair → List ℕ → Keys
+pairs_by member unpaired declared =
+    fold (λ (keys : Keys) (other : ℕ). if list_any (is_pair member other) unpaired then keys else insert keys other (pair_key member other)) empty declared
+
+cast_is : (script : List PlayLine) (cast : Cast) (seats : List Seat) (rogues : List Rogue) → HaveDeclared (tree_of script) script cast seats rogues → IsCastOf (setup_of script) cast
+unfolding setup_of pairs_by
+cast_is script cast seats rogues known = record {
+  keys = All-from_recursion (λ (d : Declared). d.key ≡ public_of (tree_of script) d.member) cast.declared.items known.keys;
+  founders = known.founders;
+  trees = λ member. ap (λ (t : Tree). private_of t member) (sym known.tree_is);
+  pairs = λ member. ap₂ (pairs_by member) known.unpaired known.declared;
+}
+
+-- ---- seats
+
+fresh_holds : (script : List PlayLine) (member : ℕ) (signer : Option (SignerContent MemoryDiskContent)) (client : Option (ClientModel MemoryDiskContent)) → client ≡ None → HasBlank (tree_of script) member signer
+    → Holds (setup_of script) (scene_opened script 0) member signer client
+unfolding setup_of
+fresh_holds script member None client closed blank = absurd blank
+fresh_holds script member (Some signer) client closed blank =
+    subst (Holds (setup_of script) (scene_opened script 0) member (Some signer)) (sym closed) (record { key = blank.key; leaves = blank.leaves })
+
+fresh_seat : (script : List PlayLine) (seat : Seat) → IsFresh (tree_of script) seat → IsSeatOf (setup_of script) (scene_opened script 0) seat
+fresh_seat script seat is = record {
+  asked = is.asked;
+  last = is.last;
+  client = sym (ap (option_map state_of) is.closed);
+  holds = fresh_holds script seat.member seat.signer seat.client is.closed is.signer;
+}
+
+fresh_seats : (script : List PlayLine) (seats : List Seat) → AllByRecursion (IsFresh (tree_of script)) seats → AllByRecursion (IsSeatOf (setup_of script) (scene_opened script 0)) seats
+fresh_seats script [] all = tt
+fresh_seats script (x ∷ xs) all = (fresh_seat script x all.0, fresh_seats script xs all.1)
+
+fresh_rogue : (script : List PlayLine) (rogue : Rogue) → IsFreshRogue (tree_of script) rogue → IsRogueOf (setup_of script) (scene_opened script 0) rogue
+unfolding setup_of
+fresh_rogue script rogue is = record { asked = is.asked; signer = record { key = is.signer.key; leaves = is.signer.leaves } }
+
+fresh_rogues : (script : List PlayLine) (rogues : List Rogue) → AllByRecursion (IsFreshRogue (tree_of script)) rogues → AllByRecursion (IsRogueOf (setup_of script) (scene_opened script 0)) rogues
+fresh_rogues script [] all = tt
+fresh_rogues script (x ∷ xs) all = (fresh_rogue script x all.0, fresh_rogues script xs all.1)
+
+-- ---- the state
+
+genesis_is : (script : List PlayLine) → (setup_of script).genesis ≡ genesis_by (founders_of script)
+unfolding setup_of
+genesis_is script = refl
+
+seated_are : (script : List PlayLine) (cast : Cast) (seats : List Seat) (rogues : List Rogue) → HaveDeclared (tree_of script) script cast seats rogues → map (λ (x : Seat). x.member) seats ≡ (setup_of script).members
+unfolding setup_of
+seated_are script cast seats rogues known = known.seated_are
+
+pub stands_first : (script : List PlayLine) (state : PlayState) → AreDeclared script → HaveDeclared (tree_of script) script state.cast state.seats.items state.rogues.items
+    → state.genesis ≡ genesis_by state.cast.founders.items → state.made.items ≡ [] → StandsFor script (scene_opened script 0) state
+stands_first script state declared known genesis none = record {
+  genesis = genesis ∙ ap genesis_by known.founders ∙ sym (genesis_is script);
+  cast = cast_is script state.cast state.seats.items state.rogues.items known;
+  seats = fresh_seats script state.seats.items known.fresh;
+  rogues = fresh_rogues script state.rogues.items known.fresh_rogues;
+  seated = seated_are script state.cast state.seats.items state.rogues.items known;
+  rogue_numbers = known.rogues_are;
+  declared = declared;
+  made = ap (map (λ bytes. bytes.items)) none;
+}
+
+pub opened_all : (script : List PlayLine) (n : ℕ) (state : PlayState) → has_admin script ≡ true → length script ≤ n → StandsFor script (scene_opened script n) state → StandsFor script (opening script) state
+opened_all script n state founded all stands =
+    subst (λ (moves : List Move). StandsFor script (scene_moved script moves) state)
+    (ap openings (take_all n script all) ∙ sym (ap (λ (b : Bool). if b then openings script else []) founded)) stands
+
+pub opened_none : (script : List PlayLine) (state : PlayState) → has_admin script ≡ false → StandsFor script (scene_opened script 0) state → StandsFor script (opening script) state
+opened_none script state unfounded stands =
+    subst (λ (moves : List Move). StandsFor script (scene_moved script moves) state) (sym (ap (λ (b : Bool). if b then openings script else []) unfounded)) stands

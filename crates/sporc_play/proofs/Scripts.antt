@@ -1,0 +1,285 @@
+-- What the grammar gives of a script: who is declared, and whom its commands name.
+use Rattle.std.proofs.Common.{◌≡◌, ◌≢◌, ℕ, zero, suc, ◌+◌, ◌<◌, ◌≤◌, Bool, true, false, eq-eqb, List, [], ◌∷◌, ◌++◌, length, take, get_or, map, fold, refl, sym, ap, ◌∙◌, subst, arith, append_assoc, append-nil, Option, None, Some, inl, inr}
+use Rattle.std.specs.Prelude.{◌==◌, ◌&&◌, ◌||◌, ◌⊎◌, not, nat_lt, Contains, filter_map}
+use Rattle.std.specs.List.{cons_option, list_any}
+use Rattle.std.proofs.lemmas.Bool.{and_parts, eqb-true}
+use Rattle.std.proofs.lemmas.List.Elements.{Contains-append_left, Contains-append_right, filter_map-append}
+use Rattle.std.proofs.lemmas.List.Sums.{fold-append}
+use Rattle.sporc_script.specs.Commands.{InRange, Spells}
+use Rattle.sporc_script.specs.Declarations.{Declared, declared_after, declared_by as declarations, is_among, is_client, is_declared, is_rogue, is_joiner, may_declare, may_follow, none_declared}
+use Rattle.sporc_script.specs.Grammar.{IsNext, IsPlayScript, play_line}
+use Rattle.sporc_script.specs.Lines.{IsSkipped, ReadsAs, lines_of}
+use Rattle.sporc_script.specs.declared.command.Command.{Command}
+use Rattle.sporc_script.specs.declared.command.Command.TheVariants as commands
+use Rattle.sporc_script.specs.declared.play_line.PlayLine.{PlayLine}
+use Rattle.sporc_play.specs.Apart.{AreApart, IsNotIn}
+use Rattle.sporc_play.specs.Cast.{declared_by, member_by, rogue_by}
+use Rattle.sporc_play.proofs.Places.{among_cases, among_front, among_here, among_more, not_in_append, not_in_contains}
+
+-- ---- each line may follow those before it
+
+abbrev pub Follows : List PlayLine → List PlayLine → Type 0
+Follows before [] = Unit {0}
+Follows before (l ∷ ls) = (may_follow (declarations before) l.command ≡ true) × InRange l.command × Follows (before ++ l ∷ []) ls
+
+follows : (before : List PlayLine) (n : ℕ) (lines : List (List ℕ)) (script : List PlayLine) → ReadsAs play_line IsNext before n lines script → Follows before script
+follows before n [] script reads = subst (Follows before) (sym reads) tt
+follows before n (line ∷ lines) script reads = elim reads [
+  | inl skipped ↦ follows before (n + 1) lines script skipped.1
+  | inr next ↦ subst (Follows before) (sym next.3) (next.2.1, next.2.0.0, follows (before ++ play_line n next.0 ∷ []) (n + 1) lines next.1 next.4)
+]
+
+pub script_follows : (text : List ℕ) (script : List PlayLine) → IsPlayScript text script → Follows [] script
+script_follows text script is = follows [] 1 (lines_of text) script is
+
+-- what it says of one line
+pub record IsLine (before : List PlayLine) (l : PlayLine) : Type 0 where
+  pub may : may_follow (declarations before) l.command ≡ true
+  pub in_range : InRange l.command
+
+line_from : (before script : List PlayLine) (i : ℕ) (l : PlayLine) → Follows before script → i < length script → l ≡ get_or script i l → IsLine (before ++ take i script) l
+line_from before [] i l all low is = absurd (omega (arith, low))
+line_from before (x ∷ xs) zero l all low is =
+    subst (λ (b : List PlayLine). IsLine b l) (sym (append-nil before)) (subst (IsLine before) (sym is) (record { may = all.0; in_range = all.1 }))
+line_from before (x ∷ xs) (suc i) l all low is =
+    subst (λ (b : List PlayLine). IsLine b l) (append_assoc before (x ∷ []) (take i xs)) (line_from (before ++ x ∷ []) xs i l all.2 (omega (arith, low)) is)
+
+pub line_at : (text : List ℕ) (script : List PlayLine) (i : ℕ) (l : PlayLine) → IsPlayScript text script → i < length script → l ≡ get_or script i l → IsLine (take i script) l
+line_at text script i l is low at = line_from [] script i l (script_follows text script is) low at
+
+-- ---- what is declared, as lists that are read off the lines
+
+abbrev pub numbers : List PlayLine → List ℕ
+numbers lines = filter_map (λ (l : PlayLine). declared_by l.command) lines
+
+abbrev members : List PlayLine → List ℕ
+members lines = filter_map (λ (l : PlayLine). member_by l.command) lines
+
+abbrev rogues : List PlayLine → List ℕ
+rogues lines = filter_map (λ (l : PlayLine). rogue_by l.command) lines
+
+after_numbers : (d : Declared) (c : Command) → (declared_after d c).numbers ≡ d.numbers ++ cons_option (declared_by c) []
+after_numbers d (commands.Member m) = refl
+after_numbers d (commands.Rogue m) = refl
+after_numbers d (commands.Joiner m) = refl
+after_numbers d c = sym (append-nil d.numbers)
+
+after_rogues : (d : Declared) (c : Command) → (declared_after d c).rogues ≡ d.rogues ++ cons_option (rogue_by c) []
+after_rogues d (commands.Rogue m) = refl
+after_rogues d c = sym (append-nil d.rogues)
+
+option_append : (o : Option ℕ) (ns : List ℕ) → cons_option o [] ++ ns ≡ cons_option o ns
+option_append None ns = refl
+option_append (Some n) ns = refl
+
+fold_numbers : (d : Declared) (lines : List PlayLine) → (fold (λ (d : Declared) (l : PlayLine). declared_after d l.command) d lines).numbers ≡ d.numbers ++ numbers lines
+fold_numbers d [] = sym (append-nil d.numbers)
+fold_numbers d (l ∷ ls) =
+    fold_numbers (declared_after d l.command) ls ∙ ap (λ (ns : List ℕ). ns ++ numbers ls) (after_numbers d l.command)
+    ∙ append_assoc d.numbers (cons_option (declared_by l.command) []) (numbers ls) ∙ ap (λ (ns : List ℕ). d.numbers ++ ns) (option_append (declared_by l.command) (numbers ls))
+
+fold_rogues : (d : Declared) (lines : List PlayLine) → (fold (λ (d : Declared) (l : PlayLine). declared_after d l.command) d lines).rogues ≡ d.rogues ++ rogues lines
+fold_rogues d [] = sym (append-nil d.rogues)
+fold_rogues d (l ∷ ls) =
+    fold_rogues (declared_after d l.command) ls ∙ ap (λ (ns : List ℕ). ns ++ rogues ls) (after_rogues d l.command)
+    ∙ append_assoc d.rogues (cons_option (rogue_by l.command) []) (rogues ls) ∙ ap (λ (ns : List ℕ). d.rogues ++ ns) (option_append (rogue_by l.command) (rogues ls))
+
+pub numbers_are : (lines : List PlayLine) → (declarations lines).numbers ≡ filter_map (λ (l : PlayLine). declared_by l.command) lines
+numbers_are lines = fold_numbers none_declared lines
+
+rogues_are : (lines : List PlayLine) → (declarations lines).rogues ≡ rogues lines
+rogues_are lines = fold_rogues none_declared lines
+
+abbrev joiner_by : Command → Option ℕ
+joiner_by (commands.Joiner m) = Some m
+joiner_by c = None
+
+abbrev joiners : List PlayLine → List ℕ
+joiners lines = filter_map (λ (l : PlayLine). joiner_by l.command) lines
+
+after_joiners : (d : Declared) (c : Command) → (declared_after d c).joiners ≡ d.joiners ++ cons_option (joiner_by c) []
+after_joiners d (commands.Joiner m) = refl
+after_joiners d c = sym (append-nil d.joiners)
+
+fold_joiners : (d : Declared) (lines : List PlayLine) → (fold (λ (d : Declared) (l : PlayLine). declared_after d l.command) d lines).joiners ≡ d.joiners ++ joiners lines
+fold_joiners d [] = sym (append-nil d.joiners)
+fold_joiners d (l ∷ ls) =
+    fold_joiners (declared_after d l.command) ls ∙ ap (λ (ns : List ℕ). ns ++ joiners ls) (after_joiners d l.command)
+    ∙ append_assoc d.joiners (cons_option (joiner_by l.command) []) (joiners ls) ∙ ap (λ (ns : List ℕ). d.joiners ++ ns) (option_append (joiner_by l.command) (joiners ls))
+
+joiners_are : (lines : List PlayLine) → (declarations lines).joiners ≡ joiners lines
+joiners_are lines = fold_joiners none_declared lines
+
+-- ---- members and rogues apart
+
+not_among : (ns : List ℕ) (n : ℕ) → is_among ns n ≡ false → IsNotIn n ns
+not_among [] n is = tt
+not_among (m ∷ ms) n is = go (m == n) refl is (not_among ms n)
+  where
+    go : (same : Bool) → (m == n) ≡ same → (same || is_among ms n) ≡ false → (is_among ms n ≡ false → IsNotIn n ms) → (m ≢ n) × IsNotIn n ms
+    go true at is rest = absurd cc
+    go false at is rest = ((λ same. let no : true ≡ false = sym (eq-eqb m n same) ∙ at in cc), rest is)
+
+among : (ns : List ℕ) (n : ℕ) → is_among ns n ≡ true → Contains ns n
+among [] n is = absurd cc
+among (m ∷ ms) n is = go (m == n) refl is (among ms n)
+  where
+    go : (same : Bool) → (m == n) ≡ same → (same || is_among ms n) ≡ true → (is_among ms n ≡ true → Contains ms n) → Contains (m ∷ ms) n
+    go true at is rest = (0, omega arith, eqb-true m n at)
+    go false at is rest = let r = rest is in (suc r.0, omega (arith, r.1), r.2)
+
+is_not : (b : Bool) → not b ≡ true → b ≡ false
+is_not true is = absurd cc
+is_not false is = refl
+
+-- a number that may be declared is none of those before
+new_number : (before : List PlayLine) (n : ℕ) → may_declare (declarations before) n ≡ true → IsNotIn n (numbers before)
+new_number before n may =
+    let d = declarations before in
+    let a = and_parts (not d.begun) (nat_lt (length d.numbers) _ && not (is_declared d n)) may in
+    let b = and_parts (nat_lt (length d.numbers) _) (not (is_declared d n)) a.1 in
+    subst (IsNotIn n) (numbers_are before) (not_among d.numbers n (is_not (is_declared d n) b.1))
+
+new_by : (before : List PlayLine) (c : Command) (n : ℕ) → may_follow (declarations before) c ≡ true → declared_by c ≡ Some n → IsNotIn n (numbers before)
+new_by before (commands.Member m) n may is = let same : m.member ≡ n = cc in subst (λ (k : ℕ). IsNotIn k (numbers before)) same (new_number before m.member may)
+new_by before (commands.Rogue m) n may is = let same : m.member ≡ n = cc in subst (λ (k : ℕ). IsNotIn k (numbers before)) same (new_number before m.member may)
+new_by before (commands.Joiner m) n may is = let same : m ≡ n = cc in subst (λ (k : ℕ). IsNotIn k (numbers before)) same (new_number before m may)
+new_by before c n may is = absurd cc
+
+not_in_both : (n : ℕ) (xs ys : List ℕ) → IsNotIn n xs → IsNotIn n ys → IsNotIn n (xs ++ ys)
+not_in_both n [] ys a b = b
+not_in_both n (x ∷ xs) ys a b = (a.0, not_in_both n xs ys a.1 b)
+
+apart_push : (ns : List ℕ) (n : ℕ) → AreApart ns → IsNotIn n ns → AreApart (ns ++ n ∷ [])
+apart_push [] n apart new = (tt, tt)
+apart_push (m ∷ ms) n apart new = (not_in_both m ms (n ∷ []) apart.0 ((λ same. new.0 (sym same)), tt), apart_push ms n apart.1 new.1)
+
+pub numbers_push : (before : List PlayLine) (l : PlayLine) → numbers (before ++ l ∷ []) ≡ numbers before ++ cons_option (declared_by l.command) []
+numbers_push before l = filter_map-append (λ (l : PlayLine). declared_by l.command) before (l ∷ [])
+
+apart_more : (before : List PlayLine) (l : PlayLine) (o : Option ℕ) → declared_by l.command ≡ o → may_follow (declarations before) l.command ≡ true → AreApart (numbers before) → AreApart (numbers before ++ cons_option o [])
+apart_more before l None is may apart = subst AreApart (sym (append-nil (numbers before))) apart
+apart_more before l (Some n) is may apart = apart_push (numbers before) n apart (new_by before l.command n may is)
+
+numbers_apart : (before script : List PlayLine) → Follows before script → AreApart (numbers before) → AreApart (numbers (before ++ script))
+numbers_apart before [] all apart = subst (λ (ls : List PlayLine). AreApart (numbers ls)) (sym (append-nil before)) apart
+numbers_apart before (l ∷ ls) all apart =
+    subst (λ (xs : List PlayLine). AreApart (numbers xs)) (append_assoc before (l ∷ []) ls)
+    (numbers_apart (before ++ l ∷ []) ls all.2 (subst AreApart (sym (numbers_push before l)) (apart_more before l (declared_by l.command) refl all.0 apart)))
+
+pub script_numbers_apart : (text : List ℕ) (script : List PlayLine) → IsPlayScript text script → AreApart (filter_map (λ (l : PlayLine). declared_by l.command) script)
+script_numbers_apart text script is = numbers_apart [] script (script_follows text script is) tt
+
+-- each that is declared is a member or a rogue
+record Splits (c : Command) : Type 0 where
+  parts : ((member_by c ≡ declared_by c) × (rogue_by c ≡ None)) ⊎ ((member_by c ≡ None) × (rogue_by c ≡ declared_by c))
+
+splits : (c : Command) → Splits c
+splits (commands.Rogue m) = record { parts = inr (refl, refl) }
+splits c = record { parts = inl (refl, refl) }
+
+not_part : (n : ℕ) (lines : List PlayLine) → IsNotIn n (numbers lines) → IsNotIn n (members lines) × IsNotIn n (rogues lines)
+not_part n [] apart = (tt, tt)
+not_part n (l ∷ ls) apart = elim (splits l.command).parts [
+  | inl p ↦ let r = rest (declared_by l.command) apart in let q = not_part n ls r.1 in
+      (subst (λ (o : Option ℕ). IsNotIn n (cons_option o (members ls))) (sym p.0) (first (declared_by l.command) (members ls) apart q.0), subst (λ (o : Option ℕ). IsNotIn n (cons_option o (rogues ls))) (sym p.1) q.1)
+  | inr p ↦ let r = rest (declared_by l.command) apart in let q = not_part n ls r.1 in
+      (subst (λ (o : Option ℕ). IsNotIn n (cons_option o (members ls))) (sym p.0) q.0, subst (λ (o : Option ℕ). IsNotIn n (cons_option o (rogues ls))) (sym p.1) (first (declared_by l.command) (rogues ls) apart q.1))
+]
+  where
+    rest : (o : Option ℕ) → IsNotIn n (cons_option o (numbers ls)) → Unit {0} × IsNotIn n (numbers ls)
+    rest None apart = (tt, apart)
+    rest (Some m) apart = (tt, apart.1)
+
+    first : (o : Option ℕ) (ns : List ℕ) → IsNotIn n (cons_option o (numbers ls)) → IsNotIn n ns → IsNotIn n (cons_option o ns)
+    first None ns apart is = is
+    first (Some m) ns apart is = (apart.0, is)
+
+apart_insert : (xs : List ℕ) (n : ℕ) (ys : List ℕ) → AreApart (xs ++ ys) → IsNotIn n xs → IsNotIn n ys → AreApart (xs ++ n ∷ ys)
+apart_insert [] n ys apart a b = (b, apart)
+apart_insert (x ∷ xs) n ys apart a b =
+    let p = not_in_append x xs ys apart.0 in
+    (not_in_both x xs (n ∷ ys) p.0 ((λ same. a.0 (sym same)), p.1), apart_insert xs n ys apart.1 a.1 b)
+
+parts_apart : (lines : List PlayLine) → AreApart (numbers lines) → AreApart (members lines ++ rogues lines)
+parts_apart [] apart = tt
+parts_apart (l ∷ ls) apart = elim (splits l.command).parts [
+  | inl p ↦ subst (λ (o : Option ℕ). AreApart (cons_option o (members ls) ++ cons_option (rogue_by l.command) (rogues ls))) (sym p.0)
+      (subst (λ (o : Option ℕ). AreApart (cons_option (declared_by l.command) (members ls) ++ cons_option o (rogues ls))) (sym p.1) (as_member (declared_by l.command) apart (parts_apart ls)))
+  | inr p ↦ subst (λ (o : Option ℕ). AreApart (cons_option o (members ls) ++ cons_option (rogue_by l.command) (rogues ls))) (sym p.0)
+      (subst (λ (o : Option ℕ). AreApart (members ls ++ cons_option o (rogues ls))) (sym p.1) (as_rogue (declared_by l.command) apart (parts_apart ls)))
+]
+  where
+    as_member : (o : Option ℕ) → AreApart (cons_option o (numbers ls)) → (AreApart (numbers ls) → AreApart (members ls ++ rogues ls)) → AreApart (cons_option o (members ls) ++ rogues ls)
+    as_member None apart rest = rest apart
+    as_member (Some n) apart rest = let q = not_part n ls apart.0 in (not_in_both n (members ls) (rogues ls) q.0 q.1, rest apart.1)
+
+    as_rogue : (o : Option ℕ) → AreApart (cons_option o (numbers ls)) → (AreApart (numbers ls) → AreApart (members ls ++ rogues ls)) → AreApart (members ls ++ cons_option o (rogues ls))
+    as_rogue None apart rest = rest apart
+    as_rogue (Some n) apart rest = let q = not_part n ls apart.0 in apart_insert (members ls) n (rogues ls) (rest apart.1) q.0 q.1
+
+pub script_apart : (text : List ℕ) (script : List PlayLine) → IsPlayScript text script
+    → AreApart (filter_map (λ (l : PlayLine). member_by l.command) script ++ filter_map (λ (l : PlayLine). rogue_by l.command) script)
+script_apart text script is = parts_apart script (numbers_apart [] script (script_follows text script is) tt)
+
+-- ---- those whom a command names
+
+part_of : (n : ℕ) (lines : List PlayLine) → Contains (numbers lines) n → Contains (members lines) n ⊎ Contains (rogues lines) n
+part_of n [] is = absurd (omega (arith, is.1))
+part_of n (l ∷ ls) is = elim (among_cases n (declared_by l.command) (numbers ls) is) [
+  | inl here ↦ elim (splits l.command).parts [
+    | inl p ↦ inl (among_here n (member_by l.command) (members ls) (p.0 ∙ here))
+    | inr p ↦ inr (among_here n (rogue_by l.command) (rogues ls) (p.1 ∙ here))
+  ]
+  | inr there ↦ elim (part_of n ls there) [
+    | inl m ↦ inl (among_more n (member_by l.command) (members ls) m)
+    | inr r ↦ inr (among_more n (rogue_by l.command) (rogues ls) r)
+  ]
+]
+
+-- one who has a client or may get one
+pub client_named : (script : List PlayLine) (i n : ℕ) → is_client (declarations (take i script)) n ≡ true → Contains (filter_map (λ (l : PlayLine). member_by l.command) script) n
+client_named script i n is =
+    let before = take i script in
+    let d = declarations before in
+    let p = and_parts (is_declared d n) (not (is_rogue d n)) is in
+    let no_rogue : IsNotIn n (rogues before) = subst (IsNotIn n) (rogues_are before) (not_among d.rogues n (is_not (is_rogue d n) p.1)) in
+    let there : Contains (numbers before) n = subst (λ (ns : List ℕ). Contains ns n) (numbers_are before) (among d.numbers n p.0) in
+    among_front (λ (l : PlayLine). member_by l.command) n script i (elim (part_of n before there) [
+      | inl m ↦ m
+      | inr r ↦ absurd (not_in_contains n (rogues before) no_rogue r)
+    ])
+
+pub rogue_named : (script : List PlayLine) (i n : ℕ) → is_rogue (declarations (take i script)) n ≡ true → Contains (filter_map (λ (l : PlayLine). rogue_by l.command) script) n
+rogue_named script i n is =
+    let before = take i script in
+    among_front (λ (l : PlayLine). rogue_by l.command) n script i (subst (λ (ns : List ℕ). Contains ns n) (rogues_are before) (among (declarations before).rogues n is))
+
+joiner_parts : (script : List PlayLine) (i n : ℕ) → is_joiner (declarations (take i script)) n ≡ true → Contains (joiners (take i script)) n
+joiner_parts script i n is = subst (λ (ns : List ℕ). Contains ns n) (joiners_are (take i script)) (among (declarations (take i script)).joiners n is)
+
+joiner_member : (c : Command) (n : ℕ) → joiner_by c ≡ Some n → member_by c ≡ Some n
+joiner_member (commands.Joiner m) n is = is
+joiner_member c n is = absurd cc
+
+joiners_in : (n : ℕ) (lines : List PlayLine) → Contains (joiners lines) n → Contains (members lines) n
+joiners_in n [] is = is
+joiners_in n (l ∷ ls) is = elim (among_cases n (joiner_by l.command) (joiners ls) is) [
+  | inl here ↦ among_here n (member_by l.command) (members ls) (joiner_member l.command n here)
+  | inr there ↦ among_more n (member_by l.command) (members ls) (joiners_in n ls there)
+]
+
+pub joiner_named : (script : List PlayLine) (i n : ℕ) → is_joiner (declarations (take i script)) n ≡ true → Contains (filter_map (λ (l : PlayLine). member_by l.command) script) n
+joiner_named script i n is = among_front (λ (l : PlayLine). member_by l.command) n script i (joiners_in n (take i script) (joiner_parts script i n is))
+
+-- one who is to join is a member of the whole script
+pub joiner_before : (before lines : List PlayLine) (n : ℕ) → is_joiner (declarations before) n ≡ true → Contains (filter_map (λ (l : PlayLine). member_by l.command) (before ++ lines)) n
+joiner_before before lines n is =
+    front_among before lines n (joiners_in n before (subst (λ (ns : List ℕ). Contains ns n) (joiners_are before) (among (declarations before).joiners n is)))
+  where
+    front_among : (before lines : List PlayLine) (n : ℕ) → Contains (members before) n → Contains (members (before ++ lines)) n
+    front_among [] lines n is = absurd (omega (arith, is.1))
+    front_among (l ∷ ls) lines n is = elim (among_cases n (member_by l.command) (members ls) is) [
+      | inl here ↦ among_here n (member_by l.command) (members (ls ++ lines)) here
+      | inr there ↦ among_more n (member_by l.command) (members (ls ++ lines)) (front_among ls lines n there)
+    ]

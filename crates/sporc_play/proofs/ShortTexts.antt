@@ -1,0 +1,189 @@
+-- No text that a client has shown is long: an edit adds few characters, entries that come add few in all, and giving up
+-- goes back to the committed text.
+use Rattle.std.proofs.Common.{◌≡◌, ℕ, zero, suc, ◌+◌, ◌*◌, ◌^◌, ◌<◌, ◌≤◌, Bool, true, false, cond, List, [], ◌∷◌, ◌++◌, length, take, drop, fold, refl, sym, ap, ◌∙◌, subst, arith, add-zero, zero-add, append_assoc, append-nil, length-append, Option, None, Some}
+use Rattle.std.specs.Prelude.{is_none, is_some}
+use Rattle.std.proofs.lemmas.Bool.{and_parts}
+use Rattle.std.proofs.lemmas.List.{take-append-le, take_all}
+use Rattle.std.proofs.lemmas.List.Sums.{fold-append}
+use Rattle.sporc_hash.proofs.Lists.{from_end}
+use Rattle.sporc_base.specs.FirstFault.{first_of}
+use Rattle.sporc_delta.specs.Format.{delta_bytes}
+use Rattle.sporc_delta.specs.Marks.{Mark, apply, base_len, deletes, inserted_len, inserts, out_len, replacement, retains}
+use Rattle.sporc_delta.proofs.Lengths.{out_len-append, out_len-deletes, out_len-inserts}
+use Rattle.sporc_suffix.specs.Forms.{Follow, all_inserted, later_over, reached}
+use Rattle.sporc_xform.proofs.LengthLemmas.{out_len-le}
+use Rattle.sporc_entry.specs.declared.genesis.Genesis.{Genesis}
+use Rattle.sporc_entry.specs.declared.limits.TheConstants.{MAX_EDIT_BODY}
+use Rattle.sporc_head.specs.declared.limits.TheConstants.{MAX_ENTRIES}
+use Rattle.sporc_head.specs.History.{change_in}
+use Rattle.sporc_line.specs.Document.{forms_of, next_form, text_after}
+use Rattle.sporc_line.specs.Good.{Good, Meets}
+use Rattle.sporc_line.specs.Keys.{key_of}
+use Rattle.sporc_line.specs.Kit.{Kit}
+use Rattle.sporc_line.proofs.FormLengths.{all_inserted-append, inserted_len-over, inserted_len-retains, length-apply, length-text}
+use Rattle.sporc_line.proofs.Goods.{first_key, good_none, good_push, last_passes}
+use Rattle.sporc_line.proofs.MoreForms.{forms_push}
+use Rattle.sporc_client.specs.declared.limits.TheConstants.{MAX_EDIT_BYTES, MAX_EVENTS}
+use Rattle.sporc_client.specs.Allowed.{allows, allows_all, is_allowed}
+use Rattle.sporc_client.specs.Answers.{edit_checks, edit_fault}
+use Rattle.sporc_client.specs.ClientModel.{ClientModel, state_of}
+use Rattle.sporc_client.specs.Log.{Logged, Edit, Change, Submit, Dropped, Accept, Discard}
+use Rattle.sporc_client.specs.PlainClient.{Opening, PlainClient, committed_of, opened, shown_after, shown_of}
+use Rattle.sporc_client.specs.Rebasing.{beyond}
+use Rattle.sporc_client.specs.Soundness.{IsSound}
+use Rattle.sporc_client.specs.Step.{accepted, change_comes, edit_comes, form_coming, is_flight, keeps, own_comes, replay, replay_from, restated, step}
+use Rattle.sporc_client.proofs.AcceptedHistories.{accept_passes}
+use Rattle.sporc_client.proofs.Calls.{replay_opening}
+use Rattle.sporc_client.proofs.Checked.{edit_fault_is, edit_passed}
+use Rattle.sporc_client.proofs.Comings.{follow_last}
+use Rattle.sporc_client.proofs.Small.{inserted_len-beyond, inserted_len-bytes}
+use Rattle.sporc_client.proofs.TextLengths.{few_inserted, length-text_of}
+use Rattle.sporc_play.proofs.ShownForms.{Grows, log_grows, shown_count}
+
+-- ---- histories
+
+few_more : (g : Genesis) (kit : Kit) (A : List (List ℕ)) (b : List ℕ) → Good g kit (A ++ b ∷ []) → length (A ++ b ∷ []) ≤ MAX_ENTRIES
+few_more g kit A b good =
+    let p = last_passes g kit A b good in
+    omega (arith, length-append A (b ∷ []), p.2.room)
+
+few_entries : (g : Genesis) (kit : Kit) (A : List (List ℕ)) → Good g kit A → length A ≤ MAX_ENTRIES
+few_entries g kit = from_end (λ A. Good g kit A → length A ≤ MAX_ENTRIES) (λ good. omega arith) (λ A b before good. few_more g kit A b good)
+
+-- ---- texts after deltas
+
+follow_front : (base : ℕ) (fs gs : List (List Mark)) → Follow base (fs ++ gs) → Follow base fs
+follow_front base [] gs follow = tt
+follow_front base (f ∷ fs) gs follow = (follow.0, follow_front (out_len f) fs gs follow.1)
+
+base_is : (forms : List (List Mark)) (f : List Mark) → Follow 0 (forms ++ f ∷ []) → base_len f ≡ length (text_after forms)
+base_is forms f follow = follow_last 0 forms f follow ∙ sym (length-text forms (follow_front 0 forms (f ∷ []) follow))
+
+last_text : (forms : List (List Mark)) (f : List Mark) → Follow 0 (forms ++ f ∷ []) → length (text_after (forms ++ f ∷ [])) ≡ out_len f
+last_text forms f follow =
+    ap length (fold-append (λ (text : List ℕ) (form : List Mark). apply form text) [] forms (f ∷ [])) ∙ length-apply f (text_after forms) (base_is forms f follow)
+
+more_text : (forms : List (List Mark)) (f : List Mark) → Follow 0 (forms ++ f ∷ []) → length (text_after (forms ++ f ∷ [])) ≤ length (text_after forms) + inserted_len f
+more_text forms f follow = omega (arith, last_text forms f follow, out_len-le f, base_is forms f follow)
+
+-- ---- one client
+
+-- its shown text is short
+record IsShort (c : PlainClient) : Type 0 where
+  good : Good c.opening.genesis c.opening.kit c.entries
+  text : length (text_after c.shown) ≤ 2 ^ 34 + 65536 * length c.shown + all_inserted (forms_of c.opening.genesis c.opening.kit c.entries)
+
+-- an event that adds few characters
+edit_short : (c : PlainClient) (f : List Mark) → IsShort c → Follow 0 (c.shown ++ f ∷ []) → inserted_len f ≤ 65536
+    → length (text_after (c.shown ++ f ∷ [])) ≤ 2 ^ 34 + 65536 * length (c.shown ++ f ∷ []) + all_inserted (forms_of c.opening.genesis c.opening.kit c.entries)
+edit_short c f short follow few = omega (arith, more_text c.shown f follow, short.text, length-append c.shown (f ∷ []), few)
+
+kept_short : (c : PlainClient) (n : ℕ) → IsShort c → Follow 0 (c.shown ++ retains n ∷ [])
+    → length (text_after (c.shown ++ retains n ∷ [])) ≤ 2 ^ 34 + 65536 * length (c.shown ++ retains n ∷ []) + all_inserted (forms_of c.opening.genesis c.opening.kit c.entries)
+kept_short c n short follow = edit_short c (retains n) short follow (omega (arith, inserted_len-retains n))
+
+-- one that adds an entry
+entry_short : (c : PlainClient) (b : List ℕ) (f : List Mark) → IsShort c → Good c.opening.genesis c.opening.kit (c.entries ++ b ∷ []) → Follow 0 (c.shown ++ f ∷ []) → inserted_len f ≤ inserted_len (form_coming c b)
+    → length (text_after (c.shown ++ f ∷ [])) ≤ 2 ^ 34 + 65536 * length (c.shown ++ f ∷ []) + all_inserted (forms_of c.opening.genesis c.opening.kit (c.entries ++ b ∷ []))
+entry_short c b f short good follow few =
+    let g = c.opening.genesis in
+    let kit = c.opening.kit in
+    omega (
+      arith,
+      more_text c.shown f follow,
+      short.text,
+      length-append c.shown (f ∷ []),
+      few,
+      ap all_inserted (forms_push g kit c.entries b good),
+      all_inserted-append (forms_of g kit c.entries) (next_form g kit c.entries b ∷ []),
+    )
+
+no_fault : (c : PlainClient) (by seen : ℕ) (marks : List Mark) → allows c (Edit by seen marks) ≡ true → first_of (edit_checks c seen marks) ≡ None
+unfolding allows
+no_fault c by seen marks may = sym (edit_fault_is c seen marks) ∙ none_of (edit_fault c seen marks) may
+  where
+    none_of : {F : Type 0} (o : Option F) → is_none o ≡ true → o ≡ None
+    none_of None h = refl
+    none_of (Some x) h = absurd cc
+
+discard_short : (c : PlainClient) → IsShort c → (n : ℕ) → Follow 0 (c.shown ++ replacement n (committed_of c) ∷ [])
+    → length (text_after (c.shown ++ replacement n (committed_of c) ∷ [])) ≤ 2 ^ 34 + 65536 * length (c.shown ++ replacement n (committed_of c) ∷ []) + all_inserted (forms_of c.opening.genesis c.opening.kit c.entries)
+discard_short c short n follow =
+    let text = committed_of c in
+    omega (
+      arith,
+      last_text c.shown (replacement n text) follow,
+      out_len-append (deletes n) (inserts text),
+      out_len-deletes n,
+      out_len-inserts text,
+      length-text_of c.opening.genesis c.opening.kit c.entries short.good,
+      few_entries c.opening.genesis c.opening.kit c.entries short.good,
+    )
+
+step_short : (c : PlainClient) (event : Logged) → IsShort c → allows c event ≡ true → Follow 0 (step c event).shown → IsShort (step c event)
+step_short c (Edit by seen marks) short may follow =
+    let passed = edit_passed c seen marks (no_fault c by seen marks may) in
+    let few : inserted_len (restated c seen marks) ≤ 65536 = omega (arith, inserted_len-over marks (drop seen c.shown), inserted_len-bytes marks, passed.bytes) in
+    record { good = short.good; text = edit_short c (restated c seen marks) short follow few }
+step_short c (Change by change) short may follow = record { good = short.good; text = kept_short c (length (shown_of c)) short follow }
+step_short c (Submit by bytes) short may follow = record { good = short.good; text = kept_short c (length (shown_of c)) short follow }
+step_short c (Dropped by fault) short may follow = record { good = short.good; text = kept_short c (length (shown_of c)) short follow }
+step_short c (Accept by bytes) short may follow = go (is_flight c bytes) (is_some (change_in bytes)) follow
+  where
+    good : Good c.opening.genesis c.opening.kit (c.entries ++ bytes ∷ [])
+    good = good_push c.opening.genesis c.opening.kit c.entries bytes short.good (accept_passes c by bytes may)
+
+    none : inserted_len (keeps c) ≤ inserted_len (form_coming c bytes)
+    none = omega (arith, inserted_len-retains (length (shown_of c)))
+
+    go : (own change : Bool) → Follow 0 (cond own (own_comes c bytes) (cond change (change_comes c bytes) (edit_comes c bytes))).shown → IsShort (cond own (own_comes c bytes) (cond change (change_comes c bytes) (edit_comes c bytes)))
+    go true change follow = record { good = good; text = entry_short c bytes (keeps c) short good follow none }
+    go false true follow = record { good = good; text = entry_short c bytes (keeps c) short good follow none }
+    go false false follow = record { good = good; text = entry_short c bytes (beyond (form_coming c bytes) c.pending) short good follow (inserted_len-beyond (form_coming c bytes) c.pending) }
+step_short c (Discard by) short may follow = record { good = short.good; text = discard_short c short (length (shown_of c)) follow }
+
+-- ---- its log
+
+IsBelow : List (List Mark) → ℕ → Type 0
+IsBelow shown n = length (text_after (take n shown)) ≤ 2 ^ 35 + 65536 * n
+
+short_now : (c : PlainClient) (log : List Logged) → IsShort c → IsBelow (replay_from c log).shown (length c.shown)
+unfolding IsBelow
+short_now c log short =
+    let grown = log_grows c log in
+    let here : take (length c.shown) (replay_from c log).shown ≡ c.shown =
+    ap (take (length c.shown)) grown.1 ∙ take-append-le (length c.shown) c.shown grown.0 (omega arith) ∙ take_all (length c.shown) c.shown (omega arith) in
+    let few = few_inserted c.opening.genesis c.opening.kit c.entries short.good in
+    let entries = few_entries c.opening.genesis c.opening.kit c.entries short.good in
+    omega (arith, ap (λ (forms : List (List Mark)). length (text_after forms)) here, short.text, few, entries)
+
+short_from : (c : PlainClient) (log : List Logged) (n : ℕ) → IsShort c → allows_all c log ≡ true → Follow 0 (replay_from c log).shown → n ≤ length log → IsBelow (replay_from c log).shown (length c.shown + n)
+short_from c log zero short may follow within = subst (IsBelow (replay_from c log).shown) (sym (add-zero (length c.shown))) (short_now c log short)
+short_from c [] (suc n) short may follow within = absurd (omega (arith, within))
+short_from c (event ∷ log) (suc n) short may follow within =
+    let d = step c event in
+    let p = and_parts (allows c event) (allows_all d log) may in
+    let rest = log_grows d log in
+    let here : Follow 0 d.shown = follow_front 0 d.shown rest.0 (subst (Follow 0) rest.1 follow) in
+    let one = log_grows c (event ∷ []) in
+    let count : length d.shown + n ≡ length c.shown + suc n = omega (arith, ap length one.1, length-append c.shown one.0, one.2) in
+    subst (IsBelow (replay_from d log).shown) count (short_from d log n (step_short c event short p.0 here) p.1 follow (omega (arith, within)))
+
+opened_short : (o : Opening) → Good o.genesis o.kit [] → IsShort (opened o)
+opened_short o good = record { good = good; text = omega arith }
+
+abbrev pub HasShortTexts : {D : Type 0} → ClientModel D → Type 0
+HasShortTexts c = (seen : ℕ) → seen ≤ length c.log → length (shown_after seen (state_of c)) ≤ 2 ^ 40
+
+pub short_texts_of : (o : Opening) (log : List Logged) → is_allowed o log ≡ true → IsSound (replay o log) → length log ≤ MAX_EVENTS → (seen : ℕ) → seen ≤ length log → length (shown_after seen (replay o log)) ≤ 2 ^ 40
+unfolding replay is_allowed IsBelow
+short_texts_of o log may sound few seen low =
+    let c = replay o log in
+    let begin : Good o.genesis o.kit [] = good_none o.genesis o.kit
+    (subst (λ (p : Opening). Meets p.genesis 0 (key_of p.genesis p.kit [] 0) p.genesis.commitment) (replay_opening o log)
+    (subst (λ (k : Option (List ℕ)). Meets c.opening.genesis 0 k c.opening.genesis.commitment) (first_key c.opening.genesis c.opening.kit c.entries []) sound.good.opens)) in
+    let below : length (text_after (take (0 + seen) (replay_from (opened o) log).shown)) ≤ 2 ^ 35 + 65536 * (0 + seen) = short_from (opened o) log seen (opened_short o begin) may sound.follow low in
+    omega (arith, below, ap (λ (n : ℕ). length (text_after (take n (replay_from (opened o) log).shown))) (zero-add seen), few, low)
+
+pub short_texts : {D : Type 0} (c : ClientModel D) → is_allowed c.opening c.log ≡ true → IsSound (state_of c) → length c.log ≤ MAX_EVENTS → HasShortTexts c
+short_texts c may sound few = short_texts_of c.opening c.log may sound few

@@ -1,0 +1,57 @@
+-- The shown deltas of a client: one for each event of its log.
+use Rattle.std.proofs.Common.{◌≡◌, ℕ, zero, suc, ◌+◌, ◌≤◌, Bool, true, false, cond, List, [], ◌∷◌, ◌++◌, length, take, drop, refl, sym, ap, ◌∙◌, subst, arith, append_assoc, append-nil, length-append, Result, Ok, Err, IfOk}
+use Rattle.std.specs.Prelude.{is_some}
+use Rattle.sporc_delta.specs.Marks.{Mark}
+use Rattle.sporc_head.specs.History.{change_in}
+use Rattle.sporc_client.specs.declared.event.Event.{Event}
+use Rattle.sporc_client.specs.Answers.{added}
+use Rattle.sporc_client.specs.Log.{entries_by, journal_from, journal_of}
+use Rattle.sporc_client.specs.Log.{Logged, Edit, Change, Submit, Dropped, Accept, Discard}
+use Rattle.sporc_client.specs.PlainClient.{Opening, PlainClient, opened}
+use Rattle.sporc_client.specs.Step.{accepted, change_comes, edit_comes, is_flight, own_comes, replay, replay_from, step}
+
+-- lists of which one begins with the other
+abbrev pub Grows : List (List Mark) → List (List Mark) → ℕ → Type 0
+Grows old new n = (more : List (List Mark)) × (new ≡ old ++ more) × (length more ≡ n)
+
+step_grows : (c : PlainClient) (event : Logged) → Grows c.shown (step c event).shown 1
+step_grows c (Edit by seen marks) = (_, refl, refl)
+step_grows c (Change by change) = (_, refl, refl)
+step_grows c (Submit by bytes) = (_, refl, refl)
+step_grows c (Dropped by fault) = (_, refl, refl)
+step_grows c (Accept by bytes) = go (is_flight c bytes) (is_some (change_in bytes))
+  where
+    go : (own change : Bool) → Grows c.shown (cond own (own_comes c bytes) (cond change (change_comes c bytes) (edit_comes c bytes))).shown 1
+    go true change = (_, refl, refl)
+    go false true = (_, refl, refl)
+    go false false = (_, refl, refl)
+step_grows c (Discard by) = (_, refl, refl)
+
+pub log_grows : (c : PlainClient) (log : List Logged) → Grows c.shown (replay_from c log).shown (length log)
+log_grows c [] = ([], sym (append-nil c.shown), refl)
+log_grows c (event ∷ log) =
+    let one = step_grows c event in
+    let rest = log_grows (step c event) log in (
+      one.0 ++ rest.0,
+      rest.1 ∙ ap (λ (xs : List (List Mark)). xs ++ rest.0) one.1 ∙ append_assoc c.shown one.0 rest.0,
+      omega (arith, length-append one.0 rest.0, one.2, rest.2),
+    )
+
+-- a client has shown a delta for each event
+pub shown_count : (o : Opening) (log : List Logged) → length (replay o log).shown ≡ length log
+unfolding replay
+shown_count o log = let grown = log_grows (opened o) log in ap length grown.1 ∙ grown.2
+
+-- and its journal has so many events
+journal_from_count : (accepted : ℕ) (log : List Logged) → length (journal_from accepted log) ≡ length log
+journal_from_count accepted [] = refl
+journal_from_count accepted (event ∷ log) = ap suc (journal_from_count (accepted + length (entries_by event)) log)
+
+pub journal_count : (o : Opening) (log : List Logged) (journal : List Event) → journal ≡ journal_of log → length journal ≡ length (replay o log).shown
+journal_count o log journal is = ap length is ∙ journal_from_count 0 log ∙ sym (shown_count o log)
+
+-- what a call that adds an event answers
+pub events_told : {F : Type 0} (o : Opening) (log new : List Logged) (event : Logged) (answer : Result ℕ F) → IfOk answer (λ n. n ≡ length new) → new ≡ log ++ added answer event
+    → IfOk answer (λ n. n ≡ length (replay o log).shown + 1)
+events_told o log new event (Ok n) count grown = count ∙ ap length grown ∙ length-append log (event ∷ []) ∙ ap (λ (k : ℕ). k + 1) (sym (shown_count o log))
+events_told o log new event (Err fault) count grown = tt

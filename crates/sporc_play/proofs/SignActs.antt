@@ -1,0 +1,161 @@
+-- The entries that a script signs for rogues are strings of bytes.
+use Rattle.std.proofs.Common.{◌≡◌, ℕ, ◌+◌, ◌<◌, Bool, true, false, cond, List, [], ◌∷◌, ◌++◌, drop, length, map, take, filter, refl, sym, ap, ◌∙◌, subst, arith, not, Option, None, Some, Result, Ok, Err, IfSome}
+use Rattle.std.specs.Prelude.{◌==◌, min, nat_le, replicate, unwrap_or}
+use Rattle.std.specs.List.{AllByRecursion}
+use Rattle.std.specs.Str.{all_scalars}
+use Rattle.std.proofs.lemmas.Nat.{xor_of_8}
+use Rattle.lms_leaf.specs.declared.faults.LeafFault.{LeafFault}
+use Rattle.sporc_base.specs.Bytes.{IsBytes}
+use Rattle.sporc_delta.specs.Format.{delta_bytes}
+use Rattle.sporc_delta.specs.Marks.{insertion}
+use Rattle.sporc_delta.proofs.Typing.{inserted-insertion}
+use Rattle.sporc_entry.specs.declared.change.ChangeBody.{ChangeBody}
+use Rattle.sporc_entry.specs.declared.entry.Entry.{Entry}
+use Rattle.sporc_entry.specs.declared.wrap.Wrap.{Wrap}
+use Rattle.sporc_entry.specs.Entry.{signed_string}
+use Rattle.sporc_entry.specs.Genesis.{genesis_bytes}
+use Rattle.sporc_epoch.specs.Sealing.{body_sealed}
+use Rattle.sporc_epoch.specs.Streams.{entry_stream, previous_stream}
+use Rattle.sporc_head.specs.History.{changes, epoch_of, hash_of}
+use Rattle.sporc_line.specs.Keys.{key_after}
+use Rattle.sporc_client.specs.PlainClient.{Opening, PlainClient, committed_of}
+use Rattle.sporc_client.proofs.Reached.{reached_at}
+use Rattle.sporc_client.proofs.SoundRuns.{sound_and_typed_at}
+use Rattle.sporc_script.specs.Signs.{ForgeryInRange, SignedInRange, WhatInRange}
+use Rattle.sporc_script.specs.Spelling.{IsMember}
+use Rattle.sporc_script.specs.declared.command.Command.TheVariants as commands
+use Rattle.sporc_script.specs.declared.play_line.PlayLine.{PlayLine}
+use Rattle.sporc_script.specs.declared.sign.Forgery.{Forgery}
+use Rattle.sporc_script.specs.declared.sign.Suffix.{Suffix}
+use Rattle.sporc_script.specs.declared.sign.Suffix.TheVariants as suffixes
+use Rattle.sporc_script.specs.declared.sign.What.{What}
+use Rattle.sporc_script.specs.declared.sign.What.TheVariants as whats
+use Rattle.sporc_play.specs.Cast.{member_change, setup_of}
+use Rattle.sporc_play.specs.Derived.{random_of}
+use Rattle.sporc_play.specs.Forged.{first_flipped, forged_body, forged_change, forged_entry, forged_header, forged_sealing, key_there, kind_of, masked, signature_by, signed_by, spoiled, unsigned_by, value_at, wrap_flipped}
+use Rattle.sporc_play.specs.Scene.{Scene, leaf_after, signs_by}
+use Rattle.sporc_play.proofs.Acts.{byte_change, client_at, no_act, open_acts}
+use Rattle.sporc_play.proofs.ByteClients.{AreByteKeys}
+use Rattle.sporc_play.proofs.ByteFacts.{AreBytes, are_bytes, bytes_drop, bytes_mask, bytes_sha, bytes_take, bytes_zeros}
+use Rattle.sporc_play.proofs.HistoryKeys.{epoch_bytes}
+use Rattle.sporc_play.proofs.MadeBytes.{IsByteBodyOf, bytes_body, hash_are, sealed_are}
+use Rattle.sporc_play.proofs.Runs.{HasCome, MayAct, MayBe}
+use Rattle.sporc_play.proofs.SignedBytes.{IsByteHeader, bytes_entry, bytes_signature}
+use Rattle.sporc_play.proofs.SubmitActs.{document_are, random_are}
+use Rattle.sporc_play.proofs.TextBytes.{delta_are}
+
+-- ---- the header
+
+there_are : (c : PlainClient) → AreByteKeys c.opening.kit.ring → AllByRecursion IsBytes c.entries → AreBytes (key_there c)
+there_are c ring all = go (key_after c.opening.genesis c.opening.kit (changes c.entries) (epoch_of c.entries)) (epoch_bytes c ring all)
+  where
+    go : (o : Option (List ℕ)) → IfSome o AreBytes → AreBytes (unwrap_or o (replicate 32 0))
+    go None is = bytes_zeros 32
+    go (Some key) is = is
+
+value_are : (c : PlainClient) (base : ℕ) → AreBytes (value_at c base)
+value_are c base = go (nat_le base (length c.entries))
+  where
+    go : (b : Bool) → AreBytes (cond b (hash_of c.opening.genesis (take base c.entries)) (replicate 32 0))
+    go true = hash_are (genesis_bytes c.opening.genesis) (take base c.entries)
+    go false = bytes_zeros 32
+
+kind_fits : (what : What) → kind_of what < 256
+kind_fits (whats.Change change) = omega arith
+kind_fits (whats.Insert e) = omega arith
+kind_fits (whats.Raw payload) = omega arith
+
+header_are : (c : PlainClient) (f : Forgery) (leaf : ℕ) → AreBytes c.opening.genesis.document → IsByteHeader (forged_header c f leaf)
+header_are c f leaf document = record { document = document; base_hash = value_are c _; kind = kind_fits f.signed.what }
+
+-- ---- the body
+
+flip_are : (bytes : List ℕ) → AreBytes bytes → AreBytes (first_flipped bytes)
+flip_are [] all = tt
+flip_are (b ∷ bytes) all = (xor_of_8 b 1 all.0 (omega arith), all.1)
+
+abbrev AreSealed : List Wrap → Type 0
+AreSealed wraps = AllByRecursion (λ w. AreBytes w.sealed) wraps
+
+wraps_flipped : (member : ℕ) (wraps : List Wrap) → AreSealed wraps → AreSealed (map (wrap_flipped member) wraps)
+wraps_flipped member [] all = tt
+wraps_flipped member (w ∷ ws) all = (go (w.member == member), wraps_flipped member ws all.1)
+  where
+    go : (b : Bool) → AreBytes (cond b (record { member = w.member; sealed = first_flipped w.sealed }) w).sealed
+    go true = flip_are w.sealed all.0
+    go false = all.0
+
+wraps_dropped : (keep : Wrap → Bool) (wraps : List Wrap) → AreSealed wraps → AreSealed (filter keep wraps)
+wraps_dropped keep [] all = tt
+wraps_dropped keep (w ∷ ws) all = go (keep w) (wraps_dropped keep ws all.1)
+  where
+    go : (b : Bool) → AreSealed (filter keep ws) → AreSealed (cond b (w ∷ filter keep ws) (filter keep ws))
+    go true rest = (all.0, rest)
+    go false rest = rest
+
+spoiled_are : (suffix : Option Suffix) (body : ChangeBody) → IsByteBodyOf body → IsByteBodyOf (spoiled suffix body)
+spoiled_are (Some (suffixes.Wrap member)) body is = record { change = is.change; commitment = is.commitment; previous = is.previous; wraps = wraps_flipped member body.wraps is.wraps }
+spoiled_are (Some (suffixes.Drop member)) body is =
+    record { change = is.change; commitment = is.commitment; previous = is.previous; wraps = wraps_dropped (λ (w : Wrap). not (w.member == member)) body.wraps is.wraps }
+spoiled_are (Some suffixes.Commit) body is = record { change = is.change; commitment = flip_are body.commitment is.commitment; previous = is.previous; wraps = is.wraps }
+spoiled_are (Some suffixes.Previous) body is = record { change = is.change; commitment = is.commitment; previous = flip_are body.previous is.previous; wraps = is.wraps }
+spoiled_are suffix body is = is
+
+body_are : (script : List PlayLine) (c : PlainClient) (f : Forgery) (leaf : ℕ) (new : List ℕ) (what : What) → WhatInRange what → AreBytes new → AreBytes (key_there c)
+    → AreBytes (forged_body (setup_of script) c f.signed.suffix (forged_header c f leaf) new what)
+unfolding body_sealed
+body_are script c f leaf new (whats.Insert e) fits are old =
+    let h = forged_header c f leaf in
+    let len = length (committed_of c) in
+    bytes_mask (key_there c) (entry_stream h.author h.leaf) (delta_bytes (insertion len (min e.at len) e.text)) (delta_are (insertion len (min e.at len) e.text) (ap all_scalars (inserted-insertion len (min e.at len) e.text) ∙ fits.1))
+body_are script c f leaf new (whats.Raw payload) fits are old =
+    let h = forged_header c f leaf in
+    bytes_mask (key_there c) (entry_stream h.author h.leaf) payload (are_bytes payload fits.0)
+body_are script c f leaf new (whats.Change change) fits are old =
+    let s = setup_of script in
+    let h = forged_header c f leaf in
+    let sealing = forged_sealing c h (member_change s change) new in
+    let body = forged_change c h (member_change s change) new in
+    bytes_body (spoiled f.signed.suffix body) (spoiled_are f.signed.suffix body (record {
+      change = byte_change script change;
+      commitment = bytes_sha _;
+      previous = bytes_mask new (previous_stream (sealing.epoch + 1)) (key_there c) old;
+      wraps = sealed_are (entry_stream sealing.author sealing.leaf) new _ sealing.members are;
+    }))
+
+-- ---- the entry
+
+pub forged_are : (script : List PlayLine) (c : PlainClient) (f : Forgery) (random : List ℕ) (leaf : ℕ) → WhatInRange f.signed.what → AreBytes random → AreBytes c.opening.genesis.document → AreBytes (key_there c)
+    → AreBytes (signed_by (setup_of script) c f random leaf)
+unfolding signed_by
+forged_are script c f random leaf fits are document old =
+    let s = setup_of script in
+    let e = unsigned_by s c f random leaf in
+    bytes_entry (record e { signature = signature_by s c f random leaf }) (header_are c f leaf document)
+    (body_are script c f leaf (drop 32 random) f.signed.what fits (bytes_drop 32 random are) old)
+    (bytes_signature (s.private f.member) leaf (take 32 random) (signed_string e) (bytes_take 32 random are))
+
+last_of : (A B C : Type 0) → A × B × C → C
+last_of A B C p = p.2
+
+what_fits : (f : Forgery) → ForgeryInRange f → WhatInRange f.signed.what
+what_fits f fits = let signed : SignedInRange f.signed = last_of (IsMember f.member) (IsMember f.from) (SignedInRange f.signed) fits in signed.0
+
+pub sign_acts : (script : List PlayLine) (f : Forgery) → ForgeryInRange f → MayBe (setup_of script) (λ scene. commands.Sign f)
+unfolding forged_entry
+sign_acts script f fits moves scene come =
+    open_acts (setup_of script) scene f.from (λ c. signs_by (forged_entry (setup_of script) c f (scene.asked f.member + 1) (leaf_after ((setup_of script).private f.member) (scene.leaves f.member))))
+    (λ c at. go c at (leaf_after ((setup_of script).private f.member) (scene.leaves f.member)))
+  where
+    go : (c : PlainClient) → scene.world.clients f.from ≡ Some c → (leaf : Result ℕ LeafFault) → MayAct (setup_of script) scene (signs_by (forged_entry (setup_of script) c f (scene.asked f.member + 1) leaf))
+    go c at (Err fault) = no_act (setup_of script) scene
+    go c at (Ok leaf) =
+        let s = setup_of script in
+        let t = scene.asked f.member + 1 in
+        let there = client_at s moves scene f.from c come at in
+        let known = sound_and_typed_at s moves (length moves) f.from c come.run there in
+        let reached = reached_at s moves (length moves) f.from c come.run.run there in
+        let document : AreBytes c.opening.genesis.document = subst (λ (o : Opening). AreBytes o.genesis.document) (sym reached.opening) (document_are script) in
+        let all : AreBytes (signed_by s c f (random_of f.member t) leaf) =
+        forged_are script c f (random_of f.member t) leaf (what_fits f fits) (random_are f.member t) document (there_are c (come.clients f.from c at).ring known.bytes) in
+        record { run = tt; typed = tt; bytes = tt; entries = (all, tt) }

@@ -1,0 +1,9 @@
+use Rattle.std.proofs.Common.{codes}
+use Rattle.std.specs.Fmt.{decimal}
+use Rattle.sporc_play.specs.Names.{submit_fault_name}
+use Rattle.sporc_play.proofs.Told.{told_in_parts}
+use Rattle.sporc_play.proofs.acting.push_unsubmitted.Goals as goal
+
+pub returns-clause-line : goal.returns-clause-line
+returns-clause-line c =
+    told_in_parts c.push_str.result _ _ _ _ (decimal c.args.member) (codes " submit refused ") (submit_fault_name c.args.fault) (codes "\n") c.in_ok-write.ensures.bytes c.in_ok-push_submit_fault.ensures.name c.push_str.ensures.bytes

@@ -1,0 +1,9 @@
+use Rattle.std.proofs.Common.{◌≡◌, ℕ, Option, None, sym, ap, ◌∙◌}
+use Rattle.sporc_client.specs.ClientModel.{state_of}
+use Rattle.sporc_play.specs.Scene.{seen_by}
+use Rattle.sporc_play.proofs.ShownForms.{journal_count}
+use Rattle.sporc_play.proofs.acting.seen_by.Goals as goal
+
+pub returns-in-None : goal.returns-in-None
+returns-in-None c =
+    rw c.in-None.is (journal_count c.args.client.now.opening c.args.client.now.log c.journal.result.now c.journal.ensures.value)

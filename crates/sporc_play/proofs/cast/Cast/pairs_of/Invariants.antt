@@ -1,0 +1,8 @@
+use Rattle.std.proofs.Common.{◌≡◌, fold, map, take}
+use Rattle.std.specs.FinMap.{empty}
+use Rattle.sporc_epoch.specs.Keys.{pairs_in}
+use Rattle.sporc_play.specs.Stage.{pair_among}
+use Rattle.sporc_play.proofs.cast.Cast.pairs_of.Given as goal
+
+abbrev pub invariant-loop-other : goal.invariant-loop-other
+invariant-loop-other l = pairs_in l.pairs ≡ fold (pair_among l.self l.member) empty (map (λ d. d.member) (take l.other-index l.self.declared.items))

@@ -1,0 +1,6 @@
+use Rattle.std.proofs.Common.{◌≡◌, map, take}
+use Rattle.sporc_play.specs.Forged.{wrap_flipped}
+use Rattle.sporc_play.proofs.forging.flipped_wraps.Given as goal
+
+abbrev pub invariant-loop-wrap : goal.invariant-loop-wrap
+invariant-loop-wrap l = l.kept.items ≡ map (wrap_flipped l.member) (take l.wrap-index l.wraps)

@@ -1,0 +1,54 @@
+use Rattle.std.proofs.Common.{◌≡◌, ◌≤◌, ℕ, List, Err, ap, sym, subst, ◌∙◌, length, arith}
+use Rattle.sporc_member.specs.declared.limits.TheConstants.{MAX_MEMBERS}
+use Rattle.sporc_entry.specs.declared.change.ChangeBody.{ChangeBody}
+use Rattle.sporc_entry.specs.declared.genesis.Genesis.{Genesis}
+use Rattle.sporc_epoch.specs.declared.fault.SealFault.{SealFault}
+use Rattle.sporc_epoch.specs.declared.fault.SealFault.TheVariants.{Memory, NoPairKey}
+use Rattle.sporc_head.specs.History.{epoch_of, roster_of}
+use Rattle.sporc_head.proofs.Grows.{epoch_le}
+use Rattle.sporc_client.specs.ClientModel.{state_of}
+use Rattle.sporc_client.specs.PlainClient.{Opening}
+use Rattle.sporc_client.proofs.Calls.{replay_opening}
+use Rattle.sporc_play.specs.Forged.{IsSmallBody, derived_pairs, sealed_for}
+use Rattle.sporc_play.proofs.Forgeries.{forged_paired, forged_same, forged_small}
+use Rattle.sporc_play.proofs.forging.sealed.Goals as goal
+
+pub seal_change-requires : goal.seal_change-requires
+seal_change-requires c =
+    let e = c.heads-heads.ensures in
+    record { epoch = omega (arith, c.epoch.ensures, epoch_le c.heads-heads.result.now.entries, c.len-count.ensures.value, c.len-count.ensures.within) }
+
+apart : (fault : SealFault) (member : ℕ) → fault ≡ NoPairKey member → fault ≡ Memory → ⊥
+apart fault member is memory = absurd cc
+
+pub unreachable-requires : goal.unreachable-requires
+unreachable-requires c =
+    let fault = c.in-Err-NoPairKey.field-0 in
+    forged_paired _ _ c.args.header.now.author c.in-Err-NoPairKey.field-0-0
+    (c.in_ok-pairs.ensures ∙ ap (derived_pairs c.args.header.now.author) (c.as_slice.ensures.value ∙ sym c.as_slice-2.ensures.value))
+    (c.in-Err-NoPairKey.ensures.value (λ memory. apart fault c.in-Err-NoPairKey.field-0-0 c.in-Err-NoPairKey.field-0-is memory) ∙ ap Err c.in-Err-NoPairKey.field-0-is)
+
+pub returns-in-Ok-clause-value : goal.returns-in-Ok-clause-value
+returns-in-Ok-clause-value c =
+    let client = c.args.client.now in
+    let e = c.heads-heads.ensures in
+    let opening = sym (replay_opening client.opening client.log) in
+    let members = c.in_ok-members.ensures.value ∙ ap (λ (o : Opening). sealed_for (roster_of o.genesis (state_of client).entries) c.args.change.now) opening in
+    forged_same (state_of client) c.args.header.now c.args.change.now c.as_slice-2.result.now _ _ _ _ _ c.in-Ok.body
+    (c.as_slice-2.ensures.value ∙ members)
+    (ap (λ (g : Genesis). g.document) (c.genesis.ensures.value ∙ e.genesis) ∙ ap (λ (o : Opening). o.genesis.document) opening)
+    (c.epoch.ensures ∙ ap epoch_of e.entries)
+    c.requires.old
+    (c.in_ok-pairs.ensures ∙ ap (derived_pairs c.args.header.now.author) (c.as_slice.ensures.value ∙ sym c.as_slice-2.ensures.value))
+    c.in-Ok.ensures.value
+
+pub returns-in-Ok-clause-small : goal.returns-in-Ok-clause-small
+returns-in-Ok-clause-small c =
+    let client = c.args.client.now in
+    let change = c.args.change.now in
+    let AreFew : List ℕ → Type 0 = λ members. length members ≤ MAX_MEMBERS in
+    let opening = sym (replay_opening client.opening client.log) in
+    let members = c.in_ok-members.ensures.value ∙ ap (λ (o : Opening). sealed_for (roster_of o.genesis (state_of client).entries) change) opening in
+    subst IsSmallBody (sym (returns-in-Ok-clause-value c))
+    (forged_small (state_of client) c.args.header.now change c.args.new_key.now c.requires.small (ap length (sym c.requires.old) ∙ c.told-old_key) c.told-new_key
+    (subst AreFew members c.in_ok-members.ensures.few))

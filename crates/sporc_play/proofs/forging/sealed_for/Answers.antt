@@ -1,0 +1,37 @@
+use Rattle.std.proofs.Common.{◌≡◌, ◌≤◌, List, ℕ, length, ap, sym, subst, ◌∙◌}
+use Rattle.sporc_member.specs.declared.limits.TheConstants.{MAX_MEMBERS}
+use Rattle.sporc_entry.specs.declared.genesis.Genesis.{Genesis}
+use Rattle.sporc_entry.specs.Genesis.{IsGenesis}
+use Rattle.sporc_head.specs.History.{roster_of}
+use Rattle.sporc_line.specs.Good.{Good}
+use Rattle.sporc_client.specs.ClientModel.{state_of}
+use Rattle.sporc_client.specs.PlainClient.{Opening}
+use Rattle.sporc_client.proofs.Calls.{replay_opening}
+use Rattle.sporc_play.specs.Forged.{sealed_for}
+use Rattle.sporc_play.proofs.Forgeries.{accepted_members, few_sealed, refused_members}
+use Rattle.sporc_play.proofs.Results.{if_ok}
+use Rattle.sporc_play.proofs.forging.sealed_for.Goals as goal
+
+pub returns-in-Ok-clause-few : goal.returns-in-Ok-clause-few
+returns-in-Ok-clause-few c =
+    let client = c.args.client.now in
+    let entries = (state_of client).entries in
+    let is : IsGenesis client.opening.genesis = subst IsGenesis (c.genesis-genesis.ensures.value ∙ c.heads.ensures.genesis) c.genesis-genesis.ensures.is_genesis in
+    let IsGood : Opening → Type 0 = λ o. Good o.genesis o.kit entries in
+    let good = subst IsGood (replay_opening client.opening client.log) c.journal-events.ensures.sound.good in
+    let few = few_sealed client.opening.genesis client.opening.kit entries c.args.change.now is good in
+    let members = accepted_members c.roster-roster.result.now.roster (roster_of client.opening.genesis entries) c.args.change.now c.roster-roster.ensures.value c.in-Ok.ensures in
+    let AreFew : List ℕ → Type 0 = λ numbers. length numbers ≤ MAX_MEMBERS in
+    if_ok c.members_after.result _ _ (λ v e. subst AreFew (sym (e ∙ members)) few) c.members_after.ensures
+
+pub returns-in-Err-clause-few : goal.returns-in-Err-clause-few
+returns-in-Err-clause-few c =
+    let client = c.args.client.now in
+    let entries = (state_of client).entries in
+    let is : IsGenesis client.opening.genesis = subst IsGenesis (c.genesis-genesis.ensures.value ∙ c.heads.ensures.genesis) c.genesis-genesis.ensures.is_genesis in
+    let IsGood : Opening → Type 0 = λ o. Good o.genesis o.kit entries in
+    let good = subst IsGood (replay_opening client.opening client.log) c.journal-events.ensures.sound.good in
+    let few = few_sealed client.opening.genesis client.opening.kit entries c.args.change.now is good in
+    let members = refused_members c.roster-roster.result.now.roster (roster_of client.opening.genesis entries) c.args.change.now _ c.roster-roster.ensures.value c.in-Err.ensures in
+    let AreFew : List ℕ → Type 0 = λ numbers. length numbers ≤ MAX_MEMBERS in
+    if_ok c.from_slice.result _ _ (λ v e. subst AreFew (sym (e ∙ c.members.ensures.value ∙ members)) few) c.from_slice.ensures.items

@@ -1,0 +1,15 @@
+use Rattle.std.proofs.Common.{List, ℕ, ap, ◌∙◌}
+use Rattle.sporc_client.specs.ClientModel.{state_of}
+use Rattle.sporc_play.specs.Forged.{forged_body}
+use Rattle.sporc_play.proofs.Forgeries.{unsigned_same}
+use Rattle.sporc_play.proofs.forging.unsigned_by.Goals as goal
+
+pub returns-clause-entry : goal.returns-clause-entry
+returns-clause-entry c = λ s is.
+    let client = state_of c.args.client.now in
+    let f = c.args.forgery.now in
+    unsigned_same s client f c.args.random.now c.args.leaf c.forged_header-header.result c.new.result c.new-3.result
+    c.forged_header-header.ensures
+    (c.new.ensures.value ∙ c.in_ok-body.ensures.value s is
+    ∙ ap (λ (key : List ℕ). forged_body s client f.signed.suffix c.forged_header-header.result key f.signed.what) c.second_half-new_key.ensures)
+    (c.new-3.ensures.value ∙ c.new-2.ensures.items)

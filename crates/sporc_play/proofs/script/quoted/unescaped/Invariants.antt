@@ -1,7 +1,0 @@
-use Rattle.std.proofs.Common.{◌≡◌, ◌++◌, false, drop, option_map}
-use Rattle.sporc_play.specs.Unescape.{unescape}
-use Rattle.sporc_play.proofs.script.quoted.unescaped.Given as goal
-
-abbrev pub invariant-loop-b : goal.invariant-loop-b
-invariant-loop-b l =
-    unescape false l.body ≡ option_map (λ t. l.text.items ++ t) (unescape l.escaped (drop l.b-index l.body))

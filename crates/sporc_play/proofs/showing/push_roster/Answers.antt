@@ -1,0 +1,18 @@
+use Rattle.std.proofs.Common.{ℕ, List, ◌++◌, flat_map, string_bytes, subst, ap, ◌∙◌}
+use Rattle.std.specs.List.Sorted.{IsStrictlyIncreasing}
+use Rattle.std.proofs.lemmas.List.{take_all}
+use Rattle.sporc_member.specs.Roster.{Roster, member_at}
+use Rattle.sporc_play.specs.Report.{member_text, text_of_member}
+use Rattle.sporc_play.proofs.Rosters.{numbered_texts}
+use Rattle.sporc_play.proofs.showing.push_roster.Goals as goal
+
+pub returns : goal.returns
+returns c =
+    let roster = c.roster-roster.result.now.roster in
+    let numbers = c.members-number-items.ensures in
+    let out = string_bytes c.args.out.now in
+    let text = λ (number : ℕ). text_of_member (member_at roster number) in
+    c.loop-number.invariant
+    ∙ ap (λ (ns : List ℕ). out ++ flat_map text ns) (take_all c.loop-number.number-index c.members-number-items.result.now c.loop-number-test.false ∙ numbers.value)
+    ∙ ap (λ (t : List ℕ). out ++ t) (numbered_texts roster.members (subst IsStrictlyIncreasing numbers.value numbers.ascending))
+    ∙ ap (λ (r : Roster). out ++ flat_map member_text r.members) c.roster-roster.ensures.value

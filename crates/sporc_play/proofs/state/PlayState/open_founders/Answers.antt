@@ -1,0 +1,17 @@
+use Rattle.std.proofs.Common.{ℕ, List, sym, subst}
+use Rattle.std.specs.Prelude.{Contains}
+use Rattle.sporc_entry.specs.declared.genesis.Genesis.{Genesis}
+use Rattle.sporc_entry.specs.Genesis.{IsGenesis}
+use Rattle.sporc_play.proofs.Openings.{opener_among}
+use Rattle.sporc_play.proofs.state.PlayState.open_founders.Goals as goal
+
+pub open_by-requires-clause-seated : goal.open_by-requires-clause-seated
+open_by-requires-clause-seated c m is =
+    subst (λ (ns : List ℕ). Contains ns m.member) (sym c.loop-line.invariant.stands.seated)
+    (opener_among c.args.lines.now c.loop-line.line-index c.line-item.result m c.loop-line-test.true c.line-item.is is)
+
+pub loop-line-preserved : goal.loop-line-preserved
+loop-line-preserved c = record {
+  genesis = subst (λ (g : Genesis). IsGenesis g) (sym c.open_by.ensures.genesis) c.loop-line.invariant.genesis;
+  stands = c.in_ok-open_by.ensures.stands c.args.lines.now c.loop-line.line-index c.loop-line-test.true c.line-item.is c.loop-line.invariant.stands;
+}

@@ -1,0 +1,11 @@
+use Rattle.sporc_entry.specs.Genesis.{IsGenesis}
+use Rattle.sporc_play.specs.Scene.{scene_opened}
+use Rattle.sporc_play.specs.Stage.{StandsFor}
+use Rattle.sporc_play.proofs.state.PlayState.open_founders.Given as goal
+
+abbrev pub invariant-loop-line : goal.invariant-loop-line
+invariant-loop-line l = record {
+  genesis : IsGenesis l.self.genesis;
+  -- the founders of the lines so far have their clients
+  stands : StandsFor l.lines (scene_opened l.lines l.line-index) l.self;
+}

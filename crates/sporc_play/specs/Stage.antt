@@ -1,0 +1,144 @@
+-- How the state that the code keeps stands for a scene.
+use Rattle.std.specs.Prelude.{◌≡◌, ℕ, ◌+◌, ◌≤◌, ◌<◌, ◌^◌, true, List, ◌++◌, filter_map, fold, map, Option, None, Some, Contains, IfSome, IsSome, ⊤, if◌then◌else◌}
+use Rattle.std.specs.FinMap.{empty, insert}
+use Rattle.std.specs.List.{All, AllByRecursion, list_any}
+use Rattle.lms_sign.specs.Signer.{SignerContent}
+use Rattle.sporc_entry.specs.Genesis.{IsGenesis}
+use Rattle.sporc_epoch.specs.Keys.{Keys}
+use Rattle.sporc_client.specs.ClientModel.{ClientModel}
+use Rattle.sporc_client.specs.Run.{Setup, key_of_member, opening_of}
+use Rattle.sporc_script.specs.declared.command.Command.{Command}
+use Rattle.sporc_script.specs.declared.command.Command.TheVariants as commands
+use Rattle.sporc_script.specs.declared.play_line.PlayLine.{PlayLine}
+use Rattle.sporc_play.specs.declared.cast.Cast.{Cast}
+use Rattle.sporc_play.specs.declared.seat.Rogue.{Rogue}
+use Rattle.sporc_play.specs.declared.seat.Seat.{Seat}
+use Rattle.sporc_play.specs.declared.state.PlayState.{PlayState}
+use Rattle.sporc_play.specs.declared.playing.TheConstants.{MAX_SCRIPT}
+use Rattle.sporc_play.specs.Apart.{AreApart}
+use Rattle.sporc_play.specs.Cast.{has_admin, is_pair, private_of, rogues_of, setup_of}
+use Rattle.sporc_play.specs.Derived.{pair_key}
+use Rattle.sporc_play.specs.Lines.{AppendsLine}
+use Rattle.sporc_play.specs.Scene.{Scene, after, text_size}
+pub use Rattle.sporc_play.specs.Seats.{AreDrawn}
+use Rattle.sporc_play.specs.Seats.{IsReady, plain_in, rogue_numbers, seated}
+
+-- ---- who takes part
+
+-- the keys that a member shares with those who are declared, but for the pairs that have none
+abbrev pub pair_among : Cast → ℕ → Keys → ℕ → Keys
+pair_among cast member keys other = if list_any (is_pair member other) cast.unpaired.items then keys else insert keys other (pair_key member other)
+
+abbrev pub pairs_among : Cast → ℕ → Keys
+pairs_among cast member = fold (pair_among cast member) empty (map (λ d. d.member) cast.declared.items)
+
+-- who takes part, as the code keeps it: the keys of those who are declared, and what each shares with the others
+pub record IsCastOf (s : Setup) (cast : Cast) : Type 0 where
+  pub keys : All (λ d. d.key ≡ key_of_member s d.member) cast.declared.items
+  pub founders : cast.founders.items ≡ s.genesis.founders
+  pub trees : (member : ℕ) → s.private member ≡ private_of cast.tree member
+  pub pairs : (member : ℕ) → pairs_among cast member ≡ s.pairs member
+
+-- what the grammar says of the declarations: no two numbers are one, and the founders can begin a document if one is an admin
+pub record AreDeclared (script : List PlayLine) : Type 0 where
+  pub apart : AreApart ((setup_of script).members ++ rogues_of script)
+  pub genesis : has_admin script ≡ true → IsGenesis (setup_of script).genesis
+
+-- ---- seats
+
+-- a client is that of a member in a scene
+pub record IsClientOf {D : Type 0} (s : Setup) (scene : Scene) (member : ℕ) (c : ClientModel D) : Type 0 where
+  pub ring : Keys
+  pub opening : c.opening ≡ opening_of s member ring
+  pub log : scene.logs member ≡ c.log
+  pub ready : IsReady (s.private member) (scene.leaves member) c
+
+-- a signer is that of a member
+pub record IsSignerOf {D : Type 0} (s : Setup) (scene : Scene) (member : ℕ) (signer : SignerContent D) : Type 0 where
+  pub key : signer.key ≡ s.private member
+  pub leaves : AreDrawn (s.private member) (scene.leaves member) signer.leaves
+
+-- a signer until the client opens, and the client from then on
+abbrev pub Holds : {D : Type 0} → Setup → Scene → ℕ → Option (SignerContent D) → Option (ClientModel D) → Type 0
+Holds s scene member signer (Some c) = IsClientOf s scene member c
+Holds s scene member (Some signer) None = IsSignerOf s scene member signer
+Holds s scene member None None = ⊥
+
+pub record IsSeatOf (s : Setup) (scene : Scene) (seat : Seat) : Type 0 where
+  pub asked : seat.asked ≡ scene.asked seat.member
+  pub last : seat.last ≡ scene.last seat.member
+  pub client : scene.world.clients seat.member ≡ plain_in seat
+  pub holds : Holds s scene seat.member seat.signer seat.client
+
+pub record IsRogueOf (s : Setup) (scene : Scene) (rogue : Rogue) : Type 0 where
+  pub asked : rogue.asked ≡ scene.asked rogue.member
+  pub signer : IsSignerOf s scene rogue.member rogue.signer
+
+-- ---- the state
+
+-- a state stands for a scene of the members that a script declares
+pub record StandsFor (script : List PlayLine) (scene : Scene) (state : PlayState) : Type 0 where
+  pub genesis : state.genesis ≡ (setup_of script).genesis
+  pub cast : IsCastOf (setup_of script) state.cast
+  pub seats : AllByRecursion (IsSeatOf (setup_of script) scene) state.seats.items
+  pub rogues : AllByRecursion (IsRogueOf (setup_of script) scene) state.rogues.items
+  pub seated : seated state.seats.items ≡ (setup_of script).members
+  pub rogue_numbers : rogue_numbers state.rogues.items ≡ rogues_of script
+  pub declared : AreDeclared script
+  pub made : map (λ bytes. bytes.items) state.made.items ≡ scene.made
+
+-- all but the entries that were made is as it was
+pub record HasSameMembers (old new : PlayState) : Type 0 where
+  pub genesis : new.genesis ≡ old.genesis
+  pub cast : new.cast ≡ old.cast
+  pub seats : new.seats.items ≡ old.seats.items
+  pub rogues : new.rogues.items ≡ old.rogues.items
+
+-- ---- commands
+
+-- those whom a command names take part
+abbrev pub AreNamed : PlayState → Command → Type 0
+AreNamed state (commands.Edit e) = Contains (seated state.seats.items) e.member
+AreNamed state (commands.Change e) = Contains (seated state.seats.items) e.member
+AreNamed state (commands.Discard m) = Contains (seated state.seats.items) m
+AreNamed state (commands.Submit m) = Contains (seated state.seats.items) m
+AreNamed state (commands.Give g) = Contains (seated state.seats.items) g.member
+AreNamed state (commands.Restart r) = Contains (seated state.seats.items) r.member
+AreNamed state (commands.Join j) = Contains (seated state.seats.items) j.member × IsGenesis state.genesis
+AreNamed state (commands.Show m) = Contains (seated state.seats.items) m
+AreNamed state (commands.Members m) = Contains (seated state.seats.items) m
+AreNamed state (commands.Hash m) = Contains (seated state.seats.items) m
+AreNamed state (commands.Journal m) = Contains (seated state.seats.items) m
+AreNamed state (commands.Compare p) = Contains (seated state.seats.items) p.first × Contains (seated state.seats.items) p.second
+AreNamed state (commands.Sign f) = Contains (rogue_numbers state.rogues.items) f.member × Contains (seated state.seats.items) f.from
+AreNamed state command = ⊤
+
+-- a seat is ready for any call: its count has room, and its client can sign, or else its signer may open one
+pub record IsReadySeat (seat : Seat) : Type 0 where
+  pub asked : seat.asked + 1 < 2 ^ 32
+  pub signer : seat.client ≡ None → IsSome seat.signer
+  pub ready : IfSome seat.client (λ c. IsReady c.opening.key c.leaves.next c)
+
+pub record IsReadyRogue (rogue : Rogue) : Type 0 where
+  pub asked : rogue.asked + 1 < 2 ^ 32
+  pub leaves : AreDrawn rogue.signer.key rogue.signer.leaves.next rogue.signer.leaves
+
+-- all clients are of the document that the state was begun with
+abbrev pub AreOfOneDocument : PlayState → Type 0
+AreOfOneDocument state = AllByRecursion (λ seat. IfSome seat.client (λ c. c.opening.genesis ≡ state.genesis)) state.seats.items
+
+-- a state can perform a command
+pub record CanPerform (state : PlayState) (command : Command) : Type 0 where
+  pub named : AreNamed state command
+  pub seats : AllByRecursion IsReadySeat state.seats.items
+  pub rogues : AllByRecursion IsReadyRogue state.rogues.items
+  pub one_document : AreOfOneDocument state
+  pub short : text_size command ≤ MAX_SCRIPT
+
+-- whatever scene a state stands for, this one stands for the scene after a command
+abbrev pub Becomes : PlayState → Command → PlayState → Type 0
+Becomes old command new = (script : List PlayLine) (scene : Scene) → StandsFor script scene old → StandsFor script (after (setup_of script) scene command) new
+
+-- whatever scene a state stands for, the line of a command in it follows the bytes
+abbrev pub Tells : PlayState → Command → List ℕ → List ℕ → Type 0
+Tells state command old new = (script : List PlayLine) (scene : Scene) → StandsFor script scene state → AppendsLine (setup_of script) scene command old new

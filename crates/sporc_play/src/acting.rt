@@ -1,0 +1,363 @@
+//! Commands that act on the client of a member, and the lines that tell their answers.
+
+ghost use Rattle.std.specs.Prelude.{◌≡◌, ◌≢◌, ℕ, ◌+◌, ◌<◌, ◌≤◌, ◌^◌, ◌++◌, length, take, Some, Ok, Err, Option, OnOk, OnErr, IfOk, IfErr, IfSome, option_map, string_bytes};
+ghost use Rattle.std.specs.Option.{option_copied, option_to_list};
+ghost use Rattle.std.specs.Result.{result_ok};
+ghost use Rattle.sporc_base.specs.FirstFault.{AnswersUnless};
+ghost use Rattle.sporc_client.specs.Answers.{change_fault, discard_fault, restart_fault};
+ghost use Rattle.sporc_client.specs.ClientModel.{state_of};
+ghost use Rattle.sporc_client.specs.PlainClient.{shown_after};
+ghost use Rattle.sporc_client.specs.Step.{log_of_entries};
+ghost use Rattle.sporc_client.specs.Submissions.{submission};
+ghost use Rattle.sporc_play.specs.Logs.{change_events, discard_events, edit_logged, given_by, given_events};
+ghost use Rattle.sporc_play.specs.Report.{change_line, discard_line, edit_line, edited_line, event_line, give_line, line_by, not_open_line, restart_line, submit_line};
+ghost use Rattle.sporc_play.specs.Seats.{HasSubmitted, IsReady, IsSubmitted, client_logged, plain_in, seat_logged, seat_restarted, submission_line};
+ghost use Rattle.sporc_play.specs.Scene.{delta_by, edit_events, edit_size, entries_in, leaf_next, marks_of, seen_by};
+
+use crate::derived::random_of;
+use crate::names::{push_accept_fault, push_edit_fault, push_submit_fault};
+use crate::seat::{PlayClient, Seat};
+use sporc_base::Memory;
+use sporc_client::{EditFault, RestartFault, SubmitFault, Submitted};
+use sporc_delta::Delta;
+use sporc_member::{Change, ChangeFault};
+use sporc_script::{Edit, Give, Restart, TextEdit};
+use std::alloc::{AllocError, Global};
+use std::fmt::Write;
+
+/// Appends that a member has no client.
+pub fn push_not_open(out: &mut String, member: u16) -> Result<(), Memory>
+    ensures { OnOk result (string_bytes out.new ≡ string_bytes out.old ++ not_open_line member) }
+{
+    writeln!(out, "{member} not open")
+}
+
+// ---- edits
+
+/// Edits what a member sees, or saw after so many events.
+pub fn edit(alloc: Global, seat: &mut Seat, edit: &Edit, out: &mut String) -> Result<(), Memory>
+    requires { edit_size edit.now.change ≤ 2 ^ 40 }
+    ensures line { OnOk result (string_bytes out.new ≡ string_bytes out.old ++ line_by edit.now.member (plain_in seat.old) (edited_line edit.now)) }
+    ensures seat { OnOk result (seat.new ≡ seat_logged (edit_events edit.now) seat.old) }
+{
+    match &mut seat.client {
+        Some(client) => edit_client(alloc, client, edit, out),
+        None => push_not_open(out, edit.member),
+    }
+}
+
+fn edit_client(
+    alloc: Global,
+    client: &mut PlayClient,
+    edit: &Edit,
+    out: &mut String,
+) -> Result<(), Memory>
+    requires { edit_size edit.now.change ≤ 2 ^ 40 }
+    ensures line { OnOk result (string_bytes out.new ≡ string_bytes out.old ++ edited_line edit.now (state_of client.old)) }
+    ensures log { OnOk result (client.new ≡ client_logged (edit_events edit.now) client.old) }
+{
+    let member = edit.member;
+    let seen = seen_by(client, edit.seen);
+    match delta_by(alloc, client, seen, &edit.change)? {
+        Ok(delta) => edit_by(client, member, seen, &delta, out),
+        Err(len) => writeln!(out, "{member} edit outside {len}"),
+    }
+}
+
+// The delta that an edit stands for after so many events, or the length of the text shown then, if the edit lies outside it.
+// One who has seen more events than there are asks for the empty delta.
+fn delta_by(
+    alloc: Global,
+    client: &PlayClient,
+    seen: u64,
+    edit: &TextEdit,
+) -> Result<Result<Delta, u64>, Memory>
+    requires { edit_size edit.now ≤ 2 ^ 40 }
+    ensures value { IfOk result (λ found. result_ok found ≡ delta_by (state_of client.now) seen edit.now) }
+    ensures outside { IfOk result (λ found. IfErr found (λ len. len ≡ length (shown_after seen (state_of client.now)))) }
+{
+    let _journal = client.journal();
+    let Some(len) = client.shown_len_at(seen) else {
+        return Ok(Ok(Delta::keep_all(alloc, 0)?));
+    };
+    match delta_of(alloc, edit, len)? {
+        Some(delta) => Ok(Ok(delta)),
+        None => Ok(Err(len)),
+    }
+}
+
+// How many events an edit has seen: all, unless it says so.
+fn seen_by(client: &PlayClient, seen: Option<u64>) -> u64
+    ensures { result ≡ seen_by (state_of client.now) seen }
+{
+    match seen {
+        Some(seen) => seen,
+        None => client.journal().len() as u64,
+    }
+}
+
+// Edits by a delta.
+fn edit_by(
+    client: &mut PlayClient,
+    member: u16,
+    seen: u64,
+    delta: &Delta,
+    out: &mut String,
+) -> Result<(), Memory>
+    ensures line { OnOk result (string_bytes out.new ≡ string_bytes out.old ++ edit_line member (state_of client.old) seen (Some delta.now)) }
+    ensures log { OnOk result (client.new ≡ client_logged (λ c. edit_logged c seen (Some delta.now)) client.old) }
+{
+    let answer = client.edit(0, seen, delta);
+    push_event(out, member, "edit", answer)
+}
+
+// The delta of an edit of a text of this length; none, if the edit lies outside it.
+fn delta_of(alloc: Global, edit: &TextEdit, len: u64) -> Result<Option<Delta>, Memory>
+    requires small { len ≤ 2 ^ 40 }
+    requires short { edit_size edit.now ≤ 2 ^ 40 }
+    ensures { IfOk result (λ found. found ≡ marks_of edit.now len) }
+{
+    match edit {
+        TextEdit::Insert(e) => {
+            if e.at > len {
+                return Ok(None);
+            }
+            let delta = Delta::insert_at(alloc, len, e.at, e.text.as_str())?;
+            Ok(Some(delta))
+        }
+        TextEdit::Remove(e) => {
+            if e.at > len || e.count > len - e.at {
+                return Ok(None);
+            }
+            let delta = Delta::remove_at(alloc, len, e.at, e.count)?;
+            Ok(Some(delta))
+        }
+    }
+}
+
+// The line of a call that adds an event.
+fn push_event(
+    out: &mut String,
+    member: u16,
+    word: &str,
+    answer: Result<u64, EditFault>,
+) -> Result<(), Memory>
+    ensures line { OnOk result ((events : ℕ) (fault : Option EditFault) → AnswersUnless EditFault.Memory answer fault → IfOk answer (λ n. n ≡ events)
+        → string_bytes out.new ≡ string_bytes out.old ++ event_line member word.now events fault) }
+    ensures named { OnOk result (answer ≢ Err EditFault.Memory) }
+{
+    match answer {
+        Ok(events) => writeln!(out, "{member} {word} event {events}"),
+        Err(fault) => {
+            write!(out, "{member} {word} refused ")?;
+            push_edit_fault(out, fault)?;
+            out.push_str("\n")
+        }
+    }
+}
+
+// ---- changes and discards
+
+/// Asks for a change of the members.
+pub fn change(seat: &mut Seat, member: u16, change: Change, out: &mut String) -> Result<(), Memory>
+    ensures line { OnOk result (string_bytes out.new ≡ string_bytes out.old ++ line_by member (plain_in seat.old) (change_line member)) }
+    ensures seat { OnOk result (seat.new ≡ seat_logged (change_events change) seat.old) }
+{
+    match &mut seat.client {
+        Some(client) => {
+            let answer = client.change(0, change);
+            push_event(out, member, "change", answer)
+        }
+        None => push_not_open(out, member),
+    }
+}
+
+/// Gives up what is pending.
+pub fn discard(seat: &mut Seat, member: u16, out: &mut String) -> Result<(), Memory>
+    ensures line { OnOk result (string_bytes out.new ≡ string_bytes out.old ++ line_by member (plain_in seat.old) (discard_line member)) }
+    ensures seat { OnOk result (seat.new ≡ seat_logged discard_events seat.old) }
+{
+    match &mut seat.client {
+        Some(client) => {
+            let answer = client.discard(0);
+            push_event(out, member, "discard", answer)
+        }
+        None => push_not_open(out, member),
+    }
+}
+
+// ---- submissions
+
+/// Submits the first pending item of a member. The entry that is made gets the number `next`.
+pub fn submit(seat: &mut Seat, next: u64, out: &mut String) -> Result<Option<Vec<u8>>, Memory>
+    requires asked { seat.old.asked + 1 < 2 ^ 32 }
+    requires ready { IfSome seat.old.client (λ c. IsReady c.opening.key c.leaves.next c) }
+    ensures line { OnOk result (string_bytes out.new ≡ string_bytes out.old ++ submission_line next seat.old seat.old.client) }
+    ensures seat { IfOk result (λ made. HasSubmitted next seat.old (option_map (λ v. v.items) made) seat.new) }
+{
+    seat.asked += 1;
+    let random = random_of(seat.member, seat.asked);
+    let member = seat.member;
+    let last = seat.last;
+    let Some(client) = &mut seat.client else {
+        push_not_open(out, member)?;
+        return Ok(None);
+    };
+    match submit_client(client, member, &random, next, last, out)? {
+        Some(entry) => {
+            seat.last = next;
+            Ok(Some(entry))
+        }
+        None => Ok(None),
+    }
+}
+
+// Submits the first pending item of a client; `last` is the number of the entry that it made last.
+fn submit_client(
+    client: &mut PlayClient,
+    member: u16,
+    random: &[u8; 64],
+    next: u64,
+    last: u64,
+    out: &mut String,
+) -> Result<Option<Vec<u8>>, Memory>
+    requires ready { IsReady client.old.opening.key client.old.leaves.next client.old }
+    ensures line { OnOk result (string_bytes out.new ≡ string_bytes out.old ++ submit_line member next last (submission (state_of client.old) random.now (leaf_next client.old))) }
+    ensures made { IfOk result (λ made. option_to_list (option_map (λ v. v.items) made) ≡ entries_in (submission (state_of client.old) random.now (leaf_next client.old))) }
+    ensures client { OnOk result (IsSubmitted client.old (submission (state_of client.old) random.now (leaf_next client.old)) client.new) }
+{
+    let answer = client.submit(0, random);
+    tell_submission(out, member, next, last, answer)
+}
+
+// The line of what a submission answered, and the entry that it hands out.
+fn tell_submission(
+    out: &mut String,
+    member: u16,
+    next: u64,
+    last: u64,
+    answer: Result<Submitted, SubmitFault>,
+) -> Result<Option<Vec<u8>>, Memory>
+    ensures line { OnOk result (string_bytes out.new ≡ string_bytes out.old ++ submit_line member next last answer) }
+    ensures made { IfOk result (λ made. option_to_list (option_map (λ v. v.items) made) ≡ entries_in answer) }
+    ensures named { OnOk result (answer ≢ Err SubmitFault.Memory) }
+    ensures no_disk { OnOk result (answer ≢ Err SubmitFault.LeafFault) }
+{
+    match answer {
+        Ok(Submitted::Entry(entry)) => {
+            writeln!(out, "{member} submit entry {next}")?;
+            Ok(Some(entry.into_vec()))
+        }
+        Ok(Submitted::Nothing) => {
+            writeln!(out, "{member} submit nothing")?;
+            Ok(None)
+        }
+        Ok(Submitted::Waiting) => {
+            writeln!(out, "{member} submit waiting {last}")?;
+            Ok(None)
+        }
+        Ok(Submitted::Dropped(fault)) => {
+            push_dropped(out, member, fault)?;
+            Ok(None)
+        }
+        Err(fault) => {
+            push_unsubmitted(out, member, fault)?;
+            Ok(None)
+        }
+    }
+}
+
+// The line of a submission that gives an item up.
+fn push_dropped(out: &mut String, member: u16, fault: ChangeFault) -> Result<(), Memory>
+    ensures { OnOk result (string_bytes out.new ≡ string_bytes out.old ++ submit_line member 0 0 (Ok (Submitted.Dropped fault))) }
+{
+    let name = fault.name();
+    writeln!(out, "{member} submit dropped {name}")
+}
+
+// The line of a submission that is refused.
+fn push_unsubmitted(out: &mut String, member: u16, fault: SubmitFault) -> Result<(), Memory>
+    ensures line { OnOk result (string_bytes out.new ≡ string_bytes out.old ++ submit_line member 0 0 (Err fault)) }
+    ensures named { OnOk result (fault ≢ SubmitFault.Memory) }
+    ensures no_disk { OnOk result (fault ≢ SubmitFault.LeafFault) }
+{
+    write!(out, "{member} submit refused ")?;
+    push_submit_fault(out, fault)?;
+    out.push_str("\n")
+}
+
+// ---- what is handed out, and going back
+
+/// Hands a member an entry as the one at a position, if there is one.
+pub fn give(
+    alloc: Global,
+    seat: &mut Seat,
+    give: &Give,
+    entry: Option<&[u8]>,
+    out: &mut String,
+) -> Result<(), Memory>
+    ensures line { OnOk result (string_bytes out.new ≡ string_bytes out.old ++ line_by give.now.member (plain_in seat.old) (λ c.
+        give_line give.now.member give.now.position c (option_copied entry.entry))) }
+    ensures seat { OnOk result (seat.new ≡ seat_logged (given_by give.now.position (option_copied entry.entry)) seat.old) }
+{
+    let member = give.member;
+    let position = give.position;
+    let Some(client) = &mut seat.client else {
+        return push_not_open(out, member);
+    };
+    match entry {
+        Some(entry) => give_client(alloc, client, give, entry, out),
+        None => writeln!(out, "{member} accept {position} no entry"),
+    }
+}
+
+fn give_client(
+    alloc: Global,
+    client: &mut PlayClient,
+    give: &Give,
+    entry: &[u8],
+    out: &mut String,
+) -> Result<(), Memory>
+    ensures line { OnOk result (string_bytes out.new ≡ string_bytes out.old ++ give_line give.now.member give.now.position (state_of client.old) (Some entry.now)) }
+    ensures log { OnOk result (client.new ≡ client_logged (λ c. given_events c give.now.position entry.now) client.old) }
+{
+    let member = give.member;
+    let position = give.position;
+    match client.accept(0, position, entry) {
+        Ok(_) => writeln!(out, "{member} accept {position} ok"),
+        Err(fault) => {
+            write!(out, "{member} accept {position} refused ")?;
+            push_accept_fault(alloc, out, fault)?;
+            out.push_str("\n")
+        }
+    }
+}
+
+/// Goes back to the first entries.
+pub fn restart(seat: &mut Seat, restart: &Restart, out: &mut String) -> Result<(), Memory>
+    ensures line { OnOk result (string_bytes out.new ≡ string_bytes out.old ++ line_by restart.now.member (plain_in seat.old) (restart_line restart.now.member restart.now.events)) }
+    ensures seat { OnOk result (seat.new ≡ seat_restarted restart.now.events seat.old) }
+{
+    let member = restart.member;
+    let k = restart.events;
+    let Some(client) = &mut seat.client else {
+        return push_not_open(out, member);
+    };
+    match restart_to(client, k) {
+        Ok(()) => writeln!(out, "{member} restart {k} ok"),
+        Err(RestartFault::Ahead(len)) => writeln!(out, "{member} restart {k} ahead {len}"),
+        Err(RestartFault::Memory) => Err(AllocError),
+    }
+}
+
+// The same for numbers that no history reaches.
+fn restart_to(client: &mut PlayClient, k: u64) -> Result<(), RestartFault>
+    ensures fault { AnswersUnless RestartFault.Memory result (restart_fault (state_of client.old) k) }
+    ensures ok { OnOk result (client.new ≡ record client.old { log = log_of_entries (take k (state_of client.old).entries) }) }
+    ensures err { OnErr result (client.new ≡ client.old) }
+{
+    match u32::try_from(k) {
+        Ok(k) => client.restart(k),
+        Err(_) => Err(RestartFault::Ahead(client.heads().len())),
+    }
+}

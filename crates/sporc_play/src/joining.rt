@@ -1,0 +1,142 @@
+//! Clients that open by what others committed.
+
+ghost use Rattle.std.specs.Prelude.{◌≡◌, ◌≢◌, ◌++◌, map, None, Some, Ok, Err, OnOk, IsSome, option_map, string_bytes};
+ghost use Rattle.sporc_base.specs.Outcome.{GivesUnless};
+ghost use Rattle.sporc_client.specs.ClientModel.{state_of};
+ghost use Rattle.sporc_client.specs.Run.{Setup};
+ghost use Rattle.sporc_entry.specs.Genesis.{IsGenesis};
+ghost use Rattle.sporc_epoch.specs.Hints.{hints_of};
+ghost use Rattle.sporc_play.specs.Joined.{seat_by, seat_joined};
+ghost use Rattle.sporc_play.specs.Report.{hints_line, join_line, open_line};
+ghost use Rattle.sporc_play.specs.Scene.{entries_at};
+ghost use Rattle.sporc_play.specs.Stage.{IsCastOf};
+
+use crate::cast::Cast;
+use crate::made::{Found, entries_at};
+use crate::names::{push_hint_fault, push_open_fault};
+use crate::seat::Seat;
+use crate::showing::push_start;
+use sporc_base::Memory;
+use sporc_client::Client;
+use sporc_entry::Genesis;
+use sporc_epoch::{HintFault, Ring, hints_from};
+use sporc_line::LineOpenFault;
+use sporc_script::Join;
+use std::alloc::Global;
+use std::fmt::Write;
+
+/// Opens the client of a joiner by the hints that some entries give, and appends the line that tells the answer.
+pub fn join(
+    alloc: Global,
+    cast: &Cast,
+    genesis: &Genesis,
+    made: &[Vec<u8>],
+    seat: &mut Seat,
+    join: &Join,
+    out: &mut String,
+) -> Result<(), Memory>
+    requires genesis { IsGenesis genesis.now }
+    requires signer { seat.old.client ≡ None → IsSome seat.old.signer }
+    ensures line { OnOk result ((s : Setup) → IsCastOf s cast.now → genesis.now ≡ s.genesis → string_bytes out.new
+        ≡ string_bytes out.old ++ join_line s seat.old.member (entries_at (map (λ v. v.items) made.now) join.now.entries) (option_map state_of seat.old.client)) }
+    ensures seat { OnOk result ((s : Setup) → IsCastOf s cast.now → genesis.now ≡ s.genesis
+        → seat.new ≡ seat_joined s seat.old (entries_at (map (λ v. v.items) made.now) join.now.entries) seat.old.client) }
+{
+    let member = seat.member;
+    if seat.client.is_some() {
+        return writeln!(out, "{member} already open");
+    }
+    match entries_at(alloc, made, join.entries.as_slice())? {
+        Found::Entries(entries) => join_by(alloc, cast, genesis, seat, entries.as_slice(), out),
+        Found::Missing(number) => writeln!(out, "no entry {number}"),
+    }
+}
+
+// Opens a joiner's client by the hints that these entries give.
+fn join_by(
+    alloc: Global,
+    cast: &Cast,
+    genesis: &Genesis,
+    seat: &mut Seat,
+    entries: &[Vec<u8>],
+    out: &mut String,
+) -> Result<(), Memory>
+    requires genesis { IsGenesis genesis.now }
+    requires signer { IsSome seat.old.signer }
+    ensures line { OnOk result ((s : Setup) → IsCastOf s cast.now → genesis.now ≡ s.genesis → string_bytes out.new
+        ≡ string_bytes out.old ++ hints_line s seat.old.member (hints_of (map (λ v. v.items) entries.now) seat.old.member (s.pairs seat.old.member))) }
+    ensures seat { OnOk result ((s : Setup) → IsCastOf s cast.now → genesis.now ≡ s.genesis
+        → seat.new ≡ seat_by s seat.old (hints_of (map (λ v. v.items) entries.now) seat.old.member (s.pairs seat.old.member))) }
+{
+    match hints_for(alloc, cast, entries, seat.member) {
+        Ok(ring) => open_with(alloc, cast, genesis, seat, ring, out),
+        Err(fault) => push_no_hints(out, seat.member, fault),
+    }
+}
+
+// The hints that these entries give a member.
+fn hints_for(
+    alloc: Global,
+    cast: &Cast,
+    entries: &[Vec<u8>],
+    member: u16,
+) -> Result<Ring, HintFault>
+    ensures { (s : Setup) → IsCastOf s cast.now
+        → GivesUnless HintFault.Memory (λ ring. ring.keys) result (hints_of (map (λ v. v.items) entries.now) member (s.pairs member)) }
+{
+    let pairs = cast.pairs_of(alloc, member)?;
+    hints_from(alloc, entries, member, &pairs)
+}
+
+// Opens a joiner's client with a ring.
+fn open_with(
+    alloc: Global,
+    cast: &Cast,
+    genesis: &Genesis,
+    seat: &mut Seat,
+    ring: Ring,
+    out: &mut String,
+) -> Result<(), Memory>
+    requires genesis { IsGenesis genesis.now }
+    requires signer { IsSome seat.old.signer }
+    ensures line { OnOk result ((s : Setup) → IsCastOf s cast.now → genesis.now ≡ s.genesis → string_bytes out.new
+        ≡ string_bytes out.old ++ hints_line s seat.old.member (Ok ring.keys)) }
+    ensures seat { OnOk result ((s : Setup) → IsCastOf s cast.now → genesis.now ≡ s.genesis → seat.new ≡ seat_by s seat.old (Ok ring.keys)) }
+{
+    let member = seat.member;
+    let pairs = cast.pairs_of(alloc, member)?;
+    let genesis = genesis.copy()?;
+    let Some(signer) = seat.signer.take() else {
+        unreachable!()
+    };
+    match Client::open(alloc, genesis, member, ring, pairs, signer) {
+        Ok(client) => {
+            seat.client = Some(client);
+            writeln!(out, "{member} join ok")
+        }
+        Err((fault, signer)) => {
+            seat.signer = Some(signer);
+            push_not_opened(out, member, fault)
+        }
+    }
+}
+
+// The line of a joiner to whom entries give no hints.
+fn push_no_hints(out: &mut String, member: u16, fault: HintFault) -> Result<(), Memory>
+    ensures line { OnOk result ((s : Setup) → string_bytes out.new ≡ string_bytes out.old ++ hints_line s member (Err fault)) }
+    ensures named { OnOk result (fault ≢ HintFault.Memory) }
+{
+    push_start(out, member, " join refused ")?;
+    push_hint_fault(out, fault)?;
+    out.push_str("\n")
+}
+
+// The line of a joiner whose client does not open.
+fn push_not_opened(out: &mut String, member: u16, fault: LineOpenFault) -> Result<(), Memory>
+    ensures line { OnOk result (string_bytes out.new ≡ string_bytes out.old ++ open_line member (Some fault)) }
+    ensures named { OnOk result (fault ≢ LineOpenFault.Memory) }
+{
+    push_start(out, member, " join refused ")?;
+    push_open_fault(out, fault)?;
+    out.push_str("\n")
+}

@@ -1,0 +1,109 @@
+//! The lines of a journal.
+
+ghost use Rattle.std.specs.Prelude.{◌≡◌, ◌++◌, codes, OnOk, flat_map, string_bytes};
+ghost use Rattle.std.specs.Fmt.{decimal};
+ghost use Rattle.sporc_play.specs.Names.{role_name};
+ghost use Rattle.sporc_play.specs.JournalLines.{change_text, delta_text, event_text, journal_lines, part_text, spaced_part};
+
+use crate::quoted::push_quoted;
+use crate::showing::{push_digits, role_name};
+use sporc_base::Memory;
+use sporc_client::Event;
+use sporc_delta::{Delta, Part};
+use sporc_member::{Change, Role};
+use std::alloc::Global;
+use std::fmt::Write;
+
+/// Appends a line for each event.
+pub fn push_journal(alloc: Global, out: &mut String, journal: &[Event]) -> Result<(), Memory>
+    ensures { OnOk result (string_bytes out.new ≡ string_bytes out.old ++ journal_lines journal.now) }
+{
+    for event in journal {
+        push_event(alloc, out, event)?;
+        out.push_str("\n")?;
+    }
+    Ok(())
+}
+
+fn push_event(alloc: Global, out: &mut String, event: &Event) -> Result<(), Memory>
+    ensures { OnOk result (string_bytes out.new ≡ string_bytes out.old ++ event_text event.now) }
+{
+    match event {
+        Event::Edit { by, seen, delta } => {
+            write!(out, "edit {by} {seen} ")?;
+            push_delta(out, delta)
+        }
+        Event::Change { by, change } => {
+            write!(out, "change {by} ")?;
+            push_change(alloc, out, change)
+        }
+        Event::Submit { by, entry } => {
+            write!(out, "submit {by} ")?;
+            push_digits(alloc, out, entry.as_slice())
+        }
+        Event::Dropped { by, fault } => {
+            let name = fault.name();
+            write!(out, "dropped {by} {name}")
+        }
+        Event::Accept { by, place } => write!(out, "accept {by} {place}"),
+        Event::Discard { by } => write!(out, "discard {by}"),
+    }
+}
+
+fn push_change(alloc: Global, out: &mut String, change: &Change) -> Result<(), Memory>
+    ensures { OnOk result (string_bytes out.new ≡ string_bytes out.old ++ change_text change.now) }
+{
+    match change {
+        Change::Add { member, role, key } => {
+            push_role(out, "add", *member, *role)?;
+            out.push_str(" ")?;
+            push_digits(alloc, out, key)
+        }
+        Change::Remove { member } => write!(out, "remove {member}"),
+        Change::SetRole { member, role } => push_role(out, "role", *member, *role),
+    }
+}
+
+// A word, a member and a role.
+fn push_role(out: &mut String, word: &str, member: u16, role: Role) -> Result<(), Memory>
+    ensures { OnOk result (string_bytes out.new ≡ string_bytes out.old ++ (word.now ++ (codes " " ++ (decimal member ++ (codes " " ++ role_name role))))) }
+{
+    let name = role_name(role);
+    write!(out, "{word} {member} {name}")
+}
+
+// The parts of a delta, with a space between them, or `-` if there is none.
+fn push_delta(out: &mut String, delta: &Delta) -> Result<(), Memory>
+    ensures { OnOk result (string_bytes out.new ≡ string_bytes out.old ++ delta_text delta.now) }
+{
+    let parts = delta.parts();
+    if parts.is_empty() {
+        return out.push_str("-");
+    }
+    push_part(out, &parts[0])?;
+    push_spaced(out, &parts[1..])
+}
+
+// Parts with a space before each.
+fn push_spaced(out: &mut String, parts: &[Part]) -> Result<(), Memory>
+    ensures { OnOk result (string_bytes out.new ≡ string_bytes out.old ++ flat_map spaced_part parts.now) }
+{
+    for part in parts {
+        out.push_str(" ")?;
+        push_part(out, part)?;
+    }
+    Ok(())
+}
+
+fn push_part(out: &mut String, part: &Part) -> Result<(), Memory>
+    ensures { OnOk result (string_bytes out.new ≡ string_bytes out.old ++ part_text part.now) }
+{
+    match part {
+        Part::Keep(count) => write!(out, "k{count}"),
+        Part::Insert(text) => {
+            out.push_str("i")?;
+            push_quoted(out, text.as_str())
+        }
+        Part::Remove(count) => write!(out, "r{count}"),
+    }
+}

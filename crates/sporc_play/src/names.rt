@@ -1,0 +1,86 @@
+//! The names of faults in a report. A fault of memory has none.
+
+ghost use Rattle.std.specs.Prelude.{◌≡◌, ◌≢◌, ◌++◌, OnOk, string_bytes};
+ghost use Rattle.sporc_play.specs.Names.{accept_fault_name, edit_fault_name, hint_fault_name, open_fault_name, submit_fault_name};
+
+use sporc_base::Memory;
+use sporc_client::{AcceptFault, EditFault, SubmitFault};
+use sporc_epoch::HintFault;
+use sporc_line::LineOpenFault;
+use std::alloc::{AllocError, Global};
+use std::fmt::Write;
+
+/// Appends the name of why an edit, a change or a discard is refused.
+pub fn push_edit_fault(out: &mut String, fault: EditFault) -> Result<(), Memory>
+    ensures name { OnOk result (string_bytes out.new ≡ string_bytes out.old ++ edit_fault_name fault) }
+    ensures named { OnOk result (fault ≢ EditFault.Memory) }
+{
+    match fault {
+        EditFault::Removed => out.push_str("removed"),
+        EditFault::NoRight => out.push_str("no-right"),
+        EditFault::SeenAhead(_) => out.push_str("seen-ahead"),
+        EditFault::WrongLength => out.push_str("wrong-length"),
+        EditFault::TooLong(_) => out.push_str("too-long"),
+        EditFault::PendingFull => out.push_str("pending-full"),
+        EditFault::JournalFull => out.push_str("journal-full"),
+        EditFault::Memory => Err(AllocError),
+    }
+}
+
+/// Appends the name of why a submission is refused. The disk of a play's leaf file fails only if memory runs out.
+pub fn push_submit_fault(out: &mut String, fault: SubmitFault) -> Result<(), Memory>
+    ensures name { OnOk result (string_bytes out.new ≡ string_bytes out.old ++ submit_fault_name fault) }
+    ensures named { OnOk result (fault ≢ SubmitFault.Memory) }
+    ensures no_disk { OnOk result (fault ≢ SubmitFault.LeafFault) }
+{
+    match fault {
+        SubmitFault::Removed => out.push_str("removed"),
+        SubmitFault::NoRight => out.push_str("no-right"),
+        SubmitFault::HistoryFull => out.push_str("history-full"),
+        SubmitFault::JournalFull => out.push_str("journal-full"),
+        SubmitFault::HeadTooLong(len) => write!(out, "head-too-long {len}"),
+        SubmitFault::NoPairKey(member) => write!(out, "no-pair-key {member}"),
+        SubmitFault::Exhausted(_) => out.push_str("exhausted"),
+        SubmitFault::LeafFault | SubmitFault::Memory => Err(AllocError),
+    }
+}
+
+/// Appends the name of why an entry is refused.
+pub fn push_accept_fault(alloc: Global, out: &mut String, fault: AcceptFault) -> Result<(), Memory>
+    ensures name { OnOk result (string_bytes out.new ≡ string_bytes out.old ++ accept_fault_name fault) }
+    ensures named { OnOk result (fault ≢ AcceptFault.Memory) }
+{
+    match fault {
+        AcceptFault::Refused(refusal) => {
+            let name = refusal.name(alloc)?;
+            out.push_str(name.as_str())
+        }
+        AcceptFault::JournalFull => out.push_str("journal-full"),
+        AcceptFault::Memory => Err(AllocError),
+    }
+}
+
+/// Appends the name of why entries give no hints.
+pub fn push_hint_fault(out: &mut String, fault: HintFault) -> Result<(), Memory>
+    ensures name { OnOk result (string_bytes out.new ≡ string_bytes out.old ++ hint_fault_name fault) }
+    ensures named { OnOk result (fault ≢ HintFault.Memory) }
+{
+    match fault {
+        HintFault::NotAdded => out.push_str("not-added"),
+        HintFault::NoPairKey(member) => write!(out, "no-pair-key {member}"),
+        HintFault::WrongKey(_) => out.push_str("wrong-key"),
+        HintFault::Memory => Err(AllocError),
+    }
+}
+
+/// Appends the name of why a client does not open.
+pub fn push_open_fault(out: &mut String, fault: LineOpenFault) -> Result<(), Memory>
+    ensures name { OnOk result (string_bytes out.new ≡ string_bytes out.old ++ open_fault_name fault) }
+    ensures named { OnOk result (fault ≢ LineOpenFault.Memory) }
+{
+    match fault {
+        LineOpenFault::NoKey => out.push_str("no-key"),
+        LineOpenFault::WrongKey => out.push_str("wrong-key"),
+        LineOpenFault::Memory => Err(AllocError),
+    }
+}

@@ -1,0 +1,139 @@
+//! What the declarations of a script make: who takes part, and the founders' clients.
+
+ghost use Rattle.std.specs.Prelude.{◌≡◌, List, ◌∷◌, ◌++◌, [], Contains, IfOk, OnOk};
+ghost use Rattle.sporc_client.specs.Run.{Setup};
+ghost use Rattle.sporc_entry.specs.Genesis.{IsGenesis};
+ghost use Rattle.sporc_member.specs.Roster.{insert_sorted};
+ghost use Rattle.sporc_play.specs.Cast.{first_ring, founder_of, public_of};
+ghost use Rattle.sporc_play.specs.Joined.{seat_open};
+ghost use Rattle.sporc_play.specs.Opening.{HasRogue, HasSat, HaveDeclared, IsNamed};
+ghost use Rattle.sporc_play.specs.Stage.{IsCastOf};
+
+use crate::cast::{Cast, Declared, first_ring, insert_founder, signer_of};
+use crate::seat::{Rogue, Seat};
+use sporc_base::Memory;
+use sporc_client::Client;
+use sporc_entry::Genesis;
+use sporc_member::Founder;
+use sporc_script::{Command, MemberRole, PlayLine, Tree};
+use std::alloc::{AllocError, Global};
+
+/// Adds what a line declares.
+pub fn declare(
+    alloc: Global,
+    cast: &mut Cast,
+    seats: &mut Vec<Seat>,
+    rogues: &mut Vec<Rogue>,
+    line: &PlayLine,
+) -> Result<(), Memory>
+    ensures { OnOk result ((tree : Tree) (lines : List PlayLine) → HaveDeclared tree lines cast.old seats.old.items rogues.old.items
+        → HaveDeclared tree (lines ++ line.now ∷ []) cast.new seats.new.items rogues.new.items) }
+{
+    match &line.command {
+        Command::Member(founder) => {
+            let key = sit(alloc, cast, seats, founder.member)?;
+            found(cast, founder, key)
+        }
+        Command::Rogue(founder) => {
+            let key = employ(alloc, cast, rogues, founder.member)?;
+            found(cast, founder, key)
+        }
+        Command::Joiner(member) => {
+            sit(alloc, cast, seats, *member)?;
+            Ok(())
+        }
+        Command::Unpaired(pair) => {
+            cast.unpaired.push(*pair)?;
+            Ok(())
+        }
+        _ => Ok(()),
+    }
+}
+
+// A seat for one who has or may get a client. Its public key.
+fn sit(
+    alloc: Global,
+    cast: &mut Cast,
+    seats: &mut Vec<Seat>,
+    member: u16,
+) -> Result<[u8; 56], Memory>
+    ensures key { IfOk result (λ key. key ≡ public_of cast.old.tree member) }
+    ensures seats { OnOk result (HasSat cast.old.tree member seats.old.items seats.new.items) }
+    ensures named { OnOk result (IsNamed member cast.old cast.new) }
+{
+    let signer = signer_of(alloc, cast.tree, member)?;
+    let key = signer.public().to_bytes();
+    cast.declared.push(Declared { member, key })?;
+    seats.push(Seat {
+        member,
+        asked: 0,
+        last: 0,
+        signer: Some(signer),
+        client: None,
+    })?;
+    Ok(key)
+}
+
+// A signer for one for whom the script signs. Its public key.
+fn employ(
+    alloc: Global,
+    cast: &mut Cast,
+    rogues: &mut Vec<Rogue>,
+    member: u16,
+) -> Result<[u8; 56], Memory>
+    ensures key { IfOk result (λ key. key ≡ public_of cast.old.tree member) }
+    ensures rogues { OnOk result (HasRogue cast.old.tree member rogues.old.items rogues.new.items) }
+    ensures named { OnOk result (IsNamed member cast.old cast.new) }
+{
+    let signer = signer_of(alloc, cast.tree, member)?;
+    let key = signer.public().to_bytes();
+    cast.declared.push(Declared { member, key })?;
+    rogues.push(Rogue {
+        member,
+        asked: 0,
+        signer,
+    })?;
+    Ok(key)
+}
+
+// A founder with this key, in the order of the numbers.
+fn found(cast: &mut Cast, founder: &MemberRole, key: [u8; 56]) -> Result<(), Memory>
+    ensures founders { OnOk result (cast.new.founders.items ≡ insert_sorted (record { member = founder.now.member; role = founder.now.role; key = key }) cast.old.founders.items) }
+    ensures tree { cast.new.tree ≡ cast.old.tree }
+    ensures declared { cast.new.declared.items ≡ cast.old.declared.items }
+    ensures unpaired { cast.new.unpaired.items ≡ cast.old.unpaired.items }
+{
+    insert_founder(
+        &mut cast.founders,
+        Founder {
+            member: founder.member,
+            role: founder.role,
+            key,
+        },
+    )
+}
+
+/// Opens the client of a founder, with the key of epoch 0.
+pub fn open_founder(
+    alloc: Global,
+    cast: &Cast,
+    genesis: &Genesis,
+    seat: &mut Seat,
+) -> Result<(), Memory>
+    requires { IsGenesis genesis.now }
+    ensures { OnOk result ((s : Setup) → IsCastOf s cast.now → genesis.now ≡ s.genesis → seat.new ≡ seat_open s first_ring seat.old seat.old.signer) }
+{
+    let ring = first_ring(alloc)?;
+    let pairs = cast.pairs_of(alloc, seat.member)?;
+    let genesis = genesis.copy()?;
+    let Some(signer) = seat.signer.take() else {
+        return Ok(());
+    };
+    match Client::open(alloc, genesis, seat.member, ring, pairs, signer) {
+        Ok(client) => {
+            seat.client = Some(client);
+            Ok(())
+        }
+        Err(_) => Err(AllocError),
+    }
+}

@@ -1,0 +1,15 @@
+//! The tests of `sporc_play` and `sporc_top`, in a crate of their own, since a crate with tests is proved twice. No program
+//! stands on it.
+//!
+//! [`plays`] compares reports with worked examples, [`faults`] the lines of faults, and what is told if a read or a write
+//! fails, and [`limits`] what is taken at each limit and above it.
+#![tactic(auto)]
+
+#[cfg(test)]
+mod answers;
+#[cfg(test)]
+mod faults;
+#[cfg(test)]
+mod limits;
+#[cfg(test)]
+mod plays;
