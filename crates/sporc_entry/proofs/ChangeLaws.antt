@@ -10,6 +10,7 @@ use Rattle.sporc_bytes.specs.Fields.{Reading, ◌>>=◌, fault_as, bytes_at, end
 use Rattle.sporc_base.specs.Bytes.{IsBytes}
 use Rattle.sporc_bytes.proofs.Fields.{bind_ok, ok_is, Takes, Takes-then, Takes-nothing, wide16, number_takes, bytes_takes, bytes_again, u16_again, end_takes}
 use Rattle.sporc_member.specs.declared.limits.TheConstants.{MAX_MEMBERS}
+use Rattle.sporc_entry.specs.declared.limits.TheConstants.{HIGHEST_MEMBER}
 use Rattle.sporc_member.specs.declared.change.Change.{Change}
 use Rattle.sporc_member.specs.declared.change.Change.TheVariants.{Add, Remove, SetRole}
 use Rattle.sporc_member.specs.Role.{role_code_of}
@@ -81,18 +82,18 @@ kind_takes r kind r1 r2 member x first low high second is e = go (eqb kind 1) (e
 change_takes : (r : Reading) (x : Change × Reading) → IsBytes r.rest → change_at r ≡ Ok x → IsTaken r x
 unfolding change_at
 change_takes r x h e =
-    let k = bind_ok (number_within 1 3 w8 r) (λ kind. number_within 1 65535 w16 kind.1 >>= λ member. change_of_kind kind.0 member.0 member.1) x e in
-    let m = bind_ok (number_within 1 65535 w16 k.0.1) (λ member. change_of_kind k.0.0 member.0 member.1) x k.2 in
+    let k = bind_ok (number_within 1 3 w8 r) (λ kind. number_within 1 HIGHEST_MEMBER w16 kind.1 >>= λ member. change_of_kind kind.0 member.0 member.1) x e in
+    let m = bind_ok (number_within 1 HIGHEST_MEMBER w16 k.0.1) (λ member. change_of_kind k.0.0 member.0 member.1) x k.2 in
     let tk = byte_takes 1 3 r k.0 (omega arith) h k.1 in
-    let tm = within_takes 1 65535 w16 (2 ^ 16) wide16 k.0.1 m.0 tk.0.bytes m.1 in
+    let tm = within_takes 1 HIGHEST_MEMBER w16 (2 ^ 16) wide16 k.0.1 m.0 tk.0.bytes m.1 in
     kind_takes r k.0.0 k.0.1 m.0.1 m.0.0 x tk.0.parts tk.1 tk.2 tm.0 (record { positive = omega (arith, tm.1); small = omega (arith, tm.2) }) m.2
 
 -- the place after what was read is some place
 abbrev ReadsTo : {A : Type 0} → Result (A × Reading) ℕ → A → List ℕ → Type 0
 ReadsTo r x rest = (at : ℕ) × (r ≡ Ok (x, record { rest = rest; at = at }))
 
-member_again : (member at : ℕ) (rest : List ℕ) → IsMember member → number_within 1 65535 w16 (record { rest = to_be_bytes w16 member ++ rest; at = at }) ≡ Ok (member, record { rest = rest; at = at + 2 })
-member_again member at rest is = u16_within_again 1 65535 member at rest (omega (arith, is.positive)) (omega (arith, is.small)) is.small
+member_again : (member at : ℕ) (rest : List ℕ) → IsMember member → number_within 1 HIGHEST_MEMBER w16 (record { rest = to_be_bytes w16 member ++ rest; at = at }) ≡ Ok (member, record { rest = rest; at = at + 2 })
+member_again member at rest is = u16_within_again 1 HIGHEST_MEMBER member at rest (omega (arith, is.positive)) (omega (arith, is.small)) is.small
 
 change_again : (c : Change) (at : ℕ) (rest : List ℕ) → IsChange c → ReadsTo (change_at (record { rest = change_bytes c rest; at = at })) c rest
 unfolding change_at

@@ -10,6 +10,7 @@ use Rattle.sporc_bytes.specs.Fields.{Reading, ◌>>=◌, fault_as, end_at}
 use Rattle.sporc_base.specs.Bytes.{IsBytes}
 use Rattle.sporc_bytes.proofs.Fields.{bind_ok, ok_is, Takes, Takes-then, Takes-nothing, wide16, bytes_takes, bytes_again, end_takes}
 use Rattle.sporc_member.specs.declared.limits.TheConstants.{MAX_MEMBERS}
+use Rattle.sporc_entry.specs.declared.limits.TheConstants.{HIGHEST_MEMBER}
 use Rattle.sporc_member.specs.declared.founder.Founder.{Founder}
 use Rattle.sporc_member.specs.Role.{role_code_of}
 use Rattle.sporc_member.specs.Roster.{numbers_of}
@@ -71,7 +72,7 @@ founder_takes least r x h e =
     let a = bind_ok _ _ x e in
     let b = bind_ok _ _ x a.2 in
     let c = bind_ok _ _ x b.2 in
-    let ta = within_takes least 65535 w16 (2 ^ 16) wide16 r a.0 h a.1 in
+    let ta = within_takes least HIGHEST_MEMBER w16 (2 ^ 16) wide16 r a.0 h a.1 in
     let tb = role_takes a.0.1 b.0 ta.0.bytes b.1 in
     let tc = bytes_takes 56 b.0.1 c.0 tb.bytes c.1 in
     let made : Founder × Reading = (record { member = a.0.0; role = b.0.0; key = c.0.0 }, c.0.1) in
@@ -112,7 +113,7 @@ unfolding founder_at
 founder_again least m at rest is le =
     let regrouped : founder_bytes m ++ rest ≡ to_be_bytes w16 m.member ++ (role_code_of m.role ∷ (m.key ++ rest)) = append_assoc (to_be_bytes w16 m.member) (role_code_of m.role ∷ m.key) rest in
     ap (λ (bs : List ℕ). founder_at least (record { rest = bs; at = at })) regrouped ∙ rw (
-      u16_within_again least 65535 m.member at (role_code_of m.role ∷ (m.key ++ rest)) le (omega (arith, is.member.small)) is.member.small,
+      u16_within_again least HIGHEST_MEMBER m.member at (role_code_of m.role ∷ (m.key ++ rest)) le (omega (arith, is.member.small)) is.member.small,
       role_again m.role (at + 2) (m.key ++ rest),
       bytes_again 56 (at + 2 + 1) m.key rest is.key,
     ) refl

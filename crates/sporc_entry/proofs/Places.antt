@@ -10,7 +10,7 @@ use Rattle.sporc_member.specs.declared.limits.TheConstants.{MAX_MEMBERS}
 use Rattle.sporc_member.specs.declared.founder.Founder.{Founder}
 use Rattle.sporc_member.specs.Role.{role_with_code}
 use Rattle.sporc_member.specs.Roster.{founded, has_admin}
-use Rattle.sporc_entry.specs.declared.limits.TheConstants.{MAX_SIGNATURE}
+use Rattle.sporc_entry.specs.declared.limits.TheConstants.{HIGHEST_MEMBER, MAX_SIGNATURE}
 use Rattle.sporc_entry.specs.declared.fault.GenesisFault.TheVariants.{Malformed, NoAdmin, BadKey}
 use Rattle.sporc_entry.specs.declared.genesis.Genesis.{Genesis}
 use Rattle.sporc_entry.specs.Fields.{number_within, role_at, values_at}
@@ -118,7 +118,7 @@ values_end end after read each (suc n) s h =
 change_ends : (end : ℕ) (r : Reading) → r.at + length r.rest ≡ end → Bounded end (Ends end) (change_at r)
 unfolding change_at
 change_ends end r e =
-    then end _ _ (number_within 1 3 w8 r) _ (within_begins 1 3 w8 end r.at r (from_here end r e)) (λ kind h. then end _ _ (number_within 1 65535 w16 kind.1) _ (within_begins 1 65535 w16 end _ kind.1 h)
+    then end _ _ (number_within 1 3 w8 r) _ (within_begins 1 3 w8 end r.at r (from_here end r e)) (λ kind h. then end _ _ (number_within 1 HIGHEST_MEMBER w16 kind.1) _ (within_begins 1 HIGHEST_MEMBER w16 end _ kind.1 h)
     (λ member k. of_kind (eqb kind.0 1) (eqb kind.0 2) member.0 member.1 k.ends))
   where
     add : (member : ℕ) (r : Reading) → r.at + length r.rest ≡ end → Bounded end (Ends end) (change_of_kind 1 member r)
@@ -190,7 +190,7 @@ entry_bounded bytes =
 founder_ends : (end least : ℕ) (r : Reading) → r.at + length r.rest ≡ end → Bounded end (Ends end) (founder_at least r)
 unfolding founder_at
 founder_ends end least r e =
-    then end _ _ (number_within least 65535 w16 r) _ (within_begins least 65535 w16 end r.at r (from_here end r e)) (λ member h. then end _ _ (role_at member.1) _ (role_begins end _ member.1 h)
+    then end _ _ (number_within least HIGHEST_MEMBER w16 r) _ (within_begins least HIGHEST_MEMBER w16 end r.at r (from_here end r e)) (λ member h. then end _ _ (role_at member.1) _ (role_begins end _ member.1 h)
     (λ role k. then end _ _ (bytes_at 56 role.1) _ (bytes_begin 56 end _ role.1 k) (λ key l. l.1.ends)))
 
 founders_end : (end n : ℕ) (r : Reading) → r.at + length r.rest ≡ end → Bounded end (Ends end) (founders_at n r)

@@ -14,6 +14,7 @@ use Rattle.std.specs.List.{AllByRecursion, flat_map}
 use Rattle.std.specs.Int.{w8, w16, to_be_bytes}
 use Rattle.sporc_bytes.specs.Fields.{Reading, ◌>>=◌, bytes_at, number_at, end_at}
 use Rattle.sporc_member.specs.declared.limits.TheConstants.{MAX_MEMBERS}
+use Rattle.sporc_entry.specs.declared.limits.TheConstants.{HIGHEST_MEMBER}
 use Rattle.sporc_member.specs.declared.change.Change.{Change}
 use Rattle.sporc_member.specs.declared.change.Change.TheVariants.{Add, Remove, SetRole}
 use Rattle.sporc_member.specs.Role.{role_code_of}
@@ -39,7 +40,7 @@ change_of_kind kind member r =
 unfoldable pub change_at : Reading → Result (Change × Reading) ℕ
 change_at r = do
   kind ← number_within 1 3 w8 r
-  member ← number_within 1 65535 w16 kind.1
+  member ← number_within 1 HIGHEST_MEMBER w16 kind.1
   change_of_kind kind.0 member.0 member.1
 
 -- a sealed key and whom it is for

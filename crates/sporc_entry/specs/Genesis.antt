@@ -13,6 +13,7 @@ use Rattle.std.specs.Int.{w8, w16, to_be_bytes}
 use Rattle.lms_tree.specs.LmsPublic.{public_key_in}
 use Rattle.sporc_bytes.specs.Fields.{Reading, ◌>>=◌, fault_as, bytes_at, end_at}
 use Rattle.sporc_member.specs.declared.limits.TheConstants.{MAX_MEMBERS}
+use Rattle.sporc_entry.specs.declared.limits.TheConstants.{HIGHEST_MEMBER}
 use Rattle.sporc_member.specs.declared.founder.Founder.{Founder}
 use Rattle.sporc_base.specs.FirstFault.{unless, first_of}
 use Rattle.sporc_member.specs.Role.{role_code_of}
@@ -28,7 +29,7 @@ use Rattle.sporc_entry.specs.ChangeBody.{IsMember}
 -- a founder whose number is at least this
 unfoldable pub founder_at : ℕ → Reading → Result (Founder × Reading) ℕ
 founder_at least r = do
-  member ← number_within least 65535 w16 r
+  member ← number_within least HIGHEST_MEMBER w16 r
   role ← role_at member.1
   key ← bytes_at 56 role.1
   Ok (record { member = member.0; role = role.0; key = key.0 }, key.1)

@@ -11,6 +11,7 @@ ghost use Rattle.sporc_entry.specs.ChangeBody.{change_at, wrap_at, change_body_a
 
 use crate::fault::EntryFault;
 use crate::fields::{read_end, read_role, read_u8, read_u16};
+use crate::limits::HIGHEST_MEMBER;
 use crate::wrap::{Wrap, Wraps};
 use sporc_base::Memory;
 use sporc_bytes::{Cursor, Out, Short};
@@ -37,7 +38,7 @@ fn read_member_change(cursor: &mut Cursor<'_>) -> Result<Change, Short>
     ensures { Reads (λ change. (change, cursor.new)) result (change_at cursor.old) }
 {
     let kind = read_u8(cursor, 1, 3)?;
-    let member = read_u16(cursor, 1, 65535)?;
+    let member = read_u16(cursor, 1, HIGHEST_MEMBER)?;
     match kind {
         1 => {
             let role = read_role(cursor)?;

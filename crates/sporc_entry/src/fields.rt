@@ -1,4 +1,4 @@
-// Fields whose values are limited. `Short` has the place of a field that is cut short or has a forbidden value.
+//! Fields whose values are limited. `Short` has the place of a field that is cut short or has a forbidden value.
 
 ghost use Rattle.std.specs.Int.{w8, w16};
 ghost use Rattle.sporc_bytes.specs.Fields.{Reads, end_at};
@@ -7,10 +7,10 @@ ghost use Rattle.sporc_entry.specs.Fields.{number_within, role_at};
 use sporc_bytes::{Cursor, Short};
 use sporc_member::Role;
 
-// The next byte, which is from `low` to `high`.
+/// The next byte, which is from `low` to `high`.
 #[tactic(auto, unfolding(crate::specs::Fields::number_within))]
-pub(crate) fn read_u8(cursor: &mut Cursor<'_>, low: u8, high: u8) -> Result<u8, Short>
-    ensures { Reads (λ n. (n, cursor.new)) result (number_within low high w8 cursor.old) }
+pub fn read_u8(cursor: &mut Cursor<'_>, low: u8, high: u8) -> Result<u8, Short>
+    ensures value { Reads (λ n. (n, cursor.new)) result (number_within low high w8 cursor.old) }
 {
     let at = cursor.at();
     let n = cursor.u8()?;
@@ -20,10 +20,10 @@ pub(crate) fn read_u8(cursor: &mut Cursor<'_>, low: u8, high: u8) -> Result<u8, 
     Ok(n)
 }
 
-// The next two bytes as a number, which is from `low` to `high`.
+/// The next two bytes as a number, which is from `low` to `high`.
 #[tactic(auto, unfolding(crate::specs::Fields::number_within))]
-pub(crate) fn read_u16(cursor: &mut Cursor<'_>, low: u32, high: u32) -> Result<u16, Short>
-    ensures { Reads (λ n. (n, cursor.new)) result (number_within low high w16 cursor.old) }
+pub fn read_u16(cursor: &mut Cursor<'_>, low: u32, high: u32) -> Result<u16, Short>
+    ensures value { Reads (λ n. (n, cursor.new)) result (number_within low high w16 cursor.old) }
 {
     let at = cursor.at();
     let n = cursor.u16()?;
@@ -33,10 +33,10 @@ pub(crate) fn read_u16(cursor: &mut Cursor<'_>, low: u32, high: u32) -> Result<u
     Ok(n)
 }
 
-// The next byte as a role.
+/// The next byte as a role.
 #[tactic(auto, unfolding(crate::specs::Fields::role_at))]
-pub(crate) fn read_role(cursor: &mut Cursor<'_>) -> Result<Role, Short>
-    ensures { Reads (λ role. (role, cursor.new)) result (role_at cursor.old) }
+pub fn read_role(cursor: &mut Cursor<'_>) -> Result<Role, Short>
+    ensures value { Reads (λ role. (role, cursor.new)) result (role_at cursor.old) }
 {
     let at = cursor.at();
     let code = cursor.u8()?;
@@ -46,9 +46,9 @@ pub(crate) fn read_role(cursor: &mut Cursor<'_>) -> Result<Role, Short>
     }
 }
 
-// Nothing is left.
-pub(crate) fn read_end(cursor: &Cursor<'_>) -> Result<(), Short>
-    ensures { Reads (λ _. tt) result (end_at cursor.now) }
+/// Nothing is left, or the place of the first byte that is.
+pub fn read_end(cursor: &Cursor<'_>) -> Result<(), Short>
+    ensures value { Reads (λ _. tt) result (end_at cursor.now) }
 {
     if cursor.end() {
         Ok(())

@@ -10,6 +10,7 @@ ghost use Rattle.sporc_entry.specs.Genesis.{founder_at, founders_at, genesis_at,
 
 use crate::fault::GenesisFault;
 use crate::fields::{read_end, read_role, read_u8, read_u16};
+use crate::limits::HIGHEST_MEMBER;
 use lms_tree::LmsPublic;
 use sporc_base::{Items, Memory};
 use sporc_bytes::{Cursor, Out, Short};
@@ -52,7 +53,7 @@ const VERSION: u8 = 1;
 fn read_founder(cursor: &mut Cursor<'_>, least: u32) -> Result<Founder, Short>
     ensures { Reads (λ founder. (founder, cursor.new)) result (founder_at least cursor.old) }
 {
-    let member = read_u16(cursor, least, 65535)?;
+    let member = read_u16(cursor, least, HIGHEST_MEMBER)?;
     let role = read_role(cursor)?;
     let key = cursor.array()?;
     Ok(Founder { member, role, key })

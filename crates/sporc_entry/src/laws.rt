@@ -1,7 +1,7 @@
 //! Laws of the formats: what is written reads back, what reads is written so, and where faults are.
 
 ghost use Rattle.std.specs.Prelude.{◌≡◌, ℕ, ◌+◌, ◌<◌, ◌≤◌, List, length, Some, Ok, Err, slice_index};
-ghost use Rattle.sporc_entry.specs.declared.limits.TheConstants.{MAX_EDIT_BODY, MAX_CHANGE_BODY, MAX_SIGNATURE, MAX_ENTRY};
+ghost use Rattle.sporc_entry.specs.declared.limits.TheConstants.{HIGHEST_MEMBER, MAX_EDIT_BODY, MAX_CHANGE_BODY, MAX_SIGNATURE, MAX_ENTRY};
 ghost use Rattle.sporc_entry.specs.declared.change.ChangeBody.{ChangeBody};
 ghost use Rattle.sporc_entry.specs.declared.entry.Entry.{Entry};
 ghost use Rattle.sporc_entry.specs.declared.genesis.Genesis.{Genesis};
@@ -52,6 +52,7 @@ pub fn place_of_a_fault()
 
 /// The limits in numbers.
 pub fn limits()
+    ensures member { HIGHEST_MEMBER ≡ 65535 }
     ensures edit { MAX_EDIT_BODY ≡ 1048576 }
     ensures change { MAX_CHANGE_BODY ≡ 65536 }
     ensures signature { MAX_SIGNATURE ≡ 9324 }

@@ -1,4 +1,7 @@
-// Limits of entries, in bytes.
+// Limits of entries, lengths in bytes.
+
+/// The highest number of a member.
+pub const HIGHEST_MEMBER: u32 = 65_535;
 
 /// The longest body of an edit.
 pub const MAX_EDIT_BODY: u32 = 1_048_576;

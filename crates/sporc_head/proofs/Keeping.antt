@@ -11,7 +11,7 @@ use Rattle.sporc_entry.specs.Genesis.{genesis_bytes, IsGenesis}
 use Rattle.std.specs.List.{All}
 use Rattle.std.proofs.lemmas.Bool.{eqb-true}
 use Rattle.std.proofs.lemmas.List.Elements.{All-nil, All-cons, All-append}
-use Rattle.sporc_head.specs.declared.limits.TheConstants.{MAX_ENTRIES}
+use Rattle.sporc_head.specs.declared.limits.TheConstants.{MAX_ENTRIES, NUMBERS}
 use Rattle.sporc_head.specs.History.{CommittedChange, change_in, is_by, hash_of, count_of}
 use Rattle.sporc_head.specs.TablesMatch.{TablesMatch, marked}
 use Rattle.sporc_head.specs.HeadsModel.{HeadsInvariant}
@@ -21,8 +21,8 @@ use Rattle.sporc_head.proofs.Grows.{chain_more, last_push, count_push, epoch_pus
 -- ---- the tables
 
 pub tables_push : (counts lasts : List ℕ) (removed removed' : List Bool) (entries : List (List ℕ)) (b : List ℕ) (a : ℕ) (o : Option CommittedChange) → TablesMatch counts lasts removed entries
-    → a < 65536 → ((n : ℕ) → is_by n b ≡ eqb a n) → change_in b ≡ o
-    → length removed' ≡ 65536 → ((n : ℕ) → n < 65536 → get_or removed' n false ≡ (get_or removed n false || removes_in n o))
+    → a < NUMBERS → ((n : ℕ) → is_by n b ≡ eqb a n) → change_in b ≡ o
+    → length removed' ≡ NUMBERS → ((n : ℕ) → n < NUMBERS → get_or removed' n false ≡ (get_or removed n false || removes_in n o))
     → TablesMatch (set counts a (get_or counts a 0 + 1)) (set lasts a (length entries + 1)) removed' (entries ++ b ∷ [])
 tables_push counts lasts removed removed' entries b a o t lt by is len gone = record {
   counts_len = length-set counts a (get_or counts a 0 + 1) ∙ t.counts_len;
@@ -33,7 +33,7 @@ tables_push counts lasts removed removed' entries b a o t lt by is len gone = re
   gone = λ n l. gone n l ∙ ap (λ (x : Bool). x || removes_in n o) (t.gone n l) ∙ sym (removed_push n entries b o is);
 }
   where
-    counted : (n : ℕ) → n < 65536 → (q : Bool) → eqb a n ≡ q → cond q (get_or counts a 0 + 1) (get_or counts n 0) ≡ cond q (count_of n entries + 1) (count_of n entries)
+    counted : (n : ℕ) → n < NUMBERS → (q : Bool) → eqb a n ≡ q → cond q (get_or counts a 0 + 1) (get_or counts n 0) ≡ cond q (count_of n entries + 1) (count_of n entries)
     counted n l true e = ap (λ (k : ℕ). k + 1) (t.count a lt ∙ ap (λ (k : ℕ). count_of k entries) (eqb-true a n e))
     counted n l false e = t.count n l
 
@@ -92,7 +92,7 @@ sized_push entries b all size = let P : List ℕ → Type 0 = λ e. length e ≤
 
 pub keeps_edit : (g : Genesis) (entries hashes : List (List ℕ)) (roster : Roster) (barrier epoch : ℕ) (counts lasts : List ℕ) (removed : List Bool) (b h : List ℕ) (a : ℕ) (entries' hashes' : List (List ℕ)) (counts' lasts' : List ℕ)
     → HeadsInvariant g entries hashes roster barrier epoch counts lasts removed → length entries < MAX_ENTRIES → length b ≤ MAX_ENTRY
-    → a < 65536 → ((n : ℕ) → is_by n b ≡ eqb a n) → change_in b ≡ None → h ≡ next_value (hash_of g entries) b
+    → a < NUMBERS → ((n : ℕ) → is_by n b ≡ eqb a n) → change_in b ≡ None → h ≡ next_value (hash_of g entries) b
     → entries' ≡ entries ++ b ∷ [] → hashes' ≡ hashes ++ h ∷ [] → counts' ≡ set counts a (get_or counts a 0 + 1) → lasts' ≡ set lasts a (length entries + 1)
     → HeadsInvariant g entries' hashes' roster barrier epoch counts' lasts' removed
 keeps_edit g entries hashes roster barrier epoch counts lasts removed b h a entries' hashes' counts' lasts' k room size lt by is hash eA eH eC eL =
@@ -112,7 +112,7 @@ keeps_edit g entries hashes roster barrier epoch counts lasts removed b h a entr
 
 pub keeps_change : (g : Genesis) (entries hashes : List (List ℕ)) (roster : Roster) (barrier epoch : ℕ) (counts lasts : List ℕ) (removed : List Bool) (b h : List ℕ) (a : ℕ) (s : CommittedChange) (entries' hashes' : List (List ℕ)) (roster' : Roster) (barrier' epoch' : ℕ) (counts' lasts' : List ℕ) (removed' : List Bool)
     → HeadsInvariant g entries hashes roster barrier epoch counts lasts removed → length entries < MAX_ENTRIES → length b ≤ MAX_ENTRY
-    → a < 65536 → ((n : ℕ) → is_by n b ≡ eqb a n) → change_in b ≡ Some s → h ≡ next_value (hash_of g entries) b
+    → a < NUMBERS → ((n : ℕ) → is_by n b ≡ eqb a n) → change_in b ≡ Some s → h ≡ next_value (hash_of g entries) b
     → entries' ≡ entries ++ b ∷ [] → hashes' ≡ hashes ++ h ∷ [] → roster' ≡ after_change roster s.body.change → barrier' ≡ length entries + 1 → epoch' ≡ epoch + 1
     → counts' ≡ set counts a (get_or counts a 0 + 1) → lasts' ≡ set lasts a (length entries + 1) → removed' ≡ marked s.body.change removed
     → HeadsInvariant g entries' hashes' roster' barrier' epoch' counts' lasts' removed'

@@ -1,4 +1,4 @@
-//! entries history with what its checks look up.
+//! A history, with what its checks look up.
 
 ghost use Rattle.std.specs.Prelude.{◌≡◌, ◌+◌, ◌<◌, ◌≤◌, ◌∷◌, ◌++◌, [], length, take, map, Option, None, Some, IfOk, IfErr, OnOk, OnErr, IsOk};
 ghost use Rattle.std.specs.List.{All};
@@ -25,7 +25,7 @@ use sporc_member::{Change, Founder, Roster};
 use std::alloc::Global;
 use std::marker::Model;
 
-/// entries history: a document's genesis and the bytes of its entries, with what the checks of the next entry look up.
+/// A history: a document's genesis and the bytes of its entries, with what the checks of the next entry look up.
 ///
 /// Contracts see the genesis, the entries, and `spare`: how many entries it takes without memory.
 #[derive(Drop)]

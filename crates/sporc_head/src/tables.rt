@@ -1,6 +1,7 @@
 //! Tables by number of what a history says of its authors and members.
 
 ghost use Rattle.std.specs.Prelude.{◌≡◌, ◌+◌, ◌<◌, ◌^◌, length, IfOk, [], slice_index, slice_set};
+ghost use Rattle.sporc_head.specs.declared.limits.TheConstants.{NUMBERS};
 ghost use Rattle.sporc_head.specs.TablesMatch.{TablesMatch, marked, AreZeros};
 
 use crate::limits::NUMBERS;
@@ -31,8 +32,8 @@ impl Tables {
 
 // One entry more of an author, at a position.
 pub(crate) fn record_entry(counts: &mut Vec<u32>, lasts: &mut Vec<u32>, author: u16, position: u32)
-    requires counts { length counts.old.items ≡ 65536 }
-    requires lasts { length lasts.old.items ≡ 65536 }
+    requires counts { length counts.old.items ≡ NUMBERS }
+    requires lasts { length lasts.old.items ≡ NUMBERS }
     requires room { slice_index counts.old.items author + 1 < 2 ^ 32 }
     ensures count { counts.new.items ≡ slice_set counts.old.items author (slice_index counts.old.items author + 1) }
     ensures last { lasts.new.items ≡ slice_set lasts.old.items author position }
@@ -44,7 +45,7 @@ pub(crate) fn record_entry(counts: &mut Vec<u32>, lasts: &mut Vec<u32>, author: 
 
 // Marks the member that a change removes.
 pub(crate) fn record_removal(removed: &mut Vec<bool>, change: &Change)
-    requires { length removed.old.items ≡ 65536 }
+    requires { length removed.old.items ≡ NUMBERS }
     ensures { removed.new.items ≡ marked change.now removed.old.items }
 {
     if let Change::Remove { member } = change {
