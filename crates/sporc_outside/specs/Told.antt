@@ -1,5 +1,5 @@
 -- What an object tells, where it does.
-use Rattle.std.specs.Prelude.{◌≡◌, ◌⊎◌, ◌<◌, ℕ, List, [], ◌∷◌, ◌++◌, Option, None, Some}
+use Rattle.std.specs.Prelude.{◌≡◌, ◌⊎◌, ◌<◌, ℕ, Bool, true, List, [], ◌∷◌, ◌++◌, Option, None, Some}
 
 -- told items grow by this one
 abbrev pub AppendsItem : {A : Type 0} → Option (List A) → Option (List A) → A → Type 0
@@ -23,3 +23,8 @@ TakesItem (Some items) (Some rest) item = items ≡ item ∷ rest
 abbrev pub IsPositive : Option ℕ → Type 0
 IsPositive None = Unit {0}
 IsPositive (Some n) = 0 < n
+
+-- a told answer is yes
+abbrev pub IsTrueIfTold : Option Bool → Type 0
+IsTrueIfTold None = Unit {0}
+IsTrueIfTold (Some answer) = answer ≡ true

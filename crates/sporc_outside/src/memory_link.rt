@@ -1,6 +1,6 @@
 //! Links over listed bytes.
 
-ghost use Rattle.std.specs.Prelude.{◌≡◌, ◌<◌, ◌≤◌, ◌↔◌, [], length, min, IsErr, IfOk, Contains, Some, refl};
+ghost use Rattle.std.specs.Prelude.{◌≡◌, ◌<◌, ◌≤◌, ◌↔◌, [], length, min, IsErr, IfOk, Contains, Some, refl, false};
 ghost use Rattle.std.specs.Io.KnownBytes.{ReadConsumes, WriteAppends};
 ghost use Rattle.sporc_outside.specs.Counts.{CountsFaults, next_count};
 
@@ -21,6 +21,7 @@ pub struct MemoryLink {
     written: Vec<u8>,
     piece: usize,
     calls: Calls,
+    is_shut: bool,
 }
 
 impl Model for MemoryLink {
@@ -29,7 +30,7 @@ impl Model for MemoryLink {
 
     ghost Value = { LinkContent };
 
-    ghost view = { λ l. record { left = drop l.at l.bytes.items; written = l.written.items; piece = l.piece; calls = l.calls } };
+    ghost view = { λ l. record { left = drop l.at l.bytes.items; written = l.written.items; piece = l.piece; calls = l.calls; is_shut = l.is_shut } };
 
     ghost invariant = { λ l. (l.at ≤ vec_len l.bytes) × (0 < l.piece) };
 }
@@ -38,7 +39,7 @@ impl MemoryLink {
     /// Gives these bytes, and moves at most `piece` bytes a call. The listed calls fail.
     pub fn new(alloc: Global, bytes: Vec<u8>, piece: usize, calls: Calls) -> MemoryLink
         requires { 0 < piece }
-        ensures { result ≡ record { left = bytes.items; written = []; piece = piece; calls = calls } }
+        ensures { result ≡ record { left = bytes.items; written = []; piece = piece; calls = calls; is_shut = false } }
     {
         MemoryLink {
             bytes,
@@ -46,6 +47,7 @@ impl MemoryLink {
             written: Vec::new(alloc),
             piece,
             calls,
+            is_shut: false,
         }
     }
 
@@ -54,6 +56,13 @@ impl MemoryLink {
         ensures { result.now ≡ self.now.written }
     {
         self.written.as_slice()
+    }
+
+    /// Whether it was shut.
+    pub fn is_shut(&self) -> bool
+        ensures { result ≡ self.now.is_shut }
+    {
+        self.is_shut
     }
 }
 
@@ -110,9 +119,13 @@ impl Sink for MemoryLink {
 }
 
 impl Link for MemoryLink {
+    ghost is_shut = { λ l. Some l.is_shut };
+
     ghost sent_is = { λ _. refl };
 
     ghost pending_is = { λ _. refl };
 
-    fn shut(&mut self) {}
+    fn shut(&mut self) {
+        self.is_shut = true;
+    }
 }
