@@ -1,1 +1,2 @@
-mod Batches
+pub mod Batches
+pub mod Sizes

@@ -1,3 +1,4 @@
 pub mod Batches
 pub mod OrderModel
+pub mod Replies
 pub mod Sessions

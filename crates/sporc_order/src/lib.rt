@@ -1,7 +1,8 @@
 //! The order of a document's entries, as its server keeps it: a list that grows by each entry that passes the checks
 //! which need no key, and that hands out its entries in order.
 //!
-//! [`Order`] is the list, and [`Session`] answers the messages of one client from it.
+//! [`Order`] is the list, and [`Session`] answers the messages of one client from it: with the message that is to be sent, or
+//! with the frame of it, into which entries are copied once.
 //!
 //! ```text
 //! let position = order.submit(entry)?;      // the first check that fails is the refusal
@@ -16,9 +17,11 @@
 
 pub mod laws;
 mod order;
+mod reply;
 mod session;
 
 pub use order::{MAX_PULLED_BYTES, Order};
+pub use reply::Reply;
 pub use session::{Answer, Session};
 pub use sporc_base::Memory;
 pub use sporc_wire::MAX_PULLED;

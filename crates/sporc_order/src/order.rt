@@ -82,6 +82,7 @@ impl Order {
     pub fn pull(&self, from: u32) -> &[Vec<u8>]
         ensures entries { map (λ v. v.items) result.now ≡ batch_after self.now.entries from }
         ensures empty { length result.now ≡ 0 ↔ length self.now.entries ≤ from }
+        ensures limit { length result.now ≤ MAX_PULLED }
     {
         let entries = self.heads.entries();
         let from = (from as usize).min(entries.len());

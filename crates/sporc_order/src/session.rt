@@ -3,13 +3,15 @@
 ghost use Rattle.std.specs.Prelude.{◌≡◌, ◌+◌, true, false, map, length, None, IfOk, OnOk, OnErr};
 ghost use Rattle.sporc_wire.specs.declared.to_client.ToClient.{ToClient};
 ghost use Rattle.sporc_order.specs.Batches.{batch_after};
+ghost use Rattle.sporc_order.specs.Replies.{Says};
 ghost use Rattle.sporc_order.specs.Sessions.{step_of, greeted, submitted, entries_after};
 ghost use Rattle.sporc_head.specs.HeadChecks.{head_fault};
 
 use crate::order::Order;
+use crate::reply::{Reply, reply_of};
 use sporc_base::{Bytes, Items, Memory, is_same};
 use sporc_head::Refusal;
-use sporc_wire::{ToClient, ToServer};
+use sporc_wire::{FrameFault, ToClient, ToServer, write_entries};
 use std::alloc::{AllocError, Global};
 use std::marker::Model;
 
@@ -79,6 +81,33 @@ impl Session {
         }
     }
 
+    /// Answers a message as [`Session::step`] does. Each entry that is sent is copied once, into the frame.
+    pub fn reply(
+        &mut self,
+        alloc: Global,
+        order: &mut Order,
+        message: &ToServer,
+    ) -> Result<Reply, Memory>
+        ensures reply { IfOk result (Says (step_of order.old self.old message.now).answer) }
+        ensures order { OnOk result (order.new ≡ (step_of order.old self.old message.now).order) }
+        ensures greeted { OnOk result (self.new ≡ (step_of order.old self.old message.now).is_greeted) }
+        ensures memory { OnErr result (order.new ≡ order.old) }
+        ensures unchanged { OnErr result (self.new ≡ self.old) }
+    {
+        match message {
+            ToServer::Pull { from } => {
+                if !self.is_greeted {
+                    return Ok(Reply::Close);
+                }
+                pull_framed(alloc, order, *from)
+            }
+            ToServer::Hello { .. } | ToServer::Submit { .. } => {
+                let answer = self.step(alloc, order, message)?;
+                Ok(reply_of(answer))
+            }
+        }
+    }
+
     // Answers a Hello.
     fn greet(&mut self, order: &Order, document: &[u8; 16]) -> Answer
         ensures first { self.old ≡ false → result ≡ (greeted order.now document.now).answer }
@@ -121,6 +150,20 @@ fn pull(alloc: Global, order: &Order, from: u32) -> Result<Answer, Memory>
         first: from + 1,
         entries,
     }))
+}
+
+// Answers a Pull, with the frame of the entries.
+fn pull_framed(alloc: Global, order: &Order, from: u32) -> Result<Reply, Memory>
+    ensures reply { IfOk result (Says (Answer.Send (entries_after from (batch_after order.now.entries from)))) }
+{
+    if from >= order.len() {
+        return Ok(Reply::Message(ToClient::Empty));
+    }
+    match write_entries(alloc, from + 1, order.pull(from)) {
+        Ok(frame) => Ok(Reply::Frame(Bytes::new(frame))),
+        Err(FrameFault::Memory) => Err(AllocError),
+        Err(FrameFault::BadMessage(_) | FrameFault::TooLong(_)) => unreachable!(),
+    }
 }
 
 // A copy of entries.

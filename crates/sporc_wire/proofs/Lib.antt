@@ -6,3 +6,4 @@ pub mod Nexts
 pub mod Readings
 pub mod RefusalNumbers
 pub mod ServerBodies
+pub mod EntryFrames

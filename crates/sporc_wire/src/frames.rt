@@ -52,6 +52,13 @@ impl Frames {
         }
     }
 
+    /// The place of the next frame in the stream.
+    pub fn at(&self) -> u64
+        ensures value { result ≡ self.now.at }
+    {
+        self.at
+    }
+
     /// Appends a piece, unless a `next` call found a fault.
     pub fn feed(&mut self, piece: &[u8]) -> Result<(), FrameFault>
         ensures ok { OnOk result (self.new ≡ fed piece.now self.old) }

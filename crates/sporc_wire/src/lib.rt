@@ -20,6 +20,7 @@
 #![tactic(auto)]
 
 mod cutter;
+mod entries;
 mod fault;
 mod frames;
 pub mod laws;
@@ -31,5 +32,5 @@ mod to_server;
 pub use cutter::MAX_BODY;
 pub use fault::FrameFault;
 pub use frames::Frames;
-pub use to_client::{MAX_PULLED, ToClient, write_to_client};
+pub use to_client::{MAX_PULLED, ToClient, write_entries, write_to_client};
 pub use to_server::{ToServer, write_to_server};

@@ -2,9 +2,9 @@
 
 ghost use Rattle.std.specs.Prelude.{◌≡◌, ℕ, List, Result};
 ghost use Rattle.sporc_base.specs.Outcome.{GivesUnless};
-ghost use Rattle.sporc_bytes.specs.Fields.{Reads, end_at, fault_as};
+ghost use Rattle.sporc_bytes.specs.Fields.{fault_as};
 
-use sporc_bytes::{Cursor, Short};
+use sporc_bytes::Short;
 use std::alloc::{AllocError, AllocFailed, Global};
 
 // Why the body of a frame gives no message.
@@ -55,15 +55,4 @@ pub(crate) trait Message: Sized {
 
     fn read(alloc: Global, body: &[u8]) -> Result<Self, BodyFault>
         ensures value { GivesUnless BodyFault.Memory (λ m. m) result (fault_as BodyFault.Bad (of body.now)) };
-}
-
-// Nothing is left of a body.
-pub(crate) fn read_end(cursor: &Cursor<'_>) -> Result<(), Short>
-    ensures { Reads (λ _. tt) result (end_at cursor.now) }
-{
-    if cursor.end() {
-        Ok(())
-    } else {
-        Err(Short(cursor.at()))
-    }
 }

@@ -1,20 +1,23 @@
 //! Messages to a client.
 
-ghost use Rattle.std.specs.Prelude.{◌≡◌, ◌<◌, ◌^◌, ◌++◌, length, OnOk};
-ghost use Rattle.std.specs.List.{flat_map};
-ghost use Rattle.std.specs.Int.{w8};
+ghost use Rattle.std.specs.Prelude.{◌≡◌, ◌≤◌, length, map, IfOk};
 ghost use Rattle.sporc_base.specs.Outcome.{GivesUnless};
-ghost use Rattle.sporc_bytes.specs.Fields.{Reads, counted_at, counted, fault_as};
-ghost use Rattle.sporc_entry.specs.Fields.{values_at, number_within};
-ghost use Rattle.sporc_wire.specs.Messages.{framed, counted_to_end};
+ghost use Rattle.sporc_bytes.specs.Fields.{Reads, counted_at, fault_as};
+ghost use Rattle.sporc_entry.specs.Fields.{values_at};
+ghost use Rattle.sporc_wire.specs.declared.to_client.ToClient.{ToClient};
+ghost use Rattle.sporc_wire.specs.declared.to_client.TheConstants.{MAX_PULLED};
+ghost use Rattle.sporc_wire.specs.Messages.{framed};
+ghost use Rattle.sporc_wire.specs.Stream.{frame};
 ghost use Rattle.sporc_wire.specs.ToClient.{ordered_at, rejected_at, entries_at, empty_at, to_client_bytes, IsToClient};
 
 use crate::cutter::MAX_BODY;
+use crate::entries::entries_frame;
 use crate::fault::FrameFault;
-use crate::message::{BodyFault, Message, read_end};
+use crate::message::{BodyFault, Message};
 use crate::refusals::{detail_of, refusal_with};
 use sporc_base::{Bytes, Items, Memory};
 use sporc_bytes::{Cursor, Out, Short};
+use sporc_entry::fields::{read_end, read_u8};
 use sporc_head::Refusal;
 use std::alloc::Global;
 
@@ -23,7 +26,7 @@ const ORDERED: u8 = 1;
 
 const REJECTED: u8 = 2;
 
-const ENTRIES: u8 = 3;
+pub(crate) const ENTRIES: u8 = 3;
 
 const EMPTY: u8 = 4;
 
@@ -77,7 +80,7 @@ fn read_ordered(cursor: &mut Cursor<'_>) -> Result<ToClient, Short>
 fn read_rejected(cursor: &mut Cursor<'_>) -> Result<ToClient, Short>
     ensures { Reads (λ m. m) result (rejected_at cursor.old) }
 {
-    let code = read_within(cursor, 1, MAX_CODE)?;
+    let code = read_u8(cursor, 1, MAX_CODE)?;
     let at = cursor.at();
     let detail = cursor.u32()?;
     let Some(refusal) = refusal_with(code, detail) else {
@@ -93,7 +96,7 @@ fn read_entries(alloc: Global, cursor: &mut Cursor<'_>) -> Result<ToClient, Body
     ensures { GivesUnless BodyFault.Memory (λ m. m) result (fault_as BodyFault.Bad (entries_at cursor.old)) }
 {
     let first = cursor.u32()?;
-    let count = read_within(cursor, 1, MAX_PULLED)?;
+    let count = read_u8(cursor, 1, MAX_PULLED)?;
     let entries = read_list(alloc, cursor, count)?;
     read_end(cursor)?;
     Ok(ToClient::Entries {
@@ -111,19 +114,6 @@ fn read_empty(cursor: &mut Cursor<'_>) -> Result<ToClient, Short>
     Ok(ToClient::Empty)
 }
 
-// The next byte, which is from `low` to `high`.
-#[tactic(auto, unfolding(sporc_entry::specs::Fields::number_within))]
-fn read_within(cursor: &mut Cursor<'_>, low: u8, high: u8) -> Result<u8, Short>
-    ensures { Reads (λ n. (n, cursor.new)) result (number_within low high w8 cursor.old) }
-{
-    let at = cursor.at();
-    let n = cursor.u8()?;
-    if n < low || high < n {
-        return Err(Short(at));
-    }
-    Ok(n)
-}
-
 // The counted entries that stand next.
 fn read_list(alloc: Global, cursor: &mut Cursor<'_>, count: u8) -> Result<Vec<Bytes>, BodyFault>
     ensures { GivesUnless BodyFault.Memory (λ entries. (entries.items, cursor.new)) result
@@ -138,64 +128,38 @@ fn read_list(alloc: Global, cursor: &mut Cursor<'_>, count: u8) -> Result<Vec<By
     Ok(entries)
 }
 
-// How many bytes the body of a message has.
-fn body_len(message: &ToClient) -> u64
-    ensures { result ≡ counted_to_end (length (to_client_bytes message.now)) }
+// The frame of an Ordered.
+fn ordered_frame(alloc: Global, pos: u32) -> Result<Vec<u8>, Memory>
+    ensures { IfOk result (λ v. v.items ≡ frame (to_client_bytes (ToClient.Ordered pos))) }
 {
-    match message {
-        ToClient::Ordered { .. } => 5,
-        ToClient::Rejected { .. } => 6,
-        ToClient::Entries { entries, .. } => counted_len(entries.as_slice()).saturating_add(6),
-        ToClient::Empty => 1,
-    }
+    let mut out = Out::new(alloc);
+    out.put_u32(5)?;
+    out.put_u8(ORDERED)?;
+    out.put_u32(pos)?;
+    Ok(out.into_bytes())
 }
 
-// How many bytes counted entries have.
-fn counted_len(entries: &[Bytes]) -> u64
-    ensures { result ≡ counted_to_end (length (flat_map counted entries.now)) }
+// The frame of a Rejected.
+fn rejected_frame(alloc: Global, refusal: Refusal) -> Result<Vec<u8>, Memory>
+    requires range { IsToClient (ToClient.Rejected refusal) }
+    ensures { IfOk result (λ v. v.items ≡ frame (to_client_bytes (ToClient.Rejected refusal))) }
 {
-    let mut len = 0u64;
-    for entry in entries {
-        len = len.saturating_add((entry.as_slice().len() as u64).saturating_add(4));
-    }
-    len
+    let mut out = Out::new(alloc);
+    out.put_u32(6)?;
+    out.put_u8(REJECTED)?;
+    out.put_u8(refusal.code())?;
+    out.put_u32(detail_of(refusal))?;
+    Ok(out.into_bytes())
 }
 
-// Appends the body of a message.
-fn put_body(out: &mut Out, message: &ToClient) -> Result<(), Memory>
-    requires range { IsToClient message.now }
-    requires small { length (to_client_bytes message.now) < 2 ^ 32 }
-    ensures { OnOk result (out.new ≡ out.old ++ to_client_bytes message.now) }
+// The frame of an Empty.
+fn empty_frame(alloc: Global) -> Result<Vec<u8>, Memory>
+    ensures { IfOk result (λ v. v.items ≡ frame (to_client_bytes ToClient.Empty)) }
 {
-    match message {
-        ToClient::Ordered { pos } => {
-            out.put_u8(ORDERED)?;
-            out.put_u32(*pos)
-        }
-        ToClient::Rejected { refusal } => {
-            out.put_u8(REJECTED)?;
-            out.put_u8(refusal.code())?;
-            out.put_u32(detail_of(*refusal))
-        }
-        ToClient::Entries { first, entries } => {
-            out.put_u8(ENTRIES)?;
-            out.put_u32(*first)?;
-            out.put_u8(entries.as_slice().len() as u8)?;
-            put_list(out, entries.as_slice())
-        }
-        ToClient::Empty => out.put_u8(EMPTY),
-    }
-}
-
-// Appends counted entries.
-fn put_list(out: &mut Out, entries: &[Bytes]) -> Result<(), Memory>
-    requires { length (flat_map counted entries.now) < 2 ^ 32 }
-    ensures { OnOk result (out.new ≡ out.old ++ flat_map counted entries.now) }
-{
-    for entry in entries {
-        out.put_counted(entry.as_slice())?;
-    }
-    Ok(())
+    let mut out = Out::new(alloc);
+    out.put_u32(1)?;
+    out.put_u8(EMPTY)?;
+    Ok(out.into_bytes())
 }
 
 /// The frame of a message. `TooLong` exactly where its body is above the limit.
@@ -203,12 +167,21 @@ pub fn write_to_client(alloc: Global, message: &ToClient) -> Result<Vec<u8>, Fra
     requires { IsToClient message.now }
     ensures value { GivesUnless FrameFault.Memory (λ v. v.items) result (framed (to_client_bytes message.now)) }
 {
-    let len = body_len(message);
-    if len > u64::from(MAX_BODY) {
-        return Err(FrameFault::TooLong(len));
+    match message {
+        ToClient::Ordered { pos } => Ok(ordered_frame(alloc, *pos)?),
+        ToClient::Rejected { refusal } => Ok(rejected_frame(alloc, *refusal)?),
+        ToClient::Entries { first, entries } => entries_frame(alloc, *first, entries.as_slice()),
+        ToClient::Empty => Ok(empty_frame(alloc)?),
     }
-    let mut out = Out::new(alloc);
-    out.put_u32(len as u32)?;
-    put_body(&mut out, message)?;
-    Ok(out.into_bytes())
+}
+
+/// The frame of an Entries whose entries stand elsewhere: each is copied once, into the frame. `TooLong` exactly where its
+/// body is above the limit.
+pub fn write_entries(alloc: Global, first: u32, entries: &[Vec<u8>]) -> Result<Vec<u8>, FrameFault>
+    requires some { 1 ≤ length entries.now }
+    requires limit { length entries.now ≤ MAX_PULLED }
+    ensures value { GivesUnless FrameFault.Memory (λ v. v.items) result
+        (framed (to_client_bytes (ToClient.Entries first (map (λ v. v.items) entries.now)))) }
+{
+    entries_frame(alloc, first, entries)
 }

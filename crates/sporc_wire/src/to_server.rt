@@ -8,9 +8,10 @@ ghost use Rattle.sporc_wire.specs.ToServer.{hello_at, pull_at, to_server_bytes};
 
 use crate::cutter::MAX_BODY;
 use crate::fault::FrameFault;
-use crate::message::{BodyFault, Message, read_end};
+use crate::message::{BodyFault, Message};
 use sporc_base::{Bytes, Memory};
 use sporc_bytes::{Cursor, Out, Short};
+use sporc_entry::fields::read_end;
 use std::alloc::Global;
 
 // The first byte of each body.

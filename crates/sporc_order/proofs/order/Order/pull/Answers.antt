@@ -3,6 +3,7 @@ use Rattle.std.specs.List.{All}
 use Rattle.sporc_entry.specs.declared.limits.TheConstants.{MAX_ENTRY}
 use Rattle.sporc_order.specs.OrderModel.{OrderModel}
 use Rattle.sporc_order.proofs.Batches.{is_batch, is_empty}
+use Rattle.sporc_order.proofs.Sizes.{is_few}
 use Rattle.sporc_order.proofs.order.Order.pull.Goals as goal
 
 pub returns-clause-entries : goal.returns-clause-entries
@@ -15,3 +16,6 @@ returns-clause-empty c =
     is_empty _ c.args.self.now.entries c.args.from
     (subst (λ (m : OrderModel). All (λ b. length b ≤ MAX_ENTRY) m.entries) c.self.view_is c.entries-entries.ensures.sized)
     (returns-clause-entries c)
+
+pub returns-clause-limit : goal.returns-clause-limit
+returns-clause-limit c = is_few _ c.args.self.now.entries c.args.from (returns-clause-entries c)

@@ -1,0 +1,14 @@
+use Rattle.std.proofs.Common.{length, arith, ap, length-append}
+use Rattle.std.proofs.lemmas.List.Folds.{length-flat_map-take}
+use Rattle.std.specs.Int.{w32, to_be_bytes}
+use Rattle.sporc_bytes.specs.Fields.{counted}
+use Rattle.sporc_wire.proofs.entries.put_list.Goals as goal
+
+pub put_counted-requires : goal.put_counted-requires
+put_counted-requires g c =
+    let entry = c.entry-item.result in
+    let bytes = g.T.EntryBytes.bytes in
+    let one = length-flat_map-take (λ e. counted (bytes e)) c.args.entries.now c.loop-entry.entry-index entry c.loop-entry-test.true in
+    let same = ap (λ e. length (counted (bytes e))) c.entry-item.is in
+    let parts = length-append (to_be_bytes w32 (length (bytes entry))) (bytes entry) in
+    omega (arith, one, same, parts, ap length c.as_bytes.ensures, c.requires)

@@ -1,0 +1,111 @@
+// The frames of entries, which copy each entry once.
+
+ghost use Rattle.std.specs.Prelude.{◌≡◌, ◌≤◌, ◌<◌, ◌^◌, ◌++◌, ℕ, List, length, map, OnOk};
+ghost use Rattle.std.specs.List.{flat_map};
+ghost use Rattle.sporc_base.specs.Outcome.{GivesUnless};
+ghost use Rattle.sporc_bytes.specs.Fields.{counted};
+ghost use Rattle.sporc_wire.specs.declared.to_client.ToClient.{ToClient};
+ghost use Rattle.sporc_wire.specs.declared.to_client.TheConstants.{MAX_PULLED};
+ghost use Rattle.sporc_wire.specs.Messages.{framed, counted_to_end};
+ghost use Rattle.sporc_wire.specs.ToClient.{to_client_bytes};
+
+use crate::cutter::MAX_BODY;
+use crate::fault::FrameFault;
+use crate::to_client::ENTRIES;
+use sporc_base::{Bytes, Memory};
+use std::alloc::Global;
+
+// An entry, however its bytes are kept.
+pub(crate) trait EntryBytes {
+    // The bytes.
+    ghost bytes: { Self → List ℕ };
+
+    fn as_bytes(&self) -> &[u8]
+        ensures { result.now ≡ bytes self.now };
+}
+
+impl EntryBytes for Bytes {
+    ghost bytes = { λ b. b };
+
+    fn as_bytes(&self) -> &[u8] {
+        self.as_slice()
+    }
+}
+
+impl EntryBytes for Vec<u8> {
+    ghost bytes = { λ v. v.items };
+
+    fn as_bytes(&self) -> &[u8] {
+        self.as_slice()
+    }
+}
+
+// The frame of an Entries.
+pub(crate) fn entries_frame<T: EntryBytes>(
+    alloc: Global,
+    first: u32,
+    entries: &[T],
+) -> Result<Vec<u8>, FrameFault>
+    requires limit { length entries.now ≤ MAX_PULLED }
+    ensures value { GivesUnless FrameFault.Memory (λ v. v.items) result
+        (framed (to_client_bytes (ToClient.Entries first (map (λ e. T.bytes e) entries.now)))) }
+{
+    let len = body_len(first, entries);
+    if len > u64::from(MAX_BODY) {
+        return Err(FrameFault::TooLong(len));
+    }
+    let mut frame = Vec::with_capacity(alloc, len as usize + 4)?;
+    frame.extend_from_slice(&(len as u32).to_be_bytes())?;
+    put_body(&mut frame, first, entries)?;
+    Ok(frame)
+}
+
+// How many bytes the body has.
+fn body_len<T: EntryBytes>(first: u32, entries: &[T]) -> u64
+    ensures { result ≡ counted_to_end (length (to_client_bytes (ToClient.Entries first (map (λ e. T.bytes e) entries.now)))) }
+{
+    counted_len(entries).saturating_add(6)
+}
+
+// How many bytes counted entries have.
+fn counted_len<T: EntryBytes>(entries: &[T]) -> u64
+    ensures { result ≡ counted_to_end (length (flat_map (λ e. counted (T.bytes e)) entries.now)) }
+{
+    let mut len = 0u64;
+    for entry in entries {
+        len = len.saturating_add((entry.as_bytes().len() as u64).saturating_add(4));
+    }
+    len
+}
+
+// Appends the body.
+fn put_body<T: EntryBytes>(frame: &mut Vec<u8>, first: u32, entries: &[T]) -> Result<(), Memory>
+    requires limit { length entries.now ≤ MAX_PULLED }
+    requires small { length (to_client_bytes (ToClient.Entries first (map (λ e. T.bytes e) entries.now))) < 2 ^ 32 }
+    ensures { OnOk result (frame.new.items ≡ frame.old.items ++ to_client_bytes (ToClient.Entries first (map (λ e. T.bytes e) entries.now))) }
+{
+    frame.extend_from_slice(&[ENTRIES])?;
+    frame.extend_from_slice(&first.to_be_bytes())?;
+    frame.extend_from_slice(&[entries.len() as u8])?;
+    put_list(frame, entries)
+}
+
+// Appends counted entries.
+fn put_list<T: EntryBytes>(frame: &mut Vec<u8>, entries: &[T]) -> Result<(), Memory>
+    requires { length (flat_map (λ e. counted (T.bytes e)) entries.now) < 2 ^ 32 }
+    ensures { OnOk result (frame.new.items ≡ frame.old.items ++ flat_map (λ e. counted (T.bytes e)) entries.now) }
+{
+    for entry in entries {
+        put_counted(frame, entry.as_bytes())?;
+    }
+    Ok(())
+}
+
+// Appends a counted entry.
+fn put_counted(frame: &mut Vec<u8>, entry: &[u8]) -> Result<(), Memory>
+    requires { length entry.now < 2 ^ 32 }
+    ensures { OnOk result (frame.new.items ≡ frame.old.items ++ counted entry.now) }
+{
+    frame.extend_from_slice(&(entry.len() as u32).to_be_bytes())?;
+    frame.extend_from_slice(entry)
+}
