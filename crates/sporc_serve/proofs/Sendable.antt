@@ -1,7 +1,6 @@
 -- What an order answers is within the limits of a message, and what a stream gives fits an order's frame.
-use Rattle.std.proofs.Common.{◌≡◌, ◌≢◌, ℕ, zero, suc, ◌+◌, ◌-◌, ◌<◌, ◌≤◌, ◌^◌, ◌==◌, Bool, true, false, ltb, leb, nat_lt, nat_le, List, [], ◌∷◌, ◌++◌, length, take, drop, Option, Some, None, Result, Ok, Err, is_some, refl, ap, subst, ◌∙◌, arith, if◌then◌else◌, bytes_eq, flat_map, length-append}
-use Rattle.std.specs.Int.{w32, to_be_bytes}
-use Rattle.std.proofs.lemmas.Bool.{leb-true, ltb-true, ltb-false}
+use Rattle.std.proofs.Common.{◌≡◌, ◌≢◌, ℕ, zero, suc, ◌+◌, ◌<◌, ◌≤◌, ◌^◌, ◌==◌, Bool, true, false, ltb, nat_lt, nat_le, List, [], ◌∷◌, ◌++◌, length, take, drop, Option, Some, None, Result, Ok, Err, is_some, refl, ap, sym, subst, ◌∙◌, arith, if◌then◌else◌, bytes_eq, flat_map, length-append}
+use Rattle.std.proofs.lemmas.Bool.{ltb-true, ltb-false}
 use Rattle.std.proofs.lemmas.List.{drop_all}
 use Rattle.sporc_base.specs.FirstFault.{unless, first_of}
 use Rattle.sporc_bytes.specs.Fields.{counted}
@@ -21,17 +20,23 @@ use Rattle.sporc_head.specs.declared.refusal.Refusal.TheVariants.{Malformed, Wro
 use Rattle.sporc_head.specs.History.{epoch_of, roster_of, barrier_of, last_of, count_of, hash_of}
 use Rattle.sporc_head.specs.HeadChecks.{bad_change, is_not_removed, allows_member, names_leaf, verifies_member, names, roster_checks, place_checks, history_checks, author_checks, head_checks, fault_read, head_fault}
 use Rattle.sporc_wire.specs.Refusals.{refusal_detail_of}
-use Rattle.sporc_wire.specs.ToClient.{to_client_bytes}
 use Rattle.sporc_wire.specs.declared.cutter.TheConstants.{MAX_BODY}
 use Rattle.sporc_wire.specs.declared.to_client.TheConstants.{MAX_PULLED}
-use Rattle.sporc_wire.specs.declared.to_client.ToClient.TheVariants.{Entries}
+use Rattle.sporc_wire.specs.declared.to_client.ToClient.{ToClient}
 use Rattle.sporc_wire.specs.declared.to_server.ToServer.{ToServer}
 use Rattle.sporc_wire.specs.declared.to_server.ToServer.TheVariants.{Hello, Submit, Pull}
 use Rattle.sporc_order.specs.declared.order.TheConstants.{MAX_PULLED_BYTES}
+use Rattle.sporc_order.specs.declared.session.Answer.{Answer}
 use Rattle.sporc_order.specs.declared.session.Answer.TheVariants.{Send, Silent, Close}
+use Rattle.sporc_order.specs.declared.reply.Reply.{Reply}
+use Rattle.sporc_order.specs.declared.reply.Reply.TheVariants as replies
+use Rattle.sporc_order.specs.declared.reply.Reply.TheVariants.{Message, Frame}
+use Rattle.sporc_order.specs.Replies.{Says}
 use Rattle.sporc_order.specs.OrderModel.{OrderModel}
 use Rattle.sporc_order.specs.Batches.{longest_batch, batch_after}
+use Rattle.sporc_order.proofs.Sizes.{batch_len, batch_bytes, entries_fit}
 use Rattle.sporc_order.specs.Sessions.{step_of, submitted, only, entries_after, IsSendable, IsFramed}
+use Rattle.sporc_serve.specs.Sending.{CanBeSent}
 
 -- ---- refusals
 
@@ -147,32 +152,6 @@ refusal_told g me entries pos bytes r fits is = go (entry_of bytes) refl is
 
 -- ---- entries that are handed out
 
-batch_len : (n room : ℕ) (es : List (List ℕ)) → length (longest_batch n room es) ≤ n
-batch_len zero room es = omega arith
-batch_len (suc n) room [] = omega arith
-batch_len (suc n) room (e ∷ es) = go (leb (length e + 4) room) (batch_len n (room - (length e + 4)) es)
-  where
-    go : (b : Bool) → length (longest_batch n (room - (length e + 4)) es) ≤ n
-        → length (if b then e ∷ longest_batch n (room - (length e + 4)) es else []) ≤ suc n
-    go true le = omega (arith, le)
-    go false le = omega arith
-
-counted_len : (e : List ℕ) → length (counted e) ≡ length e + 4
-counted_len e = omega (arith, length-append (to_be_bytes w32 (length e)) e)
-
-batch_bytes : (n room : ℕ) (es : List (List ℕ)) → length (flat_map counted (longest_batch n room es)) ≤ room
-batch_bytes zero room es = omega arith
-batch_bytes (suc n) room [] = omega arith
-batch_bytes (suc n) room (e ∷ es) = go (leb (length e + 4) room) refl (batch_bytes n (room - (length e + 4)) es)
-  where
-    go : (b : Bool) → leb (length e + 4) room ≡ b → length (flat_map counted (longest_batch n (room - (length e + 4)) es)) ≤ room - (length e + 4)
-        → length (flat_map counted (if b then e ∷ longest_batch n (room - (length e + 4)) es else [])) ≤ room
-    go true h le =
-        let rest = longest_batch n (room - (length e + 4)) es in
-        let fits : length e + 4 ≤ room = leb-true (length e + 4) room h in
-        omega (arith, length-append (counted e) (flat_map counted rest), counted_len e, fits, le)
-    go false h le = omega arith
-
 batch_none : (n room : ℕ) → longest_batch n room [] ≡ []
 batch_none zero room = refl
 batch_none (suc n) room = refl
@@ -185,9 +164,6 @@ batch_some es from some = go (ltb from (length es)) refl
     go false is =
         let none : drop from es ≡ [] = drop_all from es (ltb-false from (length es) is) in
         absurd (some (ap (longest_batch MAX_PULLED MAX_PULLED_BYTES) none ∙ batch_none MAX_PULLED MAX_PULLED_BYTES))
-
-entries_fit : (first : ℕ) (es : List (List ℕ)) → length (flat_map counted es) ≤ MAX_PULLED_BYTES → length (to_client_bytes (Entries first es)) ≤ MAX_BODY
-entries_fit first es fits = omega (arith, length-append (to_be_bytes w32 first) (length es ∷ flat_map counted es), fits)
 
 entries_sendable : (from : ℕ) (es : List (List ℕ)) → (es ≢ [] → from + 1 < 2 ^ 32) → length es ≤ MAX_PULLED → length (flat_map counted es) ≤ MAX_PULLED_BYTES
     → IsSendable (Send (entries_after from es))
@@ -218,3 +194,12 @@ answer_sendable o false (Hello document member) room framed = go (bytes_eq docum
     go false = tt
 answer_sendable o false (Submit entry) room framed = tt
 answer_sendable o false (Pull from) room framed = tt
+
+-- and so can a reply that says one
+pub reply_sendable : (answer : Answer) (reply : Reply) → Says answer reply → IsSendable answer → CanBeSent reply
+reply_sendable (Send m) (Message sent) says can = subst (λ (x : ToClient). IsSendable (Send x)) (sym says) can
+reply_sendable Silent (Message sent) says can = absurd says
+reply_sendable Close (Message sent) says can = absurd says
+reply_sendable answer (Frame bytes) says can = tt
+reply_sendable answer replies.Silent says can = tt
+reply_sendable answer replies.Close says can = tt

@@ -11,12 +11,14 @@ use Rattle.sporc_wire.specs.declared.to_server.ToServer.{ToServer}
 use Rattle.sporc_wire.specs.Messages.{Unread, stream_of, next}
 use Rattle.sporc_wire.specs.ToServer.{to_server_of}
 use Rattle.sporc_order.specs.declared.session.Answer.{Answer}
-use Rattle.sporc_order.specs.Sessions.{IsSendable, IsFramed}
+use Rattle.sporc_order.specs.declared.reply.Reply.{Reply}
+use Rattle.sporc_order.specs.Replies.{Says}
+use Rattle.sporc_order.specs.Sessions.{IsFramed}
 use Rattle.sporc_serve.specs.declared.end.SessionEnd.{SessionEnd}
 use Rattle.sporc_serve.specs.declared.end.SessionEnd.TheVariants.{Memory}
 use Rattle.sporc_serve.specs.declared.item.Item.{Item}
 use Rattle.sporc_serve.specs.Logs.{IsLogOf, OfDocument}
-use Rattle.sporc_serve.specs.Sending.{bytes_of}
+use Rattle.sporc_serve.specs.Sending.{bytes_of, CanBeSent}
 use Rattle.sporc_serve.specs.Turns.{TakesTurn}
 use Rattle.sporc_serve.specs.Endings.{IsSendEnd, Inlet, inlet, TakesMessage, IsNext}
 use Rattle.sporc_serve.specs.Courses.{Stand, stand, GoesOn, Carries}
@@ -29,30 +31,32 @@ use Rattle.sporc_serve.proofs.Going.{next_waits, kept, goes_fed, goes_no_further
 -- ---- one turn
 
 -- what a turn answers can be sent
-pub turn_sendable : {E : Type 0} (r : Result Answer E) (result : Result Answer SessionEnd) → IfOk r IsSendable → IfOk r (λ a. result ≡ Ok a)
-    → OnErr r (result ≡ Err Memory) → IfOk result IsSendable
-turn_sendable (Ok a) result sendable ok err = subst (λ (x : Result Answer SessionEnd). IfOk x IsSendable) (sym ok) sendable
-turn_sendable (Err e) result sendable ok err = subst (λ (x : Result Answer SessionEnd). IfOk x IsSendable) (sym err) tt
+pub turn_sendable : {E : Type 0} (r : Result Reply E) (result : Result Reply SessionEnd) → IfOk r CanBeSent → IfOk r (λ a. result ≡ Ok a)
+    → OnErr r (result ≡ Err Memory) → IfOk result CanBeSent
+turn_sendable (Ok a) result sendable ok err = subst (λ (x : Result Reply SessionEnd). IfOk x CanBeSent) (sym ok) sendable
+turn_sendable (Err e) result sendable ok err = subst (λ (x : Result Reply SessionEnd). IfOk x CanBeSent) (sym err) tt
 
 -- ---- an answer
 
 module _ (known known' : Known Item) (left left' written written' : Option (List ℕ)) (faults faults' : ℕ) (unread : Unread) (s s' : Bool) (m : ToServer)
-    (r : Result Answer SessionEnd) (turn : OfDocument known.seen (λ g. TakesTurn g known known' s s' m r))
+    (r : Result Reply SessionEnd) (turn : OfDocument known.seen (λ g. TakesTurn g known known' s s' m r))
     (here : (next to_server_of unread).answer ≡ Ok (Some m)) where
   -- the turn answered, whatever became of the answer
-  pub answer_goes : (answer : Answer) (e : Option SessionEnd) → r ≡ Ok answer → left' ≡ left → faults ≤ faults'
-      → IfNone e (Appends written written' (bytes_of answer)) → IfSome e (IsSendEnd answer written written' faults faults')
+  pub answer_goes : (reply : Reply) (e : Option SessionEnd) → r ≡ Ok reply → left' ≡ left → faults ≤ faults'
+      → ((answer : Answer) → Says answer reply → IfNone e (Appends written written' (bytes_of answer)))
+      → ((answer : Answer) → Says answer reply → IfSome e (IsSendEnd answer written written' faults faults'))
       → Carries (stand known left written faults unread s) (stand known' left' written' faults' (next to_server_of unread).after s') e
-  answer_goes answer e is same more none some g a bytes xs log c =
-      let t = subst (λ (x : Result Answer SessionEnd). TakesTurn g known known' s s' m x) is (turn g log) in
-      sent_goes g a (stand known left written faults unread s) bytes xs c m known' s' answer t.0 here t.1 written' faults' more left' e same none some
+  answer_goes reply e is same more none some g a bytes xs log c =
+      let t = subst (λ (x : Result Reply SessionEnd). TakesTurn g known known' s s' m x) is (turn g log) in
+      sent_goes g a (stand known left written faults unread s) bytes xs c m known' s' t.0 t.1 here t.2 written' faults' more left' e same
+      (none t.0 t.3) (some t.0 t.3)
 
   -- the turn did not answer
   pub answer_ends : (end : SessionEnd) → r ≡ Err end
       → Carries (stand known left written faults unread s) (stand known' left written faults (next to_server_of unread).after s') (Some end)
   answer_ends end is g a bytes xs log c =
       goes_unanswered g a (stand known left written faults unread s) bytes xs c m known' s' end (next to_server_of unread).after
-      (subst (λ (x : Result Answer SessionEnd). TakesTurn g known known' s s' m x) is (turn g log))
+      (subst (λ (x : Result Reply SessionEnd). TakesTurn g known known' s s' m x) is (turn g log))
 
 -- ---- the next message
 

@@ -6,7 +6,8 @@ use Rattle.sporc_entry.specs.declared.genesis.Genesis.{Genesis}
 use Rattle.sporc_wire.specs.declared.to_server.ToServer.{ToServer}
 use Rattle.sporc_order.specs.OrderModel.{OrderModel}
 use Rattle.sporc_order.specs.Sessions.{step_of}
-use Rattle.sporc_order.specs.declared.session.Answer.{Answer}
+use Rattle.sporc_order.specs.declared.reply.Reply.{Reply}
+use Rattle.sporc_order.specs.Replies.{Says}
 use Rattle.sporc_turn.specs.declared.known.Known.{Known}
 use Rattle.sporc_turn.specs.declared.limits.TheConstants.{MAX_TICKETS}
 use Rattle.sporc_turn.specs.declared.kept.Kept.{Ghosts}
@@ -45,20 +46,22 @@ adds_items k k' found log items begins more is = record {
   start = ap (λ (x : Known Item). x.start) is;
 }
 
-pub turn_answers : (g : Genesis) (k k' : Known Item) (s s' : Bool) (m : ToServer) (a : Answer) (o : OrderModel) (ns : List ℕ) (log : List Item)
+pub turn_answers : (g : Genesis) (k k' : Known Item) (s s' : Bool) (m : ToServer) (r : Reply) (o : OrderModel) (ns : List ℕ) (log : List Item)
     → IsLogOf g k.seen → Agrees by_of k (log_of o ns) → length ns ≡ length o.entries
-    → a ≡ (step_of o s m).answer → s' ≡ (step_of o s m).is_greeted → log ≡ log_of o ns ++ placed_by k.number (added_of o s m)
-    → k' ≡ adding (seeing k (log_of o ns)) log → TakesTurn g k k' s s' m (Ok a)
-turn_answers g k k' s s' m a o ns log seen agrees same answer greeted more is =
+    → Says (step_of o s m).answer r → s' ≡ (step_of o s m).is_greeted → log ≡ log_of o ns ++ placed_by k.number (added_of o s m)
+    → k' ≡ adding (seeing k (log_of o ns)) log → TakesTurn g k k' s s' m (Ok r)
+turn_answers g k k' s s' m r o ns log seen agrees same says greeted more is =
     let found = log_of o ns in
     let at : o ≡ order_at g found = order_is g o ns same (starts_log g found k.seen agrees.begins seen) in (
+      (step_of o s m).answer,
       found,
       record {
-        answer_is = answer ∙ ap (λ (x : OrderModel). (step_of x s m).answer) at;
+        answer_is = ap (λ (x : OrderModel). (step_of x s m).answer) at;
         greeted_is = greeted ∙ ap (λ (x : OrderModel). (step_of x s m).is_greeted) at;
         adds = adds_items k k' found log (placed_by k.number (added_of (order_at g found) s m)) agrees.begins
             (more ∙ ap (λ (x : OrderModel). found ++ placed_by k.number (added_of x s m)) at) is;
       },
+      says,
     )
 
 pub turn_unanswered : (g : Genesis) (k k' : Known Item) (s s' : Bool) (m : ToServer) (found log : List Item)
@@ -92,16 +95,16 @@ extends_after k kh found log n es held is more =
 
 -- a turn, with or without an answer
 pub turn_done : (g : Genesis) (k kh k' : Known Item) (s s' : Bool) (m : ToServer) (o : OrderModel) (ns : List ℕ) (log : List Item) (n : ℕ) {E : Type 0}
-    (r : Result Answer E) (result : Result Answer SessionEnd) → IsLogOf g k.seen → Agrees by_of k (log_of o ns) → length ns ≡ length o.entries
-    → n ≡ k.number → IfOk r (λ a. a ≡ (step_of o s m).answer) → OnOk r (s' ≡ (step_of o s m).is_greeted) → OnErr r (s' ≡ s)
+    (r : Result Reply E) (result : Result Reply SessionEnd) → IsLogOf g k.seen → Agrees by_of k (log_of o ns) → length ns ≡ length o.entries
+    → n ≡ k.number → IfOk r (Says (step_of o s m).answer) → OnOk r (s' ≡ (step_of o s m).is_greeted) → OnErr r (s' ≡ s)
     → log ≡ log_of o ns ++ placed_by n (if_answered r (added_of o s m)) → kh ≡ seeing k (log_of o ns) → k' ≡ adding kh log
     → IfOk r (λ a. result ≡ Ok a) → OnErr r (result ≡ Err Memory) → TakesTurn g k k' s s' m result
-turn_done g k kh k' s s' m o ns log n (Ok a) result seen agrees same number answer greeted kept more held is ok err =
-    subst (λ (x : Result Answer SessionEnd). TakesTurn g k k' s s' m x) (sym ok)
-    (turn_answers g k k' s s' m a o ns log seen agrees same answer greeted
+turn_done g k kh k' s s' m o ns log n (Ok a) result seen agrees same number says greeted kept more held is ok err =
+    subst (λ (x : Result Reply SessionEnd). TakesTurn g k k' s s' m x) (sym ok)
+    (turn_answers g k k' s s' m a o ns log seen agrees same says greeted
     (more ∙ ap (λ (x : ℕ). log_of o ns ++ placed_by x (added_of o s m)) number) (is ∙ ap (λ (x : Known Item). adding x log) held))
-turn_done g k kh k' s s' m o ns log n (Err e) result seen agrees same number answer greeted kept more held is ok err =
-    subst (λ (x : Result Answer SessionEnd). TakesTurn g k k' s s' m x) (sym err)
+turn_done g k kh k' s s' m o ns log n (Err e) result seen agrees same number says greeted kept more held is ok err =
+    subst (λ (x : Result Reply SessionEnd). TakesTurn g k k' s s' m x) (sym err)
     (turn_unanswered g k k' s s' m (log_of o ns) log agrees kept (more ∙ append-nil (log_of o ns)) (is ∙ ap (λ (x : Known Item). adding x log) held))
 
 -- what is known of a pass in the same turn

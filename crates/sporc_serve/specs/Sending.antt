@@ -4,6 +4,9 @@ use Rattle.sporc_wire.specs.Stream.{frame}
 use Rattle.sporc_wire.specs.ToClient.{to_client_bytes}
 use Rattle.sporc_order.specs.declared.session.Answer.{Answer}
 use Rattle.sporc_order.specs.declared.session.Answer.TheVariants.{Send, Silent, Close}
+use Rattle.sporc_order.specs.declared.reply.Reply.{Reply}
+use Rattle.sporc_order.specs.declared.reply.Reply.TheVariants.{Message}
+use Rattle.sporc_order.specs.Sessions.{IsSendable}
 
 -- the bytes of an answer
 abbrev pub bytes_of : Answer → List ℕ
@@ -15,3 +18,8 @@ bytes_of Close = []
 abbrev pub sent_of : List Answer → List ℕ
 sent_of [] = []
 sent_of (answer ∷ answers) = bytes_of answer ++ sent_of answers
+
+-- a message that is to be sent is in range, and fits a frame
+abbrev pub CanBeSent : Reply → Type 0
+CanBeSent (Message message) = IsSendable (Send message)
+CanBeSent reply = Unit {0}

@@ -6,6 +6,8 @@ use Rattle.sporc_turn.specs.Log.{StartsWith}
 use Rattle.sporc_entry.specs.declared.genesis.Genesis.{Genesis}
 use Rattle.sporc_wire.specs.declared.to_server.ToServer.{ToServer}
 use Rattle.sporc_order.specs.declared.session.Answer.{Answer}
+use Rattle.sporc_order.specs.declared.reply.Reply.{Reply}
+use Rattle.sporc_order.specs.Replies.{Says}
 use Rattle.sporc_order.specs.Sessions.{step_of}
 use Rattle.sporc_serve.specs.declared.end.SessionEnd.{SessionEnd}
 use Rattle.sporc_serve.specs.declared.end.SessionEnd.TheVariants.{Closed, LinkEnded, LinkFault, BadFrame, Worn, Memory}
@@ -42,8 +44,8 @@ IsTurnEnd (Worn ticket) = ticket ≡ MAX_TICKETS
 IsTurnEnd Memory = Unit {0}
 
 -- one turn of a session, from what its pass knew before to what it knows after
-abbrev pub TakesTurn : Genesis → Known Item → Known Item → Bool → Bool → ToServer → Result Answer SessionEnd → Type 0
-TakesTurn genesis before after greeted greeted' message (Ok answer) =
-    (found : List Item) × IsAnswered genesis before after greeted greeted' message answer found
+abbrev pub TakesTurn : Genesis → Known Item → Known Item → Bool → Bool → ToServer → Result Reply SessionEnd → Type 0
+TakesTurn genesis before after greeted greeted' message (Ok reply) =
+    (answer : Answer) × (found : List Item) × IsAnswered genesis before after greeted greeted' message answer found × Says answer reply
 TakesTurn genesis before after greeted greeted' message (Err end) =
     (found : List Item) × IsUnanswered before after greeted greeted' found × IsTurnEnd end

@@ -1,10 +1,14 @@
 // The sessions of a server, each in a thread of its own where one can be made.
 
-ghost use Rattle.std.specs.Prelude.{◌≡◌, ◌+◌, ◌-◌, ◌^◌, ◌<◌, ◌≤◌, IfSome};
+ghost use Rattle.std.specs.Prelude.{◌≡◌, ◌≢◌, ◌+◌, ◌-◌, ◌^◌, ◌<◌, ◌≤◌, IfSome};
 ghost use Rattle.std.specs.Thread.{IsSync, IsSend};
+ghost use Rattle.sporc_outside.specs.Told.{IsTrueIfTold};
+ghost use Rattle.sporc_turn.specs.Knowing.{joined_with};
+ghost use Rattle.sporc_turn.specs.Log.{StartsWith, Agrees};
 ghost use Rattle.sporc_turn.specs.Passes.{known_of, IsPassOf};
-ghost use Rattle.sporc_serve.specs.Logs.{OfDocument};
+ghost use Rattle.sporc_serve.specs.Logs.{by_of, OfDocument};
 ghost use Rattle.sporc_serve.specs.Crowds.{IsCrowd, net_of, IsFirst, IsOther};
+ghost use Rattle.sporc_serve.specs.Returns.{AreShutBehind};
 ghost use Rattle.sporc_serve.specs.Visits.{visit, IsSession, with_end};
 
 use crate::desk::Desk;
@@ -45,6 +49,26 @@ fn with_worn(rest: Result<(), ServeFault>, ticket: u64) -> Result<(), ServeFault
     }
 }
 
+// Joins a session that has ended to the rest: what the server answers, and number 0's pass, which keeps the items of both.
+fn joined(
+    turn: &Turn<Desk>,
+    rest: (Result<(), ServeFault>, Pass<Item>),
+    session: (SessionEnd, Pass<Item>),
+) -> (Result<(), ServeFault>, Pass<Item>)
+    requires lock { IsPassOf turn.now rest.1 × IsPassOf turn.now session.1 }
+    requires first { (known_of rest.1).number ≡ 0 }
+    requires other { (known_of session.1).number ≢ 0 }
+    ensures answer { result.0 ≡ with_end rest.0 session.0 }
+    ensures known { known_of result.1 ≡ joined_with (known_of rest.1) (known_of session.1) }
+    ensures lock { IsPassOf turn.now result.1 }
+    ensures begins { StartsWith (known_of result.1).seen (known_of rest.1).seen × StartsWith (known_of result.1).seen (known_of session.1).seen }
+    ensures agrees { Agrees by_of (known_of result.1) (known_of result.1).seen }
+{
+    let (answer, first) = rest;
+    let (end, second) = session;
+    (with_end(answer, end), turn.join(first, second))
+}
+
 // Takes so many links, and serves each with a pass that is split from number 0 and joined back.
 pub(crate) fn crowd<R: Threads + Wait + Sync, N: Listen, G: Gate + Sync>(
     rt: &R,
@@ -65,6 +89,8 @@ where
     ensures crowd { OfDocument (known_of first).seen
         (λ genesis. IsCrowd N.Link.left N.Link.written N.Link.faults genesis (known_of first) (known_of result.1)
         (net_of (N.coming net.old) (N.returned net.old) (N.faults net.old)) (net_of (N.coming net.new) (N.returned net.new) (N.faults net.new)) sessions result.0) }
+    ensures shut { AreShutBehind N.Link.is_shut (N.returned net.old) (N.returned net.new) }
+    ensures asked { N.asked net.new ≡ N.asked net.old }
     ensures out { N.out net.new ≡ N.out net.old }
     ensures count { N.faults net.old ≤ N.faults net.new }
 {
@@ -85,13 +111,14 @@ where
     let others = sessions - 1;
     let mut first = Some(first);
     let mut second = Some(second);
-    let ((end, second), (rest, first)) = join_mut(
+    let (session, rest) = join_mut(
         rt,
         &mut || -> (SessionEnd, Pass<Item>)
             requires { IsSync R.row × IsSync G.row × IsOther turn.now second }
             ensures { IfSome second.entry (λ p. IsPassOf turn.entry.now result.1 × ((known_of result.1).number ≡ (known_of p).number)
                 × OfDocument (known_of p).seen
-                (λ genesis. IsSession N.Link.left N.Link.written N.Link.faults genesis (known_of p) (known_of result.1) (visit link.entry link.exit result.0))) }
+                (λ genesis. IsSession N.Link.left N.Link.written N.Link.faults genesis (known_of p) (known_of result.1) (visit link.entry link.exit result.0))
+                × IsTrueIfTold (N.Link.is_shut link.exit)) }
         { serve_link(rt, alloc, turn, gate, &mut link, second.take().unwrap()) },
         &mut || -> (Result<(), ServeFault>, Pass<Item>)
             requires { IsSync R.row × IsSync G.row × IsSend N.Link.row × IsFirst turn.now first others }
@@ -99,9 +126,10 @@ where
                 × OfDocument (known_of p).seen
                 (λ genesis. IsCrowd N.Link.left N.Link.written N.Link.faults genesis (known_of p) (known_of result.1)
                 (net_of (N.coming net.entry.now) (N.returned net.entry.now) (N.faults net.entry.now)) (net_of (N.coming net.exit.now) (N.returned net.exit.now) (N.faults net.exit.now)) others result.0)
+                × AreShutBehind N.Link.is_shut (N.returned net.entry.now) (N.returned net.exit.now) × (N.asked net.exit.now ≡ N.asked net.entry.now)
                 × (N.out net.exit.now ≡ N.out net.entry.now) × (N.faults net.entry.now ≤ N.faults net.exit.now)) }
         { crowd(rt, alloc, net, turn, gate, first.take().unwrap(), others) },
     );
     net.take_back(link);
-    (with_end(rest, end), turn.join(first, second))
+    joined(turn, rest, session)
 }

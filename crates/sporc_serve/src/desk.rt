@@ -1,12 +1,14 @@
 // The order that the sessions share.
 
 ghost use Rattle.std.specs.Prelude.{◌≡◌, ◌++◌, length, replicate, OnOk, OnErr, IfOk, IfErr};
-ghost use Rattle.sporc_order.specs.Sessions.{step_of, IsSendable, IsFramed};
+ghost use Rattle.sporc_order.specs.Replies.{Says};
+ghost use Rattle.sporc_order.specs.Sessions.{step_of, IsFramed};
 ghost use Rattle.sporc_serve.specs.Logs.{log_of, added_of, placed_by};
+ghost use Rattle.sporc_serve.specs.Sending.{CanBeSent};
 
 use crate::item::Item;
 use sporc_base::Memory;
-use sporc_order::{Answer, Order, Session};
+use sporc_order::{Order, Reply, Session};
 use sporc_turn::Kept;
 use sporc_wire::ToServer;
 use std::alloc::{AllocError, Global};
@@ -54,9 +56,9 @@ impl Desk {
         number: u32,
         session: &mut Session,
         message: &ToServer,
-    ) -> Result<Answer, Memory>
-        ensures sendable { IsFramed message.now → IfOk result IsSendable }
-        ensures answer { IfOk result (λ answer. answer ≡ (step_of self.old.order session.old message.now).answer) }
+    ) -> Result<Reply, Memory>
+        ensures sendable { IsFramed message.now → IfOk result CanBeSent }
+        ensures reply { IfOk result (Says (step_of self.old.order session.old message.now).answer) }
         ensures greeted { OnOk result (session.new ≡ (step_of self.old.order session.old message.now).is_greeted) }
         ensures log { OnOk result (log_of self.new.order self.new.numbers.items ≡ log_of self.old.order self.old.numbers.items
             ++ placed_by number (added_of self.old.order session.old message.now)) }
@@ -65,11 +67,11 @@ impl Desk {
     {
         self.numbers.reserve(1)?;
         let before = self.order.len();
-        let answer = session.step(alloc, &mut self.order, message)?;
+        let reply = session.reply(alloc, &mut self.order, message)?;
         if self.order.len() > before {
             self.numbers.push_reserved(number);
         }
-        Ok(answer)
+        Ok(reply)
     }
 
     // The order.

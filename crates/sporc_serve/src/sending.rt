@@ -2,55 +2,72 @@
 
 ghost use Rattle.std.specs.Prelude.{◌≡◌, ◌≤◌, IfNone, IfSome};
 ghost use Rattle.std.specs.Io.KnownBytes.{Appends};
+ghost use Rattle.sporc_outside.specs.Counts.{Rose};
+ghost use Rattle.sporc_outside.specs.Writing.{AppendsPrefix};
+ghost use Rattle.sporc_order.specs.declared.session.Answer.{Answer};
+ghost use Rattle.sporc_order.specs.declared.session.Answer.TheVariants as answers;
+ghost use Rattle.sporc_order.specs.Replies.{Says};
 ghost use Rattle.sporc_order.specs.Sessions.{IsSendable};
-ghost use Rattle.sporc_serve.specs.Sending.{bytes_of};
+ghost use Rattle.sporc_serve.specs.Sending.{bytes_of, CanBeSent};
 ghost use Rattle.sporc_serve.specs.Endings.{IsSendEnd};
 
 use crate::end::SessionEnd;
-use sporc_order::Answer;
+use sporc_order::Reply;
 use sporc_outside::{Gate, Link, write_all};
 use sporc_wire::{ToClient, write_to_client};
 use std::alloc::Global;
 use std::sync::Wait;
 
-// Sends an answer, and says why the session ends, if it does.
+// Sends what says an answer, and tells why the session ends, if it does.
 pub(crate) fn send<R: Wait, L: Link, G: Gate>(
     rt: &R,
     alloc: Global,
     gate: &G,
     link: &mut L,
-    answer: &Answer,
+    reply: &Reply,
 ) -> Option<SessionEnd>
-    requires { IsSendable answer.now }
-    ensures none { IfNone result (Appends (L.written link.old) (L.written link.new) (bytes_of answer.now)) }
-    ensures some { IfSome result (IsSendEnd answer.now (L.written link.old) (L.written link.new) (L.faults link.old) (L.faults link.new)) }
+    requires { CanBeSent reply.now }
+    ensures none { (answer : Answer) → Says answer reply.now → IfNone result (Appends (L.written link.old) (L.written link.new) (bytes_of answer)) }
+    ensures some { (answer : Answer) → Says answer reply.now
+        → IfSome result (IsSendEnd answer (L.written link.old) (L.written link.new) (L.faults link.old) (L.faults link.new)) }
     ensures left { L.left link.new ≡ L.left link.old }
     ensures count { L.faults link.old ≤ L.faults link.new }
 {
-    match answer {
-        Answer::Send(message) => {
+    match reply {
+        Reply::Message(message) => {
             if let ToClient::Ordered { pos } = message {
                 gate.after_accept(rt, *pos);
             }
             write(alloc, link, message)
         }
-        Answer::Silent => None,
-        Answer::Close => Some(SessionEnd::Closed),
+        Reply::Frame(frame) => write_frame(link, frame.as_slice()),
+        Reply::Silent => None,
+        Reply::Close => Some(SessionEnd::Closed),
     }
 }
 
 // Writes a message.
 fn write<L: Link>(alloc: Global, link: &mut L, message: &ToClient) -> Option<SessionEnd>
-    requires { IsSendable (Answer.Send message.now) }
-    ensures none { IfNone result (Appends (L.written link.old) (L.written link.new) (bytes_of (Answer.Send message.now))) }
-    ensures some { IfSome result (IsSendEnd (Answer.Send message.now) (L.written link.old) (L.written link.new) (L.faults link.old) (L.faults link.new)) }
+    requires { IsSendable (answers.Send message.now) }
+    ensures none { IfNone result (Appends (L.written link.old) (L.written link.new) (bytes_of (answers.Send message.now))) }
+    ensures some { IfSome result (IsSendEnd (answers.Send message.now) (L.written link.old) (L.written link.new) (L.faults link.old) (L.faults link.new)) }
     ensures left { L.left link.new ≡ L.left link.old }
     ensures count { L.faults link.old ≤ L.faults link.new }
 {
-    let Ok(bytes) = write_to_client(alloc, message) else {
-        return Some(SessionEnd::Memory);
-    };
-    match write_all(link, &bytes) {
+    match write_to_client(alloc, message) {
+        Ok(frame) => write_frame(link, &frame),
+        Err(_) => Some(SessionEnd::Memory),
+    }
+}
+
+// Writes a frame.
+fn write_frame<L: Link>(link: &mut L, frame: &[u8]) -> Option<SessionEnd>
+    ensures none { IfNone result (Appends (L.written link.old) (L.written link.new) frame.now) }
+    ensures some { IfSome result (λ end. (end ≡ SessionEnd.LinkFault) × AppendsPrefix (L.written link.old) (L.written link.new) frame.now × Rose (L.faults link.old) (L.faults link.new)) }
+    ensures left { L.left link.new ≡ L.left link.old }
+    ensures count { L.faults link.old ≤ L.faults link.new }
+{
+    match write_all(link, frame) {
         Ok(()) => None,
         Err(_) => Some(SessionEnd::LinkFault),
     }

@@ -1,7 +1,9 @@
 //! A server of many sessions.
 
-ghost use Rattle.std.specs.Prelude.{◌≡◌, ◌≤◌};
+ghost use Rattle.std.specs.Prelude.{◌≡◌, ◌≢◌, ◌≤◌, Err};
+ghost use Rattle.sporc_outside.specs.Told.{AppendsItem, MayAppend};
 ghost use Rattle.sporc_serve.specs.Crowds.{net_of};
+ghost use Rattle.sporc_serve.specs.Returns.{AreShutBehind};
 ghost use Rattle.sporc_serve.specs.Served.{IsServed};
 
 use crate::crowd::crowd;
@@ -33,6 +35,9 @@ where
     requires limit { sessions ≤ 1024 }
     ensures served { IsServed N.Link.left N.Link.written N.Link.faults order result.0
         (net_of (N.coming net.old) (N.returned net.old) (N.faults net.old)) (net_of (N.coming net.new) (N.returned net.new) (N.faults net.new)) sessions result.1 }
+    ensures asked { result.1 ≢ Err ServeFault.ListenFault → AppendsItem (N.asked net.old) (N.asked net.new) address.now }
+    ensures may_ask { MayAppend (N.asked net.old) (N.asked net.new) address.now }
+    ensures shut { AreShutBehind N.Link.is_shut (N.returned net.old) (N.returned net.new) }
     ensures out { N.out net.new ≡ N.out net.old }
     ensures count { N.faults net.old ≤ N.faults net.new }
 {

@@ -1,6 +1,7 @@
 // One session, from its first message to its end.
 
 ghost use Rattle.std.specs.Prelude.{◌≡◌, ◌≢◌, ◌≤◌, Ok, Err, Some, None, IfErr, OnOk};
+ghost use Rattle.sporc_outside.specs.Told.{IsTrueIfTold};
 ghost use Rattle.sporc_turn.specs.Passes.{known_of, IsPassOf};
 ghost use Rattle.sporc_wire.specs.Messages.{Unread, next};
 ghost use Rattle.sporc_wire.specs.ToServer.{to_server_of};
@@ -93,9 +94,9 @@ fn answer<R: Wait, L: Link, G: Gate>(
         → Carries (stand (known_of pass) (L.left link.old) (L.written link.old) (L.faults link.old) unread session.old)
         (stand (known_of result.1) (L.left link.new) (L.written link.new) (L.faults link.new) (next to_server_of unread).after session.new) result.0 }
 {
-    let (answer, pass) = take_turn(rt, alloc, turn, pass, session, message);
-    match answer {
-        Ok(answer) => (send(rt, alloc, gate, link, &answer), pass),
+    let (reply, pass) = take_turn(rt, alloc, turn, pass, session, message);
+    match reply {
+        Ok(reply) => (send(rt, alloc, gate, link, &reply), pass),
         Err(end) => (Some(end), pass),
     }
 }
@@ -141,6 +142,7 @@ pub(crate) fn serve_link<R: Wait, L: Link, G: Gate>(
     ensures number { (known_of result.1).number ≡ (known_of pass).number }
     ensures session { OfDocument (known_of pass).seen
         (λ genesis. IsSession L.left L.written L.faults genesis (known_of pass) (known_of result.1) (visit link.old link.new result.0)) }
+    ensures shut { IsTrueIfTold (L.is_shut link.new) }
 {
     let mut frames = Frames::new(alloc);
     let mut session = Session::new();

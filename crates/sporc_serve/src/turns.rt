@@ -1,16 +1,18 @@
 // One turn of a session at the order.
 
 ghost use Rattle.std.specs.Prelude.{◌≡◌, ◌++◌, Ok, Err, IfOk, OnOk, OnErr};
-ghost use Rattle.sporc_order.specs.Sessions.{step_of, IsSendable, IsFramed};
+ghost use Rattle.sporc_order.specs.Replies.{Says};
+ghost use Rattle.sporc_order.specs.Sessions.{step_of, IsFramed};
 ghost use Rattle.sporc_turn.specs.Passes.{known_of, value_of, IsPassOf, IsSameTurn};
 ghost use Rattle.sporc_serve.specs.Logs.{log_of, added_of, placed_by, if_answered, OfDocument};
+ghost use Rattle.sporc_serve.specs.Sending.{CanBeSent};
 ghost use Rattle.sporc_serve.specs.Turns.{TakesTurn};
 
 use crate::desk::Desk;
 use crate::end::SessionEnd;
 use crate::item::Item;
 use sporc_base::Memory;
-use sporc_order::{Answer, Session};
+use sporc_order::{Reply, Session};
 use sporc_turn::{Held, Pass, Turn};
 use sporc_wire::ToServer;
 use std::alloc::Global;
@@ -23,10 +25,10 @@ fn step_held(
     number: u32,
     session: &mut Session,
     message: &ToServer,
-) -> Result<Answer, Memory>
+) -> Result<Reply, Memory>
     ensures turn { IsSameTurn held.old held.new }
-    ensures sendable { IsFramed message.now → IfOk result IsSendable }
-    ensures answer { IfOk result (λ answer. answer ≡ (step_of (value_of held.old).order session.old message.now).answer) }
+    ensures sendable { IsFramed message.now → IfOk result CanBeSent }
+    ensures reply { IfOk result (Says (step_of (value_of held.old).order session.old message.now).answer) }
     ensures greeted { OnOk result (session.new ≡ (step_of (value_of held.old).order session.old message.now).is_greeted) }
     ensures log { log_of (value_of held.new).order (value_of held.new).numbers.items
         ≡ log_of (value_of held.old).order (value_of held.old).numbers.items
@@ -45,11 +47,11 @@ pub(crate) fn take_turn<R: Wait>(
     pass: Pass<Item>,
     session: &mut Session,
     message: &ToServer,
-) -> (Result<Answer, SessionEnd>, Pass<Item>)
+) -> (Result<Reply, SessionEnd>, Pass<Item>)
     requires lock { IsPassOf turn.now pass }
     requires framed { IsFramed message.now }
     ensures lock { IsPassOf turn.now result.1 }
-    ensures sendable { IfOk result.0 IsSendable }
+    ensures sendable { IfOk result.0 CanBeSent }
     ensures number { (known_of result.1).number ≡ (known_of pass).number }
     ensures turn { OfDocument (known_of pass).seen
         (λ genesis. TakesTurn genesis (known_of pass) (known_of result.1) session.old session.new message.now result.0) }
@@ -57,20 +59,20 @@ pub(crate) fn take_turn<R: Wait>(
     let number = pass.number();
     match turn.take(rt, pass) {
         Ok(mut held) => {
-            let answer = step_held(&mut held, alloc, number, session, message);
-            (answered(answer), turn.give(held))
+            let reply = step_held(&mut held, alloc, number, session, message);
+            (answered(reply), turn.give(held))
         }
         Err((pass, worn)) => (Err(SessionEnd::Worn(worn.0)), pass),
     }
 }
 
-// The answer, if there was memory for it.
-fn answered(answer: Result<Answer, Memory>) -> Result<Answer, SessionEnd>
-    ensures ok { IfOk answer (λ a. result ≡ Ok a) }
-    ensures err { OnErr answer (result ≡ Err SessionEnd.Memory) }
+// The reply, if there was memory for it.
+fn answered(reply: Result<Reply, Memory>) -> Result<Reply, SessionEnd>
+    ensures ok { IfOk reply (λ r. result ≡ Ok r) }
+    ensures err { OnErr reply (result ≡ Err SessionEnd.Memory) }
 {
-    match answer {
-        Ok(answer) => Ok(answer),
+    match reply {
+        Ok(reply) => Ok(reply),
         Err(_) => Err(SessionEnd::Memory),
     }
 }

@@ -7,6 +7,8 @@
 #[cfg(test)]
 mod bad_peers;
 #[cfg(test)]
+mod clients;
+#[cfg(test)]
 mod conversation;
 #[cfg(test)]
 mod crowd;

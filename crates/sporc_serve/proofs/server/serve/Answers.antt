@@ -3,6 +3,7 @@ use Rattle.sporc_turn.specs.Passes.{known_of, out_of}
 use Rattle.sporc_serve.specs.declared.desk.Desk.{Desk}
 use Rattle.sporc_serve.specs.declared.fault.ServeFault.TheVariants as faults
 use Rattle.sporc_serve.specs.Crowds.{net_of}
+use Rattle.sporc_serve.proofs.Returning.{shut_none}
 use Rattle.sporc_serve.proofs.Serving.{serves_none, none_out, serves}
 use Rattle.sporc_serve.proofs.server.serve.Goals as goal
 
@@ -49,3 +50,15 @@ returns-clause-served g c =
     c.args.sessions c.crowd-answer.result.0 c.in-Ok-new.ensures.order c.in-Ok-new.ensures.numbers c.in-Ok-open.ensures.first c.crowd-answer.ensures.crowd
     c.into_order-in-Ok-close.result c.in-Ok-close.desk.order c.in-Ok-close.desk.numbers.items c.into_order-in-Ok-close.ensures c.listen.ensures.coming
     c.listen.ensures.returned c.listen.ensures.count.kept c.in-Ok-close.desk.matched c.in-Ok-close.ensures.log c.in-Ok-close.ensures.agrees
+
+pub returns-in_default-clause-shut : goal.returns-in_default-clause-shut
+returns-in_default-clause-shut g c =
+    shut_none g.N.Link.Link.is_shut (g.N.Links.returned c.args.net.now) (g.N.Links.returned c.listen.new.self) c.listen.ensures.returned
+
+pub returns-in-Err-clause-shut : goal.returns-in-Err-clause-shut
+returns-in-Err-clause-shut g c =
+    shut_none g.N.Link.Link.is_shut (g.N.Links.returned c.args.net.now) (g.N.Links.returned c.listen.new.self) c.listen.ensures.returned
+
+pub returns-in-Err-open-clause-shut : goal.returns-in-Err-open-clause-shut
+returns-in-Err-open-clause-shut g c =
+    shut_none g.N.Link.Link.is_shut (g.N.Links.returned c.args.net.now) (g.N.Links.returned c.listen.new.self) c.listen.ensures.returned
