@@ -87,6 +87,16 @@ impl<D: LeafDisk> Signer<D> {
         self.tree.public()
     }
 
+    /// The leaf that the next draw gives, or the count of leaves if all are drawn. No crash makes the
+    /// blocks of the leaves drawn since the opening of the leaf file free again.
+    pub fn next_leaf(&self) -> u32
+        ensures value { result ≡ self.now.leaves.next }
+        ensures taken { AreTaken (D.images self.now.leaves.disk (D.moment self.now.leaves.disk))
+            self.now.leaves.next_at_open result }
+    {
+        self.leaves.next()
+    }
+
     /// Gives the disk of the leaf file back. No crash makes the blocks of the leaves drawn since its
     /// opening free again.
     pub fn close(self) -> D

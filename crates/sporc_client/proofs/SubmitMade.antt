@@ -27,7 +27,7 @@ use Rattle.sporc_client.specs.Soundness.{IsSound}
 use Rattle.sporc_client.specs.Submissions.{Due, Drop, Nothing, Refuse, Sign, Waiting, answered, draw_fault, due, is_signing, submission}
 use Rattle.sporc_client.specs.Workspace.{Workspace}
 use Rattle.sporc_client.proofs.SubmitEntries.{IsMaking, change_body_size, chosen_by, made_is_submission, submission_is}
-use Rattle.sporc_client.proofs.Submitting.{IsDue, is_due}
+use Rattle.sporc_client.proofs.Submitting.{is_due}
 use Rattle.sporc_client.proofs.Submitting as submitting
 
 -- ---- what is due

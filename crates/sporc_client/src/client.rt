@@ -17,8 +17,8 @@ ghost use Rattle.sporc_head.specs.History.{roster_of};
 ghost use Rattle.sporc_member.specs.Roster.{member_at};
 ghost use Rattle.sporc_client.specs.ClientInvariant.{plain_of};
 ghost use Rattle.lms_tree.specs.LmsPrivate.{LmsPrivate};
+ghost use Rattle.lms_leaf.specs.LeafFile.{AreTaken};
 ghost use Rattle.sporc_suffix.specs.Forms.{Follow};
-ghost use Rattle.sporc_line.specs.Document.{text_after};
 ghost use Rattle.sporc_client.specs.Allowed.{is_allowed};
 ghost use Rattle.sporc_client.specs.Soundness.{IsSound};
 ghost use Rattle.sporc_client.specs.ClientModel.{Rise, leaves_of, state_of};
@@ -111,14 +111,17 @@ impl<D: LeafDisk> Client<D> {
     }
 
     /// The journal. Each of its events is one that the client's own calls make there; and what it shows is the committed
-    /// text with the pending edits.
+    /// text with the pending edits. Each of its submissions has a leaf of its own, of those drawn since the opening of the
+    /// leaf file, and no crash makes the blocks of these free again.
     pub fn journal(&self) -> &[Event]
         ensures value { result.now ≡ journal_of self.now.log }
         ensures allowed { is_allowed self.now.opening self.now.log ≡ true }
         ensures sound { IsSound (state_of self.now) }
         ensures leaves { Rise self.now.leaves.next_at_open self.now.leaves.next (leaves_of self.now.log) }
+        ensures taken { AreTaken (D.images self.now.leaves.disk (D.moment self.now.leaves.disk)) self.now.leaves.next_at_open self.now.leaves.next }
         ensures few { length result.now ≤ MAX_EVENTS }
     {
+        let _taken = self.signer.next_leaf();
         self.own.journal()
     }
 
@@ -187,10 +190,14 @@ impl<D: LeafDisk> Client<D> {
         self.own.flight()
     }
 
-    /// Gives the signer back. A ticket that is kept is given up.
+    /// Gives the signer back. A ticket that is kept is given up. On the signer's disk the blocks of all leaves drawn since its
+    /// opening are taken, and so those of the leaves of all submissions, each of which has one of its own.
     pub fn close(self) -> Signer<D>
         ensures value { result ≡ record { key = self.opening.key; leaves = self.leaves } }
+        ensures leaves { Rise result.leaves.next_at_open result.leaves.next (leaves_of self.log) }
+        ensures taken { AreTaken (D.images result.leaves.disk (D.moment result.leaves.disk)) result.leaves.next_at_open result.leaves.next }
     {
+        let _taken = self.signer.next_leaf();
         self.signer
     }
 

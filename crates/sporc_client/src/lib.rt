@@ -19,7 +19,7 @@
 //!
 //! Proved: each call answers what its definition over the journal answers, unless memory runs out, and the journal grows by
 //! that call's event or stays; the state is the replay of the journal; both texts are the definition's; no two entries carry
-//! one leaf, over all calls; all laws. Tested only (`sporc_client_tests`): that calls succeed with ample memory. Neither: how
+//! one leaf, over all calls, and no crash makes the blocks of the leaves that signed free again; all laws. Tested only (`sporc_client_tests`): that calls succeed with ample memory. Neither: how
 //! long they take.
 #![tactic(auto)]
 

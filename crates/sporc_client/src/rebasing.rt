@@ -1,10 +1,9 @@
 // Another's form and the pending items, passing each other.
 
-ghost use Rattle.std.specs.Prelude.{◌≡◌, ◌+◌, ◌≤◌, ◌^◌, ◌∷◌, ◌++◌, [], length, IfOk, ℕ, List, drop};
+ghost use Rattle.std.specs.Prelude.{◌≡◌, ◌+◌, ◌≤◌, ◌^◌, ◌∷◌, [], IfOk};
 ghost use Rattle.sporc_delta.specs.Marks.{base_len, inserted_len, out_len, retains};
 ghost use Rattle.sporc_delta.specs.declared.limits.TheConstants.{MAX_COUNT};
-ghost use Rattle.sporc_client.specs.Rebasing.{AreOver, beyond, in_one, rebased};
-ghost use Rattle.sporc_client.specs.Rebasing.{inserted_by};
+ghost use Rattle.sporc_client.specs.Rebasing.{AreOver, beyond, in_one, inserted_by, rebased};
 
 use crate::pending::Pending;
 use sporc_base::Memory;

@@ -1,7 +1,6 @@
 // An entry from its draft to its bytes.
 
 ghost use Rattle.std.specs.Prelude.{◌≡◌, ◌+◌, ◌≤◌, ◌<◌, ◌^◌, ◌++◌, length, vec_len, vec_capacity, IfOk, IfErr};
-ghost use Rattle.lms_tree.specs.LmsPrivate.{lms_public_of};
 ghost use Rattle.lms_tree.specs.LmsType.{height_of};
 ghost use Rattle.lms_tree.specs.Signatures.{lms_signature_of};
 ghost use Rattle.lms_tree.specs.Verification.{lms_signature_len_of};
