@@ -12,7 +12,7 @@ use Rattle.sporc_client.specs.WellFormed.{IsWellFormed}
 use Rattle.sporc_script.specs.Spelling.{TextEditInRange}
 use Rattle.sporc_script.specs.declared.command.Command.{Command}
 use Rattle.sporc_script.specs.declared.command.Command.TheVariants as commands
-use Rattle.sporc_play.specs.declared.generated.TheConstants.{MAX_GENERATED}
+use Rattle.sporc_script.specs.declared.limits.TheConstants.{MAX_GENERATED}
 use Rattle.sporc_play.specs.Cast.{setup_of, tree_of}
 use Rattle.sporc_play.specs.Generated.{batch, batches, edits, generated_cast, generated_commands, generated_edit, gives, inserts, removes, seen_len, submits, up_to}
 use Rattle.sporc_play.specs.Moves.{IsOneRun}

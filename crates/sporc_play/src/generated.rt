@@ -20,13 +20,11 @@ use sporc_hash::Digest32;
 use sporc_member::Role;
 use sporc_outside::{Sink, write_all};
 use sporc_script::{
-    Command, Edit, Give, Height, Insertion, MemberRole, PlayLine, Removal, TextEdit, Tree, Width,
+    Command, Edit, Give, Height, Insertion, MAX_GENERATED, MemberRole, PlayLine, Removal, TextEdit,
+    Tree, Width,
 };
 use std::alloc::Global;
 use std::fmt::Write;
-
-/// The most edits of a generated run.
-pub const MAX_GENERATED: u32 = 3_000;
 
 // The members: 1 an admin, 2 and 3 editors.
 const MEMBERS: u32 = 3;

@@ -10,7 +10,7 @@ ghost use Rattle.sporc_play.specs.Moves.{IsOneRun, moves_of};
 ghost use Rattle.sporc_play.specs.OwnPlays.{AreByClients};
 ghost use Rattle.sporc_play.specs.Scene.{commands_of};
 
-use crate::generated::MAX_GENERATED;
+use sporc_script::MAX_GENERATED;
 
 /// A script's play is a run of the clients, who agree at any two of its moments.
 pub fn each_play_is_one_run()

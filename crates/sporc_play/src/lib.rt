@@ -33,5 +33,5 @@ mod signing;
 mod state;
 
 pub use crate::fault::PlayFault;
-pub use crate::generated::{MAX_GENERATED, play_generated};
+pub use crate::generated::play_generated;
 pub use crate::playing::{MAX_SCRIPT, play};

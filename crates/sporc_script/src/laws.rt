@@ -7,11 +7,14 @@ ghost use Rattle.sporc_script.specs.declared.play_line.PlayLine.{PlayLine};
 
 use crate::declared::MAX_DECLARED;
 use crate::editor_line::KEY_BYTES;
+use crate::limits::{MAX_EDITORS, MAX_GENERATED};
 
-/// The limits of a script: those whom it declares, and the bytes of a key.
+/// The limits of a script: those whom it declares, and the bytes of a key; of a session and of a generated run.
 pub fn limits()
     ensures declared { MAX_DECLARED ≡ 64 }
     ensures key { KEY_BYTES ≡ 56 }
+    ensures editors { MAX_EDITORS ≡ 8 }
+    ensures generated { MAX_GENERATED ≡ 3000 }
 {}
 
 /// A text is a play script, or has a first line outside the grammar.

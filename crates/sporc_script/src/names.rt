@@ -45,6 +45,7 @@ fn keyword_named(word: &[u8]) -> Option<Keyword>
     }
 }
 
+/// The role that the whole word names.
 pub fn parse_role(word: &[u8]) -> Option<Role>
     ensures { result ≡ role_of word.now }
 {

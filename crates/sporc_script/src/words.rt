@@ -88,7 +88,7 @@ fn is_plain(word: &[u8]) -> bool
     }
 }
 
-// The number that the whole word is: decimal digits with no sign and no zero in front.
+/// The number that the whole word is: decimal digits with no sign and no zero in front.
 pub fn parse_u64(word: &[u8]) -> Option<u64>
     ensures { result ≡ number_of word.now }
 {
@@ -104,7 +104,7 @@ pub fn parse_u64(word: &[u8]) -> Option<u64>
     }
 }
 
-// A position or the like.
+/// A position or the like: such a number that fits 32 bits.
 #[tactic(auto, unfolding(crate::specs::Readers::u32_of))]
 pub fn parse_u32(word: &[u8]) -> Option<u32>
     ensures { result ≡ u32_of word.now }
@@ -116,7 +116,7 @@ pub fn parse_u32(word: &[u8]) -> Option<u32>
     None
 }
 
-// A member's number, which is not 0.
+/// A member's number: such a number that fits 16 bits and is not 0.
 #[tactic(auto, unfolding(crate::specs::Readers::member_of))]
 pub fn parse_member(word: &[u8]) -> Option<u16>
     ensures { result ≡ member_of word.now }

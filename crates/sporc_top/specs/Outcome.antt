@@ -3,7 +3,7 @@ use Rattle.std.specs.Prelude.{◌≡◌, ◌≤◌, ℕ, ◌⊎◌, List, [], �
 use Rattle.std.specs.Fmt.{decimal}
 use Rattle.sporc_outside.specs.Counts.{Rose}
 use Rattle.sporc_outside.specs.Uses.{IsUnwritten, SinkUse, SourceUse}
-use Rattle.sporc_play.specs.declared.generated.TheConstants.{MAX_GENERATED}
+use Rattle.sporc_script.specs.declared.limits.TheConstants.{MAX_GENERATED}
 use Rattle.sporc_play.specs.Playing.{HasFaultLine, IsTooLong, Plays, PlaysGenerated, PlaysGeneratedPrefix, PlaysPrefix}
 use Rattle.sporc_top.specs.declared.fault.Fault.{Fault}
 use Rattle.sporc_top.specs.declared.fault.Fault.TheVariants as faults

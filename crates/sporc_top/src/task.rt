@@ -2,13 +2,13 @@
 
 ghost use Rattle.std.specs.Prelude.{◌≡◌, ◌≢◌, ◌≤◌, ◌↔◌, ℕ, map, IsTrue, MatchOption, string_bytes};
 ghost use Rattle.std.specs.Fmt.{decimal};
-ghost use Rattle.sporc_play.specs.declared.generated.TheConstants.{MAX_GENERATED};
+ghost use Rattle.sporc_script.specs.declared.limits.TheConstants.{MAX_GENERATED};
 ghost use Rattle.sporc_top.specs.Outcome.{Asks};
 ghost use Rattle.sporc_top.specs.declared.task.Task.{Task};
 
 use itoa::Buffer;
 use sporc_base::is_same;
-use sporc_play::MAX_GENERATED;
+use sporc_script::MAX_GENERATED;
 
 /// What the program is to do.
 #[derive(Clone, Copy)]
