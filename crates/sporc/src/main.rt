@@ -1,9 +1,7 @@
-//! The program `sporc`, over standard input and output.
+//! The program `sporc`, over the outside as the system gives it.
 #![tactic(auto)]
 
-mod standard;
-
-use crate::standard::{StandardInput, StandardOutput};
+use sporc_real::{StandardInput, StandardOutput};
 use sporc_top::{Fault, run};
 use std::alloc::AllocError;
 use std::env;

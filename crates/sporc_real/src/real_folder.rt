@@ -1,0 +1,142 @@
+//! Files of the system.
+
+ghost use Rattle.std.specs.Prelude.{◌≡◌, ◌≤◌, None, IfOk, IfErr};
+ghost use Rattle.sporc_outside.specs.Files.{IsDiskFault};
+ghost use Rattle.sporc_outside.specs.declared.file_fault.TheConstants.{MAX_FILE};
+
+use crate::counting::{counted, fail};
+use crate::real_disk::RealDisk;
+use crate::saving::{save, save_new};
+use sporc_outside::{Counted, Failed, FileFault, Folder, LeafDisk, MAX_FILE};
+use std::alloc::Global;
+use std::fs::{File, OpenOptions};
+use std::io;
+use std::io::{ErrorKind, Read};
+use std::rt::Files;
+
+/// Files by their paths from the current directory.
+///
+/// A file that is written is on the disk when the call returns. A stop in the middle of [`Folder::write_file`] leaves the old
+/// file or the new one, and maybe a part of the new one beside it, under its name and `.new`; two programs must not write one
+/// file at once. A file whose name ends with `.key` or `.ring` is made readable by its owner alone.
+#[derive(Drop)]
+pub struct RealFolder<R: Files<File = File> + AllocGlobal + Drop> {
+    rt: R,
+    faults: u64,
+}
+
+impl<R: Files<File = File> + AllocGlobal + Drop> RealFolder<R> {
+    pub fn new(rt: R) -> RealFolder<R>
+        ensures { result.faults ≡ 0 }
+    {
+        RealFolder { rt, faults: 0 }
+    }
+}
+
+// An open file, and how many bytes it has.
+#[derive(Drop)]
+struct OpenedFile {
+    file: File,
+    len: u64,
+}
+
+fn open_with_len<R: Files<File = File>>(
+    rt: &R,
+    options: &OpenOptions,
+    name: &str,
+) -> io::Result<OpenedFile> {
+    let file = options.open(rt, name)?;
+    let len = file.metadata()?.len();
+    Ok(OpenedFile { file, len })
+}
+
+// Opens a file, unless it is too long. An error other than that there is none is counted.
+fn open_file<R: Files<File = File>>(
+    rt: &R,
+    faults: &mut u64,
+    options: &OpenOptions,
+    name: &str,
+) -> Result<OpenedFile, FileFault>
+    ensures within { IfOk result (λ opened. opened.len ≤ MAX_FILE) }
+    ensures err { IfErr result (IsDiskFault None name.now faults.old faults.new) }
+    ensures kept { faults.old ≤ faults.new }
+{
+    match open_with_len(rt, options, name) {
+        Ok(opened) if opened.len > MAX_FILE => Err(FileFault::TooLong(opened.len)),
+        Ok(opened) => Ok(opened),
+        Err(error) if error.kind() == ErrorKind::NotFound => Err(FileFault::Missing),
+        Err(_) => Err(fail(faults).into()),
+    }
+}
+
+// All bytes of a file, or the first ones above the limit.
+fn read_whole(alloc: Global, opened: OpenedFile) -> io::Result<Vec<u8>>
+    requires { opened.len ≤ MAX_FILE }
+{
+    let mut bytes = Vec::with_capacity(alloc, opened.len as usize)?;
+    opened.file.take(MAX_FILE + 1).read_to_end(&mut bytes)?;
+    Ok(bytes)
+}
+
+impl<R: Files<File = File> + AllocGlobal + Drop> Counted for RealFolder<R> {
+    ghost faults = { λ f. f.faults };
+
+    fn faults(&self) -> u64 {
+        self.faults
+    }
+}
+
+impl<R: Files<File = File> + AllocGlobal + Drop> Folder for RealFolder<R> {
+    type Disk = RealDisk;
+
+    ghost files = { λ _. None };
+
+    ghost asked = { λ _. None };
+
+    ghost lent = { λ _. None };
+
+    #[tactic(auto, using(crate::proofs::RealFiles::too_long, crate::proofs::RealFiles::read_fault))]
+    fn read_file(&mut self, alloc: Global, name: &str) -> Result<Vec<u8>, FileFault> {
+        let opened = open_file(
+            &self.rt,
+            &mut self.faults,
+            OpenOptions::new().read(true),
+            name,
+        )?;
+        match read_whole(alloc, opened) {
+            Ok(bytes) if bytes.len() as u64 > MAX_FILE => {
+                Err(FileFault::TooLong(bytes.len() as u64))
+            }
+            Ok(bytes) => Ok(bytes),
+            Err(error) if error.kind() == ErrorKind::OutOfMemory => Err(FileFault::Memory),
+            Err(_) => Err(fail(&mut self.faults).into()),
+        }
+    }
+
+    fn write_file(&mut self, name: &str, bytes: &[u8]) -> Result<(), Failed> {
+        let answer = save(&self.rt, name, bytes);
+        counted(&mut self.faults, answer)
+    }
+
+    fn write_new(&mut self, name: &str, bytes: &[u8]) -> Result<(), FileFault> {
+        match save_new(&self.rt, name, bytes) {
+            Ok(()) => Ok(()),
+            Err(error) if error.kind() == ErrorKind::AlreadyExists => Err(FileFault::Exists),
+            Err(_) => Err(fail(&mut self.faults).into()),
+        }
+    }
+
+    fn leaf_disk(&mut self, name: &str) -> Result<RealDisk, FileFault> {
+        let opened = open_file(
+            &self.rt,
+            &mut self.faults,
+            OpenOptions::new().read(true).write(true),
+            name,
+        )?;
+        Ok(RealDisk::new(opened.file, opened.len))
+    }
+
+    fn take_back(&mut self, disk: RealDisk) {
+        self.faults = self.faults.saturating_add(disk.faults());
+    }
+}

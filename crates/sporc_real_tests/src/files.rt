@@ -1,0 +1,85 @@
+use crate::scratch::make_folder;
+use sporc_outside::{Counted, FileFault, Folder};
+use sporc_real::RealFolder;
+use std::os::unix::fs::MetadataExt;
+use std::process::Abort;
+use std::rt::Files;
+use std::test::Fail;
+use std::{fs, io, process};
+
+fn has<F: Folder>(rt: &(impl Abort + AllocGlobal), folder: &mut F, name: &str, bytes: &[u8]) {
+    match folder.read_file(rt.alloc(), name) {
+        Ok(read) => assert!(rt; read.as_slice() == bytes),
+        Err(_) => assert!(rt; false),
+    }
+}
+
+fn lacks<F: Folder>(rt: &(impl Abort + AllocGlobal), folder: &mut F, name: &str) {
+    assert!(rt; folder.read_file(rt.alloc(), name).err() == Some(FileFault::Missing));
+}
+
+// Who may read and write a file, as the system has it.
+fn rights<R: Files>(rt: &R, name: &str) -> io::Result<u32> {
+    Ok(fs::metadata(rt, name)?.mode() & 0o777)
+}
+
+// Whether something lies where a file is written before it takes its name.
+fn has_beside<R: Files + AllocGlobal>(rt: &R, name: &str) -> io::Result<bool> {
+    let beside = format!(in rt.alloc(); "{name}.new")?;
+    let there = fs::exists(rt, beside.as_str())?;
+    Ok(there)
+}
+
+fn saves<F: Folder>(rt: &(impl Abort + AllocGlobal), folder: &mut F, name: &str) {
+    lacks(rt, folder, name);
+    assert!(rt; folder.write_file(name, b"first").is_ok());
+    assert!(rt; folder.write_file(name, b"next").is_ok());
+    has(rt, folder, name, b"next");
+}
+
+fn makes_new<F: Folder>(rt: &(impl Abort + AllocGlobal), folder: &mut F, name: &str) {
+    assert!(rt; folder.write_new(name, b"secret").is_ok());
+    assert!(rt; folder.write_new(name, b"again").err() == Some(FileFault::Exists));
+    has(rt, folder, name, b"secret");
+}
+
+// A folder is no file.
+fn fails<F: Folder>(rt: &(impl Abort + AllocGlobal), folder: &mut F, path: &str) {
+    assert!(rt; folder.read_file(rt.alloc(), path).err() == Some(FileFault::Failed));
+    assert!(rt; folder.write_file(path, b"x").is_err());
+    assert!(rt; folder.faults() == 2);
+}
+
+#[test]
+fn a_saved_file_replaces_the_old_one(rt: HostRuntime) -> Result<(), Fail> {
+    let path = make_folder(&rt, process::id(rt.process()), "saved")?;
+    let name = format!(in rt.alloc(); "{path}/a.history")?;
+    saves(&rt, &mut RealFolder::new(&rt), name.as_str());
+    let beside = has_beside(&rt, name.as_str())?;
+    fs::remove_dir_all(&rt, path.as_str())?;
+    assert!(rt; !beside);
+    Ok(())
+}
+
+#[test]
+fn a_file_with_keys_is_made_once_for_its_owner_alone(rt: HostRuntime) -> Result<(), Fail> {
+    let path = make_folder(&rt, process::id(rt.process()), "keys")?;
+    let name = format!(in rt.alloc(); "{path}/a.1.key")?;
+    makes_new(&rt, &mut RealFolder::new(&rt), name.as_str());
+    let rights = rights(&rt, name.as_str())?;
+    fs::remove_dir_all(&rt, path.as_str())?;
+    assert!(rt; rights == 0o600);
+    Ok(())
+}
+
+#[test]
+fn errors_of_files_are_counted_and_leave_nothing(rt: HostRuntime) -> Result<(), Fail> {
+    let path = make_folder(&rt, process::id(rt.process()), "errors")?;
+    let name = format!(in rt.alloc(); "{path}/a")?;
+    fs::create_dir(&rt, name.as_str())?;
+    fails(&rt, &mut RealFolder::new(&rt), name.as_str());
+    let beside = has_beside(&rt, name.as_str())?;
+    fs::remove_dir_all(&rt, path.as_str())?;
+    assert!(rt; !beside);
+    Ok(())
+}

@@ -1,0 +1,60 @@
+use sporc_outside::{Counted, Dial, Link, Links, Listen, write_all};
+use sporc_real::TcpNet;
+use std::io;
+use std::net::{Net, OpenListener, TcpListener};
+use std::process::Abort;
+use std::test::Fail;
+use std::thread::join;
+
+// An address of this machine where nobody listens.
+fn free_address<R: Net + AllocGlobal>(rt: &R) -> io::Result<String> {
+    let listener = TcpListener::bind(rt, "127.0.0.1:0")?;
+    let address = listener.local_addr()?;
+    Ok(format!(in rt.alloc(); "{address}")?)
+}
+
+fn hears<L: Link>(rt: &impl Abort, link: &mut L, bytes: usize) {
+    let mut buffer = [0u8; 4];
+    assert!(rt; link.read(&mut buffer) == Ok(bytes));
+}
+
+fn says<L: Link>(rt: &impl Abort, link: &mut L, bytes: &[u8]) {
+    assert!(rt; write_all(link, bytes).is_ok());
+}
+
+// Both ends hear what the other said, and one the end of the connection.
+fn both_hear<L: Link>(rt: &impl Abort, caller: &mut L, called: &mut L) {
+    hears(rt, called, 2);
+    hears(rt, caller, 4);
+    caller.shut();
+    hears(rt, called, 0);
+}
+
+#[test]
+fn a_connection_carries_bytes_both_ways(rt: HostRuntime) -> Result<(), Fail> {
+    let address = free_address(&rt)?;
+    let mut net = TcpNet::new(&rt);
+    net.listen(address.as_str())?;
+    let mut caller = net.connect(&rt, address.as_str())?;
+    let mut called = net.accept(&rt)?;
+    join(
+        &rt,
+        || says(&rt, &mut caller, b"hi"),
+        || says(&rt, &mut called, b"well"),
+    );
+    both_hear(&rt, &mut caller, &mut called);
+    net.take_back(caller);
+    net.take_back(called);
+    assert!(rt; net.link_faults() == 0);
+    Ok(())
+}
+
+#[test]
+fn a_call_that_nobody_takes_fails(rt: HostRuntime) -> Result<(), Fail> {
+    let address = free_address(&rt)?;
+    let mut net = TcpNet::new(&rt);
+    assert!(rt; net.connect(&rt, address.as_str()).is_err());
+    assert!(rt; net.accept(&rt).is_err());
+    assert!(rt; net.faults() == 2);
+    Ok(())
+}
