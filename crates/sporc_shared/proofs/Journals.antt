@@ -44,7 +44,7 @@ replay_shows c [] = omega arith
 replay_shows c (event ∷ log) = let one = step_shows c event in let rest = replay_shows (step c event) log in omega arith
 
 -- each event has its shown delta
-length_shown : (opening : Opening) (log : List Logged) → length (replay opening log).shown ≡ length log
+pub length_shown : (opening : Opening) (log : List Logged) → length (replay opening log).shown ≡ length log
 unfolding replay
 length_shown opening log = let all = replay_shows (opened opening) log in omega arith
 

@@ -3,7 +3,7 @@ use Rattle.std.specs.Prelude.{◌≡◌, ◌≤◌, ◌^◌, length}
 use Rattle.sporc_head.specs.declared.limits.TheConstants.{MAX_ENTRIES}
 use Rattle.sporc_head.specs.History.{hash_of}
 use Rattle.sporc_client.specs.Answers.{is_out}
-use Rattle.sporc_client.specs.PlainClient.{shown_of}
+use Rattle.sporc_client.specs.PlainClient.{shown_after, shown_of}
 use Rattle.sporc_shared.specs.declared.look.Look.{Look}
 use Rattle.sporc_shared.specs.Items.{Past, client_of}
 
@@ -13,6 +13,8 @@ pub record IsLookAt (past : Past) (look : Look) : Type 0 where
   pub few : look.at ≤ MAX_ENTRIES
   pub pending : look.pending ≡ length (client_of past).pending
   pub len : look.len ≡ length (shown_of (client_of past))
+  -- and so long is the text on which an edit is stated that names the front after all events
+  pub front : look.len ≡ length (shown_after (length past.log) (client_of past))
   pub short : look.len ≤ 2 ^ 36
   pub hash : look.hash ≡ hash_of past.opening.genesis (client_of past).entries
   pub removed : look.removed ≡ is_out (client_of past)

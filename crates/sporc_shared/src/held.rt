@@ -1,12 +1,14 @@
 // What calls do to the client while it is out with a pass. Each answers, beside the call's answer, how many events the journal then has.
 
-ghost use Rattle.std.specs.Prelude.{◌≡◌, length};
-ghost use Rattle.std.specs.Result.{result_ok};
+ghost use Rattle.std.specs.Prelude.{◌≡◌, ◌≤◌, length};
 ghost use Rattle.sporc_base.specs.FirstFault.{AnswersUnless};
 ghost use Rattle.sporc_client.specs.Answers.{accept_fault, added, change_fault, edit_fault};
 ghost use Rattle.sporc_client.specs.Log.{Accept as Accepted, Change as Changed, Edit as Edited};
 ghost use Rattle.sporc_client.specs.Submissions.{submission_added};
+ghost use Rattle.sporc_client.specs.Step.{is_flight};
 ghost use Rattle.sporc_turn.specs.Passes.{IsSameTurn, value_of};
+ghost use Rattle.sporc_wire.specs.declared.cutter.TheConstants.{MAX_BODY};
+ghost use Rattle.sporc_wire.specs.ToServer.{to_server_bytes};
 ghost use Rattle.sporc_shared.specs.Calls.{Submits};
 ghost use Rattle.sporc_shared.specs.Items.{IsAllowed, client_of, past_of, with_events};
 ghost use Rattle.sporc_shared.specs.Looks.{IsLookAt};
@@ -14,11 +16,13 @@ ghost use Rattle.sporc_shared.specs.Looks.{IsLookAt};
 use crate::desk::Desk;
 use crate::journal::count_events;
 use crate::look::{Look, look_at};
-use sporc_client::{AcceptFault, EditFault, SubmitFault, Submitted};
+use sporc_base::is_same;
+use sporc_client::{AcceptFault, Client, EditFault, SubmitFault, Submitted};
 use sporc_delta::Delta;
 use sporc_member::Change;
 use sporc_outside::LeafDisk;
 use sporc_turn::Held;
+use sporc_wire::ToServer;
 
 // An edit of the text that was shown after so many events.
 pub(crate) fn edit<D: LeafDisk>(
@@ -105,4 +109,50 @@ pub(crate) fn look<D: LeafDisk>(held: &mut Held<Desk<D>>) -> (Look, u64)
     let look = look_at(&desk.client);
     let events = count_events(&desk.client);
     (look, events)
+}
+
+// Whether an entry is the one on its way.
+pub(crate) fn is_flight<D: LeafDisk>(held: &mut Held<Desk<D>>, entry: &[u8]) -> (bool, u64)
+    ensures same { held.new ≡ held.old }
+    ensures is { result.0 ≡ is_flight (client_of (past_of (value_of held.old).client)) entry.now }
+    ensures allowed { IsAllowed (past_of (value_of held.old).client) }
+    ensures events { result.1 ≡ length (past_of (value_of held.old).client).log }
+{
+    let desk = held.value();
+    let is = has_on_its_way(&desk.client, entry);
+    let events = count_events(&desk.client);
+    (is, events)
+}
+
+fn has_on_its_way<D: LeafDisk>(client: &Client<D>, entry: &[u8]) -> bool
+    ensures { result ≡ is_flight (client_of (past_of client.now)) entry.now }
+{
+    match client.flight() {
+        Some(flight) => is_same(flight.as_slice(), entry),
+        None => false,
+    }
+}
+
+// The Hello of the client's member, for its document.
+pub(crate) fn hello<D: LeafDisk>(held: &mut Held<Desk<D>>) -> (ToServer, u64)
+    ensures same { held.new ≡ held.old }
+    ensures hello { let opening = (past_of (value_of held.old).client).opening in result.0 ≡ ToServer.Hello opening.genesis.document opening.kit.me }
+    ensures short { length (to_server_bytes result.0) ≤ MAX_BODY }
+    ensures allowed { IsAllowed (past_of (value_of held.old).client) }
+    ensures events { result.1 ≡ length (past_of (value_of held.old).client).log }
+{
+    let desk = held.value();
+    let greeting = hello_of(desk.client.document(), desk.client.me());
+    let events = count_events(&desk.client);
+    (greeting, events)
+}
+
+fn hello_of(document: &[u8; 16], member: u16) -> ToServer
+    ensures value { result ≡ ToServer.Hello document.now member }
+    ensures short { length (to_server_bytes result) ≤ MAX_BODY }
+{
+    ToServer::Hello {
+        document: *document,
+        member,
+    }
 }

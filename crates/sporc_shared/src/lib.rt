@@ -1,4 +1,4 @@
-//! A client that threads share.
+//! A client that threads share, and its session with a server.
 //!
 //! A [`SharedClient`] is a client under a lock whose holders take turns (`sporc_turn`). Who wants the client has a [`Pass`];
 //! a call takes a turn, makes one event of the client or none, and gives the turn back. Each answer comes with the [`Front`]
@@ -14,26 +14,49 @@
 //! let client = shared.close(first)?;
 //! ```
 //!
+//! [`session`] has the client work with a server over a link: up to eight editors, each in a thread of its own, do the lines of
+//! their scripts, while a receiver pulls, accepts and submits in rounds; then the receiver goes on alone until nothing is
+//! pending and the history is long enough.
+//!
+//! ```text
+//! let (result, first) = session(&rt, alloc, &shared, first, &mut link, &mut chance, &scripts, 64, 0, &OpenGate);
+//! ```
+//!
 //! Proved, whatever the threads do between: each call answers what the plain client answers at one moment of one journal,
 //! which begins with all that the pass had seen and has the pass's own events, in order, and no others with its number; the
 //! call's event, if it made one, ends that journal, and the pass has seen it all. What `close` gives back is the client with
-//! the journal that its pass has seen, whose entries were signed by leaves from the opening's next one on, each once.
-//! Tested: that calls of two passes succeed with ample memory. Neither: that a turn comes, and whose turn comes first.
+//! the journal that its pass has seen, whose entries were signed by leaves from the opening's next one on, each once. Of a
+//! session, over any link, chance and editors: the messages, random words and events of the receiver, in the order of the
+//! table of its modes (`specs/Protocol.antt`); that each editor's events are its lines, in order, each once; why it ended; that
+//! its events are moves of a run of all clients of the document ([`laws`]). Tested, in `sporc_shared_tests`: that calls of two
+//! passes succeed with ample memory. Neither: that a session does, that a turn comes, and whose turn comes first.
 #![tactic(auto)]
 
 mod answered;
+mod crowd;
 mod desk;
+mod editor;
+mod exchange;
+mod fault;
 mod front;
 mod held;
+mod inbox;
 mod item;
 mod journal;
+pub mod laws;
 mod look;
+mod phase;
+mod receiver;
+mod round;
+mod sessions;
 mod shared_client;
 
 pub use crate::answered::{Answered, Reply};
+pub use crate::fault::SessionFault;
 pub use crate::front::Front;
 pub use crate::item::{Item, Pass};
 pub use crate::look::Look;
+pub use crate::sessions::session;
 pub use crate::shared_client::SharedClient;
 pub use sporc_base::Memory;
 pub use sporc_turn::{Away, Worn};

@@ -1,6 +1,6 @@
 ghost use Rattle.std.specs.Prelude.{◌≡◌, ◌≤◌, ◌^◌, length};
 ghost use Rattle.sporc_client.specs.ClientModel.{state_of};
-ghost use Rattle.sporc_client.specs.PlainClient.{shown_of};
+ghost use Rattle.sporc_client.specs.PlainClient.{shown_after, shown_of};
 ghost use Rattle.sporc_shared.specs.Items.{past_of};
 ghost use Rattle.sporc_shared.specs.Looks.{IsLookAt};
 
@@ -42,6 +42,7 @@ pub(crate) fn look_at<D: LeafDisk>(client: &Client<D>) -> Look
 // How many characters the shown text has. The committed text is short, and few items are pending.
 fn shown_len<D: LeafDisk>(client: &Client<D>) -> u64
     ensures value { result ≡ length (shown_of (state_of client.now)) }
+    ensures front { result ≡ length (shown_after (length client.now.log) (state_of client.now)) }
     ensures short { result ≤ 2 ^ 36 }
 {
     let _committed = client.committed_len();

@@ -1,12 +1,15 @@
-ghost use Rattle.std.specs.Prelude.{◌≡◌, ◌≢◌, ◌+◌, ◌<◌, ◌^◌, [], length, IfErr, IfOk};
+ghost use Rattle.std.specs.Prelude.{◌≡◌, ◌≢◌, ◌+◌, ◌<◌, ◌≤◌, ◌^◌, [], length, IfErr, IfOk};
 ghost use Rattle.sporc_base.specs.FirstFault.{AnswersUnless};
 ghost use Rattle.sporc_client.specs.Answers.{accept_fault, added, change_fault, edit_fault};
 ghost use Rattle.sporc_client.specs.ClientModel.{Rise, leaves_of};
 ghost use Rattle.sporc_client.specs.Log.{Accept as Accepted, Change as Changed, Edit as Edited};
+ghost use Rattle.sporc_client.specs.Step.{is_flight};
 ghost use Rattle.sporc_client.specs.Submissions.{submission_added};
 ghost use Rattle.sporc_turn.specs.Knowing.{adding, copied, first_known, joined_with, splitting};
 ghost use Rattle.sporc_turn.specs.Log.{Agrees, Extends, StartsWith};
 ghost use Rattle.sporc_turn.specs.Passes.{known_held, known_of, out_of, value_of, IsHeldOf};
+ghost use Rattle.sporc_wire.specs.declared.cutter.TheConstants.{MAX_BODY};
+ghost use Rattle.sporc_wire.specs.ToServer.{to_server_bytes};
 ghost use Rattle.sporc_shared.specs.Calls.{IsCall, Submits};
 ghost use Rattle.sporc_shared.specs.Items.{IsAllowed, Past, by_of, client_of, items_of, past_of};
 ghost use Rattle.sporc_shared.specs.Looks.{IsLookAt};
@@ -25,6 +28,7 @@ use sporc_delta::Delta;
 use sporc_member::Change;
 use sporc_outside::LeafDisk;
 use sporc_turn::{Away, Held, Turn};
+use sporc_wire::ToServer;
 use std::alloc::Global;
 use std::sync::Wait;
 
@@ -158,6 +162,35 @@ impl<D: LeafDisk> SharedClient<D> {
         let mut held = self.turn.take(rt, pass)?;
         let (seen, events) = held::look(&mut held);
         Ok(self.give(seen, events, held))
+    }
+
+    // Whether an entry is the one on its way.
+    pub(crate) fn is_flight<R: Wait>(&self, rt: &R, pass: Pass, entry: &[u8]) -> Reply<bool>
+        requires { IsPassOf self.now pass }
+        ensures lock { IsReplyOf self.now result }
+        ensures call { IfOk result (λ r. (before : Past)
+            × IsCall (known_of pass) (known_of r.pass) before []
+            × (r.answer ≡ is_flight (client_of before) entry.now)) }
+        ensures worn { IsWornOnErr pass result }
+    {
+        let mut held = self.turn.take(rt, pass)?;
+        let (is, events) = held::is_flight(&mut held, entry);
+        Ok(self.give(is, events, held))
+    }
+
+    // The Hello of the client's member, for its document.
+    pub(crate) fn hello<R: Wait>(&self, rt: &R, pass: Pass) -> Reply<ToServer>
+        requires { IsPassOf self.now pass }
+        ensures lock { IsReplyOf self.now result }
+        ensures call { IfOk result (λ r. (before : Past)
+            × IsCall (known_of pass) (known_of r.pass) before []
+            × (r.answer ≡ ToServer.Hello before.opening.genesis.document before.opening.kit.me)) }
+        ensures short { IfOk result (λ r. length (to_server_bytes r.answer) ≤ MAX_BODY) }
+        ensures worn { IsWornOnErr pass result }
+    {
+        let mut held = self.turn.take(rt, pass)?;
+        let (greeting, events) = held::hello(&mut held);
+        Ok(self.give(greeting, events, held))
     }
 
     // Gives the client back after a call.

@@ -6,12 +6,11 @@ use Rattle.sporc_shared.proofs.Journals.{shown_last}
 use Rattle.sporc_shared.proofs.Lengths.{shown_short}
 use Rattle.sporc_shared.proofs.look.shown_len.Goals as goal
 
+pub returns-clause-front : goal.returns-clause-front
+returns-clause-front g c = c.in-Some.ensures.some ∙ ap (λ (n : ℕ). length (shown_after n (state_of c.args.client.now))) c.count_events.ensures.value
+
 pub returns-clause-value : goal.returns-clause-value
-returns-clause-value g c =
-    let client = c.args.client.now in
-    c.in-Some.ensures.some
-    ∙ ap (λ (n : ℕ). length (shown_after n (state_of client))) c.count_events.ensures.value
-    ∙ shown_last client.opening client.log c.count_events.ensures.sound
+returns-clause-value g c = returns-clause-front g c ∙ shown_last c.args.client.now.opening c.args.client.now.log c.count_events.ensures.sound
 
 pub returns-clause-short : goal.returns-clause-short
 returns-clause-short g c =

@@ -1,0 +1,220 @@
+-- Calls on the link, as exchanges.
+use Rattle.std.proofs.Common.{◌≡◌, ◌≢◌, ℕ, ◌+◌, ◌≤◌, List, [], ◌∷◌, ◌++◌, length, take, Option, Some, None, Result, Ok, Err, refl, sym, ap, ◌∙◌, subst, append_assoc, arith, inl, inr}
+use Rattle.std.proofs.lemmas.List.{append-nil, length-append}
+use Rattle.std.specs.Io.KnownBytes.{Appends, Consumes, Keeps}
+use Rattle.sporc_outside.specs.Counts.{Rose}
+use Rattle.sporc_outside.specs.Writing.{AppendsPrefix}
+use Rattle.std.specs.Prelude.{IfErr, IfOk}
+use Rattle.sporc_head.specs.declared.refusal.Refusal.{Refusal}
+use Rattle.sporc_wire.specs.declared.fault.FrameFault.{FrameFault}
+use Rattle.sporc_wire.specs.declared.fault.FrameFault.TheVariants as frames
+use Rattle.sporc_wire.specs.declared.to_client.ToClient.{ToClient}
+use Rattle.sporc_wire.specs.declared.to_client.ToClient.TheVariants as to_client
+use Rattle.sporc_wire.specs.declared.to_server.ToServer.{ToServer}
+use Rattle.sporc_wire.specs.declared.to_server.ToServer.TheVariants as to_server
+use Rattle.sporc_wire.specs.Messages.{Unread, fed, next}
+use Rattle.sporc_wire.specs.ToClient.{to_client_of}
+use Rattle.sporc_shared.specs.declared.fault.SessionFault.{SessionFault}
+use Rattle.sporc_shared.specs.declared.fault.SessionFault.TheVariants as faults
+use Rattle.sporc_shared.specs.Acts.{Reply, Ordered, Rejected, handed_out, reply_message}
+use Rattle.sporc_shared.specs.Asking.{AskFails, Asks, IsReply, IsReplyOf, IsSilent, SilentFor, Took, Unsent, UnsentFor, silent, wrong}
+use Rattle.sporc_shared.specs.Endings.{IsAnswer}
+use Rattle.sporc_shared.specs.Replies.{unread_fault}
+use Rattle.sporc_shared.specs.Wires.{Exchanged, InboxModel, IsLastFrom, LinkStand, more_taken, spelled, unread_of}
+use Rattle.sporc_shared.proofs.Exchanging.{appends_none, consumes_none, exchanged_then, received_nothing}
+
+-- ---- one call
+
+same_appends : (u v : Option (List ℕ)) → v ≡ u → Appends u v []
+same_appends u v same = subst (λ (w : Option (List ℕ)). Appends u w []) (sym same) (appends_none u)
+
+same_consumes : (u v : Option (List ℕ)) → v ≡ u → Consumes u v []
+same_consumes u v same = subst (λ (w : Option (List ℕ)). Consumes u w []) (sym same) (consumes_none u)
+
+keeps_consumes : (u v : Option (List ℕ)) → Keeps u v → Consumes u v []
+keeps_consumes None v k = tt
+keeps_consumes (Some xs) None k = absurd k
+keeps_consumes (Some xs) (Some ys) k = sym k
+
+-- bytes were written
+pub wrote : (a b : LinkStand) (bytes : List ℕ) → Appends a.written b.written bytes → b.left ≡ a.left → b.inbox ≡ a.inbox → a.faults ≤ b.faults → Exchanged a b bytes []
+wrote a b bytes appends left inbox count = record {
+  sent = appends;
+  received = received_nothing a b (same_consumes a.left b.left left) inbox;
+  count = count;
+}
+
+-- nothing was, and nothing came
+pub kept : (a b : LinkStand) → b.written ≡ a.written → Keeps a.left b.left → b.inbox ≡ a.inbox → a.faults ≤ b.faults → Exchanged a b [] []
+kept a b written keeps inbox count = record {
+  sent = same_appends a.written b.written written;
+  received = received_nothing a b (keeps_consumes a.left b.left keeps) inbox;
+  count = count;
+}
+
+-- a message was not sent
+pub not_sent : (a b : LinkStand) (message : ToServer) (fault : SessionFault) → AppendsPrefix a.written b.written (spelled (message ∷ [])) → b.left ≡ a.left → b.inbox ≡ a.inbox → a.faults ≤ b.faults → UnsentFor a b fault → Unsent a b message fault
+not_sent a b message fault front left inbox count cause = record {
+  n = front.0;
+  did = wrote a b (take front.0 (spelled (message ∷ []))) front.2 left inbox count;
+  cause = cause;
+}
+
+pub not_written : (a : LinkStand) (message : ToServer) → Unsent a a message faults.Memory
+not_written a message = record { n = 0; did = wrote a a [] (appends_none a.written) refl refl (omega arith); cause = tt }
+
+-- a piece was taken
+pub took_piece : (a b : LinkStand) (piece : List ℕ) → Took a b piece → Exchanged a b [] []
+took_piece a b piece t = record {
+  sent = same_appends a.written b.written t.written;
+  received = record {
+    came = piece;
+    consumed = t.consumed;
+    reads = ap (λ (r : List ℕ). record { at = a.inbox.at; rest = r; fault = None }) (append_assoc a.inbox.rest a.inbox.held piece) ∙ ap unread_of (sym t.inbox);
+    counted = λ low. ap (λ (i : InboxModel). i.taken) t.inbox;
+  };
+  count = t.count;
+}
+
+-- ---- the next message
+
+-- a message was found at the front of what came
+pub found_message : (a b c : LinkStand) (m : ToClient) → Exchanged a b [] [] → c.written ≡ b.written → c.left ≡ b.left → c.faults ≡ b.faults → c.inbox.taken ≡ b.inbox.taken
+    → (next to_client_of (unread_of b.inbox)).answer ≡ Ok (Some m) → unread_of c.inbox ≡ (next to_client_of (unread_of b.inbox)).after → Exchanged a c [] (m ∷ [])
+found_message a b c m did written left count taken answer after = record {
+  sent = subst (λ (w : Option (List ℕ)). Appends a.written w []) (sym written) did.sent;
+  received = record {
+    came = did.received.came;
+    consumed = subst (λ (l : Option (List ℕ)). Consumes a.left l did.received.came) (sym left) did.received.consumed;
+    reads =
+        let s : Unread = fed did.received.came (unread_of a.inbox) in
+        (ap (λ (u : Unread). (next to_client_of u).answer) did.received.reads ∙ answer, ap (λ (u : Unread). (next to_client_of u).after) did.received.reads ∙ sym after);
+    counted = λ low. taken ∙ did.received.counted low;
+  };
+  count = omega (arith, did.count, count);
+}
+
+-- where it began
+pub found_from : (place : ℕ) (i j : InboxModel) (m : ToClient) → place ≡ i.at → (next to_client_of (unread_of i)).answer ≡ Ok (Some m) → unread_of j ≡ (next to_client_of (unread_of i)).after → IsLastFrom place m j
+found_from place i j m at answer after = record { before = i; place_is = at; next_is = λ k. record { answer = answer k; after = sym after k } }
+
+-- the next frame is no message
+pub bad_next : (a b : LinkStand) (fault : FrameFault) → Exchanged a b [] [] → (fault ≢ frames.Memory → (next to_client_of (unread_of b.inbox)).answer ≡ Err fault) → IsSilent a b (unread_fault b.inbox.at fault)
+bad_next a b (frames.BadMessage at) did gives = record { did = did; cause = inl (gives (λ e. absurd cc)) }
+bad_next a b (frames.TooLong len) did gives = record { did = did; cause = inr ((len, gives (λ e. absurd cc)), refl) }
+bad_next a b frames.Memory did gives = record { did = did; cause = tt }
+
+-- no whole message is there
+pub waited : (a b c : LinkStand) → Exchanged a b [] [] → c.written ≡ b.written → c.left ≡ b.left → c.faults ≡ b.faults → unread_of c.inbox ≡ unread_of b.inbox → c.inbox.taken ≡ b.inbox.taken → Exchanged a c [] []
+waited a b c did written left count same taken = record {
+  sent = subst (λ (w : Option (List ℕ)). Appends a.written w []) (sym written) did.sent;
+  received = record {
+    came = did.received.came;
+    consumed = subst (λ (l : Option (List ℕ)). Consumes a.left l did.received.came) (sym left) did.received.consumed;
+    reads = did.received.reads ∙ sym same;
+    counted = λ low. taken ∙ did.received.counted low;
+  };
+  count = omega (arith, did.count, count);
+}
+
+-- a piece more is taken
+pub one_more : (a b c : LinkStand) (piece : List ℕ) → Exchanged a b [] [] → Took b c piece → Exchanged a c [] []
+one_more a b c piece did took = exchanged_then a b c [] [] [] [] did (took_piece b c piece took)
+
+pub more_at : (i j k : InboxModel) (piece : List ℕ) → unread_of j ≡ unread_of i → k ≡ more_taken piece j → k.at ≡ i.at
+more_at i j k piece same is = ap (λ (m : InboxModel). m.at) is ∙ ap (λ (s : Unread). s.at) same
+
+pub more_rest : (i j k : InboxModel) (piece : List ℕ) → unread_of j ≡ unread_of i → k ≡ more_taken piece j → length (k.rest ++ k.held) ≡ length (i.rest ++ i.held) + length piece
+more_rest i j k piece same is =
+    ap (λ (m : InboxModel). length (m.rest ++ m.held)) is ∙ ap length (sym (append_assoc j.rest j.held piece)) ∙ length-append (j.rest ++ j.held) piece ∙ ap (λ (s : Unread). length s.rest + length piece) same
+
+-- ---- exchanges in a row
+
+rose_then : (n m k : ℕ) → n ≤ m → Rose m k → Rose n k
+rose_then n m k low rose = omega (arith, low, rose)
+
+silent_from : (a b c : LinkStand) (fault : SessionFault) → a.faults ≤ b.faults → SilentFor b c fault → SilentFor a c fault
+silent_from a b c faults.LinkFault low cause = rose_then a.faults b.faults c.faults low cause
+silent_from a b c (faults.LinkEnded taken) low cause = cause
+silent_from a b c (faults.BadMessage place) low cause = cause
+silent_from a b c faults.Memory low cause = tt
+silent_from a b c (faults.Refused position refusal) low cause = absurd cause
+silent_from a b c (faults.NotSettled pending at) low cause = absurd cause
+silent_from a b c (faults.Leaf fault) low cause = absurd cause
+silent_from a b c faults.HistoryFull low cause = absurd cause
+silent_from a b c (faults.ServerRejected refusal) low cause = absurd cause
+silent_from a b c faults.JournalFull low cause = absurd cause
+silent_from a b c (faults.EditRefused editor line fault) low cause = absurd cause
+silent_from a b c (faults.Worn ticket) low cause = absurd cause
+silent_from a b c faults.ChanceFault low cause = absurd cause
+
+exchanged_silent : (a b c : LinkStand) (w : List ℕ) → Exchanged a b w [] → Exchanged b c [] [] → Exchanged a c w []
+exchanged_silent a b c w f g = subst (λ (v : List ℕ). Exchanged a c v []) (append-nil w) (exchanged_then a b c w [] [] [] f g)
+
+-- still no message came
+pub silent_then : (a b c : LinkStand) (fault : SessionFault) → Exchanged a b [] [] → IsSilent b c fault → IsSilent a c fault
+silent_then a b c fault did s = record { did = exchanged_silent a b c [] did s.did; cause = silent_from a b c fault did.count s.cause }
+
+pub asked : (a b c : LinkStand) (message : ToServer) (answer : ToClient) → b.inbox ≡ a.inbox → Exchanged a b (spelled (message ∷ [])) [] → Exchanged b c [] (answer ∷ []) → IsLastFrom b.inbox.at answer c.inbox → Asks a c message answer
+asked a b c message answer inbox sent came starts = record {
+  did = subst (λ (v : List ℕ). Exchanged a c v (answer ∷ [])) (append-nil (spelled (message ∷ []))) (exchanged_then a b c (spelled (message ∷ [])) [] [] (answer ∷ []) sent came);
+  starts = subst (λ (i : InboxModel). IsLastFrom i.at answer c.inbox) inbox starts;
+}
+
+pub not_asked : (a b c : LinkStand) (message : ToServer) (fault : SessionFault) → Exchanged a b (spelled (message ∷ [])) [] → IsSilent b c fault → AskFails a c message fault
+not_asked a b c message fault sent s =
+    silent (record { did = exchanged_silent a b c (spelled (message ∷ [])) sent s.did; cause = silent_from a b c fault sent.count s.cause })
+
+-- the answer is none to the message
+pub not_answered : (a b : LinkStand) (message : ToServer) (answer : ToClient) (place : ℕ) → Asks a b message answer → place ≡ a.inbox.at → ¬ IsAnswer message answer → AskFails a b message (faults.BadMessage place)
+not_answered a b message answer place asks at none =
+    wrong (record { answer = answer; place = place; did = asks.did; wrong = none; starts = subst (λ (n : ℕ). IsLastFrom n answer b.inbox) (sym at) asks.starts; is = refl })
+
+-- ---- answers
+
+pub not_handed : (from : ℕ) (answer : ToClient) → ((came : List (List ℕ)) → answer ≢ handed_out from came) → ¬ IsAnswer (to_server.Pull from) answer
+not_handed from answer none is = none is.0 is.1
+
+pub handed : (a b : LinkStand) (from : ℕ) (answer : ToClient) (es : List (List ℕ)) → answer ≡ handed_out from es → Asks a b (to_server.Pull from) answer → Exchanged a b (spelled (to_server.Pull from ∷ [])) (handed_out from es ∷ [])
+handed a b from answer es is asks = subst (λ (m : ToClient). Exchanged a b (spelled (to_server.Pull from ∷ [])) (m ∷ [])) is asks.did
+
+-- ---- answers to an entry
+
+module _ (a b : LinkStand) (entry : List ℕ) where
+  abbrev pub AsksFor : Result ToClient SessionFault → Type 0
+  AsksFor answer = IfOk answer (λ m. Asks a b (to_server.Submit entry) m)
+
+  abbrev pub Replied : Result (Option Refusal) SessionFault → Type 0
+  Replied result = IfOk result (λ refusal. (reply : Reply) × IsReply refusal reply × Exchanged a b (spelled (to_server.Submit entry ∷ [])) (reply_message reply ∷ []))
+
+  abbrev pub FailsFor : {A : Type 0} → Result A SessionFault → Type 0
+  FailsFor result = IfErr result (λ fault. AskFails a b (to_server.Submit entry) fault)
+
+no_reply : (entry : List ℕ) (m : ToClient) → ((reply : Reply) → m ≢ reply_message reply) → ¬ IsAnswer (to_server.Submit entry) m
+no_reply entry m none is = none is.0 is.1
+
+entries_no_reply : (first : ℕ) (entries : List (List ℕ)) (reply : Reply) → to_client.Entries first entries ≢ reply_message reply
+entries_no_reply first entries (Ordered position) = λ e. absurd cc
+entries_no_reply first entries (Rejected refusal) = λ e. absurd cc
+
+empty_no_reply : (reply : Reply) → to_client.Empty ≢ reply_message reply
+empty_no_reply (Ordered position) = λ e. absurd cc
+empty_no_reply (Rejected refusal) = λ e. absurd cc
+
+module _ (a b : LinkStand) (entry : List ℕ) (place : ℕ) (result : Result (Option Refusal) SessionFault) where
+  pub replied : (answer : Result ToClient SessionFault) → IsReplyOf place answer result → AsksFor a b entry answer → Replied a b entry result
+  replied (Err fault) says asks = subst (Replied a b entry) (sym says) tt
+  replied (Ok (to_client.Ordered position)) says asks = subst (Replied a b entry) (sym says) (Ordered position, tt, asks.did)
+  replied (Ok (to_client.Rejected refusal)) says asks = subst (Replied a b entry) (sym says) (Rejected refusal, refl, asks.did)
+  replied (Ok (to_client.Entries first entries)) says asks = subst (Replied a b entry) (sym says) tt
+  replied (Ok to_client.Empty) says asks = subst (Replied a b entry) (sym says) tt
+
+  pub not_replied : (answer : Result ToClient SessionFault) → IsReplyOf place answer result → place ≡ a.inbox.at → AsksFor a b entry answer → FailsFor a b entry answer → FailsFor a b entry result
+  not_replied (Err fault) says at asks fails = subst (FailsFor a b entry) (sym says) fails
+  not_replied (Ok (to_client.Ordered position)) says at asks fails = subst (FailsFor a b entry) (sym says) tt
+  not_replied (Ok (to_client.Rejected refusal)) says at asks fails = subst (FailsFor a b entry) (sym says) tt
+  not_replied (Ok (to_client.Entries first entries)) says at asks fails =
+      let m : ToClient = to_client.Entries first entries in
+      subst (FailsFor a b entry) (sym says) (not_answered a b (to_server.Submit entry) m place asks at (no_reply entry m (entries_no_reply first entries)))
+  not_replied (Ok to_client.Empty) says at asks fails =
+      subst (FailsFor a b entry) (sym says) (not_answered a b (to_server.Submit entry) to_client.Empty place asks at (no_reply entry to_client.Empty empty_no_reply))

@@ -1,0 +1,97 @@
+-- The two phases.
+use Rattle.std.proofs.Common.{◌≡◌, ◌≤◌, ℕ, Bool, true, false, List, [], ◌∷◌, length, Option, Ok, Err, refl, sym, subst, arith}
+use Rattle.std.specs.Prelude.{Result, IfErr, OnOk, ⊤}
+use Rattle.std.specs.Result.{result_err}
+use Rattle.std.proofs.lemmas.List.{append-nil}
+use Rattle.sporc_head.specs.declared.limits.TheConstants.{MAX_ENTRIES}
+use Rattle.sporc_turn.specs.declared.known.Known.{Known}
+use Rattle.sporc_wire.specs.declared.to_server.ToServer.{ToServer}
+use Rattle.sporc_wire.specs.declared.to_server.ToServer.TheVariants as to_server
+use Rattle.sporc_shared.specs.declared.fault.SessionFault.{SessionFault}
+use Rattle.sporc_shared.specs.declared.fault.SessionFault.TheVariants as faults
+use Rattle.sporc_shared.specs.declared.look.Look.{Look}
+use Rattle.sporc_shared.specs.Acts.{Greet, Looked}
+use Rattle.sporc_shared.specs.Asking.{Unsent, unsent}
+use Rattle.sporc_shared.specs.Courses.{Stand, stand}
+use Rattle.sporc_shared.specs.Endings.{IsSubmitting, Did}
+use Rattle.sporc_shared.specs.Items.{Item, Past, client_of, items_of}
+use Rattle.sporc_shared.specs.Looks.{IsLookAt}
+use Rattle.sporc_shared.specs.Outcomes.{DidOrStopped}
+use Rattle.sporc_shared.specs.Protocol.{Asking, Greeting, Between, Pulling, always, is_unsettled, greets}
+use Rattle.sporc_shared.specs.Sessions.{FirstPhase, SecondPhase, Rounds, settles, doesnt_settle, stops}
+use Rattle.sporc_shared.specs.Wires.{Exchanged, LinkStand, spelled}
+use Rattle.sporc_shared.proofs.Coursing.{words_none, did_then, did_stopped}
+use Rattle.sporc_shared.proofs.Knowing.{knows_none}
+use Rattle.sporc_shared.proofs.Stepping.{ask_stopped, look_did, look_course}
+use Rattle.sporc_shared.proofs.Telling.{Tells, TellsOr, worn_stopped}
+
+-- ---- Hello
+
+-- the message says of a client for which document and which member it is
+abbrev pub IsHello : Past → ToServer → Type 0
+IsHello past message = message ≡ to_server.Hello past.opening.genesis.document past.opening.kit.me
+
+not_greeting : {document : List ℕ} {member : ℕ} → ¬ IsSubmitting (Greeting document member)
+not_greeting s = absurd cc
+
+module _ {words : Option (List (List ℕ))} {g : ℕ} {k : Known Item} {a b : LinkStand} where
+  greeted : {document : List ℕ} {member : ℕ} → Exchanged a b (spelled (to_server.Hello document member ∷ [])) [] → Did always (stand k a words g) (stand k b words g) (Greeting document member) (Between 0)
+  greeted {document} {member} x = record {
+    acts = Greet document member ∷ [];
+    course = record {
+      knows = knows_none k;
+      fits = (tt, tt);
+      link = subst (λ (w : List ℕ). Exchanged a b w []) (sym (append-nil (spelled (to_server.Hello document member ∷ [])))) x;
+      words_are = words_none words;
+      chance = omega arith;
+    };
+    leads = (Between 0, greets, refl);
+  }
+
+  pub hello_went : {document : List ℕ} {member : ℕ} {message : ToServer} {sent : Result ⊤ SessionFault} → message ≡ to_server.Hello document member
+      → OnOk sent (Exchanged a b (spelled (message ∷ [])) []) → IfErr sent (Unsent a b message) → DidOrStopped always (stand k a words g) (stand k b words g) (Greeting document member) (Between 0) sent
+  hello_went {sent = Ok x} is ok err = record { ends = greeted (subst (λ (m : ToServer). Exchanged a b (spelled (m ∷ [])) []) is ok) }
+  hello_went {sent = Err fault} is ok err = record { ends = ask_stopped refl not_greeting (unsent (subst (λ (m : ToServer). Unsent a b m fault) is err)) }
+
+-- Hello, and then the rounds
+pub first_then : {a b c : Stand} {rounds : ℕ} {all : Result ⊤ SessionFault} {end : Option SessionFault} → end ≡ result_err all
+    → Did always a b Asking (Between 0) → DidOrStopped always b c (Between 0) (Between rounds) all → FirstPhase a c rounds end
+first_then {a} {c = c} {rounds = rounds} {all = Ok x} is d h = subst (FirstPhase a c rounds) (sym is) (did_then d h.ends)
+first_then {a} {c = c} {rounds = rounds} {all = Err fault} is d h = subst (FirstPhase a c rounds) (sym is) (did_stopped d h.ends)
+
+-- ---- a look at the client
+
+module _ {k k' : Known Item} {look : Look} where
+  looked : (t : Tells IsLookAt k k' look) → Looked (client_of t.before) look.at look.pending
+  looked t = record { at_is = t.is_so.at; pending_is = t.is_so.pending }
+
+  pub look_small : Tells IsLookAt k k' look → look.at ≤ MAX_ENTRIES
+  look_small t = t.is_so.few
+
+  module _ {link : LinkStand} {words : Option (List (List ℕ))} {g : ℕ} (zero' : k.number ≡ 0) (t : Tells IsLookAt k k' look) where
+    -- a round begins
+    pub round_begins : {ready : ℕ → ℕ → Bool} {n : ℕ} → ready look.at look.pending ≡ true → Did ready (stand k link words g) (stand k' link words g) (Between n) (Pulling n look.at)
+    round_begins is_ready = look_did zero' t.call (looked t) is_ready
+
+    -- it is the last look, after so many rounds
+    rounds_before : {a : Stand} {until done : ℕ} → Did (is_unsettled until) a (stand k link words g) (Between 0) (Between done) → Rounds a (stand k' link words g) until done look.at look.pending
+    rounds_before did = record {
+      between = stand k link words g;
+      did = did;
+      point = length (items_of t.before);
+      last = look_course zero' t.call (looked t);
+    }
+
+    pub second_settles : {a : Stand} {done rounds until : ℕ} → done ≤ rounds → Did (is_unsettled until) a (stand k link words g) (Between 0) (Between done) → is_unsettled until look.at look.pending ≡ false
+        → SecondPhase a (stand k' link words g) rounds until (Ok tt)
+    second_settles {done = done} low did settled = settles {done = done} low (rounds_before did) settled
+
+    pub second_spent : {a : Stand} {done rounds until : ℕ} → done ≡ rounds → Did (is_unsettled until) a (stand k link words g) (Between 0) (Between done) → is_unsettled until look.at look.pending ≡ true
+        → SecondPhase a (stand k' link words g) rounds until (Err (faults.NotSettled look.pending look.at))
+    second_spent {a} {until = until} all did unsettled =
+        doesnt_settle (subst (λ (n : ℕ). Rounds a (stand k' link words g) until n look.at look.pending) all (rounds_before did)) unsettled
+
+-- no ticket was left for it
+pub second_worn : {link : LinkStand} {words : Option (List (List ℕ))} {g : ℕ} {a : Stand} {k k' : Known Item} {done rounds until : ℕ} {fault : SessionFault} {result : Result Look SessionFault} → result ≡ Err fault → TellsOr IsLookAt k k' result
+    → Did (is_unsettled until) a (stand k link words g) (Between 0) (Between done) → SecondPhase a (stand k' link words g) rounds until (Err fault)
+second_worn {link} {words} {g} is h did = stops (did_stopped did (worn_stopped is h))

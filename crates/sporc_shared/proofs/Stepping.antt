@@ -1,0 +1,374 @@
+-- The receiver's steps as acts.
+use Rattle.std.proofs.Common.{◌≡◌, ◌≢◌, ℕ, ◌+◌, ◌≤◌, Bool, true, false, List, [], ◌∷◌, ◌++◌, length, map, take, Option, refl, sym, ap, ◌∙◌, subst, arith, inl, inr}
+use Rattle.std.specs.Prelude.{Result, Ok}
+use Rattle.std.proofs.lemmas.List.{append-nil, take_all}
+use Rattle.lms_leaf.specs.declared.faults.LeafFault.TheVariants as leaves
+use Rattle.sporc_head.specs.declared.refusal.Refusal.{Refusal}
+use Rattle.sporc_turn.specs.declared.known.Known.{Known}
+use Rattle.sporc_wire.specs.declared.to_client.ToClient.{ToClient}
+use Rattle.sporc_wire.specs.declared.to_server.ToServer.{ToServer}
+use Rattle.sporc_wire.specs.declared.to_server.ToServer.TheVariants as to_server
+use Rattle.sporc_client.specs.declared.fault.AcceptFault.TheVariants as accepts
+use Rattle.sporc_client.specs.declared.fault.SubmitFault.{SubmitFault}
+use Rattle.sporc_client.specs.declared.submitted.Submitted.{Submitted}
+use Rattle.sporc_client.specs.declared.submitted.Submitted.TheVariants as submitted
+use Rattle.sporc_client.specs.Log.{Logged}
+use Rattle.sporc_client.specs.Step.{is_flight}
+use Rattle.sporc_client.specs.Submissions.{submission_added}
+use Rattle.sporc_shared.specs.declared.fault.SessionFault.{SessionFault}
+use Rattle.sporc_shared.specs.declared.fault.SessionFault.TheVariants as faults
+use Rattle.sporc_shared.specs.Acts.{Act, Ask, Look, Pull, Take, Submit, Check, Fits, FitAll, Looked, all_of, answers_by, handed_out, items_by, messages_by, words_by}
+use Rattle.sporc_shared.specs.Asking.{AskFails, Gathered, GatherStopped, SilentFor, UnsentFor, asking, silent, taking, unsent, wrong}
+use Rattle.sporc_shared.specs.Calls.{IsCall}
+use Rattle.sporc_shared.specs.Courses.{Stand, stand, AppendsWords, Course, KnowsMore}
+use Rattle.sporc_shared.specs.Endings.{Cause, IsTaking, IsSubmitting, AcceptGives, TakeCause, takes_of, SubmitCause, Submission, Did, Stopped}
+use Rattle.sporc_shared.specs.Items.{Item, Happened, Past, client_of, items_of}
+use Rattle.sporc_shared.specs.Points.{IsPoint}
+use Rattle.sporc_shared.specs.Protocol.{Mode, Asking, Greeting, Between, Pulling, Taking, Sending, Checking, Stuck, Then, Submits, Drains, Leads, Goes, IsQuiet, asks, looks, takes, drained, is_gone, is_there, submits_none, submits_entry, message_due}
+use Rattle.sporc_shared.specs.Wires.{Exchanged, LinkStand, spelled}
+use Rattle.sporc_shared.proofs.Coursing.{words_none}
+use Rattle.sporc_shared.proofs.Exchanging.{exchanged_none}
+use Rattle.sporc_shared.proofs.Knowing.{call_client, call_knows, call_point, knows_none, seen_after}
+
+point_zero : {k k' : Known Item} {before : Past} {events : List Logged} → k.number ≡ 0 → IsCall k k' before events → IsPoint k'.seen k.start 0 k.mine (length (items_of before))
+point_zero {k} {k'} {before} {events} zero' c =
+    subst (λ (n : ℕ). IsPoint k'.seen k.start n k.mine (length (items_of before))) zero' (call_point k k' before events c)
+
+-- a step that touches neither the link nor the chance
+module _ {link : LinkStand} {words : Option (List (List ℕ))} {g : ℕ} where
+  known_course : {k k' : Known Item} {act : Act} → KnowsMore k k' (items_by act ++ []) → Fits k'.seen k.start k.mine act
+      → messages_by act ≡ [] → answers_by act ≡ [] → words_by act ≡ []
+      → Course (stand k link words g) (stand k' link words g) (act ∷ []) [] [] []
+  known_course {act = act} knows fits no_message no_answer no_word = record {
+    knows = knows;
+    fits = (fits, tt);
+    link = subst (λ (m : List ToServer). Exchanged link link (spelled (m ++ []) ++ []) ((answers_by act ++ []) ++ [])) (sym no_message)
+        (subst (λ (l : List ToClient). Exchanged link link [] ((l ++ []) ++ [])) (sym no_answer) (exchanged_none link));
+    words_are = subst (λ (l : List (List ℕ)). AppendsWords words words ((l ++ []) ++ [])) (sym no_word) (words_none words);
+    chance = omega arith;
+  }
+
+  -- it stops before an act, having looked at the client at most
+  pub known_stopped : {ready : ℕ → ℕ → Bool} {k k' : Known Item} {m : Mode} {fault : SessionFault} → KnowsMore k k' []
+      → Cause (stand k link words g) (stand k' link words g) m [] [] [] fault
+      → Stopped ready (stand k link words g) (stand k' link words g) m fault
+  known_stopped {m = m} knows cause = record {
+    acts = [];
+    reached = m;
+    written = [];
+    answers = [];
+    words = [];
+    course = record {
+      knows = knows;
+      fits = tt;
+      link = exchanged_none link;
+      words_are = words_none words;
+      chance = omega arith;
+    };
+    leads = refl;
+    beside = record { sent_due = (0, refl); few_came = omega arith; few = omega arith; drawn = λ _. refl };
+    cause = cause;
+  }
+
+  pub ask_did : {ready : ℕ → ℕ → Bool} {k k' : Known Item} {before : Past} → IsCall k k' before []
+      → Did ready (stand k link words g) (stand k' link words g) Asking (Greeting before.opening.genesis.document before.opening.kit.me)
+  ask_did {k = k} {k' = k'} {before = before} c = record {
+    acts = Ask before.opening.genesis.document before.opening.kit.me ∷ [];
+    course = known_course (call_knows k k' before [] c) (before.opening, before.first_leaf, (map Happened before.log ++ [], seen_after k k' before [] c), refl, refl) refl refl refl;
+    leads = (Greeting before.opening.genesis.document before.opening.kit.me, asks, refl);
+  }
+
+  pub look_course : {k k' : Known Item} {before : Past} {at pending : ℕ} → k.number ≡ 0 → IsCall k k' before [] → Looked (client_of before) at pending
+      → Course (stand k link words g) (stand k' link words g) (Look (length (items_of before)) at pending ∷ []) [] [] []
+  look_course {k} {k'} {before} zero' c looked =
+      known_course (call_knows k k' before [] c) (point_zero zero' c, (client_of before, call_client k k' before [] c, looked)) refl refl refl
+
+  pub look_did : {ready : ℕ → ℕ → Bool} {n : ℕ} {k k' : Known Item} {before : Past} {at pending : ℕ} → k.number ≡ 0 → IsCall k k' before [] → Looked (client_of before) at pending
+      → ready at pending ≡ true → Did ready (stand k link words g) (stand k' link words g) (Between n) (Pulling n at)
+  look_did {n = n} {before = before} {at = at} {pending = pending} zero' c looked is_ready = record {
+    acts = Look (length (items_of before)) at pending ∷ [];
+    course = look_course zero' c looked;
+    leads = (Pulling n at, looks is_ready, refl);
+  }
+
+  check_course : {k k' : Known Item} {before : Past} {entry : List ℕ} {stays : Bool} → k.number ≡ 0 → IsCall k k' before [] → stays ≡ is_flight (client_of before) entry
+      → Course (stand k link words g) (stand k' link words g) (Check (length (items_of before)) entry stays ∷ []) [] [] []
+  check_course {k} {k'} {before} zero' c is =
+      known_course (call_knows k k' before [] c) (point_zero zero' c, (client_of before, call_client k k' before [] c, is)) refl refl refl
+
+  pub check_did : {ready : ℕ → ℕ → Bool} {n : ℕ} {r : Refusal} {k k' : Known Item} {before : Past} {entry : List ℕ} → k.number ≡ 0 → IsCall k k' before [] → false ≡ is_flight (client_of before) entry
+      → Did ready (stand k link words g) (stand k' link words g) (Checking n entry r) (Between (n + 1))
+  check_did {n = n} {before = before} {entry = entry} zero' c is = record {
+    acts = Check (length (items_of before)) entry false ∷ [];
+    course = check_course zero' c is;
+    leads = (Between (n + 1), is_gone, refl);
+  }
+
+  pub check_stopped : {ready : ℕ → ℕ → Bool} {n : ℕ} {r : Refusal} {k k' : Known Item} {before : Past} {entry : List ℕ} → k.number ≡ 0 → IsCall k k' before [] → true ≡ is_flight (client_of before) entry
+      → Stopped ready (stand k link words g) (stand k' link words g) (Checking n entry r) (faults.ServerRejected r)
+  check_stopped {n = n} {r = r} {before = before} {entry = entry} zero' c is = record {
+    acts = Check (length (items_of before)) entry true ∷ [];
+    reached = Stuck n r;
+    written = [];
+    answers = [];
+    words = [];
+    course = check_course zero' c is;
+    leads = (Stuck n r, is_there, refl);
+    beside = record { sent_due = (0, refl); few_came = omega arith; few = omega arith; drawn = λ _. refl };
+    cause = (n, refl);
+  }
+
+-- entries that are accepted send, receive and draw nothing
+takes_silent : {X : Type 0} (h : Act → List X) → ((position : ℕ) (e : List ℕ) → h (Take position e) ≡ []) → (at : ℕ) (es : List (List ℕ)) → all_of h (takes_of at es) ≡ []
+takes_silent h none at [] = refl
+takes_silent h none at (e ∷ es) = ap (λ l. l ++ all_of h (takes_of (at + 1) es)) (none (at + 1) e) ∙ takes_silent h none (at + 1) es
+
+fits_takes : (log : List Item) (start : ℕ) (mine : List Item) (at : ℕ) (es : List (List ℕ)) → FitAll log start mine (takes_of at es)
+fits_takes log start mine at [] = tt
+fits_takes log start mine at (e ∷ es) = (tt, fits_takes log start (mine ++ items_by (Take (at + 1) e)) (at + 1) es)
+
+pub leads_takes : (ready : ℕ → ℕ → Bool) (n at : ℕ) (front rest : List (List ℕ)) (next : Then) → Leads ready (Taking n at (front ++ rest) next) (takes_of at front) (Taking n (at + length front) rest next)
+leads_takes ready n at [] rest next = ap (λ x. Taking n x rest next) (omega arith)
+leads_takes ready n at (e ∷ es) rest next =
+    (Taking n (at + 1) (es ++ rest) next, takes, subst (λ x. Leads ready (Taking n (at + 1) (es ++ rest) next) (takes_of (at + 1) es) (Taking n x rest next)) (omega arith) (leads_takes ready n (at + 1) es rest next))
+
+module _ {words : Option (List (List ℕ))} {g : ℕ} {a b : LinkStand} where
+  -- no answer came to the message that was due
+  pub ask_stopped : {ready : ℕ → ℕ → Bool} {k : Known Item} {m : Mode} {message : ToServer} {fault : SessionFault} → message_due m ≡ message ∷ [] → ¬ IsSubmitting m → AskFails a b message fault
+      → Stopped ready (stand k a words g) (stand k b words g) m fault
+  ask_stopped {ready} {k} {m} {message} {fault} due other (unsent h) =
+      stopped (take h.n (spelled (message ∷ []))) [] h.did (h.n, ap (λ (ms : List ToServer). take h.n (spelled ms)) (sym due)) (omega arith) (unsent_cause fault h.cause)
+    where
+      A : Stand
+      A = stand k a words g
+
+      B : Stand
+      B = stand k b words g
+
+      due_some : message_due m ≢ []
+      due_some e = absurd cc
+
+      stopped : (written : List ℕ) (answers : List ToClient) → Exchanged a b written answers → (n : ℕ) × (written ≡ take n (spelled (message_due m))) → length answers ≤ 1 → Cause A B m written answers [] fault
+          → Stopped ready A B m fault
+      stopped written answers did part few cause = record {
+        acts = [];
+        reached = m;
+        written = written;
+        answers = answers;
+        words = [];
+        course = record { knows = knows_none k; fits = tt; link = did; words_are = words_none words; chance = omega arith };
+        leads = refl;
+        beside = record { sent_due = part; few_came = few; few = omega arith; drawn = λ _. refl };
+        cause = cause;
+      }
+
+      unsent_cause : (f : SessionFault) → UnsentFor a b f → Cause A B m (take h.n (spelled (message ∷ []))) [] [] f
+      unsent_cause faults.LinkFault c = (c, due_some)
+      unsent_cause faults.Memory c = tt
+      unsent_cause (faults.LinkEnded taken) c = absurd c
+      unsent_cause (faults.BadMessage place) c = absurd c
+      unsent_cause (faults.Refused position refusal) c = absurd c
+      unsent_cause (faults.NotSettled pending at) c = absurd c
+      unsent_cause (faults.Leaf (leaves.Exhausted next)) c = absurd c
+      unsent_cause (faults.Leaf leaves.DiskFault) c = absurd c
+      unsent_cause faults.HistoryFull c = absurd c
+      unsent_cause (faults.ServerRejected refusal) c = absurd c
+      unsent_cause faults.JournalFull c = absurd c
+      unsent_cause (faults.EditRefused editor line f) c = absurd c
+      unsent_cause (faults.Worn ticket) c = absurd c
+      unsent_cause faults.ChanceFault c = absurd c
+  ask_stopped {ready} {k} {m} {message} {fault} due other (silent h) = record {
+    acts = [];
+    reached = m;
+    written = spelled (message ∷ []);
+    answers = [];
+    words = [];
+    course = record { knows = knows_none k; fits = tt; link = h.did; words_are = words_none words; chance = omega arith };
+    leads = refl;
+    beside = record { sent_due = (length (spelled (message ∷ [])), whole); few_came = omega arith; few = omega arith; drawn = λ _. refl };
+    cause = silent_cause fault h.cause;
+  }
+    where
+      A : Stand
+      A = stand k a words g
+
+      B : Stand
+      B = stand k b words g
+
+      due_some : message_due m ≢ []
+      due_some e = absurd cc
+
+      sent : spelled (message ∷ []) ≡ spelled (message_due m)
+      sent = ap spelled (sym due)
+
+      whole : spelled (message ∷ []) ≡ take (length (spelled (message ∷ []))) (spelled (message_due m))
+      whole = sym (take_all (length (spelled (message ∷ []))) (spelled (message ∷ [])) (omega arith)) ∙ ap (take (length (spelled (message ∷ [])))) sent
+
+      silent_cause : (f : SessionFault) → SilentFor a b f → Cause A B m (spelled (message ∷ [])) [] [] f
+      silent_cause faults.LinkFault c = (c, due_some)
+      silent_cause faults.Memory c = tt
+      silent_cause (faults.LinkEnded taken) c = (c.0, due_some, sent, c.1)
+      silent_cause (faults.BadMessage place) c = inr (record { due = due_some; sent = sent; came = refl; frame = c })
+      silent_cause (faults.Refused position refusal) c = absurd c
+      silent_cause (faults.NotSettled pending at) c = absurd c
+      silent_cause (faults.Leaf (leaves.Exhausted next)) c = absurd c
+      silent_cause (faults.Leaf leaves.DiskFault) c = absurd c
+      silent_cause faults.HistoryFull c = absurd c
+      silent_cause (faults.ServerRejected refusal) c = absurd c
+      silent_cause faults.JournalFull c = absurd c
+      silent_cause (faults.EditRefused editor line f) c = absurd c
+      silent_cause (faults.Worn ticket) c = absurd c
+      silent_cause faults.ChanceFault c = absurd c
+  ask_stopped {ready} {k} {m} {message} {fault} due other (wrong h) = record {
+    acts = [];
+    reached = m;
+    written = spelled (message ∷ []);
+    answers = h.answer ∷ [];
+    words = [];
+    course = record { knows = knows_none k; fits = tt; link = h.did; words_are = words_none words; chance = omega arith };
+    leads = refl;
+    beside = record { sent_due = (length (spelled (message ∷ [])), whole); few_came = omega arith; few = omega arith; drawn = λ _. refl };
+    cause = subst (Cause (stand k a words g) (stand k b words g) m (spelled (message ∷ [])) (h.answer ∷ []) []) (sym h.is)
+        (inl (record { message = message; answer = h.answer; due = due; sent = refl; came = refl; wrong = h.wrong; starts = h.starts }));
+  }
+    where
+      whole : spelled (message ∷ []) ≡ take (length (spelled (message ∷ []))) (spelled (message_due m))
+      whole = sym (take_all (length (spelled (message ∷ []))) (spelled (message ∷ [])) (omega arith)) ∙ ap (λ (ms : List ToServer). take (length (spelled (message ∷ []))) (spelled ms)) (sym due)
+
+  -- entries were pulled and accepted
+  gathered_course : {k k' : Known Item} {at : ℕ} (came front : List (List ℕ)) → Exchanged a b (spelled (to_server.Pull at ∷ [])) (handed_out at came ∷ []) → KnowsMore k k' (all_of items_by (takes_of at front))
+      → Course (stand k a words g) (stand k' b words g) (Pull at came ∷ takes_of at front) [] [] []
+  gathered_course {k} {k'} {at} came front link knows = record {
+    knows = knows;
+    fits = (tt, fits_takes k'.seen k.start (k.mine ++ []) at front);
+    link = subst (λ (m : List ToServer). Exchanged a b (spelled (to_server.Pull at ∷ m) ++ []) ((handed_out at came ∷ all_of answers_by (takes_of at front)) ++ [])) (sym (takes_silent messages_by (λ p e. refl) at front))
+        (subst (λ (l : List ToClient). Exchanged a b (spelled (to_server.Pull at ∷ []) ++ []) ((handed_out at came ∷ l) ++ [])) (sym (takes_silent answers_by (λ p e. refl) at front))
+        (subst (λ (w : List ℕ). Exchanged a b w (handed_out at came ∷ [])) (sym (append-nil (spelled (to_server.Pull at ∷ [])))) link));
+    words_are = subst (λ (l : List (List ℕ)). AppendsWords words words (l ++ [])) (sym (takes_silent words_by (λ p e. refl) at front)) (words_none words);
+    chance = omega arith;
+  }
+
+  pub gathered_did : {ready : ℕ → ℕ → Bool} {n : ℕ} {k k' : Known Item} {m : Mode} {at : ℕ} {came : List (List ℕ)} {next : Then} → Goes ready m (Pull at came) (Taking n at came next) → Gathered k k' a b at came
+      → Did ready (stand k a words g) (stand k' b words g) m (Taking n (at + length came) [] next)
+  gathered_did {ready} {n} {at = at} {came = came} {next = next} goes h = record {
+    acts = Pull at came ∷ takes_of at came;
+    course = gathered_course came came h.link h.knows;
+    leads = (Taking n at came next, goes, subst (λ l. Leads ready (Taking n at l next) (takes_of at came) (Taking n (at + length came) [] next)) (append-nil came) (leads_takes ready n at came [] next));
+  }
+
+  -- no entry came
+  pub drained_did : {ready : ℕ → ℕ → Bool} {n : ℕ} {k k' : Known Item} {at : ℕ} {entry : List ℕ} {r : Refusal} → Gathered k k' a b at []
+      → Did ready (stand k a words g) (stand k' b words g) (Taking n at [] (Drains entry r)) (Checking n entry r)
+  drained_did {n = n} {at = at} {entry = entry} {r = r} h = record {
+    acts = Pull at [] ∷ [];
+    course = gathered_course [] [] h.link h.knows;
+    leads = (Checking n entry r, drained, refl);
+  }
+
+  pub gather_stopped : {ready : ℕ → ℕ → Bool} {k k' : Known Item} {m : Mode} {at : ℕ} {fault : SessionFault} (n : ℕ) (next : Then) → message_due m ≡ to_server.Pull at ∷ [] → ¬ IsSubmitting m
+      → ((c : List ℕ) (cs : List (List ℕ)) → Goes ready m (Pull at (c ∷ cs)) (Taking n at (c ∷ cs) next)) → GatherStopped k k' a b at fault
+      → Stopped ready (stand k a words g) (stand k' b words g) m fault
+  gather_stopped {ready} {k} {m = m} {fault = fault} n next due other goes (asking same fails) =
+      subst (λ (h : Known Item). Stopped ready (stand k a words g) (stand h b words g) m fault) (sym same) (ask_stopped due other fails)
+  gather_stopped {ready} {k} {k'} {m} {at} {fault} n next due other goes (taking {came} link h) = record {
+    acts = Pull at came ∷ takes_of at h.front;
+    reached = Taking n (at + length h.front) (h.entry ∷ h.rest) next;
+    written = [];
+    answers = [];
+    words = [];
+    course = gathered_course came h.front link h.knows;
+    leads = subst (λ l. Leads ready m (Pull at l ∷ takes_of at h.front) (Taking n (at + length h.front) (h.entry ∷ h.rest) next)) (sym h.are)
+        (Taking n at (h.front ++ h.entry ∷ h.rest) next, starts h.front, leads_takes ready n at h.front (h.entry ∷ h.rest) next);
+    beside = record { sent_due = (0, refl); few_came = omega arith; few = omega arith; drawn = λ _. refl };
+    cause = cause_of fault h.cause;
+  }
+    where
+      starts : (front : List (List ℕ)) → Goes ready m (Pull at (front ++ h.entry ∷ h.rest)) (Taking n at (front ++ h.entry ∷ h.rest) next)
+      starts [] = goes h.entry h.rest
+      starts (c ∷ cs) = goes c (cs ++ h.entry ∷ h.rest)
+
+      M : Mode
+      M = Taking n (at + length h.front) (h.entry ∷ h.rest) next
+
+      is_taking : (position : ℕ) → position ≡ at + length h.front + 1 → IsTaking M position h.entry
+      is_taking position e = (n, at + length h.front, h.rest, next, refl, e)
+
+      cause_of : (f : SessionFault) → TakeCause k' (at + length h.front + 1) h.entry f → Cause (stand k a words g) (stand k' b words g) M [] [] [] f
+      cause_of (faults.Refused position refusal) c = (h.entry, is_taking position c.0, subst (λ p. AcceptGives k' p h.entry (accepts.Refused refusal)) (sym c.0) c.1)
+      cause_of faults.JournalFull c = inl (at + length h.front + 1, h.entry, is_taking (at + length h.front + 1) refl, c)
+      cause_of (faults.Worn ticket) c = c
+      cause_of faults.Memory c = tt
+      cause_of faults.LinkFault c = absurd c
+      cause_of (faults.LinkEnded taken) c = absurd c
+      cause_of (faults.BadMessage place) c = absurd c
+      cause_of faults.HistoryFull c = absurd c
+      cause_of (faults.Leaf (leaves.Exhausted next')) c = absurd c
+      cause_of (faults.Leaf leaves.DiskFault) c = absurd c
+      cause_of faults.ChanceFault c = absurd c
+      cause_of (faults.ServerRejected refusal) c = absurd c
+      cause_of (faults.NotSettled pending at') c = absurd c
+      cause_of (faults.EditRefused editor line f) c = absurd c
+
+-- a submission
+module _ {link : LinkStand} {w w' : Option (List (List ℕ))} {c c' : ℕ} (low : c ≤ c') where
+  submission_course : {k k' : Known Item} {drawn : List (List ℕ)} {answer : Result Submitted SubmitFault} (s : Submission k k' drawn answer) → AppendsWords w w' drawn
+      → Course (stand k link w c) (stand k' link w' c') (Submit s.point s.first s.second answer ∷ []) [] [] []
+  submission_course {k} {k'} {answer = answer} s drew = record {
+    knows = subst (KnowsMore k k') (sym (append-nil (map Happened (submission_added 0 answer)))) s.knows;
+    fits = (s.fits, tt);
+    link = exchanged_none link;
+    words_are = subst (AppendsWords w w') s.drawn_are drew;
+    chance = low;
+  }
+
+  pub quiet_did : {ready : ℕ → ℕ → Bool} {n at : ℕ} {k k' : Known Item} {drawn : List (List ℕ)} {answer : Result Submitted SubmitFault} → Submission k k' drawn answer → AppendsWords w w' drawn → IsQuiet answer
+      → Did ready (stand k link w c) (stand k' link w' c') (Taking n at [] Submits) (Between (n + 1))
+  quiet_did {n = n} {answer = answer} s drew quiet = record {
+    acts = Submit s.point s.first s.second answer ∷ [];
+    course = submission_course s drew;
+    leads = (Between (n + 1), submits_none quiet, refl);
+  }
+
+  pub entry_did : {ready : ℕ → ℕ → Bool} {n at : ℕ} {k k' : Known Item} {drawn : List (List ℕ)} {answer : Result Submitted SubmitFault} {e : List ℕ} → Submission k k' drawn answer → AppendsWords w w' drawn → answer ≡ Ok (submitted.Entry e)
+      → Did ready (stand k link w c) (stand k' link w' c') (Taking n at [] Submits) (Sending n at e)
+  entry_did {ready} {n} {at} {answer = answer} {e = e} s drew is = record {
+    acts = Submit s.point s.first s.second answer ∷ [];
+    course = submission_course s drew;
+    leads = (Sending n at e, subst (λ a. Goes ready (Taking n at [] Submits) (Submit s.point s.first s.second a) (Sending n at e)) (sym is) submits_entry, refl);
+  }
+
+  pub submit_stopped : {ready : ℕ → ℕ → Bool} {n at : ℕ} {k k' : Known Item} {fault : SessionFault} (drawn : List (List ℕ)) → length drawn ≤ 2 → AppendsWords w w' drawn → KnowsMore k k' [] → SubmitCause k' drawn c c' fault
+      → Stopped ready (stand k link w c) (stand k' link w' c') (Taking n at [] Submits) fault
+  submit_stopped {n = n} {at = at} {k = k} {k' = k'} {fault = fault} drawn few drew knows cause = record {
+    acts = [];
+    reached = M;
+    written = [];
+    answers = [];
+    words = drawn;
+    course = record { knows = knows; fits = tt; link = exchanged_none link; words_are = drew; chance = low };
+    leads = refl;
+    beside = record { sent_due = (0, refl); few_came = omega arith; few = few; drawn = λ no. absurd (no is) };
+    cause = cause_of fault cause;
+  }
+    where
+      M : Mode
+      M = Taking n at [] Submits
+
+      is : IsSubmitting M
+      is = (n, at, refl)
+
+      cause_of : (x : SessionFault) → SubmitCause k' drawn c c' x → Cause (stand k link w c) (stand k' link w' c') M [] [] drawn x
+      cause_of (faults.Refused position refusal) h = absurd h
+      cause_of faults.JournalFull h = inr (is, h)
+      cause_of (faults.Worn ticket) h = h
+      cause_of faults.Memory h = tt
+      cause_of faults.LinkFault h = absurd h
+      cause_of (faults.LinkEnded taken) h = absurd h
+      cause_of (faults.BadMessage place) h = absurd h
+      cause_of faults.HistoryFull h = (is, h)
+      cause_of (faults.Leaf (leaves.Exhausted next')) h = (is, h)
+      cause_of (faults.Leaf leaves.DiskFault) h = (is, h)
+      cause_of faults.ChanceFault h = (is, h)
+      cause_of (faults.ServerRejected refusal) h = absurd h
+      cause_of (faults.NotSettled pending at') h = absurd h
+      cause_of (faults.EditRefused editor line x) h = absurd h

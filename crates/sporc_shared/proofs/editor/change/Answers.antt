@@ -1,0 +1,8 @@
+use Rattle.sporc_turn.specs.Passes.{known_of}
+use Rattle.sporc_shared.proofs.Stating.{changed}
+use Rattle.sporc_shared.proofs.editor.change.Goals as goal
+
+pub returns-clause-did : goal.returns-clause-did
+returns-clause-did g c =
+    changed (known_of c.args.pass) c.number-number.result c.args.line c.number-number.ensures c.change.result c.plain-answer.result c.edited.result c.plain-answer.ensures c.edited.ensures c.change.ensures.worn
+    c.args.change c.change.ensures.call

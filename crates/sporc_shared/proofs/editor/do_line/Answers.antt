@@ -1,0 +1,21 @@
+use Rattle.std.proofs.Common.{subst, sym}
+use Rattle.sporc_script.specs.declared.editor_line.EditorCommand.{EditorCommand}
+use Rattle.sporc_turn.specs.Passes.{known_of}
+use Rattle.sporc_shared.specs.Editing.{AskedDid}
+use Rattle.sporc_shared.specs.Lines.{asked_by}
+use Rattle.sporc_shared.proofs.editor.do_line.Goals as goal
+
+pub returns-in-Insert-clause-did : goal.returns-in-Insert-clause-did
+returns-in-Insert-clause-did g c = subst (λ (x : EditorCommand). AskedDid (known_of c.args.pass) (known_of c.insert.result.1) c.args.line.now.number (asked_by x) c.insert.result.0) (sym c.in-Insert.is) c.insert.ensures.did
+
+pub returns-in-Remove-clause-did : goal.returns-in-Remove-clause-did
+returns-in-Remove-clause-did g c = subst (λ (x : EditorCommand). AskedDid (known_of c.args.pass) (known_of c.remove.result.1) c.args.line.now.number (asked_by x) c.remove.result.0) (sym c.in-Remove.is) c.remove.ensures.did
+
+pub returns-in-Add-clause-did : goal.returns-in-Add-clause-did
+returns-in-Add-clause-did g c = subst (λ (x : EditorCommand). AskedDid (known_of c.args.pass) (known_of c.change.result.1) c.args.line.now.number (asked_by x) c.change.result.0) (sym c.in-Add.is) c.change.ensures.did
+
+pub returns-in-Drop-clause-did : goal.returns-in-Drop-clause-did
+returns-in-Drop-clause-did g c = subst (λ (x : EditorCommand). AskedDid (known_of c.args.pass) (known_of c.change-in-Drop.result.1) c.args.line.now.number (asked_by x) c.change-in-Drop.result.0) (sym c.in-Drop.is) c.change-in-Drop.ensures.did
+
+pub returns-in-SetRole-clause-did : goal.returns-in-SetRole-clause-did
+returns-in-SetRole-clause-did g c = subst (λ (x : EditorCommand). AskedDid (known_of c.args.pass) (known_of c.change-in-SetRole.result.1) c.args.line.now.number (asked_by x) c.change-in-SetRole.result.0) (sym c.in-SetRole.is) c.change-in-SetRole.ensures.did

@@ -1,0 +1,7 @@
+use Rattle.sporc_turn.specs.Passes.{known_of}
+use Rattle.sporc_shared.proofs.Taking.{took_one}
+use Rattle.sporc_shared.proofs.receiver.take_one.Goals as goal
+
+pub returns-clause-took : goal.returns-clause-took
+returns-clause-took g c =
+    took_one (known_of c.args.pass) c.args.at c.args.entry.now c.accept.result c.plain-answer.result c.taken-took.result c.requires.first c.plain-answer.ensures c.taken-took.ensures c.accept.ensures.call c.accept.ensures.worn

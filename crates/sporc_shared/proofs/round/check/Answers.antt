@@ -1,0 +1,5 @@
+use Rattle.sporc_shared.proofs.Rounding.{check_went}
+use Rattle.sporc_shared.proofs.round.check.Goals as goal
+
+pub returns-clause-did : goal.returns-clause-did
+returns-clause-did g c = check_went c.is_flight.result c.requires.first c.plain-answer.ensures c.checked.ensures c.is_flight.ensures.call c.is_flight.ensures.worn

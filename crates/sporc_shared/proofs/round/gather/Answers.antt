@@ -1,0 +1,15 @@
+use Rattle.std.proofs.Common.{ℕ, ◌+◌, List, ap, length, subst}
+use Rattle.sporc_turn.specs.Passes.{known_of}
+use Rattle.sporc_shared.specs.Outcomes.{TookAll}
+use Rattle.sporc_shared.proofs.Rounding.{gather_err, gather_ok}
+use Rattle.sporc_shared.proofs.round.gather.Goals as goal
+
+pub returns-in-Ok-took-clause-gathered : goal.returns-in-Ok-took-clause-gathered
+returns-in-Ok-took-clause-gathered g c =
+    gather_ok c.in-Ok.entries c.in-Ok-took.is (ap (λ (l : List (List ℕ)). c.args.at + length l) c.as_slice-came.ensures.value) c.in-Ok.ensures.ok
+    (subst (λ es. TookAll (known_of c.args.pass) (known_of c.take_all-took.result.1) c.args.at es c.take_all-took.result.0) c.as_slice-came.ensures.value c.take_all-took.ensures.took)
+
+pub returns-in-Ok-clause-gathered : goal.returns-in-Ok-clause-gathered
+returns-in-Ok-clause-gathered g c =
+    gather_err c.in-Ok.entries c.in-Err-took.is c.in-Ok.ensures.ok
+    (subst (λ es. TookAll (known_of c.args.pass) (known_of c.take_all-took.result.1) c.args.at es c.take_all-took.result.0) c.as_slice-came.ensures.value c.take_all-took.ensures.took)

@@ -1,0 +1,14 @@
+use Rattle.std.proofs.Common.{ap, ◌∙◌, Ok}
+use Rattle.sporc_shared.proofs.Coursing.{and_then}
+use Rattle.sporc_shared.proofs.Rounding.{made_entry, made_none, made_stopped}
+use Rattle.sporc_shared.proofs.round.give.Goals as goal
+
+pub returns-in-None-clause-did : goal.returns-in-None-clause-did
+returns-in-None-clause-did g c ready n = record { ends = made_none c.submit-made.ensures.kept (c.in-Ok.is ∙ ap Ok c.in-None.is) c.submit-made.ensures.submitted }
+
+pub returns-in-Some-clause-did : goal.returns-in-Some-clause-did
+returns-in-Some-clause-did g c ready n =
+    and_then (made_entry c.submit-made.ensures.kept (c.in-Ok.is ∙ ap Ok c.in-Some.is) c.submit-made.ensures.submitted) (c.offer.ensures.did ready n _ _)
+
+pub returns-in-Err-clause-did : goal.returns-in-Err-clause-did
+returns-in-Err-clause-did g c ready n = record { ends = made_stopped c.submit-made.ensures.kept c.in-Err.is c.submit-made.ensures.submitted }

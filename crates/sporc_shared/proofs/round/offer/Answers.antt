@@ -1,0 +1,14 @@
+use Rattle.std.proofs.Common.{ap, ◌∙◌, Ok}
+use Rattle.sporc_shared.proofs.Coursing.{and_then}
+use Rattle.sporc_shared.proofs.Rounding.{sent_ordered, sent_rejected, sent_stopped}
+use Rattle.sporc_shared.proofs.round.offer.Goals as goal
+
+pub returns-in-None-clause-did : goal.returns-in-None-clause-did
+returns-in-None-clause-did g c ready n words count = record { ends = sent_ordered (c.in-Ok.is ∙ ap Ok c.in-None.is) c.send_entry-answer.ensures.ok }
+
+pub returns-in-Ok-clause-did : goal.returns-in-Ok-clause-did
+returns-in-Ok-clause-did g c ready n words count =
+    and_then (sent_rejected (c.as_slice.ensures.value ∙ c.send_entry-answer.ensures.returned) (c.in-Ok.is ∙ ap Ok c.in-Some.is) c.send_entry-answer.ensures.ok) (c.settle.ensures.did ready n words count)
+
+pub returns-clause-did : goal.returns-clause-did
+returns-clause-did g c ready n words count = record { ends = sent_stopped c.in-Err.is c.send_entry-answer.ensures.err }

@@ -1,0 +1,9 @@
+use Rattle.sporc_shared.proofs.Coursing.{and_then}
+use Rattle.sporc_shared.proofs.Rounding.{pull_did, pull_stopped}
+use Rattle.sporc_shared.proofs.round.round.Goals as goal
+
+pub returns-in-Ok-clause-did : goal.returns-in-Ok-clause-did
+returns-in-Ok-clause-did g c ready n = and_then (pull_did c.in-Ok.is c.gather-gathered.ensures.gathered) (c.give.ensures.did ready n)
+
+pub returns-in-Err-clause-did : goal.returns-in-Err-clause-did
+returns-in-Err-clause-did g c ready n = record { ends = pull_stopped c.in-Err.is c.gather-gathered.ensures.gathered }

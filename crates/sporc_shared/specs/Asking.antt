@@ -1,0 +1,117 @@
+-- What an exchange of messages does to a link.
+use Rattle.std.specs.Prelude.{◌≡◌, ◌≤◌, ℕ, List, [], ◌∷◌, take, Option, None, Some, Result, Ok, Err, ⊤}
+use Rattle.std.specs.Io.KnownBytes.{Consumes, IsAtEnd}
+use Rattle.sporc_head.specs.declared.refusal.Refusal.{Refusal}
+use Rattle.sporc_outside.specs.Counts.{Rose}
+use Rattle.sporc_turn.specs.declared.known.Known.{Known}
+use Rattle.sporc_wire.specs.declared.to_client.ToClient.{ToClient}
+use Rattle.sporc_wire.specs.declared.to_client.ToClient.TheVariants as to_client
+use Rattle.sporc_wire.specs.declared.to_server.ToServer.{ToServer}
+use Rattle.sporc_wire.specs.declared.to_server.ToServer.TheVariants as to_server
+use Rattle.sporc_shared.specs.declared.fault.SessionFault.{SessionFault}
+use Rattle.sporc_shared.specs.declared.fault.SessionFault.TheVariants as faults
+use Rattle.sporc_shared.specs.Acts.{Reply, Ordered, Rejected, handed_out, all_of, items_by}
+use Rattle.sporc_shared.specs.Courses.{KnowsMore}
+use Rattle.sporc_shared.specs.Endings.{IsAnswer, TakingStopped, takes_of}
+use Rattle.sporc_shared.specs.Items.{Item}
+use Rattle.sporc_shared.specs.Wires.{IsBadFrame, IsLastFrom, LinkStand, Exchanged, more_taken, spelled}
+
+-- a piece was taken off the link, and nothing was written to it
+pub record Took (a b : LinkStand) (piece : List ℕ) : Type 0 where
+  pub written : b.written ≡ a.written
+  pub consumed : Consumes a.left b.left piece
+  pub inbox : b.inbox ≡ more_taken piece a.inbox
+  pub count : a.faults ≤ b.faults
+
+-- why no whole message came, whatever was sent before
+abbrev pub SilentFor : LinkStand → LinkStand → SessionFault → Type 0
+SilentFor a b faults.LinkFault = Rose a.faults b.faults
+SilentFor a b (faults.LinkEnded taken) = IsAtEnd b.left × (taken ≡ b.inbox.taken)
+SilentFor a b (faults.BadMessage place) = IsBadFrame b.inbox place
+SilentFor a b faults.Memory = ⊤
+SilentFor a b (faults.Refused position refusal) = ⊥
+SilentFor a b (faults.NotSettled pending at) = ⊥
+SilentFor a b (faults.Leaf fault) = ⊥
+SilentFor a b faults.HistoryFull = ⊥
+SilentFor a b (faults.ServerRejected refusal) = ⊥
+SilentFor a b faults.JournalFull = ⊥
+SilentFor a b (faults.EditRefused editor line fault) = ⊥
+SilentFor a b (faults.Worn ticket) = ⊥
+SilentFor a b faults.ChanceFault = ⊥
+
+-- why a message was not sent whole
+abbrev pub UnsentFor : LinkStand → LinkStand → SessionFault → Type 0
+UnsentFor a b faults.LinkFault = Rose a.faults b.faults
+UnsentFor a b faults.Memory = ⊤
+UnsentFor a b (faults.LinkEnded taken) = ⊥
+UnsentFor a b (faults.BadMessage place) = ⊥
+UnsentFor a b (faults.Refused position refusal) = ⊥
+UnsentFor a b (faults.NotSettled pending at) = ⊥
+UnsentFor a b (faults.Leaf fault) = ⊥
+UnsentFor a b faults.HistoryFull = ⊥
+UnsentFor a b (faults.ServerRejected refusal) = ⊥
+UnsentFor a b faults.JournalFull = ⊥
+UnsentFor a b (faults.EditRefused editor line fault) = ⊥
+UnsentFor a b (faults.Worn ticket) = ⊥
+UnsentFor a b faults.ChanceFault = ⊥
+
+-- a message was not sent: a front of its bytes was written
+pub record Unsent (a b : LinkStand) (message : ToServer) (fault : SessionFault) : Type 0 where
+  pub n : ℕ
+  pub did : Exchanged a b (take n (spelled (message ∷ []))) []
+  pub cause : UnsentFor a b fault
+
+-- no whole message came
+pub record IsSilent (a b : LinkStand) (fault : SessionFault) : Type 0 where
+  pub did : Exchanged a b [] []
+  pub cause : SilentFor a b fault
+
+-- a message was sent, and no whole message came
+pub record NoAnswer (a b : LinkStand) (message : ToServer) (fault : SessionFault) : Type 0 where
+  pub did : Exchanged a b (spelled (message ∷ [])) []
+  pub cause : SilentFor a b fault
+
+-- the message that came is no answer to the one sent
+pub record WrongAnswer (a b : LinkStand) (message : ToServer) (fault : SessionFault) : Type 0 where
+  pub answer : ToClient
+  pub place : ℕ
+  pub did : Exchanged a b (spelled (message ∷ [])) (answer ∷ [])
+  pub wrong : ¬ IsAnswer message answer
+  pub starts : IsLastFrom place answer b.inbox
+  pub is : fault ≡ faults.BadMessage place
+
+-- an exchange failed
+pub data AskFails (a b : LinkStand) (message : ToServer) (fault : SessionFault) : Type 0 where
+  unsent : Unsent a b message fault → AskFails a b message fault
+  silent : NoAnswer a b message fault → AskFails a b message fault
+  wrong : WrongAnswer a b message fault → AskFails a b message fault
+
+-- a message was sent, and this one came, whose frame began at the place where the inbox stood
+pub record Asks (a b : LinkStand) (message : ToServer) (answer : ToClient) : Type 0 where
+  pub did : Exchanged a b (spelled (message ∷ [])) (answer ∷ [])
+  pub starts : IsLastFrom a.inbox.at answer b.inbox
+
+-- an entry was ordered, or refused
+abbrev pub IsReply : Option Refusal → Reply → Type 0
+IsReply None (Ordered position) = ⊤
+IsReply None (Rejected refusal) = ⊥
+IsReply (Some refusal) (Ordered position) = ⊥
+IsReply (Some refusal) (Rejected r) = r ≡ refusal
+
+-- Entries were pulled after so many others, and accepted
+pub record Gathered (k k' : Known Item) (a b : LinkStand) (at : ℕ) (came : List (List ℕ)) : Type 0 where
+  pub link : Exchanged a b (spelled (to_server.Pull at ∷ [])) (handed_out at came ∷ [])
+  pub knows : KnowsMore k k' (all_of items_by (takes_of at came))
+
+-- none came, or one of them wasn't accepted
+pub data GatherStopped (k k' : Known Item) (a b : LinkStand) (at : ℕ) (fault : SessionFault) : Type 0 where
+  asking : k' ≡ k → AskFails a b (to_server.Pull at) fault → GatherStopped k k' a b at fault
+  taking : {came : List (List ℕ)} → Exchanged a b (spelled (to_server.Pull at ∷ [])) (handed_out at came ∷ []) → TakingStopped k k' at came fault → GatherStopped k k' a b at fault
+
+-- what an answer to an entry says; anything else is no answer to it, and its frame began at this place
+abbrev pub IsReplyOf : ℕ → Result ToClient SessionFault → Result (Option Refusal) SessionFault → Type 0
+IsReplyOf place (Err fault) result = result ≡ Err fault
+IsReplyOf place (Ok (to_client.Ordered position)) result = result ≡ Ok None
+IsReplyOf place (Ok (to_client.Rejected refusal)) result = result ≡ Ok (Some refusal)
+IsReplyOf place (Ok (to_client.Entries first entries)) result = result ≡ Err (faults.BadMessage place)
+IsReplyOf place (Ok to_client.Empty) result = result ≡ Err (faults.BadMessage place)

@@ -1,0 +1,28 @@
+-- Journals as parts of a run.
+use Rattle.std.specs.Prelude.{◌≡◌, ℕ, ◌==◌, List, ◌∷◌, Contains}
+use Rattle.std.specs.FinMap.{get}
+use Rattle.std.specs.List.{filter}
+use Rattle.sporc_line.specs.Good.{Meets}
+use Rattle.sporc_client.specs.Calls.{events_of}
+use Rattle.sporc_client.specs.Run.{Setup, Move, Open, Happen, Give, Restart, opening_of}
+use Rattle.sporc_shared.specs.Items.{Past, IsAllowed}
+
+-- whose client a move is of
+abbrev pub member_of : Move → ℕ
+member_of (Open who ring) = who
+member_of (Happen who event) = who
+member_of (Give who position bytes) = who
+member_of (Restart who k) = who
+
+-- the moves of one member's client, in order
+abbrev pub moves_of : ℕ → List Move → List Move
+moves_of who moves = filter (λ move. member_of move == who) moves
+
+-- the moves are that a member of the setup opens a client, and then its events, each of which its calls make there
+pub record IsJournal (s : Setup) (who : ℕ) (moves : List Move) : Type 0 where
+  pub past : Past
+  pub is_member : Contains s.members who
+  pub opening : past.opening ≡ opening_of s who past.opening.kit.ring
+  pub meets : Meets s.genesis 0 (get past.opening.kit.ring 0) s.genesis.commitment
+  pub allowed : IsAllowed past
+  pub are : moves ≡ Open who past.opening.kit.ring ∷ events_of who past.log

@@ -1,0 +1,129 @@
+//! The first phase: the receiver, and each editor in a thread of its own.
+
+ghost use Rattle.std.specs.Prelude.{◌≡◌, ◌+◌, ◌<◌, ◌^◌, length, IfSome};
+ghost use Rattle.std.specs.Thread.{IsSend, IsSync};
+ghost use Rattle.sporc_turn.specs.Passes.{known_of};
+ghost use Rattle.sporc_shared.specs.Courses.{CountsSame, stand};
+ghost use Rattle.sporc_shared.specs.Crowds.{IsCrowd, IsFirst, IsOther, either_fault};
+ghost use Rattle.sporc_shared.specs.Editing.{LinesDid};
+ghost use Rattle.sporc_shared.specs.Passes.{IsPassOf};
+ghost use Rattle.sporc_shared.specs.Wires.{link_stand};
+
+use crate::editor::do_lines;
+use crate::fault::SessionFault;
+use crate::inbox::Inbox;
+use crate::item::Pass;
+use crate::phase::first_phase;
+use crate::shared_client::SharedClient;
+use sporc_outside::{Chance, Gate, LeafDisk, Link};
+use sporc_script::EditorScript;
+use std::alloc::Global;
+use std::sync::Wait;
+use std::thread::{Threads, join_mut};
+
+// The receiver's fault, and the first fault of an editor, if there is one.
+#[derive(Clone, Copy, Debug, PartialEq, Eq)]
+pub(crate) struct Faults {
+    pub receiver: Option<SessionFault>,
+    pub editors: Option<SessionFault>,
+}
+
+// The receiver with the pass that has number 0, and an editor for each script.
+pub(crate) fn crowd<
+    R: Threads + Wait + Sync,
+    D: LeafDisk + Send,
+    L: Link + Send,
+    C: Chance + Send,
+    G: Gate + Sync,
+>(
+    rt: &R,
+    alloc: Global,
+    shared: &SharedClient<D>,
+    gate: &G,
+    link: &mut L,
+    inbox: &mut Inbox,
+    chance: &mut C,
+    first: Pass,
+    rounds: u32,
+    scripts: &[EditorScript],
+) -> (Faults, Pass)
+    requires lock { IsPassOf shared.now first }
+    requires first { (known_of first).number ≡ 0 }
+    requires room { (known_of first).splits + length scripts.now < 2 ^ 32 }
+    ensures lock { IsPassOf shared.now result.1 }
+    ensures first { (known_of result.1).number ≡ 0 }
+    ensures crowd { IsCrowd (stand (known_of first) (link_stand (L.written link.old) (L.left link.old) (L.faults link.old) inbox.old) (C.given chance.old) (C.faults chance.old)) (stand (known_of result.1) (link_stand (L.written link.new) (L.left link.new) (L.faults link.new) inbox.new) (C.given chance.new) (C.faults chance.new)) rounds scripts.now result.0.receiver result.0.editors }
+{
+    let Some((script, others)) = scripts.split_first() else {
+        let (receiver, first) = first_phase(
+            rt, alloc, shared, gate, link, inbox, chance, first, rounds,
+        );
+        let faults = Faults {
+            receiver,
+            editors: None,
+        };
+        return (faults, first);
+    };
+    let (first, second) = match shared.split(first) {
+        Ok(both) => both,
+        Err((first, _)) => {
+            let faults = Faults {
+                receiver: Some(SessionFault::Memory),
+                editors: None,
+            };
+            return (faults, first);
+        }
+    };
+    let mut first = Some(first);
+    let mut second = Some(second);
+    let ((faults, first), (fault, second)) = join_mut(
+        rt,
+        &mut || -> (Faults, Pass)
+            requires { IsSync R.row × IsSync G.row × IsSend D.row × IsSend L.row × IsSend C.row × IsFirst shared.now first (length others.now) }
+            ensures { IfSome first.entry (λ p. IsPassOf shared.entry.now result.1 × ((known_of result.1).number ≡ 0)
+                × IsCrowd (stand (known_of p) (link_stand (L.written link.entry.now) (L.left link.entry.now) (L.faults link.entry.now) inbox.entry.now) (C.given chance.entry.now) (C.faults chance.entry.now)) (stand (known_of result.1) (link_stand (L.written link.exit.now) (L.left link.exit.now) (L.faults link.exit.now) inbox.exit.now) (C.given chance.exit.now) (C.faults chance.exit.now)) rounds others.entry.now result.0.receiver result.0.editors) }
+        {
+            crowd(
+                rt,
+                alloc,
+                shared,
+                gate,
+                link,
+                inbox,
+                chance,
+                first.take().unwrap(),
+                rounds,
+                others,
+            )
+        },
+        &mut || -> (Option<SessionFault>, Pass)
+            requires { IsOther shared.now second }
+            ensures { IfSome second.entry (λ p. IsPassOf shared.entry.now result.1 × CountsSame (known_of p) (known_of result.1) × LinesDid (known_of p) (known_of result.1) script.entry.now result.0) }
+        {
+            do_lines(
+                rt,
+                alloc,
+                shared,
+                gate,
+                second.take().unwrap(),
+                script.lines(),
+            )
+        },
+    );
+    (with_editor(faults, fault), shared.join(first, second))
+}
+
+// An editor's fault goes before those of the later ones.
+fn with_editor(faults: Faults, fault: Option<SessionFault>) -> Faults
+    ensures receiver { result.receiver ≡ faults.receiver }
+    ensures editors { result.editors ≡ either_fault fault faults.editors }
+{
+    let editors = match fault {
+        Some(fault) => Some(fault),
+        None => faults.editors,
+    };
+    Faults {
+        receiver: faults.receiver,
+        editors,
+    }
+}

@@ -1,0 +1,264 @@
+//! An editor's lines.
+
+ghost use Rattle.std.specs.Prelude.{◌≡◌, ◌-◌, ◌≤◌, ◌^◌, min, [], IfErr, IfOk};
+ghost use Rattle.sporc_script.specs.declared.editor_line.EditorCommand.TheVariants as commands;
+ghost use Rattle.sporc_turn.specs.Passes.{known_of};
+ghost use Rattle.sporc_delta.specs.Marks.{base_len, insertion, removal};
+ghost use Rattle.sporc_shared.specs.Courses.{CountsSame, KnowsMore};
+ghost use Rattle.sporc_shared.specs.Editing.{AskedDid, IsAtFront, IsWornFault, LineDid, LinesDid, StatedDid, seen_of};
+ghost use Rattle.sporc_shared.specs.Lines.{Changes, asked_by};
+ghost use Rattle.sporc_shared.specs.Passes.{IsPassOf};
+ghost use Rattle.sporc_shared.specs.Replies.{edited_of};
+
+use crate::answered::{Answered, Reply};
+use crate::fault::SessionFault;
+use crate::front::Front;
+use crate::item::Pass;
+use crate::look::Look;
+use crate::receiver::{Went, plain, worn};
+use crate::shared_client::SharedClient;
+use sporc_base::Memory;
+use sporc_client::EditFault;
+use sporc_delta::{Delta, MAX_COUNT};
+use sporc_member::Change;
+use sporc_outside::{Gate, LeafDisk};
+use sporc_script::{EditorCommand, EditorLine, Insertion, Removal};
+use sporc_turn::Worn;
+use std::alloc::{AllocError, Global};
+use std::sync::Wait;
+
+// The fault of a session in which a line isn't done.
+fn edited(
+    editor: u32,
+    line: u32,
+    answer: Result<Result<u64, EditFault>, u64>,
+) -> Result<(), SessionFault>
+    ensures { result ≡ edited_of editor line answer }
+{
+    match answer {
+        Ok(Ok(_)) => Ok(()),
+        Ok(Err(EditFault::JournalFull)) => Err(SessionFault::JournalFull),
+        Ok(Err(EditFault::Memory)) => Err(SessionFault::Memory),
+        Ok(Err(fault)) => Err(SessionFault::EditRefused(editor, line, fault)),
+        Err(ticket) => Err(SessionFault::Worn(ticket)),
+    }
+}
+
+// The client as it is now: a front, and how many characters it then showed.
+#[derive(Clone, Copy)]
+pub(crate) struct Seen {
+    pub front: Front,
+    pub len: u64,
+}
+
+// What a look shows, or the ticket that wasn't drawn, and the pass.
+fn looked(reply: Reply<Look>) -> (Result<Seen, u64>, Pass)
+    ensures { result ≡ seen_of reply }
+{
+    match reply {
+        Ok(
+            Answered {
+                answer,
+                front,
+                pass,
+            },
+        ) => {
+            let len = answer.len;
+            (Ok(Seen { front, len }), pass)
+        }
+        Err((pass, Worn(ticket))) => (Err(ticket), pass),
+    }
+}
+
+// Sees the client.
+fn see<R: Wait, D: LeafDisk>(rt: &R, shared: &SharedClient<D>, pass: Pass) -> Went<Seen>
+    requires { IsPassOf shared.now pass }
+    ensures lock { IsPassOf shared.now result.1 }
+    ensures counts { CountsSame (known_of pass) (known_of result.1) }
+    ensures knows { KnowsMore (known_of pass) (known_of result.1) [] }
+    ensures ok { IfOk result.0 (λ seen. IsAtFront (known_of result.1) seen.front.events seen.len) }
+    ensures err { IfErr result.0 IsWornFault }
+{
+    let (found, pass) = looked(shared.look(rt, pass));
+    (worn(found), pass)
+}
+
+// Edits the text that was seen last.
+fn edit_at<R: Wait, D: LeafDisk>(
+    rt: &R,
+    shared: &SharedClient<D>,
+    pass: Pass,
+    line: u32,
+    seen: Seen,
+    delta: &Delta,
+) -> Went<()>
+    requires lock { IsPassOf shared.now pass }
+    requires last { IsAtFront (known_of pass) seen.front.events seen.len }
+    requires stated { base_len delta.now ≡ seen.len }
+    ensures lock { IsPassOf shared.now result.1 }
+    ensures counts { CountsSame (known_of pass) (known_of result.1) }
+    ensures did { StatedDid (known_of pass) (known_of result.1) line seen.front.events delta.now result.0 }
+{
+    let number = pass.number();
+    let (answer, pass) = plain(shared.edit(rt, pass, seen.front, delta));
+    (edited(number, line, answer), pass)
+}
+
+// The delta of an insertion into a text of this length. No memory holds one of more than MAX_COUNT bytes.
+fn inserted(alloc: Global, len: u64, asked: &Insertion) -> Result<Delta, Memory>
+    requires { len ≤ 2 ^ 36 }
+    ensures ok { IfOk result (λ delta. delta ≡ insertion len (min asked.now.at len) asked.now.text) }
+{
+    let text = asked.text.as_str();
+    if text.len() as u64 > MAX_COUNT {
+        return Err(AllocError);
+    }
+    let at = asked.at.min(len);
+    let delta = Delta::insert_at(alloc, len, at, text)?;
+    Ok(delta)
+}
+
+// The delta of a removal from a text of this length.
+fn removed(alloc: Global, len: u64, asked: &Removal) -> Result<Delta, Memory>
+    requires { len ≤ 2 ^ 36 }
+    ensures ok { IfOk result (λ delta. delta ≡ removal len (min asked.now.at len) (min asked.now.count (len - min asked.now.at len))) }
+{
+    let at = asked.at.min(len);
+    let count = asked.count.min(len - at);
+    let delta = Delta::remove_at(alloc, len, at, count)?;
+    Ok(delta)
+}
+
+// Inserts into the text that is seen now.
+fn insert<R: Wait, D: LeafDisk>(
+    rt: &R,
+    alloc: Global,
+    shared: &SharedClient<D>,
+    pass: Pass,
+    line: u32,
+    asked: &Insertion,
+) -> Went<()>
+    requires { IsPassOf shared.now pass }
+    ensures lock { IsPassOf shared.now result.1 }
+    ensures counts { CountsSame (known_of pass) (known_of result.1) }
+    ensures did { AskedDid (known_of pass) (known_of result.1) line (asked_by (commands.Insert asked.now)) result.0 }
+{
+    let (found, pass) = see(rt, shared, pass);
+    let seen = match found {
+        Ok(seen) => seen,
+        Err(fault) => return (Err(fault), pass),
+    };
+    let Ok(delta) = inserted(alloc, seen.len, asked) else {
+        return (Err(SessionFault::Memory), pass);
+    };
+    edit_at(rt, shared, pass, line, seen, &delta)
+}
+
+// Removes from the text that is seen now.
+fn remove<R: Wait, D: LeafDisk>(
+    rt: &R,
+    alloc: Global,
+    shared: &SharedClient<D>,
+    pass: Pass,
+    line: u32,
+    asked: &Removal,
+) -> Went<()>
+    requires { IsPassOf shared.now pass }
+    ensures lock { IsPassOf shared.now result.1 }
+    ensures counts { CountsSame (known_of pass) (known_of result.1) }
+    ensures did { AskedDid (known_of pass) (known_of result.1) line (asked_by (commands.Remove asked.now)) result.0 }
+{
+    let (found, pass) = see(rt, shared, pass);
+    let seen = match found {
+        Ok(seen) => seen,
+        Err(fault) => return (Err(fault), pass),
+    };
+    let Ok(delta) = removed(alloc, seen.len, asked) else {
+        return (Err(SessionFault::Memory), pass);
+    };
+    edit_at(rt, shared, pass, line, seen, &delta)
+}
+
+// Makes a change.
+fn change<R: Wait, D: LeafDisk>(
+    rt: &R,
+    shared: &SharedClient<D>,
+    pass: Pass,
+    line: u32,
+    change: Change,
+) -> Went<()>
+    requires { IsPassOf shared.now pass }
+    ensures lock { IsPassOf shared.now result.1 }
+    ensures counts { CountsSame (known_of pass) (known_of result.1) }
+    ensures did { AskedDid (known_of pass) (known_of result.1) line (Changes change) result.0 }
+{
+    let number = pass.number();
+    let (answer, pass) = plain(shared.change(rt, pass, change));
+    (edited(number, line, answer), pass)
+}
+
+// Does a line.
+fn do_line<R: Wait, D: LeafDisk, G: Gate>(
+    rt: &R,
+    alloc: Global,
+    shared: &SharedClient<D>,
+    gate: &G,
+    pass: Pass,
+    line: &EditorLine,
+) -> Went<()>
+    requires { IsPassOf shared.now pass }
+    ensures lock { IsPassOf shared.now result.1 }
+    ensures counts { CountsSame (known_of pass) (known_of result.1) }
+    ensures did { LineDid (known_of pass) (known_of result.1) line.now result.0 }
+{
+    let number = line.number;
+    gate.before_line(rt, pass.number(), number);
+    match &line.command {
+        EditorCommand::Insert(insertion) => insert(rt, alloc, shared, pass, number, insertion),
+        EditorCommand::Remove(removal) => remove(rt, alloc, shared, pass, number, removal),
+        EditorCommand::Add(founder) => {
+            let added = Change::Add {
+                member: founder.member,
+                role: founder.role,
+                key: founder.key,
+            };
+            change(rt, shared, pass, number, added)
+        }
+        EditorCommand::Drop(member) => {
+            let removed = Change::Remove { member: *member };
+            change(rt, shared, pass, number, removed)
+        }
+        EditorCommand::SetRole(role) => {
+            let set = Change::SetRole {
+                member: role.member,
+                role: role.role,
+            };
+            change(rt, shared, pass, number, set)
+        }
+    }
+}
+
+// Does lines in order.
+pub(crate) fn do_lines<R: Wait, D: LeafDisk, G: Gate>(
+    rt: &R,
+    alloc: Global,
+    shared: &SharedClient<D>,
+    gate: &G,
+    pass: Pass,
+    lines: &[EditorLine],
+) -> (Option<SessionFault>, Pass)
+    requires { IsPassOf shared.now pass }
+    ensures lock { IsPassOf shared.now result.1 }
+    ensures counts { CountsSame (known_of pass) (known_of result.1) }
+    ensures did { LinesDid (known_of pass) (known_of result.1) lines.now result.0 }
+{
+    let mut mine = pass;
+    for line in lines {
+        let (one, next) = do_line(rt, alloc, shared, gate, mine, line);
+        mine = next;
+        if let Err(fault) = one {
+            return (Some(fault), mine);
+        }
+    }
+    (None, mine)
+}

@@ -1,0 +1,38 @@
+//! Laws of sessions: what their logs have to do with runs of all clients of a document (`sporc_client::laws`), and what the
+//! receiver's acts are.
+
+ghost use Rattle.std.specs.Prelude.{◌≡◌, ◌⊎◌, ◌↔◌, ℕ, Bool, List, [], Result, Some, ⊤};
+ghost use Rattle.sporc_script.specs.declared.editor_line.EditorLine.{EditorLine};
+ghost use Rattle.sporc_client.specs.Calls.{LeadTo, events_of};
+ghost use Rattle.sporc_client.specs.Log.{Logged};
+ghost use Rattle.sporc_client.specs.Run.{IsRun, Move, Setup, World, start};
+ghost use Rattle.sporc_shared.specs.declared.fault.SessionFault.{SessionFault};
+ghost use Rattle.sporc_shared.specs.Acts.{Act};
+ghost use Rattle.sporc_shared.specs.Courses.{Stand};
+ghost use Rattle.sporc_shared.specs.Items.{Past, client_of, items_of, with_events};
+ghost use Rattle.sporc_shared.specs.Protocol.{Asking, Between, Leads};
+ghost use Rattle.sporc_shared.specs.Runs.{IsJournal, moves_of};
+ghost use Rattle.sporc_shared.specs.Sessions.{IsSession};
+ghost use Rattle.sporc_shared.specs.WholeRounds.{AreRounds, IsFirstPhase};
+
+/// What a session adds to the log, by all its threads, is moves of a run: a run in which a member has the client that the
+/// session was begun with may go on with just these events, and the member then has the client that the session left.
+pub fn sessions_are_moves()
+    ensures { (s : Setup) (w : World) (who : ℕ) (past : Past) (a b : Stand) (rounds until : ℕ) (scripts : List (List EditorLine)) (result : Result ⊤ SessionFault)
+        → w.clients who ≡ Some (client_of past) → a.known.seen ≡ items_of past → IsSession a b rounds until scripts result
+        → (events : List Logged) × (b.known.seen ≡ items_of (with_events past events)) × LeadTo s w (events_of who events) who (client_of (with_events past events)) }
+{}
+
+/// Sessions of several clients may run at one time: in whatever order the events of their journals come, they are one run.
+/// So all that the clients of a run agree on holds of them.
+pub fn journals_are_a_run()
+    ensures { (s : Setup) (moves : List Move) → ((who : ℕ) → (moves_of who moves ≡ []) ⊎ IsJournal s who (moves_of who moves)) → IsRun s start moves }
+{}
+
+/// The table of a receiver's modes, read as whole rounds. Acts lead from the begin of a phase to the end of its last round just
+/// if they are so many whole rounds, one after the other; in the first phase, the client's document and member and Hello come
+/// before them.
+pub fn phases_are_whole_rounds()
+    ensures rounds { (ready : ℕ → ℕ → Bool) (acts : List Act) (n : ℕ) → Leads ready (Between 0) acts (Between n) ↔ AreRounds ready n acts }
+    ensures first_phase { (ready : ℕ → ℕ → Bool) (acts : List Act) (n : ℕ) → Leads ready Asking acts (Between n) ↔ IsFirstPhase ready n acts }
+{}

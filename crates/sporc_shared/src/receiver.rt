@@ -1,0 +1,188 @@
+//! The steps of the receiver of a session.
+
+ghost use Rattle.std.specs.Prelude.{◌≡◌, ◌≤◌, ◌<◌, ◌++◌, length, IfErr, IfOk, IfSome};
+ghost use Rattle.sporc_outside.specs.Counts.{CountsFaults};
+ghost use Rattle.sporc_wire.specs.declared.cutter.TheConstants.{MAX_BODY};
+ghost use Rattle.sporc_head.specs.declared.limits.TheConstants.{MAX_ENTRIES};
+ghost use Rattle.sporc_turn.specs.Passes.{known_of};
+ghost use Rattle.sporc_shared.specs.Courses.{CountsSame};
+ghost use Rattle.sporc_shared.specs.Outcomes.{Drew, DrewFew, SubmittedOne, TookAll, TookOne};
+ghost use Rattle.sporc_shared.specs.Passes.{IsPassOf};
+ghost use Rattle.sporc_shared.specs.Replies.{made_of, plain_of, taken_of, worn_of};
+
+use crate::answered::{Answered, Reply};
+use crate::fault::SessionFault;
+use crate::item::Pass;
+use crate::shared_client::SharedClient;
+use lms_leaf::LeafFault;
+use sporc_base::{Bytes, put_at};
+use sporc_client::{AcceptFault, SubmitFault, Submitted};
+use sporc_outside::{Chance, Gate, LeafDisk};
+use sporc_turn::Worn;
+use std::sync::Wait;
+
+// A step's answer or the fault of the session, and the pass.
+pub(crate) type Went<T> = (Result<T, SessionFault>, Pass);
+
+// The answer, or the ticket that wasn't drawn, and the pass.
+pub(crate) fn plain<A>(reply: Reply<A>) -> (Result<A, u64>, Pass)
+    ensures { result ≡ plain_of reply }
+{
+    match reply {
+        Ok(
+            Answered {
+                answer,
+                front: _,
+                pass,
+            },
+        ) => (Ok(answer), pass),
+        Err((pass, Worn(ticket))) => (Err(ticket), pass),
+    }
+}
+
+// A session's fault in place of a ticket.
+pub(crate) fn worn<A>(answer: Result<A, u64>) -> Result<A, SessionFault>
+    ensures { result ≡ worn_of answer }
+{
+    match answer {
+        Ok(answer) => Ok(answer),
+        Err(ticket) => Err(SessionFault::Worn(ticket)),
+    }
+}
+
+// The fault of a session in which an entry isn't accepted.
+fn taken(position: u32, answer: Result<Result<u64, AcceptFault>, u64>) -> Result<(), SessionFault>
+    ensures { result ≡ taken_of position answer }
+{
+    match answer {
+        Ok(Ok(_)) => Ok(()),
+        Ok(Err(AcceptFault::Refused(refusal))) => Err(SessionFault::Refused(position, refusal)),
+        Ok(Err(AcceptFault::JournalFull)) => Err(SessionFault::JournalFull),
+        Ok(Err(AcceptFault::Memory)) => Err(SessionFault::Memory),
+        Err(ticket) => Err(SessionFault::Worn(ticket)),
+    }
+}
+
+// The entry that a submission made, or the fault of a session.
+fn made(answer: Result<Result<Submitted, SubmitFault>, u64>) -> Result<Option<Bytes>, SessionFault>
+    ensures { result ≡ made_of answer }
+{
+    match answer {
+        Ok(Ok(Submitted::Entry(entry))) => Ok(Some(entry)),
+        Ok(Ok(Submitted::Waiting)) => Ok(None),
+        Ok(Ok(Submitted::Nothing)) => Ok(None),
+        Ok(Ok(Submitted::Dropped(_))) => Ok(None),
+        Ok(Err(SubmitFault::Removed)) => Ok(None),
+        Ok(Err(SubmitFault::NoRight)) => Ok(None),
+        Ok(Err(SubmitFault::HeadTooLong(_))) => Ok(None),
+        Ok(Err(SubmitFault::NoPairKey(_))) => Ok(None),
+        Ok(Err(SubmitFault::HistoryFull)) => Err(SessionFault::HistoryFull),
+        Ok(Err(SubmitFault::JournalFull)) => Err(SessionFault::JournalFull),
+        Ok(Err(SubmitFault::Exhausted(next))) => {
+            Err(SessionFault::Leaf(LeafFault::Exhausted(next)))
+        }
+        Ok(Err(SubmitFault::LeafFault)) => Err(SessionFault::Leaf(LeafFault::DiskFault)),
+        Ok(Err(SubmitFault::Memory)) => Err(SessionFault::Memory),
+        Err(ticket) => Err(SessionFault::Worn(ticket)),
+    }
+}
+
+// Accepts an entry after so many others.
+fn take_one<R: Wait, D: LeafDisk, G: Gate>(
+    rt: &R,
+    shared: &SharedClient<D>,
+    gate: &G,
+    pass: Pass,
+    at: u32,
+    entry: &[u8],
+) -> Went<()>
+    requires lock { IsPassOf shared.now pass }
+    requires first { (known_of pass).number ≡ 0 }
+    requires small { at ≤ MAX_ENTRIES }
+    ensures lock { IsPassOf shared.now result.1 }
+    ensures counts { CountsSame (known_of pass) (known_of result.1) }
+    ensures took { TookOne (known_of pass) (known_of result.1) at entry.now result.0 }
+{
+    let position = at + 1;
+    let (answer, pass) = plain(shared.accept(rt, pass, position, entry));
+    let took = taken(position, answer);
+    if took.is_ok() {
+        gate.after_accept(rt, position);
+    }
+    (took, pass)
+}
+
+// Accepts entries after so many others.
+pub(crate) fn take_all<R: Wait, D: LeafDisk, G: Gate>(
+    rt: &R,
+    shared: &SharedClient<D>,
+    gate: &G,
+    pass: Pass,
+    at: u32,
+    entries: &[Bytes],
+) -> Went<()>
+    requires lock { IsPassOf shared.now pass }
+    requires first { (known_of pass).number ≡ 0 }
+    requires small { at ≤ MAX_ENTRIES }
+    ensures lock { IsPassOf shared.now result.1 }
+    ensures counts { CountsSame (known_of pass) (known_of result.1) }
+    ensures took { TookAll (known_of pass) (known_of result.1) at entries.now result.0 }
+{
+    let Some((entry, rest)) = entries.split_first() else {
+        return (Ok(()), pass);
+    };
+    let (one, pass) = take_one(rt, shared, gate, pass, at, entry.as_slice());
+    match one {
+        Ok(()) => take_all(rt, shared, gate, pass, at + 1, rest),
+        Err(fault) => (Err(fault), pass),
+    }
+}
+
+// Two random words.
+fn draw<C: Chance>(chance: &mut C) -> Result<[u8; 64], SessionFault>
+    ensures ok { IfOk result (Drew (C.given chance.old) (C.given chance.new)) }
+    ensures count { CountsFaults (C.faults chance.old) (C.faults chance.new) result }
+    ensures err { IfErr result (DrewFew (C.given chance.old) (C.given chance.new)) }
+{
+    let Ok(first) = chance.fill32() else {
+        return Err(SessionFault::ChanceFault);
+    };
+    let Ok(second) = chance.fill32() else {
+        return Err(SessionFault::ChanceFault);
+    };
+    Ok(joined(&first, &second))
+}
+
+// Two words as one string.
+fn joined(first: &[u8; 32], second: &[u8; 32]) -> [u8; 64]
+    ensures { result ≡ first.now ++ second.now }
+{
+    let mut both = [0; 64];
+    put_at(&mut both, 0, first);
+    put_at(&mut both, 32, second);
+    both
+}
+
+// Submits, and says which entry was made.
+pub(crate) fn submit<R: Wait, D: LeafDisk, C: Chance>(
+    rt: &R,
+    shared: &SharedClient<D>,
+    chance: &mut C,
+    pass: Pass,
+) -> Went<Option<Bytes>>
+    requires lock { IsPassOf shared.now pass }
+    requires first { (known_of pass).number ≡ 0 }
+    ensures lock { IsPassOf shared.now result.1 }
+    ensures counts { CountsSame (known_of pass) (known_of result.1) }
+    ensures kept { C.faults chance.old ≤ C.faults chance.new }
+    ensures submitted { SubmittedOne (known_of pass) (known_of result.1) (C.given chance.old) (C.given chance.new) (C.faults chance.old) (C.faults chance.new) result.0 }
+    ensures short { IfOk result.0 (λ made. IfSome made (λ entry. length entry < MAX_BODY)) }
+{
+    match draw(chance) {
+        Ok(random) => {
+            let (answer, pass) = plain(shared.submit(rt, pass, &random));
+            (made(answer), pass)
+        }
+        Err(fault) => (Err(fault), pass),
+    }
+}
