@@ -34,4 +34,6 @@ mod state;
 
 pub use crate::fault::PlayFault;
 pub use crate::generated::play_generated;
+pub use crate::journal::push_journal;
 pub use crate::playing::{MAX_SCRIPT, play};
+pub use crate::showing::{push_hash, push_show, push_verdict};

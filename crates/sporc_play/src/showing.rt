@@ -14,13 +14,15 @@ ghost use Rattle.sporc_script.specs.Quoted.{quoted};
 use crate::quoted::push_quoted;
 use crate::seat::PlayClient;
 use sporc_base::Memory;
+use sporc_client::Client;
 use sporc_hash::{Digest32, Verdict};
 use sporc_member::{Role, Roster};
+use sporc_outside::LeafDisk;
 use std::alloc::Global;
 use std::fmt::Write;
 
 /// Appends what a member sees.
-pub fn push_show(out: &mut String, client: &PlayClient) -> Result<(), Memory>
+pub fn push_show<D: LeafDisk>(out: &mut String, client: &Client<D>) -> Result<(), Memory>
     ensures { OnOk result (string_bytes out.new ≡ string_bytes out.old ++ show_line client.now.opening.kit.me (state_of client.now)) }
 {
     let member = client.me();
@@ -33,7 +35,7 @@ pub fn push_show(out: &mut String, client: &PlayClient) -> Result<(), Memory>
 }
 
 // Appends the text that a client shows, in quotes.
-fn push_shown(out: &mut String, client: &PlayClient) -> Result<(), Memory>
+fn push_shown<D: LeafDisk>(out: &mut String, client: &Client<D>) -> Result<(), Memory>
     ensures { OnOk result (string_bytes out.new ≡ string_bytes out.old ++ quoted (shown_of (state_of client.now))) }
 {
     let text = client.shown()?;
@@ -107,7 +109,11 @@ pub fn role_name(role: Role) -> &'static str
 }
 
 /// Appends the last value of the chain.
-pub fn push_hash(alloc: Global, out: &mut String, client: &PlayClient) -> Result<(), Memory>
+pub fn push_hash<D: LeafDisk>(
+    alloc: Global,
+    out: &mut String,
+    client: &Client<D>,
+) -> Result<(), Memory>
     ensures { OnOk result (string_bytes out.new ≡ string_bytes out.old ++ hash_line client.now.opening.kit.me (state_of client.now)) }
 {
     push_start(out, client.me(), " hash ")?;
@@ -116,7 +122,7 @@ pub fn push_hash(alloc: Global, out: &mut String, client: &PlayClient) -> Result
 }
 
 /// The last value of the chain.
-pub fn last_hash(client: &PlayClient) -> Digest32
+pub fn last_hash<D: LeafDisk>(client: &Client<D>) -> Digest32
     ensures { result ≡ hash_of client.now.opening.genesis (state_of client.now).entries }
 {
     let heads = client.heads();

@@ -2,6 +2,7 @@
 
 ghost use Rattle.std.specs.Prelude.{◌≡◌, ◌≢◌, ◌≤◌, Err};
 ghost use Rattle.sporc_outside.specs.Told.{AppendsItem, MayAppend};
+ghost use Rattle.sporc_serve.specs.declared.limits.TheConstants.{MAX_SESSIONS};
 ghost use Rattle.sporc_serve.specs.Crowds.{net_of};
 ghost use Rattle.sporc_serve.specs.Returns.{AreShutBehind};
 ghost use Rattle.sporc_serve.specs.Served.{IsServed};
@@ -32,7 +33,7 @@ pub fn serve<R: Threads + Wait + Sync, N: Listen, G: Gate + Sync>(
 where
     N::Link: Send,
     requires some { 1 ≤ sessions }
-    requires limit { sessions ≤ 1024 }
+    requires limit { sessions ≤ MAX_SESSIONS }
     ensures served { IsServed N.Link.left N.Link.written N.Link.faults order result.0
         (net_of (N.coming net.old) (N.returned net.old) (N.faults net.old)) (net_of (N.coming net.new) (N.returned net.new) (N.faults net.new)) sessions result.1 }
     ensures asked { result.1 ≢ Err ServeFault.ListenFault → AppendsItem (N.asked net.old) (N.asked net.new) address.now }

@@ -2,6 +2,7 @@
 
 ghost use Rattle.std.specs.Prelude.{◌≤◌, ◌<◌, [], vec_len, OnOk};
 ghost use Rattle.sporc_outside.specs.NetContent.{AreFresh};
+ghost use Rattle.sporc_serve.specs.declared.limits.TheConstants.{MAX_SESSIONS};
 
 use sporc_order::Order;
 use sporc_outside::{Calls, Gate, MemoryLink, MemoryNet};
@@ -86,7 +87,7 @@ pub fn served<R: Threads + Wait + Sync, G: Gate + Sync>(
     gate: &G,
 ) -> Result<Outcome, Fail>
     requires some { 1 ≤ sessions }
-    requires limit { sessions ≤ 1024 }
+    requires limit { sessions ≤ MAX_SESSIONS }
 {
     let order = Order::open(alloc, cast.genesis(alloc)?)?;
     let mut net = MemoryNet::new(alloc, peers.links, Calls::failing(Vec::new(alloc)));

@@ -8,6 +8,7 @@ pub mod Exchanging
 pub mod Inboxes
 pub mod Linking
 pub mod Coursing
+pub mod Fetching
 pub mod Stepping
 pub mod Positions
 pub mod Taking

@@ -13,6 +13,7 @@ pub mod Editing
 pub mod Sessions
 pub mod Runs
 pub mod Asking
+pub mod Fetches
 pub mod Crowds
 pub mod Outcomes
 pub mod Replies

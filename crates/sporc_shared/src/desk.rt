@@ -4,10 +4,11 @@ use sporc_client::Client;
 use sporc_outside::LeafDisk;
 use sporc_turn::Kept;
 
-// The client under the lock. Its log begins with what the client was opened with, and goes on with its events.
+// The client under the lock, in a box, so that each turn moves a pointer alone. Its log begins with what the client was opened
+// with, and goes on with its events.
 #[derive(Drop)]
 pub struct Desk<D: LeafDisk> {
-    pub client: Client<D>,
+    pub client: Box<Client<D>>,
 }
 
 impl<D: LeafDisk> Kept for Desk<D> {
@@ -15,7 +16,7 @@ impl<D: LeafDisk> Kept for Desk<D> {
 
     ghost use Rattle.sporc_shared.specs.Items.{by_of, items_of, past_of};
 
-    ghost log = { λ d. items_of (past_of d.client) };
+    ghost log = { λ d. items_of (past_of d.client.value) };
 
     ghost by = { by_of };
 

@@ -32,10 +32,10 @@ pub(crate) fn edit<D: LeafDisk>(
     delta: &Delta,
 ) -> (Result<u64, EditFault>, u64)
     ensures turn { IsSameTurn held.old held.new }
-    ensures fault { AnswersUnless EditFault.Memory result.0 (edit_fault (client_of (past_of (value_of held.old).client)) seen delta.now) }
-    ensures past { past_of (value_of held.new).client ≡ with_events (past_of (value_of held.old).client) (added result.0 (Edited by seen delta.now)) }
-    ensures allowed { IsAllowed (past_of (value_of held.new).client) }
-    ensures events { result.1 ≡ length (past_of (value_of held.new).client).log }
+    ensures fault { AnswersUnless EditFault.Memory result.0 (edit_fault (client_of (past_of (value_of held.old).client.value)) seen delta.now) }
+    ensures past { past_of (value_of held.new).client.value ≡ with_events (past_of (value_of held.old).client.value) (added result.0 (Edited by seen delta.now)) }
+    ensures allowed { IsAllowed (past_of (value_of held.new).client.value) }
+    ensures events { result.1 ≡ length (past_of (value_of held.new).client.value).log }
 {
     let desk = held.value();
     let answer = desk.client.edit(by, seen, delta);
@@ -50,10 +50,10 @@ pub(crate) fn change<D: LeafDisk>(
     change: Change,
 ) -> (Result<u64, EditFault>, u64)
     ensures turn { IsSameTurn held.old held.new }
-    ensures fault { AnswersUnless EditFault.Memory result.0 (change_fault (client_of (past_of (value_of held.old).client))) }
-    ensures past { past_of (value_of held.new).client ≡ with_events (past_of (value_of held.old).client) (added result.0 (Changed by change)) }
-    ensures allowed { IsAllowed (past_of (value_of held.new).client) }
-    ensures events { result.1 ≡ length (past_of (value_of held.new).client).log }
+    ensures fault { AnswersUnless EditFault.Memory result.0 (change_fault (client_of (past_of (value_of held.old).client.value))) }
+    ensures past { past_of (value_of held.new).client.value ≡ with_events (past_of (value_of held.old).client.value) (added result.0 (Changed by change)) }
+    ensures allowed { IsAllowed (past_of (value_of held.new).client.value) }
+    ensures events { result.1 ≡ length (past_of (value_of held.new).client.value).log }
 {
     let desk = held.value();
     let answer = desk.client.change(by, change);
@@ -68,10 +68,10 @@ pub(crate) fn submit<D: LeafDisk>(
     random: &[u8; 64],
 ) -> (Result<Submitted, SubmitFault>, u64)
     ensures turn { IsSameTurn held.old held.new }
-    ensures answer { Submits (past_of (value_of held.old).client) random.now result.0 }
-    ensures past { past_of (value_of held.new).client ≡ with_events (past_of (value_of held.old).client) (submission_added by result.0) }
-    ensures allowed { IsAllowed (past_of (value_of held.new).client) }
-    ensures events { result.1 ≡ length (past_of (value_of held.new).client).log }
+    ensures answer { Submits (past_of (value_of held.old).client.value) random.now result.0 }
+    ensures past { past_of (value_of held.new).client.value ≡ with_events (past_of (value_of held.old).client.value) (submission_added by result.0) }
+    ensures allowed { IsAllowed (past_of (value_of held.new).client.value) }
+    ensures events { result.1 ≡ length (past_of (value_of held.new).client.value).log }
 {
     let desk = held.value();
     let answer = desk.client.submit(by, random);
@@ -87,10 +87,10 @@ pub(crate) fn accept<D: LeafDisk>(
     bytes: &[u8],
 ) -> (Result<u64, AcceptFault>, u64)
     ensures turn { IsSameTurn held.old held.new }
-    ensures fault { AnswersUnless AcceptFault.Memory result.0 (accept_fault (client_of (past_of (value_of held.old).client)) pos bytes.now) }
-    ensures past { past_of (value_of held.new).client ≡ with_events (past_of (value_of held.old).client) (added result.0 (Accepted by bytes.now)) }
-    ensures allowed { IsAllowed (past_of (value_of held.new).client) }
-    ensures events { result.1 ≡ length (past_of (value_of held.new).client).log }
+    ensures fault { AnswersUnless AcceptFault.Memory result.0 (accept_fault (client_of (past_of (value_of held.old).client.value)) pos bytes.now) }
+    ensures past { past_of (value_of held.new).client.value ≡ with_events (past_of (value_of held.old).client.value) (added result.0 (Accepted by bytes.now)) }
+    ensures allowed { IsAllowed (past_of (value_of held.new).client.value) }
+    ensures events { result.1 ≡ length (past_of (value_of held.new).client.value).log }
 {
     let desk = held.value();
     let answer = desk.client.accept(by, pos, bytes);
@@ -101,9 +101,9 @@ pub(crate) fn accept<D: LeafDisk>(
 // The client at a glance.
 pub(crate) fn look<D: LeafDisk>(held: &mut Held<Desk<D>>) -> (Look, u64)
     ensures same { held.new ≡ held.old }
-    ensures seen { IsLookAt (past_of (value_of held.old).client) result.0 }
-    ensures allowed { IsAllowed (past_of (value_of held.old).client) }
-    ensures events { result.1 ≡ length (past_of (value_of held.old).client).log }
+    ensures seen { IsLookAt (past_of (value_of held.old).client.value) result.0 }
+    ensures allowed { IsAllowed (past_of (value_of held.old).client.value) }
+    ensures events { result.1 ≡ length (past_of (value_of held.old).client.value).log }
 {
     let desk = held.value();
     let look = look_at(&desk.client);
@@ -114,9 +114,9 @@ pub(crate) fn look<D: LeafDisk>(held: &mut Held<Desk<D>>) -> (Look, u64)
 // Whether an entry is the one on its way.
 pub(crate) fn is_flight<D: LeafDisk>(held: &mut Held<Desk<D>>, entry: &[u8]) -> (bool, u64)
     ensures same { held.new ≡ held.old }
-    ensures is { result.0 ≡ is_flight (client_of (past_of (value_of held.old).client)) entry.now }
-    ensures allowed { IsAllowed (past_of (value_of held.old).client) }
-    ensures events { result.1 ≡ length (past_of (value_of held.old).client).log }
+    ensures is { result.0 ≡ is_flight (client_of (past_of (value_of held.old).client.value)) entry.now }
+    ensures allowed { IsAllowed (past_of (value_of held.old).client.value) }
+    ensures events { result.1 ≡ length (past_of (value_of held.old).client.value).log }
 {
     let desk = held.value();
     let is = has_on_its_way(&desk.client, entry);
@@ -136,10 +136,10 @@ fn has_on_its_way<D: LeafDisk>(client: &Client<D>, entry: &[u8]) -> bool
 // The Hello of the client's member, for its document.
 pub(crate) fn hello<D: LeafDisk>(held: &mut Held<Desk<D>>) -> (ToServer, u64)
     ensures same { held.new ≡ held.old }
-    ensures hello { let opening = (past_of (value_of held.old).client).opening in result.0 ≡ ToServer.Hello opening.genesis.document opening.kit.me }
+    ensures hello { let opening = (past_of (value_of held.old).client.value).opening in result.0 ≡ ToServer.Hello opening.genesis.document opening.kit.me }
     ensures short { length (to_server_bytes result.0) ≤ MAX_BODY }
-    ensures allowed { IsAllowed (past_of (value_of held.old).client) }
-    ensures events { result.1 ≡ length (past_of (value_of held.old).client).log }
+    ensures allowed { IsAllowed (past_of (value_of held.old).client.value) }
+    ensures events { result.1 ≡ length (past_of (value_of held.old).client.value).log }
 {
     let desk = held.value();
     let greeting = hello_of(desk.client.document(), desk.client.me());
@@ -147,7 +147,7 @@ pub(crate) fn hello<D: LeafDisk>(held: &mut Held<Desk<D>>) -> (ToServer, u64)
     (greeting, events)
 }
 
-fn hello_of(document: &[u8; 16], member: u16) -> ToServer
+pub(crate) fn hello_of(document: &[u8; 16], member: u16) -> ToServer
     ensures value { result ≡ ToServer.Hello document.now member }
     ensures short { length (to_server_bytes result) ≤ MAX_BODY }
 {

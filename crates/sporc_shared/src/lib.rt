@@ -22,22 +22,32 @@
 //! let (result, first) = session(&rt, alloc, &shared, first, &mut link, &mut chance, &scripts, 64, 0, &OpenGate);
 //! ```
 //!
+//! [`fetch`] needs no client: it takes all entries that a server has, unchecked, for a member who joins and reads its keys off
+//! them.
+//!
+//! ```text
+//! let entries = fetch(alloc, &mut link, &document, member)?;
+//! ```
+//!
 //! Proved, whatever the threads do between: each call answers what the plain client answers at one moment of one journal,
 //! which begins with all that the pass had seen and has the pass's own events, in order, and no others with its number; the
 //! call's event, if it made one, ends that journal, and the pass has seen it all. What `close` gives back is the client with
 //! the journal that its pass has seen, whose entries were signed by leaves from the opening's next one on, each once. Of a
 //! session, over any link, chance and editors: the messages, random words and events of the receiver, in the order of the
 //! table of its modes (`specs/Protocol.antt`); that each editor's events are its lines, in order, each once; why it ended; that
-//! its events are moves of a run of all clients of the document ([`laws`]). Tested, in `sporc_shared_tests`: that calls of two
-//! passes succeed with ample memory. Neither: that a session does, that a turn comes, and whose turn comes first.
+//! its events are moves of a run of all clients of the document ([`laws`]). Of a fetch: its messages, that it gives all entries
+//! that came, and why it ended (`specs/Fetches.antt`). Tested, in `sporc_shared_tests`: that calls of two passes, sessions and
+//! fetches succeed with ample memory. Neither: that a turn comes, and whose turn comes first.
 #![tactic(auto)]
 
 mod answered;
 mod crowd;
 mod desk;
 mod editor;
+mod entries;
 mod exchange;
 mod fault;
+mod fetches;
 mod front;
 mod held;
 mod inbox;
@@ -52,7 +62,9 @@ mod sessions;
 mod shared_client;
 
 pub use crate::answered::{Answered, Reply};
+pub use crate::entries::Entries;
 pub use crate::fault::SessionFault;
+pub use crate::fetches::fetch;
 pub use crate::front::Front;
 pub use crate::item::{Item, Pass};
 pub use crate::look::Look;

@@ -29,7 +29,7 @@ use sporc_member::Change;
 use sporc_outside::LeafDisk;
 use sporc_turn::{Away, Held, Turn};
 use sporc_wire::ToServer;
-use std::alloc::Global;
+use std::alloc::{AllocError, AllocFailed, Global};
 use std::sync::Wait;
 
 /// A client that threads share. Each of its passes is one of this client alone (`IsPassOf`).
@@ -53,11 +53,15 @@ impl<D: LeafDisk> SharedClient<D> {
         ensures returned { IfErr result (λ e. e.0 ≡ client) }
     {
         let _events = count_events(&client);
+        let client = match Box::new(alloc, client) {
+            Ok(client) => client,
+            Err(AllocFailed { value }) => return Err((value, AllocError)),
+        };
         match Turn::open(alloc, Desk { client }) {
             Ok((turn, pass)) => Ok((SharedClient { turn }, pass)),
             Err((desk, memory)) => {
                 let Desk { client } = desk;
-                Err((client, memory))
+                Err((Box::into_inner(client), memory))
             }
         }
     }
@@ -196,12 +200,12 @@ impl<D: LeafDisk> SharedClient<D> {
     // Gives the client back after a call.
     fn give<A>(&self, answer: A, events: u64, held: Held<Desk<D>>) -> Answered<A>
         requires lock { IsHeldOf self.now.turn held }
-        requires log { Extends by_of (known_held held) (items_of (past_of (value_of held).client)) }
+        requires log { Extends by_of (known_held held) (items_of (past_of (value_of held).client.value)) }
         ensures lock { IsPassOf self.now result.pass }
         ensures answer { result.answer ≡ answer }
         ensures front { result.front.events ≡ events }
-        ensures known { known_of result.pass ≡ adding (known_held held) (items_of (past_of (value_of held).client)) }
-        ensures agrees { Agrees by_of (known_of result.pass) (items_of (past_of (value_of held).client)) }
+        ensures known { known_of result.pass ≡ adding (known_held held) (items_of (past_of (value_of held).client.value)) }
+        ensures agrees { Agrees by_of (known_of result.pass) (items_of (past_of (value_of held).client.value)) }
     {
         Answered {
             answer,
@@ -257,6 +261,7 @@ impl<D: LeafDisk> SharedClient<D> {
         match turn.close(pass) {
             Ok(desk) => {
                 let Desk { client } = desk;
+                let client = Box::into_inner(client);
                 let _events = count_events(&client);
                 Ok(client)
             }

@@ -4,10 +4,11 @@ ghost use Rattle.std.specs.Prelude.{◌≡◌, ◌≢◌, ◌+◌, ◌<◌, ◌^
 ghost use Rattle.sporc_turn.specs.Passes.{known_of};
 ghost use Rattle.sporc_shared.specs.Passes.{IsPassOf};
 
-use crate::scene::{one_entry, opened};
+use crate::scene::{BLANK, one_entry, opened};
+use crate::staging::closed;
 use sporc_client::{Client, Submitted};
 use sporc_delta::Delta;
-use sporc_outside::MemoryDisk;
+use sporc_outside::LeafDisk;
 use sporc_samples::{Cast, History};
 use sporc_shared::{Answered, Front, Pass, SharedClient};
 use std::alloc::Global;
@@ -15,13 +16,11 @@ use std::process::Abort;
 use std::sync::Wait;
 use std::test::Fail;
 
-type Shared = SharedClient<MemoryDisk>;
-
 // Inserts a text at the end of that of a front, of this length. How many events there are then.
-fn append<R: Wait>(
+fn append<R: Wait, D: LeafDisk>(
     rt: &R,
     alloc: Global,
-    shared: &Shared,
+    shared: &SharedClient<D>,
     pass: Pass,
     seen: Front,
     len: u64,
@@ -60,9 +59,9 @@ fn inserted(alloc: Global, len: u64, text: &str) -> Result<Delta, Fail> {
 }
 
 // Accepts the first entry of a history. How many events there are then.
-fn accept_first<R: Wait>(
+fn accept_first<R: Wait, D: LeafDisk>(
     rt: &R,
-    shared: &Shared,
+    shared: &SharedClient<D>,
     pass: Pass,
     sample: &History,
 ) -> Result<(u64, Pass), Fail>
@@ -81,7 +80,11 @@ fn accept_first<R: Wait>(
 }
 
 // How many entries there are, how many items are pending, and how long the shown text is.
-fn seen<R: Wait>(rt: &R, shared: &Shared, pass: Pass) -> Result<((u32, u32, u64), Pass), Fail>
+fn seen<R: Wait, D: LeafDisk>(
+    rt: &R,
+    shared: &SharedClient<D>,
+    pass: Pass,
+) -> Result<((u32, u32, u64), Pass), Fail>
     requires { IsPassOf shared.now pass }
     ensures lock { IfOk result (λ r. IsPassOf shared.now r.1) }
     ensures number { IfOk result (λ r. (known_of r.1).number ≡ (known_of pass).number) }
@@ -93,7 +96,11 @@ fn seen<R: Wait>(rt: &R, shared: &Shared, pass: Pass) -> Result<((u32, u32, u64)
 }
 
 // Whether a submission gives an entry.
-fn submitted<R: Wait>(rt: &R, shared: &Shared, pass: Pass) -> Result<(bool, Pass), Fail>
+fn submitted<R: Wait, D: LeafDisk>(
+    rt: &R,
+    shared: &SharedClient<D>,
+    pass: Pass,
+) -> Result<(bool, Pass), Fail>
     requires { IsPassOf shared.now pass }
     ensures lock { IfOk result (λ r. IsPassOf shared.now r.1) }
     ensures number { IfOk result (λ r. (known_of r.1).number ≡ (known_of pass).number) }
@@ -108,10 +115,10 @@ fn submitted<R: Wait>(rt: &R, shared: &Shared, pass: Pass) -> Result<(bool, Pass
 }
 
 // The first pass edits at the start and behind front 1, and the second accepts an entry between the two.
-fn edit_and_accept<R: Abort + Wait>(
+fn edit_and_accept<R: Abort + Wait, D: LeafDisk>(
     rt: &R,
     alloc: Global,
-    shared: &Shared,
+    shared: &SharedClient<D>,
     first: Pass,
     second: Pass,
     sample: &History,
@@ -133,25 +140,11 @@ fn edit_and_accept<R: Abort + Wait>(
     Ok(shared.join(first, second))
 }
 
-// What number 0 gives back shows.
-fn closed(shared: Shared, first: Pass) -> Result<String, Fail>
-    requires lock { IsPassOf shared first }
-    requires first { (known_of first).number ≡ 0 }
-{
-    match shared.close(first) {
-        Ok(client) => {
-            let shown = client.shown()?;
-            Ok(shown)
-        }
-        Err(_) => Err("a pass is away".into()),
-    }
-}
-
 // Splits a pass, and closes the client after both were used.
-fn passed_by_two<R: Abort + Wait>(
+fn passed_by_two<R: Abort + Wait, D: LeafDisk + Drop>(
     rt: &R,
     alloc: Global,
-    shared: Shared,
+    shared: SharedClient<D>,
     first: Pass,
     sample: &History,
 ) -> Result<String, Fail>
@@ -162,17 +155,18 @@ fn passed_by_two<R: Abort + Wait>(
     match shared.split(first) {
         Ok((first, second)) => {
             let first = edit_and_accept(rt, alloc, &shared, first, second, sample)?;
-            closed(shared, first)
+            let outcome = closed(alloc, shared, first, Ok(()))?;
+            Ok(outcome.text)
         }
         Err((_, memory)) => Err(memory.into()),
     }
 }
 
 // Shares a client between two passes.
-fn shared_by_two<R: Abort + Wait>(
+fn shared_by_two<R: Abort + Wait, D: LeafDisk + Drop>(
     rt: &R,
     alloc: Global,
-    client: Client<MemoryDisk>,
+    client: Client<D>,
     sample: &History,
 ) -> Result<String, Fail> {
     match SharedClient::open(alloc, client) {
@@ -183,7 +177,7 @@ fn shared_by_two<R: Abort + Wait>(
 
 fn edited_by_two<R: Abort + Wait>(rt: &R, alloc: Global, cast: &Cast) -> Result<String, Fail> {
     let sample = one_entry(alloc, cast, b"ab")?;
-    let client = opened(alloc, cast)?;
+    let client = opened(alloc, cast, 4, BLANK)?;
     shared_by_two(rt, alloc, client, &sample)
 }
 

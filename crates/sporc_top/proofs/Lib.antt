@@ -1,2 +1,4 @@
+pub mod Ranges
 pub mod Outcomes
-pub mod Written
+pub mod Runs
+pub mod Serving

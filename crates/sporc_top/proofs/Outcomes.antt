@@ -1,89 +1,31 @@
--- What a run did, from what its parts did, and what a source that tells its bytes calls for.
-use Rattle.std.proofs.Common.{◌≡◌, ℕ, ◌+◌, ◌^◌, ◌<◌, ◌≤◌, List, [], ◌∷◌, ◌++◌, length, Option, Some, None, codes, refl, sym, ap, ◌∙◌, subst, inl, inr, arith, append-nil, length-append}
-use Rattle.std.specs.Fmt.{decimal}
-use Rattle.std.proofs.lemmas.Fmt.{decimal_injective}
+-- What a source that tells its bytes calls for.
+use Rattle.std.proofs.Common.{◌≡◌, ℕ, ◌+◌, ◌<◌, ◌≤◌, ◌⊎◌, List, [], ◌++◌, length, Option, Some, None, Result, Ok, Err, refl, sym, ap, ◌∙◌, subst, inl, inr, arith, append-nil, length-append}
+use Rattle.std.specs.Bool.{⊤}
 use Rattle.std.specs.Io.KnownBytes.{Consumes, IsAtEnd}
 use Rattle.sporc_outside.specs.Reading.{ConsumesExactly}
-use Rattle.sporc_outside.specs.Uses.{SinkUse, SourceUse}
-use Rattle.sporc_script.specs.declared.command.Command.{Command}
+use Rattle.sporc_outside.specs.Uses.{IsUnwritten, SinkUse, SourceUse}
+use Rattle.sporc_script.specs.declared.command.Command.{Command as PlayCommand}
 use Rattle.sporc_script.specs.declared.play_line.PlayLine.{PlayLine}
 use Rattle.sporc_script.specs.Grammar.{IsNext, IsPlayFault, IsPlayScript, play_line}
 use Rattle.sporc_script.specs.Lines.{lines_of}
 use Rattle.sporc_script.proofs.PlayLines.{next_not_skipped, one_next}
 use Rattle.sporc_script.proofs.ScriptLines.{not_both, one_fault, one_reading}
+use Rattle.sporc_play.specs.declared.fault.PlayFault.{PlayFault}
+use Rattle.sporc_play.specs.declared.fault.PlayFault.TheVariants as playing
 use Rattle.sporc_play.specs.declared.playing.TheConstants.{MAX_SCRIPT}
-use Rattle.sporc_play.specs.Playing.{HasFaultLine, Plays, ReadsWhole}
+use Rattle.sporc_play.specs.Playing.{GeneratedFault, HasFaultLine, IsTooLong, PlayOutcome, Plays, PlaysGenerated, ReadsWhole}
 use Rattle.sporc_play.specs.Report.{Reports}
-use Rattle.sporc_top.specs.declared.fault.Fault.{Fault}
-use Rattle.sporc_top.specs.declared.fault.Fault.TheVariants as faults
-use Rattle.sporc_top.specs.declared.task.Task.{Task}
-use Rattle.sporc_top.specs.declared.task.Task.TheVariants.{Script, Generated}
-use Rattle.sporc_top.specs.Faults.{WritesFaultLine, status_of}
-use Rattle.sporc_top.specs.Outcome.{Asks, Does, DoesPrefix, Done, FaultyScript, IsFaultOf, LongScript, OtherWords, OutOfMemory, RunOutcome, SinkFailed, SourceFailed, UnlessCutOff}
-
--- ---- what was written
-
--- the sink before a command, after it, and after the line of its fault
-module _ (before between after : Option (List ℕ)) (b m a : ℕ) where
-  abbrev pub first_use : SinkUse
-  first_use = record { written_before = before; written_after = between; faults_before = b; faults_after = m }
-
-  abbrev pub last_use : SinkUse
-  last_use = record { written_before = between; written_after = after; faults_before = m; faults_after = a }
-
-  abbrev pub whole_use : SinkUse
-  whole_use = record { written_before = before; written_after = after; faults_before = b; faults_after = a }
-
--- what the line tells of the whole run
-told_last : (before between after : Option (List ℕ)) (b m a : ℕ) (fault : Fault) → b ≤ m → WritesFaultLine (last_use before between after b m a) fault
-    → WritesFaultLine (record { written_before = between; written_after = after; faults_before = b; faults_after = a }) fault
-told_last before between after b m a fault later told = record { line = told.line; whole = λ none. told.whole (λ rose. none (omega (arith, rose, later))) }
-
-told_alone : (before between after : Option (List ℕ)) (b m a : ℕ) (fault : Fault) → between ≡ before → b ≤ m → WritesFaultLine (last_use before between after b m a) fault
-    → WritesFaultLine (whole_use before between after b m a) fault
-told_alone before between after b m a fault same later told =
-    subst (λ (o : Option (List ℕ)). WritesFaultLine (record { written_before = o; written_after = after; faults_before = b; faults_after = a }) fault) same (told_last before between after b m a fault later told)
-
--- a prefix of what a task writes doesn't speak of faults
-prefix_alone : (task : Task) (source : SourceUse) (before between after : Option (List ℕ)) (b m a : ℕ) → DoesPrefix task source (first_use before between after b m a)
-    → DoesPrefix task source (record { written_before = before; written_after = between; faults_before = b; faults_after = a })
-prefix_alone Script source before between after b m a prefix = prefix
-prefix_alone (Generated n) source before between after b m a prefix = prefix
-
--- the line of a fault, after the command that failed
-told : (words : List (List ℕ)) (source : SourceUse) (before between after : Option (List ℕ)) (b m a : ℕ) (fault : Fault)
-    → IsFaultOf words source (first_use before between after b m a) fault → b ≤ m → m ≤ a → WritesFaultLine (last_use before between after b m a) fault
-    → RunOutcome words source (whole_use before between after b m a) (status_of fault)
-told words source before between after b m a faults.Memory (task, asks, inl none) later more line =
-    OutOfMemory task asks (inl (told_alone before between after b m a faults.Memory none.written later line))
-told words source before between after b m a faults.Memory (task, asks, inr prefix) later more line =
-    OutOfMemory task asks (inr (record { between = between; prefix = prefix_alone task source before between after b m a prefix; line = told_last before between after b m a faults.Memory later line }))
-told words source before between after b m a faults.Words (other, none) later more line = OtherWords other (told_alone before between after b m a faults.Words none.written later line)
-told words source before between after b m a (faults.Line k) (asks, outside, none) later more line =
-    FaultyScript asks k outside (told_alone before between after b m a (faults.Line k) none.written later line)
-told words source before between after b m a faults.TooLong (asks, long, none) later more line =
-    LongScript asks long (told_alone before between after b m a faults.TooLong none.written later line)
-told words source before between after b m a faults.Io (Script, asks, inl (rose, none)) later more line =
-    SourceFailed asks rose (told_alone before between after b m a faults.Io none.written later line)
-told words source before between after b m a faults.Io (Script, asks, inr (rose, prefix)) later more line =
-    SinkFailed Script asks (omega (arith, rose, more)) (record { between = between; prefix = prefix; line = told_last before between after b m a faults.Io later line })
-told words source before between after b m a faults.Io (Generated n, asks, (rose, prefix)) later more line =
-    SinkFailed (Generated n) asks (omega (arith, rose, more)) (record { between = between; prefix = prefix; line = told_last before between after b m a faults.Io later line })
-
--- the same for a status that is the fault's
-pub told_as : (status : ℕ) (words : List (List ℕ)) (source : SourceUse) (before between after : Option (List ℕ)) (b m a : ℕ) (fault : Fault)
-    → IsFaultOf words source (first_use before between after b m a) fault → b ≤ m → m ≤ a → WritesFaultLine (last_use before between after b m a) fault → status ≡ status_of fault
-    → RunOutcome words source (whole_use before between after b m a) status
-told_as status words source before between after b m a fault cause later more line is =
-    subst (λ (n : ℕ). RunOutcome words source (whole_use before between after b m a) n) (sym is) (told words source before between after b m a fault cause later more line)
-
--- ---- the words
-
--- a script and a generated run are asked for by other words
-no_script_words : (words : List (List ℕ)) (n : ℕ) → Asks words Script → ¬ (Asks words (Generated n))
-no_script_words words n script generated =
-    let both : codes "play" ∷ [] ≡ codes "play" ∷ codes "--generate" ∷ decimal n ∷ [] = sym script ∙ generated.0 in
-    absurd cc
+use Rattle.sporc_words.specs.declared.command.Command.{Command}
+use Rattle.sporc_words.specs.declared.command.Command.TheVariants as commands
+use Rattle.sporc_words.specs.Commands.{command_of}
+use Rattle.sporc_files.specs.declared.fault.Fault.{Fault}
+use Rattle.sporc_files.specs.declared.fault.Fault.TheVariants as faults
+use Rattle.sporc_files.specs.Faults.{WritesFaultLine, fault_of_play, status_of}
+use Rattle.sporc_sessions.specs.Nets.{LinkView}
+use Rattle.sporc_clients.specs.Outcome.{DiskView}
+use Rattle.sporc_top.specs.Outcome.{Ends, RunOutcome, UnlessCutOff, command, done, from, no_command, stopped, unread, up_to}
+use Rattle.sporc_top.specs.Performing.{GeneratedOutcome, Performs, PlaysEdits, PlaysSource, as_program, names_of, no_files}
+use Rattle.sporc_top.specs.Uses.{Uses}
 
 -- ---- what was read
 
@@ -105,27 +47,45 @@ no_more n (Some xs) (Some ys) text tells taken =
     let same : xs ≡ text = cc in
     omega (arith, ap length same, ap length taken.2, length-append taken.0 ys, taken.1)
 
+-- ---- the line of a fault before which nothing was written
+
+told_alone : (out : SinkUse) (written : Option (List ℕ)) (count : ℕ) (fault : Fault) → IsUnwritten (up_to written count out)
+    → WritesFaultLine (from written count out) no_files fault → WritesFaultLine out no_files fault
+told_alone out written count fault none line =
+    subst (λ (w : Option (List ℕ)). WritesFaultLine (from w out.faults_before out) no_files fault) none.written
+    (subst (λ (n : ℕ). WritesFaultLine (from written n out) no_files fault) none.faults line)
+
+-- ---- plays
+
+-- the program's fault is that of a play
+by_cause : (source : SourceUse) (out : SinkUse) (fault : Fault) (Q : Fault → Type 0) (played : Result ⊤ PlayFault) → Err fault ≡ as_program played → PlayOutcome source out played
+    → ((cause : PlayFault) → PlayOutcome {T = ⊤} source out (Err cause) → Q (fault_of_play cause)) → Q fault
+by_cause source out fault Q (Ok x) same outcome then = absurd cc
+by_cause source out fault Q (Err cause) same outcome then =
+    let is : fault ≡ fault_of_play cause = cc in
+    subst Q (sym is) (then cause outcome)
+
 -- a source that tells its bytes, read for a script
-module _ (words : List (List ℕ)) (source : SourceUse) (out : SinkUse) (text : List ℕ) (play : Asks words Script) (tells : source.left_before ≡ Some text) where
+module _ (source : SourceUse) (text : List ℕ) (tells : source.left_before ≡ Some text) where
   -- it was read as a script, if it is one
-  as_script : (script : List PlayLine) → IsPlayScript text script → Plays source out → Reports script out.written_before out.written_after
-  as_script script is (own, reads, written) =
+  as_script : (out : SinkUse) (script : List PlayLine) → IsPlayScript text script → Plays source out → Reports script out.written_before out.written_after
+  as_script out script is (own, reads, written) =
       let same = whole_of source text reads.text tells reads.whole in
-      let one = one_reading Command PlayLine play_line IsNext one_next next_not_skipped (lines_of text) _ 1 own script (subst (λ (t : List ℕ). IsPlayScript t own) same reads.reads) is in
+      let one = one_reading PlayCommand PlayLine play_line IsNext one_next next_not_skipped (lines_of text) _ 1 own script (subst (λ (t : List ℕ). IsPlayScript t own) same reads.reads) is in
       subst (λ (s : List PlayLine). Reports s out.written_before out.written_after) one written
 
   no_fault : (script : List PlayLine) (k : ℕ) → IsPlayScript text script → ¬ (HasFaultLine source k)
   no_fault script k is (read, whole, outside) =
-      not_both Command PlayLine play_line IsNext one_next next_not_skipped (lines_of text) _ 1 script k is (subst (λ (t : List ℕ). IsPlayFault t k) (whole_of source text read tells whole) outside)
+      not_both PlayCommand PlayLine play_line IsNext one_next next_not_skipped (lines_of text) _ 1 script k is (subst (λ (t : List ℕ). IsPlayFault t k) (whole_of source text read tells whole) outside)
 
-  no_script : (k : ℕ) → IsPlayFault text k → ¬ (Plays source out)
-  no_script k outside (own, reads, written) =
-      not_both Command PlayLine play_line IsNext one_next next_not_skipped (lines_of text) _ 1 own k
+  no_script : (out : SinkUse) (k : ℕ) → IsPlayFault text k → ¬ (Plays source out)
+  no_script out k outside (own, reads, written) =
+      not_both PlayCommand PlayLine play_line IsNext one_next next_not_skipped (lines_of text) _ 1 own k
       (subst (λ (t : List ℕ). IsPlayScript t own) (whole_of source text reads.text tells reads.whole) reads.reads) outside
 
   same_line : (k j : ℕ) → IsPlayFault text k → HasFaultLine source j → j ≡ k
   same_line k j outside (read, whole, found) =
-      one_fault Command PlayLine play_line IsNext one_next next_not_skipped (lines_of text) _ 1 j k
+      one_fault PlayCommand PlayLine play_line IsNext one_next next_not_skipped (lines_of text) _ 1 j k
       (subst (λ (t : List ℕ). IsPlayFault t j) (whole_of source text read tells whole) found) outside
 
   short : (limit : ℕ) → length text ≤ limit → ¬ (ConsumesExactly (limit + 1) source.left_before source.left_after)
@@ -134,55 +94,138 @@ module _ (words : List (List ℕ)) (source : SourceUse) (out : SinkUse) (text : 
   long : (read : List ℕ) (limit : ℕ) → limit < length text → ReadsWhole source read → length read ≤ limit → ⊥
   long read limit above whole within = let same = whole_of source text read tells whole in omega (arith, ap length same)
 
-  pub on_script : (status : ℕ) (script : List PlayLine) → RunOutcome words source out status → length text ≤ MAX_SCRIPT → IsPlayScript text script
+  -- a play that was done is of the script
+  done_script : (out : SinkUse) (script : List PlayLine) (played : Result ⊤ PlayFault) → IsPlayScript text script → PlayOutcome source out played → Ok tt ≡ as_program played
+      → Reports script out.written_before out.written_after
+  done_script out script (Ok x) is plays same = as_script out script is plays
+  done_script out script (Err fault) is plays same = absurd cc
+
+  done_fault : (out : SinkUse) (k : ℕ) (played : Result ⊤ PlayFault) → IsPlayFault text k → PlayOutcome source out played → ¬ (Ok tt ≡ as_program played)
+  done_fault out k (Ok x) outside plays same = no_script out k outside plays
+  done_fault out k (Err fault) outside plays same = absurd cc
+
+  done_long : (out : SinkUse) (played : Result ⊤ PlayFault) → MAX_SCRIPT < length text → PlayOutcome source out played → ¬ (Ok tt ≡ as_program played)
+  done_long out (Ok x) above (own, reads, written) same = long reads.text MAX_SCRIPT above reads.whole reads.whole.within
+  done_long out (Err fault) above plays same = absurd cc
+
+  -- by its fault, one that was stopped
+  stopped_script : (out : SinkUse) (script : List PlayLine) (fault : PlayFault) (P : Type 0) → length text ≤ MAX_SCRIPT → IsPlayScript text script
+      → PlayOutcome {T = ⊤} source out (Err fault) → UnlessCutOff (status_of (fault_of_play fault)) P
+  stopped_script out script playing.Memory P within is plays = inr (inl refl)
+  stopped_script out script playing.ReadFault P within is plays = inr (inr refl)
+  stopped_script out script playing.WriteFault P within is plays = inr (inr refl)
+  stopped_script out script (playing.LineFault k) P within is (outside, none) = absurd (no_fault script k is outside)
+  stopped_script out script playing.TooLong P within is (taken, none) = absurd (short MAX_SCRIPT within taken)
+
+  stopped_fault : (out : SinkUse) (written : Option (List ℕ)) (count k : ℕ) (fault : PlayFault) → length text ≤ MAX_SCRIPT → IsPlayFault text k
+      → PlayOutcome {T = ⊤} source (up_to written count out) (Err fault) → WritesFaultLine (from written count out) no_files (fault_of_play fault)
+      → UnlessCutOff (status_of (fault_of_play fault)) ((status_of (fault_of_play fault) ≡ 3) × WritesFaultLine out no_files (faults.Line k))
+  stopped_fault out written count k playing.Memory within outside plays line = inr (inl refl)
+  stopped_fault out written count k playing.ReadFault within outside plays line = inr (inr refl)
+  stopped_fault out written count k playing.WriteFault within outside plays line = inr (inr refl)
+  stopped_fault out written count k (playing.LineFault j) within outside (found, none) line =
+      inl (refl, subst (λ (n : ℕ). WritesFaultLine out no_files (faults.Line n)) (same_line k j outside found) (told_alone out written count (faults.Line j) none line))
+  stopped_fault out written count k playing.TooLong within outside (taken, none) line = absurd (short MAX_SCRIPT within taken)
+
+  stopped_long : (out : SinkUse) (written : Option (List ℕ)) (count : ℕ) (fault : PlayFault) → MAX_SCRIPT < length text
+      → PlayOutcome {T = ⊤} source (up_to written count out) (Err fault) → WritesFaultLine (from written count out) no_files (fault_of_play fault)
+      → UnlessCutOff (status_of (fault_of_play fault)) ((status_of (fault_of_play fault) ≡ 3) × WritesFaultLine out no_files faults.LongScript)
+  stopped_long out written count playing.Memory above plays line = inr (inl refl)
+  stopped_long out written count playing.ReadFault above plays line = inr (inr refl)
+  stopped_long out written count playing.WriteFault above plays line = inr (inr refl)
+  stopped_long out written count (playing.LineFault j) above ((read, whole, found), none) line = absurd (long read MAX_SCRIPT above whole whole.within)
+  stopped_long out written count playing.TooLong above (taken, none) line = inl (refl, told_alone out written count faults.LongScript none line)
+
+  -- by its status
+  ended_script : (out : SinkUse) (script : List PlayLine) (status : ℕ) → length text ≤ MAX_SCRIPT → IsPlayScript text script → Ends (PlaysSource source) no_files out status
       → UnlessCutOff status ((status ≡ 0) × Reports script out.written_before out.written_after)
-  on_script status script (Done Script asks plays) within is = inl (refl, as_script script is plays)
-  on_script status script (Done (Generated n) asks plays) within is = absurd (no_script_words words n play asks)
-  on_script status script (OutOfMemory task asks line) within is = inr (inl refl)
-  on_script status script (OtherWords other line) within is = absurd (other Script play)
-  on_script status script (FaultyScript asks k outside line) within is = absurd (no_fault script k is outside)
-  on_script status script (LongScript asks taken line) within is = absurd (short MAX_SCRIPT within taken)
-  on_script status script (SourceFailed asks rose line) within is = inr (inr refl)
-  on_script status script (SinkFailed task asks rose line) within is = inr (inr refl)
+  ended_script out script status within is (done did) = inl (refl, done_script out script did.played is did.outcome did.answer_is)
+  ended_script out script status within is (stopped {fault} {written} {count} did line) =
+      by_cause source (up_to written count out) fault (λ f. UnlessCutOff (status_of f) ((status_of f ≡ 0) × Reports script out.written_before out.written_after)) did.played did.answer_is did.outcome
+      (λ cause outcome. stopped_script (up_to written count out) script cause ((status_of (fault_of_play cause) ≡ 0) × Reports script out.written_before out.written_after) within is outcome)
 
-  pub on_fault_line : (status k : ℕ) → RunOutcome words source out status → length text ≤ MAX_SCRIPT → IsPlayFault text k
-      → UnlessCutOff status ((status ≡ 3) × WritesFaultLine out (faults.Line k))
-  on_fault_line status k (Done Script asks plays) within outside = absurd (no_script k outside plays)
-  on_fault_line status k (Done (Generated n) asks plays) within outside = absurd (no_script_words words n play asks)
-  on_fault_line status k (OutOfMemory task asks line) within outside = inr (inl refl)
-  on_fault_line status k (OtherWords other line) within outside = absurd (other Script play)
-  on_fault_line status k (FaultyScript asks j found line) within outside =
-      inl (refl, subst (λ (n : ℕ). WritesFaultLine out (faults.Line n)) (same_line k j outside found) line)
-  on_fault_line status k (LongScript asks taken line) within outside = absurd (short MAX_SCRIPT within taken)
-  on_fault_line status k (SourceFailed asks rose line) within outside = inr (inr refl)
-  on_fault_line status k (SinkFailed task asks rose line) within outside = inr (inr refl)
+  ended_fault : (out : SinkUse) (k status : ℕ) → length text ≤ MAX_SCRIPT → IsPlayFault text k → Ends (PlaysSource source) no_files out status
+      → UnlessCutOff status ((status ≡ 3) × WritesFaultLine out no_files (faults.Line k))
+  ended_fault out k status within outside (done did) = absurd (done_fault out k did.played outside did.outcome did.answer_is)
+  ended_fault out k status within outside (stopped {fault} {written} {count} did line) =
+      by_cause source (up_to written count out) fault
+      (λ f. WritesFaultLine (from written count out) no_files f → UnlessCutOff (status_of f) ((status_of f ≡ 3) × WritesFaultLine out no_files (faults.Line k)))
+      did.played did.answer_is did.outcome (λ cause outcome line. stopped_fault out written count k cause within outside outcome line) line
 
-  pub on_long : (status : ℕ) → RunOutcome words source out status → MAX_SCRIPT < length text → UnlessCutOff status ((status ≡ 3) × WritesFaultLine out faults.TooLong)
-  on_long status (Done Script asks (own, reads, written)) above = absurd (long reads.text MAX_SCRIPT above reads.whole reads.whole.within)
-  on_long status (Done (Generated n) asks plays) above = absurd (no_script_words words n play asks)
-  on_long status (OutOfMemory task asks line) above = inr (inl refl)
-  on_long status (OtherWords other line) above = absurd (other Script play)
-  on_long status (FaultyScript asks k (read, whole, found) line) above = absurd (long read MAX_SCRIPT above whole whole.within)
-  on_long status (LongScript asks taken line) above = inl (refl, line)
-  on_long status (SourceFailed asks rose line) above = inr (inr refl)
-  on_long status (SinkFailed task asks rose line) above = inr (inr refl)
+  ended_long : (out : SinkUse) (status : ℕ) → MAX_SCRIPT < length text → Ends (PlaysSource source) no_files out status
+      → UnlessCutOff status ((status ≡ 3) × WritesFaultLine out no_files faults.LongScript)
+  ended_long out status above (done did) = absurd (done_long out did.played above did.outcome did.answer_is)
+  ended_long out status above (stopped {fault} {written} {count} did line) =
+      by_cause source (up_to written count out) fault
+      (λ f. WritesFaultLine (from written count out) no_files f → UnlessCutOff (status_of f) ((status_of f ≡ 3) × WritesFaultLine out no_files faults.LongScript))
+      did.played did.answer_is did.outcome (λ cause outcome line. stopped_long out written count cause above outcome line) line
 
--- ---- the words ask for a generated run
+-- ---- generated plays
 
-same_edits : (words : List (List ℕ)) (m n : ℕ) → m < 2 ^ 64 → n < 2 ^ 64 → Asks words (Generated m) → Asks words (Generated n) → m ≡ n
-same_edits words m n small few one other =
-    let both : codes "play" ∷ codes "--generate" ∷ decimal m ∷ [] ≡ codes "play" ∷ codes "--generate" ∷ decimal n ∷ [] = sym one.0 ∙ other.0 in
-    let same : decimal m ≡ decimal n = cc in
-    decimal_injective m n small few same
+done_edits : (n : ℕ) (out : SinkUse) (played : Result ⊤ PlayFault) → GeneratedOutcome n out played → Ok tt ≡ as_program played → PlaysGenerated n out
+done_edits n out (Ok x) outcome same = outcome
+done_edits n out (Err fault) outcome same = absurd cc
 
-pub on_generated : (words : List (List ℕ)) (source : SourceUse) (out : SinkUse) (status n : ℕ) → Asks words (Generated n) → RunOutcome words source out status
-    → UnlessCutOff status ((status ≡ 0) × Does (Generated n) source out)
-on_generated words source out status n asks (Done Script script plays) = absurd (no_script_words words n script asks)
-on_generated words source out status n asks (Done (Generated m) own plays) =
-    inl (refl, subst (λ (k : ℕ). Does (Generated k) source out) (same_edits words m n (omega (arith, own.2)) (omega (arith, asks.2)) own asks) plays)
-on_generated words source out status n asks (OutOfMemory task own line) = inr (inl refl)
-on_generated words source out status n asks (OtherWords other line) = absurd (other (Generated n) asks)
-on_generated words source out status n asks (FaultyScript script k outside line) = absurd (no_script_words words n script asks)
-on_generated words source out status n asks (LongScript script taken line) = absurd (no_script_words words n script asks)
-on_generated words source out status n asks (SourceFailed script rose line) = absurd (no_script_words words n script asks)
-on_generated words source out status n asks (SinkFailed task own rose line) = inr (inr refl)
+stopped_cause : (n : ℕ) (out : SinkUse) (cause : PlayFault) (P : Type 0) → GeneratedFault n out cause → UnlessCutOff (status_of (fault_of_play cause)) P
+stopped_cause n out playing.Memory P fails = inr (inl refl)
+stopped_cause n out playing.ReadFault P fails = absurd fails
+stopped_cause n out playing.WriteFault P fails = inr (inr refl)
+stopped_cause n out (playing.LineFault k) P fails = absurd fails
+stopped_cause n out playing.TooLong P fails = absurd fails
+
+stopped_edits : (n : ℕ) (out : SinkUse) (fault : Fault) (P : Type 0) (played : Result ⊤ PlayFault) → GeneratedOutcome n out played → Err fault ≡ as_program played
+    → UnlessCutOff (status_of fault) P
+stopped_edits n out fault P (Ok x) outcome same = absurd cc
+stopped_edits n out fault P (Err cause) outcome same =
+    let is : fault ≡ fault_of_play cause = cc in
+    subst (λ (f : Fault). UnlessCutOff (status_of f) P) (sym is) (stopped_cause n out cause P outcome)
+
+ended_edits : (n : ℕ) (out : SinkUse) (status : ℕ) → Ends (PlaysEdits n) no_files out status → UnlessCutOff status ((status ≡ 0) × PlaysGenerated n out)
+ended_edits n out status (done did) = inl (refl, done_edits n out did.played did.outcome did.answer_is)
+ended_edits n out status (stopped {fault} {written} {count} did line) =
+    stopped_edits n (up_to written count out) fault ((status_of fault ≡ 0) × PlaysGenerated n out) did.played did.outcome did.answer_is
+
+-- ---- runs
+
+-- the words ask for one command
+one_command : (words : List (List ℕ)) (asked other : Command) → command_of words ≡ Some asked → command_of words ≡ Some other → asked ≡ other
+one_command words asked other is also =
+    let both : Some asked ≡ Some other = sym is ∙ also in
+    cc
+
+not_none : (words : List (List ℕ)) (asked : Command) → command_of words ≡ Some asked → ¬ (command_of words ≡ None)
+not_none words asked is none =
+    let both : Some asked ≡ None = sym is ∙ none in
+    absurd cc
+
+-- what comes of a command, or memory ran out before the words were read
+by_command : {L D : Type 0} (links : LinkView L) (disks : DiskView D) (words : List (List ℕ)) (outside : Uses L) (status : ℕ) (asked : Command) → RunOutcome links disks words outside status
+    → command_of words ≡ Some asked → (status ≡ 1) ⊎ Ends (λ out. Performs links disks asked (record outside { out = out })) (names_of asked) outside.out status
+by_command links disks words outside status asked (no_command none line) asks = absurd (not_none words asked asks none)
+by_command links disks words outside status asked (unread line) asks = inl refl
+by_command links disks words outside status asked (command {asked = other} is ends) asks =
+    inr (subst (λ (c : Command). Ends (λ out. Performs links disks c (record outside { out = out })) (names_of c) outside.out status) (one_command words other asked is asks) ends)
+
+-- what is so of each end of a command, unless it was cut off
+unless_unread : {status : ℕ} {E P : Type 0} → (status ≡ 1) ⊎ E → (E → UnlessCutOff status P) → UnlessCutOff status P
+unless_unread (inl none) ended = inr (inl none)
+unless_unread (inr ends) ended = ended ends
+
+module _ {L D : Type 0} (links : LinkView L) (disks : DiskView D) (words : List (List ℕ)) (outside : Uses L) (status : ℕ) (outcome : RunOutcome links disks words outside status) where
+  module _ (text : List ℕ) (play : command_of words ≡ Some commands.Play) (tells : outside.source.left_before ≡ Some text) where
+    pub on_script : (script : List PlayLine) → length text ≤ MAX_SCRIPT → IsPlayScript text script
+        → UnlessCutOff status ((status ≡ 0) × Reports script outside.out.written_before outside.out.written_after)
+    on_script script within is =
+        unless_unread (by_command links disks words outside status commands.Play outcome play) (λ ends. ended_script outside.source text tells outside.out script status within is ends)
+
+    pub on_fault_line : (line : ℕ) → length text ≤ MAX_SCRIPT → IsPlayFault text line → UnlessCutOff status ((status ≡ 3) × WritesFaultLine outside.out no_files (faults.Line line))
+    on_fault_line line within fails =
+        unless_unread (by_command links disks words outside status commands.Play outcome play) (λ ends. ended_fault outside.source text tells outside.out line status within fails ends)
+
+    pub on_long : MAX_SCRIPT < length text → UnlessCutOff status ((status ≡ 3) × WritesFaultLine outside.out no_files faults.LongScript)
+    on_long above =
+        unless_unread (by_command links disks words outside status commands.Play outcome play) (λ ends. ended_long outside.source text tells outside.out status above ends)
+
+  pub on_generated : (n : ℕ) → command_of words ≡ Some (commands.Generate n) → UnlessCutOff status ((status ≡ 0) × PlaysGenerated n outside.out)
+  on_generated n asks =
+      unless_unread (by_command links disks words outside status (commands.Generate n) outcome asks) (λ ends. ended_edits n outside.out status ends)

@@ -1,2 +1,5 @@
-pub mod Faults
+pub mod Uses
+pub mod Ranges
+pub mod Needs
+pub mod Performing
 pub mod Outcome

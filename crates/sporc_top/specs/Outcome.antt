@@ -1,80 +1,40 @@
 -- What a run of the program did.
-use Rattle.std.specs.Prelude.{◌≡◌, ◌≤◌, ℕ, ◌⊎◌, List, [], ◌∷◌, codes, Option, Result, Ok, Err}
-use Rattle.std.specs.Fmt.{decimal}
-use Rattle.sporc_outside.specs.Counts.{Rose}
-use Rattle.sporc_outside.specs.Uses.{IsUnwritten, SinkUse, SourceUse}
-use Rattle.sporc_script.specs.declared.limits.TheConstants.{MAX_GENERATED}
-use Rattle.sporc_play.specs.Playing.{HasFaultLine, IsTooLong, Plays, PlaysGenerated, PlaysGeneratedPrefix, PlaysPrefix}
-use Rattle.sporc_top.specs.declared.fault.Fault.{Fault}
-use Rattle.sporc_top.specs.declared.fault.Fault.TheVariants as faults
-use Rattle.sporc_top.specs.declared.task.Task.{Task}
-use Rattle.sporc_top.specs.declared.task.Task.TheVariants.{Script, Generated}
-use Rattle.sporc_top.specs.Faults.{WritesFaultLine}
+use Rattle.std.specs.Prelude.{◌≡◌, ◌⊎◌, ℕ, List, Option, None, Some, Result, Ok, Err, ⊤}
+use Rattle.sporc_outside.specs.Uses.{SinkUse}
+use Rattle.sporc_words.specs.declared.command.Command.{Command}
+use Rattle.sporc_words.specs.Commands.{command_of}
+use Rattle.sporc_files.specs.declared.fault.Fault.{Fault}
+use Rattle.sporc_files.specs.declared.fault.Fault.TheVariants as faults
+use Rattle.sporc_files.specs.Faults.{WritesFaultLine, status_of}
+use Rattle.sporc_files.specs.Names.{FileNames}
+use Rattle.sporc_sessions.specs.Nets.{LinkView}
+use Rattle.sporc_clients.specs.Outcome.{DiskView}
+use Rattle.sporc_top.specs.Performing.{Performs, names_of, no_files}
+use Rattle.sporc_top.specs.Uses.{Uses}
 
--- ---- tasks
+-- the sink from its beginning up to a moment between, at which it held this and had counted so many faults, and from then on
+abbrev pub up_to : Option (List ℕ) → ℕ → SinkUse → SinkUse
+up_to written count out = record out { written_after = written; faults_after = count }
 
--- the words ask for this: `play`, or `play --generate N` with N from 1 to its limit
-abbrev pub Asks : List (List ℕ) → Task → Type 0
-Asks words Script = words ≡ codes "play" ∷ []
-Asks words (Generated n) = (words ≡ codes "play" ∷ codes "--generate" ∷ decimal n ∷ []) × (1 ≤ n) × (n ≤ MAX_GENERATED)
+abbrev pub from : Option (List ℕ) → ℕ → SinkUse → SinkUse
+from written count out = record out { written_before = written; faults_before = count }
 
--- it was done: a script's report was written, or the summary of the generated run
-abbrev pub Does : Task → SourceUse → SinkUse → Type 0
-Does Script source out = Plays source out
-Does (Generated n) source out = PlaysGenerated n out
+-- A command did all its work, or a fault stopped it, whose line was then written behind what the command had written; by the exit status
+pub data Ends (Did : SinkUse → Result ⊤ Fault → Type 0) (names : FileNames) (out : SinkUse) : ℕ → Type 0 where
+  done : Did out (Ok tt) → Ends Did names out 0
+  stopped : {fault : Fault} {written : Option (List ℕ)} {count : ℕ} → Did (up_to written count out) (Err fault) → WritesFaultLine (from written count out) names fault
+      → Ends Did names out (status_of fault)
 
--- a prefix of that was written
-abbrev pub DoesPrefix : Task → SourceUse → SinkUse → Type 0
-DoesPrefix Script source out = PlaysPrefix source out
-DoesPrefix (Generated n) source out = PlaysGeneratedPrefix n out
+-- What a run did, by its exit status
+pub data RunOutcome {L D : Type 0} (links : LinkView L) (disks : DiskView D) (words : List (List ℕ)) (outside : Uses L) : ℕ → Type 0 where
+  -- the words ask for nothing: 2, `fault words`
+  no_command : command_of words ≡ None → WritesFaultLine outside.out no_files faults.Words → RunOutcome links disks words outside 2
+  -- memory ran out before they were read: 1, `fault memory`
+  unread : WritesFaultLine outside.out no_files faults.Memory → RunOutcome links disks words outside 1
+  -- they ask for a command: what it did, and then the line of its fault
+  command : {asked : Command} {status : ℕ} → command_of words ≡ Some asked
+      → Ends (λ out. Performs links disks asked (record outside { out = out })) (names_of asked) outside.out status → RunOutcome links disks words outside status
 
--- ---- a run
-
--- a prefix of what the task writes was written, and then the line of a fault
-pub record WritesPrefixAndFaultLine (task : Task) (source : SourceUse) (out : SinkUse) (fault : Fault) : Type 0 where
-  pub between : Option (List ℕ)
-  pub prefix : DoesPrefix task source (record out { written_after = between })
-  pub line : WritesFaultLine (record out { written_before = between }) fault
-
--- what a run did, by its exit status
-pub data RunOutcome (words : List (List ℕ)) (source : SourceUse) (out : SinkUse) : ℕ → Type 0 where
-  -- 0: the task was done
-  Done : (task : Task) → Asks words task → Does task source out → RunOutcome words source out 0
-  -- 1, `fault memory`: memory ran out, before anything was written or after a prefix
-  OutOfMemory : (task : Task) → Asks words task → WritesFaultLine out faults.Memory ⊎ WritesPrefixAndFaultLine task source out faults.Memory
-      → RunOutcome words source out 1
-  -- 2, `fault words`: the words ask for nothing
-  OtherWords : ((task : Task) → ¬ (Asks words task)) → WritesFaultLine out faults.Words → RunOutcome words source out 2
-  -- 3, `fault line N`: the source was read to its end, and its first line outside the grammar is line N
-  FaultyScript : Asks words Script → (k : ℕ) → HasFaultLine source k → WritesFaultLine out (faults.Line k) → RunOutcome words source out 3
-  -- 3, `fault too long script`: the source has more bytes than a script may have
-  LongScript : Asks words Script → IsTooLong source → WritesFaultLine out faults.TooLong → RunOutcome words source out 3
-  -- 6, `fault outside`: the source failed, before anything was written
-  SourceFailed : Asks words Script → Rose source.faults_before source.faults_after → WritesFaultLine out faults.Io → RunOutcome words source out 6
-  -- 6, `fault outside`: the sink failed, after a prefix
-  SinkFailed : (task : Task) → Asks words task → Rose out.faults_before out.faults_after → WritesPrefixAndFaultLine task source out faults.Io
-      → RunOutcome words source out 6
-
--- ---- before the line of a fault is written
-
--- the sink failed after a prefix, or of a script the source before anything was written
-abbrev pub IsIoFault : Task → SourceUse → SinkUse → Type 0
-IsIoFault Script source out = (Rose source.faults_before source.faults_after × IsUnwritten out) ⊎ (Rose out.faults_before out.faults_after × PlaysPrefix source out)
-IsIoFault (Generated n) source out = Rose out.faults_before out.faults_after × PlaysGeneratedPrefix n out
-
--- why a task was not done whole
-abbrev pub IsFaultOf : List (List ℕ) → SourceUse → SinkUse → Fault → Type 0
-IsFaultOf words source out faults.Memory = (task : Task) × Asks words task × (IsUnwritten out ⊎ DoesPrefix task source out)
-IsFaultOf words source out faults.Words = ((task : Task) → ¬ (Asks words task)) × IsUnwritten out
-IsFaultOf words source out (faults.Line k) = Asks words Script × HasFaultLine source k × IsUnwritten out
-IsFaultOf words source out faults.TooLong = Asks words Script × IsTooLong source × IsUnwritten out
-IsFaultOf words source out faults.Io = (task : Task) × Asks words task × IsIoFault task source out
-
--- what was done, by the answer
-abbrev pub PerformOutcome : {T : Type 0} → List (List ℕ) → SourceUse → SinkUse → Result T Fault → Type 0
-PerformOutcome words source out (Ok done) = (task : Task) × Asks words task × Does task source out
-PerformOutcome words source out (Err fault) = IsFaultOf words source out fault
-
--- this, unless memory ran out, or the source or the sink failed
+-- this, unless memory ran out, or something outside failed
 abbrev pub UnlessCutOff : ℕ → Type 0 → Type 0
 UnlessCutOff status P = P ⊎ (status ≡ 1) ⊎ (status ≡ 6)

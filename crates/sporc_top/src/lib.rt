@@ -1,20 +1,18 @@
-//! The program as a function of its words, its source and its sink.
+//! The program as a function of its words and of what is outside.
 //!
 //! ```text
-//! run(alloc, &["play"], &mut source, &mut out)      // over `member 1 admin` and `show 1`: 0, and the report on `out`
-//! run(alloc, &["paly"], &mut source, &mut out)      // 2, and `fault words` on `out`
+//! run(&rt, alloc, &["play"], &mut source, &mut out, ..)      // over `member 1 admin` and `show 1`: 0, and the report on `out`
+//! run(&rt, alloc, &["check", "plan", "7"], ..)               // 3, and `fault missing plan.7.key` on `out`
 //! ```
 //!
-//! Proved: what was read and written for each status ([`run`], in `specs/Outcome.antt`), and what a source that tells its
-//! bytes calls for ([`laws`]). Tested only, in `sporc_top_tests`: that a run does not run out of memory if there is ample, and
-//! the reports of worked examples. Neither: that a real file or terminal gives and keeps the bytes.
+//! Proved: what each run did, by its status ([`run`], in `specs/Outcome.antt`), which objects outside it left as they were, and
+//! what a source that tells its bytes calls for ([`laws`]). Tested only, in `sporc_top_tests`: that a run does not run out of
+//! memory if there is ample, and the reports of worked examples. Neither: that a real file, port or terminal gives and keeps
+//! the bytes.
 #![tactic(auto)]
 
-mod fault;
 pub mod laws;
+mod performing;
 mod program;
-mod task;
 
-pub use crate::fault::Fault;
 pub use crate::program::run;
-pub use crate::task::Task;

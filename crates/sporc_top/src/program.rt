@@ -1,92 +1,131 @@
 //! The program.
 
-ghost use Rattle.std.specs.Prelude.{◌≡◌, ◌+◌, ◌≤◌, ℕ, map, string_bytes};
+ghost use Rattle.std.specs.Prelude.{◌≡◌, ◌+◌, ◌≤◌, false, map, string_bytes};
 ghost use Rattle.sporc_outside.specs.Reading.{ConsumesAtMost};
 ghost use Rattle.sporc_play.specs.declared.playing.TheConstants.{MAX_SCRIPT};
-ghost use Rattle.sporc_top.specs.Outcome.{Asks, PerformOutcome, RunOutcome};
-ghost use Rattle.sporc_top.specs.declared.task.Task.TheVariants.{Generated};
+ghost use Rattle.sporc_words.specs.Commands.{command_of};
+ghost use Rattle.sporc_files.specs.Faults.{WritesFaultLine, status_of};
+ghost use Rattle.sporc_sessions.specs.Nets.{link_view, net_told};
+ghost use Rattle.sporc_top.specs.Needs.{needs_by};
+ghost use Rattle.sporc_top.specs.Outcome.{RunOutcome};
 
-use crate::fault::Fault;
-use crate::task::{Task, read_task};
-use sporc_outside::{Sink, Source};
-use sporc_play::{play, play_generated};
+use crate::performing::{names_of, perform};
+use sporc_files::{Fault, Names};
+use sporc_outside::{Chance, Dial, Folder, Gate, Listen, Sink, Source};
+use sporc_words::read_words;
 use std::alloc::Global;
+use std::sync::Wait;
+use std::thread::Threads;
 
-/// Does what the words ask for, and answers the exit status. `play` performs the script that the source holds, and
-/// writes its report to `out`. `play --generate N` performs the generated run of N edits, from 1 to 3,000, and writes its
-/// summary. What goes wrong is told by one line on `out`:
+/// Does what the words ask for, and answers the exit status. The first word names the command; docs/MANUAL.md has them all,
+/// and the line on `out` by which each fault is told behind what the command has written.
 ///
-/// | Status | Line | The cause |
-/// |---|---|---|
-/// | 0 | | the script or the run was performed, and `out` got its report or its summary |
-/// | 1 | `fault memory` | memory ran out; the line stands alone or after a prefix of the report |
-/// | 2 | `fault words` | the words ask for neither; nothing was read |
-/// | 3 | `fault line N` | line `N` is the script's first outside the grammar |
-/// | 3 | `fault too long script` | the source has more bytes than a script may have |
-/// | 6 | `fault outside` | the source failed, or `out` did; then the line follows a prefix of the report |
+/// | Command | Beside `out` it uses |
+/// |---|---|
+/// | `play` | `source` |
+/// | `play --generate` | nothing |
+/// | `keygen`, `found` | `files` and `chance` |
+/// | `serve` | `files`, `net` and `gate` |
+/// | `client` | `files`, `net`, `chance` and `gate` |
+/// | `check`, `compare` | `files` |
 ///
-/// A line is written as far as `out` takes it. At most one byte above a script's limit is taken.
-pub fn run<S: Source, O: Sink>(alloc: Global, words: &[String], source: &mut S, out: &mut O) -> u8
-    ensures outcome { RunOutcome (map (λ w. string_bytes w) words.now)
-        (record {
-          left_before = S.left source.old;
-          left_after = S.left source.new;
-          faults_before = S.faults source.old;
-          faults_after = S.faults source.new;
-        })
-        (record {
-          written_before = O.written out.old;
-          written_after = O.written out.new;
-          faults_before = O.faults out.old;
-          faults_after = O.faults out.new;
-        })
-        result }
-    ensures taken { ConsumesAtMost (MAX_SCRIPT + 1) (S.left source.old) (S.left source.new) }
-    ensures unread { result ≡ 2 → source.new ≡ source.old }
-    ensures generated { (n : ℕ) → Asks (map (λ w. string_bytes w) words.now) (Generated n) → source.new ≡ source.old }
-    ensures source_kept { S.faults source.old ≤ S.faults source.new }
-    ensures out_kept { O.faults out.old ≤ O.faults out.new }
-{
-    match perform(alloc, words, source, out) {
-        Ok(()) => 0,
-        Err(fault) => {
-            fault.tell(out);
-            fault.status()
-        }
-    }
-}
-
-// Does what the words ask for, and tells no fault.
-fn perform<S: Source, O: Sink>(
+/// A fault's line is written as far as `out` takes it, and nothing goes anywhere else.
+pub fn run<
+    R: Threads + Wait + Sync,
+    S: Source,
+    O: Sink,
+    F: Folder,
+    N: Dial + Listen,
+    C: Chance + Send,
+    G: Gate + Sync,
+>(
+    rt: &R,
     alloc: Global,
     words: &[String],
     source: &mut S,
     out: &mut O,
-) -> Result<(), Fault>
-    ensures outcome { PerformOutcome (map (λ w. string_bytes w) words.now)
+    files: &mut F,
+    net: &mut N,
+    chance: &mut C,
+    gate: &G,
+) -> u8
+where
+    F::Disk: Send,
+    N::Link: Send,
+    ensures outcome { RunOutcome (link_view N.Link.written N.Link.left N.Link.faults N.Link.is_shut)
+        (record { stored = F.Disk.stored; images = λ d. F.Disk.images d (F.Disk.moment d); faults = F.Disk.faults })
+        (map (λ w. string_bytes w) words.now)
         (record {
-          left_before = S.left source.old;
-          left_after = S.left source.new;
-          faults_before = S.faults source.old;
-          faults_after = S.faults source.new;
+          source = record {
+            left_before = S.left source.old;
+            left_after = S.left source.new;
+            faults_before = S.faults source.old;
+            faults_after = S.faults source.new;
+          };
+          out = record {
+            written_before = O.written out.old;
+            written_after = O.written out.new;
+            faults_before = O.faults out.old;
+            faults_after = O.faults out.new;
+          };
+          folder = record {
+            files_before = F.files files.old;
+            files_after = F.files files.new;
+            asked_before = F.asked files.old;
+            asked_after = F.asked files.new;
+            lent_before = F.lent files.old;
+            lent_after = F.lent files.new;
+            faults_before = F.faults files.old;
+            faults_after = F.faults files.new;
+          };
+          net = record {
+            before = net_told (N.asked net.old) (N.coming net.old) (N.returned net.old) (N.link_faults net.old);
+            after = net_told (N.asked net.new) (N.coming net.new) (N.returned net.new) (N.link_faults net.new);
+            faults_before = N.faults net.old;
+            faults_after = N.faults net.new;
+          };
+          chance = record {
+            given_before = C.given chance.old;
+            given_after = C.given chance.new;
+            faults_before = C.faults chance.old;
+            faults_after = C.faults chance.new;
+          };
         })
+        result }
+    ensures source { (needs_by (command_of (map (λ w. string_bytes w) words.now))).source ≡ false → source.new ≡ source.old }
+    ensures files { (needs_by (command_of (map (λ w. string_bytes w) words.now))).files ≡ false → files.new ≡ files.old }
+    ensures net { (needs_by (command_of (map (λ w. string_bytes w) words.now))).net ≡ false → net.new ≡ net.old }
+    ensures chance { (needs_by (command_of (map (λ w. string_bytes w) words.now))).chance ≡ false → chance.new ≡ chance.old }
+    ensures taken { ConsumesAtMost (MAX_SCRIPT + 1) (S.left source.old) (S.left source.new) }
+    ensures links { N.out net.new ≡ N.out net.old }
+    ensures source_kept { S.faults source.old ≤ S.faults source.new }
+    ensures net_kept { N.faults net.old ≤ N.faults net.new }
+    ensures chance_kept { C.faults chance.old ≤ C.faults chance.new }
+    ensures out_kept { O.faults out.old ≤ O.faults out.new }
+{
+    let command = match read_words(alloc, words) {
+        Ok(command) => command,
+        Err(fault) => return told(Fault::from(fault), &Names::of_document(""), out),
+    };
+    match perform(rt, alloc, &command, source, out, files, net, chance, gate) {
+        Ok(()) => 0,
+        Err(fault) => told(fault, &names_of(&command), out),
+    }
+}
+
+// Writes the line of a fault, and answers its status.
+fn told<O: Sink>(fault: Fault, names: &Names<'_>, out: &mut O) -> u8
+    ensures status { result ≡ status_of fault }
+    ensures line { WritesFaultLine
         (record {
           written_before = O.written out.old;
           written_after = O.written out.new;
           faults_before = O.faults out.old;
           faults_after = O.faults out.new;
         })
-        result }
-    ensures taken { ConsumesAtMost (MAX_SCRIPT + 1) (S.left source.old) (S.left source.new) }
-    ensures unread { result ≡ Err Fault.Words → source.new ≡ source.old }
-    ensures generated { (n : ℕ) → Asks (map (λ w. string_bytes w) words.now) (Generated n) → source.new ≡ source.old }
-    ensures source_kept { S.faults source.old ≤ S.faults source.new }
-    ensures out_kept { O.faults out.old ≤ O.faults out.new }
+        names.now fault }
+    ensures kept { O.faults out.old ≤ O.faults out.new }
 {
-    match read_task(words) {
-        Some(Task::Script) => play(alloc, source, out)?,
-        Some(Task::Generated(edits)) => play_generated(alloc, edits, out)?,
-        None => return Err(Fault::Words),
-    }
-    Ok(())
+    fault.tell(names, out);
+    fault.status()
 }

@@ -3,7 +3,9 @@
 use crate::answers::{answer, answers};
 use std::alloc::Global;
 use std::process::Abort;
+use std::sync::Wait;
 use std::test::Fail;
+use std::thread::Threads;
 
 const THIN: &str = "member 1 admin\nedit 1 insert 0 \"abc\"\nsubmit 1\ngive 1 1 1\nshow 1\n";
 
@@ -71,7 +73,7 @@ fn the_first_line_outside_the_grammar_is_told(rt: HostRuntime) -> Result<(), Fai
     answers(&rt, rt.alloc(), "play", b"# \xff\n", 3, b"fault line 1\n")
 }
 
-const OTHER_WORDS: [&str; 10] = [
+const OTHER_WORDS: [&str; 13] = [
     "paly",
     "",
     "play play",
@@ -82,6 +84,9 @@ const OTHER_WORDS: [&str; 10] = [
     "play --generate 01",
     "play --generate +1",
     "play --generate 1 1",
+    "play --x",
+    "keygen D 1 5",
+    "check D 1 2",
 ];
 
 #[test]
@@ -100,8 +105,12 @@ fn other_words_ask_for_nothing(rt: HostRuntime) -> Result<(), Fail> {
 }
 
 // Whether the run ends, since no read is left that fails; else the fault is told.
-fn ends_without_read(rt: &impl Abort, alloc: Global, failing: u64) -> Result<bool, Fail> {
-    let (status, written) = answer(alloc, "play", THIN.as_bytes(), 7, failing, 0)?;
+fn ends_without_read<R: Threads + Wait + Sync + Abort>(
+    rt: &R,
+    alloc: Global,
+    failing: u64,
+) -> Result<bool, Fail> {
+    let (status, written) = answer(rt, alloc, "play", THIN.as_bytes(), 7, failing, 0)?;
     if status == 0 {
         assert!(rt; written.as_slice() == THIN_REPORT.as_bytes());
         return Ok(true);
@@ -130,8 +139,12 @@ fn tells_each_failed_read(rt: HostRuntime) -> Result<(), Fail> {
 }
 
 // The same of writes of seven bytes: the fault is told after a prefix of the report.
-fn ends_without_write(rt: &impl Abort, alloc: Global, failing: u64) -> Result<bool, Fail> {
-    let (status, written) = answer(alloc, "play", THIN.as_bytes(), 7, 0, failing)?;
+fn ends_without_write<R: Threads + Wait + Sync + Abort>(
+    rt: &R,
+    alloc: Global,
+    failing: u64,
+) -> Result<bool, Fail> {
+    let (status, written) = answer(rt, alloc, "play", THIN.as_bytes(), 7, 0, failing)?;
     if status == 0 {
         assert!(rt; written.as_slice() == THIN_REPORT.as_bytes());
         return Ok(true);
@@ -162,14 +175,14 @@ fn tells_each_failed_write(rt: HostRuntime) -> Result<(), Fail> {
 }
 
 // The second write of four bytes fails.
-fn keeps(
-    rt: &impl Abort,
+fn keeps<R: Threads + Wait + Sync + Abort>(
+    rt: &R,
     alloc: Global,
     word: &str,
     script: &[u8],
     status: u8,
 ) -> Result<(), Fail> {
-    let (got, written) = answer(alloc, word, script, 4, 0, 2)?;
+    let (got, written) = answer(rt, alloc, word, script, 4, 0, 2)?;
     assert!(rt; written.as_slice() == b"faul".as_slice());
     assert!(rt; got == status);
     Ok(())

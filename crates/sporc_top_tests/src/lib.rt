@@ -2,14 +2,19 @@
 //! stands on it.
 //!
 //! [`plays`] compares reports with worked examples, [`faults`] the lines of faults, and what is told if a read or a write
-//! fails, and [`limits`] what is taken at each limit and above it.
+//! fails, [`limits`] what is taken at each limit and above it, and [`commands`] runs commands one after the other, over a
+//! folder, a chance and a net in memory.
 #![tactic(auto)]
 
 #[cfg(test)]
 mod answers;
 #[cfg(test)]
+mod commands;
+#[cfg(test)]
 mod faults;
 #[cfg(test)]
 mod limits;
+#[cfg(test)]
+mod place;
 #[cfg(test)]
 mod plays;

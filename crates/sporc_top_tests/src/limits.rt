@@ -5,7 +5,9 @@ use sporc_play::MAX_SCRIPT;
 use std::alloc::Global;
 use std::fmt::Write;
 use std::process::Abort;
+use std::sync::Wait;
 use std::test::Fail;
+use std::thread::Threads;
 
 #[test]
 fn reads_scripts_up_to_a_size(rt: HostRuntime) -> Result<(), Fail> {
@@ -90,7 +92,12 @@ fn pending_edits_are_limited(rt: HostRuntime) -> Result<(), Fail> {
 }
 
 // What an insertion of so many letters is answered.
-fn inserts(rt: &impl Abort, alloc: Global, len: u32, report: &str) -> Result<(), Fail> {
+fn inserts<R: Threads + Wait + Sync + Abort>(
+    rt: &R,
+    alloc: Global,
+    len: u32,
+    report: &str,
+) -> Result<(), Fail> {
     let mut script = String::from_str(alloc, "member 1 admin\nedit 1 insert 0 \"")?;
     for _ in 0..len {
         script.push('a')?;

@@ -220,7 +220,7 @@ const SUMMARY: &[u8] = b"clients 3 entries 200 characters 122 same ";
 
 #[test]
 fn a_generated_run_has_one_summary(rt: HostRuntime) -> Result<(), Fail> {
-    let (status, written) = answer(rt.alloc(), "play --generate 200", b"", 1 << 20, 0, 0)?;
+    let (status, written) = answer(&rt, rt.alloc(), "play --generate 200", b"", 1 << 20, 0, 0)?;
     assert!(rt; status == 0);
     let hash = written.strip_prefix(SUMMARY).ok_or("another summary")?;
     assert!(rt; hash.len() == 65);

@@ -5,10 +5,10 @@ use Rattle.sporc_head.specs.History.{hash_of}
 use Rattle.sporc_play.proofs.showing.last_hash.Goals as goal
 
 pub returns : goal.returns
-returns c =
+returns g c =
     let heads = c.heads-heads.result.now in
     let e = c.heads-heads.ensures in
     c.hash_at.ensures
     ∙ ap (hash_of heads.genesis) (take_all c.len.result heads.entries (omega (arith, c.len.ensures.value)))
-    ∙ ap (λ (g : Genesis). hash_of g heads.entries) e.genesis
+    ∙ ap (λ (start : Genesis). hash_of start heads.entries) e.genesis
     ∙ ap (hash_of c.args.client.now.opening.genesis) e.entries

@@ -9,7 +9,7 @@ use Rattle.sporc_play.proofs.Told.{told_in_parts}
 use Rattle.sporc_play.proofs.showing.push_hash.Goals as goal
 
 pub returns : goal.returns
-returns c =
+returns g c =
     let client = c.args.client.now in
     let old = string_bytes c.args.out.now in
     let me = client.opening.kit.me in

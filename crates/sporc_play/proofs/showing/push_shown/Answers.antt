@@ -7,6 +7,6 @@ use Rattle.sporc_play.proofs.Results.{on_ok}
 use Rattle.sporc_play.proofs.showing.push_shown.Goals as goal
 
 pub returns : goal.returns
-returns c =
+returns g c =
     let same = chars_from_encodes (shown_of (state_of c.args.client.now)) c.as_str.result.now c.as_str.utf8 (sym (c.as_str.ensures.value ∙ c.in_ok-text.ensures.value)) in
     on_ok c.push_quoted.result _ _ (λ pushed. pushed ∙ ap (λ (cs : List ℕ). string_bytes c.args.out.now ++ quoted cs) (sym same)) c.push_quoted.ensures

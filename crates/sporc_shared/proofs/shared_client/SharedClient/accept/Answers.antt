@@ -10,14 +10,14 @@ use Rattle.sporc_shared.proofs.shared_client.SharedClient.accept.Goals as goal
 pub give-requires-clause-log : goal.give-requires-clause-log
 give-requires-clause-log g c =
     let k = known_of c.args.pass in
-    let before = past_of (value_of c.in_ok-held.held).client in
+    let before = past_of (value_of c.in_ok-held.held).client.value in
     let held : known_held c.accept-answer.new.held ≡ seeing k (items_of before) = rw c.accept-answer.ensures.turn c.in_ok-held.ensures.held in
     call_extends k _ before _ _ held c.accept-answer.ensures.past (added_by c.accept-answer.result.0 (Accept c.number-by.result c.args.bytes.now) k.number c.number-by.ensures)
 
 pub returns-clause-call : goal.returns-clause-call
 returns-clause-call g c =
     let k = known_of c.args.pass in
-    let before = past_of (value_of c.in_ok-held.held).client in
+    let before = past_of (value_of c.in_ok-held.held).client.value in
     let answer = c.accept-answer.result.0 in
     let held : known_held c.accept-answer.new.held ≡ seeing k (items_of before) = rw c.accept-answer.ensures.turn c.in_ok-held.ensures.held in
     let became = c.accept-answer.ensures.past ∙ ap (λ (n : ℕ). with_events before (added answer (Accept n c.args.bytes.now))) c.number-by.ensures in

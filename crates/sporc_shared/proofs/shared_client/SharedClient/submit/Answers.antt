@@ -9,14 +9,14 @@ use Rattle.sporc_shared.proofs.shared_client.SharedClient.submit.Goals as goal
 pub give-requires-clause-log : goal.give-requires-clause-log
 give-requires-clause-log g c =
     let k = known_of c.args.pass in
-    let before = past_of (value_of c.in_ok-held.held).client in
+    let before = past_of (value_of c.in_ok-held.held).client.value in
     let held : known_held c.submit-answer.new.held ≡ seeing k (items_of before) = rw c.submit-answer.ensures.turn c.in_ok-held.ensures.held in
     call_extends k _ before _ _ held c.submit-answer.ensures.past (submission_by c.submit-answer.result.0 c.number-by.result k.number c.number-by.ensures)
 
 pub returns-clause-call : goal.returns-clause-call
 returns-clause-call g c =
     let k = known_of c.args.pass in
-    let before = past_of (value_of c.in_ok-held.held).client in
+    let before = past_of (value_of c.in_ok-held.held).client.value in
     let held : known_held c.submit-answer.new.held ≡ seeing k (items_of before) = rw c.submit-answer.ensures.turn c.in_ok-held.ensures.held in
     let answer = c.submit-answer.result.0 in
     let became = c.submit-answer.ensures.past ∙ ap (λ (n : ℕ). with_events before (submission_added n answer)) c.number-by.ensures in

@@ -1,0 +1,63 @@
+# shellcheck shell=bash disable=SC2034
+# What the scripts of this folder share; each of them reads this file. They time the program that is built, on files in memory
+# where the machine has such a folder, so that no disk is measured, and print rows of the table in docs/SPEED.md.
+set -eu
+program=$(realpath "${1:-$(dirname "$0")/../crates/sporc/out/sporc}")
+if [ -d /dev/shm ] && [ -w /dev/shm ]; then memory=/dev/shm; else memory=${TMPDIR:-/tmp}; fi
+work=$(mktemp -d -p "$memory")
+trap 'kill $(jobs -p) 2>/dev/null || true; rm -rf "$work"' EXIT
+trap 'exit 1' INT TERM
+cd "$work"
+
+# row WHAT NUMBER: a row of the table.
+row() { printf '| %s | %s |\n' "$1" "$2"; }
+
+# micros: the time, in microseconds.
+micros() { echo "${EPOCHREALTIME/[.,]/}"; }
+
+# seconds MICROSECONDS: in seconds, to the millisecond.
+seconds() { printf '%d.%03d s' $(($1 / 1000000)) $(($1 / 1000 % 1000)); }
+
+# thousandths N: N thousandths as a number.
+thousandths() { printf '%d.%03d' $(($1 / 1000)) $(($1 % 1000)); }
+
+# took COMMAND..: sets `took` to the microseconds that it takes, whatever its status.
+took() {
+    local begun
+    begun=$(micros)
+    "$@" >out 2>&1 || true
+    took=$(($(micros) - begun))
+}
+
+# least TIMES COMMAND..: sets `least` to the fewest microseconds of so many runs.
+least() {
+    local times=$1
+    shift
+    least=
+    for _ in $(seq "$times"); do
+        took "$@"
+        if [ -z "$least" ] || [ "$took" -lt "$least" ]; then least=$took; fi
+    done
+}
+
+# listens PORT: whether somebody listens on this port of this machine.
+listens() { grep -q "$(printf ':%04X 0*:0000 0A' "$1")" /proc/net/tcp; }
+
+# serve NAME SESSIONS: a server in the background, with its process in `server`, once it listens at `address`.
+serve() {
+    local port
+    while
+        port=$((20000 + RANDOM % 10000))
+        listens "$port"
+    do :; done
+    address=127.0.0.1:$port
+    "$program" serve "$1" "$address" --sessions "$2" >server.out 2>&1 &
+    server=$!
+    until listens "$port"; do
+        kill -0 "$server"
+        sleep 0.05
+    done
+}
+
+# peak PID: the most memory that a process has had, in kilobytes; nothing once it has ended.
+peak() { { grep VmHWM "/proc/$1/status" || true; } 2>/dev/null | tr -dc '0-9'; }

@@ -1,0 +1,61 @@
+use Rattle.std.proofs.Common.{ap, option_map, refl, ◌∙◌}
+use Rattle.sporc_files.specs.Names.{file_name}
+use Rattle.sporc_files.specs.declared.file.File.TheVariants.{History}
+use Rattle.sporc_shared.specs.Items.{past_of}
+use Rattle.sporc_clients.specs.Outcome.{no_history, no_leaves, no_session, not_worked, worked}
+use Rattle.sporc_clients.proofs.Outcomes.{answers_so, attended_at, history_fault, history_says, not_attended_at, saved_as}
+use Rattle.sporc_clients.proofs.command.with_disk.Goals as goal
+
+pub returns-in-Err-clause-outcome : goal.returns-in-Err-clause-outcome
+returns-in-Err-clause-outcome g c =
+    not_worked (no_leaves c.in-Err.ensures.err refl) (record { out = record { written = refl; faults = refl }; files = refl; words = refl }) c.in-Err.ensures.unwritten
+
+pub returns-in-Err-history_of-clause-outcome : goal.returns-in-Err-history_of-clause-outcome
+returns-in-Err-history_of-clause-outcome g c =
+    not_worked
+    (no_history (history_fault _ c.names_of.result c.args.words.now c.names_of.ensures.value _ _ c.in-Err-history_of.fault c.in-Err-history_of.ensures.err) refl)
+    (record { out = record { written = refl; faults = refl }; files = c.history_of.ensures.files; words = refl })
+    (ap g.D.LeafDisk.stored c.close.ensures.value ∙ c.in-Ok.ensures.ok.unwritten)
+
+pub returns-in-Ok-attend-clause-outcome : goal.returns-in-Ok-attend-clause-outcome
+returns-in-Ok-attend-clause-outcome g c =
+    let past = past_of c.in-Ok-attend.ended.client in
+    let m = c.args.member in
+    worked (record {
+      leaves = c.in-Ok.signer.leaves;
+      history = option_map (λ bytes. bytes.items) c.in-Ok-history_of.both.0;
+      ready = record {
+        opened = c.in-Ok.ensures.ok;
+        says = history_says _ c.names_of.result c.args.words.now c.names_of.ensures.value (option_map (λ bytes. bytes.items) c.in-Ok-history_of.both.0) c.in-Ok-history_of.ensures.ok;
+      };
+      past = past;
+      session = c.in-Ok-attend.ended.result;
+      attended = attended_at _ m.genesis c.args.words.now.member m.ring c.args.words.now.address c.as_str.result.now _ _ _ c.as_str.ensures.value
+          c.args.words.now.rounds c.args.words.now.until m.editors c.as_slice.result.now m.tree c.in-Ok.signer.key _ past _ _ c.in-Ok-attend.ended.result
+          c.as_slice.ensures.value c.in-Ok.ensures.key c.in-Ok-attend.ensures.attended;
+      causes = c.in-Ok-attend.ensures.causes;
+      printed = c.conclude-session.result.printed;
+      prints = c.conclude-session.ensures.printed;
+      saved = c.conclude-session.result.saved;
+      saves = saved_as past _ c.as_str-in-Ok-attend.result.now _ _ _ _ _ _ c.conclude-session.result.saved
+          (c.as_str-in-Ok-attend.ensures.value ∙ c.in-Ok-history_of.ensures.name ∙ ap (λ n. file_name n (History c.args.words.now.member)) c.names_of.ensures.value)
+          c.history_of.ensures.files c.history_of.ensures.kept c.conclude-session.ensures.saved;
+      taken = c.conclude-session.ensures.taken;
+      answers = answers_so _ c.faults.result _ c.conclude-session.result.session c.in-Ok-attend.ended.result c.conclude-session.result.printed c.conclude-session.result.saved
+          c.faults.ensures c.conclude-session.ensures.session c.first_fault.ensures.value;
+    })
+
+pub returns-clause-outcome : goal.returns-clause-outcome
+returns-clause-outcome g c =
+    let m = c.args.member in
+    not_worked
+    (no_session
+    (record {
+      opened = c.in-Ok.ensures.ok;
+      says = history_says _ c.names_of.result c.args.words.now c.names_of.ensures.value (option_map (λ bytes. bytes.items) c.in-Ok-history_of.both.0) c.in-Ok-history_of.ensures.ok;
+    })
+    (not_attended_at _ m.genesis c.args.words.now.member m.ring c.args.words.now.address c.as_str.result.now _ _ _ c.as_str.ensures.value _ _ c.in-Err-attend.fault
+    c.in-Err-attend.ensures.err)
+    c.attend_fault.ensures.value)
+    (record { out = record { written = refl; faults = refl }; files = c.history_of.ensures.files; words = ap g.C.Chance.given c.in-Err-attend.ensures.chance })
+    (ap g.D.LeafDisk.stored c.close-in-Err-attend.ensures.value ∙ ap (λ s. g.D.LeafDisk.stored s.leaves.disk) c.in-Err-attend.ensures.returned ∙ c.in-Ok.ensures.ok.unwritten)

@@ -1,0 +1,11 @@
+use Rattle.std.proofs.Common.{◌≢◌, ℕ, ap, ◌∙◌, refl, subst}
+use Rattle.lms_leaf.specs.LeafFile.{block_count}
+use Rattle.lms_tree.specs.declared.public_key.LmsPublic.{LmsPublic}
+use Rattle.lms_tree.specs.LmsType.{height_of}
+use Rattle.sporc_clients.proofs.leaf_file.open_signer.Goals as goal
+
+pub returns-in-Err-BadLength-default-clause-err : goal.returns-in-Err-BadLength-default-clause-err
+returns-in-Err-BadLength-default-clause-err g c =
+    let len = c.in-Err-BadLength-default.len in
+    let wrong = c.in-Err-BadLength-default.ensures.err.bad_length len c.in-Err-BadLength-default.field-0-0-is in
+    (refl, subst (λ (h : ℕ). len ≢ block_count h) (c.height-height.ensures.value ∙ ap (λ (p : LmsPublic). height_of p.lms) c.public.ensures) wrong.0, wrong.1)

@@ -1,0 +1,102 @@
+-- What the faults of the crates below are for the command.
+use Rattle.std.specs.Prelude.{ℕ, ◌==◌, Result, Ok, Err, ⊤, if◌then◌else◌}
+use Rattle.lms_leaf.specs.declared.faults.LeafFault.TheVariants as leaves
+use Rattle.sporc_epoch.specs.declared.fault.HintFault.{HintFault}
+use Rattle.sporc_epoch.specs.declared.fault.HintFault.TheVariants as hints
+use Rattle.sporc_line.specs.declared.fault.LineOpenFault.{LineOpenFault}
+use Rattle.sporc_line.specs.declared.fault.LineOpenFault.TheVariants as lines
+use Rattle.sporc_store.specs.declared.stop.Stop.{Stop}
+use Rattle.sporc_store.specs.declared.stop.Stop.TheVariants as stops
+use Rattle.sporc_shared.specs.declared.fault.SessionFault.{SessionFault}
+use Rattle.sporc_shared.specs.declared.fault.SessionFault.TheVariants as sessions
+use Rattle.sporc_sessions.specs.declared.attending.AttendFault.{AttendFault}
+use Rattle.sporc_sessions.specs.declared.attending.AttendFault.TheVariants as attending
+use Rattle.sporc_sessions.specs.declared.concluding.KeepFault.{KeepFault}
+use Rattle.sporc_sessions.specs.declared.concluding.KeepFault.TheVariants as keeping
+use Rattle.sporc_sessions.specs.declared.concluding.PrintFault.{PrintFault}
+use Rattle.sporc_sessions.specs.declared.concluding.PrintFault.TheVariants as printing
+use Rattle.sporc_sessions.specs.declared.hinting.HintsFault.{HintsFault}
+use Rattle.sporc_sessions.specs.declared.hinting.HintsFault.TheVariants as joining
+use Rattle.sporc_sessions.specs.declared.opening.OpenFault.{OpenFault}
+use Rattle.sporc_sessions.specs.declared.opening.OpenFault.TheVariants as opening
+use Rattle.sporc_files.specs.declared.fault.Fault.{Fault}
+use Rattle.sporc_files.specs.declared.fault.Fault.TheVariants as faults
+use Rattle.sporc_files.specs.declared.file.File.TheVariants.{History}
+
+-- a disk that failed has counted it, so its count is not found to be 0
+abbrev pub fault_of_disk : ℕ → Fault
+fault_of_disk disk_faults = if disk_faults == 0 then faults.Memory else faults.Outside
+
+-- a fault of a session, by how many faults the disk of its leaves counted
+abbrev pub fault_of_session : ℕ → SessionFault → Fault
+fault_of_session disk_faults sessions.LinkFault = faults.Outside
+fault_of_session disk_faults (sessions.Refused position refusal) = faults.Refused position refusal
+fault_of_session disk_faults (sessions.NotSettled pending position) = faults.Unsettled pending position
+fault_of_session disk_faults (sessions.BadMessage place) = faults.Message place
+fault_of_session disk_faults (sessions.Leaf (leaves.Exhausted next)) = faults.Leaf next
+fault_of_session disk_faults (sessions.Leaf leaves.DiskFault) = fault_of_disk disk_faults
+fault_of_session disk_faults sessions.HistoryFull = faults.FullHistory
+fault_of_session disk_faults (sessions.ServerRejected refusal) = faults.Rejected refusal
+fault_of_session disk_faults sessions.JournalFull = faults.FullJournal
+fault_of_session disk_faults (sessions.EditRefused editor line fault) = faults.Edit editor line fault
+fault_of_session disk_faults (sessions.Worn ticket) = faults.Worn
+fault_of_session disk_faults sessions.ChanceFault = faults.Outside
+fault_of_session disk_faults (sessions.LinkEnded taken) = faults.LinkEnded taken
+fault_of_session disk_faults sessions.Memory = faults.Memory
+
+-- why a member's key does not open the document
+abbrev pub fault_of_line : LineOpenFault → Fault
+fault_of_line lines.NoKey = faults.Opening lines.NoKey
+fault_of_line lines.WrongKey = faults.Opening lines.WrongKey
+fault_of_line lines.Memory = faults.Memory
+
+-- why entries give no hints
+abbrev pub fault_of_hints : HintFault → Fault
+fault_of_hints hints.NotAdded = faults.Hints hints.NotAdded
+fault_of_hints (hints.NoPairKey member) = faults.Hints (hints.NoPairKey member)
+fault_of_hints (hints.WrongKey epoch) = faults.Hints (hints.WrongKey epoch)
+fault_of_hints hints.Memory = faults.Memory
+
+-- why a joiner has no hints: a fault there is what it is in a session
+abbrev pub fault_of_joining : HintsFault → Fault
+fault_of_joining joining.Unreached = faults.Outside
+fault_of_joining (joining.Link fault) = fault_of_session 0 fault
+fault_of_joining (joining.Hints fault) = fault_of_hints fault
+
+-- why a member's line is not opened
+abbrev pub fault_of_opening : OpenFault → Fault
+fault_of_opening (opening.Hints fault) = fault_of_joining fault
+fault_of_opening (opening.Line fault) = fault_of_line fault
+fault_of_opening opening.Memory = faults.Memory
+
+-- where the loading of a member's saved history stopped; before its end, so that the end is none
+abbrev pub fault_of_stop : ℕ → Stop → Fault
+fault_of_stop member stops.End = faults.Memory
+fault_of_stop member stops.Foreign = faults.Malformed (History member) 0
+fault_of_stop member (stops.Cut at) = faults.Malformed (History member) at
+fault_of_stop member (stops.Refused position refusal) = faults.Refused position refusal
+
+-- why no session began
+abbrev pub fault_of_attending : ℕ → AttendFault → Fault
+fault_of_attending member (attending.Open fault) = fault_of_opening fault
+fault_of_attending member (attending.Stopped stop) = fault_of_stop member stop
+fault_of_attending member attending.Unreached = faults.Outside
+fault_of_attending member attending.Memory = faults.Memory
+
+-- why journal and report were not printed
+abbrev pub fault_of_printing : PrintFault → Fault
+fault_of_printing printing.Sink = faults.Outside
+fault_of_printing printing.Memory = faults.Memory
+
+-- why the history was not saved
+abbrev pub fault_of_keeping : KeepFault → Fault
+fault_of_keeping keeping.TooLong = faults.FullFile
+fault_of_keeping keeping.Folder = faults.Outside
+fault_of_keeping keeping.Memory = faults.Memory
+
+-- the first fault: that of the session, of printing, or of saving
+abbrev pub first_fault : ℕ → Result ⊤ SessionFault → Result ⊤ PrintFault → Result ⊤ KeepFault → Result ⊤ Fault
+first_fault disk_faults (Err fault) printed saved = Err (fault_of_session disk_faults fault)
+first_fault disk_faults (Ok done) (Err fault) saved = Err (fault_of_printing fault)
+first_fault disk_faults (Ok done) (Ok printed) (Err fault) = Err (fault_of_keeping fault)
+first_fault disk_faults (Ok done) (Ok printed) (Ok saved) = Ok tt

@@ -1,0 +1,34 @@
+-- The leaf file of a member, as its disk is lent and opened.
+use Rattle.std.specs.Prelude.{◌≡◌, ◌≢◌, ℕ, ◌*◌, List, length, Option, IfSome}
+use Rattle.lms_leaf.specs.declared.leaf_file.TheConstants.{LEAVES_PER_BLOCK}
+use Rattle.lms_leaf.specs.LeafFile.{block_count, taken_blocks}
+use Rattle.lms_leaf.specs.Leaves.{LeavesContent}
+use Rattle.sporc_outside.specs.Counts.{Rose}
+use Rattle.sporc_outside.specs.Files.{HasNoFile, IsTooLong}
+use Rattle.sporc_outside.specs.declared.named_file.NamedFile.{NamedFile}
+use Rattle.sporc_files.specs.declared.fault.Fault.{Fault}
+use Rattle.sporc_files.specs.declared.fault.Fault.TheVariants as faults
+use Rattle.sporc_files.specs.declared.file.File.TheVariants.{Leaf}
+use Rattle.sporc_files.specs.Names.{FileNames, file_name}
+
+-- why the disk was not lent
+abbrev pub IsLendFault : Option (List NamedFile) → ℕ → ℕ → FileNames → ℕ → Fault → Type 0
+IsLendFault files before after names member faults.Memory = Unit {0}
+IsLendFault files before after names member faults.Outside = Rose before after
+IsLendFault files before after names member (faults.Missing other) = (other ≡ Leaf member) × HasNoFile files (file_name names (Leaf member))
+IsLendFault files before after names member (faults.TooLong other) = (other ≡ Leaf member) × (len : ℕ) × IsTooLong files (file_name names (Leaf member)) len
+IsLendFault files before after names member fault = ⊥
+
+-- Leaves go on behind the last block that is taken, and nothing was written
+pub record IsOpened {D : Type 0} (stored stored' : Option (List ℕ)) (leaves : LeavesContent D) : Type 0 where
+  pub next : IfSome stored (λ bytes. leaves.next ≡ LEAVES_PER_BLOCK * taken_blocks bytes)
+  pub first : leaves.next_at_open ≡ leaves.next
+  pub unwritten : stored' ≡ stored
+
+-- why they don't, of a key whose tree has a height: the disk failed, or it is malformed at its length
+abbrev pub IsOpenFault : Option (List ℕ) → ℕ → ℕ → ℕ → ℕ → Fault → Type 0
+IsOpenFault stored before after member height faults.Memory = Unit {0}
+IsOpenFault stored before after member height faults.Outside = Rose before after
+IsOpenFault stored before after member height (faults.Malformed file len) =
+    (file ≡ Leaf member) × (len ≢ block_count height) × IfSome stored (λ bytes. len ≡ length bytes)
+IsOpenFault stored before after member height fault = ⊥

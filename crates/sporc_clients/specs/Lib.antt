@@ -1,0 +1,4 @@
+pub mod MemberFiles
+pub mod LeafFile
+pub mod Causes
+pub mod Outcome

@@ -1,0 +1,149 @@
+// What the faults of the crates below are for the command.
+
+ghost use Rattle.std.specs.Prelude.{◌≡◌};
+ghost use Rattle.sporc_clients.specs.Causes.{fault_of_attending, fault_of_disk, fault_of_hints, fault_of_joining, fault_of_keeping, fault_of_line, fault_of_opening, fault_of_printing, fault_of_session, fault_of_stop, first_fault};
+
+use lms_leaf::LeafFault;
+use sporc_epoch::HintFault;
+use sporc_files::{Fault, File};
+use sporc_line::LineOpenFault;
+use sporc_sessions::{AttendFault, HintsFault, KeepFault, OpenFault, PrintFault};
+use sporc_shared::SessionFault;
+use sporc_store::Stop;
+
+// A disk that failed has counted it, so its count is not 0.
+fn disk_fault(disk_faults: u64) -> Fault
+    ensures value { result ≡ fault_of_disk disk_faults }
+{
+    if disk_faults == 0 {
+        Fault::Memory
+    } else {
+        Fault::Outside
+    }
+}
+
+// What a fault of a session is, by how many faults the disk of its leaves counted.
+fn session_fault(fault: SessionFault, disk_faults: u64) -> Fault
+    ensures value { result ≡ fault_of_session disk_faults fault }
+{
+    match fault {
+        SessionFault::LinkFault | SessionFault::ChanceFault => Fault::Outside,
+        SessionFault::Refused(position, refusal) => Fault::Refused(position, refusal),
+        SessionFault::NotSettled(pending, position) => Fault::Unsettled(pending, position),
+        SessionFault::BadMessage(place) => Fault::Message(place),
+        SessionFault::Leaf(LeafFault::Exhausted(next)) => Fault::Leaf(next),
+        SessionFault::Leaf(LeafFault::DiskFault) => disk_fault(disk_faults),
+        SessionFault::HistoryFull => Fault::FullHistory,
+        SessionFault::ServerRejected(refusal) => Fault::Rejected(refusal),
+        SessionFault::JournalFull => Fault::FullJournal,
+        SessionFault::EditRefused(editor, line, fault) => Fault::Edit(editor, line, fault),
+        SessionFault::Worn(_) => Fault::Worn,
+        SessionFault::LinkEnded(taken) => Fault::LinkEnded(taken),
+        SessionFault::Memory => Fault::Memory,
+    }
+}
+
+// What it is that a member's key does not open the document.
+fn line_fault(fault: LineOpenFault) -> Fault
+    ensures value { result ≡ fault_of_line fault }
+{
+    match fault {
+        LineOpenFault::NoKey => Fault::Opening(LineOpenFault::NoKey),
+        LineOpenFault::WrongKey => Fault::Opening(LineOpenFault::WrongKey),
+        LineOpenFault::Memory => Fault::Memory,
+    }
+}
+
+// What it is that entries give no hints.
+fn hints_fault(fault: HintFault) -> Fault
+    ensures value { result ≡ fault_of_hints fault }
+{
+    match fault {
+        HintFault::NotAdded => Fault::Hints(HintFault::NotAdded),
+        HintFault::NoPairKey(member) => Fault::Hints(HintFault::NoPairKey(member)),
+        HintFault::WrongKey(epoch) => Fault::Hints(HintFault::WrongKey(epoch)),
+        HintFault::Memory => Fault::Memory,
+    }
+}
+
+// What it is that a joiner has no hints.
+fn joining_fault(fault: HintsFault) -> Fault
+    ensures value { result ≡ fault_of_joining fault }
+{
+    match fault {
+        HintsFault::Unreached => Fault::Outside,
+        HintsFault::Link(fault) => session_fault(fault, 0),
+        HintsFault::Hints(fault) => hints_fault(fault),
+    }
+}
+
+// What it is that a member's line is not opened.
+fn opening_fault(fault: OpenFault) -> Fault
+    ensures value { result ≡ fault_of_opening fault }
+{
+    match fault {
+        OpenFault::Hints(fault) => joining_fault(fault),
+        OpenFault::Line(fault) => line_fault(fault),
+        OpenFault::Memory => Fault::Memory,
+    }
+}
+
+// What it is that the loading of a member's saved history stopped before its end.
+fn stop_fault(member: u16, stop: Stop) -> Fault
+    ensures value { result ≡ fault_of_stop member stop }
+{
+    match stop {
+        Stop::End => Fault::Memory,
+        Stop::Foreign => Fault::Malformed(File::History(member), 0),
+        Stop::Cut(at) => Fault::Malformed(File::History(member), at as u64),
+        Stop::Refused(position, refusal) => Fault::Refused(position, refusal),
+    }
+}
+
+// What it is that no session began.
+pub(crate) fn attend_fault(member: u16, fault: AttendFault) -> Fault
+    ensures value { result ≡ fault_of_attending member fault }
+{
+    match fault {
+        AttendFault::Open(fault) => opening_fault(fault),
+        AttendFault::Stopped(stop) => stop_fault(member, stop),
+        AttendFault::Unreached => Fault::Outside,
+        AttendFault::Memory => Fault::Memory,
+    }
+}
+
+fn print_fault(fault: PrintFault) -> Fault
+    ensures value { result ≡ fault_of_printing fault }
+{
+    match fault {
+        PrintFault::Sink => Fault::Outside,
+        PrintFault::Memory => Fault::Memory,
+    }
+}
+
+fn keep_fault(fault: KeepFault) -> Fault
+    ensures value { result ≡ fault_of_keeping fault }
+{
+    match fault {
+        KeepFault::TooLong => Fault::FullFile,
+        KeepFault::Folder => Fault::Outside,
+        KeepFault::Memory => Fault::Memory,
+    }
+}
+
+// The first fault: that of a session, of printing, or of saving.
+pub(crate) fn first_fault(
+    disk_faults: u64,
+    session: Result<(), SessionFault>,
+    printed: Result<(), PrintFault>,
+    saved: Result<(), KeepFault>,
+) -> Result<(), Fault>
+    ensures value { result ≡ first_fault disk_faults session printed saved }
+{
+    match (session, printed, saved) {
+        (Err(fault), _, _) => Err(session_fault(fault, disk_faults)),
+        (Ok(()), Err(fault), _) => Err(print_fault(fault)),
+        (Ok(()), Ok(()), Err(fault)) => Err(keep_fault(fault)),
+        (Ok(()), Ok(()), Ok(())) => Ok(()),
+    }
+}

@@ -1,0 +1,240 @@
+//! The command.
+
+ghost use Rattle.std.specs.Prelude.{◌≡◌, ◌≤◌, length, option_map, string_bytes, IfErr, IfOk};
+ghost use Rattle.lms_leaf.specs.LeafFile.{IsLeafHeight};
+ghost use Rattle.lms_tree.specs.LmsType.{height_of};
+ghost use Rattle.sporc_entry.specs.Genesis.{IsGenesis};
+ghost use Rattle.sporc_script.specs.declared.limits.TheConstants.{MAX_EDITORS};
+ghost use Rattle.sporc_files.specs.declared.file.File.{File};
+ghost use Rattle.sporc_files.specs.Names.{file_name};
+ghost use Rattle.sporc_files.specs.Reading.{IsFileFault, SaysFileIfThere, any_bytes};
+ghost use Rattle.sporc_sessions.specs.Nets.{link_view, net_told};
+ghost use Rattle.sporc_clients.specs.Outcome.{ClientOutcome, DiskOutcome, names_of};
+
+use crate::causes::{attend_fault, first_fault};
+use crate::leaf_file::{lend_disk, open_signer};
+use crate::member_files::{MemberFiles, read_member};
+use lms_sign::Signer;
+use sporc_files::{Fault, File, Names, read_if_there};
+use sporc_outside::{Chance, Counted, Dial, Folder, Gate, LeafDisk, Sink};
+use sporc_sessions::{Concluded, Member, attend, conclude};
+use sporc_words::Client as Words;
+use std::alloc::Global;
+use std::sync::Wait;
+use std::thread::Threads;
+
+/// Has a member work with the server at an address, beside its editors, then prints its journal and report, and saves its
+/// history.
+pub fn client<
+    R: Threads + Wait + Sync,
+    O: Sink,
+    F: Folder,
+    N: Dial,
+    C: Chance + Send,
+    G: Gate + Sync,
+>(
+    rt: &R,
+    alloc: Global,
+    words: &Words,
+    out: &mut O,
+    files: &mut F,
+    net: &mut N,
+    chance: &mut C,
+    gate: &G,
+) -> Result<(), Fault>
+where
+    F::Disk: Send,
+    N::Link: Send,
+    requires few { length words.now.scripts ≤ MAX_EDITORS }
+    ensures outcome { ClientOutcome (link_view N.Link.written N.Link.left N.Link.faults N.Link.is_shut)
+        (record { stored = F.Disk.stored; images = λ d. F.Disk.images d (F.Disk.moment d); faults = F.Disk.faults })
+        words.now
+        (record {
+          out = record {
+            written_before = O.written out.old;
+            written_after = O.written out.new;
+            faults_before = O.faults out.old;
+            faults_after = O.faults out.new;
+          };
+          folder = record {
+            files_before = F.files files.old;
+            files_after = F.files files.new;
+            asked_before = F.asked files.old;
+            asked_after = F.asked files.new;
+            lent_before = F.lent files.old;
+            lent_after = F.lent files.new;
+            faults_before = F.faults files.old;
+            faults_after = F.faults files.new;
+          };
+          net = record {
+            before = net_told (N.asked net.old) (N.coming net.old) (N.returned net.old) (N.link_faults net.old);
+            after = net_told (N.asked net.new) (N.coming net.new) (N.returned net.new) (N.link_faults net.new);
+            faults_before = N.faults net.old;
+            faults_after = N.faults net.new;
+          };
+          chance = record {
+            given_before = C.given chance.old;
+            given_after = C.given chance.new;
+            faults_before = C.faults chance.old;
+            faults_after = C.faults chance.new;
+          };
+        })
+        result }
+    ensures out { O.faults out.old ≤ O.faults out.new }
+    ensures links { N.out net.new ≡ N.out net.old }
+    ensures net { N.faults net.old ≤ N.faults net.new }
+    ensures link_faults { N.link_faults net.old ≤ N.link_faults net.new }
+    ensures chance { C.faults chance.old ≤ C.faults chance.new }
+{
+    let names = names_of(words);
+    let editors = words.scripts.as_slice().len() as u32;
+    let member = read_member(alloc, files, &names, words.member, editors)?;
+    let disk = lend_disk(alloc, files, &names, words.member)?;
+    let (result, disk) = with_disk(
+        rt, alloc, words, member, disk, out, files, net, chance, gate,
+    );
+    files.take_back(disk);
+    result
+}
+
+// Has a member work, over the disk of its leaf file, which comes back.
+fn with_disk<
+    R: Threads + Wait + Sync,
+    D: LeafDisk + Send,
+    O: Sink,
+    F: Folder,
+    N: Dial,
+    C: Chance + Send,
+    G: Gate + Sync,
+>(
+    rt: &R,
+    alloc: Global,
+    words: &Words,
+    member: MemberFiles,
+    disk: D,
+    out: &mut O,
+    files: &mut F,
+    net: &mut N,
+    chance: &mut C,
+    gate: &G,
+) -> (Result<(), Fault>, D)
+where
+    N::Link: Send,
+    requires few { length member.editors ≤ MAX_EDITORS }
+    requires genesis { IsGenesis member.genesis }
+    requires height { IsLeafHeight (height_of member.tree.lms) }
+    ensures outcome { DiskOutcome (link_view N.Link.written N.Link.left N.Link.faults N.Link.is_shut)
+        (record { stored = D.stored; images = λ d. D.images d (D.moment d); faults = D.faults })
+        words.now member
+        (record {
+          out = record {
+            written_before = O.written out.old;
+            written_after = O.written out.new;
+            faults_before = O.faults out.old;
+            faults_after = O.faults out.new;
+          };
+          folder = record {
+            files_before = F.files files.old;
+            files_after = F.files files.new;
+            asked_before = F.asked files.old;
+            asked_after = F.asked files.new;
+            lent_before = F.lent files.old;
+            lent_after = F.lent files.new;
+            faults_before = F.faults files.old;
+            faults_after = F.faults files.new;
+          };
+          net = record {
+            before = net_told (N.asked net.old) (N.coming net.old) (N.returned net.old) (N.link_faults net.old);
+            after = net_told (N.asked net.new) (N.coming net.new) (N.returned net.new) (N.link_faults net.new);
+            faults_before = N.faults net.old;
+            faults_after = N.faults net.new;
+          };
+          chance = record {
+            given_before = C.given chance.old;
+            given_after = C.given chance.new;
+            faults_before = C.faults chance.old;
+            faults_after = C.faults chance.new;
+          };
+        })
+        disk result.1 result.0 }
+    ensures lent { F.lent files.new ≡ F.lent files.old }
+    ensures out { O.faults out.old ≤ O.faults out.new }
+    ensures links { N.out net.new ≡ N.out net.old }
+    ensures net { N.faults net.old ≤ N.faults net.new }
+    ensures link_faults { N.link_faults net.old ≤ N.link_faults net.new }
+    ensures chance { C.faults chance.old ≤ C.faults chance.new }
+{
+    let MemberFiles {
+        genesis,
+        tree,
+        ring,
+        editors,
+    } = member;
+    let number = words.member;
+    let signer = match open_signer(alloc, disk, tree, number) {
+        Ok(signer) => signer,
+        Err((fault, disk)) => return (Err(fault), disk),
+    };
+    let (saved, name) = match history_of(alloc, files, &names_of(words), number) {
+        Ok(both) => both,
+        Err(fault) => return (Err(fault), signer.close()),
+    };
+    let member = Member {
+        genesis,
+        number,
+        ring,
+    };
+    match attend(
+        rt,
+        alloc,
+        member,
+        saved,
+        signer,
+        net,
+        words.address.as_str(),
+        chance,
+        editors.as_slice(),
+        words.rounds,
+        words.until,
+        gate,
+    ) {
+        Ok(ended) => {
+            let Concluded {
+                session,
+                printed,
+                saved,
+                disk,
+            } = conclude(alloc, ended, out, files, name.as_str());
+            (first_fault(disk.faults(), session, printed, saved), disk)
+        }
+        Err((fault, signer)) => (Err(attend_fault(number, fault)), signer.close()),
+    }
+}
+
+// The names of the command's files.
+fn names_of(words: &Words) -> Names<'_>
+    ensures value { result ≡ names_of words.now }
+{
+    Names::new(words.name.as_str(), words.scripts.as_slice())
+}
+
+// The bytes of a member's saved history, if there is such a file, and its name.
+fn history_of<F: Folder>(
+    alloc: Global,
+    files: &mut F,
+    names: &Names<'_>,
+    member: u16,
+) -> Result<(Option<Vec<u8>>, String), Fault>
+    ensures ok { IfOk result (λ both. SaysFileIfThere any_bytes (F.files files.old) (file_name names.now (File.History member))
+        (option_map (λ bytes. bytes.items) both.0)) }
+    ensures name { IfOk result (λ both. string_bytes both.1 ≡ file_name names.now (File.History member)) }
+    ensures err { IfErr result (IsFileFault any_bytes (F.files files.old) (F.faults files.old) (F.faults files.new) names.now (File.History member)) }
+    ensures files { F.files files.new ≡ F.files files.old }
+    ensures lent { F.lent files.new ≡ F.lent files.old }
+    ensures kept { F.faults files.old ≤ F.faults files.new }
+{
+    let file = File::History(member);
+    let saved = read_if_there(alloc, files, names, file)?;
+    let name = file.name(alloc, names)?;
+    Ok((saved, name))
+}

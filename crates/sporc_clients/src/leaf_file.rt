@@ -1,0 +1,66 @@
+//! The leaf file of a member.
+
+ghost use Rattle.std.specs.Prelude.{◌≡◌, ◌≤◌, ◌∷◌, ◌^◌, IfErr, IfOk, OnErr, OnOk, option_map};
+ghost use Rattle.lms_leaf.specs.LeafFile.{IsLeafHeight};
+ghost use Rattle.lms_tree.specs.LmsType.{height_of};
+ghost use Rattle.sporc_outside.specs.Files.{IsDiskOf};
+ghost use Rattle.sporc_files.specs.declared.file.File.{File};
+ghost use Rattle.sporc_files.specs.Names.{file_name};
+ghost use Rattle.sporc_clients.specs.LeafFile.{IsLendFault, IsOpened, IsOpenFault};
+
+use lms_leaf::{LeafOpenFault, Leaves};
+use lms_sign::Signer;
+use lms_tree::Tree;
+use sporc_files::{Fault, File, Names};
+use sporc_outside::{FileFault, Folder, LeafDisk};
+use std::alloc::Global;
+
+/// The disk of a member's leaf file.
+pub(crate) fn lend_disk<F: Folder>(
+    alloc: Global,
+    files: &mut F,
+    names: &Names<'_>,
+    member: u16,
+) -> Result<F::Disk, Fault>
+    ensures ok { IfOk result (λ disk. IsDiskOf (F.files files.old) (file_name names.now (File.Leaf member)) (F.Disk.stored disk)) }
+    ensures fresh { IfOk result (λ disk. F.Disk.faults disk ≡ 0) }
+    ensures err { IfErr result (IsLendFault (F.files files.old) (F.faults files.old) (F.faults files.new) names.now member) }
+    ensures files { F.files files.new ≡ F.files files.old }
+    ensures lent { OnOk result (F.lent files.new ≡ option_map (λ lent. file_name names.now (File.Leaf member) ∷ lent) (F.lent files.old)) }
+    ensures not_lent { OnErr result (F.lent files.new ≡ F.lent files.old) }
+    ensures kept { F.faults files.old ≤ F.faults files.new }
+{
+    let file = File::Leaf(member);
+    let name = file.name(alloc, names)?;
+    match files.leaf_disk(name.as_str()) {
+        Ok(disk) => Ok(disk),
+        Err(FileFault::Missing) => Err(Fault::Missing(file)),
+        Err(FileFault::Failed) => Err(Fault::Outside),
+        Err(FileFault::TooLong(_)) => Err(Fault::TooLong(file)),
+        Err(FileFault::Exists | FileFault::Memory) => unreachable!(),
+    }
+}
+
+/// The signer of a member over the disk of its leaf file. A disk of another length is malformed at its length.
+pub(crate) fn open_signer<D: LeafDisk>(
+    alloc: Global,
+    disk: D,
+    tree: Tree,
+    member: u16,
+) -> Result<Signer<D>, (Fault, D)>
+    requires height { IsLeafHeight (height_of tree.lms) }
+    ensures ok { IfOk result (λ signer. IsOpened (D.stored disk) (D.stored signer.leaves.disk) signer.leaves) }
+    ensures key { IfOk result (λ signer. signer.key ≡ tree) }
+    ensures err { IfErr result (λ e. IsOpenFault (D.stored disk) (D.faults disk) (D.faults e.1) member (height_of tree.lms) e.0) }
+    ensures unwritten { IfErr result (λ e. D.stored e.1 ≡ D.stored disk) }
+{
+    let height = tree.public().lms.height();
+    match Leaves::open(alloc, disk, height) {
+        Ok(leaves) => Ok(Signer::open(tree, leaves)),
+        Err((LeafOpenFault::BadLength(len), disk)) => {
+            Err((Fault::Malformed(File::Leaf(member), len), disk))
+        }
+        Err((LeafOpenFault::DiskFault, disk)) => Err((Fault::Outside, disk)),
+        Err((LeafOpenFault::Memory, disk)) => Err((Fault::Memory, disk)),
+    }
+}

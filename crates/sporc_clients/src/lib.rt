@@ -1,0 +1,27 @@
+//! The command `client`: a member works with a server, beside its editors, and its journal, report and history are kept.
+//!
+//! ```text
+//! client plan 4 here:7 --rounds 2 --until 1 hello.script      // hello.script: insert 0 "hello"
+//! edit 1 0 i"hello"
+//! submit 0 01..
+//! accept 0 1
+//! 4 at 1 pending 0 text "hello"
+//! 4 hash 5e..
+//! ```
+//!
+//! Proved: [`client`] does what `ClientOutcome` says, by its answer. The genesis, key, ring and scripts are what the member's
+//! files say; its client goes on with its saved history, over the leaves behind the last block that is taken in its leaf file;
+//! its session is one of `sporc_shared` over a link of its own; journal, report and history are those of the client behind it,
+//! printed and saved however the session ended, and the session's fault comes first. Where no session began, nothing is
+//! printed, no file has changed, and no word of the chance is taken; the fault names its cause.
+//!
+//! Tested, in `sporc_clients_tests`: the report and the saved file of a line that is committed, and the lines of two faults.
+//! Neither: that no other file is asked for, and at which address a link was asked for that could not be made.
+#![tactic(auto)]
+
+mod causes;
+mod command;
+mod leaf_file;
+mod member_files;
+
+pub use crate::command::client;

@@ -1,0 +1,103 @@
+//! The files that say who a member is and what its editors do.
+
+ghost use Rattle.std.specs.Prelude.{◌≡◌, ◌≤◌, ℕ, [], ◌∷◌, ◌++◌, length, IfErr, IfOk};
+ghost use Rattle.lms_leaf.specs.LeafFile.{IsLeafHeight};
+ghost use Rattle.lms_tree.specs.LmsType.{height_of};
+ghost use Rattle.sporc_entry.specs.Genesis.{IsGenesis};
+ghost use Rattle.sporc_keys.specs.RingFile.{IsRingFile};
+ghost use Rattle.sporc_script.specs.declared.limits.TheConstants.{MAX_EDITORS};
+ghost use Rattle.sporc_files.specs.declared.file.File.{File};
+ghost use Rattle.sporc_files.specs.Names.{file_name};
+ghost use Rattle.sporc_clients.specs.MemberFiles.{IsFirstScriptFault, IsMemberFault, IsScriptFault, SayAllScripts, SayMember, SaysScript};
+
+use lms_tree::Tree;
+use sporc_base::Items;
+use sporc_entry::Genesis;
+use sporc_files::{
+    Fault, File, Names, read_bytes, read_genesis_file, read_own_key, read_ring_file,
+};
+use sporc_keys::RingFile;
+use sporc_outside::Folder;
+use sporc_script::{EditorScript, LineFault, read_editor};
+use std::alloc::Global;
+
+/// What the files of a member say, and its editors' scripts.
+#[derive(Drop)]
+pub struct MemberFiles {
+    pub genesis: Genesis,
+    /// The private key, with its tree.
+    pub tree: Tree,
+    pub ring: RingFile,
+    pub editors: Items<EditorScript>,
+}
+
+/// Reads the files of a member and the scripts of so many editors: the genesis, the key, the ring, and then the scripts. The
+/// first that fails decides.
+pub fn read_member<F: Folder>(
+    alloc: Global,
+    files: &mut F,
+    names: &Names<'_>,
+    member: u16,
+    editors: u32,
+) -> Result<MemberFiles, Fault>
+    ensures ok { IfOk result (SayMember (F.files files.old) names.now member editors) }
+    ensures genesis { IfOk result (λ m. IsGenesis m.genesis) }
+    ensures height { IfOk result (λ m. IsLeafHeight (height_of m.tree.lms)) }
+    ensures err { IfErr result (IsMemberFault (F.files files.old) (F.faults files.old) (F.faults files.new) names.now member) }
+    ensures files { F.files files.new ≡ F.files files.old }
+    ensures lent { F.lent files.new ≡ F.lent files.old }
+    ensures kept { F.faults files.old ≤ F.faults files.new }
+{
+    let genesis = read_genesis_file(alloc, files, names)?;
+    let tree = read_own_key(alloc, files, names, member, &genesis)?;
+    let ring = read_ring_file(alloc, files, names, member)?;
+    let editors = read_scripts(alloc, files, names, editors)?;
+    Ok(MemberFiles {
+        genesis,
+        tree,
+        ring,
+        editors: Items::new(editors),
+    })
+}
+
+// Reads the scripts of so many editors.
+fn read_scripts<F: Folder>(
+    alloc: Global,
+    files: &mut F,
+    names: &Names<'_>,
+    editors: u32,
+) -> Result<Vec<EditorScript>, Fault>
+    ensures ok { IfOk result (λ scripts. SayAllScripts (F.files files.old) names.now editors scripts.items) }
+    ensures err { IfErr result (IsFirstScriptFault (F.files files.old) (F.faults files.old) (F.faults files.new) names.now) }
+    ensures files { F.files files.new ≡ F.files files.old }
+    ensures lent { F.lent files.new ≡ F.lent files.old }
+    ensures kept { F.faults files.old ≤ F.faults files.new }
+{
+    let mut scripts = Vec::new(alloc);
+    for read in 0..editors {
+        let script = read_script(alloc, files, names, read + 1)?;
+        scripts.push(script)?;
+    }
+    Ok(scripts)
+}
+
+// Reads the script of an editor.
+fn read_script<F: Folder>(
+    alloc: Global,
+    files: &mut F,
+    names: &Names<'_>,
+    editor: u32,
+) -> Result<EditorScript, Fault>
+    ensures ok { IfOk result (SaysScript (F.files files.old) (file_name names.now (File.Script editor))) }
+    ensures err { IfErr result (IsScriptFault (F.files files.old) (F.faults files.old) (F.faults files.new) names.now editor) }
+    ensures files { F.files files.new ≡ F.files files.old }
+    ensures lent { F.lent files.new ≡ F.lent files.old }
+    ensures kept { F.faults files.old ≤ F.faults files.new }
+{
+    let text = read_bytes(alloc, files, names, File::Script(editor))?;
+    match read_editor(alloc, text.as_slice()) {
+        Ok(script) => Ok(script),
+        Err(LineFault::Line { line }) => Err(Fault::EditorLine(editor, line)),
+        Err(LineFault::Memory) => Err(Fault::Memory),
+    }
+}

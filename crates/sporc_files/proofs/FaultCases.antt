@@ -1,0 +1,112 @@
+-- Why a file is not read or written, case by case.
+use Rattle.std.proofs.Common.{◌≡◌, ◌≤◌, ℕ, List, Option, Result, Err, length, sym, subst}
+use Rattle.sporc_outside.specs.Counts.{Rose}
+use Rattle.sporc_outside.specs.Files.{HasFile, HasNoFile, HasSomeFile, IsTooLong}
+use Rattle.sporc_outside.specs.declared.file_fault.TheConstants.{MAX_FILE}
+use Rattle.sporc_outside.specs.declared.named_file.NamedFile.{NamedFile}
+use Rattle.sporc_files.specs.declared.fault.Fault.{Fault}
+use Rattle.sporc_files.specs.declared.fault.Fault.TheVariants as faults
+use Rattle.sporc_files.specs.declared.file.File.{File}
+use Rattle.sporc_files.specs.Names.{FileNames, file_name}
+use Rattle.sporc_files.specs.Reading.{IsFileFault}
+use Rattle.sporc_files.specs.Writing.{IsNewFault, IsWriteFault}
+
+-- ---- a file that is read
+
+pub data ReadCase {A : Type 0} (parse : List ℕ → Result A ℕ) (files : Option (List NamedFile)) (before after : ℕ) (names : FileNames) (file : File) : Fault → Type 0 where
+  ReadMemory : ReadCase parse files before after names file faults.Memory
+  ReadFailed : Rose before after → ReadCase parse files before after names file faults.Outside
+  ReadMissing : HasNoFile files (file_name names file) → ReadCase parse files before after names file (faults.Missing file)
+  ReadTooLong : (len : ℕ) → IsTooLong files (file_name names file) len → ReadCase parse files before after names file (faults.TooLong file)
+  ReadMalformed : (at : ℕ) (bytes : List ℕ) → length bytes ≤ MAX_FILE → HasFile files (file_name names file) bytes → parse bytes ≡ Err at
+      → ReadCase parse files before after names file (faults.Malformed file at)
+
+module _ {A : Type 0} (parse : List ℕ → Result A ℕ) (files : Option (List NamedFile)) (before after : ℕ) (names : FileNames) (file : File) where
+  pub read_case : (fault : Fault) → IsFileFault parse files before after names file fault → ReadCase parse files before after names file fault
+  read_case faults.Memory any = ReadMemory
+  read_case faults.Words never = absurd never
+  read_case (faults.Missing f) (is, gone) = subst (λ (g : File). ReadCase parse files before after names file (faults.Missing g)) (sym is) (ReadMissing gone)
+  read_case (faults.Exists f) never = absurd never
+  read_case (faults.TooLong f) (is, len, long) = subst (λ (g : File). ReadCase parse files before after names file (faults.TooLong g)) (sym is) (ReadTooLong len long)
+  read_case (faults.Malformed f at) (is, bytes, within, has, bad) = subst (λ (g : File). ReadCase parse files before after names file (faults.Malformed g at)) (sym is) (ReadMalformed at bytes within has bad)
+  read_case (faults.Line l) never = absurd never
+  read_case (faults.EditorLine e l) never = absurd never
+  read_case faults.LongScript never = absurd never
+  read_case (faults.Refused p r) never = absurd never
+  read_case (faults.Rejected r) never = absurd never
+  read_case (faults.Hints h) never = absurd never
+  read_case (faults.Opening o) never = absurd never
+  read_case (faults.Unsettled n p) never = absurd never
+  read_case (faults.LinkEnded t) never = absurd never
+  read_case faults.Outside rose = ReadFailed rose
+  read_case (faults.Leaf n) never = absurd never
+  read_case faults.FullHistory never = absurd never
+  read_case faults.FullJournal never = absurd never
+  read_case faults.FullFile never = absurd never
+  read_case faults.Worn never = absurd never
+  read_case (faults.Message at) never = absurd never
+  read_case (faults.Edit e l f) never = absurd never
+
+-- ---- a file that is written as a new one
+
+pub data NewCase (files : Option (List NamedFile)) (before after : ℕ) (names : FileNames) (file : File) : Fault → Type 0 where
+  NewMemory : NewCase files before after names file faults.Memory
+  NewFailed : Rose before after → NewCase files before after names file faults.Outside
+  NewThere : HasSomeFile files (file_name names file) → NewCase files before after names file (faults.Exists file)
+
+module _ (files : Option (List NamedFile)) (before after : ℕ) (names : FileNames) (file : File) where
+  pub new_case : (fault : Fault) → IsNewFault files before after names file fault → NewCase files before after names file fault
+  new_case faults.Memory any = NewMemory
+  new_case faults.Words never = absurd never
+  new_case (faults.Missing f) never = absurd never
+  new_case (faults.Exists f) (is, there) = subst (λ (g : File). NewCase files before after names file (faults.Exists g)) (sym is) (NewThere there)
+  new_case (faults.TooLong f) never = absurd never
+  new_case (faults.Malformed f at) never = absurd never
+  new_case (faults.Line l) never = absurd never
+  new_case (faults.EditorLine e l) never = absurd never
+  new_case faults.LongScript never = absurd never
+  new_case (faults.Refused p r) never = absurd never
+  new_case (faults.Rejected r) never = absurd never
+  new_case (faults.Hints h) never = absurd never
+  new_case (faults.Opening o) never = absurd never
+  new_case (faults.Unsettled n p) never = absurd never
+  new_case (faults.LinkEnded t) never = absurd never
+  new_case faults.Outside rose = NewFailed rose
+  new_case (faults.Leaf n) never = absurd never
+  new_case faults.FullHistory never = absurd never
+  new_case faults.FullJournal never = absurd never
+  new_case faults.FullFile never = absurd never
+  new_case faults.Worn never = absurd never
+  new_case (faults.Message at) never = absurd never
+  new_case (faults.Edit e l f) never = absurd never
+
+-- ---- a file that is written
+
+pub data WriteCase (before after : ℕ) : Fault → Type 0 where
+  WriteMemory : WriteCase before after faults.Memory
+  WriteFailed : Rose before after → WriteCase before after faults.Outside
+
+pub write_case : (before after : ℕ) (fault : Fault) → IsWriteFault before after fault → WriteCase before after fault
+write_case before after faults.Memory any = WriteMemory
+write_case before after faults.Words never = absurd never
+write_case before after (faults.Missing f) never = absurd never
+write_case before after (faults.Exists f) never = absurd never
+write_case before after (faults.TooLong f) never = absurd never
+write_case before after (faults.Malformed f at) never = absurd never
+write_case before after (faults.Line l) never = absurd never
+write_case before after (faults.EditorLine e l) never = absurd never
+write_case before after faults.LongScript never = absurd never
+write_case before after (faults.Refused p r) never = absurd never
+write_case before after (faults.Rejected r) never = absurd never
+write_case before after (faults.Hints h) never = absurd never
+write_case before after (faults.Opening o) never = absurd never
+write_case before after (faults.Unsettled n p) never = absurd never
+write_case before after (faults.LinkEnded t) never = absurd never
+write_case before after faults.Outside rose = WriteFailed rose
+write_case before after (faults.Leaf n) never = absurd never
+write_case before after faults.FullHistory never = absurd never
+write_case before after faults.FullJournal never = absurd never
+write_case before after faults.FullFile never = absurd never
+write_case before after faults.Worn never = absurd never
+write_case before after (faults.Message at) never = absurd never
+write_case before after (faults.Edit e l f) never = absurd never

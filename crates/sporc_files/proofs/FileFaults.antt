@@ -1,0 +1,24 @@
+-- Why a file is not read, as a fault of the program.
+use Rattle.std.proofs.Common.{◌≡◌, ℕ, List, Option, refl, subst}
+use Rattle.sporc_outside.specs.Files.{IsReadFault}
+use Rattle.sporc_outside.specs.declared.file_fault.FileFault.{FileFault}
+use Rattle.sporc_outside.specs.declared.file_fault.FileFault.TheVariants.{Missing, Failed, TooLong, Exists, Memory}
+use Rattle.sporc_outside.specs.declared.named_file.NamedFile.{NamedFile}
+use Rattle.sporc_files.specs.declared.fault.Fault.{Fault}
+use Rattle.sporc_files.specs.declared.file.File.{File}
+use Rattle.sporc_files.specs.Faults.{fault_of_file}
+use Rattle.sporc_files.specs.Names.{FileNames, file_name}
+use Rattle.sporc_files.specs.Reading.{IsFileFault, any_bytes}
+
+of_file : (files : Option (List NamedFile)) (before after : ℕ) (names : FileNames) (file : File) (cause : FileFault) → IsReadFault files (file_name names file) before after cause
+    → IsFileFault any_bytes files before after names file (fault_of_file file cause)
+of_file files before after names file Missing none = (refl, none)
+of_file files before after names file Failed rose = rose
+of_file files before after names file (TooLong len) long = (refl, len, long)
+of_file files before after names file Exists never = never
+of_file files before after names file Memory any = tt
+
+pub read_fault : (files : Option (List NamedFile)) (before after : ℕ) (names : FileNames) (file : File) (name : List ℕ) (cause : FileFault) (fault : Fault) → name ≡ file_name names file
+    → fault ≡ fault_of_file file cause → IsReadFault files name before after cause → IsFileFault any_bytes files before after names file fault
+read_fault files before after names file name cause fault called is why =
+    rw is (of_file files before after names file cause (rw called at why))

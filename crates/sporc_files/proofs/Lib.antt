@@ -1,0 +1,4 @@
+pub mod Written
+pub mod FileFaults
+pub mod FaultCases
+pub mod Asking

@@ -1,0 +1,47 @@
+-- Lines that are written in parts.
+use Rattle.std.proofs.Common.{◌≡◌, ℕ, suc, ◌<◌, List, ◌∷◌, ◌++◌, length, get_or, take, drop, Option, Result, Ok, Err, ap, sym, ◌∙◌, subst}
+use Rattle.std.specs.Result.{OnOk, OnErr}
+use Rattle.std.specs.List.{flat_map}
+use Rattle.std.specs.Io.KnownBytes.{Appends}
+use Rattle.std.proofs.Math.Seq.{drop-cons}
+use Rattle.std.proofs.lemmas.Grind.{flat_map-append}
+use Rattle.std.proofs.lemmas.List.{take-append-drop}
+use Rattle.sporc_outside.specs.Counts.{CountsFaults}
+use Rattle.sporc_outside.specs.Uses.{SinkUse}
+use Rattle.sporc_outside.specs.Writing.{AppendsPrefix}
+use Rattle.sporc_outside.proofs.Prefixes.{AppendsPrefix-all, AppendsPrefix-first, AppendsPrefix-then}
+use Rattle.sporc_files.specs.declared.fault.Fault.{Fault}
+use Rattle.sporc_files.specs.Names.{FileNames}
+use Rattle.sporc_files.specs.Faults.{WritesFaultLine, fault_line}
+
+-- what a line that was written as far as the sink took it tells
+pub tells : {T E : Type 0} → (r : Result T E) (out : SinkUse) (names : FileNames) (fault : Fault) → OnOk r (Appends out.written_before out.written_after (fault_line names fault))
+    → OnErr r (AppendsPrefix out.written_before out.written_after (fault_line names fault)) → CountsFaults out.faults_before out.faults_after r → WritesFaultLine out names fault
+tells (Ok x) out names fault ok err count = record { line = AppendsPrefix-all out.written_before out.written_after (fault_line names fault) ok; whole = λ none. ok }
+tells (Err e) out names fault ok err count = record { line = err; whole = λ none. absurd (none count.failed) }
+
+-- of two results, both told or neither
+pub on_err : {T E : Type 0} (r : Result T E) (P Q : Type 0) → (P → Q) → OnErr r P → OnErr r Q
+on_err (Ok x) P Q then held = tt
+on_err (Err e) P Q then held = then held
+
+-- what holds anyway
+pub any_err : {T E : Type 0} (r : Result T E) (P : Type 0) → P → OnErr r P
+any_err (Ok x) P held = tt
+any_err (Err e) P held = held
+
+-- the same bytes, otherwise said
+pub said : (a b : Option (List ℕ)) (x y : List ℕ) → x ≡ y → Appends a b x → Appends a b y
+said a b x y same written = subst (λ (t : List ℕ). Appends a b t) same written
+
+pub cut_as : (a b : Option (List ℕ)) (x y : List ℕ) → x ≡ y → AppendsPrefix a b x → AppendsPrefix a b y
+cut_as a b x y same written = subst (λ (t : List ℕ). AppendsPrefix a b t) same written
+
+-- items whose texts are written one behind another, one of which was cut off
+pub cut_off : {X : Type 0} (f : X → List ℕ) (xs : List X) (i : ℕ) (x : X) (a b c : Option (List ℕ)) → i < length xs → Appends a b (flat_map f (take i xs))
+    → AppendsPrefix b c (f (get_or xs i x)) → AppendsPrefix a c (flat_map f xs)
+cut_off f xs i x a b c within written cut =
+    let parts : take i xs ++ (get_or xs i x ∷ drop (suc i) xs) ≡ xs = ap (λ ys. take i xs ++ ys) (sym (drop-cons xs i x within)) ∙ take-append-drop i xs in
+    let whole : flat_map f (take i xs) ++ (f (get_or xs i x) ++ flat_map f (drop (suc i) xs)) ≡ flat_map f xs =
+    sym (flat_map-append f (take i xs) (get_or xs i x ∷ drop (suc i) xs)) ∙ ap (flat_map f) parts in
+    subst (λ (t : List ℕ). AppendsPrefix a c t) whole (AppendsPrefix-then a b c (flat_map f (take i xs)) _ written (AppendsPrefix-first b c (f (get_or xs i x)) _ cut))

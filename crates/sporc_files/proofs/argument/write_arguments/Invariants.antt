@@ -1,0 +1,11 @@
+use Rattle.std.proofs.Common.{◌≤◌, take}
+use Rattle.std.specs.Io.KnownBytes.{Appends}
+use Rattle.std.specs.List.{flat_map}
+use Rattle.sporc_files.specs.Arguments.{argument_bytes}
+use Rattle.sporc_files.proofs.argument.write_arguments.Given as goal
+
+abbrev pub invariant-loop-argument : goal.invariant-loop-argument
+invariant-loop-argument g l = record {
+  written : Appends (g.O.Sink.written l.initial.out) (g.O.Sink.written l.out) (flat_map (argument_bytes l.names) (take l.argument-index l.arguments));
+  kept : g.O.Counted.faults l.initial.out ≤ g.O.Counted.faults l.out;
+}

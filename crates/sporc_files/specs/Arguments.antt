@@ -1,0 +1,52 @@
+-- The arguments of a fault's line.
+use Rattle.std.specs.Prelude.{ℕ, List, [], ◌∷◌, ◌++◌, Option, None, Some, codes}
+use Rattle.std.specs.Fmt.{decimal}
+use Rattle.sporc_head.specs.Refusal.{refusal_name}
+use Rattle.sporc_play.specs.Names.{edit_fault_name, hint_fault_name, open_fault_name}
+use Rattle.sporc_files.specs.declared.argument.Argument.{Argument}
+use Rattle.sporc_files.specs.declared.argument.Argument.TheVariants.{Nothing, Number, Name, Refusal, Hints, Opening, Edit}
+use Rattle.sporc_files.specs.declared.text.Text.{Text}
+use Rattle.sporc_files.specs.Names.{FileNames, stem_of, suffix_of}
+
+-- a number, if there is one
+abbrev pub number_bytes : Option ℕ → List ℕ
+number_bytes None = []
+number_bytes (Some number) = decimal number
+
+abbrev pub text_bytes : Text → List ℕ
+text_bytes text = text.before.now ++ (number_bytes text.number ++ text.behind.now)
+
+-- what an argument says; of a file's name, what stands behind its stem
+abbrev pub argument_text : Argument → List ℕ
+argument_text Nothing = []
+argument_text (Number number) = decimal number
+argument_text (Name file) = suffix_of file
+argument_text (Refusal refusal) = refusal_name refusal
+argument_text (Hints fault) = hint_fault_name fault
+argument_text (Opening fault) = open_fault_name fault
+argument_text (Edit fault) = edit_fault_name fault
+
+abbrev pub stem_before : FileNames → Argument → List ℕ
+stem_before names (Name file) = stem_of names file
+stem_before names other = []
+
+abbrev pub space_of : Argument → List ℕ
+space_of Nothing = []
+space_of other = codes " "
+
+-- an argument behind a space
+abbrev pub argument_bytes : FileNames → Argument → List ℕ
+argument_bytes names argument = space_of argument ++ (stem_before names argument ++ argument_text argument)
+
+-- up to three arguments
+abbrev pub none : List Argument
+none = Nothing ∷ Nothing ∷ Nothing ∷ []
+
+abbrev pub one : Argument → List Argument
+one a = a ∷ Nothing ∷ Nothing ∷ []
+
+abbrev pub two : Argument → Argument → List Argument
+two a b = a ∷ b ∷ Nothing ∷ []
+
+abbrev pub three : Argument → Argument → Argument → List Argument
+three a b c = a ∷ b ∷ c ∷ []

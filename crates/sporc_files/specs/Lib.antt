@@ -1,0 +1,6 @@
+pub mod Names
+pub mod Arguments
+pub mod Faults
+pub mod Uses
+pub mod Reading
+pub mod Writing

@@ -1,0 +1,83 @@
+// What the faults of the crates below are for the program.
+
+ghost use Rattle.std.specs.Prelude.{◌≡◌};
+ghost use Rattle.sporc_files.specs.Faults.{fault_of_draw, fault_of_play, fault_of_saving, fault_of_words};
+ghost use Rattle.sporc_files.specs.declared.fault.Fault.TheVariants as faults;
+
+use crate::fault::Fault;
+use sporc_keys::DrawFault;
+use sporc_outside::Failed;
+use sporc_play::PlayFault;
+use sporc_store::SaveFault;
+use sporc_words::WordsFault;
+use std::alloc::{AllocError, AllocFailed};
+
+impl From<AllocError> for Fault {
+    ghost from_gives = { λ _ fault. fault ≡ faults.Memory };
+
+    fn from(_: AllocError) -> Fault {
+        Fault::Memory
+    }
+}
+
+impl<T: Drop> From<AllocFailed<T>> for Fault {
+    ghost from_gives = { λ _ fault. fault ≡ faults.Memory };
+
+    fn from(_: AllocFailed<T>) -> Fault {
+        Fault::Memory
+    }
+}
+
+impl From<Failed> for Fault {
+    ghost from_gives = { λ _ fault. fault ≡ faults.Outside };
+
+    fn from(_: Failed) -> Fault {
+        Fault::Outside
+    }
+}
+
+impl From<PlayFault> for Fault {
+    ghost from_gives = { λ cause fault. fault ≡ fault_of_play cause };
+
+    fn from(cause: PlayFault) -> Fault {
+        match cause {
+            PlayFault::Memory => Fault::Memory,
+            PlayFault::ReadFault | PlayFault::WriteFault => Fault::Outside,
+            PlayFault::LineFault(line) => Fault::Line(line),
+            PlayFault::TooLong => Fault::LongScript,
+        }
+    }
+}
+
+impl From<SaveFault> for Fault {
+    ghost from_gives = { λ cause fault. fault ≡ fault_of_saving cause };
+
+    fn from(cause: SaveFault) -> Fault {
+        match cause {
+            SaveFault::Memory => Fault::Memory,
+            SaveFault::TooLong(_) => Fault::FullFile,
+        }
+    }
+}
+
+impl From<WordsFault> for Fault {
+    ghost from_gives = { λ cause fault. fault ≡ fault_of_words cause };
+
+    fn from(cause: WordsFault) -> Fault {
+        match cause {
+            WordsFault::Memory => Fault::Memory,
+            WordsFault::Words => Fault::Words,
+        }
+    }
+}
+
+impl From<DrawFault> for Fault {
+    ghost from_gives = { λ cause fault. fault ≡ fault_of_draw cause };
+
+    fn from(cause: DrawFault) -> Fault {
+        match cause {
+            DrawFault::Memory => Fault::Memory,
+            DrawFault::Chance => Fault::Outside,
+        }
+    }
+}

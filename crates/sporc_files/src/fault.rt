@@ -1,0 +1,212 @@
+//! Faults of the program: a status and a line for each.
+
+ghost use Rattle.std.specs.Prelude.{◌≡◌, ◌≤◌, OnOk, OnErr};
+ghost use Rattle.std.specs.Io.KnownBytes.{Appends};
+ghost use Rattle.sporc_outside.specs.Counts.{CountsFaults};
+ghost use Rattle.sporc_outside.specs.Writing.{AppendsPrefix};
+ghost use Rattle.sporc_files.specs.Faults.{WritesFaultLine, fault_arguments, fault_line, fault_words, status_of};
+
+use crate::argument::{Argument, Arguments, write_arguments};
+use crate::file::File;
+use crate::names::Names;
+use sporc_client::EditFault;
+use sporc_epoch::HintFault;
+use sporc_head::Refusal;
+use sporc_line::LineOpenFault;
+use sporc_outside::{Failed, Sink, write_all};
+
+/// Why a command did not do all its work.
+///
+/// | Status | Faults | The cause |
+/// |---|---|---|
+/// | 1 | `Memory` | memory ran out |
+/// | 2 | `Words` | the words ask for nothing |
+/// | 3 | `Missing` to `LongScript` | a file is missing, is there already or is too long, or a file or a script is outside its grammar |
+/// | 4 | `Refused` to `Opening` | an entry failed a check, or a member's keys do not open the history |
+/// | 5 | `Unsettled` | the rounds of a session were not enough |
+/// | 6 | `LinkEnded`, `Outside` | a link ended within an answer, or something outside failed |
+/// | 7 | `Leaf` | a key has no leaf left |
+/// | 8 | `FullHistory` to `Worn` | a limit is reached |
+/// | 9 | `Message` | a server sent what is no message |
+/// | 10 | `Edit` | an editor's line was refused |
+#[derive(Clone, Copy, Debug, PartialEq, Eq)]
+pub enum Fault {
+    /// Memory ran out.
+    Memory,
+    /// The words ask for nothing.
+    Words,
+    /// There is no such file.
+    Missing(File),
+    /// There is such a file already.
+    Exists(File),
+    /// The file is longer than any that is read.
+    TooLong(File),
+    /// The file is no such file: a field at this place is cut short or forbidden.
+    Malformed(File, u64),
+    /// This line of the script on standard input is the first outside the grammar.
+    Line(u32),
+    /// Of the script of this editor, this line is the first outside the grammar.
+    EditorLine(u32, u32),
+    /// The script on standard input is too long.
+    LongScript,
+    /// The entry at this position failed a check.
+    Refused(u32, Refusal),
+    /// The server rejected an entry.
+    Rejected(Refusal),
+    /// A history gives a joiner no keys of earlier epochs.
+    Hints(HintFault),
+    /// A member's key of epoch 0 does not open the history.
+    Opening(LineOpenFault),
+    /// So many items are pending, and the history has so many entries.
+    Unsettled(u32, u32),
+    /// The link ended after so many bytes, before an answer was whole.
+    LinkEnded(u64),
+    /// A file, a disk, a link, a net, the chance, the source or the sink failed.
+    Outside,
+    /// This is the number of the next leaf, which the key does not have.
+    Leaf(u32),
+    /// The history has as many entries as it may have.
+    FullHistory,
+    /// The journal has as many events as it may have.
+    FullJournal,
+    /// The history is too long to be saved.
+    FullFile,
+    /// The tickets of a lock are used up.
+    Worn,
+    /// What came from the server is no message, from this place on.
+    Message(u64),
+    /// Of the script of this editor, this line was refused.
+    Edit(u32, u32, EditFault),
+}
+
+impl Fault {
+    /// The exit status.
+    pub fn status(self) -> u8
+        ensures value { result ≡ status_of self }
+    {
+        match self {
+            Fault::Memory => 1,
+            Fault::Words => 2,
+            Fault::Missing(_)
+            | Fault::Exists(_)
+            | Fault::TooLong(_)
+            | Fault::Malformed(_, _)
+            | Fault::Line(_)
+            | Fault::EditorLine(_, _)
+            | Fault::LongScript => 3,
+            Fault::Refused(_, _) | Fault::Rejected(_) | Fault::Hints(_) | Fault::Opening(_) => 4,
+            Fault::Unsettled(_, _) => 5,
+            Fault::LinkEnded(_) | Fault::Outside => 6,
+            Fault::Leaf(_) => 7,
+            Fault::FullHistory | Fault::FullJournal | Fault::FullFile | Fault::Worn => 8,
+            Fault::Message(_) => 9,
+            Fault::Edit(_, _, _) => 10,
+        }
+    }
+
+    /// Writes the line of the fault, as far as the sink takes it. It takes no memory.
+    pub fn tell<O: Sink>(self, names: &Names<'_>, out: &mut O)
+        ensures line { WritesFaultLine
+            (record {
+              written_before = O.written out.old;
+              written_after = O.written out.new;
+              faults_before = O.faults out.old;
+              faults_after = O.faults out.new;
+            })
+            names.now self }
+        ensures kept { O.faults out.old ≤ O.faults out.new }
+    {
+        let _ = self.write_line(names, out);
+    }
+
+    // Writes the line.
+    fn write_line<O: Sink>(self, names: &Names<'_>, out: &mut O) -> Result<(), Failed>
+        ensures ok { OnOk result (Appends (O.written out.old) (O.written out.new) (fault_line names.now self)) }
+        ensures err { OnErr result (AppendsPrefix (O.written out.old) (O.written out.new) (fault_line names.now self)) }
+        ensures count { CountsFaults (O.faults out.old) (O.faults out.new) result }
+    {
+        write_all(out, b"fault ")?;
+        write_all(out, self.words().as_bytes())?;
+        write_arguments(out, names, &self.arguments())?;
+        write_all(out, b"\n")
+    }
+
+    // What its line says.
+    fn words(self) -> &'static str
+        ensures value { result.now ≡ fault_words self }
+    {
+        match self {
+            Fault::Memory => "memory",
+            Fault::Words => "words",
+            Fault::Missing(_) => "missing",
+            Fault::Exists(_) => "exists",
+            Fault::TooLong(_) => "too long",
+            Fault::Malformed(_, _) => "malformed",
+            Fault::Line(_) => "line",
+            Fault::EditorLine(_, _) => "line",
+            Fault::LongScript => "too long script",
+            Fault::Refused(_, _) => "refused",
+            Fault::Rejected(_) => "rejected",
+            Fault::Hints(_) => "hints",
+            Fault::Opening(_) => "hints",
+            Fault::Unsettled(_, _) => "unsettled",
+            Fault::LinkEnded(_) => "link ended",
+            Fault::Outside => "outside",
+            Fault::Leaf(_) => "leaf",
+            Fault::FullHistory => "full history",
+            Fault::FullJournal => "full journal",
+            Fault::FullFile => "full file",
+            Fault::Worn => "worn",
+            Fault::Message(_) => "message",
+            Fault::Edit(_, _, _) => "edit",
+        }
+    }
+
+    // What stands behind these words.
+    fn arguments(self) -> Arguments
+        ensures value { result ≡ fault_arguments self }
+    {
+        let none = Argument::Nothing;
+        match self {
+            Fault::Memory
+            | Fault::Words
+            | Fault::LongScript
+            | Fault::Outside
+            | Fault::FullHistory
+            | Fault::FullJournal
+            | Fault::FullFile
+            | Fault::Worn => [none, none, none],
+            Fault::Missing(file) => [Argument::Name(file), none, none],
+            Fault::Exists(file) => [Argument::Name(file), none, none],
+            Fault::TooLong(file) => [Argument::Name(file), none, none],
+            Fault::Malformed(file, at) => [Argument::Name(file), Argument::Number(at), none],
+            Fault::Line(line) => [Argument::Number(u64::from(line)), none, none],
+            Fault::EditorLine(editor, line) => [
+                Argument::Name(File::Script(editor)),
+                Argument::Number(u64::from(line)),
+                none,
+            ],
+            Fault::Refused(position, refusal) => [
+                Argument::Number(u64::from(position)),
+                Argument::Refusal(refusal),
+                none,
+            ],
+            Fault::Rejected(refusal) => [Argument::Refusal(refusal), none, none],
+            Fault::Hints(fault) => [Argument::Hints(fault), none, none],
+            Fault::Opening(fault) => [Argument::Opening(fault), none, none],
+            Fault::Unsettled(pending, position) => [
+                Argument::Number(u64::from(pending)),
+                Argument::Number(u64::from(position)),
+                none,
+            ],
+            Fault::LinkEnded(taken) => [Argument::Number(taken), none, none],
+            Fault::Leaf(next) => [Argument::Number(u64::from(next)), none, none],
+            Fault::Message(at) => [Argument::Number(at), none, none],
+            Fault::Edit(editor, line, fault) => [
+                Argument::Number(u64::from(editor)),
+                Argument::Number(u64::from(line)),
+                Argument::Edit(fault),
+            ],
+        }
+    }
+}

@@ -1,0 +1,37 @@
+//! What every command of the program has in common: the files of a document, and the program's faults.
+//!
+//! - [`Names`]: the names of a command's files; [`File`]: one of them.
+//! - [`read_genesis_file`], [`read_key_file`], [`read_own_key`], [`read_ring_file`]: what a file says; [`read_bytes`] and
+//!   [`read_if_there`]: its bytes. [`write_new_file`], [`write_whole_file`]: files are written.
+//! - [`Fault`]: why a command did not do all its work, with its exit status and its line.
+//! - `specs/Uses.antt`: a folder and a chance as a call found and left them.
+//!
+//! ```text
+//! let names = Names::of_document("plan");
+//! let genesis = read_genesis_file(alloc, files, &names)?;   // Fault::Missing(File::Genesis)
+//! fault.tell(&names, out);                                  // fault missing plan.genesis
+//! fault.status()                                           // 3
+//! ```
+//!
+//! Proved: names, statuses and lines to the byte, which are written as far as the sink takes them and take no memory; what is
+//! read of which file, and which fault is answered; that a call asks for the names of its files alone. Neither: that a real
+//! folder keeps what is written.
+#![tactic(auto)]
+
+mod argument;
+mod causes;
+mod fault;
+mod fault_names;
+mod file;
+mod names;
+mod reading;
+mod text;
+mod writing;
+
+pub use fault::Fault;
+pub use file::File;
+pub use names::Names;
+pub use reading::{
+    read_bytes, read_genesis_file, read_if_there, read_key_file, read_own_key, read_ring_file,
+};
+pub use writing::{write_new_file, write_whole_file};

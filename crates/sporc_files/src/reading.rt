@@ -1,0 +1,199 @@
+//! Files that are read.
+
+ghost use Rattle.std.specs.Prelude.{◌≡◌, ◌≢◌, ◌≤◌, [], ◌∷◌, Err, IfOk, IfErr, option_map};
+ghost use Rattle.lms_leaf.specs.LeafFile.{IsLeafHeight};
+ghost use Rattle.lms_tree.specs.LmsPublic.{public_key_bytes};
+ghost use Rattle.lms_tree.specs.LmsType.{height_of};
+ghost use Rattle.sporc_entry.specs.Genesis.{IsGenesis};
+ghost use Rattle.sporc_keys.specs.KeyFile.{IsKeyWidth};
+ghost use Rattle.sporc_keys.specs.RingFile.{IsRingFile, ring_file_of_member};
+ghost use Rattle.sporc_files.specs.declared.file.File.{File};
+ghost use Rattle.sporc_files.specs.Faults.{fault_of_file};
+ghost use Rattle.sporc_files.specs.Names.{file_name};
+ghost use Rattle.sporc_files.specs.Reading.{IsFileFault, SaysFile, SaysFileIfThere, any_bytes, founder_with, genesis_file, is_key_of, key_file, own_key_file};
+ghost use Rattle.sporc_files.specs.Uses.{AsksOnly};
+
+use crate::fault::Fault;
+use crate::file::File;
+use crate::names::Names;
+use lms_tree::{LmsPublic, Tree};
+use sporc_base::is_same;
+use sporc_entry::{Genesis, GenesisFault, read_genesis};
+use sporc_keys::{Malformed, RingFile, RingFileFault, key_of_member, ring_of_member};
+use sporc_member::Founder;
+use sporc_outside::{FileFault, Folder};
+use std::alloc::Global;
+
+// What a fault of a folder's call on this file is.
+pub(crate) fn fault_of_file(file: File, fault: FileFault) -> Fault
+    ensures value { result ≡ fault_of_file file fault }
+{
+    match fault {
+        FileFault::Missing => Fault::Missing(file),
+        FileFault::Failed => Fault::Outside,
+        FileFault::TooLong(_) => Fault::TooLong(file),
+        FileFault::Exists => Fault::Exists(file),
+        FileFault::Memory => Fault::Memory,
+    }
+}
+
+/// The bytes of a file.
+pub fn read_bytes<F: Folder>(
+    alloc: Global,
+    files: &mut F,
+    names: &Names<'_>,
+    file: File,
+) -> Result<Vec<u8>, Fault>
+    ensures ok { IfOk result (λ bytes. SaysFile any_bytes (F.files files.old) (file_name names.now file) bytes.items) }
+    ensures err { IfErr result (IsFileFault any_bytes (F.files files.old) (F.faults files.old) (F.faults files.new) names.now file) }
+    ensures files { F.files files.new ≡ F.files files.old }
+    ensures lent { F.lent files.new ≡ F.lent files.old }
+    ensures asked { AsksOnly (file_name names.now file ∷ []) (F.asked files.old) (F.asked files.new) }
+    ensures kept { F.faults files.old ≤ F.faults files.new }
+{
+    let name = file.name(alloc, names)?;
+    match files.read_file(alloc, name.as_str()) {
+        Ok(bytes) => Ok(bytes),
+        Err(fault) => Err(fault_of_file(file, fault)),
+    }
+}
+
+/// The bytes of a file, if there is such a file.
+pub fn read_if_there<F: Folder>(
+    alloc: Global,
+    files: &mut F,
+    names: &Names<'_>,
+    file: File,
+) -> Result<Option<Vec<u8>>, Fault>
+    ensures ok { IfOk result (λ found. SaysFileIfThere any_bytes (F.files files.old) (file_name names.now file) (option_map (λ bytes. bytes.items) found)) }
+    ensures err { IfErr result (IsFileFault any_bytes (F.files files.old) (F.faults files.old) (F.faults files.new) names.now file) }
+    ensures there { (other : File) → result ≢ Err (Fault.Missing other) }
+    ensures files { F.files files.new ≡ F.files files.old }
+    ensures lent { F.lent files.new ≡ F.lent files.old }
+    ensures asked { AsksOnly (file_name names.now file ∷ []) (F.asked files.old) (F.asked files.new) }
+    ensures kept { F.faults files.old ≤ F.faults files.new }
+{
+    match read_bytes(alloc, files, names, file) {
+        Ok(bytes) => Ok(Some(bytes)),
+        Err(Fault::Missing(_)) => Ok(None),
+        Err(fault) => Err(fault),
+    }
+}
+
+/// What the document begins with. A genesis without an admin, or with a key of no known type, is malformed at 0.
+pub fn read_genesis_file<F: Folder>(
+    alloc: Global,
+    files: &mut F,
+    names: &Names<'_>,
+) -> Result<Genesis, Fault>
+    ensures ok { IfOk result (SaysFile genesis_file (F.files files.old) (file_name names.now File.Genesis)) }
+    ensures genesis { IfOk result IsGenesis }
+    ensures err { IfErr result (IsFileFault genesis_file (F.files files.old) (F.faults files.old) (F.faults files.new) names.now File.Genesis) }
+    ensures files { F.files files.new ≡ F.files files.old }
+    ensures lent { F.lent files.new ≡ F.lent files.old }
+    ensures asked { AsksOnly (file_name names.now File.Genesis ∷ []) (F.asked files.old) (F.asked files.new) }
+    ensures kept { F.faults files.old ≤ F.faults files.new }
+{
+    let bytes = read_bytes(alloc, files, names, File::Genesis)?;
+    match read_genesis(alloc, bytes.as_slice()) {
+        Ok(genesis) => Ok(genesis),
+        Err(GenesisFault::Malformed(at)) => Err(Fault::Malformed(File::Genesis, at as u64)),
+        Err(GenesisFault::NoAdmin) | Err(GenesisFault::BadKey(_)) => {
+            Err(Fault::Malformed(File::Genesis, 0))
+        }
+        Err(GenesisFault::Memory) => Err(Fault::Memory),
+    }
+}
+
+/// The private key of a member, with its tree, which takes as long as building it. The file of another member is malformed
+/// at 4.
+pub fn read_key_file<F: Folder>(
+    alloc: Global,
+    files: &mut F,
+    names: &Names<'_>,
+    member: u16,
+) -> Result<Tree, Fault>
+    ensures ok { IfOk result (SaysFile (key_file member) (F.files files.old) (file_name names.now (File.Key member))) }
+    ensures height { IfOk result (λ key. IsLeafHeight (height_of key.lms)) }
+    ensures width { IfOk result (λ key. IsKeyWidth key.ots) }
+    ensures err { IfErr result (IsFileFault (key_file member) (F.files files.old) (F.faults files.old) (F.faults files.new) names.now (File.Key member)) }
+    ensures files { F.files files.new ≡ F.files files.old }
+    ensures lent { F.lent files.new ≡ F.lent files.old }
+    ensures asked { AsksOnly (file_name names.now (File.Key member) ∷ []) (F.asked files.old) (F.asked files.new) }
+    ensures kept { F.faults files.old ≤ F.faults files.new }
+{
+    let bytes = read_bytes(alloc, files, names, File::Key(member))?;
+    match key_of_member(bytes.as_slice(), member) {
+        Ok(file) => {
+            let tree = file.tree(alloc)?;
+            Ok(tree)
+        }
+        Err(Malformed(at)) => Err(Fault::Malformed(File::Key(member), at as u64)),
+    }
+}
+
+/// The private key of a member of a document, with its tree. The file of another member, or with another key than the member
+/// founded the document with, is malformed at 4.
+pub fn read_own_key<F: Folder>(
+    alloc: Global,
+    files: &mut F,
+    names: &Names<'_>,
+    member: u16,
+    genesis: &Genesis,
+) -> Result<Tree, Fault>
+    ensures ok { IfOk result (SaysFile (own_key_file genesis.now.founders member) (F.files files.old) (file_name names.now (File.Key member))) }
+    ensures height { IfOk result (λ key. IsLeafHeight (height_of key.lms)) }
+    ensures width { IfOk result (λ key. IsKeyWidth key.ots) }
+    ensures err { IfErr result (IsFileFault (own_key_file genesis.now.founders member) (F.files files.old) (F.faults files.old) (F.faults files.new) names.now (File.Key member)) }
+    ensures files { F.files files.new ≡ F.files files.old }
+    ensures lent { F.lent files.new ≡ F.lent files.old }
+    ensures asked { AsksOnly (file_name names.now (File.Key member) ∷ []) (F.asked files.old) (F.asked files.new) }
+    ensures kept { F.faults files.old ≤ F.faults files.new }
+{
+    let tree = read_key_file(alloc, files, names, member)?;
+    let founder = founder_with(genesis.founders.as_slice(), member);
+    if !is_key_of(founder, &tree.public()) {
+        return Err(Fault::Malformed(File::Key(member), 4));
+    }
+    Ok(tree)
+}
+
+// The founder with this number.
+fn founder_with(founders: &[Founder], member: u16) -> Option<Founder>
+    ensures value { result ≡ founder_with member founders.now }
+{
+    founders.iter().copied().find(|f| f.member == member)
+}
+
+// Whether this is the key of a founder, if there is one.
+fn is_key_of(founder: Option<Founder>, key: &LmsPublic) -> bool
+    ensures value { result ≡ is_key_of founder key.now }
+{
+    match founder {
+        Some(founder) => is_same(&founder.key, &key.to_bytes()),
+        None => true,
+    }
+}
+
+/// The keys that a member has from the beginning. The file of another member is malformed at 4.
+pub fn read_ring_file<F: Folder>(
+    alloc: Global,
+    files: &mut F,
+    names: &Names<'_>,
+    member: u16,
+) -> Result<RingFile, Fault>
+    ensures ok { IfOk result (SaysFile (ring_file_of_member member) (F.files files.old) (file_name names.now (File.Ring member))) }
+    ensures ring { IfOk result IsRingFile }
+    ensures err { IfErr result (IsFileFault (ring_file_of_member member) (F.files files.old) (F.faults files.old) (F.faults files.new) names.now (File.Ring member)) }
+    ensures files { F.files files.new ≡ F.files files.old }
+    ensures lent { F.lent files.new ≡ F.lent files.old }
+    ensures asked { AsksOnly (file_name names.now (File.Ring member) ∷ []) (F.asked files.old) (F.asked files.new) }
+    ensures kept { F.faults files.old ≤ F.faults files.new }
+{
+    let bytes = read_bytes(alloc, files, names, File::Ring(member))?;
+    match ring_of_member(alloc, bytes.as_slice(), member) {
+        Ok(ring) => Ok(ring),
+        Err(RingFileFault::Malformed(at)) => Err(Fault::Malformed(File::Ring(member), at as u64)),
+        Err(RingFileFault::Memory) => Err(Fault::Memory),
+    }
+}

@@ -1,0 +1,113 @@
+-- What stands of a key's files.
+use Rattle.std.proofs.Common.{◌≡◌, ℕ, ◌≤◌, List, [], ◌∷◌, Bool, true, false, Option, Some, None, option_map, Result, Ok, Err, inl, inr, refl, sym, ap, ◌∙◌, subst, arith}
+use Rattle.std.specs.Result.{OnOk}
+use Rattle.std.specs.Str.{bytes_eq}
+use Rattle.sporc_outside.specs.Counts.{Rose}
+use Rattle.sporc_outside.specs.Files.{ChangesFile, HasNoFile, HasSomeFile, file_in, with_file}
+use Rattle.sporc_outside.specs.declared.named_file.NamedFile.{NamedFile}
+use Rattle.sporc_keys.specs.declared.new_key.NewKey.{NewKey}
+use Rattle.sporc_keys.specs.KeyFile.{key_file_bytes}
+use Rattle.sporc_files.specs.declared.fault.Fault.{Fault}
+use Rattle.sporc_files.specs.declared.fault.Fault.TheVariants as faults
+use Rattle.sporc_files.specs.declared.file.File.{File}
+use Rattle.sporc_files.specs.declared.file.File.TheVariants as files
+use Rattle.sporc_files.specs.Names.{FileNames, file_name}
+use Rattle.sporc_files.specs.Writing.{IsNewFault, LeavesFile, Stores, StoresPrefix, file_with, with_files}
+use Rattle.std.proofs.lemmas.List.Elements.{Contains-append_left, Contains-append_right}
+use Rattle.sporc_files.specs.Uses.{AsksOnly}
+use Rattle.sporc_files.proofs.Asking.{AsksOnly-among, AsksOnly-trans}
+use Rattle.sporc_files.proofs.FaultCases.{NewCase, NewMemory, NewFailed, NewThere, new_case}
+use Rattle.sporc_founding.specs.KeyMaking.{IsFilesFault, StoresKey, key_files}
+
+-- nothing changed
+pub unchanged : (before after : Option (List NamedFile)) (name : List ℕ) → after ≡ before → ChangesFile before after name
+unchanged None after name same = tt
+unchanged (Some files) None name same = absurd cc
+unchanged (Some files) (Some more) name same = λ other apart. let e : more ≡ files = cc in ap (λ fs. file_in fs other) e
+
+-- a file that is not there after another was written was not there before
+none_before : (fs : List NamedFile) (name bytes other : List ℕ) → file_in (with_file fs name bytes) other ≡ None → file_in fs other ≡ None
+none_before [] name bytes other none = refl
+none_before (f ∷ fs) name bytes other none = go (bytes_eq f.name name) refl (bytes_eq f.name other) refl (none_before fs name bytes other)
+  where
+    go : (b : Bool) → bytes_eq f.name name ≡ b → (d : Bool) → bytes_eq f.name other ≡ d
+        → (file_in (with_file fs name bytes) other ≡ None → file_in fs other ≡ None) → file_in (f ∷ fs) other ≡ None
+    go true e true d more = let clash = rw (e, d) at none in absurd cc
+    go true e false d more = let rest = rw (e, d) at none in rw d rest
+    go false e true d more = let clash = rw (e, d) at none in absurd cc
+    go false e false d more = let rest = rw (e, d) at none in rw d (more rest)
+
+pub not_there_before : (files : Option (List NamedFile)) (name bytes other : List ℕ) → HasNoFile (option_map (λ fs. with_file fs name bytes) files) other → HasNoFile files other
+not_there_before None name bytes other none = tt
+not_there_before (Some fs) name bytes other none = none_before fs name bytes other none
+
+-- two files, one behind another
+stored_both : (before between after : Option (List NamedFile)) (one other : NamedFile) → Stores (one ∷ []) before between → Stores (other ∷ []) between after
+    → Stores (one ∷ other ∷ []) before after
+stored_both None between after one other stored last = last ∙ ap (λ (o : Option (List NamedFile)). option_map (λ files. with_files files (other ∷ [])) o) stored
+stored_both (Some files) between after one other stored last = last ∙ ap (λ (o : Option (List NamedFile)). option_map (λ fs. with_files fs (other ∷ [])) o) stored
+
+module _ (names : FileNames) (key : NewKey) (before between after : Option (List NamedFile)) (low mid high : ℕ) where
+  abbrev pub key_name : List ℕ
+  key_name = file_name names (files.Key key.file.member)
+
+  abbrev pub leaf_name : List ℕ
+  leaf_name = file_name names (files.Leaf key.file.member)
+
+  -- the key file was not written
+  at_key : (fault : Fault) → NewCase before low high names (files.Key key.file.member) fault → LeavesFile key_name before after fault → IsFilesFault names key before after low high fault
+  at_key fault NewMemory left = inl (unchanged before after key_name left)
+  at_key fault (NewFailed rose) left = (rose, inl left)
+  at_key fault (NewThere there) left = (refl, there, left)
+
+  -- the key file was written, and the leaf file was not
+  at_leaf : (fault : Fault) → HasNoFile before key_name → Stores (file_with names (files.Key key.file.member) (key_file_bytes key.file) ∷ []) before between
+      → NewCase between mid high names (files.Leaf key.file.member) fault → LeavesFile leaf_name between after fault → low ≤ mid → IsFilesFault names key before after low high fault
+  at_leaf fault new stored NewMemory left more = inr (inl (unchanged _ after leaf_name (left ∙ stored)))
+  at_leaf fault new stored (NewFailed rose) left more =
+      (omega (arith, rose, more), inr (inl (subst (λ (o : Option (List NamedFile)). ChangesFile o after leaf_name) stored left)))
+  at_leaf fault new stored (NewThere there) left more =
+      (refl, new, subst (λ (o : Option (List NamedFile)). HasSomeFile o leaf_name) (sym left) there, left ∙ stored)
+
+  pub key_fails : (fault : Fault) → IsNewFault before low high names (files.Key key.file.member) fault → LeavesFile key_name before after fault
+      → IsFilesFault names key before after low high fault
+  key_fails fault why left = at_key fault (new_case before low high names (files.Key key.file.member) fault why) left
+
+  pub leaf_fails : (fault : Fault) → HasNoFile before key_name → Stores (file_with names (files.Key key.file.member) (key_file_bytes key.file) ∷ []) before between
+      → IsNewFault between mid high names (files.Leaf key.file.member) fault → LeavesFile leaf_name between after fault → low ≤ mid → IsFilesFault names key before after low high fault
+  leaf_fails fault new stored why left more = at_leaf fault new stored (new_case between mid high names (files.Leaf key.file.member) fault why) left more
+
+-- of two facts of one result
+pub on_ok : {T E : Type 0} (r : Result T E) (P Q R : Type 0) → (P → Q → R) → OnOk r P → OnOk r Q → OnOk r R
+on_ok (Ok x) P Q R then p q = then p q
+on_ok (Err e) P Q R then p q = tt
+
+-- both files were written
+module _ (names : FileNames) (key : NewKey) (before between after : Option (List NamedFile)) where
+  both : HasNoFile before (file_name names (files.Key key.file.member))
+      → Stores (file_with names (files.Key key.file.member) (key_file_bytes key.file) ∷ []) before between
+      → HasNoFile between (file_name names (files.Leaf key.file.member))
+      → Stores (file_with names (files.Leaf key.file.member) key.leaves ∷ []) between after → StoresKey names key before after
+  both new stored newer last = record {
+    new_key = new;
+    new_leaves = not_there_before before _ _ (file_name names (files.Leaf key.file.member))
+        (subst (λ (o : Option (List NamedFile)). HasNoFile o (file_name names (files.Leaf key.file.member))) stored newer);
+    stored = stored_both before between after _ _ stored last;
+  }
+
+  -- with bytes that are those
+  pub both_written : (bytes leaves : List ℕ) → bytes ≡ key_file_bytes key.file → leaves ≡ key.leaves → HasNoFile before (file_name names (files.Key key.file.member))
+      → Stores (file_with names (files.Key key.file.member) bytes ∷ []) before between → HasNoFile between (file_name names (files.Leaf key.file.member))
+      → Stores (file_with names (files.Leaf key.file.member) leaves ∷ []) between after → StoresKey names key before after
+  both_written bytes leaves spelled blank new stored newer last =
+      both new (subst (λ (b : List ℕ). Stores (file_with names (files.Key key.file.member) b ∷ []) before between) spelled stored) newer
+      (subst (λ (b : List ℕ). Stores (file_with names (files.Leaf key.file.member) b ∷ []) between after) blank last)
+
+-- one of two names was asked for
+pub asks_first : (one other : List ℕ) (a b : Option (List (List ℕ))) → AsksOnly (one ∷ []) a b → AsksOnly (one ∷ other ∷ []) a b
+asks_first one other a b asked = AsksOnly-among (one ∷ []) (one ∷ other ∷ []) a b (λ name. Contains-append_left (one ∷ []) (other ∷ []) name) asked
+
+pub asks_both : (one other : List ℕ) (a b c : Option (List (List ℕ))) → AsksOnly (one ∷ []) a b → AsksOnly (other ∷ []) b c → AsksOnly (one ∷ other ∷ []) a c
+asks_both one other a b c first then =
+    AsksOnly-trans (one ∷ other ∷ []) a b c (asks_first one other a b first)
+    (AsksOnly-among (other ∷ []) (one ∷ other ∷ []) b c (λ name. Contains-append_right (one ∷ []) (other ∷ []) name) then)

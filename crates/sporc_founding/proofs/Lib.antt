@@ -1,0 +1,5 @@
+pub mod KeyFiles
+pub mod Storing
+pub mod MayFound
+pub mod Named
+pub mod RingLoop

@@ -1,0 +1,105 @@
+-- What `found` does: it makes a document of the founders' key files and of words of the chance.
+use Rattle.std.specs.Prelude.{◌≡◌, ◌⊎◌, ℕ, List, [], ◌∷◌, ◌++◌, map, filter_map, Option, None, Some, true, Result, Ok, Err}
+use Rattle.std.specs.List.{AllByRecursion}
+use Rattle.lms_tree.specs.LmsPrivate.{LmsPrivate, lms_public_of}
+use Rattle.sporc_outside.specs.Counts.{Rose}
+use Rattle.sporc_outside.specs.declared.named_file.NamedFile.{NamedFile}
+use Rattle.sporc_entry.specs.ChangeBody.{IsMember}
+use Rattle.sporc_entry.specs.Genesis.{genesis_bytes}
+use Rattle.sporc_keys.specs.declared.founding.Founding.{Founding}
+use Rattle.sporc_keys.specs.declared.named.Named.{Named}
+use Rattle.sporc_keys.specs.declared.named.Named.TheVariants as named
+use Rattle.sporc_keys.specs.declared.ring_file.RingFile.{RingFile}
+use Rattle.sporc_keys.specs.Founding.{IsFounding, in_order}
+use Rattle.sporc_keys.specs.RingFile.{ring_file_bytes}
+use Rattle.sporc_words.specs.declared.found.Found.{Found}
+use Rattle.sporc_words.specs.declared.founding.Founding.{Founding as Footing}
+use Rattle.sporc_words.specs.declared.founding.Founding.TheVariants as footings
+use Rattle.sporc_words.specs.declared.founding.Participant.{Participant}
+use Rattle.sporc_words.specs.Values.{may_found}
+use Rattle.sporc_files.specs.declared.fault.Fault.{Fault}
+use Rattle.sporc_files.specs.declared.fault.Fault.TheVariants as faults
+use Rattle.sporc_files.specs.declared.file.File.TheVariants as files
+use Rattle.sporc_files.specs.Names.{FileNames, file_name}
+use Rattle.sporc_files.specs.Reading.{IsFileFault, SaysFile, key_file}
+use Rattle.sporc_files.specs.Uses.{ChanceUse, FolderUse}
+use Rattle.sporc_files.specs.Writing.{Stores, StoresPrefix, file_with}
+use Rattle.sporc_founding.specs.KeyMaking.{IsDrawFault, names_of}
+
+-- words that may found a document
+pub record MayFound (asked : Found) : Type 0 where
+  pub may : may_found asked.participants ≡ true
+  pub members : AllByRecursion (λ p. IsMember p.member) asked.participants
+
+-- ---- those who are named
+
+-- one who is named: a founder by the key of its key file, a joiner by its number alone
+abbrev pub IsNamed : Option (List NamedFile) → FileNames → ℕ → Footing → Named → Type 0
+IsNamed told names member (footings.Founder role) one =
+    (key : LmsPrivate) × SaysFile (key_file member) told (file_name names (files.Key member)) key × (one ≡ named.Founder member role (lms_public_of key))
+IsNamed told names member footings.Joiner one = one ≡ named.Joiner member
+
+-- all who are named, in the order of the words
+abbrev pub AreNamed : Option (List NamedFile) → FileNames → List Participant → List Named → Type 0
+AreNamed told names [] [] = Unit {0}
+AreNamed told names (p ∷ ps) (n ∷ ns) = IsNamed told names p.member p.founding n × AreNamed told names ps ns
+AreNamed told names [] (n ∷ ns) = ⊥
+AreNamed told names (p ∷ ps) [] = ⊥
+
+-- the key file of a founder is the first that does not say a key, for this fault
+pub record FirstBadKey (told : Option (List NamedFile)) (low high : ℕ) (names : FileNames) (all : List Participant) (fault : Fault) : Type 0 where
+  pub before : List Participant
+  pub one : Participant
+  pub behind : List Participant
+  pub split : all ≡ before ++ one ∷ behind
+  pub named : List Named
+  pub read : AreNamed told names before named
+  pub cause : IsFileFault (key_file one.member) told low high names (files.Key one.member) fault
+
+-- ---- files
+
+abbrev pub ring_of_founding : FileNames → RingFile → NamedFile
+ring_of_founding names ring = file_with names (files.Ring ring.member) (ring_file_bytes ring)
+
+-- the genesis, and then each ring, in ascending order of the numbers
+abbrev pub founding_files : FileNames → Founding → List NamedFile
+founding_files names founding = file_with names files.Genesis (genesis_bytes founding.genesis) ∷ map (ring_of_founding names) founding.rings
+
+-- why not all files were written, and what stands
+abbrev pub IsStoreFault : List NamedFile → Option (List NamedFile) → Option (List NamedFile) → ℕ → ℕ → Fault → Type 0
+IsStoreFault new before after low high faults.Memory = StoresPrefix new before after
+IsStoreFault new before after low high faults.Outside = Rose low high × StoresPrefix new before after
+IsStoreFault new before after low high fault = ⊥
+
+-- ---- the command
+
+-- the document was made
+pub record Founds (asked : Found) (files : FolderUse) (chance : ChanceUse) : Type 0 where
+  pub named : List Named
+  pub read : AreNamed files.files_before (names_of asked.name) asked.participants named
+  pub founding : Founding
+  pub made : IsFounding chance.given_before chance.given_after (in_order named) founding
+  pub stores : Stores (founding_files (names_of asked.name) founding) files.files_before files.files_after
+
+-- no key file of a founder is bad, and nothing was made of the words of the chance
+pub record FailsAtChance (asked : Found) (files : FolderUse) (chance : ChanceUse) (fault : Fault) : Type 0 where
+  pub cause : IsDrawFault chance.faults_before chance.faults_after fault
+  pub stand : files.files_after ≡ files.files_before
+
+-- a founder's key file is bad
+pub record FailsAtKeys (asked : Found) (files : FolderUse) (fault : Fault) : Type 0 where
+  pub cause : FirstBadKey files.files_before files.faults_before files.faults_after (names_of asked.name) asked.participants fault
+  pub stand : files.files_after ≡ files.files_before
+
+-- the document was made, and why not all of its files were written
+pub record FailsAtWriting (asked : Found) (files : FolderUse) (chance : ChanceUse) (fault : Fault) : Type 0 where
+  pub named : List Named
+  pub read : AreNamed files.files_before (names_of asked.name) asked.participants named
+  pub founding : Founding
+  pub made : IsFounding chance.given_before chance.given_after (in_order named) founding
+  pub cause : IsStoreFault (founding_files (names_of asked.name) founding) files.files_before files.files_after files.faults_before files.faults_after fault
+
+-- what `found` did, by its answer
+abbrev pub FoundOutcome : {T : Type 0} → Found → FolderUse → ChanceUse → Result T Fault → Type 0
+FoundOutcome asked files chance (Ok done) = Founds asked files chance
+FoundOutcome asked files chance (Err fault) = FailsAtKeys asked files fault ⊎ (FailsAtChance asked files chance fault ⊎ FailsAtWriting asked files chance fault)

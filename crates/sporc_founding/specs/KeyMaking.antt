@@ -1,0 +1,115 @@
+-- What `keygen` does: it makes a member's key of two words of the chance.
+use Rattle.std.specs.Prelude.{◌≡◌, ◌⊎◌, ℕ, List, [], ◌∷◌, ◌++◌, Option, Result, Ok, Err, codes}
+use Rattle.hex.specs.Hex.{encode_lower}
+use Rattle.std.specs.Io.KnownBytes.{Appends}
+use Rattle.lms_tree.specs.declared.public_key.LmsPublic.{LmsPublic}
+use Rattle.lms_tree.specs.LmsPublic.{public_key_bytes}
+use Rattle.sporc_outside.specs.Counts.{Rose}
+use Rattle.sporc_outside.specs.Files.{HasNoFile, HasSomeFile}
+use Rattle.sporc_outside.specs.Uses.{SinkUse}
+use Rattle.sporc_outside.specs.Writing.{AppendsPrefix}
+use Rattle.sporc_outside.specs.declared.named_file.NamedFile.{NamedFile}
+use Rattle.sporc_keys.specs.declared.new_key.NewKey.{NewKey}
+use Rattle.sporc_keys.specs.KeyFile.{key_file_bytes}
+use Rattle.sporc_keys.specs.NewKey.{IsKeygen}
+use Rattle.sporc_files.specs.declared.fault.Fault.{Fault}
+use Rattle.sporc_files.specs.declared.fault.Fault.TheVariants as faults
+use Rattle.sporc_files.specs.declared.file.File.{File}
+use Rattle.sporc_files.specs.declared.file.File.TheVariants as files
+use Rattle.sporc_files.specs.Names.{FileNames, file_name}
+use Rattle.sporc_files.specs.Uses.{ChanceUse, FolderUse}
+use Rattle.sporc_files.specs.Writing.{Stores, StoresPrefix, file_with}
+use Rattle.sporc_words.specs.declared.keygen.Keygen.{Keygen}
+
+-- the names of a document's files
+abbrev pub names_of : List ℕ → FileNames
+names_of document = record { document = document; scripts = [] }
+
+-- the names of the files of a key
+abbrev pub key_names : FileNames → ℕ → List (List ℕ)
+key_names names member = file_name names (files.Key member) ∷ file_name names (files.Leaf member) ∷ []
+
+-- the key file, and then the leaf file
+abbrev pub key_files : FileNames → NewKey → List NamedFile
+key_files names key =
+    file_with names (files.Key key.file.member) (key_file_bytes key.file)
+    ∷ file_with names (files.Leaf key.file.member) key.leaves ∷ []
+
+-- `key`, and the 112 digits of the public key
+abbrev pub key_line : LmsPublic → List ℕ
+key_line public = codes "key " ++ (encode_lower (public_key_bytes public) ++ codes "\n")
+
+-- ---- the files
+
+-- both files are new, and were written
+pub record StoresKey (names : FileNames) (key : NewKey) (before after : Option (List NamedFile)) : Type 0 where
+  pub new_key : HasNoFile before (file_name names (files.Key key.file.member))
+  pub new_leaves : HasNoFile before (file_name names (files.Leaf key.file.member))
+  pub stored : Stores (key_files names key) before after
+
+-- there is a key file, and nothing was written; or there is a leaf file, and the key file alone was written
+abbrev pub IsThere : FileNames → NewKey → Option (List NamedFile) → Option (List NamedFile) → File → Type 0
+IsThere names key before after (files.Key member) =
+    (member ≡ key.file.member) × HasSomeFile before (file_name names (files.Key member)) × (after ≡ before)
+IsThere names key before after (files.Leaf member) =
+    (member ≡ key.file.member) × HasNoFile before (file_name names (files.Key member)) × HasSomeFile after (file_name names (files.Leaf member))
+    × Stores (file_with names (files.Key member) (key_file_bytes key.file) ∷ []) before after
+IsThere names key before after other = ⊥
+
+-- why not both files were written, where the folder's count of faults went from `low` to `high`, and what stands
+abbrev pub IsFilesFault : FileNames → NewKey → Option (List NamedFile) → Option (List NamedFile) → ℕ → ℕ → Fault → Type 0
+IsFilesFault names key before after low high faults.Memory = StoresPrefix (key_files names key) before after
+IsFilesFault names key before after low high faults.Outside = Rose low high × StoresPrefix (key_files names key) before after
+IsFilesFault names key before after low high (faults.Exists file) = IsThere names key before after file
+IsFilesFault names key before after low high fault = ⊥
+
+-- ---- the command
+
+-- the key that was made
+abbrev pub Makes : Keygen → ChanceUse → NewKey → Type 0
+Makes asked chance key = IsKeygen chance.given_before chance.given_after asked.member asked.height asked.width key
+
+-- no file was written, and nothing was printed
+pub record IsUntouched (files : FolderUse) (out : SinkUse) : Type 0 where
+  pub stand : files.files_after ≡ files.files_before
+  pub unwritten : out.written_after ≡ out.written_before
+
+-- why nothing was made of the words of a chance, whose count of faults went from `before` to `after`: memory ran out, or it failed
+abbrev pub IsDrawFault : ℕ → ℕ → Fault → Type 0
+IsDrawFault before after faults.Memory = Unit {0}
+IsDrawFault before after faults.Outside = Rose before after
+IsDrawFault before after fault = ⊥
+
+-- the key was made, and why not both of its files were written
+pub record FailsAtFiles (asked : Keygen) (files : FolderUse) (chance : ChanceUse) (out : SinkUse) (fault : Fault) : Type 0 where
+  pub key : NewKey
+  pub makes : Makes asked chance key
+  pub cause : IsFilesFault (names_of asked.name) key files.files_before files.files_after files.faults_before files.faults_after fault
+  pub unwritten : out.written_after ≡ out.written_before
+
+-- both files were written, and the sink failed
+pub record FailsAtLine (asked : Keygen) (files : FolderUse) (chance : ChanceUse) (out : SinkUse) (fault : Fault) : Type 0 where
+  pub key : NewKey
+  pub makes : Makes asked chance key
+  pub stores : StoresKey (names_of asked.name) key files.files_before files.files_after
+  pub outside : fault ≡ faults.Outside
+  pub rose : Rose out.faults_before out.faults_after
+  pub printed : AppendsPrefix out.written_before out.written_after (key_line key.public)
+
+-- no key was made
+pub record FailsBefore (files : FolderUse) (chance : ChanceUse) (out : SinkUse) (fault : Fault) : Type 0 where
+  pub cause : IsDrawFault chance.faults_before chance.faults_after fault
+  pub untouched : IsUntouched files out
+
+-- the key was made, its files were new and are written, and its line was printed
+pub record MakesKey (asked : Keygen) (files : FolderUse) (chance : ChanceUse) (out : SinkUse) : Type 0 where
+  pub key : NewKey
+  pub makes : Makes asked chance key
+  pub stores : StoresKey (names_of asked.name) key files.files_before files.files_after
+  pub printed : Appends out.written_before out.written_after (key_line key.public)
+
+-- what `keygen` did, by its answer
+abbrev pub KeygenOutcome : {T : Type 0} → Keygen → FolderUse → ChanceUse → SinkUse → Result T Fault → Type 0
+KeygenOutcome asked files chance out (Ok done) = MakesKey asked files chance out
+KeygenOutcome asked files chance out (Err fault) =
+    FailsBefore files chance out fault ⊎ (FailsAtFiles asked files chance out fault ⊎ FailsAtLine asked files chance out fault)

@@ -1,0 +1,2 @@
+pub mod KeyMaking
+pub mod Founding

@@ -1,0 +1,172 @@
+//! `found NAME M:ROLE ..`.
+
+ghost use Rattle.std.specs.Prelude.{◌≡◌, ◌≤◌, IfOk, IfErr, OnOk, map};
+ghost use Rattle.std.specs.List.{AllByRecursion};
+ghost use Rattle.sporc_entry.specs.Genesis.{IsGenesis};
+ghost use Rattle.sporc_keys.specs.Founding.{CanFound, IsFounding, in_order};
+ghost use Rattle.sporc_keys.specs.RingFile.{IsRingFile};
+ghost use Rattle.sporc_files.specs.declared.fault.Fault.TheVariants as faults;
+ghost use Rattle.sporc_files.specs.declared.file.File.TheVariants as kinds;
+ghost use Rattle.sporc_files.specs.Reading.{IsFileFault, key_file};
+ghost use Rattle.sporc_files.specs.Writing.{Stores};
+ghost use Rattle.sporc_founding.specs.Founding.{AreNamed, FirstBadKey, FoundOutcome, IsNamed, IsStoreFault, MayFound, founding_files, ring_of_founding};
+ghost use Rattle.sporc_founding.specs.KeyMaking.{IsDrawFault};
+
+use sporc_entry::write_genesis;
+use sporc_files::{Fault, File, Names, read_key_file, write_whole_file};
+use sporc_keys::{DrawFault, Founding, Named, RingFile, write_ring_file};
+use sporc_outside::{Chance, Folder};
+use sporc_words::{Found, Participant};
+use std::alloc::Global;
+
+/// Makes a document of its founders' keys and of words of the chance, and writes its genesis and the ring of each who is named,
+/// in ascending order of their numbers, in place of files with these names. The founders' key files are read in the order of
+/// the words; those of joiners are not.
+pub fn found<F: Folder, C: Chance>(
+    alloc: Global,
+    files: &mut F,
+    chance: &mut C,
+    asked: &Found,
+) -> Result<(), Fault>
+    requires { MayFound asked.now }
+    ensures outcome { FoundOutcome asked.now
+        (record {
+          files_before = F.files files.old;
+          files_after = F.files files.new;
+          asked_before = F.asked files.old;
+          asked_after = F.asked files.new;
+          lent_before = F.lent files.old;
+          lent_after = F.lent files.new;
+          faults_before = F.faults files.old;
+          faults_after = F.faults files.new;
+        })
+        (record {
+          given_before = C.given chance.old;
+          given_after = C.given chance.new;
+          faults_before = C.faults chance.old;
+          faults_after = C.faults chance.new;
+        })
+        result }
+    ensures lent { F.lent files.new ≡ F.lent files.old }
+    ensures files_kept { F.faults files.old ≤ F.faults files.new }
+    ensures chance_kept { C.faults chance.old ≤ C.faults chance.new }
+{
+    let names = Names::of_document(asked.name.as_str());
+    let named = read_founders(alloc, files, &names, asked.participants.as_slice())?;
+    let founding = make_founding(alloc, chance, named.as_slice())?;
+    write_founding(alloc, files, &names, &founding)?;
+    Ok(())
+}
+
+// Those who are named, the founders by their key files.
+fn read_founders<F: Folder>(
+    alloc: Global,
+    files: &mut F,
+    names: &Names<'_>,
+    participants: &[Participant],
+) -> Result<Vec<Named>, Fault>
+    ensures ok { IfOk result (λ named. AreNamed (F.files files.old) names.now participants.now named.items) }
+    ensures err { IfErr result (FirstBadKey (F.files files.old) (F.faults files.old) (F.faults files.new) names.now participants.now) }
+    ensures files { F.files files.new ≡ F.files files.old }
+    ensures lent { F.lent files.new ≡ F.lent files.old }
+    ensures kept { F.faults files.old ≤ F.faults files.new }
+{
+    let mut named = Vec::new(alloc);
+    for participant in participants {
+        let one = read_named(alloc, files, names, participant)?;
+        named.push(one)?;
+    }
+    Ok(named)
+}
+
+// One who is named.
+fn read_named<F: Folder>(
+    alloc: Global,
+    files: &mut F,
+    names: &Names<'_>,
+    participant: &Participant,
+) -> Result<Named, Fault>
+    ensures ok { IfOk result (IsNamed (F.files files.old) names.now participant.now.member participant.now.founding) }
+    ensures err { IfErr result (IsFileFault (key_file participant.now.member) (F.files files.old)
+        (F.faults files.old) (F.faults files.new) names.now (kinds.Key participant.now.member)) }
+    ensures files { F.files files.new ≡ F.files files.old }
+    ensures lent { F.lent files.new ≡ F.lent files.old }
+    ensures kept { F.faults files.old ≤ F.faults files.new }
+{
+    let member = participant.member;
+    match participant.founding {
+        sporc_words::Founding::Joiner => Ok(Named::Joiner { member }),
+        sporc_words::Founding::Founder(role) => {
+            let tree = read_key_file(alloc, files, names, member)?;
+            let key = tree.public();
+            Ok(Named::Founder { member, role, key })
+        }
+    }
+}
+
+// The document, before anything is written.
+fn make_founding<C: Chance>(
+    alloc: Global,
+    chance: &mut C,
+    named: &[Named],
+) -> Result<Founding, Fault>
+    requires { CanFound named.now }
+    ensures ok { IfOk result (λ founding. IsFounding (C.given chance.old) (C.given chance.new) (in_order named.now) founding) }
+    ensures genesis { IfOk result (λ founding. IsGenesis founding.genesis) }
+    ensures rings { IfOk result (λ founding. AllByRecursion IsRingFile founding.rings) }
+    ensures err { IfErr result (IsDrawFault (C.faults chance.old) (C.faults chance.new)) }
+    ensures kept { C.faults chance.old ≤ C.faults chance.new }
+{
+    match sporc_keys::found(alloc, chance, named) {
+        Ok(founding) => Ok(founding),
+        Err(DrawFault::Chance) => Err(Fault::Outside),
+        Err(DrawFault::Memory) => Err(Fault::Memory),
+    }
+}
+
+// Writes the files of a document.
+fn write_founding<F: Folder>(
+    alloc: Global,
+    files: &mut F,
+    names: &Names<'_>,
+    founding: &Founding,
+) -> Result<(), Fault>
+    requires genesis { IsGenesis founding.now.genesis }
+    requires rings { AllByRecursion IsRingFile founding.now.rings }
+    ensures ok { OnOk result (Stores (founding_files names.now founding.now) (F.files files.old) (F.files files.new)) }
+    ensures err { IfErr result (IsStoreFault (founding_files names.now founding.now) (F.files files.old) (F.files files.new)
+        (F.faults files.old) (F.faults files.new)) }
+    ensures lent { F.lent files.new ≡ F.lent files.old }
+    ensures kept { F.faults files.old ≤ F.faults files.new }
+{
+    let bytes = write_genesis(alloc, &founding.genesis)?;
+    write_whole_file(alloc, files, names, File::Genesis, bytes.as_slice())?;
+    write_rings(alloc, files, names, founding.rings.as_slice())
+}
+
+// Writes ring files, one after another.
+fn write_rings<F: Folder>(
+    alloc: Global,
+    files: &mut F,
+    names: &Names<'_>,
+    rings: &[RingFile],
+) -> Result<(), Fault>
+    requires { AllByRecursion IsRingFile rings.now }
+    ensures ok { OnOk result (Stores (map (ring_of_founding names.now) rings.now) (F.files files.old) (F.files files.new)) }
+    ensures err { IfErr result (IsStoreFault (map (ring_of_founding names.now) rings.now) (F.files files.old) (F.files files.new)
+        (F.faults files.old) (F.faults files.new)) }
+    ensures lent { F.lent files.new ≡ F.lent files.old }
+    ensures kept { F.faults files.old ≤ F.faults files.new }
+{
+    for ring in rings {
+        let bytes = write_ring_file(alloc, ring)?;
+        write_whole_file(
+            alloc,
+            files,
+            names,
+            File::Ring(ring.member),
+            bytes.as_slice(),
+        )?;
+    }
+    Ok(())
+}

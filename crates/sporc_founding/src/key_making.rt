@@ -1,0 +1,121 @@
+//! `keygen NAME M HEIGHT W`.
+
+ghost use Rattle.std.specs.Prelude.{◌≡◌, ◌≤◌, IfOk, IfErr, OnOk, string_bytes};
+ghost use Rattle.lms_leaf.specs.LeafFile.{IsLeafHeight};
+ghost use Rattle.lms_tree.specs.LmsType.{height_of};
+ghost use Rattle.sporc_keys.specs.KeyFile.{IsKeyFile, IsKeyWidth};
+ghost use Rattle.sporc_keys.specs.NewKey.{IsKeygen};
+ghost use Rattle.sporc_files.specs.Uses.{AsksOnly};
+ghost use Rattle.sporc_founding.specs.KeyMaking.{IsDrawFault, IsFilesFault, KeygenOutcome, StoresKey, key_line, key_names, names_of};
+
+use lms_tree::LmsPublic;
+use sporc_base::Memory;
+use sporc_files::{Fault, File, Names, write_new_file};
+use sporc_keys::{DrawFault, NewKey, write_key_file};
+use sporc_outside::{Chance, Folder, Sink, write_all};
+use sporc_words::Keygen;
+use std::alloc::Global;
+
+/// Makes a member's key of two words of the chance, writes its files, and prints its public key. No file is overwritten:
+/// if there is a key file, nothing is written, and if there is a leaf file alone, the key file is.
+pub fn keygen<F: Folder, C: Chance, O: Sink>(
+    alloc: Global,
+    files: &mut F,
+    chance: &mut C,
+    out: &mut O,
+    asked: &Keygen,
+) -> Result<(), Fault>
+    requires height { IsLeafHeight (height_of asked.now.height) }
+    requires width { IsKeyWidth asked.now.width }
+    ensures outcome { KeygenOutcome asked.now
+        (record {
+          files_before = F.files files.old;
+          files_after = F.files files.new;
+          asked_before = F.asked files.old;
+          asked_after = F.asked files.new;
+          lent_before = F.lent files.old;
+          lent_after = F.lent files.new;
+          faults_before = F.faults files.old;
+          faults_after = F.faults files.new;
+        })
+        (record {
+          given_before = C.given chance.old;
+          given_after = C.given chance.new;
+          faults_before = C.faults chance.old;
+          faults_after = C.faults chance.new;
+        })
+        (record {
+          written_before = O.written out.old;
+          written_after = O.written out.new;
+          faults_before = O.faults out.old;
+          faults_after = O.faults out.new;
+        })
+        result }
+    ensures asked { AsksOnly (key_names (names_of asked.now.name) asked.now.member) (F.asked files.old) (F.asked files.new) }
+    ensures lent { F.lent files.new ≡ F.lent files.old }
+    ensures files_kept { F.faults files.old ≤ F.faults files.new }
+    ensures chance_kept { C.faults chance.old ≤ C.faults chance.new }
+    ensures out_kept { O.faults out.old ≤ O.faults out.new }
+{
+    let key = make_key(alloc, chance, asked)?;
+    let line = key_line(alloc, &key.public)?;
+    let names = Names::of_document(asked.name.as_str());
+    write_files(alloc, files, &names, &key)?;
+    write_all(out, line.as_bytes())?;
+    Ok(())
+}
+
+// The key, before anything is written.
+fn make_key<C: Chance>(alloc: Global, chance: &mut C, asked: &Keygen) -> Result<NewKey, Fault>
+    requires height { IsLeafHeight (height_of asked.now.height) }
+    requires width { IsKeyWidth asked.now.width }
+    ensures ok { IfOk result (λ key. IsKeygen (C.given chance.old) (C.given chance.new)
+        asked.now.member asked.now.height asked.now.width key) }
+    ensures spelled { IfOk result (λ key. IsKeyFile key.file) }
+    ensures err { IfErr result (IsDrawFault (C.faults chance.old) (C.faults chance.new)) }
+    ensures kept { C.faults chance.old ≤ C.faults chance.new }
+{
+    match sporc_keys::keygen(alloc, chance, asked.member, asked.height, asked.width) {
+        Ok(key) => Ok(key),
+        Err(DrawFault::Chance) => Err(Fault::Outside),
+        Err(DrawFault::Memory) => Err(Fault::Memory),
+    }
+}
+
+// The line that is printed of a key.
+fn key_line(alloc: Global, public: &LmsPublic) -> Result<String, Memory>
+    ensures { IfOk result (λ line. string_bytes line ≡ key_line public.now) }
+{
+    let digits = hex::encode(alloc, &public.to_bytes())?;
+    let mut line = String::from_str(alloc, "key ")?;
+    line.push_str(digits.as_str())?;
+    line.push('\n')?;
+    Ok(line)
+}
+
+// Writes the key file, and then the leaf file.
+fn write_files<F: Folder>(
+    alloc: Global,
+    files: &mut F,
+    names: &Names<'_>,
+    key: &NewKey,
+) -> Result<(), Fault>
+    requires { IsKeyFile key.now.file }
+    ensures ok { OnOk result (StoresKey names.now key.now (F.files files.old) (F.files files.new)) }
+    ensures err { IfErr result (IsFilesFault names.now key.now (F.files files.old) (F.files files.new)
+        (F.faults files.old) (F.faults files.new)) }
+    ensures asked { AsksOnly (key_names names.now key.now.file.member) (F.asked files.old) (F.asked files.new) }
+    ensures lent { F.lent files.new ≡ F.lent files.old }
+    ensures kept { F.faults files.old ≤ F.faults files.new }
+{
+    let bytes = write_key_file(alloc, &key.file)?;
+    let member = key.file.member;
+    write_new_file(alloc, files, names, File::Key(member), bytes.as_slice())?;
+    write_new_file(
+        alloc,
+        files,
+        names,
+        File::Leaf(member),
+        key.leaves.as_slice(),
+    )
+}

@@ -1,0 +1,19 @@
+//! The commands that make keys and documents.
+//!
+//! - [`keygen`] makes a member's key: `NAME.M.key`, then `NAME.M.leaf`, and prints the public key.
+//! - [`found`] makes a document: `NAME.genesis`, then `NAME.M.ring` of each who is named, by the founders' key files.
+//!
+//! ```text
+//! keygen(alloc, &mut files, &mut chance, &mut out, &asked)?;     // plan.1.key, plan.1.leaf, and `key` with 112 digits
+//! found(alloc, &mut files, &mut chance, &asked)?;                // plan.genesis, plan.1.ring, plan.2.ring
+//! ```
+//!
+//! Proved: which files stand after each answer, of which words of the chance they are made, what is printed, and why a
+//! command failed. Tested, in `sporc_founding_tests`: the files of a document in memory, and each call outside failing in turn.
+#![tactic(auto)]
+
+mod founding;
+mod key_making;
+
+pub use founding::found;
+pub use key_making::keygen;

@@ -1,0 +1,6 @@
+pub mod Contents
+pub mod Checking
+pub mod Comparing
+pub mod Serving
+pub mod Uses
+pub mod Outcomes

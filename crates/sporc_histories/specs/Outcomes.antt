@@ -1,0 +1,100 @@
+-- What each command did: what it read, what it wrote and saved, and why it did not do all its work.
+use Rattle.std.specs.Prelude.{◌≡◌, ◌⊎◌, ℕ, List, [], ◌∷◌, ◌++◌, codes, length, Option, None, Some, option_map, Result, Ok, Err}
+use Rattle.std.specs.Fmt.{decimal}
+use Rattle.std.specs.Io.KnownBytes.{Appends}
+use Rattle.sporc_outside.specs.Counts.{Rose}
+use Rattle.sporc_outside.specs.Files.{ChangesFile, with_file}
+use Rattle.sporc_outside.specs.Uses.{IsUnwritten, SinkUse}
+use Rattle.sporc_outside.specs.Writing.{AppendsPrefix}
+use Rattle.sporc_hash.specs.declared.verdict.Verdict.{Verdict}
+use Rattle.sporc_order.specs.OrderModel.{OrderModel}
+use Rattle.sporc_serve.specs.declared.fault.ServeFault.{ServeFault}
+use Rattle.sporc_serve.specs.Crowds.{Net}
+use Rattle.sporc_serve.specs.Served.{IsServed}
+use Rattle.sporc_files.specs.declared.fault.Fault.{Fault}
+use Rattle.sporc_files.specs.declared.fault.Fault.TheVariants as faults
+use Rattle.sporc_files.specs.declared.file.File.TheVariants as files
+use Rattle.sporc_files.specs.Uses.{FolderUse}
+use Rattle.sporc_files.specs.Names.{FileNames, file_name}
+use Rattle.sporc_histories.specs.Checking.{AreCheckedFiles, CheckedFiles, IsCheckedLine, checked_in}
+use Rattle.sporc_histories.specs.Comparing.{AreComparedFiles, ComparedFiles, IsVerdictLine, chains_in}
+use Rattle.sporc_histories.specs.Serving.{AreServedFiles, ServedFiles, ended, order_in, saved_log}
+use Rattle.sporc_histories.specs.Uses.{OnlyReads, WritesLine}
+
+-- ---- check
+
+-- `check NAME M`: the genesis, the key, the ring and the history of the member are read, the history is examined, and the line of how many
+-- entries it has is written
+pub record CheckOutcome {T : Type 0} (names : FileNames) (member : ℕ) (folder : FolderUse) (out : SinkUse) (answer : Result T Fault) : Type 0 where
+  pub content : CheckedFiles
+  pub are : AreCheckedFiles folder.files_before names member content
+  pub reads : OnlyReads names (files.Genesis ∷ files.Key member ∷ files.Ring member ∷ files.History member ∷ []) folder
+  pub writes : WritesLine IsCheckedLine folder out (checked_in member content) answer
+
+-- ---- compare
+
+-- `compare NAME M N`: the genesis and then the histories of both members are read, whole, and the line of how the chain of the first
+-- stands to that of the second is written
+pub record CompareOutcome {T : Type 0} (names : FileNames) (m n : ℕ) (folder : FolderUse) (out : SinkUse) (answer : Result T Fault) : Type 0 where
+  pub content : ComparedFiles
+  pub are : AreComparedFiles folder.files_before names m n content
+  pub reads : OnlyReads names (files.Genesis ∷ files.History m ∷ files.History n ∷ []) folder
+  pub writes : WritesLine (IsVerdictLine m n) folder out (chains_in m n content) answer
+
+-- ---- serve
+
+-- the line that says how many entries were saved
+abbrev pub log_line : ℕ → List ℕ
+log_line len = codes "log " ++ (decimal len ++ codes "\n")
+
+-- the file of an order's entries was written
+pub record SavesLog (names : FileNames) (folder : FolderUse) (order : OrderModel) : Type 0 where
+  pub log : List ℕ
+  pub saved : saved_log order ≡ Ok log
+  pub files : folder.files_after ≡ option_map (λ old. with_file old (file_name names files.Log) log) folder.files_before
+
+-- how an order's entries were saved and their number was told, by the answer
+module _ (names : FileNames) (folder : FolderUse) (out : SinkUse) (order : OrderModel) where
+  abbrev pub KeepsLog : {T : Type 0} → Result T Fault → Type 0
+  KeepsLog (Ok done) = SavesLog names folder order × Appends out.written_before out.written_after (log_line (length order.entries))
+  KeepsLog (Err faults.Memory) = (folder.files_after ≡ folder.files_before) × IsUnwritten out
+  KeepsLog (Err faults.FullFile) = (saved_log order ≡ Err faults.FullFile) × (folder.files_after ≡ folder.files_before) × IsUnwritten out
+  KeepsLog (Err faults.Outside) =
+      (Rose folder.faults_before folder.faults_after × ChangesFile folder.files_before folder.files_after (file_name names files.Log) × IsUnwritten out)
+      ⊎ (SavesLog names folder order × Rose out.faults_before out.faults_after
+      × AppendsPrefix out.written_before out.written_after (log_line (length order.entries)))
+  KeepsLog (Err fault) = ⊥
+
+-- why nothing was served, where the folder's count of faults went from `before` to `after`
+abbrev pub FailsToBegin : {T : Type 0} → ℕ → ℕ → Result OrderModel Fault → Result T Fault → Type 0
+FailsToBegin before after found (Ok done) = ⊥
+FailsToBegin before after found (Err faults.Memory) = Unit {0}
+FailsToBegin before after found (Err faults.Outside) = Rose before after
+FailsToBegin before after found (Err fault) = found ≡ Err fault
+
+module _ {L : Type 0} (left written : L → Option (List ℕ)) (faults : L → ℕ) (names : FileNames) (sessions : ℕ) (folder : FolderUse) (out : SinkUse) (old new : Net L) where
+  -- nothing was served: a file failed, memory ran out, or the folder failed
+  pub record NotServed {T : Type 0} (answer : Result T Fault) : Type 0 where
+    pub content : ServedFiles
+    pub are : AreServedFiles folder.files_before names content
+    pub reads : OnlyReads names (files.Genesis ∷ files.Log ∷ []) folder
+    pub fails : FailsToBegin folder.faults_before folder.faults_after (order_in content) answer
+    pub net : new ≡ old
+    pub unwritten : IsUnwritten out
+
+  -- sessions were served from the order in the files, and what came of it was saved
+  pub record ServedAndKept (answer : Result (Unit {0}) Fault) : Type 0 where
+    pub content : ServedFiles
+    pub are : AreServedFiles folder.files_before names content
+    pub before : OrderModel
+    pub after : OrderModel
+    pub begins : order_in content ≡ Ok before
+    pub served : Result (Unit {0}) ServeFault
+    pub serves : IsServed left written faults before after old new sessions served
+    pub kept : Result (Unit {0}) Fault
+    pub keeps : KeepsLog names folder out after kept
+    pub answer_is : answer ≡ ended served kept
+
+  -- `serve NAME ADDRESS --sessions K`
+  abbrev pub ServeOutcome : Result (Unit {0}) Fault → Type 0
+  ServeOutcome answer = NotServed answer ⊎ ServedAndKept answer

@@ -1,0 +1,95 @@
+//! `compare NAME M N`.
+
+ghost use Rattle.std.specs.Prelude.{◌≡◌, ◌≤◌, [], ◌∷◌, IfOk, string_bytes};
+ghost use Rattle.sporc_files.specs.Names.{file_name};
+ghost use Rattle.sporc_files.specs.Uses.{AsksOnly};
+ghost use Rattle.sporc_histories.specs.Comparing.{AreOfOneGenesis, FindsChains, IsVerdictLine};
+ghost use Rattle.sporc_histories.specs.Outcomes.{CompareOutcome};
+
+use crate::chains::read_chain;
+use sporc_base::Memory;
+use sporc_files::{Fault, File, Names, read_genesis_file};
+use sporc_hash::{Digest32, compare as compare_chains};
+use sporc_outside::{Folder, Sink, write_all};
+use sporc_play::push_verdict;
+use std::alloc::Global;
+
+/// `compare NAME M N` writes how the saved history of one member of a document stands to that of another: `M N same`,
+/// `M N prefix`, `M N longer`, or `M N forked after K`. The histories are read unchecked, and compared by their hashes.
+pub fn compare<F: Folder, O: Sink>(
+    alloc: Global,
+    files: &mut F,
+    out: &mut O,
+    names: &Names<'_>,
+    first: u16,
+    second: u16,
+) -> Result<(), Fault>
+    ensures outcome { CompareOutcome names.now first second
+        (record {
+          files_before = F.files files.old;
+          files_after = F.files files.new;
+          asked_before = F.asked files.old;
+          asked_after = F.asked files.new;
+          lent_before = F.lent files.old;
+          lent_after = F.lent files.new;
+          faults_before = F.faults files.old;
+          faults_after = F.faults files.new;
+        })
+        (record {
+          written_before = O.written out.old;
+          written_after = O.written out.new;
+          faults_before = O.faults out.old;
+          faults_after = O.faults out.new;
+        })
+        result }
+    ensures out_kept { O.faults out.old ≤ O.faults out.new }
+{
+    let chains = read_chains(alloc, files, names, first, second)?;
+    let line = verdict_line(
+        alloc,
+        first,
+        second,
+        chains.0.as_slice(),
+        chains.1.as_slice(),
+    )?;
+    write_all(out, line.as_bytes())?;
+    Ok(())
+}
+
+// The chains of two saved histories of one document.
+fn read_chains<F: Folder>(
+    alloc: Global,
+    files: &mut F,
+    names: &Names<'_>,
+    first: u16,
+    second: u16,
+) -> Result<(Vec<Digest32>, Vec<Digest32>), Fault>
+    ensures found { FindsChains (F.files files.old) names.now first second (F.faults files.old) (F.faults files.new) result }
+    ensures one_genesis { IfOk result (λ chains. AreOfOneGenesis chains.0.items chains.1.items) }
+    ensures files { F.files files.new ≡ F.files files.old }
+    ensures lent { F.lent files.new ≡ F.lent files.old }
+    ensures asked { AsksOnly (file_name names.now File.Genesis ∷ file_name names.now (File.History first) ∷ file_name names.now (File.History second) ∷ [])
+        (F.asked files.old) (F.asked files.new) }
+    ensures kept { F.faults files.old ≤ F.faults files.new }
+{
+    let genesis = read_genesis_file(alloc, files, names)?;
+    let one = read_chain(alloc, files, names, File::History(first), &genesis)?;
+    let other = read_chain(alloc, files, names, File::History(second), &genesis)?;
+    Ok((one, other))
+}
+
+// The line that says how one chain stands to another.
+fn verdict_line(
+    alloc: Global,
+    first: u16,
+    second: u16,
+    one: &[Digest32],
+    other: &[Digest32],
+) -> Result<String, Memory>
+    requires { AreOfOneGenesis one.now other.now }
+    ensures { IfOk result (λ line. IsVerdictLine first second (record { first = one.now; second = other.now }) (string_bytes line)) }
+{
+    let mut line = String::new(alloc);
+    push_verdict(&mut line, first, second, compare_chains(one, other))?;
+    Ok(line)
+}

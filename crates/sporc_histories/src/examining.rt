@@ -1,0 +1,101 @@
+// A saved history, examined with the keys of a member.
+
+ghost use Rattle.sporc_entry.specs.Genesis.{IsGenesis};
+ghost use Rattle.sporc_epoch.specs.Keys.{pairs_in};
+ghost use Rattle.sporc_store.specs.SavedFile.{read_to};
+ghost use Rattle.sporc_histories.specs.Contents.{Tells};
+ghost use Rattle.sporc_histories.specs.Checking.{accepted_in, examined, hints_in, keys_in, len_of_whole};
+
+use crate::entries::{stopped, whole_entries};
+use sporc_entry::Genesis;
+use sporc_epoch::{HintFault, Pairs, Ring, hints_from};
+use sporc_files::{Fault, File};
+use sporc_keys::RingFile;
+use sporc_line::{Line, LineOpenFault};
+use sporc_store::{Stop, load};
+use std::alloc::Global;
+
+// How many entries a saved history has, if a member with this ring opens it and accepts all of it.
+pub(crate) fn examine(
+    alloc: Global,
+    genesis: Genesis,
+    member: u16,
+    ring: &RingFile,
+    history: &[u8],
+) -> Result<u32, Fault>
+    requires { IsGenesis genesis }
+    ensures value { Tells (λ len. len) ⊥ result (examined genesis member ring.now history.now) }
+{
+    let pairs = ring.pairs(alloc)?;
+    let keys = keys_of(alloc, member, ring, &pairs, &genesis.document, history)?;
+    accept(alloc, genesis, member, keys, pairs, history)
+}
+
+// The keys of epochs that a member begins with: a founder's key of epoch 0, or a joiner's hints.
+fn keys_of(
+    alloc: Global,
+    member: u16,
+    ring: &RingFile,
+    pairs: &Pairs,
+    document: &[u8; 16],
+    history: &[u8],
+) -> Result<Ring, Fault>
+    ensures value { Tells (λ ring. ring.keys) ⊥ result (keys_in member ring.now.epoch_key (pairs_in pairs.now) document.now history.now) }
+{
+    match ring.epoch_key {
+        Some(_) => {
+            let keys = ring.ring(alloc)?;
+            Ok(keys)
+        }
+        None => hints_of(alloc, member, pairs, document, history),
+    }
+}
+
+// The hints of a joiner: those of its own history, which has to be whole.
+fn hints_of(
+    alloc: Global,
+    member: u16,
+    pairs: &Pairs,
+    document: &[u8; 16],
+    history: &[u8],
+) -> Result<Ring, Fault>
+    ensures value { Tells (λ ring. ring.keys) ⊥ result (hints_in member (pairs_in pairs.now) document.now history.now) }
+{
+    let entries = whole_entries(alloc, File::History(member), document, history)?;
+    match hints_from(alloc, entries.as_slice(), member, pairs) {
+        Ok(hints) => Ok(hints),
+        Err(HintFault::Memory) => Err(Fault::Memory),
+        Err(fault) => Err(Fault::Hints(fault)),
+    }
+}
+
+// How many entries a saved history has, if a member with these keys opens it and accepts all of it.
+fn accept(
+    alloc: Global,
+    genesis: Genesis,
+    member: u16,
+    keys: Ring,
+    pairs: Pairs,
+    history: &[u8],
+) -> Result<u32, Fault>
+    requires { IsGenesis genesis }
+    ensures value { Tells (λ len. len) ⊥ result (accepted_in genesis member (pairs_in pairs) history.now keys.keys) }
+{
+    let line = match Line::open(alloc, genesis, member, keys, pairs) {
+        Ok(line) => line,
+        Err(LineOpenFault::Memory) => return Err(Fault::Memory),
+        Err(fault) => return Err(Fault::Opening(fault)),
+    };
+    match load(alloc, history, line) {
+        Ok((line, stop)) => whole_len(member, &line, stop),
+        Err(_) => Err(Fault::Memory),
+    }
+}
+
+// How many entries a saved history has, if it was loaded to its end.
+fn whole_len(member: u16, line: &Line, stop: Stop) -> Result<u32, Fault>
+    ensures value { Tells (λ len. len) ⊥ result (len_of_whole member (read_to line.now.entries stop)) }
+{
+    stopped(File::History(member), stop)?;
+    Ok(line.len())
+}

@@ -1,0 +1,149 @@
+// The log of a server: loaded before it serves, and saved behind that.
+
+ghost use Rattle.std.specs.Prelude.{◌≡◌, ◌≤◌, ◌<◌, [], ◌∷◌, IfOk, Some, length, map, slice_get, string_bytes};
+ghost use Rattle.sporc_entry.specs.Genesis.{IsGenesis};
+ghost use Rattle.sporc_store.specs.SavedFile.{read_to};
+ghost use Rattle.sporc_files.specs.Names.{file_name};
+ghost use Rattle.sporc_files.specs.Uses.{AsksOnly};
+ghost use Rattle.sporc_histories.specs.Contents.{Tells};
+ghost use Rattle.sporc_histories.specs.Serving.{FindsOrder, logged_in, order_of_whole, saved_log};
+ghost use Rattle.sporc_histories.specs.Outcomes.{KeepsLog, log_line};
+
+use crate::entries::stopped;
+use sporc_base::Memory;
+use sporc_entry::Genesis;
+use sporc_files::{Fault, File, Names, read_genesis_file, read_if_there, write_whole_file};
+use sporc_head::MAX_ENTRIES;
+use sporc_order::Order;
+use sporc_outside::{Folder, Sink, write_all};
+use sporc_store::{SaveFault, Stop, load_order, save};
+use std::alloc::Global;
+use std::fmt::Write;
+
+// The order in the log of a document, or an empty one if there is no log.
+pub(crate) fn read_order<F: Folder>(
+    alloc: Global,
+    files: &mut F,
+    names: &Names<'_>,
+) -> Result<Order, Fault>
+    ensures found { FindsOrder (F.files files.old) names.now (F.faults files.old) (F.faults files.new) result }
+    ensures files { F.files files.new ≡ F.files files.old }
+    ensures lent { F.lent files.new ≡ F.lent files.old }
+    ensures asked { AsksOnly (file_name names.now File.Genesis ∷ file_name names.now File.Log ∷ []) (F.asked files.old) (F.asked files.new) }
+    ensures kept { F.faults files.old ≤ F.faults files.new }
+{
+    let genesis = read_genesis_file(alloc, files, names)?;
+    let log = read_if_there(alloc, files, names, File::Log)?;
+    match log {
+        Some(bytes) => order_of(alloc, genesis, bytes.as_slice()),
+        None => {
+            let order = Order::open(alloc, genesis)?;
+            Ok(order)
+        }
+    }
+}
+
+// The order that a log holds, if it is whole and each entry is accepted.
+fn order_of(alloc: Global, genesis: Genesis, bytes: &[u8]) -> Result<Order, Fault>
+    requires { IsGenesis genesis }
+    ensures value { Tells (λ order. order) ⊥ result (logged_in genesis bytes.now) }
+{
+    let empty = Order::open(alloc, genesis)?;
+    match load_order(alloc, bytes, empty) {
+        Ok((order, stop)) => whole_order(order, stop),
+        Err(_) => Err(Fault::Memory),
+    }
+}
+
+// An order, if it was loaded to the end of its log.
+fn whole_order(order: Order, stop: Stop) -> Result<Order, Fault>
+    ensures value { Tells (λ order. order) ⊥ result (order_of_whole order.genesis (read_to order.entries stop)) }
+{
+    stopped(File::Log, stop)?;
+    Ok(order)
+}
+
+// Saves the log of an order, and tells how many entries it has.
+pub(crate) fn keep_log<F: Folder, O: Sink>(
+    alloc: Global,
+    files: &mut F,
+    out: &mut O,
+    names: &Names<'_>,
+    order: &Order,
+) -> Result<(), Fault>
+    ensures keeps { KeepsLog names.now
+        (record {
+          files_before = F.files files.old;
+          files_after = F.files files.new;
+          asked_before = F.asked files.old;
+          asked_after = F.asked files.new;
+          lent_before = F.lent files.old;
+          lent_after = F.lent files.new;
+          faults_before = F.faults files.old;
+          faults_after = F.faults files.new;
+        })
+        (record {
+          written_before = O.written out.old;
+          written_after = O.written out.new;
+          faults_before = O.faults out.old;
+          faults_after = O.faults out.new;
+        })
+        order.now result }
+    ensures lent { F.lent files.new ≡ F.lent files.old }
+    ensures asked { AsksOnly (file_name names.now File.Log ∷ []) (F.asked files.old) (F.asked files.new) }
+    ensures kept { F.faults files.old ≤ F.faults files.new }
+    ensures out_kept { O.faults out.old ≤ O.faults out.new }
+{
+    let log = log_of(alloc, order)?;
+    let line = line_of(alloc, order.len())?;
+    write_whole_file(alloc, files, names, File::Log, log.as_slice())?;
+    write_all(out, line.as_bytes())?;
+    Ok(())
+}
+
+// The file of an order's entries.
+fn log_of(alloc: Global, order: &Order) -> Result<Vec<u8>, Fault>
+    ensures value { Tells (λ log. log.items) ⊥ result (saved_log order.now) }
+{
+    let entries = entries_of(alloc, order)?;
+    if entries.len() > MAX_ENTRIES as usize {
+        return Err(Fault::FullFile);
+    }
+    match save(alloc, order.document(), entries.as_slice()) {
+        Ok(log) => Ok(log),
+        Err(SaveFault::TooLong(_)) => Err(Fault::FullFile),
+        Err(SaveFault::Memory) => Err(Fault::Memory),
+    }
+}
+
+// The entries of an order, copied.
+fn entries_of(alloc: Global, order: &Order) -> Result<Vec<Vec<u8>>, Memory>
+    ensures { IfOk result (λ entries. map (λ entry. entry.items) entries.items ≡ order.now.entries) }
+{
+    let mut entries = Vec::new(alloc);
+    for i in 0..order.len() {
+        let copy = Vec::from_slice(alloc, entry_at(order, i))?;
+        entries.push(copy)?;
+    }
+    Ok(entries)
+}
+
+// The bytes of an order's entry.
+fn entry_at(order: &Order, i: u32) -> &[u8]
+    requires { i < length order.now.entries }
+    ensures { slice_get order.now.entries i ≡ Some result.now }
+{
+    match order.pull(i) {
+        [entry, ..] => entry.as_slice(),
+        [] => unreachable!(),
+    }
+}
+
+// The line that says how many entries were saved.
+fn line_of(alloc: Global, len: u32) -> Result<String, Memory>
+    ensures { IfOk result (λ line. string_bytes line ≡ log_line len) }
+{
+    let mut line = String::new(alloc);
+    writeln!(line, "log {len}")?;
+    Ok(line)
+}

@@ -1,0 +1,83 @@
+//! `serve NAME ADDRESS --sessions K`.
+
+ghost use Rattle.std.specs.Prelude.{◌≡◌, ◌≤◌, [], ◌∷◌, Err};
+ghost use Rattle.sporc_outside.specs.Told.{MayAppend};
+ghost use Rattle.sporc_serve.specs.Crowds.{net_of};
+ghost use Rattle.sporc_serve.specs.Returns.{AreShutBehind};
+ghost use Rattle.sporc_serve.specs.declared.limits.TheConstants.{MAX_SESSIONS};
+ghost use Rattle.sporc_files.specs.Names.{file_name};
+ghost use Rattle.sporc_files.specs.Uses.{AsksOnly};
+ghost use Rattle.sporc_histories.specs.Serving.{ended};
+ghost use Rattle.sporc_histories.specs.Outcomes.{ServeOutcome};
+
+use crate::log::{keep_log, read_order};
+use sporc_files::{Fault, File, Names};
+use sporc_outside::{Folder, Gate, Listen, Sink};
+use sporc_serve::{ServeFault, serve as serve_sessions};
+use std::alloc::Global;
+use std::sync::Wait;
+use std::thread::Threads;
+
+/// `serve NAME ADDRESS --sessions K` serves so many sessions from the log of a document, or from an empty one if there is
+/// none, saves the log and writes `log LEN`, how many entries it then has, whatever came of the sessions. A fault of the
+/// server goes before one of saving.
+pub fn serve<R: Threads + Wait + Sync, F: Folder, N: Listen, O: Sink, G: Gate + Sync>(
+    rt: &R,
+    alloc: Global,
+    files: &mut F,
+    net: &mut N,
+    out: &mut O,
+    names: &Names<'_>,
+    address: &str,
+    sessions: u32,
+    gate: &G,
+) -> Result<(), Fault>
+where
+    N::Link: Send,
+    requires some { 1 ≤ sessions }
+    requires limit { sessions ≤ MAX_SESSIONS }
+    ensures outcome { ServeOutcome N.Link.left N.Link.written N.Link.faults names.now sessions
+        (record {
+          files_before = F.files files.old;
+          files_after = F.files files.new;
+          asked_before = F.asked files.old;
+          asked_after = F.asked files.new;
+          lent_before = F.lent files.old;
+          lent_after = F.lent files.new;
+          faults_before = F.faults files.old;
+          faults_after = F.faults files.new;
+        })
+        (record {
+          written_before = O.written out.old;
+          written_after = O.written out.new;
+          faults_before = O.faults out.old;
+          faults_after = O.faults out.new;
+        })
+        (net_of (N.coming net.old) (N.returned net.old) (N.faults net.old)) (net_of (N.coming net.new) (N.returned net.new) (N.faults net.new))
+        result }
+    ensures lent { F.lent files.new ≡ F.lent files.old }
+    ensures asked { AsksOnly (file_name names.now File.Genesis ∷ file_name names.now File.Log ∷ []) (F.asked files.old) (F.asked files.new) }
+    ensures files_kept { F.faults files.old ≤ F.faults files.new }
+    ensures called { MayAppend (N.asked net.old) (N.asked net.new) address.now }
+    ensures shut { AreShutBehind N.Link.is_shut (N.returned net.old) (N.returned net.new) }
+    ensures links_out { N.out net.new ≡ N.out net.old }
+    ensures net_kept { N.faults net.old ≤ N.faults net.new }
+    ensures out_kept { O.faults out.old ≤ O.faults out.new }
+{
+    let order = read_order(alloc, files, names)?;
+    let (order, served) = serve_sessions(rt, alloc, net, address, order, sessions, gate);
+    let kept = keep_log(alloc, files, out, names, &order);
+    end(served, kept)
+}
+
+// A server's fault goes before one of saving its log.
+fn end(served: Result<(), ServeFault>, kept: Result<(), Fault>) -> Result<(), Fault>
+    ensures value { result ≡ ended served kept }
+{
+    match served {
+        Ok(()) => kept,
+        Err(ServeFault::ListenFault) => Err(Fault::Outside),
+        Err(ServeFault::Worn(_)) => Err(Fault::Worn),
+        Err(ServeFault::Memory) => Err(Fault::Memory),
+    }
+}

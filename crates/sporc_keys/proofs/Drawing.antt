@@ -1,0 +1,85 @@
+-- Keys that are drawn one word after another.
+use Rattle.std.proofs.Common.{◌≡◌, ℕ, suc, ◌+◌, ◌-◌, ◌<◌, ◌≤◌, List, [], ◌∷◌, ◌++◌, length, get_or, take, drop, Option, Some, None, refl, sym, ap, subst, ◌∙◌, append_assoc, add-one, arith, drop-cons, map}
+use Rattle.std.specs.List.{AllByRecursion}
+use Rattle.std.proofs.lemmas.List.{append-nil, drop_all, length-drop, map-append, take_all}
+use Rattle.sporc_outside.specs.Told.{AppendsItem}
+use Rattle.sporc_keys.specs.declared.pair.SharedKey.{SharedKey}
+use Rattle.sporc_keys.specs.Drawn.{Draws, Grows}
+use Rattle.sporc_keys.specs.Founding.{SharesMore, numbers_in, pairs_of, row}
+
+pub all_append : {A : Type 0} (P : A → Type 0) (xs ys : List A) → AllByRecursion P xs → AllByRecursion P ys → AllByRecursion P (xs ++ ys)
+all_append P [] ys p q = q
+all_append P (x ∷ xs) ys p q = (p.0, all_append P xs ys p.1 q)
+
+grows_then : (a b c : Option (List (List ℕ))) (xs ys : List (List ℕ)) → Grows a b xs → Grows b c ys → Grows a c (xs ++ ys)
+grows_then None b c xs ys p q = tt
+grows_then (Some given) None c xs ys p q = absurd p
+grows_then (Some given) (Some more) None xs ys p q = absurd q
+grows_then (Some given) (Some more) (Some most) xs ys p q = q ∙ ap (λ (t : List (List ℕ)). t ++ ys) p ∙ append_assoc given xs ys
+
+grows_nothing : (a : Option (List (List ℕ))) → Grows a a []
+grows_nothing None = tt
+grows_nothing (Some given) = sym (append-nil given)
+
+grows_one : (a b : Option (List (List ℕ))) (word : List ℕ) → AppendsItem a b word → Grows a b (word ∷ [])
+grows_one None b word p = tt
+grows_one (Some given) None word p = p
+grows_one (Some given) (Some more) word p = p
+
+draws_nothing : (a : Option (List (List ℕ))) → Draws a a []
+draws_nothing a = record { sized = tt; told = grows_nothing a }
+
+draws_one : (a b : Option (List (List ℕ))) (word : List ℕ) → length word ≡ 32 → AppendsItem a b word → Draws a b (word ∷ [])
+draws_one a b word len p = record { sized = (len, tt); told = grows_one a b word p }
+
+pub draws_then : (a b c : Option (List (List ℕ))) (xs ys : List (List ℕ)) → Draws a b xs → Draws b c ys → Draws a c (xs ++ ys)
+draws_then a b c xs ys p q = record { sized = all_append (λ word. length word ≡ 32) xs ys p.sized q.sized; told = grows_then a b c xs ys p.told q.told }
+
+pub draws_two : (a b c : Option (List (List ℕ))) (first second : List ℕ) → length first ≡ 32 → length second ≡ 32 → AppendsItem a b first → AppendsItem b c second → Draws a c (first ∷ second ∷ [])
+draws_two a b c first second len_first len_second told_first told_second =
+    draws_then a b c (first ∷ []) (second ∷ []) (draws_one a b first len_first told_first) (draws_one b c second len_second told_second)
+
+pub shares_nothing : (a : Option (List (List ℕ))) (old : List SharedKey) → SharesMore a a [] old old
+shares_nothing a old = ([], sym (append-nil old), refl, draws_nothing a)
+
+pub shares_then : (a b c : Option (List (List ℕ))) (ps qs : List (ℕ × ℕ)) (old mid new : List SharedKey) → SharesMore a b ps old mid → SharesMore b c qs mid new → SharesMore a c (ps ++ qs) old new
+shares_then a b c ps qs old mid new p q =
+    let keys : map (λ s. s.key) (p.0 ++ q.0) ≡ map (λ s. s.key) p.0 ++ map (λ s. s.key) q.0 = map-append (λ s. s.key) p.0 q.0 in
+    let D : List (List ℕ) → Type 0 = λ words. Draws a c words in (
+      p.0 ++ q.0,
+      q.1 ∙ ap (λ (t : List SharedKey). t ++ q.0) p.1 ∙ append_assoc old p.0 q.0,
+      map-append numbers_in p.0 q.0 ∙ ap (λ (t : List (ℕ × ℕ)). t ++ map numbers_in q.0) p.2 ∙ ap (λ (t : List (ℕ × ℕ)). ps ++ t) q.2,
+      subst D (sym keys) (draws_then a b c (map (λ s. s.key) p.0) (map (λ s. s.key) q.0) p.3 q.3),
+    )
+
+-- ---- rows
+
+-- the pairs of the rows so far, and those of the numbers that are left
+pub record Rows (a b : Option (List (List ℕ))) (numbers : List ℕ) (i : ℕ) (new : List SharedKey) : Type 0 where
+  pub front : List (ℕ × ℕ)
+  pub drawn : SharesMore a b front [] new
+  pub whole : front ++ pairs_of (drop i numbers) ≡ pairs_of numbers
+
+pub no_rows : (a : Option (List (List ℕ))) (numbers : List ℕ) → Rows a a numbers 0 []
+no_rows a numbers = record { front = []; drawn = shares_nothing a []; whole = refl }
+
+pub rows_more : (a b c : Option (List (List ℕ))) (numbers : List ℕ) (i first : ℕ) (mid new : List SharedKey) → i < length numbers → first ≡ get_or numbers i 0
+    → Rows a b numbers i mid → SharesMore b c (row first (take (length numbers - i) (drop i numbers))) mid new → Rows a c numbers (i + 1) new
+rows_more a b c numbers i first mid new lt is so_far taken =
+    let all_left : take (length numbers - i) (drop i numbers) ≡ drop i numbers = take_all (length numbers - i) (drop i numbers) (omega (arith, length-drop i numbers)) in
+    let more : SharesMore b c (row first (drop i numbers)) mid new = subst (λ (ns : List ℕ). SharesMore b c (row first ns) mid new) all_left taken in
+    let cut : drop i numbers ≡ first ∷ drop (i + 1) numbers = rw add-one (drop-cons numbers i 0 lt ∙ ap (λ (n : ℕ). n ∷ drop (suc i) numbers) (sym is)) in
+    let both : row first (drop i numbers) ++ pairs_of (drop (i + 1) numbers) ≡ pairs_of (drop i numbers) =
+    ap (λ (ns : List ℕ). row first ns ++ pairs_of (drop (i + 1) numbers)) cut ∙ ap pairs_of (sym cut) in
+    record {
+      front = so_far.front ++ row first (drop i numbers);
+      drawn = shares_then a b c so_far.front (row first (drop i numbers)) [] mid new so_far.drawn more;
+      whole = append_assoc so_far.front (row first (drop i numbers)) (pairs_of (drop (i + 1) numbers)) ∙ ap (λ (t : List (ℕ × ℕ)). so_far.front ++ t) both ∙ so_far.whole;
+    }
+
+pub all_rows : (a b : Option (List (List ℕ))) (numbers : List ℕ) (i : ℕ) (new : List SharedKey) → length numbers ≤ i → Rows a b numbers i new → SharesMore a b (pairs_of numbers) [] new
+all_rows a b numbers i new le rows =
+    let nothing : drop i numbers ≡ [] = drop_all i numbers le in
+    let whole : rows.front ≡ pairs_of numbers = sym (append-nil rows.front) ∙ ap (λ (ns : List ℕ). rows.front ++ pairs_of ns) (sym nothing) ∙ rows.whole in
+    let P : List (ℕ × ℕ) → Type 0 = λ ps. SharesMore a b ps [] new in
+    subst P whole rows.drawn

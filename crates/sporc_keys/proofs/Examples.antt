@@ -1,0 +1,55 @@
+-- Worked examples of the definitions.
+use Rattle.std.proofs.Common.{◌≡◌, ℕ, ◌+◌, List, [], ◌∷◌, ◌++◌, length, Some, None, refl}
+use Rattle.std.specs.Prelude.{codes, replicate}
+use Rattle.lms_ots.specs.declared.ots_type.OtsType.TheVariants.{W4}
+use Rattle.lms_tree.specs.declared.lms_type.LmsType.TheVariants.{H5}
+use Rattle.sporc_member.specs.declared.limits.TheConstants.{MAX_MEMBERS}
+use Rattle.sporc_keys.specs.declared.named.Named.TheVariants as named
+use Rattle.sporc_keys.specs.Founding.{epoch_key_of, in_order, pair_keys_of, pairs_of, row, shared_keys}
+use Rattle.sporc_keys.specs.KeyFile.{key_file_bytes}
+use Rattle.sporc_keys.specs.RingFile.{ring_file_bytes}
+
+-- ---- key files
+
+key_of_member_3 : (id seed : List ℕ) → key_file_bytes (record { member = 3; lms = H5; ots = W4; id = id; seed = seed })
+    ≡ 0x53 ∷ 0x50 ∷ 0x4b ∷ 0x31 ∷ 0 ∷ 3 ∷ 0 ∷ 0 ∷ 0 ∷ 5 ∷ 0 ∷ 0 ∷ 0 ∷ 3 ∷ id ++ seed
+unfolding key_file_bytes
+key_of_member_3 id seed = refl
+
+-- ---- ring files
+
+ring_of_a_joiner : ring_file_bytes (record { member = 7; epoch_key = None; pairs = [] }) ≡ codes "SPR1" ++ 0 ∷ 7 ∷ 0 ∷ 0 ∷ 0 ∷ []
+unfolding ring_file_bytes
+ring_of_a_joiner = refl
+
+ring_of_a_founder : (key pair : List ℕ) → ring_file_bytes (record { member = 7; epoch_key = Some key; pairs = record { member = 258; key = pair } ∷ [] })
+    ≡ codes "SPR1" ++ (0 ∷ 7 ∷ 1 ∷ (key ++ (0 ∷ 1 ∷ 1 ∷ 2 ∷ (pair ++ []))))
+unfolding ring_file_bytes
+ring_of_a_founder key pair = refl
+
+-- ---- who shares which key
+
+six_pairs : pairs_of (2 ∷ 5 ∷ 9 ∷ []) ≡ (2, 2) ∷ (2, 5) ∷ (2, 9) ∷ (5, 5) ∷ (5, 9) ∷ (9, 9) ∷ []
+unfolding row
+six_pairs = refl
+
+-- the most that a document can have, beside the words of its number and of the key of epoch 0
+all_pairs : length (pairs_of (replicate MAX_MEMBERS 0)) + 2 ≡ 2082
+unfolding row
+all_pairs = refl
+
+keys_of_5 : (a b c d e f : List ℕ) → pair_keys_of 5 (shared_keys (2 ∷ 5 ∷ 9 ∷ []) (a ∷ b ∷ c ∷ d ∷ e ∷ f ∷ []))
+    ≡ record { member = 2; key = b } ∷ record { member = 5; key = d } ∷ record { member = 9; key = e } ∷ []
+unfolding row
+keys_of_5 a b c d e f = refl
+
+keys_of_2 : (a b c d e f : List ℕ) → pair_keys_of 2 (shared_keys (2 ∷ 5 ∷ 9 ∷ []) (a ∷ b ∷ c ∷ d ∷ e ∷ f ∷ []))
+    ≡ record { member = 2; key = a } ∷ record { member = 5; key = b } ∷ record { member = 9; key = c } ∷ []
+unfolding row
+keys_of_2 a b c d e f = refl
+
+three_in_order : in_order (named.Joiner 5 ∷ named.Joiner 9 ∷ named.Joiner 2 ∷ []) ≡ named.Joiner 2 ∷ named.Joiner 5 ∷ named.Joiner 9 ∷ []
+three_in_order = refl
+
+a_joiner_has_no_epoch_key : (key : List ℕ) → epoch_key_of key (named.Joiner 9) ≡ None
+a_joiner_has_no_epoch_key key = refl

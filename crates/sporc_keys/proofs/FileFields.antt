@@ -1,0 +1,125 @@
+-- A field of a file that is read is spelled by the bytes that it took, and a spelled field is read again.
+use Rattle.std.proofs.Common.{◌≡◌, ℕ, ◌+◌, ◌^◌, Bool, true, false, cond, List, [], ◌∷◌, ◌++◌, length, inl, inr, Option, Some, None, Result, Ok, refl, sym, ap, subst, arith}
+use Rattle.std.specs.Prelude.{bytes_eq, find, ◌==◌}
+use Rattle.std.specs.Int.{w32, to_be_bytes}
+use Rattle.std.proofs.lemmas.Bool.{eqb-true}
+use Rattle.std.proofs.lemmas.Slice.Eq.{bytes_eq-Decides}
+use Rattle.lms_ots.specs.declared.ots_type.OtsType.{OtsType}
+use Rattle.lms_ots.specs.declared.ots_type.OtsType.TheVariants.{W1, W2, W4, W8}
+use Rattle.lms_ots.specs.OtsType.{ots_code_of}
+use Rattle.lms_tree.specs.declared.lms_type.LmsType.{LmsType}
+use Rattle.lms_tree.specs.declared.lms_type.LmsType.TheVariants.{H5, H10, H15, H20, H25}
+use Rattle.lms_tree.specs.LmsType.{height_of, lms_code_of}
+use Rattle.lms_leaf.specs.LeafFile.{IsLeafHeight}
+use Rattle.sporc_base.specs.Bytes.{IsBytes}
+use Rattle.sporc_bytes.specs.Fields.{Reading, ◌>>=◌, bytes_at, number_at, only_if, present, end_at}
+use Rattle.sporc_bytes.proofs.Fields.{bind_ok, ok_is, only_if_ok, Takes, wide32, bytes_takes, bytes_again, number_takes, u32_again, end_takes}
+use Rattle.sporc_keys.specs.Fields.{format_at, whole}
+use Rattle.sporc_keys.specs.KeyFile.{IsKeyWidth, lms_type_at, ots_type_at}
+
+-- ---- formats
+
+pub format_takes : (format : List ℕ) (r x : Reading) → IsBytes r.rest → format_at format r ≡ Ok x → Takes r format x
+unfolding format_at
+format_takes format r x h e =
+    let a = bind_ok (bytes_at 4 r) (λ bytes. only_if (bytes_eq bytes.0 format) r.at bytes.1) x e in
+    let g = only_if_ok (bytes_eq a.0.0 format) r.at a.0.1 x a.2 in
+    let t = bytes_takes 4 r a.0 h a.1 in
+    let same : a.0.0 ≡ format = (bytes_eq-Decides a.0.0 format).0 g.0 in
+    let P : List ℕ → Type 0 = λ text. Takes r text a.0.1 in
+    let Q : Reading → Type 0 = λ y. Takes r format y in
+    subst Q g.1 (subst P same t.0)
+
+pub format_again : (format : List ℕ) (at : ℕ) (rest : List ℕ) → length format ≡ 4 → format_at format (record { rest = format ++ rest; at = at }) ≡ Ok (record { rest = rest; at = at + 4 })
+unfolding format_at
+format_again format at rest len = rw (bytes_again 4 at format rest len, (bytes_eq-Decides format format).1 refl) refl
+
+-- ---- types
+
+-- a value that is there
+pub present_ok : {A : Type 0} (at : ℕ) (o : Option A) (x : A) → present at o ≡ Ok x → o ≡ Some x
+present_ok at None x e = absurd cc
+present_ok at (Some y) x e = ap (λ z. Some z) (ok_is y x e)
+
+lms_found : (code : ℕ) (lms : LmsType) → find (λ t. lms_code_of t == code) (H5 ∷ H10 ∷ H15 ∷ []) ≡ Some lms → (lms_code_of lms ≡ code) × IsLeafHeight (height_of lms)
+lms_found code lms = go (5 == code) (6 == code) (7 == code) refl refl refl
+  where
+    Found : LmsType → Type 0
+    Found t = (lms_code_of t ≡ code) × IsLeafHeight (height_of t)
+
+    go : (a b c : Bool) → (5 == code) ≡ a → (6 == code) ≡ b → (7 == code) ≡ c → cond a (Some H5) (cond b (Some H10) (cond c (Some H15) None)) ≡ Some lms → Found lms
+    go true b c ea eb ec e = let same : H5 ≡ lms = cc in subst Found same (eqb-true _ _ ea, inl refl)
+    go false true c ea eb ec e = let same : H10 ≡ lms = cc in subst Found same (eqb-true _ _ eb, inr (inl refl))
+    go false false true ea eb ec e = let same : H15 ≡ lms = cc in subst Found same (eqb-true _ _ ec, inr (inr refl))
+    go false false false ea eb ec e = absurd cc
+
+ots_found : (code : ℕ) (ots : OtsType) → find (λ t. ots_code_of t == code) (W4 ∷ W8 ∷ []) ≡ Some ots → (ots_code_of ots ≡ code) × IsKeyWidth ots
+ots_found code ots = go (3 == code) (4 == code) refl refl
+  where
+    Found : OtsType → Type 0
+    Found t = (ots_code_of t ≡ code) × IsKeyWidth t
+
+    go : (a b : Bool) → (3 == code) ≡ a → (4 == code) ≡ b → cond a (Some W4) (cond b (Some W8) None) ≡ Some ots → Found ots
+    go true b ea eb e = let same : W4 ≡ ots = cc in subst Found same (eqb-true _ _ ea, inl refl)
+    go false true ea eb e = let same : W8 ≡ ots = cc in subst Found same (eqb-true _ _ eb, inr refl)
+    go false false ea eb e = absurd cc
+
+pub lms_takes : (r : Reading) (x : LmsType × Reading) → IsBytes r.rest → lms_type_at r ≡ Ok x → Takes r (to_be_bytes w32 (lms_code_of x.0)) x.1 × IsLeafHeight (height_of x.0)
+unfolding lms_type_at
+lms_takes r x h e =
+    let a = bind_ok (number_at w32 r) (λ code. present r.at (find (λ t. lms_code_of t == code.0) (H5 ∷ H10 ∷ H15 ∷ [])) >>= λ lms. Ok (lms, code.1)) x e in
+    let b = bind_ok (present r.at (find (λ t. lms_code_of t == a.0.0) (H5 ∷ H10 ∷ H15 ∷ []))) (λ lms. Ok (lms, a.0.1)) x a.2 in
+    let t = number_takes w32 (2 ^ 32) wide32 r a.0 h a.1 in
+    let f = lms_found a.0.0 b.0 (present_ok r.at (find (λ t. lms_code_of t == a.0.0) (H5 ∷ H10 ∷ H15 ∷ [])) b.0 b.1) in
+    let P : ℕ → Type 0 = λ code. Takes r (to_be_bytes w32 code) a.0.1 in
+    let Q : LmsType × Reading → Type 0 = λ y. Takes r (to_be_bytes w32 (lms_code_of y.0)) y.1 × IsLeafHeight (height_of y.0) in
+    subst Q (ok_is (b.0, a.0.1) x b.2) (subst P (sym f.0) t.0, f.1)
+
+pub ots_takes : (r : Reading) (x : OtsType × Reading) → IsBytes r.rest → ots_type_at r ≡ Ok x → Takes r (to_be_bytes w32 (ots_code_of x.0)) x.1 × IsKeyWidth x.0
+unfolding ots_type_at
+ots_takes r x h e =
+    let a = bind_ok (number_at w32 r) (λ code. present r.at (find (λ t. ots_code_of t == code.0) (W4 ∷ W8 ∷ [])) >>= λ ots. Ok (ots, code.1)) x e in
+    let b = bind_ok (present r.at (find (λ t. ots_code_of t == a.0.0) (W4 ∷ W8 ∷ []))) (λ ots. Ok (ots, a.0.1)) x a.2 in
+    let t = number_takes w32 (2 ^ 32) wide32 r a.0 h a.1 in
+    let f = ots_found a.0.0 b.0 (present_ok r.at (find (λ t. ots_code_of t == a.0.0) (W4 ∷ W8 ∷ [])) b.0 b.1) in
+    let P : ℕ → Type 0 = λ code. Takes r (to_be_bytes w32 code) a.0.1 in
+    let Q : OtsType × Reading → Type 0 = λ y. Takes r (to_be_bytes w32 (ots_code_of y.0)) y.1 × IsKeyWidth y.0 in
+    subst Q (ok_is (b.0, a.0.1) x b.2) (subst P (sym f.0) t.0, f.1)
+
+pub lms_again : (lms : LmsType) (at : ℕ) (rest : List ℕ) → IsLeafHeight (height_of lms)
+    → lms_type_at (record { rest = to_be_bytes w32 (lms_code_of lms) ++ rest; at = at }) ≡ Ok (lms, record { rest = rest; at = at + 4 })
+unfolding lms_type_at
+lms_again H5 at rest is = rw (u32_again 5 at rest (omega arith)) refl
+lms_again H10 at rest is = rw (u32_again 6 at rest (omega arith)) refl
+lms_again H15 at rest is = rw (u32_again 7 at rest (omega arith)) refl
+lms_again H20 at rest (inl e) = absurd (omega (arith, e))
+lms_again H20 at rest (inr (inl e)) = absurd (omega (arith, e))
+lms_again H20 at rest (inr (inr e)) = absurd (omega (arith, e))
+lms_again H25 at rest (inl e) = absurd (omega (arith, e))
+lms_again H25 at rest (inr (inl e)) = absurd (omega (arith, e))
+lms_again H25 at rest (inr (inr e)) = absurd (omega (arith, e))
+
+pub ots_again : (ots : OtsType) (at : ℕ) (rest : List ℕ) → IsKeyWidth ots
+    → ots_type_at (record { rest = to_be_bytes w32 (ots_code_of ots) ++ rest; at = at }) ≡ Ok (ots, record { rest = rest; at = at + 4 })
+unfolding ots_type_at
+ots_again W4 at rest is = rw (u32_again 3 at rest (omega arith)) refl
+ots_again W8 at rest is = rw (u32_again 4 at rest (omega arith)) refl
+ots_again W1 at rest (inl e) = absurd cc
+ots_again W1 at rest (inr e) = absurd cc
+ots_again W2 at rest (inl e) = absurd cc
+ots_again W2 at rest (inr e) = absurd cc
+
+-- ---- all of some bytes
+
+-- what is read from all of some bytes is spelled by them
+pub whole_takes : {A : Type 0} (read : Reading → Result (A × Reading) ℕ) (bytes : List ℕ) (x : A) → whole read bytes ≡ Ok x
+    → (end : Reading) × (read (record { rest = bytes; at = 0 }) ≡ Ok (x, end)) × (end.rest ≡ [])
+whole_takes {A} read bytes x e =
+    let a = bind_ok (read (record { rest = bytes; at = 0 })) (λ value. end_at value.1 >>= λ end. Ok value.0) x e in
+    let b = bind_ok (end_at a.0.1) (λ end. Ok a.0.0) x a.2 in
+    let P : A → Type 0 = λ y. read (record { rest = bytes; at = 0 }) ≡ Ok (y, a.0.1) in
+    (a.0.1, subst P (ok_is a.0.0 x b.2) a.1, end_takes a.0.1 b.1)
+
+pub whole_again : {A : Type 0} (read : Reading → Result (A × Reading) ℕ) (bytes : List ℕ) (x : A) (at : ℕ)
+    → read (record { rest = bytes; at = 0 }) ≡ Ok (x, record { rest = []; at = at }) → whole read bytes ≡ Ok x
+whole_again read bytes x at e = rw e refl

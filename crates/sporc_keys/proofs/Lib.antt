@@ -1,0 +1,11 @@
+pub mod Ascending
+pub mod Drawing
+mod Examples
+pub mod FileFields
+pub mod Foundings
+pub mod KeyFileLaws
+pub mod Naming
+pub mod PairLoop
+pub mod PairMaps
+pub mod RingFileLaws
+pub mod Sharing

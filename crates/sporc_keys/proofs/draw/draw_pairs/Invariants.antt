@@ -1,0 +1,9 @@
+use Rattle.std.proofs.Common.{◌≤◌}
+use Rattle.sporc_keys.proofs.Drawing.{Rows}
+use Rattle.sporc_keys.proofs.draw.draw_pairs.Given as goal
+
+abbrev pub invariant-loop-i : goal.invariant-loop-i
+invariant-loop-i g l = record {
+  drawn : Rows (g.C.Chance.given l.fn.chance) (g.C.Chance.given l.chance) l.numbers l.i l.shared.items;
+  kept : g.C.Counted.faults l.fn.chance ≤ g.C.Counted.faults l.chance;
+}

@@ -1,0 +1,10 @@
+use Rattle.std.proofs.Common.{arith}
+use Rattle.std.proofs.lemmas.Grind.{common_steps}
+use Rattle.std.proofs.lemmas.List.Elements.{filter_map-append}
+use Rattle.sporc_keys.proofs.founders.founders_of.Goals as goal
+
+pub loop-one-preserved : goal.loop-one-preserved
+loop-one-preserved c = record {
+  value = grind (arith, common_steps, filter_map-append, c.in_ok-put_founder.ensures.value, c.loop-one.invariant.value);
+  keys = c.in_ok-put_founder.ensures.keys c.loop-one.invariant.keys;
+}

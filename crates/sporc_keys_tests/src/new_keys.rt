@@ -1,0 +1,63 @@
+//! New keys, of words that are listed.
+
+use hex::FromHex;
+use lms_ots::OtsType;
+use lms_tree::LmsType;
+use sporc_base::is_same;
+use sporc_keys::{DrawFault, NewKey, keygen};
+use sporc_outside::{Calls, ListedChance};
+use std::alloc::Global;
+use std::process::Abort;
+use std::test::Fail;
+
+// An identifier and a seed, and the public key that Bouncy Castle 1.72 made of them.
+const ID: &str = "05a7ca4e14a784c0e0daa5e6dd970959";
+
+const SEED: &str = "ea27ffea029dc2328007e05d3a1dfd83f357b2404bcc4061c787f0d0a3ed91df";
+
+const PUBLIC: &str =
+    "000000050000000305a7ca4e14a784c0e0daa5e6dd9709592f29e7467c09c25915bbfd16beab83d48525fc049982054d4ab9a5e6f98e8a9c";
+
+// The identifier with bytes behind it that no key has, and the seed. The listed calls fail.
+fn two_words(alloc: Global, failing: &[u64]) -> Result<ListedChance, Fail> {
+    let id = <[u8; 16]>::from_hex(ID)?;
+    let mut first = [0xff; 32];
+    sporc_base::put_at(&mut first, 0, &id);
+    let mut words = Vec::new(alloc);
+    words.push(first)?;
+    words.push(<[u8; 32]>::from_hex(SEED)?)?;
+    let failing = Vec::from_slice(alloc, failing)?;
+    Ok(ListedChance::new(words, Calls::failing(failing)))
+}
+
+fn is_the_key(rt: &impl Abort, key: &NewKey) -> Result<(), Fail> {
+    let public = <[u8; 56]>::from_hex(PUBLIC)?;
+    let seed = <[u8; 32]>::from_hex(SEED)?;
+    assert!(rt; is_same(&key.public.to_bytes(), &public));
+    assert!(rt; key.file.member == 3);
+    assert!(rt; is_same(&key.file.seed, &seed));
+    assert!(rt; is_same(key.leaves.as_slice(), &[0; 8]));
+    Ok(())
+}
+
+#[test]
+fn a_key_of_two_words(rt: HostRuntime) -> Result<(), Fail> {
+    let mut chance = two_words(rt.alloc(), &[])?;
+    match keygen(rt.alloc(), &mut chance, 3, LmsType::H5, OtsType::W4) {
+        Ok(key) => is_the_key(&rt, &key)?,
+        Err(_) => assert!(rt; false),
+    }
+    Ok(())
+}
+
+#[test]
+fn a_chance_that_fails(rt: HostRuntime) -> Result<(), Fail> {
+    for call in [1, 2] {
+        let mut chance = two_words(rt.alloc(), &[call])?;
+        match keygen(rt.alloc(), &mut chance, 3, LmsType::H5, OtsType::W4) {
+            Ok(_) => assert!(rt; false),
+            Err(fault) => assert!(rt; fault == DrawFault::Chance),
+        }
+    }
+    Ok(())
+}

@@ -1,0 +1,6 @@
+pub mod Causes
+pub mod Counting
+pub mod OpenedLines
+pub mod Sessioning
+pub mod Widening
+pub mod WorkedFrom

@@ -1,0 +1,46 @@
+-- What a session did to a client, from the contracts of the shared client.
+use Rattle.std.proofs.Common.{◌≡◌, List, [], sym, ap, ◌∙◌, subst}
+use Rattle.std.specs.Prelude.{Result, ⊤}
+use Rattle.sporc_turn.specs.declared.known.Known.{Known}
+use Rattle.sporc_turn.specs.Knowing.{first_known}
+use Rattle.sporc_turn.specs.Log.{StartsWith}
+use Rattle.sporc_shared.specs.declared.fault.SessionFault.{SessionFault}
+use Rattle.sporc_shared.specs.Courses.{IsAllowedLog}
+use Rattle.sporc_shared.specs.Items.{IsAllowed, Item, Past, items_of}
+use Rattle.sporc_shared.specs.Sessions.{IsSession}
+use Rattle.sporc_shared.specs.Wires.{InboxModel, empty_inbox}
+use Rattle.sporc_shared.proofs.Pasts.{past_goes_on}
+use Rattle.sporc_sessions.specs.Sessions.{Around, ChanceTold, IsSessionOf, LinkTold, Plan, stand_at}
+
+-- what number 0 knows as it is handed out
+pub record IsFirst (k : Known Item) : Type 0 where
+  pub number : k.number ≡ 0
+  pub splits : k.splits ≡ 0
+  pub joined : k.joined ≡ []
+  pub allowed : IsAllowedLog k.seen
+
+pub is_first : (k : Known Item) (p : Past) → k ≡ first_known (items_of p) → IsAllowed p → IsFirst k
+is_first k p e allowed = record {
+  number = ap (λ (k : Known Item). k.number) e;
+  splits = ap (λ (k : Known Item). k.splits) e;
+  joined = ap (λ (k : Known Item). k.joined) e;
+  allowed = record { past = p; log_is = ap (λ (k : Known Item). k.seen) e; allowed = allowed };
+}
+
+pub session_of : (plan : Plan) (before after : Past) (first last : Known Item) (inbox : InboxModel) (found left : Around) (result : Result ⊤ SessionFault)
+    → first ≡ first_known (items_of before)
+    → IsSession (stand_at first empty_inbox found.link found.chance) (stand_at last inbox left.link left.chance) plan.rounds plan.until plan.editors result
+    → items_of after ≡ last.seen → IsAllowed after → IsSessionOf plan before after found left result
+session_of plan before after first last inbox found left result opened session closed allowed =
+    let s = subst (λ (k : Known Item). IsSession (stand_at k empty_inbox found.link found.chance) (stand_at last inbox left.link left.chance) plan.rounds plan.until plan.editors result) opened session in
+    let t = past_goes_on before after (subst (λ (l : List Item). StartsWith l (items_of before)) (sym s.log_is ∙ sym closed) s.legal.begins) in
+    record { known = last; inbox = inbox; session = s; seen = sym closed; events = t.0; goes_on = t.1; allowed = allowed }
+
+-- a link that was shut tells what it told
+pub over_same_link : (plan : Plan) (before after : Past) (found : Around) (chance : ChanceTold) (result : Result ⊤ SessionFault)
+    (old new : LinkTold) → new.written ≡ old.written → new.left ≡ old.left → new.faults ≡ old.faults
+    → IsSessionOf plan before after found (record { link = old; chance = chance }) result
+    → IsSessionOf plan before after found (record { link = new; chance = chance }) result
+over_same_link plan before after found chance result old new written left faults session =
+    subst (λ (l : LinkTold). IsSessionOf plan before after found (record { link = l; chance = chance }) result)
+    (λ i. record { written = sym written i; left = sym left i; faults = sym faults i }) session

@@ -1,0 +1,28 @@
+-- Work that began with a client of which more is known.
+use Rattle.std.proofs.Common.{◌≡◌, ◌≢◌, ℕ, List, subst}
+use Rattle.std.specs.Prelude.{Result, ⊤}
+use Rattle.sporc_store.specs.declared.stop.Stop.{Stop}
+use Rattle.sporc_shared.specs.declared.fault.SessionFault.{SessionFault}
+use Rattle.sporc_shared.specs.Items.{Past}
+use Rattle.sporc_sessions.specs.declared.resuming.ResumeFault.{ResumeFault}
+use Rattle.sporc_sessions.specs.declared.resuming.ResumeFault.TheVariants.{Stopped, Memory}
+use Rattle.sporc_sessions.specs.Nets.{IsWork, LinkView, NetTold}
+use Rattle.sporc_sessions.specs.Resuming.{StopsBefore}
+use Rattle.sporc_sessions.specs.Sessions.{ChanceTold, Plan}
+
+pub work_from : {L : Type 0} (view : LinkView L) (plan : Plan) (address : List ℕ) (before from after : Past) (old new : NetTold L) (chance chance' : ChanceTold)
+    (result : Result ⊤ SessionFault) → before ≡ from → IsWork view plan address before after old new chance chance' result
+    → IsWork view plan address from after old new chance chance' result
+work_from view plan address before from after old new chance chance' result same work =
+    subst (λ (p : Past). IsWork view plan address p after old new chance chance' result) same work
+
+abbrev IsStopped : ResumeFault → Type 0
+IsStopped (Stopped stop) = ⊤
+IsStopped Memory = ⊥
+
+not_memory : (stop : Stop) → Stopped stop ≢ Memory
+not_memory stop e = subst IsStopped e tt
+
+-- the loading stopped before the end
+pub stops_so : (fault : ResumeFault) (stop at : Stop) → fault ≡ Stopped stop → (fault ≢ Memory → StopsBefore at fault) → StopsBefore at (Stopped stop)
+stops_so fault stop at is stops = subst (λ (f : ResumeFault). f ≢ Memory → StopsBefore at f) is stops (not_memory stop)

@@ -1,0 +1,31 @@
+use Rattle.std.proofs.Common.{ap, refl}
+use Rattle.sporc_shared.specs.Items.{past_of}
+use Rattle.sporc_sessions.specs.Attending.{not_opened, stopped}
+use Rattle.sporc_sessions.specs.Nets.{net_told}
+use Rattle.sporc_sessions.proofs.Widening.{rose_since}
+use Rattle.sporc_sessions.proofs.WorkedFrom.{stops_so, work_from}
+use Rattle.sporc_sessions.proofs.attending.attend.Goals as goal
+
+pub returns-in-Err-clause-err : goal.returns-in-Err-clause-err
+returns-in-Err-clause-err g c = not_opened c.in-Err.ensures.err refl
+
+pub returns-in-Err-Stopped-default-clause-err : goal.returns-in-Err-Stopped-default-clause-err
+returns-in-Err-Stopped-default-clause-err g c =
+    let same = c.in-Err-Stopped-default.stop-is in
+    stopped c.in-Ok.ensures.ok (stops_so c.in-Err-Stopped-default.field-0-0 c.in-Err-Stopped-default.stop _ c.in-Err-Stopped-default.field-0-0-is c.in-Err-Stopped-default.ensures.stopped) cc
+
+pub returns-in-Ok-work-clause-attended : goal.returns-in-Ok-work-clause-attended
+returns-in-Ok-work-clause-attended g c =
+    let (entries, loaded, is) = c.in-Ok-resume.ensures.loaded in
+    record {
+      between = net_told (g.N.Links.asked c.open_line.new.net) (g.N.Links.coming c.open_line.new.net) (g.N.Links.returned c.open_line.new.net) (g.N.Links.link_faults c.open_line.new.net);
+      line = c.in-Ok.line;
+      opens = c.in-Ok.ensures.ok;
+      entries = entries;
+      loaded = loaded;
+      work = work_from _ _ _ _ _ _ _ _ _ _ _ (ap past_of is) c.in-Ok-work.ensures.work;
+    }
+
+pub returns-in-Ok-work-clause-causes : goal.returns-in-Ok-work-clause-causes
+returns-in-Ok-work-clause-causes g c =
+    rose_since (g.N.Links.link_faults c.args.net.now) (g.N.Links.link_faults c.open_line.new.net) (g.N.Links.link_faults c.work.new.net) _ _ _ c.open_line.ensures.links c.in-Ok-work.ensures.causes

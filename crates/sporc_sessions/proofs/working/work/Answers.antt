@@ -1,0 +1,43 @@
+use Rattle.std.proofs.Common.{◌≤◌, ℕ, sym, subst, arith}
+use Rattle.sporc_outside.specs.Counts.{count_of_both}
+use Rattle.sporc_outside.specs.Told.{AppendsItem, TakesItem}
+use Rattle.sporc_sessions.proofs.Causes.{rose_at_net}
+use Rattle.sporc_sessions.proofs.Counting.{as_many, both_kept}
+use Rattle.sporc_sessions.proofs.Sessioning.{over_same_link}
+use Rattle.sporc_sessions.proofs.working.work.Goals as goal
+
+pub returns-in-Ok-ended-clause-work : goal.returns-in-Ok-ended-clause-work
+returns-in-Ok-ended-clause-work g c = record {
+  first = c.in-Ok.link;
+  last = c.shut.new.self;
+  uses = record {
+    asked = subst (λ asked. AppendsItem (g.N.Links.asked c.args.net.now) asked c.args.address.now) (sym c.take_back.ensures.asked) c.in-Ok.ensures.asked;
+    came = subst (λ coming. TakesItem (g.N.Links.coming c.args.net.now) coming c.in-Ok.link) (sym c.take_back.ensures.coming) c.in-Ok.ensures.next;
+    fresh = c.in-Ok.ensures.fresh;
+    shut = c.shut.ensures.shut;
+    back = subst (λ returned. AppendsItem returned (g.N.Links.returned c.take_back.new.self) c.shut.new.self) c.connect.ensures.returned c.take_back.ensures.returned;
+    counted = subst (λ (n : ℕ). count_of_both n (g.N.Link.Counted.faults c.shut.new.self) ≤ g.N.Links.link_faults c.take_back.new.self) c.connect.ensures.links c.take_back.ensures.links;
+  };
+  session = over_same_link _ _ _ _ _ _ _ _ c.shut.ensures.written c.shut.ensures.left c.shut.ensures.count c.in-Ok-ended.ensures.session;
+}
+
+pub returns-in-Ok-ended-clause-out : goal.returns-in-Ok-ended-clause-out
+returns-in-Ok-ended-clause-out g c = as_many (g.N.Links.out c.args.net.now) (g.N.Links.out c.connect.new.self) (g.N.Links.out c.take_back.new.self) c.in-Ok.ensures.out c.take_back.ensures.out
+
+pub returns-in-Ok-ended-clause-links : goal.returns-in-Ok-ended-clause-links
+returns-in-Ok-ended-clause-links g c =
+    both_kept (g.N.Links.link_faults c.args.net.now) (g.N.Link.Counted.faults c.shut.new.self) (g.N.Links.link_faults c.take_back.new.self) (omega (arith, c.link_faults-faults.ensures))
+    (subst (λ (n : ℕ). count_of_both n (g.N.Link.Counted.faults c.shut.new.self) ≤ g.N.Links.link_faults c.take_back.new.self) c.connect.ensures.links c.take_back.ensures.links)
+
+pub returns-in-Err-clause-links : goal.returns-in-Err-clause-links
+returns-in-Err-clause-links g c =
+    both_kept (g.N.Links.link_faults c.args.net.now) (g.N.Link.Counted.faults c.shut.new.self) (g.N.Links.link_faults c.take_back.new.self) (omega (arith, c.link_faults-faults.ensures))
+    (subst (λ (n : ℕ). count_of_both n (g.N.Link.Counted.faults c.shut.new.self) ≤ g.N.Links.link_faults c.take_back.new.self) c.connect.ensures.links c.take_back.ensures.links)
+
+pub returns-in-Ok-ended-clause-causes : goal.returns-in-Ok-ended-clause-causes
+returns-in-Ok-ended-clause-causes g c =
+    rose_at_net (g.N.Link.Counted.faults c.in-Ok.link) (g.N.Link.Counted.faults c.run_session-ended.new.link) (g.N.Links.link_faults c.args.net.now) (g.N.Links.link_faults c.take_back.new.self) _ _ _
+    c.in-Ok.ensures.fresh
+    (subst (λ (n : ℕ). count_of_both (g.N.Links.link_faults c.args.net.now) n ≤ g.N.Links.link_faults c.take_back.new.self) c.shut.ensures.count
+    (subst (λ (n : ℕ). count_of_both n (g.N.Link.Counted.faults c.shut.new.self) ≤ g.N.Links.link_faults c.take_back.new.self) c.connect.ensures.links c.take_back.ensures.links))
+    c.in-Ok-ended.ensures.causes

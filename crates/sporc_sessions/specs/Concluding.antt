@@ -1,0 +1,49 @@
+-- What is printed and saved once a session has ended, and what stands of the leaf file.
+use Rattle.std.specs.Prelude.{◌≡◌, ◌<◌, ℕ, List, length, Option, option_map, Result, Ok, Err, ⊤}
+use Rattle.std.specs.Io.KnownBytes.{Appends}
+use Rattle.lms_leaf.specs.LeafFile.{AreTaken}
+use Rattle.sporc_client.specs.ClientModel.{Rise, leaves_of}
+use Rattle.sporc_outside.specs.Counts.{Rose}
+use Rattle.sporc_outside.specs.Files.{ChangesFile, with_file}
+use Rattle.sporc_outside.specs.Uses.{IsUnwritten, SinkUse}
+use Rattle.sporc_outside.specs.Writing.{AppendsPrefix}
+use Rattle.sporc_outside.specs.declared.file_fault.TheConstants.{MAX_FILE}
+use Rattle.sporc_outside.specs.declared.named_file.NamedFile.{NamedFile}
+use Rattle.sporc_shared.specs.Items.{Past, client_of}
+use Rattle.sporc_store.specs.SavedFile.{saved_bytes}
+use Rattle.sporc_sessions.specs.declared.concluding.KeepFault.{KeepFault}
+use Rattle.sporc_sessions.specs.declared.concluding.KeepFault.TheVariants as keeping
+use Rattle.sporc_sessions.specs.declared.concluding.PrintFault.{PrintFault}
+use Rattle.sporc_sessions.specs.declared.concluding.PrintFault.TheVariants as printing
+use Rattle.sporc_sessions.specs.Report.{report_of}
+
+-- what was printed of a client: journal and report, and nothing else; or a front of them, where the sink failed; or nothing
+abbrev pub PrintOutcome : Past → SinkUse → Result ⊤ PrintFault → Type 0
+PrintOutcome past out (Ok done) = Appends out.written_before out.written_after (report_of past)
+PrintOutcome past out (Err printing.Sink) = Rose out.faults_before out.faults_after × AppendsPrefix out.written_before out.written_after (report_of past)
+PrintOutcome past out (Err printing.Memory) = IsUnwritten out
+
+-- a folder's files, where it tells them, and its count of faults, before and after
+pub record FilesUse : Type 0 where
+  pub before : Option (List NamedFile)
+  pub after : Option (List NamedFile)
+  pub faults_before : ℕ
+  pub faults_after : ℕ
+
+-- the file of a client's history
+abbrev pub history_bytes : Past → List ℕ
+history_bytes past = saved_bytes past.opening.genesis.document (client_of past).entries
+
+-- what was saved of a client: all its entries, as the file with this name, and nothing else; or anything may stand there, where the folder failed;
+-- or nothing was written, as the file would be too long, or memory ran out
+abbrev pub SaveOutcome : Past → List ℕ → FilesUse → Result ⊤ KeepFault → Type 0
+SaveOutcome past name files (Ok done) = files.after ≡ option_map (λ old. with_file old name (history_bytes past)) files.before
+SaveOutcome past name files (Err keeping.Folder) = Rose files.faults_before files.faults_after × ChangesFile files.before files.after name
+SaveOutcome past name files (Err keeping.TooLong) = (MAX_FILE < length (history_bytes past)) × (files.after ≡ files.before)
+SaveOutcome past name files (Err keeping.Memory) = files.after ≡ files.before
+
+-- the leaves of a log's submissions rise from the first on, each once, and no crash makes their blocks of the leaf file free again
+pub record LeavesAreTaken (images : List ℕ → Type 0) (past : Past) : Type 0 where
+  pub next : ℕ
+  pub rise : Rise past.first_leaf next (leaves_of past.log)
+  pub taken : AreTaken images past.first_leaf next

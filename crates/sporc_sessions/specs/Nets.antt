@@ -1,0 +1,43 @@
+-- A link that a net hands out and takes back.
+use Rattle.std.specs.Prelude.{◌≡◌, ◌≤◌, ℕ, List, Bool, Option, Result, ⊤}
+use Rattle.sporc_outside.specs.Counts.{count_of_both}
+use Rattle.sporc_outside.specs.Told.{AppendsItem, IsTrueIfTold, TakesItem}
+use Rattle.sporc_shared.specs.declared.fault.SessionFault.{SessionFault}
+use Rattle.sporc_shared.specs.Items.{Past}
+use Rattle.sporc_sessions.specs.Sessions.{ChanceTold, IsSessionOf, LinkTold, Plan}
+
+-- what a net tells: the addresses asked for, the links that are to come and those that were taken back, and how many calls of
+-- these failed
+pub record NetTold (L : Type 0) : Type 0 where
+  pub asked : Option (List (List ℕ))
+  pub coming : Option (List L)
+  pub returned : Option (List L)
+  pub link_faults : ℕ
+
+abbrev pub net_told : {L : Type 0} → Option (List (List ℕ)) → Option (List L) → Option (List L) → ℕ → NetTold L
+net_told asked coming returned link_faults = record { asked = asked; coming = coming; returned = returned; link_faults = link_faults }
+
+-- what each link tells, and whether it was shut
+pub record LinkView (L : Type 0) : Type 0 where
+  pub told : L → LinkTold
+  pub is_shut : L → Option Bool
+
+abbrev pub link_view : {L : Type 0} → (L → Option (List ℕ)) → (L → Option (List ℕ)) → (L → ℕ) → (L → Option Bool) → LinkView L
+link_view written left faults is_shut = record { told = λ l. record { written = written l; left = left l; faults = faults l }; is_shut = is_shut }
+
+-- the net handed out a link to an address, without faults, and took it back, shut
+pub record UsesLink {L : Type 0} (view : LinkView L) (old new : NetTold L) (address : List ℕ) (first last : L) : Type 0 where
+  pub asked : AppendsItem old.asked new.asked address
+  pub came : TakesItem old.coming new.coming first
+  pub fresh : (view.told first).faults ≡ 0
+  pub shut : IsTrueIfTold (view.is_shut last)
+  pub back : AppendsItem old.returned new.returned last
+  pub counted : count_of_both old.link_faults (view.told last).faults ≤ new.link_faults
+
+-- a session over a link to an address
+pub record IsWork {L : Type 0} (view : LinkView L) (plan : Plan) (address : List ℕ) (before after : Past) (old new : NetTold L) (chance chance' : ChanceTold)
+    (result : Result ⊤ SessionFault) : Type 0 where
+  pub first : L
+  pub last : L
+  pub uses : UsesLink view old new address first last
+  pub session : IsSessionOf plan before after (record { link = view.told first; chance = chance }) (record { link = view.told last; chance = chance' }) result

@@ -1,0 +1,162 @@
+//! What stands once a session has ended.
+
+ghost use Rattle.std.specs.Prelude.{◌≡◌, ◌≤◌};
+ghost use Rattle.sporc_client.specs.ClientModel.{Rise, leaves_of};
+ghost use Rattle.sporc_outside.specs.Told.{MayAppend};
+ghost use Rattle.sporc_shared.specs.Items.{past_of};
+ghost use Rattle.sporc_sessions.specs.Concluding.{LeavesAreTaken, PrintOutcome, SaveOutcome};
+ghost use Rattle.sporc_sessions.specs.declared.concluding.PrintFault.TheVariants as print_faults;
+ghost use Rattle.sporc_sessions.specs.declared.concluding.KeepFault.TheVariants as keep_faults;
+
+use crate::reporting::report;
+use crate::session::Ended;
+use sporc_client::Client;
+use sporc_outside::{Failed, Folder, LeafDisk, Sink, write_all};
+use sporc_shared::SessionFault;
+use sporc_store::{SaveFault, save};
+use std::alloc::{AllocError, Global};
+
+/// Why journal and report were not printed whole.
+#[derive(Clone, Copy, Debug, PartialEq, Eq)]
+pub enum PrintFault {
+    /// The sink failed, after a front of them.
+    Sink,
+    /// No memory was left, and nothing was printed.
+    Memory,
+}
+
+impl From<AllocError> for PrintFault {
+    ghost from_gives = { λ _ fault. fault ≡ print_faults.Memory };
+
+    fn from(_: AllocError) -> PrintFault {
+        PrintFault::Memory
+    }
+}
+
+impl From<Failed> for PrintFault {
+    ghost from_gives = { λ _ fault. fault ≡ print_faults.Sink };
+
+    fn from(_: Failed) -> PrintFault {
+        PrintFault::Sink
+    }
+}
+
+/// Why a history was not saved.
+#[derive(Clone, Copy, Debug, PartialEq, Eq)]
+pub enum KeepFault {
+    /// Its file would be longer than a file may be.
+    TooLong,
+    /// A call of the folder failed. Anything may stand in the file.
+    Folder,
+    /// No memory was left.
+    Memory,
+}
+
+/// What a session came to.
+#[derive(Drop)]
+pub struct Concluded<D: LeafDisk> {
+    /// How it ended.
+    pub session: Result<(), SessionFault>,
+    /// Whether journal and report were printed.
+    pub printed: Result<(), PrintFault>,
+    /// Whether the history was saved.
+    pub saved: Result<(), KeepFault>,
+    /// The disk of the leaf file.
+    pub disk: D,
+}
+
+/// Prints journal and report of a client and saves its history as the file with a name, whatever fault ended its session or
+/// comes in between, and closes the client.
+pub fn conclude<D: LeafDisk, O: Sink, F: Folder>(
+    alloc: Global,
+    ended: Ended<D>,
+    out: &mut O,
+    files: &mut F,
+    name: &str,
+) -> Concluded<D>
+    requires leaves { Rise (past_of ended.client).first_leaf ended.client.leaves.next (leaves_of ended.client.log) }
+    ensures session { result.session ≡ ended.result }
+    ensures printed { PrintOutcome (past_of ended.client)
+        (record {
+          written_before = O.written out.old;
+          written_after = O.written out.new;
+          faults_before = O.faults out.old;
+          faults_after = O.faults out.new;
+        })
+        result.printed }
+    ensures saved { SaveOutcome (past_of ended.client) name.now
+        (record {
+          before = F.files files.old;
+          after = F.files files.new;
+          faults_before = F.faults files.old;
+          faults_after = F.faults files.new;
+        })
+        result.saved }
+    ensures taken { LeavesAreTaken (D.images result.disk (D.moment result.disk)) (past_of ended.client) }
+    ensures lent { F.lent files.new ≡ F.lent files.old }
+    ensures may_ask { MayAppend (F.asked files.old) (F.asked files.new) name.now }
+    ensures out { O.faults out.old ≤ O.faults out.new }
+    ensures kept { F.faults files.old ≤ F.faults files.new }
+{
+    let Ended { client, result } = ended;
+    let printed = print(alloc, &client, out);
+    let saved = save_history(alloc, &client, files, name);
+    let disk = client.close().close();
+    Concluded {
+        session: result,
+        printed,
+        saved,
+        disk,
+    }
+}
+
+// Prints journal and report of a client.
+fn print<D: LeafDisk, O: Sink>(
+    alloc: Global,
+    client: &Client<D>,
+    out: &mut O,
+) -> Result<(), PrintFault>
+    ensures printed { PrintOutcome (past_of client.now)
+        (record {
+          written_before = O.written out.old;
+          written_after = O.written out.new;
+          faults_before = O.faults out.old;
+          faults_after = O.faults out.new;
+        })
+        result }
+    ensures kept { O.faults out.old ≤ O.faults out.new }
+{
+    let text = report(alloc, client)?;
+    write_all(out, text.as_bytes())?;
+    Ok(())
+}
+
+// Saves the history of a client as the file with a name.
+fn save_history<D: LeafDisk, F: Folder>(
+    alloc: Global,
+    client: &Client<D>,
+    files: &mut F,
+    name: &str,
+) -> Result<(), KeepFault>
+    ensures saved { SaveOutcome (past_of client.now) name.now
+        (record {
+          before = F.files files.old;
+          after = F.files files.new;
+          faults_before = F.faults files.old;
+          faults_after = F.faults files.new;
+        })
+        result }
+    ensures lent { F.lent files.new ≡ F.lent files.old }
+    ensures may_ask { MayAppend (F.asked files.old) (F.asked files.new) name.now }
+    ensures kept { F.faults files.old ≤ F.faults files.new }
+{
+    let _few = client.heads().len();
+    match save(alloc, client.document(), client.entries()) {
+        Ok(bytes) => match files.write_file(name, bytes.as_slice()) {
+            Ok(()) => Ok(()),
+            Err(Failed) => Err(KeepFault::Folder),
+        },
+        Err(SaveFault::TooLong(_)) => Err(KeepFault::TooLong),
+        Err(SaveFault::Memory) => Err(KeepFault::Memory),
+    }
+}

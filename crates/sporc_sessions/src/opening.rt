@@ -1,0 +1,99 @@
+//! The line of a member, opened.
+
+ghost use Rattle.std.specs.Prelude.{◌≡◌, ◌≢◌, ◌≤◌, [], Some, IfErr, IfOk};
+ghost use Rattle.std.specs.FinMap as map;
+ghost use Rattle.sporc_base.specs.FirstFault.{first_of};
+ghost use Rattle.sporc_entry.specs.Genesis.{IsGenesis};
+ghost use Rattle.sporc_epoch.specs.Keys.{pairs_in};
+ghost use Rattle.sporc_line.specs.Kit.{kit_of};
+ghost use Rattle.sporc_line.specs.Openings.{open_checks};
+ghost use Rattle.sporc_sessions.specs.Nets.{link_view, net_told};
+ghost use Rattle.sporc_sessions.specs.Opening.{IsOpenFault, Opens};
+ghost use Rattle.sporc_sessions.specs.declared.opening.OpenFault.TheVariants as open_faults;
+
+use crate::hinting::{HintsFault, fetch_hints};
+use sporc_entry::Genesis;
+use sporc_epoch::{Pairs, Ring};
+use sporc_keys::RingFile;
+use sporc_line::{Line, LineOpenFault};
+use sporc_outside::Dial;
+use std::alloc::{AllocError, Global};
+use std::sync::Wait;
+
+/// Why a member's line is not opened.
+#[derive(Clone, Copy, Debug, PartialEq, Eq)]
+pub enum OpenFault {
+    /// A joiner has no hints.
+    Hints(HintsFault),
+    /// The keys do not open the document.
+    Line(LineOpenFault),
+    /// No memory was left.
+    Memory,
+}
+
+impl From<AllocError> for OpenFault {
+    ghost from_gives = { λ _ fault. fault ≡ open_faults.Memory };
+
+    fn from(_: AllocError) -> OpenFault {
+        OpenFault::Memory
+    }
+}
+
+/// The empty line of a member, by what its ring file says. A joiner's file has no key of epoch 0: its keys are those that the
+/// entries of the server at an address give it.
+pub fn open_line<R: Wait, N: Dial>(
+    rt: &R,
+    alloc: Global,
+    net: &mut N,
+    address: &str,
+    genesis: Genesis,
+    member: u16,
+    ring: &RingFile,
+) -> Result<Line, OpenFault>
+    requires genesis { IsGenesis genesis }
+    ensures ok { IfOk result (Opens (link_view N.Link.written N.Link.left N.Link.faults N.Link.is_shut)
+        (record { genesis = genesis; member = member; ring = ring.now; address = address.now })
+        (net_told (N.asked net.old) (N.coming net.old) (N.returned net.old) (N.link_faults net.old))
+        (net_told (N.asked net.new) (N.coming net.new) (N.returned net.new) (N.link_faults net.new))) }
+    ensures err { IfErr result (IsOpenFault (link_view N.Link.written N.Link.left N.Link.faults N.Link.is_shut)
+        (record { genesis = genesis; member = member; ring = ring.now; address = address.now })
+        (net_told (N.asked net.old) (N.coming net.old) (N.returned net.old) (N.link_faults net.old))
+        (net_told (N.asked net.new) (N.coming net.new) (N.returned net.new) (N.link_faults net.new))
+        (N.faults net.old) (N.faults net.new)) }
+    ensures out { N.out net.new ≡ N.out net.old }
+    ensures count { N.faults net.old ≤ N.faults net.new }
+    ensures links { N.link_faults net.old ≤ N.link_faults net.new }
+{
+    let pairs = ring.pairs(alloc)?;
+    match ring.epoch_key {
+        Some(_) => {
+            let keys = ring.ring(alloc)?;
+            open_with(alloc, genesis, member, keys, pairs)
+        }
+        None => match fetch_hints(rt, alloc, net, address, &genesis.document, member, &pairs) {
+            Ok(keys) => open_with(alloc, genesis, member, keys, pairs),
+            Err(fault) => Err(OpenFault::Hints(fault)),
+        },
+    }
+}
+
+// The empty line of a member with these keys.
+fn open_with(
+    alloc: Global,
+    genesis: Genesis,
+    member: u16,
+    keys: Ring,
+    pairs: Pairs,
+) -> Result<Line, OpenFault>
+    requires genesis { IsGenesis genesis }
+    ensures genesis { IfOk result (λ line. line.genesis ≡ genesis) }
+    ensures kit { IfOk result (λ line. line.kit ≡ kit_of member keys.keys (pairs_in pairs)) }
+    ensures empty { IfOk result (λ line. line.entries ≡ []) }
+    ensures err { IfErr result (λ fault. (cause : LineOpenFault) × (fault ≡ OpenFault.Line cause)
+        × (cause ≢ LineOpenFault.Memory → first_of (open_checks genesis (map.get keys.keys 0)) ≡ Some cause)) }
+{
+    match Line::open(alloc, genesis, member, keys, pairs) {
+        Ok(line) => Ok(line),
+        Err(fault) => Err(OpenFault::Line(fault)),
+    }
+}

@@ -1,0 +1,75 @@
+//! The client of a history that its member saved.
+
+ghost use Rattle.std.specs.Prelude.{◌≡◌, ◌≢◌, ℕ, List, [], None, map, option_map, IfErr, IfOk};
+ghost use Rattle.lms_sign.specs.Signer.{SignerContent};
+ghost use Rattle.sporc_client.specs.Step.{log_of_entries};
+ghost use Rattle.sporc_store.specs.Loading.{a_member};
+ghost use Rattle.sporc_store.specs.SavedFile.{read_to};
+ghost use Rattle.sporc_sessions.specs.Resuming.{loaded_from, StopsBefore};
+
+use lms_sign::Signer;
+use sporc_base::Memory;
+use sporc_client::Client;
+use sporc_line::Line;
+use sporc_outside::LeafDisk;
+use sporc_store::{Stop, load};
+use std::alloc::Global;
+
+/// Why a saved history is not gone on with.
+#[derive(Clone, Copy, Debug, PartialEq, Eq)]
+pub enum ResumeFault {
+    /// Its loading stops here, before the end.
+    Stopped(Stop),
+    /// No memory was left.
+    Memory,
+}
+
+/// The client of a member that goes on with the entries of its saved history, each of them an accept by 0, or with none if
+/// there is no such file.
+pub fn resume<D: LeafDisk>(
+    alloc: Global,
+    line: Line,
+    saved: Option<Vec<u8>>,
+    signer: Signer<D>,
+) -> Result<Client<D>, (ResumeFault, Signer<D>)>
+    requires empty { line.entries ≡ [] }
+    ensures loaded { IfOk result (λ client. (entries : List (List ℕ))
+        × (loaded_from (a_member line.genesis line.kit) line.genesis.document (option_map (λ bytes. bytes.items) saved) ≡ read_to entries Stop.End)
+        × (client ≡ record {
+          opening = record { genesis = line.genesis; kit = line.kit; key = signer.key };
+          log = log_of_entries entries;
+          leaves = signer.leaves;
+          ticket = None;
+        })) }
+    ensures stopped { IfErr result (λ e. e.0 ≢ ResumeFault.Memory
+        → StopsBefore (loaded_from (a_member line.genesis line.kit) line.genesis.document (option_map (λ bytes. bytes.items) saved)).stop e.0) }
+    ensures returned { IfErr result (λ e. e.1 ≡ signer) }
+{
+    match loaded(alloc, line, saved) {
+        Ok(line) => match Client::resume(alloc, line, signer) {
+            Ok(client) => Ok(client),
+            Err((_, signer, _)) => Err((ResumeFault::Memory, signer)),
+        },
+        Err(fault) => Err((fault, signer)),
+    }
+}
+
+// The line with the entries of a saved history, if there is one.
+fn loaded(alloc: Global, line: Line, saved: Option<Vec<u8>>) -> Result<Line, ResumeFault>
+    requires empty { line.entries ≡ [] }
+    ensures loaded { IfOk result (λ full. loaded_from (a_member line.genesis line.kit) line.genesis.document (option_map (λ bytes. bytes.items) saved)
+        ≡ read_to full.entries Stop.End) }
+    ensures genesis { IfOk result (λ full. full.genesis ≡ line.genesis) }
+    ensures kit { IfOk result (λ full. full.kit ≡ line.kit) }
+    ensures stopped { IfErr result (λ e. e ≢ ResumeFault.Memory
+        → StopsBefore (loaded_from (a_member line.genesis line.kit) line.genesis.document (option_map (λ bytes. bytes.items) saved)).stop e) }
+{
+    let Some(bytes) = saved else {
+        return Ok(line);
+    };
+    match load(alloc, bytes.as_slice(), line) {
+        Ok((line, Stop::End)) => Ok(line),
+        Ok((_, stop)) => Err(ResumeFault::Stopped(stop)),
+        Err(_) => Err(ResumeFault::Memory),
+    }
+}

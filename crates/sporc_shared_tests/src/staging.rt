@@ -1,0 +1,287 @@
+//! Sessions of one client, and what they leave.
+
+ghost use Rattle.std.specs.Prelude.{◌≡◌, ◌≤◌, length};
+ghost use Rattle.sporc_script.specs.declared.limits.TheConstants.{MAX_EDITORS};
+ghost use Rattle.sporc_turn.specs.Passes.{known_of};
+ghost use Rattle.sporc_shared.specs.Passes.{IsPassOf};
+
+use crate::order_link::OrderLink;
+use crate::scene::{BLANK, LeafFile, Past, calls, live, no_entries, opened};
+use sporc_client::{Client, Event};
+use sporc_order::Order;
+use sporc_outside::{Chance, Gate, LeafDisk, Link, ListedChance, MemoryLink, OpenGate};
+use sporc_samples::{Cast, History};
+use sporc_script::{EditorScript, MAX_EDITORS, read_editor};
+use sporc_shared::{Pass, SessionFault, SharedClient, session};
+use std::alloc::Global;
+use std::sync::Wait;
+use std::test::Fail;
+use std::thread::Threads;
+
+/// How a session ended.
+pub(crate) type Answer = Result<(), SessionFault>;
+
+/// An event of a journal, and the number of its maker.
+#[derive(Clone, Copy, Debug, PartialEq, Eq)]
+pub(crate) enum Deed {
+    /// So many characters were added.
+    Edit(u32, u64),
+    Submit(u32),
+    /// The entry at this position came.
+    Accept(u32, u32),
+    Other(u32),
+}
+
+/// What a session left: its answer, the text that the client shows, and its journal.
+#[derive(Drop)]
+pub(crate) struct Outcome {
+    pub(crate) answer: Answer,
+    pub(crate) text: String,
+    pub(crate) deeds: Vec<Deed>,
+}
+
+/// Who has a session, and which calls of its objects fail.
+#[derive(Clone, Copy)]
+pub(crate) struct Start<'a> {
+    pub(crate) member: u8,
+    pub(crate) past: Past,
+    pub(crate) file: LeafFile<'a>,
+    pub(crate) link: &'a [u64],
+    pub(crate) chance: &'a [u64],
+}
+
+/// The client of member 4, an editor, just opened. No call fails.
+pub(crate) const FRESH: Start<'static> = Start {
+    member: 4,
+    past: Past::Nothing,
+    file: BLANK,
+    link: &[],
+    chance: &[],
+};
+
+/// The same, where a text is inserted that no entry was made of.
+pub(crate) const EDITED: Start<'static> = Start {
+    member: 4,
+    past: Past::Edit,
+    file: BLANK,
+    link: &[],
+    chance: &[],
+};
+
+/// How many rounds each phase has, and how many entries there are to be at the end.
+#[derive(Clone, Copy)]
+pub(crate) struct Plan {
+    pub(crate) rounds: u32,
+    pub(crate) until: u32,
+}
+
+/// Two rounds, until there is an entry.
+pub(crate) const TWO_ROUNDS: Plan = Plan {
+    rounds: 2,
+    until: 1,
+};
+
+/// Whether a session ended with this fault.
+pub(crate) fn is_fault(answer: &Answer, fault: SessionFault) -> bool {
+    answer.err() == Some(fault)
+}
+
+fn deed_of(event: &Event) -> Deed {
+    match event {
+        Event::Edit { by, delta, .. } => {
+            Deed::Edit(*by, delta.out_len().saturating_sub(delta.base_len()))
+        }
+        Event::Submit { by, .. } => Deed::Submit(*by),
+        Event::Accept { by, place } => Deed::Accept(*by, *place),
+        Event::Change { by, .. } => Deed::Other(*by),
+        Event::Dropped { by, .. } => Deed::Other(*by),
+        Event::Discard { by } => Deed::Other(*by),
+    }
+}
+
+fn deeds(alloc: Global, journal: &[Event]) -> Result<Vec<Deed>, Fail> {
+    let mut deeds = Vec::new(alloc);
+    for event in journal {
+        deeds.push(deed_of(event))?;
+    }
+    Ok(deeds)
+}
+
+fn left_by<D: LeafDisk>(
+    alloc: Global,
+    client: &Client<D>,
+    answer: Answer,
+) -> Result<Outcome, Fail> {
+    let deeds = deeds(alloc, client.journal())?;
+    let text = client.shown()?;
+    Ok(Outcome {
+        answer,
+        text,
+        deeds,
+    })
+}
+
+/// Closes a client.
+pub(crate) fn closed<D: LeafDisk + Drop>(
+    alloc: Global,
+    shared: SharedClient<D>,
+    first: Pass,
+    answer: Answer,
+) -> Result<Outcome, Fail>
+    requires lock { IsPassOf shared first }
+    requires first { (known_of first).number ≡ 0 }
+{
+    match shared.close(first) {
+        Ok(client) => left_by(alloc, &client, answer),
+        Err(_) => Err("a pass is away".into()),
+    }
+}
+
+// Runs a session, and closes the client.
+fn run<
+    R: Threads + Wait + Sync,
+    D: LeafDisk + Send + Drop,
+    L: Link + Send,
+    C: Chance + Send,
+    G: Gate + Sync,
+>(
+    rt: &R,
+    alloc: Global,
+    client: Client<D>,
+    link: &mut L,
+    chance: &mut C,
+    editors: &[EditorScript],
+    plan: Plan,
+    gate: &G,
+) -> Result<Outcome, Fail>
+    requires { length editors.now ≤ MAX_EDITORS }
+{
+    let Plan { rounds, until } = plan;
+    match SharedClient::open(alloc, client) {
+        Ok((shared, first)) => {
+            let (answer, first) = session(
+                rt, alloc, &shared, first, link, chance, editors, rounds, until, gate,
+            );
+            closed(alloc, shared, first, answer)
+        }
+        Err((_, memory)) => Err(memory.into()),
+    }
+}
+
+// A session over a link.
+fn over<R: Threads + Wait + Sync, L: Link + Send, G: Gate + Sync>(
+    rt: &R,
+    alloc: Global,
+    cast: &Cast,
+    start: Start<'_>,
+    link: &mut L,
+    editors: &[EditorScript],
+    plan: Plan,
+    gate: &G,
+) -> Result<Outcome, Fail>
+    requires { length editors.now ≤ MAX_EDITORS }
+{
+    let mut chance = words(alloc, start.chance)?;
+    let mut client = opened(alloc, cast, start.member, start.file)?;
+    live(alloc, cast, &mut client, start.past)?;
+    run(rt, alloc, client, link, &mut chance, editors, plan, gate)
+}
+
+/// A session of two rounds with a server that sends these bytes. How it ends.
+pub(crate) fn heard<R: Threads + Wait + Sync>(
+    rt: &R,
+    alloc: Global,
+    cast: &Cast,
+    start: Start<'_>,
+    sent: &[u8],
+) -> Result<Answer, Fail> {
+    let mut link = listed_link(alloc, sent)?;
+    let outcome = over(
+        rt,
+        alloc,
+        cast,
+        start,
+        &mut link,
+        &[],
+        TWO_ROUNDS,
+        &OpenGate,
+    )?;
+    Ok(outcome.answer)
+}
+
+fn listed_link(alloc: Global, sent: &[u8]) -> Result<MemoryLink, Fail> {
+    let calls = calls(alloc, &[])?;
+    let sent = Vec::from_slice(alloc, sent)?;
+    Ok(MemoryLink::new(alloc, sent, 3, calls))
+}
+
+/// A session with an order that has the entries of a history, beside these editors.
+pub(crate) fn held<R: Threads + Wait + Sync, G: Gate + Sync>(
+    rt: &R,
+    alloc: Global,
+    cast: &Cast,
+    start: Start<'_>,
+    sample: &History,
+    editors: &[EditorScript],
+    plan: Plan,
+    gate: &G,
+) -> Result<Outcome, Fail> {
+    if editors.len() > MAX_EDITORS {
+        return Err("too many editors".into());
+    }
+    let mut link = order_link(alloc, cast, start.link)?;
+    link.fill(sample.entries())?;
+    over(rt, alloc, cast, start, &mut link, editors, plan, gate)
+}
+
+// A link to an order that has no entries.
+fn order_link(alloc: Global, cast: &Cast, failing: &[u64]) -> Result<OrderLink, Fail> {
+    let calls = calls(alloc, failing)?;
+    let order = Order::open(alloc, cast.genesis(alloc)?)?;
+    Ok(OrderLink::new(alloc, order, calls))
+}
+
+/// A session with an order that has no entries, where so many editors have these lines each.
+pub(crate) fn written<R: Threads + Wait + Sync>(
+    rt: &R,
+    alloc: Global,
+    cast: &Cast,
+    start: Start<'_>,
+    editors: u32,
+    lines: &str,
+    plan: Plan,
+) -> Result<Outcome, Fail> {
+    let sample = no_entries(alloc, cast)?;
+    let editors = scripts(alloc, editors, lines)?;
+    held(
+        rt,
+        alloc,
+        cast,
+        start,
+        &sample,
+        editors.as_slice(),
+        plan,
+        &OpenGate,
+    )
+}
+
+// Twenty words. The calls with these numbers fail.
+fn words(alloc: Global, failing: &[u64]) -> Result<ListedChance, Fail> {
+    let mut words = Vec::new(alloc);
+    for number in 0..20u8 {
+        words.push([number; 32])?;
+    }
+    Ok(ListedChance::new(words, calls(alloc, failing)?))
+}
+
+/// A script of these lines for each of so many editors.
+pub(crate) fn scripts(alloc: Global, editors: u32, lines: &str) -> Result<Vec<EditorScript>, Fail> {
+    if lines.len() > 1_000_000 {
+        return Err("too long".into());
+    }
+    let mut scripts = Vec::new(alloc);
+    for _ in 0..editors {
+        scripts.push(read_editor(alloc, lines.as_bytes())?)?;
+    }
+    Ok(scripts)
+}

@@ -1,0 +1,117 @@
+-- What each command does.
+use Rattle.std.specs.Prelude.{◌≡◌, ℕ, List, [], ◌∷◌, map, Result, Ok, Err, ⊤}
+use Rattle.sporc_outside.specs.Told.{MayAppend}
+use Rattle.sporc_outside.specs.Uses.{IsUnwritten, SinkUse, SourceUse}
+use Rattle.sporc_words.specs.declared.command.Command.{Command}
+use Rattle.sporc_words.specs.declared.command.Command.TheVariants as commands
+use Rattle.sporc_words.specs.declared.found.Found.{Found}
+use Rattle.sporc_words.specs.declared.keygen.Keygen.{Keygen}
+use Rattle.sporc_words.specs.declared.serve.Serve.{Serve}
+use Rattle.sporc_serve.specs.Crowds.{Net, net_of}
+use Rattle.sporc_serve.specs.Returns.{AreShutBehind}
+use Rattle.sporc_play.specs.declared.fault.PlayFault.{PlayFault}
+use Rattle.sporc_play.specs.Playing.{GeneratedFault, PlayOutcome, PlaysGenerated}
+use Rattle.sporc_files.specs.declared.fault.Fault.{Fault}
+use Rattle.sporc_files.specs.declared.file.File.{File}
+use Rattle.sporc_files.specs.declared.file.File.TheVariants as files
+use Rattle.sporc_files.specs.Faults.{fault_of_play}
+use Rattle.sporc_files.specs.Names.{FileNames, file_name}
+use Rattle.sporc_files.specs.Uses.{AsksOnly, FolderUse}
+use Rattle.sporc_founding.specs.Founding.{FoundOutcome}
+use Rattle.sporc_founding.specs.KeyMaking.{KeygenOutcome}
+use Rattle.sporc_histories.specs.Outcomes.{CheckOutcome, CompareOutcome, ServeOutcome}
+use Rattle.sporc_sessions.specs.Nets.{LinkView}
+use Rattle.sporc_clients.specs.Outcome.{ClientOutcome, DiskView, NetUse}
+use Rattle.sporc_top.specs.Uses.{Uses, client_use}
+
+-- ---- names
+
+-- the files of a document alone
+abbrev pub files_of : List ℕ → FileNames
+files_of document = record { document = document; scripts = [] }
+
+-- no file has a name
+abbrev pub no_files : FileNames
+no_files = files_of []
+
+-- what the files of a command are named by
+abbrev pub names_of : Command → FileNames
+names_of commands.Play = no_files
+names_of (commands.Generate edits) = no_files
+names_of (commands.Keygen words) = files_of words.name
+names_of (commands.Found words) = files_of words.name
+names_of (commands.Serve words) = files_of words.name
+names_of (commands.Client words) = record { document = words.name; scripts = words.scripts }
+names_of (commands.Check words) = files_of words.name
+names_of (commands.Compare words) = files_of words.name
+
+-- of all files, the names of these alone were asked for
+abbrev pub AsksFor : FileNames → List File → FolderUse → Type 0
+AsksFor names asked folder = AsksOnly (map (file_name names) asked) folder.asked_before folder.asked_after
+
+-- ---- plays
+
+-- the answer of a play, as the program's
+abbrev pub as_program : Result ⊤ PlayFault → Result ⊤ Fault
+as_program (Ok done) = Ok done
+as_program (Err fault) = Err (fault_of_play fault)
+
+-- the script of the source was played
+pub record PlaysSource (source : SourceUse) (out : SinkUse) (answer : Result ⊤ Fault) : Type 0 where
+  pub played : Result ⊤ PlayFault
+  pub outcome : PlayOutcome source out played
+  pub answer_is : answer ≡ as_program played
+
+-- what a generated play did, by its answer
+abbrev pub GeneratedOutcome : ℕ → SinkUse → Result ⊤ PlayFault → Type 0
+GeneratedOutcome edits out (Ok done) = PlaysGenerated edits out
+GeneratedOutcome edits out (Err fault) = GeneratedFault edits out fault
+
+-- the generated run of so many edits was played
+pub record PlaysEdits (edits : ℕ) (out : SinkUse) (answer : Result ⊤ Fault) : Type 0 where
+  pub played : Result ⊤ PlayFault
+  pub outcome : GeneratedOutcome edits out played
+  pub answer_is : answer ≡ as_program played
+
+-- ---- keys and documents
+
+-- a key was made, of two files alone
+pub record MakesKey {L : Type 0} (words : Keygen) (outside : Uses L) (answer : Result ⊤ Fault) : Type 0 where
+  pub outcome : KeygenOutcome words outside.folder outside.chance outside.out answer
+  pub asked : AsksFor (files_of words.name) (files.Key words.member ∷ files.Leaf words.member ∷ []) outside.folder
+
+-- a document was founded, and nothing was written of that
+pub record FoundsDocument {L : Type 0} (words : Found) (outside : Uses L) (answer : Result ⊤ Fault) : Type 0 where
+  pub outcome : FoundOutcome words outside.folder outside.chance answer
+  pub unwritten : IsUnwritten outside.out
+
+-- ---- a net
+
+-- what it told before, and after
+abbrev pub net_before : {L : Type 0} → NetUse L → Net L
+net_before net = net_of net.before.coming net.before.returned net.faults_before
+
+abbrev pub net_after : {L : Type 0} → NetUse L → Net L
+net_after net = net_of net.after.coming net.after.returned net.faults_after
+
+-- sessions were served at the address alone, from two files alone, and each link that came back is shut
+pub record ServesDocument {L : Type 0} (links : LinkView L) (words : Serve) (outside : Uses L) (answer : Result ⊤ Fault) : Type 0 where
+  pub outcome : ServeOutcome (λ l. (links.told l).left) (λ l. (links.told l).written) (λ l. (links.told l).faults) (files_of words.name) words.sessions outside.folder outside.out
+      (net_before outside.net) (net_after outside.net) answer
+  pub asked : AsksFor (files_of words.name) (files.Genesis ∷ files.Log ∷ []) outside.folder
+  pub called : MayAppend outside.net.before.asked outside.net.after.asked words.address
+  pub shut : AreShutBehind links.is_shut outside.net.before.returned outside.net.after.returned
+
+-- ---- commands
+
+-- what a command did, by its answer
+module _ {L D : Type 0} (links : LinkView L) (disks : DiskView D) where
+  abbrev pub Performs : Command → Uses L → Result ⊤ Fault → Type 0
+  Performs commands.Play outside answer = PlaysSource outside.source outside.out answer
+  Performs (commands.Generate edits) outside answer = PlaysEdits edits outside.out answer
+  Performs (commands.Keygen words) outside answer = MakesKey words outside answer
+  Performs (commands.Found words) outside answer = FoundsDocument words outside answer
+  Performs (commands.Serve words) outside answer = ServesDocument links words outside answer
+  Performs (commands.Client words) outside answer = ClientOutcome links disks words (client_use outside) answer
+  Performs (commands.Check words) outside answer = CheckOutcome (files_of words.name) words.member outside.folder outside.out answer
+  Performs (commands.Compare words) outside answer = CompareOutcome (files_of words.name) words.first words.second outside.folder outside.out answer

@@ -1,0 +1,11 @@
+use Rattle.sporc_words.specs.Arguments.{keygen_app}
+use Rattle.sporc_words.proofs.Added.{added}
+use Rattle.sporc_words.proofs.keygen.keygen_command.Goals as goal
+
+pub returns : goal.returns
+unfolding keygen_app
+returns c =
+    let one = added _ _ _ _ _ c.in_ok-arg.ensures c.positional.ensures.local c.positional.ensures.rule c.new.ensures.app in
+    let two = added _ _ _ _ _ c.in_ok-arg-2.ensures c.positional-2.ensures.local c.positional-2.ensures.rule one in
+    let three = added _ _ _ _ _ c.in_ok-arg-3.ensures c.positional-3.ensures.local c.positional-3.ensures.rule two in
+    record { ok = added _ _ _ _ _ c.in_ok-command.ensures c.positional-4.ensures.local c.positional-4.ensures.rule three }

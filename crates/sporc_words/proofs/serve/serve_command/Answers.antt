@@ -1,0 +1,10 @@
+use Rattle.sporc_words.specs.Arguments.{serve_app}
+use Rattle.sporc_words.proofs.Added.{added}
+use Rattle.sporc_words.proofs.serve.serve_command.Goals as goal
+
+pub returns : goal.returns
+unfolding serve_app
+returns c =
+    let one = added _ _ _ _ _ c.in_ok-arg.ensures c.positional.ensures.local c.positional.ensures.rule c.new.ensures.app in
+    let two = added _ _ _ _ _ c.in_ok-arg-2.ensures c.positional-2.ensures.local c.positional-2.ensures.rule one in
+    record { ok = added _ _ _ _ _ c.in_ok-command.ensures c.needed.ensures.local c.needed.ensures.rule two }

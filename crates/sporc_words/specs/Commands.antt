@@ -1,0 +1,99 @@
+-- What a command line asks for.
+use Rattle.std.specs.Prelude.{nat_le, List, [], ◌∷◌, length, codes, Option, None, Some, option_map, slice_get, if◌then◌else◌}
+use Rattle.clap.specs.Walk.{Row, Text, first_of}
+use Rattle.sporc_script.specs.declared.limits.TheConstants.{MAX_EDITORS, MAX_GENERATED}
+use Rattle.sporc_script.specs.Readers.{member_of, named_of, then_read, u32_of}
+use Rattle.sporc_serve.specs.declared.limits.TheConstants.{MAX_SESSIONS}
+use Rattle.sporc_words.specs.declared.check.Check.{Check}
+use Rattle.sporc_words.specs.declared.client.Client.{Client}
+use Rattle.sporc_words.specs.declared.command.Command.{Command}
+use Rattle.sporc_words.specs.declared.command.Command.TheVariants as commands
+use Rattle.sporc_words.specs.declared.command.Verb.{Verb}
+use Rattle.sporc_words.specs.declared.command.Verb.TheVariants as verbs
+use Rattle.sporc_words.specs.declared.compare.Compare.{Compare}
+use Rattle.sporc_words.specs.declared.defaults.TheConstants.{DEFAULT_ROUNDS, DEFAULT_UNTIL}
+use Rattle.sporc_words.specs.declared.found.Found.{Found}
+use Rattle.sporc_words.specs.declared.keygen.Keygen.{Keygen}
+use Rattle.sporc_words.specs.declared.serve.Serve.{Serve}
+use Rattle.sporc_words.specs.Arguments.{check_app, client_app, compare_app, found_app, keygen_app, play_app, serve_app, taken}
+use Rattle.sporc_words.specs.Values.{number_between, participants_of, signatures_of, tree_of, value_of, value_or, values_of}
+
+-- ---- each command, by the values of its arguments
+
+-- `play`, or `play --generate N` with N from 1 to its limit
+abbrev pub play_by : Option Text → Option Command
+play_by None = Some commands.Play
+play_by (Some edits) = option_map commands.Generate (number_between 1 MAX_GENERATED edits)
+
+abbrev pub play_in : List Row → Option Command
+play_in rows = play_by (first_of (codes "generate") rows)
+
+abbrev pub keygen_in : List Row → Option Keygen
+keygen_in rows =
+    then_read (first_of (codes "NAME") rows) (λ name. then_read (value_of (codes "M") member_of rows) (λ member.
+    then_read (value_of (codes "HEIGHT") tree_of rows) (λ height. then_read (value_of (codes "W") signatures_of rows) (λ width.
+    Some (record { name = name; member = member; height = height; width = width })))))
+
+abbrev pub found_in : List Row → Option Found
+found_in rows =
+    then_read (first_of (codes "NAME") rows) (λ name. then_read (participants_of (values_of (codes "M:ROLE") rows)) (λ participants.
+    Some (record { name = name; participants = participants })))
+
+abbrev pub serve_in : List Row → Option Serve
+serve_in rows =
+    then_read (first_of (codes "NAME") rows) (λ name. then_read (first_of (codes "ADDRESS") rows) (λ address.
+    then_read (value_of (codes "sessions") (number_between 1 MAX_SESSIONS) rows) (λ sessions.
+    Some (record { name = name; address = address; sessions = sessions }))))
+
+-- the scripts of editors, unless they are too many
+abbrev pub scripts_of : List Text → Option (List Text)
+scripts_of words = if nat_le (length words) MAX_EDITORS then Some words else None
+
+abbrev pub client_in : List Row → Option Client
+client_in rows =
+    then_read (first_of (codes "NAME") rows) (λ name. then_read (value_of (codes "M") member_of rows) (λ member.
+    then_read (first_of (codes "ADDRESS") rows) (λ address. then_read (value_or (codes "rounds") DEFAULT_ROUNDS u32_of rows) (λ rounds.
+    then_read (value_or (codes "until") DEFAULT_UNTIL u32_of rows) (λ until. then_read (scripts_of (values_of (codes "SCRIPT") rows)) (λ scripts.
+    Some (record { name = name; member = member; address = address; rounds = rounds; until = until; scripts = scripts })))))))
+
+abbrev pub check_in : List Row → Option Check
+check_in rows =
+    then_read (first_of (codes "NAME") rows) (λ name. then_read (value_of (codes "M") member_of rows) (λ member.
+    Some (record { name = name; member = member })))
+
+abbrev pub compare_in : List Row → Option Compare
+compare_in rows =
+    then_read (first_of (codes "NAME") rows) (λ name. then_read (value_of (codes "M") member_of rows) (λ first.
+    then_read (value_of (codes "N") member_of rows) (λ second.
+    Some (record { name = name; first = first; second = second }))))
+
+-- ---- the first word
+
+abbrev pub verb_name : Verb → Text
+verb_name verbs.Play = codes "play"
+verb_name verbs.Keygen = codes "keygen"
+verb_name verbs.Found = codes "found"
+verb_name verbs.Serve = codes "serve"
+verb_name verbs.Client = codes "client"
+verb_name verbs.Check = codes "check"
+verb_name verbs.Compare = codes "compare"
+
+unfoldable pub verb_of : Text → Option Verb
+verb_of word =
+    named_of verb_name (verbs.Play ∷ verbs.Keygen ∷ verbs.Found ∷ verbs.Serve ∷ verbs.Client ∷ verbs.Check ∷ verbs.Compare ∷ []) word
+
+-- ---- all words
+
+-- what the words ask for, of which the first is this
+unfoldable pub command_by : Verb → List Text → Option Command
+command_by verbs.Play words = then_read (taken play_app words) play_in
+command_by verbs.Keygen words = option_map commands.Keygen (then_read (taken keygen_app words) keygen_in)
+command_by verbs.Found words = option_map commands.Found (then_read (taken found_app words) found_in)
+command_by verbs.Serve words = option_map commands.Serve (then_read (taken serve_app words) serve_in)
+command_by verbs.Client words = option_map commands.Client (then_read (taken client_app words) client_in)
+command_by verbs.Check words = option_map commands.Check (then_read (taken check_app words) check_in)
+command_by verbs.Compare words = option_map commands.Compare (then_read (taken compare_app words) compare_in)
+
+-- what a command line asks for, if it is one
+unfoldable pub command_of : List Text → Option Command
+command_of words = then_read (slice_get words 0) (λ first. then_read (verb_of first) (λ verb. command_by verb words))

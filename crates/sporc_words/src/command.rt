@@ -1,0 +1,41 @@
+//! What a command line asks for.
+
+use crate::check::Check;
+use crate::client::Client;
+use crate::compare::Compare;
+use crate::found::Found;
+use crate::keygen::Keygen;
+use crate::serve::Serve;
+
+/// What a command line asks for.
+#[derive(Debug, Drop)]
+pub enum Command {
+    /// `play` performs the script on standard input.
+    Play,
+    /// `play --generate N` performs the generated run of so many edits, from 1 to `sporc_script::MAX_GENERATED`.
+    Generate(u32),
+    /// `keygen NAME M HEIGHT W` makes a member's key.
+    Keygen(Keygen),
+    /// `found NAME M:ROLE ..` makes a document.
+    Found(Found),
+    /// `serve NAME ADDRESS --sessions K` serves sessions.
+    Serve(Serve),
+    /// `client NAME M ADDRESS --rounds R --until P SCRIPT ..` runs a member's session.
+    Client(Client),
+    /// `check NAME M` examines a member's history.
+    Check(Check),
+    /// `compare NAME M N` compares the histories of two members.
+    Compare(Compare),
+}
+
+/// The first word of a command line.
+#[derive(Clone, Copy)]
+pub enum Verb {
+    Play,
+    Keygen,
+    Found,
+    Serve,
+    Client,
+    Check,
+    Compare,
+}

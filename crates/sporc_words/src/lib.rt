@@ -1,0 +1,50 @@
+//! What a command line asks for.
+//!
+//! [`read_words`] reads the words after the program's name, by `clap` with one simple command for each first word, and then
+//! the numbers, members and roles among the values:
+//!
+//! ```text
+//! play                                               play --generate N
+//! keygen NAME M HEIGHT W                             found NAME M:ROLE ..
+//! serve NAME ADDRESS --sessions K                    client NAME M ADDRESS --rounds R --until P SCRIPT ..
+//! check NAME M                                       compare NAME M N
+//! ```
+//!
+//! Numbers are decimal, with no sign and no zero in front. ROLE is `reader`, `editor`, `admin` or `joiner`.
+//!
+//! Proved: words ask for exactly one command or for none, which `specs/Commands.antt` defines by `clap`'s own definition of
+//! what a simple command takes, and `read_words` answers which. Tested only: that reading does not run out of memory if
+//! there is ample.
+#![tactic(auto)]
+
+mod arguments;
+mod check;
+mod client;
+mod command;
+mod compare;
+mod defaults;
+mod fault;
+mod found;
+mod founding;
+mod keygen;
+pub mod laws;
+mod matches;
+mod participants;
+mod play;
+mod serve;
+mod values;
+mod word;
+mod words;
+
+pub use check::Check;
+pub use client::Client;
+pub use command::Command;
+pub use compare::Compare;
+pub use defaults::{DEFAULT_ROUNDS, DEFAULT_UNTIL};
+pub use fault::WordsFault;
+pub use found::Found;
+pub use founding::{Founding, Participant};
+pub use keygen::Keygen;
+pub use serve::Serve;
+pub use word::Word;
+pub use words::read_words;
