@@ -1,11 +1,9 @@
 //! The files that say who a member is and what its editors do.
 
-ghost use Rattle.std.specs.Prelude.{◌≡◌, ◌≤◌, ℕ, [], ◌∷◌, ◌++◌, length, IfErr, IfOk};
+ghost use Rattle.std.specs.Prelude.{◌≡◌, ◌≤◌, IfErr, IfOk};
 ghost use Rattle.lms_leaf.specs.LeafFile.{IsLeafHeight};
 ghost use Rattle.lms_tree.specs.LmsType.{height_of};
 ghost use Rattle.sporc_entry.specs.Genesis.{IsGenesis};
-ghost use Rattle.sporc_keys.specs.RingFile.{IsRingFile};
-ghost use Rattle.sporc_script.specs.declared.limits.TheConstants.{MAX_EDITORS};
 ghost use Rattle.sporc_files.specs.declared.file.File.{File};
 ghost use Rattle.sporc_files.specs.Names.{file_name};
 ghost use Rattle.sporc_clients.specs.MemberFiles.{IsFirstScriptFault, IsMemberFault, IsScriptFault, SayAllScripts, SayMember, SaysScript};

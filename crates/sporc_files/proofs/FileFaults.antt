@@ -1,5 +1,5 @@
 -- Why a file is not read, as a fault of the program.
-use Rattle.std.proofs.Common.{◌≡◌, ℕ, List, Option, refl, subst}
+use Rattle.std.proofs.Common.{◌≡◌, ℕ, List, Option, refl}
 use Rattle.sporc_outside.specs.Files.{IsReadFault}
 use Rattle.sporc_outside.specs.declared.file_fault.FileFault.{FileFault}
 use Rattle.sporc_outside.specs.declared.file_fault.FileFault.TheVariants.{Missing, Failed, TooLong, Exists, Memory}

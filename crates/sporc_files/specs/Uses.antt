@@ -1,5 +1,5 @@
 -- A folder and a chance as a call found and left them.
-use Rattle.std.specs.Prelude.{◌≡◌, ℕ, List, [], ◌∷◌, ◌++◌, Option, None, Some, Contains}
+use Rattle.std.specs.Prelude.{◌≡◌, ℕ, List, ◌++◌, Option, None, Some, Contains}
 use Rattle.std.specs.List.{All}
 use Rattle.sporc_outside.specs.declared.named_file.NamedFile.{NamedFile}
 

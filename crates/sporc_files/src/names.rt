@@ -1,6 +1,6 @@
 //! The names of a command's files.
 
-ghost use Rattle.std.specs.Prelude.{◌≡◌, ◌-◌, [], slice_index_or};
+ghost use Rattle.std.specs.Prelude.{◌≡◌, ◌-◌, []};
 ghost use Rattle.sporc_files.specs.Names.{name_of_script, stem_of};
 
 use crate::file::File;

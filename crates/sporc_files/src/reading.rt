@@ -2,7 +2,6 @@
 
 ghost use Rattle.std.specs.Prelude.{◌≡◌, ◌≢◌, ◌≤◌, [], ◌∷◌, Err, IfOk, IfErr, option_map};
 ghost use Rattle.lms_leaf.specs.LeafFile.{IsLeafHeight};
-ghost use Rattle.lms_tree.specs.LmsPublic.{public_key_bytes};
 ghost use Rattle.lms_tree.specs.LmsType.{height_of};
 ghost use Rattle.sporc_entry.specs.Genesis.{IsGenesis};
 ghost use Rattle.sporc_keys.specs.KeyFile.{IsKeyWidth};

@@ -2,22 +2,19 @@
 use Rattle.std.proofs.Common.{◌≡◌, ℕ, ◌≤◌, List, [], ◌∷◌, Bool, true, false, Option, Some, None, option_map, Result, Ok, Err, inl, inr, refl, sym, ap, ◌∙◌, subst, arith}
 use Rattle.std.specs.Result.{OnOk}
 use Rattle.std.specs.Str.{bytes_eq}
-use Rattle.sporc_outside.specs.Counts.{Rose}
 use Rattle.sporc_outside.specs.Files.{ChangesFile, HasNoFile, HasSomeFile, file_in, with_file}
 use Rattle.sporc_outside.specs.declared.named_file.NamedFile.{NamedFile}
 use Rattle.sporc_keys.specs.declared.new_key.NewKey.{NewKey}
 use Rattle.sporc_keys.specs.KeyFile.{key_file_bytes}
 use Rattle.sporc_files.specs.declared.fault.Fault.{Fault}
-use Rattle.sporc_files.specs.declared.fault.Fault.TheVariants as faults
-use Rattle.sporc_files.specs.declared.file.File.{File}
 use Rattle.sporc_files.specs.declared.file.File.TheVariants as files
 use Rattle.sporc_files.specs.Names.{FileNames, file_name}
-use Rattle.sporc_files.specs.Writing.{IsNewFault, LeavesFile, Stores, StoresPrefix, file_with, with_files}
+use Rattle.sporc_files.specs.Writing.{IsNewFault, LeavesFile, Stores, file_with, with_files}
 use Rattle.std.proofs.lemmas.List.Elements.{Contains-append_left, Contains-append_right}
 use Rattle.sporc_files.specs.Uses.{AsksOnly}
 use Rattle.sporc_files.proofs.Asking.{AsksOnly-among, AsksOnly-trans}
 use Rattle.sporc_files.proofs.FaultCases.{NewCase, NewMemory, NewFailed, NewThere, new_case}
-use Rattle.sporc_founding.specs.KeyMaking.{IsFilesFault, StoresKey, key_files}
+use Rattle.sporc_founding.specs.KeyMaking.{IsFilesFault, StoresKey}
 
 -- nothing changed
 pub unchanged : (before after : Option (List NamedFile)) (name : List ℕ) → after ≡ before → ChangesFile before after name

@@ -1,5 +1,5 @@
 -- Words that may found a document name those who can.
-use Rattle.std.proofs.Common.{◌≡◌, ℕ, ◌==◌, ◌≤◌, nat_eq, nat_le, not, suc, Bool, true, false, List, [], ◌∷◌, ◌&&◌, ◌||◌, length, map, Option, refl, sym, ap, ◌∙◌, subst, arith}
+use Rattle.std.proofs.Common.{◌≡◌, ℕ, ◌==◌, nat_eq, nat_le, not, suc, Bool, true, false, List, [], ◌∷◌, ◌&&◌, length, map, Option, refl, sym, ap, ◌∙◌, subst, arith}
 use Rattle.std.specs.List.{AllByRecursion, IsDistinct, list_any}
 use Rattle.std.specs.Cmp.{nat_eq_equiv}
 use Rattle.std.proofs.lemmas.Bool.{leb-true, not-true, or_parts}
@@ -12,7 +12,7 @@ use Rattle.sporc_words.specs.declared.found.Found.{Found}
 use Rattle.sporc_words.specs.declared.founding.Founding.{Founding}
 use Rattle.sporc_words.specs.declared.founding.Founding.TheVariants.{Founder, Joiner}
 use Rattle.sporc_words.specs.declared.founding.Participant.{Participant}
-use Rattle.sporc_words.specs.Values.{founds_admin, has_twice, may_found}
+use Rattle.sporc_words.specs.Values.{founds_admin, has_twice}
 use Rattle.sporc_files.specs.Names.{FileNames}
 use Rattle.sporc_founding.specs.Founding.{AreNamed, IsNamed, MayFound}
 

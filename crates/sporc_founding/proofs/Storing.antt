@@ -2,7 +2,6 @@
 use Rattle.std.proofs.Common.{◌≡◌, ℕ, suc, ◌<◌, List, [], ◌∷◌, ◌++◌, length, map, take, drop, get_or, Option, Some, None, option_map, inl, inr, refl, sym, ap, ◌∙◌, subst}
 use Rattle.std.proofs.Math.Seq.{drop-cons, take-suc}
 use Rattle.std.proofs.lemmas.List.{map-append, take-append-drop}
-use Rattle.sporc_outside.specs.Files.{ChangesFile}
 use Rattle.sporc_outside.specs.declared.named_file.NamedFile.{NamedFile}
 use Rattle.sporc_files.specs.Writing.{Stores, StoresPrefix, with_files, with_one}
 use Rattle.sporc_founding.proofs.KeyFiles.{unchanged}

@@ -1,5 +1,5 @@
 -- What `found` does: it makes a document of the founders' key files and of words of the chance.
-use Rattle.std.specs.Prelude.{◌≡◌, ◌⊎◌, ℕ, List, [], ◌∷◌, ◌++◌, map, filter_map, Option, None, Some, true, Result, Ok, Err}
+use Rattle.std.specs.Prelude.{◌≡◌, ◌⊎◌, ℕ, List, [], ◌∷◌, ◌++◌, map, Option, true, Result, Ok, Err}
 use Rattle.std.specs.List.{AllByRecursion}
 use Rattle.lms_tree.specs.LmsPrivate.{LmsPrivate, lms_public_of}
 use Rattle.sporc_outside.specs.Counts.{Rose}

@@ -1,5 +1,5 @@
 -- The entries that an order hands out.
-use Rattle.std.proofs.Common.{◌≡◌, ℕ, zero, suc, ◌+◌, ◌-◌, ◌≤◌, ◌++◌, map, take, get_or, add-one, arith, Bool, true, false, cond, leb, List, [], ◌∷◌, length, drop, Option, Some, refl, sym, ap, ◌∙◌}
+use Rattle.std.proofs.Common.{◌≡◌, ℕ, zero, suc, ◌+◌, ◌-◌, ◌≤◌, ◌++◌, map, take, get_or, add-one, arith, Bool, true, false, cond, leb, List, [], ◌∷◌, length, drop, Some, refl, sym, ap, ◌∙◌}
 use Rattle.std.proofs.lemmas.List.{map-append}
 use Rattle.std.specs.Global.{Vec}
 use Rattle.std.specs.List.{slice_get}

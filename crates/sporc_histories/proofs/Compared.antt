@@ -1,5 +1,5 @@
 -- What a comparison found in files, step by step.
-use Rattle.std.proofs.Common.{◌≡◌, ℕ, ◌≤◌, ◌<◌, suc, List, [], ◌∷◌, length, Option, Result, Ok, Err, refl, sym, ap, ◌∙◌, subst, arith}
+use Rattle.std.proofs.Common.{◌≡◌, ℕ, ◌≤◌, List, [], ◌∷◌, Option, Result, Ok, Err, refl, sym, ap, ◌∙◌, subst, arith}
 use Rattle.std.specs.Global.{Vec}
 use Rattle.sporc_bytes.specs.Fields.{◌>>=◌}
 use Rattle.sporc_bytes.proofs.Fields.{bind_ok}
@@ -13,9 +13,9 @@ use Rattle.sporc_files.specs.declared.file.File.{File}
 use Rattle.sporc_files.specs.declared.file.File.TheVariants as files
 use Rattle.sporc_files.specs.Names.{FileNames, file_name}
 use Rattle.sporc_files.specs.Reading.{IsFileFault, SaysFile, genesis_file}
-use Rattle.sporc_histories.specs.Contents.{IsAt, Reads, Tells, entries_in, genesis_in}
+use Rattle.sporc_histories.specs.Contents.{Reads, Tells, entries_in, genesis_in}
 use Rattle.sporc_histories.specs.Comparing.{AreOfOneGenesis, Chains, FindsChains, IsVerdictLine, both_chains, chain_in, chains_in, values_of}
-use Rattle.sporc_histories.proofs.Found.{fails_first, is_there, reads_none, says, tells_behind, tells_earlier, tells_later, there}
+use Rattle.sporc_histories.proofs.Found.{fails_first, is_there, reads_none, says, tells_behind, tells_later, there}
 
 -- both chains, and the second behind the first
 abbrev pair_of : List (List ℕ) → List (List ℕ) → Chains

@@ -1,5 +1,5 @@
 -- What an examination found in files, step by step.
-use Rattle.std.proofs.Common.{◌≡◌, ℕ, ◌≤◌, List, Option, Result, Ok, Err, sym, subst, arith}
+use Rattle.std.proofs.Common.{◌≡◌, ℕ, ◌≤◌, List, Option, Result, Err}
 use Rattle.sporc_bytes.specs.Fields.{◌>>=◌}
 use Rattle.sporc_outside.specs.Counts.{Rose}
 use Rattle.sporc_outside.specs.declared.named_file.NamedFile.{NamedFile}
@@ -13,7 +13,7 @@ use Rattle.sporc_files.specs.declared.file.File.TheVariants as files
 use Rattle.sporc_files.specs.Names.{FileNames, file_name}
 use Rattle.sporc_files.specs.Reading.{IsFileFault, SaysFile, any_bytes, genesis_file, own_key_file}
 use Rattle.sporc_histories.specs.Contents.{IsAt, Tells, bytes_in, said}
-use Rattle.sporc_histories.specs.Checking.{AreCheckedFiles, CheckedFiles, FindsChecked, checked_in, examined}
+use Rattle.sporc_histories.specs.Checking.{FindsChecked, examined}
 use Rattle.sporc_histories.proofs.Found.{is_there, reads_none, reads_value, says, tells_behind, tells_later, there}
 
 abbrev length_of : ℕ → ℕ

@@ -1,5 +1,5 @@
 -- How a command writes its line.
-use Rattle.std.proofs.Common.{◌≡◌, ℕ, ◌≤◌, List, Result, Ok, Err, inl, inr, arith}
+use Rattle.std.proofs.Common.{◌≡◌, ℕ, List, Result, Ok, Err, inl, inr}
 use Rattle.std.specs.Io.KnownBytes.{Appends}
 use Rattle.sporc_outside.specs.Counts.{Rose}
 use Rattle.sporc_outside.specs.Uses.{IsUnwritten, SinkUse}
@@ -8,7 +8,7 @@ use Rattle.sporc_files.specs.declared.fault.Fault.{Fault}
 use Rattle.sporc_files.specs.declared.fault.Fault.TheVariants as faults
 use Rattle.sporc_files.specs.Uses.{FolderUse}
 use Rattle.sporc_histories.specs.Contents.{Tells}
-use Rattle.sporc_histories.specs.Uses.{HasLine, WritesLine}
+use Rattle.sporc_histories.specs.Uses.{WritesLine}
 
 module _ {Y : Type 0} (Says : Y → List ℕ → Type 0) (folder : FolderUse) (out : SinkUse) (found : Result Y Fault) where
   -- nothing was found

@@ -1,18 +1,13 @@
 -- What a server begins with, and how it saves its log.
-use Rattle.std.proofs.Common.{◌≡◌, ℕ, ◌≤◌, ◌⊎◌, Bool, true, false, cond, List, [], length, Option, None, Some, Result, Ok, Err, refl, sym, ap, ◌∙◌, subst, inl, inr, arith}
+use Rattle.std.proofs.Common.{◌≡◌, ℕ, ◌≤◌, List, [], Option, None, Some, Result, Ok, Err, refl, sym, ap, ◌∙◌, subst, inl, inr, arith}
 use Rattle.std.specs.Prelude.{option_map}
-use Rattle.std.specs.Io.KnownBytes.{Appends}
 use Rattle.sporc_bytes.specs.Fields.{◌>>=◌}
 use Rattle.sporc_outside.specs.Counts.{Rose}
 use Rattle.sporc_outside.specs.Files.{ChangesFile, HasNoFile, with_file}
-use Rattle.sporc_outside.specs.Uses.{IsUnwritten, SinkUse}
-use Rattle.sporc_outside.specs.Writing.{AppendsPrefix}
-use Rattle.sporc_outside.specs.declared.file_fault.TheConstants.{MAX_FILE}
+use Rattle.sporc_outside.specs.Uses.{SinkUse}
 use Rattle.sporc_outside.specs.declared.named_file.NamedFile.{NamedFile}
-use Rattle.sporc_head.specs.declared.limits.TheConstants.{MAX_ENTRIES}
 use Rattle.sporc_entry.specs.declared.genesis.Genesis.{Genesis}
 use Rattle.sporc_order.specs.OrderModel.{OrderModel}
-use Rattle.sporc_store.specs.SavedFile.{saved_bytes}
 use Rattle.sporc_files.specs.declared.fault.Fault.{Fault}
 use Rattle.sporc_files.specs.declared.fault.Fault.TheVariants as faults
 use Rattle.sporc_files.specs.declared.file.File.{File}
@@ -20,9 +15,8 @@ use Rattle.sporc_files.specs.declared.file.File.TheVariants as files
 use Rattle.sporc_files.specs.Names.{FileNames, file_name}
 use Rattle.sporc_files.specs.Reading.{IsFileFault, SaysFile, any_bytes, genesis_file}
 use Rattle.sporc_files.specs.Uses.{FolderUse}
-use Rattle.sporc_files.specs.Writing.{IsWriteFault, LeavesFile}
 use Rattle.sporc_histories.specs.Contents.{IsAt, Tells, genesis_in}
-use Rattle.sporc_histories.specs.Serving.{FindsOrder, logged, logged_in, order_in, order_with, saved_log}
+use Rattle.sporc_histories.specs.Serving.{FindsOrder, logged, logged_in, order_with}
 use Rattle.sporc_histories.specs.Outcomes.{FailsToBegin, KeepsLog, SavesLog}
 use Rattle.sporc_histories.proofs.Found.{has_at, is_there, none_at, reads_none, said_long, said_short, says, tells_alone, tells_behind, tells_later, there}
 

@@ -14,7 +14,6 @@ use Rattle.sporc_files.specs.declared.fault.Fault.{Fault}
 use Rattle.sporc_files.specs.declared.fault.Fault.TheVariants as faults
 use Rattle.sporc_files.specs.declared.file.File.{File}
 use Rattle.sporc_files.specs.declared.file.File.TheVariants as files
-use Rattle.sporc_files.specs.Names.{file_name}
 use Rattle.sporc_files.specs.Reading.{any_bytes, genesis_file}
 
 -- ---- a folder

@@ -1,7 +1,5 @@
 //! A document's files in memory.
 
-ghost use Rattle.std.specs.Prelude.{◌≤◌, length};
-
 use sporc_entry::write_genesis;
 use sporc_outside::{Calls, DiskBytes, MemoryFolder, MemorySink, NamedFile};
 use sporc_samples::{Cast, DOCUMENT, epoch_key, pair_key};

@@ -1,6 +1,6 @@
 //! Sessions that are served, and the log that is saved.
 
-ghost use Rattle.std.specs.Prelude.{◌<◌, []};
+ghost use Rattle.std.specs.Prelude.{◌<◌};
 
 use crate::folder::{Files, history_file, sink};
 use sporc_base::is_same;

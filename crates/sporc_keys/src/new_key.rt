@@ -1,6 +1,6 @@
 //! New keys.
 
-ghost use Rattle.std.specs.Prelude.{◌≡◌, ◌≤◌, Err, IfOk, length, take};
+ghost use Rattle.std.specs.Prelude.{◌≡◌, ◌≤◌, Err, IfOk};
 ghost use Rattle.lms_leaf.specs.LeafFile.{IsLeafHeight};
 ghost use Rattle.lms_tree.specs.LmsType.{height_of};
 ghost use Rattle.sporc_outside.specs.Counts.{Rose};

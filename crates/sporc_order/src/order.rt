@@ -3,6 +3,7 @@
 ghost use Rattle.std.specs.Prelude.{◌≡◌, ◌+◌, ◌∷◌, ◌++◌, [], ◌≤◌, ◌<◌, ◌↔◌, length, take, map, None, nat_lt, nat_le, ◌&&◌, IfOk, OnOk, OnErr};
 ghost use Rattle.sporc_base.specs.FirstFault.{AnswersUnless};
 ghost use Rattle.sporc_entry.specs.Genesis.{IsGenesis};
+ghost use Rattle.sporc_head.specs.declared.limits.TheConstants.{MAX_ENTRIES};
 ghost use Rattle.sporc_head.specs.HeadChecks.{head_fault};
 ghost use Rattle.sporc_wire.specs.declared.to_client.TheConstants.{MAX_PULLED};
 ghost use Rattle.sporc_order.specs.declared.order.TheConstants.{MAX_PULLED_BYTES};
@@ -53,11 +54,20 @@ impl Order {
         &self.heads.genesis().document
     }
 
-    /// How many entries there are.
+    /// How many entries there are, at most [`MAX_ENTRIES`](sporc_head::MAX_ENTRIES).
     pub fn len(&self) -> u32
-        ensures { result ≡ length self.now.entries }
+        ensures value { result ≡ length self.now.entries }
+        ensures within { result ≤ MAX_ENTRIES }
     {
         self.heads.len()
+    }
+
+    /// The entries, as they came.
+    pub fn entries(&self) -> &[Vec<u8>]
+        ensures value { map (λ v. v.items) result.now ≡ self.now.entries }
+        ensures within { length result.now ≤ MAX_ENTRIES }
+    {
+        self.heads.entries()
     }
 
     /// Appends an entry where no check fails that needs no key, and answers its position; else the first check that

@@ -1,6 +1,5 @@
 //! Answers as a server sends them.
 
-ghost use Rattle.std.specs.Prelude.{◌≡◌};
 ghost use Rattle.sporc_order.specs.Replies.{Says};
 
 use crate::session::Answer;

@@ -1,6 +1,6 @@
 -- What single commands do may happen wherever a play has come to.
-use Rattle.std.proofs.Common.{◌≡◌, ℕ, zero, suc, ◌+◌, ◌-◌, ◌^◌, ◌<◌, ◌≤◌, Bool, true, false, cond, List, [], ◌∷◌, ◌++◌, length, take, map, set, refl, sym, ap, ◌∙◌, subst, arith, Option, None, Some, Result, Ok, Err}
-use Rattle.std.specs.Prelude.{bit_xor, is_none, nat_le, nat_lt, slice_get, ⊤, Contains, IsSomeAnd}
+use Rattle.std.proofs.Common.{◌≡◌, ℕ, zero, suc, ◌+◌, ◌-◌, ◌^◌, ◌<◌, ◌≤◌, Bool, true, false, cond, List, [], ◌∷◌, length, set, refl, sym, ap, ◌∙◌, subst, arith, Option, None, Some}
+use Rattle.std.specs.Prelude.{bit_xor, is_none, nat_le, nat_lt, slice_get, ⊤, IsSomeAnd}
 use Rattle.std.specs.List.{AllByRecursion}
 use Rattle.std.specs.Str.{all_scalars}
 use Rattle.std.proofs.lemmas.Bool.{leb-true}
@@ -12,18 +12,16 @@ use Rattle.sporc_delta.proofs.Typing.{inserted, inserted-insertion, inserted-rem
 use Rattle.sporc_client.specs.declared.limits.TheConstants.{MAX_EVENTS}
 use Rattle.sporc_client.specs.Allowed.{allows}
 use Rattle.sporc_client.specs.Answers.{change_fault, discard_fault, edit_fault}
-use Rattle.sporc_client.specs.declared.fault.EditFault.{EditFault}
-use Rattle.sporc_client.specs.Log.{Logged, Accept, Change, Discard, Edit}
+use Rattle.sporc_client.specs.Log.{Logged, Change, Discard, Edit}
 use Rattle.sporc_client.specs.PlainClient.{PlainClient, shown_after}
 use Rattle.sporc_client.specs.Reached.{IsReached}
-use Rattle.sporc_client.specs.Run.{Setup, Move, World, Happen, Restart as GoesBack, IsAt, IsRun, May, after_all, start}
-use Rattle.sporc_client.specs.Typed.{IsTypedChange, IsTypedEvent, IsTypedMove}
+use Rattle.sporc_client.specs.Run.{Setup, Move, World, Restart as GoesBack, IsAt, after_all, start}
+use Rattle.sporc_client.specs.Typed.{IsTypedChange, IsTypedEvent}
 use Rattle.sporc_client.specs.Soundness.{IsSound}
 use Rattle.sporc_client.proofs.Checked.{edit_fault_is, edit_passed}
 use Rattle.sporc_client.proofs.Reached.{reached_at}
 use Rattle.sporc_client.proofs.SoundRuns.{sound_and_typed_at}
 use Rattle.sporc_member.specs.declared.change.Change.{Change as MemberChange}
-use Rattle.sporc_script.specs.Commands.{InRange}
 use Rattle.sporc_script.specs.Spelling.{RosterChangeInRange, TextEditInRange}
 use Rattle.sporc_script.specs.declared.command.Edit.{Edit as ScriptEdit}
 use Rattle.sporc_script.specs.declared.text_edit.TextEdit.{TextEdit}
@@ -38,7 +36,7 @@ use Rattle.sporc_script.specs.declared.roster_change.RosterChange.TheVariants as
 use Rattle.sporc_script.specs.declared.play_line.PlayLine.{PlayLine}
 use Rattle.sporc_play.specs.Cast.{member_change, setup_of, tree_of}
 use Rattle.sporc_play.specs.Logs.{change_events, discard_events, edit_logged, logged_unless}
-use Rattle.sporc_play.specs.Scene.{Act, Scene, act_of, adds, cuts, delta_by, edit_events, entry_at, flip_byte, flips, gives, if_open, marks_of, nothing, restarts, seen_by}
+use Rattle.sporc_play.specs.Scene.{Act, Scene, adds, cuts, delta_by, edit_events, entry_at, flip_byte, flips, gives, if_open, marks_of, nothing, restarts, seen_by}
 use Rattle.sporc_play.proofs.ByteFacts.{AreBytes, bytes_take, is_bytes}
 use Rattle.sporc_play.proofs.Founders.{key_len}
 use Rattle.sporc_play.proofs.ByteClients.{IsByteChange, IsByteEvent}

@@ -1,5 +1,5 @@
 -- Commands of the generated run, performed one after another.
-use Rattle.std.proofs.Common.{◌≡◌, ℕ, zero, suc, ◌+◌, ◌*◌, ◌/◌, ◌%◌, ◌^◌, ◌<◌, ◌≤◌, Bool, true, false, cond, eqb, List, [], ◌∷◌, ◌++◌, length, map, flat_map, refl, sym, ap, subst, ◌∙◌, inl, inr, arith, length-append, append-nil}
+use Rattle.std.proofs.Common.{◌≡◌, ℕ, zero, suc, ◌+◌, ◌*◌, ◌/◌, ◌%◌, ◌<◌, ◌≤◌, Bool, true, false, cond, eqb, List, [], ◌∷◌, ◌++◌, length, map, flat_map, refl, sym, ap, subst, ◌∙◌, inl, inr, arith, length-append, append-nil}
 use Rattle.std.specs.Prelude.{Contains}
 use Rattle.std.specs.Char.{encode_utf8}
 use Rattle.std.specs.Str.{encode_utf8_all}
@@ -8,7 +8,6 @@ use Rattle.std.proofs.lemmas.Grind.{flat_map-append}
 use Rattle.std.proofs.lemmas.List.{length-map, map-append}
 use Rattle.std.proofs.lemmas.List.Sums.{fold-append}
 use Rattle.std.proofs.lemmas.Bool.{cases_lt}
-use Rattle.sporc_client.specs.Run.{Setup}
 use Rattle.sporc_script.specs.declared.command.Command.{Command}
 use Rattle.sporc_script.specs.declared.command.Command.TheVariants as commands
 use Rattle.sporc_script.specs.declared.command.Give.{Give}

@@ -1,23 +1,19 @@
 -- What a state becomes by a command, and what it tells, from what the calls on its parts did.
-use Rattle.std.proofs.Common.{◌≡◌, ℕ, ◌+◌, ◌<◌, List, [], ◌∷◌, ◌++◌, length, map, get_or, refl, sym, ap, ◌∙◌, subst, append-nil, Option, None, Some, option_map, Result, Ok, Err, Vec, Global}
-use Rattle.std.specs.Prelude.{Contains, slice_get}
+use Rattle.std.proofs.Common.{◌≡◌, ℕ, ◌+◌, List, ◌++◌, length, map, get_or, refl, sym, ap, ◌∙◌, subst, Option, Some, Result, Ok, Err, Vec, Global}
+use Rattle.std.specs.Prelude.{slice_get}
 use Rattle.std.specs.Option.{option_to_list}
 use Rattle.std.specs.Result.{OnOk}
 use Rattle.std.proofs.lemmas.Option.{slice_get_within}
-use Rattle.sporc_outside.specs.MemoryDisk.{MemoryDiskContent}
 use Rattle.sporc_member.specs.declared.change.Change.{Change as MemberChange}
-use Rattle.sporc_client.specs.ClientModel.{ClientModel, state_of}
 use Rattle.sporc_client.specs.PlainClient.{PlainClient}
 use Rattle.sporc_client.specs.Run.{Setup}
 use Rattle.sporc_script.specs.declared.command.Command.TheVariants as commands
 use Rattle.sporc_script.specs.declared.command.Edit.{Edit}
-use Rattle.sporc_script.specs.declared.command.Flip.{Flip}
 use Rattle.sporc_script.specs.declared.command.Give.{Give}
 use Rattle.sporc_script.specs.declared.command.Join.{Join}
 use Rattle.sporc_script.specs.declared.command.Restart.{Restart}
 use Rattle.sporc_script.specs.declared.command.RosterEdit.{RosterEdit}
 use Rattle.sporc_script.specs.declared.sign.Forgery.{Forgery}
-use Rattle.sporc_script.specs.declared.play_line.PlayLine.{PlayLine}
 use Rattle.sporc_play.specs.declared.seat.Rogue.{Rogue}
 use Rattle.sporc_play.specs.declared.seat.Seat.{Seat}
 use Rattle.sporc_play.specs.declared.state.PlayState.{PlayState}
@@ -25,11 +21,11 @@ use Rattle.sporc_play.specs.Cast.{member_change, setup_of}
 use Rattle.sporc_play.specs.Joined.{seat_joined}
 use Rattle.sporc_play.specs.Logs.{change_events, discard_events, given_by}
 use Rattle.sporc_play.specs.Report.{change_line, discard_line, edited_line, give_line, join_line, line_by, restart_line}
-use Rattle.sporc_play.specs.Scene.{Scene, after, edit_events, entries_at, entry_at}
+use Rattle.sporc_play.specs.Scene.{after, edit_events, entries_at, entry_at}
 use Rattle.sporc_play.specs.Seats.{HasSubmitted, IsRogueAt, IsSeatAt, plain_in, seat_logged, seat_restarted, submission_line}
 use Rattle.sporc_play.specs.Signing.{HasSigned, forged_by, signing_line}
-use Rattle.sporc_play.specs.Stage.{Becomes, IsCastOf, StandsFor, Tells}
-use Rattle.sporc_play.proofs.Commands.{adds_stand, client_there, give_stands, restart_stands, seat_there, told}
+use Rattle.sporc_play.specs.Stage.{Becomes, IsCastOf, Tells}
+use Rattle.sporc_play.proofs.Commands.{adds_stand, client_there, give_stands, restart_stands, told}
 use Rattle.sporc_play.proofs.Joins.{join_stands}
 use Rattle.sporc_play.proofs.MadeEntries.{rogue_there, sign_stands, signing_told}
 use Rattle.sporc_play.proofs.Places.{element}

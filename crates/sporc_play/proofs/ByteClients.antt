@@ -1,5 +1,5 @@
 -- The keys that the clients of a play hold, and those of the members whom they are to add, are strings of bytes.
-use Rattle.std.proofs.Common.{◌≡◌, ℕ, Bool, true, false, cond, List, [], ◌∷◌, ◌++◌, drop, map, take, refl, sym, ap, ◌∙◌, subst, Option, None, Some, IfSome}
+use Rattle.std.proofs.Common.{◌≡◌, ℕ, Bool, true, false, cond, List, [], ◌∷◌, ◌++◌, drop, take, refl, subst, Option, None, Some, IfSome}
 use Rattle.std.specs.Prelude.{◌==◌, is_some}
 use Rattle.std.specs.FinMap.{get}
 use Rattle.std.specs.List.{AllByRecursion}

@@ -1,11 +1,8 @@
 -- Strings of bytes: digests, masks, signatures, deltas and the entries that are made of them.
-use Rattle.std.proofs.Common.{◌≡◌, ℕ, zero, suc, ◌+◌, ◌/◌, ◌%◌, ◌^◌, ◌<◌, ◌≤◌, Bool, true, false, cond, ltb, ltb→lt, nltb→le, ◌&&◌, List, [], ◌∷◌, ◌++◌, length, map, drop, take, replicate, refl, sym, ap, ◌∙◌, subst, arith, Option, None, Some, IfSome}
-use Rattle.std.specs.Prelude.{slice_index, bit_xor, ⊤}
-use Rattle.std.specs.Char.{encode_utf8}
+use Rattle.std.proofs.Common.{ℕ, zero, suc, ◌+◌, ◌%◌, ◌<◌, List, [], ◌∷◌, ◌++◌, drop, take, replicate, arith}
+use Rattle.std.specs.Prelude.{slice_index}
 use Rattle.std.specs.Int.{w16, w32, w64, to_be_bytes, to_le_bytes}
-use Rattle.std.specs.List.{AllByRecursion, flat_map}
-use Rattle.std.specs.Str.{all_scalars, encode_utf8_all}
-use Rattle.std.proofs.lemmas.Bool.{and_parts}
+use Rattle.std.specs.List.{AllByRecursion}
 use Rattle.std.proofs.lemmas.Nat.{xor_of_8}
 use Rattle.sha2.specs.Sha256.{digest_bytes, sha256}
 use Rattle.lms_ots.specs.Chains.{chain_of, concatenated}

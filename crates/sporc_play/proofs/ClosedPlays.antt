@@ -1,9 +1,8 @@
 -- Plays in which clients make all entries are closed: what is handed out was signed by a client of the play.
-use Rattle.std.proofs.Common.{◌≡◌, ℕ, zero, suc, ◌+◌, Bool, true, false, cond, List, [], ◌∷◌, ◌++◌, length, map, refl, sym, ap, ◌∙◌, subst, arith, Option, None, Some, Result, Ok, Err}
-use Rattle.std.specs.Prelude.{⊤, Contains, if◌then◌else◌, nat_le}
+use Rattle.std.proofs.Common.{◌≡◌, ℕ, zero, suc, ◌+◌, Bool, true, false, cond, List, [], ◌∷◌, ◌++◌, length, map, refl, sym, subst, arith, Option, None, Some, Result, Ok, Err}
+use Rattle.std.specs.Prelude.{Contains, if◌then◌else◌, nat_le}
 use Rattle.std.specs.List.{AllByRecursion}
 use Rattle.std.proofs.lemmas.List.Elements.{Contains-append_left, Contains-append_right}
-use Rattle.sporc_member.specs.declared.change.Change.{Change as MemberChange}
 use Rattle.sporc_member.specs.declared.founder.Founder.{Founder}
 use Rattle.sporc_member.specs.Roster.{insert_sorted}
 use Rattle.sporc_epoch.specs.Keys.{Keys}
@@ -16,13 +15,11 @@ use Rattle.std.specs.FinMap.{get}
 use Rattle.sporc_client.specs.declared.fault.SubmitFault.{SubmitFault}
 use Rattle.sporc_client.specs.declared.submitted.Submitted.{Submitted}
 use Rattle.sporc_client.specs.declared.submitted.Submitted.TheVariants as submitted
-use Rattle.sporc_client.specs.Answers.{change_fault, discard_fault, edit_fault, refusal_of}
-use Rattle.sporc_client.specs.Closed.{AreClosed, HasItsKey, IsClosed, IsClosedMove, IsSigned}
-use Rattle.sporc_client.specs.Log.{Logged, Accept, Change, Discard, Dropped, Edit, Submit}
+use Rattle.sporc_client.specs.Answers.{change_fault, discard_fault, edit_fault}
+use Rattle.sporc_client.specs.Closed.{AreClosed, HasItsKey, IsClosedMove, IsSigned}
+use Rattle.sporc_client.specs.Log.{Logged, Change, Discard, Dropped, Edit, Submit}
 use Rattle.sporc_client.specs.PlainClient.{PlainClient}
-use Rattle.sporc_client.specs.Run.{Setup, Signing, World, Move, Genuine, Give, Happen, Open, Restart, after, after_all, given, gives_to, happens_to, restarts as restarts_in, signings, start}
-use Rattle.sporc_client.specs.Typed.{IsTypedRun}
-use Rattle.sporc_client.proofs.Calls.{after_append}
+use Rattle.sporc_client.specs.Run.{Setup, Signing, World, Move, Genuine, Give, Happen, Open, Restart, after, after_all, gives_to, happens_to, restarts as restarts_in, signings, start}
 use Rattle.sporc_client.proofs.ClosedRuns.{closed_runs_are_genuine}
 use Rattle.sporc_client.proofs.RosterFacts.{all_added}
 use Rattle.sporc_delta.specs.Marks.{Mark}
@@ -34,11 +31,11 @@ use Rattle.sporc_script.specs.declared.member_role.MemberRole.{MemberRole}
 use Rattle.sporc_script.specs.declared.play_line.PlayLine.{PlayLine}
 use Rattle.sporc_script.specs.declared.roster_change.RosterChange.{RosterChange}
 use Rattle.sporc_script.specs.declared.roster_change.RosterChange.TheVariants as changes
-use Rattle.sporc_play.specs.Cast.{first_ring, founder_of, has_admin, member_change, openers_by, private_of, public_of, setup_of, tree_of}
+use Rattle.sporc_play.specs.Cast.{first_ring, founder_of, has_admin, member_change, openers_by, public_of, setup_of, tree_of}
 use Rattle.sporc_play.specs.Logs.{change_events, discard_events, edit_logged, logged_unless}
 use Rattle.sporc_play.specs.Moves.{moves_from, moves_of}
 use Rattle.sporc_play.specs.OwnPlays.{AreByClients, IsByClients}
-use Rattle.sporc_play.specs.Scene.{Act, Scene, act_of, adds, commands_of, delta_by, edit_events, entries_at, entry_at, gives, if_open, joins, joins_with, nothing, opening, opening_moves, openings, opens_unless, opens_with, restarts, seen_by, submission_in, submits}
+use Rattle.sporc_play.specs.Scene.{Act, Scene, act_of, adds, commands_of, delta_by, edit_events, entries_at, entry_at, gives, if_open, joins, nothing, opening, opening_moves, openings, opens_unless, opens_with, restarts, seen_by, submission_in, submits}
 use Rattle.sporc_play.specs.Scene as scenes
 use Rattle.sporc_play.proofs.Founders.{founders, inserted}
 use Rattle.sporc_play.proofs.OneRun.{one_run}

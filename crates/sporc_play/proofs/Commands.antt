@@ -1,28 +1,27 @@
 -- Commands that act on one client, on the state and on the scene that it stands for.
-use Rattle.std.proofs.Common.{◌≡◌, ◌≢◌, ℕ, ◌+◌, Bool, true, false, cond, List, [], ◌∷◌, ◌++◌, length, take, map, refl, sym, ap, ◌∙◌, subst, append-nil, Option, None, Some, option_map}
-use Rattle.std.specs.Prelude.{nat_le, slice_get}
+use Rattle.std.proofs.Common.{◌≡◌, ℕ, ◌+◌, Bool, true, false, cond, List, [], ◌∷◌, ◌++◌, length, take, map, refl, sym, ap, ◌∙◌, subst, append-nil, Option, None, Some, option_map}
+use Rattle.std.specs.Prelude.{nat_le}
 use Rattle.sporc_outside.specs.MemoryDisk.{MemoryDiskContent}
 use Rattle.sporc_head.specs.declared.refusal.Refusal.{Refusal}
 use Rattle.sporc_client.specs.Answers.{journal_has_room, refusal_of}
 use Rattle.sporc_client.specs.ClientModel.{ClientModel, state_of}
 use Rattle.sporc_client.specs.Log.{Logged}
 use Rattle.sporc_client.specs.PlainClient.{Opening, PlainClient}
-use Rattle.sporc_client.specs.Run.{Setup, World, Move, Give, Restart, after_all, given, restarted}
+use Rattle.sporc_client.specs.Run.{Setup, Move, Give, Restart, given, restarted}
 use Rattle.sporc_client.specs.Step.{accepted, log_of_entries, replay, replay_from}
 use Rattle.sporc_client.proofs.Calls.{replay_append, replay_opening}
-use Rattle.sporc_script.specs.declared.command.Command.{Command}
 use Rattle.sporc_script.specs.declared.play_line.PlayLine.{PlayLine}
 use Rattle.sporc_play.specs.declared.seat.Seat.{Seat}
 use Rattle.sporc_play.specs.declared.state.PlayState.{PlayState}
 use Rattle.sporc_play.specs.Cast.{setup_of}
-use Rattle.sporc_play.specs.Logs.{accepted_event, events_by, first_accepts, given_by, given_events, log_after, logs_after, restarted_log}
+use Rattle.sporc_play.specs.Logs.{accepted_event, events_by, first_accepts, given_by, given_events}
 use Rattle.sporc_play.specs.Report.{line_by}
-use Rattle.sporc_play.specs.Scene.{Act, Scene, adds, gives, if_open, moved, nothing, restarts}
+use Rattle.sporc_play.specs.Scene.{Scene, adds, gives, if_open, moved, nothing, restarts}
 use Rattle.sporc_play.specs.Seats.{IsSeatAt, client_restarted, plain_in, seat_logged, seat_restarted}
 use Rattle.sporc_play.specs.Stage.{IsSeatOf, StandsFor}
 use Rattle.sporc_play.proofs.Moved.{AreOf, client_given, client_restarted as client_goes_back, happens_of, log_moved}
 use Rattle.sporc_play.proofs.Places.{at_place}
-use Rattle.sporc_play.proofs.Seating.{ChangesSeat, Does, IsSameAt, client_moved, same_for_all, same_for_others, seat_adds, seat_kept, stands_seat, with_client}
+use Rattle.sporc_play.proofs.Seating.{ChangesSeat, Does, client_moved, same_for_all, same_for_others, seat_adds, seat_kept, stands_seat, with_client}
 
 -- ---- the seat that a command names
 

@@ -1,11 +1,10 @@
 -- The moves by which the founders open their clients are a run.
-use Rattle.std.proofs.Common.{◌≡◌, ℕ, zero, suc, ◌+◌, ◌^◌, ◌<◌, Bool, true, false, cond, eqb, List, [], ◌∷◌, ◌++◌, length, map, refl, sym, ap, ◌∙◌, subst, arith, Option, None, Some, IfSome, inl, inr}
+use Rattle.std.proofs.Common.{◌≡◌, ℕ, suc, ◌+◌, ◌^◌, ◌<◌, Bool, true, false, cond, eqb, List, [], ◌∷◌, ◌++◌, length, map, refl, sym, ap, ◌∙◌, subst, arith, Option, Some, IfSome, inl, inr}
 use Rattle.std.specs.Prelude.{Contains, IsSomeAnd, filter_map, if◌then◌else◌}
 use Rattle.std.specs.Cmp.{nat_cmp_total, unsigned_tied}
 use Rattle.std.specs.FinMap.{empty, get, insert, get-empty, get-insert}
-use Rattle.std.specs.List.{AllByRecursion, cons_option}
+use Rattle.std.specs.List.{AllByRecursion}
 use Rattle.std.specs.Ordering.{nat_cmp, eq_by_cmp}
-use Rattle.std.proofs.lemmas.Bool.Decides.{nat_tests}
 use Rattle.sha2.proofs.Facts256.{length-sha256}
 use Rattle.sporc_hash.specs.Chain.{commitment_of}
 use Rattle.sporc_epoch.specs.Keys.{Keys}
@@ -18,9 +17,8 @@ use Rattle.sporc_script.specs.declared.command.Command.{Command}
 use Rattle.sporc_script.specs.declared.command.Command.TheVariants as commands
 use Rattle.sporc_script.specs.declared.play_line.PlayLine.{PlayLine}
 use Rattle.sporc_play.specs.Cast.{first_ring, has_admin, member_by, opener_by, openers_by, setup_of, tree_of}
-use Rattle.sporc_play.specs.Derived.{document_number, first_key}
+use Rattle.sporc_play.specs.Derived.{first_key}
 use Rattle.sporc_play.specs.Scene.{opening_moves, openings}
-use Rattle.sporc_play.specs.Stage.{AreDeclared}
 use Rattle.sporc_play.proofs.Founders.{are_declared, identifier_len}
 use Rattle.sporc_play.proofs.Places.{among_cases, among_here, among_more}
 use Rattle.sporc_play.proofs.Scripts.{Follows, script_follows}

@@ -1,19 +1,18 @@
 -- The generated run is a run of its three members' clients.
-use Rattle.std.proofs.Common.{◌≡◌, ℕ, zero, suc, ◌+◌, ◌-◌, ◌*◌, ◌/◌, ◌%◌, ◌^◌, ◌<◌, ◌≤◌, ◌==◌, ◌&&◌, Bool, true, false, List, [], ◌∷◌, ◌++◌, map, refl, ap, ◌∙◌, arith, None}
+use Rattle.std.proofs.Common.{◌≡◌, ℕ, zero, suc, ◌+◌, ◌-◌, ◌*◌, ◌/◌, ◌%◌, ◌^◌, ◌<◌, ◌≤◌, ◌==◌, ◌&&◌, Bool, true, false, List, [], ◌∷◌, ◌++◌, map, ap, arith, None}
 use Rattle.std.specs.Prelude.{Contains, flat_map, if◌then◌else◌}
 use Rattle.std.specs.List.{AllByRecursion}
 use Rattle.std.specs.Str.{all_scalars}
 use Rattle.std.proofs.Math.Nat.{mod-le}
 use Rattle.std.proofs.Math.Utf8.{low_scalar}
 use Rattle.std.proofs.lemmas.Nat.{mod_below}
-use Rattle.sporc_client.specs.Run.{Setup, start}
+use Rattle.sporc_client.specs.Run.{start}
 use Rattle.sporc_client.specs.Typed.{IsTypedRun}
 use Rattle.sporc_client.specs.WellFormed.{IsWellFormed}
 use Rattle.sporc_script.specs.Spelling.{TextEditInRange}
-use Rattle.sporc_script.specs.declared.command.Command.{Command}
 use Rattle.sporc_script.specs.declared.command.Command.TheVariants as commands
 use Rattle.sporc_script.specs.declared.limits.TheConstants.{MAX_GENERATED}
-use Rattle.sporc_play.specs.Cast.{setup_of, tree_of}
+use Rattle.sporc_play.specs.Cast.{setup_of}
 use Rattle.sporc_play.specs.Generated.{batch, batches, edits, generated_cast, generated_commands, generated_edit, gives, inserts, removes, seen_len, submits, up_to}
 use Rattle.sporc_play.specs.Moves.{IsOneRun}
 use Rattle.sporc_play.specs.Scene.{Scene, opening_moves}

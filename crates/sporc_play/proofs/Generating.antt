@@ -1,5 +1,5 @@
 -- What the generated run declares, and whose clients are open in it.
-use Rattle.std.proofs.Common.{◌≡◌, ◌≢◌, ℕ, zero, suc, ◌+◌, ◌<◌, ◌^◌, true, false, List, [], ◌∷◌, length, get_or, Some, None, refl, ap, subst, sym, inl, inr, arith}
+use Rattle.std.proofs.Common.{◌≡◌, ◌≢◌, ℕ, zero, suc, ◌<◌, ◌^◌, false, [], ◌∷◌, length, None, refl, ap, subst, inl, inr, arith}
 use Rattle.std.specs.Prelude.{IsSome, is_none}
 use Rattle.std.specs.List.Sorted.{IsStrictlyIncreasing}
 use Rattle.std.proofs.lemmas.Bool.{cases_lt}
@@ -9,10 +9,9 @@ use Rattle.sporc_entry.specs.Genesis.{IsFounder, IsGenesis, founders_fault}
 use Rattle.sporc_member.specs.declared.role.Role.{Role}
 use Rattle.sporc_member.specs.declared.role.Role.TheVariants.{Admin, Editor}
 use Rattle.sporc_hash.specs.Chain.{commitment_string}
-use Rattle.sporc_client.specs.Run.{start}
 use Rattle.sporc_play.specs.declared.state.PlayState.{PlayState}
 use Rattle.sporc_play.specs.Batches.{AreOpen, IsAsked}
-use Rattle.sporc_play.specs.Cast.{founder_of, founders_of, genesis_of, has_admin, public_of, setup_of, tree_of}
+use Rattle.sporc_play.specs.Cast.{founder_of, founders_of, genesis_of, public_of, setup_of, tree_of}
 use Rattle.sporc_play.specs.Derived.{document_number, first_key}
 use Rattle.sporc_play.specs.Generated.{generated_cast, generated_commands, generated_scene}
 use Rattle.sporc_play.specs.Scene.{opening}

@@ -1,5 +1,5 @@
 -- The keys of epochs that are read off a history of bytes are bytes.
-use Rattle.std.proofs.Common.{◌≡◌, ℕ, zero, suc, Bool, true, false, cond, List, [], ◌∷◌, ◌++◌, length, map, take, refl, sym, ap, ◌∙◌, subst, Option, None, Some, Result, Ok, Err, IfSome}
+use Rattle.std.proofs.Common.{◌≡◌, ℕ, zero, suc, Bool, true, false, cond, List, [], ◌∷◌, ◌++◌, length, map, take, refl, sym, subst, Option, None, Some, Result, Ok, Err, IfSome}
 use Rattle.std.specs.Prelude.{◌==◌, find, flat_map, is_some, option_and_then, slice_get, unwrap_or}
 use Rattle.std.specs.FinMap.{get}
 use Rattle.std.specs.Int.{w16, w32, to_be_bytes}

@@ -1,6 +1,6 @@
 -- A joiner's client opens with keys of epochs, one of which meets the commitment of the genesis.
 use Rattle.std.proofs.Common.{◌≡◌, ℕ, zero, suc, ◌+◌, Bool, true, false, cond, List, [], ◌∷◌, ◌++◌, length, map, reverse, take, refl, sym, ap, ◌∙◌, subst, not, Option, None, Some, Result, Ok, Err, IfOk, IfSome}
-use Rattle.std.specs.Prelude.{◌==◌, Contains, IsSomeAnd, find, is_some, option_and_then, take_while}
+use Rattle.std.specs.Prelude.{◌==◌, Contains, option_and_then, take_while}
 use Rattle.std.specs.Cmp.{nat_cmp_total}
 use Rattle.std.specs.FinMap.{empty, get, insert, get-empty, get-insert}
 use Rattle.std.specs.List.{AllByRecursion}
@@ -13,13 +13,12 @@ use Rattle.sporc_base.specs.FirstFault.{first_of, unless}
 use Rattle.sporc_cipher.specs.Mask.{mask_of}
 use Rattle.sporc_cipher.proofs.Stream.{length-mask_from}
 use Rattle.sporc_hash.specs.Chain.{commitment_of}
-use Rattle.sporc_entry.specs.declared.change.ChangeBody.{ChangeBody}
 use Rattle.sporc_entry.specs.declared.genesis.Genesis.{Genesis}
 use Rattle.sporc_entry.specs.declared.wrap.Wrap.{Wrap}
-use Rattle.sporc_entry.specs.ChangeBody.{IsChangeBody, IsWrap}
+use Rattle.sporc_entry.specs.ChangeBody.{IsWrap}
 use Rattle.sporc_epoch.specs.declared.fault.HintFault.{HintFault}
 use Rattle.sporc_epoch.specs.declared.fault.HintFault.TheVariants.{WrongKey}
-use Rattle.sporc_epoch.specs.Hints.{hints_at, hints_of, hints_under, is_committed, is_of, joining, joins as joins_by, keys_back, ring_of, start_by, starts_before, with_key, with_keys}
+use Rattle.sporc_epoch.specs.Hints.{hints_at, hints_of, hints_under, is_committed, is_of, joining, joins as joins_by, keys_back, ring_of, start_by, with_key, with_keys}
 use Rattle.sporc_epoch.specs.Keys.{Keys}
 use Rattle.sporc_epoch.specs.Streams.{entry_stream, previous_stream}
 use Rattle.sporc_epoch.specs.Wraps.{opened_under, wrap_for, wrap_opened}
@@ -27,19 +26,19 @@ use Rattle.sporc_head.specs.History.{CommittedChange, changes}
 use Rattle.sporc_line.specs.declared.fault.LineOpenFault.{LineOpenFault}
 use Rattle.sporc_line.specs.declared.fault.LineOpenFault.TheVariants as line_faults
 use Rattle.sporc_line.specs.Good.{Meets}
-use Rattle.sporc_line.specs.Openings.{open_checks, opens}
+use Rattle.sporc_line.specs.Openings.{open_checks}
 use Rattle.sporc_client.specs.PlainClient.{PlainClient}
 use Rattle.sporc_client.specs.Run.{Setup}
 use Rattle.sporc_client.specs.Typed.{AreEpochKeys}
 use Rattle.sporc_client.proofs.TypedHistories.{IsTypedCommitted, changes_typed}
 use Rattle.sporc_script.specs.declared.command.Command.TheVariants as commands
 use Rattle.sporc_script.specs.declared.command.Join.{Join}
-use Rattle.sporc_play.specs.Scene.{Scene, entries_at, entry_at, joins, joins_with, opens_unless, opens_with, with_entry}
+use Rattle.sporc_play.specs.Scene.{Scene, entries_at, entry_at, joins, opens_unless, opens_with, with_entry}
 use Rattle.sporc_play.proofs.Acts.{made_bytes, no_act}
 use Rattle.sporc_play.proofs.ByteClients.{AreByteKeys}
 use Rattle.sporc_play.proofs.ByteFacts.{AreBytes, bytes_mask, is_bytes}
 use Rattle.sporc_play.proofs.HistoryKeys.{IsByteCommitted, changes_bytes, found}
-use Rattle.sporc_play.proofs.Runs.{HasCome, MayAct, MayBe}
+use Rattle.sporc_play.proofs.Runs.{MayAct, MayBe}
 
 -- ---- the entries that are handed over
 

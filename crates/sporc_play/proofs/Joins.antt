@@ -1,5 +1,5 @@
 -- Joiners, on the state and on the scene that it stands for.
-use Rattle.std.proofs.Common.{◌≡◌, ◌≢◌, ℕ, ◌+◌, List, [], ◌∷◌, ◌++◌, map, refl, sym, ap, ◌∙◌, subst, append-nil, Option, None, Some, option_map, Result, Ok, Err}
+use Rattle.std.proofs.Common.{◌≡◌, ℕ, ◌+◌, List, [], ◌∷◌, ◌++◌, map, refl, sym, ap, ◌∙◌, subst, append-nil, Option, None, Some, Result, Ok, Err}
 use Rattle.std.specs.FinMap.{get}
 use Rattle.lms_sign.specs.Signer.{SignerContent}
 use Rattle.lms_tree.specs.LmsPrivate.{LmsPrivate}
@@ -10,18 +10,18 @@ use Rattle.sporc_epoch.specs.Keys.{Keys}
 use Rattle.sporc_line.specs.Openings.{open_checks}
 use Rattle.sporc_line.specs.declared.fault.LineOpenFault.{LineOpenFault}
 use Rattle.sporc_outside.specs.MemoryDisk.{MemoryDiskContent}
-use Rattle.sporc_client.specs.ClientModel.{ClientModel, state_of}
+use Rattle.sporc_client.specs.ClientModel.{ClientModel}
 use Rattle.sporc_client.specs.Log.{Logged}
 use Rattle.sporc_client.specs.PlainClient.{Opening, PlainClient, opened}
-use Rattle.sporc_client.specs.Run.{Setup, World, Move, Open, opening_of}
+use Rattle.sporc_client.specs.Run.{Setup, World, Open, opening_of}
 use Rattle.sporc_client.specs.Step.{replay}
 use Rattle.sporc_script.specs.declared.play_line.PlayLine.{PlayLine}
 use Rattle.sporc_play.specs.declared.seat.Seat.{Seat}
 use Rattle.sporc_play.specs.declared.state.PlayState.{PlayState}
 use Rattle.sporc_play.specs.Cast.{setup_of}
-use Rattle.sporc_play.specs.Joined.{client_with, seat_by, seat_joined, seat_open, seat_unless, seat_with}
-use Rattle.sporc_play.specs.Scene.{Act, Scene, joins, joins_with, opens_unless, opens_with}
-use Rattle.sporc_play.specs.Seats.{IsReady, IsSeatAt, plain_in}
+use Rattle.sporc_play.specs.Joined.{client_with, seat_by, seat_joined, seat_open, seat_unless}
+use Rattle.sporc_play.specs.Scene.{Act, Scene, joins, opens_unless, opens_with}
+use Rattle.sporc_play.specs.Seats.{IsReady, IsSeatAt}
 use Rattle.sporc_play.specs.Stage.{Holds, IsSeatOf, IsSignerOf, StandsFor}
 use Rattle.sporc_play.proofs.Commands.{seat_there}
 use Rattle.sporc_play.proofs.Moved.{AreOf, client_opened, log_moved}

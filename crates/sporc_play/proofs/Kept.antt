@@ -1,10 +1,9 @@
 -- Entries that are made of others, and comparisons: what a state becomes, and what is told.
-use Rattle.std.proofs.Common.{◌≡◌, ℕ, zero, suc, ◌+◌, ◌-◌, ◌<◌, ◌≤◌, List, [], ◌∷◌, ◌++◌, length, take, map, set, get_or, refl, sym, ap, ap₂, ◌∙◌, subst, arith, append-nil, Option, None, Some, option_map}
+use Rattle.std.proofs.Common.{◌≡◌, ℕ, zero, suc, ◌+◌, ◌-◌, ◌<◌, ◌≤◌, List, [], ◌∷◌, ◌++◌, length, take, set, refl, sym, ap, ◌∙◌, subst, arith, Option, None, Some, option_map}
 use Rattle.std.specs.Prelude.{◌↔◌, IfSome, slice_get}
 use Rattle.sporc_outside.specs.MemoryDisk.{MemoryDiskContent}
 use Rattle.sporc_client.specs.ClientModel.{ClientModel, state_of}
 use Rattle.sporc_client.specs.PlainClient.{Opening, PlainClient}
-use Rattle.sporc_client.specs.Run.{Setup}
 use Rattle.sporc_client.proofs.Calls.{replay_opening}
 use Rattle.sporc_entry.specs.declared.genesis.Genesis.{Genesis}
 use Rattle.sporc_entry.specs.Genesis.{genesis_bytes}

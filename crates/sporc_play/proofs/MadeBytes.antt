@@ -1,12 +1,9 @@
 -- The entries that clients make are strings of bytes.
-use Rattle.std.proofs.Common.{◌≡◌, ℕ, ◌+◌, ◌<◌, Bool, true, List, [], ◌∷◌, ◌++◌, drop, length, map, take, refl, sym, ap, ◌∙◌, subst, arith, Option, None, Some, Result, Ok, Err}
-use Rattle.std.specs.Prelude.{filter_map, flat_map, option_map}
+use Rattle.std.proofs.Common.{ℕ, ◌+◌, ◌<◌, List, [], ◌∷◌, ◌++◌, length, arith, Option, None, Some}
+use Rattle.std.specs.Prelude.{flat_map, option_map}
 use Rattle.std.specs.FinMap.{get}
 use Rattle.std.specs.Int.{w16, to_be_bytes}
 use Rattle.std.specs.List.{AllByRecursion, cons_option}
-use Rattle.std.specs.Str.{all_scalars}
-use Rattle.lms_leaf.specs.declared.faults.LeafFault.{LeafFault}
-use Rattle.sporc_base.specs.Bytes.{IsBytes}
 use Rattle.sporc_cipher.specs.Mask.{mask_of}
 use Rattle.sporc_delta.specs.Format.{delta_bytes}
 use Rattle.sporc_hash.specs.Chain.{genesis_value, last_value, next_value, value_after}
@@ -21,17 +18,16 @@ use Rattle.sporc_entry.specs.ChangeBody.{change_body_bytes, change_bytes, wrap_b
 use Rattle.sporc_entry.specs.Entry.{signed_string}
 use Rattle.sporc_entry.specs.Genesis.{genesis_bytes}
 use Rattle.sporc_epoch.specs.Keys.{Keys}
-use Rattle.sporc_epoch.specs.Sealing.{body_sealed, wrap_sealed, wraps_sealed}
+use Rattle.sporc_epoch.specs.Sealing.{body_sealed, wraps_sealed}
 use Rattle.sporc_epoch.specs.Streams.{entry_stream, previous_stream}
 use Rattle.sporc_client.specs.declared.pending.Pending.{Pending}
 use Rattle.sporc_client.specs.declared.pending.Pending.TheVariants as items
-use Rattle.sporc_client.specs.declared.submitted.Submitted.TheVariants as submitted
-use Rattle.sporc_client.specs.Entries.{Chosen, body_of, bytes_made, current_key, entry_made, kind_of, next_header, sealing_of, unsigned_entry}
+use Rattle.sporc_client.specs.Entries.{Chosen, body_of, bytes_made, current_key, entry_made, kind_of, sealing_of, unsigned_entry}
 use Rattle.sporc_client.specs.PlainClient.{PlainClient, me_of}
 use Rattle.sporc_client.proofs.Spellings.{AreTypedItems, HasScalars}
 use Rattle.sporc_play.proofs.ByteClients.{IsByteChange, IsByteItem}
 use Rattle.sporc_play.proofs.ByteFacts.{AreBytes, bytes_16, bytes_append, bytes_mask, bytes_sha}
-use Rattle.sporc_play.proofs.SignedBytes.{IsByteHeader, bytes_entry, bytes_signature}
+use Rattle.sporc_play.proofs.SignedBytes.{bytes_entry, bytes_signature}
 use Rattle.sporc_play.proofs.TextBytes.{delta_are}
 
 -- ---- changes

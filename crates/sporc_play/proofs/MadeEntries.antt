@@ -1,5 +1,5 @@
 -- Commands that make entries without a client: of another entry, or for a rogue.
-use Rattle.std.proofs.Common.{◌≡◌, ◌≢◌, ℕ, ◌+◌, List, [], ◌∷◌, ◌++◌, length, map, refl, sym, ap, ap₂, ◌∙◌, subst, Option, None, Some, option_map, Result, Ok, Err}
+use Rattle.std.proofs.Common.{◌≡◌, ℕ, ◌+◌, List, [], ◌++◌, length, map, refl, sym, ap, ap₂, ◌∙◌, subst, Option, None, Some, option_map, Result}
 use Rattle.std.specs.Option.{option_to_list}
 use Rattle.lms_leaf.specs.declared.faults.LeafFault.{LeafFault}
 use Rattle.lms_tree.specs.LmsPrivate.{LmsPrivate}
@@ -8,7 +8,6 @@ use Rattle.sporc_client.specs.ClientModel.{ClientModel, state_of}
 use Rattle.sporc_client.specs.PlainClient.{PlainClient}
 use Rattle.sporc_client.specs.Run.{Setup}
 use Rattle.sporc_script.specs.declared.command.Command.TheVariants as commands
-use Rattle.sporc_script.specs.declared.command.Flip.{Flip}
 use Rattle.sporc_script.specs.declared.play_line.PlayLine.{PlayLine}
 use Rattle.sporc_script.specs.declared.sign.Forgery.{Forgery}
 use Rattle.sporc_play.specs.declared.seat.Rogue.{Rogue}

@@ -2,7 +2,6 @@
 use Rattle.std.proofs.Common.{◌≡◌, List, ℕ, true, [], ◌∷◌, ◌++◌, refl, sym, ap, ◌∙◌, subst, append_assoc}
 use Rattle.std.specs.Prelude.{Contains}
 use Rattle.std.specs.List.{AllByRecursion}
-use Rattle.sporc_client.specs.Run.{Setup}
 use Rattle.std.proofs.lemmas.Bool.{and_parts}
 use Rattle.sporc_script.specs.Commands.{InRange}
 use Rattle.sporc_script.specs.Declarations.{declared_by as declarations, may_follow, names_performers}
@@ -13,7 +12,7 @@ use Rattle.sporc_script.specs.declared.command.Command.TheVariants as commands
 use Rattle.sporc_script.specs.declared.play_line.PlayLine.{PlayLine}
 use Rattle.sporc_play.specs.Cast.{has_admin, setup_of}
 use Rattle.sporc_play.specs.Moves.{IsOneRun}
-use Rattle.sporc_play.specs.Scene.{Scene, commands_of}
+use Rattle.sporc_play.specs.Scene.{commands_of}
 use Rattle.sporc_play.proofs.Acts.{change_acts, cut_acts, discard_acts, edit_acts, flip_acts, give_acts, no_act, restart_acts}
 use Rattle.sporc_play.proofs.FirstMoves.{first_run}
 use Rattle.sporc_play.proofs.Runs.{MayBe, play_runs}

@@ -1,17 +1,15 @@
 -- The state before the first command.
-use Rattle.std.proofs.Common.{◌≡◌, ℕ, ◌≤◌, Bool, true, false, List, [], ◌∷◌, ◌++◌, length, take, map, fold, refl, sym, ap, ap₂, ◌∙◌, subst, arith, Option, None, Some, option_map}
-use Rattle.std.specs.Prelude.{filter_map, if◌then◌else◌}
+use Rattle.std.proofs.Common.{◌≡◌, ℕ, ◌≤◌, Bool, true, false, List, [], ◌∷◌, length, map, fold, refl, sym, ap, ap₂, ◌∙◌, subst, Option, None, Some, option_map}
+use Rattle.std.specs.Prelude.{if◌then◌else◌}
 use Rattle.std.specs.FinMap.{empty, insert}
 use Rattle.std.specs.List.{All, AllByRecursion, list_any}
 use Rattle.std.proofs.lemmas.List.{take_all}
 use Rattle.std.proofs.lemmas.List.Elements.{All-from_recursion}
 use Rattle.lms_sign.specs.Signer.{SignerContent}
 use Rattle.sporc_outside.specs.MemoryDisk.{MemoryDiskContent}
-use Rattle.sporc_member.specs.declared.founder.Founder.{Founder}
-use Rattle.sporc_member.specs.Role.{is_admin}
 use Rattle.sporc_epoch.specs.Keys.{Keys}
 use Rattle.sporc_client.specs.ClientModel.{ClientModel, state_of}
-use Rattle.sporc_client.specs.Run.{Move, Setup, key_of_member}
+use Rattle.sporc_client.specs.Run.{Move}
 use Rattle.sporc_script.specs.declared.command.Pair.{Pair}
 use Rattle.sporc_script.specs.declared.command.Tree.{Tree}
 use Rattle.sporc_script.specs.declared.play_line.PlayLine.{PlayLine}
@@ -22,9 +20,9 @@ use Rattle.sporc_play.specs.declared.seat.Seat.{Seat}
 use Rattle.sporc_play.specs.declared.state.PlayState.{PlayState}
 use Rattle.sporc_play.specs.Cast.{founders_of, genesis_by, has_admin, is_pair, private_of, public_of, setup_of, tree_of}
 use Rattle.sporc_play.specs.Derived.{pair_key}
-use Rattle.sporc_play.specs.Opening.{HasBlank, HaveDeclared, IsBlank, IsFresh, IsFreshRogue}
-use Rattle.sporc_play.specs.Scene.{Scene, opening, openings, scene_moved, scene_opened}
-use Rattle.sporc_play.specs.Stage.{AreDeclared, Holds, IsCastOf, IsRogueOf, IsSeatOf, StandsFor, pairs_among}
+use Rattle.sporc_play.specs.Opening.{HasBlank, HaveDeclared, IsFresh, IsFreshRogue}
+use Rattle.sporc_play.specs.Scene.{opening, openings, scene_moved, scene_opened}
+use Rattle.sporc_play.specs.Stage.{AreDeclared, Holds, IsCastOf, IsRogueOf, IsSeatOf, StandsFor}
 
 -- ---- who takes part
 

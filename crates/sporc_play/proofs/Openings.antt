@@ -1,13 +1,11 @@
 -- The clients of the founders open, one line after another.
-use Rattle.std.proofs.Common.{◌≡◌, ◌≢◌, ℕ, zero, suc, ◌+◌, ◌<◌, ◌≤◌, List, [], ◌∷◌, ◌++◌, length, take, get_or, map, refl, sym, ap, ◌∙◌, subst, arith, append-nil, Option, None, Some, option_map}
+use Rattle.std.proofs.Common.{◌≡◌, ℕ, zero, suc, ◌+◌, ◌<◌, List, [], ◌∷◌, ◌++◌, length, take, get_or, map, refl, sym, ap, ◌∙◌, subst, arith, append-nil, Option, None, Some, option_map}
 use Rattle.std.specs.Prelude.{◌==◌, Contains, filter_map, if◌then◌else◌}
 use Rattle.std.specs.List.{cons_option}
 use Rattle.std.proofs.lemmas.List.Elements.{filter_map-append}
-use Rattle.lms_sign.specs.Signer.{SignerContent}
 use Rattle.sporc_outside.specs.MemoryDisk.{MemoryDiskContent}
 use Rattle.sporc_client.specs.ClientModel.{ClientModel, state_of}
 use Rattle.sporc_client.specs.Log.{Logged}
-use Rattle.sporc_client.specs.PlainClient.{PlainClient}
 use Rattle.sporc_client.specs.Run.{Setup, World, Move, Open, after, after_all, start}
 use Rattle.sporc_client.proofs.Calls.{after_append}
 use Rattle.sporc_script.specs.declared.command.Command.{Command}
@@ -21,7 +19,7 @@ use Rattle.sporc_play.specs.Cast.{first_ring, member_by, opener_by, openers_by, 
 use Rattle.sporc_play.specs.Joined.{seat_open}
 use Rattle.sporc_play.specs.Logs.{log_after, logs_after, mover_of}
 use Rattle.sporc_play.specs.Scene.{Scene, openings, scene_moved, scene_opened}
-use Rattle.sporc_play.specs.Seats.{IsSeatAt, plain_in}
+use Rattle.sporc_play.specs.Seats.{IsSeatAt}
 use Rattle.sporc_play.specs.Stage.{IsSeatOf, StandsFor}
 use Rattle.sporc_play.proofs.Becoming.{entries_of}
 use Rattle.sporc_play.proofs.Commands.{seat_there}

@@ -1,11 +1,11 @@
 -- The keys that a play derives are such as a genesis can have.
-use Rattle.std.proofs.Common.{◌≡◌, ℕ, zero, suc, ◌+◌, ◌<◌, ◌≤◌, ◌^◌, List, ◌∷◌, ◌++◌, length, take, Some, ap, ◌∙◌, arith, length-append}
+use Rattle.std.proofs.Common.{◌≡◌, ℕ, zero, suc, ◌+◌, ◌<◌, ◌^◌, ◌∷◌, ◌++◌, length, take, Some, arith, length-append}
 use Rattle.std.proofs.lemmas.List.{length-take-le}
 use Rattle.std.specs.Int.{w16, w32, to_be_bytes}
 use Rattle.sha2.proofs.Facts256.{length-sha256}
 use Rattle.lms_ots.specs.OtsType.{ots_code_of}
 use Rattle.lms_tree.specs.LmsPrivate.{LmsPrivate, lms_public_of, root_of}
-use Rattle.lms_tree.specs.LmsPublic.{public_key_bytes, public_key_in}
+use Rattle.lms_tree.specs.LmsPublic.{public_key_in}
 use Rattle.lms_tree.specs.LmsType.{height_of, lms_code_of}
 use Rattle.lms_tree.specs.Nodes.{node_of}
 use Rattle.lms_tree.proofs.PublicKeyLemmas.{public_key_read_back}
@@ -13,7 +13,7 @@ use Rattle.sporc_entry.specs.Genesis.{IsFounder}
 use Rattle.sporc_script.specs.declared.command.Tree.{Tree}
 use Rattle.sporc_script.specs.declared.member_role.MemberRole.{MemberRole}
 use Rattle.sporc_play.specs.Cast.{founder_of, private_of, public_of}
-use Rattle.sporc_play.specs.Derived.{derived, identifier_of}
+use Rattle.sporc_play.specs.Derived.{derived}
 
 node_len : (key : LmsPrivate) (k r : ℕ) → length (node_of key.ots key.id key.seed (height_of key.lms) k r) ≡ 32
 unfolding node_of

@@ -1,6 +1,6 @@
 -- A state that stands for a scene of a script can perform the script's next command.
-use Rattle.std.proofs.Common.{◌≡◌, ℕ, zero, suc, ◌+◌, ◌^◌, ◌<◌, ◌≤◌, Bool, true, false, cond, List, [], ◌∷◌, ◌++◌, length, take, get_or, map, refl, sym, ap, ◌∙◌, subst, arith, length-take, Option, None, Some, IfSome, IsSome}
-use Rattle.std.specs.Prelude.{◌==◌, ◌&&◌, Contains, filter_map}
+use Rattle.std.proofs.Common.{◌≡◌, ℕ, zero, suc, ◌+◌, ◌^◌, ◌<◌, ◌≤◌, Bool, true, false, cond, List, [], ◌∷◌, length, take, get_or, map, refl, sym, ap, ◌∙◌, subst, arith, length-take, Option, None, Some, IfSome, IsSome}
+use Rattle.std.specs.Prelude.{◌==◌, Contains, filter_map}
 use Rattle.std.specs.List.{AllByRecursion}
 use Rattle.std.proofs.lemmas.Bool.{and_parts}
 use Rattle.std.proofs.lemmas.List.{length-map}
@@ -12,8 +12,7 @@ use Rattle.sporc_entry.specs.Genesis.{IsGenesis}
 use Rattle.sporc_client.specs.PlainClient.{Opening}
 use Rattle.sporc_client.specs.ClientModel.{ClientModel}
 use Rattle.sporc_client.specs.Run.{Setup}
-use Rattle.sporc_script.specs.Declarations.{declared_by as declarations, is_client, is_declared, is_known_change, is_known_suffix, is_rogue, may_follow, names_performers}
-use Rattle.sporc_script.specs.Grammar.{IsPlayScript}
+use Rattle.sporc_script.specs.Declarations.{declared_by as declarations, is_client, is_rogue, may_follow, names_performers}
 use Rattle.sporc_script.specs.declared.command.Command.{Command}
 use Rattle.sporc_script.specs.declared.command.Command.TheVariants as commands
 use Rattle.sporc_script.specs.declared.play_line.PlayLine.{PlayLine}
@@ -21,12 +20,12 @@ use Rattle.sporc_play.specs.declared.playing.TheConstants.{MAX_SCRIPT}
 use Rattle.sporc_play.specs.declared.seat.Rogue.{Rogue}
 use Rattle.sporc_play.specs.declared.seat.Seat.{Seat}
 use Rattle.sporc_play.specs.declared.state.PlayState.{PlayState}
-use Rattle.sporc_play.specs.Cast.{has_admin, member_by, rogue_by, rogues_of, setup_of}
+use Rattle.sporc_play.specs.Cast.{has_admin, member_by, setup_of}
 use Rattle.sporc_play.specs.Playing.{IsShortScript}
 use Rattle.sporc_play.specs.Scene.{Scene, after, after_each, commands_of, opening, scene_at, signer_of, text_size, with_more}
 use Rattle.sporc_play.specs.Seats.{AreDrawn, IsReady, rogue_numbers, seated}
 use Rattle.sporc_play.specs.Stage.{AreNamed, CanPerform, Holds, IsReadyRogue, IsReadySeat, IsRogueOf, IsSeatOf, StandsFor}
-use Rattle.sporc_play.proofs.Scripts.{IsLine, client_named, joiner_named, line_at, rogue_named}
+use Rattle.sporc_play.proofs.Scripts.{client_named, joiner_named, line_at, rogue_named}
 use Rattle.sporc_play.proofs.Sizes.{script_count, script_sizes}
 
 -- ---- counts

@@ -1,14 +1,13 @@
 -- What the grammar gives of a script: who is declared, and whom its commands name.
-use Rattle.std.proofs.Common.{◌≡◌, ◌≢◌, ℕ, zero, suc, ◌+◌, ◌<◌, ◌≤◌, Bool, true, false, eq-eqb, List, [], ◌∷◌, ◌++◌, length, take, get_or, map, fold, refl, sym, ap, ◌∙◌, subst, arith, append_assoc, append-nil, Option, None, Some, inl, inr}
+use Rattle.std.proofs.Common.{◌≡◌, ◌≢◌, ℕ, zero, suc, ◌+◌, ◌<◌, Bool, true, false, eq-eqb, List, [], ◌∷◌, ◌++◌, length, take, get_or, fold, refl, sym, ap, ◌∙◌, subst, arith, append_assoc, append-nil, Option, None, Some, inl, inr}
 use Rattle.std.specs.Prelude.{◌==◌, ◌&&◌, ◌||◌, ◌⊎◌, not, nat_lt, Contains, filter_map}
-use Rattle.std.specs.List.{cons_option, list_any}
+use Rattle.std.specs.List.{cons_option}
 use Rattle.std.proofs.lemmas.Bool.{and_parts, eqb-true}
-use Rattle.std.proofs.lemmas.List.Elements.{Contains-append_left, Contains-append_right, filter_map-append}
-use Rattle.std.proofs.lemmas.List.Sums.{fold-append}
-use Rattle.sporc_script.specs.Commands.{InRange, Spells}
+use Rattle.std.proofs.lemmas.List.Elements.{filter_map-append}
+use Rattle.sporc_script.specs.Commands.{InRange}
 use Rattle.sporc_script.specs.Declarations.{Declared, declared_after, declared_by as declarations, is_among, is_client, is_declared, is_rogue, is_joiner, may_declare, may_follow, none_declared}
 use Rattle.sporc_script.specs.Grammar.{IsNext, IsPlayScript, play_line}
-use Rattle.sporc_script.specs.Lines.{IsSkipped, ReadsAs, lines_of}
+use Rattle.sporc_script.specs.Lines.{ReadsAs, lines_of}
 use Rattle.sporc_script.specs.declared.command.Command.{Command}
 use Rattle.sporc_script.specs.declared.command.Command.TheVariants as commands
 use Rattle.sporc_script.specs.declared.play_line.PlayLine.{PlayLine}

@@ -1,13 +1,12 @@
 -- Seats, rogues and whole states after what a command did.
-use Rattle.std.proofs.Common.{◌≡◌, ◌≢◌, ℕ, ◌+◌, Bool, true, false, cond, List, [], ◌∷◌, ◌++◌, map, refl, sym, ap, ◌∙◌, subst, append-nil, Option, None, Some, option_map}
-use Rattle.std.specs.Prelude.{slice_get}
+use Rattle.std.proofs.Common.{◌≡◌, ◌≢◌, ℕ, ◌+◌, List, [], ◌∷◌, ◌++◌, map, sym, ap, ◌∙◌, subst, Option, None, Some, option_map}
 use Rattle.std.specs.List.{AllByRecursion}
 use Rattle.std.proofs.Math.ListN.{set}
 use Rattle.lms_sign.specs.Signer.{SignerContent}
 use Rattle.sporc_outside.specs.MemoryDisk.{MemoryDiskContent}
 use Rattle.sporc_client.specs.ClientModel.{ClientModel, state_of}
 use Rattle.sporc_client.specs.Log.{Logged}
-use Rattle.sporc_client.specs.PlainClient.{Opening, PlainClient}
+use Rattle.sporc_client.specs.PlainClient.{PlainClient}
 use Rattle.sporc_client.specs.Run.{Setup, World, Move, Happen, after_all}
 use Rattle.sporc_client.specs.Step.{replay}
 use Rattle.sporc_client.proofs.Calls.{replay_append}
@@ -16,13 +15,13 @@ use Rattle.sporc_play.specs.declared.seat.Rogue.{Rogue}
 use Rattle.sporc_play.specs.declared.seat.Seat.{Seat}
 use Rattle.sporc_play.specs.declared.state.PlayState.{PlayState}
 use Rattle.sporc_play.specs.Apart.{AreApart, IsNotIn}
-use Rattle.sporc_play.specs.Cast.{rogues_of, setup_of}
+use Rattle.sporc_play.specs.Cast.{setup_of}
 use Rattle.sporc_play.specs.Logs.{logs_after}
-use Rattle.sporc_play.specs.Scene.{Act, Scene, adds, if_open}
-use Rattle.sporc_play.specs.Seats.{AreDrawn, IsReady, IsRogueAt, IsSeatAt, client_logged, plain_in, rogue_numbers, seat_logged, seated}
-use Rattle.sporc_play.specs.Stage.{HasSameMembers, Holds, IsCastOf, IsClientOf, IsRogueOf, IsSeatOf, IsSignerOf, StandsFor}
+use Rattle.sporc_play.specs.Scene.{Scene, adds, if_open}
+use Rattle.sporc_play.specs.Seats.{AreDrawn, IsReady, IsRogueAt, IsSeatAt, client_logged, rogue_numbers, seat_logged, seated}
+use Rattle.sporc_play.specs.Stage.{HasSameMembers, Holds, IsCastOf, IsRogueOf, IsSeatOf, IsSignerOf, StandsFor}
 use Rattle.sporc_play.proofs.Moved.{AreOf, client_happens, clients_other, log_happens, logs_other}
-use Rattle.sporc_play.proofs.Places.{all_others, all_set, apart_back, apart_front, at_place, not_across, not_behind, numbers_set}
+use Rattle.sporc_play.proofs.Places.{all_others, all_set, apart_back, apart_front, not_across, not_behind, numbers_set}
 
 -- ---- scenes
 

@@ -1,19 +1,17 @@
 -- No text that a client has shown is long: an edit adds few characters, entries that come add few in all, and giving up
 -- goes back to the committed text.
-use Rattle.std.proofs.Common.{◌≡◌, ℕ, zero, suc, ◌+◌, ◌*◌, ◌^◌, ◌<◌, ◌≤◌, Bool, true, false, cond, List, [], ◌∷◌, ◌++◌, length, take, drop, fold, refl, sym, ap, ◌∙◌, subst, arith, add-zero, zero-add, append_assoc, append-nil, length-append, Option, None, Some}
+use Rattle.std.proofs.Common.{◌≡◌, ℕ, zero, suc, ◌+◌, ◌*◌, ◌^◌, ◌≤◌, Bool, true, false, cond, List, [], ◌∷◌, ◌++◌, length, take, drop, fold, refl, sym, ap, ◌∙◌, subst, arith, add-zero, zero-add, length-append, Option, None, Some}
 use Rattle.std.specs.Prelude.{is_none, is_some}
 use Rattle.std.proofs.lemmas.Bool.{and_parts}
 use Rattle.std.proofs.lemmas.List.{take-append-le, take_all}
 use Rattle.std.proofs.lemmas.List.Sums.{fold-append}
 use Rattle.sporc_hash.proofs.Lists.{from_end}
 use Rattle.sporc_base.specs.FirstFault.{first_of}
-use Rattle.sporc_delta.specs.Format.{delta_bytes}
 use Rattle.sporc_delta.specs.Marks.{Mark, apply, base_len, deletes, inserted_len, inserts, out_len, replacement, retains}
 use Rattle.sporc_delta.proofs.Lengths.{out_len-append, out_len-deletes, out_len-inserts}
-use Rattle.sporc_suffix.specs.Forms.{Follow, all_inserted, later_over, reached}
+use Rattle.sporc_suffix.specs.Forms.{Follow, all_inserted}
 use Rattle.sporc_xform.proofs.LengthLemmas.{out_len-le}
 use Rattle.sporc_entry.specs.declared.genesis.Genesis.{Genesis}
-use Rattle.sporc_entry.specs.declared.limits.TheConstants.{MAX_EDIT_BODY}
 use Rattle.sporc_head.specs.declared.limits.TheConstants.{MAX_ENTRIES}
 use Rattle.sporc_head.specs.History.{change_in}
 use Rattle.sporc_line.specs.Document.{forms_of, next_form, text_after}
@@ -23,7 +21,7 @@ use Rattle.sporc_line.specs.Kit.{Kit}
 use Rattle.sporc_line.proofs.FormLengths.{all_inserted-append, inserted_len-over, inserted_len-retains, length-apply, length-text}
 use Rattle.sporc_line.proofs.Goods.{first_key, good_none, good_push, last_passes}
 use Rattle.sporc_line.proofs.MoreForms.{forms_push}
-use Rattle.sporc_client.specs.declared.limits.TheConstants.{MAX_EDIT_BYTES, MAX_EVENTS}
+use Rattle.sporc_client.specs.declared.limits.TheConstants.{MAX_EVENTS}
 use Rattle.sporc_client.specs.Allowed.{allows, allows_all, is_allowed}
 use Rattle.sporc_client.specs.Answers.{edit_checks, edit_fault}
 use Rattle.sporc_client.specs.ClientModel.{ClientModel, state_of}
@@ -31,14 +29,14 @@ use Rattle.sporc_client.specs.Log.{Logged, Edit, Change, Submit, Dropped, Accept
 use Rattle.sporc_client.specs.PlainClient.{Opening, PlainClient, committed_of, opened, shown_after, shown_of}
 use Rattle.sporc_client.specs.Rebasing.{beyond}
 use Rattle.sporc_client.specs.Soundness.{IsSound}
-use Rattle.sporc_client.specs.Step.{accepted, change_comes, edit_comes, form_coming, is_flight, keeps, own_comes, replay, replay_from, restated, step}
+use Rattle.sporc_client.specs.Step.{change_comes, edit_comes, form_coming, is_flight, keeps, own_comes, replay, replay_from, restated, step}
 use Rattle.sporc_client.proofs.AcceptedHistories.{accept_passes}
 use Rattle.sporc_client.proofs.Calls.{replay_opening}
 use Rattle.sporc_client.proofs.Checked.{edit_fault_is, edit_passed}
 use Rattle.sporc_client.proofs.Comings.{follow_last}
 use Rattle.sporc_client.proofs.Small.{inserted_len-beyond, inserted_len-bytes}
 use Rattle.sporc_client.proofs.TextLengths.{few_inserted, length-text_of}
-use Rattle.sporc_play.proofs.ShownForms.{Grows, log_grows, shown_count}
+use Rattle.sporc_play.proofs.ShownForms.{log_grows}
 
 -- ---- histories
 

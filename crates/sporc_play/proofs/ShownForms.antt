@@ -1,5 +1,5 @@
 -- The shown deltas of a client: one for each event of its log.
-use Rattle.std.proofs.Common.{◌≡◌, ℕ, zero, suc, ◌+◌, ◌≤◌, Bool, true, false, cond, List, [], ◌∷◌, ◌++◌, length, take, drop, refl, sym, ap, ◌∙◌, subst, arith, append_assoc, append-nil, length-append, Result, Ok, Err, IfOk}
+use Rattle.std.proofs.Common.{◌≡◌, ℕ, suc, ◌+◌, Bool, true, false, cond, List, [], ◌∷◌, ◌++◌, length, refl, sym, ap, ◌∙◌, arith, append_assoc, append-nil, length-append, Result, Ok, Err, IfOk}
 use Rattle.std.specs.Prelude.{is_some}
 use Rattle.sporc_delta.specs.Marks.{Mark}
 use Rattle.sporc_head.specs.History.{change_in}

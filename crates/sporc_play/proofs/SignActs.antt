@@ -1,5 +1,5 @@
 -- The entries that a script signs for rogues are strings of bytes.
-use Rattle.std.proofs.Common.{◌≡◌, ℕ, ◌+◌, ◌<◌, Bool, true, false, cond, List, [], ◌∷◌, ◌++◌, drop, length, map, take, filter, refl, sym, ap, ◌∙◌, subst, arith, not, Option, None, Some, Result, Ok, Err, IfSome}
+use Rattle.std.proofs.Common.{◌≡◌, ℕ, ◌+◌, ◌<◌, Bool, true, false, cond, List, [], ◌∷◌, drop, length, map, take, filter, sym, ap, ◌∙◌, subst, arith, not, Option, None, Some, Result, Ok, Err, IfSome}
 use Rattle.std.specs.Prelude.{◌==◌, min, nat_le, replicate, unwrap_or}
 use Rattle.std.specs.List.{AllByRecursion}
 use Rattle.std.specs.Str.{all_scalars}
@@ -10,7 +10,6 @@ use Rattle.sporc_delta.specs.Format.{delta_bytes}
 use Rattle.sporc_delta.specs.Marks.{insertion}
 use Rattle.sporc_delta.proofs.Typing.{inserted-insertion}
 use Rattle.sporc_entry.specs.declared.change.ChangeBody.{ChangeBody}
-use Rattle.sporc_entry.specs.declared.entry.Entry.{Entry}
 use Rattle.sporc_entry.specs.declared.wrap.Wrap.{Wrap}
 use Rattle.sporc_entry.specs.Entry.{signed_string}
 use Rattle.sporc_entry.specs.Genesis.{genesis_bytes}
@@ -32,14 +31,14 @@ use Rattle.sporc_script.specs.declared.sign.What.{What}
 use Rattle.sporc_script.specs.declared.sign.What.TheVariants as whats
 use Rattle.sporc_play.specs.Cast.{member_change, setup_of}
 use Rattle.sporc_play.specs.Derived.{random_of}
-use Rattle.sporc_play.specs.Forged.{first_flipped, forged_body, forged_change, forged_entry, forged_header, forged_sealing, key_there, kind_of, masked, signature_by, signed_by, spoiled, unsigned_by, value_at, wrap_flipped}
-use Rattle.sporc_play.specs.Scene.{Scene, leaf_after, signs_by}
+use Rattle.sporc_play.specs.Forged.{first_flipped, forged_body, forged_change, forged_entry, forged_header, forged_sealing, key_there, kind_of, signature_by, signed_by, spoiled, unsigned_by, value_at, wrap_flipped}
+use Rattle.sporc_play.specs.Scene.{leaf_after, signs_by}
 use Rattle.sporc_play.proofs.Acts.{byte_change, client_at, no_act, open_acts}
 use Rattle.sporc_play.proofs.ByteClients.{AreByteKeys}
 use Rattle.sporc_play.proofs.ByteFacts.{AreBytes, are_bytes, bytes_drop, bytes_mask, bytes_sha, bytes_take, bytes_zeros}
 use Rattle.sporc_play.proofs.HistoryKeys.{epoch_bytes}
 use Rattle.sporc_play.proofs.MadeBytes.{IsByteBodyOf, bytes_body, hash_are, sealed_are}
-use Rattle.sporc_play.proofs.Runs.{HasCome, MayAct, MayBe}
+use Rattle.sporc_play.proofs.Runs.{MayAct, MayBe}
 use Rattle.sporc_play.proofs.SignedBytes.{IsByteHeader, bytes_entry, bytes_signature}
 use Rattle.sporc_play.proofs.SubmitActs.{document_are, random_are}
 use Rattle.sporc_play.proofs.TextBytes.{delta_are}

@@ -1,5 +1,5 @@
 -- The line of a rogue that was to sign.
-use Rattle.std.proofs.Common.{◌≡◌, ℕ, ◌+◌, Bool, List, refl, sym, ap, ◌∙◌, Option, None, Some, option_map, Result, Ok, Err}
+use Rattle.std.proofs.Common.{◌≡◌, ℕ, List, refl, ap, ◌∙◌, Option, None, Some, option_map, Result, Ok, Err}
 use Rattle.std.specs.Prelude.{is_some}
 use Rattle.lms_leaf.specs.declared.faults.LeafFault.{LeafFault}
 use Rattle.sporc_client.specs.PlainClient.{PlainClient}

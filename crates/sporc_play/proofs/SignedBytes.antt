@@ -1,5 +1,5 @@
 -- Signatures and entries are strings of bytes.
-use Rattle.std.proofs.Common.{◌≡◌, ℕ, zero, suc, ◌+◌, ◌/◌, ◌^◌, ◌<◌, List, [], ◌∷◌, ◌++◌, length, arith}
+use Rattle.std.proofs.Common.{ℕ, zero, suc, ◌+◌, ◌<◌, List, [], ◌∷◌, ◌++◌, length, arith}
 use Rattle.std.specs.Int.{w16, w32, to_be_bytes}
 use Rattle.lms_ots.specs.Chains.{concatenated}
 use Rattle.lms_ots.specs.Coefficients.{coef_of, with_checksum}
@@ -12,7 +12,7 @@ use Rattle.lms_tree.specs.Nodes.{node_of}
 use Rattle.lms_tree.specs.Signatures.{lms_signature_of}
 use Rattle.sporc_entry.specs.declared.entry.Entry.{Entry}
 use Rattle.sporc_entry.specs.declared.header.Header.{Header}
-use Rattle.sporc_entry.specs.Entry.{entry_bytes, header_bytes, signed_string}
+use Rattle.sporc_entry.specs.Entry.{entry_bytes, header_bytes}
 use Rattle.sporc_script.specs.declared.command.Tree.{Tree}
 use Rattle.sporc_play.specs.Cast.{private_of, public_of}
 use Rattle.sporc_play.specs.Derived.{derived}

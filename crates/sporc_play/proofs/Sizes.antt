@@ -1,5 +1,5 @@
 -- The texts of a script are no longer than the script.
-use Rattle.std.proofs.Common.{◌≡◌, ℕ, zero, suc, ◌+◌, ◌<◌, ◌≤◌, Bool, true, false, cond, List, [], ◌∷◌, ◌++◌, length, get_or, map, codes, refl, sym, ap, ◌∙◌, subst, arith, length-append, Option, None, Some, inl, inr}
+use Rattle.std.proofs.Common.{◌≡◌, ℕ, suc, ◌+◌, ◌<◌, ◌≤◌, Bool, true, false, cond, List, [], ◌∷◌, ◌++◌, length, codes, refl, sym, ap, subst, arith, length-append, Option, None, Some, inl, inr}
 use Rattle.std.specs.Prelude.{◌==◌, flat_map, encode_utf8}
 use Rattle.std.specs.Fmt.{decimal}
 use Rattle.std.specs.List.{AllByRecursion}
@@ -7,7 +7,7 @@ use Rattle.std.specs.Str.{encode_utf8_all}
 use Rattle.std.proofs.lemmas.Bool.{eqb-true}
 use Rattle.std.proofs.lemmas.Str.{len_utf8_ascii, length-encode}
 use Rattle.hex.specs.Hex.{encode_lower, encode_with}
-use Rattle.sporc_script.specs.Commands.{Spells, spelling}
+use Rattle.sporc_script.specs.Commands.{spelling}
 use Rattle.sporc_script.specs.Grammar.{IsNext, IsPlayScript, play_line}
 use Rattle.sporc_script.specs.Lines.{ReadsAs, lines_of, with_byte}
 use Rattle.sporc_script.specs.Quoted.{escape, quoted}
@@ -16,7 +16,6 @@ use Rattle.sporc_script.specs.Spelling.{stated_spelling, text_edit_spelling}
 use Rattle.sporc_script.specs.declared.command.Command.{Command}
 use Rattle.sporc_script.specs.declared.command.Command.TheVariants as commands
 use Rattle.sporc_script.specs.declared.play_line.PlayLine.{PlayLine}
-use Rattle.sporc_script.specs.declared.roster_change.RosterChange.TheVariants as changes
 use Rattle.sporc_script.specs.declared.sign.Suffix.{Suffix}
 use Rattle.sporc_script.specs.declared.sign.What.{What}
 use Rattle.sporc_script.specs.declared.sign.What.TheVariants as whats

@@ -1,9 +1,8 @@
 -- A client that is open stays open.
-use Rattle.std.proofs.Common.{◌≡◌, ℕ, Bool, true, false, cond, eqb, List, [], ◌∷◌, Option, Some, None, refl, subst, sym}
+use Rattle.std.proofs.Common.{ℕ, Bool, true, false, cond, eqb, List, [], ◌∷◌, Option, Some, None, refl}
 use Rattle.std.specs.Prelude.{IsSome}
-use Rattle.sporc_client.specs.Log.{Logged}
 use Rattle.sporc_client.specs.PlainClient.{PlainClient, opened}
-use Rattle.sporc_client.specs.Run.{Setup, World, Move, Open, Happen, Give, Restart, after as after_move, after_all, given, gives_to, happens_to, opening_of, restarted, restarts, signings, with_client}
+use Rattle.sporc_client.specs.Run.{Setup, World, Move, Open, Happen, Give, Restart, after as after_move, after_all, given, gives_to, happens_to, opening_of, restarted, restarts, with_client}
 use Rattle.sporc_client.specs.Answers.{refusal_of}
 use Rattle.sporc_client.specs.Step.{step}
 use Rattle.sporc_script.specs.declared.command.Command.{Command}

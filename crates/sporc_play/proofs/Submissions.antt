@@ -1,5 +1,5 @@
 -- Submissions, on the state and on the scene that it stands for.
-use Rattle.std.proofs.Common.{◌≡◌, ◌≢◌, ℕ, ◌+◌, Bool, true, false, cond, eq-eqb, List, [], ◌∷◌, ◌++◌, length, map, refl, sym, ap, ap₂, ◌∙◌, subst, append-nil, add-zero, Option, None, Some, option_map, Result}
+use Rattle.std.proofs.Common.{◌≡◌, ◌≢◌, ℕ, ◌+◌, Bool, true, false, cond, eq-eqb, List, [], ◌∷◌, ◌++◌, length, map, refl, sym, ap, ap₂, ◌∙◌, subst, add-zero, Option, None, Some, option_map, Result}
 use Rattle.std.specs.Prelude.{◌==◌}
 use Rattle.std.specs.Option.{option_to_list}
 use Rattle.std.proofs.lemmas.Bool.{eqb-true}
@@ -11,8 +11,8 @@ use Rattle.sporc_client.specs.declared.fault.SubmitFault.{SubmitFault}
 use Rattle.sporc_client.specs.declared.submitted.Submitted.{Submitted}
 use Rattle.sporc_client.specs.ClientModel.{ClientModel, state_of}
 use Rattle.sporc_client.specs.Log.{Logged}
-use Rattle.sporc_client.specs.PlainClient.{Opening, PlainClient}
-use Rattle.sporc_client.specs.Run.{Setup, World, Move, Happen, after_all}
+use Rattle.sporc_client.specs.PlainClient.{PlainClient}
+use Rattle.sporc_client.specs.Run.{Setup, Happen, after_all}
 use Rattle.sporc_client.specs.Step.{replay}
 use Rattle.sporc_client.specs.Submissions.{submission, submission_added}
 use Rattle.sporc_client.proofs.Calls.{replay_append}
@@ -23,8 +23,8 @@ use Rattle.sporc_play.specs.declared.state.PlayState.{PlayState}
 use Rattle.sporc_play.specs.Cast.{setup_of}
 use Rattle.sporc_play.specs.Derived.{random_of}
 use Rattle.sporc_play.specs.Report.{line_by, next_number, submit_line}
-use Rattle.sporc_play.specs.Scene.{Act, Scene, after, entries_in, if_open, last_made, leaf_after, leaf_next, performed, submission_in, submits, with_more}
-use Rattle.sporc_play.specs.Seats.{AreDrawn, ClientSubmitted, HasSubmitted, IsReady, IsSeatAt, IsSubmitted, answer_of, last_with, plain_in, submission_line}
+use Rattle.sporc_play.specs.Scene.{Act, Scene, after, entries_in, if_open, last_made, leaf_after, performed, submission_in, submits, with_more}
+use Rattle.sporc_play.specs.Seats.{AreDrawn, ClientSubmitted, HasSubmitted, IsReady, IsSeatAt, IsSubmitted, answer_of, last_with, submission_line}
 use Rattle.sporc_play.specs.Stage.{Holds, IsSeatOf, StandsFor}
 use Rattle.sporc_play.proofs.Commands.{seat_there}
 use Rattle.sporc_play.proofs.Moved.{AreOf, client_happens, clients_other, happens_of, log_happens, logs_other}

@@ -1,5 +1,5 @@
 -- What a submission does may happen wherever a play has come to, and its entry is a string of bytes.
-use Rattle.std.proofs.Common.{◌≡◌, ℕ, ◌+◌, ◌^◌, ◌<◌, Bool, true, false, cond, eq-eqb, List, [], ◌∷◌, ◌++◌, drop, length, length-append, take, refl, sym, ap, ◌∙◌, subst, arith, Option, None, Some, Result, Ok, Err}
+use Rattle.std.proofs.Common.{◌≡◌, ℕ, ◌+◌, ◌^◌, ◌<◌, Bool, true, false, cond, eq-eqb, List, drop, length, length-append, take, refl, sym, ap, ◌∙◌, subst, arith, Option, Some, Result, Ok, Err}
 use Rattle.std.specs.Prelude.{IsSomeAnd, nat_lt}
 use Rattle.std.specs.List.{AllByRecursion}
 use Rattle.std.proofs.lemmas.Bool.{ltb-true}
@@ -16,9 +16,8 @@ use Rattle.sporc_client.specs.declared.submitted.Submitted.{Submitted}
 use Rattle.sporc_client.specs.declared.submitted.Submitted.TheVariants as submitted
 use Rattle.sporc_client.specs.Allowed.{allows, is_drop}
 use Rattle.sporc_client.specs.Entries.{Chosen, bytes_made}
-use Rattle.sporc_client.specs.Log.{Logged, Dropped, Submit}
+use Rattle.sporc_client.specs.Log.{Dropped, Submit}
 use Rattle.sporc_client.specs.PlainClient.{Opening, PlainClient}
-use Rattle.sporc_client.specs.Run.{Setup, Move}
 use Rattle.sporc_client.specs.Submissions.{Due, Waiting, Nothing, Drop, Refuse, Sign, answered, due, signed, submission}
 use Rattle.sporc_client.proofs.Makings.{made_allowed}
 use Rattle.sporc_client.proofs.Reached.{reached_at}
@@ -29,13 +28,13 @@ use Rattle.sporc_script.specs.declared.command.Command.TheVariants as commands
 use Rattle.sporc_script.specs.declared.play_line.PlayLine.{PlayLine}
 use Rattle.sporc_play.specs.Cast.{setup_of}
 use Rattle.sporc_play.specs.Derived.{derived, random_of}
-use Rattle.sporc_play.specs.Scene.{Scene, leaf_after, submission_in, submits}
+use Rattle.sporc_play.specs.Scene.{leaf_after, submission_in, submits}
 use Rattle.sporc_play.proofs.Acts.{client_at, no_act, open_acts}
 use Rattle.sporc_play.proofs.ByteClients.{IsByteItem}
 use Rattle.sporc_play.proofs.ByteFacts.{AreBytes, bytes_append, bytes_drop, bytes_sha, bytes_take, is_bytes}
 use Rattle.sporc_play.proofs.HistoryKeys.{current_bytes}
 use Rattle.sporc_play.proofs.MadeBytes.{first_written, made_are}
-use Rattle.sporc_play.proofs.Runs.{HasCome, MayAct, MayBe}
+use Rattle.sporc_play.proofs.Runs.{MayAct, MayBe}
 
 -- ---- what a submission answers
 

@@ -1,6 +1,6 @@
 -- What a call of `submit` did, for a client that keeps no ticket and whose disk works.
-use Rattle.std.proofs.Common.{◌≡◌, ◌≢◌, ℕ, ◌+◌, ◌^◌, ◌<◌, ◌≤◌, Bool, true, false, cond, ltb, eq-eqb, List, [], ◌∷◌, ◌++◌, length, refl, sym, ap, ap₂, ◌∙◌, subst, arith, add-zero, Option, None, Some, Result, Ok, Err, inl, inr, IfOk, option_map}
-use Rattle.std.specs.Prelude.{◌==◌, ◌⊎◌, nat_lt, is_none, IsTrue, ◌&&◌}
+use Rattle.std.proofs.Common.{◌≡◌, ◌≢◌, ℕ, ◌+◌, ◌^◌, ◌<◌, ◌≤◌, Bool, true, false, cond, ltb, eq-eqb, List, [], ◌++◌, length, refl, sym, ap, ap₂, ◌∙◌, subst, arith, add-zero, Option, None, Some, Result, Ok, Err, inl, inr, IfOk, option_map}
+use Rattle.std.specs.Prelude.{◌==◌, ◌⊎◌, is_none, IsTrue, ◌&&◌}
 use Rattle.std.specs.Option.{option_to_list}
 use Rattle.std.specs.Result.{OnOk}
 use Rattle.std.proofs.lemmas.Bool.{eqb-true, lt-ltb, ltb-true}
@@ -17,7 +17,7 @@ use Rattle.sporc_client.specs.declared.submitted.Submitted.TheVariants as submit
 use Rattle.sporc_client.specs.ClientModel.{ClientModel, state_of}
 use Rattle.sporc_client.specs.Drawing.{IsDraw, asks_draw, at_hand, drawn, gives_entry, kept_after, leaf_for}
 use Rattle.sporc_client.specs.PlainClient.{PlainClient}
-use Rattle.sporc_client.specs.Submissions.{Due, Waiting, Nothing, Drop, Refuse, Sign, answered, due, is_signing, signed, submission, submission_added}
+use Rattle.sporc_client.specs.Submissions.{Due, Waiting, Nothing, Drop, Refuse, Sign, answered, due, is_signing, submission, submission_added}
 use Rattle.sporc_play.specs.Report.{submit_line}
 use Rattle.sporc_play.specs.Scene.{entries_in, leaf_after, leaf_next}
 use Rattle.sporc_outside.specs.MemoryDisk.{MemoryDiskContent}

@@ -1,11 +1,10 @@
 -- The bytes of texts and of deltas.
-use Rattle.std.proofs.Common.{◌≡◌, ℕ, zero, suc, ◌+◌, ◌/◌, ◌%◌, ◌^◌, ◌<◌, ◌≤◌, Bool, true, false, cond, ltb, ◌&&◌, List, [], ◌∷◌, ◌++◌, length, refl, sym, ap, ◌∙◌, subst, arith, inl, inr}
+use Rattle.std.proofs.Common.{◌≡◌, ℕ, ◌+◌, ◌/◌, ◌<◌, Bool, true, false, cond, ltb, ◌&&◌, List, [], ◌∷◌, ◌++◌, length, refl, sym, ap, ◌∙◌, arith, inl, inr}
 use Rattle.std.specs.Char.{encode_utf8}
 use Rattle.std.specs.Int.{w64, to_be_bytes}
 use Rattle.std.specs.Str.{all_scalars, encode_utf8_all}
 use lib.Utf8.{encode, next, scalar, scalar_cases}
 use Rattle.std.proofs.lemmas.Bool.{and_parts, ltb-true}
-use borrow.Author.Tests.{ltb-false}
 use Rattle.sporc_delta.specs.declared.part.Part.{Part}
 use Rattle.sporc_delta.specs.declared.part.Part.TheVariants.{Insert, Keep, Remove}
 use Rattle.sporc_delta.specs.Format.{delta_bytes, part_bytes, parts_bytes}

@@ -1,5 +1,5 @@
 -- What the calls of a client tell, and what they add.
-use Rattle.std.proofs.Common.{◌≡◌, ◌≢◌, ℕ, ◌+◌, ◌<◌, ◌≤◌, Bool, true, false, cond, ltb, arith, List, [], ◌∷◌, ◌++◌, length, refl, sym, ap, ◌∙◌, subst, append_assoc, Option, None, Some, Result, Ok, Err, IfOk}
+use Rattle.std.proofs.Common.{◌≡◌, ℕ, ◌+◌, ◌<◌, ◌≤◌, Bool, true, false, cond, ltb, arith, List, [], ◌∷◌, ◌++◌, length, refl, ap, ◌∙◌, append_assoc, Option, None, Some, Result, Ok, Err, IfOk}
 use Rattle.std.specs.Prelude.{◌↔◌, is_ok, if◌then◌else◌}
 use Rattle.std.specs.Result.{OnOk}
 use Rattle.std.proofs.lemmas.Bool.{lt-ltb, ltb-true}
@@ -7,11 +7,10 @@ use borrow.Author.Tests.{ltb-false}
 use Rattle.sporc_base.specs.FirstFault.{AnswersUnless}
 use Rattle.sporc_head.specs.declared.refusal.Refusal.{Refusal}
 use Rattle.sporc_client.specs.declared.fault.AcceptFault.{AcceptFault}
-use Rattle.sporc_client.specs.declared.fault.AcceptFault.TheVariants as accepts
 use Rattle.sporc_client.specs.declared.fault.EditFault.{EditFault}
 use Rattle.sporc_client.specs.declared.fault.EditFault.TheVariants as edits
 use Rattle.sporc_client.specs.Answers.{accept_fault, journal_has_room, or_full, refusal_of}
-use Rattle.sporc_client.specs.Log.{Logged, Accept}
+use Rattle.sporc_client.specs.Log.{Accept}
 use Rattle.sporc_client.specs.PlainClient.{PlainClient, shown_after}
 use Rattle.sporc_script.specs.declared.text_edit.TextEdit.{TextEdit}
 use Rattle.sporc_play.specs.Logs.{accepted_event, given_events}

@@ -1,5 +1,5 @@
 -- The logs of the clients of a play.
-use Rattle.std.specs.Prelude.{ℕ, ◌==◌, nat_le, List, [], ◌∷◌, ◌++◌, length, take, Bool, true, false, Option, None, Some, if◌then◌else◌}
+use Rattle.std.specs.Prelude.{ℕ, ◌==◌, nat_le, List, [], ◌∷◌, ◌++◌, length, take, Bool, true, Option, None, Some, if◌then◌else◌}
 use Rattle.sporc_member.specs.declared.change.Change.{Change as MemberChange}
 use Rattle.sporc_head.specs.declared.refusal.Refusal.{Refusal}
 use Rattle.sporc_delta.specs.Marks.{Mark}

@@ -6,7 +6,7 @@ use Rattle.sporc_client.specs.Typed.{IsTypedRun}
 use Rattle.sporc_script.specs.declared.command.Command.{Command}
 use Rattle.sporc_script.specs.declared.play_line.PlayLine.{PlayLine}
 use Rattle.sporc_play.specs.Cast.{setup_of}
-use Rattle.sporc_play.specs.Scene.{Scene, act_of, after, after_each, commands_of, opening, opening_moves}
+use Rattle.sporc_play.specs.Scene.{Scene, act_of, after, after_each, opening, opening_moves}
 
 -- the moves of commands, performed one after another from a scene on
 abbrev pub moves_from : Setup → Scene → List (Scene → Command) → List Move

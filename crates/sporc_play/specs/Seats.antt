@@ -1,5 +1,5 @@
 -- Members with their clients as the code keeps them, and what a call does to one.
-use Rattle.std.specs.Prelude.{◌≡◌, ℕ, ◌+◌, ◌≤◌, ◌^◌, false, List, [], ◌∷◌, ◌++◌, length, map, slice_get, Option, None, Some, option_map, Result}
+use Rattle.std.specs.Prelude.{◌≡◌, ℕ, ◌+◌, ◌≤◌, ◌^◌, false, List, ◌++◌, length, map, slice_get, Option, None, Some, option_map, Result}
 use Rattle.std.specs.Option.{option_to_list}
 use Rattle.lms_leaf.specs.Leaves.{LeavesContent}
 use Rattle.lms_tree.specs.LmsPrivate.{LmsPrivate}

@@ -4,7 +4,7 @@ ghost use Rattle.std.specs.Prelude.{◌≡◌, ◌≢◌, ℕ, ◌+◌, ◌<◌,
 ghost use Rattle.std.specs.Option.{option_copied, option_to_list};
 ghost use Rattle.std.specs.Result.{result_ok};
 ghost use Rattle.sporc_base.specs.FirstFault.{AnswersUnless};
-ghost use Rattle.sporc_client.specs.Answers.{change_fault, discard_fault, restart_fault};
+ghost use Rattle.sporc_client.specs.Answers.{restart_fault};
 ghost use Rattle.sporc_client.specs.ClientModel.{state_of};
 ghost use Rattle.sporc_client.specs.PlainClient.{shown_after};
 ghost use Rattle.sporc_client.specs.Step.{log_of_entries};

@@ -1,10 +1,10 @@
 //! What the declarations of a script make: who takes part, and the founders' clients.
 
-ghost use Rattle.std.specs.Prelude.{◌≡◌, List, ◌∷◌, ◌++◌, [], Contains, IfOk, OnOk};
+ghost use Rattle.std.specs.Prelude.{◌≡◌, List, ◌∷◌, ◌++◌, [], IfOk, OnOk};
 ghost use Rattle.sporc_client.specs.Run.{Setup};
 ghost use Rattle.sporc_entry.specs.Genesis.{IsGenesis};
 ghost use Rattle.sporc_member.specs.Roster.{insert_sorted};
-ghost use Rattle.sporc_play.specs.Cast.{first_ring, founder_of, public_of};
+ghost use Rattle.sporc_play.specs.Cast.{first_ring, public_of};
 ghost use Rattle.sporc_play.specs.Joined.{seat_open};
 ghost use Rattle.sporc_play.specs.Opening.{HasRogue, HasSat, HaveDeclared, IsNamed};
 ghost use Rattle.sporc_play.specs.Stage.{IsCastOf};

@@ -1,7 +1,6 @@
 //! Nets over TCP.
 
 ghost use Rattle.std.specs.Prelude.{◌≡◌, IfOk, None};
-ghost use Rattle.sporc_outside.specs.Counts.{CountsFaults};
 
 use crate::counting::{counted, fail};
 use crate::tcp_link::TcpLink;

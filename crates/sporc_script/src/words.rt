@@ -1,7 +1,6 @@
 //! Words of a line, and numbers as they are written.
 
-ghost use Rattle.std.specs.Prelude.{◌≡◌, ◌≢◌, ◌^◌, ◌<◌, ◌↔◌, ◌++◌, ℕ, List, IsTrue, MatchOption, None, Some};
-ghost use Rattle.std.specs.Fmt.{decimal};
+ghost use Rattle.std.specs.Prelude.{◌≡◌, ◌≢◌, ◌<◌, ◌↔◌, ◌++◌, ℕ, List, IsTrue, MatchOption, None, Some};
 ghost use Rattle.sporc_script.specs.Words.{IsPlain, Lacks, Splits, cut, ends_word, number_of, place_after};
 ghost use Rattle.sporc_script.specs.Readers.{member_of, u32_of};
 

@@ -1,6 +1,6 @@
 //! A server over links in memory.
 
-ghost use Rattle.std.specs.Prelude.{◌≤◌, ◌<◌, [], vec_len, OnOk};
+ghost use Rattle.std.specs.Prelude.{◌≤◌, ◌<◌, []};
 ghost use Rattle.sporc_outside.specs.NetContent.{AreFresh};
 ghost use Rattle.sporc_serve.specs.declared.limits.TheConstants.{MAX_SESSIONS};
 

@@ -1,7 +1,6 @@
 //! The client of a history that its member saved.
 
-ghost use Rattle.std.specs.Prelude.{◌≡◌, ◌≢◌, ℕ, List, [], None, map, option_map, IfErr, IfOk};
-ghost use Rattle.lms_sign.specs.Signer.{SignerContent};
+ghost use Rattle.std.specs.Prelude.{◌≡◌, ◌≢◌, ℕ, List, [], None, option_map, IfErr, IfOk};
 ghost use Rattle.sporc_client.specs.Step.{log_of_entries};
 ghost use Rattle.sporc_store.specs.Loading.{a_member};
 ghost use Rattle.sporc_store.specs.SavedFile.{read_to};

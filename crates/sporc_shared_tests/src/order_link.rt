@@ -1,7 +1,6 @@
 //! A link in memory whose other end is a session with an order.
 
-ghost use Rattle.std.specs.Prelude.{◌≡◌, ◌≤◌, ◌<◌, None, IfOk, refl, length};
-ghost use Rattle.sporc_outside.specs.Counts.{CountsFaults};
+ghost use Rattle.std.specs.Prelude.{◌≤◌, ◌<◌, None, refl, length};
 
 use sporc_order::{Order, Reply, Session};
 use sporc_outside::{Calls, Counted, Failed, Link, Sink, Source};

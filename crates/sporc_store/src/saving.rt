@@ -6,7 +6,7 @@ ghost use Rattle.sporc_base.specs.Outcome.{GivesUnless};
 ghost use Rattle.sporc_bytes.specs.Fields.{counted};
 ghost use Rattle.sporc_head.specs.declared.limits.TheConstants.{MAX_ENTRIES};
 ghost use Rattle.sporc_wire.specs.Messages.{counted_to_end};
-ghost use Rattle.sporc_store.specs.SavedFile.{saved_bytes, saved_file};
+ghost use Rattle.sporc_store.specs.SavedFile.{saved_file};
 
 use crate::fault::SaveFault;
 use crate::head::{HEAD_LEN, head_of};

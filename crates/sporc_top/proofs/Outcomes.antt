@@ -1,5 +1,5 @@
 -- What a source that tells its bytes calls for.
-use Rattle.std.proofs.Common.{◌≡◌, ℕ, ◌+◌, ◌<◌, ◌≤◌, ◌⊎◌, List, [], ◌++◌, length, Option, Some, None, Result, Ok, Err, refl, sym, ap, ◌∙◌, subst, inl, inr, arith, append-nil, length-append}
+use Rattle.std.proofs.Common.{◌≡◌, ℕ, ◌+◌, ◌<◌, ◌≤◌, ◌⊎◌, List, ◌++◌, length, Option, Some, None, Result, Ok, Err, refl, sym, ap, ◌∙◌, subst, inl, inr, arith, append-nil, length-append}
 use Rattle.std.specs.Bool.{⊤}
 use Rattle.std.specs.Io.KnownBytes.{Consumes, IsAtEnd}
 use Rattle.sporc_outside.specs.Reading.{ConsumesExactly}
@@ -13,7 +13,7 @@ use Rattle.sporc_script.proofs.ScriptLines.{not_both, one_fault, one_reading}
 use Rattle.sporc_play.specs.declared.fault.PlayFault.{PlayFault}
 use Rattle.sporc_play.specs.declared.fault.PlayFault.TheVariants as playing
 use Rattle.sporc_play.specs.declared.playing.TheConstants.{MAX_SCRIPT}
-use Rattle.sporc_play.specs.Playing.{GeneratedFault, HasFaultLine, IsTooLong, PlayOutcome, Plays, PlaysGenerated, ReadsWhole}
+use Rattle.sporc_play.specs.Playing.{GeneratedFault, HasFaultLine, PlayOutcome, Plays, PlaysGenerated, ReadsWhole}
 use Rattle.sporc_play.specs.Report.{Reports}
 use Rattle.sporc_words.specs.declared.command.Command.{Command}
 use Rattle.sporc_words.specs.declared.command.Command.TheVariants as commands

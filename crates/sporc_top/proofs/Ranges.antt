@@ -1,5 +1,5 @@
 -- The values of a command are in their ranges.
-use Rattle.std.proofs.Common.{◌≡◌, ◌≤◌, ◌==◌, ◌&&◌, ℕ, Bool, true, false, nat_le, nat_lt, ◌^◌, List, [], ◌∷◌, length, Option, Some, None, find, option_map, refl, sym, ap, ◌∙◌, subst, inl, inr, arith, if◌then◌else◌, codes, slice_get}
+use Rattle.std.proofs.Common.{◌≡◌, ◌≤◌, ◌==◌, ◌&&◌, ℕ, Bool, true, false, nat_le, nat_lt, ◌^◌, List, [], ◌∷◌, length, Option, Some, None, find, option_map, refl, ap, subst, inl, inr, if◌then◌else◌, codes, slice_get}
 use Rattle.std.specs.List.{AllByRecursion, after_first, before_first}
 use Rattle.std.proofs.lemmas.Bool.{leb-true, ltb-true}
 use Rattle.clap.specs.Walk.{Row, Text, first_of}
@@ -22,14 +22,13 @@ use Rattle.sporc_words.specs.declared.command.Command.TheVariants as commands
 use Rattle.sporc_words.specs.declared.command.Verb.{Verb}
 use Rattle.sporc_words.specs.declared.command.Verb.TheVariants as verbs
 use Rattle.sporc_words.specs.declared.found.Found.{Found}
-use Rattle.sporc_words.specs.declared.founding.Founding.{Founding}
 use Rattle.sporc_words.specs.declared.founding.Participant.{Participant}
 use Rattle.sporc_words.specs.declared.keygen.Keygen.{Keygen}
 use Rattle.sporc_words.specs.declared.serve.Serve.{Serve}
 use Rattle.sporc_words.specs.declared.defaults.TheConstants.{DEFAULT_ROUNDS, DEFAULT_UNTIL}
 use Rattle.sporc_words.specs.Arguments.{client_app, found_app, keygen_app, play_app, serve_app, taken, check_app, compare_app}
 use Rattle.sporc_words.specs.Commands.{client_in, command_by, command_of, found_in, keygen_in, play_by, play_in, scripts_of, serve_in, verb_of, check_in, compare_in}
-use Rattle.sporc_words.specs.Values.{all_participants, founding_of, is_between, is_colon, may_found, number_between, participant_by, participant_of, participants_of, read_or, signatures_of, tree_of, value_of, value_or, values_of}
+use Rattle.sporc_words.specs.Values.{all_participants, founding_of, is_between, is_colon, may_found, number_between, participant_by, participant_of, participants_of, signatures_of, tree_of, value_of, value_or, values_of}
 use Rattle.sporc_founding.specs.Founding.{MayFound}
 use Rattle.sporc_top.specs.Ranges.{IsInRange}
 

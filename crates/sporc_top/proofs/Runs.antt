@@ -1,5 +1,5 @@
 -- What a run did, by what came of its parts.
-use Rattle.std.proofs.Common.{◌≡◌, ℕ, List, Option, Some, None, Result, Ok, Err, refl, sym, ap, ◌∙◌, subst}
+use Rattle.std.proofs.Common.{◌≡◌, ℕ, List, Option, Some, None, Err, refl, sym, ap, ◌∙◌, subst}
 use Rattle.sporc_words.specs.declared.command.Command.{Command}
 use Rattle.sporc_words.specs.declared.fault.WordsFault.{WordsFault}
 use Rattle.sporc_words.specs.declared.fault.WordsFault.TheVariants as reading
@@ -9,7 +9,7 @@ use Rattle.sporc_files.specs.Faults.{WritesFaultLine, fault_of_words, status_of}
 use Rattle.sporc_files.specs.Names.{FileNames}
 use Rattle.sporc_sessions.specs.Nets.{LinkView}
 use Rattle.sporc_clients.specs.Outcome.{DiskView}
-use Rattle.sporc_top.specs.Outcome.{Ends, RunOutcome, command, done, from, no_command, stopped, unread, up_to}
+use Rattle.sporc_top.specs.Outcome.{RunOutcome, command, from, no_command, stopped, unread, up_to}
 use Rattle.sporc_top.specs.Performing.{Performs, names_of, no_files}
 use Rattle.sporc_top.specs.Uses.{Uses}
 

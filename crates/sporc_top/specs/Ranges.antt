@@ -1,5 +1,5 @@
 -- What is so of the values of a command that was read.
-use Rattle.std.specs.Prelude.{◌≤◌, ℕ, length}
+use Rattle.std.specs.Prelude.{◌≤◌, length}
 use Rattle.lms_leaf.specs.LeafFile.{IsLeafHeight}
 use Rattle.lms_tree.specs.LmsType.{height_of}
 use Rattle.sporc_keys.specs.KeyFile.{IsKeyWidth}

@@ -1,4 +1,4 @@
-use Rattle.std.proofs.Common.{◌≡◌, List, ℕ, [], ◌∷◌, ◌++◌, ap, ◌∙◌, sym, map, take, rules}
+use Rattle.std.proofs.Common.{◌≡◌, List, ℕ, [], ◌∷◌, ◌++◌, ap, ◌∙◌, sym, take, rules}
 use Rattle.sporc_hash.specs.Chain.{chain, chain_after, genesis_value, last_value, next_value, value_after}
 use Rattle.sporc_hash.proofs.ChainLemmas.{chain_push, value_push}
 use Rattle.sporc_entry.specs.Genesis.{genesis_bytes}

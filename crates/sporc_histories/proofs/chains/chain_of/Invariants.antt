@@ -1,4 +1,4 @@
-use Rattle.std.proofs.Common.{◌≡◌, List, ℕ, map, take}
+use Rattle.std.proofs.Common.{◌≡◌, map, take}
 use Rattle.sporc_hash.specs.Chain.{chain, last_value}
 use Rattle.sporc_entry.specs.Genesis.{genesis_bytes}
 use Rattle.sporc_histories.proofs.chains.chain_of.Given as goal

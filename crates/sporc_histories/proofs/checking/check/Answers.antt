@@ -1,4 +1,4 @@
-use Rattle.std.proofs.Common.{ℕ, Err, refl, sym, ap, ◌∙◌}
+use Rattle.std.proofs.Common.{ℕ, Err, refl, ap, ◌∙◌}
 use Rattle.std.proofs.lemmas.Result.{err_from_is_err_and}
 use Rattle.sporc_histories.specs.Checking.{IsCheckedLine}
 use Rattle.sporc_histories.proofs.Lines.{line_cut, line_written, no_memory, not_found}

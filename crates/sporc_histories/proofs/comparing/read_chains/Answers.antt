@@ -1,4 +1,4 @@
-use Rattle.std.proofs.Common.{Err, ◌≤◌, [], ◌∷◌, ap, sym, ◌∙◌, arith}
+use Rattle.std.proofs.Common.{Err, ◌≤◌, [], ◌∷◌, ap, ◌∙◌, arith}
 use Rattle.std.proofs.lemmas.Result.{err_from_is_err_and}
 use Rattle.sporc_files.specs.declared.file.File.TheVariants as files
 use Rattle.sporc_files.specs.Names.{file_name}

@@ -1,4 +1,4 @@
-use Rattle.std.proofs.Common.{List, ap, ◌∙◌, map}
+use Rattle.std.proofs.Common.{ap, ◌∙◌, map}
 use Rattle.sporc_histories.proofs.Batches.{copied_more}
 use Rattle.sporc_histories.proofs.log.entries_of.Goals as goal
 

@@ -1,4 +1,4 @@
-use Rattle.std.proofs.Common.{◌≡◌, ◌≤◌, ◌+◌, map, take, length}
+use Rattle.std.proofs.Common.{◌≡◌, map, take}
 use Rattle.sporc_histories.proofs.log.entries_of.Given as goal
 
 abbrev pub invariant-loop-i : goal.invariant-loop-i

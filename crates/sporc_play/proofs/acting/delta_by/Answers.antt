@@ -1,5 +1,4 @@
-use Rattle.std.proofs.Common.{◌≡◌, ℕ, ◌<◌, ◌≤◌, ◌^◌, List, length, Option, Some, refl, sym, ap, ◌∙◌, subst}
-use Rattle.sporc_delta.specs.Marks.{Mark}
+use Rattle.std.proofs.Common.{◌≡◌, ℕ, ◌<◌, ◌≤◌, ◌^◌, length, Some, refl, sym, ap, ◌∙◌, subst}
 use Rattle.sporc_client.specs.ClientModel.{state_of}
 use Rattle.sporc_client.specs.declared.limits.TheConstants.{MAX_EVENTS}
 use Rattle.sporc_play.specs.Scene.{marks_of}

@@ -1,6 +1,4 @@
-use Rattle.std.proofs.Common.{◌≡◌, ℕ, Option, None, sym, ap, ◌∙◌}
-use Rattle.sporc_client.specs.ClientModel.{state_of}
-use Rattle.sporc_play.specs.Scene.{seen_by}
+use Rattle.std.proofs.Common.{None}
 use Rattle.sporc_play.proofs.ShownForms.{journal_count}
 use Rattle.sporc_play.proofs.acting.seen_by.Goals as goal
 

@@ -1,5 +1,4 @@
-use Rattle.std.proofs.Common.{List}
-use Rattle.sporc_play.proofs.Submitted.{Submits, submits, told_answer, told_both, told_client, told_line, told_made}
+use Rattle.sporc_play.proofs.Submitted.{submits, told_answer, told_both, told_client, told_line, told_made}
 use Rattle.sporc_play.proofs.acting.submit_client.Goals as goal
 
 pub returns-clause-line : goal.returns-clause-line

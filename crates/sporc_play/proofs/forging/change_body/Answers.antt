@@ -1,4 +1,4 @@
-use Rattle.std.proofs.Common.{◌≡◌, ◌<◌, ◌^◌, List, ℕ, length, sym, subst, arith}
+use Rattle.std.proofs.Common.{◌<◌, ◌^◌, List, ℕ, length, sym, subst, arith}
 use Rattle.sporc_play.specs.Forged.{IsSmallBody}
 use Rattle.sporc_play.proofs.Forgeries.{small_bytes, spoiled_small}
 use Rattle.sporc_play.proofs.Results.{if_ok}

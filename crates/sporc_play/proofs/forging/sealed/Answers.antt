@@ -1,6 +1,5 @@
 use Rattle.std.proofs.Common.{◌≡◌, ◌≤◌, ℕ, List, Err, ap, sym, subst, ◌∙◌, length, arith}
 use Rattle.sporc_member.specs.declared.limits.TheConstants.{MAX_MEMBERS}
-use Rattle.sporc_entry.specs.declared.change.ChangeBody.{ChangeBody}
 use Rattle.sporc_entry.specs.declared.genesis.Genesis.{Genesis}
 use Rattle.sporc_epoch.specs.declared.fault.SealFault.{SealFault}
 use Rattle.sporc_epoch.specs.declared.fault.SealFault.TheVariants.{Memory, NoPairKey}

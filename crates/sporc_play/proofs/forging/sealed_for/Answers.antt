@@ -1,13 +1,11 @@
-use Rattle.std.proofs.Common.{◌≡◌, ◌≤◌, List, ℕ, length, ap, sym, subst, ◌∙◌}
+use Rattle.std.proofs.Common.{◌≤◌, List, ℕ, length, sym, subst, ◌∙◌}
 use Rattle.sporc_member.specs.declared.limits.TheConstants.{MAX_MEMBERS}
-use Rattle.sporc_entry.specs.declared.genesis.Genesis.{Genesis}
 use Rattle.sporc_entry.specs.Genesis.{IsGenesis}
 use Rattle.sporc_head.specs.History.{roster_of}
 use Rattle.sporc_line.specs.Good.{Good}
 use Rattle.sporc_client.specs.ClientModel.{state_of}
 use Rattle.sporc_client.specs.PlainClient.{Opening}
 use Rattle.sporc_client.proofs.Calls.{replay_opening}
-use Rattle.sporc_play.specs.Forged.{sealed_for}
 use Rattle.sporc_play.proofs.Forgeries.{accepted_members, few_sealed, refused_members}
 use Rattle.sporc_play.proofs.Results.{if_ok}
 use Rattle.sporc_play.proofs.forging.sealed_for.Goals as goal

@@ -1,4 +1,4 @@
-use Rattle.std.proofs.Common.{◌≡◌, ◌+◌, ℕ, List, map, flat_map, arith, ap, subst}
+use Rattle.std.proofs.Common.{◌≡◌, ◌+◌, ℕ, map, flat_map, arith, ap, subst}
 use Rattle.sporc_play.specs.Batches.{Performs}
 use Rattle.sporc_play.specs.Generated.{gives, up_to}
 use Rattle.sporc_play.proofs.Batched.{flats_more, has_room, length-gives}

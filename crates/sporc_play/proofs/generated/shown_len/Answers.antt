@@ -1,4 +1,4 @@
-use Rattle.std.proofs.Common.{◌≡◌, Option, ap, sym, ◌∙◌}
+use Rattle.std.proofs.Common.{Option, ap, sym, ◌∙◌}
 use Rattle.std.specs.Prelude.{option_map}
 use Rattle.sporc_client.specs.ClientModel.{ClientModel, state_of}
 use Rattle.sporc_outside.specs.MemoryDisk.{MemoryDiskContent}

@@ -1,4 +1,4 @@
-use Rattle.std.proofs.Common.{Err, ◌++◌, sym, ap, ◌∙◌, subst, arith}
+use Rattle.std.proofs.Common.{Err, ◌++◌, sym, ap, subst, arith}
 use Rattle.std.proofs.lemmas.Result.{err_from_is_err_and}
 use Rattle.std.proofs.KnownBytes.{Appends-trans}
 use Rattle.sporc_play.specs.Scene.{Scene, scene_at}

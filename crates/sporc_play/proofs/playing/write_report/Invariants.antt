@@ -1,4 +1,4 @@
-use Rattle.std.proofs.Common.{◌≡◌, ℕ, ◌≤◌, List, take}
+use Rattle.std.proofs.Common.{ℕ, ◌≤◌, List, take}
 use Rattle.std.specs.Io.KnownBytes.{Appends}
 use Rattle.sporc_play.specs.Cast.{setup_of}
 use Rattle.sporc_play.specs.Report.{ReportsFrom}

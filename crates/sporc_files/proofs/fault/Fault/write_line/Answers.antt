@@ -1,4 +1,4 @@
-use Rattle.std.proofs.Common.{◌++◌, codes}
+use Rattle.std.proofs.Common.{codes}
 use Rattle.std.specs.List.{flat_map}
 use Rattle.sporc_outside.proofs.Prefixes.{AppendsPrefix-first, AppendsPrefix-then}
 use Rattle.sporc_files.specs.Arguments.{argument_bytes}

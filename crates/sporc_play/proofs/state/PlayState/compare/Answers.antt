@@ -1,4 +1,4 @@
-use Rattle.std.proofs.Common.{◌≡◌, ◌<◌, ℕ, List, length, ap, ◌∙◌, sym, subst}
+use Rattle.std.proofs.Common.{◌<◌, ℕ, List, length, ap, ◌∙◌, sym, subst}
 use Rattle.std.specs.Prelude.{slice_get}
 use Rattle.sporc_play.specs.Report.{Stands, chain_of}
 use Rattle.sporc_client.specs.ClientModel.{state_of}

@@ -1,4 +1,4 @@
-use Rattle.std.proofs.Common.{◌≡◌, ℕ, ◌+◌, arith, length, option_map, Vec, Global, List}
+use Rattle.std.proofs.Common.{◌≡◌, ℕ, ◌+◌, arith, length, option_map, Vec, Global}
 use Rattle.std.proofs.lemmas.List.{length-map}
 use Rattle.sporc_play.proofs.Becoming.{entries_of, ok_any, ok_both, seat_read, submit_becomes, submit_tells}
 use Rattle.sporc_play.proofs.state.PlayState.submit.Goals as goal
