@@ -1,4 +1,4 @@
-ghost use Rattle.std.specs.Prelude.{◌≡◌, ◌^◌, ◌<◌, IfOk, IfErr};
+ghost use Rattle.std.specs.Prelude.{◌≡◌, ◌^◌, ◌<◌, ◌≤◌, IfOk, IfErr};
 ghost use Rattle.lms_tree.specs.LmsType.{height_of};
 ghost use Rattle.lms_tree.specs.LmsPrivate.{lms_public_of};
 ghost use Rattle.lms_tree.specs.Signatures.{lms_signature_of};
@@ -91,6 +91,8 @@ impl<D: LeafDisk> Signer<D> {
     /// blocks of the leaves drawn since the opening of the leaf file free again.
     pub fn next_leaf(&self) -> u32
         ensures value { result ≡ self.now.leaves.next }
+        ensures within { result ≤ self.now.leaves.leaf_count }
+        ensures all { self.now.leaves.leaf_count ≡ 2 ^ height_of self.now.key.lms }
         ensures taken { AreTaken (D.images self.now.leaves.disk (D.moment self.now.leaves.disk))
             self.now.leaves.next_at_open result }
     {
