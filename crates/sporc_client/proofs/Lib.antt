@@ -42,3 +42,4 @@ pub mod SubmitRosters
 pub mod SubmitMade
 pub mod Makings
 pub mod SubmitEvents
+pub mod SubmitFaults

@@ -1,13 +1,19 @@
 -- The leaf that a draw gave, and the order of leaves.
-use Rattle.std.proofs.Common.{◌≡◌, ℕ, ◌+◌, ◌<◌, ◌≤◌, Bool, true, false, cond, List, [], ◌∷◌, ◌++◌, refl, ap, sym, subst, arith, Option, None, Some, Result, Ok, Err}
-use Rattle.std.specs.Prelude.{IsSomeAnd, ◌==◌}
+use Rattle.std.proofs.Common.{◌≡◌, ℕ, ◌+◌, ◌^◌, ◌<◌, ◌≤◌, Bool, true, false, cond, List, [], ◌∷◌, ◌++◌, refl, ap, sym, ◌∙◌, subst, arith, Option, None, Some, Result, Ok, Err}
+use Rattle.std.specs.Prelude.{IfSome, IsSomeAnd, ◌==◌}
 use Rattle.std.specs.Result.{result_ok}
 use Rattle.std.proofs.lemmas.Bool.{eq-eqb, eqb-false, eqb-true}
+use Rattle.lms_tree.specs.LmsType.{height_of}
 use Rattle.lms_leaf.specs.Leaves.{DrawFaults, Draws, LeavesContent}
 use Rattle.lms_leaf.specs.declared.faults.LeafFault.{LeafFault}
 use Rattle.lms_leaf.specs.declared.faults.LeafFault.TheVariants.{Exhausted, DiskFault}
-use Rattle.sporc_client.specs.ClientModel.{AreInOrder, Rise}
-use Rattle.sporc_client.specs.Drawing.{IsDraw, at_hand, drawn, leaf_for}
+use Rattle.lms_sign.specs.Signer.{SignerContent}
+use Rattle.sporc_line.specs.LineModel.{LineModel}
+use Rattle.sporc_client.specs.ClientInvariant.{client_model, plain_of}
+use Rattle.sporc_client.specs.ClientModel.{AreInOrder, ClientModel, Rise, state_of}
+use Rattle.sporc_client.specs.Drawing.{IsDraw, MayDraw, at_hand, drawn, leaf_for}
+use Rattle.sporc_client.specs.PlainClient.{PlainClient}
+use Rattle.sporc_client.specs.Workspace.{Workspace}
 
 -- ---- what a draw answered is read off the leaf numbers
 
@@ -52,6 +58,29 @@ module _ {D : Type 0} (stored : D → Option (List ℕ)) (moment : D → ℕ) (i
         leaf = subst (λ (r : Result ℕ LeafFault). Draws stored moment images old r new) same d;
         fault = subst (λ (r : Result ℕ LeafFault). DrawFaults faults old r new) same f;
       }
+
+-- what may be drawn, where the leaves are those of the key and a kept ticket has one of them
+module _ {D : Type 0} (plain : PlainClient) (old new : LeavesContent D) (all : old.leaf_count ≡ 2 ^ height_of plain.opening.key.lms) (within : old.next ≤ old.leaf_count) where
+  drawn_may : MayDraw plain (drawn old new)
+  drawn_may = go (old.next == old.leaf_count) new.faulty refl
+    where
+      go : (full faulty : Bool) → (old.next == old.leaf_count) ≡ full → MayDraw plain (cond full (Err (Exhausted old.next)) (cond faulty (Err DiskFault) (Ok old.next)))
+      go true faulty e = eqb-true old.next old.leaf_count e ∙ all
+      go false true e = tt
+      go false false e = omega (arith, all, within, eqb-false old.next old.leaf_count e)
+
+  leaf_may : (ticket : Option ℕ) → IfSome ticket (λ leaf. leaf < 2 ^ height_of plain.opening.key.lms) → MayDraw plain (leaf_for ticket old new)
+  leaf_may (Some leaf) unspent = unspent
+  leaf_may None unspent = drawn_may
+
+-- so of a client whose fields hold these
+pub client_may : {D : Type 0} (line : LineModel) (signer : SignerContent D) (ticket : Option ℕ) (own : Workspace) (c : ClientModel D) (new : LeavesContent D)
+    → client_model line signer ticket own ≡ c → plain_of signer.key line own ≡ state_of (client_model line signer ticket own)
+    → signer.leaves.leaf_count ≡ 2 ^ height_of signer.key.lms → signer.leaves.next ≤ signer.leaves.leaf_count → IfSome ticket (λ leaf. leaf < 2 ^ height_of signer.key.lms)
+    → MayDraw (state_of c) (leaf_for c.ticket c.leaves new)
+client_may {D} line signer ticket own c new view state all within unspent =
+    subst (λ (c : ClientModel D). MayDraw (state_of c) (leaf_for c.ticket c.leaves new)) view
+    (subst (λ (plain : PlainClient). MayDraw plain (leaf_for ticket signer.leaves new)) state (leaf_may (plain_of signer.key line own) signer.leaves new all within ticket unspent))
 
 -- a submission for which no leaf was drawn
 pub no_leaf : {D : Type 0} (kept : Option ℕ) (old new : LeavesContent D) (fault : LeafFault) → ((leaf : ℕ) → kept ≡ Some leaf → Err fault ≡ Ok leaf) → (kept ≡ None → drawn old new ≡ Err fault) → leaf_for kept old new ≡ Err fault

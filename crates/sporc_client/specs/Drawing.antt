@@ -1,5 +1,6 @@
 -- The leaf of a submission: that of the ticket that is kept, or else one that is drawn.
-use Rattle.std.specs.Prelude.{ℕ, ◌==◌, Bool, true, false, ◌&&◌, is_none, List, if◌then◌else◌, Option, None, Some, Result, Ok, Err}
+use Rattle.std.specs.Prelude.{◌≡◌, ℕ, ◌^◌, ◌<◌, ◌==◌, Bool, true, false, ◌&&◌, is_none, List, if◌then◌else◌, Option, None, Some, Result, Ok, Err, ⊤}
+use Rattle.lms_tree.specs.LmsType.{height_of}
 use Rattle.lms_leaf.specs.Leaves.{DrawFaults, Draws, LeavesContent}
 use Rattle.lms_leaf.specs.declared.faults.LeafFault.{LeafFault}
 use Rattle.lms_leaf.specs.declared.faults.LeafFault.TheVariants.{Exhausted, DiskFault}
@@ -7,6 +8,7 @@ use Rattle.sporc_client.specs.declared.fault.SubmitFault.{SubmitFault}
 use Rattle.sporc_client.specs.declared.submitted.Submitted.{Submitted}
 use Rattle.sporc_client.specs.declared.submitted.Submitted.TheVariants as submitted
 use Rattle.sporc_client.specs.ClientModel.{ClientModel, state_of}
+use Rattle.sporc_client.specs.PlainClient.{PlainClient}
 use Rattle.sporc_client.specs.Submissions.{due, is_signing}
 
 -- what a draw answered, by the leaf numbers before and after it
@@ -15,6 +17,12 @@ drawn old new =
     if old.next == old.leaf_count then Err (Exhausted old.next)
     else if new.faulty then Err DiskFault
     else Ok old.next
+
+-- what the drawing of a leaf may answer a client: a leaf of its key, or that all of them are drawn, with their number
+abbrev pub MayDraw : PlainClient → Result ℕ LeafFault → Type 0
+MayDraw c (Ok leaf) = leaf < 2 ^ height_of c.opening.key.lms
+MayDraw c (Err (Exhausted next)) = next ≡ 2 ^ height_of c.opening.key.lms
+MayDraw c (Err DiskFault) = ⊤
 
 -- a draw made these of the leaf numbers
 pub record IsDraw {D : Type 0} (stored : D → Option (List ℕ)) (moment : D → ℕ) (images : D → ℕ → List ℕ → Type 0) (faults : D → ℕ)

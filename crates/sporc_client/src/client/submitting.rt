@@ -3,7 +3,7 @@
 ghost use Rattle.std.specs.Prelude.{◌≡◌, ℕ, ◌⊎◌, ◌++◌, true, false, None, Some, Err, IfErr, IfOk};
 ghost use Rattle.sporc_base.specs.Outcome.{GivesUnless};
 ghost use Rattle.sporc_client.specs.ClientModel.{state_of};
-ghost use Rattle.sporc_client.specs.Drawing.{IsDraw, asks_draw, gives_entry, kept_after, leaf_for};
+ghost use Rattle.sporc_client.specs.Drawing.{IsDraw, MayDraw, asks_draw, gives_entry, kept_after, leaf_for};
 ghost use Rattle.sporc_client.specs.LeafUses.{IsUse, leaf_given, supply_of};
 ghost use Rattle.sporc_client.specs.Submissions.{Drop, due, is_signing, submission, submission_added};
 
@@ -31,6 +31,7 @@ impl<D: LeafDisk> Client<D> {
     /// out a leaf that was drawn is kept for the next entry, and all else stays.
     pub fn submit(&mut self, by: u32, random: &[u8; 64]) -> Result<Submitted, SubmitFault>
         ensures answer { GivesUnless SubmitFault.Memory (λ s. s) result (submission (state_of self.old) random.now (leaf_for self.old.ticket self.old.leaves self.new.leaves)) }
+        ensures may { MayDraw (state_of self.old) (leaf_for self.old.ticket self.old.leaves self.new.leaves) }
         ensures log { self.new ≡ record self.old {
           log = self.old.log ++ submission_added by result;
           leaves = self.new.leaves;
@@ -40,6 +41,7 @@ impl<D: LeafDisk> Client<D> {
         ensures undrawn { asks_draw self.old ≡ false → self.new.leaves ≡ self.old.leaves }
         ensures drawn { asks_draw self.old ≡ true → ((result ≡ Err SubmitFault.Memory) × (self.new.leaves ≡ self.old.leaves)) ⊎ IsDraw D.stored D.moment D.images D.faults self.old.leaves self.new.leaves }
     {
+        let _next = self.signer.next_leaf();
         match find_due(&self.line, &self.own)? {
             Due::Waiting => Ok(Submitted::Waiting),
             Due::Nothing => Ok(Submitted::Nothing),
