@@ -41,6 +41,7 @@ impl<D: LeafDisk> Client<D> {
         ensures undrawn { asks_draw self.old ≡ false → self.new.leaves ≡ self.old.leaves }
         ensures drawn { asks_draw self.old ≡ true → ((result ≡ Err SubmitFault.Memory) × (self.new.leaves ≡ self.old.leaves)) ⊎ IsDraw D.stored D.moment D.images D.faults self.old.leaves self.new.leaves }
     {
+        // No draw: what the signer says here of its key's leaves is what `may` rests on.
         let _next = self.signer.next_leaf();
         match find_due(&self.line, &self.own)? {
             Due::Waiting => Ok(Submitted::Waiting),
