@@ -76,6 +76,7 @@ module _ (k k1 k' : Known Item) (knows : (items : List Item) → KnowsMore (spli
     leaf = h.leaf;
     is_point = point_joined h.point h.is_point;
     is_client = client_later k1.seen k'.seen h.point h.client begins h.is_point.within h.is_client;
+    may = h.may;
     drawn_are = h.drawn_are;
     gives = h.gives;
   }

@@ -23,7 +23,7 @@ module _ (log log' : List Item) (s : StartsWith log' log) (start : ℕ) where
   fits_later mine (Submit point first second answer) f =
       let added = map Happened (submission_added 0 answer) in (
         point_later log log' start 0 mine point s f.0,
-        (f.1.0, f.1.1, client_later log log' point f.1.0 s f.0.within f.1.2, f.1.3),
+        (f.1.0, f.1.1, client_later log log' point f.1.0 s f.0.within f.1.2, f.1.3, f.1.4),
         (f.2.0 ++ s.0, ap (drop point) s.1 ∙ drop-append-le point log s.0 f.0.within ∙ ap (λ l. l ++ s.0) f.2.1 ∙ append_assoc added f.2.0 s.0),
       )
   fits_later mine (Send entry reply) f = tt

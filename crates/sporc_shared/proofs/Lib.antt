@@ -23,3 +23,4 @@ pub mod Stating
 pub mod Crowding
 pub mod Sessioning
 pub mod Runs
+pub mod LastLeaves

@@ -13,6 +13,7 @@ use Rattle.sporc_client.specs.declared.fault.SubmitFault.{SubmitFault}
 use Rattle.sporc_client.specs.declared.fault.SubmitFault.TheVariants as submits
 use Rattle.sporc_client.specs.declared.submitted.Submitted.{Submitted}
 use Rattle.sporc_client.specs.declared.submitted.Submitted.TheVariants as submitted
+use Rattle.sporc_client.specs.Drawing.{MayDraw}
 use Rattle.sporc_client.specs.Submissions.{submission, submission_added}
 use Rattle.sporc_shared.specs.declared.answered.Answered.{Answered}
 use Rattle.sporc_shared.specs.declared.fault.SessionFault.{SessionFault}
@@ -40,7 +41,7 @@ given : (answer answer' : Result Submitted SubmitFault) → answer ≢ Err submi
 given (Ok s) answer' other h = sym h
 given (Err fault) answer' other h = sym (h (λ is. other (ap Err is)))
 
-module _ (k k' : Known Item) (before : Past) (first second : List ℕ) (leaf : Result ℕ LeafFault) (zero' : k.number ≡ 0) where
+module _ (k k' : Known Item) (before : Past) (first second : List ℕ) (leaf : Result ℕ LeafFault) (may : MayDraw (client_of before) leaf) (zero' : k.number ≡ 0) where
   sub_fits : (answer : Result Submitted SubmitFault) → IsCall k k' before (submission_added k.number answer) → answer ≡ submission (client_of before) (first ++ second) leaf → Submission k k' (first ∷ second ∷ []) answer
   sub_fits answer c gives =
       let events = submission_added 0 answer in
@@ -52,7 +53,7 @@ module _ (k k' : Known Item) (before : Past) (first second : List ℕ) (leaf : R
         knows = call_knows k k' before events c0;
         fits = (
           subst (λ (n : ℕ). IsPoint k'.seen k.start n k.mine (length (items_of before))) zero' (call_point k k' before events c0),
-          (client_of before, leaf, call_client k k' before events c0, gives),
+          (client_of before, leaf, call_client k k' before events c0, may, gives),
           ([], call_drop k k' before events c0 ∙ sym (append-nil (map Happened events))),
         );
         drawn_are = refl;
@@ -67,6 +68,7 @@ module _ (k k' : Known Item) (before : Past) (first second : List ℕ) (leaf : R
     leaf = leaf;
     is_point = none_point k k' before zero' c;
     is_client = call_client k k' before [] c;
+    may = may;
     drawn_are = refl;
     gives = sym gives;
   }
@@ -77,10 +79,10 @@ SubmitCall k random k' answer = (before : Past) × IsCall k k' before (submissio
 module _ (k : Known Item) (w w' : Option (List (List ℕ))) (n n' : ℕ) (first second : List ℕ) (zero' : k.number ≡ 0) (drew : AppendsWords w w' (first ∷ second ∷ [])) where
   kept : (k' : Known Item) (answer : Result Submitted SubmitFault) → answer ≢ Err submits.Memory → SubmitCall k (first ++ second) k' answer → Submission k k' (first ∷ second ∷ []) answer
   kept k' answer other h =
-      sub_fits k k' h.0 first second h.2.leaf zero' answer h.1 (given answer (submission (client_of h.0) (first ++ second) h.2.leaf) other h.2.gives)
+      sub_fits k k' h.0 first second h.2.leaf h.2.may zero' answer h.1 (given answer (submission (client_of h.0) (first ++ second) h.2.leaf) other h.2.gives)
 
   stops : (k' : Known Item) (fault : SubmitFault) → fault ≢ submits.Memory → SubmitCall k (first ++ second) k' (Err fault) → SubmitGives k' (first ∷ second ∷ []) fault
-  stops k' fault other h = sub_gives k k' h.0 first second h.2.leaf zero' fault h.1 (sym (h.2.gives other))
+  stops k' fault other h = sub_gives k k' h.0 first second h.2.leaf h.2.may zero' fault h.1 (sym (h.2.gives other))
 
   submitted_by : (answer : Result Submitted SubmitFault) (k' : Known Item) → SubmitCall k (first ++ second) k' answer → SubmittedOne k k' w w' n n' (made_of (Ok answer))
   submitted_by (Ok (submitted.Entry entry)) k' h = (Ok (submitted.Entry entry), first ∷ second ∷ [], kept k' (Ok (submitted.Entry entry)) (λ e. absurd cc) h, drew, refl)

@@ -9,6 +9,7 @@ use Rattle.sporc_wire.specs.declared.to_server.ToServer.{ToServer}
 use Rattle.sporc_wire.specs.declared.to_server.ToServer.TheVariants as to_server
 use Rattle.sporc_client.specs.declared.fault.SubmitFault.{SubmitFault}
 use Rattle.sporc_client.specs.declared.submitted.Submitted.{Submitted}
+use Rattle.sporc_client.specs.Drawing.{MayDraw}
 use Rattle.sporc_client.specs.Log.{Accept}
 use Rattle.sporc_client.specs.PlainClient.{Opening, PlainClient}
 use Rattle.sporc_client.specs.Step.{is_flight}
@@ -119,7 +120,8 @@ Fits log start mine (Pull from came) = ⊤
 Fits log start mine (Take position entry) = ⊤
 Fits log start mine (Submit point first second answer) =
     IsPoint log start 0 mine point
-    × ((client : PlainClient) × (leaf : Result ℕ LeafFault) × IsClientAt log point client × (answer ≡ submission client (first ++ second) leaf))
+    × ((client : PlainClient) × (leaf : Result ℕ LeafFault) × IsClientAt log point client × MayDraw client leaf
+    × (answer ≡ submission client (first ++ second) leaf))
     × StartsWith (drop point log) (map Happened (submission_added 0 answer))
 Fits log start mine (Send entry reply) = ⊤
 Fits log start mine (Check point entry stays) =

@@ -7,6 +7,7 @@ use Rattle.sporc_turn.specs.Log.{StartsWith, Agrees, own}
 use Rattle.sporc_client.specs.declared.fault.SubmitFault.{SubmitFault}
 use Rattle.sporc_client.specs.declared.fault.SubmitFault.TheVariants.{Memory}
 use Rattle.sporc_client.specs.declared.submitted.Submitted.{Submitted}
+use Rattle.sporc_client.specs.Drawing.{MayDraw}
 use Rattle.sporc_client.specs.Log.{Logged}
 use Rattle.sporc_client.specs.Submissions.{submission}
 use Rattle.sporc_shared.specs.Items.{Item, Happened, Past, IsAllowed, by_of, client_of, items_of, with_events}
@@ -26,7 +27,8 @@ pub record IsCall (k k' : Known Item) (before : Past) (added : List Logged) : Ty
   pub found : Agrees by_of k (items_of before)
   pub agrees : Agrees by_of k' (items_of (with_events before added))
 
--- a submission's answer, by what the drawing of the leaf answered, if one was due
+-- a submission's answer, by what the drawing of the leaf may have answered, if one was due
 pub record Submits (before : Past) (random : List ℕ) (answer : Result Submitted SubmitFault) : Type 0 where
   pub leaf : Result ℕ LeafFault
+  pub may : MayDraw (client_of before) leaf
   pub gives : GivesUnless Memory (λ s. s) answer (submission (client_of before) random leaf)

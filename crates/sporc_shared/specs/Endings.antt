@@ -15,6 +15,7 @@ use Rattle.sporc_client.specs.declared.fault.SubmitFault.{SubmitFault}
 use Rattle.sporc_client.specs.declared.fault.SubmitFault.TheVariants as submits
 use Rattle.sporc_client.specs.declared.submitted.Submitted.{Submitted}
 use Rattle.sporc_client.specs.Answers.{accept_fault}
+use Rattle.sporc_client.specs.Drawing.{MayDraw}
 use Rattle.sporc_client.specs.PlainClient.{PlainClient}
 use Rattle.sporc_client.specs.Submissions.{submission, submission_added}
 use Rattle.sporc_shared.specs.declared.fault.SessionFault.{SessionFault}
@@ -49,7 +50,7 @@ pub record AcceptGives (k : Known Item) (position : ℕ) (entry : List ℕ) (fau
   pub is_client : IsClientAt k.seen point client
   pub gives : accept_fault client position entry ≡ Some fault
 
--- the client answers so to a submission with the words that were drawn
+-- the client answers so to a submission with the words that were drawn, by what the drawing of a leaf may have answered
 pub record SubmitGives (k : Known Item) (drawn : List (List ℕ)) (fault : SubmitFault) : Type 0 where
   pub point : ℕ
   pub client : PlainClient
@@ -58,6 +59,7 @@ pub record SubmitGives (k : Known Item) (drawn : List (List ℕ)) (fault : Submi
   pub leaf : Result ℕ LeafFault
   pub is_point : IsPoint k.seen k.start 0 k.mine point
   pub is_client : IsClientAt k.seen point client
+  pub may : MayDraw client leaf
   pub drawn_are : drawn ≡ first ∷ second ∷ []
   pub gives : submission client (first ++ second) leaf ≡ Err fault
 

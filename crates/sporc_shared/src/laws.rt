@@ -1,12 +1,15 @@
-//! Laws of sessions: what their logs have to do with runs of all clients of a document (`sporc_client::laws`), and what the
-//! receiver's acts are.
+//! Laws of sessions: what their logs have to do with runs of all clients of a document (`sporc_client::laws`), what the
+//! receiver's acts are, and what a session without leaves names.
 
-ghost use Rattle.std.specs.Prelude.{◌≡◌, ◌⊎◌, ◌↔◌, ℕ, Bool, List, [], Result, Some, ⊤};
+ghost use Rattle.std.specs.Prelude.{◌≡◌, ◌⊎◌, ◌↔◌, ◌^◌, ℕ, Bool, List, [], Err, Result, Some, ⊤};
+ghost use Rattle.lms_leaf.specs.declared.faults.LeafFault.TheVariants as leaves;
+ghost use Rattle.lms_tree.specs.LmsType.{height_of};
 ghost use Rattle.sporc_script.specs.declared.editor_line.EditorLine.{EditorLine};
 ghost use Rattle.sporc_client.specs.Calls.{LeadTo, events_of};
 ghost use Rattle.sporc_client.specs.Log.{Logged};
 ghost use Rattle.sporc_client.specs.Run.{IsRun, Move, Setup, World, start};
 ghost use Rattle.sporc_shared.specs.declared.fault.SessionFault.{SessionFault};
+ghost use Rattle.sporc_shared.specs.declared.fault.SessionFault.TheVariants as faults;
 ghost use Rattle.sporc_shared.specs.Acts.{Act};
 ghost use Rattle.sporc_shared.specs.Courses.{Stand};
 ghost use Rattle.sporc_shared.specs.Items.{Past, client_of, items_of, with_events};
@@ -35,4 +38,10 @@ pub fn journals_are_a_run()
 pub fn phases_are_whole_rounds()
     ensures rounds { (ready : ℕ → ℕ → Bool) (acts : List Act) (n : ℕ) → Leads ready (Between 0) acts (Between n) ↔ AreRounds ready n acts }
     ensures first_phase { (ready : ℕ → ℕ → Bool) (acts : List Act) (n : ℕ) → Leads ready Asking acts (Between n) ↔ IsFirstPhase ready n acts }
+{}
+
+/// A session that ends because no leaf is left names the number of all leaves of the member's key, 2 to the height of its tree.
+pub fn sessions_name_all_leaves()
+    ensures { (past : Past) (a b : Stand) (rounds until next : ℕ) (scripts : List (List EditorLine))
+        → a.known.seen ≡ items_of past → IsSession a b rounds until scripts (Err (faults.Leaf (leaves.Exhausted next))) → next ≡ 2 ^ height_of past.opening.key.lms }
 {}
