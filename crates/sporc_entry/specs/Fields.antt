@@ -2,7 +2,7 @@
 -- of the field's first byte.
 use Rattle.std.specs.Prelude.{ℕ, zero, suc, ◌&&◌, nat_le, List, [], ◌∷◌, Result, Ok}
 use Rattle.std.specs.Int.{Width, w8}
-use Rattle.sporc_bytes.specs.Fields.{Reading, number_at, only_if, present}
+use Rattle.sporc_bytes.specs.Fields.{Reading, ◌>>=◌, number_at, only_if, present}
 use Rattle.sporc_member.specs.declared.role.Role.{Role}
 use Rattle.sporc_member.specs.Role.{role_with_code}
 

@@ -1,6 +1,6 @@
 -- What the files of keys and of rings have in common.
 use Rattle.std.specs.Prelude.{ℕ, List, bytes_eq, Result, Ok}
-use Rattle.sporc_bytes.specs.Fields.{Reading, bytes_at, only_if, end_at}
+use Rattle.sporc_bytes.specs.Fields.{Reading, ◌>>=◌, bytes_at, only_if, end_at}
 
 -- the four bytes that name a format
 unfoldable pub format_at : List ℕ → Reading → Result Reading ℕ

@@ -11,7 +11,7 @@ use Rattle.std.specs.Prelude.{◌≡◌, ℕ, zero, suc, ◌-◌, ◌^◌, nat_e
 use Rattle.std.specs.List.{flat_map, starts_with}
 use Rattle.std.specs.Int.{w32, to_be_bytes}
 use Rattle.sporc_outside.specs.declared.file_fault.TheConstants.{MAX_FILE}
-use Rattle.sporc_bytes.specs.Fields.{Reading, fault_as, number_at, only_if, counted_at, counted, end_at}
+use Rattle.sporc_bytes.specs.Fields.{Reading, ◌>>=◌, fault_as, number_at, only_if, counted_at, counted, end_at}
 use Rattle.sporc_head.specs.declared.limits.TheConstants.{MAX_ENTRIES}
 use Rattle.sporc_wire.specs.Messages.{counted_to_end}
 use Rattle.sporc_store.specs.declared.fault.SaveFault.{SaveFault}

@@ -6,7 +6,7 @@
 -- | Pull | the byte 3, the position as u32 |
 use Rattle.std.specs.Prelude.{◌≡◌, ℕ, ◌<◌, ◌^◌, ◌==◌, List, ◌∷◌, ◌++◌, length, Result, Ok, Err, if◌then◌else◌}
 use Rattle.std.specs.Int.{w8, w16, w32, to_be_bytes}
-use Rattle.sporc_bytes.specs.Fields.{Reading, bytes_at, number_at, end_at}
+use Rattle.sporc_bytes.specs.Fields.{Reading, ◌>>=◌, bytes_at, number_at, end_at}
 use Rattle.sporc_wire.specs.declared.to_server.ToServer.{ToServer}
 use Rattle.sporc_wire.specs.declared.to_server.ToServer.TheVariants.{Hello, Submit, Pull}
 use Rattle.sporc_wire.specs.declared.to_server.TheConstants.{HELLO, SUBMIT, PULL}
