@@ -4,7 +4,7 @@ use Rattle.std.proofs.lemmas.Bool.{eqb-true}
 use Rattle.std.proofs.lemmas.List.{append-nil}
 use Rattle.std.specs.Int.{w8, w16, w32, to_be_bytes}
 use Rattle.sporc_base.specs.Bytes.{IsBytes}
-use Rattle.sporc_bytes.specs.Fields.{Reading, number_at}
+use Rattle.sporc_bytes.specs.Fields.{Reading, ◌>>=◌, number_at}
 use Rattle.sporc_bytes.proofs.Fields.{bind_ok, ok_is, wide8, wide16, wide32, number_takes, bytes_takes, bytes_again, u8_again, u16_again, u32_again, end_takes}
 use Rattle.sporc_wire.specs.declared.to_server.ToServer.{ToServer}
 use Rattle.sporc_wire.specs.declared.to_server.ToServer.TheVariants.{Hello, Submit, Pull}
