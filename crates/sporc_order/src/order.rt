@@ -67,7 +67,8 @@ impl Order {
         ensures value { map (λ v. v.items) result.now ≡ self.now.entries }
         ensures within { length result.now ≤ MAX_ENTRIES }
     {
-        self.heads.entries()
+        let len = self.heads.len() as usize;
+        &self.heads.entries()[..len]
     }
 
     /// Appends an entry where no check fails that needs no key, and answers its position; else the first check that
