@@ -2,3 +2,4 @@ pub mod Written
 pub mod FileFaults
 pub mod FaultCases
 pub mod Asking
+mod Examples

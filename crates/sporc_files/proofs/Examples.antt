@@ -1,0 +1,127 @@
+-- Worked examples of the definitions: names of files, and the rows of the table of statuses in docs/MANUAL.md.
+use Rattle.std.proofs.Common.{◌≡◌, ℕ, List, [], ◌∷◌, codes, refl}
+use Rattle.std.specs.Fmt.{digits}
+use Rattle.sporc_client.specs.declared.fault.EditFault.TheVariants as edits
+use Rattle.sporc_epoch.specs.declared.fault.HintFault.TheVariants as hints
+use Rattle.sporc_head.specs.declared.refusal.Refusal.TheVariants as refusals
+use Rattle.sporc_line.specs.declared.fault.LineOpenFault.TheVariants as opens
+use Rattle.sporc_member.specs.declared.change.ChangeFault.TheVariants as changes
+use Rattle.sporc_files.specs.declared.fault.Fault.{Fault}
+use Rattle.sporc_files.specs.declared.fault.Fault.TheVariants as faults
+use Rattle.sporc_files.specs.declared.file.File.TheVariants as files
+use Rattle.sporc_files.specs.Faults.{fault_line, status_of}
+use Rattle.sporc_files.specs.Names.{FileNames, file_name}
+
+-- a document, and the scripts of two editors
+abbrev trip : FileNames
+trip = record { document = codes "/home/ann/trip"; scripts = codes "monday" ∷ codes "more things" ∷ [] }
+
+-- ---- names of files
+
+genesis_of_trip : file_name trip files.Genesis ≡ codes "/home/ann/trip.genesis"
+genesis_of_trip = refl
+
+key_of_7 : file_name trip (files.Key 7) ≡ codes "/home/ann/trip.7.key"
+unfolding digits
+key_of_7 = refl
+
+leaves_of_65535 : file_name trip (files.Leaf 65535) ≡ codes "/home/ann/trip.65535.leaf"
+unfolding digits
+leaves_of_65535 = refl
+
+ring_of_10 : file_name trip (files.Ring 10) ≡ codes "/home/ann/trip.10.ring"
+unfolding digits
+ring_of_10 = refl
+
+history_of_2 : file_name trip (files.History 2) ≡ codes "/home/ann/trip.2.history"
+unfolding digits
+history_of_2 = refl
+
+log_of_trip : file_name trip files.Log ≡ codes "/home/ann/trip.log"
+log_of_trip = refl
+
+-- the word itself, of an editor that has one
+second_script : file_name trip (files.Script 2) ≡ codes "more things"
+second_script = refl
+
+no_third_script : file_name trip (files.Script 3) ≡ []
+no_third_script = refl
+
+-- ---- statuses and lines
+
+-- the status and the line of a fault
+abbrev told : Fault → ℕ × List ℕ
+told fault = (status_of fault, fault_line trip fault)
+
+out_of_memory : told faults.Memory ≡ (1, codes "fault memory\n")
+out_of_memory = refl
+
+no_command : told faults.Words ≡ (2, codes "fault words\n")
+no_command = refl
+
+no_key_file : told (faults.Missing (files.Key 7)) ≡ (3, codes "fault missing /home/ann/trip.7.key\n")
+unfolding digits
+no_key_file = refl
+
+a_leaf_file_before_keygen : told (faults.Exists (files.Leaf 1)) ≡ (3, codes "fault exists /home/ann/trip.1.leaf\n")
+unfolding digits
+a_leaf_file_before_keygen = refl
+
+a_long_log : told (faults.TooLong files.Log) ≡ (3, codes "fault too long /home/ann/trip.log\n")
+a_long_log = refl
+
+a_history_of_another_document : told (faults.Malformed (files.History 2) 0) ≡ (3, codes "fault malformed /home/ann/trip.2.history 0\n")
+unfolding digits
+a_history_of_another_document = refl
+
+a_line_of_an_editor : told (faults.EditorLine 2 14) ≡ (3, codes "fault line more things 14\n")
+unfolding digits
+a_line_of_an_editor = refl
+
+a_line_of_a_play : told (faults.Line 14) ≡ (3, codes "fault line 14\n")
+unfolding digits
+a_line_of_a_play = refl
+
+a_bad_signature : told (faults.Refused 3 refusals.BadSignature) ≡ (4, codes "fault refused 3 bad-signature\n")
+unfolding digits
+a_bad_signature = refl
+
+a_malformed_entry : told (faults.Refused 16384 (refusals.Malformed 40)) ≡ (4, codes "fault refused 16384 malformed 40\n")
+unfolding digits
+a_malformed_entry = refl
+
+a_change_of_no_member : told (faults.Rejected (refusals.BadChange changes.NotMember)) ≡ (4, codes "fault rejected bad-change not-member\n")
+a_change_of_no_member = refl
+
+hints_without_a_key : told (faults.Hints (hints.NoPairKey 3)) ≡ (4, codes "fault hints no-pair-key 3\n")
+unfolding digits
+hints_without_a_key = refl
+
+a_key_that_does_not_open : told (faults.Opening opens.WrongKey) ≡ (4, codes "fault hints wrong-key\n")
+a_key_that_does_not_open = refl
+
+two_edits_wait : told (faults.Unsettled 2 17) ≡ (5, codes "fault unsettled 2 17\n")
+unfolding digits
+two_edits_wait = refl
+
+a_link_that_ended : told (faults.LinkEnded 5) ≡ (6, codes "fault link ended 5\n")
+unfolding digits
+a_link_that_ended = refl
+
+something_outside : told faults.Outside ≡ (6, codes "fault outside\n")
+something_outside = refl
+
+no_leaf_left : told (faults.Leaf 32) ≡ (7, codes "fault leaf 32\n")
+unfolding digits
+no_leaf_left = refl
+
+a_full_history : told faults.FullHistory ≡ (8, codes "fault full history\n")
+a_full_history = refl
+
+no_message : told (faults.Message 1000000) ≡ (9, codes "fault message 1000000\n")
+unfolding digits
+no_message = refl
+
+an_edit_without_a_right : told (faults.Edit 1 4 edits.NoRight) ≡ (10, codes "fault edit 1 4 no-right\n")
+unfolding digits
+an_edit_without_a_right = refl
