@@ -1,12 +1,12 @@
 -- What a file says.
-use Rattle.std.specs.Prelude.{◌≡◌, ℕ, ◌==◌, ◌≤◌, List, length, find, Bool, true, Option, None, Some, Result, Ok, Err, bytes_eq}
+use Rattle.std.specs.Prelude.{◌≡◌, ℕ, ◌==◌, ◌≤◌, List, length, find, Bool, true, Option, None, Some, Result, Ok, Err, bytes_eq, if◌then◌else◌}
 use Rattle.lms_tree.specs.LmsPrivate.{LmsPrivate, lms_public_of}
 use Rattle.lms_tree.specs.declared.public_key.LmsPublic.{LmsPublic}
 use Rattle.lms_tree.specs.LmsPublic.{public_key_bytes}
 use Rattle.sporc_bytes.specs.Fields.{◌>>=◌, fault_as, only_if}
 use Rattle.sporc_member.specs.declared.founder.Founder.{Founder}
 use Rattle.sporc_outside.specs.Counts.{Rose}
-use Rattle.sporc_outside.specs.Files.{HasFile, HasNoFile, IsTooLong}
+use Rattle.sporc_outside.specs.Files.{HasFile, HasNoFile, HasSomeFile, IsTooLong}
 use Rattle.sporc_outside.specs.declared.file_fault.TheConstants.{MAX_FILE}
 use Rattle.sporc_outside.specs.declared.named_file.NamedFile.{NamedFile}
 use Rattle.sporc_entry.specs.declared.fault.GenesisFault.{GenesisFault}
@@ -14,6 +14,7 @@ use Rattle.sporc_entry.specs.declared.fault.GenesisFault.TheVariants as geneses
 use Rattle.sporc_entry.specs.declared.genesis.Genesis.{Genesis}
 use Rattle.sporc_entry.specs.Genesis.{genesis_of}
 use Rattle.sporc_keys.specs.KeyFile.{key_file_of_member, private_in}
+use Rattle.sporc_keys.specs.RingFile.{ring_file_of_member}
 use Rattle.sporc_files.specs.declared.fault.Fault.{Fault}
 use Rattle.sporc_files.specs.declared.fault.Fault.TheVariants as faults
 use Rattle.sporc_files.specs.declared.file.File.{File}
@@ -37,7 +38,9 @@ genesis_file bytes = fault_as genesis_place (genesis_of bytes)
 
 -- the private key of a member
 abbrev pub key_file : ℕ → List ℕ → Result LmsPrivate ℕ
-key_file member bytes = key_file_of_member member bytes >>= λ file. Ok (private_in file)
+key_file member bytes = do
+  file ← key_file_of_member member bytes
+  Ok (private_in file)
 
 -- the founder with this number
 abbrev pub founder_with : ℕ → List Founder → Option Founder
@@ -50,8 +53,9 @@ is_key_of (Some founder) key = bytes_eq founder.key (public_key_bytes key)
 
 -- the private key of a member of a document: any other key than its founder's is forbidden where the member's number stands
 abbrev pub own_key_file : List Founder → ℕ → List ℕ → Result LmsPrivate ℕ
-own_key_file founders member bytes =
-    key_file member bytes >>= λ key. only_if (is_key_of (founder_with member founders) (lms_public_of key)) 4 key
+own_key_file founders member bytes = do
+  key ← key_file member bytes
+  only_if (is_key_of (founder_with member founders) (lms_public_of key)) 4 key
 
 -- ---- reading a file
 
