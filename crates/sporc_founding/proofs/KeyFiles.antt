@@ -10,9 +10,6 @@ use Rattle.sporc_files.specs.declared.fault.Fault.{Fault}
 use Rattle.sporc_files.specs.declared.file.File.TheVariants as files
 use Rattle.sporc_files.specs.Names.{FileNames, file_name}
 use Rattle.sporc_files.specs.Writing.{IsNewFault, LeavesFile, Stores, file_with, with_files}
-use Rattle.std.proofs.lemmas.List.Elements.{Contains-append_left, Contains-append_right}
-use Rattle.sporc_files.specs.Uses.{AsksOnly}
-use Rattle.sporc_files.proofs.Asking.{AsksOnly-among, AsksOnly-trans}
 use Rattle.sporc_files.proofs.FaultCases.{NewCase, NewMemory, NewFailed, NewThere, new_case}
 use Rattle.sporc_founding.specs.KeyMaking.{IsFilesFault, StoresKey}
 
@@ -99,12 +96,3 @@ module _ (names : FileNames) (key : NewKey) (before between after : Option (List
   both_written bytes leaves spelled blank new stored newer last =
       both new (subst (λ (b : List ℕ). Stores (file_with names (files.Key key.file.member) b ∷ []) before between) spelled stored) newer
       (subst (λ (b : List ℕ). Stores (file_with names (files.Leaf key.file.member) b ∷ []) between after) blank last)
-
--- one of two names was asked for
-pub asks_first : (one other : List ℕ) (a b : Option (List (List ℕ))) → AsksOnly (one ∷ []) a b → AsksOnly (one ∷ other ∷ []) a b
-asks_first one other a b asked = AsksOnly-among (one ∷ []) (one ∷ other ∷ []) a b (λ name. Contains-append_left (one ∷ []) (other ∷ []) name) asked
-
-pub asks_both : (one other : List ℕ) (a b c : Option (List (List ℕ))) → AsksOnly (one ∷ []) a b → AsksOnly (other ∷ []) b c → AsksOnly (one ∷ other ∷ []) a c
-asks_both one other a b c first then =
-    AsksOnly-trans (one ∷ other ∷ []) a b c (asks_first one other a b first)
-    (AsksOnly-among (other ∷ []) (one ∷ other ∷ []) b c (λ name. Contains-append_right (one ∷ []) (other ∷ []) name) then)

@@ -1,5 +1,6 @@
 pub mod KeyFiles
 pub mod Storing
 pub mod MayFound
+pub mod Asking
 pub mod Named
 pub mod RingLoop

@@ -16,6 +16,9 @@ use Rattle.sporc_files.specs.Reading.{IsFileFault, key_file}
 use Rattle.sporc_files.proofs.FaultCases.{ReadCase, ReadMemory, ReadFailed, ReadMissing, ReadTooLong, ReadMalformed, read_case}
 use Rattle.sporc_founding.specs.Founding.{AreNamed, FirstBadKey, IsNamed}
 
+pub nobody : (told : Option (List NamedFile)) (names : FileNames) (ns : List Named) → ns ≡ [] → AreNamed told names [] ns
+nobody told names ns none = rw none tt
+
 pub one_more : (told : Option (List NamedFile)) (names : FileNames) (ps : List Participant) (ns : List Named) (p : Participant) (n : Named) → AreNamed told names ps ns
     → IsNamed told names p.member p.founding n → AreNamed told names (ps ++ p ∷ []) (ns ++ n ∷ [])
 one_more told names [] [] p n all one = (one, tt)

@@ -11,6 +11,10 @@ pub none_stored : (new : List NamedFile) (before after : Option (List NamedFile)
 none_stored [] before after same = same
 none_stored (f ∷ fs) before after same = inl (unchanged before after f.name same)
 
+pub none_yet : (before : Option (List NamedFile)) → Stores [] before before
+none_yet None = refl
+none_yet (Some files) = refl
+
 -- one behind the first of some
 behind_first : (f : NamedFile) (fs : List NamedFile) (before between : Option (List NamedFile)) → Stores (f ∷ fs) before between → Stores fs (option_map (λ files. with_one files f) before) between
 behind_first f fs None between stored = stored

@@ -1,6 +1,6 @@
 -- What `found` does: it makes a document of the founders' key files and of words of the chance.
 use Rattle.std.specs.Prelude.{◌≡◌, ◌⊎◌, ℕ, List, [], ◌∷◌, ◌++◌, map, Option, true, Result, Ok, Err}
-use Rattle.std.specs.List.{AllByRecursion}
+use Rattle.std.specs.List.{AllByRecursion, flat_map}
 use Rattle.lms_tree.specs.LmsPrivate.{LmsPrivate, lms_public_of}
 use Rattle.sporc_outside.specs.Counts.{Rose}
 use Rattle.sporc_outside.specs.declared.named_file.NamedFile.{NamedFile}
@@ -19,6 +19,7 @@ use Rattle.sporc_words.specs.declared.founding.Participant.{Participant}
 use Rattle.sporc_words.specs.Values.{may_found}
 use Rattle.sporc_files.specs.declared.fault.Fault.{Fault}
 use Rattle.sporc_files.specs.declared.fault.Fault.TheVariants as faults
+use Rattle.sporc_files.specs.declared.file.File.{File}
 use Rattle.sporc_files.specs.declared.file.File.TheVariants as files
 use Rattle.sporc_files.specs.Names.{FileNames, file_name}
 use Rattle.sporc_files.specs.Reading.{IsFileFault, SaysFile, key_file}
@@ -64,6 +65,27 @@ ring_of_founding names ring = file_with names (files.Ring ring.member) (ring_fil
 -- the genesis, and then each ring, in ascending order of the numbers
 abbrev pub founding_files : FileNames → Founding → List NamedFile
 founding_files names founding = file_with names files.Genesis (genesis_bytes founding.genesis) ∷ map (ring_of_founding names) founding.rings
+
+-- the names of files, in their order
+abbrev pub names_in : List NamedFile → List (List ℕ)
+names_in files = map (λ f. f.name) files
+
+-- the key file that is read of one who is named: a founder's
+abbrev pub key_read : ℕ → Footing → List File
+key_read member (footings.Founder role) = files.Key member ∷ []
+key_read member footings.Joiner = []
+
+-- the key files that are read, in the order of the words
+abbrev pub keys_read : List Participant → List File
+keys_read participants = flat_map (λ p. key_read p.member p.founding) participants
+
+-- the rings that are written
+abbrev pub rings_written : List Participant → List File
+rings_written participants = map (λ p. files.Ring p.member) participants
+
+-- the files that are asked for: the key file of each founder, the genesis, and the ring of each who is named
+abbrev pub found_files : List Participant → List File
+found_files participants = keys_read participants ++ (files.Genesis ∷ rings_written participants)
 
 -- why not all files were written, and what stands
 abbrev pub IsStoreFault : List NamedFile → Option (List NamedFile) → Option (List NamedFile) → ℕ → ℕ → Fault → Type 0

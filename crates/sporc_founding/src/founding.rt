@@ -7,10 +7,12 @@ ghost use Rattle.sporc_keys.specs.Founding.{CanFound, IsFounding, in_order};
 ghost use Rattle.sporc_keys.specs.RingFile.{IsRingFile};
 ghost use Rattle.sporc_files.specs.declared.fault.Fault.TheVariants as faults;
 ghost use Rattle.sporc_files.specs.declared.file.File.TheVariants as kinds;
+ghost use Rattle.sporc_files.specs.Names.{file_name};
 ghost use Rattle.sporc_files.specs.Reading.{IsFileFault, key_file};
+ghost use Rattle.sporc_files.specs.Uses.{AsksOnly};
 ghost use Rattle.sporc_files.specs.Writing.{Stores};
-ghost use Rattle.sporc_founding.specs.Founding.{AreNamed, FirstBadKey, FoundOutcome, IsNamed, IsStoreFault, MayFound, founding_files, ring_of_founding};
-ghost use Rattle.sporc_founding.specs.KeyMaking.{IsDrawFault};
+ghost use Rattle.sporc_founding.specs.Founding.{AreNamed, FirstBadKey, FoundOutcome, IsNamed, IsStoreFault, MayFound, found_files, founding_files, key_read, keys_read, names_in, ring_of_founding};
+ghost use Rattle.sporc_founding.specs.KeyMaking.{IsDrawFault, names_of};
 
 use sporc_entry::write_genesis;
 use sporc_files::{Fault, File, Names, read_key_file, write_whole_file};
@@ -47,6 +49,7 @@ pub fn found<F: Folder, C: Chance>(
           faults_after = C.faults chance.new;
         })
         result }
+    ensures asked { AsksOnly (map (file_name (names_of asked.now.name)) (found_files asked.now.participants)) (F.asked files.old) (F.asked files.new) }
     ensures lent { F.lent files.new ≡ F.lent files.old }
     ensures files_kept { F.faults files.old ≤ F.faults files.new }
     ensures chance_kept { C.faults chance.old ≤ C.faults chance.new }
@@ -67,6 +70,7 @@ fn read_founders<F: Folder>(
 ) -> Result<Vec<Named>, Fault>
     ensures ok { IfOk result (λ named. AreNamed (F.files files.old) names.now participants.now named.items) }
     ensures err { IfErr result (FirstBadKey (F.files files.old) (F.faults files.old) (F.faults files.new) names.now participants.now) }
+    ensures asked { AsksOnly (map (file_name names.now) (keys_read participants.now)) (F.asked files.old) (F.asked files.new) }
     ensures files { F.files files.new ≡ F.files files.old }
     ensures lent { F.lent files.new ≡ F.lent files.old }
     ensures kept { F.faults files.old ≤ F.faults files.new }
@@ -89,6 +93,7 @@ fn read_named<F: Folder>(
     ensures ok { IfOk result (IsNamed (F.files files.old) names.now participant.now.member participant.now.founding) }
     ensures err { IfErr result (IsFileFault (key_file participant.now.member) (F.files files.old)
         (F.faults files.old) (F.faults files.new) names.now (kinds.Key participant.now.member)) }
+    ensures asked { AsksOnly (map (file_name names.now) (key_read participant.now.member participant.now.founding)) (F.asked files.old) (F.asked files.new) }
     ensures files { F.files files.new ≡ F.files files.old }
     ensures lent { F.lent files.new ≡ F.lent files.old }
     ensures kept { F.faults files.old ≤ F.faults files.new }
@@ -136,6 +141,7 @@ fn write_founding<F: Folder>(
     ensures ok { OnOk result (Stores (founding_files names.now founding.now) (F.files files.old) (F.files files.new)) }
     ensures err { IfErr result (IsStoreFault (founding_files names.now founding.now) (F.files files.old) (F.files files.new)
         (F.faults files.old) (F.faults files.new)) }
+    ensures asked { AsksOnly (names_in (founding_files names.now founding.now)) (F.asked files.old) (F.asked files.new) }
     ensures lent { F.lent files.new ≡ F.lent files.old }
     ensures kept { F.faults files.old ≤ F.faults files.new }
 {
@@ -155,6 +161,7 @@ fn write_rings<F: Folder>(
     ensures ok { OnOk result (Stores (map (ring_of_founding names.now) rings.now) (F.files files.old) (F.files files.new)) }
     ensures err { IfErr result (IsStoreFault (map (ring_of_founding names.now) rings.now) (F.files files.old) (F.files files.new)
         (F.faults files.old) (F.faults files.new)) }
+    ensures asked { AsksOnly (names_in (map (ring_of_founding names.now) rings.now)) (F.asked files.old) (F.asked files.new) }
     ensures lent { F.lent files.new ≡ F.lent files.old }
     ensures kept { F.faults files.old ≤ F.faults files.new }
 {

@@ -8,8 +8,9 @@
 //! found(alloc, &mut files, &mut chance, &asked)?;                // plan.genesis, plan.1.ring, plan.2.ring
 //! ```
 //!
-//! Proved: which files stand after each answer, of which words of the chance they are made, what is printed, and why a
-//! command failed. Tested, in `sporc_founding_tests`: the files of a document in memory, and each call outside failing in turn.
+//! Proved: which files are asked for, which stand after each answer, of which words of the chance they are made, what is
+//! printed, and why a command failed. Tested, in `sporc_founding_tests`: the files of a document in memory, the names asked
+//! for, in their order, and each call outside failing in turn.
 #![tactic(auto)]
 
 mod founding;

@@ -1,8 +1,11 @@
-use Rattle.std.proofs.Common.{map}
+use Rattle.std.proofs.Common.{[], ◌∷◌, map}
 use Rattle.sporc_entry.specs.Genesis.{genesis_bytes}
 use Rattle.sporc_files.specs.declared.file.File.TheVariants as files
+use Rattle.sporc_files.specs.Names.{file_name}
 use Rattle.sporc_files.specs.Writing.{file_with}
-use Rattle.sporc_founding.specs.Founding.{ring_of_founding}
+use Rattle.sporc_files.proofs.Asking.{AsksOnly-none}
+use Rattle.sporc_founding.specs.Founding.{founding_files, names_in, ring_of_founding}
+use Rattle.sporc_founding.proofs.Asking.{asks_first, asks_then}
 use Rattle.sporc_founding.proofs.RingLoop.{behind_err}
 use Rattle.sporc_founding.proofs.founding.write_founding.Goals as goal
 
@@ -12,3 +15,15 @@ returns-clause-err g c =
     let rest = rw c.as_slice-2.ensures.value at c.write_rings.ensures.err in
     behind_err (file_with c.args.names.now files.Genesis (genesis_bytes c.args.founding.now.genesis)) (map (ring_of_founding c.args.names.now) c.args.founding.now.rings) _ _ _ _ _ _
     first c.write_whole_file.ensures.kept c.write_rings.result rest
+
+pub returns-in_err-bytes-clause-asked : goal.returns-in_err-bytes-clause-asked
+returns-in_err-bytes-clause-asked g c = AsksOnly-none (names_in (founding_files c.args.names.now c.args.founding.now)) _
+
+pub returns-in_err-write_whole_file-clause-asked : goal.returns-in_err-write_whole_file-clause-asked
+returns-in_err-write_whole_file-clause-asked g c =
+    asks_first (file_name c.args.names.now files.Genesis ∷ []) (names_in (map (ring_of_founding c.args.names.now) c.args.founding.now.rings)) _ _ c.write_whole_file.ensures.asked
+
+pub returns-clause-asked : goal.returns-clause-asked
+returns-clause-asked g c =
+    let rest = rw c.as_slice-2.ensures.value at c.write_rings.ensures.asked in
+    asks_then (file_name c.args.names.now files.Genesis ∷ []) (names_in (map (ring_of_founding c.args.names.now) c.args.founding.now.rings)) _ _ _ c.write_whole_file.ensures.asked rest

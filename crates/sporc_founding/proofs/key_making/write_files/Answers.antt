@@ -1,12 +1,13 @@
-use Rattle.std.proofs.Common.{◌∙◌}
+use Rattle.std.proofs.Common.{[], ◌∷◌, ◌∙◌}
 use Rattle.sporc_files.specs.declared.file.File.TheVariants as files
 use Rattle.sporc_files.specs.Names.{file_name}
-use Rattle.sporc_founding.proofs.KeyFiles.{asks_both, asks_first, both_written, on_ok}
+use Rattle.sporc_founding.proofs.Asking.{asks_first, asks_then}
+use Rattle.sporc_founding.proofs.KeyFiles.{both_written, on_ok}
 use Rattle.sporc_founding.proofs.key_making.write_files.Goals as goal
 
 pub returns-in_err-write_new_file-clause-asked : goal.returns-in_err-write_new_file-clause-asked
 returns-in_err-write_new_file-clause-asked g c =
-    asks_first (file_name c.args.names.now (files.Key c.args.key.now.file.member)) (file_name c.args.names.now (files.Leaf c.args.key.now.file.member)) _ _
+    asks_first (file_name c.args.names.now (files.Key c.args.key.now.file.member) ∷ []) (file_name c.args.names.now (files.Leaf c.args.key.now.file.member) ∷ []) _ _
     c.write_new_file.ensures.asked
 
 pub returns-clause-ok : goal.returns-clause-ok
@@ -16,5 +17,5 @@ returns-clause-ok g c =
 
 pub returns-clause-asked : goal.returns-clause-asked
 returns-clause-asked g c =
-    asks_both (file_name c.args.names.now (files.Key c.args.key.now.file.member)) (file_name c.args.names.now (files.Leaf c.args.key.now.file.member)) _ _ _
+    asks_then (file_name c.args.names.now (files.Key c.args.key.now.file.member) ∷ []) (file_name c.args.names.now (files.Leaf c.args.key.now.file.member) ∷ []) _ _ _
     c.write_new_file.ensures.asked c.write_new_file-2.ensures.asked
