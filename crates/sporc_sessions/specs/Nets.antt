@@ -1,5 +1,5 @@
 -- A link that a net hands out and takes back.
-use Rattle.std.specs.Prelude.{◌≡◌, ◌≤◌, ℕ, List, Bool, Option, Result, ⊤}
+use Rattle.std.specs.Prelude.{◌≡◌, ◌≤◌, ℕ, List, ◌++◌, replicate, Bool, Option, None, Some, Result, ⊤}
 use Rattle.sporc_outside.specs.Counts.{count_of_both}
 use Rattle.sporc_outside.specs.Told.{AppendsItem, IsTrueIfTold, TakesItem}
 use Rattle.sporc_shared.specs.declared.fault.SessionFault.{SessionFault}
@@ -16,6 +16,12 @@ pub record NetTold (L : Type 0) : Type 0 where
 
 abbrev pub net_told : {L : Type 0} → Option (List (List ℕ)) → Option (List L) → Option (List L) → ℕ → NetTold L
 net_told asked coming returned link_faults = record { asked = asked; coming = coming; returned = returned; link_faults = link_faults }
+
+-- told addresses asked for grew by this one alone, and by it so often at most
+abbrev pub AsksAtMost : ℕ → Option (List (List ℕ)) → Option (List (List ℕ)) → List ℕ → Type 0
+AsksAtMost most None after address = Unit {0}
+AsksAtMost most (Some asked) None address = ⊥
+AsksAtMost most (Some asked) (Some more) address = (times : ℕ) × (times ≤ most) × (more ≡ asked ++ replicate times address)
 
 -- what each link tells, and whether it was shut
 pub record LinkView (L : Type 0) : Type 0 where

@@ -1,5 +1,5 @@
 -- A member's line, before its history is loaded.
-use Rattle.std.specs.Prelude.{◌≡◌, ◌≢◌, ℕ, List, [], None, Some, Result, Ok, Err}
+use Rattle.std.specs.Prelude.{◌≡◌, ◌≢◌, ℕ, List, [], None, Some, is_none, if◌then◌else◌, Result, Ok, Err}
 use Rattle.std.specs.FinMap.{get}
 use Rattle.sporc_base.specs.FirstFault.{first_of}
 use Rattle.sporc_entry.specs.declared.genesis.Genesis.{Genesis}
@@ -31,6 +31,10 @@ pub record Begin : Type 0 where
 -- the keys that it shares with others
 abbrev pub shared_of : Begin → Keys
 shared_of begin = pair_keys begin.ring.pairs
+
+-- how many links its hints take: a founder has the key of epoch 0, and needs none
+abbrev pub links_for_hints : RingFile → ℕ
+links_for_hints ring = if is_none ring.epoch_key then 1 else 0
 
 module _ {L : Type 0} (view : LinkView L) (begin : Begin) (old new : NetTold L) where
   -- all entries of the server were fetched for a joiner, or a fault came

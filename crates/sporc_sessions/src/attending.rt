@@ -1,13 +1,14 @@
 //! A member's session, whole.
 
-ghost use Rattle.std.specs.Prelude.{◌≡◌, ◌≤◌, length, option_map, IfErr, IfOk, OnErr};
+ghost use Rattle.std.specs.Prelude.{◌≡◌, ◌+◌, ◌≤◌, length, option_map, IfErr, IfOk, OnErr};
 ghost use Rattle.sporc_client.specs.ClientModel.{Rise, leaves_of};
 ghost use Rattle.sporc_entry.specs.Genesis.{IsGenesis};
 ghost use Rattle.sporc_script.specs.declared.limits.TheConstants.{MAX_EDITORS};
 ghost use Rattle.sporc_shared.specs.Items.{past_of};
 ghost use Rattle.sporc_sessions.specs.Attending.{IsAttended, NotAttended};
 ghost use Rattle.sporc_sessions.specs.Causes.{RoseIfFailed};
-ghost use Rattle.sporc_sessions.specs.Nets.{link_view, net_told};
+ghost use Rattle.sporc_sessions.specs.Nets.{AsksAtMost, link_view, net_told};
+ghost use Rattle.sporc_sessions.specs.Opening.{links_for_hints};
 
 use crate::opening::{OpenFault, open_line};
 use crate::resuming::{ResumeFault, resume};
@@ -99,6 +100,7 @@ where
     ensures chance { OnErr result (chance.new ≡ chance.old) }
     ensures chance_count { C.faults chance.old ≤ C.faults chance.new }
     ensures out { N.out net.new ≡ N.out net.old }
+    ensures may_ask { AsksAtMost (links_for_hints member.ring + 1) (N.asked net.old) (N.asked net.new) address.now }
     ensures count { N.faults net.old ≤ N.faults net.new }
     ensures links { N.link_faults net.old ≤ N.link_faults net.new }
 {

@@ -15,7 +15,8 @@
 //! client's log (`IsSession`), over the link that the net handed out and took back, shut; the log goes on from the one the
 //! client had; what is printed is its journal and its report to the byte, or a front of them; the file has exactly its entries;
 //! the leaves of its submissions rise from the first of the opening on, and no crash frees their blocks on the disk that comes
-//! back; a session that the link or the chance ended stands for a count that rose. Neither: that the server answers.
+//! back; a session that the link or the chance ended stands for a count that rose; no address is asked for but the one given,
+//! and that once, or twice by a joiner. Neither: that the server answers.
 #![tactic(auto)]
 
 mod attending;

@@ -7,8 +7,8 @@ ghost use Rattle.sporc_entry.specs.Genesis.{IsGenesis};
 ghost use Rattle.sporc_epoch.specs.Keys.{pairs_in};
 ghost use Rattle.sporc_line.specs.Kit.{kit_of};
 ghost use Rattle.sporc_line.specs.Openings.{open_checks};
-ghost use Rattle.sporc_sessions.specs.Nets.{link_view, net_told};
-ghost use Rattle.sporc_sessions.specs.Opening.{IsOpenFault, Opens};
+ghost use Rattle.sporc_sessions.specs.Nets.{AsksAtMost, link_view, net_told};
+ghost use Rattle.sporc_sessions.specs.Opening.{IsOpenFault, Opens, links_for_hints};
 ghost use Rattle.sporc_sessions.specs.declared.opening.OpenFault.TheVariants as open_faults;
 
 use crate::hinting::{HintsFault, fetch_hints};
@@ -61,6 +61,7 @@ pub fn open_line<R: Wait, N: Dial>(
         (net_told (N.asked net.new) (N.coming net.new) (N.returned net.new) (N.link_faults net.new))
         (N.faults net.old) (N.faults net.new)) }
     ensures out { N.out net.new ≡ N.out net.old }
+    ensures may_ask { AsksAtMost (links_for_hints ring.now) (N.asked net.old) (N.asked net.new) address.now }
     ensures count { N.faults net.old ≤ N.faults net.new }
     ensures links { N.link_faults net.old ≤ N.link_faults net.new }
 {

@@ -1,7 +1,8 @@
-use Rattle.std.proofs.Common.{ap, refl}
+use Rattle.std.proofs.Common.{ap, refl, arith}
 use Rattle.sporc_shared.specs.Items.{past_of}
 use Rattle.sporc_sessions.specs.Attending.{not_opened, stopped}
 use Rattle.sporc_sessions.specs.Nets.{net_told}
+use Rattle.sporc_sessions.proofs.Asking.{asks_less, asks_more}
 use Rattle.sporc_sessions.proofs.Widening.{rose_since}
 use Rattle.sporc_sessions.proofs.WorkedFrom.{stops_so, work_from}
 use Rattle.sporc_sessions.proofs.attending.attend.Goals as goal
@@ -29,3 +30,21 @@ returns-in-Ok-work-clause-attended g c =
 pub returns-in-Ok-work-clause-causes : goal.returns-in-Ok-work-clause-causes
 returns-in-Ok-work-clause-causes g c =
     rose_since (g.N.Links.link_faults c.args.net.now) (g.N.Links.link_faults c.open_line.new.net) (g.N.Links.link_faults c.work.new.net) _ _ _ c.open_line.ensures.links c.in-Ok-work.ensures.causes
+
+pub returns-in-Err-clause-may_ask : goal.returns-in-Err-clause-may_ask
+returns-in-Err-clause-may_ask g c = asks_less _ _ _ _ c.args.address.now (omega arith) c.open_line.ensures.may_ask
+
+pub returns-in-Err-Stopped-default-clause-may_ask : goal.returns-in-Err-Stopped-default-clause-may_ask
+returns-in-Err-Stopped-default-clause-may_ask g c = asks_less _ _ _ _ c.args.address.now (omega arith) c.open_line.ensures.may_ask
+
+pub returns-in-Err-Memory-default-clause-may_ask : goal.returns-in-Err-Memory-default-clause-may_ask
+returns-in-Err-Memory-default-clause-may_ask g c = asks_less _ _ _ _ c.args.address.now (omega arith) c.open_line.ensures.may_ask
+
+pub returns-in-Ok-work-clause-may_ask : goal.returns-in-Ok-work-clause-may_ask
+returns-in-Ok-work-clause-may_ask g c = asks_more _ _ _ _ c.args.address.now c.open_line.ensures.may_ask c.work.ensures.may_ask
+
+pub returns-in-Err-default-Unreached-clause-may_ask : goal.returns-in-Err-default-Unreached-clause-may_ask
+returns-in-Err-default-Unreached-clause-may_ask g c = asks_more _ _ _ _ c.args.address.now c.open_line.ensures.may_ask c.work.ensures.may_ask
+
+pub returns-clause-may_ask : goal.returns-clause-may_ask
+returns-clause-may_ask g c = asks_more _ _ _ _ c.args.address.now c.open_line.ensures.may_ask c.work.ensures.may_ask
