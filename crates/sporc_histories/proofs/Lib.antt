@@ -1,6 +1,6 @@
 pub mod Asking
-pub mod Batches
 pub mod Compared
+mod Examples
 pub mod Examined
 pub mod Found
 pub mod Lines

@@ -25,7 +25,7 @@ module _ {Y : Type 0} (Says : Y → List ℕ → Type 0) (folder : FolderUse) (o
   pub no_memory : (r : Result (Unit {0}) Fault) → r ≡ Err faults.Memory → IsUnwritten out → WritesLine Says folder out found r
   no_memory r is none = rw is none
 
-  -- the line was written, or a front of it
+  -- the line was written, or a prefix of it
   pub line_written : (y : Y) (line : List ℕ) → found ≡ Ok y → Says y line → Appends out.written_before out.written_after line → WritesLine Says folder out found {T = Unit {0}} (Ok tt)
   line_written y line is says written = record { value = y; line = line; found_is = is; says = says; written = written }
 

@@ -1,19 +1,18 @@
 -- The log that a server begins with, and the one that it saves.
-use Rattle.std.specs.Prelude.{ℕ, nat_lt, ◌||◌, List, [], length, Option, None, Some, Result, Ok, Err, if◌then◌else◌}
-use Rattle.sporc_bytes.specs.Fields.{◌>>=◌}
+use Rattle.std.specs.Prelude.{ℕ, List, [], Option, None, Some, Result, Ok, Err}
+use Rattle.sporc_bytes.specs.Fields.{◌>>=◌, fault_as}
 use Rattle.sporc_outside.specs.Counts.{Rose}
-use Rattle.sporc_outside.specs.declared.file_fault.TheConstants.{MAX_FILE}
 use Rattle.sporc_outside.specs.declared.named_file.NamedFile.{NamedFile}
 use Rattle.sporc_entry.specs.declared.genesis.Genesis.{Genesis}
-use Rattle.sporc_head.specs.declared.limits.TheConstants.{MAX_ENTRIES}
 use Rattle.sporc_order.specs.OrderModel.{OrderModel}
 use Rattle.sporc_store.specs.Loading.{an_order, loaded}
-use Rattle.sporc_store.specs.SavedFile.{Taken, saved_bytes}
+use Rattle.sporc_store.specs.SavedFile.{Taken, saved_file}
 use Rattle.sporc_serve.specs.declared.fault.ServeFault.{ServeFault}
 use Rattle.sporc_serve.specs.declared.fault.ServeFault.TheVariants as serving
 use Rattle.sporc_files.specs.declared.fault.Fault.{Fault}
 use Rattle.sporc_files.specs.declared.fault.Fault.TheVariants as faults
 use Rattle.sporc_files.specs.declared.file.File.TheVariants as files
+use Rattle.sporc_files.specs.Faults.{fault_of_saving}
 use Rattle.sporc_files.specs.Names.{FileNames, file_name}
 use Rattle.sporc_histories.specs.Contents.{IsAt, Tells, bytes_in, genesis_in, whole}
 
@@ -53,11 +52,9 @@ abbrev pub FindsOrder : Option (List NamedFile) → FileNames → ℕ → ℕ �
 FindsOrder told names before after result =
     (content : ServedFiles) × AreServedFiles told names content × Tells (λ (order : OrderModel). order) (Rose before after) result (order_in content)
 
--- the file of an order's entries, unless they are more than a file may have, or the file would be too long
+-- the file of an order's entries, unless it would be too long
 abbrev pub saved_log : OrderModel → Result (List ℕ) Fault
-saved_log order =
-    let bytes = saved_bytes order.genesis.document order.entries in
-    if nat_lt MAX_ENTRIES (length order.entries) || nat_lt MAX_FILE (length bytes) then Err faults.FullFile else Ok bytes
+saved_log order = fault_as fault_of_saving (saved_file order.genesis.document order.entries)
 
 -- the fault of the program that a server's is
 abbrev pub serve_fault : ServeFault → Fault

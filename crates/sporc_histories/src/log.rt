@@ -1,6 +1,6 @@
 // The log of a server: loaded before it serves, and saved behind that.
 
-ghost use Rattle.std.specs.Prelude.{◌≡◌, ◌≤◌, ◌<◌, [], ◌∷◌, IfOk, Some, length, map, slice_get, string_bytes};
+ghost use Rattle.std.specs.Prelude.{◌≡◌, ◌≤◌, [], ◌∷◌, IfOk, string_bytes};
 ghost use Rattle.sporc_entry.specs.Genesis.{IsGenesis};
 ghost use Rattle.sporc_store.specs.SavedFile.{read_to};
 ghost use Rattle.sporc_files.specs.Names.{file_name};
@@ -13,10 +13,9 @@ use crate::entries::stopped;
 use sporc_base::Memory;
 use sporc_entry::Genesis;
 use sporc_files::{Fault, File, Names, read_genesis_file, read_if_there, write_whole_file};
-use sporc_head::MAX_ENTRIES;
 use sporc_order::Order;
 use sporc_outside::{Folder, Sink, write_all};
-use sporc_store::{SaveFault, Stop, load_order, save};
+use sporc_store::{Stop, load_order, save};
 use std::alloc::Global;
 use std::fmt::Write;
 
@@ -105,38 +104,8 @@ pub(crate) fn keep_log<F: Folder, O: Sink>(
 fn log_of(alloc: Global, order: &Order) -> Result<Vec<u8>, Fault>
     ensures value { Tells (λ log. log.items) ⊥ result (saved_log order.now) }
 {
-    let entries = entries_of(alloc, order)?;
-    if entries.len() > MAX_ENTRIES as usize {
-        return Err(Fault::FullFile);
-    }
-    match save(alloc, order.document(), entries.as_slice()) {
-        Ok(log) => Ok(log),
-        Err(SaveFault::TooLong(_)) => Err(Fault::FullFile),
-        Err(SaveFault::Memory) => Err(Fault::Memory),
-    }
-}
-
-// The entries of an order, copied.
-fn entries_of(alloc: Global, order: &Order) -> Result<Vec<Vec<u8>>, Memory>
-    ensures { IfOk result (λ entries. map (λ entry. entry.items) entries.items ≡ order.now.entries) }
-{
-    let mut entries = Vec::new(alloc);
-    for i in 0..order.len() {
-        let copy = Vec::from_slice(alloc, entry_at(order, i))?;
-        entries.push(copy)?;
-    }
-    Ok(entries)
-}
-
-// The bytes of an order's entry.
-fn entry_at(order: &Order, i: u32) -> &[u8]
-    requires { i < length order.now.entries }
-    ensures { slice_get order.now.entries i ≡ Some result.now }
-{
-    match order.pull(i) {
-        [entry, ..] => entry.as_slice(),
-        [] => unreachable!(),
-    }
+    let log = save(alloc, order.document(), order.entries())?;
+    Ok(log)
 }
 
 // The line that says how many entries were saved.

@@ -1,4 +1,4 @@
-use Rattle.std.proofs.Common.{◌≡◌, List, ℕ, [], ◌∷◌, ◌++◌, ap, ◌∙◌, sym, take, rules}
+use Rattle.std.proofs.Common.{◌≡◌, List, ℕ, [], ◌∷◌, ◌++◌, ap, ◌∙◌, sym, take}
 use Rattle.sporc_hash.specs.Chain.{chain, chain_after, genesis_value, last_value, next_value, value_after}
 use Rattle.sporc_hash.proofs.ChainLemmas.{chain_push, value_push}
 use Rattle.sporc_entry.specs.Genesis.{genesis_bytes}
@@ -17,11 +17,11 @@ loop-entry-preserved c =
     let g = genesis_bytes c.args.genesis.now in
     let more = taken_more c.args.entries.now c.loop-entry.entry-index c.entry-item.result c.loop-entry-test.true c.entry-item.is in
     let e = c.entry-item.result.items in
-    let front = bytes_of (take c.loop-entry.entry-index c.args.entries.now) in
-    let value : c.next_hash-hash.result ≡ next_value (last_value g front) e =
-    c.next_hash-hash.ensures ∙ ap (λ (v : List ℕ). next_value v c.as_slice-in-loop-entry.result.now) c.loop-entry.invariant.hash ∙ ap (next_value (last_value g front)) c.as_slice-in-loop-entry.ensures.value in
+    let before = bytes_of (take c.loop-entry.entry-index c.args.entries.now) in
+    let value : c.next_hash-hash.result ≡ next_value (last_value g before) e =
+    c.next_hash-hash.ensures ∙ ap (λ (v : List ℕ). next_value v c.as_slice-in-loop-entry.result.now) c.loop-entry.invariant.hash ∙ ap (next_value (last_value g before)) c.as_slice-in-loop-entry.ensures.value in
     record {
-      hash = value ∙ sym (value_push (genesis_value g) front e) ∙ ap (last_value g) (sym more);
+      hash = value ∙ sym (value_push (genesis_value g) before e) ∙ ap (last_value g) (sym more);
       hashes = c.in_ok-push.ensures.items ∙ ap (λ (vs : List (List ℕ)). vs ++ c.next_hash-hash.result ∷ []) c.loop-entry.invariant.hashes
-          ∙ ap (λ (v : List ℕ). chain g front ++ v ∷ []) value ∙ sym (chain_push (genesis_value g) front e) ∙ ap (chain g) (sym more);
+          ∙ ap (λ (v : List ℕ). chain g before ++ v ∷ []) value ∙ sym (chain_push (genesis_value g) before e) ∙ ap (chain g) (sym more);
     }

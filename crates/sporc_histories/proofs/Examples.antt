@@ -1,0 +1,91 @@
+-- Worked examples of the definitions: the lines of `check`, `compare` and `serve`, as docs/MANUAL.md has them, and which fault comes first.
+use Rattle.std.proofs.Common.{◌≡◌, ◌≢◌, List, ℕ, [], ◌∷◌, None, Some, Ok, Err, codes, refl, arith}
+use Rattle.std.specs.Fmt.{digits}
+use Rattle.sporc_entry.specs.declared.genesis.Genesis.{Genesis}
+use Rattle.sporc_hash.specs.Chain.{chain, chain_after, last_value, next_value, value_after}
+use Rattle.sporc_hash.specs.declared.verdict.Verdict.TheVariants.{Same, Prefix, Longer, ForkedAfter}
+use Rattle.sporc_head.specs.declared.refusal.Refusal.TheVariants.{BadSignature}
+use Rattle.sporc_serve.specs.declared.fault.ServeFault.TheVariants as serving
+use Rattle.sporc_store.specs.SavedFile.{read_to}
+use Rattle.sporc_store.specs.declared.stop.Stop.TheVariants.{Cut, End, Foreign, Refused}
+use Rattle.sporc_files.specs.declared.fault.Fault.TheVariants as faults
+use Rattle.sporc_files.specs.declared.file.File.TheVariants as files
+use Rattle.sporc_histories.specs.Checking.{IsCheckedLine, checked_in, len_of_whole}
+use Rattle.sporc_histories.specs.Comparing.{Chains, IsVerdictLine, chains_in}
+use Rattle.sporc_histories.specs.Serving.{ended, logged, order_of_whole, order_with}
+use Rattle.sporc_histories.specs.Outcomes.{log_line}
+
+-- ---- check
+
+seventeen_entries : IsCheckedLine 17 (codes "checked 17\n")
+unfolding digits
+seventeen_entries = refl
+
+-- both entries of member 2's history were accepted, and it ends behind them
+two_entries : (a b : List ℕ) → len_of_whole 2 (read_to (a ∷ b ∷ []) End) ≡ Ok 2
+two_entries a b = refl
+
+third_is_forged : (a b : List ℕ) → len_of_whole 2 (read_to (a ∷ b ∷ []) (Refused 3 BadSignature)) ≡ Err (faults.Refused 3 BadSignature)
+third_is_forged a b = refl
+
+second_is_cut : (a : List ℕ) → len_of_whole 2 (read_to (a ∷ []) (Cut 34)) ≡ Err (faults.Malformed (files.History 2) 34)
+second_is_cut a = refl
+
+of_another_document : len_of_whole 2 (read_to [] Foreign) ≡ Err (faults.Malformed (files.History 2) 0)
+of_another_document = refl
+
+-- no file is there: the genesis is read first
+no_files : checked_in 2 (record { genesis = None; key = None; ring = None; history = None }) ≡ Err (faults.Missing files.Genesis)
+no_files = refl
+
+-- ---- compare
+
+module _ (genesis a b c : List ℕ) where
+  -- the chains of two histories
+  abbrev both : List (List ℕ) → List (List ℕ) → Chains
+  both x y = record { first = chain genesis x; second = chain genesis y }
+
+  nothing_yet : IsVerdictLine 1 2 (both [] []) (codes "1 2 same\n")
+  unfolding chain_after digits
+  nothing_yet = (Same, (refl, refl), refl)
+
+  one_history : IsVerdictLine 1 2 (both (a ∷ b ∷ []) (a ∷ b ∷ [])) (codes "1 2 same\n")
+  unfolding chain_after digits
+  one_history = (Same, (refl, refl), refl)
+
+  one_entry_behind : IsVerdictLine 1 2 (both (a ∷ []) (a ∷ b ∷ [])) (codes "1 2 prefix\n")
+  unfolding chain_after digits
+  one_entry_behind = (Prefix, (omega arith, refl), refl)
+
+  one_entry_ahead : IsVerdictLine 7 10 (both (a ∷ b ∷ []) (a ∷ [])) (codes "7 10 longer\n")
+  unfolding chain_after digits
+  one_entry_ahead = (Longer, (omega arith, refl), refl)
+
+  -- a server told two stories after the first entry
+  two_stories : next_value (last_value genesis (a ∷ [])) b ≢ next_value (last_value genesis (a ∷ [])) c
+      → IsVerdictLine 1 2 (both (a ∷ b ∷ []) (a ∷ c ∷ [])) (codes "1 2 forked after 1\n")
+  unfolding chain_after value_after digits
+  two_stories differ = (ForkedAfter 1, (omega arith, omega arith, refl, λ same. differ cc), refl)
+
+no_genesis : (history : List ℕ) → chains_in 1 2 (record { genesis = None; first = Some history; second = None }) ≡ Err (faults.Missing files.Genesis)
+no_genesis history = refl
+
+-- ---- serve
+
+one_entry_saved : log_line 1 ≡ codes "log 1\n"
+unfolding digits
+one_entry_saved = refl
+
+-- a server without a log begins with no entries
+no_log : (genesis : Genesis) → logged genesis None ≡ Ok (order_with genesis [])
+no_log genesis = refl
+
+a_cut_log : (genesis : Genesis) (a : List ℕ) → order_of_whole genesis (read_to (a ∷ []) (Cut 34)) ≡ Err (faults.Malformed files.Log 34)
+a_cut_log genesis a = refl
+
+-- it could not listen, and saved its log: `fault outside` is told
+no_sessions : ended (Err serving.ListenFault) (Ok tt) ≡ Err faults.Outside
+no_sessions = refl
+
+sessions_alone : ended (Ok tt) (Err faults.FullFile) ≡ Err faults.FullFile
+sessions_alone = refl
