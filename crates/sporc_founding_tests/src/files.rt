@@ -3,7 +3,7 @@
 use crate::room::{NONE, Room};
 use sporc_base::is_same;
 use sporc_files::{Fault, File, Names};
-use sporc_outside::{Calls, MemorySink, NamedFile};
+use sporc_outside::{Calls, DiskBytes, MemorySink, NamedFile};
 use std::alloc::Global;
 use std::process::Abort;
 use std::test::Fail;
@@ -44,6 +44,21 @@ const FILES: [(&str, &str); 8] = [
     ),
 ];
 
+// The names that are asked for, in this order: by two keys, and then by the document, which reads its founders' keys as the
+// words name them.
+const ASKED: [&str; 10] = [
+    "D.1.key",
+    "D.1.leaf",
+    "D.2.key",
+    "D.2.leaf",
+    "D.2.key",
+    "D.1.key",
+    "D.genesis",
+    "D.1.ring",
+    "D.2.ring",
+    "D.3.ring",
+];
+
 fn is_the_file(
     rt: &impl Abort,
     alloc: Global,
@@ -71,6 +86,13 @@ fn are_the_files(
     Ok(())
 }
 
+fn are_the_names(rt: &impl Abort, asked: &[DiskBytes]) {
+    assert!(rt; asked.len() == ASKED.len());
+    for (name, expected) in asked.iter().zip(&ASKED) {
+        assert!(rt; is_same(name.as_slice(), expected.as_bytes()));
+    }
+}
+
 fn is_told(rt: &impl Abort, alloc: Global, fault: Fault, line: &[u8]) {
     let mut sink = MemorySink::new(alloc, 7, Calls::failing(Vec::new(alloc)));
     fault.tell(&Names::of_document("D"), &mut sink);
@@ -83,6 +105,7 @@ fn keys_and_a_document_are_made(rt: HostRuntime) -> Result<(), Fail> {
     let answer = room.make_all(rt.alloc());
     assert!(rt; answer == Ok(()));
     assert!(rt; is_same(room.sink.as_slice(), LINES.as_bytes()));
+    are_the_names(&rt, room.folder.asked());
     are_the_files(&rt, rt.alloc(), room.folder.files(), 8)
 }
 
