@@ -17,7 +17,7 @@ use Rattle.sporc_files.specs.declared.file.File.TheVariants as files
 use Rattle.sporc_files.specs.Faults.{fault_of_play}
 use Rattle.sporc_files.specs.Names.{FileNames, file_name}
 use Rattle.sporc_files.specs.Uses.{AsksOnly, FolderUse}
-use Rattle.sporc_founding.specs.Founding.{FoundOutcome}
+use Rattle.sporc_founding.specs.Founding.{FoundOutcome, found_files}
 use Rattle.sporc_founding.specs.KeyMaking.{KeygenOutcome}
 use Rattle.sporc_histories.specs.Outcomes.{CheckOutcome, CompareOutcome, ServeOutcome}
 use Rattle.sporc_sessions.specs.Nets.{LinkView}
@@ -80,9 +80,10 @@ pub record MakesKey {L : Type 0} (words : Keygen) (outside : Uses L) (answer : R
   pub outcome : KeygenOutcome words outside.folder outside.chance outside.out answer
   pub asked : AsksFor (files_of words.name) (files.Key words.member ∷ files.Leaf words.member ∷ []) outside.folder
 
--- a document was founded, and nothing was written of that
+-- a document was founded, of the files alone that its words name, and nothing was written of that
 pub record FoundsDocument {L : Type 0} (words : Found) (outside : Uses L) (answer : Result ⊤ Fault) : Type 0 where
   pub outcome : FoundOutcome words outside.folder outside.chance answer
+  pub asked : AsksFor (files_of words.name) (found_files words.participants) outside.folder
   pub unwritten : IsUnwritten outside.out
 
 -- ---- a net
