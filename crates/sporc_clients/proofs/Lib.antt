@@ -1,3 +1,4 @@
+pub mod Asking
 pub mod Scripts
 pub mod Members
 pub mod Outcomes

@@ -1,5 +1,5 @@
 -- What the files of a member say before a session.
-use Rattle.std.specs.Prelude.{◌≡◌, ◌≤◌, ℕ, ◌+◌, List, [], ◌∷◌, length, Option, ⊤}
+use Rattle.std.specs.Prelude.{◌≡◌, ◌≤◌, ℕ, ◌+◌, List, [], ◌∷◌, length, map, Option, ⊤}
 use Rattle.sporc_outside.specs.Files.{HasFile}
 use Rattle.sporc_outside.specs.declared.file_fault.TheConstants.{MAX_FILE}
 use Rattle.sporc_outside.specs.declared.named_file.NamedFile.{NamedFile}
@@ -9,14 +9,20 @@ use Rattle.sporc_keys.specs.declared.ring_file.RingFile.{RingFile}
 use Rattle.sporc_keys.specs.RingFile.{ring_file_of_member}
 use Rattle.sporc_script.specs.declared.editor_line.EditorLine.{EditorLine}
 use Rattle.sporc_script.specs.Grammar.{IsEditorFault, IsEditorScript}
+use Rattle.sporc_play.specs.Generated.{up_to}
 use Rattle.sporc_files.specs.declared.fault.Fault.{Fault}
 use Rattle.sporc_files.specs.declared.fault.Fault.TheVariants as faults
+use Rattle.sporc_files.specs.declared.file.File.{File}
 use Rattle.sporc_files.specs.declared.file.File.TheVariants.{Genesis as GenesisFile, Key, Ring, Script}
 use Rattle.sporc_files.specs.Names.{FileNames, file_name}
 use Rattle.sporc_files.specs.Reading.{IsFileFault, SaysFile, any_bytes, genesis_file, own_key_file}
 use Rattle.sporc_clients.specs.declared.member_files.MemberFiles.{MemberFiles}
 
 -- ---- editor scripts
+
+-- the scripts of so many editors
+abbrev pub script_files : ℕ → List File
+script_files count = map Script (up_to count)
 
 -- told files have a file with this name that is this script
 abbrev pub SaysScript : Option (List NamedFile) → List ℕ → List EditorLine → Type 0
@@ -46,6 +52,10 @@ pub record IsFirstScriptFault (files : Option (List NamedFile)) (before after : 
   pub fault_is : IsScriptFault files before after names (length read + 1) fault
 
 -- ---- a member's files
+
+-- the genesis, the key and the ring of a member, and the scripts of so many editors
+abbrev pub own_files : ℕ → ℕ → List File
+own_files member count = GenesisFile ∷ Key member ∷ Ring member ∷ script_files count
 
 -- told files say this of a member, and of the scripts of so many editors
 pub record SayMember (files : Option (List NamedFile)) (names : FileNames) (member count : ℕ) (m : MemberFiles) : Type 0 where

@@ -1,5 +1,5 @@
 -- What the command did.
-use Rattle.std.specs.Prelude.{◌≡◌, ◌≤◌, ℕ, List, ◌∷◌, length, Option, option_map, Result, Err, ⊤}
+use Rattle.std.specs.Prelude.{◌≡◌, ◌≤◌, ℕ, List, [], ◌∷◌, ◌++◌, length, Option, option_map, Result, Err, ⊤}
 use Rattle.lms_leaf.specs.Leaves.{LeavesContent}
 use Rattle.lms_tree.specs.LmsType.{height_of}
 use Rattle.sporc_outside.specs.Counts.{count_of_both}
@@ -9,6 +9,7 @@ use Rattle.sporc_shared.specs.declared.fault.SessionFault.{SessionFault}
 use Rattle.sporc_shared.specs.Items.{Past}
 use Rattle.sporc_words.specs.declared.client.Client.{Client as Words}
 use Rattle.sporc_files.specs.declared.fault.Fault.{Fault}
+use Rattle.sporc_files.specs.declared.file.File.{File}
 use Rattle.sporc_files.specs.declared.file.File.TheVariants.{History, Leaf}
 use Rattle.sporc_files.specs.Names.{FileNames, file_name}
 use Rattle.sporc_files.specs.Reading.{IsFileFault, SaysFileIfThere, any_bytes}
@@ -25,7 +26,7 @@ use Rattle.sporc_sessions.specs.Sessions.{ChanceTold, Plan}
 use Rattle.sporc_clients.specs.declared.member_files.MemberFiles.{MemberFiles}
 use Rattle.sporc_clients.specs.Causes.{fault_of_attending, first_fault}
 use Rattle.sporc_clients.specs.LeafFile.{IsLendFault, IsOpenFault, IsOpened}
-use Rattle.sporc_clients.specs.MemberFiles.{IsMemberFault, SayMember}
+use Rattle.sporc_clients.specs.MemberFiles.{IsMemberFault, SayMember, own_files}
 
 -- ---- what a call found and left
 
@@ -85,6 +86,10 @@ chance_after did = record { given = did.chance.given_after; faults = did.chance.
 -- the names of its files
 abbrev pub names_of : Words → FileNames
 names_of words = record { document = words.name; scripts = words.scripts }
+
+-- the files that it asks its folder for, of a member and of so many editors
+abbrev pub client_files : ℕ → ℕ → List File
+client_files member scripts = own_files member scripts ++ Leaf member ∷ History member ∷ []
 
 -- what the member's line is opened by
 abbrev pub begin_of : Words → MemberFiles → Begin

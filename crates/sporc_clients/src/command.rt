@@ -1,6 +1,6 @@
 //! The command.
 
-ghost use Rattle.std.specs.Prelude.{◌≡◌, ◌≤◌, length, option_map, string_bytes, IfErr, IfOk};
+ghost use Rattle.std.specs.Prelude.{◌≡◌, ◌+◌, ◌≤◌, [], ◌∷◌, length, map, option_map, string_bytes, IfErr, IfOk};
 ghost use Rattle.lms_leaf.specs.LeafFile.{IsLeafHeight};
 ghost use Rattle.lms_tree.specs.LmsType.{height_of};
 ghost use Rattle.sporc_entry.specs.Genesis.{IsGenesis};
@@ -8,8 +8,10 @@ ghost use Rattle.sporc_script.specs.declared.limits.TheConstants.{MAX_EDITORS};
 ghost use Rattle.sporc_files.specs.declared.file.File.{File};
 ghost use Rattle.sporc_files.specs.Names.{file_name};
 ghost use Rattle.sporc_files.specs.Reading.{IsFileFault, SaysFileIfThere, any_bytes};
-ghost use Rattle.sporc_sessions.specs.Nets.{link_view, net_told};
-ghost use Rattle.sporc_clients.specs.Outcome.{ClientOutcome, DiskOutcome, names_of};
+ghost use Rattle.sporc_files.specs.Uses.{AsksOnly};
+ghost use Rattle.sporc_sessions.specs.Nets.{AsksAtMost, link_view, net_told};
+ghost use Rattle.sporc_sessions.specs.Opening.{links_for_hints};
+ghost use Rattle.sporc_clients.specs.Outcome.{ClientOutcome, DiskOutcome, client_files, names_of};
 
 use crate::causes::{attend_fault, first_fault};
 use crate::leaf_file::{lend_disk, open_signer};
@@ -80,6 +82,10 @@ where
           };
         })
         result }
+    ensures asked { AsksOnly (map (file_name (names_of words.now)) (client_files words.now.member (length words.now.scripts))) (F.asked files.old) (F.asked files.new) }
+    ensures lent { F.lent files.new ≡ F.lent files.old }
+    ensures files_kept { F.faults files.old ≤ F.faults files.new }
+    ensures called { AsksAtMost 2 (N.asked net.old) (N.asked net.new) words.now.address }
     ensures out { O.faults out.old ≤ O.faults out.new }
     ensures links { N.out net.new ≡ N.out net.old }
     ensures net { N.faults net.old ≤ N.faults net.new }
@@ -93,6 +99,7 @@ where
     let (result, disk) = with_disk(
         rt, alloc, words, member, disk, out, files, net, chance, gate,
     );
+    let _faults = files.faults();
     files.take_back(disk);
     result
 }
@@ -157,7 +164,10 @@ where
           };
         })
         disk result.1 result.0 }
+    ensures asked { AsksOnly (file_name (names_of words.now) (File.History words.now.member) ∷ []) (F.asked files.old) (F.asked files.new) }
     ensures lent { F.lent files.new ≡ F.lent files.old }
+    ensures files_kept { F.faults files.old ≤ F.faults files.new }
+    ensures called { AsksAtMost (links_for_hints member.ring + 1) (N.asked net.old) (N.asked net.new) words.now.address }
     ensures out { O.faults out.old ≤ O.faults out.new }
     ensures links { N.out net.new ≡ N.out net.old }
     ensures net { N.faults net.old ≤ N.faults net.new }
@@ -231,6 +241,7 @@ fn history_of<F: Folder>(
     ensures err { IfErr result (IsFileFault any_bytes (F.files files.old) (F.faults files.old) (F.faults files.new) names.now (File.History member)) }
     ensures files { F.files files.new ≡ F.files files.old }
     ensures lent { F.lent files.new ≡ F.lent files.old }
+    ensures asked { AsksOnly (file_name names.now (File.History member) ∷ []) (F.asked files.old) (F.asked files.new) }
     ensures kept { F.faults files.old ≤ F.faults files.new }
 {
     let file = File::History(member);

@@ -1,11 +1,12 @@
 //! The leaf file of a member.
 
-ghost use Rattle.std.specs.Prelude.{◌≡◌, ◌≤◌, ◌∷◌, IfErr, IfOk, OnErr, OnOk, option_map};
+ghost use Rattle.std.specs.Prelude.{◌≡◌, ◌≤◌, [], ◌∷◌, IfErr, IfOk, OnErr, OnOk, option_map};
 ghost use Rattle.lms_leaf.specs.LeafFile.{IsLeafHeight};
 ghost use Rattle.lms_tree.specs.LmsType.{height_of};
 ghost use Rattle.sporc_outside.specs.Files.{IsDiskOf};
 ghost use Rattle.sporc_files.specs.declared.file.File.{File};
 ghost use Rattle.sporc_files.specs.Names.{file_name};
+ghost use Rattle.sporc_files.specs.Uses.{AsksOnly};
 ghost use Rattle.sporc_clients.specs.LeafFile.{IsLendFault, IsOpened, IsOpenFault};
 
 use lms_leaf::{LeafOpenFault, Leaves};
@@ -28,6 +29,7 @@ pub(crate) fn lend_disk<F: Folder>(
     ensures files { F.files files.new ≡ F.files files.old }
     ensures lent { OnOk result (F.lent files.new ≡ option_map (λ lent. file_name names.now (File.Leaf member) ∷ lent) (F.lent files.old)) }
     ensures not_lent { OnErr result (F.lent files.new ≡ F.lent files.old) }
+    ensures asked { AsksOnly (file_name names.now (File.Leaf member) ∷ []) (F.asked files.old) (F.asked files.new) }
     ensures kept { F.faults files.old ≤ F.faults files.new }
 {
     let file = File::Leaf(member);

@@ -13,10 +13,12 @@
 //! files say; its client goes on with its saved history, over the leaves behind the last block that is taken in its leaf file;
 //! its session is one of `sporc_shared` over a link of its own; journal, report and history are those of the client behind it,
 //! printed and saved however the session ended, and the session's fault comes first. Where no session began, nothing is
-//! printed, no file has changed, and no word of the chance is taken; the fault names its cause.
+//! printed, no file has changed, and no word of the chance is taken; the fault names its cause. Whatever came of it, the files
+//! asked for are the member's and its editors' scripts, and no others; links are asked for at the address alone, two at most;
+//! each disk and each link is back; and no count of faults has fallen.
 //!
 //! Tested, in `sporc_clients_tests`: the report and the saved file of a line that is committed, and the lines of two faults.
-//! Neither: that no other file is asked for, and at which address a link was asked for that could not be made.
+//! Neither: that the server answers.
 #![tactic(auto)]
 
 mod causes;

@@ -1,12 +1,13 @@
 //! The files that say who a member is and what its editors do.
 
-ghost use Rattle.std.specs.Prelude.{◌≡◌, ◌≤◌, IfErr, IfOk};
+ghost use Rattle.std.specs.Prelude.{◌≡◌, ◌≤◌, [], ◌∷◌, map, IfErr, IfOk};
 ghost use Rattle.lms_leaf.specs.LeafFile.{IsLeafHeight};
 ghost use Rattle.lms_tree.specs.LmsType.{height_of};
 ghost use Rattle.sporc_entry.specs.Genesis.{IsGenesis};
 ghost use Rattle.sporc_files.specs.declared.file.File.{File};
 ghost use Rattle.sporc_files.specs.Names.{file_name};
-ghost use Rattle.sporc_clients.specs.MemberFiles.{IsFirstScriptFault, IsMemberFault, IsScriptFault, SayAllScripts, SayMember, SaysScript};
+ghost use Rattle.sporc_files.specs.Uses.{AsksOnly};
+ghost use Rattle.sporc_clients.specs.MemberFiles.{IsFirstScriptFault, IsMemberFault, IsScriptFault, SayAllScripts, SayMember, SaysScript, own_files, script_files};
 
 use lms_tree::Tree;
 use sporc_base::Items;
@@ -44,6 +45,7 @@ pub fn read_member<F: Folder>(
     ensures err { IfErr result (IsMemberFault (F.files files.old) (F.faults files.old) (F.faults files.new) names.now member) }
     ensures files { F.files files.new ≡ F.files files.old }
     ensures lent { F.lent files.new ≡ F.lent files.old }
+    ensures asked { AsksOnly (map (file_name names.now) (own_files member editors)) (F.asked files.old) (F.asked files.new) }
     ensures kept { F.faults files.old ≤ F.faults files.new }
 {
     let genesis = read_genesis_file(alloc, files, names)?;
@@ -69,6 +71,7 @@ fn read_scripts<F: Folder>(
     ensures err { IfErr result (IsFirstScriptFault (F.files files.old) (F.faults files.old) (F.faults files.new) names.now) }
     ensures files { F.files files.new ≡ F.files files.old }
     ensures lent { F.lent files.new ≡ F.lent files.old }
+    ensures asked { AsksOnly (map (file_name names.now) (script_files editors)) (F.asked files.old) (F.asked files.new) }
     ensures kept { F.faults files.old ≤ F.faults files.new }
 {
     let mut scripts = Vec::new(alloc);
@@ -90,6 +93,7 @@ fn read_script<F: Folder>(
     ensures err { IfErr result (IsScriptFault (F.files files.old) (F.faults files.old) (F.faults files.new) names.now editor) }
     ensures files { F.files files.new ≡ F.files files.old }
     ensures lent { F.lent files.new ≡ F.lent files.old }
+    ensures asked { AsksOnly (file_name names.now (File.Script editor) ∷ []) (F.asked files.old) (F.asked files.new) }
     ensures kept { F.faults files.old ≤ F.faults files.new }
 {
     let text = read_bytes(alloc, files, names, File::Script(editor))?;

@@ -1,12 +1,12 @@
 -- What a file says.
-use Rattle.std.specs.Prelude.{◌≡◌, ℕ, ◌==◌, ◌≤◌, List, length, find, Bool, true, Option, None, Some, Result, Ok, Err, bytes_eq, if◌then◌else◌}
+use Rattle.std.specs.Prelude.{◌≡◌, ℕ, ◌==◌, ◌≤◌, List, length, find, Bool, true, Option, None, Some, Result, Ok, Err, bytes_eq}
 use Rattle.lms_tree.specs.LmsPrivate.{LmsPrivate, lms_public_of}
 use Rattle.lms_tree.specs.declared.public_key.LmsPublic.{LmsPublic}
 use Rattle.lms_tree.specs.LmsPublic.{public_key_bytes}
 use Rattle.sporc_bytes.specs.Fields.{◌>>=◌, fault_as, only_if}
 use Rattle.sporc_member.specs.declared.founder.Founder.{Founder}
 use Rattle.sporc_outside.specs.Counts.{Rose}
-use Rattle.sporc_outside.specs.Files.{HasFile, HasNoFile, HasSomeFile, IsTooLong}
+use Rattle.sporc_outside.specs.Files.{HasFile, HasNoFile, IsTooLong}
 use Rattle.sporc_outside.specs.declared.file_fault.TheConstants.{MAX_FILE}
 use Rattle.sporc_outside.specs.declared.named_file.NamedFile.{NamedFile}
 use Rattle.sporc_entry.specs.declared.fault.GenesisFault.{GenesisFault}
@@ -14,7 +14,6 @@ use Rattle.sporc_entry.specs.declared.fault.GenesisFault.TheVariants as geneses
 use Rattle.sporc_entry.specs.declared.genesis.Genesis.{Genesis}
 use Rattle.sporc_entry.specs.Genesis.{genesis_of}
 use Rattle.sporc_keys.specs.KeyFile.{key_file_of_member, private_in}
-use Rattle.sporc_keys.specs.RingFile.{ring_file_of_member}
 use Rattle.sporc_files.specs.declared.fault.Fault.{Fault}
 use Rattle.sporc_files.specs.declared.fault.Fault.TheVariants as faults
 use Rattle.sporc_files.specs.declared.file.File.{File}

@@ -1,6 +1,11 @@
-use Rattle.std.proofs.Common.{length, refl, ap, ◌∙◌, arith}
+use Rattle.std.proofs.Common.{List, Option, ℕ, length, map, refl, sym, ap, subst, ◌∙◌, arith}
 use Rattle.std.proofs.lemmas.Result.{err_from_is_err_and}
-use Rattle.sporc_clients.specs.Outcome.{no_disk, no_member, over_disk}
+use Rattle.std.specs.Prelude.{drop, option_map}
+use Rattle.sporc_files.specs.Names.{file_name}
+use Rattle.sporc_files.specs.Uses.{AsksOnly}
+use Rattle.sporc_clients.specs.Outcome.{client_files, names_of, no_disk, no_member, over_disk}
+use Rattle.sporc_sessions.proofs.Asking.{asks_less, asks_never, one_for_hints}
+use Rattle.sporc_clients.proofs.Asking.{asks_all, asks_leaf, asks_member, taken_off}
 use Rattle.sporc_clients.proofs.Outcomes.{disk_of, ends_so, lend_fault, lent_at, member_fault, member_says}
 use Rattle.sporc_clients.proofs.command.client.Goals as goal
 
@@ -47,3 +52,41 @@ returns-clause-outcome g c =
       counted = c.take_back.ensures.count;
     })
     c.with_disk-result.ensures.outcome
+
+-- ---- files
+
+pub returns-in_err-member-clause-asked : goal.returns-in_err-member-clause-asked
+returns-in_err-member-clause-asked g c =
+    asks_member c.names_of-names.result c.args.words.now c.names_of-names.ensures.value _ (ap (λ l. length l) c.as_slice.ensures.value) _ _ c.read_member.ensures.asked
+
+pub returns-in_err-disk-clause-asked : goal.returns-in_err-disk-clause-asked
+returns-in_err-disk-clause-asked g c =
+    asks_leaf c.names_of-names.result c.args.words.now c.names_of-names.ensures.value _ (ap (λ l. length l) c.as_slice.ensures.value) _ _ _ c.read_member.ensures.asked c.lend_disk.ensures.asked
+
+pub returns-clause-asked : goal.returns-clause-asked
+returns-clause-asked g c =
+    let all = asks_all c.names_of-names.result c.args.words.now c.names_of-names.ensures.value _ (ap (λ l. length l) c.as_slice.ensures.value) _ _ _ _ c.read_member.ensures.asked
+    c.lend_disk.ensures.asked c.with_disk-result.ensures.asked in
+    subst (λ (o : Option (List (List ℕ))). AsksOnly (map (file_name (names_of c.args.words.now)) (client_files c.args.words.now.member (length c.args.words.now.scripts)))
+    (g.F.Folder.asked c.args.files.now) o) (sym c.take_back.ensures.asked) all
+
+pub returns-clause-lent : goal.returns-clause-lent
+returns-clause-lent g c =
+    taken_off _ _ _ _ c.in_ok-disk.ensures.lent (c.take_back.ensures.lent ∙ ap (option_map (λ names. drop 1 names)) c.with_disk-result.ensures.lent) ∙ c.read_member.ensures.lent
+
+pub returns-clause-files_kept : goal.returns-clause-files_kept
+returns-clause-files_kept g c =
+    omega (arith, c.faults-faults.ensures, c.take_back.ensures.count, c.with_disk-result.ensures.files_kept, c.lend_disk.ensures.kept, c.read_member.ensures.kept)
+
+-- ---- the address
+
+pub returns-in_err-member-clause-called : goal.returns-in_err-member-clause-called
+returns-in_err-member-clause-called g c = asks_never 2 _ c.args.words.now.address
+
+pub returns-in_err-disk-clause-called : goal.returns-in_err-disk-clause-called
+returns-in_err-disk-clause-called g c = asks_never 2 _ c.args.words.now.address
+
+pub returns-clause-called : goal.returns-clause-called
+returns-clause-called g c =
+    let once = one_for_hints c.in_ok-member.member.ring in
+    asks_less _ 2 _ _ c.args.words.now.address (omega (arith, once)) c.with_disk-result.ensures.called

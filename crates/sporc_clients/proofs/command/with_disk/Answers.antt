@@ -1,8 +1,13 @@
-use Rattle.std.proofs.Common.{ap, option_map, refl, ◌∙◌}
+use Rattle.std.proofs.Common.{◌+◌, [], ◌∷◌, ap, option_map, refl, subst, ◌∙◌}
+use Rattle.sporc_files.proofs.Asking.{AsksOnly-none}
 use Rattle.sporc_files.specs.Names.{file_name}
 use Rattle.sporc_files.specs.declared.file.File.TheVariants.{History}
 use Rattle.sporc_shared.specs.Items.{past_of}
-use Rattle.sporc_clients.specs.Outcome.{no_history, no_leaves, no_session, not_worked, worked}
+use Rattle.sporc_sessions.proofs.Asking.{asks_never}
+use Rattle.sporc_sessions.specs.Nets.{AsksAtMost}
+use Rattle.sporc_sessions.specs.Opening.{links_for_hints}
+use Rattle.sporc_clients.proofs.Asking.{asks_history, asks_history_again}
+use Rattle.sporc_clients.specs.Outcome.{names_of, no_history, no_leaves, no_session, not_worked, worked}
 use Rattle.sporc_clients.proofs.Outcomes.{answers_so, attended_at, history_fault, history_says, not_attended_at, saved_as}
 use Rattle.sporc_clients.proofs.command.with_disk.Goals as goal
 
@@ -59,3 +64,35 @@ returns-clause-outcome g c =
     c.attend_fault.ensures.value)
     (record { out = record { written = refl; faults = refl }; files = c.history_of.ensures.files; words = ap g.C.Chance.given c.in-Err-attend.ensures.chance })
     (ap g.D.LeafDisk.stored c.close-in-Err-attend.ensures.value ∙ ap (λ s. g.D.LeafDisk.stored s.leaves.disk) c.in-Err-attend.ensures.returned ∙ c.in-Ok.ensures.ok.unwritten)
+
+-- ---- files
+
+pub returns-in-Err-clause-asked : goal.returns-in-Err-clause-asked
+returns-in-Err-clause-asked g c = AsksOnly-none (file_name (names_of c.args.words.now) (History c.args.words.now.member) ∷ []) (g.F.Folder.asked c.args.files.now)
+
+pub returns-in-Err-history_of-clause-asked : goal.returns-in-Err-history_of-clause-asked
+returns-in-Err-history_of-clause-asked g c = asks_history c.names_of.result c.args.words.now c.names_of.ensures.value _ _ c.history_of.ensures.asked
+
+pub returns-in-Ok-attend-clause-asked : goal.returns-in-Ok-attend-clause-asked
+returns-in-Ok-attend-clause-asked g c =
+    asks_history_again c.names_of.result c.args.words.now c.names_of.ensures.value c.as_str-in-Ok-attend.result.now _ _ _
+    (c.as_str-in-Ok-attend.ensures.value ∙ c.in-Ok-history_of.ensures.name) c.history_of.ensures.asked c.conclude-session.ensures.may_ask
+
+pub returns-clause-asked : goal.returns-clause-asked
+returns-clause-asked g c = asks_history c.names_of.result c.args.words.now c.names_of.ensures.value _ _ c.history_of.ensures.asked
+
+-- ---- the address
+
+pub returns-in-Err-clause-called : goal.returns-in-Err-clause-called
+returns-in-Err-clause-called g c = asks_never _ _ c.args.words.now.address
+
+pub returns-in-Err-history_of-clause-called : goal.returns-in-Err-history_of-clause-called
+returns-in-Err-history_of-clause-called g c = asks_never _ _ c.args.words.now.address
+
+pub returns-in-Ok-attend-clause-called : goal.returns-in-Ok-attend-clause-called
+returns-in-Ok-attend-clause-called g c =
+    subst (AsksAtMost (links_for_hints c.args.member.ring + 1) (g.N.Links.asked c.args.net.now) (g.N.Links.asked c.attend.new.net)) c.as_str.ensures.value c.attend.ensures.may_ask
+
+pub returns-clause-called : goal.returns-clause-called
+returns-clause-called g c =
+    subst (AsksAtMost (links_for_hints c.args.member.ring + 1) (g.N.Links.asked c.args.net.now) (g.N.Links.asked c.attend.new.net)) c.as_str.ensures.value c.attend.ensures.may_ask

@@ -1,0 +1,141 @@
+-- Files that are asked for, one call after another.
+use Rattle.std.proofs.Common.{◌≡◌, ℕ, zero, suc, ◌+◌, ◌<◌, inl, inr, ⊎_elim, List, [], ◌∷◌, ◌++◌, length, map, Option, Some, None, sym, ap, ◌∙◌, subst, arith, append-nil}
+use Rattle.std.specs.Prelude.{drop, option_map}
+use Rattle.std.specs.List.{Contains}
+use Rattle.std.proofs.lemmas.Bool.{cases_lt}
+use Rattle.std.proofs.lemmas.List.{map-append}
+use Rattle.std.proofs.lemmas.List.Elements.{All-contains, All-nil, All-push, Contains-append_left, Contains-append_right, Contains-push}
+use Rattle.sporc_outside.specs.Told.{MayAppend}
+use Rattle.sporc_play.specs.Generated.{up_to}
+use Rattle.sporc_words.specs.declared.client.Client.{Client as Words}
+use Rattle.sporc_files.specs.declared.file.File.{File}
+use Rattle.sporc_files.specs.declared.file.File.TheVariants.{Genesis, Key, Ring, Script, Leaf, History}
+use Rattle.sporc_files.specs.Names.{FileNames, file_name}
+use Rattle.sporc_files.specs.Uses.{AsksOnly}
+use Rattle.sporc_files.proofs.Asking.{AsksOnly-among, AsksOnly-trans}
+use Rattle.sporc_clients.specs.MemberFiles.{own_files, script_files}
+use Rattle.sporc_clients.specs.Outcome.{client_files, names_of}
+
+module _ (names : FileNames) where
+  -- some of the first files are some of all
+  asks_first : (first rest : List File) (a b : Option (List (List ℕ))) → AsksOnly (map (file_name names) first) a b → AsksOnly (map (file_name names) (first ++ rest)) a b
+  asks_first first rest a b asks =
+      let one = map (file_name names) first in
+      let other = map (file_name names) rest in
+      subst (λ (all : List (List ℕ)). AsksOnly all a b) (sym (map-append (file_name names) first rest))
+      (AsksOnly-among one (one ++ other) a b (λ name. Contains-append_left one other name) asks)
+
+  -- some of the first files, and then some of the others
+  asks_then : (first rest : List File) (a b c : Option (List (List ℕ))) → AsksOnly (map (file_name names) first) a b → AsksOnly (map (file_name names) rest) b c
+      → AsksOnly (map (file_name names) (first ++ rest)) a c
+  asks_then first rest a b c asks more =
+      let one = map (file_name names) first in
+      let other = map (file_name names) rest in
+      subst (λ (all : List (List ℕ)). AsksOnly all a c) (sym (map-append (file_name names) first rest))
+      (AsksOnly-trans (one ++ other) a b c (AsksOnly-among one (one ++ other) a b (λ name. Contains-append_left one other name) asks)
+      (AsksOnly-among other (one ++ other) b c (λ name. Contains-append_right one other name) more))
+
+  -- ---- scripts
+
+  -- one of the scripts of so many editors
+  among_scripts : (count read : ℕ) → read < count → Contains (map (file_name names) (script_files count)) (file_name names (Script (read + 1)))
+  among_scripts zero read less = absurd (omega (arith, less))
+  among_scripts (suc count) read less =
+      let some = map (file_name names) (script_files count) in
+      let last = file_name names (Script (suc count)) in
+      let all : map (file_name names) (script_files (suc count)) ≡ some ++ last ∷ [] =
+      ap (map (file_name names)) (map-append Script (up_to count) (suc count ∷ [])) ∙ map-append (file_name names) (script_files count) (Script (suc count) ∷ []) in
+      subst (λ (l : List (List ℕ)). Contains l (file_name names (Script (read + 1)))) (sym all)
+      (⊎_elim (λ (before : read < count). Contains-append_left some (last ∷ []) _ (among_scripts count read before))
+      (λ past. let at : read ≡ count = omega (arith, past, less) in subst (λ (n : ℕ). Contains (some ++ last ∷ []) (file_name names (Script n))) (omega (arith, at)) (Contains-push some last))
+      (cases_lt read count))
+
+  -- some of them, and then this one
+  pub asks_script : (count read : ℕ) (a b c : Option (List (List ℕ))) → read < count → AsksOnly (map (file_name names) (script_files count)) a b
+      → AsksOnly (file_name names (Script (read + 1)) ∷ []) b c → AsksOnly (map (file_name names) (script_files count)) a c
+  asks_script count read a b c less asks more =
+      let all = map (file_name names) (script_files count) in
+      let one = file_name names (Script (read + 1)) in
+      AsksOnly-trans all a b c asks
+      (AsksOnly-among (one ∷ []) all b c
+      (λ name. All-contains (Contains all) (one ∷ []) name (All-push (Contains all) [] one (All-nil (Contains all)) (among_scripts count read less)))
+      more)
+
+  -- ---- a member's files
+
+  module _ (member count : ℕ) where
+    pub asks_genesis : (a b : Option (List (List ℕ))) → AsksOnly (file_name names Genesis ∷ []) a b → AsksOnly (map (file_name names) (own_files member count)) a b
+    asks_genesis a b genesis = asks_first (Genesis ∷ []) (Key member ∷ Ring member ∷ script_files count) a b genesis
+
+    pub asks_key : (a b c : Option (List (List ℕ))) → AsksOnly (file_name names Genesis ∷ []) a b → AsksOnly (file_name names (Key member) ∷ []) b c
+        → AsksOnly (map (file_name names) (own_files member count)) a c
+    asks_key a b c genesis key =
+        asks_first (Genesis ∷ Key member ∷ []) (Ring member ∷ script_files count) a c (asks_then (Genesis ∷ []) (Key member ∷ []) a b c genesis key)
+
+    -- those before the scripts
+    before_scripts : (a b c d : Option (List (List ℕ))) → AsksOnly (file_name names Genesis ∷ []) a b → AsksOnly (file_name names (Key member) ∷ []) b c
+        → AsksOnly (file_name names (Ring member) ∷ []) c d → AsksOnly (map (file_name names) (Genesis ∷ Key member ∷ Ring member ∷ [])) a d
+    before_scripts a b c d genesis key ring = asks_then (Genesis ∷ Key member ∷ []) (Ring member ∷ []) a c d (asks_then (Genesis ∷ []) (Key member ∷ []) a b c genesis key) ring
+
+    pub asks_ring : (a b c d : Option (List (List ℕ))) → AsksOnly (file_name names Genesis ∷ []) a b → AsksOnly (file_name names (Key member) ∷ []) b c
+        → AsksOnly (file_name names (Ring member) ∷ []) c d → AsksOnly (map (file_name names) (own_files member count)) a d
+    asks_ring a b c d genesis key ring = asks_first (Genesis ∷ Key member ∷ Ring member ∷ []) (script_files count) a d (before_scripts a b c d genesis key ring)
+
+    pub asks_scripts : (a b c d e : Option (List (List ℕ))) → AsksOnly (file_name names Genesis ∷ []) a b → AsksOnly (file_name names (Key member) ∷ []) b c
+        → AsksOnly (file_name names (Ring member) ∷ []) c d → AsksOnly (map (file_name names) (script_files count)) d e → AsksOnly (map (file_name names) (own_files member count)) a e
+    asks_scripts a b c d e genesis key ring scripts =
+        asks_then (Genesis ∷ Key member ∷ Ring member ∷ []) (script_files count) a d e (before_scripts a b c d genesis key ring) scripts
+
+-- one name may have been asked for
+one_name : (name : List ℕ) (a b : Option (List (List ℕ))) → MayAppend a b name → AsksOnly (name ∷ []) a b
+one_name name None b may = tt
+one_name name (Some x) None never = never
+one_name name (Some x) (Some y) (inl once) = (name ∷ [], once, All-push (Contains (name ∷ [])) [] name (All-nil (Contains (name ∷ []))) (Contains-push [] name))
+one_name name (Some x) (Some y) (inr same) = ([], same ∙ sym (append-nil x), All-nil (Contains (name ∷ [])))
+
+-- ---- the command
+
+-- with other words for its names and for the count of its editors
+module _ (names : FileNames) (words : Words) (named : names ≡ names_of words) where
+  pub asks_history : (a b : Option (List (List ℕ))) → AsksOnly (file_name names (History words.member) ∷ []) a b → AsksOnly (file_name (names_of words) (History words.member) ∷ []) a b
+  asks_history a b history = subst (λ (n : FileNames). AsksOnly (file_name n (History words.member) ∷ []) a b) named history
+
+  -- it is read, and written under its name
+  pub asks_history_again : (name : List ℕ) (a b c : Option (List (List ℕ))) → name ≡ file_name names (History words.member)
+      → AsksOnly (file_name names (History words.member) ∷ []) a b → MayAppend b c name → AsksOnly (file_name (names_of words) (History words.member) ∷ []) a c
+  asks_history_again name a b c called history may =
+      asks_history a c
+      (AsksOnly-trans (file_name names (History words.member) ∷ []) a b c history (one_name (file_name names (History words.member)) b c (subst (MayAppend b c) called may)))
+
+  module _ (count : ℕ) (all : count ≡ length words.scripts) where
+    own : (a b : Option (List (List ℕ))) → AsksOnly (map (file_name names) (own_files words.member count)) a b
+        → AsksOnly (map (file_name (names_of words)) (own_files words.member (length words.scripts))) a b
+    own a b asks =
+        subst (λ (n : FileNames). AsksOnly (map (file_name n) (own_files words.member (length words.scripts))) a b) named
+        (subst (λ (k : ℕ). AsksOnly (map (file_name names) (own_files words.member k)) a b) all asks)
+
+    pub asks_member : (a b : Option (List (List ℕ))) → AsksOnly (map (file_name names) (own_files words.member count)) a b
+        → AsksOnly (map (file_name (names_of words)) (client_files words.member (length words.scripts))) a b
+    asks_member a b asks = asks_first (names_of words) (own_files words.member (length words.scripts)) (Leaf words.member ∷ History words.member ∷ []) a b (own a b asks)
+
+    own_leaf : (a b : Option (List (List ℕ))) → AsksOnly (file_name names (Leaf words.member) ∷ []) a b → AsksOnly (file_name (names_of words) (Leaf words.member) ∷ []) a b
+    own_leaf a b leaf = subst (λ (n : FileNames). AsksOnly (file_name n (Leaf words.member) ∷ []) a b) named leaf
+
+    pub asks_leaf : (a b c : Option (List (List ℕ))) → AsksOnly (map (file_name names) (own_files words.member count)) a b → AsksOnly (file_name names (Leaf words.member) ∷ []) b c
+        → AsksOnly (map (file_name (names_of words)) (client_files words.member (length words.scripts))) a c
+    asks_leaf a b c asks leaf =
+        asks_then (names_of words) (own_files words.member (length words.scripts)) (Leaf words.member ∷ History words.member ∷ []) a b c (own a b asks)
+        (asks_first (names_of words) (Leaf words.member ∷ []) (History words.member ∷ []) b c (own_leaf b c leaf))
+
+    pub asks_all : (a b c d : Option (List (List ℕ))) → AsksOnly (map (file_name names) (own_files words.member count)) a b → AsksOnly (file_name names (Leaf words.member) ∷ []) b c
+        → AsksOnly (file_name (names_of words) (History words.member) ∷ []) c d → AsksOnly (map (file_name (names_of words)) (client_files words.member (length words.scripts))) a d
+    asks_all a b c d asks leaf history =
+        asks_then (names_of words) (own_files words.member (length words.scripts)) (Leaf words.member ∷ History words.member ∷ []) a b d (own a b asks)
+        (asks_then (names_of words) (Leaf words.member ∷ []) (History words.member ∷ []) b c d (own_leaf b c leaf) history)
+
+-- ---- a disk that is lent
+
+-- a name was put before others, and taken off
+pub taken_off : (old mid new : Option (List (List ℕ))) (name : List ℕ) → mid ≡ option_map (λ names. name ∷ names) old → new ≡ option_map (λ names. drop 1 names) mid → new ≡ old
+taken_off None mid new name out back = back ∙ ap (option_map (λ names. drop 1 names)) out
+taken_off (Some names) mid new name out back = back ∙ ap (option_map (λ names. drop 1 names)) out
