@@ -1,4 +1,4 @@
--- Names that are asked for, and those that a founding asks for.
+-- The names that a founding asks for.
 use Rattle.std.proofs.Common.{◌≡◌, ℕ, zero, suc, ◌<◌, List, [], ◌∷◌, ◌++◌, length, map, get_or, Option, sym, subst, arith}
 use Rattle.std.proofs.lemmas.List.{map-append}
 use Rattle.std.proofs.lemmas.List.Elements.{All-contains, All-contains_itself, All-from_recursion, All-weaker, Contains-append_left, Contains-append_right, recursion_from_All}
@@ -14,18 +14,9 @@ use Rattle.sporc_words.specs.declared.founding.Participant.{Participant}
 use Rattle.sporc_files.specs.declared.file.File.TheVariants as files
 use Rattle.sporc_files.specs.Names.{FileNames, file_name}
 use Rattle.sporc_files.specs.Uses.{AsksOnly}
-use Rattle.sporc_files.proofs.Asking.{AsksOnly-among, AsksOnly-trans}
+use Rattle.sporc_files.proofs.Asking.{AsksOnly-among, AsksOnly-trans, asks_first}
 use Rattle.sporc_founding.specs.Founding.{AreNamed, found_files, founding_files, key_read, keys_read, names_in, ring_of_founding, rings_written}
 use Rattle.sporc_founding.proofs.MayFound.{members_of, same_numbers}
-
--- ---- some names, and then others
-
-pub asks_first : (first rest : List (List ℕ)) (a b : Option (List (List ℕ))) → AsksOnly first a b → AsksOnly (first ++ rest) a b
-asks_first first rest a b asked = AsksOnly-among first (first ++ rest) a b (λ name. Contains-append_left first rest name) asked
-
-pub asks_then : (first rest : List (List ℕ)) (a b c : Option (List (List ℕ))) → AsksOnly first a b → AsksOnly rest b c → AsksOnly (first ++ rest) a c
-asks_then first rest a b c one then =
-    AsksOnly-trans (first ++ rest) a b c (asks_first first rest a b one) (AsksOnly-among rest (first ++ rest) b c (λ name. Contains-append_right first rest name) then)
 
 -- ---- one of many
 

@@ -1,4 +1,3 @@
-pub mod Asking
 pub mod Compared
 mod Examples
 pub mod Examined

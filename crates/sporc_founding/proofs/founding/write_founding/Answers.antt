@@ -3,9 +3,8 @@ use Rattle.sporc_entry.specs.Genesis.{genesis_bytes}
 use Rattle.sporc_files.specs.declared.file.File.TheVariants as files
 use Rattle.sporc_files.specs.Names.{file_name}
 use Rattle.sporc_files.specs.Writing.{file_with}
-use Rattle.sporc_files.proofs.Asking.{AsksOnly-none}
+use Rattle.sporc_files.proofs.Asking.{AsksOnly-none, asks_first, asks_then}
 use Rattle.sporc_founding.specs.Founding.{founding_files, names_in, ring_of_founding}
-use Rattle.sporc_founding.proofs.Asking.{asks_first, asks_then}
 use Rattle.sporc_founding.proofs.RingLoop.{behind_err}
 use Rattle.sporc_founding.proofs.founding.write_founding.Goals as goal
 

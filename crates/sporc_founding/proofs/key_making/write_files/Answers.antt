@@ -1,7 +1,7 @@
 use Rattle.std.proofs.Common.{[], ◌∷◌, ◌∙◌}
 use Rattle.sporc_files.specs.declared.file.File.TheVariants as files
 use Rattle.sporc_files.specs.Names.{file_name}
-use Rattle.sporc_founding.proofs.Asking.{asks_first, asks_then}
+use Rattle.sporc_files.proofs.Asking.{asks_first, asks_then}
 use Rattle.sporc_founding.proofs.KeyFiles.{both_written, on_ok}
 use Rattle.sporc_founding.proofs.key_making.write_files.Goals as goal
 

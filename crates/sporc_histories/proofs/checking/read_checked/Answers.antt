@@ -7,7 +7,7 @@ use Rattle.sporc_files.specs.Names.{file_name}
 use Rattle.sporc_files.specs.Reading.{IsFileFault, SaysFile, any_bytes, own_key_file}
 use Rattle.sporc_histories.specs.Contents.{Tells}
 use Rattle.sporc_histories.specs.Checking.{examined}
-use Rattle.sporc_histories.proofs.Asking.{asks_first, asks_then}
+use Rattle.sporc_files.proofs.Asking.{asks_first, asks_then}
 use Rattle.sporc_histories.proofs.Examined.{all_read, genesis_fails, history_fails, key_fails, ring_fails}
 use Rattle.sporc_histories.proofs.checking.read_checked.Goals as goal
 

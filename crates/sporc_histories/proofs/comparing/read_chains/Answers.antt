@@ -2,7 +2,7 @@ use Rattle.std.proofs.Common.{Err, ◌≤◌, [], ◌∷◌, ap, ◌∙◌, arit
 use Rattle.std.proofs.lemmas.Result.{err_from_is_err_and}
 use Rattle.sporc_files.specs.declared.file.File.TheVariants as files
 use Rattle.sporc_files.specs.Names.{file_name}
-use Rattle.sporc_histories.proofs.Asking.{asks_first, asks_then}
+use Rattle.sporc_files.proofs.Asking.{asks_first, asks_then}
 use Rattle.sporc_histories.proofs.Compared.{both_read, first_fails, genesis_fails, of_one_genesis, second_fails}
 use Rattle.sporc_histories.proofs.comparing.read_chains.Goals as goal
 

@@ -9,7 +9,7 @@ use Rattle.sporc_files.specs.Names.{file_name}
 use Rattle.sporc_files.specs.Reading.{IsFileFault, SaysFileIfThere, any_bytes}
 use Rattle.sporc_histories.specs.Contents.{Tells}
 use Rattle.sporc_histories.specs.Serving.{logged_in}
-use Rattle.sporc_histories.proofs.Asking.{asks_first, asks_then}
+use Rattle.sporc_files.proofs.Asking.{asks_first, asks_then}
 use Rattle.sporc_histories.proofs.Found.{tells_memory}
 use Rattle.sporc_histories.proofs.Logs.{genesis_fails, log_fails, log_read, no_log, order_is}
 use Rattle.sporc_histories.proofs.log.read_order.Goals as goal

@@ -3,7 +3,7 @@ use Rattle.std.proofs.lemmas.Result.{err_from_is_err_and}
 use Rattle.sporc_files.specs.declared.file.File.TheVariants as files
 use Rattle.sporc_files.specs.Names.{file_name}
 use Rattle.sporc_files.specs.Uses.{FolderUse}
-use Rattle.sporc_histories.proofs.Asking.{asks_again}
+use Rattle.sporc_files.proofs.Asking.{asks_again}
 use Rattle.sporc_histories.proofs.Logs.{keeps, to_begin}
 use Rattle.sporc_histories.proofs.serving.serve.Goals as goal
 
