@@ -1,0 +1,21 @@
+//! The tests of the program's commands, as `sporc_top::run` performs them over a folder, a sink, a chance and nets in memory.
+//! They stand in a crate of their own, since a crate with tests is proved twice. No program stands on it.
+//!
+//! [`commands`] runs commands one after the other, [`statuses`] shows the statuses that a session ends with, [`sessions`] and
+//! [`servers`] let each object that `client` and `serve` are handed fail at each of its calls in turn.
+#![tactic(auto)]
+
+#[cfg(test)]
+mod commands;
+#[cfg(test)]
+mod document;
+#[cfg(test)]
+mod nets;
+#[cfg(test)]
+mod place;
+#[cfg(test)]
+mod servers;
+#[cfg(test)]
+mod sessions;
+#[cfg(test)]
+mod statuses;

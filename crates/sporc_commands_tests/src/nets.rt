@@ -1,0 +1,164 @@
+//! Nets some of whose calls fail.
+
+ghost use Rattle.std.specs.Prelude.{◌<◌, None, refl};
+
+use crate::place::{Failing, calls};
+use sporc_outside::{
+    Calls, Counted, Dial, Failed, Link, Links, Listen, MemoryLink, MemoryNet, PipeLink, PipeNet,
+    Sink, Source,
+};
+use std::alloc::{AllocError, Global};
+use std::sync::Wait;
+
+// The most bytes that a listed link moves at once.
+const PIECE: usize = 1_000;
+
+/// A net with one link, which brings these bytes.
+pub fn listed_net(alloc: Global, sent: &[u8], failing: Failing) -> Result<MemoryNet, AllocError> {
+    let sent = Vec::from_slice(alloc, sent)?;
+    let link = MemoryLink::new(alloc, sent, PIECE, calls(alloc, failing.link)?);
+    let links = vec![in alloc; link]?;
+    Ok(MemoryNet::new(alloc, links, calls(alloc, failing.net)?))
+}
+
+/// A handle of a net between threads, of which a call fails, and a call of each of its links. It tells no content.
+#[derive(Drop)]
+pub struct FaultyNet<R: Wait + Copy + Drop> {
+    alloc: Global,
+    net: PipeNet<R>,
+    calls: Calls,
+    link_call: u64,
+    link_faults: u64,
+}
+
+/// A link of this net. It tells no content.
+#[derive(Drop)]
+pub struct FaultyLink<R: Wait + Copy + Drop> {
+    link: PipeLink<R>,
+    calls: Calls,
+}
+
+impl<R: Wait + Copy + Drop> FaultyNet<R> {
+    /// A net over this one, where these calls of the net and of its links fail.
+    pub fn new(
+        alloc: Global,
+        net: PipeNet<R>,
+        failing: Failing,
+    ) -> Result<FaultyNet<R>, AllocError> {
+        Ok(FaultyNet {
+            alloc,
+            net,
+            calls: calls(alloc, failing.net)?,
+            link_call: failing.link,
+            link_faults: 0,
+        })
+    }
+
+    /// Calls the other end and hangs up, so that it waits no longer.
+    pub fn visit<T: Wait>(&mut self, rt: &T) {
+        if let Ok(mut link) = self.net.connect(rt, "") {
+            link.shut();
+            self.net.take_back(link);
+        }
+    }
+}
+
+impl<R: Wait + Copy + Drop> Counted for FaultyNet<R> {
+    ghost faults = { λ n. n.calls.faults };
+
+    fn faults(&self) -> u64 {
+        self.calls.faults()
+    }
+}
+
+impl<R: Wait + Copy + Drop> Links for FaultyNet<R> {
+    type Link = FaultyLink<R>;
+
+    ghost link_faults = { λ n. n.link_faults };
+
+    ghost asked = { λ _. None };
+
+    ghost coming = { λ _. None };
+
+    ghost out = { λ _. None };
+
+    ghost returned = { λ _. None };
+
+    fn link_faults(&self) -> u64 {
+        self.link_faults
+    }
+
+    fn take_back(&mut self, link: FaultyLink<R>) {
+        self.link_faults = self.link_faults.saturating_add(link.faults());
+        self.net.take_back(link.link);
+    }
+}
+
+impl<R: Wait + Copy + Drop> Dial for FaultyNet<R> {
+    fn connect<T: Wait>(&mut self, rt: &T, address: &str) -> Result<FaultyLink<R>, Failed> {
+        self.calls.begin()?;
+        let Ok(calls) = calls(self.alloc, self.link_call) else {
+            return Err(self.calls.fail());
+        };
+        match self.net.connect(rt, address) {
+            Ok(link) => Ok(FaultyLink { link, calls }),
+            Err(_) => Err(self.calls.fail()),
+        }
+    }
+}
+
+impl<R: Wait + Copy + Drop> Listen for FaultyNet<R> {
+    fn listen(&mut self, _address: &str) -> Result<(), Failed> {
+        self.calls.begin()
+    }
+
+    fn accept<T: Wait>(&mut self, _rt: &T) -> Result<FaultyLink<R>, Failed> {
+        Err(self.calls.fail())
+    }
+}
+
+impl<R: Wait + Copy + Drop> Counted for FaultyLink<R> {
+    ghost faults = { λ l. l.calls.faults };
+
+    fn faults(&self) -> u64 {
+        self.calls.faults()
+    }
+}
+
+impl<R: Wait + Copy + Drop> Source for FaultyLink<R> {
+    ghost left = { λ _. None };
+
+    ghost sent = { λ _. None };
+
+    fn read(&mut self, buf: &mut [u8]) -> Result<usize, Failed> {
+        self.calls.begin()?;
+        match self.link.read(buf) {
+            Ok(len) => Ok(len),
+            Err(_) => Err(self.calls.fail()),
+        }
+    }
+}
+
+impl<R: Wait + Copy + Drop> Sink for FaultyLink<R> {
+    ghost written = { λ _. None };
+
+    ghost pending = { λ _. None };
+
+    fn write(&mut self, bytes: &[u8]) -> Result<usize, Failed> {
+        self.calls.begin()?;
+        match self.link.write(bytes) {
+            Ok(len) => Ok(len),
+            Err(_) => Err(self.calls.fail()),
+        }
+    }
+}
+
+impl<R: Wait + Copy + Drop> Link for FaultyLink<R> {
+    ghost sent_is = { λ _. refl };
+
+    ghost pending_is = { λ _. refl };
+
+    fn shut(&mut self) {
+        self.link.shut();
+    }
+}

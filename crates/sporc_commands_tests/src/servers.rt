@@ -1,0 +1,167 @@
+//! Sessions that are served, where each object that `serve` is handed fails at each of its calls in turn.
+
+use crate::document::{entries, history_file, of_server};
+use crate::nets::listed_net;
+use crate::place::{Failing, NONE, Object, Place, copied};
+use sporc_base::is_same;
+use sporc_outside::{Links, NamedFile};
+use sporc_samples::Cast;
+use std::alloc::{AllocError, Global};
+use std::process::Abort;
+use std::sync::Wait;
+use std::test::Fail;
+use std::thread::Threads;
+
+// The server's files before a session, the log of one entry that it has before, that of two that it has at the end, and what
+// a client sends that submits the second one.
+#[derive(Drop)]
+struct Scene {
+    files: Vec<NamedFile>,
+    old: Vec<u8>,
+    new: Vec<u8>,
+    stream: Vec<u8>,
+}
+
+// Hello, an entry, and a pull.
+fn stream(alloc: Global, entry: &[u8]) -> Result<Vec<u8>, Fail> {
+    let mut stream = Vec::from_slice(alloc, b"\0\0\0\x13\x01")?;
+    stream.extend_from_slice(&[7; 16])?;
+    stream.extend_from_slice(b"\0\x02")?;
+    let len = u32::try_from(entry.len().saturating_add(1)).unwrap_or(u32::MAX);
+    stream.extend_from_slice(&len.to_be_bytes())?;
+    stream.push(2)?;
+    stream.extend_from_slice(entry)?;
+    stream.extend_from_slice(b"\0\0\0\x05\x03\0\0\0\x02")?;
+    Ok(stream)
+}
+
+impl Scene {
+    fn new(alloc: Global) -> Result<Scene, Fail> {
+        let cast = Cast::new(alloc)?;
+        let sample = entries(alloc, &cast, 2)?;
+        let first = sample.entries().get(..1).ok_or("no entry")?;
+        let second = sample.entries().get(1).ok_or("no entry")?;
+        let old = history_file(alloc, first)?;
+        Ok(Scene {
+            files: of_server(alloc, &cast, old.as_slice())?,
+            old,
+            new: history_file(alloc, sample.entries())?,
+            stream: stream(alloc, second.as_slice())?,
+        })
+    }
+}
+
+// How a server of one session ended, and whether no call of its link failed.
+#[derive(Drop)]
+struct Ended {
+    status: u8,
+    written: Vec<u8>,
+    is_quiet: bool,
+}
+
+// A server of one session, to which the client comes.
+fn served<R: Threads + Wait + Sync>(
+    rt: &R,
+    alloc: Global,
+    scene: &Scene,
+    place: &mut Place,
+    failing: Failing,
+) -> Result<Ended, AllocError> {
+    let mut net = listed_net(alloc, scene.stream.as_slice(), failing)?;
+    let (status, written) = place.run(rt, alloc, &mut net, "serve D a --sessions 1")?;
+    Ok(Ended {
+        status,
+        written,
+        is_quiet: net.link_faults() == 0,
+    })
+}
+
+// Whether the log is the old one or the new one, whole.
+fn is_whole(scene: &Scene, place: &Place) -> bool {
+    match place.file("D.log") {
+        Some(log) => log == scene.old.as_slice() || log == scene.new.as_slice(),
+        None => false,
+    }
+}
+
+// Whether a server over what is left has both entries at the end.
+fn goes_on<R: Threads + Wait + Sync>(
+    rt: &R,
+    alloc: Global,
+    scene: &Scene,
+    left: &[NamedFile],
+) -> Result<bool, AllocError> {
+    let mut place = Place::new(alloc, copied(alloc, left)?)?;
+    let ended = served(rt, alloc, scene, &mut place, NONE)?;
+    let is_new = place.file("D.log") == Some(scene.new.as_slice());
+    Ok(is_new && ended.status == 0 && is_same(ended.written.as_slice(), b"log 2\n"))
+}
+
+// Whether this is how a server ends one of whose calls failed. A link that fails ends its session alone.
+fn is_told(object: Object, ended: &Ended) -> bool {
+    let written = ended.written.as_slice();
+    match object {
+        Object::Link => ended.status == 0
+            && (is_same(written, b"log 1\n") || is_same(written, b"log 2\n")),
+        _ => ended.status == 6 && written.ends_with(b"fault outside\n"),
+    }
+}
+
+// Whether a server ends well, since the object has no call left that fails. Else the fault is told.
+fn ends_without<R: Threads + Wait + Sync + Abort>(
+    rt: &R,
+    alloc: Global,
+    scene: &Scene,
+    object: Object,
+    call: u64,
+) -> Result<bool, Fail> {
+    let failing = Failing::at(object, call);
+    let mut place = Place::failing(alloc, copied(alloc, scene.files.as_slice())?, failing)?;
+    let ended = served(rt, alloc, scene, &mut place, failing)?;
+    assert!(rt; is_whole(scene, &place), "call {call}");
+    assert!(rt;
+        goes_on(rt, alloc, scene, place.files.files())?,
+        "call {call}"
+    );
+    if ended.status == 0 && ended.is_quiet {
+        return Ok(true);
+    }
+    assert!(rt; is_told(object, &ended), "call {call}");
+    Ok(false)
+}
+
+// The first call of an object that a server does not make.
+fn first_unmade<R: Threads + Wait + Sync + Abort>(
+    rt: &R,
+    alloc: Global,
+    scene: &Scene,
+    object: Object,
+) -> Result<u64, Fail> {
+    for call in 1..100 {
+        if ends_without(rt, alloc, scene, object, call)? {
+            return Ok(call);
+        }
+    }
+    Err("no end".into())
+}
+
+// Each object, and how many calls of it a server of one session makes at least.
+const OBJECTS: [(Object, u64); 4] = [
+    // genesis and log are read, and the log is written
+    (Object::Files, 3),
+    (Object::Out, 1),
+    // it listens, and takes the link
+    (Object::Net, 2),
+    // three messages and their end are read, and two answers are written
+    (Object::Link, 4),
+];
+
+#[test]
+fn each_call_that_fails_is_told(rt: HostRuntime) -> Result<(), Fail> {
+    let scene = Scene::new(rt.alloc())?;
+    for (object, calls) in &OBJECTS {
+        let unmade = first_unmade(&rt, rt.alloc(), &scene, *object)?;
+        assert!(rt; unmade > *calls, "{calls} calls");
+    }
+    Ok(())
+}

@@ -1,0 +1,122 @@
+//! The statuses that sessions end with, over links whose bytes are listed.
+
+use crate::document::{entries, history_file, of_member};
+use crate::nets::listed_net;
+use crate::place::{NONE, Place, copied};
+use sporc_head::MAX_ENTRIES;
+use sporc_outside::NamedFile;
+use sporc_samples::Cast;
+use std::alloc::Global;
+use std::sync::Wait;
+use std::test::Fail;
+use std::thread::Threads;
+
+// What member 2 runs, what the server sends it, and the status with the fault's line.
+struct Row {
+    words: &'static str,
+    sent: &'static [u8],
+    status: u8,
+    line: &'static [u8],
+}
+
+// No entries come, four times.
+const NOTHING: &[u8] = b"\0\0\0\x01\x04\0\0\0\x01\x04\0\0\0\x01\x04\0\0\0\x01\x04";
+
+// Of a member without entries, whose key has no leaf left.
+const ROWS: [Row; 7] = [
+    // an entry of one byte comes
+    Row {
+        words: "client D 2 a",
+        sent: b"\0\0\0\x0b\x03\0\0\0\x01\x01\0\0\0\x01\x05",
+        status: 4,
+        line: b"\nfault refused 1 malformed 0\n",
+    },
+    Row {
+        words: "client D 2 a --rounds 0 --until 1",
+        sent: b"",
+        status: 5,
+        line: b"\nfault unsettled 0 0\n",
+    },
+    // a part of an answer
+    Row {
+        words: "client D 2 a",
+        sent: b"\0\0\0\x01",
+        status: 6,
+        line: b"\nfault link ended 4\n",
+    },
+    Row {
+        words: "client D 2 a --rounds 2 insert",
+        sent: NOTHING,
+        status: 7,
+        line: b"\nfault leaf 32\n",
+    },
+    // no message's number; a length above the limit
+    Row {
+        words: "client D 2 a",
+        sent: b"\0\0\0\x01\x04\0\0\0\x01\x09",
+        status: 9,
+        line: b"\nfault message 9\n",
+    },
+    Row {
+        words: "client D 2 a",
+        sent: b"\x7f\0\0\x01",
+        status: 9,
+        line: b"\nfault message 0\n",
+    },
+    // an editor removes a member
+    Row {
+        words: "client D 2 a --rounds 2 drop",
+        sent: NOTHING,
+        status: 10,
+        line: b"\nfault edit 1 1 no-right\n",
+    },
+];
+
+// Of a member with as many entries as a history may have.
+const FULL: Row = Row {
+    words: "client D 2 a --rounds 2 insert",
+    sent: NOTHING,
+    status: 8,
+    line: b"\nfault full history\n",
+};
+
+// Whether a session of a member with these files ends so.
+fn ends_so<R: Threads + Wait + Sync>(
+    rt: &R,
+    alloc: Global,
+    files: Vec<NamedFile>,
+    row: &Row,
+) -> Result<bool, Fail> {
+    let mut place = Place::new(alloc, files)?;
+    let mut net = listed_net(alloc, row.sent, NONE)?;
+    let (status, written) = place.run(rt, alloc, &mut net, row.words)?;
+    Ok(status == row.status && written.as_slice().ends_with(row.line))
+}
+
+#[test]
+fn sessions_have_their_statuses(rt: HostRuntime) -> Result<(), Fail> {
+    let alloc = rt.alloc();
+    let cast = Cast::new(alloc)?;
+    let empty = history_file(alloc, &[])?;
+    let files = of_member(alloc, &cast, &[1; 8], empty.as_slice())?;
+    for row in &ROWS {
+        let files = copied(alloc, files.as_slice())?;
+        assert!(rt; ends_so(&rt, alloc, files, row)?, "status {}", row.status);
+    }
+    Ok(())
+}
+
+// The files of a member whose history is full, and whose key has leaves.
+fn full_files(alloc: Global) -> Result<Vec<NamedFile>, Fail> {
+    let cast = Cast::new(alloc)?;
+    let sample = entries(alloc, &cast, MAX_ENTRIES)?;
+    let history = history_file(alloc, sample.entries())?;
+    of_member(alloc, &cast, &[0; 8], history.as_slice())
+}
+
+#[test]
+fn a_full_history_takes_no_entry(rt: HostRuntime) -> Result<(), Fail> {
+    let files = full_files(rt.alloc())?;
+    assert!(rt; ends_so(&rt, rt.alloc(), files, &FULL)?);
+    Ok(())
+}
