@@ -2,14 +2,29 @@
 
 ghost use Rattle.std.specs.Prelude.{◌<◌};
 
-use crate::place::{Place, few_words};
-use sporc_outside::{Calls, MemoryNet, MemorySink, MemorySource, OpenGate};
+use sporc_outside::{
+    Calls, ListedChance, MemoryFolder, MemoryNet, MemorySink, MemorySource, OpenGate,
+};
 use sporc_top::run;
 use std::alloc::{AllocError, Global};
 use std::process::Abort;
 use std::sync::Wait;
 use std::test::Fail;
 use std::thread::Threads;
+
+// The words of a line.
+fn few_words(alloc: Global, line: &str) -> Result<Vec<String>, AllocError> {
+    let mut words = Vec::new(alloc);
+    for word in line.split_whitespace() {
+        words.push(String::from_str(alloc, word)?)?;
+    }
+    Ok(words)
+}
+
+// Calls none of which fails.
+fn sound(alloc: Global) -> Calls {
+    Calls::failing(Vec::new(alloc))
+}
 
 /// The status and what is written over an empty folder and a net without links, if the words are those of a line, the source
 /// and the sink move at most `piece` bytes a call, and their calls of these numbers fail.
@@ -29,11 +44,9 @@ pub fn answer<R: Threads + Wait + Sync>(
     let writes = Calls::failing([write_failing].to_vec(alloc)?);
     let mut source = MemorySource::new(script.to_vec(alloc)?, piece, reads);
     let mut out = MemorySink::new(alloc, piece, writes);
-    let mut net = MemoryNet::new(alloc, Vec::new(alloc), Calls::failing(Vec::new(alloc)));
-    let Place {
-        mut files,
-        mut chance,
-    } = Place::new(alloc)?;
+    let mut net = MemoryNet::new(alloc, Vec::new(alloc), sound(alloc));
+    let mut files = MemoryFolder::new(alloc, Vec::new(alloc), sound(alloc));
+    let mut chance = ListedChance::new(Vec::new(alloc), sound(alloc));
     let status = run(
         rt,
         alloc,

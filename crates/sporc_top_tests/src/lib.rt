@@ -1,20 +1,15 @@
-//! The tests of `sporc_play` and `sporc_top`, in a crate of their own, since a crate with tests is proved twice. No program
+//! The tests of `sporc_play`, and of the plays of `sporc_top`, in a crate of their own, since a crate with tests is proved twice. No program
 //! stands on it.
 //!
 //! [`plays`] compares reports with worked examples, [`faults`] the lines of faults, and what is told if a read or a write
-//! fails, [`limits`] what is taken at each limit and above it, and [`commands`] runs commands one after the other, over a
-//! folder, a chance and a net in memory.
+//! fails, and [`limits`] what is taken at each limit and above it.
 #![tactic(auto)]
 
 #[cfg(test)]
 mod answers;
 #[cfg(test)]
-mod commands;
-#[cfg(test)]
 mod faults;
 #[cfg(test)]
 mod limits;
-#[cfg(test)]
-mod place;
 #[cfg(test)]
 mod plays;
