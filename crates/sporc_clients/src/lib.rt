@@ -17,7 +17,8 @@
 //! asked for are the member's and its editors' scripts, and no others; links are asked for at the address alone, two at most;
 //! each disk and each link is back; and no count of faults has fallen.
 //!
-//! Tested, in `sporc_clients_tests`: the report and the saved file of a line that is committed, and the lines of two faults.
+//! Tested, on the program (`sporc_commands_tests`): two members who work with a server, each status that a session ends with, and
+//! each call outside failing in turn.
 //! Neither: that the server answers.
 #![tactic(auto)]
 
