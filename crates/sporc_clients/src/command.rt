@@ -99,6 +99,7 @@ where
     let (result, disk) = with_disk(
         rt, alloc, words, member, disk, out, files, net, chance, gate,
     );
+    // No call: that the count of the folder can be told here is what `files_kept` rests on.
     let _faults = files.faults();
     files.take_back(disk);
     result

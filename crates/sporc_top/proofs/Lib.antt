@@ -2,3 +2,4 @@ pub mod Ranges
 pub mod Outcomes
 pub mod Runs
 pub mod Serving
+pub mod Working

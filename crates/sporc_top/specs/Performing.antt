@@ -1,7 +1,8 @@
 -- What each command does.
-use Rattle.std.specs.Prelude.{◌≡◌, ℕ, List, [], ◌∷◌, map, Result, Ok, Err, ⊤}
+use Rattle.std.specs.Prelude.{◌≡◌, ◌≤◌, ℕ, List, [], ◌∷◌, length, map, Result, Ok, Err, ⊤}
 use Rattle.sporc_outside.specs.Told.{MayAppend}
 use Rattle.sporc_outside.specs.Uses.{IsUnwritten, SinkUse, SourceUse}
+use Rattle.sporc_words.specs.declared.client.Client.{Client}
 use Rattle.sporc_words.specs.declared.command.Command.{Command}
 use Rattle.sporc_words.specs.declared.command.Command.TheVariants as commands
 use Rattle.sporc_words.specs.declared.found.Found.{Found}
@@ -20,8 +21,8 @@ use Rattle.sporc_files.specs.Uses.{AsksOnly, FolderUse}
 use Rattle.sporc_founding.specs.Founding.{FoundOutcome, found_files}
 use Rattle.sporc_founding.specs.KeyMaking.{KeygenOutcome}
 use Rattle.sporc_histories.specs.Outcomes.{CheckOutcome, CompareOutcome, ServeOutcome}
-use Rattle.sporc_sessions.specs.Nets.{LinkView}
-use Rattle.sporc_clients.specs.Outcome.{ClientOutcome, DiskView, NetUse}
+use Rattle.sporc_sessions.specs.Nets.{AsksAtMost, LinkView}
+use Rattle.sporc_clients.specs.Outcome.{ClientOutcome, DiskView, NetUse, client_files, names_of as names_of_client}
 use Rattle.sporc_top.specs.Uses.{Uses, client_use}
 
 -- ---- names
@@ -41,7 +42,7 @@ names_of (commands.Generate edits) = no_files
 names_of (commands.Keygen words) = files_of words.name
 names_of (commands.Found words) = files_of words.name
 names_of (commands.Serve words) = files_of words.name
-names_of (commands.Client words) = record { document = words.name; scripts = words.scripts }
+names_of (commands.Client words) = names_of_client words
 names_of (commands.Check words) = files_of words.name
 names_of (commands.Compare words) = files_of words.name
 
@@ -103,6 +104,13 @@ pub record ServesDocument {L : Type 0} (links : LinkView L) (words : Serve) (out
   pub called : MayAppend outside.net.before.asked outside.net.after.asked words.address
   pub shut : AreShutBehind links.is_shut outside.net.before.returned outside.net.after.returned
 
+-- a member worked from its own files and its editors' scripts alone, with the server at the address alone, over at most two links
+pub record WorksAsMember {L D : Type 0} (links : LinkView L) (disks : DiskView D) (words : Client) (outside : Uses L) (answer : Result ⊤ Fault) : Type 0 where
+  pub outcome : ClientOutcome links disks words (client_use outside) answer
+  pub asked : AsksFor (names_of_client words) (client_files words.member (length words.scripts)) outside.folder
+  pub called : AsksAtMost 2 outside.net.before.asked outside.net.after.asked words.address
+  pub counted : outside.net.before.link_faults ≤ outside.net.after.link_faults
+
 -- ---- commands
 
 -- what a command did, by its answer
@@ -113,6 +121,6 @@ module _ {L D : Type 0} (links : LinkView L) (disks : DiskView D) where
   Performs (commands.Keygen words) outside answer = MakesKey words outside answer
   Performs (commands.Found words) outside answer = FoundsDocument words outside answer
   Performs (commands.Serve words) outside answer = ServesDocument links words outside answer
-  Performs (commands.Client words) outside answer = ClientOutcome links disks words (client_use outside) answer
+  Performs (commands.Client words) outside answer = WorksAsMember links disks words outside answer
   Performs (commands.Check words) outside answer = CheckOutcome (files_of words.name) words.member outside.folder outside.out answer
   Performs (commands.Compare words) outside answer = CompareOutcome (files_of words.name) words.first words.second outside.folder outside.out answer

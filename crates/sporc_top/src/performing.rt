@@ -103,7 +103,9 @@ where
     ensures chance { (needs_of command.now).chance ≡ false → chance.new ≡ chance.old }
     ensures taken { ConsumesAtMost (MAX_SCRIPT + 1) (S.left source.old) (S.left source.new) }
     ensures links { N.out net.new ≡ N.out net.old }
+    ensures lent { F.lent files.new ≡ F.lent files.old }
     ensures source_kept { S.faults source.old ≤ S.faults source.new }
+    ensures files_kept { F.faults files.old ≤ F.faults files.new }
     ensures net_kept { N.faults net.old ≤ N.faults net.new }
     ensures chance_kept { C.faults chance.old ≤ C.faults chance.new }
     ensures out_kept { O.faults out.old ≤ O.faults out.new }

@@ -1,0 +1,16 @@
+-- What `client` did, as a command.
+use Rattle.std.proofs.Common.{◌≡◌, Result, subst, sym}
+use Rattle.std.specs.Bool.{⊤}
+use Rattle.sporc_words.specs.declared.client.Client.{Client}
+use Rattle.sporc_words.specs.declared.command.Command.{Command}
+use Rattle.sporc_words.specs.declared.command.Command.TheVariants as commands
+use Rattle.sporc_files.specs.declared.fault.Fault.{Fault}
+use Rattle.sporc_sessions.specs.Nets.{LinkView}
+use Rattle.sporc_clients.specs.Outcome.{DiskView}
+use Rattle.sporc_top.specs.Performing.{Performs, WorksAsMember}
+use Rattle.sporc_top.specs.Uses.{Uses}
+
+module _ {L D : Type 0} (links : LinkView L) (disks : DiskView D) (outside : Uses L) where
+  pub by_client : (asked : Command) (words : Client) (answer : Result ⊤ Fault) → asked ≡ commands.Client words → WorksAsMember links disks words outside answer
+      → Performs links disks asked outside answer
+  by_client asked words answer is works = subst (λ (c : Command). Performs links disks c outside answer) (sym is) works
