@@ -1,4 +1,4 @@
-use Rattle.std.proofs.Common.{rules, Err, ap}
+use Rattle.std.proofs.Common.{Err, ap}
 use Rattle.sporc_top.specs.Outcome.{command, done}
 use Rattle.sporc_top.proofs.Ranges.{in_range}
 use Rattle.sporc_top.proofs.Runs.{by_fault, by_words}
