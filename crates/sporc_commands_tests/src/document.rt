@@ -25,15 +25,12 @@ fn ring_file(alloc: Global) -> Result<Vec<u8>, Fail> {
     Ok(bytes)
 }
 
-/// The history of so many entries of member 2, the first of which inserts a text.
+/// The history of so many entries of member 2, each of which inserts a character behind those before it.
 pub fn entries(alloc: Global, cast: &Cast, count: u32) -> Result<History, Fail> {
     let mut sample = History::new(alloc, &cast.genesis(alloc)?)?;
     for entry in 0..count {
-        if entry == 0 {
-            sample.edit(alloc, cast, 2, insertion(alloc, 0, b"ab")?.as_slice())?;
-        } else {
-            sample.edit(alloc, cast, 2, b"")?;
-        }
+        let delta = insertion(alloc, u64::from(entry), b"a")?;
+        sample.edit(alloc, cast, 2, delta.as_slice())?;
     }
     Ok(sample)
 }
