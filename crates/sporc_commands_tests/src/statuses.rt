@@ -32,10 +32,10 @@ const ROWS: [Row; 7] = [
         line: b"\nfault refused 1 malformed 0\n",
     },
     Row {
-        words: "client D 2 a --rounds 0 --until 1",
+        words: "client D 2 a --rounds 0 insert",
         sent: b"",
         status: 5,
-        line: b"\nfault unsettled 0 0\n",
+        line: b"\nfault unsettled 1 0\n",
     },
     // a part of an answer
     Row {
@@ -45,7 +45,7 @@ const ROWS: [Row; 7] = [
         line: b"\nfault link ended 4\n",
     },
     Row {
-        words: "client D 2 a --rounds 2 insert",
+        words: "client D 2 a --rounds 1 insert",
         sent: NOTHING,
         status: 7,
         line: b"\nfault leaf 32\n",
