@@ -1,7 +1,9 @@
 # shellcheck shell=bash disable=SC2034
 # What the scripts of this folder share; each of them reads this file. They time the program that is built, on files in memory
-# where the machine has such a folder, so that no disk is measured, and print rows of the table in docs/SPEED.md.
+# if the machine has such a folder, so that no disk is measured, and print rows of the table in docs/SPEED.md.
 set -eu
+# shellcheck source=examples/ports.sh
+. "$(dirname "$0")/../examples/ports.sh"
 program=$(realpath "${1:-$(dirname "$0")/../crates/sporc/out/sporc}")
 if [ -d /dev/shm ] && [ -w /dev/shm ]; then memory=/dev/shm; else memory=${TMPDIR:-/tmp}; fi
 work=$(mktemp -d -p "$memory")
@@ -40,20 +42,12 @@ least() {
     done
 }
 
-# listens PORT: whether somebody listens on this port of this machine.
-listens() { grep -q "$(printf ':%04X 0*:0000 0A' "$1")" /proc/net/tcp; }
-
 # serve NAME SESSIONS: a server in the background, with its process in `server`, once it listens at `address`.
 serve() {
-    local port
-    while
-        port=$((20000 + RANDOM % 10000))
-        listens "$port"
-    do :; done
-    address=127.0.0.1:$port
+    address=127.0.0.1:$(free_port)
     "$program" serve "$1" "$address" --sessions "$2" >server.out 2>&1 &
     server=$!
-    until listens "$port"; do
+    until listens "${address##*:}"; do
         kill -0 "$server"
         sleep 0.05
     done

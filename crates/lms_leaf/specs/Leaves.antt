@@ -11,7 +11,7 @@ use Rattle.lms_leaf.specs.declared.faults.LeafOpenFault.TheVariants as open_faul
 
 -- the disk, the next number and what it was at the opening, how many leaves there are, whether a call of the
 -- disk has failed, and the disk's count of faults as it was opened
-pub record LeavesContent (D : Type 0) : Type 0 where
+pub record LeavesModel (D : Type 0) : Type 0 where
   pub disk : D
   pub next : ℕ
   pub next_at_open : ℕ
@@ -30,7 +30,7 @@ pub record KeepsStable {D : Type 0} (moment : D → ℕ) (images : D → ℕ →
 -- a draw gives the next number, one from the opening's on, and goes on to the one after it; its block is marked by a
 -- one, which is stable then, and no other byte changes
 pub record Draws {D : Type 0} (stored : D → Option (List ℕ)) (moment : D → ℕ) (images : D → ℕ → List ℕ → Type 0)
-    (old : LeavesContent D) (result : Result ℕ LeafFault) (new : LeavesContent D) : Type 0 where
+    (old : LeavesModel D) (result : Result ℕ LeafFault) (new : LeavesModel D) : Type 0 where
   pub given : IfOk result (λ leaf. leaf ≡ old.next)
   pub forward : IfOk result (λ leaf. old.next_at_open ≤ leaf)
   pub within : IfOk result (λ leaf. leaf < old.leaf_count)
@@ -42,11 +42,14 @@ pub record Draws {D : Type 0} (stored : D → Option (List ℕ)) (moment : D →
   pub marked : IfOk result (λ leaf. leaf % LEAVES_PER_BLOCK ≡ 0
       → IfSome (stored new.disk) (λ bytes. slice_index bytes (leaf / LEAVES_PER_BLOCK) ≡ 1))
   pub others : KeepsOutside (old.next / LEAVES_PER_BLOCK) 1 (stored old.disk) (stored new.disk)
+  -- a draw inside a block, or after a fault, writes nothing
+  pub unwritten : old.next % LEAVES_PER_BLOCK ≢ 0 → stored new.disk ≡ stored old.disk
+  pub unwritten_faulty : IsTrue old.faulty → stored new.disk ≡ stored old.disk
 
 -- when a draw gives no number: `Exhausted` exactly where all are drawn, and `DiskFault` only where the disk's count
 -- of faults rose, in this draw or in an earlier one since the opening
 pub record DrawFaults {D : Type 0} (faults : D → ℕ)
-    (old : LeavesContent D) (result : Result ℕ LeafFault) (new : LeavesContent D) : Type 0 where
+    (old : LeavesModel D) (result : Result ℕ LeafFault) (new : LeavesModel D) : Type 0 where
   pub exhausted : (next : ℕ) → (result ≡ Err (Exhausted next)) ↔ ((old.next ≡ old.leaf_count) × (next ≡ old.next))
   pub now : result ≡ Err DiskFault → IsTrue old.faulty ⊎ Rose (faults old.disk) (faults new.disk)
   pub since_open : result ≡ Err DiskFault → Rose old.faults_at_open (faults new.disk)
@@ -61,14 +64,14 @@ abbrev pub IsSynced : Option (List ℕ) → (List ℕ → Type 0) → Type 0
 IsSynced stored images = (image : List ℕ) → images image → stored ≡ Some image
 
 -- the disk that an opening gives, in the leaves or back
-abbrev pub disk_after : {D : Type 0} → Result (LeavesContent D) (LeafOpenFault × D) → D
+abbrev pub disk_after : {D : Type 0} → Result (LeavesModel D) (LeafOpenFault × D) → D
 disk_after (Ok leaves) = leaves.disk
 disk_after (Err fault) = fault.1
 
 -- an opening goes on behind the last block that is taken, and leaves what the disk stores; no crash takes any of
 -- it away then
 pub record Opens {D : Type 0} (stored : D → Option (List ℕ)) (moment : D → ℕ) (images : D → ℕ → List ℕ → Type 0)
-    (disk : D) (result : Result (LeavesContent D) (LeafOpenFault × D)) : Type 0 where
+    (disk : D) (result : Result (LeavesModel D) (LeafOpenFault × D)) : Type 0 where
   pub next : IfOk result (λ leaves. IfSome (stored disk) (λ bytes. leaves.next ≡ LEAVES_PER_BLOCK * taken_blocks bytes))
   pub stable : KeepsStable moment images disk (disk_after result)
   pub synced : IfOk result (λ leaves. IsSynced (stored leaves.disk) (images leaves.disk (moment leaves.disk)))

@@ -1,31 +1,31 @@
 -- Traces of a leaf file: openings, draws, failed calls, and crashes at any moment, in any order.
 use Rattle.std.specs.Prelude.{ℕ, ◌≤◌, List, [], ◌∷◌, Option, Result, Ok, Err}
 use Rattle.sporc_outside.specs.LeafDisk.{IsFound}
-use Rattle.lms_leaf.specs.Leaves.{LeavesContent, Draws, Opens, disk_after}
+use Rattle.lms_leaf.specs.Leaves.{LeavesModel, Draws, Opens, disk_after}
 use Rattle.lms_leaf.specs.declared.faults.LeafFault.{LeafFault}
 use Rattle.lms_leaf.specs.declared.faults.LeafOpenFault.{LeafOpenFault}
 
 -- One thing that happens. A call that a crash cuts off at a moment never answers; its move has what the call
 -- would have answered, the moment, and the disk that is found afterwards.
 pub data Move (D : Type 0) : Type 0 where
-  Open : Result (LeavesContent D) (LeafOpenFault × D) → Move D
-  OpenCut : Result (LeavesContent D) (LeafOpenFault × D) → ℕ → D → Move D
-  Draw : Result ℕ LeafFault → LeavesContent D → Move D
-  DrawCut : Result ℕ LeafFault → LeavesContent D → ℕ → D → Move D
+  Open : Result (LeavesModel D) (LeafOpenFault × D) → Move D
+  OpenCut : Result (LeavesModel D) (LeafOpenFault × D) → ℕ → D → Move D
+  Draw : Result ℕ LeafFault → LeavesModel D → Move D
+  DrawCut : Result ℕ LeafFault → LeavesModel D → ℕ → D → Move D
   Close : Move D
   Crash : D → Move D
 
 -- between two moves the disk is at rest, or in leaves
 pub data FileState (D : Type 0) : Type 0 where
   AtRest : D → FileState D
-  InUse : LeavesContent D → FileState D
+  InUse : LeavesModel D → FileState D
 
 abbrev pub disk_of : {D : Type 0} → FileState D → D
 disk_of (AtRest disk) = disk
 disk_of (InUse leaves) = leaves.disk
 
 -- where an opening leads
-abbrev pub state_opened : {D : Type 0} → Result (LeavesContent D) (LeafOpenFault × D) → FileState D
+abbrev pub state_opened : {D : Type 0} → Result (LeavesModel D) (LeafOpenFault × D) → FileState D
 state_opened (Ok leaves) = InUse leaves
 state_opened (Err fault) = AtRest fault.1
 

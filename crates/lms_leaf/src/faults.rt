@@ -1,3 +1,5 @@
+// Why no leaf is drawn, and why a leaf file is not opened.
+
 ghost use Rattle.std.specs.Prelude.{◌≡◌};
 ghost use Rattle.lms_leaf.specs.declared.faults.LeafOpenFault.TheVariants as open_faults;
 

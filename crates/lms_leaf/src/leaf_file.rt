@@ -1,3 +1,5 @@
+// The bytes of a leaf file, and the calls that read and write them.
+
 ghost use Rattle.std.specs.Prelude.{◌≡◌, ◌≢◌, ◌^◌, ◌<◌, ◌*◌, ◌/◌, ◌%◌, ◌≤◌, length, slice_index, replicate, IfOk, IfSome, OnOk};
 ghost use Rattle.sporc_outside.specs.Counts.{CountsFaults};
 ghost use Rattle.sporc_outside.specs.LeafDisk.{IsStable, KeepsOutside};
@@ -58,6 +60,7 @@ pub(crate) fn begin_block<D: LeafDisk>(disk: &mut D, leaf: u32) -> Result<(), Fa
     ensures one { OnOk result (leaf % LEAVES_PER_BLOCK ≡ 0 → IfSome (D.stored disk.new) (λ bytes.
         slice_index bytes (leaf / LEAVES_PER_BLOCK) ≡ 1)) }
     ensures others { KeepsOutside (leaf / LEAVES_PER_BLOCK) 1 (D.stored disk.old) (D.stored disk.new) }
+    ensures unwritten { leaf % LEAVES_PER_BLOCK ≢ 0 → D.stored disk.new ≡ D.stored disk.old }
     ensures count { CountsFaults (D.faults disk.old) (D.faults disk.new) result }
 {
     if leaf % LEAVES_PER_BLOCK != 0 {

@@ -1,3 +1,5 @@
+// The leaves of a key, drawn in order.
+
 ghost use Rattle.std.specs.Prelude.{◌≡◌, ℕ, ◌*◌, ◌^◌, ◌≤◌, false, length, OnOk, IfOk, IfErr, IfSome};
 ghost use Rattle.lms_leaf.specs.LeafFile.{IsLeafHeight, AreTaken, block_count, taken_blocks};
 ghost use Rattle.lms_leaf.specs.Leaves.{KeepsStable, IsSynced, Draws, DrawFaults, Opens, OpenFaults, disk_after};
@@ -21,9 +23,9 @@ pub struct Leaves<D: LeafDisk> {
 }
 
 impl<D: LeafDisk> Model for Leaves<D> {
-    ghost use Rattle.lms_leaf.specs.Leaves.{LeavesContent};
+    ghost use Rattle.lms_leaf.specs.Leaves.{LeavesModel};
 
-    ghost Value = { LeavesContent D };
+    ghost Value = { LeavesModel D };
 
     ghost use Rattle.lms_leaf.specs.LeavesInvariant.{LeavesInvariant};
 

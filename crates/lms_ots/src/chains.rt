@@ -23,7 +23,7 @@ fn chain_string(id: &[u8; 16], q: u32, i: u16) -> [u8; STRING_LEN]
     string
 }
 
-// The digest of the string with `j` and `value` after its front.
+// The digest of the string with `j` and `value` after its first 22 bytes.
 fn step(string: &mut [u8; STRING_LEN], j: u8, value: &[u8; 32]) -> [u8; 32]
     ensures front { take 22 string.new ≡ take 22 string.old }
     ensures value { result ≡ sha256 (take 22 string.old ++ j ∷ value.now) }

@@ -23,7 +23,7 @@ pub fn coef(s: &[u8], i: usize, w: u32) -> u8
 /// What the coefficients of a digest lack of the greatest, in sum, shifted left by the type's `ls`
 /// (RFC 8554, section 4.4). So a digest with a greater coefficient has a smaller checksum.
 pub fn checksum(q: &[u8; 32], t: OtsType) -> u16
-    ensures { result ≡ checksum_of q.now t }
+    ensures value { result ≡ checksum_of q.now t }
 {
     let w = t.w();
     let greatest = t.greatest();

@@ -32,7 +32,7 @@ impl OtsType {
 
     /// The type code.
     pub fn code(self) -> u32
-        ensures { result ≡ ots_code_of self }
+        ensures value { result ≡ ots_code_of self }
     {
         match self {
             OtsType::W1 => 1,
@@ -44,7 +44,7 @@ impl OtsType {
 
     /// The bits of a coefficient.
     pub fn w(self) -> u32
-        ensures { result ≡ width_of self }
+        ensures value { result ≡ width_of self }
     {
         match self {
             OtsType::W1 => 1,
@@ -69,7 +69,7 @@ impl OtsType {
 
     /// The bits by which the checksum is shifted left.
     pub fn ls(self) -> u32
-        ensures { result ≡ checksum_shift_of self }
+        ensures value { result ≡ checksum_shift_of self }
     {
         match self {
             OtsType::W1 => 7,
@@ -81,7 +81,7 @@ impl OtsType {
 
     /// The length of a signature in bytes.
     pub fn signature_len(self) -> usize
-        ensures { result ≡ ots_signature_len_of self }
+        ensures value { result ≡ ots_signature_len_of self }
     {
         36 + 32 * self.p()
     }

@@ -22,7 +22,7 @@ pub(crate) fn public_hasher(id: &[u8; 16], q: u32) -> Sha256
 /// The public key of leaf `q` of the tree `id` (RFC 8554, section 4.3). It runs `p` whole chains:
 /// with W4 about 1,100 compressions, with W8 about 8,700.
 pub fn ots_public(t: OtsType, id: &[u8; 16], q: u32, seed: &[u8; 32]) -> [u8; 32]
-    ensures { result ≡ ots_public_of t id.now q seed.now }
+    ensures value { result ≡ ots_public_of t id.now q seed.now }
 {
     let greatest = t.greatest();
     let mut hasher = public_hasher(id, q);

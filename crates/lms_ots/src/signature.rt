@@ -76,7 +76,7 @@ pub fn ots_candidate_key(
     signature: &[u8],
 ) -> [u8; 32]
     requires { length signature.now ≡ ots_signature_len_of t }
-    ensures { result ≡ candidate_key t id.now q (prefix.now ++ message.now) signature.now }
+    ensures value { result ≡ candidate_key t id.now q (prefix.now ++ message.now) signature.now }
 {
     let digest = message_digest(id, q, &signature[4..36], prefix, message);
     let string = with_checksum(&digest, t);

@@ -1,7 +1,7 @@
 -- What a signer holds: its private key, and its leaf numbers.
 use Rattle.lms_tree.specs.LmsPrivate.{LmsPrivate}
-use Rattle.lms_leaf.specs.Leaves.{LeavesContent}
+use Rattle.lms_leaf.specs.Leaves.{LeavesModel}
 
-pub record SignerContent (D : Type 0) : Type 0 where
+pub record SignerModel (D : Type 0) : Type 0 where
   pub key : LmsPrivate
-  pub leaves : LeavesContent D
+  pub leaves : LeavesModel D

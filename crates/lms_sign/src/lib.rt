@@ -9,7 +9,7 @@
 //! let mut signer = Signer::open(tree, leaves);
 //! let ticket = signer.draw()?;
 //! match signer.sign(alloc, ticket, &c, b"hello") {
-//!     Ok(signature) => assert!(verify(&signer.public(), b"hello", &signature)),
+//!     Ok(signature) => assert!(rt; verify(&signer.public(), b"hello", &signature)),
 //!     Err((ticket, memory)) => ticket.give_up(), // or try again
 //! }
 //! ```

@@ -1,3 +1,5 @@
+// Signers.
+
 ghost use Rattle.std.specs.Prelude.{◌≡◌, ◌^◌, ◌<◌, ◌≤◌, IfOk, IfErr};
 ghost use Rattle.lms_tree.specs.LmsType.{height_of};
 ghost use Rattle.lms_tree.specs.LmsPrivate.{lms_public_of};
@@ -25,9 +27,9 @@ pub struct Signer<D: LeafDisk> {
 impl<D: LeafDisk> Model for Signer<D> {
     ghost use Rattle.std.specs.Prelude.{◌≡◌, ◌^◌};
     ghost use Rattle.lms_tree.specs.LmsType.{height_of};
-    ghost use Rattle.lms_sign.specs.Signer.{SignerContent};
+    ghost use Rattle.lms_sign.specs.Signer.{SignerModel};
 
-    ghost Value = { SignerContent D };
+    ghost Value = { SignerModel D };
 
     ghost view = { λ s. record { key = s.tree; leaves = s.leaves } };
 

@@ -1,3 +1,5 @@
+// Tickets, each of which signs one message.
+
 ghost use Rattle.std.specs.Prelude.{◌≡◌, ℕ};
 
 use std::marker::Model;

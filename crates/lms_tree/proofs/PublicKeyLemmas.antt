@@ -5,6 +5,9 @@ use Rattle.std.proofs.Math.Seq.{take-add}
 use Rattle.std.proofs.lemmas.Nat.{be_bytes_4, from_be_bytes-to_be_bytes_4}
 use Rattle.std.proofs.lemmas.Bool.{cases_lt, eqb-true}
 use Rattle.std.proofs.lemmas.List.{length-append, length-drop, length-take, take_all, get_or-take, get_or-drop, get_or_past}
+use Rattle.sporc_base.specs.Bytes.{IsBytes}
+use Rattle.sporc_base.proofs.ListLemmas.{found_passes}
+use Rattle.sporc_base.proofs.ByteLemmas.{IsBytes-take, IsBytes-drop}
 use Rattle.lms_ots.specs.declared.ots_type.OtsType.{OtsType}
 use Rattle.lms_ots.specs.declared.ots_type.OtsType.TheVariants.{W1, W2, W4, W8}
 use Rattle.lms_ots.specs.OtsType.{ots_code_of, ots_type_with_code}
@@ -16,21 +19,12 @@ use Rattle.lms_tree.specs.Fields.{number_at}
 use Rattle.lms_tree.specs.LmsPublic.{public_key_bytes, public_key_in}
 use Rattle.lms_tree.proofs.SignatureLemmas.{field_one, field_two, field_three, field_four, code_fits}
 
--- what is found passes the test
-find_passes : {X : Type 0} (p : X → Bool) (xs : List X) (x : X) → find p xs ≡ Some x → p x ≡ true
-find_passes p [] y found = absurd (cc)
-find_passes {X} p (x ∷ xs) y found = step (p x) refl (find_passes p xs y) found
-  where
-    step : (b : Bool) → p x ≡ b → (find p xs ≡ Some y → p y ≡ true) → cond b (Some x) (find p xs) ≡ Some y → p y ≡ true
-    step true passes rest found = let same : x ≡ y = cc in rw (← same) passes
-    step false fails rest found = rest found
-
 -- a type has the code by which it was found
 lms_code_of_found : (code : ℕ) (t : LmsType) → lms_type_with_code code ≡ Some t → lms_code_of t ≡ code
-lms_code_of_found code t found = eqb-true _ _ (find_passes (λ (t : LmsType). lms_code_of t == code) (H5 ∷ H10 ∷ H15 ∷ H20 ∷ H25 ∷ []) t found)
+lms_code_of_found code t found = eqb-true _ _ (found_passes (λ (t : LmsType). lms_code_of t == code) (H5 ∷ H10 ∷ H15 ∷ H20 ∷ H25 ∷ []) t found)
 
 ots_code_of_found : (code : ℕ) (t : OtsType) → ots_type_with_code code ≡ Some t → ots_code_of t ≡ code
-ots_code_of_found code t found = eqb-true _ _ (find_passes (λ (t : OtsType). ots_code_of t == code) (W1 ∷ W2 ∷ W4 ∷ W8 ∷ []) t found)
+ots_code_of_found code t found = eqb-true _ _ (found_passes (λ (t : OtsType). ots_code_of t == code) (W1 ∷ W2 ∷ W4 ∷ W8 ∷ []) t found)
 
 -- a type is found by its code
 lms_type_with_code_of : (t : LmsType) → lms_type_with_code (lms_code_of t) ≡ Some t
@@ -53,19 +47,9 @@ ots_code_fits W4 = omega arith
 ots_code_fits W8 = omega arith
 
 -- four bytes are the bytes of their number
-number_bytes : (bytes : List ℕ) (place : ℕ) → place + 4 ≤ length bytes → ((i : ℕ) → get_or bytes i 0 < 256)
-    → to_be_bytes w32 (number_at bytes place) ≡ take 4 (drop place bytes)
+number_bytes : (bytes : List ℕ) (place : ℕ) → place + 4 ≤ length bytes → IsBytes bytes → to_be_bytes w32 (number_at bytes place) ≡ take 4 (drop place bytes)
 number_bytes bytes place inside small =
-    be_bytes_4 (take 4 (drop place bytes)) _ (omega (arith, length-take 4 (drop place bytes), length-drop place bytes)) below refl
-  where
-    below : (i : ℕ) → get_or (take 4 (drop place bytes)) i 0 < 256
-    below i =
-        elim (cases_lt i 4) [
-          | inl within ↦ rw (get_or-take 4 (drop place bytes) i 0 within, get_or-drop place bytes i 0) (small (place + i))
-          | inr past ↦
-              let end : length (take 4 (drop place bytes)) ≤ i = omega (arith, length-take 4 (drop place bytes)) in
-              rw (get_or_past (take 4 (drop place bytes)) i 0 end) (omega arith)
-        ]
+    be_bytes_4 (take 4 (drop place bytes)) _ (omega (arith, length-take 4 (drop place bytes), length-drop place bytes)) (IsBytes-take 4 (drop place bytes) (IsBytes-drop place bytes small)) refl
 
 -- the bytes of a key, cut where its fields end
 fields_of : (bytes : List ℕ) → length bytes ≡ 56 → take 4 bytes ++ take 4 (drop 4 bytes) ++ take 16 (drop 8 bytes) ++ take 32 (drop 24 bytes) ≡ bytes
@@ -80,7 +64,7 @@ public_key_is bytes id root lms ots size first second third fourth = rw (eq-eqb 
 
 -- its bytes are those that were read
 pub public_key_spelling : (bytes id root : List ℕ) (lms : LmsType) (ots : OtsType) → length bytes ≡ 56
-    → ((i : ℕ) → get_or bytes i 0 < 256)
+    → IsBytes bytes
     → lms_type_with_code (number_at bytes 0) ≡ Some lms → ots_type_with_code (number_at bytes 4) ≡ Some ots
     → id ≡ take 16 (drop 8 bytes) → root ≡ take 32 (drop 24 bytes)
     → public_key_bytes (record { lms = lms; ots = ots; id = id; root = root }) ≡ bytes

@@ -33,7 +33,7 @@ impl LmsType {
 
     /// The type code.
     pub fn code(self) -> u32
-        ensures { result ≡ lms_code_of self }
+        ensures value { result ≡ lms_code_of self }
     {
         match self {
             LmsType::H5 => 5,

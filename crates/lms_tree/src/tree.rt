@@ -97,7 +97,7 @@ impl Tree {
         lms: LmsType,
         ots: OtsType,
     ) -> Result<Tree, Memory>
-        ensures { IfOk result (λ tree. tree ≡ record { lms = lms; ots = ots; id = id.now; seed = seed.now }) }
+        ensures ok { IfOk result (λ tree. tree ≡ record { lms = lms; ots = ots; id = id.now; seed = seed.now }) }
     {
         let leaves = 1usize << lms.height();
         let mut nodes = leaves_of(alloc, seed, id, lms, ots)?;
@@ -117,7 +117,7 @@ impl Tree {
 
     /// The public key.
     pub fn public(&self) -> LmsPublic
-        ensures { result ≡ lms_public_of self.now }
+        ensures value { result ≡ lms_public_of self.now }
     {
         LmsPublic {
             lms: self.lms,
@@ -131,7 +131,7 @@ impl Tree {
     /// many as the tree is high.
     pub fn path(&self, alloc: Global, q: u32) -> Result<Vec<[u8; 32]>, Memory>
         requires { q < 2 ^ height_of self.now.lms }
-        ensures { IfOk result (λ path. path.items ≡ path_of self.now q (height_of self.now.lms)) }
+        ensures ok { IfOk result (λ path. path.items ≡ path_of self.now q (height_of self.now.lms)) }
     {
         let height = self.lms.height();
         let mut path = Vec::with_capacity(alloc, height as usize)?;

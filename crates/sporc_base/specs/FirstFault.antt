@@ -1,7 +1,7 @@
 -- The first fault of a list of checks.
 use Rattle.std.specs.Prelude.{◌≡◌, ◌≢◌, Bool, true, false, List, [], ◌∷◌, Option, None, Some, Result, Ok, Err}
 
--- the fault, where a test fails
+-- the fault, if a test fails
 abbrev pub unless : {F : Type 0} → Bool → F → Option F
 unless true fault = None
 unless false fault = Some fault
@@ -17,7 +17,7 @@ abbrev pub Answers : {X F : Type 0} → Result X F → Option F → Type 0
 Answers (Ok x) fault = fault ≡ None
 Answers (Err e) fault = fault ≡ Some e
 
--- the same, where the call may also answer that memory was wanting
+-- the same, if the call may also answer that memory ran out
 abbrev pub AnswersUnless : {X F : Type 0} → F → Result X F → Option F → Type 0
 AnswersUnless memory (Ok x) fault = fault ≡ None
 AnswersUnless memory (Err e) fault = e ≢ memory → fault ≡ Some e

@@ -1,4 +1,5 @@
-//! What every crate of `sporc` would write again: the type for want of memory, lists, bytes, and the words that say what
+//! What every crate of `sporc` would write again: the error of a call that is out of memory, lists, bytes, and the words
+//! that say what
 //! a call answers.
 //!
 //! - [`Memory`]: memory ran out.
@@ -10,14 +11,15 @@
 //!   memory runs out (`GivesUnless`).
 //! - `specs/FirstFault.antt`: a call answers the first fault of a list of checks: exactly that (`Answers`), or that unless
 //!   memory runs out (`AnswersUnless`).
-//! - `specs/Bytes.antt`: numbers that are bytes (`IsBytes`); `proofs/ByteLemmas.antt` has their laws.
+//! - `specs/Bytes.antt`: numbers that are bytes (`IsBytes`); `proofs/ByteLemmas.antt` has their laws,
+//!   `proofs/ListLemmas.antt` those of lists that several crates need.
 //!
 //! ```text
 //! let name = Bytes::copy_of(alloc, b"ada")?;      // contracts see 97 ∷ 100 ∷ 97 ∷ []
 //! if is_same(name.as_slice(), b"ada") { .. }
 //! ```
 //!
-//! All of it is proved; nothing is only tested.
+//! Proved: what each call answers. Only tested: that memory suffices if there is ample. Neither: nothing else is claimed.
 #![tactic(auto)]
 
 mod bytes;

@@ -1,12 +1,13 @@
 -- A field that is read is spelled by the bytes that it took, and a spelled field is read again.
-use Rattle.std.proofs.Common.{◌≡◌, ℕ, ◌+◌, ◌^◌, ◌<◌, ◌≤◌, Bool, true, false, cond, ltb, leb, List, [], ◌∷◌, ◌++◌, length, take, drop, Result, Ok, Err, refl, sym, ap, subst, ◌∙◌, append_assoc, arith}
+use Rattle.std.proofs.Common.{◌≡◌, ℕ, ◌+◌, ◌^◌, ◌<◌, ◌≤◌, Bool, true, false, cond, ltb, leb, List, [], ◌∷◌, ◌++◌, length, take, drop, Option, Some, None, Result, Ok, Err, refl, sym, ap, subst, ◌∙◌, append_assoc, arith}
 use Rattle.std.specs.Int.{Width, w8, w16, w32, w64, byte_len, from_be_bytes, to_be_bytes}
-use Rattle.std.proofs.lemmas.Bool.{ltb-false, le-ltb, leb-true, le-leb}
+use Rattle.std.specs.Prelude.{◌&&◌}
+use Rattle.std.proofs.lemmas.Bool.{ltb-false, le-ltb, leb-true, le-leb, and_parts}
 use Rattle.std.proofs.lemmas.List.{take_at, drop_at, take-append-drop, length-append, length-take, length-drop}
 use Rattle.std.proofs.lemmas.Nat.{be_bytes_2, be_bytes_4, be_bytes_8, from_be_bytes-to_be_bytes_2, from_be_bytes-to_be_bytes_4, from_be_bytes-to_be_bytes_8}
 use Rattle.sporc_base.specs.Bytes.{IsBytes}
 use Rattle.sporc_base.proofs.ByteLemmas.{IsBytes-drop, IsBytes-take}
-use Rattle.sporc_bytes.specs.Fields.{Reading, past, ◌>>=◌, fault_as, bytes_at, number_at, only_if, counted_at, counted, end_at}
+use Rattle.sporc_bytes.specs.Fields.{Reading, past, ◌>>=◌, fault_as, bytes_at, number_at, number_within, only_if, present, counted_at, counted, end_at}
 
 -- ---- steps
 
@@ -35,7 +36,12 @@ pub only_if_ok : {A F : Type 0} (b : Bool) (at : F) (x y : A) → only_if b at x
 only_if_ok true at x y e = (refl, cc)
 only_if_ok false at x y e = absurd cc
 
--- what reading took from the front
+-- a value that there is
+pub present_ok : {A : Type 0} (at : ℕ) (o : Option A) (x : A) → present at o ≡ Ok x → o ≡ Some x
+present_ok at None x e = absurd cc
+present_ok at (Some y) x e = ap (λ z. Some z) (ok_is y x e)
+
+-- what reading took
 pub record Takes (old : Reading) (text : List ℕ) (new : Reading) : Type 0 where
   pub parts : old.rest ≡ text ++ new.rest
   pub at : new.at ≡ old.at + length text
@@ -153,6 +159,42 @@ u16_again n at rest lt = number_again w16 (2 ^ 16) wide16 n at rest lt
 
 pub u32_again : (n at : ℕ) (rest : List ℕ) → n < 2 ^ 32 → number_at w32 (record { rest = to_be_bytes w32 n ++ rest; at = at }) ≡ Ok (n, record { rest = rest; at = at + 4 })
 u32_again n at rest lt = number_again w32 (2 ^ 32) wide32 n at rest lt
+
+-- ---- numbers within limits
+
+pub within_takes : (low high : ℕ) (w : Width) (limit : ℕ) (wide : IsWide w limit) (r : Reading) (x : ℕ × Reading) → IsBytes r.rest → number_within low high w r ≡ Ok x
+    → Takes r (to_be_bytes w x.0) x.1 × (low ≤ x.0) × (x.0 ≤ high)
+unfolding number_within
+within_takes low high w limit wide r x h e =
+    let a = bind_ok (number_at w r) (λ n. only_if (leb low n.0 && leb n.0 high) r.at n.0 >>= λ allowed. Ok (allowed, n.1)) x e in
+    let b = bind_ok (only_if (leb low a.0.0 && leb a.0.0 high) r.at a.0.0) (λ allowed. Ok (allowed, a.0.1)) x a.2 in
+    let g = only_if_ok (leb low a.0.0 && leb a.0.0 high) r.at a.0.0 b.0 b.1 in
+    let both = and_parts (leb low a.0.0) (leb a.0.0 high) g.0 in
+    let t = number_takes w limit wide r a.0 h a.1 in
+    let P : ℕ × Reading → Type 0 = λ y. Takes r (to_be_bytes w y.0) y.1 × (low ≤ y.0) × (y.0 ≤ high) in
+    let Q : ℕ → Type 0 = λ n. P (n, a.0.1) in
+    subst P (ok_is (b.0, a.0.1) x b.2) (subst Q g.1 (t.0, leb-true low a.0.0 both.0, leb-true a.0.0 high both.1))
+
+pub byte_takes : (low high : ℕ) (r : Reading) (x : ℕ × Reading) → high < 256 → IsBytes r.rest → number_within low high w8 r ≡ Ok x → Takes r (x.0 ∷ []) x.1 × (low ≤ x.0) × (x.0 ≤ high)
+byte_takes low high r x small h e =
+    let t = within_takes low high w8 (2 ^ 8) wide8 r x h e in
+    let one : to_be_bytes w8 x.0 ≡ x.0 ∷ [] = ap (λ (n : ℕ). n ∷ []) (omega (arith, t.2, small)) in
+    let P : List ℕ → Type 0 = λ text. Takes r text x.1 in
+    (subst P one t.0, t.1, t.2)
+
+pub within_again : (low high : ℕ) (w : Width) (limit : ℕ) (wide : IsWide w limit) (n at : ℕ) (rest : List ℕ) → low ≤ n → n ≤ high → n < limit
+    → number_within low high w (record { rest = to_be_bytes w n ++ rest; at = at }) ≡ Ok (n, record { rest = rest; at = at + byte_len w })
+unfolding number_within
+within_again low high w limit wide n at rest a b lt = rw (number_again w limit wide n at rest lt, le-leb low n a, le-leb n high b) refl
+
+pub u16_within_again : (low high n at : ℕ) (rest : List ℕ) → low ≤ n → n ≤ high → n < 2 ^ 16
+    → number_within low high w16 (record { rest = to_be_bytes w16 n ++ rest; at = at }) ≡ Ok (n, record { rest = rest; at = at + 2 })
+u16_within_again low high n at rest a b lt = within_again low high w16 (2 ^ 16) wide16 n at rest a b lt
+
+pub byte_again : (low high n at : ℕ) (rest : List ℕ) → low ≤ n → n ≤ high → n < 2 ^ 8
+    → number_within low high w8 (record { rest = n ∷ rest; at = at }) ≡ Ok (n, record { rest = rest; at = at + 1 })
+unfolding number_within
+byte_again low high n at rest a b lt = rw (u8_again n at rest lt, le-leb low n a, le-leb n high b) refl
 
 -- ---- counted strings
 

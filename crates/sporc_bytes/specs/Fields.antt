@@ -1,7 +1,7 @@
--- Fields read from the front of bytes. Reading gives a value and what is left, or the first fault. Of a field the fault is
--- the place of its first byte, where it is cut short or has a forbidden value; `fault_as` makes any other fault of that.
+-- Fields read from the first byte on. Reading gives a value and what is left, or the first fault. Of a field the fault is
+-- the place of its first byte, if it is cut short or has a forbidden value; `fault_as` makes any other fault of that.
 -- Numbers are big-endian.
-use Rattle.std.specs.Prelude.{◌≡◌, ℕ, ◌+◌, Bool, true, false, nat_lt, nat_le, List, [], ◌∷◌, ◌++◌, length, take, drop, Option, None, Some, Result, Ok, Err, if◌then◌else◌}
+use Rattle.std.specs.Prelude.{◌≡◌, ℕ, zero, suc, ◌+◌, ◌&&◌, Bool, true, false, nat_lt, nat_le, List, [], ◌∷◌, ◌++◌, length, take, drop, Option, None, Some, Result, Ok, Err, if◌then◌else◌}
 use Rattle.std.specs.Int.{Width, w32, byte_len, from_be_bytes, to_be_bytes}
 use Rattle.sporc_bytes.specs.declared.cursor.Short.{Short}
 
@@ -35,15 +35,22 @@ number_at w r = do
   bytes ← bytes_at (byte_len w) r
   Ok (from_be_bytes w bytes.0, bytes.1)
 
--- a value, where it is allowed
+-- a value, if it is allowed
 abbrev pub only_if : {A F : Type 0} → Bool → F → A → Result A F
 only_if true fault x = Ok x
 only_if false fault x = Err fault
 
--- a value, where there is one
+-- a value, if there is one
 abbrev pub present : {A F : Type 0} → F → Option A → Result A F
 present fault None = Err fault
 present fault (Some x) = Ok x
+
+-- a number from low to high
+unfoldable pub number_within : ℕ → ℕ → Width → Reading → Result (ℕ × Reading) ℕ
+number_within low high w r = do
+  n ← number_at w r
+  allowed ← only_if (nat_le low n.0 && nat_le n.0 high) r.at n.0
+  Ok (allowed, n.1)
 
 -- four bytes of length, at most a limit, and that many bytes: two fields
 unfoldable pub counted_at : ℕ → Reading → Result (List ℕ × Reading) ℕ
@@ -51,6 +58,14 @@ counted_at limit r = do
   n ← number_at w32 r
   len ← only_if (nat_le n.0 limit) r.at n.0
   bytes_at len n.1
+
+-- so many values, each read from what the one before it leaves
+unfoldable pub values_at : {A S : Type 0} → (S → Result (A × S) ℕ) → ℕ → S → Result (List A × S) ℕ
+values_at read zero s = Ok ([], s)
+values_at read (suc n) s = do
+  first ← read s
+  others ← values_at read n first.1
+  Ok (first.0 ∷ others.0, others.1)
 
 -- nothing is left
 abbrev pub end_at : Reading → Result (Unit {0}) ℕ

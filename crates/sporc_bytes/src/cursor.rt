@@ -1,8 +1,8 @@
-//! Reading fields from the front of bytes.
+//! Reading fields from the first byte on.
 
 ghost use Rattle.std.specs.Prelude.{◌≡◌, ◌<◌, ◌≤◌, ◌^◌, ◌+◌, ◌++◌, ◌↔◌, IsTrue, [], length, Ok, Err, IfOk, IfErr, OnErr};
 ghost use Rattle.std.specs.Int.{w8, w16, w32, w64, to_be_bytes, from_be_bytes};
-ghost use Rattle.sporc_bytes.specs.Fields.{number_at, bytes_at, counted_at, counted};
+ghost use Rattle.sporc_bytes.specs.Fields.{Reads, number_at, number_within, bytes_at, counted_at, counted, end_at};
 
 use std::marker::Model;
 use thiserror::Error;
@@ -12,7 +12,7 @@ use thiserror::Error;
 #[error("cut short at {0}")]
 pub struct Short(pub usize);
 
-/// Reads fields from the front of bytes, and knows the place of the next byte.
+/// Reads fields from the first byte on, and knows the place of the next byte.
 #[derive(Drop)]
 pub struct Cursor<'a> {
     rest: &'a [u8],
@@ -50,26 +50,37 @@ impl<'a> Cursor<'a> {
 
     /// The place of the next byte.
     pub fn at(&self) -> usize
-        ensures { result ≡ self.now.at }
+        ensures value { result ≡ self.now.at }
     {
         self.at
     }
 
     /// The bytes that are left.
     pub fn rest(&self) -> &'a [u8]
-        ensures { result.now ≡ self.now.rest }
+        ensures value { result.now ≡ self.now.rest }
     {
         self.rest
     }
 
     /// Whether nothing is left.
     pub fn end(&self) -> bool
-        ensures { IsTrue result ↔ (self.now.rest ≡ []) }
+        ensures value { IsTrue result ↔ (self.now.rest ≡ []) }
     {
         self.rest.is_empty()
     }
 
-    /// The next `n` bytes. `Short` exactly where fewer are left.
+    /// Nothing is left, or the place of the first byte that is.
+    pub fn ended(&self) -> Result<(), Short>
+        ensures value { Reads (λ _. tt) result (end_at self.now) }
+    {
+        if self.end() {
+            Ok(())
+        } else {
+            Err(Short(self.at()))
+        }
+    }
+
+    /// The next `n` bytes. `Short` exactly if fewer are left.
     #[tactic(auto, unfolding(crate::specs::Fields::bytes_at))]
     pub fn take(&mut self, n: usize) -> Result<&'a [u8], Short>
         ensures ok { IfOk result (λ bytes. bytes_at n self.old ≡ Ok (bytes.now, self.new)) }
@@ -87,7 +98,7 @@ impl<'a> Cursor<'a> {
         Ok(bytes)
     }
 
-    /// The next byte. `Short` exactly where none is left.
+    /// The next byte. `Short` exactly if none is left.
     #[tactic(auto, unfolding(crate::specs::Fields::number_at))]
     pub fn u8(&mut self) -> Result<u8, Short>
         ensures ok { IfOk result (λ n. number_at w8 self.old ≡ Ok (n, self.new)) }
@@ -99,7 +110,26 @@ impl<'a> Cursor<'a> {
         Ok(u8::from_be_bytes(bytes))
     }
 
-    /// The next two bytes as a number. `Short` exactly where fewer are left.
+    /// The next byte. `Short` exactly if none is left or it isn't from `low` to `high`.
+    #[tactic(auto, unfolding(crate::specs::Fields::number_within))]
+    pub fn u8_within(&mut self, low: u8, high: u8) -> Result<u8, Short>
+        ensures value { Reads (λ n. (n, self.new)) result (number_within low high w8 self.old) }
+        ensures within { IfOk result (λ n. (low ≤ n) × (n ≤ high)) }
+        ensures unchanged { OnErr result (self.new ≡ self.old) }
+    {
+        let mut ahead = Cursor {
+            rest: self.rest,
+            at: self.at,
+        };
+        let n = ahead.u8()?;
+        if n < low || high < n {
+            return Err(Short(self.at));
+        }
+        *self = ahead;
+        Ok(n)
+    }
+
+    /// The next two bytes as a number. `Short` exactly if fewer are left.
     #[tactic(auto, unfolding(crate::specs::Fields::number_at))]
     pub fn u16(&mut self) -> Result<u16, Short>
         ensures ok { IfOk result (λ n. number_at w16 self.old ≡ Ok (n, self.new)) }
@@ -111,7 +141,26 @@ impl<'a> Cursor<'a> {
         Ok(u16::from_be_bytes(bytes))
     }
 
-    /// The next four bytes as a number. `Short` exactly where fewer are left.
+    /// The next two bytes as a number. `Short` exactly if fewer are left or the number isn't from `low` to `high`.
+    #[tactic(auto, unfolding(crate::specs::Fields::number_within))]
+    pub fn u16_within(&mut self, low: u32, high: u32) -> Result<u16, Short>
+        ensures value { Reads (λ n. (n, self.new)) result (number_within low high w16 self.old) }
+        ensures within { IfOk result (λ n. (low ≤ n) × (n ≤ high)) }
+        ensures unchanged { OnErr result (self.new ≡ self.old) }
+    {
+        let mut ahead = Cursor {
+            rest: self.rest,
+            at: self.at,
+        };
+        let n = ahead.u16()?;
+        if u32::from(n) < low || high < u32::from(n) {
+            return Err(Short(self.at));
+        }
+        *self = ahead;
+        Ok(n)
+    }
+
+    /// The next four bytes as a number. `Short` exactly if fewer are left.
     #[tactic(auto, unfolding(crate::specs::Fields::number_at))]
     pub fn u32(&mut self) -> Result<u32, Short>
         ensures ok { IfOk result (λ n. number_at w32 self.old ≡ Ok (n, self.new)) }
@@ -123,7 +172,7 @@ impl<'a> Cursor<'a> {
         Ok(u32::from_be_bytes(bytes))
     }
 
-    /// The next eight bytes as a number. `Short` exactly where fewer are left.
+    /// The next eight bytes as a number. `Short` exactly if fewer are left.
     #[tactic(auto, unfolding(crate::specs::Fields::number_at))]
     pub fn u64(&mut self) -> Result<u64, Short>
         ensures ok { IfOk result (λ n. number_at w64 self.old ≡ Ok (n, self.new)) }
@@ -135,7 +184,7 @@ impl<'a> Cursor<'a> {
         Ok(number_of(bytes))
     }
 
-    /// The next `N` bytes as an array. `Short` exactly where fewer are left.
+    /// The next `N` bytes as an array. `Short` exactly if fewer are left.
     pub fn array<const N: usize>(&mut self) -> Result<[u8; N], Short>
         ensures ok { IfOk result (λ bytes. bytes_at N self.old ≡ Ok (bytes, self.new)) }
         ensures err { IfErr result (λ short. bytes_at N self.old ≡ Err short.0) }
@@ -147,7 +196,7 @@ impl<'a> Cursor<'a> {
     }
 
     /// The next counted string, of at most `limit` bytes. Its length and its bytes are two fields: `Short` has the place
-    /// of the length where that is cut short or above the limit, else the place of the bytes where they are cut short.
+    /// of the length if that is cut short or above the limit, else the place of the bytes if they are cut short.
     #[tactic(auto, unfolding(crate::specs::Fields::counted_at))]
     pub fn counted(&mut self, limit: u32) -> Result<&'a [u8], Short>
         ensures ok { IfOk result (λ bytes. counted_at limit self.old ≡ Ok (bytes.now, self.new)) }

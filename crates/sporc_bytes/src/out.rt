@@ -25,7 +25,7 @@ impl Model for Out {
 impl Out {
     /// No bytes.
     pub fn new(alloc: Global) -> Out
-        ensures { result ≡ [] }
+        ensures value { result ≡ [] }
     {
         Out {
             bytes: Vec::new(alloc),
@@ -34,7 +34,7 @@ impl Out {
 
     /// The bytes written.
     pub fn into_bytes(self) -> Vec<u8>
-        ensures { result.items ≡ self }
+        ensures value { result.items ≡ self }
     {
         self.bytes
     }

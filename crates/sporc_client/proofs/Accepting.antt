@@ -13,7 +13,8 @@ use Rattle.sporc_head.specs.declared.limits.TheConstants.{MAX_ENTRIES}
 use Rattle.sporc_head.specs.History.{change_in, change_read, committed_by}
 use Rattle.sporc_line.specs.Document.{text_of}
 use Rattle.sporc_line.specs.LineChecks.{first_fault}
-use Rattle.sporc_line.proofs.FormLengths.{inserted_len-retains, length-apply}
+use Rattle.sporc_delta.proofs.Lengths.{inserted_len-retains}
+use Rattle.sporc_line.proofs.FormLengths.{length-apply}
 use Rattle.sporc_client.specs.declared.limits.TheConstants.{MAX_EVENTS, MAX_HEAD_BYTES}
 use Rattle.sporc_client.specs.Allowed.{allows}
 use Rattle.sporc_client.specs.Answers.{accept_fault, journal_has_room, or_full, refusal_of}

@@ -1,5 +1,5 @@
 -- Every run keeps the headline.
-use Rattle.std.proofs.Common.{◌≡◌, ℕ, suc, zero, ◌+◌, ◌≤◌, Bool, true, false, cond, List, ◌++◌, length, take, refl, ap, sym, ◌∙◌, subst, arith, Option, None, Some}
+use Rattle.std.proofs.Common.{◌≡◌, ℕ, ◌+◌, ◌≤◌, Bool, true, false, cond, List, ◌++◌, length, take, refl, ap, sym, ◌∙◌, subst, arith, Option, None, Some}
 use Rattle.std.specs.Prelude.{fold, is_some, slice_get, ◌==◌}
 use Rattle.std.proofs.lemmas.Bool.{eqb-true}
 use Rattle.std.proofs.lemmas.List.{take_all}
@@ -11,21 +11,21 @@ use Rattle.sporc_entry.specs.declared.genesis.Genesis.{Genesis}
 use Rattle.sporc_entry.specs.Entry.{signed_string}
 use Rattle.sporc_head.specs.declared.refusal.Refusal.{Refusal}
 use Rattle.sporc_head.specs.HeadChecks.{allows_member, verifies_member}
-use Rattle.sporc_head.specs.History.{CommittedChange, changes, count_of, hash_of, roster_of}
+use Rattle.sporc_head.specs.History.{changes, count_of, hash_of, roster_of}
 use Rattle.sporc_line.specs.Keys.{key_of}
 use Rattle.sporc_line.specs.LineStrings.{line_strings}
 use Rattle.sporc_line.specs.Operations.{operations}
+use Rattle.sporc_line.specs.Commitments.{commitment_at}
 use Rattle.sporc_line.specs.Document.{text_of}
 use Rattle.sporc_line.specs.Good.{Good, Meets}
 use Rattle.sporc_line.proofs.Passes.{Passes}
 use Rattle.sporc_line.proofs.Goods.{good_entry}
 use Rattle.sporc_line.proofs.SameKeys.{has_left, has_right, keys_meet, one_reading, one_text, same_key}
-use Rattle.sporc_line.proofs.SameKeys.{commitment_at as met_at}
 use Rattle.sporc_client.specs.declared.fault.AcceptFault.TheVariants.{Refused}
 use Rattle.sporc_client.specs.PlainClient.{PlainClient, after_pending, committed_of}
 use Rattle.sporc_client.specs.Answers.{accept_fault, journal_has_room, or_full, refusal_of}
 use Rattle.sporc_client.specs.Run.{Setup, World, Move, start, after_all, IsRun, given, gives_to, with_client}
-use Rattle.sporc_client.specs.Agree.{Agree, AuthorsBase, BySigner, HistoriesCollisionFree, InOrder, IsRightful, IsSameWorld, OnceEach, OneBase, OneHistory, OneKey, Refuses, RefusesFor, SameHistoryAndText, commitment_at}
+use Rattle.sporc_client.specs.Agree.{Agree, AuthorsBase, BySigner, HistoriesCollisionFree, InOrder, IsRightful, IsSameWorld, OnceEach, OneBase, OneHistory, OneKey, Refuses, RefusesFor, SameHistoryAndText}
 use Rattle.sporc_client.specs.Reached.{IsReached}
 use Rattle.sporc_client.specs.WellFormed.{IsWellFormed}
 use Rattle.sporc_client.proofs.InHistories.{named_prefix, one_hash, one_place, one_prefix, same_base}
@@ -91,14 +91,6 @@ one_history s moves run m n i j c d at at' free h = same_history s i j c d (reac
 
 -- ---- one key
 
-commitment_is : (g : Genesis) (cs : List CommittedChange) (epoch : ℕ) → commitment_at g cs epoch ≡ met_at g cs epoch
-commitment_is g cs zero = refl
-commitment_is g cs (suc epoch) = go (slice_get cs epoch) refl
-  where
-    go : (o : Option CommittedChange) → slice_get cs epoch ≡ o → commitment_at g cs (suc epoch) ≡ met_at g cs (suc epoch)
-    go None is = rw is refl
-    go (Some change) is = rw is refl
-
 one_key : (s : Setup) (moves : List Move) → IsRun s start moves → OneKey s moves
 one_key s moves run m n i j epoch c d at at' free there there' le le' same =
     let g = s.genesis in
@@ -106,16 +98,14 @@ one_key s moves run m n i j epoch c d at at' free there there' le le' same =
     let two = reached_at s moves n j d run at' in
     let mine = line_strings g c.opening.kit c.entries in
     let yours = line_strings g d.opening.kit d.entries in
-    let met : met_at g (changes d.entries) epoch ≡ met_at g (changes c.entries) epoch =
-    sym (commitment_is g (changes d.entries) epoch) ∙ sym same ∙ commitment_is g (changes c.entries) epoch in
     let its = keys_meet g c.opening.kit c.entries (good_of s i c one) there epoch le in
     let theirs = keys_meet g d.opening.kit d.entries (good_of s j d two) there' epoch le' in
     ap (λ (g : Genesis). key_of g c.opening.kit c.entries epoch) (genesis_of s i c one)
-    ∙ same_key g epoch (mine ++ yours) (key_of g c.opening.kit c.entries epoch) (key_of g d.opening.kit d.entries epoch) (met_at g (changes c.entries) epoch) (free_of s i j c d one two free)
+    ∙ same_key g epoch (mine ++ yours) (key_of g c.opening.kit c.entries epoch) (key_of g d.opening.kit d.entries epoch) (commitment_at g (changes c.entries) epoch) (free_of s i j c d one two free)
     (λ x h. has_left g c.opening.kit c.entries yours epoch x le h)
     (λ x h. has_right g d.opening.kit d.entries mine epoch x le' h)
     its
-    (subst (Meets g epoch (key_of g d.opening.kit d.entries epoch)) met theirs)
+    (subst (Meets g epoch (key_of g d.opening.kit d.entries epoch)) (sym same) theirs)
     ∙ sym (ap (λ (g : Genesis). key_of g d.opening.kit d.entries epoch) (genesis_of s j d two))
 
 -- ---- one base

@@ -13,6 +13,7 @@ use Rattle.sporc_client.specs.PlainClient.{Opening, PlainClient, opened}
 use Rattle.sporc_client.specs.Run.{Setup, World, Move, Open, Restart, IsRun, after, after_all, happens_to, opening_of, restarted, restarts, with_client}
 use Rattle.sporc_client.specs.Step.{log_of_entries, replay, replay_from, step}
 use Rattle.sporc_client.proofs.AcceptedHistories.{accepted_as}
+use Rattle.sporc_client.proofs.Kept.{step_opening}
 use Rattle.sporc_client.proofs.Reached.{put_same}
 
 -- ---- runs one after another
@@ -27,7 +28,7 @@ run_append s w (move ∷ xs) ys first second = (first.0, run_append s (after s w
 
 -- ---- one client's moves
 
-put_other : (clients : ℕ → Option PlainClient) (who : ℕ) (c : PlainClient) (other : ℕ) → other ≢ who → with_client clients who c other ≡ clients other
+pub put_other : (clients : ℕ → Option PlainClient) (who : ℕ) (c : PlainClient) (other : ℕ) → other ≢ who → with_client clients who c other ≡ clients other
 put_other clients who c other differs = go (other == who) refl
   where
     go : (same : Bool) → (other == who) ≡ same → cond same (Some c) (clients other) ≡ clients other
@@ -57,14 +58,6 @@ allowed_rest c (event ∷ log) added may = allowed_rest (step c event) log added
 pub replay_append : (o : Opening) (log added : List Logged) → replay_from (replay o log) added ≡ replay o (log ++ added)
 unfolding replay
 replay_append o log added = sym (fold-append step (opened o) log added)
-
-step_opening : (c : PlainClient) (event : Logged) → (step c event).opening ≡ c.opening
-step_opening c (Edit by seen marks) = refl
-step_opening c (Change by change) = refl
-step_opening c (Submit by bytes) = refl
-step_opening c (Dropped by fault) = refl
-step_opening c (Accept by bytes) = (accepted_as c bytes).opening
-step_opening c (Discard by) = refl
 
 replay_from_opening : (c : PlainClient) (log : List Logged) → (replay_from c log).opening ≡ c.opening
 replay_from_opening c [] = refl

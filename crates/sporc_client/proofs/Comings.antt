@@ -1,12 +1,12 @@
 -- What an entry that comes does, by its kinds, with what the fields become.
-use Rattle.std.proofs.Common.{◌≡◌, ℕ, ◌+◌, ◌<◌, ◌≤◌, ◌^◌, Bool, true, false, if◌then◌else◌, List, [], ◌∷◌, ◌++◌, length, Option, None, Some, Ok, refl, ap, sym, ◌∙◌, subst, arith, length-append}
+use Rattle.std.proofs.Common.{◌≡◌, ℕ, ◌+◌, ◌<◌, ◌≤◌, Bool, true, false, if◌then◌else◌, List, [], ◌∷◌, ◌++◌, length, Option, None, Some, Ok, refl, ap, sym, ◌∙◌, subst, arith, length-append}
 use Rattle.std.specs.Prelude.{◌==◌}
 use Rattle.std.specs.Option.{is_some}
 use Rattle.std.specs.Prelude.{IsErr, nat_lt, Result, Err}
 use Rattle.std.proofs.lemmas.Bool.{ltb-true}
 use Rattle.std.proofs.lemmas.List.{append-nil as append_nil}
-use Rattle.lms_sign.specs.Signer.{SignerContent}
-use Rattle.sporc_delta.specs.declared.limits.TheConstants.{MAX_COUNT}
+use Rattle.lms_sign.specs.Signer.{SignerModel}
+use Rattle.sporc_delta.specs.declared.limits.TheConstants.{MAX_COUNT, MAX_TEXT_LEN}
 use Rattle.sporc_delta.specs.Marks.{Mark, apply, base_len, inserted_len, out_len}
 use Rattle.sporc_suffix.specs.Forms.{Follow, reached}
 use Rattle.sporc_entry.specs.declared.change.ChangeBody.{ChangeBody}
@@ -34,7 +34,7 @@ use Rattle.sporc_client.specs.Log.{Logged, Accept, log_of}
 use Rattle.sporc_client.specs.PlainClient.{Opening, PlainClient, committed_of, me_of, shown_of}
 use Rattle.sporc_client.specs.Rebasing.{AreOver, AreStated, beyond, inserted_by, rebased}
 use Rattle.sporc_client.specs.Step.{accepted, change_comes, form_coming, is_flight, is_same_as, own_comes}
-use Rattle.sporc_client.specs.Workspace.{Workspace}
+use Rattle.sporc_client.specs.Workspace.{WorkspaceModel}
 use Rattle.sporc_client.proofs.Accepting.{accepted_small, accepted_sound, allowed_accept, change_in_is}
 use Rattle.sporc_client.proofs.Events.{length_of_shown, rises, shown_length}
 use Rattle.sporc_client.proofs.Kept.{Recorded, Records, opening_of, recorded}
@@ -107,21 +107,21 @@ follow_last base (f ∷ fs) form h = follow_last (out_len f) fs form h.1
 -- ---- an entry that was prepared
 
 -- what it does
-abbrev pub coming_at : LineModel → Workspace → PreparedModel → Coming
+abbrev pub coming_at : LineModel → WorkspaceModel → PreparedModel → Coming
 coming_at line own p = coming_of (is_same_as own.flight p.checked.bytes) (is_some (change_of p.checked.entry)) (p.checked.entry.header.author == line.kit.me) p.form own.pending
 
 -- and its shown delta
-abbrev pub form_at : Workspace → PreparedModel → List Mark
+abbrev pub form_at : WorkspaceModel → PreparedModel → List Mark
 form_at own p = shown_form (is_same_as own.flight p.checked.bytes) (is_some (change_of p.checked.entry)) (length (text_after own.shown)) p.form own.pending
 
 -- what settling it asks
-pub record SettleLimits (own : Workspace) (form : List Mark) : Type 0 where
+pub record SettleLimits (own : WorkspaceModel) (form : List Mark) : Type 0 where
   pub follow : Follow 0 own.shown
   pub short : length (text_after own.shown) ≤ MAX_COUNT
   pub over : AreOver (base_len form) own.pending
-  pub limit : base_len form + inserted_len form + inserted_by own.pending ≤ 2 ^ 60
+  pub limit : base_len form + inserted_len form + inserted_by own.pending ≤ MAX_TEXT_LEN
 
-module _ {D : Type 0} (line : LineModel) (signer : SignerContent D) (ticket : Option ℕ) (own : Workspace) (known : ClientInvariant line signer ticket own) (p : PreparedModel) (prepared : IsPrepared line.genesis line.kit line.entries p) where
+module _ {D : Type 0} (line : LineModel) (signer : SignerModel D) (ticket : Option ℕ) (own : WorkspaceModel) (known : ClientInvariant line signer ticket own) (p : PreparedModel) (prepared : IsPrepared line.genesis line.kit line.entries p) where
   pub settle_limits : SettleLimits own p.form
   settle_limits =
       let c = plain_of signer.key line own in
@@ -154,7 +154,7 @@ module _ {D : Type 0} (line : LineModel) (signer : SignerContent D) (ticket : Op
       let F : PlainClient → Type 0 = λ d. Follow 0 d.shown in
       follow_last 0 own.shown (form_at own p) (subst F accepted_here (accepted_sound c p.checked.bytes known.sound prepared.passed).follow)
 
-  pub accept_records : (line' : LineModel) (own' : Workspace) (by : ℕ) → length own.shown < MAX_EVENTS
+  pub accept_records : (line' : LineModel) (own' : WorkspaceModel) (by : ℕ) → length own.shown < MAX_EVENTS
       → line'.genesis ≡ line.genesis → line'.kit ≡ line.kit → line'.entries ≡ line.entries ++ p.checked.bytes ∷ []
       → own'.pending ≡ pending_after (coming_at line own p) own.pending → own'.flight ≡ flight_after (coming_at line own p) own.flight
       → own'.shown ≡ own.shown ++ form_at own p ∷ [] → own'.journal ≡ own.journal ++ events.Accept by (length line.entries + 1) ∷ []
@@ -179,7 +179,7 @@ module _ {D : Type 0} (line : LineModel) (signer : SignerContent D) (ticket : Op
 abbrev line_with : ℕ → Genesis → Kit → List (List ℕ) → LineModel
 line_with spare genesis kit entries = record { genesis = genesis; kit = kit; entries = entries; spare = spare }
 
-abbrev own_with : ℕ → List Pending → Option (List ℕ) → List (List Mark) → List Event → Workspace
+abbrev own_with : ℕ → List Pending → Option (List ℕ) → List (List Mark) → List Event → WorkspaceModel
 own_with spare pending flight shown journal = record { pending = pending; flight = flight; shown = shown; journal = journal; spare = spare }
 
 pub record SameLine (line line' : LineModel) : Type 0 where
@@ -187,7 +187,7 @@ pub record SameLine (line line' : LineModel) : Type 0 where
   pub kit : line'.kit ≡ line.kit
   pub entries : line'.entries ≡ line.entries
 
-pub record SameOwn (own own' : Workspace) : Type 0 where
+pub record SameOwn (own own' : WorkspaceModel) : Type 0 where
   pub pending : own'.pending ≡ own.pending
   pub flight : own'.flight ≡ own.flight
   pub shown : own'.shown ≡ own.shown
@@ -199,7 +199,7 @@ line_same line line' same =
     ∙ ap (λ (k : Kit). line_with line'.spare line'.genesis k line.entries) (sym same.kit)
     ∙ ap (λ (es : List (List ℕ)). line_with line'.spare line'.genesis line'.kit es) (sym same.entries)
 
-own_same : (own own' : Workspace) → SameOwn own own' → own_with own'.spare own.pending own.flight own.shown own.journal ≡ own'
+own_same : (own own' : WorkspaceModel) → SameOwn own own' → own_with own'.spare own.pending own.flight own.shown own.journal ≡ own'
 own_same own own' same =
     ap (λ (ps : List Pending). own_with own'.spare ps own.flight own.shown own.journal) (sym same.pending)
     ∙ ap (λ (f : Option (List ℕ)). own_with own'.spare own'.pending f own.shown own.journal) (sym same.flight)
@@ -207,7 +207,7 @@ own_same own own' same =
     ∙ ap (λ (es : List Event). own_with own'.spare own'.pending own'.flight own'.shown es) (sym same.journal)
 
 -- how much may be added without memory makes no difference
-module _ {D : Type 0} (line : LineModel) (signer : SignerContent D) (ticket : Option ℕ) (own : Workspace) (known : ClientInvariant line signer ticket own) where
+module _ {D : Type 0} (line : LineModel) (signer : SignerModel D) (ticket : Option ℕ) (own : WorkspaceModel) (known : ClientInvariant line signer ticket own) where
   with_spare : (s t : ℕ) → ClientInvariant (line_with s line.genesis line.kit line.entries) signer ticket (own_with t own.pending own.flight own.shown own.journal)
   with_spare s t = record {
     stores = record { entries = known.stores.entries; journal = known.stores.journal };
@@ -219,28 +219,28 @@ module _ {D : Type 0} (line : LineModel) (signer : SignerContent D) (ticket : Op
     leaves = known.leaves;
   }
 
-  pub same_fields : (line' : LineModel) (own' : Workspace) → SameLine line line' → SameOwn own own' → ClientInvariant line' signer ticket own'
+  pub same_fields : (line' : LineModel) (own' : WorkspaceModel) → SameLine line line' → SameOwn own own' → ClientInvariant line' signer ticket own'
   same_fields line' own' lines owns =
       subst (λ (l : LineModel). ClientInvariant l signer ticket own') (line_same line line' lines)
-      (subst (λ (w : Workspace). ClientInvariant (line_with line'.spare line.genesis line.kit line.entries) signer ticket w) (own_same own own' owns) (with_spare line'.spare own'.spare))
+      (subst (λ (w : WorkspaceModel). ClientInvariant (line_with line'.spare line.genesis line.kit line.entries) signer ticket w) (own_same own own' owns) (with_spare line'.spare own'.spare))
 
 -- nor to what contracts see
-pub same_model : {D : Type 0} (line line' : LineModel) (signer : SignerContent D) (ticket : Option ℕ) (own own' : Workspace) → SameLine line line' → SameOwn own own'
+pub same_model : {D : Type 0} (line line' : LineModel) (signer : SignerModel D) (ticket : Option ℕ) (own own' : WorkspaceModel) → SameLine line line' → SameOwn own own'
     → client_model line' signer ticket own' ≡ client_model line signer ticket own
 same_model line line' signer ticket own own' lines owns =
     ap (λ (l : LineModel). client_model l signer ticket own') (sym (line_same line line' lines))
-    ∙ ap (λ (w : Workspace). client_model (line_with line'.spare line.genesis line.kit line.entries) signer ticket w) (sym (own_same own own' owns))
+    ∙ ap (λ (w : WorkspaceModel). client_model (line_with line'.spare line.genesis line.kit line.entries) signer ticket w) (sym (own_same own own' owns))
 
 -- ---- what a call comes to
 
 -- the model with one event more
-abbrev pub more_with : {D : Type 0} → LineModel → SignerContent D → Option ℕ → Workspace → Logged → ClientModel D
+abbrev pub more_with : {D : Type 0} → LineModel → SignerModel D → Option ℕ → WorkspaceModel → Logged → ClientModel D
 more_with line signer ticket own event = record (client_model line signer ticket own) { log = log_of line.entries own.journal ++ event ∷ [] }
 
-abbrev model_with : {D : Type 0} → SignerContent D → Option ℕ → Opening → List Logged → ClientModel D
+abbrev model_with : {D : Type 0} → SignerModel D → Option ℕ → Opening → List Logged → ClientModel D
 model_with signer ticket opening log = record { opening = opening; log = log; leaves = signer.leaves; ticket = ticket }
 
-pub model_more : {D : Type 0} (line line' : LineModel) (signer : SignerContent D) (ticket : Option ℕ) (own own' : Workspace) (event : Logged) → Recorded line line' signer signer ticket own own' event
+pub model_more : {D : Type 0} (line line' : LineModel) (signer : SignerModel D) (ticket : Option ℕ) (own own' : WorkspaceModel) (event : Logged) → Recorded line line' signer signer ticket own own' event
     → client_model line' signer ticket own' ≡ more_with line signer ticket own event
 model_more line line' signer ticket own own' event did =
     ap (λ (o : Opening). model_with signer ticket o (log_of line'.entries own'.journal)) did.opening_is ∙ ap (model_with signer ticket (opening_of line signer)) did.log_is
@@ -263,20 +263,20 @@ pub accept_room : (events : ℕ) (refusal : Option Refusal) → or_full (nat_lt 
 accept_room events refusal h = ltb-true events MAX_EVENTS (room_left (nat_lt events MAX_EVENTS) refusal h)
 
 -- what the code settles on is what the definition does
-pub coming_there : (line : LineModel) (own : Workspace) (p : PreparedModel) (bytes : List ℕ) (me : ℕ) (coming : Coming) → p.checked.bytes ≡ bytes → me ≡ line.kit.me
+pub coming_there : (line : LineModel) (own : WorkspaceModel) (p : PreparedModel) (bytes : List ℕ) (me : ℕ) (coming : Coming) → p.checked.bytes ≡ bytes → me ≡ line.kit.me
     → coming ≡ coming_of (is_same_as own.flight bytes) (is_some (change_of p.checked.entry)) (p.checked.entry.header.author == me) p.form own.pending → coming ≡ coming_at line own p
 coming_there line own p bytes me coming is me_is settled =
     settled
     ∙ ap (λ (b : List ℕ). coming_of (is_same_as own.flight b) (is_some (change_of p.checked.entry)) (p.checked.entry.header.author == me) p.form own.pending) (sym is)
     ∙ ap (λ (n : ℕ). coming_of (is_same_as own.flight p.checked.bytes) (is_some (change_of p.checked.entry)) (p.checked.entry.header.author == n) p.form own.pending) me_is
 
-pub form_there : (own : Workspace) (p : PreparedModel) (bytes : List ℕ) (form : List Mark) → p.checked.bytes ≡ bytes
+pub form_there : (own : WorkspaceModel) (p : PreparedModel) (bytes : List ℕ) (form : List Mark) → p.checked.bytes ≡ bytes
     → form ≡ shown_form (is_same_as own.flight bytes) (is_some (change_of p.checked.entry)) (length (text_after own.shown)) p.form own.pending → form ≡ form_at own p
 form_there own p bytes form is settled =
     settled ∙ ap (λ (b : List ℕ). shown_form (is_same_as own.flight b) (is_some (change_of p.checked.entry)) (length (text_after own.shown)) p.form own.pending) (sym is)
 
 -- the steps of taking an entry: the line and the own part as they were, once memory is taken, and afterwards
-pub record Takes (line line1 line' : LineModel) (own own1 own' : Workspace) (p : PreparedModel) (bytes : List ℕ) (me by place : ℕ) (coming : Coming) (form ready : List Mark) : Type 0 where
+pub record Takes (line line1 line' : LineModel) (own own1 own' : WorkspaceModel) (p : PreparedModel) (bytes : List ℕ) (me by place : ℕ) (coming : Coming) (form ready : List Mark) : Type 0 where
   pub bytes_are : p.checked.bytes ≡ bytes
   pub lines : SameLine line line1
   pub me_is : me ≡ line1.kit.me
@@ -293,7 +293,7 @@ pub record Takes (line line1 line' : LineModel) (own own1 own' : Workspace) (p :
   pub shown : own'.shown ≡ own1.shown ++ ready ∷ []
   pub journal : own'.journal ≡ own1.journal ++ events.Accept by place ∷ []
 
-pub accept_recorded : {D : Type 0} (line line1 line' : LineModel) (signer : SignerContent D) (ticket : Option ℕ) (own own1 own' : Workspace) (p : PreparedModel) (bytes : List ℕ) (me by place : ℕ) (coming : Coming) (form ready : List Mark)
+pub accept_recorded : {D : Type 0} (line line1 line' : LineModel) (signer : SignerModel D) (ticket : Option ℕ) (own own1 own' : WorkspaceModel) (p : PreparedModel) (bytes : List ℕ) (me by place : ℕ) (coming : Coming) (form ready : List Mark)
     → ClientInvariant line signer ticket own → IsPrepared line.genesis line.kit line.entries p → length own.shown < MAX_EVENTS
     → Takes line line1 line' own own1 own' p bytes me by place coming form ready → Recorded line line' signer signer ticket own own' (Accept by p.checked.bytes)
 accept_recorded line line1 line' signer ticket own own1 own' p bytes me by place coming form ready known prepared room takes =

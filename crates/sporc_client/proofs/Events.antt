@@ -3,17 +3,19 @@ use Rattle.std.proofs.Common.{◌≡◌, ℕ, ◌+◌, ◌<◌, ◌≤◌, ◌^�
 use Rattle.std.proofs.lemmas.Bool.{lt-ltb}
 use Rattle.std.proofs.lemmas.List.{append-nil as append_nil, take-append-drop}
 use Rattle.std.proofs.lemmas.List.Elements.{filter_map-append}
-use Rattle.lms_sign.specs.Signer.{SignerContent}
+use Rattle.lms_sign.specs.Signer.{SignerModel}
 use Rattle.sporc_base.specs.FirstFault.{first_of}
+use Rattle.sporc_delta.specs.declared.limits.TheConstants.{MAX_TEXT_LEN}
 use Rattle.sporc_delta.specs.Marks.{Mark, base_len, inserted_len, replacement, retains}
 use Rattle.sporc_delta.proofs.Lengths.{base_len-retains}
 use Rattle.sporc_suffix.specs.Forms.{all_inserted, later_over, reached}
+use Rattle.sporc_suffix.proofs.Following.{Follow-take}
 use Rattle.sporc_member.specs.declared.change.Change.{Change as MemberChange}
 use Rattle.sporc_line.specs.Document.{text_after}
 use Rattle.sporc_line.specs.LineModel.{LineModel}
 use Rattle.sporc_line.proofs.FormLengths.{all_inserted-append, length-text, reached-le}
 use Rattle.sporc_client.specs.declared.event.Event.TheVariants as events
-use Rattle.sporc_client.specs.declared.limits.TheConstants.{MAX_EVENTS}
+use Rattle.sporc_client.specs.declared.limits.TheConstants.{MAX_EVENTS, MAX_SHOWN_LEN}
 use Rattle.sporc_client.specs.declared.pending.Pending.TheVariants as items
 use Rattle.sporc_client.specs.Allowed.{allows}
 use Rattle.sporc_client.specs.Answers.{change_checks, edit_checks}
@@ -22,10 +24,10 @@ use Rattle.sporc_client.specs.ClientModel.{AreInOrder, leaf_in, leaves_of}
 use Rattle.sporc_client.specs.Log.{Logged, Edit, Change, Discard, log_of}
 use Rattle.sporc_client.specs.PlainClient.{PlainClient, committed_of, shown_of}
 use Rattle.sporc_client.specs.Step.{keeps, restated}
-use Rattle.sporc_client.specs.Workspace.{Workspace}
+use Rattle.sporc_client.specs.Workspace.{WorkspaceModel}
 use Rattle.sporc_client.proofs.Checked.{EditPassed, change_fault_is, change_passed, edit_fault_is, edit_passed}
 use Rattle.sporc_client.proofs.Kept.{Records}
-use Rattle.sporc_client.proofs.Shown.{LeadTo, base_len-replacement, base_restated, follow_take, length_shown}
+use Rattle.sporc_client.proofs.Shown.{LeadTo, base_len-replacement, base_restated, length_shown}
 use Rattle.sporc_client.proofs.Small.{change_small, discard_small, edit_small, inserted_len-bytes, length-shown, lengths}
 use Rattle.sporc_client.proofs.Soundness.{change_sound, discard_sound, edit_sound}
 
@@ -49,16 +51,16 @@ allowed_discard c by room = rw (lt-ltb (length c.shown) MAX_EVENTS room) refl
 pub record EditLimits (shown : List (List Mark)) (seen : ℕ) (marks : List Mark) : Type 0 where
   pub small : seen < 2 ^ 32
   pub base : base_len marks ≡ reached 0 (take seen shown)
-  pub limit : base_len marks + inserted_len marks + all_inserted (drop seen shown) ≤ 2 ^ 60
+  pub limit : base_len marks + inserted_len marks + all_inserted (drop seen shown) ≤ MAX_TEXT_LEN
   pub restated_base : base_len (later_over marks (drop seen shown)) ≡ reached 0 shown
 
-module _ {D : Type 0} (line : LineModel) (signer : SignerContent D) (ticket : Option ℕ) (own : Workspace) (known : ClientInvariant line signer ticket own) where
+module _ {D : Type 0} (line : LineModel) (signer : SignerModel D) (ticket : Option ℕ) (own : WorkspaceModel) (known : ClientInvariant line signer ticket own) where
   pub rises : (event : Logged) → leaf_in event ≡ None → AreInOrder signer.leaves.next_at_open signer.leaves.next ticket (leaves_of (log_of line.entries own.journal ++ event ∷ []))
   rises event none =
       let L : List ℕ → Type 0 = λ ns. AreInOrder signer.leaves.next_at_open signer.leaves.next ticket ns in
       subst L (sym (leaves_same (log_of line.entries own.journal) event none)) known.leaves
 
-  pub change_records : (own' : Workspace) (by : ℕ) (change : MemberChange) → first_of (change_checks (plain_of signer.key line own)) ≡ None
+  pub change_records : (own' : WorkspaceModel) (by : ℕ) (change : MemberChange) → first_of (change_checks (plain_of signer.key line own)) ≡ None
       → own'.pending ≡ own.pending ++ items.Change change ∷ [] → own'.flight ≡ own.flight → own'.shown ≡ own.shown ++ keeps (plain_of signer.key line own) ∷ []
       → own'.journal ≡ own.journal ++ events.Change by change ∷ [] → Records line line signer signer ticket own own' (Change by change)
   change_records own' by change checks pending flight shown journal =
@@ -81,7 +83,7 @@ module _ {D : Type 0} (line : LineModel) (signer : SignerContent D) (ticket : Op
   pub length_of_shown : length (text_after own.shown) ≡ length (shown_of (plain_of signer.key line own))
   length_of_shown = ap length known.sound.shown
 
-  pub shown_length : length (text_after own.shown) ≤ 2 ^ 35
+  pub shown_length : length (text_after own.shown) ≤ MAX_SHOWN_LEN
   shown_length =
       let c = plain_of signer.key line own in
       let l = lengths c known.small in
@@ -106,7 +108,7 @@ module _ {D : Type 0} (line : LineModel) (signer : SignerContent D) (ticket : Op
   edit_limits seen marks passed =
       let c = plain_of signer.key line own in
       let l = lengths c known.small in
-      let begin = follow_take 0 seen own.shown known.sound.follow in
+      let begin = Follow-take 0 seen own.shown known.sound.follow in
       let base : base_len marks ≡ reached 0 (take seen own.shown) = passed.base ∙ length-text (take seen own.shown) begin in
       let split : all_inserted own.shown ≡ all_inserted (take seen own.shown) + all_inserted (drop seen own.shown) =
       ap all_inserted (sym (take-append-drop seen own.shown)) ∙ all_inserted-append (take seen own.shown) (drop seen own.shown) in
@@ -117,7 +119,7 @@ module _ {D : Type 0} (line : LineModel) (signer : SignerContent D) (ticket : Op
         restated_base = base_restated own.shown (shown_of c) seen marks sound_leads passed.base ∙ sym reached_is;
       }
 
-  pub edit_records : (own' : Workspace) (by seen : ℕ) (marks : List Mark) → first_of (edit_checks (plain_of signer.key line own) seen marks) ≡ None
+  pub edit_records : (own' : WorkspaceModel) (by seen : ℕ) (marks : List Mark) → first_of (edit_checks (plain_of signer.key line own) seen marks) ≡ None
       → own'.pending ≡ own.pending ++ items.Edit (restated (plain_of signer.key line own) seen marks) ∷ [] → own'.flight ≡ own.flight
       → own'.shown ≡ own.shown ++ restated (plain_of signer.key line own) seen marks ∷ []
       → own'.journal ≡ own.journal ++ events.Edit by seen marks ∷ [] → Records line line signer signer ticket own own' (Edit by seen marks)
@@ -136,7 +138,7 @@ module _ {D : Type 0} (line : LineModel) (signer : SignerContent D) (ticket : Op
         leaves = rises (Edit by seen marks) refl;
       }
 
-  pub discard_records : (own' : Workspace) (by : ℕ) → length own.shown < MAX_EVENTS → own'.pending ≡ [] → own'.flight ≡ None
+  pub discard_records : (own' : WorkspaceModel) (by : ℕ) → length own.shown < MAX_EVENTS → own'.pending ≡ [] → own'.flight ≡ None
       → own'.shown ≡ own.shown ++ replacement (length (shown_of (plain_of signer.key line own))) (committed_of (plain_of signer.key line own)) ∷ []
       → own'.journal ≡ own.journal ++ events.Discard by ∷ [] → Records line line signer signer ticket own own' (Discard by)
   discard_records own' by room pending flight shown journal =

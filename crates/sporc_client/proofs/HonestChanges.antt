@@ -4,7 +4,7 @@ use Rattle.std.specs.Prelude.{Contains, find, is_some, option_map, unwrap_or, �
 use Rattle.std.specs.FinMap.{get}
 use Rattle.std.specs.Int.{w16, to_be_bytes}
 use Rattle.std.specs.List.{AllByRecursion, cons_option, flat_map, list_any}
-use Rattle.std.proofs.lemmas.Bool.{eqb-true}
+use Rattle.std.proofs.lemmas.Bool.{and_from, eqb-true}
 use Rattle.std.proofs.lemmas.List.Concat.{flat_map-cons}
 use Rattle.std.proofs.lemmas.Slice.Eq.{bytes_eq-Decides}
 use Rattle.sha2.proofs.Facts256.{length-sha256}
@@ -164,10 +164,6 @@ member_opens roster s pairs mine me named none there pair =
     let at : Contains s.members me = subst (λ (ns : List ℕ). Contains ns me) (sym named) (member_in me (after_change roster s.change).members there) in
     new_opens s pairs mine (body_sealed s pairs) me (sealed_change_of s pairs none) at pair
 
-both : (a b : Bool) → a ≡ true → b ≡ true → (a && b) ≡ true
-both true b p q = q
-both false b p q = absurd cc
-
 -- the new key meets its commitment and opens the one before
 commits : (s : Sealing) (pairs : Keys) → commitment_of s.document (s.epoch + 1) s.new ≡ (body_sealed s pairs).commitment
 unfolding body_sealed
@@ -175,7 +171,7 @@ commits s pairs = refl
 
 pub key_is_new : (s : Sealing) (pairs : Keys) → least_unpaired pairs s.members ≡ None → is_new_key s.document (s.epoch + 1) (body_sealed s pairs) (Some s.old) (Some s.new) ≡ true
 key_is_new s pairs none =
-    both _ _ ((bytes_eq-Decides _ _).1 (commits s pairs)) ((bytes_eq-Decides _ _).1 (previous_opens s pairs (body_sealed s pairs) (sealed_change_of s pairs none)))
+    and_from _ _ ((bytes_eq-Decides _ _).1 (commits s pairs)) ((bytes_eq-Decides _ _).1 (previous_opens s pairs (body_sealed s pairs) (sealed_change_of s pairs none)))
 
 -- so the checks of the key hold for a member that the change removes, and for one that finds the new key
 pub keys_fine : (document : List ℕ) (me epoch : ℕ) (c : ChangeBody) (old key : Option (List ℕ)) → (removes me c.change ≡ false → (is_some key ≡ true) × (is_new_key document epoch c old key ≡ true))

@@ -2,7 +2,7 @@
 use Rattle.std.proofs.Common.{◌≡◌, ℕ, zero, suc, ◌^◌, ◌<◌, ◌≤◌, Bool, true, false, ◌&&◌, List, ◌++◌, length, refl, ap, ◌∙◌, arith, Some, length-append}
 use Rattle.std.specs.Prelude.{IsTrue}
 use Rattle.std.specs.Int.{w32, from_be_bytes, to_be_bytes}
-use Rattle.std.proofs.lemmas.Bool.{eq-eqb, le-leb}
+use Rattle.std.proofs.lemmas.Bool.{and_from, eq-eqb, le-leb}
 use Rattle.std.proofs.lemmas.Nat.{from_be_bytes-to_be_bytes_4}
 use Rattle.sha2.proofs.Facts256.{length-sha256}
 use Rattle.lms_ots.specs.declared.ots_type.OtsType.{OtsType}
@@ -68,18 +68,14 @@ begins_with_leaf key q c message small =
     (field_one (to_be_bytes w32 q) (ots_signature_of key.ots key.id q key.seed c message) (to_be_bytes w32 (lms_code_of key.lms)) (concatenated (sibling_value key q) (height_of key.lms)) 4 refl)
     ∙ from_be_bytes-to_be_bytes_4 q small
 
-both : (a b : Bool) → a ≡ true → b ≡ true → (a && b) ≡ true
-both true b p r = r
-both false b p r = absurd cc
-
 pub names_own_leaf : (key : LmsPrivate) (q : ℕ) (c message : List ℕ) → q < 2 ^ 32 → names_leaf q (lms_signature_of key q c message) ≡ true
 names_own_leaf key q c message small =
     let long : 4 ≤ length (lms_signature_of key q c message) = omega (arith, signature_len key q c message) in
-    both _ _ (le-leb 4 (length (lms_signature_of key q c message)) long) (eq-eqb (leaf_in (lms_signature_of key q c message)) q (begins_with_leaf key q c message small))
+    and_from _ _ (le-leb 4 (length (lms_signature_of key q c message)) long) (eq-eqb (leaf_in (lms_signature_of key q c message)) q (begins_with_leaf key q c message small))
 
 -- ---- and that it verifies
 
-root_len : (key : LmsPrivate) (k r : ℕ) → length (node_of key.ots key.id key.seed (height_of key.lms) k r) ≡ 32
+pub root_len : (key : LmsPrivate) (k r : ℕ) → length (node_of key.ots key.id key.seed (height_of key.lms) k r) ≡ 32
 unfolding node_of
 root_len key zero r = length-sha256 _
 root_len key (suc k) r = length-sha256 _

@@ -2,7 +2,7 @@
 use Rattle.std.proofs.Common.{◌≡◌, ℕ, ◌^◌, ◌<◌, Bool, true, false, if◌then◌else◌, List, [], ◌∷◌, ◌++◌, length, Option, IfSome, refl, ap, sym, ◌∙◌, subst}
 use Rattle.std.specs.Option.{is_some}
 use Rattle.lms_tree.specs.LmsType.{height_of}
-use Rattle.lms_sign.specs.Signer.{SignerContent}
+use Rattle.lms_sign.specs.Signer.{SignerModel}
 use Rattle.sporc_head.specs.History.{change_in}
 use Rattle.sporc_line.specs.LineModel.{LineModel}
 use Rattle.sporc_client.specs.Allowed.{allows, is_allowed}
@@ -13,10 +13,10 @@ use Rattle.sporc_client.specs.PlainClient.{Opening, PlainClient}
 use Rattle.sporc_client.specs.Small.{IsSmall}
 use Rattle.sporc_client.specs.Soundness.{IsSound}
 use Rattle.sporc_client.specs.Step.{change_comes, edit_comes, is_flight, own_comes, replay, step}
-use Rattle.sporc_client.specs.Workspace.{Workspace}
+use Rattle.sporc_client.specs.Workspace.{WorkspaceModel}
 use Rattle.sporc_client.proofs.Logs.{is_allowed_more, replay_more, stores_more}
 
-abbrev pub opening_of : {D : Type 0} → LineModel → SignerContent D → Opening
+abbrev pub opening_of : {D : Type 0} → LineModel → SignerModel D → Opening
 opening_of line signer = record { genesis = line.genesis; kit = line.kit; key = signer.key }
 
 -- no event changes what a client was opened with
@@ -25,7 +25,7 @@ accepted_opening c bytes true change = refl
 accepted_opening c bytes false true = refl
 accepted_opening c bytes false false = refl
 
-step_opening : (c : PlainClient) (event : Logged) → (step c event).opening ≡ c.opening
+pub step_opening : (c : PlainClient) (event : Logged) → (step c event).opening ≡ c.opening
 step_opening c (Edit by seen marks) = refl
 step_opening c (Change by change) = refl
 step_opening c (Submit by bytes) = refl
@@ -34,7 +34,7 @@ step_opening c (Accept by bytes) = accepted_opening c bytes (is_flight c bytes) 
 step_opening c (Discard by) = refl
 
 -- an event that the client allows, with what the fields become
-pub record Records {D : Type 0} (line line' : LineModel) (signer signer' : SignerContent D) (ticket' : Option ℕ) (own own' : Workspace) (event : Logged) : Type 0 where
+pub record Records {D : Type 0} (line line' : LineModel) (signer signer' : SignerModel D) (ticket' : Option ℕ) (own own' : WorkspaceModel) (event : Logged) : Type 0 where
   pub key : signer'.key ≡ signer.key
   pub entries : line'.entries ≡ line.entries ++ entries_by event
   pub journal : own'.journal ≡ own.journal ++ stored_event (length line.entries) event ∷ []
@@ -46,12 +46,12 @@ pub record Records {D : Type 0} (line line' : LineModel) (signer signer' : Signe
   pub leaves : AreInOrder signer'.leaves.next_at_open signer'.leaves.next ticket' (leaves_of (log_of line.entries own.journal ++ event ∷ []))
 
 -- what the fields are afterwards
-pub record Recorded {D : Type 0} (line line' : LineModel) (signer signer' : SignerContent D) (ticket' : Option ℕ) (own own' : Workspace) (event : Logged) : Type 0 where
+pub record Recorded {D : Type 0} (line line' : LineModel) (signer signer' : SignerModel D) (ticket' : Option ℕ) (own own' : WorkspaceModel) (event : Logged) : Type 0 where
   pub invariant : ClientInvariant line' signer' ticket' own'
   pub opening_is : opening_of line' signer' ≡ opening_of line signer
   pub log_is : log_of line'.entries own'.journal ≡ log_of line.entries own.journal ++ event ∷ []
 
-pub recorded : {D : Type 0} (line line' : LineModel) (signer signer' : SignerContent D) (ticket ticket' : Option ℕ) (own own' : Workspace) (event : Logged)
+pub recorded : {D : Type 0} (line line' : LineModel) (signer signer' : SignerModel D) (ticket ticket' : Option ℕ) (own own' : WorkspaceModel) (event : Logged)
     → ClientInvariant line signer ticket own → Records line line' signer signer' ticket' own own' event → Recorded line line' signer signer' ticket' own own' event
 recorded line line' signer signer' ticket ticket' own own' event known did =
     let log = log_of line.entries own.journal in

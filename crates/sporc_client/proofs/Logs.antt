@@ -1,5 +1,6 @@
 -- One more event of a log.
 use Rattle.std.proofs.Common.{◌≡◌, ℕ, ◌+◌, ◌-◌, Bool, true, false, ◌&&◌, List, [], ◌∷◌, ◌++◌, length, refl, ap, sym, ◌∙◌, subst, arith, append_assoc, length-append}
+use Rattle.std.proofs.lemmas.Bool.{and_parts}
 use Rattle.std.proofs.lemmas.List.{append-nil as append_nil}
 use Rattle.std.proofs.Math.Seq.{get_or-append_seam}
 use Rattle.std.specs.List.{slice_index_or}
@@ -69,10 +70,6 @@ stores_more log event entries journal is journal_is =
 
 -- ---- the replay
 
-and_true : (a b : Bool) → a && b ≡ true → (a ≡ true) × (b ≡ true)
-and_true true b h = (refl, h)
-and_true false b h = absurd cc
-
 pub replay_more : (opening : Opening) (log : List Logged) (event : Logged) → replay opening (log ++ event ∷ []) ≡ step (replay opening log) event
 unfolding replay
 replay_more opening log event = fold_more step (opened opening) log event
@@ -80,7 +77,7 @@ replay_more opening log event = fold_more step (opened opening) log event
 pub allowed_more : (c : PlainClient) (log : List Logged) (event : Logged) → allows_all c log ≡ true → allows (replay_from c log) event ≡ true → allows_all c (log ++ event ∷ []) ≡ true
 allowed_more c [] event so_far here = rw here refl
 allowed_more c (e ∷ log) event so_far here =
-    let both = and_true (allows c e) (allows_all (step c e) log) so_far in
+    let both = and_parts (allows c e) (allows_all (step c e) log) so_far in
     rw both.0 (allowed_more (step c e) log event both.1 here)
 
 pub is_allowed_more : (opening : Opening) (log : List Logged) (event : Logged) → is_allowed opening log ≡ true → allows (replay opening log) event ≡ true → is_allowed opening (log ++ event ∷ []) ≡ true

@@ -1,6 +1,6 @@
 -- What holds of a client that was just opened.
 use Rattle.std.proofs.Common.{◌≡◌, ℕ, true, List, [], length, None, refl, ap, sym, ◌∙◌, subst, arith}
-use Rattle.lms_sign.specs.Signer.{SignerContent}
+use Rattle.lms_sign.specs.Signer.{SignerModel}
 use Rattle.sporc_entry.specs.declared.genesis.Genesis.{Genesis}
 use Rattle.sporc_line.specs.Document.{forms_from, text_of}
 use Rattle.sporc_line.specs.Good.{Good}
@@ -12,7 +12,7 @@ use Rattle.sporc_client.specs.PlainClient.{Opening, PlainClient, opened}
 use Rattle.sporc_client.specs.Small.{IsSmall}
 use Rattle.sporc_client.specs.Soundness.{IsSound}
 use Rattle.sporc_client.specs.Step.{replay}
-use Rattle.sporc_client.specs.Workspace.{Workspace}
+use Rattle.sporc_client.specs.Workspace.{WorkspaceModel}
 
 no_text : (genesis : Genesis) (kit : Kit) → text_of genesis kit [] ≡ []
 unfolding forms_from
@@ -39,7 +39,7 @@ opened_small o = record {
   shown = omega arith;
 }
 
-pub opened_invariant : {D : Type 0} (line : LineModel) (signer : SignerContent D) (own : Workspace) → Good line.genesis line.kit line.entries → line.entries ≡ [] → own.pending ≡ [] → own.flight ≡ None → own.shown ≡ [] → own.journal ≡ []
+pub opened_invariant : {D : Type 0} (line : LineModel) (signer : SignerModel D) (own : WorkspaceModel) → Good line.genesis line.kit line.entries → line.entries ≡ [] → own.pending ≡ [] → own.flight ≡ None → own.shown ≡ [] → own.journal ≡ []
     → ClientInvariant line signer None own
 opened_invariant line signer own good entries pending flight shown journal =
     let o : Opening = record { genesis = line.genesis; kit = line.kit; key = signer.key } in

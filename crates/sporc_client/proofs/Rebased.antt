@@ -1,7 +1,8 @@
 -- Another's form and the pending items pass each other: both ways lead to one text.
-use Rattle.std.proofs.Common.{◌≡◌, ℕ, suc, ◌+◌, ◌^◌, ◌<◌, ◌≤◌, List, [], ◌∷◌, ◌++◌, length, drop, fold, get_or, refl, sym, ap, ◌∙◌, add-one, append_assoc, arith}
+use Rattle.std.proofs.Common.{◌≡◌, ℕ, suc, ◌+◌, ◌<◌, ◌≤◌, List, [], ◌∷◌, ◌++◌, length, drop, fold, get_or, refl, sym, ap, ◌∙◌, add-one, append_assoc, arith}
 use Rattle.std.proofs.Math.Seq.{drop-cons}
 use Rattle.std.specs.List.{flat_map}
+use Rattle.sporc_delta.specs.declared.limits.TheConstants.{MAX_TEXT_LEN}
 use Rattle.sporc_delta.specs.Marks.{Mark, Retain, Delete, Insert, apply, base_len, inserted_len}
 use Rattle.sporc_delta.specs.Transforms.{earlier, earlier_step, last_steps, later}
 use Rattle.sporc_xform.proofs.LawLemmas.{later_merges, earlier_merges}
@@ -73,12 +74,12 @@ inserted_len-earlier (Delete ∷ p) q = inserted_delete p (inserted_len-earlier 
 -- a form can pass these items
 pub record Fits (form : List Mark) (items : List Pending) : Type 0 where
   pub over : AreOver (base_len form) items
-  pub limit : base_len form + inserted_len form + inserted_by items ≤ 2 ^ 60
+  pub limit : base_len form + inserted_len form + inserted_by items ≤ MAX_TEXT_LEN
 
 -- what passing the first of some items leaves
 pub record FirstPassed (form : List Mark) (item : Pending) (items : List Pending) : Type 0 where
   pub over : AreOver (base_len form) (item ∷ [])
-  pub limit : base_len form + inserted_len form + inserted_by (item ∷ []) ≤ 2 ^ 60
+  pub limit : base_len form + inserted_len form + inserted_by (item ∷ []) ≤ MAX_TEXT_LEN
   pub rebased_is : rebased form (item ∷ items) ≡ rebased form (item ∷ []) ++ rebased (beyond form (item ∷ [])) items
   pub beyond_is : beyond form (item ∷ items) ≡ beyond (beyond form (item ∷ [])) items
   pub rest : Fits (beyond form (item ∷ [])) items

@@ -4,11 +4,12 @@ use Rattle.std.specs.Prelude.{◌==◌}
 use Rattle.std.specs.Option.{is_some}
 use Rattle.std.proofs.lemmas.List.{map-append}
 use Rattle.lms_tree.specs.LmsType.{height_of}
-use Rattle.lms_sign.specs.Signer.{SignerContent}
+use Rattle.lms_sign.specs.Signer.{SignerModel}
 use Rattle.sporc_hash.proofs.Lists.{from_end}
 use Rattle.std.specs.List.{slice_get}
 use Rattle.sporc_delta.specs.Marks.{Mark, base_len}
 use Rattle.sporc_suffix.specs.Forms.{Follow, reached}
+use Rattle.sporc_suffix.proofs.Following.{Follow-take}
 use Rattle.sporc_entry.specs.declared.change.ChangeBody.{ChangeBody}
 use Rattle.sporc_entry.specs.declared.entry.Entry.{Entry}
 use Rattle.sporc_entry.specs.declared.genesis.Genesis.{Genesis}
@@ -36,10 +37,9 @@ use Rattle.sporc_client.specs.PlainClient.{Opening, PlainClient, me_of}
 use Rattle.sporc_client.specs.Small.{IsSmall}
 use Rattle.sporc_client.specs.Soundness.{IsSound}
 use Rattle.sporc_client.specs.Step.{accepted, log_of_entries, replay, step}
-use Rattle.sporc_client.specs.Workspace.{Workspace}
+use Rattle.sporc_client.specs.Workspace.{WorkspaceModel}
 use Rattle.sporc_client.proofs.Accepting.{allowed_accept}
 use Rattle.sporc_client.proofs.Comings.{accepted_is, follow_last}
-use Rattle.sporc_client.proofs.Shown.{follow_take}
 use Rattle.sporc_client.proofs.Logs.{is_allowed_more, log_again, replay_more}
 use Rattle.sporc_client.proofs.TextLengths.{few_inserted, length-text_of}
 
@@ -130,7 +130,7 @@ next_form_at g kit A i form good at =
     let here : slice_get forms i ≡ Some form = ap (slice_get forms) (omega arith) ∙ at in
     let more : take (i + 1) forms ≡ take i forms ++ form ∷ [] = ap (λ (n : ℕ). take n forms) (add-one i) ∙ take_slice_get_more forms i form here in
     let F : List (List Mark) → Type 0 = λ fs. Follow 0 fs in
-    record { base = follow_last 0 (take i forms) form (subst F more (follow_take 0 (i + 1) forms (forms_follow g kit A good))); more = more }
+    record { base = follow_last 0 (take i forms) form (subst F more (Follow-take 0 (i + 1) forms (forms_follow g kit A good))); more = more }
 
 pub entries_of_accepts : (entries : List (List ℕ)) → accepted_in (log_of_entries entries) ≡ entries
 entries_of_accepts [] = refl
@@ -190,17 +190,12 @@ resumed_small o entries good few =
       shown = omega (arith, count, few_inserted o.genesis o.kit entries good);
     }
 
--- where nothing signed, a kept leaf is in order if it was before
-pub in_order_anew : (first end : ℕ) (ticket : Option ℕ) (signed : List ℕ) → AreInOrder first end ticket signed → AreInOrder first end ticket []
-in_order_anew first end None signed order = record { rise = tt; kept = tt }
-in_order_anew first end (Some leaf) signed order = record { rise = tt; kept = record { after = order.kept.after; drawn = order.kept.drawn; unsigned = tt } }
-
 -- with nothing signed the order stays
 pub order_anew : (first end : ℕ) (ticket : Option ℕ) (signed : List ℕ) → AreInOrder first end ticket signed → AreInOrder first end ticket []
 order_anew first end None signed order = record { rise = tt; kept = tt }
 order_anew first end (Some leaf) signed order = record { rise = tt; kept = record { after = order.kept.after; drawn = order.kept.drawn; unsigned = tt } }
 
-pub resumed_invariant : {D : Type 0} (line : LineModel) (signer : SignerContent D) (ticket : Option ℕ) (own : Workspace) → Good line.genesis line.kit line.entries → length line.entries ≤ MAX_ENTRIES
+pub resumed_invariant : {D : Type 0} (line : LineModel) (signer : SignerModel D) (ticket : Option ℕ) (own : WorkspaceModel) → Good line.genesis line.kit line.entries → length line.entries ≤ MAX_ENTRIES
     → own.pending ≡ [] → own.flight ≡ None → own.shown ≡ forms_of line.genesis line.kit line.entries → own.journal ≡ journal_of (log_of_entries line.entries)
     → IfSome ticket (λ leaf. leaf < 2 ^ height_of signer.key.lms) → AreInOrder signer.leaves.next_at_open signer.leaves.next ticket [] → ClientInvariant line signer ticket own
 resumed_invariant line signer ticket own good few pending flight shown journal unspent order =
@@ -224,7 +219,7 @@ resumed_invariant line signer ticket own good few pending flight shown journal u
     }
 
 -- what contracts see of it
-pub model_resumed : {D : Type 0} (line line' : LineModel) (signer : SignerContent D) (ticket : Option ℕ) (own own' : Workspace) → line'.genesis ≡ line.genesis → line'.kit ≡ line.kit
+pub model_resumed : {D : Type 0} (line line' : LineModel) (signer : SignerModel D) (ticket : Option ℕ) (own own' : WorkspaceModel) → line'.genesis ≡ line.genesis → line'.kit ≡ line.kit
     → own'.journal ≡ journal_of (log_of_entries line'.entries) → client_model line' signer ticket own' ≡ record (client_model line signer ticket own) { log = log_of_entries line'.entries }
 model_resumed {D} line line' signer ticket own own' genesis kit journal =
     let made : Genesis → Kit → List Logged → ClientModel D =

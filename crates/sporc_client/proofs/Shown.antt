@@ -4,9 +4,10 @@ use Rattle.std.specs.List.{slice_get}
 use Rattle.sporc_line.proofs.Lists.{take_slice_get_more}
 use Rattle.std.proofs.lemmas.List.{take-append-drop}
 use Rattle.sporc_delta.specs.Marks.{Mark, apply, base_len, inserts, out_len, replacement, retains}
-use Rattle.sporc_delta.proofs.Lengths.{base_len-retains}
+use Rattle.sporc_delta.proofs.Lengths.{base_len-inserts, base_len-retains}
 use Rattle.sporc_suffix.specs.Forms.{Follow, later_over, reached}
 use Rattle.sporc_suffix.proofs.Passing.{Follow-append, Follow-drop}
+use Rattle.sporc_suffix.proofs.Following.{Follow-take, reached-append}
 use Rattle.sporc_line.specs.Document.{text_after}
 use Rattle.sporc_line.proofs.FormLengths.{base_len-over, length-text}
 
@@ -26,17 +27,9 @@ pub apply-replacement : (s t : List ℕ) → apply (replacement (length s) t) s 
 apply-replacement [] t = apply-inserts t
 apply-replacement (c ∷ s) t = apply-replacement s t
 
-pub base_len-inserts : (t : List ℕ) → base_len (inserts t) ≡ 0
-base_len-inserts [] = refl
-base_len-inserts (c ∷ t) = base_len-inserts t
-
 pub base_len-replacement : (n : ℕ) (t : List ℕ) → base_len (replacement n t) ≡ n
 base_len-replacement zero t = base_len-inserts t
 base_len-replacement (suc n) t = ap suc (base_len-replacement n t)
-
-reached-append : (base : ℕ) (fs gs : List (List Mark)) → reached base (fs ++ gs) ≡ reached (reached base fs) gs
-reached-append base [] gs = refl
-reached-append base (f ∷ fs) gs = reached-append (out_len f) fs gs
 
 -- the forms so far lead to a text
 pub record LeadTo (forms : List (List Mark)) (text : List ℕ) : Type 0 where
@@ -58,16 +51,11 @@ leads_on forms form text next leads base is = record {
 pub leads_on_same : (forms : List (List Mark)) (text : List ℕ) → LeadTo forms text → LeadTo (forms ++ retains (length text) ∷ []) text
 leads_on_same forms text leads = leads_on forms (retains (length text)) text text leads (base_len-retains (length text)) (apply-retains text)
 
-pub follow_take : (base n : ℕ) (fs : List (List Mark)) → Follow base fs → Follow base (take n fs)
-follow_take base zero fs h = tt
-follow_take base (suc n) [] h = tt
-follow_take base (suc n) (f ∷ fs) h = (h.0, follow_take (out_len f) n fs h.1)
-
 -- marks stated after the first forms, restated behind the others
 pub base_restated : (forms : List (List Mark)) (text : List ℕ) (seen : ℕ) (marks : List Mark) → LeadTo forms text
     → base_len marks ≡ length (text_after (take seen forms)) → base_len (later_over marks (drop seen forms)) ≡ length text
 base_restated forms text seen marks leads base =
-    let begin : Follow 0 (take seen forms) = follow_take 0 seen forms leads.follow in
+    let begin : Follow 0 (take seen forms) = Follow-take 0 seen forms leads.follow in
     let from : base_len marks ≡ reached 0 (take seen forms) = base ∙ length-text (take seen forms) begin in
     let P : ℕ → Type 0 = λ n. Follow n (drop seen forms) in
     base_len-over marks (drop seen forms) (subst P (sym from) (Follow-drop 0 seen forms leads.follow))
@@ -84,4 +72,4 @@ reached_last forms m n form next is =
 
 -- so the text after the first forms is as long
 pub length_last : (forms : List (List Mark)) (m n : ℕ) (form : List Mark) → Follow 0 forms → n + 1 ≡ m → slice_get forms n ≡ Some form → length (text_after (take m forms)) ≡ out_len form
-length_last forms m n form follow next is = length-text (take m forms) (follow_take 0 m forms follow) ∙ reached_last forms m n form next is
+length_last forms m n form follow next is = length-text (take m forms) (Follow-take 0 m forms follow) ∙ reached_last forms m n form next is

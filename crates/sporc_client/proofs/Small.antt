@@ -15,9 +15,10 @@ use Rattle.sporc_delta.proofs.Runs.{marks_of-runs}
 use Rattle.sporc_xform.proofs.LengthLemmas.{inserted_len-later, out_len-le}
 use Rattle.sporc_suffix.specs.Forms.{all_inserted}
 use Rattle.sporc_head.specs.declared.limits.TheConstants.{MAX_ENTRIES}
-use Rattle.sporc_line.proofs.FormLengths.{all_inserted-append, inserted_len-over, inserted_len-retains, length-apply}
+use Rattle.sporc_delta.proofs.Lengths.{inserted_len-retains, inserted_len-append, inserted_len-deletes, inserted_len-inserts}
+use Rattle.sporc_line.proofs.FormLengths.{all_inserted-append, inserted_len-over, length-apply}
 use Rattle.sporc_member.specs.declared.change.Change.{Change as MemberChange}
-use Rattle.sporc_client.specs.declared.limits.TheConstants.{MAX_EDIT_BYTES, MAX_EVENTS, MAX_HEAD_BYTES, MAX_PENDING}
+use Rattle.sporc_client.specs.declared.limits.TheConstants.{MAX_EDIT_BYTES, MAX_EVENTS, MAX_HEAD_BYTES, MAX_PENDING, MAX_SHOWN_LEN}
 use Rattle.sporc_client.specs.declared.pending.Pending.{Pending}
 use Rattle.sporc_client.specs.declared.pending.Pending.TheVariants as items
 use Rattle.sporc_client.specs.Log.{Edit, Change, Discard}
@@ -29,28 +30,9 @@ use Rattle.sporc_client.proofs.Rebased.{inserted_len-earlier}
 
 -- ---- a delta inserts no more characters than it has bytes
 
-inserted_len-append : (ms ns : List Mark) → inserted_len (ms ++ ns) ≡ inserted_len ms + inserted_len ns
-inserted_len-append [] ns = omega arith
-inserted_len-append (Retain ∷ ms) ns = inserted_len-append ms ns
-inserted_len-append (Delete ∷ ms) ns = inserted_len-append ms ns
-inserted_len-append (Insert c ∷ ms) ns = omega (arith, inserted_len-append ms ns)
-
-inserted_len-deletes : (n : ℕ) → inserted_len (deletes n) ≡ 0
-inserted_len-deletes zero = refl
-inserted_len-deletes (suc n) = inserted_len-deletes n
-
-inserted_len-inserts : (text : List ℕ) → inserted_len (inserts text) ≡ length text
-inserted_len-inserts [] = refl
-inserted_len-inserts (c ∷ text) = ap suc (inserted_len-inserts text)
-
 length-encode_all : (text : List ℕ) → length text ≤ length (encode_utf8_all text)
 length-encode_all [] = omega arith
 length-encode_all (c ∷ text) = omega (arith, length-encode_all text, length-append (encode_utf8 c) (encode_utf8_all text), length-encode c, len_utf8_bounds c)
-
--- a character has at most four bytes
-pub encode_all-le : (text : List ℕ) → length (encode_utf8_all text) ≤ 4 * length text
-encode_all-le [] = omega arith
-encode_all-le (c ∷ text) = omega (arith, encode_all-le text, length-append (encode_utf8 c) (encode_utf8_all text), length-encode c, len_utf8_bounds c)
 
 inserted_len-part : (p : Part) → inserted_len (part_marks p) ≤ length (part_bytes p)
 inserted_len-part (Keep n) = omega (arith, inserted_len-retains n)
@@ -70,12 +52,12 @@ inserted_len-replacement n text = omega (arith, inserted_len-append (deletes n) 
 
 -- ---- pending items
 
-short_more : (pending : List Pending) (marks : List Mark) → AreShort pending → inserted_len marks ≤ MAX_EDIT_BYTES → AreShort (pending ++ items.Edit marks ∷ [])
-short_more [] marks short few = (few, tt)
-short_more (items.Edit m ∷ ps) marks short few = (short.0, short_more ps marks short.1 few)
-short_more (items.Change c ∷ ps) marks short few = short_more ps marks short few
+pub short_edit : (pending : List Pending) (marks : List Mark) → AreShort pending → inserted_len marks ≤ MAX_EDIT_BYTES → AreShort (pending ++ items.Edit marks ∷ [])
+short_edit [] marks short few = (few, tt)
+short_edit (items.Edit m ∷ ps) marks short few = (short.0, short_edit ps marks short.1 few)
+short_edit (items.Change c ∷ ps) marks short few = short_edit ps marks short few
 
-short_change : (pending : List Pending) (change : MemberChange) → AreShort pending → AreShort (pending ++ items.Change change ∷ [])
+pub short_change : (pending : List Pending) (change : MemberChange) → AreShort pending → AreShort (pending ++ items.Change change ∷ [])
 short_change [] change short = tt
 short_change (items.Edit m ∷ ps) change short = (short.0, short_change ps change short.1)
 short_change (items.Change c ∷ ps) change short = short_change ps change short
@@ -122,7 +104,7 @@ pub lengths : (c : PlainClient) → IsSmall c → Lengths c
 lengths c small =
     let a : MAX_HEAD_BYTES * length c.entries ≤ MAX_HEAD_BYTES * MAX_ENTRIES = mul-le-mul_left MAX_HEAD_BYTES small.entries in
     let b : MAX_EDIT_BYTES * length c.pending ≤ MAX_EDIT_BYTES * MAX_PENDING = mul-le-mul_left MAX_EDIT_BYTES small.pending in
-    let d : 2 ^ 35 * length c.shown ≤ 2 ^ 35 * MAX_EVENTS = mul-le-mul_left (2 ^ 35) small.events in
+    let d : MAX_SHOWN_LEN * length c.shown ≤ MAX_SHOWN_LEN * MAX_EVENTS = mul-le-mul_left MAX_SHOWN_LEN small.events in
     record {
       committed = omega (arith, a, small.committed);
       pending = omega (arith, b, inserted_by-short c.pending small.short);
@@ -133,9 +115,9 @@ lengths c small =
 
 pub record FewMore (forms : List (List Mark)) (form : List Mark) : Type 0 where
   pub events : length (forms ++ form ∷ []) ≤ MAX_EVENTS
-  pub inserted : all_inserted (forms ++ form ∷ []) ≤ 2 ^ 35 * length (forms ++ form ∷ [])
+  pub inserted : all_inserted (forms ++ form ∷ []) ≤ MAX_SHOWN_LEN * length (forms ++ form ∷ [])
 
-pub few_more : (forms : List (List Mark)) (form : List Mark) → length forms < MAX_EVENTS → all_inserted forms ≤ 2 ^ 35 * length forms → inserted_len form ≤ 2 ^ 35 → FewMore forms form
+pub few_more : (forms : List (List Mark)) (form : List Mark) → length forms < MAX_EVENTS → all_inserted forms ≤ MAX_SHOWN_LEN * length forms → inserted_len form ≤ MAX_SHOWN_LEN → FewMore forms form
 few_more forms form room few here = record {
   events = omega (arith, room, length-append forms (form ∷ []));
   inserted = omega (arith, few, here, all_inserted-append forms (form ∷ []), length-append forms (form ∷ []));
@@ -150,7 +132,7 @@ edit_small c by seen marks small pending events bytes =
       entries = small.entries;
       committed = small.committed;
       pending = omega (arith, pending, length-append c.pending (items.Edit (restated c seen marks) ∷ []));
-      short = short_more c.pending (restated c seen marks) small.short few;
+      short = short_edit c.pending (restated c seen marks) small.short few;
       events = more.events;
       shown = more.inserted;
     }

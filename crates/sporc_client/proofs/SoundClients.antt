@@ -199,7 +199,7 @@ bytes_take zero entries all = tt
 bytes_take (suc k) [] all = tt
 bytes_take (suc k) (b ∷ entries) all = (all.0, bytes_take k entries all.1)
 
-none_of : {X : Type 0} (o : Option X) → is_none o ≡ true → o ≡ None
+pub none_of : {X : Type 0} (o : Option X) → is_none o ≡ true → o ≡ None
 none_of None h = refl
 none_of (Some x) h = absurd cc
 

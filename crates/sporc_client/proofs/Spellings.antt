@@ -4,7 +4,7 @@ use Rattle.std.specs.Prelude.{⊤}
 use Rattle.std.specs.List.{AllByRecursion, flat_map}
 use Rattle.std.specs.Int.{w64, to_be_bytes}
 use Rattle.std.specs.Str.{all_scalars, encode_utf8_all}
-use Rattle.std.proofs.lemmas.Bool.{and_parts}
+use Rattle.std.proofs.lemmas.Bool.{and_from, and_parts}
 use Rattle.sporc_delta.specs.declared.limits.TheConstants.{MAX_COUNT}
 use Rattle.sporc_delta.specs.declared.part.Part.{Part}
 use Rattle.sporc_delta.specs.declared.part.Part.TheVariants.{Keep, Insert as InsertText, Remove}
@@ -15,7 +15,7 @@ use Rattle.sporc_delta.specs.Transforms.{earlier, last_steps, later, later_step}
 use Rattle.sporc_delta.specs.Typed.{IsTypedDelta, IsTypedPart}
 use Rattle.sporc_delta.proofs.Lengths.{base_len-append, base_len-deletes, base_len-retains}
 use Rattle.sporc_delta.proofs.Runs.{marks_of-runs}
-use Rattle.sporc_delta.proofs.Typing.{inserted, inserted-append, inserted-deletes, inserted-inserts, inserted-retains}
+use Rattle.sporc_delta.proofs.Typing.{inserted, inserted-append, inserted-deletes, inserted-inserts, inserted-retains, scalars_append}
 use Rattle.sporc_suffix.specs.Forms.{later_over}
 use Rattle.sporc_member.specs.declared.change.Change.{Change as MemberChange}
 use Rattle.sporc_client.specs.declared.pending.Pending.{Pending}
@@ -28,19 +28,11 @@ use Rattle.sporc_client.specs.Typed.{IsTypedChange}
 abbrev pub HasScalars : List Mark → Type 0
 HasScalars marks = all_scalars (inserted marks) ≡ true
 
-scalars_append : (xs ys : List ℕ) → all_scalars (xs ++ ys) ≡ (all_scalars xs && all_scalars ys)
-scalars_append [] ys = refl
-scalars_append (x ∷ xs) ys = grind (arith, scalars_append xs ys)
-
-both_true : (a b : Bool) → a ≡ true → b ≡ true → (a && b) ≡ true
-both_true true b p q = q
-both_true false b p q = absurd cc
-
 scalars_of_parts : (ps : List Part) → AllByRecursion IsTypedPart ps → HasScalars (marks_of ps)
 scalars_of_parts [] typed = refl
 scalars_of_parts (p ∷ ps) typed =
     ap all_scalars (inserted-append (part_marks p) (marks_of ps)) ∙ scalars_append (inserted (part_marks p)) (inserted (marks_of ps))
-    ∙ both_true (all_scalars (inserted (part_marks p))) (all_scalars (inserted (marks_of ps))) (of_part p typed.0) (scalars_of_parts ps typed.1)
+    ∙ and_from (all_scalars (inserted (part_marks p))) (all_scalars (inserted (marks_of ps))) (of_part p typed.0) (scalars_of_parts ps typed.1)
   where
     of_part : (p : Part) → IsTypedPart p → all_scalars (inserted (part_marks p)) ≡ true
     of_part (Keep n) typed = ap all_scalars (inserted-retains n)
@@ -56,7 +48,7 @@ scalar_front : (c : ℕ) (text : List ℕ) (rest : List ℕ) → all_scalars (c 
 scalar_front c text rest all more =
     let split : (all_scalars (c ∷ []) && all_scalars text) ≡ true = sym (scalars_append (c ∷ []) text) ∙ all in
     let p = and_parts (all_scalars (c ∷ [])) (all_scalars text) split in
-    scalars_append (c ∷ []) rest ∙ both_true (all_scalars (c ∷ [])) (all_scalars rest) p.0 (more p.1)
+    scalars_append (c ∷ []) rest ∙ and_from (all_scalars (c ∷ [])) (all_scalars rest) p.0 (more p.1)
 
 last_scalars : (q : List Mark) → HasScalars q → HasScalars (flat_map later_step (last_steps q))
 last_scalars [] h = refl

@@ -8,7 +8,7 @@ use Rattle.sporc_entry.specs.Entry.{counted_bytes, entry_bytes, header_bytes, si
 use Rattle.sporc_entry.proofs.Written.{header_bytes-append}
 use Rattle.sporc_client.specs.declared.client.submitting.draft.Draft.{Draft}
 use Rattle.sporc_client.specs.declared.client.submitting.draft.Made.{Made}
-use Rattle.sporc_client.specs.Drafts.{AreCopies, IsDraft, front_bytes}
+use Rattle.sporc_client.specs.Drafts.{AreCopies, IsDraft, prefix_bytes}
 
 pub signed_some : (e : Entry) → 1 ≤ length (signed_string e)
 unfolding signed_string
@@ -20,7 +20,7 @@ header_then h xs ys = ap (λ (bs : List ℕ). bs ++ ys) (sym (header_bytes-appen
 counted_then : (xs ys : List ℕ) → counted_bytes xs [] ++ ys ≡ counted_bytes xs ys
 counted_then xs ys = append_assoc (to_be_bytes w32 (length xs)) (xs ++ []) ys ∙ ap (λ (bs : List ℕ). to_be_bytes w32 (length xs) ++ (bs ++ ys)) (append-nil xs)
 
-pub finished : (e : Entry) (n : ℕ) (signature : List ℕ) → n ≡ length signature → front_bytes n (signed_string e) ++ signature ≡ entry_bytes (record e { signature = signature })
+pub finished : (e : Entry) (n : ℕ) (signature : List ℕ) → n ≡ length signature → prefix_bytes n (signed_string e) ++ signature ≡ entry_bytes (record e { signature = signature })
 unfolding entry_bytes signed_string
 finished e n signature is =
     let body = counted_bytes e.body [] in
@@ -36,7 +36,7 @@ pub are_copies : (e : Entry) (n : ℕ) (draft : Draft) (made : Made) (signature 
     → made.answer ≡ draft.answer.items ++ signature → made.flight ≡ draft.flight.items ++ signature → made.event ≡ draft.event.items ++ signature
     → AreCopies (entry_bytes (record e { signature = signed })) made
 are_copies e n draft made signature signed is len same answer flight event =
-    let whole : front_bytes n (signed_string e) ++ signature ≡ entry_bytes (record e { signature = signed }) =
+    let whole : prefix_bytes n (signed_string e) ++ signature ≡ entry_bytes (record e { signature = signed }) =
     finished e n signature (sym len) ∙ ap (λ (s : List ℕ). entry_bytes (record e { signature = s })) same in
     record {
       answer = answer ∙ ap (λ (bs : List ℕ). bs ++ signature) is.answer ∙ whole;

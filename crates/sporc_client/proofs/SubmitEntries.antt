@@ -5,7 +5,7 @@ use Rattle.std.specs.FinMap.{get}
 use Rattle.std.specs.Int.{w16, to_be_bytes}
 use Rattle.std.specs.List.{AllByRecursion, cons_option, flat_map}
 use Rattle.std.specs.Result.{result_ok}
-use Rattle.std.proofs.lemmas.Bool.{lt-ltb}
+use Rattle.std.proofs.lemmas.Bool.{and_from, lt-ltb}
 use Rattle.std.proofs.lemmas.List.{drop_at, length-take-le, take_at}
 use Rattle.std.proofs.lemmas.List.Concat.{flat_map-cons}
 use Rattle.std.proofs.lemmas.Slice.Eq.{bytes_eq-Decides}
@@ -224,10 +224,6 @@ pub submission_is : (c : PlainClient) (random : List ℕ) (leaf : ℕ) (item : P
 unfolding submission
 submission_is c random leaf item is = ap (answered c random (Ok leaf)) is
 
-both : (a b : Bool) → a ≡ true → b ≡ true → (a && b) ≡ true
-both true b p q = q
-both false b p q = absurd cc
-
 read_again : (c : PlainClient) (random : List ℕ) (leaf : ℕ) (item : Pending) → IsMaking c random leaf item → entry_of (bytes_made c (chosen_by random leaf) item) ≡ Ok (entry_made c (chosen_by random leaf) item)
 read_again c random leaf item m = entry_again (entry_made c (chosen_by random leaf) item) (made_is_entry c random leaf item m)
 
@@ -245,7 +241,7 @@ made_is_made c random leaf item m =
     let answer : submission c shown (Ok e.header.leaf) ≡ Ok (submitted.Entry bytes) =
     ap (λ (n : ℕ). submission c shown (Ok n)) here ∙ submission_is c shown leaf item m.is_due ∙ ap (λ (b : List ℕ). Ok (submitted.Entry b)) (made_again c random leaf item m) in
     let same : is_entry bytes (submission c shown (Ok e.header.leaf)) ≡ true = ap (is_entry bytes) answer ∙ (bytes_eq-Decides bytes bytes).1 refl in
-    ap (is_made c bytes) (read_again c random leaf item m) ∙ both (nat_lt e.header.leaf (2 ^ height_of c.opening.key.lms)) (is_entry bytes (submission c shown (Ok e.header.leaf))) few same
+    ap (is_made c bytes) (read_again c random leaf item m) ∙ and_from (nat_lt e.header.leaf (2 ^ height_of c.opening.key.lms)) (is_entry bytes (submission c shown (Ok e.header.leaf))) few same
 
 -- ---- and it is that of the first pending item
 

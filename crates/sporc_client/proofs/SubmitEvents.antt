@@ -6,8 +6,8 @@ use Rattle.std.proofs.lemmas.List.{append-nil as append_nil, length-drop}
 use Rattle.std.proofs.lemmas.List.Elements.{filter_map-append}
 use Rattle.lms_tree.specs.LmsPrivate.{LmsPrivate}
 use Rattle.lms_tree.specs.LmsType.{height_of}
-use Rattle.lms_leaf.specs.Leaves.{LeavesContent}
-use Rattle.lms_sign.specs.Signer.{SignerContent}
+use Rattle.lms_leaf.specs.Leaves.{LeavesModel}
+use Rattle.lms_sign.specs.Signer.{SignerModel}
 use Rattle.sporc_base.specs.FirstFault.{first_of}
 use Rattle.sporc_delta.specs.Marks.{retains}
 use Rattle.sporc_member.specs.declared.change.ChangeFault.{ChangeFault}
@@ -15,7 +15,7 @@ use Rattle.sporc_member.specs.ChangeFault.{change_fault_code_of}
 use Rattle.sporc_member.proofs.Checks.{passes}
 use Rattle.sporc_head.specs.declared.limits.TheConstants.{MAX_ENTRIES}
 use Rattle.sporc_line.specs.LineModel.{LineModel}
-use Rattle.sporc_line.proofs.FormLengths.{inserted_len-retains}
+use Rattle.sporc_delta.proofs.Lengths.{inserted_len-retains}
 use Rattle.sporc_client.specs.declared.event.Event.TheVariants as stored
 use Rattle.sporc_client.specs.declared.fault.SubmitFault.{SubmitFault}
 use Rattle.sporc_client.specs.declared.fault.SubmitFault.TheVariants.{HistoryFull, JournalFull, NoRight, Removed}
@@ -32,7 +32,7 @@ use Rattle.sporc_client.specs.PlainClient.{PlainClient, shown_of}
 use Rattle.sporc_client.specs.Small.{IsSmall}
 use Rattle.sporc_client.specs.Step.{keeps, step}
 use Rattle.sporc_client.specs.Submissions.{Due, Drop, Nothing, Refuse, Sign, Waiting, due, due_behind, first_due, is_signing, item_due, or_due, submit_checks}
-use Rattle.sporc_client.specs.Workspace.{Workspace}
+use Rattle.sporc_client.specs.Workspace.{WorkspaceModel}
 use Rattle.sporc_client.proofs.Events.{rises}
 use Rattle.sporc_client.proofs.Kept.{Records}
 use Rattle.sporc_client.proofs.Small.{few_more, short_drop}
@@ -110,8 +110,8 @@ submit_allowed c by leaf bytes is = is.allowed
 leaves_more : (log : List Logged) (event : Logged) (leaf : ℕ) → leaf_in event ≡ Some leaf → leaves_of (log ++ event ∷ []) ≡ leaves_of log ++ leaf ∷ []
 leaves_more log event leaf is = filter_map-append leaf_in log (event ∷ []) ∙ ap (λ (ns : List ℕ). leaves_of log ++ ns) (rw is refl)
 
-module _ {D : Type 0} (line : LineModel) (signer : SignerContent D) (ticket : Option ℕ) (own : Workspace) (known : ClientInvariant line signer ticket own) where
-  pub drop_records : (own' : Workspace) (by : ℕ) (fault : ChangeFault) → due (plain_of signer.key line own) ≡ Drop fault → own'.pending ≡ drop 1 own.pending → own'.flight ≡ own.flight
+module _ {D : Type 0} (line : LineModel) (signer : SignerModel D) (ticket : Option ℕ) (own : WorkspaceModel) (known : ClientInvariant line signer ticket own) where
+  pub drop_records : (own' : WorkspaceModel) (by : ℕ) (fault : ChangeFault) → due (plain_of signer.key line own) ≡ Drop fault → own'.pending ≡ drop 1 own.pending → own'.flight ≡ own.flight
       → own'.shown ≡ own.shown ++ keeps (plain_of signer.key line own) ∷ [] → own'.journal ≡ own.journal ++ stored.Dropped by fault ∷ [] → Records line line signer signer ticket own own' (Dropped by fault)
   drop_records own' by fault is pending flight shown journal =
       let c = plain_of signer.key line own in
@@ -130,7 +130,7 @@ module _ {D : Type 0} (line : LineModel) (signer : SignerContent D) (ticket : Op
         leaves = rises line signer ticket own known (Dropped by fault) refl;
       }
 
-  pub submit_records : (signer' : SignerContent D) (own' : Workspace) (by leaf : ℕ) (bytes : List ℕ) → signer'.key ≡ signer.key → IsSubmission (plain_of signer.key line own) leaf bytes
+  pub submit_records : (signer' : SignerModel D) (own' : WorkspaceModel) (by leaf : ℕ) (bytes : List ℕ) → signer'.key ≡ signer.key → IsSubmission (plain_of signer.key line own) leaf bytes
       → is_event (due (plain_of signer.key line own)) ≡ true → AreInOrder signer'.leaves.next_at_open signer'.leaves.next (Some leaf) (leaves_of (log_of line.entries own.journal))
       → own'.pending ≡ own.pending → own'.flight ≡ Some bytes → own'.shown ≡ own.shown ++ keeps (plain_of signer.key line own) ∷ []
       → own'.journal ≡ own.journal ++ stored.Submit by bytes ∷ [] → Records line line signer signer' None own own' (Submit by bytes)
@@ -153,7 +153,7 @@ module _ {D : Type 0} (line : LineModel) (signer : SignerContent D) (ticket : Op
 
   -- ---- leaves drawn, and tickets kept
 
-  with_leaves : (leaves' : LeavesContent D) (ticket' : Option ℕ) → IfSome ticket' (λ leaf. leaf < 2 ^ height_of signer.key.lms)
+  with_leaves : (leaves' : LeavesModel D) (ticket' : Option ℕ) → IfSome ticket' (λ leaf. leaf < 2 ^ height_of signer.key.lms)
       → AreInOrder leaves'.next_at_open leaves'.next ticket' (leaves_of (log_of line.entries own.journal)) → ClientInvariant line (record { key = signer.key; leaves = leaves' }) ticket' own
   with_leaves leaves' ticket' unspent order = record {
     stores = known.stores;
@@ -165,7 +165,7 @@ module _ {D : Type 0} (line : LineModel) (signer : SignerContent D) (ticket : Op
     leaves = order;
   }
 
-  pub same_key : (signer' : SignerContent D) (ticket' : Option ℕ) → signer'.key ≡ signer.key → IfSome ticket' (λ leaf. leaf < 2 ^ height_of signer.key.lms)
+  pub same_key : (signer' : SignerModel D) (ticket' : Option ℕ) → signer'.key ≡ signer.key → IfSome ticket' (λ leaf. leaf < 2 ^ height_of signer.key.lms)
       → AreInOrder signer'.leaves.next_at_open signer'.leaves.next ticket' (leaves_of (log_of line.entries own.journal)) → ClientInvariant line signer' ticket' own
   same_key signer' ticket' same unspent order =
       let P : LmsPrivate → Type 0 = λ key. ClientInvariant line (record { key = key; leaves = signer'.leaves }) ticket' own in

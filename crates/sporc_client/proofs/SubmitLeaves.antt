@@ -4,20 +4,20 @@ use Rattle.std.specs.Prelude.{IfSome, IsSomeAnd, ◌==◌}
 use Rattle.std.specs.Result.{result_ok}
 use Rattle.std.proofs.lemmas.Bool.{eq-eqb, eqb-false, eqb-true}
 use Rattle.lms_tree.specs.LmsType.{height_of}
-use Rattle.lms_leaf.specs.Leaves.{DrawFaults, Draws, LeavesContent}
+use Rattle.lms_leaf.specs.Leaves.{DrawFaults, Draws, LeavesModel}
 use Rattle.lms_leaf.specs.declared.faults.LeafFault.{LeafFault}
 use Rattle.lms_leaf.specs.declared.faults.LeafFault.TheVariants.{Exhausted, DiskFault}
-use Rattle.lms_sign.specs.Signer.{SignerContent}
+use Rattle.lms_sign.specs.Signer.{SignerModel}
 use Rattle.sporc_line.specs.LineModel.{LineModel}
 use Rattle.sporc_client.specs.ClientInvariant.{client_model, plain_of}
 use Rattle.sporc_client.specs.ClientModel.{AreInOrder, ClientModel, Rise, state_of}
 use Rattle.sporc_client.specs.Drawing.{IsDraw, MayDraw, at_hand, drawn, leaf_for}
 use Rattle.sporc_client.specs.PlainClient.{PlainClient}
-use Rattle.sporc_client.specs.Workspace.{Workspace}
+use Rattle.sporc_client.specs.Workspace.{WorkspaceModel}
 
 -- ---- what a draw answered is read off the leaf numbers
 
-module _ {D : Type 0} (stored : D → Option (List ℕ)) (moment : D → ℕ) (images : D → ℕ → List ℕ → Type 0) (faults : D → ℕ) (old new : LeavesContent D) where
+module _ {D : Type 0} (stored : D → Option (List ℕ)) (moment : D → ℕ) (images : D → ℕ → List ℕ → Type 0) (faults : D → ℕ) (old new : LeavesModel D) where
   abbrev by_tests : Bool → Bool → Result ℕ LeafFault
   by_tests full faulty = cond full (Err (Exhausted old.next)) (cond faulty (Err DiskFault) (Ok old.next))
 
@@ -60,7 +60,7 @@ module _ {D : Type 0} (stored : D → Option (List ℕ)) (moment : D → ℕ) (i
       }
 
 -- what may be drawn, where the leaves are those of the key and a kept ticket has one of them
-module _ {D : Type 0} (plain : PlainClient) (old new : LeavesContent D) (all : old.leaf_count ≡ 2 ^ height_of plain.opening.key.lms) (within : old.next ≤ old.leaf_count) where
+module _ {D : Type 0} (plain : PlainClient) (old new : LeavesModel D) (all : old.leaf_count ≡ 2 ^ height_of plain.opening.key.lms) (within : old.next ≤ old.leaf_count) where
   drawn_may : MayDraw plain (drawn old new)
   drawn_may = go (old.next == old.leaf_count) new.faulty refl
     where
@@ -74,7 +74,7 @@ module _ {D : Type 0} (plain : PlainClient) (old new : LeavesContent D) (all : o
   leaf_may None unspent = drawn_may
 
 -- so of a client whose fields hold these
-pub client_may : {D : Type 0} (line : LineModel) (signer : SignerContent D) (ticket : Option ℕ) (own : Workspace) (c : ClientModel D) (new : LeavesContent D)
+pub client_may : {D : Type 0} (line : LineModel) (signer : SignerModel D) (ticket : Option ℕ) (own : WorkspaceModel) (c : ClientModel D) (new : LeavesModel D)
     → client_model line signer ticket own ≡ c → plain_of signer.key line own ≡ state_of (client_model line signer ticket own)
     → signer.leaves.leaf_count ≡ 2 ^ height_of signer.key.lms → signer.leaves.next ≤ signer.leaves.leaf_count → IfSome ticket (λ leaf. leaf < 2 ^ height_of signer.key.lms)
     → MayDraw (state_of c) (leaf_for c.ticket c.leaves new)
@@ -83,7 +83,7 @@ client_may {D} line signer ticket own c new view state all within unspent =
     (subst (λ (plain : PlainClient). MayDraw plain (leaf_for ticket signer.leaves new)) state (leaf_may (plain_of signer.key line own) signer.leaves new all within ticket unspent))
 
 -- a submission for which no leaf was drawn
-pub no_leaf : {D : Type 0} (kept : Option ℕ) (old new : LeavesContent D) (fault : LeafFault) → ((leaf : ℕ) → kept ≡ Some leaf → Err fault ≡ Ok leaf) → (kept ≡ None → drawn old new ≡ Err fault) → leaf_for kept old new ≡ Err fault
+pub no_leaf : {D : Type 0} (kept : Option ℕ) (old new : LeavesModel D) (fault : LeafFault) → ((leaf : ℕ) → kept ≡ Some leaf → Err fault ≡ Ok leaf) → (kept ≡ None → drawn old new ≡ Err fault) → leaf_for kept old new ≡ Err fault
 no_leaf (Some leaf) old new fault is none = let no = is leaf refl in absurd cc
 no_leaf None old new fault is none = none refl
 
@@ -115,7 +115,7 @@ given_up first end ticket signed order = record { rise = order.rise; kept = tt }
 -- ---- after a submission
 
 -- the leaf at hand comes after all that signed
-module _ {D : Type 0} (stored : D → Option (List ℕ)) (moment : D → ℕ) (images : D → ℕ → List ℕ → Type 0) (faults : D → ℕ) (old new : LeavesContent D) (signed : List ℕ) where
+module _ {D : Type 0} (stored : D → Option (List ℕ)) (moment : D → ℕ) (images : D → ℕ → List ℕ → Type 0) (faults : D → ℕ) (old new : LeavesModel D) (signed : List ℕ) where
   order_drawn : (r : Result ℕ LeafFault) → AreInOrder old.next_at_open old.next None signed → Draws stored moment images old r new → AreInOrder new.next_at_open new.next (result_ok r) signed
   order_drawn (Ok leaf) order d =
       let kept = kept_drawn old.next_at_open old.next new.next leaf signed order d.given d.forward d.next in
@@ -126,7 +126,7 @@ module _ {D : Type 0} (stored : D → Option (List ℕ)) (moment : D → ℕ) (i
 
   pub order_at_hand : (ticket : Option ℕ) → AreInOrder old.next_at_open old.next ticket signed → ((leaf : ℕ) → ticket ≡ Some leaf → new ≡ old) → (ticket ≡ None → IsDraw stored moment images faults old new)
       → AreInOrder new.next_at_open new.next (at_hand ticket old new) signed
-  order_at_hand (Some leaf) order same draw = subst (λ (l : LeavesContent D). AreInOrder l.next_at_open l.next (Some leaf) signed) (sym (same leaf refl)) order
+  order_at_hand (Some leaf) order same draw = subst (λ (l : LeavesModel D). AreInOrder l.next_at_open l.next (Some leaf) signed) (sym (same leaf refl)) order
   order_at_hand None order same draw =
       let is = draw refl in
       let d = is.leaf in

@@ -25,7 +25,7 @@ use Rattle.sporc_client.specs.Entries.{Chosen, body_of, bytes_made, current_key,
 use Rattle.sporc_client.specs.PlainClient.{PlainClient, me_of}
 use Rattle.sporc_client.specs.Soundness.{IsSound}
 use Rattle.sporc_client.specs.Submissions.{Due, Drop, Nothing, Refuse, Sign, Waiting, answered, draw_fault, due, is_signing, submission}
-use Rattle.sporc_client.specs.Workspace.{Workspace}
+use Rattle.sporc_client.specs.Workspace.{WorkspaceModel}
 use Rattle.sporc_client.proofs.SubmitEntries.{IsMaking, change_body_size, chosen_by, made_is_submission, submission_is}
 use Rattle.sporc_client.proofs.Submitting.{is_due}
 use Rattle.sporc_client.proofs.Submitting as submitting
@@ -65,7 +65,7 @@ due_some c h =
     omega (arith, ap length d.first)
 
 -- and its history can take it
-pub can_take : (key : LmsPrivate) (line : LineModel) (own : Workspace) (item : Pending) → due (plain_of key line own) ≡ Sign item → IsSound (plain_of key line own) → CanTake line item
+pub can_take : (key : LmsPrivate) (line : LineModel) (own : WorkspaceModel) (item : Pending) → due (plain_of key line own) ≡ Sign item → IsSound (plain_of key line own) → CanTake line item
 can_take key line own item h sound =
     let d = is_due (plain_of key line own) item h in
     record { good = sound.good; room = omega (arith, d.room); not_removed = d.not_removed; fits = fits item d.fits }

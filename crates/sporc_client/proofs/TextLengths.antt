@@ -16,7 +16,8 @@ use Rattle.sporc_line.specs.Good.{Good}
 use Rattle.sporc_line.proofs.Passes.{Passes}
 use Rattle.sporc_line.proofs.Goods.{good_front, last_passes}
 use Rattle.sporc_line.proofs.MoreForms.{forms_push}
-use Rattle.sporc_line.proofs.FormLengths.{all_inserted-append, change_form, edit_form, edit_over, forms_follow, inserted_len-over, inserted_len-retains, length-text, reached-le}
+use Rattle.sporc_delta.proofs.Lengths.{inserted_len-retains}
+use Rattle.sporc_line.proofs.FormLengths.{all_inserted-append, change_form, edit_form, edit_over, forms_follow, inserted_len-over, length-text, reached-le}
 use Rattle.sporc_line.proofs.ReadLengths.{body_within, marks_within}
 
 -- the marks of an edit insert no more than the longest body has bytes

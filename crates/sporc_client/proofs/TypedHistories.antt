@@ -90,7 +90,7 @@ small_roster g entries founders typed = small_changes (founded g.founders) (chan
 abbrev Is32 : List ℕ → Type 0
 Is32 key = length key ≡ 32
 
-found_typed : {X : Type 0} (P : X → Type 0) (test : X → Bool) (xs : List X) → AllByRecursion P xs → IfSome (find test xs) P
+pub found_typed : {X : Type 0} (P : X → Type 0) (test : X → Bool) (xs : List X) → AllByRecursion P xs → IfSome (find test xs) P
 found_typed P test [] all = tt
 found_typed P test (x ∷ xs) all = go (test x) (found_typed P test xs all.1)
   where
@@ -98,7 +98,7 @@ found_typed P test (x ∷ xs) all = go (test x) (found_typed P test xs all.1)
     go true rest = all.0
     go false rest = rest
 
-typed_at : {X : Type 0} (P : X → Type 0) (xs : List X) (i : ℕ) → AllByRecursion P xs → IfSome (slice_get xs i) P
+pub typed_at : {X : Type 0} (P : X → Type 0) (xs : List X) (i : ℕ) → AllByRecursion P xs → IfSome (slice_get xs i) P
 typed_at P [] i all = tt
 typed_at P (x ∷ xs) zero all = all.0
 typed_at P (x ∷ xs) (suc i) all = typed_at P xs i all.1

@@ -1,5 +1,5 @@
 -- What all clients of a run agree on.
-use Rattle.std.specs.Prelude.{◌≡◌, ◌↔◌, ℕ, suc, zero, ◌+◌, ◌≤◌, true, false, List, [], ◌++◌, take, Option, None, Some, Contains, Ok, slice_get}
+use Rattle.std.specs.Prelude.{◌≡◌, ◌↔◌, ℕ, ◌+◌, ◌≤◌, true, false, List, [], ◌++◌, take, Option, None, Some, Contains, Ok, slice_get}
 use Rattle.sporc_hash.specs.Strings.{CollisionFree}
 use Rattle.sporc_member.specs.declared.founder.Founder.{Founder}
 use Rattle.sporc_member.specs.Roster.{member_at}
@@ -8,7 +8,8 @@ use Rattle.sporc_entry.specs.declared.genesis.Genesis.{Genesis}
 use Rattle.sporc_entry.specs.Entry.{entry_of, signed_string}
 use Rattle.sporc_head.specs.declared.refusal.Refusal.{Refusal}
 use Rattle.sporc_head.specs.HeadChecks.{allows as role_allows, verifies_member}
-use Rattle.sporc_head.specs.History.{CommittedChange, changes, count_of, epoch_of, hash_of, roster_of}
+use Rattle.sporc_head.specs.History.{changes, count_of, epoch_of, hash_of, roster_of}
+use Rattle.sporc_line.specs.Commitments.{commitment_at}
 use Rattle.sporc_line.specs.Keys.{key_of}
 use Rattle.sporc_line.specs.LineStrings.{line_strings}
 use Rattle.sporc_line.specs.Operations.{operations}
@@ -37,15 +38,6 @@ pub record SameHistoryAndText (c d : PlainClient) : Type 0 where
 abbrev pub OneHistory : Setup → List Move → Type 0
 OneHistory s moves = (m n i j : ℕ) (c d : PlainClient) → IsAt s moves m i c → IsAt s moves n j d
     → HistoriesCollisionFree c d → hash_of s.genesis c.entries ≡ hash_of s.genesis d.entries → SameHistoryAndText c d
-
--- the commitment that the key of an epoch meets: that of the genesis, or of the change that starts the epoch
-abbrev pub commitment_started : Genesis → Option CommittedChange → List ℕ
-commitment_started genesis None = genesis.commitment
-commitment_started genesis (Some change) = change.body.commitment
-
-abbrev pub commitment_at : Genesis → List CommittedChange → ℕ → List ℕ
-commitment_at genesis committed zero = genesis.commitment
-commitment_at genesis committed (suc epoch) = commitment_started genesis (slice_get committed epoch)
 
 -- a client's key of an epoch
 abbrev pub key_at : PlainClient → ℕ → Option (List ℕ)
@@ -79,7 +71,7 @@ pub record IsRightful (s : Setup) (entries : List (List ℕ)) (x : ℕ) (e : Ent
   pub signature : verifies_member (signed_string e) e.signature (Some member) ≡ true
   pub number : e.header.number ≡ count_of e.header.author (take x entries) + 1
 
--- every accepted entry was signed by its author, in order, under a right held there
+-- every accepted entry verifies under its author's key there, in order, under a right held there
 abbrev pub InOrder : Setup → List Move → Type 0
 InOrder s moves = (n i x : ℕ) (c : PlainClient) (bytes : List ℕ) → IsAt s moves n i c → slice_get c.entries x ≡ Some bytes
     → (e : Entry) × (entry_of bytes ≡ Ok e) × IsRightful s c.entries x e
@@ -102,7 +94,7 @@ pub record IsSameWorld (before after : World) : Type 0 where
   pub clients : (who : ℕ) → after.clients who ≡ before.clients who
   pub signed : after.signed ≡ before.signed
 
--- a client answers that it refuses bytes exactly for the first check that they fail, and then nothing changes
+-- a client answers that it refuses bytes exactly if it is the first check that they fail, and then nothing changes
 pub record RefusesFor (s : Setup) (w : World) (who position : ℕ) (c : PlainClient) (bytes : List ℕ) (refusal : Refusal) : Type 0 where
   pub first : (accept_fault c position bytes ≡ Some (Refused refusal)) ↔ (refusal_of c position bytes ≡ Some refusal)
   pub unchanged : refusal_of c position bytes ≡ Some refusal → IsSameWorld w (after s w (Give who position bytes))

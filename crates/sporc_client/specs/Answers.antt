@@ -30,7 +30,7 @@ has_right c kind = allows_member kind (member_at (roster_of c.opening.genesis c.
 abbrev pub journal_has_room : PlainClient → Bool
 journal_has_room c = nat_lt (length c.shown) MAX_EVENTS
 
--- the checks of one more pending item and one more event, where there are so many
+-- the checks of one more pending item and one more event, if there are so many
 abbrev pub room_checks : ℕ → ℕ → List (Option EditFault)
 room_checks pending events =
     unless (nat_lt pending MAX_PENDING) edits.PendingFull

@@ -2,7 +2,7 @@
 use Rattle.std.specs.Prelude.{◌≡◌, ℕ, ◌^◌, ◌<◌, true, List, Option, IfSome}
 use Rattle.lms_tree.specs.LmsPrivate.{LmsPrivate}
 use Rattle.lms_tree.specs.LmsType.{height_of}
-use Rattle.lms_sign.specs.Signer.{SignerContent}
+use Rattle.lms_sign.specs.Signer.{SignerModel}
 use Rattle.sporc_line.specs.LineModel.{LineModel}
 use Rattle.sporc_client.specs.ClientModel.{AreInOrder, ClientModel, leaves_of, state_of}
 use Rattle.sporc_client.specs.Log.{Logged, accepted_in, journal_of, log_of}
@@ -10,9 +10,9 @@ use Rattle.sporc_client.specs.PlainClient.{PlainClient}
 use Rattle.sporc_client.specs.Allowed.{is_allowed}
 use Rattle.sporc_client.specs.Small.{IsSmall}
 use Rattle.sporc_client.specs.Soundness.{IsSound}
-use Rattle.sporc_client.specs.Workspace.{Workspace}
+use Rattle.sporc_client.specs.Workspace.{WorkspaceModel}
 
-abbrev pub client_model : {D : Type 0} → LineModel → SignerContent D → Option ℕ → Workspace → ClientModel D
+abbrev pub client_model : {D : Type 0} → LineModel → SignerModel D → Option ℕ → WorkspaceModel → ClientModel D
 client_model line signer ticket own = record {
   opening = record { genesis = line.genesis; kit = line.kit; key = signer.key };
   log = log_of line.entries own.journal;
@@ -21,7 +21,7 @@ client_model line signer ticket own = record {
 }
 
 -- the client that the fields hold
-abbrev pub plain_of : LmsPrivate → LineModel → Workspace → PlainClient
+abbrev pub plain_of : LmsPrivate → LineModel → WorkspaceModel → PlainClient
 plain_of key line own = record {
   opening = record { genesis = line.genesis; kit = line.kit; key = key };
   entries = line.entries;
@@ -31,11 +31,11 @@ plain_of key line own = record {
 }
 
 -- the journal names the accepted entries by their places
-pub record Stores (log : List Logged) (line : LineModel) (own : Workspace) : Type 0 where
+pub record Stores (log : List Logged) (line : LineModel) (own : WorkspaceModel) : Type 0 where
   pub entries : line.entries ≡ accepted_in log
   pub journal : own.journal ≡ journal_of log
 
-pub record ClientInvariant {D : Type 0} (line : LineModel) (signer : SignerContent D) (ticket : Option ℕ) (own : Workspace) : Type 0 where
+pub record ClientInvariant {D : Type 0} (line : LineModel) (signer : SignerModel D) (ticket : Option ℕ) (own : WorkspaceModel) : Type 0 where
   pub stores : Stores (log_of line.entries own.journal) line own
   -- the fields are what the log makes of them
   pub state : plain_of signer.key line own ≡ state_of (client_model line signer ticket own)

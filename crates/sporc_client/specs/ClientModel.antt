@@ -3,7 +3,7 @@ use Rattle.std.specs.Prelude.{ℕ, ◌+◌, ◌<◌, ◌≤◌, List, [], ◌∷
 use Rattle.std.specs.List.{filter_map}
 use Rattle.std.specs.Option.{option_map}
 use Rattle.std.specs.Result.{result_ok}
-use Rattle.lms_leaf.specs.Leaves.{LeavesContent}
+use Rattle.lms_leaf.specs.Leaves.{LeavesModel}
 use Rattle.sporc_entry.specs.Entry.{entry_of}
 use Rattle.sporc_client.specs.Log.{Logged, Submit}
 use Rattle.sporc_client.specs.PlainClient.{Opening, PlainClient}
@@ -13,7 +13,7 @@ use Rattle.sporc_client.specs.Step.{replay}
 pub record ClientModel (D : Type 0) : Type 0 where
   pub opening : Opening
   pub log : List Logged
-  pub leaves : LeavesContent D
+  pub leaves : LeavesModel D
   pub ticket : Option ℕ
 
 -- all that follows from its log

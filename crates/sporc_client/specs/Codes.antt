@@ -2,7 +2,7 @@
 use Rattle.std.specs.Prelude.{◌≡◌, ℕ, ◌==◌, Bool, List, [], Option, if◌then◌else◌, refl}
 use Rattle.std.specs.Coded.{Coded, code_by, coded×, coded_ℕ, coded_bool, coded_list, coded_option}
 use Rattle.std.proofs.Common.{ap}
-use Rattle.lms_leaf.specs.Leaves.{LeavesContent}
+use Rattle.lms_leaf.specs.Leaves.{LeavesModel}
 use Rattle.lms_ots.specs.declared.ots_type.OtsType.{OtsType}
 use Rattle.lms_ots.specs.declared.ots_type.OtsType.TheVariants.{W1, W2, W4, W8}
 use Rattle.lms_tree.specs.declared.lms_type.LmsType.{LmsType}
@@ -166,7 +166,7 @@ opening_code =
     code_by (Genesis × (Kit × LmsPrivate)) (coded× genesis_code (coded× kit_code private_code))
     (λ o. (o.genesis, (o.kit, o.key))) (λ p. record { genesis = p.0; kit = p.1.0; key = p.1.1 }) (λ _. refl)
 
-abbrev pub leaves_code : {D : Type 0} → Coded D → Coded (LeavesContent D)
+abbrev pub leaves_code : {D : Type 0} → Coded D → Coded (LeavesModel D)
 leaves_code {D} disk =
     code_by (D × (ℕ × (ℕ × (ℕ × (Bool × ℕ))))) (coded× disk (coded× coded_ℕ (coded× coded_ℕ (coded× coded_ℕ (coded× coded_bool coded_ℕ)))))
     (λ l. (l.disk, (l.next, (l.next_at_open, (l.leaf_count, (l.faulty, l.faults_at_open))))))
@@ -174,5 +174,5 @@ leaves_code {D} disk =
 
 abbrev pub client_code : {D : Type 0} → Coded D → Coded (ClientModel D)
 client_code {D} disk =
-    code_by (Opening × (List Logged × (LeavesContent D × Option ℕ))) (coded× opening_code (coded× (coded_list logged_code) (coded× (leaves_code disk) (coded_option coded_ℕ))))
+    code_by (Opening × (List Logged × (LeavesModel D × Option ℕ))) (coded× opening_code (coded× (coded_list logged_code) (coded× (leaves_code disk) (coded_option coded_ℕ))))
     (λ c. (c.opening, (c.log, (c.leaves, c.ticket)))) (λ p. record { opening = p.0; log = p.1.0; leaves = p.1.1.0; ticket = p.1.1.1 }) (λ _. refl)

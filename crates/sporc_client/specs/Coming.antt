@@ -13,7 +13,7 @@ coming_of on_its_way change own form pending =
     else if change then Change
     else Edit (rebased form pending) own
 
--- its shown delta, where the shown text has this length
+-- its shown delta, if the shown text has this length
 abbrev pub shown_form : (on_its_way change : Bool) → ℕ → List Mark → List Pending → List Mark
 shown_form on_its_way change len form pending =
     if on_its_way then retains len

@@ -7,8 +7,8 @@ use Rattle.sporc_client.specs.declared.client.submitting.draft.Draft.{Draft}
 use Rattle.sporc_client.specs.declared.client.submitting.draft.Made.{Made}
 
 -- the bytes of an entry whose signature has n bytes, up to its signature
-abbrev pub front_bytes : ℕ → List ℕ → List ℕ
-front_bytes n message = drop 1 message ++ to_be_bytes w32 n
+abbrev pub prefix_bytes : ℕ → List ℕ → List ℕ
+prefix_bytes n message = drop 1 message ++ to_be_bytes w32 n
 
 -- each of the three has room for n bytes more
 pub record HasRoom (n : ℕ) (draft : Draft) : Type 0 where
@@ -16,12 +16,12 @@ pub record HasRoom (n : ℕ) (draft : Draft) : Type 0 where
   pub flight : vec_len draft.flight + n ≤ vec_capacity draft.flight
   pub event : vec_len draft.event + n ≤ vec_capacity draft.event
 
--- what the author of an entry signs, and three fronts of its bytes
+-- what the author of an entry signs, and a prefix of its bytes, three times
 pub record IsDraft (n : ℕ) (entry : Entry) (draft : Draft) : Type 0 where
   pub message : draft.message.items ≡ signed_string entry
-  pub answer : draft.answer.items ≡ front_bytes n (signed_string entry)
-  pub flight : draft.flight.items ≡ front_bytes n (signed_string entry)
-  pub event : draft.event.items ≡ front_bytes n (signed_string entry)
+  pub answer : draft.answer.items ≡ prefix_bytes n (signed_string entry)
+  pub flight : draft.flight.items ≡ prefix_bytes n (signed_string entry)
+  pub event : draft.event.items ≡ prefix_bytes n (signed_string entry)
   pub room : HasRoom n draft
 
 -- the same bytes, three times

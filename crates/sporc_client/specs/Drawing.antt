@@ -1,7 +1,7 @@
 -- The leaf of a submission: that of the ticket that is kept, or else one that is drawn.
 use Rattle.std.specs.Prelude.{◌≡◌, ℕ, ◌^◌, ◌<◌, ◌==◌, Bool, true, false, ◌&&◌, is_none, List, if◌then◌else◌, Option, None, Some, Result, Ok, Err, ⊤}
 use Rattle.lms_tree.specs.LmsType.{height_of}
-use Rattle.lms_leaf.specs.Leaves.{DrawFaults, Draws, LeavesContent}
+use Rattle.lms_leaf.specs.Leaves.{DrawFaults, Draws, LeavesModel}
 use Rattle.lms_leaf.specs.declared.faults.LeafFault.{LeafFault}
 use Rattle.lms_leaf.specs.declared.faults.LeafFault.TheVariants.{Exhausted, DiskFault}
 use Rattle.sporc_client.specs.declared.fault.SubmitFault.{SubmitFault}
@@ -12,7 +12,7 @@ use Rattle.sporc_client.specs.PlainClient.{PlainClient}
 use Rattle.sporc_client.specs.Submissions.{due, is_signing}
 
 -- what a draw answered, by the leaf numbers before and after it
-abbrev pub drawn : {D : Type 0} → LeavesContent D → LeavesContent D → Result ℕ LeafFault
+abbrev pub drawn : {D : Type 0} → LeavesModel D → LeavesModel D → Result ℕ LeafFault
 drawn old new =
     if old.next == old.leaf_count then Err (Exhausted old.next)
     else if new.faulty then Err DiskFault
@@ -26,22 +26,22 @@ MayDraw c (Err DiskFault) = ⊤
 
 -- a draw made these of the leaf numbers
 pub record IsDraw {D : Type 0} (stored : D → Option (List ℕ)) (moment : D → ℕ) (images : D → ℕ → List ℕ → Type 0) (faults : D → ℕ)
-    (old new : LeavesContent D) : Type 0 where
+    (old new : LeavesModel D) : Type 0 where
   pub leaf : Draws stored moment images old (drawn old new) new
   pub fault : DrawFaults faults old (drawn old new) new
 
 -- the leaf for a submission: the kept ticket's, or what a draw answered
-abbrev pub leaf_for : {D : Type 0} → Option ℕ → LeavesContent D → LeavesContent D → Result ℕ LeafFault
+abbrev pub leaf_for : {D : Type 0} → Option ℕ → LeavesModel D → LeavesModel D → Result ℕ LeafFault
 leaf_for (Some leaf) old new = Ok leaf
 leaf_for None old new = drawn old new
 
 -- the leaf at hand: the kept ticket's, or one that was drawn
-abbrev pub at_hand : {D : Type 0} → Option ℕ → LeavesContent D → LeavesContent D → Option ℕ
+abbrev pub at_hand : {D : Type 0} → Option ℕ → LeavesModel D → LeavesModel D → Option ℕ
 at_hand (Some leaf) old new = Some leaf
 at_hand None old new = if new.next == old.next then None else Some old.next
 
 -- the leaf that is kept afterwards: an entry spends it
-abbrev pub kept_after : {D : Type 0} → Option ℕ → LeavesContent D → LeavesContent D → Bool → Option ℕ
+abbrev pub kept_after : {D : Type 0} → Option ℕ → LeavesModel D → LeavesModel D → Bool → Option ℕ
 kept_after ticket old new true = None
 kept_after ticket old new false = at_hand ticket old new
 

@@ -9,7 +9,6 @@ pub mod Entries
 pub mod Answers
 pub mod Submissions
 pub mod Allowed
-pub mod Journals
 pub mod Run
 pub mod Agree
 pub mod Small

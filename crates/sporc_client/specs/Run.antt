@@ -25,7 +25,7 @@ pub record Setup : Type 0 where
   pub pairs : ℕ → Keys
   pub private : ℕ → LmsPrivate
 
--- what a member's client is opened with, where it has this ring
+-- what a member's client is opened with, if it has this ring
 abbrev pub opening_of : Setup → ℕ → Keys → Opening
 opening_of s who ring = record { genesis = s.genesis; kit = record { me = who; ring = ring; pairs = s.pairs who }; key = s.private who }
 
@@ -58,6 +58,13 @@ pub data Move : Type 0 where
   Give : (who position : ℕ) → List ℕ → Move
   -- it goes back to its first k entries
   Restart : (who k : ℕ) → Move
+
+-- whose client a move is of
+abbrev pub mover_of : Move → ℕ
+mover_of (Open who ring) = who
+mover_of (Happen who event) = who
+mover_of (Give who position bytes) = who
+mover_of (Restart who k) = who
 
 -- the clients with this one in its place
 abbrev pub with_client : (ℕ → Option PlainClient) → ℕ → PlainClient → ℕ → Option PlainClient

@@ -1,9 +1,9 @@
 -- How much a client holds.
-use Rattle.std.specs.Prelude.{◌*◌, ◌^◌, ◌≤◌, List, [], ◌∷◌, length, ⊤}
+use Rattle.std.specs.Prelude.{◌*◌, ◌≤◌, List, [], ◌∷◌, length, ⊤}
 use Rattle.sporc_delta.specs.Marks.{inserted_len}
 use Rattle.sporc_suffix.specs.Forms.{all_inserted}
 use Rattle.sporc_head.specs.declared.limits.TheConstants.{MAX_ENTRIES}
-use Rattle.sporc_client.specs.declared.limits.TheConstants.{MAX_EDIT_BYTES, MAX_EVENTS, MAX_HEAD_BYTES, MAX_PENDING}
+use Rattle.sporc_client.specs.declared.limits.TheConstants.{MAX_EDIT_BYTES, MAX_EVENTS, MAX_HEAD_BYTES, MAX_PENDING, MAX_SHOWN_LEN}
 use Rattle.sporc_client.specs.declared.pending.Pending.{Pending}
 use Rattle.sporc_client.specs.declared.pending.Pending.TheVariants.{Edit, Change}
 use Rattle.sporc_client.specs.PlainClient.{PlainClient, committed_of}
@@ -21,4 +21,4 @@ pub record IsSmall (c : PlainClient) : Type 0 where
   pub pending : length c.pending ≤ MAX_PENDING
   pub short : AreShort c.pending
   pub events : length c.shown ≤ MAX_EVENTS
-  pub shown : all_inserted c.shown ≤ 2 ^ 35 * length c.shown
+  pub shown : all_inserted c.shown ≤ MAX_SHOWN_LEN * length c.shown

@@ -115,7 +115,7 @@ answered c random leaf (Drop fault) = Ok (submitted.Dropped fault)
 answered c random leaf (Refuse fault) = Err fault
 answered c random leaf (Sign item) = signed c random item leaf
 
--- the answer to a submission, where the drawing of the leaf, if one is due, answers this
+-- the answer to a submission, with this answer of the drawing of the leaf, if one is due
 unfoldable pub submission : PlainClient → List ℕ → Result ℕ LeafFault → Result Submitted SubmitFault
 submission c random leaf = answered c random leaf (due c)
 

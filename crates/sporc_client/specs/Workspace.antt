@@ -6,7 +6,7 @@ use Rattle.sporc_client.specs.declared.limits.TheConstants.{MAX_EVENTS}
 use Rattle.sporc_client.specs.declared.pending.Pending.{Pending}
 
 -- the pending items, the entry on its way, the shown deltas, the journal, and how many more events and items take no memory
-pub record Workspace : Type 0 where
+pub record WorkspaceModel : Type 0 where
   pub pending : List Pending
   pub flight : Option (List ℕ)
   pub shown : List (List Mark)

@@ -1,6 +1,6 @@
 // A member's client.
 
-ghost use Rattle.std.specs.Prelude.{◌≡◌, ◌≢◌, ◌≤◌, ◌<◌, ◌++◌, [], map as map_, length, true, None, Some, IfOk, IfErr, OnOk, option_copied};
+ghost use Rattle.std.specs.Prelude.{◌≡◌, ◌≢◌, ◌≤◌, ◌++◌, [], map as map_, length, true, None, Some, IfOk, IfErr, OnOk, option_copied};
 ghost use Rattle.std.specs.FinMap as map;
 ghost use Rattle.sporc_hash.specs.Chain.{chain};
 ghost use Rattle.sporc_entry.specs.Genesis.{IsGenesis, genesis_bytes};
@@ -40,9 +40,9 @@ use sporc_delta::Delta;
 use sporc_entry::Genesis;
 use sporc_epoch::{Pairs, Ring};
 use sporc_hash::Digest32;
-use sporc_head::Heads;
+use sporc_head::{Heads, allows};
 use sporc_line::{Line, LineOpenFault};
-use sporc_member::{Change, Role, Roster};
+use sporc_member::{Change, Roster};
 use sporc_outside::LeafDisk;
 use std::alloc::Global;
 use std::marker::Model;
@@ -87,7 +87,7 @@ impl<D: LeafDisk> Client<D> {
         pairs: Pairs,
         signer: Signer<D>,
     ) -> Result<Client<D>, (ClientOpenFault, Signer<D>)>
-        requires { IsGenesis genesis }
+        requires genesis { IsGenesis genesis }
         ensures ok { OnOk result (first_of (open_checks genesis (map.get ring.keys 0)) ≡ None) }
         ensures err { IfErr result (λ e. e.0 ≢ LineOpenFault.Memory → first_of (open_checks genesis (map.get ring.keys 0)) ≡ Some e.0) }
         ensures returned { IfErr result (λ e. e.1 ≡ signer) }
@@ -258,13 +258,11 @@ fn opened(
 
 // Whether the member has the right to entries of this kind, 1 for edits and 2 for changes.
 pub(crate) fn has_right(line: &Line, kind: u8) -> bool
-    requires { kind < 3 }
     ensures value { result ≡ allows_member kind (member_at (roster_of line.now.genesis line.now.entries) line.now.kit.me) }
 {
     match line.heads().roster().role(line.me()) {
-        None | Some(Role::Reader) => false,
-        Some(Role::Editor) => kind == 1,
-        Some(Role::Admin) => true,
+        None => false,
+        Some(role) => allows(role, kind),
     }
 }
 

@@ -1,8 +1,8 @@
 // What an entry that comes does to a client's own part.
 
-ghost use Rattle.std.specs.Prelude.{◌≡◌, ◌+◌, ◌≤◌, ◌^◌, ◌==◌, length, is_some, IfOk};
+ghost use Rattle.std.specs.Prelude.{◌≡◌, ◌+◌, ◌≤◌, ◌==◌, length, is_some, IfOk};
 ghost use Rattle.sporc_delta.specs.Marks.{base_len, inserted_len};
-ghost use Rattle.sporc_delta.specs.declared.limits.TheConstants.{MAX_COUNT};
+ghost use Rattle.sporc_delta.specs.declared.limits.TheConstants.{MAX_COUNT, MAX_TEXT_LEN};
 ghost use Rattle.sporc_suffix.specs.Forms.{Follow};
 ghost use Rattle.sporc_entry.specs.Entry.{change_of};
 ghost use Rattle.sporc_line.specs.Document.{text_after};
@@ -41,7 +41,7 @@ pub(crate) fn settle(
     requires follow { Follow 0 own.now.shown }
     requires short { length (text_after own.now.shown) ≤ MAX_COUNT }
     requires over { AreOver (base_len prepared.now.form) own.now.pending }
-    requires limit { base_len prepared.now.form + inserted_len prepared.now.form + inserted_by own.now.pending ≤ 2 ^ 60 }
+    requires limit { base_len prepared.now.form + inserted_len prepared.now.form + inserted_by own.now.pending ≤ MAX_TEXT_LEN }
     ensures coming { IfOk result (λ both. both.0 ≡ coming_of (is_same_as own.now.flight bytes.now) (is_some (change_of prepared.now.checked.entry)) (prepared.now.checked.entry.header.author == me) prepared.now.form own.now.pending) }
     ensures form { IfOk result (λ both. both.1 ≡ shown_form (is_same_as own.now.flight bytes.now) (is_some (change_of prepared.now.checked.entry)) (length (text_after own.now.shown)) prepared.now.form own.now.pending) }
 {

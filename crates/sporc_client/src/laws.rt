@@ -24,29 +24,30 @@ ghost use Rattle.sporc_client.specs.Soundness.{IsSound};
 ghost use Rattle.sporc_client.specs.Typed.{IsTypedRun};
 ghost use Rattle.sporc_client.specs.Agree.{Agree};
 
-/// Clients with one history hash hold the same; clients that accepted one entry agree on all that its author had committed
-/// when signing; each accepted entry is by its author, once, in order and under a right held there; a refusal names the
-/// first failed check and changes nothing. So in every run.
+/// Unless two strings of their histories have one digest, clients with one history hash hold the same, and clients that
+/// accepted one entry agree on all that its author had committed when signing. Each accepted entry verifies under its author's
+/// key there, once, in order and under a right held there; a refusal names the first failed check and changes nothing. So in
+/// every run.
 pub fn runs_agree()
-    ensures { (s : Setup) (moves : List Move) → IsWellFormed s → IsRun s start moves → Agree s moves }
+    ensures agree { (s : Setup) (moves : List Move) → IsWellFormed s → IsRun s start moves → Agree s moves }
 {}
 
 /// At each moment of a run each client has a good history and a log that it allows, and its state is the replay of that log.
 pub fn runs_keep_clients()
-    ensures { (s : Setup) (moves : List Move) (n who : ℕ) (c : PlainClient) → IsRun s start moves → IsAt s moves n who c → IsReached s who c }
+    ensures reached { (s : Setup) (moves : List Move) (n who : ℕ) (c : PlainClient) → IsRun s start moves → IsAt s moves n who c → IsReached s who c }
 {}
 
 /// And it is sound: its pending edits are stated on the committed text, one after the other, the shown deltas lead to the
 /// shown text, and an entry on its way is that of the first pending item. So in every run of values of their types.
 pub fn clients_stay_sound()
-    ensures { (s : Setup) (moves : List Move) (n who : ℕ) (c : PlainClient) → IsTypedRun s moves → IsAt s moves n who c → IsSound c }
+    ensures sound { (s : Setup) (moves : List Move) (n who : ℕ) (c : PlainClient) → IsTypedRun s moves → IsAt s moves n who c → IsSound c }
 {}
 
 /// An entry that a client signs, under its member's own key, is accepted by each client that holds the same history, followed
 /// only by edits of others: it has room, isn't removed, and of a change it can learn the new key. So in every run of values
 /// of their types.
 pub fn honest_entries_pass()
-    ensures { (s : Setup) (moves : List Move) (m n i j by : ℕ) (c d : PlainClient) (bytes : List ℕ) → IsTypedRun s moves
+    ensures accepted { (s : Setup) (moves : List Move) (m n i j by : ℕ) (c d : PlainClient) (bytes : List ℕ) → IsTypedRun s moves
         → IsAt s moves m i c → SubmitsUnderOwnKey c by bytes → IsAt s moves n j d → CanReceive c d bytes
         → refusal_of d (length d.entries + 1) bytes ≡ None }
 {}
@@ -54,7 +55,7 @@ pub fn honest_entries_pass()
 /// No one forges in a run in which a server hands out only what clients of the run signed, and each of their members has its
 /// own key wherever it is a member.
 pub fn closed_runs_are_genuine()
-    ensures { (s : Setup) (moves : List Move) → IsTypedRun s moves → IsClosed s moves → Genuine s start moves }
+    ensures genuine { (s : Setup) (moves : List Move) → IsTypedRun s moves → IsClosed s moves → Genuine s start moves }
 {}
 
 /// Every call of a client is moves of that client, or changes nothing. What it did is what its contract says of the log: a
@@ -73,7 +74,7 @@ pub fn calls_are_moves()
 /// A client of a run of values of their types allows a submission exactly if, with some leaf of its key and 64 random bytes, it
 /// would answer that entry: leaf and random bytes are read off the entry.
 pub fn allowed_submissions_can_be_made()
-    ensures { (s : Setup) (moves : List Move) (n who by : ℕ) (c : PlainClient) (entry : List ℕ) → IsTypedRun s moves → IsAt s moves n who c
+    ensures made { (s : Setup) (moves : List Move) (n who by : ℕ) (c : PlainClient) (entry : List ℕ) → IsTypedRun s moves → IsAt s moves n who c
         → IsBytes entry → (allows c (Submit by entry) ≡ true) ↔ CanMake c entry }
 {}
 

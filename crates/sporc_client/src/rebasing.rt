@@ -1,8 +1,8 @@
 // Another's form and the pending items, passing each other.
 
-ghost use Rattle.std.specs.Prelude.{◌≡◌, ◌+◌, ◌≤◌, ◌^◌, ◌∷◌, [], IfOk};
+ghost use Rattle.std.specs.Prelude.{◌≡◌, ◌+◌, ◌≤◌, ◌∷◌, [], IfOk};
 ghost use Rattle.sporc_delta.specs.Marks.{base_len, inserted_len, out_len, retains};
-ghost use Rattle.sporc_delta.specs.declared.limits.TheConstants.{MAX_COUNT};
+ghost use Rattle.sporc_delta.specs.declared.limits.TheConstants.{MAX_COUNT, MAX_TEXT_LEN};
 ghost use Rattle.sporc_client.specs.Rebasing.{AreOver, beyond, in_one, inserted_by, rebased};
 
 use crate::pending::Pending;
@@ -21,14 +21,14 @@ pub(crate) struct Passed {
 // Passes a form and the pending items by each other; the form is ordered earlier.
 pub(crate) fn pass(alloc: Global, form: &Delta, items: &[Pending]) -> Result<Passed, Memory>
     requires over { AreOver (base_len form.now) items.now }
-    requires limit { base_len form.now + inserted_len form.now + inserted_by items.now ≤ 2 ^ 60 }
+    requires limit { base_len form.now + inserted_len form.now + inserted_by items.now ≤ MAX_TEXT_LEN }
     ensures items { IfOk result (λ passed. passed.items.items ≡ rebased form.now items.now) }
     ensures form { IfOk result (λ passed. passed.form ≡ beyond form.now items.now) }
 {
     let mut after = form.copy()?;
     let mut passed = Vec::with_capacity(alloc, items.len())?;
     for item in items {
-        let (one, next) = pass_one(alloc, &after, item)?;
+        let (one, next) = pass_one(alloc, after, item)?;
         passed.push_reserved(one);
         after = next;
     }
@@ -63,17 +63,17 @@ fn one_more(alloc: Global, all: Delta, item: &Pending) -> Result<Delta, Memory>
 }
 
 // Passes a form and one item by each other: the item, and the form.
-fn pass_one(alloc: Global, form: &Delta, item: &Pending) -> Result<(Pending, Delta), Memory>
-    requires over { AreOver (base_len form.now) (item.now ∷ []) }
-    requires limit { base_len form.now + inserted_len form.now + inserted_by (item.now ∷ []) ≤ 2 ^ 60 }
-    ensures item { IfOk result (λ one. one.0 ∷ [] ≡ rebased form.now (item.now ∷ [])) }
-    ensures form { IfOk result (λ one. one.1 ≡ beyond form.now (item.now ∷ [])) }
+fn pass_one(alloc: Global, form: Delta, item: &Pending) -> Result<(Pending, Delta), Memory>
+    requires over { AreOver (base_len form) (item.now ∷ []) }
+    requires limit { base_len form + inserted_len form + inserted_by (item.now ∷ []) ≤ MAX_TEXT_LEN }
+    ensures item { IfOk result (λ one. one.0 ∷ [] ≡ rebased form (item.now ∷ [])) }
+    ensures form { IfOk result (λ one. one.1 ≡ beyond form (item.now ∷ [])) }
 {
     match item {
         Pending::Edit(delta) => {
-            let (after, restated) = both(alloc, form, delta)?;
+            let (after, restated) = both(alloc, &form, delta)?;
             Ok((Pending::Edit(restated), after))
         }
-        Pending::Change(change) => Ok((Pending::Change(*change), form.copy()?)),
+        Pending::Change(change) => Ok((Pending::Change(*change), form)),
     }
 }

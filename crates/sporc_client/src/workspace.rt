@@ -1,7 +1,8 @@
 // A client's own part.
 
-ghost use Rattle.std.specs.Prelude.{◌≡◌, ◌+◌, ◌≤◌, ◌<◌, ◌^◌, ◌∷◌, ◌++◌, [], drop, take, length, None, Some, option_copied, IfOk, OnOk};
+ghost use Rattle.std.specs.Prelude.{◌≡◌, ◌+◌, ◌≤◌, ◌<◌, ◌∷◌, ◌++◌, [], drop, take, length, None, Some, option_copied, IfOk, OnOk};
 ghost use Rattle.sporc_delta.specs.Marks.{base_len, inserted_len};
+ghost use Rattle.sporc_delta.specs.declared.limits.TheConstants.{MAX_TEXT_LEN};
 ghost use Rattle.sporc_suffix.specs.Forms.{Follow, all_inserted, later_over, reached};
 ghost use Rattle.sporc_line.specs.Document.{text_after};
 ghost use Rattle.sporc_client.specs.declared.limits.TheConstants.{MAX_EVENTS};
@@ -30,7 +31,7 @@ pub(crate) struct Workspace {
 impl Model for Workspace {
     ghost use Rattle.std.specs.Prelude.{◌-◌, min};
     ghost use Rattle.std.specs.Vec.{vec_capacity, vec_len};
-    ghost use Rattle.sporc_client.specs.Workspace.{Workspace as WorkspaceModel, WorkspaceInvariant};
+    ghost use Rattle.sporc_client.specs.Workspace.{WorkspaceModel, WorkspaceInvariant};
 
     ghost Value = { WorkspaceModel };
 
@@ -119,7 +120,7 @@ impl Workspace {
     pub(crate) fn restated(&self, delta: &Delta, seen: u32) -> Result<Delta, Memory>
         requires within { seen ≤ length self.now.shown }
         requires base { base_len delta.now ≡ reached 0 (take seen self.now.shown) }
-        requires limit { base_len delta.now + inserted_len delta.now + all_inserted (drop seen self.now.shown) ≤ 2 ^ 60 }
+        requires limit { base_len delta.now + inserted_len delta.now + all_inserted (drop seen self.now.shown) ≤ MAX_TEXT_LEN }
         ensures value { IfOk result (λ d. d ≡ later_over delta.now (drop seen self.now.shown)) }
     {
         behind::<Brand>(Blank::new(1), &self.shown, delta, seen)
@@ -266,7 +267,7 @@ fn behind<L: Ledger>(
     requires some { 0 < blank.parts }
     requires within { seen ≤ length forms.now.forms }
     requires base { base_len delta.now ≡ reached forms.now.base (take seen forms.now.forms) }
-    requires limit { base_len delta.now + inserted_len delta.now + all_inserted (drop seen forms.now.forms) ≤ 2 ^ 60 }
+    requires limit { base_len delta.now + inserted_len delta.now + all_inserted (drop seen forms.now.forms) ≤ MAX_TEXT_LEN }
     ensures value { IfOk result (λ d. d ≡ later_over delta.now (drop seen forms.now.forms)) }
 {
     let mut steps: Steps<L> = Steps::new(blank);

@@ -1,7 +1,6 @@
 -- Files of a member, one after another.
-use Rattle.std.proofs.Common.{◌≡◌, ℕ, ◌+◌, ◌≤◌, List, [], ◌∷◌, ◌++◌, length, Option, Result, Err, refl, sym, ap, ◌∙◌, subst, arith}
+use Rattle.std.proofs.Common.{◌≡◌, ℕ, ◌+◌, ◌≤◌, List, [], ◌∷◌, ◌++◌, length, Option, Result, refl, sym, ap, ◌∙◌, subst, arith}
 use Rattle.std.proofs.lemmas.List.{length-append}
-use Rattle.std.specs.Result.{IfErr}
 use Rattle.lms_tree.specs.LmsPrivate.{LmsPrivate}
 use Rattle.sporc_outside.specs.Files.{HasFile}
 use Rattle.sporc_outside.specs.declared.file_fault.TheConstants.{MAX_FILE}
@@ -13,33 +12,14 @@ use Rattle.sporc_script.specs.declared.editor_line.EditorLine.{EditorLine}
 use Rattle.sporc_script.specs.Grammar.{IsEditorFault}
 use Rattle.sporc_files.specs.declared.fault.Fault.{Fault}
 use Rattle.sporc_files.specs.declared.fault.Fault.TheVariants as faults
-use Rattle.sporc_files.specs.declared.file.File.{File}
 use Rattle.sporc_files.specs.declared.file.File.TheVariants.{Genesis as GenesisFile, Key, Ring, Script}
 use Rattle.sporc_files.specs.Names.{FileNames, file_name}
 use Rattle.sporc_files.specs.Reading.{IsFileFault, SaysFile, any_bytes, genesis_file, own_key_file}
-use Rattle.sporc_files.proofs.FaultCases.{ReadCase, ReadMemory, ReadFailed, ReadMissing, ReadTooLong, ReadMalformed, read_case}
+use Rattle.sporc_files.proofs.FaultCases.{file_later}
 use Rattle.sporc_clients.specs.MemberFiles.{IsFirstScriptFault, IsMemberFault, IsScriptFault, SayGenesisAndKey, SayScripts, SaysScript, no_key, no_ring, no_script, no_scripts, out_of_memory, unread}
 use Rattle.sporc_clients.proofs.Scripts.{scripts_more}
 
--- what the exit of a `?` says
-pub if_err : {T : Type 0} (r : Result T Fault) (P : Fault → Type 0) (y fault : Fault) → r ≡ Err y → y ≡ fault → P fault → IfErr r P
-if_err r P y fault is same held = rw (is, same) held
-
 -- ---- a folder whose count of faults had risen before
-
-later : {A : Type 0} (parse : List ℕ → Result A ℕ) (told : Option (List NamedFile)) (low mid high : ℕ) (names : FileNames) (file : File) (fault : Fault) → low ≤ mid
-    → ReadCase parse told mid high names file fault → IsFileFault parse told low high names file fault
-later parse told low mid high names file fault more ReadMemory = tt
-later parse told low mid high names file fault more (ReadFailed rose) = omega (arith, rose, more)
-later parse told low mid high names file fault more (ReadMissing gone) = (refl, gone)
-later parse told low mid high names file fault more (ReadTooLong len long) = (refl, len, long)
-later parse told low mid high names file fault more (ReadMalformed at bytes within has bad) = (refl, bytes, within, has, bad)
-
-pub file_later : {A : Type 0} (parse : List ℕ → Result A ℕ) (told now : Option (List NamedFile)) (low mid high : ℕ) (names : FileNames) (file : File) (fault : Fault) → now ≡ told → low ≤ mid
-    → IsFileFault parse now mid high names file fault → IsFileFault parse told low high names file fault
-file_later parse told now low mid high names file fault same more why =
-    later parse told low mid high names file fault more (read_case parse told mid high names file fault
-    (subst (λ (o : Option (List NamedFile)). IsFileFault parse o mid high names file fault) same why))
 
 script_later : (told now : Option (List NamedFile)) (low mid high : ℕ) (names : FileNames) (editor : ℕ) (fault : Fault) → now ≡ told → low ≤ mid
     → IsScriptFault now mid high names editor fault → IsScriptFault told low high names editor fault

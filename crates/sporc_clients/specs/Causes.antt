@@ -1,10 +1,6 @@
 -- What the faults of the crates below are for the command.
 use Rattle.std.specs.Prelude.{ℕ, ◌==◌, Result, Ok, Err, ⊤, if◌then◌else◌}
 use Rattle.lms_leaf.specs.declared.faults.LeafFault.TheVariants as leaves
-use Rattle.sporc_epoch.specs.declared.fault.HintFault.{HintFault}
-use Rattle.sporc_epoch.specs.declared.fault.HintFault.TheVariants as hints
-use Rattle.sporc_line.specs.declared.fault.LineOpenFault.{LineOpenFault}
-use Rattle.sporc_line.specs.declared.fault.LineOpenFault.TheVariants as lines
 use Rattle.sporc_store.specs.declared.stop.Stop.{Stop}
 use Rattle.sporc_store.specs.declared.stop.Stop.TheVariants as stops
 use Rattle.sporc_shared.specs.declared.fault.SessionFault.{SessionFault}
@@ -22,6 +18,7 @@ use Rattle.sporc_sessions.specs.declared.opening.OpenFault.TheVariants as openin
 use Rattle.sporc_files.specs.declared.fault.Fault.{Fault}
 use Rattle.sporc_files.specs.declared.fault.Fault.TheVariants as faults
 use Rattle.sporc_files.specs.declared.file.File.TheVariants.{History}
+use Rattle.sporc_files.specs.Faults.{fault_of_hints, fault_of_line}
 
 -- a disk that failed has counted it, so its count is not found to be 0
 abbrev pub fault_of_disk : ℕ → Fault
@@ -43,19 +40,6 @@ fault_of_session disk_faults (sessions.Worn ticket) = faults.Worn
 fault_of_session disk_faults sessions.ChanceFault = faults.Outside
 fault_of_session disk_faults (sessions.LinkEnded taken) = faults.LinkEnded taken
 fault_of_session disk_faults sessions.Memory = faults.Memory
-
--- why a member's key does not open the document
-abbrev pub fault_of_line : LineOpenFault → Fault
-fault_of_line lines.NoKey = faults.Opening lines.NoKey
-fault_of_line lines.WrongKey = faults.Opening lines.WrongKey
-fault_of_line lines.Memory = faults.Memory
-
--- why entries give no hints
-abbrev pub fault_of_hints : HintFault → Fault
-fault_of_hints hints.NotAdded = faults.Hints hints.NotAdded
-fault_of_hints (hints.NoPairKey member) = faults.Hints (hints.NoPairKey member)
-fault_of_hints (hints.WrongKey epoch) = faults.Hints (hints.WrongKey epoch)
-fault_of_hints hints.Memory = faults.Memory
 
 -- why a joiner has no hints: a fault there is what it is in a session
 abbrev pub fault_of_joining : HintsFault → Fault

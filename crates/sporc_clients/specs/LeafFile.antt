@@ -2,7 +2,7 @@
 use Rattle.std.specs.Prelude.{◌≡◌, ◌≢◌, ℕ, ◌*◌, List, length, Option, IfSome}
 use Rattle.lms_leaf.specs.declared.leaf_file.TheConstants.{LEAVES_PER_BLOCK}
 use Rattle.lms_leaf.specs.LeafFile.{block_count, taken_blocks}
-use Rattle.lms_leaf.specs.Leaves.{LeavesContent}
+use Rattle.lms_leaf.specs.Leaves.{LeavesModel}
 use Rattle.sporc_outside.specs.Counts.{Rose}
 use Rattle.sporc_outside.specs.Files.{HasNoFile, IsTooLong}
 use Rattle.sporc_outside.specs.declared.named_file.NamedFile.{NamedFile}
@@ -20,15 +20,15 @@ IsLendFault files before after names member (faults.TooLong other) = (other ≡ 
 IsLendFault files before after names member fault = ⊥
 
 -- Leaves go on behind the last block that is taken, and nothing was written
-pub record IsOpened {D : Type 0} (stored stored' : Option (List ℕ)) (leaves : LeavesContent D) : Type 0 where
+pub record IsOpened {D : Type 0} (stored stored' : Option (List ℕ)) (leaves : LeavesModel D) : Type 0 where
   pub next : IfSome stored (λ bytes. leaves.next ≡ LEAVES_PER_BLOCK * taken_blocks bytes)
   pub first : leaves.next_at_open ≡ leaves.next
   pub unwritten : stored' ≡ stored
 
 -- why they don't, of a key whose tree has a height: the disk failed, or it is malformed at its length
-abbrev pub IsOpenFault : Option (List ℕ) → ℕ → ℕ → ℕ → ℕ → Fault → Type 0
-IsOpenFault stored before after member height faults.Memory = Unit {0}
-IsOpenFault stored before after member height faults.Outside = Rose before after
-IsOpenFault stored before after member height (faults.Malformed file len) =
+abbrev pub IsLeafFileFault : Option (List ℕ) → ℕ → ℕ → ℕ → ℕ → Fault → Type 0
+IsLeafFileFault stored before after member height faults.Memory = Unit {0}
+IsLeafFileFault stored before after member height faults.Outside = Rose before after
+IsLeafFileFault stored before after member height (faults.Malformed file len) =
     (file ≡ Leaf member) × (len ≢ block_count height) × IfSome stored (λ bytes. len ≡ length bytes)
-IsOpenFault stored before after member height fault = ⊥
+IsLeafFileFault stored before after member height fault = ⊥

@@ -1,6 +1,6 @@
 -- What the command did.
 use Rattle.std.specs.Prelude.{◌≡◌, ◌≤◌, ℕ, List, [], ◌∷◌, ◌++◌, length, Option, option_map, Result, Err, ⊤}
-use Rattle.lms_leaf.specs.Leaves.{LeavesContent}
+use Rattle.lms_leaf.specs.Leaves.{LeavesModel}
 use Rattle.lms_tree.specs.LmsType.{height_of}
 use Rattle.sporc_outside.specs.Counts.{count_of_both}
 use Rattle.sporc_outside.specs.Files.{IsDiskOf, TakesBack}
@@ -20,12 +20,12 @@ use Rattle.sporc_sessions.specs.declared.concluding.PrintFault.{PrintFault}
 use Rattle.sporc_sessions.specs.Attending.{IsAttended, NotAttended, Signs}
 use Rattle.sporc_sessions.specs.Causes.{CountsAround, RoseIfFailed}
 use Rattle.sporc_sessions.specs.Concluding.{FilesUse, LeavesAreTaken, PrintOutcome, SaveOutcome}
-use Rattle.sporc_sessions.specs.Nets.{LinkView, NetTold}
+use Rattle.sporc_sessions.specs.Nets.{LinkView, NetTold, net_told}
 use Rattle.sporc_sessions.specs.Opening.{Begin}
 use Rattle.sporc_sessions.specs.Sessions.{ChanceTold, Plan}
 use Rattle.sporc_clients.specs.declared.member_files.MemberFiles.{MemberFiles}
 use Rattle.sporc_clients.specs.Causes.{fault_of_attending, first_fault}
-use Rattle.sporc_clients.specs.LeafFile.{IsLendFault, IsOpenFault, IsOpened}
+use Rattle.sporc_clients.specs.LeafFile.{IsLendFault, IsLeafFileFault, IsOpened}
 use Rattle.sporc_clients.specs.MemberFiles.{IsMemberFault, SayMember, own_files}
 
 -- ---- what a call found and left
@@ -36,12 +36,26 @@ pub record DiskView (D : Type 0) : Type 1 where
   pub images : D → List ℕ → Type 0
   pub faults : D → ℕ
 
+-- the same of a disk that tells what a crash at each moment may leave, and the moment
+abbrev pub disk_view : {D : Type 0} → (D → Option (List ℕ)) → (D → ℕ → List ℕ → Type 0) → (D → ℕ) → (D → ℕ) → DiskView D
+disk_view stored images moment faults = record { stored = stored; images = λ d. images d (moment d); faults = faults }
+
 -- a net
 pub record NetUse (L : Type 0) : Type 0 where
   pub before : NetTold L
   pub after : NetTold L
   pub faults_before : ℕ
   pub faults_after : ℕ
+
+-- by what a net tells and its counts at both moments
+module _ {N L : Type 0} (asked : N → Option (List (List ℕ))) (coming returned : N → Option (List L)) (link_faults faults : N → ℕ) where
+  abbrev pub net_use : N → N → NetUse L
+  net_use old new = record {
+    before = net_told (asked old) (coming old) (returned old) (link_faults old);
+    after = net_told (asked new) (coming new) (returned new) (link_faults new);
+    faults_before = faults old;
+    faults_after = faults new;
+  }
 
 -- all that a call was handed
 pub record ClientUse (L : Type 0) : Type 0 where
@@ -100,21 +114,21 @@ abbrev pub plan_of : Words → MemberFiles → Plan
 plan_of words m = record { rounds = words.rounds; until = words.until; editors = m.editors }
 
 -- how the member signs, over its leaves
-abbrev pub signs_with : {D : Type 0} → MemberFiles → LeavesContent D → Signs
+abbrev pub signs_with : {D : Type 0} → MemberFiles → LeavesModel D → Signs
 signs_with m leaves = record { key = m.tree; first_leaf = leaves.next_at_open }
 
 -- ---- a session over the disk of the leaf file
 
 module _ {L D : Type 0} (view : LinkView L) (disks : DiskView D) (words : Words) (m : MemberFiles) (did : ClientUse L) where
   -- The member's leaves go on behind the last block that is taken on this disk, and this is its saved history, if it has one
-  pub record IsReady (first : D) (leaves : LeavesContent D) (history : Option (List ℕ)) : Type 0 where
+  pub record IsReady (first : D) (leaves : LeavesModel D) (history : Option (List ℕ)) : Type 0 where
     pub opened : IsOpened (disks.stored first) (disks.stored leaves.disk) leaves
     pub says : SaysFileIfThere any_bytes did.folder.files_before (file_name (names_of words) (History words.member)) history
 
   -- A session led the member's client from its saved history to a last past. However it ended, journal and report of that past were printed, and
   -- its history was saved, and then the answer is the first fault: that of the session, of printing, or of saving
   pub record Worked (first last : D) (answer : Result ⊤ Fault) : Type 0 where
-    pub leaves : LeavesContent D
+    pub leaves : LeavesModel D
     pub history : Option (List ℕ)
     pub ready : IsReady first leaves history
     pub past : Past
@@ -131,11 +145,11 @@ module _ {L D : Type 0} (view : LinkView L) (disks : DiskView D) (words : Words)
 
   -- why no session began: the leaf file is none of the key's, the saved history was not read, or the client could not go on with it
   pub data NotWorked (first last : D) (fault : Fault) : Type 0 where
-    no_leaves : IsOpenFault (disks.stored first) (disks.faults first) (disks.faults last) words.member (height_of m.tree.lms) fault
+    no_leaves : IsLeafFileFault (disks.stored first) (disks.faults first) (disks.faults last) words.member (height_of m.tree.lms) fault
         → did.net.after ≡ did.net.before → NotWorked first last fault
     no_history : IsFileFault any_bytes did.folder.files_before did.folder.faults_before did.folder.faults_after (names_of words) (History words.member) fault
         → did.net.after ≡ did.net.before → NotWorked first last fault
-    no_session : {leaves : LeavesContent D} {history : Option (List ℕ)} {cause : AttendFault} → IsReady first leaves history
+    no_session : {leaves : LeavesModel D} {history : Option (List ℕ)} {cause : AttendFault} → IsReady first leaves history
         → NotAttended view (begin_of words m) history did.net.before did.net.after did.net.faults_before did.net.faults_after cause
         → fault ≡ fault_of_attending words.member cause → NotWorked first last fault
 

@@ -1,12 +1,10 @@
 // What the faults of the crates below are for the command.
 
 ghost use Rattle.std.specs.Prelude.{◌≡◌};
-ghost use Rattle.sporc_clients.specs.Causes.{fault_of_attending, fault_of_disk, fault_of_hints, fault_of_joining, fault_of_keeping, fault_of_line, fault_of_opening, fault_of_printing, fault_of_session, fault_of_stop, first_fault};
+ghost use Rattle.sporc_clients.specs.Causes.{fault_of_attending, fault_of_disk, fault_of_joining, fault_of_keeping, fault_of_opening, fault_of_printing, fault_of_session, fault_of_stop, first_fault};
 
 use lms_leaf::LeafFault;
-use sporc_epoch::HintFault;
 use sporc_files::{Fault, File};
-use sporc_line::LineOpenFault;
 use sporc_sessions::{AttendFault, HintsFault, KeepFault, OpenFault, PrintFault};
 use sporc_shared::SessionFault;
 use sporc_store::Stop;
@@ -43,29 +41,6 @@ fn session_fault(fault: SessionFault, disk_faults: u64) -> Fault
     }
 }
 
-// What it is that a member's key does not open the document.
-fn line_fault(fault: LineOpenFault) -> Fault
-    ensures value { result ≡ fault_of_line fault }
-{
-    match fault {
-        LineOpenFault::NoKey => Fault::Opening(LineOpenFault::NoKey),
-        LineOpenFault::WrongKey => Fault::Opening(LineOpenFault::WrongKey),
-        LineOpenFault::Memory => Fault::Memory,
-    }
-}
-
-// What it is that entries give no hints.
-fn hints_fault(fault: HintFault) -> Fault
-    ensures value { result ≡ fault_of_hints fault }
-{
-    match fault {
-        HintFault::NotAdded => Fault::Hints(HintFault::NotAdded),
-        HintFault::NoPairKey(member) => Fault::Hints(HintFault::NoPairKey(member)),
-        HintFault::WrongKey(epoch) => Fault::Hints(HintFault::WrongKey(epoch)),
-        HintFault::Memory => Fault::Memory,
-    }
-}
-
 // What it is that a joiner has no hints.
 fn joining_fault(fault: HintsFault) -> Fault
     ensures value { result ≡ fault_of_joining fault }
@@ -73,7 +48,7 @@ fn joining_fault(fault: HintsFault) -> Fault
     match fault {
         HintsFault::Unreached => Fault::Outside,
         HintsFault::Link(fault) => session_fault(fault, 0),
-        HintsFault::Hints(fault) => hints_fault(fault),
+        HintsFault::Hints(fault) => Fault::from(fault),
     }
 }
 
@@ -83,7 +58,7 @@ fn opening_fault(fault: OpenFault) -> Fault
 {
     match fault {
         OpenFault::Hints(fault) => joining_fault(fault),
-        OpenFault::Line(fault) => line_fault(fault),
+        OpenFault::Line(fault) => Fault::from(fault),
         OpenFault::Memory => Fault::Memory,
     }
 }

@@ -1,6 +1,7 @@
 //! The command.
 
 ghost use Rattle.std.specs.Prelude.{◌≡◌, ◌+◌, ◌≤◌, [], ◌∷◌, length, map, option_map, string_bytes, IfErr, IfOk};
+ghost use Rattle.sporc_outside.specs.Uses.{sink_use};
 ghost use Rattle.lms_leaf.specs.LeafFile.{IsLeafHeight};
 ghost use Rattle.lms_tree.specs.LmsType.{height_of};
 ghost use Rattle.sporc_entry.specs.Genesis.{IsGenesis};
@@ -8,10 +9,10 @@ ghost use Rattle.sporc_script.specs.declared.limits.TheConstants.{MAX_EDITORS};
 ghost use Rattle.sporc_files.specs.declared.file.File.{File};
 ghost use Rattle.sporc_files.specs.Names.{file_name};
 ghost use Rattle.sporc_files.specs.Reading.{IsFileFault, SaysFileIfThere, any_bytes};
-ghost use Rattle.sporc_files.specs.Uses.{AsksOnly};
-ghost use Rattle.sporc_sessions.specs.Nets.{AsksAtMost, link_view, net_told};
+ghost use Rattle.sporc_files.specs.Uses.{AsksOnly, chance_use, folder_use};
+ghost use Rattle.sporc_sessions.specs.Nets.{AsksAtMost, link_view};
 ghost use Rattle.sporc_sessions.specs.Opening.{links_for_hints};
-ghost use Rattle.sporc_clients.specs.Outcome.{ClientOutcome, DiskOutcome, client_files, names_of};
+ghost use Rattle.sporc_clients.specs.Outcome.{ClientOutcome, DiskOutcome, client_files, disk_view, names_of, net_use};
 
 use crate::causes::{attend_fault, first_fault};
 use crate::leaf_file::{lend_disk, open_signer};
@@ -49,48 +50,24 @@ where
     N::Link: Send,
     requires few { length words.now.scripts ≤ MAX_EDITORS }
     ensures outcome { ClientOutcome (link_view N.Link.written N.Link.left N.Link.faults N.Link.is_shut)
-        (record { stored = F.Disk.stored; images = λ d. F.Disk.images d (F.Disk.moment d); faults = F.Disk.faults })
+        (disk_view F.Disk.stored F.Disk.images F.Disk.moment F.Disk.faults)
         words.now
         (record {
-          out = record {
-            written_before = O.written out.old;
-            written_after = O.written out.new;
-            faults_before = O.faults out.old;
-            faults_after = O.faults out.new;
-          };
-          folder = record {
-            files_before = F.files files.old;
-            files_after = F.files files.new;
-            asked_before = F.asked files.old;
-            asked_after = F.asked files.new;
-            lent_before = F.lent files.old;
-            lent_after = F.lent files.new;
-            faults_before = F.faults files.old;
-            faults_after = F.faults files.new;
-          };
-          net = record {
-            before = net_told (N.asked net.old) (N.coming net.old) (N.returned net.old) (N.link_faults net.old);
-            after = net_told (N.asked net.new) (N.coming net.new) (N.returned net.new) (N.link_faults net.new);
-            faults_before = N.faults net.old;
-            faults_after = N.faults net.new;
-          };
-          chance = record {
-            given_before = C.given chance.old;
-            given_after = C.given chance.new;
-            faults_before = C.faults chance.old;
-            faults_after = C.faults chance.new;
-          };
+          out = sink_use O.written O.faults out.old out.new;
+          folder = folder_use F.files F.asked F.lent F.faults files.old files.new;
+          net = net_use N.asked N.coming N.returned N.link_faults N.faults net.old net.new;
+          chance = chance_use C.given C.faults chance.old chance.new;
         })
         result }
-    ensures asked { AsksOnly (map (file_name (names_of words.now)) (client_files words.now.member (length words.now.scripts))) (F.asked files.old) (F.asked files.new) }
+    ensures files_may_ask { AsksOnly (map (file_name (names_of words.now)) (client_files words.now.member (length words.now.scripts))) (F.asked files.old) (F.asked files.new) }
     ensures lent { F.lent files.new ≡ F.lent files.old }
     ensures files_kept { F.faults files.old ≤ F.faults files.new }
-    ensures called { AsksAtMost 2 (N.asked net.old) (N.asked net.new) words.now.address }
-    ensures out { O.faults out.old ≤ O.faults out.new }
-    ensures links { N.out net.new ≡ N.out net.old }
-    ensures net { N.faults net.old ≤ N.faults net.new }
-    ensures link_faults { N.link_faults net.old ≤ N.link_faults net.new }
-    ensures chance { C.faults chance.old ≤ C.faults chance.new }
+    ensures net_may_ask { AsksAtMost 2 (N.asked net.old) (N.asked net.new) words.now.address }
+    ensures out_kept { O.faults out.old ≤ O.faults out.new }
+    ensures links_out { N.out net.new ≡ N.out net.old }
+    ensures net_kept { N.faults net.old ≤ N.faults net.new }
+    ensures links_kept { N.link_faults net.old ≤ N.link_faults net.new }
+    ensures chance_kept { C.faults chance.old ≤ C.faults chance.new }
 {
     let names = names_of(words);
     let editors = words.scripts.as_slice().len() as u32;
@@ -132,48 +109,24 @@ where
     requires genesis { IsGenesis member.genesis }
     requires height { IsLeafHeight (height_of member.tree.lms) }
     ensures outcome { DiskOutcome (link_view N.Link.written N.Link.left N.Link.faults N.Link.is_shut)
-        (record { stored = D.stored; images = λ d. D.images d (D.moment d); faults = D.faults })
+        (disk_view D.stored D.images D.moment D.faults)
         words.now member
         (record {
-          out = record {
-            written_before = O.written out.old;
-            written_after = O.written out.new;
-            faults_before = O.faults out.old;
-            faults_after = O.faults out.new;
-          };
-          folder = record {
-            files_before = F.files files.old;
-            files_after = F.files files.new;
-            asked_before = F.asked files.old;
-            asked_after = F.asked files.new;
-            lent_before = F.lent files.old;
-            lent_after = F.lent files.new;
-            faults_before = F.faults files.old;
-            faults_after = F.faults files.new;
-          };
-          net = record {
-            before = net_told (N.asked net.old) (N.coming net.old) (N.returned net.old) (N.link_faults net.old);
-            after = net_told (N.asked net.new) (N.coming net.new) (N.returned net.new) (N.link_faults net.new);
-            faults_before = N.faults net.old;
-            faults_after = N.faults net.new;
-          };
-          chance = record {
-            given_before = C.given chance.old;
-            given_after = C.given chance.new;
-            faults_before = C.faults chance.old;
-            faults_after = C.faults chance.new;
-          };
+          out = sink_use O.written O.faults out.old out.new;
+          folder = folder_use F.files F.asked F.lent F.faults files.old files.new;
+          net = net_use N.asked N.coming N.returned N.link_faults N.faults net.old net.new;
+          chance = chance_use C.given C.faults chance.old chance.new;
         })
         disk result.1 result.0 }
-    ensures asked { AsksOnly (file_name (names_of words.now) (File.History words.now.member) ∷ []) (F.asked files.old) (F.asked files.new) }
+    ensures files_may_ask { AsksOnly (file_name (names_of words.now) (File.History words.now.member) ∷ []) (F.asked files.old) (F.asked files.new) }
     ensures lent { F.lent files.new ≡ F.lent files.old }
     ensures files_kept { F.faults files.old ≤ F.faults files.new }
-    ensures called { AsksAtMost (links_for_hints member.ring + 1) (N.asked net.old) (N.asked net.new) words.now.address }
-    ensures out { O.faults out.old ≤ O.faults out.new }
-    ensures links { N.out net.new ≡ N.out net.old }
-    ensures net { N.faults net.old ≤ N.faults net.new }
-    ensures link_faults { N.link_faults net.old ≤ N.link_faults net.new }
-    ensures chance { C.faults chance.old ≤ C.faults chance.new }
+    ensures net_may_ask { AsksAtMost (links_for_hints member.ring + 1) (N.asked net.old) (N.asked net.new) words.now.address }
+    ensures out_kept { O.faults out.old ≤ O.faults out.new }
+    ensures links_out { N.out net.new ≡ N.out net.old }
+    ensures net_kept { N.faults net.old ≤ N.faults net.new }
+    ensures links_kept { N.link_faults net.old ≤ N.link_faults net.new }
+    ensures chance_kept { C.faults chance.old ≤ C.faults chance.new }
 {
     let MemberFiles {
         genesis,
@@ -242,7 +195,7 @@ fn history_of<F: Folder>(
     ensures err { IfErr result (IsFileFault any_bytes (F.files files.old) (F.faults files.old) (F.faults files.new) names.now (File.History member)) }
     ensures files { F.files files.new ≡ F.files files.old }
     ensures lent { F.lent files.new ≡ F.lent files.old }
-    ensures asked { AsksOnly (file_name names.now (File.History member) ∷ []) (F.asked files.old) (F.asked files.new) }
+    ensures may_ask { AsksOnly (file_name names.now (File.History member) ∷ []) (F.asked files.old) (F.asked files.new) }
     ensures kept { F.faults files.old ≤ F.faults files.new }
 {
     let file = File::History(member);

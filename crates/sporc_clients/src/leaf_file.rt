@@ -7,7 +7,7 @@ ghost use Rattle.sporc_outside.specs.Files.{IsDiskOf};
 ghost use Rattle.sporc_files.specs.declared.file.File.{File};
 ghost use Rattle.sporc_files.specs.Names.{file_name};
 ghost use Rattle.sporc_files.specs.Uses.{AsksOnly};
-ghost use Rattle.sporc_clients.specs.LeafFile.{IsLendFault, IsOpened, IsOpenFault};
+ghost use Rattle.sporc_clients.specs.LeafFile.{IsLendFault, IsOpened, IsLeafFileFault};
 
 use lms_leaf::{LeafOpenFault, Leaves};
 use lms_sign::Signer;
@@ -29,7 +29,7 @@ pub(crate) fn lend_disk<F: Folder>(
     ensures files { F.files files.new ≡ F.files files.old }
     ensures lent { OnOk result (F.lent files.new ≡ option_map (λ lent. file_name names.now (File.Leaf member) ∷ lent) (F.lent files.old)) }
     ensures not_lent { OnErr result (F.lent files.new ≡ F.lent files.old) }
-    ensures asked { AsksOnly (file_name names.now (File.Leaf member) ∷ []) (F.asked files.old) (F.asked files.new) }
+    ensures may_ask { AsksOnly (file_name names.now (File.Leaf member) ∷ []) (F.asked files.old) (F.asked files.new) }
     ensures kept { F.faults files.old ≤ F.faults files.new }
 {
     let file = File::Leaf(member);
@@ -53,7 +53,7 @@ pub(crate) fn open_signer<D: LeafDisk>(
     requires height { IsLeafHeight (height_of tree.lms) }
     ensures ok { IfOk result (λ signer. IsOpened (D.stored disk) (D.stored signer.leaves.disk) signer.leaves) }
     ensures key { IfOk result (λ signer. signer.key ≡ tree) }
-    ensures err { IfErr result (λ e. IsOpenFault (D.stored disk) (D.faults disk) (D.faults e.1) member (height_of tree.lms) e.0) }
+    ensures err { IfErr result (λ e. IsLeafFileFault (D.stored disk) (D.faults disk) (D.faults e.1) member (height_of tree.lms) e.0) }
     ensures unwritten { IfErr result (λ e. D.stored e.1 ≡ D.stored disk) }
 {
     let height = tree.public().lms.height();

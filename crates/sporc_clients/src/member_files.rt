@@ -45,7 +45,7 @@ pub fn read_member<F: Folder>(
     ensures err { IfErr result (IsMemberFault (F.files files.old) (F.faults files.old) (F.faults files.new) names.now member) }
     ensures files { F.files files.new ≡ F.files files.old }
     ensures lent { F.lent files.new ≡ F.lent files.old }
-    ensures asked { AsksOnly (map (file_name names.now) (own_files member editors)) (F.asked files.old) (F.asked files.new) }
+    ensures may_ask { AsksOnly (map (file_name names.now) (own_files member editors)) (F.asked files.old) (F.asked files.new) }
     ensures kept { F.faults files.old ≤ F.faults files.new }
 {
     let genesis = read_genesis_file(alloc, files, names)?;
@@ -71,7 +71,7 @@ fn read_scripts<F: Folder>(
     ensures err { IfErr result (IsFirstScriptFault (F.files files.old) (F.faults files.old) (F.faults files.new) names.now) }
     ensures files { F.files files.new ≡ F.files files.old }
     ensures lent { F.lent files.new ≡ F.lent files.old }
-    ensures asked { AsksOnly (map (file_name names.now) (script_files editors)) (F.asked files.old) (F.asked files.new) }
+    ensures may_ask { AsksOnly (map (file_name names.now) (script_files editors)) (F.asked files.old) (F.asked files.new) }
     ensures kept { F.faults files.old ≤ F.faults files.new }
 {
     let mut scripts = Vec::new(alloc);
@@ -93,7 +93,7 @@ fn read_script<F: Folder>(
     ensures err { IfErr result (IsScriptFault (F.files files.old) (F.faults files.old) (F.faults files.new) names.now editor) }
     ensures files { F.files files.new ≡ F.files files.old }
     ensures lent { F.lent files.new ≡ F.lent files.old }
-    ensures asked { AsksOnly (file_name names.now (File.Script editor) ∷ []) (F.asked files.old) (F.asked files.new) }
+    ensures may_ask { AsksOnly (file_name names.now (File.Script editor) ∷ []) (F.asked files.old) (F.asked files.new) }
     ensures kept { F.faults files.old ≤ F.faults files.new }
 {
     let text = read_bytes(alloc, files, names, File::Script(editor))?;

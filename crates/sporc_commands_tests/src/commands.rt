@@ -89,7 +89,7 @@ fn sessions<R: Threads + Wait + Sync>(
     Ok((first, second))
 }
 
-// Whether one of the lines that were written, behind the first, begins so.
+// Whether these bytes stand in what was written.
 fn has_line(written: &[u8], line: &[u8]) -> bool {
     if line.is_empty() {
         return false;

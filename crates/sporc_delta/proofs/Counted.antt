@@ -6,6 +6,7 @@ use Rattle.std.proofs.lemmas.Str.{chars-append, encodes-chars, length-le-encodes
 use lib.Utf8.{scalar}
 use Rattle.std.specs.Char.{encode_utf8}
 use Rattle.std.specs.Str.{chars, all_scalars, IsUtf8, IsCharBoundary, is_utf8, encode_utf8_all}
+use Rattle.std.proofs.lemmas.Bool.{and_parts}
 use Rattle.sporc_delta.specs.Texts.{TextInvariant}
 
 -- the bytes are those of their characters
@@ -40,21 +41,16 @@ seam : (bytes : List ℕ) (n : ℕ) → IsUtf8 bytes → bytes ≡ encode_utf8_a
 seam bytes n utf8 =
     sym (encodes-chars bytes utf8) ∙ ap encode_utf8_all (sym (take-append-drop n (chars bytes))) ∙ encodes-append (take n (chars bytes)) (drop n (chars bytes))
 
-both_true : (a b : Bool) → (a && b) ≡ true → (a ≡ true) × (b ≡ true)
-both_true true true h = (refl, refl)
-both_true true false h = absurd cc
-both_true false b h = absurd cc
-
 -- the characters of a part of a text are characters
 scalars-take : (n : ℕ) (text : List ℕ) → all_scalars text ≡ true → all_scalars (take n text) ≡ true
 scalars-take zero text h = refl
 scalars-take (suc n) [] h = refl
-scalars-take (suc n) (c ∷ text) h = let b = both_true (scalar c) (all_scalars text) h in rw (b.0, scalars-take n text b.1) refl
+scalars-take (suc n) (c ∷ text) h = let b = and_parts (scalar c) (all_scalars text) h in rw (b.0, scalars-take n text b.1) refl
 
 scalars-drop : (n : ℕ) (text : List ℕ) → all_scalars text ≡ true → all_scalars (drop n text) ≡ true
 scalars-drop zero text h = h
 scalars-drop (suc n) [] h = refl
-scalars-drop (suc n) (c ∷ text) h = scalars-drop n text (both_true (scalar c) (all_scalars text) h).1
+scalars-drop (suc n) (c ∷ text) h = scalars-drop n text (and_parts (scalar c) (all_scalars text) h).1
 
 pub IsUtf8-encode_all : (text : List ℕ) → all_scalars text ≡ true → IsUtf8 (encode_utf8_all text)
 IsUtf8-encode_all text h = (text, (h, refl))

@@ -3,7 +3,7 @@ use Rattle.std.proofs.Common.{◌≡◌, ℕ, zero, suc, ◌+◌, ◌≤◌, ◌
 use Rattle.std.specs.Prelude.{slice_index}
 use Rattle.std.specs.Int.{w64, from_be_bytes, to_be_bytes}
 use Rattle.std.specs.Str.{all_scalars, encode_utf8_all}
-use Rattle.std.proofs.lemmas.Bool.{ltb-false, le-ltb, ne_eqb, eqb-true, eqb-false}
+use Rattle.std.proofs.lemmas.Bool.{eqb-false, eqb-true, le-ltb, ltb-false, ne_eqb, or_parts}
 use Rattle.std.proofs.lemmas.List.{append-nil, length-append}
 use Rattle.std.proofs.lemmas.Nat.{be_bytes_8, from_be_bytes-to_be_bytes_8}
 use Rattle.std.proofs.lemmas.Str.{chars-encodes, encodes-chars, scalars-chars, IsUtf8-from_is_utf8, is_utf8-from_IsUtf8, length-le-encodes}
@@ -38,10 +38,6 @@ kind_spelled byte kind e = go (eqb byte KEEP) (eqb byte INSERT) (eqb byte REMOVE
     go false false true a b c e = let k : kinds.Remove ≡ kind = cc in eqb-true byte REMOVE c ∙ ap kind_byte k
     go false false false a b c e = absurd cc
 
-neither : (x y : Bool) → (x || y) ≡ false → (x ≡ false) × (y ≡ false)
-neither true y h = absurd cc
-neither false y h = (refl, h)
-
 record CountRead (number count : ℕ) : Type 0 where
   pub is : number ≡ count
   pub some : 0 < count
@@ -50,7 +46,7 @@ record CountRead (number count : ℕ) : Type 0 where
 count_ok : (number count : ℕ) → count_at number ≡ Ok count → CountRead number count
 count_ok number count e =
     let g = guard_ok (eqb number 0 || ltb (MAX_COUNT) number) faults.BadCount number count e in
-    let n = neither (eqb number 0) (ltb (MAX_COUNT) number) g.0 in
+    let n = or_parts (eqb number 0) (ltb (MAX_COUNT) number) g.0 in
     let some = eqb-false number 0 n.0 in
     let small : number ≤ MAX_COUNT = ltb-false (MAX_COUNT) number n.1 in
     record { is = g.1; some = rw (← g.1) (omega arith); small = rw (← g.1) small }

@@ -14,9 +14,14 @@ use Rattle.sporc_delta.specs.Format.{part_bytes, parts_bytes}
 use Rattle.sporc_delta.proofs.Lengths.{out_len-append, out_len-inserts}
 
 -- a character has at most four bytes
-length-encode_all : (text : List ℕ) → length (encode_utf8_all text) ≤ 4 * length text
+pub length-encode_all : (text : List ℕ) → length (encode_utf8_all text) ≤ 4 * length text
 length-encode_all [] = omega arith
 length-encode_all (c ∷ text) = omega (arith, length-encode_all text, length-append (encode_utf8 c) (encode_utf8_all text), length-encode c, len_utf8_bounds c)
+
+-- and at least one
+pub length-le-encode_all : (text : List ℕ) → length text ≤ length (encode_utf8_all text)
+length-le-encode_all [] = omega arith
+length-le-encode_all (c ∷ text) = omega (arith, length-le-encode_all text, length-append (encode_utf8 c) (encode_utf8_all text), length-encode c, len_utf8_bounds c)
 
 -- a part has nine bytes, and the bytes of its text
 length-part_bytes : (p : Part) → length (part_bytes p) ≤ 9 + 4 * out_len (part_marks p)

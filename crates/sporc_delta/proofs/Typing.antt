@@ -13,7 +13,7 @@ use Rattle.sporc_delta.specs.Typed.{IsTypedDelta, IsTypedPart}
 use Rattle.sporc_delta.proofs.Lengths.{base_len-append, base_len-retains, base_len-deletes}
 use Rattle.sporc_delta.proofs.Runs.{marks_of-runs}
 
-scalars_append : (xs ys : List ℕ) → all_scalars (xs ++ ys) ≡ (all_scalars xs && all_scalars ys)
+pub scalars_append : (xs ys : List ℕ) → all_scalars (xs ++ ys) ≡ (all_scalars xs && all_scalars ys)
 scalars_append [] ys = refl
 scalars_append (x ∷ xs) ys = grind (arith, scalars_append xs ys)
 

@@ -31,7 +31,7 @@ fn kind_of_byte(byte: u8) -> Result<Kind, DeltaFault>
 fn count_of(head: &[u8; HEAD_LEN]) -> Result<u64, DeltaFault>
     ensures ok { IfOk result (λ count. count_at (from_be_bytes w64 (drop 1 head.now)) ≡ Ok count) }
     ensures err { IfErr result (λ e. count_at (from_be_bytes w64 (drop 1 head.now)) ≡ Err e) }
-    ensures small { IfOk result (λ count. count ≤ MAX_COUNT) }
+    ensures within { IfOk result (λ count. count ≤ MAX_COUNT) }
 {
     let count = u64::from_be_bytes([
         head[1], head[2], head[3], head[4], head[5], head[6], head[7], head[8],
@@ -57,7 +57,7 @@ fn repeats(before: Option<Kind>, kind: Kind) -> bool
 fn read_head(before: Option<Kind>, cursor: &mut Cursor<'_>) -> Result<(Kind, u64), DeltaFault>
     ensures ok { IfOk result (λ x. head_at before cursor.old ≡ Ok (x.0, x.1, cursor.new)) }
     ensures err { IfErr result (λ e. head_at before cursor.old ≡ Err e) }
-    ensures small { IfOk result (λ x. x.1 ≤ MAX_COUNT) }
+    ensures within { IfOk result (λ x. x.1 ≤ MAX_COUNT) }
     ensures rest { OnOk result (9 + length cursor.new.rest ≡ length cursor.old.rest) }
 {
     let head = cursor.array()?;
@@ -74,7 +74,7 @@ fn read_head(before: Option<Kind>, cursor: &mut Cursor<'_>) -> Result<(Kind, u64
 fn read_text<'a>(cursor: &mut Cursor<'a>, count: u64) -> Result<TextSlice<'a>, DeltaFault>
     ensures ok { IfOk result (λ text. text_at count cursor.old ≡ Ok (text, cursor.new)) }
     ensures err { IfErr result (λ e. text_at count cursor.old ≡ Err e) }
-    ensures small { IfOk result (λ text. length text ≤ count) }
+    ensures within { IfOk result (λ text. length text ≤ count) }
     ensures rest { OnOk result (length cursor.new.rest ≤ length cursor.old.rest) }
 {
     let text = cursor.take(count as usize)?;

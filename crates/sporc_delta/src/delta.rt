@@ -126,7 +126,7 @@ impl Delta {
     /// The number of characters of the text before.
     pub fn base_len(&self) -> u64
         ensures value { result ≡ base_len self.now }
-        ensures small { result ≤ MAX_TEXT_LEN }
+        ensures within { result ≤ MAX_TEXT_LEN }
     {
         self.base
     }
@@ -134,7 +134,7 @@ impl Delta {
     /// The number of characters of the text after.
     pub fn out_len(&self) -> u64
         ensures value { result ≡ out_len self.now }
-        ensures small { result ≤ MAX_TEXT_LEN }
+        ensures within { result ≤ MAX_TEXT_LEN }
     {
         self.out
     }
@@ -144,7 +144,7 @@ impl Delta {
         ensures value { result.now ≡ runs self.now }
         ensures marks { marks_of result.now ≡ self.now }
         ensures are_runs { AreRuns result.now }
-        ensures small { (base_len self.now ≤ MAX_TEXT_LEN) × (out_len self.now ≤ MAX_TEXT_LEN) }
+        ensures within { (base_len self.now ≤ MAX_TEXT_LEN) × (out_len self.now ≤ MAX_TEXT_LEN) }
     {
         self.parts.as_slice()
     }

@@ -24,7 +24,7 @@ pub enum DeltaFault {
     #[error("not UTF-8")]
     NotUtf8,
     /// Memory ran out.
-    #[error("want of memory")]
+    #[error("out of memory")]
     Memory,
 }
 

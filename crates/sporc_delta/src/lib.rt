@@ -12,10 +12,10 @@
 //! ```
 //!
 //! Proved: each call's result, also which fault of the bytes is answered; that what is read is spelled so and what is spelled
-//! so is read; that marks have one list of runs; that two deltas are the same exactly where `is_same` says so. Only tested:
-//! the spelling of the format's example, and that no call answers want of memory with ample memory. What deltas do to texts,
+//! so is read; that marks have one list of runs; that two deltas are the same exactly if `is_same` says so. Only tested:
+//! the spelling of the format's example, and that no call runs out of memory if there is ample. What deltas do to texts,
 //! and how they are transformed, is defined here (`specs/Marks.antt`, `specs/Transforms.antt`) and proved in `sporc_text`
-//! and `sporc_xform`.
+//! and `sporc_xform`. Neither: how long a call takes.
 #![tactic(auto)]
 
 mod decode;

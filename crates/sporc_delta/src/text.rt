@@ -123,7 +123,7 @@ impl<'a> TextSlice<'a> {
     /// The whole of a text.
     pub fn new(text: &'a str) -> TextSlice<'a>
         ensures characters { result ≡ chars text.entry.now }
-        ensures short { length result ≤ length text.entry.now }
+        ensures within { length result ≤ length text.entry.now }
     {
         let len = text.chars().count() as u64;
         TextSlice { text, len }
@@ -154,13 +154,13 @@ impl<'a> TextSlice<'a> {
     /// The first `at` characters, and those after them.
     pub fn split_at(&self, at: u64) -> (TextSlice<'a>, TextSlice<'a>)
         requires { at ≤ length self.now }
-        ensures front { result.0 ≡ take at self.now }
+        ensures prefix { result.0 ≡ take at self.now }
         ensures back { result.1 ≡ drop at self.now }
     {
-        let (front, back) = self.text.split_at(place_of(self.text, at));
+        let (prefix, back) = self.text.split_at(place_of(self.text, at));
         (
             TextSlice {
-                text: front,
+                text: prefix,
                 len: at,
             },
             TextSlice {

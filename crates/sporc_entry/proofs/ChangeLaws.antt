@@ -5,10 +5,10 @@ use Rattle.std.specs.List.{flat_map, AllByRecursion}
 use Rattle.std.specs.Int.{w8, w16, to_be_bytes}
 use Rattle.std.proofs.lemmas.Bool.{eqb-true, eqb-false}
 use Rattle.std.proofs.lemmas.List.{append-nil}
-use Rattle.std.proofs.lemmas.List.Concat.{flat_map-cons}
-use Rattle.sporc_bytes.specs.Fields.{Reading, ◌>>=◌, fault_as, bytes_at, end_at}
+use Rattle.sporc_bytes.specs.Fields.{Reading, ◌>>=◌, fault_as, bytes_at, end_at, number_within, values_at}
 use Rattle.sporc_base.specs.Bytes.{IsBytes}
-use Rattle.sporc_bytes.proofs.Fields.{bind_ok, ok_is, Takes, Takes-then, Takes-nothing, wide16, number_takes, bytes_takes, bytes_again, u16_again, end_takes}
+use Rattle.sporc_bytes.proofs.Fields.{bind_ok, ok_is, Takes, Takes-then, wide16, number_takes, bytes_takes, bytes_again, u16_again, end_takes, within_takes, byte_takes, u16_within_again, byte_again, fault_as_ok}
+use Rattle.sporc_bytes.proofs.ListLaws.{values_take, values_again}
 use Rattle.sporc_member.specs.declared.limits.TheConstants.{MAX_MEMBERS}
 use Rattle.sporc_entry.specs.declared.limits.TheConstants.{HIGHEST_MEMBER}
 use Rattle.sporc_member.specs.declared.change.Change.{Change}
@@ -17,11 +17,11 @@ use Rattle.sporc_member.specs.Role.{role_code_of}
 use Rattle.sporc_entry.specs.declared.change.ChangeBody.{ChangeBody}
 use Rattle.sporc_entry.specs.declared.fault.EntryFault.{EntryFault}
 use Rattle.sporc_entry.specs.declared.wrap.Wrap.{Wrap}
-use Rattle.sporc_entry.specs.Fields.{number_within, role_at, values_at}
+use Rattle.sporc_entry.specs.Fields.{role_at}
 use Rattle.sporc_entry.specs.declared.fault.EntryFault.TheVariants.{Malformed, Memory}
 use Rattle.sporc_base.specs.Outcome.{GivesUnless}
 use Rattle.sporc_entry.specs.ChangeBody.{change_of_kind, change_at, wrap_at, change_body_at, change_body_from, change_bytes, wrap_bytes, change_body_bytes, IsMember, IsChange, IsWrap, IsChangeBody}
-use Rattle.sporc_entry.proofs.FieldLaws.{Leaves, is_read, within_takes, byte_takes, u16_within_again, byte_again, role_takes, role_again}
+use Rattle.sporc_entry.proofs.FieldLaws.{Leaves, role_takes, role_again}
 
 -- ---- changes
 
@@ -135,35 +135,11 @@ wrap_takes r x h e =
     let P : Wrap × Reading → Type 0 = λ y. Takes r (wrap_bytes y.0) y.1 × IsWrap y.0 in
     subst P (ok_is made x b.2) (Takes-then r (to_be_bytes w16 a.0.0) a.0.1 b.0.0 b.0.1 ta.0 tb.0, record { member = ta.1; sealed = tb.1 })
 
-wraps_take : (n : ℕ) (r : Reading) (x : List Wrap × Reading) → IsBytes r.rest → values_at wrap_at n r ≡ Ok x → Takes r (flat_map wrap_bytes x.0) x.1 × (length x.0 ≡ n) × AllByRecursion IsWrap x.0
-unfolding values_at
-wraps_take zero r x h e =
-    let P : List Wrap × Reading → Type 0 = λ y. Takes r (flat_map wrap_bytes y.0) y.1 × (length y.0 ≡ 0) × AllByRecursion IsWrap y.0 in
-    subst P (ok_is ([], r) x e) (Takes-nothing r h, refl, tt)
-wraps_take (suc n) r x h e =
-    let a = bind_ok (wrap_at r) (λ first. values_at wrap_at n first.1 >>= λ others. Ok (first.0 ∷ others.0, others.1)) x e in
-    let b = bind_ok (values_at wrap_at n a.0.1) (λ others. Ok (a.0.0 ∷ others.0, others.1)) x a.2 in
-    let first = wrap_takes r a.0 h a.1 in
-    let second = wraps_take n a.0.1 b.0 first.0.bytes b.1 in
-    let both : Takes r (wrap_bytes a.0.0 ++ flat_map wrap_bytes b.0.0) b.0.1 = Takes-then r (wrap_bytes a.0.0) a.0.1 (flat_map wrap_bytes b.0.0) b.0.1 first.0 second.0 in
-    let made : List Wrap × Reading = (a.0.0 ∷ b.0.0, b.0.1) in
-    let P : List Wrap × Reading → Type 0 = λ y. Takes r (flat_map wrap_bytes y.0) y.1 × (length y.0 ≡ suc n) × AllByRecursion IsWrap y.0 in
-    subst P (ok_is made x b.2) (rw flat_map-cons both, ap suc second.1, (first.1, second.2))
-
 wrap_again : (w : Wrap) (at : ℕ) (rest : List ℕ) → IsWrap w → wrap_at (record { rest = wrap_bytes w ++ rest; at = at }) ≡ Ok (w, record { rest = rest; at = at + 2 + 32 })
 unfolding wrap_at
 wrap_again w at rest is =
     let regrouped : wrap_bytes w ++ rest ≡ to_be_bytes w16 w.member ++ (w.sealed ++ rest) = append_assoc (to_be_bytes w16 w.member) w.sealed rest in
     ap (λ (bs : List ℕ). wrap_at (record { rest = bs; at = at })) regrouped ∙ rw (u16_again w.member at (w.sealed ++ rest) is.member, bytes_again 32 (at + 2) w.sealed rest is.sealed) refl
-
-wraps_again : (ws : List Wrap) (at : ℕ) (rest : List ℕ) → AllByRecursion IsWrap ws → ReadsTo (values_at wrap_at (length ws) (record { rest = flat_map wrap_bytes ws ++ rest; at = at })) ws rest
-unfolding values_at
-wraps_again [] at rest is = (at, refl)
-wraps_again (w ∷ ws) at rest is =
-    let others = wraps_again ws (at + 2 + 32) rest is.1 in
-    let regrouped : flat_map wrap_bytes (w ∷ ws) ++ rest ≡ wrap_bytes w ++ (flat_map wrap_bytes ws ++ rest) =
-    ap (λ (bs : List ℕ). bs ++ rest) (flat_map-cons wrap_bytes w ws) ∙ append_assoc (wrap_bytes w) (flat_map wrap_bytes ws) rest in
-    (others.0, ap (λ (bs : List ℕ). values_at wrap_at (suc (length ws)) (record { rest = bs; at = at })) regrouped ∙ rw (wrap_again w at (flat_map wrap_bytes ws ++ rest) is.0, others.1) refl)
 
 -- ---- bodies of changes
 
@@ -188,14 +164,14 @@ fields_take r x h e =
     let tb = bytes_takes 32 a.0.1 b.0 ta.0.bytes b.1 in
     let tc = bytes_takes 32 b.0.1 c.0 tb.0.bytes c.1 in
     let tn = within_takes 0 MAX_MEMBERS w16 (2 ^ 16) wide16 c.0.1 n.0 tc.0.bytes n.1 in
-    let tw = wraps_take n.0.0 n.0.1 w.0 tn.0.bytes w.1 in
+    let tw = values_take wrap_at wrap_bytes IsWrap wrap_takes n.0.0 n.0.1 w.0 tn.0.bytes w.1 in
     let body : ChangeBody = record { change = a.0.0; commitment = b.0.0; previous = c.0.0; wraps = w.0.0 } in
     let made : ChangeBody × Reading = (body, w.0.1) in
-    let counted : c.0.1.rest ≡ to_be_bytes w16 (length w.0.0) ++ n.0.1.rest = tn.0.parts ∙ ap (λ (k : ℕ). to_be_bytes w16 k ++ n.0.1.rest) (sym tw.1) in
+    let counted : c.0.1.rest ≡ to_be_bytes w16 (length w.0.0) ++ n.0.1.rest = tn.0.parts ∙ ap (λ (k : ℕ). to_be_bytes w16 k ++ n.0.1.rest) (sym tw.count) in
     let P : ChangeBody × Reading → Type 0 = λ y. Leaves r (body_bytes y.0) y.1 × IsChangeBody y.0 in
     subst P {x = made} {y = x} (ok_is made x w.2) (
-      record { parts = body_parts body r.rest a.0.1.rest b.0.1.rest c.0.1.rest n.0.1.rest w.0.1.rest ta.0.parts tb.0.parts tc.0.parts counted tw.0.parts; bytes = tw.0.bytes },
-      record { change = ta.1; commitment = tb.1; previous = tc.1; count = omega (arith, tw.1, tn.2); wraps = tw.2 },
+      record { parts = body_parts body r.rest a.0.1.rest b.0.1.rest c.0.1.rest n.0.1.rest w.0.1.rest ta.0.parts tb.0.parts tc.0.parts counted tw.text.parts; bytes = tw.text.bytes },
+      record { change = ta.1; commitment = tb.1; previous = tc.1; count = omega (arith, tw.count, tn.2); wraps = tw.each },
     )
 
 pub change_body_takes : (at : ℕ) (bytes : List ℕ) (c : ChangeBody) → IsBytes bytes → change_body_from at bytes ≡ Ok c → IsChangeBody c × (bytes ≡ change_body_bytes c)
@@ -217,7 +193,7 @@ unfolding change_body_from change_body_at change_body_bytes
 change_body_again at c is =
     let tail : List ℕ = to_be_bytes w16 (length c.wraps) ++ flat_map wrap_bytes c.wraps in
     let first = change_again c.change at (c.commitment ++ (c.previous ++ tail)) is.change in
-    let wraps = wraps_again c.wraps (first.0 + 32 + 32 + 2) [] is.wraps in
+    let wraps = values_again wrap_at wrap_bytes IsWrap (λ w at rest is. (at + 2 + 32, wrap_again w at rest is)) c.wraps (first.0 + 32 + 32 + 2) [] is.wraps in
     let regrouped : flat_map wrap_bytes c.wraps ++ [] ≡ flat_map wrap_bytes c.wraps = append-nil (flat_map wrap_bytes c.wraps) in
     let last : values_at wrap_at (length c.wraps) (record { rest = flat_map wrap_bytes c.wraps; at = first.0 + 32 + 32 + 2 }) ≡ Ok (c.wraps, record { rest = []; at = wraps.0 }) =
     ap (λ (bs : List ℕ). values_at wrap_at (length c.wraps) (record { rest = bs; at = first.0 + 32 + 32 + 2 })) (sym regrouped) ∙ wraps.1 in
@@ -231,7 +207,7 @@ change_body_again at c is =
 
 -- what a call that read so found
 pub change_found : (bytes : List ℕ) (r : Result ChangeBody EntryFault) → IsBytes bytes → GivesUnless Memory (λ c. c) r (fault_as Malformed (change_body_from 0 bytes)) → IfOk r (λ c. IsChangeBody c × (bytes ≡ change_body_bytes c))
-change_found bytes (Ok c) h read = change_body_takes 0 bytes c h (is_read Malformed (change_body_from 0 bytes) c read)
+change_found bytes (Ok c) h read = change_body_takes 0 bytes c h (fault_as_ok Malformed (change_body_from 0 bytes) c read)
 change_found bytes (Err fault) h read = tt
 
 pub change_only : (bytes : List ℕ) (r : Result ChangeBody EntryFault) → GivesUnless Memory (λ c. c) r (fault_as Malformed (change_body_from 0 bytes))

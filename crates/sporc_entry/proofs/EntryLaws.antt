@@ -7,7 +7,7 @@ use Rattle.std.proofs.lemmas.List.{take_at, drop_at}
 use Rattle.sporc_bytes.specs.Fields.{Reading, ◌>>=◌, fault_as, counted_at, counted}
 use Rattle.sporc_base.specs.Bytes.{IsBytes}
 use Rattle.sporc_base.proofs.ByteLemmas.{IsBytes-drop, IsBytes-take}
-use Rattle.sporc_bytes.proofs.Fields.{bind_ok, ok_is, wide16, wide32, number_takes, bytes_takes, bytes_again, u16_again, u32_again, counted_takes, counted_again, end_takes}
+use Rattle.sporc_bytes.proofs.Fields.{bind_ok, ok_is, wide16, wide32, number_takes, bytes_takes, bytes_again, u16_again, u32_again, counted_takes, counted_again, end_takes, byte_takes, byte_again, fault_as_ok}
 use Rattle.sporc_entry.specs.declared.change.ChangeBody.{ChangeBody}
 use Rattle.sporc_entry.specs.declared.entry.Entry.{Entry}
 use Rattle.sporc_entry.specs.declared.fault.EntryFault.{EntryFault}
@@ -17,7 +17,7 @@ use Rattle.sporc_base.specs.Outcome.{GivesUnless}
 use Rattle.sporc_entry.specs.ChangeBody.{change_body_from, IsChangeBody, SpellsChange}
 use Rattle.sporc_entry.specs.declared.limits.TheConstants.{MAX_EDIT_BODY, MAX_CHANGE_BODY, MAX_SIGNATURE, MAX_ENTRY}
 use Rattle.sporc_entry.specs.Entry.{header_at, body_limit, body_read, entry_of, change_of, header_bytes, counted_bytes, entry_bytes, IsHeader, IsEntry}
-use Rattle.sporc_entry.proofs.FieldLaws.{Leaves, is_read, is_one, byte_takes, byte_again}
+use Rattle.sporc_entry.proofs.FieldLaws.{Leaves, is_one}
 use Rattle.sporc_entry.proofs.ChangeLaws.{change_body_takes, change_body_again}
 
 -- ---- headers
@@ -149,7 +149,7 @@ entry_takes bytes e h read =
 
 -- ---- lengths
 
-limit_most : (kind : ℕ) → body_limit kind ≤ MAX_EDIT_BODY
+pub limit_most : (kind : ℕ) → body_limit kind ≤ MAX_EDIT_BODY
 limit_most kind = go (eqb kind 1)
   where
     go : (b : Bool) → cond b MAX_EDIT_BODY MAX_CHANGE_BODY ≤ MAX_EDIT_BODY
@@ -201,7 +201,7 @@ entry_again e is =
 
 -- what a call that read so found
 pub entry_found : (bytes : List ℕ) (r : Result Entry EntryFault) → IsBytes bytes → GivesUnless Memory (λ e. e) r (fault_as Malformed (entry_of bytes)) → IfOk r (λ e. IsEntry e × (bytes ≡ entry_bytes e))
-entry_found bytes (Ok e) h read = entry_takes bytes e h (is_read Malformed (entry_of bytes) e read)
+entry_found bytes (Ok e) h read = entry_takes bytes e h (fault_as_ok Malformed (entry_of bytes) e read)
 entry_found bytes (Err fault) h read = tt
 
 pub entry_sized : (bytes : List ℕ) (r : Result Entry EntryFault) → IfOk r (λ e. IsEntry e × (bytes ≡ entry_bytes e)) → IfOk r (λ _. length bytes ≤ MAX_ENTRY)

@@ -1,8 +1,7 @@
 -- Founders read one after another, as a loop reads them.
 use Rattle.std.proofs.Common.{◌≡◌, ℕ, ◌+◌, List, Ok, Err, refl}
-use Rattle.sporc_bytes.specs.Fields.{Reading}
+use Rattle.sporc_bytes.specs.Fields.{Reading, values_at}
 use Rattle.sporc_member.specs.declared.founder.Founder.{Founder}
-use Rattle.sporc_entry.specs.Fields.{values_at}
 use Rattle.sporc_entry.specs.Genesis.{founder_at, next_founder, founders_at}
 
 pub next_is : (least : ℕ) (r : Reading) (m : Founder) (after : Reading) → founder_at least r ≡ Ok (m, after) → next_founder (least, r) ≡ Ok (m, (m.member + 1, after))

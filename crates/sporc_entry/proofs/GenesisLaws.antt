@@ -5,10 +5,10 @@ use Rattle.std.specs.List.{flat_map, AllByRecursion}
 use Rattle.std.specs.List.Sorted.{IsStrictlyIncreasing}
 use Rattle.std.specs.Int.{w16, to_be_bytes}
 use Rattle.std.proofs.lemmas.List.{append-nil}
-use Rattle.std.proofs.lemmas.List.Concat.{flat_map-cons}
-use Rattle.sporc_bytes.specs.Fields.{Reading, ◌>>=◌, fault_as, end_at}
+use Rattle.sporc_bytes.specs.Fields.{Reading, ◌>>=◌, fault_as, end_at, values_at}
 use Rattle.sporc_base.specs.Bytes.{IsBytes}
-use Rattle.sporc_bytes.proofs.Fields.{bind_ok, ok_is, Takes, Takes-then, Takes-nothing, wide16, bytes_takes, bytes_again, end_takes}
+use Rattle.sporc_bytes.proofs.Fields.{bind_ok, ok_is, Takes, Takes-then, wide16, bytes_takes, bytes_again, end_takes, within_takes, byte_takes, u16_within_again, byte_again}
+use Rattle.sporc_bytes.proofs.ListLaws.{Ascends, IsReadFrom, ascending_take, ascending_again}
 use Rattle.sporc_member.specs.declared.limits.TheConstants.{MAX_MEMBERS}
 use Rattle.sporc_entry.specs.declared.limits.TheConstants.{HIGHEST_MEMBER}
 use Rattle.sporc_member.specs.declared.founder.Founder.{Founder}
@@ -17,27 +17,21 @@ use Rattle.sporc_member.specs.Roster.{numbers_of}
 use Rattle.sporc_entry.specs.declared.fault.GenesisFault.{GenesisFault}
 use Rattle.sporc_entry.specs.declared.fault.GenesisFault.TheVariants.{Malformed, Memory}
 use Rattle.sporc_entry.specs.declared.genesis.Genesis.{Genesis}
-use Rattle.sporc_entry.specs.Fields.{values_at}
 use Rattle.sporc_base.specs.Outcome.{GivesUnless}
 use Rattle.sporc_entry.specs.Genesis.{founder_at, next_founder, founders_at, genesis_at, genesis_in, founders_fault, accepted, tested, genesis_of, founder_bytes, genesis_bytes, IsFounder, IsGenesis}
-use Rattle.sporc_entry.proofs.FieldLaws.{Leaves, is_one, within_takes, byte_takes, u16_within_again, byte_again, role_takes, role_again}
+use Rattle.sporc_entry.proofs.FieldLaws.{Leaves, is_one, role_takes, role_again}
 
 -- ---- numbers in ascending order
 
--- each number is above the one before it, and the first is at least this
-abbrev Ascends : ℕ → List Founder → Type 0
-Ascends least [] = Unit {0}
-Ascends least (m ∷ ms) = (least ≤ m.member) × Ascends (m.member + 1) ms
-
 -- a list whose second number is above its first, and that increases from there
-increasing_cons : (x y : ℕ) (ys : List ℕ) → x < y → IsStrictlyIncreasing (y ∷ ys) → IsStrictlyIncreasing (x ∷ y ∷ ys)
+pub increasing_cons : (x y : ℕ) (ys : List ℕ) → x < y → IsStrictlyIncreasing (y ∷ ys) → IsStrictlyIncreasing (x ∷ y ∷ ys)
 increasing_cons x y ys lt is zero h = lt
 increasing_cons x y ys lt is (suc k) h =
     let one : suc k + 1 ≡ suc (k + 1) = omega arith in
     let P : ℕ → Type 0 = λ j. get_or (y ∷ ys) k 0 < get_or (x ∷ y ∷ ys) j 0 in
     subst P (sym one) (is k (omega (arith, h)))
 
-increasing_tail : (x y : ℕ) (ys : List ℕ) → IsStrictlyIncreasing (x ∷ y ∷ ys) → (x < y) × IsStrictlyIncreasing (y ∷ ys)
+pub increasing_tail : (x y : ℕ) (ys : List ℕ) → IsStrictlyIncreasing (x ∷ y ∷ ys) → (x < y) × IsStrictlyIncreasing (y ∷ ys)
 increasing_tail x y ys is = (is 0 (omega arith), later)
   where
     later : IsStrictlyIncreasing (y ∷ ys)
@@ -46,12 +40,16 @@ increasing_tail x y ys is = (is 0 (omega arith), later)
         let P : ℕ → Type 0 = λ j. get_or (y ∷ ys) k 0 < get_or (x ∷ y ∷ ys) j 0 in
         subst P one (is (suc k) (omega (arith, h)))
 
-ascends_increasing : (least : ℕ) (ms : List Founder) → Ascends least ms → IsStrictlyIncreasing (numbers_of ms)
+-- a founder's number
+abbrev number_of : Founder → ℕ
+number_of m = m.member
+
+ascends_increasing : (least : ℕ) (ms : List Founder) → Ascends number_of least ms → IsStrictlyIncreasing (numbers_of ms)
 ascends_increasing least [] is = λ k h. absurd (omega (arith, h))
 ascends_increasing least (m ∷ []) is = λ k h. absurd (omega (arith, h))
 ascends_increasing least (m ∷ n ∷ ms) is = increasing_cons m.member n.member (numbers_of ms) (omega (arith, is.1.0)) (ascends_increasing (m.member + 1) (n ∷ ms) is.1)
 
-increasing_ascends : (least : ℕ) (m : Founder) (ms : List Founder) → least ≤ m.member → IsStrictlyIncreasing (numbers_of (m ∷ ms)) → Ascends least (m ∷ ms)
+increasing_ascends : (least : ℕ) (m : Founder) (ms : List Founder) → least ≤ m.member → IsStrictlyIncreasing (numbers_of (m ∷ ms)) → Ascends number_of least (m ∷ ms)
 increasing_ascends least m [] le is = (le, tt)
 increasing_ascends least m (n ∷ ms) le is =
     let t = increasing_tail m.member n.member (numbers_of ms) is in
@@ -60,53 +58,23 @@ increasing_ascends least m (n ∷ ms) le is =
 -- ---- founders
 
 -- a founder that is read, from a least number on
-pub record IsTaken (least : ℕ) (r : Reading) (x : Founder × Reading) : Type 0 where
-  pub text : Takes r (founder_bytes x.0) x.1
-  pub above : least ≤ x.0.member
-  pub small : x.0.member < 2 ^ 16
-  pub key : length x.0.key ≡ 56
-
-founder_takes : (least : ℕ) (r : Reading) (x : Founder × Reading) → IsBytes r.rest → founder_at least r ≡ Ok x → IsTaken least r x
-unfolding founder_at
-founder_takes least r x h e =
-    let a = bind_ok _ _ x e in
-    let b = bind_ok _ _ x a.2 in
-    let c = bind_ok _ _ x b.2 in
+founder_takes : (least : ℕ) (r : Reading) (x : Founder × (ℕ × Reading)) → 1 ≤ least → IsBytes r.rest → next_founder (least, r) ≡ Ok x → IsReadFrom number_of founder_bytes IsFounder least r x
+unfolding founder_at next_founder
+founder_takes least r x pos h e =
+    let f = bind_ok (founder_at least r) (λ m. Ok (m.0, (m.0.member + 1, m.1))) x e in
+    let a = bind_ok _ _ f.0 f.1 in
+    let b = bind_ok _ _ f.0 a.2 in
+    let c = bind_ok _ _ f.0 b.2 in
     let ta = within_takes least HIGHEST_MEMBER w16 (2 ^ 16) wide16 r a.0 h a.1 in
     let tb = role_takes a.0.1 b.0 ta.0.bytes b.1 in
     let tc = bytes_takes 56 b.0.1 c.0 tb.bytes c.1 in
     let made : Founder × Reading = (record { member = a.0.0; role = b.0.0; key = c.0.0 }, c.0.1) in
     let last = Takes-then a.0.1 (role_code_of b.0.0 ∷ []) b.0.1 c.0.0 c.0.1 tb tc.0 in
     let whole = Takes-then r (to_be_bytes w16 a.0.0) a.0.1 ((role_code_of b.0.0 ∷ []) ++ c.0.0) c.0.1 ta.0 last in
-    let P : Founder × Reading → Type 0 = λ y. IsTaken least r y in
-    subst P (ok_is made x c.2) (record { text = whole; above = ta.1; small = omega (arith, ta.2); key = tc.1 })
-
--- founders that are read, from a least number on
-pub record AreTaken (n least : ℕ) (r : Reading) (x : List Founder × (ℕ × Reading)) : Type 0 where
-  pub text : Takes r (flat_map founder_bytes x.0) x.1.1
-  pub count : length x.0 ≡ n
-  pub each : AllByRecursion IsFounder x.0
-  pub ascending : Ascends least x.0
-
-values_take : (n least : ℕ) (r : Reading) (x : List Founder × (ℕ × Reading)) → 0 < least → IsBytes r.rest → values_at next_founder n (least, r) ≡ Ok x → AreTaken n least r x
-unfolding values_at next_founder
-values_take zero least r x pos h e =
-    let P : List Founder × (ℕ × Reading) → Type 0 = λ y. AreTaken 0 least r y in
-    subst P (ok_is ([], (least, r)) x e) (record { text = Takes-nothing r h; count = refl; each = tt; ascending = tt })
-values_take (suc n) least r x pos h e =
-    let a = bind_ok (next_founder (least, r)) (λ first. values_at next_founder n first.1 >>= λ others. Ok (first.0 ∷ others.0, others.1)) x e in
-    let f = bind_ok (founder_at least r) (λ m. Ok (m.0, (m.0.member + 1, m.1))) a.0 a.1 in
-    let first : Founder × (ℕ × Reading) = (f.0.0, (f.0.0.member + 1, f.0.1)) in
-    let Q : Founder × (ℕ × Reading) → Type 0 = λ y. (values_at next_founder n y.1 >>= λ others. Ok (y.0 ∷ others.0, others.1)) ≡ Ok x in
-    let e' = subst Q {x = a.0} {y = first} (sym (ok_is first a.0 f.2)) a.2 in
-    let b = bind_ok (values_at next_founder n (f.0.0.member + 1, f.0.1)) (λ others. Ok (f.0.0 ∷ others.0, others.1)) x e' in
-    let t = founder_takes least r f.0 h f.1 in
-    let o = values_take n (f.0.0.member + 1) f.0.1 b.0 (omega arith) t.text.bytes b.1 in
-    let both : Takes r (founder_bytes f.0.0 ++ flat_map founder_bytes b.0.0) b.0.1.1 = Takes-then r (founder_bytes f.0.0) f.0.1 (flat_map founder_bytes b.0.0) b.0.1.1 t.text o.text in
-    let made : List Founder × (ℕ × Reading) = (f.0.0 ∷ b.0.0, b.0.1) in
-    let is : IsFounder f.0.0 = record { member = record { positive = omega (arith, pos, t.above); small = t.small }; key = t.key } in
-    let P : List Founder × (ℕ × Reading) → Type 0 = λ y. AreTaken (suc n) least r y in
-    subst P {x = made} {y = x} (ok_is made x b.2) (record { text = rw flat_map-cons both; count = ap suc o.count; each = (is, o.each); ascending = (t.above, o.ascending) })
+    let is : IsFounder made.0 = record { member = record { positive = omega (arith, pos, ta.1); small = omega (arith, ta.2) }; key = tc.1 } in
+    let P : Founder × Reading → Type 0 = λ y. IsReadFrom number_of founder_bytes IsFounder least r (y.0, (y.0.member + 1, y.1)) in
+    let Q : Founder × (ℕ × Reading) → Type 0 = λ y. IsReadFrom number_of founder_bytes IsFounder least r y in
+    subst Q (ok_is (f.0.0, (f.0.0.member + 1, f.0.1)) x f.2) (subst P (ok_is made f.0 c.2) (record { text = whole; above = ta.1; next = refl; is = is }))
 
 founder_again : (least : ℕ) (m : Founder) (at : ℕ) (rest : List ℕ) → IsFounder m → least ≤ m.member → founder_at least (record { rest = founder_bytes m ++ rest; at = at }) ≡ Ok (m, record { rest = rest; at = at + 2 + 1 + 56 })
 unfolding founder_at
@@ -118,18 +86,10 @@ founder_again least m at rest is le =
       bytes_again 56 (at + 2 + 1) m.key rest is.key,
     ) refl
 
--- the place after what was read is some place, and the least number after it some number
-abbrev ReadTo : List Founder → ℕ → Reading → List ℕ → Type 0
-ReadTo ms least r rest = (next at : ℕ) × (values_at next_founder (length ms) (least, r) ≡ Ok (ms, (next, record { rest = rest; at = at })))
-
-values_again : (ms : List Founder) (least at : ℕ) (rest : List ℕ) → AllByRecursion IsFounder ms → Ascends least ms → ReadTo ms least (record { rest = flat_map founder_bytes ms ++ rest; at = at }) rest
-unfolding values_at next_founder
-values_again [] least at rest is asc = (least, at, refl)
-values_again (m ∷ ms) least at rest is asc =
-    let others = values_again ms (m.member + 1) (at + 2 + 1 + 56) rest is.1 asc.1 in
-    let regrouped : flat_map founder_bytes (m ∷ ms) ++ rest ≡ founder_bytes m ++ (flat_map founder_bytes ms ++ rest) =
-    ap (λ (bs : List ℕ). bs ++ rest) (flat_map-cons founder_bytes m ms) ∙ append_assoc (founder_bytes m) (flat_map founder_bytes ms) rest in
-    (others.0, others.1, ap (λ (bs : List ℕ). values_at next_founder (suc (length ms)) (least, record { rest = bs; at = at })) regrouped ∙ rw (founder_again least m at (flat_map founder_bytes ms ++ rest) is.0 asc.0, others.2) refl)
+next_again : (least : ℕ) (m : Founder) (at : ℕ) (rest : List ℕ) → IsFounder m → least ≤ m.member
+    → (after : ℕ) × (next_founder (least, record { rest = founder_bytes m ++ rest; at = at }) ≡ Ok (m, (m.member + 1, record { rest = rest; at = after })))
+unfolding next_founder
+next_again least m at rest is le = (at + 2 + 1 + 56, rw (founder_again least m at rest is le) refl)
 
 -- founders that are read from the first on
 pub record AreFounders (n : ℕ) (r : Reading) (x : List Founder × Reading) : Type 0 where
@@ -142,12 +102,12 @@ founders_take : (n : ℕ) (r : Reading) (x : List Founder × Reading) → IsByte
 unfolding founders_at
 founders_take n r x h e =
     let l = bind_ok (values_at next_founder n (1, r)) (λ founders. Ok (founders.0, founders.1.1)) x e in
-    let t = values_take n 1 r l.0 (omega arith) h l.1 in
+    let t = ascending_take next_founder number_of founder_bytes IsFounder 1 founder_takes n 1 r l.0 (omega arith) h l.1 in
     let P : List Founder × Reading → Type 0 = λ y. AreFounders n r y in
     subst P (ok_is (l.0.0, l.0.1.1) x l.2) (record { text = t.text; count = t.count; each = t.each; ascending = ascends_increasing 1 l.0.0 t.ascending })
 
 -- founders in range ascend from 1 on
-ascends_from_one : (ms : List Founder) → AllByRecursion IsFounder ms → IsStrictlyIncreasing (numbers_of ms) → Ascends 1 ms
+ascends_from_one : (ms : List Founder) → AllByRecursion IsFounder ms → IsStrictlyIncreasing (numbers_of ms) → Ascends number_of 1 ms
 ascends_from_one [] is asc = tt
 ascends_from_one (m ∷ ms) is asc = increasing_ascends 1 m ms (omega (arith, is.0.member.positive)) asc
 
@@ -156,7 +116,7 @@ founders_again : (ms : List Founder) (at : ℕ) → AllByRecursion IsFounder ms 
     → (after : ℕ) × (founders_at (length ms) (record { rest = flat_map founder_bytes ms; at = at }) ≡ Ok (ms, record { rest = []; at = after }))
 unfolding founders_at
 founders_again ms at is asc =
-    let t = values_again ms 1 at [] is (ascends_from_one ms is asc) in
+    let t = ascending_again next_founder number_of founder_bytes IsFounder next_again ms 1 at [] is (ascends_from_one ms is asc) in
     let regrouped : flat_map founder_bytes ms ++ [] ≡ flat_map founder_bytes ms = append-nil (flat_map founder_bytes ms) in
     let read : values_at next_founder (length ms) (1, record { rest = flat_map founder_bytes ms; at = at }) ≡ Ok (ms, (t.0, record { rest = []; at = t.1 })) =
     ap (λ (bs : List ℕ). values_at next_founder (length ms) (1, record { rest = bs; at = at })) (sym regrouped) ∙ t.2 in

@@ -1,4 +1,3 @@
-pub mod Lists
 pub mod FounderLoop
 pub mod FieldLaws
 pub mod ChangeLaws

@@ -4,7 +4,7 @@ use Rattle.std.specs.Prelude.{◌&&◌, MatchResult, option_map}
 use Rattle.std.specs.Int.{Width, w8, w16, w32, byte_len}
 use Rattle.std.proofs.lemmas.Bool.{ltb-false}
 use Rattle.std.proofs.lemmas.List.{length-take, length-drop}
-use Rattle.sporc_bytes.specs.Fields.{Reading, ◌>>=◌, bytes_at, number_at, only_if, counted_at, end_at, present, fault_as}
+use Rattle.sporc_bytes.specs.Fields.{Reading, ◌>>=◌, bytes_at, number_at, only_if, counted_at, end_at, present, fault_as, number_within, values_at}
 use Rattle.sporc_base.specs.FirstFault.{unless, first_of}
 use Rattle.sporc_member.specs.declared.limits.TheConstants.{MAX_MEMBERS}
 use Rattle.sporc_member.specs.declared.founder.Founder.{Founder}
@@ -13,7 +13,7 @@ use Rattle.sporc_member.specs.Roster.{founded, has_admin}
 use Rattle.sporc_entry.specs.declared.limits.TheConstants.{HIGHEST_MEMBER, MAX_SIGNATURE}
 use Rattle.sporc_entry.specs.declared.fault.GenesisFault.TheVariants.{Malformed, NoAdmin, BadKey}
 use Rattle.sporc_entry.specs.declared.genesis.Genesis.{Genesis}
-use Rattle.sporc_entry.specs.Fields.{number_within, role_at, values_at}
+use Rattle.sporc_entry.specs.Fields.{role_at}
 use Rattle.sporc_entry.specs.ChangeBody.{change_of_kind, change_at, wrap_at, change_body_at, change_body_from}
 use Rattle.sporc_entry.specs.Entry.{header_at, body_limit, body_read, entry_of}
 use Rattle.sporc_entry.specs.Genesis.{founder_at, next_founder, founders_at, genesis_at, genesis_in, bad_key, accepted, tested, genesis_of}
@@ -83,7 +83,7 @@ role_begins : (end at : ℕ) (r : Reading) → Left end at r → Bounded end (Be
 unfolding role_at
 role_begins end at r left =
     let le : r.at ≤ end = omega (arith, left.ends) in
-    then end _ _ (number_at w8 r) _ (number_begins w8 end at r left) (λ code h. then end _ _ (present r.at (role_with_code code.0)) _ (present_bounded r.at end (role_with_code code.0) le) (λ role _. h))
+    then end _ _ (number_within 1 3 w8 r) _ (within_begins 1 3 w8 end at r left) (λ code h. then end _ _ (present r.at (role_with_code code.0)) _ (present_bounded r.at end (role_with_code code.0) le) (λ role _. h))
 
 counted_begins : (limit end at : ℕ) (r : Reading) → Left end at r → Bounded end (TakesCounted end at) (counted_at limit r)
 unfolding counted_at

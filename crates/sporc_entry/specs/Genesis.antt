@@ -11,7 +11,7 @@ use Rattle.std.specs.List.{AllByRecursion, flat_map}
 use Rattle.std.specs.List.Sorted.{IsStrictlyIncreasing}
 use Rattle.std.specs.Int.{w8, w16, to_be_bytes}
 use Rattle.lms_tree.specs.LmsPublic.{public_key_in}
-use Rattle.sporc_bytes.specs.Fields.{Reading, ◌>>=◌, fault_as, bytes_at, end_at}
+use Rattle.sporc_bytes.specs.Fields.{Reading, ◌>>=◌, fault_as, bytes_at, end_at, number_within, values_at}
 use Rattle.sporc_member.specs.declared.limits.TheConstants.{MAX_MEMBERS}
 use Rattle.sporc_entry.specs.declared.limits.TheConstants.{HIGHEST_MEMBER}
 use Rattle.sporc_member.specs.declared.founder.Founder.{Founder}
@@ -21,7 +21,7 @@ use Rattle.sporc_member.specs.Roster.{numbers_of, founded, has_admin}
 use Rattle.sporc_entry.specs.declared.fault.GenesisFault.{GenesisFault}
 use Rattle.sporc_entry.specs.declared.fault.GenesisFault.TheVariants.{Malformed, NoAdmin, BadKey}
 use Rattle.sporc_entry.specs.declared.genesis.Genesis.{Genesis}
-use Rattle.sporc_entry.specs.Fields.{number_within, role_at, values_at}
+use Rattle.sporc_entry.specs.Fields.{role_at}
 use Rattle.sporc_entry.specs.ChangeBody.{IsMember}
 
 -- ---- reading

@@ -2,15 +2,14 @@
 
 ghost use Rattle.std.specs.Prelude.{◌≡◌, ◌+◌, ◌<◌, ◌^◌, ◌++◌, [], length, Ok, IfOk, OnOk};
 ghost use Rattle.std.specs.List.{flat_map};
-ghost use Rattle.sporc_bytes.specs.Fields.{Reads};
-ghost use Rattle.sporc_entry.specs.Fields.{values_at};
+ghost use Rattle.sporc_bytes.specs.Fields.{Reads, values_at};
 ghost use Rattle.sporc_base.specs.Outcome.{GivesUnless};
 ghost use Rattle.sporc_bytes.specs.Fields.{fault_as};
 ghost use Rattle.sporc_entry.specs.declared.change.ChangeBody.{ChangeBody};
 ghost use Rattle.sporc_entry.specs.ChangeBody.{change_at, wrap_at, change_body_at, change_body_from, change_bytes, wrap_bytes, change_body_bytes, IsChangeBody};
 
 use crate::fault::EntryFault;
-use crate::fields::{read_end, read_role, read_u8, read_u16};
+use crate::fields::read_role;
 use crate::limits::HIGHEST_MEMBER;
 use crate::wrap::{Wrap, Wraps};
 use sporc_base::Memory;
@@ -37,8 +36,8 @@ pub struct ChangeBody {
 fn read_member_change(cursor: &mut Cursor<'_>) -> Result<Change, Short>
     ensures { Reads (λ change. (change, cursor.new)) result (change_at cursor.old) }
 {
-    let kind = read_u8(cursor, 1, 3)?;
-    let member = read_u16(cursor, 1, HIGHEST_MEMBER)?;
+    let kind = cursor.u8_within(1, 3)?;
+    let member = cursor.u16_within(1, HIGHEST_MEMBER)?;
     match kind {
         1 => {
             let role = read_role(cursor)?;
@@ -85,7 +84,7 @@ fn read_fields(alloc: Global, cursor: &mut Cursor<'_>) -> Result<ChangeBody, Ent
     let change = read_member_change(cursor)?;
     let commitment = cursor.array()?;
     let previous = cursor.array()?;
-    let count = read_u16(cursor, 0, u32::from(MAX_MEMBERS))?;
+    let count = cursor.u16_within(0, u32::from(MAX_MEMBERS))?;
     let wraps = read_wraps(alloc, cursor, count)?;
     Ok(ChangeBody {
         change,
@@ -104,7 +103,7 @@ pub(crate) fn read_body(alloc: Global, body: &[u8], at: usize) -> Result<ChangeB
 {
     let mut cursor = Cursor::within(body, at);
     let change = read_fields(alloc, &mut cursor)?;
-    read_end(&cursor)?;
+    cursor.ended()?;
     Ok(change)
 }
 
@@ -169,7 +168,7 @@ fn put_wrap(out: &mut Out, wrap: &Wrap) -> Result<(), Memory>
 #[tactic(auto, unfolding(crate::specs::ChangeBody::change_body_bytes))]
 pub fn write_change(alloc: Global, body: &ChangeBody) -> Result<Vec<u8>, Memory>
     requires { length body.now.wraps < 2 ^ 16 }
-    ensures { IfOk result (λ bytes. bytes.items ≡ change_body_bytes body.now) }
+    ensures ok { IfOk result (λ bytes. bytes.items ≡ change_body_bytes body.now) }
 {
     let wraps = body.wraps.as_slice();
     let mut out = Out::new(alloc);

@@ -55,7 +55,7 @@ fn read_copied(alloc: Global, bytes: &[u8]) -> Result<Entry, EntryFault>
 pub fn write_entry(alloc: Global, entry: &Entry) -> Result<Vec<u8>, Memory>
     requires body { length entry.now.body < 2 ^ 32 }
     requires signature { length entry.now.signature < 2 ^ 32 }
-    ensures { IfOk result (λ bytes. bytes.items ≡ entry_bytes entry.now) }
+    ensures ok { IfOk result (λ bytes. bytes.items ≡ entry_bytes entry.now) }
 {
     let mut out = Out::new(alloc);
     put_header(&mut out, &entry.header)?;
@@ -68,7 +68,7 @@ pub fn write_entry(alloc: Global, entry: &Entry) -> Result<Vec<u8>, Memory>
 #[tactic(auto, unfolding(crate::specs::Entry::signed_string))]
 pub fn signed_part(alloc: Global, entry: &Entry) -> Result<Vec<u8>, Memory>
     requires { length entry.now.body < 2 ^ 32 }
-    ensures { IfOk result (λ bytes. bytes.items ≡ signed_string entry.now) }
+    ensures ok { IfOk result (λ bytes. bytes.items ≡ signed_string entry.now) }
 {
     let mut out = Out::new(alloc);
     out.put_u8(3)?;

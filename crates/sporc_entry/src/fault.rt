@@ -7,12 +7,12 @@ use thiserror::Error;
 /// Why bytes are no entry, or no change.
 #[derive(Clone, Copy, Debug, PartialEq, Eq, Error)]
 pub enum EntryFault {
-    /// The first field that is cut short or has a forbidden value begins at this place; where bytes follow the last
+    /// The first field that is cut short or has a forbidden value begins at this place; if bytes follow the last
     /// field, the first of them stands there.
     #[error("malformed at {0}")]
     Malformed(usize),
-    /// Memory was wanting.
-    #[error("want of memory")]
+    /// Out of memory.
+    #[error("out of memory")]
     Memory,
 }
 
@@ -52,7 +52,7 @@ impl<T: Drop> From<AllocFailed<T>> for EntryFault {
 /// Why bytes are no genesis: the first cause of this list.
 #[derive(Clone, Copy, Debug, PartialEq, Eq, Error)]
 pub enum GenesisFault {
-    /// The first field that is cut short or has a forbidden value begins at this place; where bytes follow the last
+    /// The first field that is cut short or has a forbidden value begins at this place; if bytes follow the last
     /// field, the first of them stands there.
     #[error("malformed at {0}")]
     Malformed(usize),
@@ -62,8 +62,8 @@ pub enum GenesisFault {
     /// The key of this member, and of none before it, is of no known type.
     #[error("the key of member {0} is of no known type")]
     BadKey(u16),
-    /// Memory was wanting.
-    #[error("want of memory")]
+    /// Out of memory.
+    #[error("out of memory")]
     Memory,
 }
 

@@ -9,7 +9,7 @@ ghost use Rattle.sporc_entry.specs.declared.genesis.Genesis.{Genesis};
 ghost use Rattle.sporc_entry.specs.Genesis.{founder_at, founders_at, genesis_at, genesis_in, genesis_of, bad_key, founders_fault, founder_bytes, genesis_bytes, IsGenesis};
 
 use crate::fault::GenesisFault;
-use crate::fields::{read_end, read_role, read_u8, read_u16};
+use crate::fields::read_role;
 use crate::limits::HIGHEST_MEMBER;
 use lms_tree::LmsPublic;
 use sporc_base::{Items, Memory};
@@ -34,7 +34,7 @@ pub struct Genesis {
 impl Genesis {
     /// A copy.
     pub fn copy(&self) -> Result<Genesis, Memory>
-        ensures { IfOk result (λ copy. copy ≡ self.now) }
+        ensures ok { IfOk result (λ copy. copy ≡ self.now) }
     {
         let founders = self.founders.copy()?;
         Ok(Genesis {
@@ -53,7 +53,7 @@ const VERSION: u8 = 1;
 fn read_founder(cursor: &mut Cursor<'_>, least: u32) -> Result<Founder, Short>
     ensures { Reads (λ founder. (founder, cursor.new)) result (founder_at least cursor.old) }
 {
-    let member = read_u16(cursor, least, HIGHEST_MEMBER)?;
+    let member = cursor.u16_within(least, HIGHEST_MEMBER)?;
     let role = read_role(cursor)?;
     let key = cursor.array()?;
     Ok(Founder { member, role, key })
@@ -84,10 +84,10 @@ fn read_fields(alloc: Global, cursor: &mut Cursor<'_>) -> Result<Genesis, Genesi
     ensures { GivesUnless GenesisFault.Memory (λ genesis. (genesis, cursor.new)) result
         (fault_as GenesisFault.Malformed (genesis_at cursor.old)) }
 {
-    read_u8(cursor, VERSION, VERSION)?;
+    cursor.u8_within(VERSION, VERSION)?;
     let document = cursor.array()?;
     let commitment = cursor.array()?;
-    let count = read_u16(cursor, 1, u32::from(MAX_MEMBERS))?;
+    let count = cursor.u16_within(1, u32::from(MAX_MEMBERS))?;
     let founders = read_founders(alloc, cursor, count)?;
     Ok(Genesis {
         document,
@@ -103,7 +103,7 @@ fn read_all(alloc: Global, bytes: &[u8]) -> Result<Genesis, GenesisFault>
 {
     let mut cursor = Cursor::new(bytes);
     let genesis = read_fields(alloc, &mut cursor)?;
-    read_end(&cursor)?;
+    cursor.ended()?;
     Ok(genesis)
 }
 
@@ -187,7 +187,7 @@ fn put_founder(out: &mut Out, founder: &Founder) -> Result<(), Memory>
 #[tactic(auto, unfolding(crate::specs::Genesis::genesis_bytes))]
 pub fn write_genesis(alloc: Global, genesis: &Genesis) -> Result<Vec<u8>, Memory>
     requires { IsGenesis genesis.now }
-    ensures { IfOk result (λ bytes. bytes.items ≡ genesis_bytes genesis.now) }
+    ensures ok { IfOk result (λ bytes. bytes.items ≡ genesis_bytes genesis.now) }
 {
     let founders = genesis.founders.as_slice();
     let mut out = Out::new(alloc);

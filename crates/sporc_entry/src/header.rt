@@ -4,7 +4,6 @@ ghost use Rattle.std.specs.Prelude.{◌≡◌, ◌++◌, [], OnOk};
 ghost use Rattle.sporc_bytes.specs.Fields.{Reads};
 ghost use Rattle.sporc_entry.specs.Entry.{header_at, header_bytes};
 
-use crate::fields::read_u8;
 use sporc_base::Memory;
 use sporc_bytes::{Cursor, Out, Short};
 use sporc_hash::Digest32;
@@ -38,7 +37,7 @@ const VERSION: u8 = 1;
 pub(crate) fn read_header(cursor: &mut Cursor<'_>) -> Result<Header, Short>
     ensures { Reads (λ header. (header, cursor.new)) result (header_at cursor.old) }
 {
-    read_u8(cursor, VERSION, VERSION)?;
+    cursor.u8_within(VERSION, VERSION)?;
     let document = cursor.array()?;
     let author = cursor.u16()?;
     let number = cursor.u32()?;
@@ -46,7 +45,7 @@ pub(crate) fn read_header(cursor: &mut Cursor<'_>) -> Result<Header, Short>
     let base_hash = cursor.array()?;
     let epoch = cursor.u32()?;
     let leaf = cursor.u32()?;
-    let kind = read_u8(cursor, 1, 2)?;
+    let kind = cursor.u8_within(1, 2)?;
     Ok(Header {
         document,
         author,

@@ -1,7 +1,8 @@
 //! Laws of the formats: what is written reads back, what reads is written so, and where faults are.
 
-ghost use Rattle.std.specs.Prelude.{◌≡◌, ℕ, ◌+◌, ◌<◌, ◌≤◌, List, length, Some, Ok, Err, slice_index};
-ghost use Rattle.sporc_entry.specs.declared.limits.TheConstants.{HIGHEST_MEMBER, MAX_EDIT_BODY, MAX_CHANGE_BODY, MAX_SIGNATURE, MAX_ENTRY};
+ghost use Rattle.std.specs.Prelude.{◌≡◌, ℕ, ◌+◌, ◌<◌, ◌≤◌, List, length, Some, Ok, Err};
+ghost use Rattle.sporc_base.specs.Bytes.{IsBytes};
+ghost use Rattle.sporc_entry.specs.declared.limits.TheConstants.{HIGHEST_MEMBER, BODY_AT, MAX_EDIT_BODY, MAX_CHANGE_BODY, MAX_SIGNATURE, MAX_ENTRY};
 ghost use Rattle.sporc_entry.specs.declared.change.ChangeBody.{ChangeBody};
 ghost use Rattle.sporc_entry.specs.declared.entry.Entry.{Entry};
 ghost use Rattle.sporc_entry.specs.declared.genesis.Genesis.{Genesis};
@@ -14,7 +15,7 @@ use crate::fault::GenesisFault;
 /// Each entry in range is read again from its bytes, and bytes that read are those of the entry read.
 pub fn entry_and_its_bytes()
     ensures read_again { (e : Entry) → IsEntry e → entry_of (entry_bytes e) ≡ Ok e }
-    ensures written_so { (bytes : List ℕ) (e : Entry) → ((i : ℕ) → slice_index bytes i < 256)
+    ensures written_so { (bytes : List ℕ) (e : Entry) → IsBytes bytes
         → entry_of bytes ≡ Ok e → IsEntry e × (bytes ≡ entry_bytes e) }
 {}
 
@@ -24,14 +25,14 @@ pub fn change_and_its_bytes()
     ensures read_again { (at : ℕ) (c : ChangeBody) → IsChangeBody c
         → change_body_from at (change_body_bytes c) ≡ Ok c }
     ensures written_so { (at : ℕ) (bytes : List ℕ) (c : ChangeBody)
-        → ((i : ℕ) → slice_index bytes i < 256)
+        → IsBytes bytes
         → change_body_from at bytes ≡ Ok c → IsChangeBody c × (bytes ≡ change_body_bytes c) }
 {}
 
 /// Each genesis in range is read again from its bytes, and bytes that read are those of the genesis read.
 pub fn genesis_and_its_bytes()
     ensures read_again { (g : Genesis) → IsGenesis g → genesis_of (genesis_bytes g) ≡ Ok g }
-    ensures written_so { (bytes : List ℕ) (g : Genesis) → ((i : ℕ) → slice_index bytes i < 256)
+    ensures written_so { (bytes : List ℕ) (g : Genesis) → IsBytes bytes
         → genesis_of bytes ≡ Ok g → IsGenesis g × (bytes ≡ genesis_bytes g) }
 {}
 
@@ -53,6 +54,7 @@ pub fn place_of_a_fault()
 /// The limits in numbers.
 pub fn limits()
     ensures member { HIGHEST_MEMBER ≡ 65535 }
+    ensures body { BODY_AT ≡ 72 }
     ensures edit { MAX_EDIT_BODY ≡ 1048576 }
     ensures change { MAX_CHANGE_BODY ≡ 65536 }
     ensures signature { MAX_SIGNATURE ≡ 9324 }

@@ -2,7 +2,7 @@
 //!
 //! All numbers are big-endian. Each genesis, entry and body of a change has exactly one spelling. A reader answers the
 //! value that its bytes spell, or the place of the first byte of the first field that is cut short or has a forbidden
-//! value. [`EntryView`] reads an entry where its bytes stand and copies nothing of it; [`read_entry`] copies it out.
+//! value. [`EntryView`] reads an entry where its bytes stand and copies nothing of it but a change's fields; [`read_entry`] copies it out.
 //!
 //! ```text
 //! let view = EntryView::read(alloc, bytes)?;
@@ -11,14 +11,14 @@
 //! ```
 //!
 //! Proved: what is read is spelled so, what is spelled so is read, and which fault it is otherwise ([`laws`]). Tested only:
-//! the layout against bytes that are spelled by hand.
+//! the layout against bytes that are spelled by hand. Neither: nothing else is claimed.
 #![tactic(auto)]
 
 mod change;
 mod committed;
 mod entry;
 mod fault;
-pub mod fields;
+mod fields;
 mod genesis;
 mod header;
 pub mod laws;
@@ -32,7 +32,9 @@ pub use entry::{Entry, read_entry, signed_part, write_entry};
 pub use fault::{EntryFault, GenesisFault};
 pub use genesis::{Founders, Genesis, read_genesis, write_genesis};
 pub use header::Header;
-pub use limits::{HIGHEST_MEMBER, MAX_CHANGE_BODY, MAX_EDIT_BODY, MAX_ENTRY, MAX_SIGNATURE};
+pub use limits::{
+    BODY_AT, HIGHEST_MEMBER, MAX_CHANGE_BODY, MAX_EDIT_BODY, MAX_ENTRY, MAX_SIGNATURE,
+};
 pub use sporc_base::{Bytes, Memory};
 pub use view::EntryView;
 pub use wrap::{Wrap, Wraps};

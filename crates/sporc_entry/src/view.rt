@@ -13,9 +13,8 @@ ghost use Rattle.sporc_entry.specs.EntryView.{parts_entry};
 use crate::change::{ChangeBody, read_body};
 use crate::entry::Entry;
 use crate::fault::EntryFault;
-use crate::fields::read_end;
 use crate::header::{Header, read_header};
-use crate::limits::{MAX_CHANGE_BODY, MAX_EDIT_BODY, MAX_SIGNATURE};
+use crate::limits::{BODY_AT, MAX_CHANGE_BODY, MAX_EDIT_BODY, MAX_SIGNATURE};
 use sporc_base::{Bytes, Memory};
 use sporc_bytes::Cursor;
 use std::alloc::Global;
@@ -23,9 +22,6 @@ use std::marker::Model;
 
 // The kind of an entry that is an edit.
 const EDIT: u8 = 1;
-
-// The place of the first byte of an entry's body.
-const BODY_AT: usize = 72;
 
 // What reading found of an entry.
 #[derive(Debug, Drop)]
@@ -96,7 +92,7 @@ fn read_parts<'a>(alloc: Global, bytes: &'a [u8]) -> Result<Parts<'a>, EntryFaul
     let body = cursor.counted(limit_of(header.kind))?;
     let change = read_kind(alloc, header.kind, body)?;
     let signature = cursor.counted(MAX_SIGNATURE)?;
-    read_end(&cursor)?;
+    cursor.ended()?;
     Ok(Parts {
         header,
         body,
@@ -121,21 +117,21 @@ impl<'a> EntryView<'a> {
 
     /// What stands before the body.
     pub fn header(&self) -> &Header
-        ensures { result.now ≡ self.now.entry.header }
+        ensures value { result.now ≡ self.now.entry.header }
     {
         &self.parts.header
     }
 
     /// The body.
     pub fn body(&self) -> &'a [u8]
-        ensures { result.now ≡ self.now.entry.body }
+        ensures value { result.now ≡ self.now.entry.body }
     {
         self.parts.body
     }
 
     /// The signature.
     pub fn signature(&self) -> &'a [u8]
-        ensures { result.now ≡ self.now.entry.signature }
+        ensures value { result.now ≡ self.now.entry.signature }
     {
         self.parts.signature
     }
@@ -150,28 +146,28 @@ impl<'a> EntryView<'a> {
 
     /// What the author signs, without its first byte, which is 3: a part of the bytes.
     pub fn signed(&self) -> &'a [u8]
-        ensures { 3 ∷ result.now ≡ signed_string self.now.entry }
+        ensures value { 3 ∷ result.now ≡ signed_string self.now.entry }
     {
         &self.bytes[..BODY_AT + self.parts.body.len()]
     }
 
     /// The body of the change that it is, if it is one.
     pub fn change(&self) -> Option<&ChangeBody>
-        ensures { option_copied result ≡ change_of self.now.entry }
+        ensures value { option_copied result ≡ change_of self.now.entry }
     {
         self.parts.change.as_ref()
     }
 
     /// The same, moved out.
     pub fn into_change(self) -> Option<ChangeBody>
-        ensures { result ≡ change_of self.entry.entry }
+        ensures value { result ≡ change_of self.entry.entry }
     {
         self.parts.change
     }
 
     /// The entry, with its body and its signature copied.
     pub fn to_entry(&self, alloc: Global) -> Result<Entry, Memory>
-        ensures { IfOk result (λ e. e ≡ self.now.entry) }
+        ensures ok { IfOk result (λ e. e ≡ self.now.entry) }
     {
         let body = Bytes::copy_of(alloc, self.parts.body)?;
         let signature = Bytes::copy_of(alloc, self.parts.signature)?;

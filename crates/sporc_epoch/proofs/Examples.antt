@@ -1,5 +1,5 @@
 -- Worked examples of the definitions.
-use Rattle.std.proofs.Common.{◌≡◌, ℕ, ◌-◌, ◌^◌, true, false, List, [], ◌∷◌, Some, None, refl}
+use Rattle.std.proofs.Common.{◌≡◌, ℕ, true, false, List, [], ◌∷◌, Some, None, refl}
 use Rattle.std.specs.Prelude.{Ok, Err}
 use Rattle.std.specs.FinMap.{insert, empty, gets}
 use Rattle.sporc_cipher.specs.Mask.{mask_of}
@@ -8,15 +8,11 @@ use Rattle.sporc_member.specs.declared.change.Change.TheVariants.{Add, Remove}
 use Rattle.sporc_entry.specs.declared.wrap.Wrap.{Wrap}
 use Rattle.sporc_epoch.specs.declared.fault.HintFault.TheVariants.{WrongKey}
 use Rattle.sporc_epoch.specs.declared.start.EpochStart.{EpochStart}
-use Rattle.sporc_epoch.specs.declared.streams.TheConstants.{MAX_EPOCH}
 use Rattle.sporc_epoch.specs.Keys.{Keys}
 use Rattle.sporc_epoch.specs.Streams.{entry_stream, previous_stream}
 use Rattle.sporc_epoch.specs.Wraps.{wrap_for}
 use Rattle.sporc_epoch.specs.Sealing.{least_unpaired, wraps_sealed}
 use Rattle.sporc_epoch.specs.Hints.{adds, is_committed, keys_back}
-
-greatest_epoch : MAX_EPOCH ≡ 2 ^ 32 - 1
-greatest_epoch = refl
 
 -- leaf 5 of member 3
 stream_of_an_entry : entry_stream 3 5 ≡ 0x030000000005

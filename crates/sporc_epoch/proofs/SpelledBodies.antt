@@ -41,7 +41,7 @@ one_wrap stream key member None rest = omega arith
 one_wrap stream key member (Some p) rest = omega arith
 
 -- there are no more wraps than members
-wraps_few : (stream : ℕ) (key : List ℕ) (pairs : Keys) (members : List ℕ) → length (wraps_sealed stream key pairs members) ≤ length members
+pub wraps_few : (stream : ℕ) (key : List ℕ) (pairs : Keys) (members : List ℕ) → length (wraps_sealed stream key pairs members) ≤ length members
 wraps_few stream key pairs [] = omega arith
 wraps_few stream key pairs (m ∷ ms) = omega (arith, one_wrap stream key m (get pairs m) (wraps_sealed stream key pairs ms), wraps_few stream key pairs ms)
 

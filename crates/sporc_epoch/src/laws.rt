@@ -1,14 +1,31 @@
 //! Laws of sealed keys.
 
-ghost use Rattle.std.specs.Prelude.{◌≡◌, ℕ, ◌+◌, ◌<◌, ◌≤◌, ◌^◌, length, map, Ok, Some, Contains};
+ghost use Rattle.std.specs.Prelude.{◌≡◌, ◌≢◌, ℕ, ◌+◌, ◌-◌, ◌<◌, ◌≤◌, ◌^◌, length, map, Ok, Some, Contains};
 ghost use Rattle.std.specs.List.{All};
 ghost use Rattle.std.specs.FinMap.{get};
 ghost use Rattle.sporc_member.specs.declared.limits.TheConstants.{MAX_MEMBERS};
 ghost use Rattle.sporc_entry.specs.declared.change.ChangeBody.{ChangeBody};
 ghost use Rattle.sporc_entry.specs.ChangeBody.{IsChange, IsChangeBody};
+ghost use Rattle.sporc_epoch.specs.declared.streams.TheConstants.{MAX_EPOCH};
 ghost use Rattle.sporc_epoch.specs.Keys.{Keys};
 ghost use Rattle.sporc_epoch.specs.Sealing.{Sealing, change_sealed};
+ghost use Rattle.sporc_epoch.specs.Streams.{entry_stream, previous_stream};
 ghost use Rattle.sporc_epoch.specs.Wraps.{wrap_opened, previous_opened};
+
+/// The limit in numbers.
+pub fn limits()
+    ensures epoch { MAX_EPOCH ≡ 2 ^ 32 - 1 }
+{}
+
+/// No two entries have one stream, by their authors and leaves, nor has an entry the stream of a sealed key of an epoch that
+/// ended; and each stream has a number of 64 bits.
+pub fn streams_do_not_meet()
+    ensures entries { (a b l m : ℕ) → l < 2 ^ 32 → m < 2 ^ 32 → entry_stream a l ≡ entry_stream b m → (a ≡ b) × (l ≡ m) }
+    ensures epochs { (e f : ℕ) → previous_stream e ≡ previous_stream f → e ≡ f }
+    ensures apart { (a l e : ℕ) → a < 2 ^ 16 → l < 2 ^ 32 → entry_stream a l ≢ previous_stream e }
+    ensures entry_fits { (a l : ℕ) → a < 2 ^ 16 → l < 2 ^ 32 → entry_stream a l < 2 ^ 64 }
+    ensures epoch_fits { (e : ℕ) → e ≤ MAX_EPOCH → previous_stream e < 2 ^ 64 }
+{}
 
 /// What the author of a change seals, each member opens who holds the same pairwise key, and the new key opens the key of
 /// the epoch before.
@@ -23,14 +40,14 @@ pub fn sealed_keys_open()
 
 /// The wraps of a sealed change name exactly the members that it was sealed for, in their order.
 pub fn wraps_name_the_members()
-    ensures { (s : Sealing) (pairs : Keys) (body : ChangeBody)
+    ensures value { (s : Sealing) (pairs : Keys) (body : ChangeBody)
         → change_sealed s pairs ≡ Ok body → map (λ w. w.member) body.wraps ≡ s.members }
 {}
 
 /// The body of a sealed change has a spelling, which is read again, if the change has one, its keys have 32 bytes, and it
 /// is sealed for at most as many members as a document can have.
 pub fn sealed_changes_are_spelled()
-    ensures { (s : Sealing) (pairs : Keys) (body : ChangeBody)
+    ensures spelled { (s : Sealing) (pairs : Keys) (body : ChangeBody)
         → change_sealed s pairs ≡ Ok body → IsChange s.change → length s.old ≡ 32 → length s.new ≡ 32
         → All (λ m. m < 2 ^ 16) s.members → length s.members ≤ MAX_MEMBERS → IsChangeBody body }
 {}

@@ -56,7 +56,7 @@ impl Ring {
     /// Adds the key of an epoch, in place of one that it had.
     pub fn put(&mut self, epoch: u32, key: [u8; 32]) -> Result<(), Memory>
         ensures ok { OnOk result (self.new.keys ≡ map.insert self.old.keys epoch key) }
-        ensures err { OnErr result (self.new.keys ≡ self.old.keys) }
+        ensures unchanged { OnErr result (self.new.keys ≡ self.old.keys) }
         // With spare room it takes no memory.
         ensures ready { 0 < self.old.spare → IsOk result }
         ensures spare { self.old.spare ≤ self.new.spare + 1 }

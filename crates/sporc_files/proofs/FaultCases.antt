@@ -1,5 +1,6 @@
 -- Why a file is not read or written, case by case.
-use Rattle.std.proofs.Common.{◌≡◌, ◌≤◌, ℕ, List, Option, Result, Err, length, sym, subst}
+use Rattle.std.proofs.Common.{◌≡◌, ◌≤◌, ℕ, List, Option, Result, Err, length, refl, sym, subst, arith}
+use Rattle.std.specs.Result.{IfErr}
 use Rattle.sporc_outside.specs.Counts.{Rose}
 use Rattle.sporc_outside.specs.Files.{HasFile, HasNoFile, HasSomeFile, IsTooLong}
 use Rattle.sporc_outside.specs.declared.file_fault.TheConstants.{MAX_FILE}
@@ -9,7 +10,8 @@ use Rattle.sporc_files.specs.declared.fault.Fault.TheVariants as faults
 use Rattle.sporc_files.specs.declared.file.File.{File}
 use Rattle.sporc_files.specs.Names.{FileNames, file_name}
 use Rattle.sporc_files.specs.Reading.{IsFileFault}
-use Rattle.sporc_files.specs.Writing.{IsNewFault, IsWriteFault}
+use Rattle.sporc_files.specs.Faults.{IsOutsideFault}
+use Rattle.sporc_files.specs.Writing.{IsNewFault}
 
 -- ---- a file that is read
 
@@ -46,6 +48,25 @@ module _ {A : Type 0} (parse : List ℕ → Result A ℕ) (files : Option (List 
   read_case faults.Worn never = absurd never
   read_case (faults.Message at) never = absurd never
   read_case (faults.Edit e l f) never = absurd never
+
+-- of a folder whose count of faults had risen before
+later : {A : Type 0} (parse : List ℕ → Result A ℕ) (told : Option (List NamedFile)) (low mid high : ℕ) (names : FileNames) (file : File) (fault : Fault) → low ≤ mid
+    → ReadCase parse told mid high names file fault → IsFileFault parse told low high names file fault
+later parse told low mid high names file fault more ReadMemory = tt
+later parse told low mid high names file fault more (ReadFailed rose) = omega (arith, rose, more)
+later parse told low mid high names file fault more (ReadMissing gone) = (refl, gone)
+later parse told low mid high names file fault more (ReadTooLong len long) = (refl, len, long)
+later parse told low mid high names file fault more (ReadMalformed at bytes within has bad) = (refl, bytes, within, has, bad)
+
+pub file_later : {A : Type 0} (parse : List ℕ → Result A ℕ) (told now : Option (List NamedFile)) (low mid high : ℕ) (names : FileNames) (file : File) (fault : Fault) → now ≡ told → low ≤ mid
+    → IsFileFault parse now mid high names file fault → IsFileFault parse told low high names file fault
+file_later parse told now low mid high names file fault same more why =
+    later parse told low mid high names file fault more (read_case parse told mid high names file fault
+    (subst (λ (o : Option (List NamedFile)). IsFileFault parse o mid high names file fault) same why))
+
+-- what the exit of a `?` says
+pub if_err : {T : Type 0} (r : Result T Fault) (P : Fault → Type 0) (y fault : Fault) → r ≡ Err y → y ≡ fault → P fault → IfErr r P
+if_err r P y fault is same held = rw (is, same) held
 
 -- ---- a file that is written as a new one
 
@@ -86,7 +107,7 @@ pub data WriteCase (before after : ℕ) : Fault → Type 0 where
   WriteMemory : WriteCase before after faults.Memory
   WriteFailed : Rose before after → WriteCase before after faults.Outside
 
-pub write_case : (before after : ℕ) (fault : Fault) → IsWriteFault before after fault → WriteCase before after fault
+pub write_case : (before after : ℕ) (fault : Fault) → IsOutsideFault before after fault → WriteCase before after fault
 write_case before after faults.Memory any = WriteMemory
 write_case before after faults.Words never = absurd never
 write_case before after (faults.Missing f) never = absurd never

@@ -7,8 +7,10 @@ use Rattle.sporc_outside.specs.Uses.{SinkUse}
 use Rattle.sporc_outside.specs.Writing.{AppendsPrefix}
 use Rattle.sporc_outside.specs.declared.file_fault.FileFault.{FileFault}
 use Rattle.sporc_outside.specs.declared.file_fault.FileFault.TheVariants as filing
-use Rattle.sporc_keys.specs.declared.fault.DrawFault.{DrawFault}
-use Rattle.sporc_keys.specs.declared.fault.DrawFault.TheVariants as drawing
+use Rattle.sporc_epoch.specs.declared.fault.HintFault.{HintFault}
+use Rattle.sporc_epoch.specs.declared.fault.HintFault.TheVariants as hints
+use Rattle.sporc_line.specs.declared.fault.LineOpenFault.{LineOpenFault}
+use Rattle.sporc_line.specs.declared.fault.LineOpenFault.TheVariants as lines
 use Rattle.sporc_play.specs.declared.fault.PlayFault.{PlayFault}
 use Rattle.sporc_play.specs.declared.fault.PlayFault.TheVariants as playing
 use Rattle.sporc_store.specs.declared.fault.SaveFault.{SaveFault}
@@ -112,6 +114,12 @@ pub record WritesFaultLine (out : SinkUse) (names : FileNames) (fault : Fault) :
   pub line : AppendsPrefix out.written_before out.written_after (fault_line names fault)
   pub whole : ¬ (Rose out.faults_before out.faults_after) → Appends out.written_before out.written_after (fault_line names fault)
 
+-- why a call failed if nothing of it can but memory and an object outside, whose count of faults went from `before` to `after`
+abbrev pub IsOutsideFault : ℕ → ℕ → Fault → Type 0
+IsOutsideFault before after faults.Memory = Unit {0}
+IsOutsideFault before after faults.Outside = Rose before after
+IsOutsideFault before after fault = ⊥
+
 -- ---- the faults of the crates below
 
 -- what a fault of a folder's call on this file is
@@ -137,6 +145,15 @@ abbrev pub fault_of_saving : SaveFault → Fault
 fault_of_saving saving.Memory = faults.Memory
 fault_of_saving (saving.TooLong len) = faults.FullFile
 
-abbrev pub fault_of_draw : DrawFault → Fault
-fault_of_draw drawing.Memory = faults.Memory
-fault_of_draw drawing.Chance = faults.Outside
+-- why a member's key does not open the document
+abbrev pub fault_of_line : LineOpenFault → Fault
+fault_of_line lines.NoKey = faults.Opening lines.NoKey
+fault_of_line lines.WrongKey = faults.Opening lines.WrongKey
+fault_of_line lines.Memory = faults.Memory
+
+-- why entries give no hints
+abbrev pub fault_of_hints : HintFault → Fault
+fault_of_hints hints.NotAdded = faults.Hints hints.NotAdded
+fault_of_hints (hints.NoPairKey member) = faults.Hints (hints.NoPairKey member)
+fault_of_hints (hints.WrongKey epoch) = faults.Hints (hints.WrongKey epoch)
+fault_of_hints hints.Memory = faults.Memory

@@ -9,6 +9,10 @@ pub record FileNames : Type 0 where
   pub document : List ℕ
   pub scripts : List (List ℕ)
 
+-- that of a document alone
+abbrev pub names_of_document : List ℕ → FileNames
+names_of_document document = record { document = document; scripts = [] }
+
 -- the name of the script of an editor, counted from 1
 abbrev pub name_of_script : FileNames → ℕ → List ℕ
 name_of_script names editor = slice_index_or names.scripts (editor - 1) []

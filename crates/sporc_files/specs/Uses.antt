@@ -22,6 +22,23 @@ pub record ChanceUse : Type 0 where
   pub faults_before : ℕ
   pub faults_after : ℕ
 
+-- a use, by what the object tells and its count at both moments
+module _ {F : Type 0} (files : F → Option (List NamedFile)) (asked lent : F → Option (List (List ℕ))) (faults : F → ℕ) where
+  abbrev pub folder_use : F → F → FolderUse
+  folder_use old new = record {
+    files_before = files old;
+    files_after = files new;
+    asked_before = asked old;
+    asked_after = asked new;
+    lent_before = lent old;
+    lent_after = lent new;
+    faults_before = faults old;
+    faults_after = faults new;
+  }
+
+abbrev pub chance_use : {C : Type 0} → (C → Option (List (List ℕ))) → (C → ℕ) → C → C → ChanceUse
+chance_use given faults old new = record { given_before = given old; given_after = given new; faults_before = faults old; faults_after = faults new }
+
 -- the told names asked for grew by some of these alone
 abbrev pub AsksOnly : List (List ℕ) → Option (List (List ℕ)) → Option (List (List ℕ)) → Type 0
 AsksOnly names None after = Unit {0}

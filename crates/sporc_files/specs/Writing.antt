@@ -37,12 +37,6 @@ IsNewFault files before after names file faults.Outside = Rose before after
 IsNewFault files before after names file (faults.Exists other) = (other ≡ file) × HasSomeFile files (file_name names file)
 IsNewFault files before after names file fault = ⊥
 
--- why a file is not written
-abbrev pub IsWriteFault : ℕ → ℕ → Fault → Type 0
-IsWriteFault before after faults.Memory = Unit {0}
-IsWriteFault before after faults.Outside = Rose before after
-IsWriteFault before after fault = ⊥
-
 -- what stands of a file that was not written: only if a call failed, anything
 abbrev pub LeavesFile : List ℕ → Option (List NamedFile) → Option (List NamedFile) → Fault → Type 0
 LeavesFile name before after faults.Outside = ChangesFile before after name

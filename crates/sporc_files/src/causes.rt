@@ -1,11 +1,12 @@
 // What the faults of the crates below are for the program.
 
 ghost use Rattle.std.specs.Prelude.{◌≡◌};
-ghost use Rattle.sporc_files.specs.Faults.{fault_of_draw, fault_of_play, fault_of_saving, fault_of_words};
+ghost use Rattle.sporc_files.specs.Faults.{fault_of_hints, fault_of_line, fault_of_play, fault_of_saving, fault_of_words};
 ghost use Rattle.sporc_files.specs.declared.fault.Fault.TheVariants as faults;
 
 use crate::fault::Fault;
-use sporc_keys::DrawFault;
+use sporc_epoch::HintFault;
+use sporc_line::LineOpenFault;
 use sporc_outside::Failed;
 use sporc_play::PlayFault;
 use sporc_store::SaveFault;
@@ -71,13 +72,27 @@ impl From<WordsFault> for Fault {
     }
 }
 
-impl From<DrawFault> for Fault {
-    ghost from_gives = { λ cause fault. fault ≡ fault_of_draw cause };
+impl From<LineOpenFault> for Fault {
+    ghost from_gives = { λ cause fault. fault ≡ fault_of_line cause };
 
-    fn from(cause: DrawFault) -> Fault {
+    fn from(cause: LineOpenFault) -> Fault {
         match cause {
-            DrawFault::Memory => Fault::Memory,
-            DrawFault::Chance => Fault::Outside,
+            LineOpenFault::NoKey => Fault::Opening(LineOpenFault::NoKey),
+            LineOpenFault::WrongKey => Fault::Opening(LineOpenFault::WrongKey),
+            LineOpenFault::Memory => Fault::Memory,
+        }
+    }
+}
+
+impl From<HintFault> for Fault {
+    ghost from_gives = { λ cause fault. fault ≡ fault_of_hints cause };
+
+    fn from(cause: HintFault) -> Fault {
+        match cause {
+            HintFault::NotAdded => Fault::Hints(HintFault::NotAdded),
+            HintFault::NoPairKey(member) => Fault::Hints(HintFault::NoPairKey(member)),
+            HintFault::WrongKey(epoch) => Fault::Hints(HintFault::WrongKey(epoch)),
+            HintFault::Memory => Fault::Memory,
         }
     }
 }

@@ -3,7 +3,9 @@
 ghost use Rattle.std.specs.Prelude.{◌≡◌, ◌≤◌, OnOk, OnErr};
 ghost use Rattle.std.specs.Io.KnownBytes.{Appends};
 ghost use Rattle.sporc_outside.specs.Counts.{CountsFaults};
+ghost use Rattle.sporc_outside.specs.Uses.{sink_use};
 ghost use Rattle.sporc_outside.specs.Writing.{AppendsPrefix};
+ghost use Rattle.sporc_files.specs.Arguments.{none, one, two};
 ghost use Rattle.sporc_files.specs.Faults.{WritesFaultLine, fault_arguments, fault_line, fault_words, status_of};
 
 use crate::argument::{Argument, Arguments, write_arguments};
@@ -106,14 +108,7 @@ impl Fault {
 
     /// Writes the line of the fault, as far as the sink takes it. It takes no memory.
     pub fn tell<O: Sink>(self, names: &Names<'_>, out: &mut O)
-        ensures line { WritesFaultLine
-            (record {
-              written_before = O.written out.old;
-              written_after = O.written out.new;
-              faults_before = O.faults out.old;
-              faults_after = O.faults out.new;
-            })
-            names.now self }
+        ensures line { WritesFaultLine (sink_use O.written O.faults out.old out.new) names.now self }
         ensures kept { O.faults out.old ≤ O.faults out.new }
     {
         let _ = self.write_line(names, out);
@@ -166,7 +161,6 @@ impl Fault {
     fn arguments(self) -> Arguments
         ensures value { result ≡ fault_arguments self }
     {
-        let none = Argument::Nothing;
         match self {
             Fault::Memory
             | Fault::Words
@@ -175,38 +169,54 @@ impl Fault {
             | Fault::FullHistory
             | Fault::FullJournal
             | Fault::FullFile
-            | Fault::Worn => [none, none, none],
-            Fault::Missing(file) => [Argument::Name(file), none, none],
-            Fault::Exists(file) => [Argument::Name(file), none, none],
-            Fault::TooLong(file) => [Argument::Name(file), none, none],
-            Fault::Malformed(file, at) => [Argument::Name(file), Argument::Number(at), none],
-            Fault::Line(line) => [Argument::Number(u64::from(line)), none, none],
-            Fault::EditorLine(editor, line) => [
-                Argument::Name(File::Script(editor)),
-                Argument::Number(u64::from(line)),
-                none,
-            ],
-            Fault::Refused(position, refusal) => [
-                Argument::Number(u64::from(position)),
-                Argument::Refusal(refusal),
-                none,
-            ],
-            Fault::Rejected(refusal) => [Argument::Refusal(refusal), none, none],
-            Fault::Hints(fault) => [Argument::Hints(fault), none, none],
-            Fault::Opening(fault) => [Argument::Opening(fault), none, none],
-            Fault::Unsettled(pending, position) => [
-                Argument::Number(u64::from(pending)),
-                Argument::Number(u64::from(position)),
-                none,
-            ],
-            Fault::LinkEnded(taken) => [Argument::Number(taken), none, none],
-            Fault::Leaf(next) => [Argument::Number(u64::from(next)), none, none],
-            Fault::Message(at) => [Argument::Number(at), none, none],
-            Fault::Edit(editor, line, fault) => [
-                Argument::Number(u64::from(editor)),
-                Argument::Number(u64::from(line)),
-                Argument::Edit(fault),
-            ],
+            | Fault::Worn => none(),
+            Fault::Missing(file) => one(Argument::Name(file)),
+            Fault::Exists(file) => one(Argument::Name(file)),
+            Fault::TooLong(file) => one(Argument::Name(file)),
+            Fault::Malformed(file, at) => two(Argument::Name(file), Argument::Number(at)),
+            Fault::Line(line) => one(number(line)),
+            Fault::EditorLine(editor, line) => {
+                two(Argument::Name(File::Script(editor)), number(line))
+            }
+            Fault::Refused(position, refusal) => {
+                two(number(position), Argument::Refusal(refusal))
+            }
+            Fault::Rejected(refusal) => one(Argument::Refusal(refusal)),
+            Fault::Hints(fault) => one(Argument::Hints(fault)),
+            Fault::Opening(fault) => one(Argument::Opening(fault)),
+            Fault::Unsettled(pending, position) => two(number(pending), number(position)),
+            Fault::LinkEnded(taken) => one(Argument::Number(taken)),
+            Fault::Leaf(next) => one(number(next)),
+            Fault::Message(at) => one(Argument::Number(at)),
+            Fault::Edit(editor, line, fault) => {
+                [number(editor), number(line), Argument::Edit(fault)]
+            }
         }
     }
+}
+
+// A number of 32 bits as an argument.
+fn number(n: u32) -> Argument
+    ensures value { result ≡ Argument.Number n }
+{
+    Argument::Number(u64::from(n))
+}
+
+// No argument, one, and two.
+fn none() -> Arguments
+    ensures value { result ≡ none }
+{
+    [Argument::Nothing, Argument::Nothing, Argument::Nothing]
+}
+
+fn one(first: Argument) -> Arguments
+    ensures value { result ≡ one first }
+{
+    [first, Argument::Nothing, Argument::Nothing]
+}
+
+fn two(first: Argument, second: Argument) -> Arguments
+    ensures value { result ≡ two first second }
+{
+    [first, second, Argument::Nothing]
 }

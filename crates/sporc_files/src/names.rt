@@ -1,7 +1,7 @@
 //! The names of a command's files.
 
-ghost use Rattle.std.specs.Prelude.{◌≡◌, ◌-◌, []};
-ghost use Rattle.sporc_files.specs.Names.{name_of_script, stem_of};
+ghost use Rattle.std.specs.Prelude.{◌≡◌, ◌-◌};
+ghost use Rattle.sporc_files.specs.Names.{name_of_script, names_of_document, stem_of};
 
 use crate::file::File;
 use sporc_words::Word;
@@ -32,7 +32,7 @@ impl<'a> Names<'a> {
 
     /// Of a document alone.
     pub fn of_document(document: &'a str) -> Names<'a>
-        ensures value { result ≡ record { document = document.now; scripts = [] } }
+        ensures value { result ≡ names_of_document document.now }
     {
         Names {
             document,

@@ -47,7 +47,7 @@ pub fn read_bytes<F: Folder>(
     ensures err { IfErr result (IsFileFault any_bytes (F.files files.old) (F.faults files.old) (F.faults files.new) names.now file) }
     ensures files { F.files files.new ≡ F.files files.old }
     ensures lent { F.lent files.new ≡ F.lent files.old }
-    ensures asked { AsksOnly (file_name names.now file ∷ []) (F.asked files.old) (F.asked files.new) }
+    ensures may_ask { AsksOnly (file_name names.now file ∷ []) (F.asked files.old) (F.asked files.new) }
     ensures kept { F.faults files.old ≤ F.faults files.new }
 {
     let name = file.name(alloc, names)?;
@@ -69,7 +69,7 @@ pub fn read_if_there<F: Folder>(
     ensures there { (other : File) → result ≢ Err (Fault.Missing other) }
     ensures files { F.files files.new ≡ F.files files.old }
     ensures lent { F.lent files.new ≡ F.lent files.old }
-    ensures asked { AsksOnly (file_name names.now file ∷ []) (F.asked files.old) (F.asked files.new) }
+    ensures may_ask { AsksOnly (file_name names.now file ∷ []) (F.asked files.old) (F.asked files.new) }
     ensures kept { F.faults files.old ≤ F.faults files.new }
 {
     match read_bytes(alloc, files, names, file) {
@@ -90,7 +90,7 @@ pub fn read_genesis_file<F: Folder>(
     ensures err { IfErr result (IsFileFault genesis_file (F.files files.old) (F.faults files.old) (F.faults files.new) names.now File.Genesis) }
     ensures files { F.files files.new ≡ F.files files.old }
     ensures lent { F.lent files.new ≡ F.lent files.old }
-    ensures asked { AsksOnly (file_name names.now File.Genesis ∷ []) (F.asked files.old) (F.asked files.new) }
+    ensures may_ask { AsksOnly (file_name names.now File.Genesis ∷ []) (F.asked files.old) (F.asked files.new) }
     ensures kept { F.faults files.old ≤ F.faults files.new }
 {
     let bytes = read_bytes(alloc, files, names, File::Genesis)?;
@@ -118,7 +118,7 @@ pub fn read_key_file<F: Folder>(
     ensures err { IfErr result (IsFileFault (key_file member) (F.files files.old) (F.faults files.old) (F.faults files.new) names.now (File.Key member)) }
     ensures files { F.files files.new ≡ F.files files.old }
     ensures lent { F.lent files.new ≡ F.lent files.old }
-    ensures asked { AsksOnly (file_name names.now (File.Key member) ∷ []) (F.asked files.old) (F.asked files.new) }
+    ensures may_ask { AsksOnly (file_name names.now (File.Key member) ∷ []) (F.asked files.old) (F.asked files.new) }
     ensures kept { F.faults files.old ≤ F.faults files.new }
 {
     let bytes = read_bytes(alloc, files, names, File::Key(member))?;
@@ -146,7 +146,7 @@ pub fn read_own_key<F: Folder>(
     ensures err { IfErr result (IsFileFault (own_key_file genesis.now.founders member) (F.files files.old) (F.faults files.old) (F.faults files.new) names.now (File.Key member)) }
     ensures files { F.files files.new ≡ F.files files.old }
     ensures lent { F.lent files.new ≡ F.lent files.old }
-    ensures asked { AsksOnly (file_name names.now (File.Key member) ∷ []) (F.asked files.old) (F.asked files.new) }
+    ensures may_ask { AsksOnly (file_name names.now (File.Key member) ∷ []) (F.asked files.old) (F.asked files.new) }
     ensures kept { F.faults files.old ≤ F.faults files.new }
 {
     let tree = read_key_file(alloc, files, names, member)?;
@@ -186,7 +186,7 @@ pub fn read_ring_file<F: Folder>(
     ensures err { IfErr result (IsFileFault (ring_file_of_member member) (F.files files.old) (F.faults files.old) (F.faults files.new) names.now (File.Ring member)) }
     ensures files { F.files files.new ≡ F.files files.old }
     ensures lent { F.lent files.new ≡ F.lent files.old }
-    ensures asked { AsksOnly (file_name names.now (File.Ring member) ∷ []) (F.asked files.old) (F.asked files.new) }
+    ensures may_ask { AsksOnly (file_name names.now (File.Ring member) ∷ []) (F.asked files.old) (F.asked files.new) }
     ensures kept { F.faults files.old ≤ F.faults files.new }
 {
     let bytes = read_bytes(alloc, files, names, File::Ring(member))?;

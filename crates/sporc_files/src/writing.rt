@@ -4,7 +4,8 @@ ghost use Rattle.std.specs.Prelude.{◌≡◌, ◌≤◌, [], ◌∷◌, IfErr, 
 ghost use Rattle.sporc_outside.specs.Files.{HasNoFile};
 ghost use Rattle.sporc_files.specs.Names.{file_name};
 ghost use Rattle.sporc_files.specs.Uses.{AsksOnly};
-ghost use Rattle.sporc_files.specs.Writing.{IsNewFault, IsWriteFault, LeavesFile, Stores, file_with};
+ghost use Rattle.sporc_files.specs.Faults.{IsOutsideFault};
+ghost use Rattle.sporc_files.specs.Writing.{IsNewFault, LeavesFile, Stores, file_with};
 
 use crate::fault::Fault;
 use crate::file::File;
@@ -26,7 +27,7 @@ pub fn write_new_file<F: Folder>(
     ensures err { IfErr result (IsNewFault (F.files files.old) (F.faults files.old) (F.faults files.new) names.now file) }
     ensures left { IfErr result (LeavesFile (file_name names.now file) (F.files files.old) (F.files files.new)) }
     ensures lent { F.lent files.new ≡ F.lent files.old }
-    ensures asked { AsksOnly (file_name names.now file ∷ []) (F.asked files.old) (F.asked files.new) }
+    ensures may_ask { AsksOnly (file_name names.now file ∷ []) (F.asked files.old) (F.asked files.new) }
     ensures kept { F.faults files.old ≤ F.faults files.new }
 {
     let name = file.name(alloc, names)?;
@@ -45,10 +46,10 @@ pub fn write_whole_file<F: Folder>(
     bytes: &[u8],
 ) -> Result<(), Fault>
     ensures ok { OnOk result (Stores (file_with names.now file bytes.now ∷ []) (F.files files.old) (F.files files.new)) }
-    ensures err { IfErr result (IsWriteFault (F.faults files.old) (F.faults files.new)) }
+    ensures err { IfErr result (IsOutsideFault (F.faults files.old) (F.faults files.new)) }
     ensures left { IfErr result (LeavesFile (file_name names.now file) (F.files files.old) (F.files files.new)) }
     ensures lent { F.lent files.new ≡ F.lent files.old }
-    ensures asked { AsksOnly (file_name names.now file ∷ []) (F.asked files.old) (F.asked files.new) }
+    ensures may_ask { AsksOnly (file_name names.now file ∷ []) (F.asked files.old) (F.asked files.new) }
     ensures kept { F.faults files.old ≤ F.faults files.new }
 {
     let name = file.name(alloc, names)?;

@@ -2,7 +2,7 @@
 use Rattle.std.proofs.Common.{◌≡◌, ℕ, ◌==◌, nat_eq, nat_le, not, suc, Bool, true, false, List, [], ◌∷◌, ◌&&◌, length, map, Option, refl, sym, ap, ◌∙◌, subst, arith}
 use Rattle.std.specs.List.{AllByRecursion, IsDistinct, list_any}
 use Rattle.std.specs.Cmp.{nat_eq_equiv}
-use Rattle.std.proofs.lemmas.Bool.{leb-true, not-true, or_parts}
+use Rattle.std.proofs.lemmas.Bool.{and_parts, leb-true, not-true, or_parts}
 use Rattle.sporc_member.specs.declared.limits.TheConstants.{MAX_MEMBERS}
 use Rattle.sporc_entry.specs.ChangeBody.{IsMember}
 use Rattle.sporc_outside.specs.declared.named_file.NamedFile.{NamedFile}
@@ -68,19 +68,15 @@ unfolding IsDistinct
 apart [] none = tt
 apart (p ∷ ps) none = let parts = or_parts (list_any (λ q. q.member == p.member) ps) (has_twice ps) none in (no_other p.member ps parts.0, apart ps parts.1)
 
-both_true : (x y : Bool) → (x && y) ≡ true → (x ≡ true) × (y ≡ true)
-both_true true y both = (refl, both)
-both_true false y both = absurd cc
-
 pub can_found : (told : Option (List NamedFile)) (names : FileNames) (asked : Found) (ns : List Named) → MayFound asked → AreNamed told names asked.participants ns → CanFound ns
 can_found told names asked ns may all =
     let ps = asked.participants in
-    let outer = both_true (nat_le (length ps) MAX_MEMBERS) (not (has_twice ps) && list_any (λ p. founds_admin p.founding) ps) may.may in
-    let inner = both_true (not (has_twice ps)) (list_any (λ p. founds_admin p.founding) ps) outer.1 in
+    let outer = and_parts (nat_le (length ps) MAX_MEMBERS) (not (has_twice ps) && list_any (λ p. founds_admin p.founding) ps) may.may in
+    let inner = and_parts (not (has_twice ps)) (list_any (λ p. founds_admin p.founding) ps) outer.1 in
     let numbers = same_numbers told names ps ns all in
     record {
       count = let few = leb-true (length ps) MAX_MEMBERS outer.0 in omega (arith, few, same_length told names ps ns all);
       members = subst (AllByRecursion IsMember) (sym numbers) (are_members ps may.members);
-      apart = subst (IsDistinct nat_eq) (sym numbers) (apart ps (not-true (has_twice ps) inner.0));
+      distinct = subst (IsDistinct nat_eq) (sym numbers) (apart ps (not-true (has_twice ps) inner.0));
       admin = same_admins told names ps ns all ∙ inner.1;
     }

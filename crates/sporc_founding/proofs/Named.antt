@@ -1,19 +1,17 @@
 -- Those who are named, one after another.
-use Rattle.std.proofs.Common.{◌≡◌, ℕ, suc, ◌+◌, ◌<◌, ◌≤◌, List, [], ◌∷◌, ◌++◌, length, take, drop, get_or, Option, Result, Err, refl, sym, ap, ◌∙◌, subst, add-one, arith}
+use Rattle.std.proofs.Common.{◌≡◌, ℕ, suc, ◌+◌, ◌<◌, ◌≤◌, List, [], ◌∷◌, ◌++◌, length, take, drop, get_or, Option, sym, ap, ◌∙◌, subst, add-one}
 use Rattle.std.proofs.Math.Seq.{drop-cons, take-suc}
 use Rattle.std.proofs.lemmas.List.{take-append-drop}
-use Rattle.std.specs.Result.{IfErr}
 use Rattle.sporc_outside.specs.declared.named_file.NamedFile.{NamedFile}
 use Rattle.sporc_keys.specs.declared.named.Named.{Named}
 use Rattle.sporc_words.specs.declared.founding.Founding.TheVariants.{Joiner}
 use Rattle.sporc_words.specs.declared.founding.Participant.{Participant}
 use Rattle.sporc_files.specs.declared.fault.Fault.{Fault}
 use Rattle.sporc_files.specs.declared.fault.Fault.TheVariants as faults
-use Rattle.sporc_files.specs.declared.file.File.{File}
 use Rattle.sporc_files.specs.declared.file.File.TheVariants as files
 use Rattle.sporc_files.specs.Names.{FileNames}
 use Rattle.sporc_files.specs.Reading.{IsFileFault, key_file}
-use Rattle.sporc_files.proofs.FaultCases.{ReadCase, ReadMemory, ReadFailed, ReadMissing, ReadTooLong, ReadMalformed, read_case}
+use Rattle.sporc_files.proofs.FaultCases.{file_later}
 use Rattle.sporc_founding.specs.Founding.{AreNamed, FirstBadKey, IsNamed}
 
 pub nobody : (told : Option (List NamedFile)) (names : FileNames) (ns : List Named) → ns ≡ [] → AreNamed told names [] ns
@@ -30,19 +28,6 @@ one_more told names (q ∷ ps) (m ∷ ns) p n (first, all) one = (first, one_mor
 pub around : {X : Type 0} (xs : List X) (i : ℕ) (d : X) → i < length xs → xs ≡ take i xs ++ (get_or xs i d ∷ drop (suc i) xs)
 around xs i d within = sym (ap (λ ys. take i xs ++ ys) (sym (drop-cons xs i d within)) ∙ take-append-drop i xs)
 
--- what the exit of a `?` says
-pub if_err : {T : Type 0} (r : Result T Fault) (P : Fault → Type 0) (y fault : Fault) → r ≡ Err y → y ≡ fault → P fault → IfErr r P
-if_err r P y fault is same held = rw (is, same) held
-
--- of a folder whose count of faults had risen before
-later : {A : Type 0} (parse : List ℕ → Result A ℕ) (told : Option (List NamedFile)) (low mid high : ℕ) (names : FileNames) (file : File) (fault : Fault) → low ≤ mid
-    → ReadCase parse told mid high names file fault → IsFileFault parse told low high names file fault
-later parse told low mid high names file fault more ReadMemory = tt
-later parse told low mid high names file fault more (ReadFailed rose) = omega (arith, rose, more)
-later parse told low mid high names file fault more (ReadMissing gone) = (refl, gone)
-later parse told low mid high names file fault more (ReadTooLong len long) = (refl, len, long)
-later parse told low mid high names file fault more (ReadMalformed at bytes within has bad) = (refl, bytes, within, has, bad)
-
 pub first_bad : (told now : Option (List NamedFile)) (low mid high : ℕ) (names : FileNames) (all : List Participant) (i : ℕ) (d : Participant) (ns : List Named) (fault : Fault)
     → i < length all → now ≡ told → low ≤ mid → AreNamed told names (take i all) ns
     → IsFileFault (key_file (get_or all i d).member) now mid high names (files.Key (get_or all i d).member) fault → FirstBadKey told low high names all fault
@@ -54,9 +39,7 @@ first_bad told now low mid high names all i d ns fault within same more read cau
       split = around all i d within;
       named = ns;
       read = read;
-      cause = later (key_file (get_or all i d).member) told low mid high names (files.Key (get_or all i d).member) fault more
-          (read_case (key_file (get_or all i d).member) told mid high names (files.Key (get_or all i d).member) fault
-          (subst (λ (o : Option (List NamedFile)). IsFileFault (key_file (get_or all i d).member) o mid high names (files.Key (get_or all i d).member) fault) same cause));
+      cause = file_later (key_file (get_or all i d).member) told now low mid high names (files.Key (get_or all i d).member) fault same more cause;
     }
 
 -- memory ran out after one was read

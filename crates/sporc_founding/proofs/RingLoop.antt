@@ -9,7 +9,8 @@ use Rattle.sporc_files.specs.declared.fault.Fault.{Fault}
 use Rattle.sporc_files.specs.declared.fault.Fault.TheVariants as faults
 use Rattle.sporc_files.specs.declared.file.File.TheVariants as files
 use Rattle.sporc_files.specs.Names.{FileNames, file_name}
-use Rattle.sporc_files.specs.Writing.{IsWriteFault, LeavesFile, Stores, StoresPrefix, file_with}
+use Rattle.sporc_files.specs.Faults.{IsOutsideFault}
+use Rattle.sporc_files.specs.Writing.{LeavesFile, Stores, StoresPrefix, file_with}
 use Rattle.sporc_files.proofs.FaultCases.{WriteCase, WriteFailed, WriteMemory, write_case}
 use Rattle.sporc_founding.specs.Founding.{IsStoreFault, ring_of_founding}
 use Rattle.sporc_founding.proofs.Storing.{map_around, map_more, none_stored, stored_all, stored_then}
@@ -34,7 +35,7 @@ module _ (names : FileNames) (rings : List RingFile) (i : ℕ) (before between :
     )
 
     -- this one was not
-    pub ring_fails : (after : Option (List NamedFile)) (low mid high : ℕ) (fault : Fault) → low ≤ mid → IsWriteFault mid high fault
+    pub ring_fails : (after : Option (List NamedFile)) (low mid high : ℕ) (fault : Fault) → low ≤ mid → IsOutsideFault mid high fault
         → LeavesFile (file_name names (files.Ring x.member)) between after fault → IsStoreFault (map (ring_of_founding names) rings) before after low high fault
     ring_fails after low mid high fault more why left =
         at_ring after low mid high fault more (write_case mid high fault why)

@@ -21,11 +21,11 @@ use Rattle.sporc_files.specs.declared.fault.Fault.{Fault}
 use Rattle.sporc_files.specs.declared.fault.Fault.TheVariants as faults
 use Rattle.sporc_files.specs.declared.file.File.{File}
 use Rattle.sporc_files.specs.declared.file.File.TheVariants as files
-use Rattle.sporc_files.specs.Names.{FileNames, file_name}
+use Rattle.sporc_files.specs.Names.{FileNames, file_name, names_of_document}
 use Rattle.sporc_files.specs.Reading.{IsFileFault, SaysFile, key_file}
 use Rattle.sporc_files.specs.Uses.{ChanceUse, FolderUse}
 use Rattle.sporc_files.specs.Writing.{Stores, StoresPrefix, file_with}
-use Rattle.sporc_founding.specs.KeyMaking.{IsDrawFault, names_of}
+use Rattle.sporc_files.specs.Faults.{IsOutsideFault}
 
 -- words that may found a document
 pub record MayFound (asked : Found) : Type 0 where
@@ -98,28 +98,28 @@ IsStoreFault new before after low high fault = ⊥
 -- the document was made
 pub record Founds (asked : Found) (files : FolderUse) (chance : ChanceUse) : Type 0 where
   pub named : List Named
-  pub read : AreNamed files.files_before (names_of asked.name) asked.participants named
+  pub read : AreNamed files.files_before (names_of_document asked.name) asked.participants named
   pub founding : Founding
   pub made : IsFounding chance.given_before chance.given_after (in_order named) founding
-  pub stores : Stores (founding_files (names_of asked.name) founding) files.files_before files.files_after
+  pub stores : Stores (founding_files (names_of_document asked.name) founding) files.files_before files.files_after
 
 -- no key file of a founder is bad, and nothing was made of the words of the chance
 pub record FailsAtChance (asked : Found) (files : FolderUse) (chance : ChanceUse) (fault : Fault) : Type 0 where
-  pub cause : IsDrawFault chance.faults_before chance.faults_after fault
+  pub cause : IsOutsideFault chance.faults_before chance.faults_after fault
   pub stand : files.files_after ≡ files.files_before
 
 -- a founder's key file is bad
 pub record FailsAtKeys (asked : Found) (files : FolderUse) (fault : Fault) : Type 0 where
-  pub cause : FirstBadKey files.files_before files.faults_before files.faults_after (names_of asked.name) asked.participants fault
+  pub cause : FirstBadKey files.files_before files.faults_before files.faults_after (names_of_document asked.name) asked.participants fault
   pub stand : files.files_after ≡ files.files_before
 
 -- the document was made, and why not all of its files were written
 pub record FailsAtWriting (asked : Found) (files : FolderUse) (chance : ChanceUse) (fault : Fault) : Type 0 where
   pub named : List Named
-  pub read : AreNamed files.files_before (names_of asked.name) asked.participants named
+  pub read : AreNamed files.files_before (names_of_document asked.name) asked.participants named
   pub founding : Founding
   pub made : IsFounding chance.given_before chance.given_after (in_order named) founding
-  pub cause : IsStoreFault (founding_files (names_of asked.name) founding) files.files_before files.files_after files.faults_before files.faults_after fault
+  pub cause : IsStoreFault (founding_files (names_of_document asked.name) founding) files.files_before files.files_after files.faults_before files.faults_after fault
 
 -- what `found` did, by its answer
 abbrev pub FoundOutcome : {T : Type 0} → Found → FolderUse → ChanceUse → Result T Fault → Type 0

@@ -16,14 +16,11 @@ use Rattle.sporc_files.specs.declared.fault.Fault.{Fault}
 use Rattle.sporc_files.specs.declared.fault.Fault.TheVariants as faults
 use Rattle.sporc_files.specs.declared.file.File.{File}
 use Rattle.sporc_files.specs.declared.file.File.TheVariants as files
-use Rattle.sporc_files.specs.Names.{FileNames, file_name}
+use Rattle.sporc_files.specs.Faults.{IsOutsideFault}
+use Rattle.sporc_files.specs.Names.{FileNames, file_name, names_of_document}
 use Rattle.sporc_files.specs.Uses.{ChanceUse, FolderUse}
 use Rattle.sporc_files.specs.Writing.{Stores, StoresPrefix, file_with}
 use Rattle.sporc_words.specs.declared.keygen.Keygen.{Keygen}
-
--- the names of a document's files
-abbrev pub names_of : List ℕ → FileNames
-names_of document = record { document = document; scripts = [] }
 
 -- the names of the files of a key
 abbrev pub key_names : FileNames → ℕ → List (List ℕ)
@@ -70,46 +67,40 @@ abbrev pub Makes : Keygen → ChanceUse → NewKey → Type 0
 Makes asked chance key = IsKeygen chance.given_before chance.given_after asked.member asked.height asked.width key
 
 -- no file was written, and nothing was printed
-pub record IsUntouched (files : FolderUse) (out : SinkUse) : Type 0 where
+pub record WritesNothing (files : FolderUse) (out : SinkUse) : Type 0 where
   pub stand : files.files_after ≡ files.files_before
   pub unwritten : out.written_after ≡ out.written_before
-
--- why nothing was made of the words of a chance, whose count of faults went from `before` to `after`: memory ran out, or it failed
-abbrev pub IsDrawFault : ℕ → ℕ → Fault → Type 0
-IsDrawFault before after faults.Memory = Unit {0}
-IsDrawFault before after faults.Outside = Rose before after
-IsDrawFault before after fault = ⊥
 
 -- the key was made, and why not both of its files were written
 pub record FailsAtFiles (asked : Keygen) (files : FolderUse) (chance : ChanceUse) (out : SinkUse) (fault : Fault) : Type 0 where
   pub key : NewKey
   pub makes : Makes asked chance key
-  pub cause : IsFilesFault (names_of asked.name) key files.files_before files.files_after files.faults_before files.faults_after fault
+  pub cause : IsFilesFault (names_of_document asked.name) key files.files_before files.files_after files.faults_before files.faults_after fault
   pub unwritten : out.written_after ≡ out.written_before
 
 -- both files were written, and the sink failed
 pub record FailsAtLine (asked : Keygen) (files : FolderUse) (chance : ChanceUse) (out : SinkUse) (fault : Fault) : Type 0 where
   pub key : NewKey
   pub makes : Makes asked chance key
-  pub stores : StoresKey (names_of asked.name) key files.files_before files.files_after
+  pub stores : StoresKey (names_of_document asked.name) key files.files_before files.files_after
   pub outside : fault ≡ faults.Outside
   pub rose : Rose out.faults_before out.faults_after
   pub printed : AppendsPrefix out.written_before out.written_after (key_line key.public)
 
 -- no key was made
 pub record FailsBefore (files : FolderUse) (chance : ChanceUse) (out : SinkUse) (fault : Fault) : Type 0 where
-  pub cause : IsDrawFault chance.faults_before chance.faults_after fault
-  pub untouched : IsUntouched files out
+  pub cause : IsOutsideFault chance.faults_before chance.faults_after fault
+  pub untouched : WritesNothing files out
 
 -- the key was made, its files were new and are written, and its line was printed
-pub record MakesKey (asked : Keygen) (files : FolderUse) (chance : ChanceUse) (out : SinkUse) : Type 0 where
+pub record MakesNewKey (asked : Keygen) (files : FolderUse) (chance : ChanceUse) (out : SinkUse) : Type 0 where
   pub key : NewKey
   pub makes : Makes asked chance key
-  pub stores : StoresKey (names_of asked.name) key files.files_before files.files_after
+  pub stores : StoresKey (names_of_document asked.name) key files.files_before files.files_after
   pub printed : Appends out.written_before out.written_after (key_line key.public)
 
 -- what `keygen` did, by its answer
 abbrev pub KeygenOutcome : {T : Type 0} → Keygen → FolderUse → ChanceUse → SinkUse → Result T Fault → Type 0
-KeygenOutcome asked files chance out (Ok done) = MakesKey asked files chance out
+KeygenOutcome asked files chance out (Ok done) = MakesNewKey asked files chance out
 KeygenOutcome asked files chance out (Err fault) =
     FailsBefore files chance out fault ⊎ (FailsAtFiles asked files chance out fault ⊎ FailsAtLine asked files chance out fault)

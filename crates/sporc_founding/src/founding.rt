@@ -7,12 +7,12 @@ ghost use Rattle.sporc_keys.specs.Founding.{CanFound, IsFounding, in_order};
 ghost use Rattle.sporc_keys.specs.RingFile.{IsRingFile};
 ghost use Rattle.sporc_files.specs.declared.fault.Fault.TheVariants as faults;
 ghost use Rattle.sporc_files.specs.declared.file.File.TheVariants as kinds;
-ghost use Rattle.sporc_files.specs.Names.{file_name};
+ghost use Rattle.sporc_files.specs.Names.{file_name, names_of_document};
 ghost use Rattle.sporc_files.specs.Reading.{IsFileFault, key_file};
-ghost use Rattle.sporc_files.specs.Uses.{AsksOnly};
+ghost use Rattle.sporc_files.specs.Uses.{AsksOnly, chance_use, folder_use};
 ghost use Rattle.sporc_files.specs.Writing.{Stores};
 ghost use Rattle.sporc_founding.specs.Founding.{AreNamed, FirstBadKey, FoundOutcome, IsNamed, IsStoreFault, MayFound, found_files, founding_files, key_read, keys_read, names_in, ring_of_founding};
-ghost use Rattle.sporc_founding.specs.KeyMaking.{IsDrawFault, names_of};
+ghost use Rattle.sporc_files.specs.Faults.{IsOutsideFault};
 
 use sporc_entry::write_genesis;
 use sporc_files::{Fault, File, Names, read_key_file, write_whole_file};
@@ -32,24 +32,10 @@ pub fn found<F: Folder, C: Chance>(
 ) -> Result<(), Fault>
     requires { MayFound asked.now }
     ensures outcome { FoundOutcome asked.now
-        (record {
-          files_before = F.files files.old;
-          files_after = F.files files.new;
-          asked_before = F.asked files.old;
-          asked_after = F.asked files.new;
-          lent_before = F.lent files.old;
-          lent_after = F.lent files.new;
-          faults_before = F.faults files.old;
-          faults_after = F.faults files.new;
-        })
-        (record {
-          given_before = C.given chance.old;
-          given_after = C.given chance.new;
-          faults_before = C.faults chance.old;
-          faults_after = C.faults chance.new;
-        })
+        (folder_use F.files F.asked F.lent F.faults files.old files.new)
+        (chance_use C.given C.faults chance.old chance.new)
         result }
-    ensures asked { AsksOnly (map (file_name (names_of asked.now.name)) (found_files asked.now.participants)) (F.asked files.old) (F.asked files.new) }
+    ensures may_ask { AsksOnly (map (file_name (names_of_document asked.now.name)) (found_files asked.now.participants)) (F.asked files.old) (F.asked files.new) }
     ensures lent { F.lent files.new ≡ F.lent files.old }
     ensures files_kept { F.faults files.old ≤ F.faults files.new }
     ensures chance_kept { C.faults chance.old ≤ C.faults chance.new }
@@ -70,7 +56,7 @@ fn read_founders<F: Folder>(
 ) -> Result<Vec<Named>, Fault>
     ensures ok { IfOk result (λ named. AreNamed (F.files files.old) names.now participants.now named.items) }
     ensures err { IfErr result (FirstBadKey (F.files files.old) (F.faults files.old) (F.faults files.new) names.now participants.now) }
-    ensures asked { AsksOnly (map (file_name names.now) (keys_read participants.now)) (F.asked files.old) (F.asked files.new) }
+    ensures may_ask { AsksOnly (map (file_name names.now) (keys_read participants.now)) (F.asked files.old) (F.asked files.new) }
     ensures files { F.files files.new ≡ F.files files.old }
     ensures lent { F.lent files.new ≡ F.lent files.old }
     ensures kept { F.faults files.old ≤ F.faults files.new }
@@ -93,7 +79,7 @@ fn read_named<F: Folder>(
     ensures ok { IfOk result (IsNamed (F.files files.old) names.now participant.now.member participant.now.founding) }
     ensures err { IfErr result (IsFileFault (key_file participant.now.member) (F.files files.old)
         (F.faults files.old) (F.faults files.new) names.now (kinds.Key participant.now.member)) }
-    ensures asked { AsksOnly (map (file_name names.now) (key_read participant.now.member participant.now.founding)) (F.asked files.old) (F.asked files.new) }
+    ensures may_ask { AsksOnly (map (file_name names.now) (key_read participant.now.member participant.now.founding)) (F.asked files.old) (F.asked files.new) }
     ensures files { F.files files.new ≡ F.files files.old }
     ensures lent { F.lent files.new ≡ F.lent files.old }
     ensures kept { F.faults files.old ≤ F.faults files.new }
@@ -119,7 +105,7 @@ fn make_founding<C: Chance>(
     ensures ok { IfOk result (λ founding. IsFounding (C.given chance.old) (C.given chance.new) (in_order named.now) founding) }
     ensures genesis { IfOk result (λ founding. IsGenesis founding.genesis) }
     ensures rings { IfOk result (λ founding. AllByRecursion IsRingFile founding.rings) }
-    ensures err { IfErr result (IsDrawFault (C.faults chance.old) (C.faults chance.new)) }
+    ensures err { IfErr result (IsOutsideFault (C.faults chance.old) (C.faults chance.new)) }
     ensures kept { C.faults chance.old ≤ C.faults chance.new }
 {
     match sporc_keys::found(alloc, chance, named) {
@@ -141,7 +127,7 @@ fn write_founding<F: Folder>(
     ensures ok { OnOk result (Stores (founding_files names.now founding.now) (F.files files.old) (F.files files.new)) }
     ensures err { IfErr result (IsStoreFault (founding_files names.now founding.now) (F.files files.old) (F.files files.new)
         (F.faults files.old) (F.faults files.new)) }
-    ensures asked { AsksOnly (names_in (founding_files names.now founding.now)) (F.asked files.old) (F.asked files.new) }
+    ensures may_ask { AsksOnly (names_in (founding_files names.now founding.now)) (F.asked files.old) (F.asked files.new) }
     ensures lent { F.lent files.new ≡ F.lent files.old }
     ensures kept { F.faults files.old ≤ F.faults files.new }
 {
@@ -161,7 +147,7 @@ fn write_rings<F: Folder>(
     ensures ok { OnOk result (Stores (map (ring_of_founding names.now) rings.now) (F.files files.old) (F.files files.new)) }
     ensures err { IfErr result (IsStoreFault (map (ring_of_founding names.now) rings.now) (F.files files.old) (F.files files.new)
         (F.faults files.old) (F.faults files.new)) }
-    ensures asked { AsksOnly (names_in (map (ring_of_founding names.now) rings.now)) (F.asked files.old) (F.asked files.new) }
+    ensures may_ask { AsksOnly (names_in (map (ring_of_founding names.now) rings.now)) (F.asked files.old) (F.asked files.new) }
     ensures lent { F.lent files.new ≡ F.lent files.old }
     ensures kept { F.faults files.old ≤ F.faults files.new }
 {

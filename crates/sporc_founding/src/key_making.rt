@@ -1,12 +1,15 @@
 //! `keygen NAME M HEIGHT W`.
 
 ghost use Rattle.std.specs.Prelude.{◌≡◌, ◌≤◌, IfOk, IfErr, OnOk, string_bytes};
+ghost use Rattle.sporc_outside.specs.Uses.{sink_use};
 ghost use Rattle.lms_leaf.specs.LeafFile.{IsLeafHeight};
 ghost use Rattle.lms_tree.specs.LmsType.{height_of};
 ghost use Rattle.sporc_keys.specs.KeyFile.{IsKeyFile, IsKeyWidth};
 ghost use Rattle.sporc_keys.specs.NewKey.{IsKeygen};
-ghost use Rattle.sporc_files.specs.Uses.{AsksOnly};
-ghost use Rattle.sporc_founding.specs.KeyMaking.{IsDrawFault, IsFilesFault, KeygenOutcome, StoresKey, key_line, key_names, names_of};
+ghost use Rattle.sporc_files.specs.Names.{names_of_document};
+ghost use Rattle.sporc_files.specs.Uses.{AsksOnly, chance_use, folder_use};
+ghost use Rattle.sporc_files.specs.Faults.{IsOutsideFault};
+ghost use Rattle.sporc_founding.specs.KeyMaking.{IsFilesFault, KeygenOutcome, StoresKey, key_line, key_names};
 
 use lms_tree::LmsPublic;
 use sporc_base::Memory;
@@ -28,30 +31,11 @@ pub fn keygen<F: Folder, C: Chance, O: Sink>(
     requires height { IsLeafHeight (height_of asked.now.height) }
     requires width { IsKeyWidth asked.now.width }
     ensures outcome { KeygenOutcome asked.now
-        (record {
-          files_before = F.files files.old;
-          files_after = F.files files.new;
-          asked_before = F.asked files.old;
-          asked_after = F.asked files.new;
-          lent_before = F.lent files.old;
-          lent_after = F.lent files.new;
-          faults_before = F.faults files.old;
-          faults_after = F.faults files.new;
-        })
-        (record {
-          given_before = C.given chance.old;
-          given_after = C.given chance.new;
-          faults_before = C.faults chance.old;
-          faults_after = C.faults chance.new;
-        })
-        (record {
-          written_before = O.written out.old;
-          written_after = O.written out.new;
-          faults_before = O.faults out.old;
-          faults_after = O.faults out.new;
-        })
+        (folder_use F.files F.asked F.lent F.faults files.old files.new)
+        (chance_use C.given C.faults chance.old chance.new)
+        (sink_use O.written O.faults out.old out.new)
         result }
-    ensures asked { AsksOnly (key_names (names_of asked.now.name) asked.now.member) (F.asked files.old) (F.asked files.new) }
+    ensures may_ask { AsksOnly (key_names (names_of_document asked.now.name) asked.now.member) (F.asked files.old) (F.asked files.new) }
     ensures lent { F.lent files.new ≡ F.lent files.old }
     ensures files_kept { F.faults files.old ≤ F.faults files.new }
     ensures chance_kept { C.faults chance.old ≤ C.faults chance.new }
@@ -72,7 +56,7 @@ fn make_key<C: Chance>(alloc: Global, chance: &mut C, asked: &Keygen) -> Result<
     ensures ok { IfOk result (λ key. IsKeygen (C.given chance.old) (C.given chance.new)
         asked.now.member asked.now.height asked.now.width key) }
     ensures spelled { IfOk result (λ key. IsKeyFile key.file) }
-    ensures err { IfErr result (IsDrawFault (C.faults chance.old) (C.faults chance.new)) }
+    ensures err { IfErr result (IsOutsideFault (C.faults chance.old) (C.faults chance.new)) }
     ensures kept { C.faults chance.old ≤ C.faults chance.new }
 {
     match sporc_keys::keygen(alloc, chance, asked.member, asked.height, asked.width) {
@@ -104,7 +88,7 @@ fn write_files<F: Folder>(
     ensures ok { OnOk result (StoresKey names.now key.now (F.files files.old) (F.files files.new)) }
     ensures err { IfErr result (IsFilesFault names.now key.now (F.files files.old) (F.files files.new)
         (F.faults files.old) (F.faults files.new)) }
-    ensures asked { AsksOnly (key_names names.now key.now.file.member) (F.asked files.old) (F.asked files.new) }
+    ensures may_ask { AsksOnly (key_names names.now key.now.file.member) (F.asked files.old) (F.asked files.new) }
     ensures lent { F.lent files.new ≡ F.lent files.old }
     ensures kept { F.faults files.old ≤ F.faults files.new }
 {

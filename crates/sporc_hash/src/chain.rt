@@ -10,7 +10,7 @@ pub type Digest32 = [u8; 32];
 
 /// The first value of a document's chain, from the bytes of its genesis.
 pub fn genesis_hash(genesis: &[u8]) -> Digest32
-    ensures { result ≡ genesis_value genesis.now }
+    ensures value { result ≡ genesis_value genesis.now }
 {
     let mut hasher = Sha256::new();
     hasher.update([0x00u8]);
@@ -20,7 +20,7 @@ pub fn genesis_hash(genesis: &[u8]) -> Digest32
 
 /// The value of the chain after `entry`, the bytes of a whole entry, where the value before it is `prev`.
 pub fn next_hash(prev: &Digest32, entry: &[u8]) -> Digest32
-    ensures { result ≡ next_value prev.now entry.now }
+    ensures value { result ≡ next_value prev.now entry.now }
 {
     let mut inner = Sha256::new();
     inner.update([0x02u8]);
@@ -35,7 +35,7 @@ pub fn next_hash(prev: &Digest32, entry: &[u8]) -> Digest32
 
 /// The commitment to the key of an epoch of a document.
 pub fn commit(document: &[u8; 16], epoch: u32, key: &[u8; 32]) -> Digest32
-    ensures { result ≡ commitment_of document.now epoch key.now }
+    ensures value { result ≡ commitment_of document.now epoch key.now }
 {
     let mut hasher = Sha256::new();
     hasher.update([0x04u8]);

@@ -2,7 +2,8 @@
 //! the keys of a document's epochs.
 //!
 //! A chain has a value before the first entry, of the genesis, and one after each entry. Each kind of hashed string begins
-//! with a byte of its own (0x00 the genesis, 0x01 a link, 0x02 an entry, 0x04 a commitment), so no string of one kind is a
+//! with a byte of its own (0x00 the genesis, 0x01 a link, 0x02 an entry, 0x04 a commitment; 0x03 begins what an author signs,
+//! in `sporc_entry`), so no string of one kind is a
 //! string of another.
 //!
 //! ```rust

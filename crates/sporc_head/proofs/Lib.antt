@@ -2,5 +2,5 @@ mod Lists
 pub mod Grows
 pub mod ChecksPass
 mod Keeping
-mod OnceChecked
+pub mod OnceChecked
 mod Copied

@@ -30,7 +30,7 @@ refusal_name NoKey = codes "no-key"
 refusal_name WrongKey = codes "wrong-key"
 refusal_name Memory = codes "memory"
 
--- the number of its check, 0 for want of memory
+-- the number of its check, 0 if memory ran out
 abbrev pub refusal_code_of : Refusal → ℕ
 refusal_code_of (Malformed at) = 1
 refusal_code_of WrongDocument = 2

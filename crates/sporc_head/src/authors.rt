@@ -27,9 +27,9 @@ pub(crate) fn check_author(author: &Founder, entry: &EntryView<'_>) -> Result<()
     Ok(())
 }
 
-// Whether a role allows an entry of this kind.
-fn allows(role: Role, kind: u8) -> bool
-    ensures { result ≡ allows role kind }
+/// Whether a role allows an entry of this kind, 1 for edits and 2 for changes.
+pub fn allows(role: Role, kind: u8) -> bool
+    ensures value { result ≡ allows role kind }
 {
     match role {
         Role::Reader => false,

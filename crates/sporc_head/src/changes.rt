@@ -1,7 +1,6 @@
 // The checks of a change at a roster.
 
 ghost use Rattle.std.specs.Prelude.{◌≡◌, map, IfOk, Some};
-ghost use Rattle.std.specs.Str.{bytes_eq};
 ghost use Rattle.sporc_base.specs.FirstFault.{AnswersUnless, first_of};
 ghost use Rattle.sporc_head.specs.HeadChecks.{roster_checks};
 
@@ -24,7 +23,7 @@ pub(crate) fn check_change(
     }
     let numbers = roster.members_after(&change.change)?;
     let named = named_in(alloc, change.wraps.as_slice())?;
-    if !is_same(named.as_slice(), numbers.as_slice()) {
+    if named.as_slice() != numbers.as_slice() {
         return Err(Refusal::WrongWraps);
     }
     Ok(())
@@ -35,11 +34,4 @@ fn named_in(alloc: Global, wraps: &[Wrap]) -> Result<Vec<u16>, Memory>
     ensures { IfOk result (λ named. named.items ≡ map (λ w. w.member) wraps.now) }
 {
     wraps.iter().map(|w| w.member).collect(alloc)
-}
-
-// Whether two lists of numbers are the same.
-fn is_same(a: &[u16], b: &[u16]) -> bool
-    ensures { result ≡ bytes_eq a.now b.now }
-{
-    a == b
 }

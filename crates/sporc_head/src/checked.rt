@@ -7,14 +7,11 @@ ghost use Rattle.sporc_entry.specs.Entry.{change_of};
 ghost use Rattle.sporc_head.specs.History.{member_change_of};
 
 use sporc_base::{Bytes, Memory};
-use sporc_entry::{ChangeBody, EntryView, Header};
+use sporc_entry::{BODY_AT, ChangeBody, EntryView, Header};
 use sporc_hash::{Digest32, next_hash};
 use sporc_member::Change;
 use std::alloc::Global;
 use std::marker::Model;
-
-// The place of the first byte of an entry's body.
-const BODY_AT: usize = 72;
 
 /// An entry that was checked at a history, with the value of the chain after it. It holds the entry's bytes once: its
 /// body is a slice of them.
@@ -66,21 +63,21 @@ impl Checked {
 
     /// What stands before the body.
     pub fn header(&self) -> &Header
-        ensures { result.now ≡ self.now.entry.header }
+        ensures value { result.now ≡ self.now.entry.header }
     {
         &self.header
     }
 
     /// The body: of an edit a masked delta, of a change its bytes.
     pub fn body(&self) -> &[u8]
-        ensures { result.now ≡ self.now.entry.body }
+        ensures value { result.now ≡ self.now.entry.body }
     {
         part_of(self.bytes.as_slice(), BODY_AT, self.body_len)
     }
 
     /// What it changes, if it is a change.
     pub fn change(&self) -> Option<&ChangeBody>
-        ensures { option_copied result ≡ change_of self.now.entry }
+        ensures value { option_copied result ≡ change_of self.now.entry }
     {
         self.change.as_ref()
     }
@@ -94,14 +91,14 @@ impl Checked {
 
     /// The bytes of the entry.
     pub fn bytes(&self) -> &[u8]
-        ensures { result.now ≡ self.now.bytes }
+        ensures value { result.now ≡ self.now.bytes }
     {
         self.bytes.as_slice()
     }
 
     /// The value of the chain after it.
     pub fn hash(&self) -> &Digest32
-        ensures { result.now ≡ self.now.hash }
+        ensures value { result.now ≡ self.now.hash }
     {
         &self.hash
     }

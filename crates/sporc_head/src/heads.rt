@@ -90,14 +90,14 @@ impl Heads {
     /// The bytes of the entries, oldest first.
     pub fn entries(&self) -> &[Vec<u8>]
         ensures value { map (λ v. v.items) result.now ≡ self.now.entries }
-        ensures sized { All (λ bytes. length bytes ≤ MAX_ENTRY) self.now.entries }
+        ensures within { All (λ bytes. length bytes ≤ MAX_ENTRY) self.now.entries }
     {
         self.entries.as_slice()
     }
 
     /// The values of the chain after 0, 1, .. and all entries.
     pub fn hashes(&self) -> &[Digest32]
-        ensures { result.now ≡ chain (genesis_bytes self.now.genesis) self.now.entries }
+        ensures value { result.now ≡ chain (genesis_bytes self.now.genesis) self.now.entries }
     {
         self.hashes.as_slice()
     }
@@ -105,28 +105,28 @@ impl Heads {
     /// The value of the chain after `i` entries.
     pub fn hash_at(&self, i: u32) -> Digest32
         requires { i ≤ length self.now.entries }
-        ensures { result ≡ hash_of self.now.genesis (take i self.now.entries) }
+        ensures value { result ≡ hash_of self.now.genesis (take i self.now.entries) }
     {
         self.hashes[i as usize]
     }
 
     /// The members after the last entry.
     pub fn roster(&self) -> &Roster
-        ensures { result.now.roster ≡ roster_of self.now.genesis self.now.entries }
+        ensures value { result.now.roster ≡ roster_of self.now.genesis self.now.entries }
     {
         &self.roster
     }
 
     /// The position of the last change, 0 if there is none.
     pub fn barrier(&self) -> u32
-        ensures { result ≡ barrier_of self.now.entries }
+        ensures value { result ≡ barrier_of self.now.entries }
     {
         self.barrier
     }
 
     /// How many changes there are.
     pub fn epoch(&self) -> u32
-        ensures { result ≡ epoch_of self.now.entries }
+        ensures value { result ≡ epoch_of self.now.entries }
     {
         self.epoch
     }
@@ -142,14 +142,14 @@ impl Heads {
 
     /// The position of an author's last entry, 0 if there is none.
     pub fn last_of(&self, author: u16) -> u32
-        ensures { result ≡ last_of author self.now.entries }
+        ensures value { result ≡ last_of author self.now.entries }
     {
         self.tables.lasts[author as usize]
     }
 
     /// Whether a change removed this member.
     pub fn is_removed(&self, member: u16) -> bool
-        ensures { result ≡ is_removed member self.now.entries }
+        ensures value { result ≡ is_removed member self.now.entries }
     {
         self.tables.removed[member as usize]
     }

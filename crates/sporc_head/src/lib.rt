@@ -22,6 +22,7 @@ mod limits;
 mod refusal;
 mod tables;
 
+pub use authors::allows;
 pub use checked::Checked;
 pub use heads::Heads;
 pub use limits::MAX_ENTRIES;

@@ -56,7 +56,7 @@ pub enum Refusal {
     #[error("its epoch's key does not meet the commitment")]
     WrongKey,
     /// No memory was left: nothing is said of the entry.
-    #[error("want of memory")]
+    #[error("out of memory")]
     Memory,
 }
 
@@ -65,7 +65,7 @@ impl Refusal {
 
     /// The name that is printed, with its place or the name of its change's fault.
     pub fn name(self, alloc: Global) -> Result<String, Memory>
-        ensures { IfOk result (λ name. string_bytes name ≡ refusal_name self) }
+        ensures ok { IfOk result (λ name. string_bytes name ≡ refusal_name self) }
     {
         let mut name = String::new(alloc);
         match self {
@@ -98,9 +98,9 @@ impl Refusal {
         Ok(name)
     }
 
-    /// The number of its check, from 1 to 21, and 0 for want of memory.
+    /// The number of its check, from 1 to 21, and 0 if memory ran out.
     pub fn code(self) -> u8
-        ensures { result ≡ refusal_code_of self }
+        ensures value { result ≡ refusal_code_of self }
     {
         match self {
             Refusal::Malformed(_) => 1,

@@ -13,7 +13,7 @@ use Rattle.sporc_files.specs.declared.file.File.{File}
 use Rattle.sporc_files.specs.declared.file.File.TheVariants as files
 use Rattle.sporc_files.specs.Names.{FileNames, file_name}
 use Rattle.sporc_files.specs.Reading.{IsFileFault, SaysFile, genesis_file}
-use Rattle.sporc_histories.specs.Contents.{Reads, Tells, entries_in, genesis_in}
+use Rattle.sporc_histories.specs.Contents.{AnswersOfFile, AnswersUnlessOutside, entries_in, genesis_in}
 use Rattle.sporc_histories.specs.Comparing.{AreOfOneGenesis, Chains, FindsChains, IsVerdictLine, both_chains, chain_in, chains_in, values_of}
 use Rattle.sporc_histories.proofs.Found.{fails_first, is_there, reads_none, says, tells_behind, tells_later, there}
 
@@ -40,32 +40,32 @@ module _ (told : Option (List NamedFile)) (names : FileNames) (m n : ℕ) where
   -- a chain that is read where a genesis and maybe another chain were read before
   pub first_fails : (c0 c1 c2 : ℕ) (g : Genesis) (mid : Option (List NamedFile)) (fault : Fault) (one : Result (Vec (List ℕ)) Fault) (r : Result (Vec (List ℕ) × Vec (List ℕ)) Fault)
       → mid ≡ told → c0 ≤ c1 → one ≡ Err fault → r ≡ Err fault → SaysFile genesis_file told (file_name names files.Genesis) g
-      → Reads values_of mid (file_name names (files.History m)) c1 c2 one (chain_in g (files.History m))
+      → AnswersOfFile values_of mid (file_name names (files.History m)) c1 c2 one (chain_in g (files.History m))
       → FindsChains told names m n c0 c2 r
   first_fails c0 c1 c2 g mid fault one r same le one_is is says_g reads =
       let (gc, g_at, g_is) = says genesis_file told (file_name names files.Genesis) files.Genesis g says_g in
-      let (first, at, tells) = subst (λ (t : Option (List NamedFile)). Reads values_of t (file_name names (files.History m)) c1 c2 one (chain_in g (files.History m))) same reads in
+      let (first, at, tells) = subst (λ (t : Option (List NamedFile)). AnswersOfFile values_of t (file_name names (files.History m)) c1 c2 one (chain_in g (files.History m))) same reads in
       let second = there told (file_name names (files.History n)) in
-      let failed = subst (λ (o : Result (Vec (List ℕ)) Fault). Tells values_of (Rose c1 c2) o (chain_in g (files.History m) first)) one_is tells in
+      let failed = subst (λ (o : Result (Vec (List ℕ)) Fault). AnswersUnlessOutside values_of (Rose c1 c2) o (chain_in g (files.History m) first)) one_is tells in
       let then = fails_first values_of both_chains (Rose c1 c2) fault (chain_in g (files.History m) first) (λ a. with_second g second a) failed in
       let all = tells_behind both_chains (Rose c1 c2) (Err fault) (genesis_in gc) g (λ (h : Genesis). chain_in h (files.History m) first >>= λ a. with_second h second a) g_is then in (
         record { genesis = gc; first = first; second = second },
         record { genesis = g_at; first = at; second = is_there told (file_name names (files.History n)) },
-        subst (λ (o : Result (Vec (List ℕ) × Vec (List ℕ)) Fault). Tells both_chains (Rose c0 c2) o (chains_in m n (record { genesis = gc; first = first; second = second }))) (sym is)
+        subst (λ (o : Result (Vec (List ℕ) × Vec (List ℕ)) Fault). AnswersUnlessOutside both_chains (Rose c0 c2) o (chains_in m n (record { genesis = gc; first = first; second = second }))) (sym is)
             (tells_later both_chains c0 c1 c2 (Err fault) _ le all),
       )
 
   second_reads : (c0 c1 c2 c3 : ℕ) (g : Genesis) (mid late : Option (List NamedFile)) (one : Vec (List ℕ)) (first : Result (Vec (List ℕ)) Fault) (second : Result (Vec (List ℕ)) Fault) (r : Result (Vec (List ℕ) × Vec (List ℕ)) Fault)
       → mid ≡ told → late ≡ told → c0 ≤ c2 → first ≡ Ok one → SaysFile genesis_file told (file_name names files.Genesis) g
-      → Reads values_of mid (file_name names (files.History m)) c1 c2 first (chain_in g (files.History m))
-      → Reads values_of late (file_name names (files.History n)) c2 c3 second (chain_in g (files.History n))
-      → ((b : Option (List ℕ)) → Tells values_of (Rose c2 c3) second (chain_in g (files.History n) b) → Tells both_chains (Rose c2 c3) r (with_second g b one.items))
+      → AnswersOfFile values_of mid (file_name names (files.History m)) c1 c2 first (chain_in g (files.History m))
+      → AnswersOfFile values_of late (file_name names (files.History n)) c2 c3 second (chain_in g (files.History n))
+      → ((b : Option (List ℕ)) → AnswersUnlessOutside values_of (Rose c2 c3) second (chain_in g (files.History n) b) → AnswersUnlessOutside both_chains (Rose c2 c3) r (with_second g b one.items))
       → FindsChains told names m n c0 c3 r
   second_reads c0 c1 c2 c3 g mid late one first second r same same' le first_is says_g reads reads' then =
       let (gc, g_at, g_is) = says genesis_file told (file_name names files.Genesis) files.Genesis g says_g in
-      let (a, a_at, a_tells) = subst (λ (t : Option (List NamedFile)). Reads values_of t (file_name names (files.History m)) c1 c2 first (chain_in g (files.History m))) same reads in
-      let (b, b_at, b_tells) = subst (λ (t : Option (List NamedFile)). Reads values_of t (file_name names (files.History n)) c2 c3 second (chain_in g (files.History n))) same' reads' in
-      let a_is : chain_in g (files.History m) a ≡ Ok one.items = subst (λ (o : Result (Vec (List ℕ)) Fault). Tells values_of (Rose c1 c2) o (chain_in g (files.History m) a)) first_is a_tells in
+      let (a, a_at, a_tells) = subst (λ (t : Option (List NamedFile)). AnswersOfFile values_of t (file_name names (files.History m)) c1 c2 first (chain_in g (files.History m))) same reads in
+      let (b, b_at, b_tells) = subst (λ (t : Option (List NamedFile)). AnswersOfFile values_of t (file_name names (files.History n)) c2 c3 second (chain_in g (files.History n))) same' reads' in
+      let a_is : chain_in g (files.History m) a ≡ Ok one.items = subst (λ (o : Result (Vec (List ℕ)) Fault). AnswersUnlessOutside values_of (Rose c1 c2) o (chain_in g (files.History m) a)) first_is a_tells in
       let two = tells_behind both_chains (Rose c2 c3) r (chain_in g (files.History m) a) one.items (λ x. with_second g b x) a_is (then b b_tells) in
       let all = tells_behind both_chains (Rose c2 c3) r (genesis_in gc) g (λ (h : Genesis). chain_in h (files.History m) a >>= λ x. with_second h b x) g_is two in (
         record { genesis = gc; first = a; second = b },
@@ -75,24 +75,24 @@ module _ (told : Option (List NamedFile)) (names : FileNames) (m n : ℕ) where
 
   pub second_fails : (c0 c1 c2 c3 : ℕ) (g : Genesis) (mid late : Option (List NamedFile)) (fault : Fault) (one : Vec (List ℕ)) (first second : Result (Vec (List ℕ)) Fault) (r : Result (Vec (List ℕ) × Vec (List ℕ)) Fault)
       → mid ≡ told → late ≡ told → c0 ≤ c2 → first ≡ Ok one → second ≡ Err fault → r ≡ Err fault → SaysFile genesis_file told (file_name names files.Genesis) g
-      → Reads values_of mid (file_name names (files.History m)) c1 c2 first (chain_in g (files.History m))
-      → Reads values_of late (file_name names (files.History n)) c2 c3 second (chain_in g (files.History n))
+      → AnswersOfFile values_of mid (file_name names (files.History m)) c1 c2 first (chain_in g (files.History m))
+      → AnswersOfFile values_of late (file_name names (files.History n)) c2 c3 second (chain_in g (files.History n))
       → FindsChains told names m n c0 c3 r
   second_fails c0 c1 c2 c3 g mid late fault one first second r same same' le first_is second_is is says_g reads reads' =
       second_reads c0 c1 c2 c3 g mid late one first second r same same' le first_is says_g reads reads' (λ b tells.
-      subst (λ (o : Result (Vec (List ℕ) × Vec (List ℕ)) Fault). Tells both_chains (Rose c2 c3) o (with_second g b one.items)) (sym is)
+      subst (λ (o : Result (Vec (List ℕ) × Vec (List ℕ)) Fault). AnswersUnlessOutside both_chains (Rose c2 c3) o (with_second g b one.items)) (sym is)
       (fails_first values_of both_chains (Rose c2 c3) fault (chain_in g (files.History n) b) (λ x. Ok (pair_of one.items x))
-      (subst (λ (o : Result (Vec (List ℕ)) Fault). Tells values_of (Rose c2 c3) o (chain_in g (files.History n) b)) second_is tells)))
+      (subst (λ (o : Result (Vec (List ℕ)) Fault). AnswersUnlessOutside values_of (Rose c2 c3) o (chain_in g (files.History n) b)) second_is tells)))
 
   pub both_read : (c0 c1 c2 c3 : ℕ) (g : Genesis) (mid late : Option (List NamedFile)) (one other : Vec (List ℕ)) (first second : Result (Vec (List ℕ)) Fault)
       → mid ≡ told → late ≡ told → c0 ≤ c2 → first ≡ Ok one → second ≡ Ok other → SaysFile genesis_file told (file_name names files.Genesis) g
-      → Reads values_of mid (file_name names (files.History m)) c1 c2 first (chain_in g (files.History m))
-      → Reads values_of late (file_name names (files.History n)) c2 c3 second (chain_in g (files.History n))
+      → AnswersOfFile values_of mid (file_name names (files.History m)) c1 c2 first (chain_in g (files.History m))
+      → AnswersOfFile values_of late (file_name names (files.History n)) c2 c3 second (chain_in g (files.History n))
       → FindsChains told names m n c0 c3 (Ok (one, other))
   both_read c0 c1 c2 c3 g mid late one other first second same same' le first_is second_is says_g reads reads' =
       second_reads c0 c1 c2 c3 g mid late one first second (Ok (one, other)) same same' le first_is says_g reads reads' (λ b tells.
       ap (λ (x : Result (List (List ℕ)) Fault). x >>= λ y. Ok (pair_of one.items y))
-      (subst (λ (o : Result (Vec (List ℕ)) Fault). Tells values_of (Rose c2 c3) o (chain_in g (files.History n) b)) second_is tells))
+      (subst (λ (o : Result (Vec (List ℕ)) Fault). AnswersUnlessOutside values_of (Rose c2 c3) o (chain_in g (files.History n) b)) second_is tells))
 
 -- chains of one genesis begin with one value
 begins : (value : List ℕ) (es : List (List ℕ)) → (rest : List (List ℕ)) × (chain_after value es ≡ value ∷ rest)
@@ -108,12 +108,12 @@ in_chain g file content a is =
     (rest, sym same ∙ begun)
 
 read_chain_is : (told : Option (List NamedFile)) (name : List ℕ) (c c' : ℕ) (g : Genesis) (file : File) (one : Vec (List ℕ)) (first : Result (Vec (List ℕ)) Fault) → first ≡ Ok one
-    → Reads values_of told name c c' first (chain_in g file) → (rest : List (List ℕ)) × (one.items ≡ genesis_value (genesis_bytes g) ∷ rest)
+    → AnswersOfFile values_of told name c c' first (chain_in g file) → (rest : List (List ℕ)) × (one.items ≡ genesis_value (genesis_bytes g) ∷ rest)
 read_chain_is told name c c' g file one first is (content, at, tells) =
-    in_chain g file content one.items (subst (λ (o : Result (Vec (List ℕ)) Fault). Tells values_of (Rose c c') o (chain_in g file content)) is tells)
+    in_chain g file content one.items (subst (λ (o : Result (Vec (List ℕ)) Fault). AnswersUnlessOutside values_of (Rose c c') o (chain_in g file content)) is tells)
 
 pub of_one_genesis : (told told' : Option (List NamedFile)) (name name' : List ℕ) (c c' d d' : ℕ) (g : Genesis) (file file' : File) (one other : Vec (List ℕ)) (first second : Result (Vec (List ℕ)) Fault)
-    → first ≡ Ok one → second ≡ Ok other → Reads values_of told name c c' first (chain_in g file) → Reads values_of told' name' d d' second (chain_in g file') → AreOfOneGenesis one.items other.items
+    → first ≡ Ok one → second ≡ Ok other → AnswersOfFile values_of told name c c' first (chain_in g file) → AnswersOfFile values_of told' name' d d' second (chain_in g file') → AreOfOneGenesis one.items other.items
 of_one_genesis told told' name name' c c' d d' g file file' one other first second first_is second_is reads reads' =
     let (rest, is) = read_chain_is told name c c' g file one first first_is reads in
     let (rest', is') = read_chain_is told' name' d d' g file' other second second_is reads' in

@@ -12,7 +12,7 @@ use Rattle.sporc_files.specs.declared.file.File.{File}
 use Rattle.sporc_files.specs.declared.file.File.TheVariants as files
 use Rattle.sporc_files.specs.Names.{FileNames, file_name}
 use Rattle.sporc_files.specs.Reading.{IsFileFault, SaysFile, any_bytes, genesis_file, own_key_file}
-use Rattle.sporc_histories.specs.Contents.{IsAt, Tells, bytes_in, said}
+use Rattle.sporc_histories.specs.Contents.{AnswersUnlessOutside, IsAt, bytes_in, said}
 use Rattle.sporc_histories.specs.Checking.{FindsChecked, examined}
 use Rattle.sporc_histories.proofs.Found.{is_there, reads_none, reads_value, says, tells_behind, tells_later, there}
 
@@ -38,7 +38,7 @@ module _ (told : Option (List NamedFile)) (names : FileNames) (m : ℕ) where
 
   -- a file that holds this, and what is answered from it on
   abbrev Holds : File → (Option (List ℕ) → Result ℕ Fault) → ℕ → ℕ → Result ℕ Fault → Type 0
-  Holds file rest before after r = (content : Option (List ℕ)) × IsAt told (file_name names file) content × Tells length_of (Rose before after) r (rest content)
+  Holds file rest before after r = (content : Option (List ℕ)) × IsAt told (file_name names file) content × AnswersUnlessOutside length_of (Rose before after) r (rest content)
 
   -- the files before it say something
   module _ (g : Genesis) (says_g : SaysFile genesis_file told (file_name names files.Genesis) g) (c0 c1 c2 : ℕ) (r : Result ℕ Fault) (le : c0 ≤ c1) where
@@ -101,6 +101,6 @@ module _ (told : Option (List NamedFile)) (names : FileNames) (m : ℕ) where
   pub all_read : (c0 c1 c2 : ℕ) (g : Genesis) (key : LmsPrivate) (ring : RingFile) (bytes : List ℕ) (r : Result ℕ Fault) → c0 ≤ c1
       → SaysFile genesis_file told (file_name names files.Genesis) g → SaysFile (own_key_file g.founders m) told (file_name names (files.Key m)) key
       → SaysFile (ring_file_of_member m) told (file_name names (files.Ring m)) ring → SaysFile any_bytes told (file_name names (files.History m)) bytes
-      → Tells length_of ⊥ r (examined g m ring bytes) → FindsChecked told names m c0 c2 r
+      → AnswersUnlessOutside length_of ⊥ r (examined g m ring bytes) → FindsChecked told names m c0 c2 r
   all_read c0 c1 c2 g key ring bytes r le says_g says_key says_ring says_bytes tells =
       from_history g says_g c0 c1 c2 r le key ring says_key says_ring (reads_value any_bytes length_of told c1 c2 names (files.History m) (examined g m ring) bytes r says_bytes tells)

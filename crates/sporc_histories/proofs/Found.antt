@@ -11,7 +11,7 @@ use Rattle.sporc_files.specs.declared.fault.Fault.TheVariants as faults
 use Rattle.sporc_files.specs.declared.file.File.{File}
 use Rattle.sporc_files.specs.Names.{FileNames, file_name}
 use Rattle.sporc_files.specs.Reading.{IsFileFault, SaysFile}
-use Rattle.sporc_histories.specs.Contents.{IsAt, Tells, said}
+use Rattle.sporc_histories.specs.Contents.{AnswersUnlessOutside, IsAt, said}
 
 -- ---- what a folder holds
 
@@ -47,7 +47,7 @@ module _ {A : Type 0} (parse : List ℕ → Result A ℕ) where
 
   pub fails : {X : Type 0} (view : X → A) (told : Option (List NamedFile)) (before after : ℕ) (names : FileNames) (file : File) (fault : Fault)
       → IsFileFault parse told before after names file fault
-      → (content : Option (List ℕ)) × IsAt told (file_name names file) content × Tells view (Rose before after) (Err fault) (said parse file content)
+      → (content : Option (List ℕ)) × IsAt told (file_name names file) content × AnswersUnlessOutside view (Rose before after) (Err fault) (said parse file content)
   fails view told before after names file faults.Memory why = (there told (file_name names file), is_there told (file_name names file), tt)
   fails view told before after names file faults.Outside why = (there told (file_name names file), is_there told (file_name names file), why)
   fails view told before after names file (faults.Missing other) (same, none) =
@@ -65,50 +65,50 @@ module _ {A : Type 0} (parse : List ℕ → Result A ℕ) where
   fails view told before after names file fault why = absurd why
 
 -- a fault of what comes first is one of what comes behind it
-pub fails_first : {X Y A B : Type 0} (one : X → A) (other : Y → B) (Failed : Type 0) (fault : Fault) (r : Result A Fault) (k : A → Result B Fault) → Tells one Failed (Err fault) r
-    → Tells other Failed (Err fault) (r >>= k)
+pub fails_first : {X Y A B : Type 0} (one : X → A) (other : Y → B) (Failed : Type 0) (fault : Fault) (r : Result A Fault) (k : A → Result B Fault) → AnswersUnlessOutside one Failed (Err fault) r
+    → AnswersUnlessOutside other Failed (Err fault) (r >>= k)
 fails_first one other Failed faults.Memory r k why = tt
 fails_first one other Failed faults.Outside r k why = why
 fails_first one other Failed fault r k why = ap (λ s. s >>= k) why
 
 -- what may fail in more ways, or over a longer time, tells the same
-tells_as : {X Y : Type 0} (view : X → Y) (P Q : Type 0) (r : Result X Fault) (s : Result Y Fault) → (P → Q) → Tells view P r s → Tells view Q r s
+tells_as : {X Y : Type 0} (view : X → Y) (P Q : Type 0) (r : Result X Fault) (s : Result Y Fault) → (P → Q) → AnswersUnlessOutside view P r s → AnswersUnlessOutside view Q r s
 tells_as view P Q (Ok x) s then told = told
 tells_as view P Q (Err faults.Memory) s then told = tt
 tells_as view P Q (Err faults.Outside) s then told = then told
 tells_as view P Q (Err fault) s then told = told
 
 -- a value that no outside is asked for
-pub tells_alone : {X Y : Type 0} (view : X → Y) (P : Type 0) (r : Result X Fault) (s : Result Y Fault) → Tells view ⊥ r s → Tells view P r s
+pub tells_alone : {X Y : Type 0} (view : X → Y) (P : Type 0) (r : Result X Fault) (s : Result Y Fault) → AnswersUnlessOutside view ⊥ r s → AnswersUnlessOutside view P r s
 tells_alone view P r s told = tells_as view ⊥ P r s (λ no. absurd no) told
 
 -- want of memory tells nothing
-pub tells_memory : {X Y : Type 0} (view : X → Y) (P : Type 0) (r : Result X Fault) (s : Result Y Fault) → r ≡ Err faults.Memory → Tells view P r s
+pub tells_memory : {X Y : Type 0} (view : X → Y) (P : Type 0) (r : Result X Fault) (s : Result Y Fault) → r ≡ Err faults.Memory → AnswersUnlessOutside view P r s
 tells_memory view P r s is = rw is tt
 
 -- a count that rose later rose
-pub tells_later : {X Y : Type 0} (view : X → Y) (before mid after : ℕ) (r : Result X Fault) (s : Result Y Fault) → before ≤ mid → Tells view (Rose mid after) r s → Tells view (Rose before after) r s
+pub tells_later : {X Y : Type 0} (view : X → Y) (before mid after : ℕ) (r : Result X Fault) (s : Result Y Fault) → before ≤ mid → AnswersUnlessOutside view (Rose mid after) r s → AnswersUnlessOutside view (Rose before after) r s
 tells_later view before mid after r s le told = tells_as view (Rose mid after) (Rose before after) r s (λ rose. omega (arith, le, rose)) told
 
 -- a count that rose earlier rose
-pub tells_earlier : {X Y : Type 0} (view : X → Y) (before mid after : ℕ) (r : Result X Fault) (s : Result Y Fault) → mid ≤ after → Tells view (Rose before mid) r s → Tells view (Rose before after) r s
+pub tells_earlier : {X Y : Type 0} (view : X → Y) (before mid after : ℕ) (r : Result X Fault) (s : Result Y Fault) → mid ≤ after → AnswersUnlessOutside view (Rose before mid) r s → AnswersUnlessOutside view (Rose before after) r s
 tells_earlier view before mid after r s le told = tells_as view (Rose before mid) (Rose before after) r s (λ rose. omega (arith, le, rose)) told
 
 -- what is answered behind a value
-pub tells_behind : {A X Y : Type 0} (view : X → Y) (Failed : Type 0) (r : Result X Fault) (first : Result A Fault) (a : A) (k : A → Result Y Fault) → first ≡ Ok a → Tells view Failed r (k a)
-    → Tells view Failed r (first >>= k)
+pub tells_behind : {A X Y : Type 0} (view : X → Y) (Failed : Type 0) (r : Result X Fault) (first : Result A Fault) (a : A) (k : A → Result Y Fault) → first ≡ Ok a → AnswersUnlessOutside view Failed r (k a)
+    → AnswersUnlessOutside view Failed r (first >>= k)
 tells_behind view Failed r first a k is told = rw is told
 
 -- ---- a file that is read, and a value made of what it says
 module _ {A X Y : Type 0} (parse : List ℕ → Result A ℕ) (view : X → Y) (told : Option (List NamedFile)) (before after : ℕ) (names : FileNames) (file : File) (k : A → Result Y Fault) where
   pub reads_none : (fault : Fault) (r : Result X Fault) → r ≡ Err fault → IsFileFault parse told before after names file fault
-      → (content : Option (List ℕ)) × IsAt told (file_name names file) content × Tells view (Rose before after) r (said parse file content >>= k)
+      → (content : Option (List ℕ)) × IsAt told (file_name names file) content × AnswersUnlessOutside view (Rose before after) r (said parse file content >>= k)
   reads_none fault r is_fault why =
       let (content, is, tells) = fails parse (λ (a : A). a) told before after names file fault why in
       (content, is, rw is_fault (fails_first (λ (a : A). a) view (Rose before after) fault (said parse file content) k tells))
 
-  pub reads_value : (a : A) (r : Result X Fault) → SaysFile parse told (file_name names file) a → Tells view ⊥ r (k a)
-      → (content : Option (List ℕ)) × IsAt told (file_name names file) content × Tells view (Rose before after) r (said parse file content >>= k)
+  pub reads_value : (a : A) (r : Result X Fault) → SaysFile parse told (file_name names file) a → AnswersUnlessOutside view ⊥ r (k a)
+      → (content : Option (List ℕ)) × IsAt told (file_name names file) content × AnswersUnlessOutside view (Rose before after) r (said parse file content >>= k)
   reads_value a r said_a tells =
       let (content, is, value) = says parse told (file_name names file) file a said_a in
       (content, is, tells_behind view (Rose before after) r (said parse file content) a k value (tells_alone view (Rose before after) r (k a) tells))

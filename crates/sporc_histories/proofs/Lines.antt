@@ -7,16 +7,16 @@ use Rattle.sporc_outside.specs.Writing.{AppendsPrefix}
 use Rattle.sporc_files.specs.declared.fault.Fault.{Fault}
 use Rattle.sporc_files.specs.declared.fault.Fault.TheVariants as faults
 use Rattle.sporc_files.specs.Uses.{FolderUse}
-use Rattle.sporc_histories.specs.Contents.{Tells}
+use Rattle.sporc_histories.specs.Contents.{AnswersUnlessOutside}
 use Rattle.sporc_histories.specs.Uses.{WritesLine}
 
 module _ {Y : Type 0} (Says : Y → List ℕ → Type 0) (folder : FolderUse) (out : SinkUse) (found : Result Y Fault) where
   -- nothing was found
-  pub not_found : {X : Type 0} (view : X → Y) (fault : Fault) (r : Result (Unit {0}) Fault) → r ≡ Err fault → Tells view (Rose folder.faults_before folder.faults_after) (Err fault) found → IsUnwritten out
+  pub not_found : {X : Type 0} (view : X → Y) (fault : Fault) (r : Result (Unit {0}) Fault) → r ≡ Err fault → AnswersUnlessOutside view (Rose folder.faults_before folder.faults_after) (Err fault) found → IsUnwritten out
       → WritesLine Says folder out found r
   not_found view fault r is told none = rw is (by fault told)
     where
-      by : (fault : Fault) → Tells view (Rose folder.faults_before folder.faults_after) (Err fault) found → WritesLine Says folder out found {T = Unit {0}} (Err fault)
+      by : (fault : Fault) → AnswersUnlessOutside view (Rose folder.faults_before folder.faults_after) (Err fault) found → WritesLine Says folder out found {T = Unit {0}} (Err fault)
       by faults.Memory told = none
       by faults.Outside told = inl (told, none)
       by fault told = (told, none)

@@ -15,7 +15,7 @@ use Rattle.sporc_files.specs.declared.file.File.TheVariants as files
 use Rattle.sporc_files.specs.Names.{FileNames, file_name}
 use Rattle.sporc_files.specs.Reading.{IsFileFault, SaysFile, any_bytes, genesis_file}
 use Rattle.sporc_files.specs.Uses.{FolderUse}
-use Rattle.sporc_histories.specs.Contents.{IsAt, Tells, genesis_in}
+use Rattle.sporc_histories.specs.Contents.{AnswersUnlessOutside, IsAt, genesis_in}
 use Rattle.sporc_histories.specs.Serving.{FindsOrder, logged, logged_in, order_with}
 use Rattle.sporc_histories.specs.Outcomes.{FailsToBegin, KeepsLog, SavesLog}
 use Rattle.sporc_histories.proofs.Found.{has_at, is_there, none_at, reads_none, said_long, said_short, says, tells_alone, tells_behind, tells_later, there}
@@ -52,10 +52,10 @@ module _ (names : FileNames) (late whole : FolderUse) (out : SinkUse) (order : O
 
 -- why nothing is served
 pub to_begin : (before after : ℕ) (found : Result OrderModel Fault) (fault : Fault) (r : Result (Unit {0}) Fault) → r ≡ Err fault
-    → Tells (λ (order : OrderModel). order) (Rose before after) (Err fault) found → FailsToBegin before after found r
+    → AnswersUnlessOutside (λ (order : OrderModel). order) (Rose before after) (Err fault) found → FailsToBegin before after found r
 to_begin before after found fault r is told = rw is (by fault told)
   where
-    by : (fault : Fault) → Tells (λ (order : OrderModel). order) (Rose before after) (Err fault) found → FailsToBegin {T = Unit {0}} before after found (Err fault)
+    by : (fault : Fault) → AnswersUnlessOutside (λ (order : OrderModel). order) (Rose before after) (Err fault) found → FailsToBegin {T = Unit {0}} before after found (Err fault)
     by faults.Memory told = tt
     by faults.Outside told = told
     by fault told = told
@@ -71,7 +71,7 @@ module _ (told : Option (List NamedFile)) (names : FileNames) where
 
   -- what is found behind the genesis
   behind : (c0 c1 c2 : ℕ) (g : Genesis) (r : Result OrderModel Fault) → c0 ≤ c1 → SaysFile genesis_file told (file_name names files.Genesis) g → (log : Option (List ℕ)) → IsAt told (file_name names files.Log) log
-      → Tells (λ (order : OrderModel). order) (Rose c1 c2) r (logged g log) → FindsOrder told names c0 c2 r
+      → AnswersUnlessOutside (λ (order : OrderModel). order) (Rose c1 c2) r (logged g log) → FindsOrder told names c0 c2 r
   behind c0 c1 c2 g r le says_g log log_at tells =
       let (gc, g_at, g_is) = says genesis_file told (file_name names files.Genesis) files.Genesis g says_g in
       let all = tells_behind (λ (order : OrderModel). order) (Rose c1 c2) r (genesis_in gc) g (λ (h : Genesis). logged h log) g_is tells in
@@ -82,10 +82,10 @@ module _ (told : Option (List NamedFile)) (names : FileNames) where
       → ((other : File) → fault ≡ faults.Missing other → ⊥) → IsFileFault any_bytes told c1 c2 names files.Log fault → FindsOrder told names c0 c2 r
   log_fails c0 c1 c2 g fault r le is says_g there_is why =
       let (log, at, tells) = by fault there_is why in
-      behind c0 c1 c2 g r le says_g log at (subst (λ (o : Result OrderModel Fault). Tells (λ (order : OrderModel). order) (Rose c1 c2) o (logged g log)) (sym is) tells)
+      behind c0 c1 c2 g r le says_g log at (subst (λ (o : Result OrderModel Fault). AnswersUnlessOutside (λ (order : OrderModel). order) (Rose c1 c2) o (logged g log)) (sym is) tells)
     where
       by : (fault : Fault) → ((other : File) → fault ≡ faults.Missing other → ⊥) → IsFileFault any_bytes told c1 c2 names files.Log fault
-          → (log : Option (List ℕ)) × IsAt told (file_name names files.Log) log × Tells (λ (order : OrderModel). order) (Rose c1 c2) (Err fault) (logged g log)
+          → (log : Option (List ℕ)) × IsAt told (file_name names files.Log) log × AnswersUnlessOutside (λ (order : OrderModel). order) (Rose c1 c2) (Err fault) (logged g log)
       by faults.Memory never why = (there told (file_name names files.Log), is_there told (file_name names files.Log), tt)
       by faults.Outside never why = (there told (file_name names files.Log), is_there told (file_name names files.Log), why)
       by (faults.Missing other) never why = absurd (never other refl)
@@ -99,12 +99,12 @@ module _ (told : Option (List NamedFile)) (names : FileNames) where
 
   -- there is no log
   pub no_log : (c0 c1 c2 : ℕ) (g : Genesis) (r : Result OrderModel Fault) → c0 ≤ c1 → SaysFile genesis_file told (file_name names files.Genesis) g → HasNoFile told (file_name names files.Log)
-      → Tells (λ (order : OrderModel). order) (Rose c1 c2) r (Ok (order_with g [])) → FindsOrder told names c0 c2 r
+      → AnswersUnlessOutside (λ (order : OrderModel). order) (Rose c1 c2) r (Ok (order_with g [])) → FindsOrder told names c0 c2 r
   no_log c0 c1 c2 g r le says_g none tells = behind c0 c1 c2 g r le says_g None (none_at told (file_name names files.Log) none) tells
 
   -- the log is read
   pub log_read : (c0 c1 c2 : ℕ) (g : Genesis) (bytes : List ℕ) (r : Result OrderModel Fault) → c0 ≤ c1 → SaysFile genesis_file told (file_name names files.Genesis) g
-      → SaysFile any_bytes told (file_name names files.Log) bytes → Tells (λ (order : OrderModel). order) ⊥ r (logged_in g bytes) → FindsOrder told names c0 c2 r
+      → SaysFile any_bytes told (file_name names files.Log) bytes → AnswersUnlessOutside (λ (order : OrderModel). order) ⊥ r (logged_in g bytes) → FindsOrder told names c0 c2 r
   log_read c0 c1 c2 g bytes r le says_g (held, short, has, is) tells =
       let held_is : held ≡ bytes = cc in
       let said_held = said_short any_bytes files.Log held (Ok held) short refl in

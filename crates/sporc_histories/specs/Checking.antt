@@ -9,22 +9,20 @@ use Rattle.sporc_outside.specs.declared.named_file.NamedFile.{NamedFile}
 use Rattle.sporc_entry.specs.declared.genesis.Genesis.{Genesis}
 use Rattle.sporc_epoch.specs.Hints.{hints_of}
 use Rattle.sporc_epoch.specs.Keys.{Keys}
-use Rattle.sporc_epoch.specs.declared.fault.HintFault.{HintFault}
-use Rattle.sporc_epoch.specs.declared.fault.HintFault.TheVariants as hint_faults
 use Rattle.sporc_keys.specs.RingFile.{epoch_keys, pair_keys, ring_file_of_member}
 use Rattle.sporc_keys.specs.declared.ring_file.RingFile.{RingFile}
 use Rattle.sporc_line.specs.Kit.{kit_of}
 use Rattle.sporc_line.specs.Openings.{open_checks}
 use Rattle.sporc_line.specs.declared.fault.LineOpenFault.{LineOpenFault}
-use Rattle.sporc_line.specs.declared.fault.LineOpenFault.TheVariants as open_faults
 use Rattle.sporc_store.specs.Loading.{a_member, loaded}
 use Rattle.sporc_store.specs.SavedFile.{Taken, saved_in}
 use Rattle.sporc_files.specs.declared.fault.Fault.{Fault}
 use Rattle.sporc_files.specs.declared.fault.Fault.TheVariants as faults
 use Rattle.sporc_files.specs.declared.file.File.TheVariants as files
+use Rattle.sporc_files.specs.Faults.{fault_of_hints, fault_of_line}
 use Rattle.sporc_files.specs.Names.{FileNames, file_name}
 use Rattle.sporc_files.specs.Reading.{own_key_file}
-use Rattle.sporc_histories.specs.Contents.{IsAt, Tells, bytes_in, genesis_in, said, whole}
+use Rattle.sporc_histories.specs.Contents.{AnswersUnlessOutside, IsAt, bytes_in, genesis_in, said, whole}
 
 -- ---- files
 
@@ -44,32 +42,19 @@ pub record AreCheckedFiles (told : Option (List NamedFile)) (names : FileNames) 
 
 -- ---- what a member is given
 
--- why a history gives no hints
-abbrev pub hints_fault : HintFault → Fault
-hints_fault hint_faults.NotAdded = faults.Hints hint_faults.NotAdded
-hints_fault (hint_faults.NoPairKey author) = faults.Hints (hint_faults.NoPairKey author)
-hints_fault (hint_faults.WrongKey epoch) = faults.Hints (hint_faults.WrongKey epoch)
-hints_fault hint_faults.Memory = faults.Memory
-
 -- the hints of a joiner: those of its own history, which has to be whole
 abbrev pub hints_in : ℕ → Keys → List ℕ → List ℕ → Result Keys Fault
-hints_in member pairs document history = whole (files.History member) (saved_in document history) >>= λ entries. fault_as hints_fault (hints_of entries member pairs)
+hints_in member pairs document history = whole (files.History member) (saved_in document history) >>= λ entries. fault_as fault_of_hints (hints_of entries member pairs)
 
 -- the keys of epochs that a member begins with: a founder's key of epoch 0, or a joiner's hints
 abbrev pub keys_in : ℕ → Option (List ℕ) → Keys → List ℕ → List ℕ → Result Keys Fault
 keys_in member (Some key) pairs document history = Ok (epoch_keys (Some key))
 keys_in member None pairs document history = hints_in member pairs document history
 
--- why a history does not open
-abbrev pub opening_fault : LineOpenFault → Fault
-opening_fault open_faults.NoKey = faults.Opening open_faults.NoKey
-opening_fault open_faults.WrongKey = faults.Opening open_faults.WrongKey
-opening_fault open_faults.Memory = faults.Memory
-
 -- a value, unless a history does not open
 abbrev pub unless_closed : {A : Type 0} → Option LineOpenFault → A → Result A Fault
 unless_closed None x = Ok x
-unless_closed (Some fault) x = Err (opening_fault fault)
+unless_closed (Some fault) x = Err (fault_of_line fault)
 
 -- ---- the history
 
@@ -100,7 +85,7 @@ checked_in member content = do
 -- it was found in the files of a folder whose count of faults went from `before` to `after`
 abbrev pub FindsChecked : Option (List NamedFile) → FileNames → ℕ → ℕ → ℕ → Result ℕ Fault → Type 0
 FindsChecked told names member before after result =
-    (content : CheckedFiles) × AreCheckedFiles told names member content × Tells (λ (len : ℕ). len) (Rose before after) result (checked_in member content)
+    (content : CheckedFiles) × AreCheckedFiles told names member content × AnswersUnlessOutside (λ (len : ℕ). len) (Rose before after) result (checked_in member content)
 
 -- the line that says how many entries there are
 abbrev pub IsCheckedLine : ℕ → List ℕ → Type 0

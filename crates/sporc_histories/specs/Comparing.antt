@@ -13,7 +13,7 @@ use Rattle.sporc_files.specs.declared.fault.Fault.{Fault}
 use Rattle.sporc_files.specs.declared.file.File.{File}
 use Rattle.sporc_files.specs.declared.file.File.TheVariants as files
 use Rattle.sporc_files.specs.Names.{FileNames, file_name}
-use Rattle.sporc_histories.specs.Contents.{IsAt, Tells, genesis_in, entries_in}
+use Rattle.sporc_histories.specs.Contents.{AnswersUnlessOutside, IsAt, genesis_in, entries_in}
 
 -- the files of a comparison, in the order in which they are read
 pub record ComparedFiles : Type 0 where
@@ -55,7 +55,7 @@ both_chains chains = record { first = values_of chains.0; second = values_of cha
 -- the chains were found in the files of a folder whose count of faults went from `before` to `after`
 abbrev pub FindsChains : Option (List NamedFile) → FileNames → ℕ → ℕ → ℕ → ℕ → Result (Vec (List ℕ) × Vec (List ℕ)) Fault → Type 0
 FindsChains told names m n before after result =
-    (content : ComparedFiles) × AreComparedFiles told names m n content × Tells both_chains (Rose before after) result (chains_in m n content)
+    (content : ComparedFiles) × AreComparedFiles told names m n content × AnswersUnlessOutside both_chains (Rose before after) result (chains_in m n content)
 
 -- two chains begin with one value
 pub record AreOfOneGenesis (a b : List (List ℕ)) : Type 0 where

@@ -24,15 +24,15 @@ IsAt None name content = Unit {0}
 IsAt (Some told) name content = file_in told name ≡ content
 
 -- an answer is this value or this fault, unless memory ran out, or something outside failed, as `Failed` says
-abbrev pub Tells : {X Y : Type 0} → (X → Y) → Type 0 → Result X Fault → Result Y Fault → Type 0
-Tells view Failed (Ok x) says = says ≡ Ok (view x)
-Tells view Failed (Err faults.Memory) says = Unit {0}
-Tells view Failed (Err faults.Outside) says = Failed
-Tells view Failed (Err fault) says = says ≡ Err fault
+abbrev pub AnswersUnlessOutside : {X Y : Type 0} → (X → Y) → Type 0 → Result X Fault → Result Y Fault → Type 0
+AnswersUnlessOutside view Failed (Ok x) says = says ≡ Ok (view x)
+AnswersUnlessOutside view Failed (Err faults.Memory) says = Unit {0}
+AnswersUnlessOutside view Failed (Err faults.Outside) says = Failed
+AnswersUnlessOutside view Failed (Err fault) says = says ≡ Err fault
 
 -- the same of what a told folder holds at a name, where its count of faults went from `before` to `after`
-abbrev pub Reads : {X Y : Type 0} → (X → Y) → Option (List NamedFile) → List ℕ → ℕ → ℕ → Result X Fault → (Option (List ℕ) → Result Y Fault) → Type 0
-Reads view told name before after answer says = (content : Option (List ℕ)) × IsAt told name content × Tells view (Rose before after) answer (says content)
+abbrev pub AnswersOfFile : {X Y : Type 0} → (X → Y) → Option (List NamedFile) → List ℕ → ℕ → ℕ → Result X Fault → (Option (List ℕ) → Result Y Fault) → Type 0
+AnswersOfFile view told name before after answer says = (content : Option (List ℕ)) × IsAt told name content × AnswersUnlessOutside view (Rose before after) answer (says content)
 
 -- ---- files
 

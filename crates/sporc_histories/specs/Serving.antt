@@ -14,7 +14,7 @@ use Rattle.sporc_files.specs.declared.fault.Fault.TheVariants as faults
 use Rattle.sporc_files.specs.declared.file.File.TheVariants as files
 use Rattle.sporc_files.specs.Faults.{fault_of_saving}
 use Rattle.sporc_files.specs.Names.{FileNames, file_name}
-use Rattle.sporc_histories.specs.Contents.{IsAt, Tells, bytes_in, genesis_in, whole}
+use Rattle.sporc_histories.specs.Contents.{AnswersUnlessOutside, IsAt, bytes_in, genesis_in, whole}
 
 -- the files of a server, in the order in which they are read
 pub record ServedFiles : Type 0 where
@@ -50,7 +50,7 @@ order_in content = genesis_in content.genesis >>= λ genesis. logged genesis con
 -- it was found in the files of a folder whose count of faults went from `before` to `after`
 abbrev pub FindsOrder : Option (List NamedFile) → FileNames → ℕ → ℕ → Result OrderModel Fault → Type 0
 FindsOrder told names before after result =
-    (content : ServedFiles) × AreServedFiles told names content × Tells (λ (order : OrderModel). order) (Rose before after) result (order_in content)
+    (content : ServedFiles) × AreServedFiles told names content × AnswersUnlessOutside (λ (order : OrderModel). order) (Rose before after) result (order_in content)
 
 -- the file of an order's entries, unless it would be too long
 abbrev pub saved_log : OrderModel → Result (List ℕ) Fault

@@ -16,8 +16,8 @@ use Rattle.sporc_files.specs.Uses.{AsksOnly, FolderUse}
 pub record OnlyReads (names : FileNames) (read : List File) (folder : FolderUse) : Type 0 where
   pub unchanged : folder.files_after ≡ folder.files_before
   pub lent : folder.lent_after ≡ folder.lent_before
-  pub asked : AsksOnly (map (file_name names) read) folder.asked_before folder.asked_after
-  pub count : folder.faults_before ≤ folder.faults_after
+  pub may_ask : AsksOnly (map (file_name names) read) folder.asked_before folder.asked_after
+  pub kept : folder.faults_before ≤ folder.faults_after
 
 -- ---- one line
 

@@ -5,7 +5,7 @@ ghost use Rattle.sporc_hash.specs.Chain.{chain};
 ghost use Rattle.sporc_entry.specs.Genesis.{IsGenesis, genesis_bytes};
 ghost use Rattle.sporc_files.specs.Names.{file_name};
 ghost use Rattle.sporc_files.specs.Uses.{AsksOnly};
-ghost use Rattle.sporc_histories.specs.Contents.{Reads};
+ghost use Rattle.sporc_histories.specs.Contents.{AnswersOfFile};
 ghost use Rattle.sporc_histories.specs.Comparing.{chain_in, values_of};
 
 use crate::entries::read_entries;
@@ -25,11 +25,11 @@ pub(crate) fn read_chain<F: Folder>(
     genesis: &Genesis,
 ) -> Result<Vec<Digest32>, Fault>
     requires { IsGenesis genesis.now }
-    ensures found { Reads values_of (F.files files.old) (file_name names.now file)
+    ensures found { AnswersOfFile values_of (F.files files.old) (file_name names.now file)
         (F.faults files.old) (F.faults files.new) result (chain_in genesis.now file) }
     ensures files { F.files files.new ≡ F.files files.old }
     ensures lent { F.lent files.new ≡ F.lent files.old }
-    ensures asked { AsksOnly (file_name names.now file ∷ []) (F.asked files.old) (F.asked files.new) }
+    ensures may_ask { AsksOnly (file_name names.now file ∷ []) (F.asked files.old) (F.asked files.new) }
     ensures kept { F.faults files.old ≤ F.faults files.new }
 {
     let entries = read_entries(alloc, files, names, file, &genesis.document)?;

@@ -1,8 +1,9 @@
 //! `check NAME M`.
 
 ghost use Rattle.std.specs.Prelude.{◌≡◌, ◌≤◌, [], ◌∷◌, IfOk, string_bytes};
+ghost use Rattle.sporc_outside.specs.Uses.{sink_use};
 ghost use Rattle.sporc_files.specs.Names.{file_name};
-ghost use Rattle.sporc_files.specs.Uses.{AsksOnly};
+ghost use Rattle.sporc_files.specs.Uses.{AsksOnly, folder_use};
 ghost use Rattle.sporc_histories.specs.Checking.{FindsChecked, IsCheckedLine};
 ghost use Rattle.sporc_histories.specs.Outcomes.{CheckOutcome};
 
@@ -25,22 +26,8 @@ pub fn check<F: Folder, O: Sink>(
     member: u16,
 ) -> Result<(), Fault>
     ensures outcome { CheckOutcome names.now member
-        (record {
-          files_before = F.files files.old;
-          files_after = F.files files.new;
-          asked_before = F.asked files.old;
-          asked_after = F.asked files.new;
-          lent_before = F.lent files.old;
-          lent_after = F.lent files.new;
-          faults_before = F.faults files.old;
-          faults_after = F.faults files.new;
-        })
-        (record {
-          written_before = O.written out.old;
-          written_after = O.written out.new;
-          faults_before = O.faults out.old;
-          faults_after = O.faults out.new;
-        })
+        (folder_use F.files F.asked F.lent F.faults files.old files.new)
+        (sink_use O.written O.faults out.old out.new)
         result }
     ensures out_kept { O.faults out.old ≤ O.faults out.new }
 {
@@ -60,7 +47,7 @@ fn read_checked<F: Folder>(
     ensures found { FindsChecked (F.files files.old) names.now member (F.faults files.old) (F.faults files.new) result }
     ensures files { F.files files.new ≡ F.files files.old }
     ensures lent { F.lent files.new ≡ F.lent files.old }
-    ensures asked { AsksOnly
+    ensures may_ask { AsksOnly
         (file_name names.now File.Genesis ∷ file_name names.now (File.Key member) ∷ file_name names.now (File.Ring member)
         ∷ file_name names.now (File.History member) ∷ [])
         (F.asked files.old) (F.asked files.new) }

@@ -1,8 +1,9 @@
 //! `compare NAME M N`.
 
 ghost use Rattle.std.specs.Prelude.{◌≡◌, ◌≤◌, [], ◌∷◌, IfOk, string_bytes};
+ghost use Rattle.sporc_outside.specs.Uses.{sink_use};
 ghost use Rattle.sporc_files.specs.Names.{file_name};
-ghost use Rattle.sporc_files.specs.Uses.{AsksOnly};
+ghost use Rattle.sporc_files.specs.Uses.{AsksOnly, folder_use};
 ghost use Rattle.sporc_histories.specs.Comparing.{AreOfOneGenesis, FindsChains, IsVerdictLine};
 ghost use Rattle.sporc_histories.specs.Outcomes.{CompareOutcome};
 
@@ -11,7 +12,7 @@ use sporc_base::Memory;
 use sporc_files::{Fault, File, Names, read_genesis_file};
 use sporc_hash::{Digest32, compare as compare_chains};
 use sporc_outside::{Folder, Sink, write_all};
-use sporc_play::push_verdict;
+use sporc_play::verdict_text;
 use std::alloc::Global;
 
 /// `compare NAME M N` writes how the saved history of one member of a document stands to that of another: `M N same`,
@@ -25,22 +26,8 @@ pub fn compare<F: Folder, O: Sink>(
     second: u16,
 ) -> Result<(), Fault>
     ensures outcome { CompareOutcome names.now first second
-        (record {
-          files_before = F.files files.old;
-          files_after = F.files files.new;
-          asked_before = F.asked files.old;
-          asked_after = F.asked files.new;
-          lent_before = F.lent files.old;
-          lent_after = F.lent files.new;
-          faults_before = F.faults files.old;
-          faults_after = F.faults files.new;
-        })
-        (record {
-          written_before = O.written out.old;
-          written_after = O.written out.new;
-          faults_before = O.faults out.old;
-          faults_after = O.faults out.new;
-        })
+        (folder_use F.files F.asked F.lent F.faults files.old files.new)
+        (sink_use O.written O.faults out.old out.new)
         result }
     ensures out_kept { O.faults out.old ≤ O.faults out.new }
 {
@@ -68,7 +55,7 @@ fn read_chains<F: Folder>(
     ensures one_genesis { IfOk result (λ chains. AreOfOneGenesis chains.0.items chains.1.items) }
     ensures files { F.files files.new ≡ F.files files.old }
     ensures lent { F.lent files.new ≡ F.lent files.old }
-    ensures asked { AsksOnly (file_name names.now File.Genesis ∷ file_name names.now (File.History first) ∷ file_name names.now (File.History second) ∷ [])
+    ensures may_ask { AsksOnly (file_name names.now File.Genesis ∷ file_name names.now (File.History first) ∷ file_name names.now (File.History second) ∷ [])
         (F.asked files.old) (F.asked files.new) }
     ensures kept { F.faults files.old ≤ F.faults files.new }
 {
@@ -89,7 +76,6 @@ fn verdict_line(
     requires { AreOfOneGenesis one.now other.now }
     ensures { IfOk result (λ line. IsVerdictLine first second (record { first = one.now; second = other.now }) (string_bytes line)) }
 {
-    let mut line = String::new(alloc);
-    push_verdict(&mut line, first, second, compare_chains(one, other))?;
+    let line = verdict_text(alloc, first, second, compare_chains(one, other))?;
     Ok(line)
 }

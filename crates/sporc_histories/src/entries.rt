@@ -5,7 +5,7 @@ ghost use Rattle.sporc_base.specs.Outcome.{Gives};
 ghost use Rattle.sporc_store.specs.SavedFile.{saved_in};
 ghost use Rattle.sporc_files.specs.Names.{file_name};
 ghost use Rattle.sporc_files.specs.Uses.{AsksOnly};
-ghost use Rattle.sporc_histories.specs.Contents.{Reads, Tells, entries_in, entries_of, unless_stopped, whole};
+ghost use Rattle.sporc_histories.specs.Contents.{AnswersOfFile, AnswersUnlessOutside, entries_in, entries_of, unless_stopped, whole};
 
 use sporc_files::{Fault, File, Names, read_bytes};
 use sporc_outside::Folder;
@@ -20,11 +20,11 @@ pub(crate) fn read_entries<F: Folder>(
     file: File,
     document: &[u8; 16],
 ) -> Result<Vec<Vec<u8>>, Fault>
-    ensures found { Reads entries_of (F.files files.old) (file_name names.now file)
+    ensures found { AnswersOfFile entries_of (F.files files.old) (file_name names.now file)
         (F.faults files.old) (F.faults files.new) result (entries_in file document.now) }
     ensures files { F.files files.new ≡ F.files files.old }
     ensures lent { F.lent files.new ≡ F.lent files.old }
-    ensures asked { AsksOnly (file_name names.now file ∷ []) (F.asked files.old) (F.asked files.new) }
+    ensures may_ask { AsksOnly (file_name names.now file ∷ []) (F.asked files.old) (F.asked files.new) }
     ensures kept { F.faults files.old ≤ F.faults files.new }
 {
     let bytes = read_bytes(alloc, files, names, file)?;
@@ -38,7 +38,7 @@ pub(crate) fn whole_entries(
     document: &[u8; 16],
     bytes: &[u8],
 ) -> Result<Vec<Vec<u8>>, Fault>
-    ensures value { Tells entries_of ⊥ result (whole file (saved_in document.now bytes.now)) }
+    ensures value { AnswersUnlessOutside entries_of ⊥ result (whole file (saved_in document.now bytes.now)) }
 {
     let (entries, stop) = read_saved(alloc, document, bytes)?;
     stopped(file, stop)?;

@@ -3,7 +3,7 @@
 ghost use Rattle.sporc_entry.specs.Genesis.{IsGenesis};
 ghost use Rattle.sporc_epoch.specs.Keys.{pairs_in};
 ghost use Rattle.sporc_store.specs.SavedFile.{read_to};
-ghost use Rattle.sporc_histories.specs.Contents.{Tells};
+ghost use Rattle.sporc_histories.specs.Contents.{AnswersUnlessOutside};
 ghost use Rattle.sporc_histories.specs.Checking.{accepted_in, examined, hints_in, keys_in, len_of_whole};
 
 use crate::entries::{stopped, whole_entries};
@@ -24,7 +24,7 @@ pub(crate) fn examine(
     history: &[u8],
 ) -> Result<u32, Fault>
     requires { IsGenesis genesis }
-    ensures value { Tells (λ len. len) ⊥ result (examined genesis member ring.now history.now) }
+    ensures value { AnswersUnlessOutside (λ len. len) ⊥ result (examined genesis member ring.now history.now) }
 {
     let pairs = ring.pairs(alloc)?;
     let keys = keys_of(alloc, member, ring, &pairs, &genesis.document, history)?;
@@ -40,7 +40,7 @@ fn keys_of(
     document: &[u8; 16],
     history: &[u8],
 ) -> Result<Ring, Fault>
-    ensures value { Tells (λ ring. ring.keys) ⊥ result (keys_in member ring.now.epoch_key (pairs_in pairs.now) document.now history.now) }
+    ensures value { AnswersUnlessOutside (λ ring. ring.keys) ⊥ result (keys_in member ring.now.epoch_key (pairs_in pairs.now) document.now history.now) }
 {
     match ring.epoch_key {
         Some(_) => {
@@ -59,7 +59,7 @@ fn hints_of(
     document: &[u8; 16],
     history: &[u8],
 ) -> Result<Ring, Fault>
-    ensures value { Tells (λ ring. ring.keys) ⊥ result (hints_in member (pairs_in pairs.now) document.now history.now) }
+    ensures value { AnswersUnlessOutside (λ ring. ring.keys) ⊥ result (hints_in member (pairs_in pairs.now) document.now history.now) }
 {
     let entries = whole_entries(alloc, File::History(member), document, history)?;
     match hints_from(alloc, entries.as_slice(), member, pairs) {
@@ -79,7 +79,7 @@ fn accept(
     history: &[u8],
 ) -> Result<u32, Fault>
     requires { IsGenesis genesis }
-    ensures value { Tells (λ len. len) ⊥ result (accepted_in genesis member (pairs_in pairs) history.now keys.keys) }
+    ensures value { AnswersUnlessOutside (λ len. len) ⊥ result (accepted_in genesis member (pairs_in pairs) history.now keys.keys) }
 {
     let line = match Line::open(alloc, genesis, member, keys, pairs) {
         Ok(line) => line,
@@ -94,7 +94,7 @@ fn accept(
 
 // How many entries a saved history has, if it was loaded to its end.
 fn whole_len(member: u16, line: &Line, stop: Stop) -> Result<u32, Fault>
-    ensures value { Tells (λ len. len) ⊥ result (len_of_whole member (read_to line.now.entries stop)) }
+    ensures value { AnswersUnlessOutside (λ len. len) ⊥ result (len_of_whole member (read_to line.now.entries stop)) }
 {
     stopped(File::History(member), stop)?;
     Ok(line.len())

@@ -1,11 +1,12 @@
 // The log of a server: loaded before it serves, and saved behind that.
 
 ghost use Rattle.std.specs.Prelude.{◌≡◌, ◌≤◌, [], ◌∷◌, IfOk, string_bytes};
+ghost use Rattle.sporc_outside.specs.Uses.{sink_use};
 ghost use Rattle.sporc_entry.specs.Genesis.{IsGenesis};
 ghost use Rattle.sporc_store.specs.SavedFile.{read_to};
 ghost use Rattle.sporc_files.specs.Names.{file_name};
-ghost use Rattle.sporc_files.specs.Uses.{AsksOnly};
-ghost use Rattle.sporc_histories.specs.Contents.{Tells};
+ghost use Rattle.sporc_files.specs.Uses.{AsksOnly, folder_use};
+ghost use Rattle.sporc_histories.specs.Contents.{AnswersUnlessOutside};
 ghost use Rattle.sporc_histories.specs.Serving.{FindsOrder, logged_in, order_of_whole, saved_log};
 ghost use Rattle.sporc_histories.specs.Outcomes.{KeepsLog, log_line};
 
@@ -28,7 +29,7 @@ pub(crate) fn read_order<F: Folder>(
     ensures found { FindsOrder (F.files files.old) names.now (F.faults files.old) (F.faults files.new) result }
     ensures files { F.files files.new ≡ F.files files.old }
     ensures lent { F.lent files.new ≡ F.lent files.old }
-    ensures asked { AsksOnly (file_name names.now File.Genesis ∷ file_name names.now File.Log ∷ []) (F.asked files.old) (F.asked files.new) }
+    ensures may_ask { AsksOnly (file_name names.now File.Genesis ∷ file_name names.now File.Log ∷ []) (F.asked files.old) (F.asked files.new) }
     ensures kept { F.faults files.old ≤ F.faults files.new }
 {
     let genesis = read_genesis_file(alloc, files, names)?;
@@ -45,7 +46,7 @@ pub(crate) fn read_order<F: Folder>(
 // The order that a log holds, if it is whole and each entry is accepted.
 fn order_of(alloc: Global, genesis: Genesis, bytes: &[u8]) -> Result<Order, Fault>
     requires { IsGenesis genesis }
-    ensures value { Tells (λ order. order) ⊥ result (logged_in genesis bytes.now) }
+    ensures value { AnswersUnlessOutside (λ order. order) ⊥ result (logged_in genesis bytes.now) }
 {
     let empty = Order::open(alloc, genesis)?;
     match load_order(alloc, bytes, empty) {
@@ -56,7 +57,7 @@ fn order_of(alloc: Global, genesis: Genesis, bytes: &[u8]) -> Result<Order, Faul
 
 // An order, if it was loaded to the end of its log.
 fn whole_order(order: Order, stop: Stop) -> Result<Order, Fault>
-    ensures value { Tells (λ order. order) ⊥ result (order_of_whole order.genesis (read_to order.entries stop)) }
+    ensures value { AnswersUnlessOutside (λ order. order) ⊥ result (order_of_whole order.genesis (read_to order.entries stop)) }
 {
     stopped(File::Log, stop)?;
     Ok(order)
@@ -71,25 +72,11 @@ pub(crate) fn keep_log<F: Folder, O: Sink>(
     order: &Order,
 ) -> Result<(), Fault>
     ensures keeps { KeepsLog names.now
-        (record {
-          files_before = F.files files.old;
-          files_after = F.files files.new;
-          asked_before = F.asked files.old;
-          asked_after = F.asked files.new;
-          lent_before = F.lent files.old;
-          lent_after = F.lent files.new;
-          faults_before = F.faults files.old;
-          faults_after = F.faults files.new;
-        })
-        (record {
-          written_before = O.written out.old;
-          written_after = O.written out.new;
-          faults_before = O.faults out.old;
-          faults_after = O.faults out.new;
-        })
+        (folder_use F.files F.asked F.lent F.faults files.old files.new)
+        (sink_use O.written O.faults out.old out.new)
         order.now result }
     ensures lent { F.lent files.new ≡ F.lent files.old }
-    ensures asked { AsksOnly (file_name names.now File.Log ∷ []) (F.asked files.old) (F.asked files.new) }
+    ensures may_ask { AsksOnly (file_name names.now File.Log ∷ []) (F.asked files.old) (F.asked files.new) }
     ensures kept { F.faults files.old ≤ F.faults files.new }
     ensures out_kept { O.faults out.old ≤ O.faults out.new }
 {
@@ -102,7 +89,7 @@ pub(crate) fn keep_log<F: Folder, O: Sink>(
 
 // The file of an order's entries.
 fn log_of(alloc: Global, order: &Order) -> Result<Vec<u8>, Fault>
-    ensures value { Tells (λ log. log.items) ⊥ result (saved_log order.now) }
+    ensures value { AnswersUnlessOutside (λ log. log.items) ⊥ result (saved_log order.now) }
 {
     let log = save(alloc, order.document(), order.entries())?;
     Ok(log)

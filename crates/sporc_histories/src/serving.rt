@@ -2,11 +2,12 @@
 
 ghost use Rattle.std.specs.Prelude.{◌≡◌, ◌≤◌, [], ◌∷◌, Err};
 ghost use Rattle.sporc_outside.specs.Told.{MayAppend};
+ghost use Rattle.sporc_outside.specs.Uses.{sink_use};
 ghost use Rattle.sporc_serve.specs.Crowds.{net_of};
 ghost use Rattle.sporc_serve.specs.Returns.{AreShutBehind};
 ghost use Rattle.sporc_serve.specs.declared.limits.TheConstants.{MAX_SESSIONS};
 ghost use Rattle.sporc_files.specs.Names.{file_name};
-ghost use Rattle.sporc_files.specs.Uses.{AsksOnly};
+ghost use Rattle.sporc_files.specs.Uses.{AsksOnly, folder_use};
 ghost use Rattle.sporc_histories.specs.Serving.{ended};
 ghost use Rattle.sporc_histories.specs.Outcomes.{ServeOutcome};
 
@@ -37,28 +38,14 @@ where
     requires some { 1 ≤ sessions }
     requires limit { sessions ≤ MAX_SESSIONS }
     ensures outcome { ServeOutcome N.Link.left N.Link.written N.Link.faults names.now sessions
-        (record {
-          files_before = F.files files.old;
-          files_after = F.files files.new;
-          asked_before = F.asked files.old;
-          asked_after = F.asked files.new;
-          lent_before = F.lent files.old;
-          lent_after = F.lent files.new;
-          faults_before = F.faults files.old;
-          faults_after = F.faults files.new;
-        })
-        (record {
-          written_before = O.written out.old;
-          written_after = O.written out.new;
-          faults_before = O.faults out.old;
-          faults_after = O.faults out.new;
-        })
+        (folder_use F.files F.asked F.lent F.faults files.old files.new)
+        (sink_use O.written O.faults out.old out.new)
         (net_of (N.coming net.old) (N.returned net.old) (N.faults net.old)) (net_of (N.coming net.new) (N.returned net.new) (N.faults net.new))
         result }
     ensures lent { F.lent files.new ≡ F.lent files.old }
-    ensures asked { AsksOnly (file_name names.now File.Genesis ∷ file_name names.now File.Log ∷ []) (F.asked files.old) (F.asked files.new) }
+    ensures files_may_ask { AsksOnly (file_name names.now File.Genesis ∷ file_name names.now File.Log ∷ []) (F.asked files.old) (F.asked files.new) }
     ensures files_kept { F.faults files.old ≤ F.faults files.new }
-    ensures called { MayAppend (N.asked net.old) (N.asked net.new) address.now }
+    ensures net_may_ask { MayAppend (N.asked net.old) (N.asked net.new) address.now }
     ensures shut { AreShutBehind N.Link.is_shut (N.returned net.old) (N.returned net.new) }
     ensures links_out { N.out net.new ≡ N.out net.old }
     ensures net_kept { N.faults net.old ≤ N.faults net.new }

@@ -104,18 +104,24 @@ fn a_missing_key_is_named(rt: HostRuntime) -> Result<(), Fail> {
     Ok(())
 }
 
+// Of a member without a history: the fourth call looks for it, and there is no fifth.
 #[test]
 fn each_failing_call_of_the_folder_is_told(rt: HostRuntime) -> Result<(), Fail> {
     let alloc = rt.alloc();
     let cast = Cast::new(alloc)?;
-    for call in 1..=4 {
+    for call in 1..=5 {
         let mut files = Files::new(alloc, &cast)?;
         files.add(alloc, "D.2.key", key_file(alloc)?)?;
         files.add(alloc, "D.2.ring", ring_file(alloc)?)?;
         let mut folder = files.folder(alloc, vec![in alloc; call]?);
         let mut out = sink(alloc);
         let answer = check(alloc, &mut folder, &mut out, &Names::of_document("D"), 2);
-        assert!(rt; answer == Err(Fault::Outside));
+        let fault = if call == 5 {
+            Fault::Missing(File::History(2))
+        } else {
+            Fault::Outside
+        };
+        assert!(rt; answer == Err(fault));
     }
     Ok(())
 }

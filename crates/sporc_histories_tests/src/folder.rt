@@ -1,6 +1,7 @@
 //! A document's files in memory.
 
 use sporc_entry::write_genesis;
+use sporc_head::MAX_ENTRIES;
 use sporc_outside::{Calls, DiskBytes, MemoryFolder, MemorySink, NamedFile};
 use sporc_samples::{Cast, DOCUMENT, epoch_key, pair_key};
 use sporc_store::save;
@@ -58,7 +59,7 @@ pub fn ring_file(alloc: Global) -> Result<Vec<u8>, Fail> {
 
 /// The file of these entries.
 pub fn history_file(rt: &impl Abort, alloc: Global, entries: &[Vec<u8>]) -> Result<Vec<u8>, Fail> {
-    assert!(rt; entries.len() <= 16_384);
+    assert!(rt; entries.len() <= MAX_ENTRIES as usize);
     let file = save(alloc, &DOCUMENT, entries)?;
     Ok(file)
 }

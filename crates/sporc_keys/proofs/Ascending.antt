@@ -1,28 +1,12 @@
 -- Numbers in ascending order, by recursion.
 use Rattle.std.proofs.Common.{◌≡◌, ℕ, zero, suc, ◌+◌, ◌<◌, ◌≤◌, List, [], ◌∷◌, get_or, sym, subst, arith}
 use Rattle.std.specs.List.Sorted.{IsStrictlyIncreasing}
+use Rattle.sporc_entry.proofs.GenesisLaws.{increasing_cons, increasing_tail}
 
 -- each number is above the one before it, and the first is at least this
 abbrev pub Ascends : ℕ → List ℕ → Type 0
 Ascends least [] = Unit {0}
 Ascends least (n ∷ ns) = (least ≤ n) × Ascends (n + 1) ns
-
--- a list whose second number is above its first, and that increases from there
-increasing_cons : (x y : ℕ) (ys : List ℕ) → x < y → IsStrictlyIncreasing (y ∷ ys) → IsStrictlyIncreasing (x ∷ y ∷ ys)
-increasing_cons x y ys lt is zero h = lt
-increasing_cons x y ys lt is (suc k) h =
-    let one : suc k + 1 ≡ suc (k + 1) = omega arith in
-    let P : ℕ → Type 0 = λ j. get_or (y ∷ ys) k 0 < get_or (x ∷ y ∷ ys) j 0 in
-    subst P (sym one) (is k (omega (arith, h)))
-
-increasing_tail : (x y : ℕ) (ys : List ℕ) → IsStrictlyIncreasing (x ∷ y ∷ ys) → (x < y) × IsStrictlyIncreasing (y ∷ ys)
-increasing_tail x y ys is = (is 0 (omega arith), later)
-  where
-    later : IsStrictlyIncreasing (y ∷ ys)
-    later k h =
-        let one : suc k + 1 ≡ suc (k + 1) = omega arith in
-        let P : ℕ → Type 0 = λ j. get_or (y ∷ ys) k 0 < get_or (x ∷ y ∷ ys) j 0 in
-        subst P one (is (suc k) (omega (arith, h)))
 
 pub ascends_increasing : (least : ℕ) (ns : List ℕ) → Ascends least ns → IsStrictlyIncreasing ns
 ascends_increasing least [] is = λ k h. absurd (omega (arith, h))

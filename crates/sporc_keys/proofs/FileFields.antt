@@ -13,7 +13,7 @@ use Rattle.lms_tree.specs.LmsType.{height_of, lms_code_of}
 use Rattle.lms_leaf.specs.LeafFile.{IsLeafHeight}
 use Rattle.sporc_base.specs.Bytes.{IsBytes}
 use Rattle.sporc_bytes.specs.Fields.{Reading, ◌>>=◌, bytes_at, number_at, only_if, present, end_at}
-use Rattle.sporc_bytes.proofs.Fields.{bind_ok, ok_is, only_if_ok, Takes, wide32, bytes_takes, bytes_again, number_takes, u32_again, end_takes}
+use Rattle.sporc_bytes.proofs.Fields.{bind_ok, ok_is, only_if_ok, Takes, wide32, bytes_takes, bytes_again, number_takes, u32_again, end_takes, present_ok}
 use Rattle.sporc_keys.specs.Fields.{format_at, whole}
 use Rattle.sporc_keys.specs.KeyFile.{IsKeyWidth, lms_type_at, ots_type_at}
 
@@ -35,11 +35,6 @@ unfolding format_at
 format_again format at rest len = rw (bytes_again 4 at format rest len, (bytes_eq-Decides format format).1 refl) refl
 
 -- ---- types
-
--- a value that is there
-pub present_ok : {A : Type 0} (at : ℕ) (o : Option A) (x : A) → present at o ≡ Ok x → o ≡ Some x
-present_ok at None x e = absurd cc
-present_ok at (Some y) x e = ap (λ z. Some z) (ok_is y x e)
 
 lms_found : (code : ℕ) (lms : LmsType) → find (λ t. lms_code_of t == code) (H5 ∷ H10 ∷ H15 ∷ []) ≡ Some lms → (lms_code_of lms ≡ code) × IsLeafHeight (height_of lms)
 lms_found code lms = go (5 == code) (6 == code) (7 == code) refl refl refl

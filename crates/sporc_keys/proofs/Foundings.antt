@@ -5,6 +5,7 @@ use Rattle.std.specs.List.{AllByRecursion, cons_option, list_any, zip}
 use Rattle.std.specs.List.Sorted.{IsStrictlyIncreasing}
 use Rattle.std.proofs.lemmas.Bool.Decides.{nat_tests}
 use Rattle.std.proofs.lemmas.List.{length-map, length-take}
+use Rattle.sporc_base.proofs.ListLemmas.{all_append}
 use Rattle.sha2.proofs.Facts256.{length-sha256}
 use Rattle.sporc_hash.specs.Chain.{commitment_string}
 use Rattle.sporc_member.specs.declared.founder.Founder.{Founder}
@@ -25,7 +26,7 @@ use Rattle.sporc_keys.specs.Founding.{CanFound, IsFounding, IsKnownKey, SharesMo
 use Rattle.sporc_keys.specs.Drawn.{Draws}
 use Rattle.sporc_keys.specs.RingFile.{IsPairKey, IsRingFile, members_of}
 use Rattle.sporc_keys.proofs.Ascending.{Ascends, ascends_below, ascends_increasing}
-use Rattle.sporc_keys.proofs.Drawing.{all_append, draws_then, draws_two}
+use Rattle.sporc_keys.proofs.Drawing.{draws_then, draws_two}
 use Rattle.sporc_keys.proofs.Naming.{ordered_all, ordered_any, ordered_ascends, ordered_length}
 use Rattle.sporc_keys.proofs.Sharing.{is_among, made_again, named_members}
 
@@ -40,7 +41,7 @@ pub are_in_order : (all : List Named) → CanFound all → AreInOrder (in_order 
 are_in_order all can = record {
   count = omega (arith, ordered_length all, can.count);
   members = ordered_all IsMember all can.members;
-  ascending = ordered_ascends all can.apart;
+  ascending = ordered_ascends all can.distinct;
   admin = ordered_any is_first_admin all can.admin;
 }
 

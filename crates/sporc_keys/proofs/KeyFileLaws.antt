@@ -7,9 +7,9 @@ use Rattle.lms_ots.specs.OtsType.{ots_code_of}
 use Rattle.lms_tree.specs.LmsType.{lms_code_of}
 use Rattle.sporc_base.specs.Bytes.{IsBytes}
 use Rattle.sporc_bytes.specs.Fields.{Reading, bytes_at}
-use Rattle.sporc_bytes.proofs.Fields.{bind_ok, ok_is, wide16, bytes_takes, bytes_again}
+use Rattle.sporc_bytes.proofs.Fields.{bind_ok, ok_is, wide16, bytes_takes, bytes_again, within_takes, u16_within_again}
 use Rattle.sporc_entry.specs.declared.limits.TheConstants.{HIGHEST_MEMBER}
-use Rattle.sporc_entry.proofs.FieldLaws.{Leaves, within_takes, u16_within_again}
+use Rattle.sporc_entry.proofs.FieldLaws.{Leaves}
 use Rattle.sporc_keys.specs.declared.key_file.KeyFile.{KeyFile}
 use Rattle.sporc_keys.specs.Fields.{whole}
 use Rattle.sporc_keys.specs.KeyFile.{IsKeyFile, key_file_at, key_file_bytes, key_file_in, key_file_of_member}

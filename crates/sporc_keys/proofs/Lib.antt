@@ -6,6 +6,5 @@ pub mod Foundings
 pub mod KeyFileLaws
 pub mod Naming
 pub mod PairLoop
-pub mod PairMaps
 pub mod RingFileLaws
 pub mod Sharing

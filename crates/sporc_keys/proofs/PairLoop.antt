@@ -1,7 +1,6 @@
 -- Shared keys read one after another, as a loop reads them.
 use Rattle.std.proofs.Common.{◌≡◌, ℕ, ◌+◌, List, Ok, Err, refl}
-use Rattle.sporc_bytes.specs.Fields.{Reading}
-use Rattle.sporc_entry.specs.Fields.{values_at}
+use Rattle.sporc_bytes.specs.Fields.{Reading, values_at}
 use Rattle.sporc_keys.specs.declared.ring_file.PairKey.{PairKey}
 use Rattle.sporc_keys.specs.RingFile.{pair_at, next_pair, pairs_at}
 

@@ -10,11 +10,12 @@ use Rattle.std.proofs.lemmas.List.{append-nil}
 use Rattle.std.proofs.lemmas.List.Concat.{flat_map-cons}
 use Rattle.sporc_base.specs.Bytes.{IsBytes}
 use Rattle.sporc_base.specs.Outcome.{GivesUnless}
-use Rattle.sporc_bytes.specs.Fields.{Reading, ◌>>=◌, fault_as, bytes_at}
-use Rattle.sporc_bytes.proofs.Fields.{bind_ok, fault_as_ok, ok_is, Takes, Takes-then, Takes-nothing, wide16, bytes_takes, bytes_again, number_takes, u16_again}
+use Rattle.sporc_bytes.specs.Fields.{Reading, ◌>>=◌, fault_as, bytes_at, number_within, values_at}
+use Rattle.sporc_bytes.proofs.Fields.{bind_ok, fault_as_ok, ok_is, Takes, Takes-then, Takes-nothing, wide16, bytes_takes, bytes_again, number_takes, u16_again, within_takes, byte_takes, u16_within_again, byte_again}
+use Rattle.sporc_bytes.proofs.ListLaws as lists
+use Rattle.sporc_bytes.proofs.ListLaws.{IsReadFrom, ascending_again, ascending_take}
 use Rattle.sporc_entry.specs.declared.limits.TheConstants.{HIGHEST_MEMBER}
-use Rattle.sporc_entry.specs.Fields.{number_within, values_at}
-use Rattle.sporc_entry.proofs.FieldLaws.{Leaves, within_takes, byte_takes, u16_within_again, byte_again}
+use Rattle.sporc_entry.proofs.FieldLaws.{Leaves}
 use Rattle.sporc_keys.specs.declared.fault.RingFileFault.{RingFileFault}
 use Rattle.sporc_keys.specs.declared.fault.RingFileFault.TheVariants.{Malformed, Memory}
 use Rattle.sporc_keys.specs.declared.ring_file.PairKey.{PairKey}
@@ -44,31 +45,17 @@ pair_takes least r x h e =
     let P : PairKey × Reading → Type 0 = λ y. IsTaken least r y in
     subst P (ok_is made x b.2) (record { text = whole; above = ta.1; is = record { member = omega (arith, ta.2); key = tb.1 } })
 
--- shared keys that are read, from a least number on
-pub record AreTaken (n least : ℕ) (r : Reading) (x : List PairKey × (ℕ × Reading)) : Type 0 where
-  pub text : Takes r (flat_map pair_bytes x.0) x.1.1
-  pub count : length x.0 ≡ n
-  pub each : AllByRecursion IsPairKey x.0
-  pub ascending : Ascends least (members_of x.0)
+-- the number that a shared key is with
+abbrev with_of : PairKey → ℕ
+with_of p = p.member
 
-values_take : (n least : ℕ) (r : Reading) (x : List PairKey × (ℕ × Reading)) → IsBytes r.rest → values_at next_pair n (least, r) ≡ Ok x → AreTaken n least r x
-unfolding values_at next_pair
-values_take zero least r x h e =
-    let P : List PairKey × (ℕ × Reading) → Type 0 = λ y. AreTaken 0 least r y in
-    subst P (ok_is ([], (least, r)) x e) (record { text = Takes-nothing r h; count = refl; each = tt; ascending = tt })
-values_take (suc n) least r x h e =
-    let a = bind_ok (next_pair (least, r)) (λ first. values_at next_pair n first.1 >>= λ others. Ok (first.0 ∷ others.0, others.1)) x e in
-    let f = bind_ok (pair_at least r) (λ p. Ok (p.0, (p.0.member + 1, p.1))) a.0 a.1 in
-    let first : PairKey × (ℕ × Reading) = (f.0.0, (f.0.0.member + 1, f.0.1)) in
-    let Q : PairKey × (ℕ × Reading) → Type 0 = λ y. (values_at next_pair n y.1 >>= λ others. Ok (y.0 ∷ others.0, others.1)) ≡ Ok x in
-    let e' = subst Q {x = a.0} {y = first} (sym (ok_is first a.0 f.2)) a.2 in
-    let b = bind_ok (values_at next_pair n (f.0.0.member + 1, f.0.1)) (λ others. Ok (f.0.0 ∷ others.0, others.1)) x e' in
+next_takes : (least : ℕ) (r : Reading) (x : PairKey × (ℕ × Reading)) → 0 ≤ least → IsBytes r.rest → next_pair (least, r) ≡ Ok x → IsReadFrom with_of pair_bytes IsPairKey least r x
+unfolding next_pair
+next_takes least r x low h e =
+    let f = bind_ok (pair_at least r) (λ p. Ok (p.0, (p.0.member + 1, p.1))) x e in
     let t = pair_takes least r f.0 h f.1 in
-    let o = values_take n (f.0.0.member + 1) f.0.1 b.0 t.text.bytes b.1 in
-    let both : Takes r (pair_bytes f.0.0 ++ flat_map pair_bytes b.0.0) b.0.1.1 = Takes-then r (pair_bytes f.0.0) f.0.1 (flat_map pair_bytes b.0.0) b.0.1.1 t.text o.text in
-    let made : List PairKey × (ℕ × Reading) = (f.0.0 ∷ b.0.0, b.0.1) in
-    let P : List PairKey × (ℕ × Reading) → Type 0 = λ y. AreTaken (suc n) least r y in
-    subst P {x = made} {y = x} (ok_is made x b.2) (record { text = rw flat_map-cons both; count = ap suc o.count; each = (t.is, o.each); ascending = (t.above, o.ascending) })
+    let P : PairKey × (ℕ × Reading) → Type 0 = λ y. IsReadFrom with_of pair_bytes IsPairKey least r y in
+    subst P (ok_is (f.0.0, (f.0.0.member + 1, f.0.1)) x f.2) (record { text = t.text; above = t.above; next = refl; is = t.is })
 
 pair_again : (least : ℕ) (p : PairKey) (at : ℕ) (rest : List ℕ) → IsPairKey p → least ≤ p.member → pair_at least (record { rest = pair_bytes p ++ rest; at = at }) ≡ Ok (p, record { rest = rest; at = at + 2 + 32 })
 unfolding pair_at
@@ -79,18 +66,19 @@ pair_again least p at rest is le =
       bytes_again 32 (at + 2) p.key rest is.key,
     ) refl
 
--- the place after what was read is some place, and the least number after it some number
-abbrev ReadTo : List PairKey → ℕ → Reading → List ℕ → Type 0
-ReadTo ps least r rest = (next at : ℕ) × (values_at next_pair (length ps) (least, r) ≡ Ok (ps, (next, record { rest = rest; at = at })))
+next_again : (least : ℕ) (p : PairKey) (at : ℕ) (rest : List ℕ) → IsPairKey p → least ≤ with_of p
+    → (after : ℕ) × (next_pair (least, record { rest = pair_bytes p ++ rest; at = at }) ≡ Ok (p, (with_of p + 1, record { rest = rest; at = after })))
+unfolding next_pair
+next_again least p at rest is le = (at + 2 + 32, rw (pair_again least p at rest is le) refl)
 
-values_again : (ps : List PairKey) (least at : ℕ) (rest : List ℕ) → AllByRecursion IsPairKey ps → Ascends least (members_of ps) → ReadTo ps least (record { rest = flat_map pair_bytes ps ++ rest; at = at }) rest
-unfolding values_at next_pair
-values_again [] least at rest is asc = (least, at, refl)
-values_again (p ∷ ps) least at rest is asc =
-    let others = values_again ps (p.member + 1) (at + 2 + 32) rest is.1 asc.1 in
-    let regrouped : flat_map pair_bytes (p ∷ ps) ++ rest ≡ pair_bytes p ++ (flat_map pair_bytes ps ++ rest) =
-    ap (λ (bs : List ℕ). bs ++ rest) (flat_map-cons pair_bytes p ps) ∙ append_assoc (pair_bytes p) (flat_map pair_bytes ps) rest in
-    (others.0, others.1, ap (λ (bs : List ℕ). values_at next_pair (suc (length ps)) (least, record { rest = bs; at = at })) regrouped ∙ rw (pair_again least p at (flat_map pair_bytes ps ++ rest) is.0 asc.0, others.2) refl)
+-- the numbers of shared keys ascend if the keys do by them
+numbers_ascend : (least : ℕ) (ps : List PairKey) → lists.Ascends with_of least ps → Ascends least (members_of ps)
+numbers_ascend least [] asc = tt
+numbers_ascend least (p ∷ ps) asc = (asc.0, numbers_ascend (p.member + 1) ps asc.1)
+
+pairs_ascend : (least : ℕ) (ps : List PairKey) → Ascends least (members_of ps) → lists.Ascends with_of least ps
+pairs_ascend least [] asc = tt
+pairs_ascend least (p ∷ ps) asc = (asc.0, pairs_ascend (p.member + 1) ps asc.1)
 
 -- shared keys that are read from the first on
 pub record ArePairs (n : ℕ) (r : Reading) (x : List PairKey × Reading) : Type 0 where
@@ -103,16 +91,16 @@ pairs_take : (n : ℕ) (r : Reading) (x : List PairKey × Reading) → IsBytes r
 unfolding pairs_at
 pairs_take n r x h e =
     let l = bind_ok (values_at next_pair n (0, r)) (λ pairs. Ok (pairs.0, pairs.1.1)) x e in
-    let t = values_take n 0 r l.0 h l.1 in
+    let t = ascending_take next_pair with_of pair_bytes IsPairKey 0 next_takes n 0 r l.0 (omega arith) h l.1 in
     let P : List PairKey × Reading → Type 0 = λ y. ArePairs n r y in
-    subst P (ok_is (l.0.0, l.0.1.1) x l.2) (record { text = t.text; count = t.count; each = t.each; ascending = ascends_increasing 0 (members_of l.0.0) t.ascending })
+    subst P (ok_is (l.0.0, l.0.1.1) x l.2) (record { text = t.text; count = t.count; each = t.each; ascending = ascends_increasing 0 (members_of l.0.0) (numbers_ascend 0 l.0.0 t.ascending) })
 
 -- the shared keys of all bytes that are left
 pairs_again : (ps : List PairKey) (at : ℕ) → AllByRecursion IsPairKey ps → IsStrictlyIncreasing (members_of ps)
     → (after : ℕ) × (pairs_at (length ps) (record { rest = flat_map pair_bytes ps; at = at }) ≡ Ok (ps, record { rest = []; at = after }))
 unfolding pairs_at
 pairs_again ps at is asc =
-    let t = values_again ps 0 at [] is (increasing_from_zero (members_of ps) asc) in
+    let t = ascending_again next_pair with_of pair_bytes IsPairKey next_again ps 0 at [] is (pairs_ascend 0 ps (increasing_from_zero (members_of ps) asc)) in
     let regrouped : flat_map pair_bytes ps ++ [] ≡ flat_map pair_bytes ps = append-nil (flat_map pair_bytes ps) in
     let read : values_at next_pair (length ps) (0, record { rest = flat_map pair_bytes ps; at = at }) ≡ Ok (ps, (t.0, record { rest = []; at = t.1 })) =
     ap (λ (bs : List ℕ). values_at next_pair (length ps) (0, record { rest = bs; at = at })) (sym regrouped) ∙ t.2 in

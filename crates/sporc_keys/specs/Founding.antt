@@ -56,7 +56,7 @@ in_order all = fold (λ ordered n. insert_named n ordered) [] all
 pub record CanFound (all : List Named) : Type 0 where
   pub count : length all ≤ MAX_MEMBERS
   pub members : AllByRecursion IsMember (numbers_of all)
-  pub apart : IsDistinct nat_eq (numbers_of all)
+  pub distinct : IsDistinct nat_eq (numbers_of all)
   pub admin : list_any is_first_admin all ≡ true
 
 -- ---- the keys that they share
@@ -117,8 +117,8 @@ abbrev pub genesis_of : List ℕ → List ℕ → List Named → Genesis
 genesis_of document key all =
     record { document = document; commitment = commitment_of document 0 key; founders = founders_in all }
 
--- what those in ascending order of their numbers begin with, by words: the document is the front of the first, the key of
--- epoch 0 the second, and the pairs share the others
+-- what those in ascending order of their numbers begin with, by words: the document is the first 16 bytes of the first, the
+-- key of epoch 0 the second, and the pairs share the others
 abbrev pub found_of : List Named → List ℕ → List ℕ → List (List ℕ) → Founding
 found_of all first key words = record {
   genesis = genesis_of (take 16 first) key all;

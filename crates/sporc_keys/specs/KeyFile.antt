@@ -19,9 +19,8 @@ use Rattle.lms_tree.specs.declared.lms_type.LmsType.TheVariants.{H5, H10, H15}
 use Rattle.lms_tree.specs.LmsPrivate.{LmsPrivate}
 use Rattle.lms_tree.specs.LmsType.{height_of, lms_code_of}
 use Rattle.lms_leaf.specs.LeafFile.{IsLeafHeight}
-use Rattle.sporc_bytes.specs.Fields.{Reading, ◌>>=◌, number_at, bytes_at, present}
+use Rattle.sporc_bytes.specs.Fields.{Reading, ◌>>=◌, number_at, bytes_at, present, number_within}
 use Rattle.sporc_entry.specs.declared.limits.TheConstants.{HIGHEST_MEMBER}
-use Rattle.sporc_entry.specs.Fields.{number_within}
 use Rattle.sporc_keys.specs.declared.key_file.KeyFile.{KeyFile}
 use Rattle.sporc_keys.specs.Fields.{format_at, whole}
 

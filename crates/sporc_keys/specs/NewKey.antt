@@ -10,7 +10,7 @@ use Rattle.sporc_keys.specs.declared.new_key.NewKey.{NewKey}
 use Rattle.sporc_keys.specs.KeyFile.{private_in}
 use Rattle.sporc_keys.specs.Drawn.{Draws}
 
--- the key file of two words: I is the front of the first, SEED the second
+-- the key file of two words: I is the first 16 bytes of the first, SEED the second
 abbrev pub key_file_by : ℕ → LmsType → OtsType → List ℕ → List ℕ → KeyFile
 key_file_by member lms ots first second =
     record { member = member; lms = lms; ots = ots; id = take 16 first; seed = second }

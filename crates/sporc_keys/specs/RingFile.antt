@@ -14,9 +14,8 @@ use Rattle.std.specs.FinMap.{empty, insert}
 use Rattle.std.specs.Int.{w8, w16, to_be_bytes}
 use Rattle.std.specs.List.{AllByRecursion, flat_map}
 use Rattle.std.specs.List.Sorted.{IsStrictlyIncreasing}
-use Rattle.sporc_bytes.specs.Fields.{Reading, ◌>>=◌, number_at, bytes_at}
+use Rattle.sporc_bytes.specs.Fields.{Reading, ◌>>=◌, number_at, bytes_at, number_within, values_at}
 use Rattle.sporc_entry.specs.declared.limits.TheConstants.{HIGHEST_MEMBER}
-use Rattle.sporc_entry.specs.Fields.{number_within, values_at}
 use Rattle.sporc_epoch.specs.Keys.{Keys}
 use Rattle.sporc_keys.specs.declared.ring_file.PairKey.{PairKey}
 use Rattle.sporc_keys.specs.declared.ring_file.RingFile.{RingFile}

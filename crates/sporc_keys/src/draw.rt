@@ -10,12 +10,12 @@ use sporc_outside::Chance;
 use std::alloc::Global;
 
 // The first 16 bytes of a word.
-pub(crate) fn front_of(word: &[u8; 32]) -> [u8; 16]
+pub(crate) fn prefix_of(word: &[u8; 32]) -> [u8; 16]
     ensures { result ≡ take 16 word.now }
 {
-    let mut front = [0u8; 16];
-    front.copy_from_slice(&word[..16]);
-    front
+    let mut prefix = [0u8; 16];
+    prefix.copy_from_slice(&word[..16]);
+    prefix
 }
 
 // The number at this place.

@@ -7,7 +7,7 @@ ghost use Rattle.sporc_outside.specs.Counts.{Rose};
 ghost use Rattle.sporc_keys.specs.Founding.{CanFound, IsFounding, in_order, numbers_of};
 ghost use Rattle.sporc_keys.specs.RingFile.{IsRingFile};
 
-use crate::draw::{draw_pairs, front_of};
+use crate::draw::{draw_pairs, prefix_of};
 use crate::fault::DrawFault;
 use crate::founders::genesis_of;
 use crate::in_order::in_order;
@@ -39,7 +39,7 @@ pub fn found<C: Chance>(
     chance: &mut C,
     named: &[Named],
 ) -> Result<Founding, DrawFault>
-    requires { CanFound named.now }
+    requires named { CanFound named.now }
     ensures ok { IfOk result (λ founding.
         IsFounding (C.given chance.old) (C.given chance.new) (in_order named.now) founding) }
     ensures genesis { IfOk result (λ founding. IsGenesis founding.genesis) }
@@ -52,7 +52,7 @@ pub fn found<C: Chance>(
     let first = chance.fill32()?;
     let key = chance.fill32()?;
     let shared = draw_pairs(alloc, chance, numbers.as_slice())?;
-    let genesis = genesis_of(alloc, front_of(&first), &key, named.as_slice())?;
+    let genesis = genesis_of(alloc, prefix_of(&first), &key, named.as_slice())?;
     let rings = rings_of(alloc, &key, shared.as_slice(), named.as_slice())?;
     Ok(Founding {
         genesis,

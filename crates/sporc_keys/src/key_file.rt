@@ -16,7 +16,6 @@ use lms_tree::{LmsType, Tree};
 use sporc_base::Memory;
 use sporc_bytes::{Cursor, Out, Short};
 use sporc_entry::HIGHEST_MEMBER;
-use sporc_entry::fields::{read_end, read_u16};
 use std::alloc::Global;
 
 /// A member's key: the two types, the identifier `I` and the seed of its tree (RFC 8554, section 5.2 and Appendix A). In
@@ -94,7 +93,7 @@ fn read_fields(cursor: &mut Cursor<'_>, low: u32, high: u32) -> Result<KeyFile, 
     ensures { Reads (λ file. (file, cursor.new)) result (key_file_at low high cursor.old) }
 {
     read_format(cursor, b"SPK1")?;
-    let member = read_u16(cursor, low, high)?;
+    let member = cursor.u16_within(low, high)?;
     let lms = read_lms_type(cursor)?;
     let ots = read_ots_type(cursor)?;
     let id = cursor.array()?;
@@ -114,7 +113,7 @@ fn read_all(bytes: &[u8], low: u32, high: u32) -> Result<KeyFile, Short>
 {
     let mut cursor = Cursor::new(bytes);
     let file = read_fields(&mut cursor, low, high)?;
-    read_end(&cursor)?;
+    cursor.ended()?;
     Ok(file)
 }
 
@@ -146,7 +145,7 @@ pub fn key_of_member(bytes: &[u8], member: u16) -> Result<KeyFile, Malformed>
 /// The one spelling of a key file, 62 bytes.
 #[tactic(auto, unfolding(crate::specs::KeyFile::key_file_bytes))]
 pub fn write_key_file(alloc: Global, file: &KeyFile) -> Result<Vec<u8>, Memory>
-    requires { IsKeyFile file.now }
+    requires file { IsKeyFile file.now }
     ensures value { IfOk result (λ bytes. bytes.items ≡ key_file_bytes file.now) }
 {
     let mut out = Out::new(alloc);

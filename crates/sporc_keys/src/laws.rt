@@ -1,9 +1,10 @@
 //! Laws of the files, and of what a document begins with.
 
-ghost use Rattle.std.specs.Prelude.{◌≡◌, ℕ, ◌<◌, List, length, Contains, Ok, slice_index};
+ghost use Rattle.std.specs.Prelude.{◌≡◌, ℕ, List, length, Contains, Ok};
+ghost use Rattle.std.specs.List.Sorted.{IsStrictlyIncreasing};
+ghost use Rattle.sporc_base.specs.Bytes.{IsBytes};
 ghost use Rattle.sporc_keys.specs.declared.key_file.KeyFile.{KeyFile};
 ghost use Rattle.sporc_keys.specs.declared.ring_file.RingFile.{RingFile};
-ghost use Rattle.std.specs.List.Sorted.{IsStrictlyIncreasing};
 ghost use Rattle.sporc_keys.specs.declared.pair.SharedKey.{SharedKey};
 ghost use Rattle.sporc_keys.specs.Founding.{key_with, pair_keys_of, pairs_of, shared_keys};
 ghost use Rattle.sporc_keys.specs.KeyFile.{IsKeyFile, key_file_in, key_file_bytes};
@@ -12,26 +13,24 @@ ghost use Rattle.sporc_keys.specs.RingFile.{IsRingFile, members_of, ring_file_in
 /// Each key file in range is read again from its bytes, and bytes that read are those of the file read.
 pub fn key_file_and_its_bytes()
     ensures read_again { (k : KeyFile) → IsKeyFile k → key_file_in (key_file_bytes k) ≡ Ok k }
-    ensures written_so { (bytes : List ℕ) (k : KeyFile) → ((i : ℕ) → slice_index bytes i < 256)
-        → key_file_in bytes ≡ Ok k → IsKeyFile k × (bytes ≡ key_file_bytes k) }
+    ensures written_so { (bytes : List ℕ) (k : KeyFile) → IsBytes bytes → key_file_in bytes ≡ Ok k → IsKeyFile k × (bytes ≡ key_file_bytes k) }
 {}
 
 /// Each ring file in range is read again from its bytes, and bytes that read are those of the file read.
 pub fn ring_file_and_its_bytes()
     ensures read_again { (f : RingFile) → IsRingFile f → ring_file_in (ring_file_bytes f) ≡ Ok f }
-    ensures written_so { (bytes : List ℕ) (f : RingFile) → ((i : ℕ) → slice_index bytes i < 256)
-        → ring_file_in bytes ≡ Ok f → IsRingFile f × (bytes ≡ ring_file_bytes f) }
+    ensures written_so { (bytes : List ℕ) (f : RingFile) → IsBytes bytes → ring_file_in bytes ≡ Ok f → IsRingFile f × (bytes ≡ ring_file_bytes f) }
 {}
 
 /// The key that two have of some pairs is one: each has it under the other's number.
 pub fn two_share_one_key()
-    ensures { (one other : ℕ) (shared : List SharedKey)
+    ensures one { (one other : ℕ) (shared : List SharedKey)
         → key_with other (pair_keys_of one shared) ≡ key_with one (pair_keys_of other shared) }
 {}
 
 /// Who is among ascending numbers has a key with each of them, in their order, and no other.
 pub fn rings_name_all()
-    ensures { (numbers : List ℕ) (words : List (List ℕ)) (member : ℕ)
+    ensures members { (numbers : List ℕ) (words : List (List ℕ)) (member : ℕ)
         → IsStrictlyIncreasing numbers → length words ≡ length (pairs_of numbers) → Contains numbers member
         → members_of (pair_keys_of member (shared_keys numbers words)) ≡ numbers }
 {}

@@ -24,7 +24,7 @@ pub enum Named {
 impl Named {
     /// Its number.
     pub fn number(&self) -> u16
-        ensures { result ≡ number_of self.now }
+        ensures value { result ≡ number_of self.now }
     {
         match self {
             Named::Founder { member, .. } => *member,

@@ -7,7 +7,7 @@ ghost use Rattle.sporc_outside.specs.Counts.{Rose};
 ghost use Rattle.sporc_keys.specs.KeyFile.{IsKeyFile, IsKeyWidth};
 ghost use Rattle.sporc_keys.specs.NewKey.{IsKeygen, made_of};
 
-use crate::draw::front_of;
+use crate::draw::prefix_of;
 use crate::fault::DrawFault;
 use crate::key_file::KeyFile;
 use lms_leaf::blank;
@@ -47,7 +47,7 @@ pub fn keygen<C: Chance>(
         member,
         lms,
         ots,
-        id: front_of(&first),
+        id: prefix_of(&first),
         seed,
     };
     let key = key_of(alloc, file)?;

@@ -66,7 +66,7 @@ fn keys_by_member(alloc: Global, pairs: &[PairKey]) -> Result<Pairs, Memory>
 }
 
 // Adds a shared key.
-#[tactic(auto, using(crate::proofs::PairMaps::pairs_put))]
+#[tactic(auto, using(sporc_epoch::proofs::PairMaps::pairs_put))]
 fn put_key(keys: &mut Pairs, pair: &PairKey) -> Result<(), Memory>
     ensures { OnOk result (pairs_in keys.new ≡ with_pair (pairs_in keys.old) pair.now) }
 {
@@ -109,7 +109,7 @@ fn put_pairs(out: &mut Out, pairs: &[PairKey]) -> Result<(), Memory>
 /// The one spelling of a ring file.
 #[tactic(auto, unfolding(crate::specs::RingFile::ring_file_bytes))]
 pub fn write_ring_file(alloc: Global, file: &RingFile) -> Result<Vec<u8>, Memory>
-    requires { IsRingFile file.now }
+    requires file { IsRingFile file.now }
     ensures value { IfOk result (λ bytes. bytes.items ≡ ring_file_bytes file.now) }
 {
     let pairs = file.pairs.as_slice();

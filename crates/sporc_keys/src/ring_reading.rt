@@ -11,7 +11,6 @@ use crate::format::read_format;
 use crate::ring_file::{PairKey, PairKeys, RingFile};
 use sporc_bytes::{Cursor, Short};
 use sporc_entry::HIGHEST_MEMBER;
-use sporc_entry::fields::{read_end, read_u8, read_u16};
 use std::alloc::Global;
 
 // The key of epoch 0 that stands next, behind a byte that says whether it is there.
@@ -19,7 +18,7 @@ use std::alloc::Global;
 fn read_epoch_key(cursor: &mut Cursor<'_>) -> Result<Option<[u8; 32]>, Short>
     ensures { Reads (λ key. (key, cursor.new)) result (epoch_key_at cursor.old) }
 {
-    let has = read_u8(cursor, 0, 1)?;
+    let has = cursor.u8_within(0, 1)?;
     if has == 0 {
         return Ok(None);
     }
@@ -32,7 +31,7 @@ fn read_epoch_key(cursor: &mut Cursor<'_>) -> Result<Option<[u8; 32]>, Short>
 fn read_pair(cursor: &mut Cursor<'_>, least: u32) -> Result<PairKey, Short>
     ensures { Reads (λ pair. (pair, cursor.new)) result (pair_at least cursor.old) }
 {
-    let member = read_u16(cursor, least, HIGHEST_MEMBER)?;
+    let member = cursor.u16_within(least, HIGHEST_MEMBER)?;
     let key = cursor.array()?;
     Ok(PairKey { member, key })
 }
@@ -68,7 +67,7 @@ fn read_fields(
         (fault_as RingFileFault.Malformed (ring_file_at low high cursor.old)) }
 {
     read_format(cursor, b"SPR1")?;
-    let member = read_u16(cursor, low, high)?;
+    let member = cursor.u16_within(low, high)?;
     let epoch_key = read_epoch_key(cursor)?;
     let count = cursor.u16()?;
     let pairs = read_pairs(alloc, cursor, count)?;
@@ -86,7 +85,7 @@ fn read_all(alloc: Global, bytes: &[u8], low: u32, high: u32) -> Result<RingFile
 {
     let mut cursor = Cursor::new(bytes);
     let file = read_fields(alloc, &mut cursor, low, high)?;
-    read_end(&cursor)?;
+    cursor.ended()?;
     Ok(file)
 }
 

@@ -31,7 +31,8 @@ use Rattle.sporc_line.specs.LineChecks.{is_over, edit_checks, new_key_checks, ke
 use Rattle.sporc_line.specs.Prepared.{IsEffect}
 use Rattle.sporc_line.proofs.Passes.{both_pass}
 use Rattle.sporc_line.proofs.SameKeys.{committed}
-use Rattle.sporc_line.proofs.FormLengths.{change_form, edit_form, inserted_len-over, inserted_len-retains}
+use Rattle.sporc_delta.proofs.Lengths.{inserted_len-retains}
+use Rattle.sporc_line.proofs.FormLengths.{change_form, edit_form, inserted_len-over}
 use Rattle.sporc_line.proofs.NextEntry.{started_by_wraps, edit_key, key_after_change, fault_at_keys}
 use Rattle.sporc_line.proofs.ReadLengths.{body_within, marks_within}
 
@@ -220,11 +221,6 @@ pub change_seen : {g : Genesis} {kit : Kit} {A : List (List ℕ)} {c : CheckedMo
 change_seen {g} {kit} {A} {c} {body} {epoch} {me} {document} {old} {key} s =
     change_faults g kit A c body epoch document old key s.checked s.change s.epoch_is s.document_is s.old_is s.key_is
     ∙ ap (λ (n : ℕ). first_of (new_key_checks document n epoch body old key)) (sym s.me_is)
-
--- ---- exits
-
-pub unless_exit : {X : Type 0} (m : Refusal) (r : Result X Refusal) (y e : Refusal) (fault : Option Refusal) → r ≡ Err y → y ≡ e → (e ≢ m → fault ≡ Some e) → AnswersUnless m r fault
-unless_exit {X} m r y e fault p q h = subst (λ (r : Result X Refusal). AnswersUnless m r fault) (sym p) (subst (λ (z : Refusal). z ≢ m → fault ≡ Some z) (sym q) h)
 
 -- the first fault of an entry that passed the head's checks
 pub checked_faults : (g : Genesis) (kit : Kit) (A : List (List ℕ)) (pos me : ℕ) (b : List ℕ) (c : CheckedModel) → IsChecked g A c → c.bytes ≡ b → me ≡ kit.me → head_fault g (Some me) A pos b ≡ None

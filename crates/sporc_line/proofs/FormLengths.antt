@@ -10,6 +10,7 @@ use Rattle.sporc_delta.proofs.Lengths.{base_len-retains}
 use Rattle.sporc_xform.proofs.LengthLemmas.{base_len-later, inserted_len-later, out_len-le}
 use Rattle.sporc_suffix.specs.Forms.{later_over, reached, Follow, all_inserted}
 use Rattle.sporc_suffix.proofs.Passing.{Follow-append, Follow-drop}
+use Rattle.sporc_suffix.proofs.Following.{Follow-take, reached-append}
 use Rattle.sporc_member.proofs.Checks.{passes}
 use Rattle.sporc_entry.specs.declared.entry.Entry.{Entry}
 use Rattle.sporc_entry.specs.declared.change.ChangeBody.{ChangeBody}
@@ -44,10 +45,6 @@ text_reached base (f ∷ fs) s h is = text_reached (out_len f) fs (apply f s) h.
 pub length-text : (forms : List (List Mark)) → Follow 0 forms → length (text_after forms) ≡ reached 0 forms
 length-text forms h = text_reached 0 forms [] h refl
 
-reached-append : (base : ℕ) (fs gs : List (List Mark)) → reached base (fs ++ gs) ≡ reached (reached base fs) gs
-reached-append base [] gs = refl
-reached-append base (f ∷ fs) gs = reached-append (out_len f) fs gs
-
 pub base_len-over : (q : List Mark) (forms : List (List Mark)) → Follow (base_len q) forms → base_len (later_over q forms) ≡ reached (base_len q) forms
 base_len-over q [] h = refl
 base_len-over q (f ∷ fs) h =
@@ -58,10 +55,6 @@ base_len-over q (f ∷ fs) h =
 pub inserted_len-over : (q : List Mark) (forms : List (List Mark)) → inserted_len (later_over q forms) ≤ inserted_len q
 inserted_len-over q [] = omega arith
 inserted_len-over q (f ∷ fs) = omega (arith, inserted_len-over (later q f) fs, inserted_len-later f q)
-
-pub inserted_len-retains : (n : ℕ) → inserted_len (retains n) ≡ 0
-inserted_len-retains zero = refl
-inserted_len-retains (suc n) = inserted_len-retains n
 
 pub all_inserted-append : (fs gs : List (List Mark)) → all_inserted (fs ++ gs) ≡ all_inserted fs + all_inserted gs
 all_inserted-append [] gs = omega arith
@@ -144,11 +137,6 @@ edit_over g kit A pos e p none =
 -- the text after a beginning of a good history is as long as the forms up to there reach
 pub text_at : (g : Genesis) (kit : Kit) (A : List (List ℕ)) (n : ℕ) → Good g kit A → Follow 0 (forms_of g kit (take n A)) → length (text_of g kit (take n A)) ≡ reached 0 (take n (forms_of g kit A))
 text_at g kit A n good follow = length-text (forms_of g kit (take n A)) follow ∙ ap (reached 0) (forms_take g kit A good n)
-
-Follow-take : (base n : ℕ) (fs : List (List Mark)) → Follow base fs → Follow base (take n fs)
-Follow-take base zero fs h = tt
-Follow-take base (suc n) [] h = tt
-Follow-take base (suc n) (f ∷ fs) h = (h.0, Follow-take (out_len f) n fs h.1)
 
 -- the marks of an edit that passed follow the forms up to its base
 pub edit_follows : (g : Genesis) (kit : Kit) (A : List (List ℕ)) (n : ℕ) (m : List Mark) → Good g kit A → Follow 0 (forms_of g kit A) → base_len m ≡ length (text_of g kit (take n A))

@@ -10,7 +10,8 @@ use Rattle.sporc_suffix.specs.Forms.{reached, Follow, all_inserted}
 use Rattle.sporc_entry.specs.declared.genesis.Genesis.{Genesis}
 use Rattle.sporc_entry.specs.declared.limits.TheConstants.{MAX_EDIT_BODY}
 use Rattle.sporc_head.specs.CheckedModel.{CheckedModel}
-use Rattle.sporc_text.specs.Rewrite.{rewritten}
+use Rattle.sporc_text.specs.ReadyTextModel.{rewritten}
+use Rattle.sporc_line.specs.declared.limits.TheConstants.{MAX_COMMITTED_LEN}
 use Rattle.sporc_line.specs.Kit.{Kit}
 use Rattle.sporc_line.specs.Keys.{key_after, key_of}
 use Rattle.sporc_line.specs.Document.{forms_from, forms_of, next_form, text_of}
@@ -89,7 +90,7 @@ module _ {g : Genesis} {kit : Kit} {A : List (List ℕ)} {key : Option (List ℕ
       ∙ sym (text_at g kit A i k.good (follow_at i))
 
   -- texts are short
-  pub before_small : (i : ℕ) → length (text_of g kit (take i A)) ≤ 2 ^ 35
+  pub before_small : (i : ℕ) → length (text_of g kit (take i A)) ≤ MAX_COMMITTED_LEN
   before_small i =
       let r = reached-le 0 (forms_of g kit (take i A)) (follow_at i) in
       let l = length-text (forms_of g kit (take i A)) (follow_at i) in
@@ -98,7 +99,7 @@ module _ {g : Genesis} {kit : Kit} {A : List (List ℕ)} {key : Option (List ℕ
       let f = ap all_inserted k.forms_are in
       omega (arith, l, r, t, m, f, k.few, k.room)
 
-  pub text_small : length text ≤ 2 ^ 35
+  pub text_small : length text ≤ MAX_COMMITTED_LEN
   text_small =
       let l = length-text (forms_of g kit A) (forms_follow g kit A k.good) in
       let r = reached-le 0 (forms_of g kit A) (forms_follow g kit A k.good) in
@@ -150,11 +151,6 @@ module _ {g : Genesis} {kit : Kit} {A : List (List ℕ)} {key : Option (List ℕ
 
   pub prepared_fits : (p : PreparedModel) → IsPrepared g kit A p → CanPut p.form base forms text
   prepared_fits p q = next_over p.checked.bytes p.form q.passed q.form_is
-
--- what holds where a call answers Ok, where it does
-pub ok_of : {X E : Type 0} (r : Result X E) (P : Type 0) → OnOk r P → IsOk r → P
-ok_of (Ok x) P h ok = h
-ok_of (Err e) P h ok = absurd cc
 
 -- ---- one entry more
 

@@ -21,8 +21,9 @@ use Rattle.sporc_delta.specs.Parts.{part_marks, marks_of, kind_of}
 use Rattle.sporc_delta.specs.Reading.{head_at, text_at, body_at, part_at, parts_at, read_delta}
 use Rattle.sporc_delta.proofs.Counted.{length-chars}
 use Rattle.sporc_delta.proofs.Decoding.{head_ok, text_ok}
+use Rattle.sporc_delta.proofs.Lengths.{inserted_len-append, inserted_len-deletes, inserted_len-inserts, inserted_len-retains}
 use Rattle.sporc_entry.specs.declared.entry.Entry.{Entry}
-use Rattle.sporc_entry.specs.declared.limits.TheConstants.{MAX_EDIT_BODY}
+use Rattle.sporc_entry.specs.declared.limits.TheConstants.{MAX_CHANGE_BODY, MAX_EDIT_BODY, MAX_SIGNATURE}
 use Rattle.sporc_entry.specs.Entry.{header_at, body_limit, body_read, entry_of}
 use Rattle.sporc_epoch.specs.Streams.{entry_stream}
 use Rattle.sporc_line.specs.Operations.{marks_in}
@@ -53,7 +54,7 @@ counted_within limit r x h =
 limit_small : (kind : ℕ) → body_limit kind ≤ MAX_EDIT_BODY
 limit_small kind = go (kind == 1)
   where
-    go : (t : Bool) → cond t 1048576 65536 ≤ MAX_EDIT_BODY
+    go : (t : Bool) → cond t MAX_EDIT_BODY MAX_CHANGE_BODY ≤ MAX_EDIT_BODY
     go true = omega arith
     go false = omega arith
 
@@ -64,7 +65,7 @@ body_within bytes e h =
     let header = bind_ok (header_at (record { rest = bytes; at = 0 })) _ e h in
     let body = bind_ok (counted_at (body_limit header.0.0.kind) header.0.1) _ e header.2 in
     let read = bind_ok (body_read header.0.0.kind 72 body.0.0) _ e body.2 in
-    let signature = bind_ok (counted_at 9324 body.0.1) _ e read.2 in
+    let signature = bind_ok (counted_at MAX_SIGNATURE body.0.1) _ e read.2 in
     let end = bind_ok (end_at signature.0.1) _ e signature.2 in
     let same : body.0.0 ≡ e.body = ap (λ (e : Entry). e.body) (ok_entry _ e end.2) in
     omega (arith, ap length same, counted_within (body_limit header.0.0.kind) header.0.1 body.0 body.1, limit_small header.0.0.kind)
@@ -74,24 +75,6 @@ body_within bytes e h =
 
 -- ---- deltas
 
-inserted_len-append : (ms ns : List Mark) → inserted_len (ms ++ ns) ≡ inserted_len ms + inserted_len ns
-inserted_len-append [] ns = omega arith
-inserted_len-append (Retain ∷ ms) ns = inserted_len-append ms ns
-inserted_len-append (Delete ∷ ms) ns = inserted_len-append ms ns
-inserted_len-append (Insert c ∷ ms) ns = omega (arith, inserted_len-append ms ns)
-
-kept_none : (n : ℕ) → inserted_len (retains n) ≡ 0
-kept_none zero = refl
-kept_none (suc n) = kept_none n
-
-removed_none : (n : ℕ) → inserted_len (deletes n) ≡ 0
-removed_none zero = refl
-removed_none (suc n) = removed_none n
-
-inserted_all : (text : List ℕ) → inserted_len (inserts text) ≡ length text
-inserted_all [] = refl
-inserted_all (c ∷ text) = ap suc (inserted_all text)
-
 -- a part that was read inserts no more than its bytes
 abbrev Within : Reading → Part × Reading → Type 0
 Within r x = inserted_len (part_marks x.0) + length x.1.rest ≤ length r.rest
@@ -99,16 +82,16 @@ Within r x = inserted_len (part_marks x.0) + length x.1.rest ≤ length r.rest
 part_body : (kind : Kind) (n : ℕ) (r : Reading) (x : Part × Reading) → body_at kind n r ≡ Ok x → Within r x
 part_body kinds.Keep n r x e =
     let same : (Keep n, r) ≡ x = cc in
-    subst (Within r) same (omega (arith, kept_none n))
+    subst (Within r) same (omega (arith, inserted_len-retains n))
 part_body kinds.Remove n r x e =
     let same : (Remove n, r) ≡ x = cc in
-    subst (Within r) same (omega (arith, removed_none n))
+    subst (Within r) same (omega (arith, inserted_len-deletes n))
 part_body kinds.Insert n r x e =
     let a = bind_ok (text_at n r) (λ text. Ok (InsertText text.0, text.1)) x e in
     let same : (InsertText a.0.0, a.0.1) ≡ x = cc a.2 in
     let t = text_ok n r a.0 a.1 in
     let chars = length-chars t.front (IsUtf8-from_is_utf8 t.front t.utf8) in
-    subst (Within r) same (omega (arith, inserted_all a.0.0, chars, ap length t.is, bytes_size n r (t.front, a.0.1) t.taken, bytes_len n r (t.front, a.0.1) t.taken))
+    subst (Within r) same (omega (arith, inserted_len-inserts a.0.0, chars, ap length t.is, bytes_size n r (t.front, a.0.1) t.taken, bytes_len n r (t.front, a.0.1) t.taken))
 
 part_within : (before : Option Kind) (r : Reading) (x : Part × Reading) → part_at before r ≡ Ok x → Within r x
 unfolding part_at

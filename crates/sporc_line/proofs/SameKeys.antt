@@ -27,6 +27,7 @@ use Rattle.sporc_line.specs.Operations.{Operation, operation_in, operations}
 use Rattle.sporc_line.specs.Document.{forms_from, text_after, text_of}
 use Rattle.sporc_line.specs.LineChecks.{is_new_key, new_key_checks, key_checks_of, key_checks}
 use Rattle.sporc_line.specs.LineStrings.{line_strings}
+use Rattle.sporc_line.specs.Commitments.{commitment_at, commitment_started}
 use Rattle.sporc_line.specs.Good.{Good, Meets}
 use Rattle.sporc_line.proofs.Lists.{slice_get_before, slice_get_last, map_same}
 use Rattle.sporc_line.proofs.Passes.{Passes}
@@ -34,15 +35,6 @@ use Rattle.sporc_line.proofs.Goods.{good_entry, good_take, good_front, last_pass
 use Rattle.sporc_line.proofs.MoreForms.{key_after_front, key_of_take, epoch_front, operation_same}
 
 -- ---- the commitment that an epoch's key meets
-
-abbrev commitment_in : Genesis → Option CommittedChange → List ℕ
-commitment_in g None = g.commitment
-commitment_in g (Some c) = c.body.commitment
-
--- that of the genesis, or of the change that starts the epoch
-abbrev pub commitment_at : Genesis → List CommittedChange → ℕ → List ℕ
-commitment_at g cs zero = g.commitment
-commitment_at g cs (suc e) = commitment_in g (slice_get cs e)
 
 -- each key after changes meets its commitment
 abbrev KeysMeet : Genesis → Kit → List CommittedChange → Type 0
@@ -92,7 +84,7 @@ change_key g kit A pos e c p is kept =
 
 commitment_at_front : (g : Genesis) (cs ds : List CommittedChange) (e : ℕ) → e ≤ length cs → commitment_at g (cs ++ ds) e ≡ commitment_at g cs e
 commitment_at_front g cs ds zero h = refl
-commitment_at_front g cs ds (suc e) h = ap (commitment_in g) (slice_get_before cs ds e h)
+commitment_at_front g cs ds (suc e) h = ap (commitment_started g) (slice_get_before cs ds e h)
 
 -- one change more, whose key meets its commitment
 meets_more : (g : Genesis) (kit : Kit) (cs : List CommittedChange) (c : CommittedChange) → KeysMeet g kit cs
@@ -102,7 +94,7 @@ meets_more g kit cs c old new e h = elim (cases_lt (length cs) e) [
   | inl l ↦
       let n : e ≡ suc (length cs) = omega (arith, length-append cs (c ∷ []), h, l) in
       let m : length cs + 1 ≡ suc (length cs) = omega arith in
-      let at : commitment_at g (cs ++ c ∷ []) (suc (length cs)) ≡ c.body.commitment = ap (commitment_in g) (slice_get_last cs c) in
+      let at : commitment_at g (cs ++ c ∷ []) (suc (length cs)) ≡ c.body.commitment = ap (commitment_started g) (slice_get_last cs c) in
       subst (λ e. Meets g e (key_after g kit (cs ++ c ∷ []) e) (commitment_at g (cs ++ c ∷ []) e)) (sym n)
       (subst (λ k. Meets g (suc (length cs)) (key_after g kit (cs ++ c ∷ []) (suc (length cs))) k) (sym at)
       (subst (λ e. Meets g e (key_after g kit (cs ++ c ∷ []) e) c.body.commitment) m new))

@@ -1,5 +1,6 @@
 pub mod Kit
 pub mod Keys
+pub mod Commitments
 pub mod Operations
 pub mod Document
 pub mod LineChecks

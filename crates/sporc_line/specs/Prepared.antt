@@ -1,6 +1,6 @@
 -- What contracts see of an entry that was prepared, and when it can be committed.
 use Rattle.std.specs.Prelude.{◌≡◌, ℕ, ◌+◌, ◌≤◌, List, [], ◌∷◌, ◌++◌, length, Option, None}
-use Rattle.sporc_text.specs.Rewrite.{Rewrite, rewritten}
+use Rattle.sporc_text.specs.ReadyTextModel.{ReadyTextModel, rewritten}
 use Rattle.sporc_delta.specs.Marks.{Mark, apply, inserted_len}
 use Rattle.sporc_entry.specs.declared.genesis.Genesis.{Genesis}
 use Rattle.sporc_entry.specs.declared.limits.TheConstants.{MAX_EDIT_BODY}
@@ -17,7 +17,7 @@ use Rattle.sporc_line.specs.LineChecks.{first_fault}
 pub record PreparedModel : Type 0 where
   pub checked : CheckedModel
   pub form : List Mark
-  pub text : Rewrite
+  pub text : ReadyTextModel
   pub key : Option (List ℕ)
 
 -- an entry that was checked does this: it has this form, and this is the key of the last epoch after it

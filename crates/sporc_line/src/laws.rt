@@ -1,6 +1,6 @@
 //! Laws of histories as members read them.
 
-ghost use Rattle.std.specs.Prelude.{◌≡◌, ℕ, ◌+◌, ◌≤◌, List, [], ◌∷◌, ◌++◌, length, None, false};
+ghost use Rattle.std.specs.Prelude.{◌≡◌, ℕ, ◌+◌, ◌^◌, ◌≤◌, List, [], ◌∷◌, ◌++◌, length, None, false};
 ghost use Rattle.sporc_hash.specs.Strings.{CollisionFree};
 ghost use Rattle.sporc_entry.specs.declared.genesis.Genesis.{Genesis};
 ghost use Rattle.sporc_head.specs.History.{epoch_of, is_removed};
@@ -12,6 +12,12 @@ ghost use Rattle.sporc_line.specs.Document.{forms_of, next_form, text_of};
 ghost use Rattle.sporc_line.specs.LineChecks.{first_fault};
 ghost use Rattle.sporc_line.specs.LineStrings.{line_strings};
 ghost use Rattle.sporc_line.specs.Good.{Good};
+ghost use Rattle.sporc_line.specs.declared.limits.TheConstants.{MAX_COMMITTED_LEN};
+
+/// The limit in numbers.
+pub fn limits()
+    ensures committed { MAX_COMMITTED_LEN ≡ 2 ^ 35 }
+{}
 
 /// Two members with one good history read the same operations, the same text and, where it removes neither of them, the
 /// same key of each epoch, whatever keys they began with, where no two different strings hashed for them have one digest.

@@ -16,8 +16,9 @@
 //!
 //! Proved: `prepare` and `accept` answer exactly the first fault of the definition, unless memory runs out, and leave the
 //! line as it is, or append; every getter is its definition over the list; the history stays good after any calls; both
-//! laws. Nothing is looked up in the list while an entry is checked. Tested, in `sporc_line_tests`: each refusal by entries
-//! with real signatures, and what members, a joiner and a removed member read. Neither: how long a call takes.
+//! laws. Nothing is looked up in the list while an entry is checked. Tested, in `sporc_line_tests` and `sporc_history_tests`:
+//! each refusal by entries with real signatures, and what members, a joiner and a removed member read. Neither: how long a
+//! call takes.
 #![tactic(auto)]
 
 mod effect;
@@ -25,6 +26,7 @@ mod fault;
 mod keys;
 mod kit;
 pub mod laws;
+mod limits;
 mod line;
 mod opening;
 mod passing;
@@ -32,5 +34,6 @@ mod payload;
 mod prepared;
 
 pub use fault::LineOpenFault;
+pub use limits::MAX_COMMITTED_LEN;
 pub use line::Line;
 pub use prepared::Prepared;

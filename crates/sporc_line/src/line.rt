@@ -1,6 +1,6 @@
 //! A history as one member reads it.
 
-ghost use Rattle.std.specs.Prelude.{◌≡◌, ◌-◌, ◌≤◌, ◌^◌, [], length, take, map, slice_get, Some, IfOk, is_none, option_copied};
+ghost use Rattle.std.specs.Prelude.{◌≡◌, ◌-◌, ◌≤◌, [], length, take, map, slice_get, Some, IfOk, is_none, option_copied};
 ghost use Rattle.std.specs.String.{string_bytes};
 ghost use Rattle.std.specs.Str.{chars, encode_utf8_all};
 ghost use Rattle.std.specs.FinMap as map;
@@ -17,6 +17,7 @@ ghost use Rattle.sporc_line.specs.Keys.{key_of};
 ghost use Rattle.sporc_line.specs.Document.{forms_of, text_of};
 ghost use Rattle.sporc_line.specs.Good.{Good};
 ghost use Rattle.sporc_line.specs.Openings.{open_checks};
+ghost use Rattle.sporc_line.specs.declared.limits.TheConstants.{MAX_COMMITTED_LEN};
 
 mod accepting;
 
@@ -165,7 +166,7 @@ impl Line {
     pub fn text_len_at(&self, i: u32) -> u64
         requires { i ≤ length self.now.entries }
         ensures value { result ≡ length (text_of self.now.genesis self.now.kit (take i self.now.entries)) }
-        ensures small { result ≤ 2 ^ 35 }
+        ensures within { result ≤ MAX_COMMITTED_LEN }
     {
         if i == self.heads.len() {
             self.text.len()
@@ -177,7 +178,7 @@ impl Line {
     /// The bytes of the entries, oldest first.
     pub fn entries(&self) -> &[Vec<u8>]
         ensures value { map (λ v. v.items) result.now ≡ self.now.entries }
-        ensures sized { All (λ bytes. length bytes ≤ MAX_ENTRY) self.now.entries }
+        ensures within { All (λ bytes. length bytes ≤ MAX_ENTRY) self.now.entries }
     {
         self.heads.entries()
     }
@@ -237,7 +238,7 @@ impl Line {
     pub fn text(&self) -> Result<String, Memory>
         ensures ok { IfOk result (λ t. string_bytes t ≡ encode_utf8_all (text_of self.now.genesis self.now.kit self.now.entries)) }
         ensures chars { IfOk result (λ t. chars (string_bytes t) ≡ text_of self.now.genesis self.now.kit self.now.entries) }
-        ensures small { length (text_of self.now.genesis self.now.kit self.now.entries) ≤ 2 ^ 35 }
+        ensures within { length (text_of self.now.genesis self.now.kit self.now.entries) ≤ MAX_COMMITTED_LEN }
     {
         self.text.text()
     }

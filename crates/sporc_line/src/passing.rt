@@ -11,14 +11,18 @@ use sporc_suffix::{Blocks, Steps};
 use std::marker::Brand;
 use std::sync::ledger::{Blank, Ledger};
 
-/// What marks, stated on the text after the first `from` forms, become behind all forms.
-pub(crate) fn pass_forms(forms: &Blocks, marks: &Delta, from: u32) -> Result<Delta, Memory>
+/// What marks, stated on the text after the first `from` forms, become behind all forms. There are none after an edit of the
+/// last text, whose marks are the form.
+pub(crate) fn pass_forms(forms: &Blocks, marks: Delta, from: u32) -> Result<Delta, Memory>
     requires within { from ≤ length forms.now.forms }
-    requires base { base_len marks.now ≡ reached forms.now.base (take from forms.now.forms) }
-    requires limit { base_len marks.now + inserted_len marks.now + all_inserted (drop from forms.now.forms) ≤ MAX_TEXT_LEN }
-    ensures ok { IfOk result (λ form. form ≡ later_over marks.now (drop from forms.now.forms)) }
+    requires base { base_len marks ≡ reached forms.now.base (take from forms.now.forms) }
+    requires limit { base_len marks + inserted_len marks + all_inserted (drop from forms.now.forms) ≤ MAX_TEXT_LEN }
+    ensures ok { IfOk result (λ form. form ≡ later_over marks (drop from forms.now.forms)) }
 {
-    pass_counted::<Brand>(Blank::new(1), forms, marks, from)
+    if from == forms.len() {
+        return Ok(marks);
+    }
+    pass_counted::<Brand>(Blank::new(1), forms, &marks, from)
 }
 
 // The same, its steps counted on a blank.

@@ -1,13 +1,11 @@
 //! The tests of `sporc_line`. They stand in a crate of their own, since a crate with tests is proved twice. No program stands
 //! on it.
 //!
-//! Entries are signed by real keys. Each refusal comes of an entry that fails its check alone, and of one that fails all
-//! later checks, too. A function owns at most one of keys, history and line, and hands it down: one that owns more is slow
+//! Entries are signed by real keys. Each refusal but that of a full history, which `sporc_history_tests` shows, comes of an
+//! entry that fails its check alone, and of one that fails all later checks, too. A function owns at most one of keys, history and line, and hands it down: one that owns more is slow
 //! to prove.
 #![tactic(auto)]
 
-#[cfg(test)]
-mod full;
 #[cfg(test)]
 mod reading;
 #[cfg(test)]

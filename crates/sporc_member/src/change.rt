@@ -47,7 +47,7 @@ impl ChangeFault {
 
     /// The name that is printed.
     pub fn name(self) -> &'static str
-        ensures { result.now ≡ change_fault_name self }
+        ensures value { result.now ≡ change_fault_name self }
     {
         match self {
             ChangeFault::NumberUsed => "number-used",
@@ -61,7 +61,7 @@ impl ChangeFault {
 
     /// The number that is sent, from 1 to 6.
     pub fn code(self) -> u8
-        ensures { result ≡ change_fault_code_of self }
+        ensures value { result ≡ change_fault_code_of self }
     {
         match self {
             ChangeFault::NumberUsed => 1,
@@ -75,7 +75,7 @@ impl ChangeFault {
 
     /// The fault with that number.
     pub fn from_code(code: u32) -> Option<ChangeFault>
-        ensures { result ≡ change_fault_with_code code }
+        ensures value { result ≡ change_fault_with_code code }
     {
         match code {
             1 => Some(ChangeFault::NumberUsed),

@@ -15,7 +15,7 @@ impl Role {
 
     /// The role with this number, in genesis and changes.
     pub fn from_code(code: u8) -> Option<Role>
-        ensures { result ≡ role_with_code code }
+        ensures value { result ≡ role_with_code code }
     {
         match code {
             1 => Some(Role::Reader),
@@ -27,7 +27,7 @@ impl Role {
 
     /// Its number: 1, 2 or 3.
     pub fn code(self) -> u8
-        ensures { result ≡ role_code_of self }
+        ensures value { result ≡ role_code_of self }
     {
         match self {
             Role::Reader => 1,
@@ -38,14 +38,14 @@ impl Role {
 
     /// Whether it is the other role.
     pub fn is(self, other: Role) -> bool
-        ensures { result ≡ same_role self other }
+        ensures value { result ≡ same_role self other }
     {
         self.code() == other.code()
     }
 
     /// Whether it may change the members.
     pub fn is_admin(self) -> bool
-        ensures { result ≡ is_admin self }
+        ensures value { result ≡ is_admin self }
     {
         self.is(Role::Admin)
     }

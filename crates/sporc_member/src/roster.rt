@@ -46,7 +46,7 @@ impl Roster {
     pub fn found(alloc: Global, founders: &[Founder]) -> Result<Roster, Memory>
         requires ascending { IsStrictlyIncreasing (numbers_of founders.now) }
         requires room { length founders.now ≤ MAX_MEMBERS }
-        ensures { IfOk result (λ roster. roster.roster ≡ founded founders.now) }
+        ensures ok { IfOk result (λ roster. roster.roster ≡ founded founders.now) }
     {
         let members = Vec::from_slice(alloc, founders)?;
         let numbers = numbers_in(alloc, founders)?;
@@ -68,7 +68,7 @@ impl Roster {
 
     /// The member with this number.
     pub fn member(&self, number: u16) -> Option<&Founder>
-        ensures { option_copied result ≡ member_at self.now.roster number }
+        ensures value { option_copied result ≡ member_at self.now.roster number }
     {
         self.members.iter().find(|m| m.member == number)
     }
@@ -82,21 +82,21 @@ impl Roster {
 
     /// The role of the member with this number.
     pub fn role(&self, member: u16) -> Option<Role>
-        ensures { result ≡ option_map (λ m. m.role) (member_at self.now.roster member) }
+        ensures value { result ≡ option_map (λ m. m.role) (member_at self.now.roster member) }
     {
         self.member(member).map(|m| m.role)
     }
 
     /// The public key of the member with this number.
     pub fn key(&self, member: u16) -> Option<&[u8; 56]>
-        ensures { option_copied result ≡ option_map (λ m. m.key) (member_at self.now.roster member) }
+        ensures value { option_copied result ≡ option_map (λ m. m.key) (member_at self.now.roster member) }
     {
         self.member(member).map(|m| &m.key)
     }
 
     /// Whether the members may be changed so: the first fault of the change, if it has one.
     pub fn test(&self, change: &Change) -> Result<(), ChangeFault>
-        ensures { Answers result (change_fault_of self.now.roster change.now) }
+        ensures value { Answers result (change_fault_of self.now.roster change.now) }
     {
         match change {
             Change::Add { member, role, key } => self.test_add(*member, *role, key),
@@ -209,7 +209,7 @@ impl Roster {
 
     /// The numbers of the members after a change, ascending where `test` accepts it.
     pub fn members_after(&self, change: &Change) -> Result<Vec<u16>, Memory>
-        ensures { IfOk result (λ numbers. numbers.items ≡ numbers_of (after_change self.now.roster change.now).members) }
+        ensures ok { IfOk result (λ numbers. numbers.items ≡ numbers_of (after_change self.now.roster change.now).members) }
     {
         let alloc = *self.numbers.allocator();
         match change {

@@ -44,7 +44,7 @@ goes_on L i room x whole at has so_far = so_far ∙ step (ltb i MAX_PULLED) (leb
     step true false p q h = absurd cc
     step false b p q h = absurd cc
 
--- one that has none ends the run
+-- one that has none ends the batch
 pub ends : (L : List (List ℕ)) (i room : ℕ) (x : List ℕ) (whole : List (List ℕ)) → drop i L ≡ x ∷ drop (i + 1) L → i ≤ MAX_PULLED → (ltb i MAX_PULLED && leb (length x + 4) room) ≡ false
     → whole ≡ take i L ++ longest_batch (MAX_PULLED - i) room (drop i L) → take i L ≡ whole
 ends L i room x whole at le none so_far = sym (so_far ∙ step (ltb i MAX_PULLED) (leb (length x + 4) room) refl refl none ∙ append-nil (take i L))
@@ -95,7 +95,7 @@ drop_min L from k e = elim (cases_lt from (length L)) [
   | inr le ↦ let all : k ≡ length L = omega (arith, e) in let past : length L ≤ k = omega (arith, all) in drop_all k L past ∙ sym (drop_all from L le)
 ]
 
--- the entries of an answer are those of the run behind the first `from`
+-- the entries of an answer are those of the batch behind the first `from`
 pub is_batch : (vs : List (Vec ℕ)) (entries : List (List ℕ)) (from k n : ℕ) → map bytes_of vs ≡ entries → k ≡ min from (length vs)
     → take n (map bytes_of (take (length vs - k) (drop k vs))) ≡ longest_batch MAX_PULLED MAX_PULLED_BYTES (map bytes_of (take (length vs - k) (drop k vs)))
     → map bytes_of (take n (take (length vs - k) (drop k vs))) ≡ batch_after entries from
@@ -119,7 +119,7 @@ begins (b ∷ entries) sized none = go (leb (length b + 4) MAX_PULLED_BYTES) ref
     go true p = absurd (let taken : b ∷ longest_batch (MAX_PULLED - 1) (MAX_PULLED_BYTES - (length b + 4)) entries ≡ [] = subst (λ (t : Bool). cond t (b ∷ longest_batch (MAX_PULLED - 1) (MAX_PULLED_BYTES - (length b + 4)) entries) [] ≡ []) p none in cc)
     go false p = absurd (omega (arith, leb-false (length b + 4) MAX_PULLED_BYTES p, size))
 
--- an answer has no entries exactly where there are no more
+-- an answer has no entries exactly if there are no more
 pub is_empty : (vs : List (Vec ℕ)) (entries : List (List ℕ)) (from : ℕ) → All (λ b. length b ≤ MAX_ENTRY) entries → map bytes_of vs ≡ batch_after entries from → length vs ≡ 0 ↔ length entries ≤ from
 is_empty vs entries from sized is = (
   λ none. omega (arith, length-drop from entries, begins (drop from entries) (All-drop (λ e. length e ≤ MAX_ENTRY) from entries sized) (sym is ∙ no_entries vs none)),

@@ -33,7 +33,7 @@ pub is_few : (vs : List (Vec ℕ)) (entries : List (List ℕ)) (from : ℕ) → 
 is_few vs entries from is =
     omega (arith, length-map vs (λ v. v.items), ap length is, batch_len MAX_PULLED MAX_PULLED_BYTES (drop from entries))
 
-counted_len : (e : List ℕ) → length (counted e) ≡ length e + 4
+pub counted_len : (e : List ℕ) → length (counted e) ≡ length e + 4
 counted_len e = omega (arith, length-append (to_be_bytes w32 (length e)) e)
 
 pub batch_bytes : (n room : ℕ) (es : List (List ℕ)) → length (flat_map counted (longest_batch n room es)) ≤ room

@@ -6,11 +6,11 @@
 //!
 //! ```text
 //! let position = order.submit(entry)?;      // the first check that fails is the refusal
-//! order.pull(0)                             // the longest run from the first entry on that its limits allow
+//! order.pull(0)                             // the longest batch from the first entry on that its limits allow
 //! session.step(&mut order, &message)        // what is sent, nothing, or that the session ends
 //! ```
 //!
-//! Proved: an entry is appended exactly if no check fails, an answer is the longest run within its limits, empty exactly
+//! Proved: an entry is appended exactly if no check fails, an answer is the longest batch within its limits, empty exactly
 //! if there are no more entries, and each answer of a session is the order's at its entries. Tested only: that the calls
 //! succeed with ample memory. Neither: that a client gets an answer.
 #![tactic(auto)]

@@ -49,7 +49,7 @@ impl Order {
 
     /// The document whose entries it orders.
     pub fn document(&self) -> &[u8; 16]
-        ensures { result.now ≡ self.now.genesis.document }
+        ensures value { result.now ≡ self.now.genesis.document }
     {
         &self.heads.genesis().document
     }
@@ -78,7 +78,7 @@ impl Order {
         ensures fault { AnswersUnless Refusal.Memory result (head_fault self.old.genesis None self.old.entries (length self.old.entries + 1) bytes.now) }
         ensures position { IfOk result (λ position. position ≡ length self.old.entries + 1) }
         ensures ok { OnOk result (self.new.entries ≡ self.old.entries ++ bytes.now ∷ []) }
-        ensures err { OnErr result (self.new.entries ≡ self.old.entries) }
+        ensures unchanged { OnErr result (self.new.entries ≡ self.old.entries) }
     {
         let position = self.heads.len() + 1;
         let checked = self.heads.check(None, position, bytes)?;
@@ -93,7 +93,7 @@ impl Order {
     pub fn pull(&self, from: u32) -> &[Vec<u8>]
         ensures entries { map (λ v. v.items) result.now ≡ batch_after self.now.entries from }
         ensures empty { length result.now ≡ 0 ↔ length self.now.entries ≤ from }
-        ensures limit { length result.now ≤ MAX_PULLED }
+        ensures within { length result.now ≤ MAX_PULLED }
     {
         let entries = self.heads.entries();
         let from = (from as usize).min(entries.len());

@@ -50,7 +50,7 @@ impl Session {
         Session { is_greeted: false }
     }
 
-    /// Answers a message: Close exactly where the first message isn't Hello with the order's document, or a later one is
+    /// Answers a message: Close exactly if the first message isn't Hello with the order's document, or a later one is
     /// Hello. Silent for the first Hello.
     pub fn step(
         &mut self,

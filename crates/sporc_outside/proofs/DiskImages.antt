@@ -1,7 +1,7 @@
 -- What a crash of a disk in memory may leave, over one call.
 use Rattle.std.proofs.Common.{◌≡◌, ℕ, ◌+◌, ◌-◌, ◌<◌, ◌≤◌, ◌⊎◌, inl, inr, Bool, true, false, List, [], ◌∷◌, ◌++◌, length, take, drop, slice_index, Some, refl, ap, sym, subst, ◌∙◌, arith, length-append, length-drop, length-take-le, get_or-take}
 use Rattle.std.proofs.Math.Seq.{get_or-drop}
-use Rattle.sporc_outside.specs.CallRecord.{CallRecord}
+use Rattle.sporc_outside.specs.CallsModel.{CallsModel}
 use Rattle.std.proofs.lemmas.List.{take-append-le, take_all, ext_get_or}
 use Rattle.std.proofs.Math.Nat.{eq-or-lt_of_le}
 use Rattle.std.proofs.lemmas.Bool.{cases_lt}
@@ -9,7 +9,7 @@ use Rattle.std.proofs.lemmas.List.Sums.{fold-append}
 use Rattle.sporc_outside.specs.declared.disk_call.DiskCall.{DiskCall}
 use Rattle.sporc_outside.specs.declared.disk_call.DiskRequest.TheVariants.{Write, Sync}
 use Rattle.sporc_outside.specs.LeafDisk.{overwrite, IsSameOutside, CrashStep}
-use Rattle.sporc_outside.specs.MemoryDisk.{DiskState, state_after, MemoryDiskContent, after_call, IsUnsynced, IsImage, images_of}
+use Rattle.sporc_outside.specs.MemoryDisk.{DiskState, state_after, MemoryDiskModel, after_call, IsUnsynced, IsImage, images_of}
 use Rattle.sporc_outside.proofs.Overwrites.{length-overwrite, slice_index-overwrite_outside, slice_index-overwrite_inside}
 
 -- what a crash after the first m of these calls may leave
@@ -57,21 +57,21 @@ passes_one first log call step stays steps =
     }
 
 -- the same over what a disk holds: its first bytes, its log, and its calls
-pub passes_unlogged : (old : MemoryDiskContent) (first : List ℕ) (log new : List DiskCall) (calls : CallRecord) (step : List ℕ → List ℕ → Type 0)
-    → ◌≡◌ {A = MemoryDiskContent} (record { first = first; log = log; calls = calls }) old → new ≡ log
+pub passes_unlogged : (old : MemoryDiskModel) (first : List ℕ) (log new : List DiskCall) (calls : CallsModel) (step : List ℕ → List ℕ → Type 0)
+    → ◌≡◌ {A = MemoryDiskModel} (record { first = first; log = log; calls = calls }) old → new ≡ log
     → ((image : List ℕ) → step image image) → CrashStep (length old.log) (length new) (images_of old) (images_in first new) step
 passes_unlogged old first log new calls step is same stays =
-    let P : MemoryDiskContent → List DiskCall → Type 0 = λ d l. CrashStep (length d.log) (length l) (images_of d) (images_in first l) step in
-    subst (λ (d : MemoryDiskContent). P d new) is
+    let P : MemoryDiskModel → List DiskCall → Type 0 = λ d l. CrashStep (length d.log) (length l) (images_of d) (images_in first l) step in
+    subst (λ (d : MemoryDiskModel). P d new) is
     (subst (P (record { first = first; log = log; calls = calls })) (sym same) (passes_none first log step stays))
 
-pub passes_logged : (old : MemoryDiskContent) (first : List ℕ) (log new : List DiskCall) (calls : CallRecord) (call : DiskCall)
-    (step : List ℕ → List ℕ → Type 0) → ◌≡◌ {A = MemoryDiskContent} (record { first = first; log = log; calls = calls }) old
+pub passes_logged : (old : MemoryDiskModel) (first : List ℕ) (log new : List DiskCall) (calls : CallsModel) (call : DiskCall)
+    (step : List ℕ → List ℕ → Type 0) → ◌≡◌ {A = MemoryDiskModel} (record { first = first; log = log; calls = calls }) old
     → new ≡ log ++ call ∷ [] → ((image : List ℕ) → step image image) → Steps (state_after first log) call step
     → CrashStep (length old.log) (length new) (images_of old) (images_in first new) step
 passes_logged old first log new calls call step is more stays steps =
-    let P : MemoryDiskContent → List DiskCall → Type 0 = λ d l. CrashStep (length d.log) (length l) (images_of d) (images_in first l) step in
-    subst (λ (d : MemoryDiskContent). P d new) is
+    let P : MemoryDiskModel → List DiskCall → Type 0 = λ d l. CrashStep (length d.log) (length l) (images_of d) (images_in first l) step in
+    subst (λ (d : MemoryDiskModel). P d new) is
     (subst (P (record { first = first; log = log; calls = calls })) (sym more) (passes_one first log call step stays steps))
 
 -- after a sync an image is what a read gives
@@ -146,23 +146,23 @@ steps_write s at bytes true fits image h = before_write s at bytes (overwrite s.
 steps_write s at bytes false fits image h = before_write s at bytes s.bytes image fits (same_outside at (length bytes) s.bytes) h
 
 -- a write in the log
-pub passes_write : (old : MemoryDiskContent) (first : List ℕ) (log new : List DiskCall) (calls : CallRecord) (at : ℕ) (bytes kept : List ℕ)
-    (done : Bool) → ◌≡◌ {A = MemoryDiskContent} (record { first = first; log = log; calls = calls }) old → kept ≡ bytes
+pub passes_write : (old : MemoryDiskModel) (first : List ℕ) (log new : List DiskCall) (calls : CallsModel) (at : ℕ) (bytes kept : List ℕ)
+    (done : Bool) → ◌≡◌ {A = MemoryDiskModel} (record { first = first; log = log; calls = calls }) old → kept ≡ bytes
     → new ≡ log ++ record { request = Write at kept; done = done } ∷ [] → at + length bytes ≤ length (state_after old.first old.log).bytes
     → CrashStep (length old.log) (length new) (images_of old) (images_in first new) (IsSameOutside at (length bytes))
 passes_write old first log new calls at bytes kept done is same more fits =
     let here : at + length bytes ≤ length (state_after first log).bytes =
-    subst (λ (d : MemoryDiskContent). at + length bytes ≤ length (state_after d.first d.log).bytes) (sym is) fits in
+    subst (λ (d : MemoryDiskModel). at + length bytes ≤ length (state_after d.first d.log).bytes) (sym is) fits in
     passes_logged old first log new calls (record { request = Write at bytes; done = done }) (IsSameOutside at (length bytes)) is
     (more ∙ ap (λ (b : List ℕ). log ++ record { request = Write at b; done = done } ∷ []) same)
     (same_outside at (length bytes)) (steps_write (state_after first log) at bytes done here)
 
-pub others_write : (old : MemoryDiskContent) (first : List ℕ) (log new : List DiskCall) (calls : CallRecord) (at : ℕ) (bytes kept : List ℕ)
-    → ◌≡◌ {A = MemoryDiskContent} (record { first = first; log = log; calls = calls }) old → kept ≡ bytes
+pub others_write : (old : MemoryDiskModel) (first : List ℕ) (log new : List DiskCall) (calls : CallsModel) (at : ℕ) (bytes kept : List ℕ)
+    → ◌≡◌ {A = MemoryDiskModel} (record { first = first; log = log; calls = calls }) old → kept ≡ bytes
     → new ≡ log ++ record { request = Write at kept; done = true } ∷ [] → at + length bytes ≤ length (state_after old.first old.log).bytes
     → IsSameOutside at (length bytes) (state_after old.first old.log).bytes (state_after first new).bytes
 others_write old first log new calls at bytes kept is same more fits =
-    let P : MemoryDiskContent → Type 0 = λ d. at + length bytes ≤ length (state_after d.first d.log).bytes
+    let P : MemoryDiskModel → Type 0 = λ d. at + length bytes ≤ length (state_after d.first d.log).bytes
     → IsSameOutside at (length bytes) (state_after d.first d.log).bytes (state_after first new).bytes in
     subst P is
     (λ here. rw (

@@ -5,7 +5,7 @@ use Rattle.std.proofs.Math.ListN.{get_or-append}
 use Rattle.std.proofs.lemmas.Slice.Eq.{bytes_eq-Decides}
 use Rattle.sporc_outside.specs.declared.named_file.NamedFile.{NamedFile}
 use Rattle.sporc_outside.specs.Files.{file_in, with_file, IsPlaceOf}
-use Rattle.sporc_outside.specs.FolderContent.{HasEach}
+use Rattle.sporc_outside.specs.MemoryFolderModel.{HasEach}
 
 -- no file before this one has the name, nor has it
 pub none_more : (files : List NamedFile) (name : List ℕ) (i : ℕ) (f : NamedFile) → i < length files → f ≡ get_or files i f

@@ -2,17 +2,17 @@
 use Rattle.std.specs.Prelude.{◌≡◌, ◌⊎◌, ℕ, ◌+◌, ◌<◌, ◌≤◌, Bool, List, [], ◌∷◌, length, take, fold, slice_index, if◌then◌else◌, refl}
 use Rattle.std.proofs.Common.{subst, sym, inr}
 use Rattle.std.proofs.Math.Seq.{take-length}
-use Rattle.sporc_outside.specs.CallRecord.{CallRecord}
+use Rattle.sporc_outside.specs.CallsModel.{CallsModel}
 use Rattle.sporc_outside.specs.LeafDisk.{overwrite}
 use Rattle.sporc_outside.specs.declared.disk_call.DiskCall.{DiskCall}
 use Rattle.sporc_outside.specs.declared.disk_call.DiskRequest.{DiskRequest}
 use Rattle.sporc_outside.specs.declared.disk_call.DiskRequest.TheVariants.{Len, Read, Write, Sync}
 
 -- what it held at first, its calls since, and which of them are to fail
-pub record MemoryDiskContent : Type 0 where
+pub record MemoryDiskModel : Type 0 where
   pub first : List ℕ
   pub log : List DiskCall
-  pub calls : CallRecord
+  pub calls : CallsModel
 
 -- what a read gives, and the ranges (from, length) that were written since the last sync that succeeded
 pub record DiskState : Type 0 where
@@ -47,14 +47,14 @@ pub record IsImage (s : DiskState) (image : List ℕ) : Type 0 where
   pub synced : (i : ℕ) → IsUnsynced s.unsynced i ⊎ (slice_index image i ≡ slice_index s.bytes i)
 
 -- what a crash after the first m calls may leave
-abbrev pub images_of : MemoryDiskContent → ℕ → List ℕ → Type 0
+abbrev pub images_of : MemoryDiskModel → ℕ → List ℕ → Type 0
 images_of disk m image = IsImage (state_after disk.first (take m disk.log)) image
 
 -- what a read gives is an image
 image_itself : (s : DiskState) → IsImage s s.bytes
 image_itself s = record { length = refl; synced = λ i. inr refl }
 
-pub bytes_are_image : (disk : MemoryDiskContent) → images_of disk (length disk.log) (state_after disk.first disk.log).bytes
+pub bytes_are_image : (disk : MemoryDiskModel) → images_of disk (length disk.log) (state_after disk.first disk.log).bytes
 bytes_are_image disk =
     let P : List DiskCall → Type 0 = λ log. IsImage (state_after disk.first log) (state_after disk.first disk.log).bytes in
     subst P (sym (take-length disk.log)) (image_itself (state_after disk.first disk.log))

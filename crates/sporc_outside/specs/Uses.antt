@@ -19,3 +19,10 @@ pub record SinkUse : Type 0 where
 pub record IsUnwritten (out : SinkUse) : Type 0 where
   pub written : out.written_after ≡ out.written_before
   pub faults : out.faults_after ≡ out.faults_before
+
+-- a use, by what the object tells and its count at both moments
+abbrev pub source_use : {S : Type 0} → (S → Option (List ℕ)) → (S → ℕ) → S → S → SourceUse
+source_use left faults old new = record { left_before = left old; left_after = left new; faults_before = faults old; faults_after = faults new }
+
+abbrev pub sink_use : {O : Type 0} → (O → Option (List ℕ)) → (O → ℕ) → O → O → SinkUse
+sink_use written faults old new = record { written_before = written old; written_after = written new; faults_before = faults old; faults_after = faults new }

@@ -2,6 +2,6 @@
 use Rattle.std.specs.Prelude.{◌≤◌, ℕ, List, length, take, Option}
 use Rattle.std.specs.Io.KnownBytes.{Appends}
 
--- a front of the bytes was written
+-- a prefix of the bytes was written
 abbrev pub AppendsPrefix : Option (List ℕ) → Option (List ℕ) → List ℕ → Type 0
 AppendsPrefix old new bytes = (n : ℕ) × (n ≤ length bytes) × Appends old new (take n bytes)

@@ -1,6 +1,7 @@
 // The names and addresses that objects in memory are asked for.
-ghost use Rattle.std.specs.Prelude.{◌≡◌, ◌++◌, ◌∷◌, [], IsErr, OnOk, OnErr, Contains};
-ghost use Rattle.sporc_outside.specs.Counts.{CountsFaults, next_count};
+ghost use Rattle.std.specs.Prelude.{◌≡◌, ◌++◌, ◌∷◌, [], OnOk, OnErr};
+ghost use Rattle.sporc_outside.specs.CallsModel.{CountsCall};
+ghost use Rattle.sporc_outside.specs.Counts.{CountsFaults};
 
 use crate::calls::Calls;
 use crate::counted::Failed;
@@ -16,7 +17,7 @@ pub(crate) fn ask(
 ) -> Result<(), Failed>
     ensures ok { OnOk result (asked.new.items ≡ asked.old.items ++ name.now ∷ []) }
     ensures err { OnErr result (asked.new.items ≡ asked.old.items) }
-    ensures listed { Contains calls.old.failing (next_count calls.old.made) → IsErr result }
+    ensures call { CountsCall calls.old calls.new result }
     ensures count { CountsFaults calls.old.faults calls.new.faults result }
 {
     calls.begin()?;

@@ -1,4 +1,7 @@
+// The calls of objects in memory.
+
 ghost use Rattle.std.specs.Prelude.{◌≡◌, ◌≤◌, ◌↔◌, IsErr, OnOk, OnErr, Contains};
+ghost use Rattle.sporc_outside.specs.CallsModel.{CountsCall};
 ghost use Rattle.sporc_outside.specs.Counts.{CountsFaults, Rose, next_count, count_of_both};
 
 use crate::counted::Failed;
@@ -14,9 +17,9 @@ pub struct Calls {
 }
 
 impl Model for Calls {
-    ghost use Rattle.sporc_outside.specs.CallRecord.{CallRecord};
+    ghost use Rattle.sporc_outside.specs.CallsModel.{CallsModel};
 
-    ghost Value = { CallRecord };
+    ghost Value = { CallsModel };
 
     ghost view = { λ c. record { failing = c.failing.items; made = c.made; faults = c.faults } };
 }
@@ -24,7 +27,7 @@ impl Model for Calls {
 impl Calls {
     /// No calls yet. Those with the listed numbers are to fail.
     pub fn failing(failing: Vec<u64>) -> Calls
-        ensures { result ≡ record { failing = failing.items; made = 0; faults = 0 } }
+        ensures value { result ≡ record { failing = failing.items; made = 0; faults = 0 } }
     {
         Calls {
             failing,
@@ -35,14 +38,15 @@ impl Calls {
 
     /// How many calls failed.
     pub fn faults(&self) -> u64
-        ensures { result ≡ self.now.faults }
+        ensures value { result ≡ self.now.faults }
     {
         self.faults
     }
 
-    /// Counts one more call, which fails where its number is listed.
+    /// Counts one more call, which fails exactly if its number is listed.
     pub fn begin(&mut self) -> Result<(), Failed>
         ensures listed { IsErr result ↔ Contains self.old.failing (next_count self.old.made) }
+        ensures call { CountsCall self.old self.new result }
         ensures ok { OnOk result (self.new ≡ record self.old { made = next_count self.old.made }) }
         ensures count { CountsFaults self.old.faults self.new.faults result }
         ensures err { OnErr result (self.new ≡ record self.old {
@@ -69,7 +73,7 @@ impl Calls {
 
     /// Counts the faults of an object that was taken back.
     pub fn add_faults(&mut self, faults: u64)
-        ensures { self.new ≡ record self.old { faults = count_of_both self.old.faults faults } }
+        ensures counted { self.new ≡ record self.old { faults = count_of_both self.old.faults faults } }
     {
         self.faults = self.faults.saturating_add(faults);
     }

@@ -1,3 +1,5 @@
+// Counts of faults.
+
 ghost use Rattle.std.specs.Prelude.{◌≡◌, ℕ};
 
 use thiserror::Error;
@@ -14,5 +16,5 @@ pub trait Counted {
 
     /// How many calls failed so far.
     fn faults(&self) -> u64
-        ensures { result ≡ faults self.now };
+        ensures value { result ≡ faults self.now };
 }

@@ -1,3 +1,5 @@
+// The calls of a disk, as its log has them.
+
 use std::marker::Model;
 
 /// Bytes that were written.
@@ -18,13 +20,13 @@ impl DiskBytes {
     ghost use Rattle.std.specs.Prelude.{◌≡◌};
 
     pub fn new(bytes: Vec<u8>) -> DiskBytes
-        ensures { result ≡ bytes.items }
+        ensures value { result ≡ bytes.items }
     {
         DiskBytes { bytes }
     }
 
     pub fn as_slice(&self) -> &[u8]
-        ensures { result.now ≡ self.now }
+        ensures value { result.now ≡ self.now }
     {
         self.bytes.as_slice()
     }

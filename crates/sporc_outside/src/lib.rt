@@ -15,7 +15,8 @@
 //! read_all(alloc, &mut source, 16)?                   // hello, in pieces of two
 //! ```
 //!
-//! Proved: what each call does to the told content and to the counts. Only tested: that a call succeeds with ample memory.
+//! Proved: what each call does to the told content and to the counts. Only tested: that a call succeeds with ample memory. Neither:
+//! nothing else is claimed.
 #![tactic(auto)]
 
 mod asked;
@@ -26,6 +27,7 @@ mod disk_call;
 mod file_fault;
 mod folder;
 mod gate;
+pub mod laws;
 mod leaf_disk;
 mod link;
 mod links;

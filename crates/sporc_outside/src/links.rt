@@ -28,7 +28,7 @@ pub trait Links: Counted {
 
     /// How many calls failed of the links that were taken back.
     fn link_faults(&self) -> u64
-        ensures { result ≡ link_faults self.now };
+        ensures value { result ≡ link_faults self.now };
 
     /// Takes back a link that it made.
     fn take_back(&mut self, link: Self::Link)

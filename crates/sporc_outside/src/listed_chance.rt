@@ -1,6 +1,7 @@
 //! Listed words in place of random ones.
 
 ghost use Rattle.std.specs.Prelude.{◌≡◌, ◌∷◌, [], IfOk, OnErr, Some};
+ghost use Rattle.sporc_outside.specs.CallsModel.{CountsCall};
 ghost use Rattle.sporc_outside.specs.Counts.{CountsFaults};
 ghost use Rattle.sporc_outside.specs.Told.{AppendsItem};
 
@@ -19,9 +20,9 @@ pub struct ListedChance {
 
 impl Model for ListedChance {
     ghost use Rattle.std.specs.Prelude.{◌≤◌, take, drop, vec_len};
-    ghost use Rattle.sporc_outside.specs.ListedWords.{ListedWords};
+    ghost use Rattle.sporc_outside.specs.ListedChanceModel.{ListedChanceModel};
 
-    ghost Value = { ListedWords };
+    ghost Value = { ListedChanceModel };
 
     ghost view = { λ c. record { given = take c.at c.words.items; left = drop c.at c.words.items; calls = c.calls } };
 
@@ -31,7 +32,7 @@ impl Model for ListedChance {
 impl ListedChance {
     /// Gives these words. The listed calls fail.
     pub fn new(words: Vec<[u8; 32]>, calls: Calls) -> ListedChance
-        ensures { result ≡ record { given = []; left = words.items; calls = calls } }
+        ensures value { result ≡ record { given = []; left = words.items; calls = calls } }
     {
         ListedChance {
             words,
@@ -56,6 +57,7 @@ impl Chance for ListedChance {
         ensures ok { IfOk result (λ word. AppendsItem (Some self.old.given) (Some self.new.given) word) }
         ensures next { IfOk result (λ word. self.old.left ≡ word ∷ self.new.left) }
         ensures err { OnErr result (Some self.new.given ≡ Some self.old.given) }
+        ensures call { CountsCall self.old.calls self.new.calls result }
         ensures count { CountsFaults self.old.calls.faults self.new.calls.faults result }
     {
         self.calls.begin()?;

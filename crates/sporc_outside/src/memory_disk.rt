@@ -1,4 +1,8 @@
-ghost use Rattle.std.specs.Prelude.{◌≡◌, ◌⊎◌, ◌+◌, ◌≤◌, [], ◌∷◌, ◌++◌, Some, true, false, length, IsErr, IfOk, OnOk, OnErr, Contains};
+// Disks in memory.
+
+ghost use Rattle.std.specs.Prelude.{◌≡◌, ℕ, List, take, drop, ◌⊎◌, ◌+◌, ◌≤◌, [], ◌∷◌, ◌++◌, Some, true, false, length, IsErr, IfOk, OnOk, OnErr, Contains};
+ghost use Rattle.sporc_outside.specs.CallsModel.{CountsCall};
+ghost use Rattle.sporc_outside.specs.LeafDisk.{overwrite, IsSame, IsSameOutside, KeepsOutside, CrashStep};
 ghost use Rattle.sporc_outside.specs.Counts.{CountsFaults, Rose, next_count};
 
 use crate::calls::Calls;
@@ -21,9 +25,9 @@ pub struct MemoryDisk {
 
 impl Model for MemoryDisk {
     ghost use Rattle.std.specs.Prelude.{◌≡◌};
-    ghost use Rattle.sporc_outside.specs.MemoryDisk.{MemoryDiskContent, state_after};
+    ghost use Rattle.sporc_outside.specs.MemoryDisk.{MemoryDiskModel, state_after};
 
-    ghost Value = { MemoryDiskContent };
+    ghost Value = { MemoryDiskModel };
 
     ghost view = { λ d. record { first = d.first.items; log = d.log.items; calls = d.calls } };
 
@@ -35,7 +39,7 @@ impl MemoryDisk {
 
     /// Holds these bytes, all of them synced. The listed calls fail.
     pub fn new(alloc: Global, bytes: Vec<u8>, calls: Calls) -> Result<MemoryDisk, AllocError>
-        ensures { IfOk result (λ disk.
+        ensures ok { IfOk result (λ disk.
             disk ≡ record { first = bytes.items; log = []; calls = calls }) }
     {
         let first = Vec::from_slice(alloc, &bytes)?;
@@ -50,21 +54,21 @@ impl MemoryDisk {
 
     /// What a read gives.
     pub fn as_slice(&self) -> &[u8]
-        ensures { result.now ≡ (state_after self.now.first self.now.log).bytes }
+        ensures value { result.now ≡ (state_after self.now.first self.now.log).bytes }
     {
         self.bytes.as_slice()
     }
 
     /// Gives up the bytes.
     pub fn into_bytes(self) -> Vec<u8>
-        ensures { result.items ≡ (state_after self.first self.log).bytes }
+        ensures value { result.items ≡ (state_after self.first self.log).bytes }
     {
         self.bytes
     }
 
     /// The calls so far, oldest first.
     pub fn log(&self) -> &[DiskCall]
-        ensures { result.now ≡ self.now.log }
+        ensures value { result.now ≡ self.now.log }
     {
         self.log.as_slice()
     }
@@ -92,12 +96,27 @@ impl LeafDisk for MemoryDisk {
 
     ghost images_are_told = { λ d image is. refl };
 
-    fn len(&mut self) -> Result<u64, Failed> {
+    fn len(&mut self) -> Result<u64, Failed>
+        ensures length { IfOk result (λ n. n ≡ length (state_after self.old.first self.old.log).bytes) }
+        ensures stored { Some (state_after self.new.first self.new.log).bytes ≡ Some (state_after self.old.first self.old.log).bytes }
+        ensures images { CrashStep (length self.old.log) (length self.new.log) (images_of self.old) (images_of self.new)
+            IsSame }
+        ensures call { CountsCall self.old.calls self.new.calls result }
+        ensures count { CountsFaults self.old.calls.faults self.new.calls.faults result }
+    {
         enter(&mut self.calls, &mut self.log, DiskRequest::Len)?;
         Ok(self.bytes.len() as u64)
     }
 
-    fn read(&mut self, at: u64, buf: &mut [u8]) -> Result<(), Failed> {
+    fn read(&mut self, at: u64, buf: &mut [u8]) -> Result<(), Failed>
+        requires { at + length buf.old ≤ length (state_after self.old.first self.old.log).bytes }
+        ensures bytes { OnOk result (buf.new ≡ take (length buf.old) (drop at (state_after self.old.first self.old.log).bytes)) }
+        ensures stored { Some (state_after self.new.first self.new.log).bytes ≡ Some (state_after self.old.first self.old.log).bytes }
+        ensures images { CrashStep (length self.old.log) (length self.new.log) (images_of self.old) (images_of self.new)
+            IsSame }
+        ensures call { CountsCall self.old.calls self.new.calls result }
+        ensures count { CountsFaults self.old.calls.faults self.new.calls.faults result }
+    {
         let len = buf.len();
         enter(
             &mut self.calls,
@@ -109,7 +128,15 @@ impl LeafDisk for MemoryDisk {
         Ok(())
     }
 
-    fn write_at(&mut self, at: u64, bytes: &[u8]) -> Result<(), Failed> {
+    fn write_at(&mut self, at: u64, bytes: &[u8]) -> Result<(), Failed>
+        requires { at + length bytes.now ≤ length (state_after self.old.first self.old.log).bytes }
+        ensures written { OnOk result (Some (state_after self.new.first self.new.log).bytes ≡ Some (overwrite (state_after self.old.first self.old.log).bytes at bytes.now)) }
+        ensures others { KeepsOutside at (length bytes.now) (Some (state_after self.old.first self.old.log).bytes) (Some (state_after self.new.first self.new.log).bytes) }
+        ensures images { CrashStep (length self.old.log) (length self.new.log) (images_of self.old) (images_of self.new)
+            (IsSameOutside at (length bytes.now)) }
+        ensures call { CountsCall self.old.calls self.new.calls result }
+        ensures count { CountsFaults self.old.calls.faults self.new.calls.faults result }
+    {
         let Ok(kept) = Vec::from_slice(self.alloc, bytes) else {
             return Err(refuse(&mut self.calls));
         };
@@ -123,7 +150,15 @@ impl LeafDisk for MemoryDisk {
         Ok(())
     }
 
-    fn sync(&mut self) -> Result<(), Failed> {
+    fn sync(&mut self) -> Result<(), Failed>
+        ensures durable { OnOk result
+            ((image : List ℕ) → images_of self.new (length self.new.log) image → Some (state_after self.new.first self.new.log).bytes ≡ Some image) }
+        ensures stored { Some (state_after self.new.first self.new.log).bytes ≡ Some (state_after self.old.first self.old.log).bytes }
+        ensures images { CrashStep (length self.old.log) (length self.new.log) (images_of self.old) (images_of self.new)
+            IsSame }
+        ensures call { CountsCall self.old.calls self.new.calls result }
+        ensures count { CountsFaults self.old.calls.faults self.new.calls.faults result }
+    {
         enter(&mut self.calls, &mut self.log, DiskRequest::Sync)?;
         Ok(())
     }
@@ -136,7 +171,7 @@ fn enter(calls: &mut Calls, log: &mut Vec<DiskCall>, request: DiskRequest) -> Re
     ensures err { OnErr result
         ((log.new.items ≡ log.old.items ++ record { request = request; done = false } ∷ [])
         ⊎ (log.new.items ≡ log.old.items)) }
-    ensures listed { Contains calls.old.failing (next_count calls.old.made) → IsErr result }
+    ensures call { CountsCall calls.old calls.new result }
     ensures count { CountsFaults calls.old.faults calls.new.faults result }
 {
     let answer = calls.begin();
@@ -149,6 +184,8 @@ fn enter(calls: &mut Calls, log: &mut Vec<DiskCall>, request: DiskRequest) -> Re
 
 // Counts a call that fails.
 fn refuse(calls: &mut Calls) -> Failed
+    ensures failing { calls.new.failing ≡ calls.old.failing }
+    ensures made { calls.new.made ≡ next_count calls.old.made }
     ensures rose { Rose calls.old.faults calls.new.faults }
     ensures kept { calls.old.faults ≤ calls.new.faults }
 {

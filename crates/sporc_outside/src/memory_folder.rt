@@ -29,9 +29,9 @@ pub struct MemoryFolder {
 
 impl Model for MemoryFolder {
     ghost use Rattle.std.specs.Prelude.{reverse};
-    ghost use Rattle.sporc_outside.specs.FolderContent.{FolderContent, HasEach};
+    ghost use Rattle.sporc_outside.specs.MemoryFolderModel.{MemoryFolderModel, HasEach};
 
-    ghost Value = { FolderContent };
+    ghost Value = { MemoryFolderModel };
 
     ghost view = { λ f. record { files = f.files.items; asked = f.asked.items; lent = reverse f.lent.items; calls = f.calls } };
 
@@ -41,7 +41,7 @@ impl Model for MemoryFolder {
 impl MemoryFolder {
     /// Holds these files. The listed calls fail.
     pub fn new(alloc: Global, files: Vec<NamedFile>, calls: Calls) -> MemoryFolder
-        ensures { result ≡ record { files = files.items; asked = []; lent = []; calls = calls } }
+        ensures value { result ≡ record { files = files.items; asked = []; lent = []; calls = calls } }
     {
         MemoryFolder {
             alloc,
@@ -55,21 +55,21 @@ impl MemoryFolder {
 
     /// Of the next disk that is handed out, the calls with these numbers fail.
     pub fn fail_disk_calls(&mut self, failing: Vec<u64>)
-        ensures { self.new ≡ self.old }
+        ensures unchanged { self.new ≡ self.old }
     {
         self.disk_calls = failing;
     }
 
     /// The files.
     pub fn files(&self) -> &[NamedFile]
-        ensures { result.now ≡ self.now.files }
+        ensures value { result.now ≡ self.now.files }
     {
         self.files.as_slice()
     }
 
     /// The names asked for.
     pub fn asked(&self) -> &[DiskBytes]
-        ensures { result.now ≡ self.now.asked }
+        ensures value { result.now ≡ self.now.asked }
     {
         self.asked.as_slice()
     }

@@ -2,6 +2,7 @@
 
 ghost use Rattle.std.specs.Prelude.{◌≡◌, ◌<◌, ◌≤◌, ◌↔◌, [], length, min, IsErr, IfOk, Contains, Some, refl, false};
 ghost use Rattle.std.specs.Io.KnownBytes.{ReadConsumes, WriteAppends};
+ghost use Rattle.sporc_outside.specs.CallsModel.{CountsCall};
 ghost use Rattle.sporc_outside.specs.Counts.{CountsFaults, next_count};
 
 use crate::calls::Calls;
@@ -26,9 +27,9 @@ pub struct MemoryLink {
 
 impl Model for MemoryLink {
     ghost use Rattle.std.specs.Prelude.{◌≤◌, ◌<◌, drop, vec_len};
-    ghost use Rattle.sporc_outside.specs.LinkContent.{LinkContent};
+    ghost use Rattle.sporc_outside.specs.MemoryLinkModel.{MemoryLinkModel};
 
-    ghost Value = { LinkContent };
+    ghost Value = { MemoryLinkModel };
 
     ghost view = { λ l. record { left = drop l.at l.bytes.items; written = l.written.items; piece = l.piece; calls = l.calls; is_shut = l.is_shut } };
 
@@ -39,7 +40,7 @@ impl MemoryLink {
     /// Gives these bytes, and moves at most `piece` bytes a call. The listed calls fail.
     pub fn new(alloc: Global, bytes: Vec<u8>, piece: usize, calls: Calls) -> MemoryLink
         requires { 0 < piece }
-        ensures { result ≡ record { left = bytes.items; written = []; piece = piece; calls = calls; is_shut = false } }
+        ensures value { result ≡ record { left = bytes.items; written = []; piece = piece; calls = calls; is_shut = false } }
     {
         MemoryLink {
             bytes,
@@ -53,14 +54,14 @@ impl MemoryLink {
 
     /// The bytes written so far.
     pub fn written(&self) -> &[u8]
-        ensures { result.now ≡ self.now.written }
+        ensures value { result.now ≡ self.now.written }
     {
         self.written.as_slice()
     }
 
     /// Whether it was shut.
     pub fn is_shut(&self) -> bool
-        ensures { result ≡ self.now.is_shut }
+        ensures value { result ≡ self.now.is_shut }
     {
         self.is_shut
     }
@@ -85,6 +86,7 @@ impl Source for MemoryLink {
         ensures sent { Some self.new.written ≡ Some self.old.written }
         ensures count { CountsFaults self.old.calls.faults self.new.calls.faults result }
         ensures listed { IsErr result ↔ Contains self.old.calls.failing (next_count self.old.calls.made) }
+        ensures call { CountsCall self.old.calls self.new.calls result }
     {
         self.calls.begin()?;
         let left = &self.bytes[self.at..];
@@ -106,7 +108,7 @@ impl Sink for MemoryLink {
         ensures bytes { WriteAppends (Some self.old.written) (Some self.new.written) result bytes.now }
         ensures pending { Some self.new.left ≡ Some self.old.left }
         ensures count { CountsFaults self.old.calls.faults self.new.calls.faults result }
-        ensures listed { Contains self.old.calls.failing (next_count self.old.calls.made) → IsErr result }
+        ensures call { CountsCall self.old.calls self.new.calls result }
         ensures piece { IfOk result (λ n. n ≡ min (length bytes.now) self.old.piece) }
     {
         self.calls.begin()?;

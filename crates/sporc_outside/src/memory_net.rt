@@ -2,7 +2,7 @@
 
 ghost use Rattle.std.specs.Prelude.{◌≡◌, ◌≤◌, ◌+◌, ◌∷◌, [], reverse, IfOk, OnOk, OnErr, Some};
 ghost use Rattle.sporc_outside.specs.Counts.{CountsFaults};
-ghost use Rattle.sporc_outside.specs.NetContent.{AreFresh};
+ghost use Rattle.sporc_outside.specs.MemoryNetModel.{AreFresh};
 
 use crate::asked::ask;
 use crate::calls::Calls;
@@ -29,9 +29,9 @@ pub struct MemoryNet {
 
 impl Model for MemoryNet {
     ghost use Rattle.std.specs.Prelude.{◌≤◌, ◌+◌, reverse, vec_len, vec_capacity};
-    ghost use Rattle.sporc_outside.specs.NetContent.{NetContent, AreFresh};
+    ghost use Rattle.sporc_outside.specs.MemoryNetModel.{MemoryNetModel, AreFresh};
 
-    ghost Value = { NetContent };
+    ghost Value = { MemoryNetModel };
 
     ghost view = { λ n. record { asked = n.asked.items; coming = reverse n.coming.items; returned = n.returned.items; out = n.out; calls = n.calls; link_faults = n.link_faults } };
 
@@ -42,7 +42,7 @@ impl MemoryNet {
     /// Hands out these links, the last one first. The listed calls fail.
     pub fn new(alloc: Global, links: Vec<MemoryLink>, calls: Calls) -> MemoryNet
         requires { AreFresh links.items }
-        ensures { result ≡ record { asked = []; coming = reverse links.items; returned = []; out = 0; calls = calls; link_faults = 0 } }
+        ensures value { result ≡ record { asked = []; coming = reverse links.items; returned = []; out = 0; calls = calls; link_faults = 0 } }
     {
         MemoryNet {
             alloc,
@@ -57,14 +57,14 @@ impl MemoryNet {
 
     /// The addresses asked for.
     pub fn asked(&self) -> &[DiskBytes]
-        ensures { result.now ≡ self.now.asked }
+        ensures value { result.now ≡ self.now.asked }
     {
         self.asked.as_slice()
     }
 
     /// The links that were taken back.
     pub fn returned(&self) -> &[MemoryLink]
-        ensures { result.now ≡ self.now.returned }
+        ensures value { result.now ≡ self.now.returned }
     {
         self.returned.as_slice()
     }

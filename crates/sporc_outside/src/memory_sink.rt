@@ -1,6 +1,9 @@
-ghost use Rattle.std.specs.Prelude.{◌≡◌, ◌<◌, ◌≤◌, [], length, min, IsErr, IfOk, Contains};
+// Sinks in memory.
+
+ghost use Rattle.std.specs.Prelude.{◌≡◌, ◌<◌, ◌≤◌, [], length, min, IfOk};
 ghost use Rattle.std.specs.Io.KnownBytes.{WriteAppends};
-ghost use Rattle.sporc_outside.specs.Counts.{CountsFaults, next_count};
+ghost use Rattle.sporc_outside.specs.CallsModel.{CountsCall};
+ghost use Rattle.sporc_outside.specs.Counts.{CountsFaults};
 
 use crate::calls::Calls;
 use crate::counted::{Counted, Failed};
@@ -18,9 +21,9 @@ pub struct MemorySink {
 
 impl Model for MemorySink {
     ghost use Rattle.std.specs.Prelude.{◌<◌};
-    ghost use Rattle.sporc_outside.specs.MemoryContent.{MemoryContent};
+    ghost use Rattle.sporc_outside.specs.MemoryBytesModel.{MemoryBytesModel};
 
-    ghost Value = { MemoryContent };
+    ghost Value = { MemoryBytesModel };
 
     ghost view = { λ s. record { bytes = s.bytes.items; piece = s.piece; calls = s.calls } };
 
@@ -31,7 +34,7 @@ impl MemorySink {
     /// Holds nothing yet, and takes at most `piece` bytes a call. The listed calls fail.
     pub fn new(alloc: Global, piece: usize, calls: Calls) -> MemorySink
         requires { 0 < piece }
-        ensures { result ≡ record { bytes = []; piece = piece; calls = calls } }
+        ensures value { result ≡ record { bytes = []; piece = piece; calls = calls } }
     {
         MemorySink {
             bytes: Vec::new(alloc),
@@ -42,7 +45,7 @@ impl MemorySink {
 
     /// The bytes written so far.
     pub fn as_slice(&self) -> &[u8]
-        ensures { result.now ≡ self.now.bytes }
+        ensures value { result.now ≡ self.now.bytes }
     {
         self.bytes.as_slice()
     }
@@ -68,7 +71,7 @@ impl Sink for MemorySink {
         ensures some { IfOk result (λ n. 0 < length bytes.now → 0 < n) }
         ensures bytes { WriteAppends (Some self.old.bytes) (Some self.new.bytes) result bytes.now }
         ensures count { CountsFaults self.old.calls.faults self.new.calls.faults result }
-        ensures listed { Contains self.old.calls.failing (next_count self.old.calls.made) → IsErr result }
+        ensures call { CountsCall self.old.calls self.new.calls result }
         ensures piece { IfOk result (λ n. n ≡ min (length bytes.now) self.old.piece) }
     {
         self.calls.begin()?;

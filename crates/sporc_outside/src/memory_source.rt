@@ -1,5 +1,8 @@
+// Sources in memory.
+
 ghost use Rattle.std.specs.Prelude.{◌≡◌, ◌-◌, ◌<◌, ◌≤◌, ◌↔◌, length, min, IsErr, IfOk, Contains};
 ghost use Rattle.std.specs.Io.KnownBytes.{ReadConsumes};
+ghost use Rattle.sporc_outside.specs.CallsModel.{CountsCall};
 ghost use Rattle.sporc_outside.specs.Counts.{CountsFaults, next_count};
 
 use crate::calls::Calls;
@@ -18,9 +21,9 @@ pub struct MemorySource {
 
 impl Model for MemorySource {
     ghost use Rattle.std.specs.Prelude.{◌≤◌, ◌<◌, drop, vec_len};
-    ghost use Rattle.sporc_outside.specs.MemoryContent.{MemoryContent};
+    ghost use Rattle.sporc_outside.specs.MemoryBytesModel.{MemoryBytesModel};
 
-    ghost Value = { MemoryContent };
+    ghost Value = { MemoryBytesModel };
 
     ghost view = { λ s. record { bytes = drop s.at s.bytes.items; piece = s.piece; calls = s.calls } };
 
@@ -31,7 +34,7 @@ impl MemorySource {
     /// Gives these bytes, at most `piece` of them a call. The listed calls fail.
     pub fn new(bytes: Vec<u8>, piece: usize, calls: Calls) -> MemorySource
         requires { 0 < piece }
-        ensures { result ≡ record { bytes = bytes.items; piece = piece; calls = calls } }
+        ensures value { result ≡ record { bytes = bytes.items; piece = piece; calls = calls } }
     {
         MemorySource {
             bytes,
@@ -62,6 +65,7 @@ impl Source for MemorySource {
         ensures bytes { ReadConsumes (Some self.old.bytes) (Some self.new.bytes) result buf.new }
         ensures count { CountsFaults self.old.calls.faults self.new.calls.faults result }
         ensures listed { IsErr result ↔ Contains self.old.calls.failing (next_count self.old.calls.made) }
+        ensures call { CountsCall self.old.calls self.new.calls result }
         ensures piece { IfOk result (λ n. n ≡ min (min (length buf.old) self.old.piece) (length self.old.bytes)) }
     {
         self.calls.begin()?;

@@ -1,3 +1,5 @@
+// Files with their names.
+
 use crate::disk_call::DiskBytes;
 
 /// A file in memory.

@@ -19,7 +19,7 @@ impl Flow {
         !self.is_shut && self.at == self.bytes.len()
     }
 
-    // Moves bytes into the front of the buffer, and says how many.
+    // Moves bytes into the first places of the buffer, and says how many.
     fn take(&mut self, buf: &mut [u8]) -> usize
         ensures { result ≤ length buf.new }
     {
@@ -55,7 +55,7 @@ impl Pipe {
         }
     }
 
-    // Waits until there are bytes or the flow is shut, and moves them into the front of the buffer.
+    // Waits until there are bytes or the flow is shut, and moves them into the first places of the buffer.
     pub(crate) fn read<R: Wait>(&self, rt: &R, buf: &mut [u8]) -> usize
         ensures { result ≤ length buf.new }
     {

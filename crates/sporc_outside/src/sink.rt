@@ -1,3 +1,5 @@
+// What takes bytes.
+
 ghost use Rattle.std.specs.Prelude.{◌≡◌, ◌<◌, ◌≤◌, ℕ, List, Option, length, IfOk, OnOk, OnErr};
 ghost use Rattle.std.specs.Io.KnownBytes.{WriteAppends, Appends};
 ghost use Rattle.sporc_outside.specs.Counts.{CountsFaults};
@@ -13,7 +15,7 @@ pub trait Sink: Counted {
     // Of a link the bytes that are left to be read, where it tells them: a write leaves them.
     ghost pending: { Self → Option (List ℕ) };
 
-    /// Takes a front of the bytes, and says how many: at least one, where there are any.
+    /// Takes a prefix of the bytes, and says how many: at least one, where there are any.
     fn write(&mut self, bytes: &[u8]) -> Result<usize, Failed>
         ensures bound { IfOk result (λ n. n ≤ length bytes.now) }
         ensures some { IfOk result (λ n. 0 < length bytes.now → 0 < n) }
@@ -22,7 +24,7 @@ pub trait Sink: Counted {
         ensures count { CountsFaults (Self.faults self.old) (Self.faults self.new) result };
 }
 
-/// Writes all the bytes, or a front of them where the sink fails.
+/// Writes all the bytes, or a prefix of them if the sink fails.
 pub fn write_all<O: Sink>(out: &mut O, bytes: &[u8]) -> Result<(), Failed>
     ensures ok { OnOk result (Appends (O.written out.old) (O.written out.new) bytes.now) }
     ensures err { OnErr result (AppendsPrefix (O.written out.old) (O.written out.new) bytes.now) }

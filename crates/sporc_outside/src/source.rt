@@ -1,3 +1,5 @@
+// What gives bytes.
+
 ghost use Rattle.std.specs.Prelude.{◌≡◌, ◌+◌, ◌^◌, ◌<◌, ◌≤◌, ℕ, List, Option, length, IfOk};
 ghost use Rattle.std.specs.Io.KnownBytes.{ReadConsumes, Consumes, IsAtEnd};
 ghost use Rattle.sporc_outside.specs.Counts.{CountsFaults, Rose};
@@ -16,7 +18,7 @@ pub trait Source: Counted {
     // Of a link the bytes written so far, where it tells them: a read leaves them.
     ghost sent: { Self → Option (List ℕ) };
 
-    /// Moves bytes into the front of the buffer, and says how many. None are moved only at the
+    /// Moves bytes into the first places of the buffer, and says how many. None are moved only at the
     /// end, or where the buffer is empty.
     fn read(&mut self, buf: &mut [u8]) -> Result<usize, Failed>
         ensures bound { IfOk result (λ n. n ≤ length buf.new) }

@@ -1,7 +1,8 @@
 //! The tests of `sporc_outside`. They stand in a crate of their own, since a crate with tests is proved twice. No program
 //! stands on it.
 //!
-//! Each object in memory, and a net between threads, is called once with ample memory, and once where a listed call fails.
+//! Each object in memory, and a net between threads, is called once with ample memory; a source, a sink and a disk also once
+//! with a listed call that fails.
 #![tactic(auto)]
 
 #[cfg(test)]

@@ -1,5 +1,5 @@
 ghost use Rattle.std.specs.Prelude.{IfOk};
-ghost use Rattle.sporc_outside.specs.NetContent.{AreFresh};
+ghost use Rattle.sporc_outside.specs.MemoryNetModel.{AreFresh};
 
 use sporc_outside::{Calls, Failed, Links, Listen, MemoryLink, MemoryNet};
 use std::alloc::{AllocError, Global};

@@ -1,5 +1,5 @@
 -- What single commands do may happen wherever a play has come to.
-use Rattle.std.proofs.Common.{◌≡◌, ℕ, zero, suc, ◌+◌, ◌-◌, ◌^◌, ◌<◌, ◌≤◌, Bool, true, false, cond, List, [], ◌∷◌, length, set, refl, sym, ap, ◌∙◌, subst, arith, Option, None, Some}
+use Rattle.std.proofs.Common.{◌≡◌, ℕ, zero, suc, ◌+◌, ◌-◌, ◌<◌, ◌≤◌, Bool, true, false, cond, List, [], ◌∷◌, length, set, refl, sym, ap, ◌∙◌, subst, arith, Option, None, Some}
 use Rattle.std.specs.Prelude.{bit_xor, is_none, nat_le, nat_lt, slice_get, ⊤, IsSomeAnd}
 use Rattle.std.specs.List.{AllByRecursion}
 use Rattle.std.specs.Str.{all_scalars}
@@ -9,6 +9,7 @@ use Rattle.std.proofs.lemmas.Nat.{xor_of_8}
 use Rattle.sporc_delta.specs.Marks.{Mark, insertion, removal}
 use Rattle.sporc_delta.specs.Typed.{IsTypedDelta}
 use Rattle.sporc_delta.proofs.Typing.{inserted, inserted-insertion, inserted-removal, typed_delta}
+use Rattle.sporc_delta.specs.declared.limits.TheConstants.{MAX_COUNT}
 use Rattle.sporc_client.specs.declared.limits.TheConstants.{MAX_EVENTS}
 use Rattle.sporc_client.specs.Allowed.{allows}
 use Rattle.sporc_client.specs.Answers.{change_fault, discard_fault, edit_fault}
@@ -37,8 +38,8 @@ use Rattle.sporc_script.specs.declared.play_line.PlayLine.{PlayLine}
 use Rattle.sporc_play.specs.Cast.{member_change, setup_of, tree_of}
 use Rattle.sporc_play.specs.Logs.{change_events, discard_events, edit_logged, logged_unless}
 use Rattle.sporc_play.specs.Scene.{Act, Scene, adds, cuts, delta_by, edit_events, entry_at, flip_byte, flips, gives, if_open, marks_of, nothing, restarts, seen_by}
+use Rattle.sporc_play.proofs.OwnKeys.{own_key_len}
 use Rattle.sporc_play.proofs.ByteFacts.{AreBytes, bytes_take, is_bytes}
-use Rattle.sporc_play.proofs.Founders.{key_len}
 use Rattle.sporc_play.proofs.ByteClients.{IsByteChange, IsByteEvent}
 use Rattle.sporc_play.proofs.SignedBytes.{key_bytes}
 use Rattle.sporc_play.proofs.Places.{at_place}
@@ -85,7 +86,7 @@ change_may c change none = ap is_none none
 
 typed_change : (script : List PlayLine) (change : RosterChange) → RosterChangeInRange change → IsTypedChange (member_change (setup_of script) change)
 unfolding setup_of
-typed_change script (changes.Add m) fits = (fits.1, key_len (tree_of script) m.member)
+typed_change script (changes.Add m) fits = (fits.1, own_key_len (tree_of script) m.member)
 typed_change script (changes.Remove m) fits = fits.1
 typed_change script (changes.SetRole m) fits = fits.1
 
@@ -121,12 +122,12 @@ give_acts s g moves scene come = open_acts s scene g.member (λ c. gives g.membe
     }
 
 pub restart_acts : (s : Setup) (r : Restart) → MayBe s (λ scene. commands.Restart r)
-restart_acts s r moves scene come = open_acts s scene r.member (restarts r.member r.events) (λ c at. go c at (nat_le r.events (length c.entries)) refl)
+restart_acts s r moves scene come = open_acts s scene r.member (restarts r.member r.entries) (λ c at. go c at (nat_le r.entries (length c.entries)) refl)
   where
-    go : (c : PlainClient) → scene.world.clients r.member ≡ Some c → (b : Bool) → nat_le r.events (length c.entries) ≡ b → MayAct s scene (restarts r.member r.events c)
-    go c at false over = subst (λ (b : Bool). MayAct s scene (cond b (record { moves = GoesBack r.member r.events ∷ []; entries = [] }) nothing)) (sym over) (no_act s scene)
-    go c at true within = subst (λ (b : Bool). MayAct s scene (cond b (record { moves = GoesBack r.member r.events ∷ []; entries = [] }) nothing)) (sym within) (record {
-      run = (subst (λ (o : Option PlainClient). IsSomeAnd o (λ c. r.events ≤ length c.entries)) (sym at) (leb-true r.events (length c.entries) within), tt);
+    go : (c : PlainClient) → scene.world.clients r.member ≡ Some c → (b : Bool) → nat_le r.entries (length c.entries) ≡ b → MayAct s scene (restarts r.member r.entries c)
+    go c at false over = subst (λ (b : Bool). MayAct s scene (cond b (record { moves = GoesBack r.member r.entries ∷ []; entries = [] }) nothing)) (sym over) (no_act s scene)
+    go c at true within = subst (λ (b : Bool). MayAct s scene (cond b (record { moves = GoesBack r.member r.entries ∷ []; entries = [] }) nothing)) (sym within) (record {
+      run = (subst (λ (o : Option PlainClient). IsSomeAnd o (λ c. r.entries ≤ length c.entries)) (sym at) (leb-true r.entries (length c.entries) within), tt);
       typed = (tt, tt);
       bytes = (tt, tt);
       entries = tt;
@@ -182,14 +183,14 @@ scalars_of_delta c seen edit marks fits is = go (nat_lt (length c.shown) seen) i
     go true is = let same : marks ≡ [] = cc in ap (λ (ms : List Mark). all_scalars (inserted ms)) same
     go false is = scalars_of_marks edit (length (shown_after seen c)) marks fits is
 
-short_text : (s : Setup) (who : ℕ) (c : PlainClient) (seen : ℕ) → IsReached s who c → IsSound c → seen ≤ length c.shown → length c.shown ≤ MAX_EVENTS → length (shown_after seen c) ≤ 2 ^ 40
+short_text : (s : Setup) (who : ℕ) (c : PlainClient) (seen : ℕ) → IsReached s who c → IsSound c → seen ≤ length c.shown → length c.shown ≤ MAX_EVENTS → length (shown_after seen c) ≤ MAX_COUNT
 short_text s who c seen reached sound low few =
     let same = reached.state in
     let count : length c.shown ≡ length reached.log = ap (λ (d : PlainClient). length d.shown) same ∙ shown_count c.opening reached.log in
     ap_le (sym (ap (λ (d : PlainClient). length (shown_after seen d)) same))
     (short_texts_of c.opening reached.log reached.allowed (subst IsSound same sound) (subst (λ (n : ℕ). n ≤ MAX_EVENTS) count few) seen (subst (λ (n : ℕ). seen ≤ n) count low))
   where
-    ap_le : {a b : ℕ} → a ≡ b → a ≤ 2 ^ 40 → b ≤ 2 ^ 40
+    ap_le : {a b : ℕ} → a ≡ b → a ≤ MAX_COUNT → b ≤ MAX_COUNT
     ap_le same low = omega (arith, same, low)
 
 edit_may : (c : PlainClient) (seen : ℕ) (marks : List Mark) → edit_fault c seen marks ≡ None → allows c (Edit 0 seen marks) ≡ true

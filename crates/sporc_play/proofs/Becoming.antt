@@ -3,7 +3,7 @@ use Rattle.std.proofs.Common.{◌≡◌, ℕ, ◌+◌, List, ◌++◌, length, m
 use Rattle.std.specs.Prelude.{slice_get}
 use Rattle.std.specs.Option.{option_to_list}
 use Rattle.std.specs.Result.{OnOk}
-use Rattle.std.proofs.lemmas.Option.{slice_get_within}
+use Rattle.std.proofs.lemmas.Option.{same_Some, slice_get_within}
 use Rattle.sporc_member.specs.declared.change.Change.{Change as MemberChange}
 use Rattle.sporc_client.specs.PlainClient.{PlainClient}
 use Rattle.sporc_client.specs.Run.{Setup}
@@ -24,7 +24,7 @@ use Rattle.sporc_play.specs.Report.{change_line, discard_line, edited_line, give
 use Rattle.sporc_play.specs.Scene.{after, edit_events, entries_at, entry_at}
 use Rattle.sporc_play.specs.Seats.{HasSubmitted, IsRogueAt, IsSeatAt, plain_in, seat_logged, seat_restarted, submission_line}
 use Rattle.sporc_play.specs.Signing.{HasSigned, forged_by, signing_line}
-use Rattle.sporc_play.specs.Stage.{Becomes, IsCastOf, Tells}
+use Rattle.sporc_play.specs.Stage.{Becomes, IsCastOf, AppendsLineOf}
 use Rattle.sporc_play.proofs.Commands.{adds_stand, client_there, give_stands, restart_stands, told}
 use Rattle.sporc_play.proofs.Joins.{join_stands}
 use Rattle.sporc_play.proofs.MadeEntries.{rogue_there, sign_stands, signing_told}
@@ -53,20 +53,17 @@ entry_found slice made number entry same is = is ∙ ap (λ (xs : List (Vec ℕ 
 
 -- ---- the seat at hand
 
-one_of : {X : Type 0} (a b : X) → Some a ≡ Some b → a ≡ b
-one_of a b same = cc
-
 pub seat_read : (slice items : List Seat) (i m : ℕ) (x : Seat) → slice ≡ items → (seat : Seat) × IsSeatAt slice i m seat → x ≡ get_or items i x → IsSeatAt items i m x
 seat_read slice items i m x same found read =
     let there : slice_get items i ≡ Some found.0 = subst (λ (xs : List Seat). slice_get xs i ≡ Some found.0) same found.1.there in
     let here : slice_get items i ≡ Some x = element items i x (slice_get_within items i found.0 there) read in
-    record { there = here; own = ap (λ (s : Seat). s.member) (one_of x found.0 (sym here ∙ there)) ∙ found.1.own }
+    record { there = here; own = ap (λ (s : Seat). s.member) (same_Some x found.0 (sym here ∙ there)) ∙ found.1.own }
 
 pub rogue_read : (slice items : List Rogue) (i m : ℕ) (x : Rogue) → slice ≡ items → (rogue : Rogue) × IsRogueAt slice i m rogue → x ≡ get_or items i x → IsRogueAt items i m x
 rogue_read slice items i m x same found read =
     let there : slice_get items i ≡ Some found.0 = subst (λ (xs : List Rogue). slice_get xs i ≡ Some found.0) same found.1.there in
     let here : slice_get items i ≡ Some x = element items i x (slice_get_within items i found.0 there) read in
-    record { there = here; own = ap (λ (r : Rogue). r.member) (one_of x found.0 (sym here ∙ there)) ∙ found.1.own }
+    record { there = here; own = ap (λ (r : Rogue). r.member) (same_Some x found.0 (sym here ∙ there)) ∙ found.1.own }
 
 -- ---- edits, changes and discards
 
@@ -76,7 +73,7 @@ edit_becomes old new e i x x' at changed same is script scene stands =
     adds_stand script scene (after (setup_of script) scene (commands.Edit e)) old new i e.member x (edit_events e) stands at
     (record { world = refl; logs = refl; last = refl; asked = refl; leaves = refl }) refl (subst (λ (y : Seat). ChangesSeat i y old new) is changed) same
 
-pub edit_tells : (old : PlayState) (e : Edit) (i : ℕ) (x : Seat) (out out' : List ℕ) → IsSeatAt old.seats.items i e.member x → out' ≡ out ++ line_by e.member (plain_in x) (edited_line e) → Tells old (commands.Edit e) out out'
+pub edit_tells : (old : PlayState) (e : Edit) (i : ℕ) (x : Seat) (out out' : List ℕ) → IsSeatAt old.seats.items i e.member x → out' ≡ out ++ line_by e.member (plain_in x) (edited_line e) → AppendsLineOf old (commands.Edit e) out out'
 edit_tells old e i x out out' at is script scene stands = told script scene old i e.member x (edited_line e) out out' stands at is
 
 pub change_becomes : (old new : PlayState) (e : RosterEdit) (i : ℕ) (x x' : Seat) (change : MemberChange) → IsSeatAt old.seats.items i e.member x → ChangesSeat i x' old new → entries_of new ≡ entries_of old
@@ -87,7 +84,7 @@ change_becomes old new e i x x' change at changed same asked is script scene sta
     (record { world = refl; logs = refl; last = refl; asked = refl; leaves = refl }) refl
     (subst (λ (y : Seat). ChangesSeat i y old new) (is ∙ ap (λ (c : MemberChange). seat_logged (change_events c) x) (asked s stands.cast)) changed) same
 
-pub change_tells : (old : PlayState) (e : RosterEdit) (i : ℕ) (x : Seat) (out out' : List ℕ) → IsSeatAt old.seats.items i e.member x → out' ≡ out ++ line_by e.member (plain_in x) (change_line e.member) → Tells old (commands.Change e) out out'
+pub change_tells : (old : PlayState) (e : RosterEdit) (i : ℕ) (x : Seat) (out out' : List ℕ) → IsSeatAt old.seats.items i e.member x → out' ≡ out ++ line_by e.member (plain_in x) (change_line e.member) → AppendsLineOf old (commands.Change e) out out'
 change_tells old e i x out out' at is script scene stands = told script scene old i e.member x (change_line e.member) out out' stands at is
 
 pub discard_becomes : (old new : PlayState) (i m : ℕ) (x x' : Seat) → IsSeatAt old.seats.items i m x → ChangesSeat i x' old new → entries_of new ≡ entries_of old
@@ -96,7 +93,7 @@ discard_becomes old new i m x x' at changed same is script scene stands =
     adds_stand script scene (after (setup_of script) scene (commands.Discard m)) old new i m x discard_events stands at
     (record { world = refl; logs = refl; last = refl; asked = refl; leaves = refl }) refl (subst (λ (y : Seat). ChangesSeat i y old new) is changed) same
 
-pub discard_tells : (old : PlayState) (i m : ℕ) (x : Seat) (out out' : List ℕ) → IsSeatAt old.seats.items i m x → out' ≡ out ++ line_by m (plain_in x) (discard_line m) → Tells old (commands.Discard m) out out'
+pub discard_tells : (old : PlayState) (i m : ℕ) (x : Seat) (out out' : List ℕ) → IsSeatAt old.seats.items i m x → out' ≡ out ++ line_by m (plain_in x) (discard_line m) → AppendsLineOf old (commands.Discard m) out out'
 discard_tells old i m x out out' at is script scene stands = told script scene old i m x (discard_line m) out out' stands at is
 
 -- ---- submissions
@@ -108,7 +105,7 @@ submit_becomes old new i m next x x' made at changed number grown did script sce
     submit_stands script scene old new i m x x' made stands at (subst (λ (n : ℕ). HasSubmitted n x made x') count did) changed grown
 
 pub submit_tells : (old : PlayState) (i m next : ℕ) (x : Seat) (out out' : List ℕ) → IsSeatAt old.seats.items i m x → next ≡ length (entries_of old) + 1
-    → out' ≡ out ++ submission_line next x x.client → Tells old (commands.Submit m) out out'
+    → out' ≡ out ++ submission_line next x x.client → AppendsLineOf old (commands.Submit m) out out'
 submit_tells old i m next x out out' at number is script scene stands =
     submission_told script scene old i m next x out out' stands at (number ∙ ap (λ (es : List (List ℕ)). length es + 1) stands.made) is
 
@@ -123,21 +120,21 @@ give_becomes old new g i x x' entry at changed same found is script scene stands
     (subst (λ (y : Seat). ChangesSeat i y old new) (is ∙ ap (λ (o : Option (List ℕ)). seat_logged (given_by g.position o) x) entry_is) changed) same
 
 pub give_tells : (old : PlayState) (g : Give) (i : ℕ) (x : Seat) (entry : Option (List ℕ)) (out out' : List ℕ) → IsSeatAt old.seats.items i g.member x → entry ≡ entry_at (entries_of old) g.entry
-    → out' ≡ out ++ line_by g.member (plain_in x) (λ c. give_line g.member g.position c entry) → Tells old (commands.Give g) out out'
+    → out' ≡ out ++ line_by g.member (plain_in x) (λ c. give_line g.member g.position c entry) → AppendsLineOf old (commands.Give g) out out'
 give_tells old g i x entry out out' at found is script scene stands =
     let entry_is : entry ≡ entry_at scene.made g.entry = found ∙ ap (λ (es : List (List ℕ)). entry_at es g.entry) stands.made in
     told script scene old i g.member x (λ c. give_line g.member g.position c (entry_at scene.made g.entry)) out out' stands at
     (is ∙ ap (λ (o : Option (List ℕ)). out ++ line_by g.member (plain_in x) (λ c. give_line g.member g.position c o)) entry_is)
 
 pub restart_becomes : (old new : PlayState) (r : Restart) (i : ℕ) (x x' : Seat) → IsSeatAt old.seats.items i r.member x → ChangesSeat i x' old new → entries_of new ≡ entries_of old
-    → x' ≡ seat_restarted r.events x → Becomes old (commands.Restart r) new
+    → x' ≡ seat_restarted r.entries x → Becomes old (commands.Restart r) new
 restart_becomes old new r i x x' at changed same is script scene stands =
-    restart_stands script scene (after (setup_of script) scene (commands.Restart r)) old new i r.member r.events x stands at
+    restart_stands script scene (after (setup_of script) scene (commands.Restart r)) old new i r.member r.entries x stands at
     (record { world = refl; logs = refl; last = refl; asked = refl; leaves = refl }) refl (subst (λ (y : Seat). ChangesSeat i y old new) is changed) same
 
-pub restart_tells : (old : PlayState) (r : Restart) (i : ℕ) (x : Seat) (out out' : List ℕ) → IsSeatAt old.seats.items i r.member x → out' ≡ out ++ line_by r.member (plain_in x) (restart_line r.member r.events)
-    → Tells old (commands.Restart r) out out'
-restart_tells old r i x out out' at is script scene stands = told script scene old i r.member x (restart_line r.member r.events) out out' stands at is
+pub restart_tells : (old : PlayState) (r : Restart) (i : ℕ) (x : Seat) (out out' : List ℕ) → IsSeatAt old.seats.items i r.member x → out' ≡ out ++ line_by r.member (plain_in x) (restart_line r.member r.entries)
+    → AppendsLineOf old (commands.Restart r) out out'
+restart_tells old r i x out out' at is script scene stands = told script scene old i r.member x (restart_line r.member r.entries) out out' stands at is
 
 -- ---- joiners
 
@@ -150,7 +147,7 @@ join_becomes old new j i x x' at changed same is script scene stands =
     (is s stands.cast stands.genesis ∙ ap (λ (es : List (List ℕ)). seat_joined s x (entries_at es j.entries) x.client) stands.made) changed same
 
 pub join_tells : (old : PlayState) (j : Join) (i : ℕ) (x : Seat) (out out' : List ℕ) → IsSeatAt old.seats.items i j.member x
-    → ((s : Setup) → IsCastOf s old.cast → old.genesis ≡ s.genesis → out' ≡ out ++ join_line s x.member (entries_at (entries_of old) j.entries) (plain_in x)) → Tells old (commands.Join j) out out'
+    → ((s : Setup) → IsCastOf s old.cast → old.genesis ≡ s.genesis → out' ≡ out ++ join_line s x.member (entries_at (entries_of old) j.entries) (plain_in x)) → AppendsLineOf old (commands.Join j) out out'
 join_tells old j i x out out' at is script scene stands =
     let s = setup_of script in (
       join_line s j.member (entries_at scene.made j.entries) (scene.world.clients j.member),
@@ -170,7 +167,7 @@ sign_becomes old new f i k x x' seat made at from changed grown forged did scrip
     sign_stands script scene old new i f x x' seat.client made stands at (client_there script scene old k f.from seat stands from) did (forged s (is.signer.key ∙ ap s.private at.own) stands.cast) changed grown
 
 pub sign_tells : (old : PlayState) (f : Forgery) (i k next : ℕ) (x : Rogue) (seat : Seat) (out out' : List ℕ) → IsRogueAt old.rogues.items i f.member x → IsSeatAt old.seats.items k f.from seat → next ≡ length (entries_of old) + 1
-    → ((s : Setup) → x.signer.key ≡ s.private f.member → IsCastOf s old.cast → out' ≡ out ++ signing_line f next x seat.client) → Tells old (commands.Sign f) out out'
+    → ((s : Setup) → x.signer.key ≡ s.private f.member → IsCastOf s old.cast → out' ≡ out ++ signing_line f next x seat.client) → AppendsLineOf old (commands.Sign f) out out'
 sign_tells old f i k next x seat out out' at from number is script scene stands =
     let s = setup_of script in
     let there = rogue_there script scene old i f.member x stands at in

@@ -33,7 +33,7 @@ use Rattle.sporc_script.specs.declared.roster_change.RosterChange.{RosterChange}
 use Rattle.sporc_script.specs.declared.roster_change.RosterChange.TheVariants as changes
 use Rattle.sporc_play.specs.Cast.{first_ring, founder_of, has_admin, member_change, openers_by, public_of, setup_of, tree_of}
 use Rattle.sporc_play.specs.Logs.{change_events, discard_events, edit_logged, logged_unless}
-use Rattle.sporc_play.specs.Moves.{moves_from, moves_of}
+use Rattle.sporc_play.specs.Moves.{IsOneRun, moves_from, moves_of}
 use Rattle.sporc_play.specs.OwnPlays.{AreByClients, IsByClients}
 use Rattle.sporc_play.specs.Scene.{Act, Scene, act_of, adds, commands_of, delta_by, edit_events, entries_at, entry_at, gives, if_open, joins, nothing, opening, opening_moves, openings, opens_unless, opens_with, restarts, seen_by, submission_in, submits}
 use Rattle.sporc_play.specs.Scene as scenes
@@ -149,7 +149,7 @@ own_act s scene (commands.Discard m) by all = own_if_open s scene m (λ c. adds 
 own_act s scene (commands.Submit m) by all = own_if_open s scene m (λ c. submits m (submission_in s scene m c)) (λ c at. own_submission s scene m c (submission_in s scene m c) at)
 own_act s scene (commands.Give g) by all =
     own_if_open s scene g.member (λ c. gives g.member g.position (entry_at scene.made g.entry)) (λ c at. own_give s scene g.member g.position g.entry (entry_at scene.made g.entry) all refl)
-own_act s scene (commands.Restart r) by all = own_if_open s scene r.member (restarts r.member r.events) (λ c at. own_restart s scene r.member r.events c)
+own_act s scene (commands.Restart r) by all = own_if_open s scene r.member (restarts r.member r.entries) (λ c at. own_restart s scene r.member r.entries c)
 own_act s scene (commands.Join j) by all = own_join s scene j.member (entries_at scene.made j.entries) (scene.world.clients j.member)
 own_act s scene (commands.Flip f) by all = absurd by
 own_act s scene (commands.Cut n) by all = absurd by
@@ -166,14 +166,22 @@ signed_append : (w : World) (xs ys : List (List ℕ)) → AllByRecursion (IsSign
 signed_append w [] ys a b = b
 signed_append w (x ∷ xs) ys a b = (a.0, signed_append w xs ys a.1 b)
 
-closed_from : (s : Setup) (scene : Scene) (lines : List PlayLine) → AreByClients lines → AllByRecursion (IsSigned scene.world) scene.made → AreClosed s scene.world (moves_from s scene (commands_of lines))
+-- whatever it sees, it makes no entry but by a client's submission
+abbrev pub AlwaysByClients : (Scene → Command) → Type 0
+AlwaysByClients command = (scene : Scene) → IsByClients (command scene)
+
+lines_by_clients : (lines : List PlayLine) → AreByClients lines → AllByRecursion AlwaysByClients (commands_of lines)
+lines_by_clients [] by = tt
+lines_by_clients (l ∷ ls) by = (λ scene. by.0, lines_by_clients ls by.1)
+
+closed_from : (s : Setup) (scene : Scene) (asked : List (Scene → Command)) → AllByRecursion AlwaysByClients asked → AllByRecursion (IsSigned scene.world) scene.made → AreClosed s scene.world (moves_from s scene asked)
 closed_from s scene [] by all = tt
-closed_from s scene (l ∷ ls) by all =
-    let act = act_of s scene l.command in
-    let own = own_act s scene l.command by.0 all in
+closed_from s scene (command ∷ asked) by all =
+    let act = act_of s scene (command scene) in
+    let own = own_act s scene (command scene) (by.0 scene) all in
     let world = after_all s scene.world act.moves in
-    closed_append s scene.world act.moves (moves_from s (scenes.after s scene l.command) (commands_of ls)) own.closed
-    (closed_from s (scenes.after s scene l.command) ls by.1 (signed_append world scene.made act.entries (all_stay s scene.world act.moves scene.made all) own.made))
+    closed_append s scene.world act.moves (moves_from s (scenes.after s scene (command scene)) asked) own.closed
+    (closed_from s (scenes.after s scene (command scene)) asked by.1 (signed_append world scene.made act.entries (all_stay s scene.world act.moves scene.made all) own.made))
 
 openings_closed : (s : Setup) (w : World) (ns : List ℕ) → AreClosed s w (map (λ (n : ℕ). Open n first_ring) ns)
 openings_closed s w [] = tt
@@ -202,10 +210,14 @@ founders_keys : (script : List PlayLine) → AllByRecursion (HasItsKey (setup_of
 unfolding setup_of
 founders_keys script = keys_own script (inserted (tree_of script) [] (founders script)) (founders_own (tree_of script) [] (founders script) tt)
 
-pub own_play : (text : List ℕ) (script : List PlayLine) → IsPlayScript text script → has_admin script ≡ true → AreByClients script → Genuine (setup_of script) start (moves_of script (commands_of script))
-own_play text script is founded by =
+-- no one forges in a run of commands that make no entry but by a client's submission
+pub own_commands : (script : List PlayLine) (asked : List (Scene → Command)) → IsOneRun script asked → AllByRecursion AlwaysByClients asked → Genuine (setup_of script) start (moves_of script asked)
+own_commands script asked run by =
     let s = setup_of script in
-    closed_runs_are_genuine s (moves_of script (commands_of script)) (one_run text script is founded).run (record {
+    closed_runs_are_genuine s (moves_of script asked) run.run (record {
       founders = founders_keys script;
-      closed = closed_append s start (opening_moves script) (moves_from s (opening script) (commands_of script)) (first_closed s script) (closed_from s (opening script) script by tt);
+      closed = closed_append s start (opening_moves script) (moves_from s (opening script) asked) (first_closed s script) (closed_from s (opening script) asked by tt);
     })
+
+pub own_play : (text : List ℕ) (script : List PlayLine) → IsPlayScript text script → has_admin script ≡ true → AreByClients script → Genuine (setup_of script) start (moves_of script (commands_of script))
+own_play text script is founded by = own_commands script (commands_of script) (one_run text script is founded) (lines_by_clients script by)

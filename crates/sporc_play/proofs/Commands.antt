@@ -1,7 +1,7 @@
 -- Commands that act on one client, on the state and on the scene that it stands for.
 use Rattle.std.proofs.Common.{◌≡◌, ℕ, ◌+◌, Bool, true, false, cond, List, [], ◌∷◌, ◌++◌, length, take, map, refl, sym, ap, ◌∙◌, subst, append-nil, Option, None, Some, option_map}
 use Rattle.std.specs.Prelude.{nat_le}
-use Rattle.sporc_outside.specs.MemoryDisk.{MemoryDiskContent}
+use Rattle.sporc_outside.specs.MemoryDisk.{MemoryDiskModel}
 use Rattle.sporc_head.specs.declared.refusal.Refusal.{Refusal}
 use Rattle.sporc_client.specs.Answers.{journal_has_room, refusal_of}
 use Rattle.sporc_client.specs.ClientModel.{ClientModel, state_of}
@@ -95,7 +95,7 @@ seat_given : (s : Setup) (scene scene' : Scene) (seat : Seat) (position : ℕ) (
     → Does s scene (give_moves seat.member position entry (scene.world.clients seat.member)) scene' → IsSeatOf s scene' (seat_logged (given_by position entry) seat)
 seat_given s scene scene' seat position entry is does = go seat.client entry is does
   where
-    go : (o : Option (ClientModel MemoryDiskContent)) (entry : Option (List ℕ)) → IsSeatOf s scene (with_client seat o) → Does s scene (give_moves seat.member position entry (scene.world.clients seat.member)) scene'
+    go : (o : Option (ClientModel MemoryDiskModel)) (entry : Option (List ℕ)) → IsSeatOf s scene (with_client seat o) → Does s scene (give_moves seat.member position entry (scene.world.clients seat.member)) scene'
         → IsSeatOf s scene' (seat_logged (given_by position entry) (with_client seat o))
     go None entry is does = seat_kept s scene scene' (with_client seat None) (same_for_all s scene scene' seat.member (subst (λ (o : Option PlainClient). Does s scene (give_moves seat.member position entry o) scene') is.client does)) is
     go (Some c) None is does =
@@ -155,7 +155,7 @@ seat_goes_back s scene scene' seat k is does = go seat.client is
     M : Option PlainClient → List Move
     M o = (if_open o (restarts seat.member k)).moves
 
-    back : (c : ClientModel MemoryDiskContent) → IsSeatOf s scene (with_client seat (Some c)) → (b : Bool) → Does s scene (cond b (moved (Restart seat.member k ∷ [])) nothing).moves scene'
+    back : (c : ClientModel MemoryDiskModel) → IsSeatOf s scene (with_client seat (Some c)) → (b : Bool) → Does s scene (cond b (moved (Restart seat.member k ∷ [])) nothing).moves scene'
         → IsSeatOf s scene' (with_client seat (Some (record c { log = cond b (log_of_entries (take k (state_of c).entries)) c.log })))
     back c is true did =
         client_moved s scene scene' (Restart seat.member k ∷ []) seat c (log_of_entries (take k (state_of c).entries)) is did
@@ -163,7 +163,7 @@ seat_goes_back s scene scene' seat k is does = go seat.client is
         (log_moved s scene.world scene.logs (Restart seat.member k) ∙ ap (λ (o : Option PlainClient). first_accepts o k) is.client)
     back c is false did = client_moved s scene scene' [] seat c c.log is did is.client is.holds.log
 
-    go : (o : Option (ClientModel MemoryDiskContent)) → IsSeatOf s scene (with_client seat o) → IsSeatOf s scene' (with_client seat (option_map (client_restarted k) o))
+    go : (o : Option (ClientModel MemoryDiskModel)) → IsSeatOf s scene (with_client seat o) → IsSeatOf s scene' (with_client seat (option_map (client_restarted k) o))
     go None is = seat_kept s scene scene' (with_client seat None) (same_for_all s scene scene' seat.member (subst (λ (o : Option PlainClient). Does s scene (M o) scene') is.client does)) is
     go (Some c) is = back c is (nat_le k (length (state_of c).entries)) (subst (λ (o : Option PlainClient). Does s scene (M o) scene') is.client does)
 

@@ -19,7 +19,8 @@ use Rattle.sporc_script.specs.declared.play_line.PlayLine.{PlayLine}
 use Rattle.sporc_play.specs.Cast.{first_ring, has_admin, member_by, opener_by, openers_by, setup_of, tree_of}
 use Rattle.sporc_play.specs.Derived.{first_key}
 use Rattle.sporc_play.specs.Scene.{opening_moves, openings}
-use Rattle.sporc_play.proofs.Founders.{are_declared, identifier_len}
+use Rattle.sporc_play.proofs.Founders.{are_declared}
+use Rattle.sporc_play.proofs.OwnKeys.{half_len}
 use Rattle.sporc_play.proofs.Places.{among_cases, among_here, among_more}
 use Rattle.sporc_play.proofs.Scripts.{Follows, script_follows}
 
@@ -91,7 +92,7 @@ unfolding setup_of
 well_formed text script is founded = record {
   genesis = (are_declared text script is).genesis founded;
   members = λ who among. member_small [] script who (script_follows text script is) among;
-  identifiers = λ who among. identifier_len (tree_of script) who;
+  identifiers = λ who among. half_len 2 who 0;
 }
 
 pub commits : (script : List PlayLine) → commitment_of (setup_of script).genesis.document 0 first_key ≡ (setup_of script).genesis.commitment

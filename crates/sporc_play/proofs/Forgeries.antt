@@ -36,6 +36,7 @@ use Rattle.sporc_epoch.specs.Keys.{Keys}
 use Rattle.sporc_epoch.specs.declared.fault.SealFault.TheVariants.{NoPairKey}
 use Rattle.sporc_epoch.specs.Sealing.{Sealing, body_sealed, change_sealed, least_of, least_unpaired, wraps_sealed}
 use Rattle.sporc_epoch.specs.Streams.{entry_stream, previous_stream}
+use Rattle.sporc_epoch.proofs.SpelledBodies.{wraps_few}
 use Rattle.sporc_head.specs.History.{count_of, epoch_of, hash_of, roster_of}
 use Rattle.sporc_line.specs.Good.{Good}
 use Rattle.sporc_line.specs.Kit.{Kit}
@@ -170,15 +171,6 @@ all_whole : (stream : ℕ) (key : List ℕ) (pairs : Keys) (members : List ℕ) 
 all_whole stream key pairs [] size = tt
 all_whole stream key pairs (m ∷ ms) size = one_whole stream key m (get pairs m) (wraps_sealed stream key pairs ms) size (all_whole stream key pairs ms size)
 
-one_more : (stream : ℕ) (key : List ℕ) (member : ℕ) (pair : Option (List ℕ)) (rest : List Wrap)
-    → length (cons_option (option_map (λ (p : List ℕ). let w : Wrap = record { member = member; sealed = mask_of p stream key } in w) pair) rest) ≤ suc (length rest)
-one_more stream key member None rest = omega arith
-one_more stream key member (Some p) rest = omega arith
-
-few_wraps : (stream : ℕ) (key : List ℕ) (pairs : Keys) (members : List ℕ) → length (wraps_sealed stream key pairs members) ≤ length members
-few_wraps stream key pairs [] = omega arith
-few_wraps stream key pairs (m ∷ ms) = omega (arith, one_more stream key m (get pairs m) (wraps_sealed stream key pairs ms), few_wraps stream key pairs ms)
-
 pub sealed_small : (s : Sealing) (pairs : Keys) → IsSmallChange s.change → length s.old ≡ 32 → length s.new ≡ 32 → length s.members ≤ MAX_MEMBERS → IsSmallBody (body_sealed s pairs)
 unfolding body_sealed
 sealed_small s pairs change old new few = record {
@@ -186,7 +178,7 @@ sealed_small s pairs change old new few = record {
   commitment = length-sha256 _;
   previous = length-mask_from s.new (previous_stream (s.epoch + 1)) 0 s.old ∙ old;
   wraps = all_whole (entry_stream s.author s.leaf) s.new pairs s.members new;
-  few = omega (arith, few_wraps (entry_stream s.author s.leaf) s.new pairs s.members, few);
+  few = omega (arith, wraps_few (entry_stream s.author s.leaf) s.new pairs s.members, few);
 }
 
 -- ---- a rogue has a key with each member

@@ -6,6 +6,7 @@ use Rattle.std.specs.Str.{all_scalars}
 use Rattle.std.proofs.Math.Nat.{mod-le}
 use Rattle.std.proofs.Math.Utf8.{low_scalar}
 use Rattle.std.proofs.lemmas.Nat.{mod_below}
+use Rattle.sporc_base.proofs.ListLemmas.{all_append}
 use Rattle.sporc_client.specs.Run.{start}
 use Rattle.sporc_client.specs.Typed.{IsTypedRun}
 use Rattle.sporc_client.specs.WellFormed.{IsWellFormed}
@@ -68,21 +69,17 @@ edit_fits j author scene room small = go (j % 5 == 0)
 
 -- ---- its commands
 
-joined : {X : Type 0} (P : X → Type 0) (xs ys : List X) → AllByRecursion P xs → AllByRecursion P ys → AllByRecursion P (xs ++ ys)
-joined P [] ys a b = b
-joined P (x ∷ xs) ys a b = (a.0, joined P xs ys a.1 b)
-
-mapped : {X Y : Type 0} (P : Y → Type 0) (f : X → Y) (xs : List X) → AllByRecursion (λ (x : X). P (f x)) xs → AllByRecursion P (map f xs)
+pub mapped : {X Y : Type 0} (P : Y → Type 0) (f : X → Y) (xs : List X) → AllByRecursion (λ (x : X). P (f x)) xs → AllByRecursion P (map f xs)
 mapped P f [] all = tt
 mapped P f (x ∷ xs) all = (all.0, mapped P f xs all.1)
 
-flat : {X Y : Type 0} (P : Y → Type 0) (f : X → List Y) (xs : List X) → AllByRecursion (λ (x : X). AllByRecursion P (f x)) xs → AllByRecursion P (flat_map f xs)
+pub flat : {X Y : Type 0} (P : Y → Type 0) (f : X → List Y) (xs : List X) → AllByRecursion (λ (x : X). AllByRecursion P (f x)) xs → AllByRecursion P (flat_map f xs)
 flat P f [] all = tt
-flat P f (x ∷ xs) all = joined P (f x) (flat_map f xs) all.0 (flat P f xs all.1)
+flat P f (x ∷ xs) all = all_append P (f x) (flat_map f xs) all.0 (flat P f xs all.1)
 
-to : (P : ℕ → Type 0) (n : ℕ) → ((k : ℕ) → k ≤ n → P k) → AllByRecursion P (up_to n)
+pub to : (P : ℕ → Type 0) (n : ℕ) → ((k : ℕ) → k ≤ n → P k) → AllByRecursion P (up_to n)
 to P zero each = tt
-to P (suc n) each = joined P (up_to n) (suc n ∷ []) (to P n (λ k low. each k (omega (arith, low)))) (each (suc n) (omega arith), tt)
+to P (suc n) each = all_append P (up_to n) (suc n ∷ []) (to P n (λ k low. each k (omega (arith, low)))) (each (suc n) (omega arith), tt)
 
 abbrev Submits : Type 0
 Submits = (m : ℕ) → MayBe (setup_of generated_cast) (λ scene. commands.Submit m)
@@ -91,13 +88,13 @@ edit_may : (j author : ℕ) → j * author < 2 ^ 64 → author ≤ 3 → MayBe (
 edit_may j author room small moves scene come =
     edit_acts (setup_of generated_cast) (record { member = author; seen = None; change = generated_edit j author scene }) (edit_fits j author scene room small) moves scene come
 
-batch_may : Submits → (done authors : ℕ) → done ≤ 3000 → authors ≤ 3 → AllByRecursion (MayBe (setup_of generated_cast)) (batch done authors)
+batch_may : Submits → (done authors : ℕ) → done ≤ MAX_GENERATED → authors ≤ 3 → AllByRecursion (MayBe (setup_of generated_cast)) (batch done authors)
 batch_may submit done authors low few =
     let May = MayBe (setup_of generated_cast) in
     let j = done / 3 + 1 in
     let third = mul_div done in
-    joined May (map (edits j) (up_to authors) ++ map submits (up_to authors)) _
-    (joined May (map (edits j) (up_to authors)) _
+    all_append May (map (edits j) (up_to authors) ++ map submits (up_to authors)) _
+    (all_append May (map (edits j) (up_to authors)) _
     (mapped May (edits j) (up_to authors) (to (λ a. May (edits j a)) authors (λ a at. edit_may j a (room j a (omega (arith, low, third)) (omega (arith, at, few))) (omega (arith, at, few)))))
     (mapped May submits (up_to authors) (to (λ a. May (submits a)) authors (λ a at. submit a))))
     (flat May (λ a. map (gives (done + a)) (up_to 3)) (up_to authors)
@@ -114,16 +111,16 @@ batch_may submit done authors low few =
     room j (suc (suc (suc zero))) small few = omega (arith, small)
     room j (suc (suc (suc (suc a)))) small few = absurd (omega (arith, few))
 
-batches_may : Submits → (n : ℕ) → 3 * n ≤ 3000 → AllByRecursion (MayBe (setup_of generated_cast)) (batches n)
+batches_may : Submits → (n : ℕ) → 3 * n ≤ MAX_GENERATED → AllByRecursion (MayBe (setup_of generated_cast)) (batches n)
 batches_may submit zero low = tt
 batches_may submit (suc n) low =
-    joined (MayBe (setup_of generated_cast)) (batches n) (batch (3 * n) 3) (batches_may submit n (omega (arith, low))) (batch_may submit (3 * n) 3 (omega (arith, low)) (omega arith))
+    all_append (MayBe (setup_of generated_cast)) (batches n) (batch (3 * n) 3) (batches_may submit n (omega (arith, low))) (batch_may submit (3 * n) 3 (omega (arith, low)) (omega arith))
 
 -- where its members may submit what they wrote
 pub generated_is_one : Submits → (n : ℕ) → n ≤ MAX_GENERATED → IsOneRun generated_cast (generated_commands n)
 generated_is_one submit n low =
     play_runs generated_cast (generated_commands n) first
-    (joined (MayBe (setup_of generated_cast)) (batches (n / 3)) (batch (3 * (n / 3)) (n % 3))
+    (all_append (MayBe (setup_of generated_cast)) (batches (n / 3)) (batch (3 * (n / 3)) (n % 3))
     (batches_may submit (n / 3) (omega (arith, low)))
     (batch_may submit (3 * (n / 3)) (n % 3) (omega (arith, low)) (omega (arith, mod_below n 3 (omega arith)))))
 

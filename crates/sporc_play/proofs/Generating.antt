@@ -16,6 +16,7 @@ use Rattle.sporc_play.specs.Derived.{document_number, first_key}
 use Rattle.sporc_play.specs.Generated.{generated_cast, generated_commands, generated_scene}
 use Rattle.sporc_play.specs.Scene.{opening}
 use Rattle.sporc_play.specs.Stage.{AreDeclared, StandsFor}
+use Rattle.sporc_play.proofs.Distinct.{is_distinct}
 use Rattle.sporc_play.proofs.OwnKeys.{half_len, own_founder, own_key_known}
 use Rattle.sporc_play.proofs.StaysOpen.{open_each}
 
@@ -55,7 +56,7 @@ two_three h = omega (arith, h)
 pub generated_declared : AreDeclared generated_cast
 unfolding setup_of
 generated_declared = record {
-  apart = ((one_two, (one_three, tt)), ((two_three, tt), (tt, tt)));
+  distinct = is_distinct _ ((one_two, (one_three, tt)), ((two_three, tt), (tt, tt)));
   genesis = λ founded. generated_genesis;
 }
 

@@ -1,6 +1,6 @@
 -- The keys of epochs that are read off a history of bytes are bytes.
 use Rattle.std.proofs.Common.{◌≡◌, ℕ, zero, suc, Bool, true, false, cond, List, [], ◌∷◌, ◌++◌, length, map, take, refl, sym, subst, Option, None, Some, Result, Ok, Err, IfSome}
-use Rattle.std.specs.Prelude.{◌==◌, find, flat_map, is_some, option_and_then, slice_get, unwrap_or}
+use Rattle.std.specs.Prelude.{◌==◌, flat_map, is_some, option_and_then, slice_get, unwrap_or}
 use Rattle.std.specs.FinMap.{get}
 use Rattle.std.specs.Int.{w16, w32, to_be_bytes}
 use Rattle.std.specs.List.{AllByRecursion, cons_option}
@@ -27,6 +27,7 @@ use Rattle.sporc_line.specs.Keys.{key_after, key_started}
 use Rattle.sporc_client.specs.Entries.{current_key}
 use Rattle.sporc_client.specs.PlainClient.{PlainClient}
 use Rattle.sporc_client.proofs.SameSpelling.{change_read_of}
+use Rattle.sporc_client.proofs.TypedHistories.{found_typed, typed_at}
 use Rattle.sporc_play.proofs.ByteClients.{AreByteKeys}
 use Rattle.sporc_play.proofs.ByteFacts.{AreBytes, are_bytes, bytes_mask}
 
@@ -133,22 +134,9 @@ changes_bytes (bytes ∷ entries) all = go (change_in bytes) (change_bytes_in by
 
 -- ---- keys
 
-pub found : {X : Type 0} (P : X → Type 0) (test : X → Bool) (xs : List X) → AllByRecursion P xs → IfSome (find test xs) P
-found P test [] all = tt
-found P test (x ∷ xs) all = go (test x) (found P test xs all.1)
-  where
-    go : (here : Bool) → IfSome (find test xs) P → IfSome (cond here (Some x) (find test xs)) P
-    go true rest = all.0
-    go false rest = rest
-
-at : {X : Type 0} (P : X → Type 0) (xs : List X) (i : ℕ) → AllByRecursion P xs → IfSome (slice_get xs i) P
-at P [] i all = tt
-at P (x ∷ xs) zero all = all.0
-at P (x ∷ xs) (suc i) all = at P xs i all.1
-
 pub opened_bytes : (body : ChangeBody) (author leaf me : ℕ) (pairs : Keys) → IsByteBody body → IfSome (wrap_opened body author leaf me pairs) AreBytes
 unfolding wrap_opened
-opened_bytes body author leaf me pairs is = go (wrap_for me body.wraps) (found (λ (w : Wrap). AreBytes w.sealed) (λ (w : Wrap). w.member == me) body.wraps is.wraps)
+opened_bytes body author leaf me pairs is = go (wrap_for me body.wraps) (found_typed (λ (w : Wrap). AreBytes w.sealed) (λ (w : Wrap). w.member == me) body.wraps is.wraps)
   where
     under : (pair : Option (List ℕ)) (w : Wrap) → AreBytes w.sealed → IfSome (opened_under (entry_stream author leaf) pair w) AreBytes
     under None w are = tt
@@ -161,7 +149,7 @@ opened_bytes body author leaf me pairs is = go (wrap_for me body.wraps) (found (
 key_bytes : (g : Genesis) (kit : Kit) (cs : List CommittedChange) (epoch : ℕ) → AreByteKeys kit.ring → AllByRecursion IsByteCommitted cs → IfSome (key_after g kit cs epoch) AreBytes
 unfolding key_after key_started
 key_bytes g kit cs zero ring all = ring 0
-key_bytes g kit cs (suc e) ring all = go (slice_get cs e) (at IsByteCommitted cs e all)
+key_bytes g kit cs (suc e) ring all = go (slice_get cs e) (typed_at IsByteCommitted cs e all)
   where
     tests : (c : CommittedChange) (removed member : Bool) → IsByteCommitted c → IfSome (cond removed None (cond member (wrap_opened c.body c.header.author c.header.leaf kit.me kit.pairs) (get kit.ring (suc e)))) AreBytes
     tests c true member is = tt

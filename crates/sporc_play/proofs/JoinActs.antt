@@ -30,14 +30,14 @@ use Rattle.sporc_line.specs.Openings.{open_checks}
 use Rattle.sporc_client.specs.PlainClient.{PlainClient}
 use Rattle.sporc_client.specs.Run.{Setup}
 use Rattle.sporc_client.specs.Typed.{AreEpochKeys}
-use Rattle.sporc_client.proofs.TypedHistories.{IsTypedCommitted, changes_typed}
+use Rattle.sporc_client.proofs.TypedHistories.{IsTypedCommitted, changes_typed, found_typed}
 use Rattle.sporc_script.specs.declared.command.Command.TheVariants as commands
 use Rattle.sporc_script.specs.declared.command.Join.{Join}
 use Rattle.sporc_play.specs.Scene.{Scene, entries_at, entry_at, joins, opens_unless, opens_with, with_entry}
 use Rattle.sporc_play.proofs.Acts.{made_bytes, no_act}
 use Rattle.sporc_play.proofs.ByteClients.{AreByteKeys}
 use Rattle.sporc_play.proofs.ByteFacts.{AreBytes, bytes_mask, is_bytes}
-use Rattle.sporc_play.proofs.HistoryKeys.{IsByteCommitted, changes_bytes, found}
+use Rattle.sporc_play.proofs.HistoryKeys.{IsByteCommitted, changes_bytes}
 use Rattle.sporc_play.proofs.Runs.{MayAct, MayBe}
 
 -- ---- the entries that are handed over
@@ -143,7 +143,7 @@ wraps_both (w ∷ ws) a b = (record { bytes = a.0; size = b.0.sealed }, wraps_bo
 opened_is : (c : CommittedChange) (author leaf me : ℕ) (pairs : Keys) → IsSound c → IfSome (wrap_opened c.body author leaf me pairs) IsKey
 unfolding wrap_opened
 opened_is c author leaf me pairs is =
-    go (wrap_for me c.body.wraps) (found (λ (w : Wrap). IsKey w.sealed) (λ (w : Wrap). w.member == me) c.body.wraps (wraps_both c.body.wraps is.bytes.wraps is.typed.wraps))
+    go (wrap_for me c.body.wraps) (found_typed (λ (w : Wrap). IsKey w.sealed) (λ (w : Wrap). w.member == me) c.body.wraps (wraps_both c.body.wraps is.bytes.wraps is.typed.wraps))
   where
     under : (pair : Option (List ℕ)) (w : Wrap) → IsKey w.sealed → IfSome (opened_under (entry_stream author leaf) pair w) IsKey
     under None w key = tt
@@ -169,7 +169,7 @@ hints_are entries me pairs all =
     let sound : AllByRecursion IsSound cs = both cs (changes_bytes entries typed) (changes_typed entries typed) in
     let before = take_while (λ (c : CommittedChange). not (joins_by me c)) cs in
     subst (λ starts. IfOk (hints_at me pairs starts (joining me cs)) HoldsKeys) (sym (reverse_map start_by before))
-    (at_is me pairs (reverse before) (joining me cs) (reversed before (taken _ cs sound)) (found IsSound (joins_by me) cs sound))
+    (at_is me pairs (reverse before) (joining me cs) (reversed before (taken _ cs sound)) (found_typed IsSound (joins_by me) cs sound))
 
 -- ---- the opening
 

@@ -1,7 +1,7 @@
 -- Joiners, on the state and on the scene that it stands for.
 use Rattle.std.proofs.Common.{◌≡◌, ℕ, ◌+◌, List, [], ◌∷◌, ◌++◌, map, refl, sym, ap, ◌∙◌, subst, append-nil, Option, None, Some, Result, Ok, Err}
 use Rattle.std.specs.FinMap.{get}
-use Rattle.lms_sign.specs.Signer.{SignerContent}
+use Rattle.lms_sign.specs.Signer.{SignerModel}
 use Rattle.lms_tree.specs.LmsPrivate.{LmsPrivate}
 use Rattle.sporc_base.specs.FirstFault.{first_of}
 use Rattle.sporc_epoch.specs.declared.fault.HintFault.{HintFault}
@@ -9,7 +9,7 @@ use Rattle.sporc_epoch.specs.Hints.{hints_of}
 use Rattle.sporc_epoch.specs.Keys.{Keys}
 use Rattle.sporc_line.specs.Openings.{open_checks}
 use Rattle.sporc_line.specs.declared.fault.LineOpenFault.{LineOpenFault}
-use Rattle.sporc_outside.specs.MemoryDisk.{MemoryDiskContent}
+use Rattle.sporc_outside.specs.MemoryDisk.{MemoryDiskModel}
 use Rattle.sporc_client.specs.ClientModel.{ClientModel}
 use Rattle.sporc_client.specs.Log.{Logged}
 use Rattle.sporc_client.specs.PlainClient.{Opening, PlainClient, opened}
@@ -47,7 +47,7 @@ joins_quiet s m (Err missing) None = record { moves = tt; entries = refl }
 
 -- ---- the seat
 
-abbrev no_client : Option (ClientModel MemoryDiskContent)
+abbrev no_client : Option (ClientModel MemoryDiskModel)
 no_client = None
 
 opened_is : (o : Opening) → opened o ≡ replay o []
@@ -58,11 +58,11 @@ abbrev with_key : Setup → ℕ → Keys → LmsPrivate → Opening
 with_key s m ring key = record { genesis = s.genesis; kit = record { me = m; ring = ring; pairs = s.pairs m }; key = key }
 
 -- a seat whose client opens
-pub seat_opens : (s : Setup) (scene scene' : Scene) (seat : Seat) (ring : Keys) (signer : Option (SignerContent MemoryDiskContent)) → seat.signer ≡ signer → IsSeatOf s scene (with_client seat None) → Does s scene (Open seat.member ring ∷ []) scene'
+pub seat_opens : (s : Setup) (scene scene' : Scene) (seat : Seat) (ring : Keys) (signer : Option (SignerModel MemoryDiskModel)) → seat.signer ≡ signer → IsSeatOf s scene (with_client seat None) → Does s scene (Open seat.member ring ∷ []) scene'
     → IsSeatOf s scene' (seat_open s ring (with_client seat None) signer)
-seat_opens s scene scene' seat ring None signed is does = absurd (subst (λ (o : Option (SignerContent MemoryDiskContent)). Holds s scene seat.member o no_client) signed is.holds)
+seat_opens s scene scene' seat ring None signed is does = absurd (subst (λ (o : Option (SignerModel MemoryDiskModel)). Holds s scene seat.member o no_client) signed is.holds)
 seat_opens s scene scene' seat ring (Some signer) signed is does =
-    let held : IsSignerOf s scene seat.member signer = subst (λ (o : Option (SignerContent MemoryDiskContent)). Holds s scene seat.member o no_client) signed is.holds in
+    let held : IsSignerOf s scene seat.member signer = subst (λ (o : Option (SignerModel MemoryDiskModel)). Holds s scene seat.member o no_client) signed is.holds in
     let c = client_with s seat.member ring signer in
     let opening : c.opening ≡ opening_of s seat.member ring = ap (with_key s seat.member ring) held.key in
     record {
@@ -95,7 +95,7 @@ seat_joins : (s : Setup) (scene scene' : Scene) (seat : Seat) (entries : Result 
     → Does s scene (joins s seat.member entries (scene.world.clients seat.member)).moves scene' → IsSeatOf s scene' (seat_joined s seat entries seat.client)
 seat_joins s scene scene' seat entries is does = go seat.client entries is does
   where
-    go : (o : Option (ClientModel MemoryDiskContent)) (entries : Result (List (List ℕ)) ℕ) → IsSeatOf s scene (with_client seat o) → Does s scene (joins s seat.member entries (scene.world.clients seat.member)).moves scene'
+    go : (o : Option (ClientModel MemoryDiskModel)) (entries : Result (List (List ℕ)) ℕ) → IsSeatOf s scene (with_client seat o) → Does s scene (joins s seat.member entries (scene.world.clients seat.member)).moves scene'
         → IsSeatOf s scene' (seat_joined s (with_client seat o) entries o)
     go (Some c) entries is does = seat_stays s scene scene' (with_client seat (Some c)) is (subst (λ (o : Option PlainClient). Does s scene (joins s seat.member entries o).moves scene') is.client does)
     go None (Ok entries) is does =
@@ -103,7 +103,7 @@ seat_joins s scene scene' seat entries is does = go seat.client entries is does
     go None (Err missing) is does = seat_stays s scene scene' (with_client seat None) is (subst (λ (o : Option PlainClient). Does s scene (joins s seat.member (Err missing) o).moves scene') is.client does)
 
 -- a seat that joined is the same member's
-pub own_open : (s : Setup) (ring : Keys) (seat : Seat) (signer : Option (SignerContent MemoryDiskContent)) → (seat_open s ring seat signer).member ≡ seat.member
+pub own_open : (s : Setup) (ring : Keys) (seat : Seat) (signer : Option (SignerModel MemoryDiskModel)) → (seat_open s ring seat signer).member ≡ seat.member
 own_open s ring seat None = refl
 own_open s ring seat (Some signer) = refl
 
@@ -115,7 +115,7 @@ own_by : (s : Setup) (seat : Seat) (hints : Result Keys HintFault) → (seat_by 
 own_by s seat (Ok ring) = own_unless s ring seat (first_of (open_checks s.genesis (get ring 0)))
 own_by s seat (Err fault) = refl
 
-own_joined : (s : Setup) (seat : Seat) (entries : Result (List (List ℕ)) ℕ) (o : Option (ClientModel MemoryDiskContent)) → (seat_joined s seat entries o).member ≡ seat.member
+own_joined : (s : Setup) (seat : Seat) (entries : Result (List (List ℕ)) ℕ) (o : Option (ClientModel MemoryDiskModel)) → (seat_joined s seat entries o).member ≡ seat.member
 own_joined s seat entries (Some c) = refl
 own_joined s seat (Ok entries) None = own_by s seat (hints_of entries seat.member (s.pairs seat.member))
 own_joined s seat (Err missing) None = refl

@@ -1,7 +1,7 @@
 -- Entries that are made of others, and comparisons: what a state becomes, and what is told.
 use Rattle.std.proofs.Common.{◌≡◌, ℕ, zero, suc, ◌+◌, ◌-◌, ◌<◌, ◌≤◌, List, [], ◌∷◌, ◌++◌, length, take, set, refl, sym, ap, ◌∙◌, subst, arith, Option, None, Some, option_map}
 use Rattle.std.specs.Prelude.{◌↔◌, IfSome, slice_get}
-use Rattle.sporc_outside.specs.MemoryDisk.{MemoryDiskContent}
+use Rattle.sporc_outside.specs.MemoryDisk.{MemoryDiskModel}
 use Rattle.sporc_client.specs.ClientModel.{ClientModel, state_of}
 use Rattle.sporc_client.specs.PlainClient.{Opening, PlainClient}
 use Rattle.sporc_client.proofs.Calls.{replay_opening}
@@ -22,7 +22,7 @@ use Rattle.sporc_play.specs.Cast.{setup_of}
 use Rattle.sporc_play.specs.Report.{Compares, Stands, chain_of, compare_line, cut_line, flip_line, flipped_line}
 use Rattle.sporc_play.specs.Scene.{Act, Scene, cuts, entry_at, flip_byte, flipped, flips, performed}
 use Rattle.sporc_play.specs.Seats.{IsSeatAt}
-use Rattle.sporc_play.specs.Stage.{AreOfOneDocument, Becomes, HasSameMembers, StandsFor, Tells}
+use Rattle.sporc_play.specs.Stage.{AreOfOneDocument, Becomes, HasSameMembers, StandsFor, AppendsLineOf}
 use Rattle.sporc_play.proofs.Becoming.{entries_of}
 use Rattle.sporc_play.proofs.Commands.{client_there}
 use Rattle.sporc_play.proofs.MadeEntries.{made_stands, makes}
@@ -50,11 +50,11 @@ cut_becomes old new number entries same grown act script scene stands =
     (λ m. record { client = refl; log = refl; last = refl; asked = refl; leaves = refl })
     (grown ∙ ap (λ (es : List (List ℕ)). es ++ entries) stands.made))
 
-pub flip_tells : (old : PlayState) (f : Flip) (out out' : List ℕ) → out' ≡ out ++ flip_line (length (entries_of old) + 1) f.entry f.at (entry_at (entries_of old) f.entry) → Tells old (commands.Flip f) out out'
+pub flip_tells : (old : PlayState) (f : Flip) (out out' : List ℕ) → out' ≡ out ++ flip_line (length (entries_of old) + 1) f.entry f.at (entry_at (entries_of old) f.entry) → AppendsLineOf old (commands.Flip f) out out'
 flip_tells old f out out' is script scene stands =
     (flip_line (length scene.made + 1) f.entry f.at (entry_at scene.made f.entry), refl, is ∙ ap (λ (es : List (List ℕ)). out ++ flip_line (length es + 1) f.entry f.at (entry_at es f.entry)) stands.made)
 
-pub cut_tells : (old : PlayState) (number : ℕ) (out out' : List ℕ) → out' ≡ out ++ cut_line (length (entries_of old) + 1) number (entry_at (entries_of old) number) → Tells old (commands.Cut number) out out'
+pub cut_tells : (old : PlayState) (number : ℕ) (out out' : List ℕ) → out' ≡ out ++ cut_line (length (entries_of old) + 1) number (entry_at (entries_of old) number) → AppendsLineOf old (commands.Cut number) out out'
 cut_tells old number out out' is script scene stands =
     (cut_line (length scene.made + 1) number (entry_at scene.made number), refl, is ∙ ap (λ (es : List (List ℕ)). out ++ cut_line (length es + 1) number (entry_at es number)) stands.made)
 
@@ -87,21 +87,21 @@ cut_act made number bytes new found is = ap cuts found ∙ ap (λ (b : List ℕ)
 -- ---- clients that are compared
 
 -- the client of a member, as it was found
-pub record IsFound (state : PlayState) (m : ℕ) (found : Option (ClientModel MemoryDiskContent)) : Type 0 where
+pub record IsFound (state : PlayState) (m : ℕ) (found : Option (ClientModel MemoryDiskModel)) : Type 0 where
   pub place : ℕ
   pub seat : Seat
   pub at : IsSeatAt state.seats.items place m seat
   pub is : found ≡ seat.client
 
-pub found_by : (state : PlayState) (m : ℕ) (found : Option (ClientModel MemoryDiskContent)) → (i : ℕ) × (seat : Seat) × IsSeatAt state.seats.items i m seat × (found ≡ seat.client) → IsFound state m found
+pub found_by : (state : PlayState) (m : ℕ) (found : Option (ClientModel MemoryDiskModel)) → (i : ℕ) × (seat : Seat) × IsSeatAt state.seats.items i m seat × (found ≡ seat.client) → IsFound state m found
 found_by state m found (i, seat, at, is) = record { place = i; seat = seat; at = at; is = is }
 
-found_there : (script : List PlayLine) (scene : Scene) (state : PlayState) (m : ℕ) (found : Option (ClientModel MemoryDiskContent)) → StandsFor script scene state → IsFound state m found → scene.world.clients m ≡ option_map state_of found
+found_there : (script : List PlayLine) (scene : Scene) (state : PlayState) (m : ℕ) (found : Option (ClientModel MemoryDiskModel)) → StandsFor script scene state → IsFound state m found → scene.world.clients m ≡ option_map state_of found
 found_there script scene state m found stands f = client_there script scene state f.place m f.seat stands f.at ∙ ap (option_map state_of) (sym f.is)
 
 -- ---- their chains
 
-pub chain_is : (c : ClientModel MemoryDiskContent) → chain (genesis_bytes c.opening.genesis) (state_of c).entries ≡ chain_of (state_of c)
+pub chain_is : (c : ClientModel MemoryDiskModel) → chain (genesis_bytes c.opening.genesis) (state_of c).entries ≡ chain_of (state_of c)
 chain_is c = ap (λ (o : Opening). chain (genesis_bytes o.genesis) (state_of c).entries) (sym (replay_opening c.opening c.log))
 
 first_value : (genesis : List ℕ) (entries : List (List ℕ)) → slice_get (chain genesis entries) 0 ≡ Some (last_value genesis [])
@@ -114,12 +114,12 @@ begun (y ∷ ys) x at = omega arith
 pub begun_chain : (genesis : List ℕ) (entries : List (List ℕ)) → 0 < length (chain genesis entries)
 begun_chain genesis entries = begun (chain genesis entries) (last_value genesis []) (first_value genesis entries)
 
-document_of : (state : PlayState) (m : ℕ) (c : ClientModel MemoryDiskContent) → AreOfOneDocument state → IsFound state m (Some c) → c.opening.genesis ≡ state.genesis
+document_of : (state : PlayState) (m : ℕ) (c : ClientModel MemoryDiskModel) → AreOfOneDocument state → IsFound state m (Some c) → c.opening.genesis ≡ state.genesis
 document_of state m c one f =
-    subst (λ (o : Option (ClientModel MemoryDiskContent)). IfSome o (λ c. c.opening.genesis ≡ state.genesis)) (sym f.is)
+    subst (λ (o : Option (ClientModel MemoryDiskModel)). IfSome o (λ c. c.opening.genesis ≡ state.genesis)) (sym f.is)
     (at_place (λ (seat : Seat). IfSome seat.client (λ c. c.opening.genesis ≡ state.genesis)) state.seats.items f.place f.seat one f.at.there)
 
-pub one_beginning : (state : PlayState) (m n : ℕ) (a b : ClientModel MemoryDiskContent) → AreOfOneDocument state → IsFound state m (Some a) → IsFound state n (Some b)
+pub one_beginning : (state : PlayState) (m n : ℕ) (a b : ClientModel MemoryDiskModel) → AreOfOneDocument state → IsFound state m (Some a) → IsFound state n (Some b)
     → slice_get (chain (genesis_bytes a.opening.genesis) (state_of a).entries) 0 ≡ slice_get (chain (genesis_bytes b.opening.genesis) (state_of b).entries) 0
 one_beginning state m n a b one first second =
     first_value (genesis_bytes a.opening.genesis) (state_of a).entries
@@ -134,8 +134,8 @@ stands a b Prefix same prefix longer forked = prefix.0 refl
 stands a b Longer same prefix longer forked = longer.0 refl
 stands a b (ForkedAfter k) same prefix longer forked = forked
 
-pub compare_tells : (state : PlayState) (p : Pair) (a b : ClientModel MemoryDiskContent) (v : Verdict) (out out' : List ℕ) → IsFound state p.first (Some a) → IsFound state p.second (Some b)
-    → Stands (chain_of (state_of a)) (chain_of (state_of b)) v → out' ≡ out ++ compare_line p v → Tells state (commands.Compare p) out out'
+pub compare_tells : (state : PlayState) (p : Pair) (a b : ClientModel MemoryDiskModel) (v : Verdict) (out out' : List ℕ) → IsFound state p.first (Some a) → IsFound state p.second (Some b)
+    → Stands (chain_of (state_of a)) (chain_of (state_of b)) v → out' ≡ out ++ compare_line p v → AppendsLineOf state (commands.Compare p) out out'
 compare_tells state p a b v out out' first second stand is script scene stands =
     (compare_line p v, written, is)
   where

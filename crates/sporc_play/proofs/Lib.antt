@@ -7,10 +7,12 @@ pub mod ByteFacts
 pub mod ClosedPlays
 pub mod Commands
 pub mod Declared
+pub mod Distinct
 pub mod FirstMoves
 pub mod Forgeries
 pub mod Found
 pub mod Founders
+pub mod GeneratedPlays
 pub mod GeneratedRun
 pub mod Generating
 pub mod HistoryKeys
@@ -25,7 +27,6 @@ pub mod OneRun
 pub mod Opened
 pub mod Openings
 pub mod OwnKeys
-pub mod PairKeys
 pub mod Places
 pub mod Played
 pub mod Ready

@@ -3,7 +3,7 @@ use Rattle.std.proofs.Common.{◌≡◌, ℕ, ◌+◌, List, [], ◌++◌, lengt
 use Rattle.std.specs.Option.{option_to_list}
 use Rattle.lms_leaf.specs.declared.faults.LeafFault.{LeafFault}
 use Rattle.lms_tree.specs.LmsPrivate.{LmsPrivate}
-use Rattle.sporc_outside.specs.MemoryDisk.{MemoryDiskContent}
+use Rattle.sporc_outside.specs.MemoryDisk.{MemoryDiskModel}
 use Rattle.sporc_client.specs.ClientModel.{ClientModel, state_of}
 use Rattle.sporc_client.specs.PlainClient.{PlainClient}
 use Rattle.sporc_client.specs.Run.{Setup}
@@ -36,7 +36,7 @@ signs_is : (o : Option (List ℕ)) → signs_by o ≡ makes (option_to_list o)
 signs_is None = refl
 signs_is (Some bytes) = refl
 
-forged_is : (s : Setup) (scene : Scene) (f : Forgery) (rogue : Rogue) (client : Option (ClientModel MemoryDiskContent)) → IsRogueOf s scene rogue → rogue.member ≡ f.member
+forged_is : (s : Setup) (scene : Scene) (f : Forgery) (rogue : Rogue) (client : Option (ClientModel MemoryDiskModel)) → IsRogueOf s scene rogue → rogue.member ≡ f.member
     → if_open (option_map state_of client) (λ c. signs_by (forged_entry s c f (scene.asked f.member + 1) (leaf_after (s.private f.member) (scene.leaves f.member)))) ≡ makes (option_to_list (forged_by s f rogue client))
 forged_is s scene f rogue None is own = refl
 forged_is s scene f rogue (Some c) is own =
@@ -45,7 +45,7 @@ forged_is s scene f rogue (Some c) is own =
     (ap scene.asked (sym own) ∙ sym is.asked)
     (ap₂ leaf_after (ap s.private (sym own) ∙ sym is.signer.key) (ap scene.leaves (sym own) ∙ sym is.signer.leaves.next))
 
-pub sign_stands : (script : List PlayLine) (scene : Scene) (state state' : PlayState) (i : ℕ) (f : Forgery) (rogue new : Rogue) (client : Option (ClientModel MemoryDiskContent)) (made : Option (List ℕ)) → StandsFor script scene state
+pub sign_stands : (script : List PlayLine) (scene : Scene) (state state' : PlayState) (i : ℕ) (f : Forgery) (rogue new : Rogue) (client : Option (ClientModel MemoryDiskModel)) (made : Option (List ℕ)) → StandsFor script scene state
     → IsRogueAt state.rogues.items i f.member rogue → scene.world.clients f.from ≡ option_map state_of client → HasSigned rogue made new → made ≡ forged_by (setup_of script) f rogue client
     → ChangesRogue i new state state' → map (λ bytes. bytes.items) state'.made.items ≡ map (λ bytes. bytes.items) state.made.items ++ option_to_list made
     → StandsFor script (after (setup_of script) scene (commands.Sign f)) state'
@@ -78,7 +78,7 @@ sign_stands script scene state state' i f rogue new client made stands at client
     did.member changed
     (grown ∙ ap (λ (es : List (List ℕ)). es ++ option_to_list made) stands.made))
 
-pub signing_told : (script : List PlayLine) (scene : Scene) (state : PlayState) (i next : ℕ) (f : Forgery) (rogue : Rogue) (client : Option (ClientModel MemoryDiskContent)) (old new : List ℕ) → StandsFor script scene state
+pub signing_told : (script : List PlayLine) (scene : Scene) (state : PlayState) (i next : ℕ) (f : Forgery) (rogue : Rogue) (client : Option (ClientModel MemoryDiskModel)) (old new : List ℕ) → StandsFor script scene state
     → IsRogueAt state.rogues.items i f.member rogue → scene.world.clients f.from ≡ option_map state_of client → next ≡ next_number scene → new ≡ old ++ signing_line f next rogue client
     → (l : List ℕ) × (l ≡ line_by f.from (scene.world.clients f.from) (λ c. sign_line f.member (next_number scene) (leaf_after ((setup_of script).private f.member) (scene.leaves f.member)))) × (new ≡ old ++ l)
 signing_told script scene state i next f rogue client old new stands at client_is number told =

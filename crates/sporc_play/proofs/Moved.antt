@@ -5,11 +5,12 @@ use Rattle.std.proofs.lemmas.Bool.{eqb-true}
 use Rattle.sporc_epoch.specs.Keys.{Keys}
 use Rattle.sporc_client.specs.Log.{Logged}
 use Rattle.sporc_client.specs.PlainClient.{PlainClient, opened}
-use Rattle.sporc_client.specs.Run.{Setup, World, Move, Open, Happen, Give, Restart, after, after_all, given, gives_to, happens_to, opening_of, restarted, restarts, with_client}
+use Rattle.sporc_client.specs.Run.{Setup, World, Move, Open, Happen, Give, Restart, after, after_all, given, gives_to, happens_to, mover_of, opening_of, restarted, restarts}
 use Rattle.sporc_client.specs.Step.{replay_from, step}
 use Rattle.sporc_client.specs.Answers.{refusal_of}
+use Rattle.sporc_client.proofs.Calls.{put_other}
 use Rattle.sporc_client.proofs.Reached.{put_same}
-use Rattle.sporc_play.specs.Logs.{log_after, logs_after, mover_of}
+use Rattle.sporc_play.specs.Logs.{log_after, logs_after}
 
 -- moves that are all of one member's client
 abbrev pub AreOf : ℕ → List Move → Type 0
@@ -21,13 +22,6 @@ happens_of m [] = tt
 happens_of m (e ∷ es) = (refl, happens_of m es)
 
 -- ---- other clients
-
-put_other : (clients : ℕ → Option PlainClient) (who : ℕ) (c : PlainClient) (other : ℕ) → other ≢ who → with_client clients who c other ≡ clients other
-put_other clients who c other differs = go (other == who) refl
-  where
-    go : (same : Bool) → (other == who) ≡ same → cond same (Some c) (clients other) ≡ clients other
-    go true is = absurd (differs (eqb-true other who is))
-    go false is = refl
 
 pub client_other : (s : Setup) (w : World) (move : Move) (other : ℕ) → other ≢ mover_of move → (after s w move).clients other ≡ w.clients other
 client_other s w (Open who ring) other differs = put_other w.clients who (opened (opening_of s who ring)) other differs

@@ -5,8 +5,8 @@ use Rattle.std.specs.FinMap.{empty, insert}
 use Rattle.std.specs.List.{All, AllByRecursion, list_any}
 use Rattle.std.proofs.lemmas.List.{take_all}
 use Rattle.std.proofs.lemmas.List.Elements.{All-from_recursion}
-use Rattle.lms_sign.specs.Signer.{SignerContent}
-use Rattle.sporc_outside.specs.MemoryDisk.{MemoryDiskContent}
+use Rattle.lms_sign.specs.Signer.{SignerModel}
+use Rattle.sporc_outside.specs.MemoryDisk.{MemoryDiskModel}
 use Rattle.sporc_epoch.specs.Keys.{Keys}
 use Rattle.sporc_client.specs.ClientModel.{ClientModel, state_of}
 use Rattle.sporc_client.specs.Run.{Move}
@@ -41,7 +41,7 @@ cast_is script cast seats rogues known = record {
 
 -- ---- seats
 
-fresh_holds : (script : List PlayLine) (member : ℕ) (signer : Option (SignerContent MemoryDiskContent)) (client : Option (ClientModel MemoryDiskContent)) → client ≡ None → HasBlank (tree_of script) member signer
+fresh_holds : (script : List PlayLine) (member : ℕ) (signer : Option (SignerModel MemoryDiskModel)) (client : Option (ClientModel MemoryDiskModel)) → client ≡ None → HasBlank (tree_of script) member signer
     → Holds (setup_of script) (scene_opened script 0) member signer client
 unfolding setup_of
 fresh_holds script member None client closed blank = absurd blank

@@ -3,10 +3,10 @@ use Rattle.std.proofs.Common.{◌≡◌, ℕ, zero, suc, ◌+◌, ◌<◌, List,
 use Rattle.std.specs.Prelude.{◌==◌, Contains, filter_map, if◌then◌else◌}
 use Rattle.std.specs.List.{cons_option}
 use Rattle.std.proofs.lemmas.List.Elements.{filter_map-append}
-use Rattle.sporc_outside.specs.MemoryDisk.{MemoryDiskContent}
+use Rattle.sporc_outside.specs.MemoryDisk.{MemoryDiskModel}
 use Rattle.sporc_client.specs.ClientModel.{ClientModel, state_of}
 use Rattle.sporc_client.specs.Log.{Logged}
-use Rattle.sporc_client.specs.Run.{Setup, World, Move, Open, after, after_all, start}
+use Rattle.sporc_client.specs.Run.{Setup, World, Move, Open, after, after_all, mover_of, start}
 use Rattle.sporc_client.proofs.Calls.{after_append}
 use Rattle.sporc_script.specs.declared.command.Command.{Command}
 use Rattle.sporc_script.specs.declared.command.Command.TheVariants as commands
@@ -14,10 +14,10 @@ use Rattle.sporc_script.specs.declared.member_role.MemberRole.{MemberRole}
 use Rattle.sporc_script.specs.declared.play_line.PlayLine.{PlayLine}
 use Rattle.sporc_play.specs.declared.seat.Seat.{Seat}
 use Rattle.sporc_play.specs.declared.state.PlayState.{PlayState}
-use Rattle.sporc_play.specs.Apart.{AreApart, IsNotIn}
+use Rattle.sporc_play.proofs.Distinct.{AreDistinct, IsNotIn, are_distinct}
 use Rattle.sporc_play.specs.Cast.{first_ring, member_by, opener_by, openers_by, setup_of}
 use Rattle.sporc_play.specs.Joined.{seat_open}
-use Rattle.sporc_play.specs.Logs.{log_after, logs_after, mover_of}
+use Rattle.sporc_play.specs.Logs.{log_after, logs_after}
 use Rattle.sporc_play.specs.Scene.{Scene, openings, scene_moved, scene_opened}
 use Rattle.sporc_play.specs.Seats.{IsSeatAt}
 use Rattle.sporc_play.specs.Stage.{IsSeatOf, StandsFor}
@@ -40,15 +40,15 @@ member_among [] i m l low is own = absurd (omega (arith, low))
 member_among (x ∷ xs) zero m l low is own = among_here m (member_by x.command) (members xs) (ap (λ (y : PlayLine). member_by y.command) (sym is) ∙ own)
 member_among (x ∷ xs) (suc i) m l low is own = among_more m (member_by x.command) (members xs) (member_among xs i m l (omega (arith, low)) is own)
 
-first_apart : (m : ℕ) (o : Option ℕ) (ns before : List ℕ) → AreApart (cons_option o ns) → Contains ns m → IsNotIn m before → IsNotIn m (cons_option o before)
+first_apart : (m : ℕ) (o : Option ℕ) (ns before : List ℕ) → AreDistinct (cons_option o ns) → Contains ns m → IsNotIn m before → IsNotIn m (cons_option o before)
 first_apart m None ns before apart among rest = rest
 first_apart m (Some k) ns before apart among rest = ((λ same. not_in_contains k ns apart.0 (subst (Contains ns) (sym same) among)), rest)
 
-rest_apart : (o : Option ℕ) (ns : List ℕ) → AreApart (cons_option o ns) → AreApart ns
+rest_apart : (o : Option ℕ) (ns : List ℕ) → AreDistinct (cons_option o ns) → AreDistinct ns
 rest_apart None ns apart = apart
 rest_apart (Some k) ns apart = apart.1
 
-members_before : (lines : List PlayLine) (i m : ℕ) (l : PlayLine) → i < length lines → l ≡ get_or lines i l → member_by l.command ≡ Some m → AreApart (members lines) → IsNotIn m (members (take i lines))
+members_before : (lines : List PlayLine) (i m : ℕ) (l : PlayLine) → i < length lines → l ≡ get_or lines i l → member_by l.command ≡ Some m → AreDistinct (members lines) → IsNotIn m (members (take i lines))
 members_before [] i m l low is own apart = absurd (omega (arith, low))
 members_before (x ∷ xs) zero m l low is own apart = tt
 members_before (x ∷ xs) (suc i) m l low is own apart =
@@ -96,7 +96,7 @@ logs_more s script i l low is =
 
 -- ---- one line
 
-no_client_in : (o : Option (ClientModel MemoryDiskContent)) → option_map state_of o ≡ None → o ≡ None
+no_client_in : (o : Option (ClientModel MemoryDiskModel)) → option_map state_of o ≡ None → o ≡ None
 no_client_in None is = refl
 no_client_in (Some c) is = absurd cc
 
@@ -125,7 +125,7 @@ founder_stands script state state' i k l f x x' low is command stands at opens c
     let scene = scene_opened script i in
     let scene' = scene_opened script (i + 1) in
     let m = f.member in
-    let apart : AreApart (members script) = subst AreApart (members_are script) (apart_front s.members _ stands.declared.apart) in
+    let apart : AreDistinct (members script) = subst AreDistinct (members_are script) (apart_front s.members _ (are_distinct _ stands.declared.distinct)) in
     let before : IsNotIn m (openers_by (take i script)) = not_opener m (take i script) (members_before script i m l low is (ap member_by command) apart) in
     let closed : scene.world.clients m ≡ None = unopened s start m (openers_by (take i script)) before in
     let was = seat_there script scene state k m x stands at in

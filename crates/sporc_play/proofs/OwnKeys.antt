@@ -1,24 +1,19 @@
 -- The keys that a play derives are such as a genesis can have.
-use Rattle.std.proofs.Common.{◌≡◌, ℕ, zero, suc, ◌+◌, ◌<◌, ◌^◌, ◌∷◌, ◌++◌, length, take, Some, arith, length-append}
+use Rattle.std.proofs.Common.{◌≡◌, ℕ, ◌+◌, ◌<◌, ◌^◌, ◌∷◌, ◌++◌, length, take, Some, arith, length-append}
 use Rattle.std.proofs.lemmas.List.{length-take-le}
 use Rattle.std.specs.Int.{w16, w32, to_be_bytes}
 use Rattle.sha2.proofs.Facts256.{length-sha256}
 use Rattle.lms_ots.specs.OtsType.{ots_code_of}
-use Rattle.lms_tree.specs.LmsPrivate.{LmsPrivate, lms_public_of, root_of}
+use Rattle.lms_tree.specs.LmsPrivate.{lms_public_of, root_of}
 use Rattle.lms_tree.specs.LmsPublic.{public_key_in}
 use Rattle.lms_tree.specs.LmsType.{height_of, lms_code_of}
-use Rattle.lms_tree.specs.Nodes.{node_of}
 use Rattle.lms_tree.proofs.PublicKeyLemmas.{public_key_read_back}
+use Rattle.sporc_client.proofs.HonestSignatures.{root_len}
 use Rattle.sporc_entry.specs.Genesis.{IsFounder}
 use Rattle.sporc_script.specs.declared.command.Tree.{Tree}
 use Rattle.sporc_script.specs.declared.member_role.MemberRole.{MemberRole}
 use Rattle.sporc_play.specs.Cast.{founder_of, private_of, public_of}
 use Rattle.sporc_play.specs.Derived.{derived}
-
-node_len : (key : LmsPrivate) (k r : ℕ) → length (node_of key.ots key.id key.seed (height_of key.lms) k r) ≡ 32
-unfolding node_of
-node_len key zero r = length-sha256 _
-node_len key (suc k) r = length-sha256 _
 
 pub derived_len : (kind member number : ℕ) → length (derived kind member number) ≡ 32
 derived_len kind member number = length-sha256 (240 ∷ kind ∷ to_be_bytes w16 member ++ to_be_bytes w32 number)
@@ -38,13 +33,13 @@ own_key_len tree member =
       length-append (a ++ b) key.id,
       length-append a b,
       half_len 2 member 0,
-      node_len key (height_of key.lms) 1,
+      root_len key (height_of key.lms) 1,
     )
 
 pub own_key_known : (tree : Tree) (member : ℕ) → public_key_in (public_of tree member) ≡ Some (lms_public_of (private_of tree member))
 own_key_known tree member =
     let key = private_of tree member in
-    public_key_read_back (lms_public_of key) (half_len 2 member 0) (node_len key (height_of key.lms) 1)
+    public_key_read_back (lms_public_of key) (half_len 2 member 0) (root_len key (height_of key.lms) 1)
 
 pub own_founder : (tree : Tree) (m : MemberRole) → 0 < m.member → m.member < 2 ^ 16 → IsFounder (founder_of tree m)
 own_founder tree m positive small = record { member = record { positive = positive; small = small }; key = own_key_len tree m.member }

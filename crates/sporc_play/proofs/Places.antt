@@ -4,7 +4,7 @@ use Rattle.std.specs.Prelude.{◌⊎◌, Contains, filter_map, slice_get}
 use Rattle.std.specs.List.{AllByRecursion, cons_option}
 use Rattle.std.proofs.Math.ListN.{set}
 use Rattle.std.proofs.lemmas.List.{take_all}
-use Rattle.sporc_play.specs.Apart.{AreApart, IsNotIn}
+use Rattle.sporc_play.proofs.Distinct.{AreDistinct, IsNotIn}
 
 pub at_place : {X : Type 0} (P : X → Type 0) (xs : List X) (i : ℕ) (x : X) → AllByRecursion P xs → slice_get xs i ≡ Some x → P x
 at_place P [] i x all at = absurd cc
@@ -17,11 +17,11 @@ pub not_in_append : (n : ℕ) (xs ys : List ℕ) → IsNotIn n (xs ++ ys) → Is
 not_in_append n [] ys apart = (tt, apart)
 not_in_append n (x ∷ xs) ys apart = let rest = not_in_append n xs ys apart.1 in ((apart.0, rest.0), rest.1)
 
-pub apart_front : (xs ys : List ℕ) → AreApart (xs ++ ys) → AreApart xs
+pub apart_front : (xs ys : List ℕ) → AreDistinct (xs ++ ys) → AreDistinct xs
 apart_front [] ys apart = tt
 apart_front (x ∷ xs) ys apart = ((not_in_append x xs ys apart.0).0, apart_front xs ys apart.1)
 
-pub apart_back : (xs ys : List ℕ) → AreApart (xs ++ ys) → AreApart ys
+pub apart_back : (xs ys : List ℕ) → AreDistinct (xs ++ ys) → AreDistinct ys
 apart_back [] ys apart = apart
 apart_back (x ∷ xs) ys apart = apart_back xs ys apart.1
 
@@ -32,7 +32,7 @@ not_there {X = X} number n (y ∷ ys) zero x apart at = let same : y ≡ x = cc 
 not_there number n (y ∷ ys) (suc i) x apart at = not_there number n ys i x apart.1 at
 
 -- those in the second part are not in the first
-pub not_across : {X : Type 0} (number : X → ℕ) (ns : List ℕ) (xs : List X) (i : ℕ) (x : X) → AreApart (ns ++ map number xs) → slice_get xs i ≡ Some x → IsNotIn (number x) ns
+pub not_across : {X : Type 0} (number : X → ℕ) (ns : List ℕ) (xs : List X) (i : ℕ) (x : X) → AreDistinct (ns ++ map number xs) → slice_get xs i ≡ Some x → IsNotIn (number x) ns
 not_across number [] xs i x apart at = tt
 not_across number (n ∷ ns) xs i x apart at = (
   (λ same. not_there number n xs i x (not_in_append n ns (map number xs) apart.0).1 at (sym same)),
@@ -40,7 +40,7 @@ not_across number (n ∷ ns) xs i x apart at = (
 )
 
 -- and those in the first are not in the second
-pub not_behind : {X : Type 0} (number : X → ℕ) (xs : List X) (ns : List ℕ) (i : ℕ) (x : X) → AreApart (map number xs ++ ns) → slice_get xs i ≡ Some x → IsNotIn (number x) ns
+pub not_behind : {X : Type 0} (number : X → ℕ) (xs : List X) (ns : List ℕ) (i : ℕ) (x : X) → AreDistinct (map number xs ++ ns) → slice_get xs i ≡ Some x → IsNotIn (number x) ns
 not_behind number [] ns i x apart at = absurd cc
 not_behind {X = X} number (y ∷ ys) ns zero x apart at = let same : y ≡ x = cc in subst (λ (z : X). IsNotIn (number z) ns) same (not_in_append (number y) (map number ys) ns apart.0).1
 not_behind number (y ∷ ys) ns (suc i) x apart at = not_behind number ys ns i x apart.1 at
@@ -52,7 +52,7 @@ pub all_others : {X : Type 0} (number : X → ℕ) (P Q : X → Type 0) (m : ℕ
 all_others number P Q m [] apart keep all = tt
 all_others number P Q m (x ∷ xs) apart keep all = (keep x apart.0 all.0, all_others number P Q m xs apart.1 keep all.1)
 
-pub all_set : {X : Type 0} (number : X → ℕ) (P Q : X → Type 0) (xs : List X) (i : ℕ) (x new : X) → AreApart (map number xs) → slice_get xs i ≡ Some x
+pub all_set : {X : Type 0} (number : X → ℕ) (P Q : X → Type 0) (xs : List X) (i : ℕ) (x new : X) → AreDistinct (map number xs) → slice_get xs i ≡ Some x
     → ((y : X) → number y ≢ number x → P y → Q y) → Q new → AllByRecursion P xs → AllByRecursion Q (set xs i new)
 all_set number P Q [] i x new apart at keep q all = absurd cc
 all_set {X = X} number P Q (y ∷ ys) zero x new apart at keep q all =

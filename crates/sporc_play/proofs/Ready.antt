@@ -5,8 +5,8 @@ use Rattle.std.specs.List.{AllByRecursion}
 use Rattle.std.proofs.lemmas.Bool.{and_parts}
 use Rattle.std.proofs.lemmas.List.{length-map}
 use Rattle.lms_tree.specs.LmsPrivate.{LmsPrivate}
-use Rattle.lms_sign.specs.Signer.{SignerContent}
-use Rattle.sporc_outside.specs.MemoryDisk.{MemoryDiskContent}
+use Rattle.lms_sign.specs.Signer.{SignerModel}
+use Rattle.sporc_outside.specs.MemoryDisk.{MemoryDiskModel}
 use Rattle.sporc_entry.specs.declared.genesis.Genesis.{Genesis}
 use Rattle.sporc_entry.specs.Genesis.{IsGenesis}
 use Rattle.sporc_client.specs.PlainClient.{Opening}
@@ -49,7 +49,7 @@ asked_at script i m =
 
 -- ---- seats and rogues
 
-ready_client : {D : Type 0} (s : Setup) (scene : Scene) (m : ℕ) (signer : Option (SignerContent D)) (client : Option (ClientModel D)) → Holds s scene m signer client → IfSome client (λ c. IsReady c.opening.key c.leaves.next c)
+ready_client : {D : Type 0} (s : Setup) (scene : Scene) (m : ℕ) (signer : Option (SignerModel D)) (client : Option (ClientModel D)) → Holds s scene m signer client → IfSome client (λ c. IsReady c.opening.key c.leaves.next c)
 ready_client s scene m signer None holds = tt
 ready_client s scene m signer (Some c) holds = record {
   key = refl;
@@ -58,7 +58,7 @@ ready_client s scene m signer (Some c) holds = record {
   no_ticket = holds.ready.no_ticket;
 }
 
-some_signer : {D : Type 0} (s : Setup) (scene : Scene) (m : ℕ) (signer : Option (SignerContent D)) (client : Option (ClientModel D)) → Holds s scene m signer client → client ≡ None → IsSome signer
+some_signer : {D : Type 0} (s : Setup) (scene : Scene) (m : ℕ) (signer : Option (SignerModel D)) (client : Option (ClientModel D)) → Holds s scene m signer client → client ≡ None → IsSome signer
 some_signer s scene m signer (Some c) holds none = absurd cc
 some_signer s scene m (Some signer) None holds none = refl
 some_signer s scene m None None holds none = absurd holds
@@ -89,7 +89,7 @@ one_document : (s : Setup) (scene : Scene) (genesis : Genesis) (seats : List Sea
 one_document s scene genesis [] same all = tt
 one_document s scene genesis (x ∷ xs) same all = (go x.signer x.client all.0.holds, one_document s scene genesis xs same all.1)
   where
-    go : (signer : Option (SignerContent MemoryDiskContent)) (client : Option (ClientModel MemoryDiskContent)) → Holds s scene x.member signer client → IfSome client (λ c. c.opening.genesis ≡ genesis)
+    go : (signer : Option (SignerModel MemoryDiskModel)) (client : Option (ClientModel MemoryDiskModel)) → Holds s scene x.member signer client → IfSome client (λ c. c.opening.genesis ≡ genesis)
     go signer None holds = tt
     go signer (Some c) holds = ap (λ (o : Opening). o.genesis) holds.opening ∙ sym same
 

@@ -5,6 +5,7 @@ use Rattle.std.specs.Cmp.{nat_cmp_total}
 use Rattle.std.specs.FinMap.{empty, get, get-empty, get-insert}
 use Rattle.std.specs.List.{AllByRecursion}
 use Rattle.std.specs.Ordering.{nat_cmp, eq_by_cmp}
+use Rattle.sporc_base.proofs.ListLemmas.{all_append}
 use Rattle.sporc_epoch.specs.Keys.{Keys}
 use Rattle.sporc_client.specs.Run.{Setup, Move, Open, World, IsRun, after_all, start}
 use Rattle.sporc_client.specs.Typed.{IsTypedMove, IsTypedRun}
@@ -79,10 +80,6 @@ pub record MayAct (s : Setup) (scene : Scene) (act : Act) : Type 0 where
 
 abbrev pub MayBe : Setup → (Scene → Command) → Type 0
 MayBe s command = (moves : List Move) (scene : Scene) → HasCome s moves scene → MayAct s scene (act_of s scene (command scene))
-
-all_append : {X : Type 0} (P : X → Type 0) (xs ys : List X) → AllByRecursion P xs → AllByRecursion P ys → AllByRecursion P (xs ++ ys)
-all_append P [] ys a b = b
-all_append P (x ∷ xs) ys a b = (a.0, all_append P xs ys a.1 b)
 
 come_further : (s : Setup) (moves : List Move) (scene : Scene) (command : Command) → HasCome s moves scene → MayAct s scene (act_of s scene command) → HasCome s (moves ++ (act_of s scene command).moves) (after s scene command)
 come_further s moves scene command come may =

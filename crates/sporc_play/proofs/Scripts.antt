@@ -11,7 +11,7 @@ use Rattle.sporc_script.specs.Lines.{ReadsAs, lines_of}
 use Rattle.sporc_script.specs.declared.command.Command.{Command}
 use Rattle.sporc_script.specs.declared.command.Command.TheVariants as commands
 use Rattle.sporc_script.specs.declared.play_line.PlayLine.{PlayLine}
-use Rattle.sporc_play.specs.Apart.{AreApart, IsNotIn}
+use Rattle.sporc_play.proofs.Distinct.{AreDistinct, IsNotIn}
 use Rattle.sporc_play.specs.Cast.{declared_by, member_by, rogue_by}
 use Rattle.sporc_play.proofs.Places.{among_cases, among_front, among_here, among_more, not_in_append, not_in_contains}
 
@@ -149,24 +149,24 @@ not_in_both : (n : ℕ) (xs ys : List ℕ) → IsNotIn n xs → IsNotIn n ys →
 not_in_both n [] ys a b = b
 not_in_both n (x ∷ xs) ys a b = (a.0, not_in_both n xs ys a.1 b)
 
-apart_push : (ns : List ℕ) (n : ℕ) → AreApart ns → IsNotIn n ns → AreApart (ns ++ n ∷ [])
+apart_push : (ns : List ℕ) (n : ℕ) → AreDistinct ns → IsNotIn n ns → AreDistinct (ns ++ n ∷ [])
 apart_push [] n apart new = (tt, tt)
 apart_push (m ∷ ms) n apart new = (not_in_both m ms (n ∷ []) apart.0 ((λ same. new.0 (sym same)), tt), apart_push ms n apart.1 new.1)
 
 pub numbers_push : (before : List PlayLine) (l : PlayLine) → numbers (before ++ l ∷ []) ≡ numbers before ++ cons_option (declared_by l.command) []
 numbers_push before l = filter_map-append (λ (l : PlayLine). declared_by l.command) before (l ∷ [])
 
-apart_more : (before : List PlayLine) (l : PlayLine) (o : Option ℕ) → declared_by l.command ≡ o → may_follow (declarations before) l.command ≡ true → AreApart (numbers before) → AreApart (numbers before ++ cons_option o [])
-apart_more before l None is may apart = subst AreApart (sym (append-nil (numbers before))) apart
+apart_more : (before : List PlayLine) (l : PlayLine) (o : Option ℕ) → declared_by l.command ≡ o → may_follow (declarations before) l.command ≡ true → AreDistinct (numbers before) → AreDistinct (numbers before ++ cons_option o [])
+apart_more before l None is may apart = subst AreDistinct (sym (append-nil (numbers before))) apart
 apart_more before l (Some n) is may apart = apart_push (numbers before) n apart (new_by before l.command n may is)
 
-numbers_apart : (before script : List PlayLine) → Follows before script → AreApart (numbers before) → AreApart (numbers (before ++ script))
-numbers_apart before [] all apart = subst (λ (ls : List PlayLine). AreApart (numbers ls)) (sym (append-nil before)) apart
+numbers_apart : (before script : List PlayLine) → Follows before script → AreDistinct (numbers before) → AreDistinct (numbers (before ++ script))
+numbers_apart before [] all apart = subst (λ (ls : List PlayLine). AreDistinct (numbers ls)) (sym (append-nil before)) apart
 numbers_apart before (l ∷ ls) all apart =
-    subst (λ (xs : List PlayLine). AreApart (numbers xs)) (append_assoc before (l ∷ []) ls)
-    (numbers_apart (before ++ l ∷ []) ls all.2 (subst AreApart (sym (numbers_push before l)) (apart_more before l (declared_by l.command) refl all.0 apart)))
+    subst (λ (xs : List PlayLine). AreDistinct (numbers xs)) (append_assoc before (l ∷ []) ls)
+    (numbers_apart (before ++ l ∷ []) ls all.2 (subst AreDistinct (sym (numbers_push before l)) (apart_more before l (declared_by l.command) refl all.0 apart)))
 
-pub script_numbers_apart : (text : List ℕ) (script : List PlayLine) → IsPlayScript text script → AreApart (filter_map (λ (l : PlayLine). declared_by l.command) script)
+pub script_numbers_apart : (text : List ℕ) (script : List PlayLine) → IsPlayScript text script → AreDistinct (filter_map (λ (l : PlayLine). declared_by l.command) script)
 script_numbers_apart text script is = numbers_apart [] script (script_follows text script is) tt
 
 -- each that is declared is a member or a rogue
@@ -194,31 +194,31 @@ not_part n (l ∷ ls) apart = elim (splits l.command).parts [
     first None ns apart is = is
     first (Some m) ns apart is = (apart.0, is)
 
-apart_insert : (xs : List ℕ) (n : ℕ) (ys : List ℕ) → AreApart (xs ++ ys) → IsNotIn n xs → IsNotIn n ys → AreApart (xs ++ n ∷ ys)
+apart_insert : (xs : List ℕ) (n : ℕ) (ys : List ℕ) → AreDistinct (xs ++ ys) → IsNotIn n xs → IsNotIn n ys → AreDistinct (xs ++ n ∷ ys)
 apart_insert [] n ys apart a b = (b, apart)
 apart_insert (x ∷ xs) n ys apart a b =
     let p = not_in_append x xs ys apart.0 in
     (not_in_both x xs (n ∷ ys) p.0 ((λ same. a.0 (sym same)), p.1), apart_insert xs n ys apart.1 a.1 b)
 
-parts_apart : (lines : List PlayLine) → AreApart (numbers lines) → AreApart (members lines ++ rogues lines)
+parts_apart : (lines : List PlayLine) → AreDistinct (numbers lines) → AreDistinct (members lines ++ rogues lines)
 parts_apart [] apart = tt
 parts_apart (l ∷ ls) apart = elim (splits l.command).parts [
-  | inl p ↦ subst (λ (o : Option ℕ). AreApart (cons_option o (members ls) ++ cons_option (rogue_by l.command) (rogues ls))) (sym p.0)
-      (subst (λ (o : Option ℕ). AreApart (cons_option (declared_by l.command) (members ls) ++ cons_option o (rogues ls))) (sym p.1) (as_member (declared_by l.command) apart (parts_apart ls)))
-  | inr p ↦ subst (λ (o : Option ℕ). AreApart (cons_option o (members ls) ++ cons_option (rogue_by l.command) (rogues ls))) (sym p.0)
-      (subst (λ (o : Option ℕ). AreApart (members ls ++ cons_option o (rogues ls))) (sym p.1) (as_rogue (declared_by l.command) apart (parts_apart ls)))
+  | inl p ↦ subst (λ (o : Option ℕ). AreDistinct (cons_option o (members ls) ++ cons_option (rogue_by l.command) (rogues ls))) (sym p.0)
+      (subst (λ (o : Option ℕ). AreDistinct (cons_option (declared_by l.command) (members ls) ++ cons_option o (rogues ls))) (sym p.1) (as_member (declared_by l.command) apart (parts_apart ls)))
+  | inr p ↦ subst (λ (o : Option ℕ). AreDistinct (cons_option o (members ls) ++ cons_option (rogue_by l.command) (rogues ls))) (sym p.0)
+      (subst (λ (o : Option ℕ). AreDistinct (members ls ++ cons_option o (rogues ls))) (sym p.1) (as_rogue (declared_by l.command) apart (parts_apart ls)))
 ]
   where
-    as_member : (o : Option ℕ) → AreApart (cons_option o (numbers ls)) → (AreApart (numbers ls) → AreApart (members ls ++ rogues ls)) → AreApart (cons_option o (members ls) ++ rogues ls)
+    as_member : (o : Option ℕ) → AreDistinct (cons_option o (numbers ls)) → (AreDistinct (numbers ls) → AreDistinct (members ls ++ rogues ls)) → AreDistinct (cons_option o (members ls) ++ rogues ls)
     as_member None apart rest = rest apart
     as_member (Some n) apart rest = let q = not_part n ls apart.0 in (not_in_both n (members ls) (rogues ls) q.0 q.1, rest apart.1)
 
-    as_rogue : (o : Option ℕ) → AreApart (cons_option o (numbers ls)) → (AreApart (numbers ls) → AreApart (members ls ++ rogues ls)) → AreApart (members ls ++ cons_option o (rogues ls))
+    as_rogue : (o : Option ℕ) → AreDistinct (cons_option o (numbers ls)) → (AreDistinct (numbers ls) → AreDistinct (members ls ++ rogues ls)) → AreDistinct (members ls ++ cons_option o (rogues ls))
     as_rogue None apart rest = rest apart
     as_rogue (Some n) apart rest = let q = not_part n ls apart.0 in apart_insert (members ls) n (rogues ls) (rest apart.1) q.0 q.1
 
 pub script_apart : (text : List ℕ) (script : List PlayLine) → IsPlayScript text script
-    → AreApart (filter_map (λ (l : PlayLine). member_by l.command) script ++ filter_map (λ (l : PlayLine). rogue_by l.command) script)
+    → AreDistinct (filter_map (λ (l : PlayLine). member_by l.command) script ++ filter_map (λ (l : PlayLine). rogue_by l.command) script)
 script_apart text script is = parts_apart script (numbers_apart [] script (script_follows text script is) tt)
 
 -- ---- those whom a command names

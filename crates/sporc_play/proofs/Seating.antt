@@ -2,8 +2,8 @@
 use Rattle.std.proofs.Common.{◌≡◌, ◌≢◌, ℕ, ◌+◌, List, [], ◌∷◌, ◌++◌, map, sym, ap, ◌∙◌, subst, Option, None, Some, option_map}
 use Rattle.std.specs.List.{AllByRecursion}
 use Rattle.std.proofs.Math.ListN.{set}
-use Rattle.lms_sign.specs.Signer.{SignerContent}
-use Rattle.sporc_outside.specs.MemoryDisk.{MemoryDiskContent}
+use Rattle.lms_sign.specs.Signer.{SignerModel}
+use Rattle.sporc_outside.specs.MemoryDisk.{MemoryDiskModel}
 use Rattle.sporc_client.specs.ClientModel.{ClientModel, state_of}
 use Rattle.sporc_client.specs.Log.{Logged}
 use Rattle.sporc_client.specs.PlainClient.{PlainClient}
@@ -14,7 +14,7 @@ use Rattle.sporc_script.specs.declared.play_line.PlayLine.{PlayLine}
 use Rattle.sporc_play.specs.declared.seat.Rogue.{Rogue}
 use Rattle.sporc_play.specs.declared.seat.Seat.{Seat}
 use Rattle.sporc_play.specs.declared.state.PlayState.{PlayState}
-use Rattle.sporc_play.specs.Apart.{AreApart, IsNotIn}
+use Rattle.sporc_play.proofs.Distinct.{AreDistinct, IsNotIn, are_distinct}
 use Rattle.sporc_play.specs.Cast.{setup_of}
 use Rattle.sporc_play.specs.Logs.{logs_after}
 use Rattle.sporc_play.specs.Scene.{Scene, adds, if_open}
@@ -61,13 +61,13 @@ same_for_all s scene scene' m does = record {
 
 -- ---- seats of which nothing changes
 
-signer_kept : {D : Type 0} (s : Setup) (scene scene' : Scene) (m : ℕ) (signer : SignerContent D) → IsSameAt m scene scene' → IsSignerOf s scene m signer → IsSignerOf s scene' m signer
+signer_kept : {D : Type 0} (s : Setup) (scene scene' : Scene) (m : ℕ) (signer : SignerModel D) → IsSameAt m scene scene' → IsSignerOf s scene m signer → IsSignerOf s scene' m signer
 signer_kept s scene scene' m signer same is = record {
   key = is.key;
   leaves = subst (λ (n : ℕ). AreDrawn (s.private m) n signer.leaves) (sym same.leaves) is.leaves;
 }
 
-holds_kept : {D : Type 0} (s : Setup) (scene scene' : Scene) (m : ℕ) (signer : Option (SignerContent D)) (client : Option (ClientModel D)) → IsSameAt m scene scene' → Holds s scene m signer client → Holds s scene' m signer client
+holds_kept : {D : Type 0} (s : Setup) (scene scene' : Scene) (m : ℕ) (signer : Option (SignerModel D)) (client : Option (ClientModel D)) → IsSameAt m scene scene' → Holds s scene m signer client → Holds s scene' m signer client
 holds_kept s scene scene' m signer (Some c) same is = record {
   ring = is.ring;
   opening = is.opening;
@@ -93,11 +93,11 @@ rogue_kept s scene scene' rogue same is = record {
 
 -- ---- the seat whose client moves
 
-abbrev pub with_client : Seat → Option (ClientModel MemoryDiskContent) → Seat
+abbrev pub with_client : Seat → Option (ClientModel MemoryDiskModel) → Seat
 with_client seat client = record seat { client = client }
 
 -- a client that has another log now
-pub client_moved : (s : Setup) (scene scene' : Scene) (moves : List Move) (seat : Seat) (c : ClientModel MemoryDiskContent) (log : List Logged) → IsSeatOf s scene (with_client seat (Some c)) → Does s scene moves scene'
+pub client_moved : (s : Setup) (scene scene' : Scene) (moves : List Move) (seat : Seat) (c : ClientModel MemoryDiskModel) (log : List Logged) → IsSeatOf s scene (with_client seat (Some c)) → Does s scene moves scene'
     → (after_all s scene.world moves).clients seat.member ≡ Some (replay c.opening log) → logs_after s scene.world scene.logs moves seat.member ≡ log
     → IsSeatOf s scene' (with_client seat (Some (record c { log = log })))
 client_moved s scene scene' moves seat c log is does client logs = record {
@@ -121,7 +121,7 @@ seat_adds s scene scene' seat events is does = go seat.client is
     M : Option PlainClient → List Move
     M o = (if_open o (λ c. adds seat.member (events c))).moves
 
-    go : (o : Option (ClientModel MemoryDiskContent)) → IsSeatOf s scene (with_client seat o) → IsSeatOf s scene' (with_client seat (option_map (client_logged events) o))
+    go : (o : Option (ClientModel MemoryDiskModel)) → IsSeatOf s scene (with_client seat o) → IsSeatOf s scene' (with_client seat (option_map (client_logged events) o))
     go None is = seat_kept s scene scene' (with_client seat None) (same_for_all s scene scene' seat.member (subst (λ (o : Option PlainClient). Does s scene (M o) scene') is.client does)) is
     go (Some c) is =
         let added = events (state_of c) in
@@ -139,10 +139,10 @@ pub record ChangesSeat (i : ℕ) (seat : Seat) (old new : PlayState) : Type 0 wh
   pub rogues : new.rogues.items ≡ old.rogues.items
   pub seats : new.seats.items ≡ set old.seats.items i seat
 
-seats_apart : (script : List PlayLine) (scene : Scene) (state : PlayState) → StandsFor script scene state → AreApart (seated state.seats.items ++ rogue_numbers state.rogues.items)
+seats_apart : (script : List PlayLine) (scene : Scene) (state : PlayState) → StandsFor script scene state → AreDistinct (seated state.seats.items ++ rogue_numbers state.rogues.items)
 seats_apart script scene state stands =
-    subst (λ (ns : List ℕ). AreApart (ns ++ rogue_numbers state.rogues.items)) (sym stands.seated)
-    (subst (λ (ns : List ℕ). AreApart ((setup_of script).members ++ ns)) (sym stands.rogue_numbers) stands.declared.apart)
+    subst (λ (ns : List ℕ). AreDistinct (ns ++ rogue_numbers state.rogues.items)) (sym stands.seated)
+    (subst (λ (ns : List ℕ). AreDistinct ((setup_of script).members ++ ns)) (sym stands.rogue_numbers) (are_distinct _ stands.declared.distinct))
 
 pub stands_seat : (script : List PlayLine) (scene scene' : Scene) (state state' : PlayState) (i m : ℕ) (seat new : Seat) → StandsFor script scene state → IsSeatAt state.seats.items i m seat
     → ((other : ℕ) → other ≢ m → IsSameAt other scene scene') → IsSeatOf (setup_of script) scene' new → new.member ≡ seat.member → ChangesSeat i new state state'

@@ -7,8 +7,9 @@ use Rattle.std.proofs.lemmas.List.{take-append-le, take_all}
 use Rattle.std.proofs.lemmas.List.Sums.{fold-append}
 use Rattle.sporc_hash.proofs.Lists.{from_end}
 use Rattle.sporc_base.specs.FirstFault.{first_of}
+use Rattle.sporc_delta.specs.declared.limits.TheConstants.{MAX_COUNT}
 use Rattle.sporc_delta.specs.Marks.{Mark, apply, base_len, deletes, inserted_len, inserts, out_len, replacement, retains}
-use Rattle.sporc_delta.proofs.Lengths.{out_len-append, out_len-deletes, out_len-inserts}
+use Rattle.sporc_delta.proofs.Lengths.{inserted_len-retains, out_len-append, out_len-deletes, out_len-inserts}
 use Rattle.sporc_suffix.specs.Forms.{Follow, all_inserted}
 use Rattle.sporc_xform.proofs.LengthLemmas.{out_len-le}
 use Rattle.sporc_entry.specs.declared.genesis.Genesis.{Genesis}
@@ -18,10 +19,10 @@ use Rattle.sporc_line.specs.Document.{forms_of, next_form, text_after}
 use Rattle.sporc_line.specs.Good.{Good, Meets}
 use Rattle.sporc_line.specs.Keys.{key_of}
 use Rattle.sporc_line.specs.Kit.{Kit}
-use Rattle.sporc_line.proofs.FormLengths.{all_inserted-append, inserted_len-over, inserted_len-retains, length-apply, length-text}
+use Rattle.sporc_line.proofs.FormLengths.{all_inserted-append, inserted_len-over, length-apply, length-text}
 use Rattle.sporc_line.proofs.Goods.{first_key, good_none, good_push, last_passes}
 use Rattle.sporc_line.proofs.MoreForms.{forms_push}
-use Rattle.sporc_client.specs.declared.limits.TheConstants.{MAX_EVENTS}
+use Rattle.sporc_client.specs.declared.limits.TheConstants.{MAX_EDIT_BYTES, MAX_EVENTS}
 use Rattle.sporc_client.specs.Allowed.{allows, allows_all, is_allowed}
 use Rattle.sporc_client.specs.Answers.{edit_checks, edit_fault}
 use Rattle.sporc_client.specs.ClientModel.{ClientModel, state_of}
@@ -69,20 +70,20 @@ more_text forms f follow = omega (arith, last_text forms f follow, out_len-le f,
 -- its shown text is short
 record IsShort (c : PlainClient) : Type 0 where
   good : Good c.opening.genesis c.opening.kit c.entries
-  text : length (text_after c.shown) ≤ 2 ^ 34 + 65536 * length c.shown + all_inserted (forms_of c.opening.genesis c.opening.kit c.entries)
+  text : length (text_after c.shown) ≤ 2 ^ 34 + MAX_EDIT_BYTES * length c.shown + all_inserted (forms_of c.opening.genesis c.opening.kit c.entries)
 
 -- an event that adds few characters
-edit_short : (c : PlainClient) (f : List Mark) → IsShort c → Follow 0 (c.shown ++ f ∷ []) → inserted_len f ≤ 65536
-    → length (text_after (c.shown ++ f ∷ [])) ≤ 2 ^ 34 + 65536 * length (c.shown ++ f ∷ []) + all_inserted (forms_of c.opening.genesis c.opening.kit c.entries)
+edit_short : (c : PlainClient) (f : List Mark) → IsShort c → Follow 0 (c.shown ++ f ∷ []) → inserted_len f ≤ MAX_EDIT_BYTES
+    → length (text_after (c.shown ++ f ∷ [])) ≤ 2 ^ 34 + MAX_EDIT_BYTES * length (c.shown ++ f ∷ []) + all_inserted (forms_of c.opening.genesis c.opening.kit c.entries)
 edit_short c f short follow few = omega (arith, more_text c.shown f follow, short.text, length-append c.shown (f ∷ []), few)
 
 kept_short : (c : PlainClient) (n : ℕ) → IsShort c → Follow 0 (c.shown ++ retains n ∷ [])
-    → length (text_after (c.shown ++ retains n ∷ [])) ≤ 2 ^ 34 + 65536 * length (c.shown ++ retains n ∷ []) + all_inserted (forms_of c.opening.genesis c.opening.kit c.entries)
+    → length (text_after (c.shown ++ retains n ∷ [])) ≤ 2 ^ 34 + MAX_EDIT_BYTES * length (c.shown ++ retains n ∷ []) + all_inserted (forms_of c.opening.genesis c.opening.kit c.entries)
 kept_short c n short follow = edit_short c (retains n) short follow (omega (arith, inserted_len-retains n))
 
 -- one that adds an entry
 entry_short : (c : PlainClient) (b : List ℕ) (f : List Mark) → IsShort c → Good c.opening.genesis c.opening.kit (c.entries ++ b ∷ []) → Follow 0 (c.shown ++ f ∷ []) → inserted_len f ≤ inserted_len (form_coming c b)
-    → length (text_after (c.shown ++ f ∷ [])) ≤ 2 ^ 34 + 65536 * length (c.shown ++ f ∷ []) + all_inserted (forms_of c.opening.genesis c.opening.kit (c.entries ++ b ∷ []))
+    → length (text_after (c.shown ++ f ∷ [])) ≤ 2 ^ 34 + MAX_EDIT_BYTES * length (c.shown ++ f ∷ []) + all_inserted (forms_of c.opening.genesis c.opening.kit (c.entries ++ b ∷ []))
 entry_short c b f short good follow few =
     let g = c.opening.genesis in
     let kit = c.opening.kit in
@@ -105,7 +106,7 @@ no_fault c by seen marks may = sym (edit_fault_is c seen marks) ∙ none_of (edi
     none_of (Some x) h = absurd cc
 
 discard_short : (c : PlainClient) → IsShort c → (n : ℕ) → Follow 0 (c.shown ++ replacement n (committed_of c) ∷ [])
-    → length (text_after (c.shown ++ replacement n (committed_of c) ∷ [])) ≤ 2 ^ 34 + 65536 * length (c.shown ++ replacement n (committed_of c) ∷ []) + all_inserted (forms_of c.opening.genesis c.opening.kit c.entries)
+    → length (text_after (c.shown ++ replacement n (committed_of c) ∷ [])) ≤ 2 ^ 34 + MAX_EDIT_BYTES * length (c.shown ++ replacement n (committed_of c) ∷ []) + all_inserted (forms_of c.opening.genesis c.opening.kit c.entries)
 discard_short c short n follow =
     let text = committed_of c in
     omega (
@@ -121,7 +122,7 @@ discard_short c short n follow =
 step_short : (c : PlainClient) (event : Logged) → IsShort c → allows c event ≡ true → Follow 0 (step c event).shown → IsShort (step c event)
 step_short c (Edit by seen marks) short may follow =
     let passed = edit_passed c seen marks (no_fault c by seen marks may) in
-    let few : inserted_len (restated c seen marks) ≤ 65536 = omega (arith, inserted_len-over marks (drop seen c.shown), inserted_len-bytes marks, passed.bytes) in
+    let few : inserted_len (restated c seen marks) ≤ MAX_EDIT_BYTES = omega (arith, inserted_len-over marks (drop seen c.shown), inserted_len-bytes marks, passed.bytes) in
     record { good = short.good; text = edit_short c (restated c seen marks) short follow few }
 step_short c (Change by change) short may follow = record { good = short.good; text = kept_short c (length (shown_of c)) short follow }
 step_short c (Submit by bytes) short may follow = record { good = short.good; text = kept_short c (length (shown_of c)) short follow }
@@ -143,7 +144,7 @@ step_short c (Discard by) short may follow = record { good = short.good; text = 
 -- ---- its log
 
 IsBelow : List (List Mark) → ℕ → Type 0
-IsBelow shown n = length (text_after (take n shown)) ≤ 2 ^ 35 + 65536 * n
+IsBelow shown n = length (text_after (take n shown)) ≤ 2 ^ 35 + MAX_EDIT_BYTES * n
 
 short_now : (c : PlainClient) (log : List Logged) → IsShort c → IsBelow (replay_from c log).shown (length c.shown)
 unfolding IsBelow
@@ -171,16 +172,16 @@ opened_short : (o : Opening) → Good o.genesis o.kit [] → IsShort (opened o)
 opened_short o good = record { good = good; text = omega arith }
 
 abbrev pub HasShortTexts : {D : Type 0} → ClientModel D → Type 0
-HasShortTexts c = (seen : ℕ) → seen ≤ length c.log → length (shown_after seen (state_of c)) ≤ 2 ^ 40
+HasShortTexts c = (seen : ℕ) → seen ≤ length c.log → length (shown_after seen (state_of c)) ≤ MAX_COUNT
 
-pub short_texts_of : (o : Opening) (log : List Logged) → is_allowed o log ≡ true → IsSound (replay o log) → length log ≤ MAX_EVENTS → (seen : ℕ) → seen ≤ length log → length (shown_after seen (replay o log)) ≤ 2 ^ 40
+pub short_texts_of : (o : Opening) (log : List Logged) → is_allowed o log ≡ true → IsSound (replay o log) → length log ≤ MAX_EVENTS → (seen : ℕ) → seen ≤ length log → length (shown_after seen (replay o log)) ≤ MAX_COUNT
 unfolding replay is_allowed IsBelow
 short_texts_of o log may sound few seen low =
     let c = replay o log in
     let begin : Good o.genesis o.kit [] = good_none o.genesis o.kit
     (subst (λ (p : Opening). Meets p.genesis 0 (key_of p.genesis p.kit [] 0) p.genesis.commitment) (replay_opening o log)
     (subst (λ (k : Option (List ℕ)). Meets c.opening.genesis 0 k c.opening.genesis.commitment) (first_key c.opening.genesis c.opening.kit c.entries []) sound.good.opens)) in
-    let below : length (text_after (take (0 + seen) (replay_from (opened o) log).shown)) ≤ 2 ^ 35 + 65536 * (0 + seen) = short_from (opened o) log seen (opened_short o begin) may sound.follow low in
+    let below : length (text_after (take (0 + seen) (replay_from (opened o) log).shown)) ≤ 2 ^ 35 + MAX_EDIT_BYTES * (0 + seen) = short_from (opened o) log seen (opened_short o begin) may sound.follow low in
     omega (arith, below, ap (λ (n : ℕ). length (text_after (take n (replay_from (opened o) log).shown))) (zero-add seen), few, low)
 
 pub short_texts : {D : Type 0} (c : ClientModel D) → is_allowed c.opening c.log ≡ true → IsSound (state_of c) → length c.log ≤ MAX_EVENTS → HasShortTexts c

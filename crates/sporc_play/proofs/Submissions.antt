@@ -4,9 +4,9 @@ use Rattle.std.specs.Prelude.{◌==◌}
 use Rattle.std.specs.Option.{option_to_list}
 use Rattle.std.proofs.lemmas.Bool.{eqb-true}
 use Rattle.lms_leaf.specs.declared.faults.LeafFault.{LeafFault}
-use Rattle.lms_sign.specs.Signer.{SignerContent}
+use Rattle.lms_sign.specs.Signer.{SignerModel}
 use Rattle.lms_tree.specs.LmsPrivate.{LmsPrivate}
-use Rattle.sporc_outside.specs.MemoryDisk.{MemoryDiskContent}
+use Rattle.sporc_outside.specs.MemoryDisk.{MemoryDiskModel}
 use Rattle.sporc_client.specs.declared.fault.SubmitFault.{SubmitFault}
 use Rattle.sporc_client.specs.declared.submitted.Submitted.{Submitted}
 use Rattle.sporc_client.specs.ClientModel.{ClientModel, state_of}
@@ -56,7 +56,7 @@ last_is last m next old (Some e) is = sym (ap (λ (same : Bool). cond same next 
 
 -- ---- the seat
 
-abbrev no_client : Option (ClientModel MemoryDiskContent)
+abbrev no_client : Option (ClientModel MemoryDiskModel)
 no_client = None
 
 -- what a submission by this answer does
@@ -70,7 +70,7 @@ holds_more s scene answer m c c' was key is =
     (subst (λ (k : LmsPrivate). IsReady k (c.leaves.next + length (entries_in answer)) c') key is)
 
 -- the same in the words of the scene
-answer_is : (s : Setup) (scene : Scene) (seat : Seat) (c : ClientModel MemoryDiskContent) → IsSeatOf s scene (with_client seat (Some c)) → answer_of seat c ≡ submission_in s scene seat.member (state_of c)
+answer_is : (s : Setup) (scene : Scene) (seat : Seat) (c : ClientModel MemoryDiskModel) → IsSeatOf s scene (with_client seat (Some c)) → answer_of seat c ≡ submission_in s scene seat.member (state_of c)
 answer_is s scene seat c is =
     ap₂ (λ (n : ℕ) (leaf : Result ℕ LeafFault). submission (state_of c) (random_of seat.member (n + 1)) leaf) is.asked
     (ap₂ leaf_after is.holds.ready.key is.holds.ready.leaves.next)
@@ -101,7 +101,7 @@ seat_done s scene seat made new is did = go seat.client is did.client
         ∙ ap (λ (es : List (List ℕ)). last_made scene.last seat.member (length scene.made + 1) es seat.member) are
         ∙ ap (last_made scene.last seat.member (length scene.made + 1) entries) (sym did.member)
 
-    open_case : (c c' : ClientModel MemoryDiskContent) → IsSeatOf s scene (with_client seat (Some c)) → new.client ≡ Some c' → IsSubmitted c (answer_of seat c) c' → option_to_list made ≡ entries_in (answer_of seat c)
+    open_case : (c c' : ClientModel MemoryDiskModel) → IsSeatOf s scene (with_client seat (Some c)) → new.client ≡ Some c' → IsSubmitted c (answer_of seat c) c' → option_to_list made ≡ entries_in (answer_of seat c)
         → IsDone s (done s scene seat.member (answer_of seat c)) (entries_in (answer_of seat c)) made new
     open_case c c' is now by are =
         let answer = answer_of seat c in
@@ -125,7 +125,7 @@ seat_done s scene seat made new is did = go seat.client is did.client
           entries_are = are;
         }
 
-    none_case : (signer : Option (SignerContent MemoryDiskContent)) → seat.signer ≡ signer → Holds s scene seat.member signer no_client → scene.world.clients seat.member ≡ None → new.client ≡ None → made ≡ None → P None
+    none_case : (signer : Option (SignerModel MemoryDiskModel)) → seat.signer ≡ signer → Holds s scene seat.member signer no_client → scene.world.clients seat.member ≡ None → new.client ≡ None → made ≡ None → P None
     none_case None signed held closed now unmade = absurd held
     none_case (Some signer) signed held closed now unmade = record {
       seat = record {
@@ -134,7 +134,7 @@ seat_done s scene seat made new is did = go seat.client is did.client
         client = ap scene.world.clients did.member ∙ closed ∙ sym (ap (option_map state_of) now);
         holds = subst (λ (n : ℕ). Holds s (performed s scene (commands.Submit seat.member) (if_open None F)) n new.signer new.client) (sym did.member)
             (subst (Holds s (performed s scene (commands.Submit seat.member) (if_open None F)) seat.member new.signer) (sym now)
-            (subst (λ (o : Option (SignerContent MemoryDiskContent)). Holds s (performed s scene (commands.Submit seat.member) (if_open None F)) seat.member o no_client) (sym (did.signer ∙ signed))
+            (subst (λ (o : Option (SignerModel MemoryDiskModel)). Holds s (performed s scene (commands.Submit seat.member) (if_open None F)) seat.member o no_client) (sym (did.signer ∙ signed))
             (record {
               key = held.key;
               leaves = subst (λ (n : ℕ). AreDrawn (s.private seat.member) n signer.leaves) (sym (more_own scene.leaves seat.member 0 ∙ add-zero (scene.leaves seat.member))) held.leaves;
@@ -143,7 +143,7 @@ seat_done s scene seat made new is did = go seat.client is did.client
       entries_are = ap option_to_list unmade;
     }
 
-    go : (o : Option (ClientModel MemoryDiskContent)) → IsSeatOf s scene (with_client seat o) → ClientSubmitted seat o made new.client → P (scene.world.clients seat.member)
+    go : (o : Option (ClientModel MemoryDiskModel)) → IsSeatOf s scene (with_client seat o) → ClientSubmitted seat o made new.client → P (scene.world.clients seat.member)
     go None is by = subst P (sym is.client) (none_case seat.signer refl is.holds is.client by.0 by.1)
     go (Some c) is by =
         subst P (sym is.client)
@@ -194,7 +194,7 @@ submission_told script scene state i m next seat old new stands at number is =
     L : Option PlainClient → List ℕ
     L o = line_by seat.member o (λ c. submit_line seat.member (next_number scene) (scene.last seat.member) (submission_in (setup_of script) scene seat.member c))
 
-    go : (o : Option (ClientModel MemoryDiskContent)) → IsSeatOf (setup_of script) scene (with_client seat o) → submission_line next seat o ≡ L (scene.world.clients seat.member)
+    go : (o : Option (ClientModel MemoryDiskModel)) → IsSeatOf (setup_of script) scene (with_client seat o) → submission_line next seat o ≡ L (scene.world.clients seat.member)
     go None is = sym (ap L is.client)
     go (Some c) is =
         ap₂ (λ (n l : ℕ). submit_line seat.member n l (answer_of seat c)) number is.last

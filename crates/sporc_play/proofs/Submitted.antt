@@ -6,7 +6,7 @@ use Rattle.std.specs.Result.{OnOk}
 use Rattle.std.proofs.lemmas.Bool.{eqb-true, lt-ltb, ltb-true}
 use Rattle.lms_leaf.specs.declared.faults.LeafFault.{LeafFault}
 use Rattle.lms_leaf.specs.declared.faults.LeafFault.TheVariants as leaves
-use Rattle.lms_leaf.specs.Leaves.{DrawFaults, Draws, LeavesContent}
+use Rattle.lms_leaf.specs.Leaves.{DrawFaults, Draws, LeavesModel}
 use Rattle.lms_tree.specs.LmsPrivate.{LmsPrivate}
 use Rattle.lms_tree.specs.LmsType.{height_of}
 use Rattle.sporc_base.specs.Outcome.{GivesUnless}
@@ -20,7 +20,7 @@ use Rattle.sporc_client.specs.PlainClient.{PlainClient}
 use Rattle.sporc_client.specs.Submissions.{Due, Waiting, Nothing, Drop, Refuse, Sign, answered, due, is_signing, submission, submission_added}
 use Rattle.sporc_play.specs.Report.{submit_line}
 use Rattle.sporc_play.specs.Scene.{entries_in, leaf_after, leaf_next}
-use Rattle.sporc_outside.specs.MemoryDisk.{MemoryDiskContent}
+use Rattle.sporc_outside.specs.MemoryDisk.{MemoryDiskModel}
 use Rattle.sporc_play.specs.declared.seat.Seat.{Seat}
 use Rattle.sporc_play.specs.Derived.{random_of}
 use Rattle.sporc_play.specs.Seats.{AreDrawn, ClientSubmitted, HasSubmitted, IsReady, IsSubmitted, last_with}
@@ -87,7 +87,7 @@ not_faulty : (faulty : Bool) → (IsTrue faulty → ⊥) → faulty ≡ false
 not_faulty true works = absurd (works refl)
 not_faulty false works = refl
 
-same_next : {D : Type 0} (old new : LeavesContent D) → new.next ≡ old.next → at_hand None old new ≡ None
+same_next : {D : Type 0} (old new : LeavesModel D) → new.next ≡ old.next → at_hand None old new ≡ None
 same_next old new same = ap (λ (b : Bool). cond b None (Some old.next)) (eq-eqb new.next old.next same)
 
 leaf_there : (key : LmsPrivate) (next : ℕ) → next < 2 ^ height_of key.lms → leaf_after key next ≡ Ok next
@@ -140,7 +140,7 @@ module _ {D : Type 0} (stored : D → Option (List ℕ)) (moment : D → ℕ) (i
         answer = quiet_answer c random (leaf_next old) (drawn old.leaves new.leaves) (due c) signs ∙ called.answer;
         client = after_call random old new result called
             (subst (λ (n : ℕ). AreDrawn old.opening.key n new.leaves) count (subst (AreDrawn old.opening.key old.leaves.next) (sym same) called.ready.leaves))
-            (ap (kept_after None old.leaves new.leaves) (quiet_gives result none) ∙ same_next old.leaves new.leaves (ap (λ (l : LeavesContent D). l.next) same));
+            (ap (kept_after None old.leaves new.leaves) (quiet_gives result none) ∙ same_next old.leaves new.leaves (ap (λ (l : LeavesModel D). l.next) same));
       }
 
   exhausted : (random : List ℕ) (old new : ClientModel D) (result : Result Submitted SubmitFault) → Called stored moment images disk_faults random old new result → is_signing (due (state_of old)) ≡ true
@@ -268,7 +268,7 @@ told_both (Err e) random old new result named no_disk is = tt
 
 -- ---- a seat after it
 
-pub has_submitted : (next : ℕ) (seat : Seat) (c c' : ClientModel MemoryDiskContent) (random : List ℕ) (made : Option (List ℕ)) → seat.client ≡ Some c → random ≡ random_of seat.member (seat.asked + 1)
+pub has_submitted : (next : ℕ) (seat : Seat) (c c' : ClientModel MemoryDiskModel) (random : List ℕ) (made : Option (List ℕ)) → seat.client ≡ Some c → random ≡ random_of seat.member (seat.asked + 1)
     → option_to_list made ≡ entries_in (submission (state_of c) random (leaf_next c)) → IsSubmitted c (submission (state_of c) random (leaf_next c)) c'
     → HasSubmitted next seat made (record { member = seat.member; asked = seat.asked + 1; last = last_with next seat.last made; signer = seat.signer; client = Some c' })
 has_submitted next seat c c' random made is at entries did = record {
@@ -276,7 +276,7 @@ has_submitted next seat c c' random made is at entries did = record {
   asked = refl;
   last = refl;
   signer = refl;
-  client = subst (λ (o : Option (ClientModel MemoryDiskContent)). ClientSubmitted seat o made (Some c')) (sym is) (
+  client = subst (λ (o : Option (ClientModel MemoryDiskModel)). ClientSubmitted seat o made (Some c')) (sym is) (
     c',
     refl,
     subst (λ (r : List ℕ). IsSubmitted c (submission (state_of c) r (leaf_next c)) c') at did,

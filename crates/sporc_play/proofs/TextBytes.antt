@@ -11,7 +11,7 @@ use Rattle.sporc_delta.specs.Format.{delta_bytes, part_bytes, parts_bytes}
 use Rattle.sporc_delta.specs.Marks.{Mark}
 use Rattle.sporc_delta.specs.Parts.{marks_of, part_marks, runs}
 use Rattle.sporc_delta.proofs.Runs.{marks_of-runs}
-use Rattle.sporc_delta.proofs.Typing.{inserted, inserted-append, inserted-inserts}
+use Rattle.sporc_delta.proofs.Typing.{inserted, inserted-append, inserted-inserts, scalars_append}
 use Rattle.sporc_play.proofs.ByteFacts.{AreBytes, bytes_64, bytes_append}
 
 char_are : (c : ℕ) → c < 1114112 → AreBytes (encode_utf8 c)
@@ -38,10 +38,6 @@ text_are (c ∷ text) is =
     bytes_append (encode_utf8 c) (encode_utf8_all text) (char_are c (small c p.0)) (text_are text p.1)
 
 -- ---- deltas
-
-scalars_append : (xs ys : List ℕ) → all_scalars (xs ++ ys) ≡ (all_scalars xs && all_scalars ys)
-scalars_append [] ys = refl
-scalars_append (x ∷ xs) ys = grind (arith, scalars_append xs ys)
 
 part_are : (p : Part) → all_scalars (inserted (part_marks p)) ≡ true → AreBytes (part_bytes p)
 part_are (Keep n) is = (omega arith, bytes_64 n)

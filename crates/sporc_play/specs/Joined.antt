@@ -1,7 +1,7 @@
 -- The seat of one who joins.
 use Rattle.std.specs.Prelude.{ℕ, List, [], map, Option, None, Some, Result, Ok, Err}
 use Rattle.std.specs.FinMap.{get}
-use Rattle.lms_sign.specs.Signer.{SignerContent}
+use Rattle.lms_sign.specs.Signer.{SignerModel}
 use Rattle.sporc_base.specs.FirstFault.{first_of}
 use Rattle.sporc_epoch.specs.Hints.{hints_of}
 use Rattle.sporc_epoch.specs.Keys.{Keys}
@@ -9,7 +9,7 @@ use Rattle.sporc_epoch.specs.declared.fault.HintFault.{HintFault}
 use Rattle.sporc_line.specs.Kit.{kit_of}
 use Rattle.sporc_line.specs.Openings.{open_checks}
 use Rattle.sporc_line.specs.declared.fault.LineOpenFault.{LineOpenFault}
-use Rattle.sporc_outside.specs.MemoryDisk.{MemoryDiskContent}
+use Rattle.sporc_outside.specs.MemoryDisk.{MemoryDiskModel}
 use Rattle.sporc_client.specs.ClientModel.{ClientModel}
 use Rattle.sporc_client.specs.Run.{Setup}
 use Rattle.sporc_play.specs.declared.made.Found.{Found}
@@ -22,7 +22,7 @@ entries_found (Entries entries) = Ok (map (λ v. v.items) entries.items)
 entries_found (Missing number) = Err number
 
 -- the client of a member that opens with this ring
-abbrev pub client_with : {D : Type 0} → Setup → ℕ → Keys → SignerContent D → ClientModel D
+abbrev pub client_with : {D : Type 0} → Setup → ℕ → Keys → SignerModel D → ClientModel D
 client_with s member ring signer = record {
   opening = record { genesis = s.genesis; kit = kit_of member ring (s.pairs member); key = signer.key };
   log = [];
@@ -31,7 +31,7 @@ client_with s member ring signer = record {
 }
 
 -- a seat whose client opens with this ring
-abbrev pub seat_open : Setup → Keys → Seat → Option (SignerContent MemoryDiskContent) → Seat
+abbrev pub seat_open : Setup → Keys → Seat → Option (SignerModel MemoryDiskModel) → Seat
 seat_open s ring seat None = seat
 seat_open s ring seat (Some signer) = record seat { signer = None; client = Some (client_with s seat.member ring signer) }
 
@@ -49,6 +49,6 @@ seat_with s seat (Ok entries) = seat_by s seat (hints_of entries seat.member (s.
 seat_with s seat (Err missing) = seat
 
 -- one whose client is open stays as it is
-abbrev pub seat_joined : Setup → Seat → Result (List (List ℕ)) ℕ → Option (ClientModel MemoryDiskContent) → Seat
+abbrev pub seat_joined : Setup → Seat → Result (List (List ℕ)) ℕ → Option (ClientModel MemoryDiskModel) → Seat
 seat_joined s seat entries (Some c) = seat
 seat_joined s seat entries None = seat_with s seat entries

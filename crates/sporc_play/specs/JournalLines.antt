@@ -12,7 +12,7 @@ use Rattle.sporc_member.specs.ChangeFault.{change_fault_name}
 use Rattle.sporc_client.specs.declared.event.Event.{Event}
 use Rattle.sporc_client.specs.declared.event.Event.TheVariants as events
 use Rattle.sporc_script.specs.Quoted.{quoted}
-use Rattle.sporc_play.specs.Names.{role_name}
+use Rattle.sporc_script.specs.Spelling.{role_name}
 
 -- a part of a delta: so many characters kept, a text inserted, so many removed
 abbrev pub part_text : Part → List ℕ

@@ -1,4 +1,3 @@
-pub mod Apart
 pub mod Batches
 pub mod Cast
 pub mod Derived

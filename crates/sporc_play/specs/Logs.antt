@@ -6,7 +6,7 @@ use Rattle.sporc_delta.specs.Marks.{Mark}
 use Rattle.sporc_client.specs.Answers.{change_fault, discard_fault, edit_fault, journal_has_room, refusal_of}
 use Rattle.sporc_client.specs.Log.{Logged, Accept, Change, Discard, Edit}
 use Rattle.sporc_client.specs.PlainClient.{PlainClient}
-use Rattle.sporc_client.specs.Run.{Setup, World, Move, Open, Happen, Give, Restart, after}
+use Rattle.sporc_client.specs.Run.{Setup, World, Move, Open, Happen, Give, Restart, after, mover_of}
 use Rattle.sporc_client.specs.Step.{log_of_entries}
 
 -- what a call adds to a client's log, unless it is refused
@@ -58,13 +58,6 @@ log_after w log (Open who ring) = []
 log_after w log (Happen who event) = log ++ event ∷ []
 log_after w log (Give who position bytes) = log ++ events_by (λ c. given_events c position bytes) (w.clients who)
 log_after w log (Restart who k) = first_accepts (w.clients who) k
-
--- whose client a move is of
-abbrev pub mover_of : Move → ℕ
-mover_of (Open who ring) = who
-mover_of (Happen who event) = who
-mover_of (Give who position bytes) = who
-mover_of (Restart who k) = who
 
 -- all logs after moves
 abbrev pub logs_after : Setup → World → (ℕ → List Logged) → List Move → ℕ → List Logged

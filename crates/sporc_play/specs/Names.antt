@@ -12,13 +12,6 @@ use Rattle.sporc_epoch.specs.declared.fault.HintFault.TheVariants as hints
 use Rattle.sporc_head.specs.Refusal.{refusal_name}
 use Rattle.sporc_line.specs.declared.fault.LineOpenFault.{LineOpenFault}
 use Rattle.sporc_line.specs.declared.fault.LineOpenFault.TheVariants as opens
-use Rattle.sporc_member.specs.declared.role.Role.{Role}
-use Rattle.sporc_member.specs.declared.role.Role.TheVariants.{Reader, Editor, Admin}
-
-abbrev pub role_name : Role → List ℕ
-role_name Reader = codes "reader"
-role_name Editor = codes "editor"
-role_name Admin = codes "admin"
 
 abbrev pub edit_fault_name : EditFault → List ℕ
 edit_fault_name edits.Removed = codes "removed"

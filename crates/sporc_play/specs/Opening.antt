@@ -1,7 +1,7 @@
 -- What the declarations of a script make, line by line: who takes part, and the founders' clients.
 use Rattle.std.specs.Prelude.{◌≡◌, ℕ, List, [], ◌∷◌, ◌++◌, filter_map, fold, map, Option, None, Some}
 use Rattle.std.specs.List.{AllByRecursion}
-use Rattle.lms_sign.specs.Signer.{SignerContent}
+use Rattle.lms_sign.specs.Signer.{SignerModel}
 use Rattle.sporc_member.specs.declared.founder.Founder.{Founder}
 use Rattle.sporc_member.specs.Roster.{insert_sorted}
 use Rattle.sporc_script.specs.declared.command.Tree.{Tree}
@@ -13,11 +13,11 @@ use Rattle.sporc_play.specs.Cast.{declared_by, founder_by, founder_of, member_by
 use Rattle.sporc_play.specs.Seats.{AreDrawn, rogue_numbers, seated}
 
 -- a signer of a member with a blank leaf file
-pub record IsBlank {D : Type 0} (tree : Tree) (member : ℕ) (signer : SignerContent D) : Type 0 where
+pub record IsBlank {D : Type 0} (tree : Tree) (member : ℕ) (signer : SignerModel D) : Type 0 where
   pub key : signer.key ≡ private_of tree member
   pub leaves : AreDrawn (private_of tree member) 0 signer.leaves
 
-abbrev pub HasBlank : {D : Type 0} → Tree → ℕ → Option (SignerContent D) → Type 0
+abbrev pub HasBlank : {D : Type 0} → Tree → ℕ → Option (SignerModel D) → Type 0
 HasBlank tree member None = ⊥
 HasBlank tree member (Some signer) = IsBlank tree member signer
 

@@ -38,7 +38,8 @@ use Rattle.sporc_script.specs.declared.command.Pair.{Pair}
 use Rattle.sporc_script.specs.declared.play_line.PlayLine.{PlayLine}
 use Rattle.sporc_play.specs.Cast.{setup_of}
 use Rattle.sporc_play.specs.JournalLines.{journal_lines}
-use Rattle.sporc_play.specs.Names.{accept_fault_name, edit_fault_name, hint_fault_name, open_fault_name, role_name, submit_fault_name}
+use Rattle.sporc_script.specs.Spelling.{role_name}
+use Rattle.sporc_play.specs.Names.{accept_fault_name, edit_fault_name, hint_fault_name, open_fault_name, submit_fault_name}
 use Rattle.sporc_play.specs.Scene.{Scene, after, delta_by, entries_at, entry_at, leaf_after, opening, seen_by, submission_in}
 
 -- ---- lines that several commands write
@@ -204,7 +205,7 @@ line_of s scene (commands.Submit m) =
     line_by m (scene.world.clients m) (λ c. submit_line m (next_number scene) (scene.last m) (submission_in s scene m c))
 line_of s scene (commands.Give g) =
     line_by g.member (scene.world.clients g.member) (λ c. give_line g.member g.position c (entry_at scene.made g.entry))
-line_of s scene (commands.Restart r) = line_by r.member (scene.world.clients r.member) (restart_line r.member r.events)
+line_of s scene (commands.Restart r) = line_by r.member (scene.world.clients r.member) (restart_line r.member r.entries)
 line_of s scene (commands.Join j) = join_line s j.member (entries_at scene.made j.entries) (scene.world.clients j.member)
 line_of s scene (commands.Show m) = line_by m (scene.world.clients m) (show_line m)
 line_of s scene (commands.Members m) = line_by m (scene.world.clients m) (members_line m)

@@ -1,7 +1,7 @@
 -- Members with their clients as the code keeps them, and what a call does to one.
 use Rattle.std.specs.Prelude.{◌≡◌, ℕ, ◌+◌, ◌≤◌, ◌^◌, false, List, ◌++◌, length, map, slice_get, Option, None, Some, option_map, Result}
 use Rattle.std.specs.Option.{option_to_list}
-use Rattle.lms_leaf.specs.Leaves.{LeavesContent}
+use Rattle.lms_leaf.specs.Leaves.{LeavesModel}
 use Rattle.lms_tree.specs.LmsPrivate.{LmsPrivate}
 use Rattle.lms_tree.specs.LmsType.{height_of}
 use Rattle.sporc_client.specs.declared.fault.SubmitFault.{SubmitFault}
@@ -42,7 +42,7 @@ abbrev pub plain_in : Seat → Option PlainClient
 plain_in seat = option_map state_of seat.client
 
 -- leaf numbers in memory, for a tree of a key: so many are drawn, and no disk failed
-pub record AreDrawn {D : Type 0} (key : LmsPrivate) (drawn : ℕ) (leaves : LeavesContent D) : Type 0 where
+pub record AreDrawn {D : Type 0} (key : LmsPrivate) (drawn : ℕ) (leaves : LeavesModel D) : Type 0 where
   pub next : leaves.next ≡ drawn
   pub within : drawn ≤ 2 ^ height_of key.lms
   pub count : leaves.leaf_count ≡ 2 ^ height_of key.lms

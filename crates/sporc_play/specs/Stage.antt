@@ -1,8 +1,8 @@
 -- How the state that the code keeps stands for a scene.
-use Rattle.std.specs.Prelude.{◌≡◌, ℕ, ◌+◌, ◌≤◌, ◌<◌, ◌^◌, true, List, ◌++◌, fold, map, Option, None, Some, Contains, IfSome, IsSome, ⊤, if◌then◌else◌}
+use Rattle.std.specs.Prelude.{◌≡◌, ℕ, ◌+◌, ◌≤◌, ◌<◌, ◌^◌, true, List, ◌++◌, fold, map, nat_eq, Option, None, Some, Contains, IfSome, IsSome, ⊤, if◌then◌else◌}
 use Rattle.std.specs.FinMap.{empty, insert}
-use Rattle.std.specs.List.{All, AllByRecursion, list_any}
-use Rattle.lms_sign.specs.Signer.{SignerContent}
+use Rattle.std.specs.List.{All, AllByRecursion, IsDistinct, list_any}
+use Rattle.lms_sign.specs.Signer.{SignerModel}
 use Rattle.sporc_entry.specs.Genesis.{IsGenesis}
 use Rattle.sporc_epoch.specs.Keys.{Keys}
 use Rattle.sporc_client.specs.ClientModel.{ClientModel}
@@ -15,7 +15,6 @@ use Rattle.sporc_play.specs.declared.seat.Rogue.{Rogue}
 use Rattle.sporc_play.specs.declared.seat.Seat.{Seat}
 use Rattle.sporc_play.specs.declared.state.PlayState.{PlayState}
 use Rattle.sporc_play.specs.declared.playing.TheConstants.{MAX_SCRIPT}
-use Rattle.sporc_play.specs.Apart.{AreApart}
 use Rattle.sporc_play.specs.Cast.{has_admin, is_pair, private_of, rogues_of, setup_of}
 use Rattle.sporc_play.specs.Derived.{pair_key}
 use Rattle.sporc_play.specs.Lines.{AppendsLine}
@@ -41,7 +40,7 @@ pub record IsCastOf (s : Setup) (cast : Cast) : Type 0 where
 
 -- what the grammar says of the declarations: no two numbers are one, and the founders can begin a document if one is an admin
 pub record AreDeclared (script : List PlayLine) : Type 0 where
-  pub apart : AreApart ((setup_of script).members ++ rogues_of script)
+  pub distinct : IsDistinct nat_eq ((setup_of script).members ++ rogues_of script)
   pub genesis : has_admin script ≡ true → IsGenesis (setup_of script).genesis
 
 -- ---- seats
@@ -54,12 +53,12 @@ pub record IsClientOf {D : Type 0} (s : Setup) (scene : Scene) (member : ℕ) (c
   pub ready : IsReady (s.private member) (scene.leaves member) c
 
 -- a signer is that of a member
-pub record IsSignerOf {D : Type 0} (s : Setup) (scene : Scene) (member : ℕ) (signer : SignerContent D) : Type 0 where
+pub record IsSignerOf {D : Type 0} (s : Setup) (scene : Scene) (member : ℕ) (signer : SignerModel D) : Type 0 where
   pub key : signer.key ≡ s.private member
   pub leaves : AreDrawn (s.private member) (scene.leaves member) signer.leaves
 
 -- a signer until the client opens, and the client from then on
-abbrev pub Holds : {D : Type 0} → Setup → Scene → ℕ → Option (SignerContent D) → Option (ClientModel D) → Type 0
+abbrev pub Holds : {D : Type 0} → Setup → Scene → ℕ → Option (SignerModel D) → Option (ClientModel D) → Type 0
 Holds s scene member signer (Some c) = IsClientOf s scene member c
 Holds s scene member (Some signer) None = IsSignerOf s scene member signer
 Holds s scene member None None = ⊥
@@ -140,5 +139,5 @@ abbrev pub Becomes : PlayState → Command → PlayState → Type 0
 Becomes old command new = (script : List PlayLine) (scene : Scene) → StandsFor script scene old → StandsFor script (after (setup_of script) scene command) new
 
 -- whatever scene a state stands for, the line of a command in it follows the bytes
-abbrev pub Tells : PlayState → Command → List ℕ → List ℕ → Type 0
-Tells state command old new = (script : List PlayLine) (scene : Scene) → StandsFor script scene state → AppendsLine (setup_of script) scene command old new
+abbrev pub AppendsLineOf : PlayState → Command → List ℕ → List ℕ → Type 0
+AppendsLineOf state command old new = (script : List PlayLine) (scene : Scene) → StandsFor script scene state → AppendsLine (setup_of script) scene command old new

@@ -4,6 +4,7 @@ ghost use Rattle.std.specs.Prelude.{◌≡◌, ◌≢◌, ℕ, ◌+◌, ◌<◌,
 ghost use Rattle.std.specs.Option.{option_copied, option_to_list};
 ghost use Rattle.std.specs.Result.{result_ok};
 ghost use Rattle.sporc_base.specs.FirstFault.{AnswersUnless};
+ghost use Rattle.sporc_delta.specs.declared.limits.TheConstants.{MAX_COUNT};
 ghost use Rattle.sporc_client.specs.Answers.{restart_fault};
 ghost use Rattle.sporc_client.specs.ClientModel.{state_of};
 ghost use Rattle.sporc_client.specs.PlainClient.{shown_after};
@@ -27,7 +28,7 @@ use std::fmt::Write;
 
 /// Appends that a member has no client.
 pub fn push_not_open(out: &mut String, member: u16) -> Result<(), Memory>
-    ensures { OnOk result (string_bytes out.new ≡ string_bytes out.old ++ not_open_line member) }
+    ensures ok { OnOk result (string_bytes out.new ≡ string_bytes out.old ++ not_open_line member) }
 {
     writeln!(out, "{member} not open")
 }
@@ -36,7 +37,7 @@ pub fn push_not_open(out: &mut String, member: u16) -> Result<(), Memory>
 
 /// Edits what a member sees, or saw after so many events.
 pub fn edit(alloc: Global, seat: &mut Seat, edit: &Edit, out: &mut String) -> Result<(), Memory>
-    requires { edit_size edit.now.change ≤ 2 ^ 40 }
+    requires limit { edit_size edit.now.change ≤ MAX_COUNT }
     ensures line { OnOk result (string_bytes out.new ≡ string_bytes out.old ++ line_by edit.now.member (plain_in seat.old) (edited_line edit.now)) }
     ensures seat { OnOk result (seat.new ≡ seat_logged (edit_events edit.now) seat.old) }
 {
@@ -52,7 +53,7 @@ fn edit_client(
     edit: &Edit,
     out: &mut String,
 ) -> Result<(), Memory>
-    requires { edit_size edit.now.change ≤ 2 ^ 40 }
+    requires { edit_size edit.now.change ≤ MAX_COUNT }
     ensures line { OnOk result (string_bytes out.new ≡ string_bytes out.old ++ edited_line edit.now (state_of client.old)) }
     ensures log { OnOk result (client.new ≡ client_logged (edit_events edit.now) client.old) }
 {
@@ -72,7 +73,7 @@ fn delta_by(
     seen: u64,
     edit: &TextEdit,
 ) -> Result<Result<Delta, u64>, Memory>
-    requires { edit_size edit.now ≤ 2 ^ 40 }
+    requires { edit_size edit.now ≤ MAX_COUNT }
     ensures value { IfOk result (λ found. result_ok found ≡ delta_by (state_of client.now) seen edit.now) }
     ensures outside { IfOk result (λ found. IfErr found (λ len. len ≡ length (shown_after seen (state_of client.now)))) }
 {
@@ -113,8 +114,8 @@ fn edit_by(
 
 // The delta of an edit of a text of this length; none, if the edit lies outside it.
 fn delta_of(alloc: Global, edit: &TextEdit, len: u64) -> Result<Option<Delta>, Memory>
-    requires small { len ≤ 2 ^ 40 }
-    requires short { edit_size edit.now ≤ 2 ^ 40 }
+    requires small { len ≤ MAX_COUNT }
+    requires short { edit_size edit.now ≤ MAX_COUNT }
     ensures { IfOk result (λ found. found ≡ marks_of edit.now len) }
 {
     match edit {
@@ -335,11 +336,11 @@ fn give_client(
 
 /// Goes back to the first entries.
 pub fn restart(seat: &mut Seat, restart: &Restart, out: &mut String) -> Result<(), Memory>
-    ensures line { OnOk result (string_bytes out.new ≡ string_bytes out.old ++ line_by restart.now.member (plain_in seat.old) (restart_line restart.now.member restart.now.events)) }
-    ensures seat { OnOk result (seat.new ≡ seat_restarted restart.now.events seat.old) }
+    ensures line { OnOk result (string_bytes out.new ≡ string_bytes out.old ++ line_by restart.now.member (plain_in seat.old) (restart_line restart.now.member restart.now.entries)) }
+    ensures seat { OnOk result (seat.new ≡ seat_restarted restart.now.entries seat.old) }
 {
     let member = restart.member;
-    let k = restart.events;
+    let k = restart.entries;
     let Some(client) = &mut seat.client else {
         return push_not_open(out, member);
     };

@@ -84,7 +84,7 @@ impl Cast {
     }
 
     // Adds the key that two share, if they share one.
-    #[tactic(auto, using(crate::proofs::PairKeys::pairs_put))]
+    #[tactic(auto, using(sporc_epoch::proofs::PairMaps::pairs_put))]
     fn put_pair(&self, pairs: &mut Pairs, member: u16, other: u16) -> Result<(), Memory>
         ensures { OnOk result (pairs_in pairs.new ≡ pair_among self.now member (pairs_in pairs.old) other) }
     {

@@ -25,6 +25,7 @@ use lms_leaf::LeafFault;
 use lms_sign::{Signer, Ticket};
 use sporc_base::{Bytes, Memory};
 use sporc_cipher::mask;
+use sporc_client::{first_half, second_half};
 use sporc_delta::Delta;
 use sporc_entry::{ChangeBody, Entry, Header, Wrap, Wraps, signed_part, write_change, write_entry};
 use sporc_epoch::{Pairs, SealFault, entry_stream, seal_change};
@@ -367,7 +368,7 @@ fn pairs_with(alloc: Global, rogue: u16, members: &[u16]) -> Result<Pairs, Memor
 }
 
 // Adds the derived key that a rogue shares with a member.
-#[tactic(auto, using(crate::proofs::PairKeys::pairs_put))]
+#[tactic(auto, using(sporc_epoch::proofs::PairMaps::pairs_put))]
 fn put_derived(pairs: &mut Pairs, rogue: u16, member: u16) -> Result<(), Memory>
     ensures { OnOk result (pairs_in pairs.new ≡ with_derived rogue (pairs_in pairs.old) member) }
 {
@@ -450,22 +451,4 @@ fn first_flipped(bytes: &[u8; 32]) -> [u8; 32]
     let mut flipped = *bytes;
     flipped[0] ^= 1;
     flipped
-}
-
-// The first 32 of 64 random bytes.
-fn first_half(random: &[u8; 64]) -> [u8; 32]
-    ensures { result ≡ take 32 random.now }
-{
-    let mut half = [0; 32];
-    half.copy_from_slice(&random[..32]);
-    half
-}
-
-// The last 32 of 64 random bytes.
-fn second_half(random: &[u8; 64]) -> [u8; 32]
-    ensures { result ≡ drop 32 random.now }
-{
-    let mut half = [0; 32];
-    half.copy_from_slice(&random[32..]);
-    half
 }

@@ -2,6 +2,7 @@
 
 ghost use Rattle.std.specs.Prelude.{◌≡◌, ◌+◌, ◌^◌, ◌<◌, ◌≤◌, ◌↔◌, [], ◌∷◌, ◌++◌, IfErr, IfOk, IsTrue, OnOk, Some, codes, flat_map, length, map, string_bytes};
 ghost use Rattle.std.specs.Fmt.{decimal};
+ghost use Rattle.sporc_outside.specs.Uses.{sink_use};
 ghost use Rattle.sporc_client.specs.ClientModel.{state_of};
 ghost use Rattle.sporc_client.specs.PlainClient.{shown_of};
 ghost use Rattle.sporc_play.specs.Batches.{AreOpen, HasRoom, IsAsked, Performs};
@@ -31,19 +32,9 @@ const MEMBERS: u32 = 3;
 
 /// Performs the generated run of so many edits, and writes its summary.
 pub fn play_generated<O: Sink>(alloc: Global, edits: u32, out: &mut O) -> Result<(), PlayFault>
-    requires { edits ≤ MAX_GENERATED }
-    ensures ok { OnOk result (PlaysGenerated edits (record {
-      written_before = O.written out.old;
-      written_after = O.written out.new;
-      faults_before = O.faults out.old;
-      faults_after = O.faults out.new;
-    })) }
-    ensures err { IfErr result (GeneratedFault edits (record {
-      written_before = O.written out.old;
-      written_after = O.written out.new;
-      faults_before = O.faults out.old;
-      faults_after = O.faults out.new;
-    })) }
+    requires limit { edits ≤ MAX_GENERATED }
+    ensures ok { OnOk result (PlaysGenerated edits (sink_use O.written O.faults out.old out.new)) }
+    ensures err { IfErr result (GeneratedFault edits (sink_use O.written O.faults out.old out.new)) }
     ensures kept { O.faults out.old ≤ O.faults out.new }
 {
     let state = generated_run(alloc, edits)?;

@@ -2,7 +2,7 @@
 
 ghost use Rattle.std.specs.Prelude.{◌≡◌, ◌++◌, codes, OnOk, flat_map, string_bytes};
 ghost use Rattle.std.specs.Fmt.{decimal};
-ghost use Rattle.sporc_play.specs.Names.{role_name};
+ghost use Rattle.sporc_script.specs.Spelling.{role_name};
 ghost use Rattle.sporc_play.specs.JournalLines.{change_text, delta_text, event_text, journal_lines, part_text, spaced_part};
 
 use crate::quoted::push_quoted;
@@ -16,7 +16,7 @@ use std::fmt::Write;
 
 /// Appends a line for each event.
 pub fn push_journal(alloc: Global, out: &mut String, journal: &[Event]) -> Result<(), Memory>
-    ensures { OnOk result (string_bytes out.new ≡ string_bytes out.old ++ journal_lines journal.now) }
+    ensures ok { OnOk result (string_bytes out.new ≡ string_bytes out.old ++ journal_lines journal.now) }
 {
     for event in journal {
         push_event(alloc, out, event)?;

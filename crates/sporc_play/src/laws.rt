@@ -10,20 +10,27 @@ ghost use Rattle.sporc_play.specs.Moves.{IsOneRun, moves_of};
 ghost use Rattle.sporc_play.specs.OwnPlays.{AreByClients};
 ghost use Rattle.sporc_play.specs.Scene.{commands_of};
 
+use crate::playing::MAX_SCRIPT;
 use sporc_script::MAX_GENERATED;
+
+/// The limit of a script, in bytes.
+pub fn limits()
+    ensures script { MAX_SCRIPT ≡ 16777216 }
+{}
 
 /// A script's play is a run of the clients, who agree at any two of its moments.
 pub fn each_play_is_one_run()
-    ensures { (text : List ℕ) (script : List PlayLine) → IsPlayScript text script → has_admin script ≡ true → IsOneRun script (commands_of script) }
+    ensures run { (text : List ℕ) (script : List PlayLine) → IsPlayScript text script → has_admin script ≡ true → IsOneRun script (commands_of script) }
 {}
 
 /// In the play of a script without `sign`, `flip` and `cut` each entry that is accepted was signed by its author's client.
 pub fn each_play_of_clients_is_genuine()
-    ensures { (text : List ℕ) (script : List PlayLine) → IsPlayScript text script → has_admin script ≡ true → AreByClients script
+    ensures genuine { (text : List ℕ) (script : List PlayLine) → IsPlayScript text script → has_admin script ≡ true → AreByClients script
         → Genuine (setup_of script) start (moves_of script (commands_of script)) }
 {}
 
-/// The generated run is a run as well.
+/// The generated run is a run as well, and no one forges in it.
 pub fn the_generated_run_is_one()
-    ensures { (n : ℕ) → n ≤ MAX_GENERATED → IsOneRun generated_cast (generated_commands n) }
+    ensures run { (n : ℕ) → n ≤ MAX_GENERATED → IsOneRun generated_cast (generated_commands n) }
+    ensures genuine { (n : ℕ) → n ≤ MAX_GENERATED → Genuine (setup_of generated_cast) start (moves_of generated_cast (generated_commands n)) }
 {}

@@ -11,6 +11,11 @@
 //! give 1 1 1                1 accept 1 ok
 //! show 1                    1 at 1 pending 0 text "abc"
 //! ```
+//!
+//! Proved: the report, the generated run's line and what is told of a client are those of the definitions, which perform
+//! the commands on plain records of clients and recompute all from the first entry; each answer names its cause, and after
+//! a fault a prefix of the report was written; each play is a run of its members' clients ([`laws`]). Tested only
+//! (`sporc_top_tests`, `examples/`): that plays succeed with ample memory. Neither: how long a play takes.
 #![tactic(auto)]
 
 mod acting;
@@ -31,9 +36,9 @@ mod seat;
 mod showing;
 mod signing;
 mod state;
+mod telling;
 
 pub use crate::fault::PlayFault;
 pub use crate::generated::play_generated;
-pub use crate::journal::push_journal;
 pub use crate::playing::{MAX_SCRIPT, play};
-pub use crate::showing::{push_hash, push_show, push_verdict};
+pub use crate::telling::{hash_text, journal_text, show_text, verdict_text};

@@ -26,7 +26,7 @@ pub fn declare(
     rogues: &mut Vec<Rogue>,
     line: &PlayLine,
 ) -> Result<(), Memory>
-    ensures { OnOk result ((tree : Tree) (lines : List PlayLine) → HaveDeclared tree lines cast.old seats.old.items rogues.old.items
+    ensures ok { OnOk result ((tree : Tree) (lines : List PlayLine) → HaveDeclared tree lines cast.old seats.old.items rogues.old.items
         → HaveDeclared tree (lines ++ line.now ∷ []) cast.new seats.new.items rogues.new.items) }
 {
     match &line.command {
@@ -120,8 +120,8 @@ pub fn open_founder(
     genesis: &Genesis,
     seat: &mut Seat,
 ) -> Result<(), Memory>
-    requires { IsGenesis genesis.now }
-    ensures { OnOk result ((s : Setup) → IsCastOf s cast.now → genesis.now ≡ s.genesis → seat.new ≡ seat_open s first_ring seat.old seat.old.signer) }
+    requires genesis { IsGenesis genesis.now }
+    ensures ok { OnOk result ((s : Setup) → IsCastOf s cast.now → genesis.now ≡ s.genesis → seat.new ≡ seat_open s first_ring seat.old seat.old.signer) }
 {
     let ring = first_ring(alloc)?;
     let pairs = cast.pairs_of(alloc, seat.member)?;

@@ -1,5 +1,6 @@
 ghost use Rattle.std.specs.Prelude.{◌≡◌, ◌≢◌, ◌+◌, ◌≤◌, List, IfErr, OnOk, OnErr};
 ghost use Rattle.sporc_outside.specs.Reading.{ConsumesAtMost};
+ghost use Rattle.sporc_outside.specs.Uses.{sink_use, source_use};
 ghost use Rattle.sporc_play.specs.Cast.{setup_of};
 ghost use Rattle.sporc_play.specs.Lines.{WritesLine, WritesPrefix};
 ghost use Rattle.sporc_play.specs.Playing.{IsShortScript, IsWriteCause, PlayOutcome};
@@ -28,18 +29,8 @@ pub const MAX_SCRIPT: usize = 16_777_216;
 /// | `TooLong` | gave more than [`MAX_SCRIPT`] bytes | got nothing |
 pub fn play<S: Source, O: Sink>(alloc: Global, source: &mut S, out: &mut O) -> Result<(), PlayFault>
     ensures outcome { PlayOutcome
-        (record {
-          left_before = S.left source.old;
-          left_after = S.left source.new;
-          faults_before = S.faults source.old;
-          faults_after = S.faults source.new;
-        })
-        (record {
-          written_before = O.written out.old;
-          written_after = O.written out.new;
-          faults_before = O.faults out.old;
-          faults_after = O.faults out.new;
-        })
+        (source_use S.left S.faults source.old source.new)
+        (sink_use O.written O.faults out.old out.new)
         result }
     ensures taken { ConsumesAtMost (MAX_SCRIPT + 1) (S.left source.old) (S.left source.new) }
     ensures unchanged { IfErr result (λ fault. fault ≢ PlayFault.WriteFault → fault ≢ PlayFault.Memory → out.new ≡ out.old) }

@@ -8,7 +8,7 @@ use sporc_base::Memory;
 
 /// Appends a text in quotes, with its escapes.
 pub fn push_quoted(out: &mut String, text: &str) -> Result<(), Memory>
-    ensures { OnOk result (string_bytes out.new ≡ string_bytes out.old ++ quoted (chars text.now)) }
+    ensures ok { OnOk result (string_bytes out.new ≡ string_bytes out.old ++ quoted (chars text.now)) }
 {
     out.push_str("\"")?;
     push_all_escaped(out, text)?;

@@ -34,8 +34,8 @@ pub struct Rogue {
 
 /// The place of a member's seat.
 pub fn seat_at(seats: &[Seat], member: u16) -> usize
-    requires { Contains (seated seats.now) member }
-    ensures { (seat : Seat) × IsSeatAt seats.now result member seat }
+    requires seated { Contains (seated seats.now) member }
+    ensures value { (seat : Seat) × IsSeatAt seats.now result member seat }
 {
     for (i, seat) in seats.iter().enumerate() {
         if seat.member == member {
@@ -47,8 +47,8 @@ pub fn seat_at(seats: &[Seat], member: u16) -> usize
 
 /// The place of a rogue.
 pub fn rogue_at(rogues: &[Rogue], member: u16) -> usize
-    requires { Contains (rogue_numbers rogues.now) member }
-    ensures { (rogue : Rogue) × IsRogueAt rogues.now result member rogue }
+    requires rogue { Contains (rogue_numbers rogues.now) member }
+    ensures value { (rogue : Rogue) × IsRogueAt rogues.now result member rogue }
 {
     for (i, rogue) in rogues.iter().enumerate() {
         if rogue.member == member {
@@ -60,8 +60,8 @@ pub fn rogue_at(rogues: &[Rogue], member: u16) -> usize
 
 /// The client of a member, if it is open.
 pub fn client_of(seats: &[Seat], member: u16) -> Option<&PlayClient>
-    requires { Contains (seated seats.now) member }
-    ensures { (i : ℕ) × (seat : Seat) × IsSeatAt seats.now i member seat × (option_copied result ≡ seat.client) }
+    requires seated { Contains (seated seats.now) member }
+    ensures value { (i : ℕ) × (seat : Seat) × IsSeatAt seats.now i member seat × (option_copied result ≡ seat.client) }
 {
     let i = seat_at(seats, member);
     seats[i].client.as_ref()

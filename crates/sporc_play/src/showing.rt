@@ -7,7 +7,7 @@ ghost use Rattle.sporc_client.specs.ClientModel.{state_of};
 ghost use Rattle.sporc_client.specs.PlainClient.{shown_of};
 ghost use Rattle.sporc_head.specs.History.{hash_of, roster_of};
 ghost use Rattle.sporc_member.specs.Roster.{member_at};
-ghost use Rattle.sporc_play.specs.Names.{role_name};
+ghost use Rattle.sporc_script.specs.Spelling.{role_name};
 ghost use Rattle.sporc_play.specs.Report.{compare_line, hash_line, if_removed, member_text, members_line, show_line, text_of_member};
 ghost use Rattle.sporc_script.specs.Quoted.{quoted};
 
@@ -23,7 +23,7 @@ use std::fmt::Write;
 
 /// Appends what a member sees.
 pub fn push_show<D: LeafDisk>(out: &mut String, client: &Client<D>) -> Result<(), Memory>
-    ensures { OnOk result (string_bytes out.new ≡ string_bytes out.old ++ show_line client.now.opening.kit.me (state_of client.now)) }
+    ensures ok { OnOk result (string_bytes out.new ≡ string_bytes out.old ++ show_line client.now.opening.kit.me (state_of client.now)) }
 {
     let member = client.me();
     let at = client.entries().len();
@@ -55,14 +55,14 @@ fn push_removed(out: &mut String, removed: bool) -> Result<(), Memory>
 
 /// Appends what a member's line starts with.
 pub fn push_start(out: &mut String, member: u16, words: &str) -> Result<(), Memory>
-    ensures { OnOk result (string_bytes out.new ≡ string_bytes out.old ++ (decimal member ++ words.now)) }
+    ensures ok { OnOk result (string_bytes out.new ≡ string_bytes out.old ++ (decimal member ++ words.now)) }
 {
     write!(out, "{member}{words}")
 }
 
 /// Appends the members, in ascending order of their numbers.
 pub fn push_members(out: &mut String, client: &PlayClient) -> Result<(), Memory>
-    ensures { OnOk result (string_bytes out.new ≡ string_bytes out.old ++ members_line client.now.opening.kit.me (state_of client.now)) }
+    ensures ok { OnOk result (string_bytes out.new ≡ string_bytes out.old ++ members_line client.now.opening.kit.me (state_of client.now)) }
 {
     push_start(out, client.me(), " members")?;
     push_roster(out, client)?;
@@ -114,7 +114,7 @@ pub fn push_hash<D: LeafDisk>(
     out: &mut String,
     client: &Client<D>,
 ) -> Result<(), Memory>
-    ensures { OnOk result (string_bytes out.new ≡ string_bytes out.old ++ hash_line client.now.opening.kit.me (state_of client.now)) }
+    ensures ok { OnOk result (string_bytes out.new ≡ string_bytes out.old ++ hash_line client.now.opening.kit.me (state_of client.now)) }
 {
     push_start(out, client.me(), " hash ")?;
     push_digits(alloc, out, &last_hash(client))?;
@@ -123,7 +123,7 @@ pub fn push_hash<D: LeafDisk>(
 
 /// The last value of the chain.
 pub fn last_hash<D: LeafDisk>(client: &Client<D>) -> Digest32
-    ensures { result ≡ hash_of client.now.opening.genesis (state_of client.now).entries }
+    ensures value { result ≡ hash_of client.now.opening.genesis (state_of client.now).entries }
 {
     let heads = client.heads();
     heads.hash_at(heads.len())
@@ -131,7 +131,7 @@ pub fn last_hash<D: LeafDisk>(client: &Client<D>) -> Digest32
 
 /// Appends bytes as hexadecimal digits.
 pub fn push_digits(alloc: Global, out: &mut String, bytes: &[u8]) -> Result<(), Memory>
-    ensures { OnOk result (string_bytes out.new ≡ string_bytes out.old ++ encode_lower bytes.now) }
+    ensures ok { OnOk result (string_bytes out.new ≡ string_bytes out.old ++ encode_lower bytes.now) }
 {
     let digits = hex::encode(alloc, bytes)?;
     out.push_str(digits.as_str())
@@ -144,7 +144,7 @@ pub fn push_verdict(
     second: u16,
     verdict: Verdict,
 ) -> Result<(), Memory>
-    ensures { OnOk result (string_bytes out.new ≡ string_bytes out.old ++ compare_line (record { first = first; second = second }) verdict) }
+    ensures ok { OnOk result (string_bytes out.new ≡ string_bytes out.old ++ compare_line (record { first = first; second = second }) verdict) }
 {
     match verdict {
         Verdict::Same => writeln!(out, "{first} {second} same"),

@@ -9,7 +9,7 @@ ghost use Rattle.sporc_script.specs.declared.member_role.MemberRole.{MemberRole}
 ghost use Rattle.sporc_play.specs.Report.{entry_line, flipped_line};
 ghost use Rattle.sporc_play.specs.Scene.{flipped, opening, scene_opened};
 ghost use Rattle.sporc_play.specs.Seats.{IsSeatAt, seated};
-ghost use Rattle.sporc_play.specs.Stage.{AreDeclared, AreOfOneDocument, Becomes, CanPerform, HasSameMembers, StandsFor, Tells};
+ghost use Rattle.sporc_play.specs.Stage.{AreDeclared, AreOfOneDocument, Becomes, CanPerform, HasSameMembers, StandsFor, AppendsLineOf};
 
 use crate::cast::{Cast, tree_of};
 use crate::journal::push_journal;
@@ -38,8 +38,8 @@ pub struct PlayState {
 impl PlayState {
     /// Before the first command: the founders' clients are open.
     pub fn new(alloc: Global, lines: &[PlayLine]) -> Result<PlayState, Memory>
-        requires { AreDeclared lines.now }
-        ensures { IfOk result (λ state. StandsFor lines.now (opening lines.now) state) }
+        requires declared { AreDeclared lines.now }
+        ensures value { IfOk result (λ state. StandsFor lines.now (opening lines.now) state) }
     {
         let mut cast = Cast::new(alloc, tree_of(lines));
         let mut seats = Vec::new(alloc);
@@ -107,7 +107,7 @@ impl PlayState {
     ) -> Result<(), Memory>
         requires can { CanPerform self.old command.now }
         ensures state { OnOk result (Becomes self.old command.now self.new) }
-        ensures line { OnOk result (Tells self.old command.now (string_bytes out.old) (string_bytes out.new)) }
+        ensures line { OnOk result (AppendsLineOf self.old command.now (string_bytes out.old) (string_bytes out.new)) }
     {
         match command {
             Command::Tree(_)
@@ -135,8 +135,8 @@ impl PlayState {
 
     /// The client of a member, if it is open.
     pub fn client(&self, member: u16) -> Option<&PlayClient>
-        requires { Contains (seated self.now.seats.items) member }
-        ensures { (i : ℕ) × (seat : Seat) × IsSeatAt self.now.seats.items i member seat × (option_copied result ≡ seat.client) }
+        requires seated { Contains (seated self.now.seats.items) member }
+        ensures value { (i : ℕ) × (seat : Seat) × IsSeatAt self.now.seats.items i member seat × (option_copied result ≡ seat.client) }
     {
         client_of(self.seats.as_slice(), member)
     }
@@ -146,7 +146,7 @@ impl PlayState {
     fn edit(&mut self, alloc: Global, edit: &Edit, out: &mut String) -> Result<(), Memory>
         requires can { CanPerform self.old (Command.Edit edit.now) }
         ensures state { OnOk result (Becomes self.old (Command.Edit edit.now) self.new) }
-        ensures line { OnOk result (Tells self.old (Command.Edit edit.now) (string_bytes out.old) (string_bytes out.new)) }
+        ensures line { OnOk result (AppendsLineOf self.old (Command.Edit edit.now) (string_bytes out.old) (string_bytes out.new)) }
     {
         let i = seat_at(self.seats.as_slice(), edit.member);
         acting::edit(alloc, &mut self.seats[i], edit, out)
@@ -155,7 +155,7 @@ impl PlayState {
     fn change(&mut self, alloc: Global, edit: &RosterEdit, out: &mut String) -> Result<(), Memory>
         requires can { CanPerform self.old (Command.Change edit.now) }
         ensures state { OnOk result (Becomes self.old (Command.Change edit.now) self.new) }
-        ensures line { OnOk result (Tells self.old (Command.Change edit.now) (string_bytes out.old) (string_bytes out.new)) }
+        ensures line { OnOk result (AppendsLineOf self.old (Command.Change edit.now) (string_bytes out.old) (string_bytes out.new)) }
     {
         let change = self.cast.member_change(alloc, &edit.change)?;
         let i = seat_at(self.seats.as_slice(), edit.member);
@@ -165,7 +165,7 @@ impl PlayState {
     fn discard(&mut self, member: u16, out: &mut String) -> Result<(), Memory>
         requires can { CanPerform self.old (Command.Discard member) }
         ensures state { OnOk result (Becomes self.old (Command.Discard member) self.new) }
-        ensures line { OnOk result (Tells self.old (Command.Discard member) (string_bytes out.old) (string_bytes out.new)) }
+        ensures line { OnOk result (AppendsLineOf self.old (Command.Discard member) (string_bytes out.old) (string_bytes out.new)) }
     {
         let i = seat_at(self.seats.as_slice(), member);
         acting::discard(&mut self.seats[i], member, out)
@@ -174,7 +174,7 @@ impl PlayState {
     fn submit(&mut self, member: u16, out: &mut String) -> Result<(), Memory>
         requires can { CanPerform self.old (Command.Submit member) }
         ensures state { OnOk result (Becomes self.old (Command.Submit member) self.new) }
-        ensures line { OnOk result (Tells self.old (Command.Submit member) (string_bytes out.old) (string_bytes out.new)) }
+        ensures line { OnOk result (AppendsLineOf self.old (Command.Submit member) (string_bytes out.old) (string_bytes out.new)) }
     {
         let i = seat_at(self.seats.as_slice(), member);
         let next = self.made.len() as u64 + 1;
@@ -185,7 +185,7 @@ impl PlayState {
     fn give(&mut self, alloc: Global, give: &Give, out: &mut String) -> Result<(), Memory>
         requires can { CanPerform self.old (Command.Give give.now) }
         ensures state { OnOk result (Becomes self.old (Command.Give give.now) self.new) }
-        ensures line { OnOk result (Tells self.old (Command.Give give.now) (string_bytes out.old) (string_bytes out.new)) }
+        ensures line { OnOk result (AppendsLineOf self.old (Command.Give give.now) (string_bytes out.old) (string_bytes out.new)) }
     {
         let i = seat_at(self.seats.as_slice(), give.member);
         let entry = entry_at(self.made.as_slice(), give.entry);
@@ -195,7 +195,7 @@ impl PlayState {
     fn restart(&mut self, restart: &Restart, out: &mut String) -> Result<(), Memory>
         requires can { CanPerform self.old (Command.Restart restart.now) }
         ensures state { OnOk result (Becomes self.old (Command.Restart restart.now) self.new) }
-        ensures line { OnOk result (Tells self.old (Command.Restart restart.now) (string_bytes out.old) (string_bytes out.new)) }
+        ensures line { OnOk result (AppendsLineOf self.old (Command.Restart restart.now) (string_bytes out.old) (string_bytes out.new)) }
     {
         let i = seat_at(self.seats.as_slice(), restart.member);
         acting::restart(&mut self.seats[i], restart, out)
@@ -204,7 +204,7 @@ impl PlayState {
     fn join(&mut self, alloc: Global, join: &Join, out: &mut String) -> Result<(), Memory>
         requires can { CanPerform self.old (Command.Join join.now) }
         ensures state { OnOk result (Becomes self.old (Command.Join join.now) self.new) }
-        ensures line { OnOk result (Tells self.old (Command.Join join.now) (string_bytes out.old) (string_bytes out.new)) }
+        ensures line { OnOk result (AppendsLineOf self.old (Command.Join join.now) (string_bytes out.old) (string_bytes out.new)) }
     {
         let i = seat_at(self.seats.as_slice(), join.member);
         joining::join(
@@ -222,7 +222,7 @@ impl PlayState {
 
     fn flip(&mut self, alloc: Global, flip: &Flip, out: &mut String) -> Result<(), Memory>
         ensures state { OnOk result (Becomes self.old (Command.Flip flip.now) self.new) }
-        ensures line { OnOk result (Tells self.old (Command.Flip flip.now) (string_bytes out.old) (string_bytes out.new)) }
+        ensures line { OnOk result (AppendsLineOf self.old (Command.Flip flip.now) (string_bytes out.old) (string_bytes out.new)) }
     {
         let at = flip.at;
         let number = flip.entry;
@@ -238,7 +238,7 @@ impl PlayState {
 
     fn cut(&mut self, alloc: Global, number: u64, out: &mut String) -> Result<(), Memory>
         ensures state { OnOk result (Becomes self.old (Command.Cut number) self.new) }
-        ensures line { OnOk result (Tells self.old (Command.Cut number) (string_bytes out.old) (string_bytes out.new)) }
+        ensures line { OnOk result (AppendsLineOf self.old (Command.Cut number) (string_bytes out.old) (string_bytes out.new)) }
     {
         let Some(entry) = entry_at(self.made.as_slice(), number) else {
             return writeln!(out, "no entry {number}");
@@ -262,7 +262,7 @@ impl PlayState {
     fn sign(&mut self, alloc: Global, forgery: &Forgery, out: &mut String) -> Result<(), Memory>
         requires can { CanPerform self.old (Command.Sign forgery.now) }
         ensures state { OnOk result (Becomes self.old (Command.Sign forgery.now) self.new) }
-        ensures line { OnOk result (Tells self.old (Command.Sign forgery.now) (string_bytes out.old) (string_bytes out.new)) }
+        ensures line { OnOk result (AppendsLineOf self.old (Command.Sign forgery.now) (string_bytes out.old) (string_bytes out.new)) }
     {
         let i = rogue_at(self.rogues.as_slice(), forgery.member);
         let next = self.made.len() as u64 + 1;
@@ -290,7 +290,7 @@ impl PlayState {
 
     fn show(&self, member: u16, out: &mut String) -> Result<(), Memory>
         requires { Contains (seated self.now.seats.items) member }
-        ensures { OnOk result (Tells self.now (Command.Show member) (string_bytes out.old) (string_bytes out.new)) }
+        ensures { OnOk result (AppendsLineOf self.now (Command.Show member) (string_bytes out.old) (string_bytes out.new)) }
     {
         match self.client(member) {
             Some(client) => push_show(out, client),
@@ -300,7 +300,7 @@ impl PlayState {
 
     fn members(&self, member: u16, out: &mut String) -> Result<(), Memory>
         requires { Contains (seated self.now.seats.items) member }
-        ensures { OnOk result (Tells self.now (Command.Members member) (string_bytes out.old) (string_bytes out.new)) }
+        ensures { OnOk result (AppendsLineOf self.now (Command.Members member) (string_bytes out.old) (string_bytes out.new)) }
     {
         match self.client(member) {
             Some(client) => push_members(out, client),
@@ -310,7 +310,7 @@ impl PlayState {
 
     fn hash(&self, alloc: Global, member: u16, out: &mut String) -> Result<(), Memory>
         requires { Contains (seated self.now.seats.items) member }
-        ensures { OnOk result (Tells self.now (Command.Hash member) (string_bytes out.old) (string_bytes out.new)) }
+        ensures { OnOk result (AppendsLineOf self.now (Command.Hash member) (string_bytes out.old) (string_bytes out.new)) }
     {
         match self.client(member) {
             Some(client) => push_hash(alloc, out, client),
@@ -320,7 +320,7 @@ impl PlayState {
 
     fn journal(&self, alloc: Global, member: u16, out: &mut String) -> Result<(), Memory>
         requires { Contains (seated self.now.seats.items) member }
-        ensures { OnOk result (Tells self.now (Command.Journal member) (string_bytes out.old) (string_bytes out.new)) }
+        ensures { OnOk result (AppendsLineOf self.now (Command.Journal member) (string_bytes out.old) (string_bytes out.new)) }
     {
         match self.client(member) {
             Some(client) => push_journal(alloc, out, client.journal()),
@@ -332,7 +332,7 @@ impl PlayState {
         requires first { Contains (seated self.now.seats.items) pair.now.first }
         requires second { Contains (seated self.now.seats.items) pair.now.second }
         requires one_document { AreOfOneDocument self.now }
-        ensures { OnOk result (Tells self.now (Command.Compare pair.now) (string_bytes out.old) (string_bytes out.new)) }
+        ensures { OnOk result (AppendsLineOf self.now (Command.Compare pair.now) (string_bytes out.old) (string_bytes out.new)) }
     {
         let Some(first) = self.client(pair.first) else {
             return acting::push_not_open(out, pair.first);

@@ -2,6 +2,6 @@
 use Rattle.std.specs.Prelude.{ℕ}
 
 -- how many bytes it has, and its count of faults
-pub record LeafFileContent : Type 0 where
+pub record RealDiskModel : Type 0 where
   pub len : ℕ
   pub faults : ℕ

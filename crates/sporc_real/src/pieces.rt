@@ -9,7 +9,7 @@ use std::io::{ErrorKind, Read, Write};
 // How often a call is made again that signals interrupt.
 const MAX_TRIES: u32 = 1000;
 
-// Moves bytes into the front of the buffer, and says how many.
+// Moves bytes into the first places of the buffer, and says how many.
 pub(crate) fn read_piece<R: Read>(reader: &mut R, buf: &mut [u8]) -> io::Result<usize>
     ensures bound { IfOk result (λ n. n ≤ length buf.new) }
     ensures bytes { ReadConsumes (R.remaining reader.old) (R.remaining reader.new) result buf.new }
@@ -23,7 +23,7 @@ pub(crate) fn read_piece<R: Read>(reader: &mut R, buf: &mut [u8]) -> io::Result<
     Err(io::Error::from(ErrorKind::Interrupted))
 }
 
-// Writes a front of the bytes, and says how many: at least one, where there are any.
+// Writes a prefix of the bytes, and says how many: at least one, if there are any.
 pub(crate) fn write_piece<W: Write>(writer: &mut W, bytes: &[u8]) -> io::Result<usize>
     ensures bound { IfOk result (λ n. n ≤ length bytes.now) }
     ensures some { IfOk result (λ n. 0 < length bytes.now → 0 < n) }

@@ -15,7 +15,7 @@ pub struct RandomWords<R: RandomSource + Drop> {
 
 impl<R: RandomSource + Drop> RandomWords<R> {
     pub fn new(rt: R) -> RandomWords<R>
-        ensures { result.faults ≡ 0 }
+        ensures value { result.faults ≡ 0 }
     {
         RandomWords { rt, faults: 0 }
     }

@@ -18,9 +18,9 @@ pub struct RealDisk {
 }
 
 impl Model for RealDisk {
-    ghost use Rattle.sporc_real.specs.LeafFiles.{LeafFileContent};
+    ghost use Rattle.sporc_real.specs.LeafFiles.{RealDiskModel};
 
-    ghost Value = { LeafFileContent };
+    ghost Value = { RealDiskModel };
 
     ghost view = { λ d. record { len = d.len; faults = d.faults } };
 }

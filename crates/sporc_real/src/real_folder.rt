@@ -27,7 +27,7 @@ pub struct RealFolder<R: Files<File = File> + AllocGlobal + Drop> {
 
 impl<R: Files<File = File> + AllocGlobal + Drop> RealFolder<R> {
     pub fn new(rt: R) -> RealFolder<R>
-        ensures { result.faults ≡ 0 }
+        ensures value { result.faults ≡ 0 }
     {
         RealFolder { rt, faults: 0 }
     }

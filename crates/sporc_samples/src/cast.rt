@@ -52,7 +52,7 @@ impl Cast {
 
     /// The genesis of the document that they founded. It commits to the first epoch's key.
     pub fn genesis(&self, alloc: Global) -> Result<Genesis, SampleFault>
-        ensures { IfOk result (λ genesis. IsGenesis genesis) }
+        ensures ok { IfOk result (λ genesis. IsGenesis genesis) }
     {
         let bytes = self.genesis_bytes(alloc)?;
         let genesis = read_genesis(alloc, bytes.as_slice())?;

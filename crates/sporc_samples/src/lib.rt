@@ -15,7 +15,8 @@
 //! let bytes = draft.signed(alloc, cast.member(2)?, body)?;
 //! ```
 //!
-//! The bytes follow the formats by their tables and not by the crates that read them back. Proved: nothing but that each
+//! The bytes of deltas and of the genesis follow the formats by their tables and not by the crates that read them back;
+//! entries and changes are written by `sporc_entry`. Proved: nothing but that each
 //! call is safe and ends, and that the genesis is one.
 #![tactic(auto)]
 

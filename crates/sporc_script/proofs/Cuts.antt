@@ -15,6 +15,7 @@ use Rattle.sporc_script.specs.Words.{cut, cut_at, ends_word, place_after, with_f
 use Rattle.sporc_script.specs.Quoted.{quoted}
 use Rattle.sporc_script.proofs.CharEscapes.{escape_byte, flat_map-encode_all}
 use Rattle.std.specs.Str.{encode_utf8_all}
+use Rattle.std.proofs.lemmas.Option.{same_Some}
 
 -- bytes that end where no quoted text is open, with no end of a word among them
 abbrev pub IsWhole : Place → List ℕ → Type 0
@@ -45,22 +46,19 @@ ends_at_space Outside b e = elim (eqb_tells b 32) [ inl h ↦ h.1 | inr h ↦ le
 ends_at_space Quoted b e = cc
 ends_at_space Escaped b e = cc
 
-some_is : {A : Type 0} (a b : A) → Some a ≡ Some b → a ≡ b
-some_is a b e = cc
-
 abbrev parted : List ℕ → List ℕ → List ℕ × List ℕ
 parted word rest = (word, rest)
 
 with_first-some : (b : ℕ) (o : Option (List ℕ × List ℕ)) (word rest : List ℕ) → option_map (with_first b) o ≡ Some (parted word rest) → (front : List ℕ) × (o ≡ Some (parted front rest)) × (word ≡ b ∷ front)
 with_first-some b None word rest e = cc
 with_first-some b (Some parts) word rest e =
-    let pair = some_is (with_first b parts) (parted word rest) e in
+    let pair = same_Some (with_first b parts) (parted word rest) e in
     (parts.0, ap (λ r. Some (parted parts.0 r)) (ap (λ (p : List ℕ × List ℕ). p.1) pair), sym (ap (λ (p : List ℕ × List ℕ). p.0) pair))
 
 cut_at-step : (place : Place) (b : ℕ) (bs word rest : List ℕ) (t : Bool) → ends_word place b ≡ t → ((front : List ℕ) → cut_at (place_after place b) bs ≡ Some (parted front rest) → bs ≡ front ++ 32 ∷ rest)
     → (if t then Some (parted [] bs) else option_map (with_first b) (cut_at (place_after place b) bs)) ≡ Some (parted word rest) → b ∷ bs ≡ word ++ 32 ∷ rest
 cut_at-step place b bs word rest true is more e =
-    let pair = some_is (parted [] bs) (parted word rest) e in
+    let pair = same_Some (parted [] bs) (parted word rest) e in
     let none : [] ≡ word = ap (λ (p : List ℕ × List ℕ). p.0) pair in
     let all : bs ≡ rest = ap (λ (p : List ℕ × List ℕ). p.1) pair in
     ap (λ x. x ∷ bs) (ends_at_space place b is) ∙ ap (λ zs. 32 ∷ zs) all ∙ ap (λ w. w ++ 32 ∷ rest) none

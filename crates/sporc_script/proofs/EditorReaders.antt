@@ -1,5 +1,5 @@
 -- A line of an editor script is read as the one command that it spells.
-use Rattle.std.proofs.Common.{◌≡◌, ℕ, true, List, [], ◌∷◌, ◌++◌, length, Option, Some, None, option_map, refl, sym, ap, ◌∙◌, inl, arith}
+use Rattle.std.proofs.Common.{◌≡◌, ℕ, true, List, [], ◌∷◌, ◌++◌, length, Option, Some, None, option_map, refl, sym, ap, ◌∙◌, arith}
 use Rattle.std.specs.Prelude.{codes}
 use Rattle.std.specs.Fmt.{decimal}
 use Rattle.std.proofs.lemmas.Bool.{eqb-true}
@@ -20,11 +20,11 @@ use Rattle.sporc_script.specs.EditorLines.{EditorInRange, IsKey, SpellsEditor, e
 use Rattle.sporc_script.specs.Edits.{insertion_of, removal_of}
 use Rattle.sporc_script.specs.Grammar.{editor_line}
 use Rattle.sporc_script.specs.Hex.{hex_of}
-use Rattle.sporc_script.specs.Lines.{IsFirstBad, IsSkipped}
+use Rattle.sporc_script.specs.Lines.{IsSkipped}
 use Rattle.sporc_script.specs.Plain.{member_role_of, role_of}
 use Rattle.sporc_script.specs.Quoted.{quoted}
 use Rattle.sporc_script.specs.Readers.{member_of, pair_of}
-use Rattle.sporc_script.specs.Reading.{IsBadEditorLine, ReadsEditorLine}
+use Rattle.sporc_script.specs.Reading.{ReadsEditorLine}
 use Rattle.sporc_script.specs.Signs.{IsPayload}
 use Rattle.sporc_script.specs.Spelling.{IsMember, member_role_spelling, role_name}
 use Rattle.sporc_script.proofs.Cuts.{IsWord, is_bare, word_from_test}
@@ -108,7 +108,3 @@ pub editor_part : (before : List EditorLine) (n : ℕ) (line : List ℕ) (read :
     → ReadsEditorLine n line read → ReadsPart EditorCommand EditorLine editor_line IsEditorNext before n line read
 editor_part before n line None reads = reads
 editor_part before n line (Some x) reads = (x.command, ap (λ (k : ℕ). editor_line k x.command) reads.0, reads.1)
-
-pub editor_bad : (before : List EditorLine) (n : ℕ) (line : List ℕ) (ls : List (List ℕ)) (k : ℕ)
-    → IsBadEditorLine n line k → IsFirstBad editor_line IsEditorNext before n (line ∷ ls) k
-editor_bad before n line ls k bad = inl (bad.0, bad.1, λ c next. bad.2 c next)

@@ -1,8 +1,9 @@
 -- Readers that are exact: they give a value where its spelling is what is read, and nothing elsewhere.
-use Rattle.std.proofs.Common.{◌≡◌, ℕ, Bool, true, false, ◌&&◌, List, [], ◌∷◌, ◌++◌, Option, Some, None, option_map, refl, sym, ap, ◌∙◌, subst}
+use Rattle.std.proofs.Common.{◌≡◌, ℕ, Bool, true, false, List, [], ◌∷◌, ◌++◌, Option, Some, None, option_map, refl, sym, ap, ◌∙◌, subst}
 use Rattle.std.specs.Prelude.{find, if◌then◌else◌}
 use Rattle.std.specs.Str.{bytes_eq}
 use Rattle.std.proofs.lemmas.Slice.Eq.{bytes_eq-Decides}
+use Rattle.std.proofs.lemmas.Option.{cond_some, same_Some}
 use Rattle.sporc_script.specs.Words.{cut}
 use Rattle.sporc_script.specs.Readers.{pair_of, passing, then_read, with_more, named_of}
 use Rattle.sporc_script.proofs.Cuts.{IsWord, cut_word, cut_end, cut_sound}
@@ -11,24 +12,13 @@ pub none_unless : {A : Type 0} (o : Option A) → ((a : A) → o ≡ Some a → 
 none_unless None never = refl
 none_unless (Some a) never = absurd (never a refl)
 
-pub some_same : {A : Type 0} (a b : A) → Some a ≡ Some b → a ≡ b
-some_same a b e = cc
-
 pub then_some : {A B : Type 0} (o : Option A) (f : A → Option B) (b : B) → then_read o f ≡ Some b → (a : A) × (o ≡ Some a) × (f a ≡ Some b)
 then_some None f b e = cc
 then_some (Some a) f b e = (a, refl, e)
 
 pub map_some : {A B : Type 0} (o : Option A) (f : A → B) (b : B) → option_map f o ≡ Some b → (a : A) × (o ≡ Some a) × (f a ≡ b)
 map_some None f b e = cc
-map_some (Some a) f b e = (a, refl, some_same (f a) b e)
-
-pub test_some : {A : Type 0} (t : Bool) (a b : A) → (if t then Some a else None) ≡ Some b → (t ≡ true) × (a ≡ b)
-test_some true a b e = (refl, some_same a b e)
-test_some false a b e = cc
-
-pub both_true : (s t : Bool) → s ≡ true → t ≡ true → (s && t) ≡ true
-both_true true t first second = second
-both_true false t first second = first
+map_some (Some a) f b e = (a, refl, same_Some (f a) b e)
 
 pub record IsExact (A : Type 0) (In : A → Type 0) (spell : A → List ℕ) (read : List ℕ → Option A) : Type 0 where
   pub sound : (bytes : List ℕ) (a : A) → read bytes ≡ Some a → In a × (bytes ≡ spell a)
@@ -52,7 +42,7 @@ pub passing_exact : (A : Type 0) (In : A → Type 0) (spell : A → List ℕ) (r
 passing_exact A In spell read test exact = record {
   sound = λ bytes a e.
       let got = then_some (read bytes) (λ b. if test b then Some b else None) a e in
-      let passed = test_some (test got.0) got.0 a got.2 in
+      let passed = cond_some (test got.0) got.0 a got.2 in
       let h = exact.sound bytes got.0 got.1 in
       subst (λ (b : A). (In b × (test b ≡ true)) × (bytes ≡ spell b)) passed.1 ((h.0, passed.0), h.1);
   complete = λ a range.
@@ -91,7 +81,7 @@ pair_exact A B In In' spell spell' read read' exact words exact' = record {
       let h = exact.sound parts.0.0 first.0 first.1 in
       let k = exact'.sound parts.0.1 second.0 second.1 in
       let whole : bytes ≡ spell first.0 ++ 32 ∷ spell' second.0 = cut_sound bytes parts.0.0 parts.0.1 parts.1 ∙ ap (λ w. w ++ 32 ∷ parts.0.1) h.1 ∙ ap (λ r. spell first.0 ++ 32 ∷ r) k.1 in
-      subst (λ (q : A × B). (In q.0 × In' q.1) × (bytes ≡ spell q.0 ++ 32 ∷ spell' q.1)) (some_same (first.0, second.0) p second.2) ((h.0, k.0), whole);
+      subst (λ (q : A × B). (In q.0 × In' q.1) × (bytes ≡ spell q.0 ++ 32 ∷ spell' q.1)) (same_Some (first.0, second.0) p second.2) ((h.0, k.0), whole);
   complete = λ p range.
       ap (λ (c : Option (List ℕ × List ℕ)). then_read c (λ parts. then_read (read parts.0) (λ a. then_read (read' parts.1) (λ b. Some (a, b)))))
       (cut_word (spell p.0) (spell' p.1) (words p.0 range.0))
@@ -139,7 +129,7 @@ module _ (A B : Type 0) (In : A → Type 0) (In' : B → Type 0) (spell : A → 
 
 first_or : {A : Type 0} (test : A → Bool) (rest : Option A) (x a : A) (t : Bool) → test x ≡ t → (rest ≡ Some a → test a ≡ true)
     → (if t then Some x else rest) ≡ Some a → test a ≡ true
-first_or test rest x a true is more e = subst (λ y. test y ≡ true) (some_same x a e) is
+first_or test rest x a true is more e = subst (λ y. test y ≡ true) (same_Some x a e) is
 first_or test rest x a false is more e = more e
 
 find_some : {A : Type 0} (test : A → Bool) (all : List A) (a : A) → find test all ≡ Some a → test a ≡ true

@@ -2,21 +2,22 @@
 use Rattle.std.proofs.Common.{◌≡◌, ◌≢◌, ℕ, zero, suc, Bool, true, List, [], ◌∷◌, length, Some, None, Result, Ok, Err, refl, sym, ap, ◌∙◌, subst, arith}
 use Rattle.std.specs.Prelude.{◌/◌, ◌%◌, nat_lt, slice_index, if◌then◌else◌}
 use Rattle.std.specs.Str.{bytes_eq}
-use Rattle.std.proofs.lemmas.Bool.{and_parts}
+use Rattle.std.proofs.lemmas.Bool.{and_from, and_parts}
 use Rattle.std.proofs.lemmas.Bool.Decides.{Decides-ltb}
 use Rattle.std.proofs.lemmas.Slice.Eq.{bytes_eq-Decides}
+use Rattle.std.proofs.lemmas.Option.{cond_some}
 use Rattle.hex.specs.Hex.{decode_of, encode_lower, encode_with, lower_digits}
 use Rattle.hex.specs.declared.error.FromHexError.{FromHexError}
 use Rattle.hex.proofs.HexLemmas.{decode_of-encode_lower, decode_of-ok}
 use Rattle.sporc_script.specs.Hex.{hex_kept, hex_of, is_hex}
 use Rattle.sporc_script.specs.Signs.{IsPayload}
 use Rattle.sporc_script.proofs.Cuts.{IsBare, bare_from_test, bare_word}
-use Rattle.sporc_script.proofs.Exact.{AreWords, IsExact, both_true, test_some}
+use Rattle.sporc_script.proofs.Exact.{AreWords, IsExact}
 
 hex_kept-some : (word bytes : List ℕ) (r : Result (List ℕ) FromHexError) → hex_kept word r ≡ Some bytes → (r ≡ Ok bytes) × (is_hex word bytes ≡ true)
 hex_kept-some word bytes (Err e) is = cc
 hex_kept-some word bytes (Ok b) is =
-    let kept = test_some (is_hex word b) b bytes is in
+    let kept = cond_some (is_hex word b) b bytes is in
     (ap (λ (x : List ℕ). Ok x) kept.1, subst (λ (x : List ℕ). is_hex word x ≡ true) kept.1 kept.0)
 
 pub hex_exact : IsExact (List ℕ) IsPayload encode_lower hex_of
@@ -29,7 +30,7 @@ hex_exact = record {
   complete = λ bytes range.
       ap (hex_kept (encode_lower bytes)) (decode_of-encode_lower bytes range.0)
       ∙ ap (λ (t : Bool). if t then Some bytes else None)
-      (both_true (nat_lt 0 (length bytes)) (bytes_eq (encode_lower bytes) (encode_lower bytes)) ((Decides-ltb 0 (length bytes)).1 range.1) ((bytes_eq-Decides (encode_lower bytes) (encode_lower bytes)).1 refl));
+      (and_from (nat_lt 0 (length bytes)) (bytes_eq (encode_lower bytes) (encode_lower bytes)) ((Decides-ltb 0 (length bytes)).1 range.1) ((bytes_eq-Decides (encode_lower bytes) (encode_lower bytes)).1 refl));
 }
 
 -- a table with no space and no quote gives such words

@@ -5,7 +5,6 @@ pub mod EditReaders
 pub mod EditorReaders
 pub mod Escapes
 pub mod Exact
-pub mod Fronts
 pub mod HexWords
 pub mod Keyed
 pub mod NumberReaders

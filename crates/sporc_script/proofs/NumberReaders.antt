@@ -3,13 +3,14 @@ use Rattle.std.proofs.Common.{◌≡◌, ◌≢◌, ℕ, List, [], ◌∷◌, �
 use Rattle.std.specs.List.{AllByRecursion}
 use Rattle.std.specs.Fmt.{decimal}
 use Rattle.std.proofs.lemmas.Bool.Decides.{eqb_tells}
+use Rattle.std.proofs.lemmas.Option.{same_Some}
 use Rattle.sporc_script.specs.declared.command.Join.{Join}
 use Rattle.sporc_script.specs.Numbers.{JoinInRange, NumbersInRange, all_numbers, join_of, join_spelling, numbers_of, numbers_spelling, parts_of}
 use Rattle.sporc_script.specs.Readers.{member_of, then_read}
 use Rattle.sporc_script.specs.Spelling.{IsU64}
 use Rattle.sporc_script.specs.Words.{Lacks, Splits, number_of}
 use Rattle.sporc_script.proofs.Cuts.{IsBare, decimal_bare}
-use Rattle.sporc_script.proofs.Exact.{IsExact, map_exact, map_some, pair_exact, some_same, then_some}
+use Rattle.sporc_script.proofs.Exact.{IsExact, map_exact, map_some, pair_exact, then_some}
 use Rattle.sporc_script.proofs.PlainReaders.{member_words}
 use Rattle.sporc_script.proofs.TextWords.{member_exact, number_exact}
 
@@ -75,7 +76,7 @@ AreSpelled bytes ns = NumbersInRange ns × (bytes ≡ numbers_spelling ns)
 numbers_sound : (w : List ℕ) (ws : List (List ℕ)) (ns : List ℕ) → all_numbers (w ∷ ws) ≡ Some ns → AreSpelled (joined (w ∷ ws)) ns
 numbers_sound w [] ns e =
     let got = all_some w [] ns e in
-    let none : [] ≡ got.1 = some_same [] got.1 got.3 in
+    let none : [] ≡ got.1 = same_Some [] got.1 got.3 in
     let h = number_exact.sound w got.0 got.2 in
     let same : got.0 ∷ [] ≡ ns = ap (λ ms. got.0 ∷ ms) none ∙ got.4 in
     subst (AreSpelled w) same (((h.0, tt), omega arith), h.1)

@@ -96,7 +96,7 @@ unfolding restart_of
 restart_exact =
     map_exact (ℕ × ℕ) Restart _ _ _
     (pair_exact ℕ ℕ _ _ decimal decimal member_of number_of member_exact member_words number_exact)
-    (λ p. record { member = p.0; events = p.1 }) (λ r. (r.member, r.events)) (λ p. refl) (λ r. refl)
+    (λ p. record { member = p.0; entries = p.1 }) (λ r. (r.member, r.entries)) (λ p. refl) (λ r. refl)
 
 pub flip_exact : IsExact Flip FlipInRange flip_spelling flip_of
 unfolding flip_of

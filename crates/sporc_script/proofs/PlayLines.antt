@@ -9,8 +9,8 @@ use Rattle.sporc_script.specs.declared.play_line.PlayLine.{PlayLine}
 use Rattle.sporc_script.specs.Commands.{InRange, Spells, command_of, spelling}
 use Rattle.sporc_script.specs.Declarations.{Declared, declared_after, declared_by, may_follow, none_declared}
 use Rattle.sporc_script.specs.Grammar.{IsNext, play_line}
-use Rattle.sporc_script.specs.Lines.{IsFirstBad, IsSkipped}
-use Rattle.sporc_script.specs.Reading.{IsBadLine, ReadsLine, declared_with}
+use Rattle.sporc_script.specs.Lines.{IsSkipped}
+use Rattle.sporc_script.specs.Reading.{ReadsLine, declared_with}
 use Rattle.sporc_script.specs.Spelling.{keyword_name}
 use Rattle.sporc_script.proofs.CommandReaders.{command_begins, command_exact}
 use Rattle.sporc_script.proofs.Exact.{read_is}
@@ -65,8 +65,3 @@ pub part_of : (before : List PlayLine) (declared : Declared) (n : ℕ) (line : L
 part_of before declared n line None is reads = reads
 part_of before declared n line (Some x) is reads =
     (x.command, ap (λ (k : ℕ). play_line k x.command) reads.0, (reads.1, subst (λ (d : Declared). may_follow d x.command ≡ true) is reads.2))
-
-pub bad_here : (before : List PlayLine) (declared : Declared) (n : ℕ) (line : List ℕ) (ls : List (List ℕ)) (k : ℕ) → declared ≡ declared_by before
-    → IsBadLine declared n line k → IsFirstBad play_line IsNext before n (line ∷ ls) k
-bad_here before declared n line ls k is bad =
-    inl (bad.0, bad.1, λ c next. bad.2 c next.0 (subst (λ (d : Declared). may_follow d c ≡ true) (sym is) next.1))

@@ -7,8 +7,9 @@ use Rattle.std.proofs.lemmas.Bool.Decides.{Decides-ltb, eqb_tells}
 use Rattle.std.proofs.lemmas.Slice.Eq.{bytes_eq-Decides}
 use Rattle.std.proofs.lemmas.Str.{encodes-chars, scalars-chars}
 use Rattle.std.specs.Str.{bytes_eq}
+use Rattle.std.proofs.lemmas.Option.{same_Some}
 use Rattle.sporc_script.specs.Lines.{IsFirstBad, IsSkipped, ReadsAs}
-use Rattle.sporc_script.proofs.Exact.{IsExact, read_is, some_same}
+use Rattle.sporc_script.proofs.Exact.{IsExact, read_is}
 
 -- one of which this holds, or none
 abbrev pub Found : (A : Type 0) → (A → Type 0) → Type 0
@@ -30,7 +31,7 @@ module _ (A : Type 0) (In : A → Type 0) (spell : A → List ℕ) (read : List 
 
   pub one_spelled : (bytes : List ℕ) (a b : A) → In a × (bytes ≡ spell a) → In b × (bytes ≡ spell b) → a ≡ b
   one_spelled bytes a b first second =
-      some_same a b (sym (read_is A In spell read exact bytes a first.0 first.1) ∙ read_is A In spell read exact bytes b second.0 second.1)
+      same_Some a b (sym (read_is A In spell read exact bytes a first.0 first.1) ∙ read_is A In spell read exact bytes b second.0 second.1)
 
 -- ---- skipped lines
 

@@ -9,7 +9,8 @@ use Rattle.std.proofs.lemmas.Slice.Eq.{bytes_eq-Decides}
 use Rattle.std.proofs.lemmas.Bool.Decides.{Decides-ltb}
 use Rattle.std.proofs.lemmas.Str.{chars-encodes}
 use Rattle.std.proofs.Math.Seq.{take-append_seam}
-use Rattle.std.proofs.lemmas.Bool.{and_parts}
+use Rattle.std.proofs.lemmas.Bool.{and_from, and_parts}
+use Rattle.std.proofs.lemmas.Option.{cond_some}
 use Rattle.sporc_script.specs.Quoted.{escape, quoted}
 use Rattle.sporc_script.specs.Readers.{fits_u32, is_member, member_of, then_read, u32_of}
 use Rattle.sporc_script.specs.Texts.{inner, is_text, text_of}
@@ -17,19 +18,19 @@ use Rattle.sporc_script.specs.Unescape.{unescape}
 use Rattle.sporc_script.specs.Words.{is_number, number_of}
 use Rattle.sporc_script.proofs.CharEscapes.{flat_map-encode_all}
 use Rattle.sporc_script.proofs.Escapes.{complete}
-use Rattle.sporc_script.proofs.Exact.{IsExact, both_true, passing_exact, range_exact, test_some, then_some}
+use Rattle.sporc_script.proofs.Exact.{IsExact, passing_exact, range_exact, then_some}
 
 pub number_exact : IsExact ℕ (λ n. n < 2 ^ 64) decimal number_of
 unfolding number_of
 number_exact = record {
   sound = λ bytes n e.
-      let got = test_some (is_number (digits_value 10 bytes) bytes) (digits_value 10 bytes) n e in
+      let got = cond_some (is_number (digits_value 10 bytes) bytes) (digits_value 10 bytes) n e in
       let parts = and_parts (nat_lt (digits_value 10 bytes) (2 ^ 64)) (bytes_eq (decimal (digits_value 10 bytes)) bytes) got.0 in
       subst (λ (m : ℕ). (m < 2 ^ 64) × (bytes ≡ decimal m)) got.1
       ((Decides-ltb (digits_value 10 bytes) (2 ^ 64)).0 parts.0, sym ((bytes_eq-Decides (decimal (digits_value 10 bytes)) bytes).0 parts.1));
   complete = λ n fits.
       ap (λ m. if is_number m (decimal n) then Some m else None) (decimal_is_IsNumeral n fits).1
-      ∙ ap (λ (t : Bool). if t then Some n else None) (both_true (nat_lt n (2 ^ 64)) (bytes_eq (decimal n) (decimal n)) ((Decides-ltb n (2 ^ 64)).1 fits) ((bytes_eq-Decides (decimal n) (decimal n)).1 refl));
+      ∙ ap (λ (t : Bool). if t then Some n else None) (and_from (nat_lt n (2 ^ 64)) (bytes_eq (decimal n) (decimal n)) ((Decides-ltb n (2 ^ 64)).1 fits) ((bytes_eq-Decides (decimal n) (decimal n)).1 refl));
 }
 
 pub u32_exact : IsExact ℕ (λ n. n < 2 ^ 32) decimal u32_of
@@ -42,7 +43,7 @@ pub member_exact : IsExact ℕ (λ n. (0 < n) × (n < 2 ^ 16)) decimal member_of
 unfolding member_of
 member_exact = range_exact ℕ _ _ decimal _ (passing_exact ℕ _ decimal number_of is_member number_exact)
     (λ n h. let p = and_parts (nat_lt 0 n) (nat_lt n (2 ^ 16)) h.1 in ((Decides-ltb 0 n).0 p.0, (Decides-ltb n (2 ^ 16)).0 p.1))
-    (λ n h. (omega (arith, h.1), both_true (nat_lt 0 n) (nat_lt n (2 ^ 16)) ((Decides-ltb 0 n).1 h.0) ((Decides-ltb n (2 ^ 16)).1 h.1)))
+    (λ n h. (omega (arith, h.1), and_from (nat_lt 0 n) (nat_lt n (2 ^ 16)) ((Decides-ltb 0 n).1 h.0) ((Decides-ltb n (2 ^ 16)).1 h.1)))
 
 inner_quoted : (text : List ℕ) → inner (quoted text) ≡ flat_map escape text
 inner_quoted text =
@@ -56,7 +57,7 @@ unfolding text_of
 text_exact = record {
   sound = λ bytes text e.
       let got = then_some (unescape false (inner bytes)) (λ b. if is_text bytes (chars b) then Some (chars b) else None) text e in
-      let kept = test_some (is_text bytes (chars got.0)) (chars got.0) text got.2 in
+      let kept = cond_some (is_text bytes (chars got.0)) (chars got.0) text got.2 in
       let parts = and_parts (all_scalars (chars got.0)) (bytes_eq (quoted (chars got.0)) bytes) kept.0 in
       subst (λ (t : List ℕ). (all_scalars t ≡ true) × (bytes ≡ quoted t)) kept.1 (parts.0, sym ((bytes_eq-Decides (quoted (chars got.0)) bytes).0 parts.1));
   complete = λ text scalars.
@@ -64,7 +65,7 @@ text_exact = record {
       ap (unescape false) (inner_quoted text ∙ sym (flat_map-encode_all text)) ∙ complete (encode_utf8_all text) in
       ap (λ (o : Option (List ℕ)). then_read o (λ bytes. if is_text (quoted text) (chars bytes) then Some (chars bytes) else None)) read
       ∙ ap (λ (t : List ℕ). if is_text (quoted text) t then Some t else None) (chars-encodes text scalars)
-      ∙ ap (λ (t : Bool). if t then Some text else None) (both_true (all_scalars text) (bytes_eq (quoted text) (quoted text)) scalars ((bytes_eq-Decides (quoted text) (quoted text)).1 refl));
+      ∙ ap (λ (t : Bool). if t then Some text else None) (and_from (all_scalars text) (bytes_eq (quoted text) (quoted text)) scalars ((bytes_eq-Decides (quoted text) (quoted text)).1 refl));
 }
 
 pub rest_of : (word rest text : List ℕ) → word ≡ 34 ∷ rest → word ≡ quoted text → rest ≡ flat_map escape text ++ 34 ∷ []

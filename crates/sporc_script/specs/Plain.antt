@@ -50,7 +50,7 @@ give_of words =
     (pair_of member_of (pair_of u32_of number_of) words)
 
 unfoldable pub restart_of : List ℕ → Option Restart
-restart_of words = option_map (λ p. record { member = p.0; events = p.1 }) (pair_of member_of number_of words)
+restart_of words = option_map (λ p. record { member = p.0; entries = p.1 }) (pair_of member_of number_of words)
 
 unfoldable pub flip_of : List ℕ → Option Flip
 flip_of words = option_map (λ p. record { entry = p.0; at = p.1 }) (pair_of number_of number_of words)

@@ -89,7 +89,7 @@ abbrev pub give_spelling : Give → List ℕ
 give_spelling g = decimal g.member ++ (codes " " ++ (decimal g.position ++ (codes " " ++ decimal g.entry)))
 
 abbrev pub restart_spelling : Restart → List ℕ
-restart_spelling r = decimal r.member ++ (codes " " ++ decimal r.events)
+restart_spelling r = decimal r.member ++ (codes " " ++ decimal r.entries)
 
 abbrev pub flip_spelling : Flip → List ℕ
 flip_spelling f = decimal f.entry ++ (codes " " ++ decimal f.at)
@@ -129,7 +129,7 @@ abbrev pub GiveInRange : Give → Type 0
 GiveInRange g = IsMember g.member × (g.position < 2 ^ 32) × IsU64 g.entry
 
 abbrev pub RestartInRange : Restart → Type 0
-RestartInRange r = IsMember r.member × IsU64 r.events
+RestartInRange r = IsMember r.member × IsU64 r.entries
 
 abbrev pub FlipInRange : Flip → Type 0
 FlipInRange f = IsU64 f.entry × IsU64 f.at

@@ -23,13 +23,13 @@ pub enum Command {
     Edit(Edit),
     /// `change M ..` asks for a change of the members.
     Change(RosterEdit),
-    /// `discard M` gives up the pending edits.
+    /// `discard M` gives up the pending items.
     Discard(u16),
-    /// `submit M` makes an entry of the first pending edit.
+    /// `submit M` makes an entry of the first pending item.
     Submit(u16),
     /// `give M POS E` hands a member an entry at a position.
     Give(Give),
-    /// `restart M K` opens a member's client again from the first events of its journal.
+    /// `restart M K` opens a member's client again from the first entries of its history.
     Restart(Restart),
     /// `join M E1 E2 ..` opens a joiner's client from entries.
     Join(Join),
@@ -90,18 +90,21 @@ pub enum Width {
     Eight,
 }
 
+/// The sizes of signature trees.
 #[derive(Clone, Copy, Debug)]
 pub struct Tree {
     pub height: Height,
     pub width: Width,
 }
 
+/// Two members.
 #[derive(Clone, Copy, Debug)]
 pub struct Pair {
     pub first: u16,
     pub second: u16,
 }
 
+/// An edit of the text that a member sees, or saw.
 #[derive(Debug, Drop)]
 pub struct Edit {
     pub member: u16,
@@ -110,12 +113,14 @@ pub struct Edit {
     pub change: TextEdit,
 }
 
+/// A change of the members that a member asks for.
 #[derive(Clone, Copy, Debug)]
 pub struct RosterEdit {
     pub member: u16,
     pub change: RosterChange,
 }
 
+/// An entry that a member is handed.
 #[derive(Clone, Copy, Debug)]
 pub struct Give {
     pub member: u16,
@@ -125,13 +130,15 @@ pub struct Give {
     pub entry: u64,
 }
 
+/// A member that goes back to the first entries of its history.
 #[derive(Clone, Copy, Debug)]
 pub struct Restart {
     pub member: u16,
-    /// How many events are kept.
-    pub events: u64,
+    /// How many entries of its history are kept.
+    pub entries: u64,
 }
 
+/// A joiner and the entries that its client opens from.
 #[derive(Debug, Drop)]
 pub struct Join {
     pub member: u16,
@@ -139,6 +146,7 @@ pub struct Join {
     pub entries: Items<u64>,
 }
 
+/// An entry, and the byte of it in which a bit is turned.
 #[derive(Clone, Copy, Debug)]
 pub struct Flip {
     pub entry: u64,

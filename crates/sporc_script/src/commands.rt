@@ -18,7 +18,7 @@ use std::alloc::Global;
 // The command that the whole line spells, if there is one.
 #[tactic(auto, unfolding(crate::specs::Commands::command_of))]
 pub fn read_command(alloc: Global, line: &[u8]) -> Result<Option<Command>, Memory>
-    ensures { IfOk result (λ found. found ≡ command_of line.now) }
+    ensures ok { IfOk result (λ found. found ≡ command_of line.now) }
 {
     let Some((first, words)) = cut(line) else {
         return Ok(None);

@@ -17,7 +17,7 @@ use std::alloc::Global;
 // The command that the whole line spells, if there is one.
 #[tactic(auto, unfolding(crate::specs::EditorLines::editor_of))]
 pub fn read_editor_command(alloc: Global, line: &[u8]) -> Result<Option<EditorCommand>, Memory>
-    ensures { IfOk result (λ found. found ≡ editor_of line.now) }
+    ensures ok { IfOk result (λ found. found ≡ editor_of line.now) }
 {
     let Some((first, words)) = cut(line) else {
         return Ok(None);

@@ -15,6 +15,7 @@ pub struct EditorLine {
     pub command: EditorCommand,
 }
 
+/// What a line of an editor script asks for.
 #[derive(Debug, Drop)]
 pub enum EditorCommand {
     /// `insert AT TEXT`

@@ -1,7 +1,8 @@
 //! Editor scripts.
 
-ghost use Rattle.std.specs.Prelude.{◌≡◌, ◌^◌, ◌≤◌, ◌++◌, ℕ, IfOk, OnOk, length};
+ghost use Rattle.std.specs.Prelude.{◌≡◌, ◌≤◌, ◌++◌, ℕ, IfOk, OnOk, length};
 ghost use Rattle.std.specs.Option.{option_to_list};
+ghost use Rattle.sporc_script.specs.declared.limits.TheConstants.{MAX_SCRIPT_BYTES};
 ghost use Rattle.sporc_script.specs.declared.lines.LineFault.TheVariants as faults;
 ghost use Rattle.sporc_script.specs.Grammar.{IsEditorFault, IsEditorScript};
 ghost use Rattle.sporc_script.specs.Reading.{IsBadEditorLine, ReadsEditorLine};
@@ -39,9 +40,9 @@ impl EditorScript {
 
 /// Reads an editor script, up to its first line outside the grammar.
 pub fn read_editor(alloc: Global, text: &[u8]) -> Result<EditorScript, LineFault>
-    requires { length text.now ≤ 2 ^ 30 }
+    requires limit { length text.now ≤ MAX_SCRIPT_BYTES }
     ensures ok { IfOk result (λ script. IsEditorScript text.now script) }
-    ensures count { IfOk result (λ script. length script ≤ length text.now) }
+    ensures within { IfOk result (λ script. length script ≤ length text.now) }
     ensures err { (k : ℕ) → result ≡ Err (faults.Line k) → IsEditorFault text.now k }
 {
     let mut lines = Vec::new(alloc);

@@ -20,7 +20,7 @@ use std::alloc::Global;
 // `M insert ..`, `M remove ..` or one of these behind `M seen S`
 #[tactic(auto, unfolding(crate::specs::Edits::edit_of))]
 pub fn read_edit(alloc: Global, words: &[u8]) -> Result<Option<Edit>, Memory>
-    ensures { IfOk result (λ found. found ≡ edit_of words.now) }
+    ensures ok { IfOk result (λ found. found ≡ edit_of words.now) }
 {
     let Some((first, rest)) = cut(words) else {
         return Ok(None);
@@ -74,7 +74,7 @@ fn read_seen(alloc: Global, words: &[u8]) -> Result<Option<(Option<u64>, TextEdi
 // `insert AT TEXT` or `remove AT COUNT`
 #[tactic(auto, unfolding(crate::specs::Edits::text_edit_of))]
 pub fn read_text_edit(alloc: Global, words: &[u8]) -> Result<Option<TextEdit>, Memory>
-    ensures { IfOk result (λ found. found ≡ text_edit_of words.now) }
+    ensures ok { IfOk result (λ found. found ≡ text_edit_of words.now) }
 {
     let Some((first, rest)) = cut(words) else {
         return Ok(None);
@@ -113,7 +113,7 @@ fn text_word_named(word: &[u8]) -> Option<TextWord>
 // `AT TEXT`
 #[tactic(auto, unfolding(crate::specs::Edits::insertion_of))]
 pub fn read_insertion(alloc: Global, words: &[u8]) -> Result<Option<Insertion>, Memory>
-    ensures { IfOk result (λ found. found ≡ insertion_of words.now) }
+    ensures ok { IfOk result (λ found. found ≡ insertion_of words.now) }
 {
     let Some((first, second)) = cut(words) else {
         return Ok(None);
@@ -130,7 +130,7 @@ pub fn read_insertion(alloc: Global, words: &[u8]) -> Result<Option<Insertion>, 
 // `AT COUNT`
 #[tactic(auto, unfolding(crate::specs::Edits::removal_of))]
 pub fn read_removal(words: &[u8]) -> Option<Removal>
-    ensures { result ≡ removal_of words.now }
+    ensures value { result ≡ removal_of words.now }
 {
     let (first, second) = cut(words)?;
     let at = parse_u64(first)?;
@@ -141,7 +141,7 @@ pub fn read_removal(words: &[u8]) -> Option<Removal>
 // `M add N ROLE`, `M remove N` or `M role N ROLE`
 #[tactic(auto, unfolding(crate::specs::Edits::roster_edit_of))]
 pub fn read_roster_edit(words: &[u8]) -> Option<RosterEdit>
-    ensures { result ≡ roster_edit_of words.now }
+    ensures value { result ≡ roster_edit_of words.now }
 {
     let (first, rest) = cut(words)?;
     let member = parse_member(first)?;

@@ -10,7 +10,7 @@ use std::alloc::{AllocError, Global};
 // The bytes that the whole word is in lower-case digits, at least one.
 #[tactic(auto, unfolding(crate::specs::Hex::hex_of))]
 pub fn parse_hex(alloc: Global, word: &[u8]) -> Result<Option<Bytes>, Memory>
-    ensures { IfOk result (λ found. found ≡ hex_of word.now) }
+    ensures ok { IfOk result (λ found. found ≡ hex_of word.now) }
 {
     let bytes = match hex::decode(alloc, word) {
         Ok(bytes) => bytes,

@@ -1,16 +1,17 @@
 //! Laws over the definitions that contracts cite. Their functions do nothing.
 
-ghost use Rattle.std.specs.Prelude.{◌≡◌, ◌⊎◌, ℕ, List};
+ghost use Rattle.std.specs.Prelude.{◌≡◌, ◌^◌, ◌⊎◌, ℕ, List};
 ghost use Rattle.sporc_script.specs.Grammar.{IsEditorFault, IsEditorScript, IsPlayFault, IsPlayScript};
 ghost use Rattle.sporc_script.specs.declared.editor_line.EditorLine.{EditorLine};
 ghost use Rattle.sporc_script.specs.declared.play_line.PlayLine.{PlayLine};
 
 use crate::declared::MAX_DECLARED;
 use crate::editor_line::KEY_BYTES;
-use crate::limits::{MAX_EDITORS, MAX_GENERATED};
+use crate::limits::{MAX_EDITORS, MAX_GENERATED, MAX_SCRIPT_BYTES};
 
-/// The limits of a script: those whom it declares, and the bytes of a key; of a session and of a generated run.
+/// The limits of a script: its bytes, those whom it declares, and the bytes of a key; of a session and of a generated run.
 pub fn limits()
+    ensures bytes { MAX_SCRIPT_BYTES ≡ 2 ^ 30 }
     ensures declared { MAX_DECLARED ≡ 64 }
     ensures key { KEY_BYTES ≡ 56 }
     ensures editors { MAX_EDITORS ≡ 8 }

@@ -13,8 +13,8 @@
 //!
 //! Proved: a text is one script or has one first line outside the grammar, and the readers answer which. A line is in the
 //! grammar if it is how some command is spelled (`specs/Commands.antt`, `specs/EditorLines.antt`) that may follow the lines
-//! before it (`specs/Declarations.antt`). Tested only: that reading does not run out of memory if there is ample. Neither:
-//! how long it takes.
+//! before it (`specs/Declarations.antt`). Tested only, in `sporc_script_tests`: that reading does not run
+//! out of memory if there is ample. Neither: how long it takes.
 #![tactic(auto)]
 
 mod command;
@@ -38,8 +38,6 @@ mod quoted;
 mod roster_change;
 mod sign;
 mod signs;
-#[cfg(test)]
-mod tests;
 mod text_edit;
 mod words;
 
@@ -49,7 +47,7 @@ pub use command::{
 pub use declared::MAX_DECLARED;
 pub use editor_line::{EditorCommand, EditorLine, KEY_BYTES};
 pub use editor_script::{EditorScript, read_editor};
-pub use limits::{MAX_EDITORS, MAX_GENERATED};
+pub use limits::{MAX_EDITORS, MAX_GENERATED, MAX_SCRIPT_BYTES};
 pub use lines::LineFault;
 pub use member_role::MemberRole;
 pub use names::parse_role;

@@ -1,4 +1,7 @@
-// Limits of what is played and edited.
+// Limits of what is read, played and edited.
+
+/// The most bytes that are read as one script: 1 GiB.
+pub const MAX_SCRIPT_BYTES: usize = 1 << 30;
 
 /// The most edits of a generated run.
 pub const MAX_GENERATED: u32 = 3_000;

@@ -2,6 +2,7 @@
 
 use sporc_member::Role;
 
+/// A member and its role.
 #[derive(Clone, Copy, Debug)]
 pub struct MemberRole {
     pub member: u16,

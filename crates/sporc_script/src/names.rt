@@ -12,7 +12,7 @@ use crate::command::{Height, Keyword, Width};
 use sporc_member::Role;
 
 pub fn parse_keyword(word: &[u8]) -> Option<Keyword>
-    ensures { result ≡ keyword_of word.now }
+    ensures value { result ≡ keyword_of word.now }
 {
     keyword_named(word)
 }
@@ -47,7 +47,7 @@ fn keyword_named(word: &[u8]) -> Option<Keyword>
 
 /// The role that the whole word names.
 pub fn parse_role(word: &[u8]) -> Option<Role>
-    ensures { result ≡ role_of word.now }
+    ensures value { result ≡ role_of word.now }
 {
     role_named(word)
 }
@@ -64,7 +64,7 @@ fn role_named(word: &[u8]) -> Option<Role>
 }
 
 pub fn parse_height(word: &[u8]) -> Option<Height>
-    ensures { result ≡ height_of word.now }
+    ensures value { result ≡ height_of word.now }
 {
     height_named(word)
 }
@@ -80,7 +80,7 @@ fn height_named(word: &[u8]) -> Option<Height>
 }
 
 pub fn parse_width(word: &[u8]) -> Option<Width>
-    ensures { result ≡ width_of word.now }
+    ensures value { result ≡ width_of word.now }
 {
     width_named(word)
 }

@@ -11,7 +11,7 @@ use std::alloc::Global;
 // `M E1 E2 ..`
 #[tactic(auto, unfolding(crate::specs::Numbers::join_of))]
 pub fn read_join(alloc: Global, words: &[u8]) -> Result<Option<Join>, Memory>
-    ensures { IfOk result (λ found. found ≡ join_of words.now) }
+    ensures ok { IfOk result (λ found. found ≡ join_of words.now) }
 {
     let Some((first, rest)) = cut(words) else {
         return Ok(None);

@@ -11,7 +11,7 @@ use crate::words::{cut, parse_member, parse_u32, parse_u64};
 // `H W`
 #[tactic(auto, unfolding(crate::specs::Plain::tree_of))]
 pub fn read_tree(words: &[u8]) -> Option<Tree>
-    ensures { result ≡ tree_of words.now }
+    ensures value { result ≡ tree_of words.now }
 {
     let (first, second) = cut(words)?;
     let height = parse_height(first)?;
@@ -22,7 +22,7 @@ pub fn read_tree(words: &[u8]) -> Option<Tree>
 // `M ROLE`
 #[tactic(auto, unfolding(crate::specs::Plain::member_role_of))]
 pub fn read_member_role(words: &[u8]) -> Option<MemberRole>
-    ensures { result ≡ member_role_of words.now }
+    ensures value { result ≡ member_role_of words.now }
 {
     let (first, second) = cut(words)?;
     let member = parse_member(first)?;
@@ -33,7 +33,7 @@ pub fn read_member_role(words: &[u8]) -> Option<MemberRole>
 // `M N`
 #[tactic(auto, unfolding(crate::specs::Plain::two_members_of))]
 pub fn read_two_members(words: &[u8]) -> Option<Pair>
-    ensures { result ≡ two_members_of words.now }
+    ensures value { result ≡ two_members_of words.now }
 {
     let (m, n) = cut(words)?;
     let first = parse_member(m)?;
@@ -44,7 +44,7 @@ pub fn read_two_members(words: &[u8]) -> Option<Pair>
 // `M POS E`
 #[tactic(auto, unfolding(crate::specs::Plain::give_of))]
 pub fn read_give(words: &[u8]) -> Option<Give>
-    ensures { result ≡ give_of words.now }
+    ensures value { result ≡ give_of words.now }
 {
     let (first, rest) = cut(words)?;
     let member = parse_member(first)?;
@@ -61,18 +61,18 @@ pub fn read_give(words: &[u8]) -> Option<Give>
 // `M K`
 #[tactic(auto, unfolding(crate::specs::Plain::restart_of))]
 pub fn read_restart(words: &[u8]) -> Option<Restart>
-    ensures { result ≡ restart_of words.now }
+    ensures value { result ≡ restart_of words.now }
 {
     let (first, second) = cut(words)?;
     let member = parse_member(first)?;
-    let events = parse_u64(second)?;
-    Some(Restart { member, events })
+    let entries = parse_u64(second)?;
+    Some(Restart { member, entries })
 }
 
 // `E AT`
 #[tactic(auto, unfolding(crate::specs::Plain::flip_of))]
 pub fn read_flip(words: &[u8]) -> Option<Flip>
-    ensures { result ≡ flip_of words.now }
+    ensures value { result ≡ flip_of words.now }
 {
     let (first, second) = cut(words)?;
     let entry = parse_u64(first)?;

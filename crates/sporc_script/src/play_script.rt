@@ -1,8 +1,9 @@
 //! Play scripts.
 
-ghost use Rattle.std.specs.Prelude.{◌≡◌, ◌^◌, ◌≤◌, ◌++◌, ℕ, IfOk, OnOk, MatchOption, length, true};
+ghost use Rattle.std.specs.Prelude.{◌≡◌, ◌≤◌, ◌++◌, ℕ, IfOk, OnOk, MatchOption, length, true};
 ghost use Rattle.std.specs.Option.{option_to_list};
 ghost use Rattle.sporc_script.specs.declared.command.Command.{Command};
+ghost use Rattle.sporc_script.specs.declared.limits.TheConstants.{MAX_SCRIPT_BYTES};
 ghost use Rattle.sporc_script.specs.declared.lines.LineFault.TheVariants as faults;
 ghost use Rattle.sporc_script.specs.Commands.{Spells};
 ghost use Rattle.sporc_script.specs.Declarations.{may_follow};
@@ -44,9 +45,9 @@ impl PlayScript {
 
 /// Reads a play script, up to its first line outside the grammar.
 pub fn read_play(alloc: Global, text: &[u8]) -> Result<PlayScript, LineFault>
-    requires { length text.now ≤ 2 ^ 30 }
+    requires limit { length text.now ≤ MAX_SCRIPT_BYTES }
     ensures ok { IfOk result (λ script. IsPlayScript text.now script) }
-    ensures count { IfOk result (λ script. length script ≤ length text.now) }
+    ensures within { IfOk result (λ script. length script ≤ length text.now) }
     ensures err { (k : ℕ) → result ≡ Err (faults.Line k) → IsPlayFault text.now k }
 {
     let mut lines = Vec::new(alloc);

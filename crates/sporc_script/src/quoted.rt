@@ -5,8 +5,9 @@ ghost use Rattle.sporc_script.specs.Unescape.{step_of, unescape};
 ghost use Rattle.sporc_script.specs.Texts.{text_of};
 
 use crate::words::{after, before};
+use sporc_base::Memory;
 use sporc_delta::Text;
-use std::alloc::{AllocError, Global};
+use std::alloc::Global;
 
 // What a byte of a quoted text does.
 #[derive(Clone, Copy)]
@@ -30,7 +31,7 @@ fn step_at(escaped: bool, b: u8) -> Step
 }
 
 // The bytes that stand escaped between two quotes.
-fn unescaped(alloc: Global, body: &[u8]) -> Result<Option<Vec<u8>>, AllocError>
+fn unescaped(alloc: Global, body: &[u8]) -> Result<Option<Vec<u8>>, Memory>
     ensures { IfOk result (λ found. option_map (λ v. v.items) found ≡ unescape false body.now) }
 {
     let mut text = Vec::new(alloc);
@@ -49,8 +50,8 @@ fn unescaped(alloc: Global, body: &[u8]) -> Result<Option<Vec<u8>>, AllocError>
 }
 
 // The text that the whole word is in quotes.
-pub fn parse_text(alloc: Global, word: &[u8]) -> Result<Option<Text>, AllocError>
-    ensures { IfOk result (λ found. found ≡ text_of word.now) }
+pub fn parse_text(alloc: Global, word: &[u8]) -> Result<Option<Text>, Memory>
+    ensures ok { IfOk result (λ found. found ≡ text_of word.now) }
 {
     let Some(rest) = after(word, b"\"") else {
         return Ok(None);

@@ -4,6 +4,7 @@ use crate::roster_change::RosterChange;
 use crate::text_edit::Insertion;
 use sporc_base::Bytes;
 
+/// An entry that a rogue signs.
 #[derive(Debug, Drop)]
 pub struct Forgery {
     /// The rogue that signs.
@@ -13,6 +14,7 @@ pub struct Forgery {
     pub signed: Signed,
 }
 
+/// What is signed, and what is wrong about it.
 #[derive(Debug, Drop)]
 pub struct Signed {
     pub what: What,
@@ -20,6 +22,7 @@ pub struct Signed {
     pub suffix: Option<Suffix>,
 }
 
+/// What is signed.
 #[derive(Debug, Drop)]
 pub enum What {
     /// `insert AT TEXT`
@@ -61,7 +64,7 @@ pub enum WhatWord {
     Role,
 }
 
-/// The word behind `with`, where a number follows it.
+/// The word behind `with`, if a number follows it.
 #[derive(Clone, Copy)]
 pub enum SuffixWord {
     Number,
@@ -72,7 +75,7 @@ pub enum SuffixWord {
     Drop,
 }
 
-/// The word behind `with`, where nothing follows it.
+/// The word behind `with`, if nothing follows it.
 #[derive(Clone, Copy)]
 pub enum LoneWord {
     Commit,

@@ -24,7 +24,7 @@ use std::alloc::Global;
 // `M from C ..`
 #[tactic(auto, unfolding(crate::specs::Signs::forgery_of))]
 pub fn read_forgery(alloc: Global, words: &[u8]) -> Result<Option<Forgery>, Memory>
-    ensures { IfOk result (λ found. found ≡ forgery_of words.now) }
+    ensures ok { IfOk result (λ found. found ≡ forgery_of words.now) }
 {
     let Some((first, rest)) = cut(words) else {
         return Ok(None);

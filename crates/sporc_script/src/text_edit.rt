@@ -2,6 +2,7 @@
 
 use sporc_delta::Text;
 
+/// An edit of a text.
 #[derive(Debug, Drop)]
 pub enum TextEdit {
     /// `insert AT TEXT`
@@ -10,12 +11,14 @@ pub enum TextEdit {
     Remove(Removal),
 }
 
+/// A text that is inserted at a place.
 #[derive(Debug, Drop)]
 pub struct Insertion {
     pub at: u64,
     pub text: Text,
 }
 
+/// A number of characters that are removed from a place on.
 #[derive(Clone, Copy, Debug)]
 pub struct Removal {
     pub at: u64,

@@ -36,7 +36,7 @@ fn ends_word(place: Place, b: u8) -> bool
 
 // The first word of a line that has more, and those after it.
 pub fn cut(line: &[u8]) -> Option<(&[u8], &[u8])>
-    ensures { MatchOption result (cut line.now ≡ None) (λ parts. cut line.now ≡ Some (parts.0.now, parts.1.now)) }
+    ensures value { MatchOption result (cut line.now ≡ None) (λ parts. cut line.now ≡ Some (parts.0.now, parts.1.now)) }
 {
     let mut place = Place::Outside;
     for (i, b) in line.iter().enumerate() {
@@ -48,25 +48,25 @@ pub fn cut(line: &[u8]) -> Option<(&[u8], &[u8])>
     None
 }
 
-// What follows the words at the front.
+// What follows these words at the beginning.
 pub fn after<'a>(bytes: &'a [u8], words: &[u8]) -> Option<&'a [u8]>
-    ensures { MatchOption result ((rest : List ℕ) → bytes.now ≢ words.now ++ rest)
+    ensures value { MatchOption result ((rest : List ℕ) → bytes.now ≢ words.now ++ rest)
         (λ rest. bytes.now ≡ words.now ++ rest.now) }
 {
     bytes.strip_prefix(words)
 }
 
-// What stands before the words at the end.
+// What stands before these words at the end.
 pub fn before<'a>(bytes: &'a [u8], words: &[u8]) -> Option<&'a [u8]>
-    ensures { MatchOption result ((front : List ℕ) → bytes.now ≢ front ++ words.now)
-        (λ front. bytes.now ≡ front.now ++ words.now) }
+    ensures value { MatchOption result ((prefix : List ℕ) → bytes.now ≢ prefix ++ words.now)
+        (λ prefix. bytes.now ≡ prefix.now ++ words.now) }
 {
     bytes.strip_suffix(words)
 }
 
 // What is before the first `b`, and what is after it.
 pub fn split_once(bytes: &[u8], b: u8) -> Option<(&[u8], &[u8])>
-    ensures { MatchOption result (Lacks b bytes.now)
+    ensures value { MatchOption result (Lacks b bytes.now)
         (λ parts. Splits b bytes.now parts.0.now parts.1.now) }
 {
     for (i, x) in bytes.iter().enumerate() {
@@ -89,7 +89,7 @@ fn is_plain(word: &[u8]) -> bool
 
 /// The number that the whole word is: decimal digits with no sign and no zero in front.
 pub fn parse_u64(word: &[u8]) -> Option<u64>
-    ensures { result ≡ number_of word.now }
+    ensures value { result ≡ number_of word.now }
 {
     if !is_plain(word) {
         return None;
@@ -106,7 +106,7 @@ pub fn parse_u64(word: &[u8]) -> Option<u64>
 /// A position or the like: such a number that fits 32 bits.
 #[tactic(auto, unfolding(crate::specs::Readers::u32_of))]
 pub fn parse_u32(word: &[u8]) -> Option<u32>
-    ensures { result ≡ u32_of word.now }
+    ensures value { result ≡ u32_of word.now }
 {
     let number = parse_u64(word)?;
     if number < 1 << 32 {
@@ -118,7 +118,7 @@ pub fn parse_u32(word: &[u8]) -> Option<u32>
 /// A member's number: such a number that fits 16 bits and is not 0.
 #[tactic(auto, unfolding(crate::specs::Readers::member_of))]
 pub fn parse_member(word: &[u8]) -> Option<u16>
-    ensures { result ≡ member_of word.now }
+    ensures value { result ≡ member_of word.now }
 {
     let number = parse_u64(word)?;
     if 0 < number && number < 1 << 16 {

@@ -14,8 +14,8 @@ use Rattle.sporc_serve.specs.declared.fault.ServeFault.{ServeFault}
 use Rattle.sporc_serve.specs.declared.fault.ServeFault.TheVariants as faults
 use Rattle.sporc_serve.specs.declared.item.Item.{Item}
 use Rattle.sporc_serve.specs.Logs.{by_of, IsLogOf, OfDocument}
-use Rattle.sporc_serve.specs.Courses.{Stand, stand, IsEnd}
-use Rattle.sporc_serve.specs.Visits.{Visit, visit, IsSession, came, went, AreFrom, AreBehind, TellsOf, with_end}
+use Rattle.sporc_serve.specs.Courses.{ServerStand, stand, IsEnd}
+use Rattle.sporc_serve.specs.Visits.{Visit, visit, IsServedSession, came, went, AreFrom, AreBehind, TellsOf, with_end}
 use Rattle.sporc_serve.specs.Crowds.{Net, IsCrowd}
 use Rattle.sporc_serve.proofs.Going.{rose_before}
 
@@ -28,7 +28,7 @@ IsLastTicket LinkFault = Unit {0}
 IsLastTicket BadFrame = Unit {0}
 IsLastTicket Memory = Unit {0}
 
-pub last_ticket : (g : Genesis) (a b : Stand) (end : SessionEnd) → IsEnd g a b end → IsLastTicket end
+pub last_ticket : (g : Genesis) (a b : ServerStand) (end : SessionEnd) → IsEnd g a b end → IsLastTicket end
 last_ticket g a b (Worn ticket) h = h.2.3
 last_ticket g a b Closed h = tt
 last_ticket g a b LinkEnded h = tt
@@ -111,7 +111,7 @@ module _ {L : Type 0} where
 
     -- a link came and was served beside the others
     pub crowd_more : (k rest last k' : Known Item) (old mid low new : Net L) (n m : ℕ) (b a : L) (end : SessionEnd) (result : Result (Unit {0}) ServeFault)
-        → IsSession left written faults' g (copied k) last (record { before = b; after = a; end = end })
+        → IsServedSession left written faults' g (copied k) last (record { before = b; after = a; end = end })
         → IsCrowd left written faults' g (splitting k) rest mid low n result → last.number ≡ (copied k).number → k' ≡ joined_with rest last
         → StartsWith k'.seen rest.seen → StartsWith k'.seen last.seen → Agrees by_of k' k'.seen
         → TakesItem old.coming mid.coming b → mid.returned ≡ old.returned → old.faults ≤ mid.faults → new.coming ≡ low.coming
@@ -137,7 +137,7 @@ module _ {L : Type 0} where
     -- and so it goes with the passes that were split for both
     pub crowd_joined : (k k0 k1 rest last k' : Known Item) (old mid low new : Net L) (n m : ℕ) (b a : L) (end : SessionEnd)
         (result result' : Result (Unit {0}) ServeFault) → IsLogOf g k.seen → k0 ≡ splitting k → k1 ≡ copied k
-        → OfDocument k1.seen (λ h. IsSession left written faults' h k1 last (visit b a end))
+        → OfDocument k1.seen (λ h. IsServedSession left written faults' h k1 last (visit b a end))
         → OfDocument k0.seen (λ h. IsCrowd left written faults' h k0 rest mid low n result) → last.number ≡ k1.number → k' ≡ joined_with rest last
         → StartsWith k'.seen rest.seen → StartsWith k'.seen last.seen → Agrees by_of k' k'.seen
         → TakesItem old.coming mid.coming b → mid.returned ≡ old.returned → old.faults ≤ mid.faults → new.coming ≡ low.coming
@@ -145,8 +145,8 @@ module _ {L : Type 0} where
         → IsCrowd left written faults' g k k' old new m result'
     crowd_joined k k0 k1 rest last k' old mid low new n m b a end result result' log is0 is1 session crowd number joined seen seen' agrees took back le coming
         returned count size ended =
-        let session' : IsSession left written faults' g (copied k) last (visit b a end) =
-        subst (λ (x : Known Item). OfDocument x.seen (λ h. IsSession left written faults' h x last (visit b a end))) is1 session g log in
+        let session' : IsServedSession left written faults' g (copied k) last (visit b a end) =
+        subst (λ (x : Known Item). OfDocument x.seen (λ h. IsServedSession left written faults' h x last (visit b a end))) is1 session g log in
         let crowd' : IsCrowd left written faults' g (splitting k) rest mid low n result =
         subst (λ (x : Known Item). OfDocument x.seen (λ h. IsCrowd left written faults' h x rest mid low n result)) is0 crowd g log in
         subst (λ (r : Result (Unit {0}) ServeFault). IsCrowd left written faults' g k k' old new m r) (sym ended)

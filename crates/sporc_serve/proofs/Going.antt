@@ -17,7 +17,7 @@ use Rattle.sporc_serve.specs.declared.item.Item.{Item}
 use Rattle.sporc_serve.specs.Sending.{bytes_of, sent_of}
 use Rattle.sporc_serve.specs.Turns.{IsAnswered, TakesTurn}
 use Rattle.sporc_serve.specs.Endings.{IsSendEnd, Inlet, inlet, IsNextEnd, IsNext}
-use Rattle.sporc_serve.specs.Courses.{Exchange, Stand, answers_of, Did, Course, all, part, IsEnd, GoesOn}
+use Rattle.sporc_serve.specs.Courses.{Exchange, ServerStand, answers_of, Did, ServerCourse, all, part, IsEnd, GoesOn}
 use Rattle.sporc_serve.proofs.Coursing.{did_more, answer_more, course_fed, course_unanswered, sent_of-append}
 
 -- a stream that waits for more stays as it is
@@ -39,17 +39,17 @@ next_waits {M = M} read s waits = by_fault s.fault waits
     by_fault None h = by_front (front s.rest) h
 
 -- a link that was given nothing
-written_as : (g : Genesis) (a b : Stand) (bytes : List ℕ) (xs : List Exchange) (written : Option (List ℕ)) → written ≡ b.written
-    → Course g a b bytes xs → Course g a (record b { written = written }) bytes xs
-written_as g a b bytes xs written same c = subst (λ (w : Option (List ℕ)). Course g a (record b { written = w }) bytes xs) (sym same) c
+written_as : (g : Genesis) (a b : ServerStand) (bytes : List ℕ) (xs : List Exchange) (written : Option (List ℕ)) → written ≡ b.written
+    → ServerCourse g a b bytes xs → ServerCourse g a (record b { written = written }) bytes xs
+written_as g a b bytes xs written same c = subst (λ (w : Option (List ℕ)). ServerCourse g a (record b { written = w }) bytes xs) (sym same) c
 
 pub rose_before : (x y z : ℕ) → x ≤ y → Rose y z → Rose x z
 rose_before x y z le rose = omega (arith, le, rose)
 
-module _ (g : Genesis) (a b : Stand) (bytes : List ℕ) (xs : List Exchange) (c : Course g a b bytes xs) where
+module _ (g : Genesis) (a b : ServerStand) (bytes : List ℕ) (xs : List Exchange) (c : ServerCourse g a b bytes xs) where
   -- nothing was taken
   course_kept : (left : Option (List ℕ)) (faults : ℕ) → Consumes b.left left [] → b.faults ≤ faults
-      → Course g a (record b { left = left; faults = faults }) bytes xs
+      → ServerCourse g a (record b { left = left; faults = faults }) bytes xs
   course_kept left faults taken more = record {
     did = record {
       taken = subst (λ (t : List ℕ). Consumes a.left left t) (append-nil bytes) (Consumes-trans a.left b.left left bytes [] c.did.taken taken);
@@ -65,7 +65,7 @@ module _ (g : Genesis) (a b : Stand) (bytes : List ℕ) (xs : List Exchange) (c 
   }
 
   pub kept : (left : Option (List ℕ)) (faults : ℕ) (written : Option (List ℕ)) → Consumes b.left left [] → b.faults ≤ faults → written ≡ b.written
-      → Course g a (record b { left = left; written = written; faults = faults }) bytes xs
+      → ServerCourse g a (record b { left = left; written = written; faults = faults }) bytes xs
   kept left faults written taken more same =
       written_as g a (record b { left = left; faults = faults }) bytes xs written same (course_kept left faults taken more)
 
@@ -117,7 +117,7 @@ module _ (g : Genesis) (a b : Stand) (bytes : List ℕ) (xs : List Exchange) (c 
     abbrev x : Exchange
     x = record { message = m; log = found }
 
-    abbrev b' : Stand
+    abbrev b' : ServerStand
     b' = record b { known = known; written = written; faults = faults; unread = (next to_server_of b.unread).after; greeted = greeted }
 
     did : Did g a b' bytes (xs ++ x ∷ [])
@@ -127,7 +127,7 @@ module _ (g : Genesis) (a b : Stand) (bytes : List ℕ) (xs : List Exchange) (c 
     answers = answer_more g b xs m known greeted answer found c.did.greeted h
 
     -- the answer was sent
-    answered : Appends b.written written (bytes_of answer) → Course g a b' bytes (xs ++ x ∷ [])
+    answered : Appends b.written written (bytes_of answer) → ServerCourse g a b' bytes (xs ++ x ∷ [])
     answered sent = record {
       did = did;
       sent = subst (λ (t : List ℕ). Appends a.written written t)

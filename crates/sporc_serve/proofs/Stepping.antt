@@ -21,8 +21,8 @@ use Rattle.sporc_serve.specs.Logs.{IsLogOf, OfDocument}
 use Rattle.sporc_serve.specs.Sending.{bytes_of, CanBeSent}
 use Rattle.sporc_serve.specs.Turns.{TakesTurn}
 use Rattle.sporc_serve.specs.Endings.{IsSendEnd, Inlet, inlet, TakesMessage, IsNext}
-use Rattle.sporc_serve.specs.Courses.{Stand, stand, GoesOn, Carries}
-use Rattle.sporc_serve.specs.Visits.{visit, IsSession}
+use Rattle.sporc_serve.specs.Courses.{ServerStand, stand, GoesOn, Carries}
+use Rattle.sporc_serve.specs.Visits.{visit, IsServedSession}
 use Rattle.sporc_serve.proofs.Turning.{starts_log}
 use Rattle.sporc_serve.proofs.Coursing.{grows_starts, course_begins}
 use Rattle.sporc_serve.proofs.Framed.{next_framed}
@@ -116,7 +116,7 @@ begun g known left written faults unread s empty fresh =
     ([], [], course_begins g known left written faults))
 
 -- after some steps one step more
-pub carried : (g : Genesis) (a b b' : Stand) (e : Option SessionEnd) → IsLogOf g a.known.seen → GoesOn g a b None → Carries b b' e → GoesOn g a b' e
+pub carried : (g : Genesis) (a b b' : ServerStand) (e : Option SessionEnd) → IsLogOf g a.known.seen → GoesOn g a b None → Carries b b' e → GoesOn g a b' e
 carried g a b b' e log went carries =
     carries g a went.0 went.1 (starts_log g b.known.seen a.known.seen
     (grows_starts g a.known.number a.known.seen false went.1 b.known.seen went.2.did.grows) log) went.2
@@ -125,7 +125,7 @@ module _ {L : Type 0} (left written : L → Option (List ℕ)) (faults : L → �
   -- a link was shut as its session ended
   pub session_ended : (g : Genesis) (first last : Known Item) (before mid after : L) (unread : Unread) (s : Bool) (end : SessionEnd)
       → GoesOn g (stand first (left before) (written before) (faults before) (stream_of []) false) (stand last (left mid) (written mid) (faults mid) unread s) (Some end)
-      → left after ≡ left mid → written after ≡ written mid → faults after ≡ faults mid → IsSession left written faults g first last (visit before after end)
+      → left after ≡ left mid → written after ≡ written mid → faults after ≡ faults mid → IsServedSession left written faults g first last (visit before after end)
   session_ended g first last before mid after unread s end h is_left is_written is_faults =
       subst (λ (n : ℕ). GoesOn g (stand first (left before) (written before) (faults before) (stream_of []) false) (stand last (left after) (written after) n unread s) (Some end))
       (sym is_faults)

@@ -26,7 +26,7 @@ pub record Exchange : Type 0 where
 
 -- what a session's pass knows, what its link has left and was given where it tells that, the link's count of faults, the
 -- bytes of it that are no message yet, and whether the client was greeted
-pub record Stand : Type 0 where
+pub record ServerStand : Type 0 where
   pub known : Known Item
   pub left : Option (List ℕ)
   pub written : Option (List ℕ)
@@ -65,7 +65,7 @@ module _ (genesis : Genesis) where
       × Grows number (x.log ++ placed_by number (added_of (order_at genesis x.log) greeted x.message)) (step_at greeted x).is_greeted xs high
 
   -- the messages of these exchanges are the first of the bytes taken, and each is answered at its log
-  pub record Did (a b : Stand) (bytes : List ℕ) (xs : List Exchange) : Type 0 where
+  pub record Did (a b : ServerStand) (bytes : List ℕ) (xs : List Exchange) : Type 0 where
     pub taken : Consumes a.left b.left bytes
     pub reads : Reads to_server_of (stream_of bytes) (messages_of xs) b.unread
     pub greeted : b.greeted ≡ greeted_after false xs
@@ -76,49 +76,49 @@ module _ (genesis : Genesis) where
     pub faults : a.faults ≤ b.faults
 
   -- and all of the answers were sent
-  pub record Course (a b : Stand) (bytes : List ℕ) (xs : List Exchange) : Type 0 where
+  pub record ServerCourse (a b : ServerStand) (bytes : List ℕ) (xs : List Exchange) : Type 0 where
     pub did : Did a b bytes xs
     pub sent : Appends a.written b.written (sent_of (answers_of false xs))
 
   -- as far as one gets: of the last answer the first n bytes were sent
-  pub record Broken (a b : Stand) (bytes : List ℕ) (xs : List Exchange) (before : List Answer) (last : Answer) : Type 0 where
+  pub record Broken (a b : ServerStand) (bytes : List ℕ) (xs : List Exchange) (before : List Answer) (last : Answer) : Type 0 where
     pub did : Did a b bytes xs
     pub answers : answers_of false xs ≡ before ++ last ∷ []
     pub sent : (n : ℕ) × Appends a.written b.written (sent_of before ++ take n (bytes_of last))
 
   -- all answers were sent, or of the last one the first bytes
-  pub data SentUp (a b : Stand) (bytes : List ℕ) (xs : List Exchange) : Type 0 where
-    all : Course a b bytes xs → SentUp a b bytes xs
+  pub data SentUp (a b : ServerStand) (bytes : List ℕ) (xs : List Exchange) : Type 0 where
+    all : ServerCourse a b bytes xs → SentUp a b bytes xs
     part : (before : List Answer) (last : Answer) → Broken a b bytes xs before last → SentUp a b bytes xs
 
   -- how a session ended
-  abbrev pub Ended : Stand → Stand → SessionEnd → Type 0
-  Ended a b Closed = (bytes : List ℕ) × (xs : List Exchange) × (before : List Answer) × Course a b bytes xs
+  abbrev pub EndsAs : ServerStand → ServerStand → SessionEnd → Type 0
+  EndsAs a b Closed = (bytes : List ℕ) × (xs : List Exchange) × (before : List Answer) × ServerCourse a b bytes xs
       × (answers_of false xs ≡ before ++ Close ∷ [])
-  Ended a b LinkEnded = (bytes : List ℕ) × (xs : List Exchange) × Course a b bytes xs × IsAtEnd b.left
+  EndsAs a b LinkEnded = (bytes : List ℕ) × (xs : List Exchange) × ServerCourse a b bytes xs × IsAtEnd b.left
       × ((next to_server_of b.unread).answer ≡ Ok None)
-  Ended a b LinkFault = (bytes : List ℕ) × (xs : List Exchange) × SentUp a b bytes xs × Rose a.faults b.faults
-  Ended a b BadFrame = (bytes : List ℕ) × (xs : List Exchange) × (fault : FrameFault) × Course a b bytes xs
+  EndsAs a b LinkFault = (bytes : List ℕ) × (xs : List Exchange) × SentUp a b bytes xs × Rose a.faults b.faults
+  EndsAs a b BadFrame = (bytes : List ℕ) × (xs : List Exchange) × (fault : FrameFault) × ServerCourse a b bytes xs
       × ((next to_server_of b.unread).answer ≡ Err fault)
-  Ended a b (Worn ticket) = (bytes : List ℕ) × (xs : List Exchange) × Course a b bytes xs × (ticket ≡ MAX_TICKETS)
-  Ended a b Memory = (bytes : List ℕ) × (xs : List Exchange) × SentUp a b bytes xs
+  EndsAs a b (Worn ticket) = (bytes : List ℕ) × (xs : List Exchange) × ServerCourse a b bytes xs × (ticket ≡ MAX_TICKETS)
+  EndsAs a b Memory = (bytes : List ℕ) × (xs : List Exchange) × SentUp a b bytes xs
 
 -- a stand of these
-abbrev pub stand : Known Item → Option (List ℕ) → Option (List ℕ) → ℕ → Unread → Bool → Stand
+abbrev pub stand : Known Item → Option (List ℕ) → Option (List ℕ) → ℕ → Unread → Bool → ServerStand
 stand known left written faults unread greeted =
     record { known = known; left = left; written = written; faults = faults; unread = unread; greeted = greeted }
 
 -- a session that ended, whatever its frames then are
-abbrev pub IsEnd : Genesis → Stand → Stand → SessionEnd → Type 0
-IsEnd genesis a b end = (unread : Unread) × (greeted : Bool) × Ended genesis a (record b { unread = unread; greeted = greeted }) end
+abbrev pub IsEnd : Genesis → ServerStand → ServerStand → SessionEnd → Type 0
+IsEnd genesis a b end = (unread : Unread) × (greeted : Bool) × EndsAs genesis a (record b { unread = unread; greeted = greeted }) end
 
 -- a session that went on from its beginning to here, or ended
-abbrev pub GoesOn : Genesis → Stand → Stand → Option SessionEnd → Type 0
-GoesOn genesis a b None = (bytes : List ℕ) × (xs : List Exchange) × Course genesis a b bytes xs
+abbrev pub GoesOn : Genesis → ServerStand → ServerStand → Option SessionEnd → Type 0
+GoesOn genesis a b None = (bytes : List ℕ) × (xs : List Exchange) × ServerCourse genesis a b bytes xs
 GoesOn genesis a b (Some end) = IsEnd genesis a b end
 
 -- a session that went on from any beginning to here goes on to there, or ends
-abbrev pub Carries : Stand → Stand → Option SessionEnd → Type 0
+abbrev pub Carries : ServerStand → ServerStand → Option SessionEnd → Type 0
 Carries b b' end =
-    (genesis : Genesis) (a : Stand) (bytes : List ℕ) (xs : List Exchange) → IsLogOf genesis b.known.seen → Course genesis a b bytes xs
+    (genesis : Genesis) (a : ServerStand) (bytes : List ℕ) (xs : List Exchange) → IsLogOf genesis b.known.seen → ServerCourse genesis a b bytes xs
     → GoesOn genesis a b' end

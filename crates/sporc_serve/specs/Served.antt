@@ -8,7 +8,7 @@ use Rattle.sporc_order.specs.OrderModel.{OrderModel}
 use Rattle.sporc_serve.specs.declared.item.Item.{Item}
 use Rattle.sporc_serve.specs.Logs.{by_of, log_of, order_at}
 use Rattle.sporc_serve.specs.declared.fault.ServeFault.{ServeFault}
-use Rattle.sporc_serve.specs.Visits.{Visit, IsSession, IsUnserved, came, went, AreFrom, AreBehind, TellsOf}
+use Rattle.sporc_serve.specs.Visits.{Visit, IsServedSession, IsUnserved, came, went, AreFrom, AreBehind, TellsOf}
 use Rattle.sporc_serve.specs.Crowds.{Net}
 
 -- the log of an order that is handed in
@@ -22,7 +22,7 @@ module _ {L : Type 0} (left written : L → Option (List ℕ)) (faults : L → �
     pub number_is : first.number ≡ number
     pub none : first.mine ≡ []
     pub begins : StartsWith first.seen start
-    pub session : IsSession left written faults genesis first last v
+    pub session : IsServedSession left written faults genesis first last v
     pub known : StartsWith log last.seen
     pub own_are : own by_of number (length start) log ≡ last.mine
 

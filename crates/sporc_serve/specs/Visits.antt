@@ -26,8 +26,8 @@ visit before after end = record { before = before; after = after; end = end }
 
 module _ {L : Type 0} (left written : L → Option (List ℕ)) (faults : L → ℕ) (genesis : Genesis) where
   -- a session over a link by a pass that knew this at first and that at last
-  abbrev pub IsSession : Known Item → Known Item → Visit L → Type 0
-  IsSession first last v =
+  abbrev pub IsServedSession : Known Item → Known Item → Visit L → Type 0
+  IsServedSession first last v =
       IsEnd genesis (stand first (left v.before) (written v.before) (faults v.before) (stream_of []) false)
       (stand last (left v.after) (written v.after) (faults v.after) (stream_of []) false) v.end
 
@@ -43,7 +43,7 @@ module _ {L : Type 0} (left written : L → Option (List ℕ)) (faults : L → �
   Visits before after [] = after ≡ before
   Visits before after (v ∷ vs) =
       (IsUnserved v × (vs ≡ []) × (after ≡ before))
-      ⊎ ((rest : Known Item) × (last : Known Item) × IsSession (copied before) last v × Visits (splitting before) rest vs
+      ⊎ ((rest : Known Item) × (last : Known Item) × IsServedSession (copied before) last v × Visits (splitting before) rest vs
       × (last.number ≡ (copied before).number) × (after ≡ joined_with rest last) × StartsWith after.seen rest.seen × StartsWith after.seen last.seen
       × Agrees by_of after after.seen)
 

@@ -9,7 +9,7 @@ ghost use Rattle.sporc_turn.specs.Passes.{known_of, IsPassOf};
 ghost use Rattle.sporc_serve.specs.Logs.{by_of, OfDocument};
 ghost use Rattle.sporc_serve.specs.Crowds.{IsCrowd, net_of, IsFirst, IsOther};
 ghost use Rattle.sporc_serve.specs.Returns.{AreShutBehind};
-ghost use Rattle.sporc_serve.specs.Visits.{visit, IsSession, with_end};
+ghost use Rattle.sporc_serve.specs.Visits.{visit, IsServedSession, with_end};
 
 use crate::desk::Desk;
 use crate::end::SessionEnd;
@@ -117,7 +117,7 @@ where
             requires { IsSync R.row × IsSync G.row × IsOther turn.now second }
             ensures { IfSome second.entry (λ p. IsPassOf turn.entry.now result.1 × ((known_of result.1).number ≡ (known_of p).number)
                 × OfDocument (known_of p).seen
-                (λ genesis. IsSession N.Link.left N.Link.written N.Link.faults genesis (known_of p) (known_of result.1) (visit link.entry link.exit result.0))
+                (λ genesis. IsServedSession N.Link.left N.Link.written N.Link.faults genesis (known_of p) (known_of result.1) (visit link.entry link.exit result.0))
                 × IsTrueIfTold (N.Link.is_shut link.exit)) }
         { serve_link(rt, alloc, turn, gate, &mut link, second.take().unwrap()) },
         &mut || -> (Result<(), ServeFault>, Pass<Item>)

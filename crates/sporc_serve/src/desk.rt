@@ -62,7 +62,7 @@ impl Desk {
         ensures greeted { OnOk result (session.new ≡ (step_of self.old.order session.old message.now).is_greeted) }
         ensures log { OnOk result (log_of self.new.order self.new.numbers.items ≡ log_of self.old.order self.old.numbers.items
             ++ placed_by number (added_of self.old.order session.old message.now)) }
-        ensures same { OnErr result (session.new ≡ session.old) }
+        ensures unchanged { OnErr result (session.new ≡ session.old) }
         ensures memory { OnErr result (log_of self.new.order self.new.numbers.items ≡ log_of self.old.order self.old.numbers.items) }
     {
         self.numbers.reserve(1)?;

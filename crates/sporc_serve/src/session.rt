@@ -9,7 +9,7 @@ ghost use Rattle.sporc_order.specs.Sessions.{IsFramed};
 ghost use Rattle.sporc_serve.specs.Logs.{OfDocument};
 ghost use Rattle.sporc_serve.specs.Courses.{stand, Carries};
 ghost use Rattle.sporc_serve.specs.Endings.{inlet, IsNext};
-ghost use Rattle.sporc_serve.specs.Visits.{visit, IsSession};
+ghost use Rattle.sporc_serve.specs.Visits.{visit, IsServedSession};
 
 use crate::desk::Desk;
 use crate::end::SessionEnd;
@@ -141,7 +141,7 @@ pub(crate) fn serve_link<R: Wait, L: Link, G: Gate>(
     ensures lock { IsPassOf turn.now result.1 }
     ensures number { (known_of result.1).number ≡ (known_of pass).number }
     ensures session { OfDocument (known_of pass).seen
-        (λ genesis. IsSession L.left L.written L.faults genesis (known_of pass) (known_of result.1) (visit link.old link.new result.0)) }
+        (λ genesis. IsServedSession L.left L.written L.faults genesis (known_of pass) (known_of result.1) (visit link.old link.new result.0)) }
     ensures shut { IsTrueIfTold (L.is_shut link.new) }
 {
     let mut frames = Frames::new(alloc);

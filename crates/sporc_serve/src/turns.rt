@@ -33,7 +33,7 @@ fn step_held(
     ensures log { log_of (value_of held.new).order (value_of held.new).numbers.items
         ≡ log_of (value_of held.old).order (value_of held.old).numbers.items
         ++ placed_by number (if_answered result (added_of (value_of held.old).order session.old message.now)) }
-    ensures same { OnErr result (session.new ≡ session.old) }
+    ensures unchanged { OnErr result (session.new ≡ session.old) }
 {
     let desk = held.value();
     desk.step(alloc, number, session, message)

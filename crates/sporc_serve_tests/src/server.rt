@@ -1,7 +1,7 @@
 //! A server over links in memory.
 
 ghost use Rattle.std.specs.Prelude.{◌≤◌, ◌<◌, []};
-ghost use Rattle.sporc_outside.specs.NetContent.{AreFresh};
+ghost use Rattle.sporc_outside.specs.MemoryNetModel.{AreFresh};
 ghost use Rattle.sporc_serve.specs.declared.limits.TheConstants.{MAX_SESSIONS};
 
 use sporc_order::Order;

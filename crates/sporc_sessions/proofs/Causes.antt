@@ -1,5 +1,6 @@
 -- Of which faults of a session a count tells.
 use Rattle.std.proofs.Common.{◌≡◌, ⊎_elim, ℕ, ◌+◌, ◌≤◌, List, [], ◌∷◌, drop, length, Option, Some, None, refl, sym, ◌∙◌, subst, arith}
+use Rattle.std.proofs.lemmas.Option.{same_Some}
 use Rattle.std.specs.Prelude.{Result, Ok, Err, ⊤}
 use Rattle.sporc_base.specs.FirstFault.{first_of}
 use Rattle.sporc_outside.specs.Counts.{count_of_both}
@@ -23,9 +24,6 @@ none_some {A = A} is = subst some_is_empty is tt
     some_is_empty : Option A → Type 0
     some_is_empty None = ⊤
     some_is_empty (Some a) = ⊥
-
-some_same : {A : Type 0} {a b : A} → Some a ≡ Some b → a ≡ b
-some_same is = cc
 
 -- the counts of two moments
 abbrev pub counts : Stand → Stand → CountsAround
@@ -97,7 +95,7 @@ editors_rose : (c : CountsAround) (log : List Item) (start number : ℕ) (script
 editors_rose c log start number scripts [] fault did all is = absurd (none_some is)
 editors_rose c log start number [] (end ∷ ends) fault did all is = absurd (omega (arith, all))
 editors_rose c log start number (script ∷ scripts) (Some f ∷ ends) fault did all is =
-    subst (RoseFor c) (some_same is) (line_rose c log start number _ (drop did.0.count script) f did.0.end)
+    subst (RoseFor c) (same_Some _ _ is) (line_rose c log start number _ (drop did.0.count script) f did.0.end)
 editors_rose c log start number (script ∷ scripts) (None ∷ ends) fault did all is = editors_rose c log start (number + 1) scripts ends fault did.1 (omega (arith, all)) is
 
 -- why the session ended

@@ -11,6 +11,15 @@ pub record CountsAround : Type 0 where
   pub chance_before : ℕ
   pub chance_after : ℕ
 
+-- those of a net, or of its link, and of a chance, by what they count at both moments
+abbrev pub counts_around : {N C : Type 0} → (N → ℕ) → N → N → (C → ℕ) → C → C → CountsAround
+counts_around links net net' chances chance chance' = record {
+  links_before = links net;
+  links_after = links net';
+  chance_before = chances chance;
+  chance_after = chances chance';
+}
+
 -- that of the links, if the link failed, and that of the chance, if the chance did
 abbrev pub RoseFor : CountsAround → SessionFault → Type 0
 RoseFor c faults.LinkFault = Rose c.links_before c.links_after

@@ -17,7 +17,7 @@ use Rattle.sporc_sessions.specs.declared.concluding.PrintFault.{PrintFault}
 use Rattle.sporc_sessions.specs.declared.concluding.PrintFault.TheVariants as printing
 use Rattle.sporc_sessions.specs.Report.{report_of}
 
--- what was printed of a client: journal and report, and nothing else; or a front of them, where the sink failed; or nothing
+-- what was printed of a client: journal and report, and nothing else; or a prefix of them, if the sink failed; or nothing
 abbrev pub PrintOutcome : Past → SinkUse → Result ⊤ PrintFault → Type 0
 PrintOutcome past out (Ok done) = Appends out.written_before out.written_after (report_of past)
 PrintOutcome past out (Err printing.Sink) = Rose out.faults_before out.faults_after × AppendsPrefix out.written_before out.written_after (report_of past)
@@ -30,11 +30,14 @@ pub record FilesUse : Type 0 where
   pub faults_before : ℕ
   pub faults_after : ℕ
 
+abbrev pub files_use : {F : Type 0} → (F → Option (List NamedFile)) → (F → ℕ) → F → F → FilesUse
+files_use files faults old new = record { before = files old; after = files new; faults_before = faults old; faults_after = faults new }
+
 -- the file of a client's history
 abbrev pub history_bytes : Past → List ℕ
 history_bytes past = saved_bytes past.opening.genesis.document (client_of past).entries
 
--- what was saved of a client: all its entries, as the file with this name, and nothing else; or anything may stand there, where the folder failed;
+-- what was saved of a client: all its entries, as the file with this name, and nothing else; or anything may stand there, if the folder failed;
 -- or nothing was written, as the file would be too long, or memory ran out
 abbrev pub SaveOutcome : Past → List ℕ → FilesUse → Result ⊤ KeepFault → Type 0
 SaveOutcome past name files (Ok done) = files.after ≡ option_map (λ old. with_file old name (history_bytes past)) files.before

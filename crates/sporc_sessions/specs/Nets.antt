@@ -4,7 +4,7 @@ use Rattle.sporc_outside.specs.Counts.{count_of_both}
 use Rattle.sporc_outside.specs.Told.{AppendsItem, IsTrueIfTold, TakesItem}
 use Rattle.sporc_shared.specs.declared.fault.SessionFault.{SessionFault}
 use Rattle.sporc_shared.specs.Items.{Past}
-use Rattle.sporc_sessions.specs.Sessions.{ChanceTold, IsSessionOf, LinkTold, Plan}
+use Rattle.sporc_sessions.specs.Sessions.{ChanceTold, IsSessionOf, LinkTold, Plan, link_told}
 
 -- what a net tells: the addresses asked for, the links that are to come and those that were taken back, and how many calls of
 -- these failed
@@ -29,7 +29,7 @@ pub record LinkView (L : Type 0) : Type 0 where
   pub is_shut : L → Option Bool
 
 abbrev pub link_view : {L : Type 0} → (L → Option (List ℕ)) → (L → Option (List ℕ)) → (L → ℕ) → (L → Option Bool) → LinkView L
-link_view written left faults is_shut = record { told = λ l. record { written = written l; left = left l; faults = faults l }; is_shut = is_shut }
+link_view written left faults is_shut = record { told = link_told written left faults; is_shut = is_shut }
 
 -- the net handed out a link to an address, without faults, and took it back, shut
 pub record UsesLink {L : Type 0} (view : LinkView L) (old new : NetTold L) (address : List ℕ) (first last : L) : Type 0 where

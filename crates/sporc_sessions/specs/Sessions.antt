@@ -21,6 +21,13 @@ pub record ChanceTold : Type 0 where
   pub given : Option (List (List ℕ))
   pub faults : ℕ
 
+-- a link and a chance, by what they tell
+abbrev pub link_told : {L : Type 0} → (L → Option (List ℕ)) → (L → Option (List ℕ)) → (L → ℕ) → L → LinkTold
+link_told written left faults link = record { written = written link; left = left link; faults = faults link }
+
+abbrev pub chance_told : {C : Type 0} → (C → Option (List (List ℕ))) → (C → ℕ) → C → ChanceTold
+chance_told given faults chance = record { given = given chance; faults = faults chance }
+
 -- what number 0 knows of the client's log, beside what the link and the chance tell
 abbrev pub stand_at : Known Item → InboxModel → LinkTold → ChanceTold → Stand
 stand_at known inbox link chance = stand known (link_stand link.written link.left link.faults inbox) chance.given chance.faults

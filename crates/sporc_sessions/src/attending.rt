@@ -6,9 +6,10 @@ ghost use Rattle.sporc_entry.specs.Genesis.{IsGenesis};
 ghost use Rattle.sporc_script.specs.declared.limits.TheConstants.{MAX_EDITORS};
 ghost use Rattle.sporc_shared.specs.Items.{past_of};
 ghost use Rattle.sporc_sessions.specs.Attending.{IsAttended, NotAttended};
-ghost use Rattle.sporc_sessions.specs.Causes.{RoseIfFailed};
+ghost use Rattle.sporc_sessions.specs.Causes.{RoseIfFailed, counts_around};
 ghost use Rattle.sporc_sessions.specs.Nets.{AsksAtMost, link_view, net_told};
 ghost use Rattle.sporc_sessions.specs.Opening.{links_for_hints};
+ghost use Rattle.sporc_sessions.specs.Sessions.{chance_told};
 
 use crate::opening::{OpenFault, open_line};
 use crate::resuming::{ResumeFault, resume};
@@ -80,16 +81,11 @@ where
         (record { rounds = rounds; until = until; editors = editors.now })
         (record { key = signer.key; first_leaf = signer.leaves.next_at_open })
         (past_of ended.client)
-        (record { given = C.given chance.old; faults = C.faults chance.old })
-        (record { given = C.given chance.new; faults = C.faults chance.new })
+        (chance_told C.given C.faults chance.old)
+        (chance_told C.given C.faults chance.new)
         ended.result) }
     ensures leaves { IfOk result (λ ended. Rise (past_of ended.client).first_leaf ended.client.leaves.next (leaves_of ended.client.log)) }
-    ensures causes { IfOk result (λ ended. RoseIfFailed (record {
-      links_before = N.link_faults net.old;
-      links_after = N.link_faults net.new;
-      chance_before = C.faults chance.old;
-      chance_after = C.faults chance.new;
-    }) ended.result) }
+    ensures causes { IfOk result (λ ended. RoseIfFailed (counts_around N.link_faults net.old net.new C.faults chance.old chance.new) ended.result) }
     ensures err { IfErr result (λ e. NotAttended (link_view N.Link.written N.Link.left N.Link.faults N.Link.is_shut)
         (record { genesis = member.genesis; member = member.number; ring = member.ring; address = address.now })
         (option_map (λ bytes. bytes.items) saved)
@@ -98,11 +94,11 @@ where
         (N.faults net.old) (N.faults net.new) e.0) }
     ensures returned { IfErr result (λ e. e.1 ≡ signer) }
     ensures chance { OnErr result (chance.new ≡ chance.old) }
-    ensures chance_count { C.faults chance.old ≤ C.faults chance.new }
-    ensures out { N.out net.new ≡ N.out net.old }
+    ensures chance_kept { C.faults chance.old ≤ C.faults chance.new }
+    ensures links_out { N.out net.new ≡ N.out net.old }
     ensures may_ask { AsksAtMost (links_for_hints member.ring + 1) (N.asked net.old) (N.asked net.new) address.now }
-    ensures count { N.faults net.old ≤ N.faults net.new }
-    ensures links { N.link_faults net.old ≤ N.link_faults net.new }
+    ensures net_kept { N.faults net.old ≤ N.faults net.new }
+    ensures links_kept { N.link_faults net.old ≤ N.link_faults net.new }
 {
     let Member {
         genesis,

@@ -3,8 +3,9 @@
 ghost use Rattle.std.specs.Prelude.{◌≡◌, ◌≤◌};
 ghost use Rattle.sporc_client.specs.ClientModel.{Rise, leaves_of};
 ghost use Rattle.sporc_outside.specs.Told.{MayAppend};
+ghost use Rattle.sporc_outside.specs.Uses.{sink_use};
 ghost use Rattle.sporc_shared.specs.Items.{past_of};
-ghost use Rattle.sporc_sessions.specs.Concluding.{LeavesAreTaken, PrintOutcome, SaveOutcome};
+ghost use Rattle.sporc_sessions.specs.Concluding.{LeavesAreTaken, PrintOutcome, SaveOutcome, files_use};
 ghost use Rattle.sporc_sessions.specs.declared.concluding.PrintFault.TheVariants as print_faults;
 ghost use Rattle.sporc_sessions.specs.declared.concluding.KeepFault.TheVariants as keep_faults;
 
@@ -19,7 +20,7 @@ use std::alloc::{AllocError, Global};
 /// Why journal and report were not printed whole.
 #[derive(Clone, Copy, Debug, PartialEq, Eq)]
 pub enum PrintFault {
-    /// The sink failed, after a front of them.
+    /// The sink failed, after a prefix of them.
     Sink,
     /// No memory was left, and nothing was printed.
     Memory,
@@ -77,26 +78,16 @@ pub fn conclude<D: LeafDisk, O: Sink, F: Folder>(
     requires leaves { Rise (past_of ended.client).first_leaf ended.client.leaves.next (leaves_of ended.client.log) }
     ensures session { result.session ≡ ended.result }
     ensures printed { PrintOutcome (past_of ended.client)
-        (record {
-          written_before = O.written out.old;
-          written_after = O.written out.new;
-          faults_before = O.faults out.old;
-          faults_after = O.faults out.new;
-        })
+        (sink_use O.written O.faults out.old out.new)
         result.printed }
     ensures saved { SaveOutcome (past_of ended.client) name.now
-        (record {
-          before = F.files files.old;
-          after = F.files files.new;
-          faults_before = F.faults files.old;
-          faults_after = F.faults files.new;
-        })
+        (files_use F.files F.faults files.old files.new)
         result.saved }
     ensures taken { LeavesAreTaken (D.images result.disk (D.moment result.disk)) (past_of ended.client) }
     ensures lent { F.lent files.new ≡ F.lent files.old }
     ensures may_ask { MayAppend (F.asked files.old) (F.asked files.new) name.now }
-    ensures out { O.faults out.old ≤ O.faults out.new }
-    ensures kept { F.faults files.old ≤ F.faults files.new }
+    ensures out_kept { O.faults out.old ≤ O.faults out.new }
+    ensures files_kept { F.faults files.old ≤ F.faults files.new }
 {
     let Ended { client, result } = ended;
     let printed = print(alloc, &client, out);
@@ -117,12 +108,7 @@ fn print<D: LeafDisk, O: Sink>(
     out: &mut O,
 ) -> Result<(), PrintFault>
     ensures printed { PrintOutcome (past_of client.now)
-        (record {
-          written_before = O.written out.old;
-          written_after = O.written out.new;
-          faults_before = O.faults out.old;
-          faults_after = O.faults out.new;
-        })
+        (sink_use O.written O.faults out.old out.new)
         result }
     ensures kept { O.faults out.old ≤ O.faults out.new }
 {
@@ -139,17 +125,13 @@ fn save_history<D: LeafDisk, F: Folder>(
     name: &str,
 ) -> Result<(), KeepFault>
     ensures saved { SaveOutcome (past_of client.now) name.now
-        (record {
-          before = F.files files.old;
-          after = F.files files.new;
-          faults_before = F.faults files.old;
-          faults_after = F.faults files.new;
-        })
+        (files_use F.files F.faults files.old files.new)
         result }
     ensures lent { F.lent files.new ≡ F.lent files.old }
     ensures may_ask { MayAppend (F.asked files.old) (F.asked files.new) name.now }
     ensures kept { F.faults files.old ≤ F.faults files.new }
 {
+    // No call for its answer: that a client has few entries is what the saving of them asks for.
     let _few = client.heads().len();
     match save(alloc, client.document(), client.entries()) {
         Ok(bytes) => match files.write_file(name, bytes.as_slice()) {

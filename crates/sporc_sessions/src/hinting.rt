@@ -29,7 +29,7 @@ pub enum HintsFault {
 
 /// The keys of epochs that the entries of the server at an address give a joiner. The link to it is shut as soon as all are
 /// fetched, and taken back.
-pub fn fetch_hints<R: Wait, N: Dial>(
+pub(crate) fn fetch_hints<R: Wait, N: Dial>(
     rt: &R,
     alloc: Global,
     net: &mut N,
@@ -44,11 +44,12 @@ pub fn fetch_hints<R: Wait, N: Dial>(
         (net_told (N.asked net.new) (N.coming net.new) (N.returned net.new) (N.link_faults net.new)) fetched
         × GivesUnless (HintsFault.Hints hint_faults.Memory) (λ ring. ring.keys) result (hints_by member (pairs_in pairs.now) fetched) }
     ensures unreached { result ≡ Err HintsFault.Unreached → Rose (N.faults net.old) (N.faults net.new) }
-    ensures out { N.out net.new ≡ N.out net.old }
+    ensures links_out { N.out net.new ≡ N.out net.old }
     ensures may_ask { MayAppend (N.asked net.old) (N.asked net.new) address.now }
-    ensures count { N.faults net.old ≤ N.faults net.new }
-    ensures links { N.link_faults net.old ≤ N.link_faults net.new }
+    ensures kept { N.faults net.old ≤ N.faults net.new }
+    ensures links_kept { N.link_faults net.old ≤ N.link_faults net.new }
 {
+    // No call for its answer: that the links' count can be told here is what `links_kept` rests on.
     let _faults = net.link_faults();
     let Ok(mut link) = net.connect(rt, address) else {
         return Err(HintsFault::Unreached);

@@ -1,9 +1,8 @@
 //! A member's session with a server: from its saved history to what is printed and saved of its client.
 //!
-//! - [`attend`]: opens a member's line, loads its saved history, and has its client work with a server. Its parts are
-//!   [`open_line`], for a joiner by the hints that [`fetch_hints`] gets, [`resume`], and [`work`], a session over a link of its
-//!   own, which is shut and taken back ([`run_session`] is one over a link at hand).
-//! - [`conclude`]: prints journal and report ([`report`]), saves the history and closes the client, however the session ended.
+//! - [`attend`]: opens a member's line, for a joiner by the hints that are fetched for it, loads its saved history, and has its
+//!   client work with a server over a link of its own, which is shut and taken back.
+//! - [`conclude`]: prints journal and report, saves the history and closes the client, however the session ended.
 //!
 //! ```text
 //! let ended = attend(&rt, alloc, member, saved, signer, net, "here:7", chance, &scripts, 64, 0, &OpenGate)?;
@@ -13,10 +12,11 @@
 //! Proved: a joiner's keys are the hints of exactly the entries that were fetched; a client goes on with all entries of its
 //! saved history, each an accept by 0, or loading tells where it stopped; what the session did is one of `sporc_shared` on that
 //! client's log (`IsSession`), over the link that the net handed out and took back, shut; the log goes on from the one the
-//! client had; what is printed is its journal and its report to the byte, or a front of them; the file has exactly its entries;
+//! client had; what is printed is its journal and its report to the byte, or a prefix of them; the file has exactly its entries;
 //! the leaves of its submissions rise from the first of the opening on, and no crash frees their blocks on the disk that comes
 //! back; a session that the link or the chance ended stands for a count that rose; no address is asked for but the one given,
-//! and that once, or twice by a joiner. Neither: that the server answers.
+//! and that once, or twice by a joiner. Tested, on the program (`sporc_commands_tests`): members who work with a server, each status
+//! that a session ends with, and each call outside failing in turn. Neither: that the server answers.
 #![tactic(auto)]
 
 mod attending;
@@ -30,9 +30,6 @@ mod working;
 
 pub use crate::attending::{AttendFault, Member, attend};
 pub use crate::concluding::{Concluded, KeepFault, PrintFault, conclude};
-pub use crate::hinting::{HintsFault, fetch_hints};
-pub use crate::opening::{OpenFault, open_line};
-pub use crate::reporting::report;
-pub use crate::resuming::{ResumeFault, resume};
-pub use crate::session::{Ended, run_session};
-pub use crate::working::{WorkFault, work};
+pub use crate::hinting::HintsFault;
+pub use crate::opening::OpenFault;
+pub use crate::session::Ended;

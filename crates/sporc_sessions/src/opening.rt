@@ -41,7 +41,7 @@ impl From<AllocError> for OpenFault {
 
 /// The empty line of a member, by what its ring file says. A joiner's file has no key of epoch 0: its keys are those that the
 /// entries of the server at an address give it.
-pub fn open_line<R: Wait, N: Dial>(
+pub(crate) fn open_line<R: Wait, N: Dial>(
     rt: &R,
     alloc: Global,
     net: &mut N,
@@ -60,10 +60,10 @@ pub fn open_line<R: Wait, N: Dial>(
         (net_told (N.asked net.old) (N.coming net.old) (N.returned net.old) (N.link_faults net.old))
         (net_told (N.asked net.new) (N.coming net.new) (N.returned net.new) (N.link_faults net.new))
         (N.faults net.old) (N.faults net.new)) }
-    ensures out { N.out net.new ≡ N.out net.old }
+    ensures links_out { N.out net.new ≡ N.out net.old }
     ensures may_ask { AsksAtMost (links_for_hints ring.now) (N.asked net.old) (N.asked net.new) address.now }
-    ensures count { N.faults net.old ≤ N.faults net.new }
-    ensures links { N.link_faults net.old ≤ N.link_faults net.new }
+    ensures kept { N.faults net.old ≤ N.faults net.new }
+    ensures links_kept { N.link_faults net.old ≤ N.link_faults net.new }
 {
     let pairs = ring.pairs(alloc)?;
     match ring.epoch_key {

@@ -25,7 +25,7 @@ pub enum ResumeFault {
 
 /// The client of a member that goes on with the entries of its saved history, each of them an accept by 0, or with none if
 /// there is no such file.
-pub fn resume<D: LeafDisk>(
+pub(crate) fn resume<D: LeafDisk>(
     alloc: Global,
     line: Line,
     saved: Option<Vec<u8>>,

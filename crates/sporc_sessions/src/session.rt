@@ -4,8 +4,8 @@ ghost use Rattle.std.specs.Prelude.{◌≡◌, ◌≤◌, length, IfErr, IfOk, O
 ghost use Rattle.sporc_client.specs.ClientModel.{Rise, leaves_of};
 ghost use Rattle.sporc_script.specs.declared.limits.TheConstants.{MAX_EDITORS};
 ghost use Rattle.sporc_shared.specs.Items.{past_of};
-ghost use Rattle.sporc_sessions.specs.Causes.{RoseIfFailed};
-ghost use Rattle.sporc_sessions.specs.Sessions.{IsSessionOf};
+ghost use Rattle.sporc_sessions.specs.Causes.{RoseIfFailed, counts_around};
+ghost use Rattle.sporc_sessions.specs.Sessions.{IsSessionOf, chance_told, link_told};
 
 use sporc_base::Memory;
 use sporc_client::Client;
@@ -24,7 +24,7 @@ pub struct Ended<D: LeafDisk> {
 }
 
 /// Has a client work with a server over a link. If memory runs out before the session begins, the client comes back.
-pub fn run_session<
+pub(crate) fn run_session<
     R: Threads + Wait + Sync,
     D: LeafDisk + Send,
     L: Link + Send,
@@ -45,22 +45,17 @@ pub fn run_session<
     ensures session { IfOk result (λ ended. IsSessionOf (record { rounds = rounds; until = until; editors = editors.now })
         (past_of client) (past_of ended.client)
         (record {
-          link = record { written = L.written link.old; left = L.left link.old; faults = L.faults link.old };
-          chance = record { given = C.given chance.old; faults = C.faults chance.old };
+          link = link_told L.written L.left L.faults link.old;
+          chance = chance_told C.given C.faults chance.old;
         })
         (record {
-          link = record { written = L.written link.new; left = L.left link.new; faults = L.faults link.new };
-          chance = record { given = C.given chance.new; faults = C.faults chance.new };
+          link = link_told L.written L.left L.faults link.new;
+          chance = chance_told C.given C.faults chance.new;
         })
         ended.result) }
     ensures leaves { IfOk result (λ ended. Rise (past_of ended.client).first_leaf ended.client.leaves.next (leaves_of ended.client.log)) }
-    ensures causes { IfOk result (λ ended. RoseIfFailed (record {
-      links_before = L.faults link.old;
-      links_after = L.faults link.new;
-      chance_before = C.faults chance.old;
-      chance_after = C.faults chance.new;
-    }) ended.result) }
-    ensures chance_count { C.faults chance.old ≤ C.faults chance.new }
+    ensures causes { IfOk result (λ ended. RoseIfFailed (counts_around L.faults link.old link.new C.faults chance.old chance.new) ended.result) }
+    ensures chance_kept { C.faults chance.old ≤ C.faults chance.new }
     ensures returned { IfErr result (λ e. e.0 ≡ client) }
     ensures link { OnErr result (link.new ≡ link.old) }
     ensures chance { OnErr result (chance.new ≡ chance.old) }

@@ -6,8 +6,9 @@ ghost use Rattle.sporc_outside.specs.Counts.{Rose};
 ghost use Rattle.sporc_outside.specs.Told.{MayAppend};
 ghost use Rattle.sporc_script.specs.declared.limits.TheConstants.{MAX_EDITORS};
 ghost use Rattle.sporc_shared.specs.Items.{past_of};
-ghost use Rattle.sporc_sessions.specs.Causes.{RoseIfFailed};
+ghost use Rattle.sporc_sessions.specs.Causes.{RoseIfFailed, counts_around};
 ghost use Rattle.sporc_sessions.specs.Nets.{IsWork, link_view, net_told};
+ghost use Rattle.sporc_sessions.specs.Sessions.{chance_told};
 
 use crate::session::{Ended, run_session};
 use sporc_client::Client;
@@ -27,7 +28,7 @@ pub enum WorkFault {
 }
 
 /// Has a client work with the server at an address. The link to it is shut as soon as the session has ended, and taken back.
-pub fn work<
+pub(crate) fn work<
     R: Threads + Wait + Sync,
     D: LeafDisk + Send,
     N: Dial,
@@ -53,25 +54,21 @@ where
         (past_of client) (past_of ended.client)
         (net_told (N.asked net.old) (N.coming net.old) (N.returned net.old) (N.link_faults net.old))
         (net_told (N.asked net.new) (N.coming net.new) (N.returned net.new) (N.link_faults net.new))
-        (record { given = C.given chance.old; faults = C.faults chance.old })
-        (record { given = C.given chance.new; faults = C.faults chance.new })
+        (chance_told C.given C.faults chance.old)
+        (chance_told C.given C.faults chance.new)
         ended.result) }
     ensures leaves { IfOk result (λ ended. Rise (past_of ended.client).first_leaf ended.client.leaves.next (leaves_of ended.client.log)) }
-    ensures causes { IfOk result (λ ended. RoseIfFailed (record {
-      links_before = N.link_faults net.old;
-      links_after = N.link_faults net.new;
-      chance_before = C.faults chance.old;
-      chance_after = C.faults chance.new;
-    }) ended.result) }
+    ensures causes { IfOk result (λ ended. RoseIfFailed (counts_around N.link_faults net.old net.new C.faults chance.old chance.new) ended.result) }
     ensures unreached { IfErr result (λ e. e.1 ≡ WorkFault.Unreached → Rose (N.faults net.old) (N.faults net.new)) }
     ensures returned { IfErr result (λ e. e.0 ≡ client) }
     ensures chance { OnErr result (chance.new ≡ chance.old) }
-    ensures chance_count { C.faults chance.old ≤ C.faults chance.new }
-    ensures out { N.out net.new ≡ N.out net.old }
+    ensures chance_kept { C.faults chance.old ≤ C.faults chance.new }
+    ensures links_out { N.out net.new ≡ N.out net.old }
     ensures may_ask { MayAppend (N.asked net.old) (N.asked net.new) address.now }
-    ensures count { N.faults net.old ≤ N.faults net.new }
-    ensures links { N.link_faults net.old ≤ N.link_faults net.new }
+    ensures net_kept { N.faults net.old ≤ N.faults net.new }
+    ensures links_kept { N.link_faults net.old ≤ N.link_faults net.new }
 {
+    // No call for its answer: that the links' count can be told here is what `links_kept` rests on.
     let _faults = net.link_faults();
     let Ok(mut link) = net.connect(rt, address) else {
         return Err((client, WorkFault::Unreached));

@@ -1,9 +1,10 @@
 -- Courses in a row.
-use Rattle.std.proofs.Common.{◌≡◌, ℕ, ◌+◌, ◌≤◌, Bool, List, [], ◌++◌, Option, Some, None, refl, sym, ap, ◌∙◌, subst, append_assoc, arith}
+use Rattle.std.proofs.Common.{◌≡◌, ℕ, ◌+◌, ◌≤◌, Bool, List, [], ◌++◌, length, Option, Some, None, refl, sym, ap, ◌∙◌, subst, append_assoc, arith}
 use Rattle.std.specs.Prelude.{Result, Ok, Err, ⊤}
 use Rattle.std.proofs.lemmas.List.{append-nil}
 use Rattle.lms_leaf.specs.declared.faults.LeafFault.TheVariants as leaves
 use Rattle.sporc_outside.specs.Counts.{Rose}
+use Rattle.sporc_turn.proofs.Lists.{starts_length}
 use Rattle.sporc_wire.specs.declared.to_client.ToClient.{ToClient}
 use Rattle.sporc_shared.specs.declared.fault.SessionFault.{SessionFault}
 use Rattle.sporc_shared.specs.declared.fault.SessionFault.TheVariants as faults
@@ -12,10 +13,10 @@ use Rattle.sporc_shared.specs.Courses.{Stand, AppendsWords, KnowsMore, Course}
 use Rattle.sporc_shared.specs.Endings.{Cause, Did, Stopped}
 use Rattle.sporc_shared.specs.Items.{Item}
 use Rattle.sporc_shared.specs.Outcomes.{DidOrStopped}
-use Rattle.sporc_shared.specs.Protocol.{Mode}
+use Rattle.sporc_shared.specs.Protocol.{Mode, rounds_begun}
 use Rattle.sporc_shared.specs.Wires.{Exchanged, spelled}
 use Rattle.sporc_shared.proofs.Exchanging.{exchanged_none, exchanged_then, spelled_append}
-use Rattle.sporc_shared.proofs.Fitting.{all_of_append, fit_all_later, fit_all_append, leads_append}
+use Rattle.sporc_shared.proofs.Fitting.{all_of_append, fit_all_later, fit_all_append, in_order_append, leads_append}
 use Rattle.sporc_shared.proofs.Knowing.{knows_none, knows_then}
 
 pub words_none : (u : Option (List (List ℕ))) → AppendsWords u u []
@@ -42,6 +43,7 @@ pub course_none : (a : Stand) → Course a a [] [] [] []
 course_none a = record {
   knows = knows_none a.known;
   fits = tt;
+  in_order = tt;
   link = exchanged_none a.link;
   words_are = words_none a.words;
   chance = omega arith;
@@ -58,6 +60,7 @@ course_then {a} {b} {c} {xs} {ys} {written} {answers} {words} f g =
       knows = subst (KnowsMore a.known c.known) (sym (all_of_append items_by xs ys)) (knows_then a.known b.known c.known (all_of items_by xs) (all_of items_by ys) f.knows g.knows);
       fits = fit_all_append c.known.seen a.known.start a.known.mine xs ys (fit_all_later b.known.seen c.known.seen g.knows.begins a.known.start a.known.mine xs f.fits)
           (subst (λ (z : ℕ × List Item). FitAll c.known.seen z.0 z.1 ys) (λ i. (f.knows.start i, f.knows.mine i)) g.fits);
+      in_order = in_order_append b.known.seen a.known.start (length b.known.seen) (omega arith) (length a.known.seen) a.known.mine xs ys (starts_length b.known.seen a.known.seen f.knows.begins) f.fits f.in_order g.in_order;
       link = subst (λ (l : List ToClient). Exchanged a.link c.link (spelled (all_of messages_by (xs ++ ys)) ++ written) l) (row answers_by xs ys answers) link';
       words_are = subst (AppendsWords a.words c.words) (row words_by xs ys words) (words_then a.words b.words c.words _ _ f.words_are g.words_are);
       chance = omega (arith, f.chance, g.chance);
@@ -93,8 +96,8 @@ cause_earlier a b c m written answers words faults.Memory low low' h = h
 cause_earlier a b c m written answers words (faults.NotSettled pending at) low low' h = h
 cause_earlier a b c m written answers words (faults.EditRefused editor line fault) low low' h = h
 
-pub did_stopped : {ready : ℕ → ℕ → Bool} {a b c : Stand} {m k : Mode} {fault : SessionFault} → Did ready a b m k → Stopped ready b c k fault → Stopped ready a c m fault
-did_stopped {ready} {a} {b} {c} {m} {k} {fault} f g = record {
+pub did_stopped : {ready : ℕ → ℕ → Bool} {a b c : Stand} {m k : Mode} {rounds : ℕ} {fault : SessionFault} → Did ready a b m k → Stopped ready b c k rounds fault → Stopped ready a c m rounds fault
+did_stopped {ready} {a} {b} {c} {m} {k} {rounds} {fault} f g = record {
   acts = f.acts ++ g.acts;
   reached = g.reached;
   written = g.written;
@@ -102,8 +105,24 @@ did_stopped {ready} {a} {b} {c} {m} {k} {fault} f g = record {
   words = g.words;
   course = course_then f.course g.course;
   leads = leads_append ready m k g.reached f.acts g.acts f.leads g.leads;
+  within = g.within;
   beside = g.beside;
   cause = cause_earlier a b c g.reached g.written g.answers g.words fault f.course.link.count f.course.chance g.cause;
+}
+
+-- with no more rounds than these, nor than more
+pub stopped_within : {ready : ℕ → ℕ → Bool} {a b : Stand} {m : Mode} {fault : SessionFault} (rounds more : ℕ) → rounds ≤ more → Stopped ready a b m rounds fault → Stopped ready a b m more fault
+stopped_within rounds more low s = record {
+  acts = s.acts;
+  reached = s.reached;
+  written = s.written;
+  answers = s.answers;
+  words = s.words;
+  course = s.course;
+  leads = s.leads;
+  within = omega (arith, low, s.within);
+  beside = s.beside;
+  cause = s.cause;
 }
 
 -- what was done first, and how it ended
@@ -115,5 +134,5 @@ and_then {result = Err fault} d h = record { ends = did_stopped d h.ends }
 pub was_done : {ready : ℕ → ℕ → Bool} {a b : Stand} {m m' : Mode} {x : ⊤} {result : Result ⊤ SessionFault} → result ≡ Ok x → DidOrStopped ready a b m m' result → Did ready a b m m'
 was_done {ready} {a} {b} {m} {m'} is h = (subst (DidOrStopped ready a b m m') is h).ends
 
-pub was_stopped : {ready : ℕ → ℕ → Bool} {a b : Stand} {m m' : Mode} {fault : SessionFault} {result : Result ⊤ SessionFault} → result ≡ Err fault → DidOrStopped ready a b m m' result → Stopped ready a b m fault
+pub was_stopped : {ready : ℕ → ℕ → Bool} {a b : Stand} {m m' : Mode} {fault : SessionFault} {result : Result ⊤ SessionFault} → result ≡ Err fault → DidOrStopped ready a b m m' result → Stopped ready a b m (rounds_begun m') fault
 was_stopped {ready} {a} {b} {m} {m'} is h = (subst (DidOrStopped ready a b m m') is h).ends

@@ -50,6 +50,7 @@ module _ (k k1 k' : Known Item) (knows : (items : List Item) → KnowsMore (spli
   course_joined acts written answers drawn c = record {
     knows = knows (all_of items_by acts) c.knows;
     fits = fit_all_later k1.seen k'.seen begins k.start k.mine acts c.fits;
+    in_order = c.in_order;
     link = c.link;
     words_are = c.words_are;
     chance = c.chance;
@@ -113,6 +114,7 @@ module _ (k k1 k' : Known Item) (knows : (items : List Item) → KnowsMore (spli
     words = d.words;
     course = course_joined d.acts d.written d.answers d.words d.course;
     leads = d.leads;
+    within = d.within;
     beside = d.beside;
     cause = cause_joined d.reached d.written d.answers d.words fault d.cause;
   }
@@ -151,8 +153,8 @@ pub crowd_last : (a b : Stand) (rounds : ℕ) (scripts : List (List EditorLine))
 crowd_last a b rounds scripts receiver none phase same = subst (λ (ss : List (List EditorLine)). IsCrowd a b rounds ss receiver None) (sym (nil_from_length scripts none)) (crowd_none a b rounds receiver phase same)
 
 -- no pass could be split
-nothing_done : (a : Stand) → Stopped always a a Asking faults.Memory
-nothing_done a = record {
+nothing_done : (a : Stand) (rounds : ℕ) → Stopped always a a Asking rounds faults.Memory
+nothing_done a rounds = record {
   acts = [];
   reached = Asking;
   written = [];
@@ -160,7 +162,8 @@ nothing_done a = record {
   words = [];
   course = course_none a;
   leads = refl;
-  beside = record { sent_due = (0, refl); few_came = omega arith; few = omega arith; drawn = λ _. refl };
+  within = omega arith;
+  beside = record { sent_due = (0, refl); came = inl refl; few = omega arith; drawn = λ _. refl };
   cause = tt;
 }
 
@@ -168,7 +171,7 @@ pub crowd_failed : (k k' : Known Item) (link : LinkStand) (words : Option (List 
     → IsCrowd (stand k link words g) (stand k' link words g) rounds scripts (Some faults.Memory) None
 crowd_failed k k' link words g rounds scripts script others are same =
     subst (λ (z : Known Item × List (List EditorLine)). IsCrowd (stand k link words g) (stand z.0 link words g) rounds z.1 (Some faults.Memory) None) (λ i. (sym same i, sym are i)) (record {
-      phase = nothing_done (stand k link words g);
+      phase = nothing_done (stand k link words g) rounds;
       ends = [];
       joined = [];
       did = refl;

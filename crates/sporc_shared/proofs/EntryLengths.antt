@@ -1,14 +1,13 @@
 -- An entry that a client made fits into a message.
 use Rattle.std.proofs.Common.{◌≡◌, ℕ, ◌+◌, ◌<◌, ◌≤◌, Bool, true, false, ◌&&◌, cond, eqb, leb, List, [], ◌∷◌, ◌++◌, length, Result, Ok, Err, refl, ap, arith}
 use Rattle.std.specs.Int.{Width, w8, w16, w32, byte_len, from_be_bytes}
-use Rattle.std.proofs.lemmas.Bool.{leb-true}
-use Rattle.sporc_bytes.specs.Fields.{Reading, ◌>>=◌, bytes_at, counted_at, end_at, number_at, only_if}
+use Rattle.std.proofs.lemmas.Bool.{and_parts, leb-true}
+use Rattle.sporc_bytes.specs.Fields.{Reading, ◌>>=◌, bytes_at, counted_at, end_at, number_at, only_if, number_within}
 use Rattle.sporc_bytes.proofs.Fields.{bind_ok, bytes_len, end_takes, ok_is, only_if_ok}
 use Rattle.sporc_entry.specs.declared.entry.Entry.{Entry}
 use Rattle.sporc_entry.specs.declared.header.Header.{Header}
 use Rattle.sporc_entry.specs.declared.limits.TheConstants.{MAX_CHANGE_BODY, MAX_EDIT_BODY, MAX_ENTRY, MAX_SIGNATURE}
 use Rattle.sporc_entry.specs.Entry.{body_limit, body_read, entry_of, header_at}
-use Rattle.sporc_entry.specs.Fields.{number_within}
 use Rattle.sporc_wire.specs.declared.cutter.TheConstants.{MAX_BODY}
 use Rattle.sporc_client.specs.Allowed.{allows, allows_all, is_allowed, is_made}
 use Rattle.sporc_client.specs.Log.{Logged, Submit}
@@ -118,14 +117,10 @@ made_len c bytes made = by (entry_of bytes) refl made
     by (Ok e) reads made = entry_len bytes e reads
     by (Err at) reads made = absurd cc
 
-both_true : (a b : Bool) → a && b ≡ true → (a ≡ true) × (b ≡ true)
-both_true true b is = (refl, is)
-both_true false b is = absurd cc
-
 -- the last event of a log is allowed
 allows_last : (c : PlainClient) (log : List Logged) (event : Logged) → allows_all c (log ++ event ∷ []) ≡ true → (d : PlainClient) × (allows d event ≡ true)
-allows_last c [] event may = (c, (both_true (allows c event) true may).0)
-allows_last c (e ∷ log) event may = allows_last (step c e) log event (both_true (allows c e) (allows_all (step c e) (log ++ event ∷ [])) may).1
+allows_last c [] event may = (c, (and_parts (allows c event) true may).0)
+allows_last c (e ∷ log) event may = allows_last (step c e) log event (and_parts (allows c e) (allows_all (step c e) (log ++ event ∷ [])) may).1
 
 pub submitted_len : (before : Past) (by : ℕ) (entry : List ℕ) → IsAllowed (with_events before (Submit by entry ∷ [])) → length entry < MAX_BODY
 unfolding allows is_allowed

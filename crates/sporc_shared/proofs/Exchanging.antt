@@ -3,6 +3,7 @@ use Rattle.std.proofs.Common.{◌≡◌, ℕ, ◌+◌, ◌-◌, ◌^◌, ◌<◌
 use Rattle.std.proofs.lemmas.List.{append-nil, length-append}
 use Rattle.std.proofs.lemmas.List.Concat.{flat_map-append}
 use Rattle.std.specs.Io.KnownBytes.{Appends, Consumes}
+use Rattle.sporc_outside.proofs.Known.{Appends_then, Consumes_then}
 use Rattle.sporc_wire.specs.declared.to_client.ToClient.{ToClient}
 use Rattle.sporc_wire.specs.declared.to_server.ToServer.{ToServer}
 use Rattle.sporc_wire.specs.Messages.{Unread, Reads, counted_to_end, fed, next}
@@ -19,18 +20,6 @@ appends_none (Some xs) = sym (append-nil xs)
 pub consumes_none : (u : Option (List ℕ)) → Consumes u u []
 consumes_none None = tt
 consumes_none (Some xs) = refl
-
-pub appends_then : (u v w : Option (List ℕ)) (a b : List ℕ) → Appends u v a → Appends v w b → Appends u w (a ++ b)
-appends_then None v w a b x y = tt
-appends_then (Some xs) None w a b x y = absurd x
-appends_then (Some xs) (Some ys) None a b x y = y
-appends_then (Some xs) (Some ys) (Some zs) a b x y = y ∙ ap (λ (t : List ℕ). t ++ b) x ∙ append_assoc xs a b
-
-pub consumes_then : (u v w : Option (List ℕ)) (a b : List ℕ) → Consumes u v a → Consumes v w b → Consumes u w (a ++ b)
-consumes_then None v w a b x y = tt
-consumes_then (Some xs) None w a b x y = absurd x
-consumes_then (Some xs) (Some ys) None a b x y = y
-consumes_then (Some xs) (Some ys) (Some zs) a b x y = x ∙ ap (λ (t : List ℕ). a ++ t) y ∙ sym (append_assoc a b zs)
 
 -- messages one after the other
 pub reads_append : (s t u : Unread) (xs ys : List ToClient) → Reads to_client_of s xs t → Reads to_client_of t ys u → Reads to_client_of s (xs ++ ys) u
@@ -69,7 +58,7 @@ received_then a b c xs ys f g =
     subst P (fed_then (unread_of a.inbox) f.came g.came) (Reads-fed to_client_of (fed f.came (unread_of a.inbox)) g.came xs (unread_of b.inbox) f.reads) in
     record {
       came = f.came ++ g.came;
-      consumed = consumes_then a.left b.left c.left f.came g.came f.consumed g.consumed;
+      consumed = Consumes_then a.left b.left c.left f.came g.came f.consumed g.consumed;
       reads = reads_append (fed (f.came ++ g.came) (unread_of a.inbox)) (fed g.came (unread_of b.inbox)) (unread_of c.inbox) xs ys first g.reads;
       counted = λ low.
           let before = f.counted low in
@@ -81,7 +70,7 @@ received_then a b c xs ys f g =
 
 pub exchanged_then : (a b c : LinkStand) (w v : List ℕ) (xs ys : List ToClient) → Exchanged a b w xs → Exchanged b c v ys → Exchanged a c (w ++ v) (xs ++ ys)
 exchanged_then a b c w v xs ys f g = record {
-  sent = appends_then a.written b.written c.written w v f.sent g.sent;
+  sent = Appends_then a.written b.written c.written w v f.sent g.sent;
   received = received_then a b c xs ys f.received g.received;
   count = omega (arith, f.count, g.count);
 }

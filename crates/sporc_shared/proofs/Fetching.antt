@@ -16,7 +16,7 @@ use Rattle.sporc_shared.specs.declared.fault.SessionFault.TheVariants as faults
 use Rattle.sporc_shared.specs.Acts.{Act, Greet, Pull, all_of, answers_by, handed_out, messages_by}
 use Rattle.sporc_shared.specs.Asking.{AskFails, SilentFor, UnsentFor, silent, unsent, wrong}
 use Rattle.sporc_shared.specs.Fetches.{FetchEnds, FetchFails, IsFetch, IsPullDue, Pulled, all_came, loses, not_greeted, pulls_from, stops}
-use Rattle.sporc_shared.specs.Wires.{Exchanged, InboxModel, IsBadFrame, IsLastFrom, LinkStand, empty_inbox, link_stand, spelled}
+use Rattle.sporc_shared.specs.Wires.{Exchanged, InboxModel, IsBadFrame, IsCut, IsLastFrom, LinkStand, empty_inbox, link_stand, spelled}
 use Rattle.sporc_shared.proofs.Exchanging.{exchanged_then, spelled_append}
 use Rattle.sporc_shared.proofs.Fitting.{all_of_append}
 
@@ -160,7 +160,7 @@ fetch_used a b document member (Err fault) (loses l) = (_, _, l.did.did)
 -- why a fetch failed
 abbrev pub FetchCause : LinkStand → LinkStand → SessionFault → Type 0
 FetchCause a b faults.LinkFault = Rose a.faults b.faults
-FetchCause a b (faults.LinkEnded taken) = IsAtEnd b.left × (taken ≡ b.inbox.taken)
+FetchCause a b (faults.LinkEnded taken) = IsAtEnd b.left × IsCut b.inbox × (taken ≡ b.inbox.taken)
 FetchCause a b (faults.BadMessage place) = IsBadFrame b.inbox place ⊎ ((answer : ToClient) × IsLastFrom place answer b.inbox)
 FetchCause a b faults.Memory = ⊤
 FetchCause a b (faults.Refused position refusal) = ⊥

@@ -1,9 +1,9 @@
 -- Acts that fit a log fit a longer one; acts in a row.
-use Rattle.std.proofs.Common.{◌≡◌, ℕ, ◌+◌, Bool, List, [], ◌∷◌, ◌++◌, map, drop, refl, sym, ap, ◌∙◌, subst, append_assoc}
+use Rattle.std.proofs.Common.{◌≡◌, ◌≤◌, ℕ, ◌+◌, Bool, List, [], ◌∷◌, ◌++◌, length, map, drop, refl, sym, ap, ◌∙◌, subst, append_assoc, arith}
 use Rattle.std.proofs.lemmas.List.{append-nil, drop-append-le}
 use Rattle.sporc_turn.specs.Log.{StartsWith}
 use Rattle.sporc_client.specs.Submissions.{submission_added}
-use Rattle.sporc_shared.specs.Acts.{Act, Ask, Greet, Look, Pull, Take, Submit, Send, Check, Fits, FitAll, all_of, items_by}
+use Rattle.sporc_shared.specs.Acts.{Act, Ask, Greet, Look, Pull, Take, Submit, Send, Check, AreInOrder, Fits, FitAll, all_of, items_by, moment_after}
 use Rattle.sporc_shared.specs.Items.{Item, Opened, Happened}
 use Rattle.sporc_shared.specs.Protocol.{Mode, Leads}
 use Rattle.sporc_shared.proofs.Knowing.{client_later, point_later, starts_then}
@@ -38,6 +38,35 @@ pub fit_all_append : (log : List Item) (start : ℕ) (mine : List Item) (xs ys :
 fit_all_append log start mine [] ys f g = subst (λ l. FitAll log start l ys) (append-nil mine) g
 fit_all_append log start mine (act ∷ rest) ys f g =
     (f.0, fit_all_append log start (mine ++ items_by act) rest ys f.1 (subst (λ l. FitAll log start l ys) (sym (append_assoc mine (items_by act) (all_of items_by rest))) g))
+
+-- ---- moments that don't go back
+
+in_order_from : (n m : ℕ) (acts : List Act) → n ≤ m → AreInOrder m acts → AreInOrder n acts
+in_order_from n m [] low o = tt
+in_order_from n m (Ask document member ∷ acts) low o = (omega arith, in_order_from n m acts low o.1)
+in_order_from n m (Greet document member ∷ acts) low o = (omega arith, in_order_from n m acts low o.1)
+in_order_from n m (Look point at pending ∷ acts) low o = (omega (arith, low, o.0), o.1)
+in_order_from n m (Pull from came ∷ acts) low o = (omega arith, in_order_from n m acts low o.1)
+in_order_from n m (Take position entry ∷ acts) low o = (omega arith, in_order_from n m acts low o.1)
+in_order_from n m (Submit point first second answer ∷ acts) low o = (omega (arith, low, o.0), o.1)
+in_order_from n m (Send entry reply ∷ acts) low o = (omega arith, in_order_from n m acts low o.1)
+in_order_from n m (Check point entry stays ∷ acts) low o = (omega (arith, low, o.0), o.1)
+
+module _ (log : List Item) (start m : ℕ) (all : length log ≤ m) where
+  moment_within : (n : ℕ) (mine : List Item) (act : Act) → n ≤ m → Fits log start mine act → moment_after n act ≤ m
+  moment_within n mine (Ask document member) low f = low
+  moment_within n mine (Greet document member) low f = low
+  moment_within n mine (Look point at pending) low f = omega (arith, all, f.0.within)
+  moment_within n mine (Pull from came) low f = low
+  moment_within n mine (Take position entry) low f = low
+  moment_within n mine (Submit point first second answer) low f = omega (arith, all, f.0.within)
+  moment_within n mine (Send entry reply) low f = low
+  moment_within n mine (Check point entry stays) low f = omega (arith, all, f.0.within)
+
+  -- acts that fit a log saw moments of it, so that later ones may follow
+  pub in_order_append : (n : ℕ) (mine : List Item) (xs ys : List Act) → n ≤ m → FitAll log start mine xs → AreInOrder n xs → AreInOrder m ys → AreInOrder n (xs ++ ys)
+  in_order_append n mine [] ys low f x y = in_order_from n m ys low y
+  in_order_append n mine (act ∷ xs) ys low f x y = (x.0, in_order_append (moment_after n act) (mine ++ items_by act) xs ys (moment_within n mine act low f.0) f.1 x.1 y)
 
 pub leads_append : (ready : ℕ → ℕ → Bool) (m k m' : Mode) (xs ys : List Act) → Leads ready m xs k → Leads ready k ys m' → Leads ready m (xs ++ ys) m'
 leads_append ready m k m' [] ys f g = subst (λ x. Leads ready x ys m') (sym f) g

@@ -58,6 +58,10 @@ call_point k k' before events c =
 pub call_client : (k k' : Known Item) (before : Past) (events : List Logged) → IsCall k k' before events → IsClientAt k'.seen (length (items_of before)) (client_of before)
 call_client k k' before events c = record { past = before; past_is = call_take k k' before events c; client_is = refl }
 
+-- and after all that the pass had seen
+pub call_later : (k k' : Known Item) (before : Past) (events : List Logged) → IsCall k k' before events → length k.seen ≤ length (items_of before)
+call_later k k' before events c = starts_length (items_of before) k.seen c.found.begins
+
 -- what comes behind that point is the event
 pub call_drop : (k k' : Known Item) (before : Past) (events : List Logged) → IsCall k k' before events → drop (length (items_of before)) k'.seen ≡ map Happened events
 call_drop k k' before events c = ap (drop (length (items_of before))) (seen_after k k' before events c) ∙ drop_seen (items_of before) (map Happened events)

@@ -1,5 +1,6 @@
 -- The shown text of a client is short, since each of its edits is.
 use Rattle.std.proofs.Common.{◌≡◌, ℕ, ◌*◌, ◌^◌, ◌≤◌, Bool, true, false, cond, ◌&&◌, List, [], ◌∷◌, ◌++◌, length, drop, Option, None, Some, refl, arith}
+use Rattle.std.proofs.lemmas.Bool.{and_parts}
 use Rattle.std.proofs.Math.Nat.{mul-le-mul_left}
 use Rattle.std.specs.Option.{is_some}
 use Rattle.std.specs.Prelude.{is_none}
@@ -19,25 +20,11 @@ use Rattle.sporc_client.specs.Small.{AreShort}
 use Rattle.sporc_client.specs.Soundness.{IsSound}
 use Rattle.sporc_client.specs.Step.{accepted, change_comes, edit_comes, form_coming, is_flight, own_comes, replay, replay_from, restated, step}
 use Rattle.sporc_client.proofs.Checked.{edit_passed}
-use Rattle.sporc_client.proofs.Small.{inserted_by-short, inserted_len-bytes, length-shown, short_drop, short_rebased}
+use Rattle.sporc_client.proofs.Small.{inserted_by-short, inserted_len-bytes, length-shown, short_change, short_drop, short_edit, short_rebased}
 
 none_of : {A : Type 0} (found : Option A) → is_none found ≡ true → found ≡ None
 none_of None is = refl
 none_of (Some x) is = absurd cc
-
-both_true : (a b : Bool) → a && b ≡ true → (a ≡ true) × (b ≡ true)
-both_true true b is = (refl, is)
-both_true false b is = absurd cc
-
-short_edit : (pending : List Pending) (marks : List Mark) → AreShort pending → inserted_len marks ≤ MAX_EDIT_BYTES → AreShort (pending ++ items.Edit marks ∷ [])
-short_edit [] marks short few = (few, tt)
-short_edit (items.Edit m ∷ ps) marks short few = (short.0, short_edit ps marks short.1 few)
-short_edit (items.Change c ∷ ps) marks short few = short_edit ps marks short few
-
-short_change : (pending : List Pending) (change : MemberChange) → AreShort pending → AreShort (pending ++ items.Change change ∷ [])
-short_change [] change short = tt
-short_change (items.Edit m ∷ ps) change short = (short.0, short_change ps change short.1)
-short_change (items.Change c ∷ ps) change short = short_change ps change short
 
 accepted_short : (c : PlainClient) (bytes : List ℕ) → AreShort c.pending → AreShort (accepted c bytes).pending
 accepted_short c bytes short =
@@ -64,7 +51,7 @@ step_short c (Discard by) short may = tt
 short_from : (c : PlainClient) (log : List Logged) → AreShort c.pending → allows_all c log ≡ true → AreShort (replay_from c log).pending
 short_from c [] short may = short
 short_from c (event ∷ log) short may =
-    let both = both_true (allows c event) (allows_all (step c event) log) may in
+    let both = and_parts (allows c event) (allows_all (step c event) log) may in
     short_from (step c event) log (step_short c event short both.0) both.1
 
 short_replay : (opening : Opening) (log : List Logged) → is_allowed opening log ≡ true → AreShort (replay opening log).pending

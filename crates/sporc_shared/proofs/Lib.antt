@@ -17,6 +17,7 @@ pub mod Telling
 pub mod Rounding
 pub mod Phasing
 pub mod WholeRounds
+pub mod Flowing
 pub mod Pasts
 pub mod Lining
 pub mod Stating
@@ -24,3 +25,6 @@ pub mod Crowding
 pub mod Sessioning
 pub mod Runs
 pub mod LastLeaves
+pub mod Settling
+pub mod Making
+pub mod Examples

@@ -16,8 +16,8 @@ use Rattle.sporc_wire.specs.Messages.{Unread, fed, next}
 use Rattle.sporc_wire.specs.ToClient.{to_client_of}
 use Rattle.sporc_shared.specs.declared.fault.SessionFault.{SessionFault}
 use Rattle.sporc_shared.specs.declared.fault.SessionFault.TheVariants as faults
-use Rattle.sporc_shared.specs.Acts.{Reply, Ordered, Rejected, handed_out, reply_message}
-use Rattle.sporc_shared.specs.Asking.{AskFails, Asks, IsReply, IsReplyOf, IsSilent, SilentFor, Took, Unsent, UnsentFor, silent, wrong}
+use Rattle.sporc_shared.specs.Acts.{ServerReply, Ordered, Rejected, handed_out, reply_message}
+use Rattle.sporc_shared.specs.Asking.{AskFails, Asks, IsReply, IsOutcomeOf, IsSilent, SilentFor, Took, Unsent, UnsentFor, silent, wrong}
 use Rattle.sporc_shared.specs.Endings.{IsAnswer}
 use Rattle.sporc_shared.specs.Replies.{unread_fault}
 use Rattle.sporc_shared.specs.Wires.{Exchanged, InboxModel, IsLastFrom, LinkStand, more_taken, spelled, unread_of}
@@ -185,31 +185,31 @@ module _ (a b : LinkStand) (entry : List ℕ) where
   AsksFor answer = IfOk answer (λ m. Asks a b (to_server.Submit entry) m)
 
   abbrev pub Replied : Result (Option Refusal) SessionFault → Type 0
-  Replied result = IfOk result (λ refusal. (reply : Reply) × IsReply refusal reply × Exchanged a b (spelled (to_server.Submit entry ∷ [])) (reply_message reply ∷ []))
+  Replied result = IfOk result (λ refusal. (reply : ServerReply) × IsReply refusal reply × Exchanged a b (spelled (to_server.Submit entry ∷ [])) (reply_message reply ∷ []))
 
   abbrev pub FailsFor : {A : Type 0} → Result A SessionFault → Type 0
   FailsFor result = IfErr result (λ fault. AskFails a b (to_server.Submit entry) fault)
 
-no_reply : (entry : List ℕ) (m : ToClient) → ((reply : Reply) → m ≢ reply_message reply) → ¬ IsAnswer (to_server.Submit entry) m
+no_reply : (entry : List ℕ) (m : ToClient) → ((reply : ServerReply) → m ≢ reply_message reply) → ¬ IsAnswer (to_server.Submit entry) m
 no_reply entry m none is = none is.0 is.1
 
-entries_no_reply : (first : ℕ) (entries : List (List ℕ)) (reply : Reply) → to_client.Entries first entries ≢ reply_message reply
+entries_no_reply : (first : ℕ) (entries : List (List ℕ)) (reply : ServerReply) → to_client.Entries first entries ≢ reply_message reply
 entries_no_reply first entries (Ordered position) = λ e. absurd cc
 entries_no_reply first entries (Rejected refusal) = λ e. absurd cc
 
-empty_no_reply : (reply : Reply) → to_client.Empty ≢ reply_message reply
+empty_no_reply : (reply : ServerReply) → to_client.Empty ≢ reply_message reply
 empty_no_reply (Ordered position) = λ e. absurd cc
 empty_no_reply (Rejected refusal) = λ e. absurd cc
 
 module _ (a b : LinkStand) (entry : List ℕ) (place : ℕ) (result : Result (Option Refusal) SessionFault) where
-  pub replied : (answer : Result ToClient SessionFault) → IsReplyOf place answer result → AsksFor a b entry answer → Replied a b entry result
+  pub replied : (answer : Result ToClient SessionFault) → IsOutcomeOf place answer result → AsksFor a b entry answer → Replied a b entry result
   replied (Err fault) says asks = subst (Replied a b entry) (sym says) tt
   replied (Ok (to_client.Ordered position)) says asks = subst (Replied a b entry) (sym says) (Ordered position, tt, asks.did)
   replied (Ok (to_client.Rejected refusal)) says asks = subst (Replied a b entry) (sym says) (Rejected refusal, refl, asks.did)
   replied (Ok (to_client.Entries first entries)) says asks = subst (Replied a b entry) (sym says) tt
   replied (Ok to_client.Empty) says asks = subst (Replied a b entry) (sym says) tt
 
-  pub not_replied : (answer : Result ToClient SessionFault) → IsReplyOf place answer result → place ≡ a.inbox.at → AsksFor a b entry answer → FailsFor a b entry answer → FailsFor a b entry result
+  pub not_replied : (answer : Result ToClient SessionFault) → IsOutcomeOf place answer result → place ≡ a.inbox.at → AsksFor a b entry answer → FailsFor a b entry answer → FailsFor a b entry result
   not_replied (Err fault) says at asks fails = subst (FailsFor a b entry) (sym says) fails
   not_replied (Ok (to_client.Ordered position)) says at asks fails = subst (FailsFor a b entry) (sym says) tt
   not_replied (Ok (to_client.Rejected refusal)) says at asks fails = subst (FailsFor a b entry) (sym says) tt

@@ -33,6 +33,13 @@ events_in_append (Happened event ∷ xs) ys = ap (λ (l : List Logged). event �
 same_opened : (p q : Past) (xs ys : List Item) → Opened p.opening p.first_leaf ∷ xs ≡ Opened q.opening q.first_leaf ∷ ys → (p.opening ≡ q.opening) × (p.first_leaf ≡ q.first_leaf)
 same_opened p q xs ys is = (cc, cc)
 
+-- and it is the same past if all are the same
+pub items_same : (p q : Past) → items_of p ≡ items_of q → p ≡ q
+items_same p q is =
+    let same = same_opened p q (map Happened p.log) (map Happened q.log) is in
+    let log : p.log ≡ q.log = sym (events_in_map p.log) ∙ ap events_in is ∙ events_in_map q.log in
+    λ i. record { opening = same.0 i; first_leaf = same.1 i; log = log i }
+
 -- a past whose items begin with those of another is that one with events more
 pub past_goes_on : (p q : Past) → StartsWith (items_of q) (items_of p) → (events : List Logged) × (q ≡ with_events p events)
 past_goes_on p q s =

@@ -1,5 +1,5 @@
 -- The two phases.
-use Rattle.std.proofs.Common.{◌≡◌, ◌≤◌, ℕ, Bool, true, false, List, [], ◌∷◌, length, Option, Ok, Err, refl, sym, subst, arith}
+use Rattle.std.proofs.Common.{◌≡◌, ◌≤◌, ℕ, Bool, true, false, List, [], ◌∷◌, length, Option, Ok, Err, refl, sym, ◌∙◌, subst, arith}
 use Rattle.std.specs.Prelude.{Result, IfErr, OnOk, ⊤}
 use Rattle.std.specs.Result.{result_err}
 use Rattle.std.proofs.lemmas.List.{append-nil}
@@ -10,9 +10,9 @@ use Rattle.sporc_wire.specs.declared.to_server.ToServer.TheVariants as to_server
 use Rattle.sporc_shared.specs.declared.fault.SessionFault.{SessionFault}
 use Rattle.sporc_shared.specs.declared.fault.SessionFault.TheVariants as faults
 use Rattle.sporc_shared.specs.declared.look.Look.{Look}
-use Rattle.sporc_shared.specs.Acts.{Greet, Looked}
+use Rattle.sporc_shared.specs.Acts.{Greet, Looked, Look as LookAct}
 use Rattle.sporc_shared.specs.Asking.{Unsent, unsent}
-use Rattle.sporc_shared.specs.Courses.{Stand, stand}
+use Rattle.sporc_shared.specs.Courses.{Course, Stand, stand}
 use Rattle.sporc_shared.specs.Endings.{IsSubmitting, Did}
 use Rattle.sporc_shared.specs.Items.{Item, Past, client_of, items_of}
 use Rattle.sporc_shared.specs.Looks.{IsLookAt}
@@ -20,8 +20,8 @@ use Rattle.sporc_shared.specs.Outcomes.{DidOrStopped}
 use Rattle.sporc_shared.specs.Protocol.{Asking, Greeting, Between, Pulling, always, is_unsettled, greets}
 use Rattle.sporc_shared.specs.Sessions.{FirstPhase, SecondPhase, Rounds, settles, doesnt_settle, stops}
 use Rattle.sporc_shared.specs.Wires.{Exchanged, LinkStand, spelled}
-use Rattle.sporc_shared.proofs.Coursing.{words_none, did_then, did_stopped}
-use Rattle.sporc_shared.proofs.Knowing.{knows_none}
+use Rattle.sporc_shared.proofs.Coursing.{words_none, did_then, did_stopped, stopped_within}
+use Rattle.sporc_shared.proofs.Knowing.{knows_none, seen_after}
 use Rattle.sporc_shared.proofs.Stepping.{ask_stopped, look_did, look_course}
 use Rattle.sporc_shared.proofs.Telling.{Tells, TellsOr, worn_stopped}
 
@@ -41,6 +41,7 @@ module _ {words : Option (List (List ℕ))} {g : ℕ} {k : Known Item} {a b : Li
     course = record {
       knows = knows_none k;
       fits = (tt, tt);
+      in_order = (omega arith, tt);
       link = subst (λ (w : List ℕ). Exchanged a b w []) (sym (append-nil (spelled (to_server.Hello document member ∷ [])))) x;
       words_are = words_none words;
       chance = omega arith;
@@ -78,8 +79,9 @@ module _ {k k' : Known Item} {look : Look} where
     rounds_before did = record {
       between = stand k link words g;
       did = did;
-      point = length (items_of t.before);
-      last = look_course zero' t.call (looked t);
+      last =
+          subst (λ (l : List Item). Course (stand k link words g) (stand k' link words g) (LookAct (length l) look.at look.pending ∷ []) [] [] [])
+          (sym (seen_after k k' t.before [] t.call ∙ append-nil (items_of t.before))) (look_course zero' t.call (looked t));
     }
 
     pub second_settles : {a : Stand} {done rounds until : ℕ} → done ≤ rounds → Did (is_unsettled until) a (stand k link words g) (Between 0) (Between done) → is_unsettled until look.at look.pending ≡ false
@@ -92,6 +94,6 @@ module _ {k k' : Known Item} {look : Look} where
         doesnt_settle (subst (λ (n : ℕ). Rounds a (stand k' link words g) until n look.at look.pending) all (rounds_before did)) unsettled
 
 -- no ticket was left for it
-pub second_worn : {link : LinkStand} {words : Option (List (List ℕ))} {g : ℕ} {a : Stand} {k k' : Known Item} {done rounds until : ℕ} {fault : SessionFault} {result : Result Look SessionFault} → result ≡ Err fault → TellsOr IsLookAt k k' result
+pub second_worn : {link : LinkStand} {words : Option (List (List ℕ))} {g : ℕ} {a : Stand} {k k' : Known Item} {done rounds until : ℕ} {fault : SessionFault} {result : Result Look SessionFault} → done ≤ rounds → result ≡ Err fault → TellsOr IsLookAt k k' result
     → Did (is_unsettled until) a (stand k link words g) (Between 0) (Between done) → SecondPhase a (stand k' link words g) rounds until (Err fault)
-second_worn {link} {words} {g} is h did = stops (did_stopped did (worn_stopped is h))
+second_worn {link} {words} {g} {done = done} {rounds = rounds} low is h did = stops (stopped_within done rounds low (did_stopped did (worn_stopped is h)))

@@ -13,7 +13,7 @@ use Rattle.sporc_client.specs.Step.{is_flight}
 use Rattle.sporc_wire.specs.declared.to_server.ToServer.TheVariants as to_server
 use Rattle.sporc_shared.specs.declared.fault.SessionFault.{SessionFault}
 use Rattle.sporc_shared.specs.declared.answered.Answered.{Answered}
-use Rattle.sporc_shared.specs.Acts.{Pull, Send, Reply, Ordered, Rejected, handed_out, reply_message}
+use Rattle.sporc_shared.specs.Acts.{Pull, Send, ServerReply, Ordered, Rejected, handed_out, reply_message}
 use Rattle.sporc_shared.specs.Asking.{AskFails, Gathered, IsReply, taking}
 use Rattle.sporc_shared.specs.Calls.{IsCall}
 use Rattle.sporc_shared.specs.Courses.{Stand, stand, KnowsMore, Course}
@@ -63,8 +63,8 @@ module _ {k k' : Known Item} {a b : LinkStand} {at : ℕ} {gathered : Result ℕ
         let t = (subst (GatheredAll k k' a b at) is h).ends in
         subst (λ x. Did ready (stand k a words g) (stand k' b words g) (Pulling n at) (Taking n x [] Submits)) (sym t.1) (gathered_did pulls t.3)
 
-    pub pull_stopped : {fault : SessionFault} → gathered ≡ Err fault → GatheredAll k k' a b at gathered → Stopped ready (stand k a words g) (stand k' b words g) (Pulling n at) fault
-    pull_stopped is h = gather_stopped n Submits refl not_pulling (λ c cs. pulls) (subst (GatheredAll k k' a b at) is h).ends
+    pub pull_stopped : {fault : SessionFault} → gathered ≡ Err fault → GatheredAll k k' a b at gathered → Stopped ready (stand k a words g) (stand k' b words g) (Pulling n at) (n + 1) fault
+    pull_stopped is h = gather_stopped n Submits refl not_pulling refl (λ c cs. pulls) (subst (GatheredAll k k' a b at) is h).ends
 
     -- pulls go on until no entries come
     module _ {entry : List ℕ} {refusal : Refusal} where
@@ -86,8 +86,8 @@ module _ {k k' : Known Item} {a b : LinkStand} {at : ℕ} {gathered : Result ℕ
           goes [] some = absurd (some refl)
           goes (c ∷ cs) some = drains
 
-      pub drain_stopped : {fault : SessionFault} → gathered ≡ Err fault → GatheredAll k k' a b at gathered → Stopped ready (stand k a words g) (stand k' b words g) (Taking n at [] (Drains entry refusal)) fault
-      drain_stopped is h = gather_stopped n (Drains entry refusal) refl not_draining (λ c cs. drains) (subst (GatheredAll k k' a b at) is h).ends
+      pub drain_stopped : {fault : SessionFault} → gathered ≡ Err fault → GatheredAll k k' a b at gathered → Stopped ready (stand k a words g) (stand k' b words g) (Taking n at [] (Drains entry refusal)) (n + 1) fault
+      drain_stopped is h = gather_stopped n (Drains entry refusal) refl not_draining refl (λ c cs. drains) (subst (GatheredAll k k' a b at) is h).ends
 
 -- pulls go on, or are done
 abbrev pub draining : Bool → ℕ → ℕ → List ℕ → Refusal → Mode
@@ -112,7 +112,7 @@ module _ {ready : ℕ → ℕ → Bool} {words : Option (List (List ℕ))} {g : 
       (drain_next (not (now == at)) (λ p same. true≢false (sym (eq-eqb now at same) ∙ not-true (now == at) p)) (λ p. eqb-true now at (not-false (now == at) p)) is h)
 
   pub drain_fails : {k' : Known Item} {b : LinkStand} {fault : SessionFault} {gathered : Result ℕ SessionFault} → more ≡ true → Did ready s (stand k a words g) m (draining more n at entry refusal)
-      → gathered ≡ Err fault → GatheredAll k k' a b at gathered → Stopped ready s (stand k' b words g) m fault
+      → gathered ≡ Err fault → GatheredAll k k' a b at gathered → Stopped ready s (stand k' b words g) m (n + 1) fault
   drain_fails goes_on d is h = did_stopped (drain_so_far goes_on d) (drain_stopped is h)
 
 pub drain_done : {ready : ℕ → ℕ → Bool} {a b : Stand} {m : Mode} {more : Bool} (n at : ℕ) (entry : List ℕ) (refusal : Refusal) → more ≡ false → Did ready a b m (draining more n at entry refusal) → Did ready a b m (Checking n entry refusal)
@@ -127,19 +127,20 @@ module _ {ready : ℕ → ℕ → Bool} {n at : ℕ} {link : LinkStand} {w w' : 
   pub made_entry : {entry : List ℕ} → made ≡ Ok (Some entry) → SubmittedOne k k' w w' c c' made → Did ready (stand k link w c) (stand k' link w' c') (Taking n at [] Submits) (Sending n at entry)
   made_entry is h = let t = subst (SubmittedOne k k' w w' c c') is h in entry_did low t.2 t.3 t.4
 
-  pub made_stopped : {fault : SessionFault} → made ≡ Err fault → SubmittedOne k k' w w' c c' made → Stopped ready (stand k link w c) (stand k' link w' c') (Taking n at [] Submits) fault
+  pub made_stopped : {fault : SessionFault} → made ≡ Err fault → SubmittedOne k k' w w' c c' made → Stopped ready (stand k link w c) (stand k' link w' c') (Taking n at [] Submits) (n + 1) fault
   made_stopped is h = let t = subst (SubmittedOne k k' w w' c c') is h in submit_stopped low t.0 t.1 t.2 t.3 t.4
 
 -- ---- an entry is sent
 
 -- it was answered so
 abbrev SentFor : LinkStand → LinkStand → List ℕ → Option Refusal → Type 0
-SentFor a b entry refusal = (reply : Reply) × IsReply refusal reply × Exchanged a b (spelled (to_server.Submit entry ∷ [])) (reply_message reply ∷ [])
+SentFor a b entry refusal = (reply : ServerReply) × IsReply refusal reply × Exchanged a b (spelled (to_server.Submit entry ∷ [])) (reply_message reply ∷ [])
 
-sent_course : {words : Option (List (List ℕ))} {g : ℕ} {k : Known Item} {a b : LinkStand} {entry : List ℕ} (reply : Reply) → Exchanged a b (spelled (to_server.Submit entry ∷ [])) (reply_message reply ∷ []) → Course (stand k a words g) (stand k b words g) (Send entry reply ∷ []) [] [] []
+sent_course : {words : Option (List (List ℕ))} {g : ℕ} {k : Known Item} {a b : LinkStand} {entry : List ℕ} (reply : ServerReply) → Exchanged a b (spelled (to_server.Submit entry ∷ [])) (reply_message reply ∷ []) → Course (stand k a words g) (stand k b words g) (Send entry reply ∷ []) [] [] []
 sent_course {words} {k = k} {a = a} {b = b} {entry = entry} reply x = record {
   knows = knows_none k;
   fits = (tt, tt);
+  in_order = (omega arith, tt);
   link = subst (λ (w : List ℕ). Exchanged a b w (reply_message reply ∷ [])) (sym (append-nil (spelled (to_server.Submit entry ∷ [])))) x;
   words_are = words_none words;
   chance = omega arith;
@@ -147,7 +148,7 @@ sent_course {words} {k = k} {a = a} {b = b} {entry = entry} reply x = record {
 
 module _ {ready : ℕ → ℕ → Bool} {n at : ℕ} {words : Option (List (List ℕ))} {g : ℕ} {k : Known Item} {a b : LinkStand} {entry : List ℕ} where
   pub sent_ordered : {answer : Result (Option Refusal) SessionFault} → answer ≡ Ok None
-      → IfOk answer (λ refusal. (reply : Reply) × IsReply refusal reply × Exchanged a b (spelled (to_server.Submit entry ∷ [])) (reply_message reply ∷ []))
+      → IfOk answer (λ refusal. (reply : ServerReply) × IsReply refusal reply × Exchanged a b (spelled (to_server.Submit entry ∷ [])) (reply_message reply ∷ []))
       → Did ready (stand k a words g) (stand k b words g) (Sending n at entry) (Between (n + 1))
   sent_ordered is ok = by (subst (λ r. IfOk r (SentFor a b entry)) is ok)
     where
@@ -156,7 +157,7 @@ module _ {ready : ℕ → ℕ → Bool} {n at : ℕ} {words : Option (List (List
       by (Rejected r, t, x) = absurd t
 
   pub sent_rejected : {back : List ℕ} {refusal : Refusal} {answer : Result (Option Refusal) SessionFault} → back ≡ entry → answer ≡ Ok (Some refusal)
-      → IfOk answer (λ refusal. (reply : Reply) × IsReply refusal reply × Exchanged a b (spelled (to_server.Submit entry ∷ [])) (reply_message reply ∷ []))
+      → IfOk answer (λ refusal. (reply : ServerReply) × IsReply refusal reply × Exchanged a b (spelled (to_server.Submit entry ∷ [])) (reply_message reply ∷ []))
       → Did ready (stand k a words g) (stand k b words g) (Sending n at entry) (Taking n at [] (Drains back refusal))
   sent_rejected {refusal = refusal} same is ok =
       subst (λ e. Did ready (stand k a words g) (stand k b words g) (Sending n at entry) (Taking n at [] (Drains e refusal))) (sym same) (by (subst (λ r. IfOk r (SentFor a b entry)) is ok))
@@ -167,7 +168,7 @@ module _ {ready : ℕ → ℕ → Bool} {n at : ℕ} {words : Option (List (List
           (record { acts = Send entry (Rejected r) ∷ []; course = sent_course (Rejected r) x; leads = (Taking n at [] (Drains entry r), rejected, refl) })
 
   pub sent_stopped : {fault : SessionFault} {answer : Result (Option Refusal) SessionFault} → answer ≡ Err fault → IfErr answer (AskFails a b (to_server.Submit entry))
-      → Stopped ready (stand k a words g) (stand k b words g) (Sending n at entry) fault
+      → Stopped ready (stand k a words g) (stand k b words g) (Sending n at entry) (n + 1) fault
   sent_stopped is err = ask_stopped refl not_sending (subst (λ r. IfErr r (AskFails a b (to_server.Submit entry))) is err)
 
 -- ---- it is seen whether an entry is still on its way

@@ -11,7 +11,7 @@ use Rattle.sporc_client.specs.Log.{Logged}
 use Rattle.sporc_client.specs.PlainClient.{Opening, PlainClient, opened}
 use Rattle.sporc_client.specs.Run.{Setup, World, Move, Open, Happen, Give, Restart, IsRun, May, after, happens_to, opening_of, start, with_client}
 use Rattle.sporc_client.specs.Step.{step}
-use Rattle.sporc_client.proofs.Calls.{added_lead}
+use Rattle.sporc_client.proofs.Calls.{added_lead, put_other}
 use Rattle.sporc_client.proofs.Reached.{put_same}
 use Rattle.sporc_shared.specs.declared.fault.SessionFault.{SessionFault}
 use Rattle.sporc_shared.specs.Courses.{Stand}
@@ -64,9 +64,6 @@ own_first move moves who is = ap (λ (b : Bool). cond b (move ∷ moves_of who m
 others_stay : (move : Move) (moves : List Move) (who : ℕ) → member_of move ≢ who → moves_of who (move ∷ moves) ≡ moves_of who moves
 others_stay move moves who differs = ap (λ (b : Bool). cond b (move ∷ moves_of who moves) (moves_of who moves)) (ne_eqb (member_of move) who differs)
 
-put_other : (clients : ℕ → Option PlainClient) (who : ℕ) (c : PlainClient) (other : ℕ) → who ≢ other → with_client clients who c other ≡ clients other
-put_other clients who c other differs = ap (λ (b : Bool). cond b (Some c) (clients other)) (ne_eqb other who (λ is. differs (sym is)))
-
 -- what a member's first move needs and does
 record Moved (s : Setup) (w : World) (move : Move) (rest : List Move) : Type 0 where
   may : May s w move
@@ -79,12 +76,12 @@ moved s w (Open who ring) rest None at g =
     record {
       may = (g.0, g.1);
       goes = subst (λ (o : Option PlainClient). Goes s who o rest) (sym (put_same w.clients who c)) g.2;
-      others = λ other differs. put_other w.clients who c other differs;
+      others = λ other differs. put_other w.clients who c other (λ is. differs (sym is));
     }
 moved s w (Happen who event) rest (Some c) at g = record {
   may = subst (λ (o : Option PlainClient). IsSomeAnd o (λ c. allows c event ≡ true)) (sym at) g.0;
   goes = subst (λ (o : Option PlainClient). Goes s who o rest) (sym (ap (λ (o : Option PlainClient). (happens_to w who event o).clients who) at ∙ put_same w.clients who (step c event))) g.1;
-  others = λ other differs. ap (λ (o : Option PlainClient). (happens_to w who event o).clients other) at ∙ put_other w.clients who (step c event) other differs;
+  others = λ other differs. ap (λ (o : Option PlainClient). (happens_to w who event o).clients other) at ∙ put_other w.clients who (step c event) other (λ is. differs (sym is));
 }
 moved s w (Open who ring) rest (Some c) at g = absurd g
 moved s w (Happen who event) rest None at g = absurd g

@@ -21,7 +21,7 @@ use Rattle.sporc_shared.proofs.Crowding.{crowd_later}
 use Rattle.sporc_shared.proofs.Knowing.{knows_none, knows_then, starts_then}
 
 -- no item has a number beyond the last one
-own_none : (n m : ℕ) (items : List Item) → m < n → All (λ item. by_of item ≤ m) items → filter (λ item. by_of item == n) items ≡ []
+pub own_none : (n m : ℕ) (items : List Item) → m < n → All (λ item. by_of item ≤ m) items → filter (λ item. by_of item == n) items ≡ []
 own_none n m [] low all = refl
 own_none n m (item ∷ items) low all =
     let here : by_of item ≤ m = All-head (λ (x : Item). by_of x ≤ m) item items all in

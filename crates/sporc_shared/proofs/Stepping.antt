@@ -1,5 +1,5 @@
 -- The receiver's steps as acts.
-use Rattle.std.proofs.Common.{◌≡◌, ◌≢◌, ℕ, ◌+◌, ◌≤◌, Bool, true, false, List, [], ◌∷◌, ◌++◌, length, map, take, Option, refl, sym, ap, ◌∙◌, subst, arith, inl, inr}
+use Rattle.std.proofs.Common.{◌≡◌, ◌≢◌, ◌⊎◌, ℕ, ◌+◌, ◌≤◌, Bool, true, false, List, [], ◌∷◌, ◌++◌, length, map, take, Option, refl, sym, ap, ◌∙◌, subst, arith, inl, inr}
 use Rattle.std.specs.Prelude.{Result, Ok}
 use Rattle.std.proofs.lemmas.List.{append-nil, take_all}
 use Rattle.lms_leaf.specs.declared.faults.LeafFault.TheVariants as leaves
@@ -17,18 +17,27 @@ use Rattle.sporc_client.specs.Step.{is_flight}
 use Rattle.sporc_client.specs.Submissions.{submission_added}
 use Rattle.sporc_shared.specs.declared.fault.SessionFault.{SessionFault}
 use Rattle.sporc_shared.specs.declared.fault.SessionFault.TheVariants as faults
-use Rattle.sporc_shared.specs.Acts.{Act, Ask, Look, Pull, Take, Submit, Check, Fits, FitAll, Looked, all_of, answers_by, handed_out, items_by, messages_by, words_by}
+use Rattle.sporc_shared.specs.Acts.{Act, Ask, Look, Pull, Take, Submit, Check, AreInOrder, Fits, FitAll, Looked, all_of, answers_by, handed_out, items_by, messages_by, moment_after, words_by}
 use Rattle.sporc_shared.specs.Asking.{AskFails, Gathered, GatherStopped, SilentFor, UnsentFor, asking, silent, taking, unsent, wrong}
 use Rattle.sporc_shared.specs.Calls.{IsCall}
 use Rattle.sporc_shared.specs.Courses.{Stand, stand, AppendsWords, Course, KnowsMore}
-use Rattle.sporc_shared.specs.Endings.{Cause, IsTaking, IsSubmitting, AcceptGives, TakeCause, takes_of, SubmitCause, Submission, Did, Stopped}
+use Rattle.sporc_shared.specs.Endings.{Cause, IsAnswer, IsTaking, IsSubmitting, AcceptGives, TakeCause, takes_of, SubmitCause, Submission, Did, Stopped}
 use Rattle.sporc_shared.specs.Items.{Item, Happened, Past, client_of, items_of}
 use Rattle.sporc_shared.specs.Points.{IsPoint}
-use Rattle.sporc_shared.specs.Protocol.{Mode, Asking, Greeting, Between, Pulling, Taking, Sending, Checking, Stuck, Then, Submits, Drains, Leads, Goes, IsQuiet, asks, looks, takes, drained, is_gone, is_there, submits_none, submits_entry, message_due}
+use Rattle.sporc_shared.specs.Protocol.{Mode, Asking, Greeting, Between, Pulling, Taking, Sending, Checking, Stuck, Then, Submits, Drains, Leads, Goes, IsQuiet, asks, looks, takes, drained, is_gone, is_there, submits_none, submits_entry, message_due, rounds_begun}
 use Rattle.sporc_shared.specs.Wires.{Exchanged, LinkStand, spelled}
 use Rattle.sporc_shared.proofs.Coursing.{words_none}
 use Rattle.sporc_shared.proofs.Exchanging.{exchanged_none}
-use Rattle.sporc_shared.proofs.Knowing.{call_client, call_knows, call_point, knows_none, seen_after}
+use Rattle.sporc_shared.proofs.Knowing.{call_client, call_knows, call_later, call_point, knows_none, seen_after}
+
+at_most : (n : ℕ) → n ≤ n
+at_most n = omega arith
+
+-- the answers beside the acts: none, or one that is none to the message that was due
+abbrev Came : Mode → List ToClient → Type 0
+Came m answers =
+    (answers ≡ [])
+    ⊎ ((message : ToServer) × (answer : ToClient) × (message_due m ≡ message ∷ []) × (answers ≡ answer ∷ []) × ¬ IsAnswer message answer)
 
 point_zero : {k k' : Known Item} {before : Past} {events : List Logged} → k.number ≡ 0 → IsCall k k' before events → IsPoint k'.seen k.start 0 k.mine (length (items_of before))
 point_zero {k} {k'} {before} {events} zero' c =
@@ -36,12 +45,13 @@ point_zero {k} {k'} {before} {events} zero' c =
 
 -- a step that touches neither the link nor the chance
 module _ {link : LinkStand} {words : Option (List (List ℕ))} {g : ℕ} where
-  known_course : {k k' : Known Item} {act : Act} → KnowsMore k k' (items_by act ++ []) → Fits k'.seen k.start k.mine act
+  known_course : {k k' : Known Item} {act : Act} → KnowsMore k k' (items_by act ++ []) → Fits k'.seen k.start k.mine act → length k.seen ≤ moment_after (length k.seen) act
       → messages_by act ≡ [] → answers_by act ≡ [] → words_by act ≡ []
       → Course (stand k link words g) (stand k' link words g) (act ∷ []) [] [] []
-  known_course {act = act} knows fits no_message no_answer no_word = record {
+  known_course {act = act} knows fits later no_message no_answer no_word = record {
     knows = knows;
     fits = (fits, tt);
+    in_order = (later, tt);
     link = subst (λ (m : List ToServer). Exchanged link link (spelled (m ++ []) ++ []) ((answers_by act ++ []) ++ [])) (sym no_message)
         (subst (λ (l : List ToClient). Exchanged link link [] ((l ++ []) ++ [])) (sym no_answer) (exchanged_none link));
     words_are = subst (λ (l : List (List ℕ)). AppendsWords words words ((l ++ []) ++ [])) (sym no_word) (words_none words);
@@ -51,7 +61,7 @@ module _ {link : LinkStand} {words : Option (List (List ℕ))} {g : ℕ} where
   -- it stops before an act, having looked at the client at most
   pub known_stopped : {ready : ℕ → ℕ → Bool} {k k' : Known Item} {m : Mode} {fault : SessionFault} → KnowsMore k k' []
       → Cause (stand k link words g) (stand k' link words g) m [] [] [] fault
-      → Stopped ready (stand k link words g) (stand k' link words g) m fault
+      → Stopped ready (stand k link words g) (stand k' link words g) m (rounds_begun m) fault
   known_stopped {m = m} knows cause = record {
     acts = [];
     reached = m;
@@ -61,12 +71,14 @@ module _ {link : LinkStand} {words : Option (List (List ℕ))} {g : ℕ} where
     course = record {
       knows = knows;
       fits = tt;
+      in_order = tt;
       link = exchanged_none link;
       words_are = words_none words;
       chance = omega arith;
     };
     leads = refl;
-    beside = record { sent_due = (0, refl); few_came = omega arith; few = omega arith; drawn = λ _. refl };
+    within = omega arith;
+    beside = record { sent_due = (0, refl); came = inl refl; few = omega arith; drawn = λ _. refl };
     cause = cause;
   }
 
@@ -74,14 +86,14 @@ module _ {link : LinkStand} {words : Option (List (List ℕ))} {g : ℕ} where
       → Did ready (stand k link words g) (stand k' link words g) Asking (Greeting before.opening.genesis.document before.opening.kit.me)
   ask_did {k = k} {k' = k'} {before = before} c = record {
     acts = Ask before.opening.genesis.document before.opening.kit.me ∷ [];
-    course = known_course (call_knows k k' before [] c) (before.opening, before.first_leaf, (map Happened before.log ++ [], seen_after k k' before [] c), refl, refl) refl refl refl;
+    course = known_course (call_knows k k' before [] c) (before.opening, before.first_leaf, (map Happened before.log ++ [], seen_after k k' before [] c), refl, refl) (at_most (length k.seen)) refl refl refl;
     leads = (Greeting before.opening.genesis.document before.opening.kit.me, asks, refl);
   }
 
   pub look_course : {k k' : Known Item} {before : Past} {at pending : ℕ} → k.number ≡ 0 → IsCall k k' before [] → Looked (client_of before) at pending
       → Course (stand k link words g) (stand k' link words g) (Look (length (items_of before)) at pending ∷ []) [] [] []
   look_course {k} {k'} {before} zero' c looked =
-      known_course (call_knows k k' before [] c) (point_zero zero' c, (client_of before, call_client k k' before [] c, looked)) refl refl refl
+      known_course (call_knows k k' before [] c) (point_zero zero' c, (client_of before, call_client k k' before [] c, looked)) (call_later k k' before [] c) refl refl refl
 
   pub look_did : {ready : ℕ → ℕ → Bool} {n : ℕ} {k k' : Known Item} {before : Past} {at pending : ℕ} → k.number ≡ 0 → IsCall k k' before [] → Looked (client_of before) at pending
       → ready at pending ≡ true → Did ready (stand k link words g) (stand k' link words g) (Between n) (Pulling n at)
@@ -94,7 +106,7 @@ module _ {link : LinkStand} {words : Option (List (List ℕ))} {g : ℕ} where
   check_course : {k k' : Known Item} {before : Past} {entry : List ℕ} {stays : Bool} → k.number ≡ 0 → IsCall k k' before [] → stays ≡ is_flight (client_of before) entry
       → Course (stand k link words g) (stand k' link words g) (Check (length (items_of before)) entry stays ∷ []) [] [] []
   check_course {k} {k'} {before} zero' c is =
-      known_course (call_knows k k' before [] c) (point_zero zero' c, (client_of before, call_client k k' before [] c, is)) refl refl refl
+      known_course (call_knows k k' before [] c) (point_zero zero' c, (client_of before, call_client k k' before [] c, is)) (call_later k k' before [] c) refl refl refl
 
   pub check_did : {ready : ℕ → ℕ → Bool} {n : ℕ} {r : Refusal} {k k' : Known Item} {before : Past} {entry : List ℕ} → k.number ≡ 0 → IsCall k k' before [] → false ≡ is_flight (client_of before) entry
       → Did ready (stand k link words g) (stand k' link words g) (Checking n entry r) (Between (n + 1))
@@ -105,7 +117,7 @@ module _ {link : LinkStand} {words : Option (List (List ℕ))} {g : ℕ} where
   }
 
   pub check_stopped : {ready : ℕ → ℕ → Bool} {n : ℕ} {r : Refusal} {k k' : Known Item} {before : Past} {entry : List ℕ} → k.number ≡ 0 → IsCall k k' before [] → true ≡ is_flight (client_of before) entry
-      → Stopped ready (stand k link words g) (stand k' link words g) (Checking n entry r) (faults.ServerRejected r)
+      → Stopped ready (stand k link words g) (stand k' link words g) (Checking n entry r) (n + 1) (faults.ServerRejected r)
   check_stopped {n = n} {r = r} {before = before} {entry = entry} zero' c is = record {
     acts = Check (length (items_of before)) entry true ∷ [];
     reached = Stuck n r;
@@ -114,9 +126,15 @@ module _ {link : LinkStand} {words : Option (List (List ℕ))} {g : ℕ} where
     words = [];
     course = check_course zero' c is;
     leads = (Stuck n r, is_there, refl);
-    beside = record { sent_due = (0, refl); few_came = omega arith; few = omega arith; drawn = λ _. refl };
+    within = omega arith;
+    beside = record { sent_due = (0, refl); came = inl refl; few = omega arith; drawn = λ _. refl };
     cause = (n, refl);
   }
+
+-- entries that are accepted don't look at the client
+takes_in_order : (n at : ℕ) (es : List (List ℕ)) → AreInOrder n (takes_of at es)
+takes_in_order n at [] = tt
+takes_in_order n at (e ∷ es) = (omega arith, takes_in_order n (at + 1) es)
 
 -- entries that are accepted send, receive and draw nothing
 takes_silent : {X : Type 0} (h : Act → List X) → ((position : ℕ) (e : List ℕ) → h (Take position e) ≡ []) → (at : ℕ) (es : List (List ℕ)) → all_of h (takes_of at es) ≡ []
@@ -135,9 +153,9 @@ leads_takes ready n at (e ∷ es) rest next =
 module _ {words : Option (List (List ℕ))} {g : ℕ} {a b : LinkStand} where
   -- no answer came to the message that was due
   pub ask_stopped : {ready : ℕ → ℕ → Bool} {k : Known Item} {m : Mode} {message : ToServer} {fault : SessionFault} → message_due m ≡ message ∷ [] → ¬ IsSubmitting m → AskFails a b message fault
-      → Stopped ready (stand k a words g) (stand k b words g) m fault
+      → Stopped ready (stand k a words g) (stand k b words g) m (rounds_begun m) fault
   ask_stopped {ready} {k} {m} {message} {fault} due other (unsent h) =
-      stopped (take h.n (spelled (message ∷ []))) [] h.did (h.n, ap (λ (ms : List ToServer). take h.n (spelled ms)) (sym due)) (omega arith) (unsent_cause fault h.cause)
+      stopped (take h.n (spelled (message ∷ []))) [] h.did (h.n, ap (λ (ms : List ToServer). take h.n (spelled ms)) (sym due)) (inl refl) (unsent_cause fault h.cause)
     where
       A : Stand
       A = stand k a words g
@@ -148,17 +166,18 @@ module _ {words : Option (List (List ℕ))} {g : ℕ} {a b : LinkStand} where
       due_some : message_due m ≢ []
       due_some e = absurd cc
 
-      stopped : (written : List ℕ) (answers : List ToClient) → Exchanged a b written answers → (n : ℕ) × (written ≡ take n (spelled (message_due m))) → length answers ≤ 1 → Cause A B m written answers [] fault
-          → Stopped ready A B m fault
-      stopped written answers did part few cause = record {
+      stopped : (written : List ℕ) (answers : List ToClient) → Exchanged a b written answers → (n : ℕ) × (written ≡ take n (spelled (message_due m))) → Came m answers → Cause A B m written answers [] fault
+          → Stopped ready A B m (rounds_begun m) fault
+      stopped written answers did part came cause = record {
         acts = [];
         reached = m;
         written = written;
         answers = answers;
         words = [];
-        course = record { knows = knows_none k; fits = tt; link = did; words_are = words_none words; chance = omega arith };
+        course = record { knows = knows_none k; fits = tt; in_order = tt; link = did; words_are = words_none words; chance = omega arith };
         leads = refl;
-        beside = record { sent_due = part; few_came = few; few = omega arith; drawn = λ _. refl };
+        within = omega arith;
+        beside = record { sent_due = part; came = came; few = omega arith; drawn = λ _. refl };
         cause = cause;
       }
 
@@ -183,9 +202,10 @@ module _ {words : Option (List (List ℕ))} {g : ℕ} {a b : LinkStand} where
     written = spelled (message ∷ []);
     answers = [];
     words = [];
-    course = record { knows = knows_none k; fits = tt; link = h.did; words_are = words_none words; chance = omega arith };
+    course = record { knows = knows_none k; fits = tt; in_order = tt; link = h.did; words_are = words_none words; chance = omega arith };
     leads = refl;
-    beside = record { sent_due = (length (spelled (message ∷ [])), whole); few_came = omega arith; few = omega arith; drawn = λ _. refl };
+    within = omega arith;
+    beside = record { sent_due = (length (spelled (message ∷ [])), whole); came = inl refl; few = omega arith; drawn = λ _. refl };
     cause = silent_cause fault h.cause;
   }
     where
@@ -207,7 +227,7 @@ module _ {words : Option (List (List ℕ))} {g : ℕ} {a b : LinkStand} where
       silent_cause : (f : SessionFault) → SilentFor a b f → Cause A B m (spelled (message ∷ [])) [] [] f
       silent_cause faults.LinkFault c = (c, due_some)
       silent_cause faults.Memory c = tt
-      silent_cause (faults.LinkEnded taken) c = (c.0, due_some, sent, c.1)
+      silent_cause (faults.LinkEnded taken) c = (c.0, due_some, sent, refl, c.1, c.2)
       silent_cause (faults.BadMessage place) c = inr (record { due = due_some; sent = sent; came = refl; frame = c })
       silent_cause (faults.Refused position refusal) c = absurd c
       silent_cause (faults.NotSettled pending at) c = absurd c
@@ -225,9 +245,10 @@ module _ {words : Option (List (List ℕ))} {g : ℕ} {a b : LinkStand} where
     written = spelled (message ∷ []);
     answers = h.answer ∷ [];
     words = [];
-    course = record { knows = knows_none k; fits = tt; link = h.did; words_are = words_none words; chance = omega arith };
+    course = record { knows = knows_none k; fits = tt; in_order = tt; link = h.did; words_are = words_none words; chance = omega arith };
     leads = refl;
-    beside = record { sent_due = (length (spelled (message ∷ [])), whole); few_came = omega arith; few = omega arith; drawn = λ _. refl };
+    within = omega arith;
+    beside = record { sent_due = (length (spelled (message ∷ [])), whole); came = inr (message, h.answer, due, refl, h.wrong); few = omega arith; drawn = λ _. refl };
     cause = subst (Cause (stand k a words g) (stand k b words g) m (spelled (message ∷ [])) (h.answer ∷ []) []) (sym h.is)
         (inl (record { message = message; answer = h.answer; due = due; sent = refl; came = refl; wrong = h.wrong; starts = h.starts }));
   }
@@ -241,6 +262,7 @@ module _ {words : Option (List (List ℕ))} {g : ℕ} {a b : LinkStand} where
   gathered_course {k} {k'} {at} came front link knows = record {
     knows = knows;
     fits = (tt, fits_takes k'.seen k.start (k.mine ++ []) at front);
+    in_order = (omega arith, takes_in_order (length k.seen) at front);
     link = subst (λ (m : List ToServer). Exchanged a b (spelled (to_server.Pull at ∷ m) ++ []) ((handed_out at came ∷ all_of answers_by (takes_of at front)) ++ [])) (sym (takes_silent messages_by (λ p e. refl) at front))
         (subst (λ (l : List ToClient). Exchanged a b (spelled (to_server.Pull at ∷ []) ++ []) ((handed_out at came ∷ l) ++ [])) (sym (takes_silent answers_by (λ p e. refl) at front))
         (subst (λ (w : List ℕ). Exchanged a b w (handed_out at came ∷ [])) (sym (append-nil (spelled (to_server.Pull at ∷ [])))) link));
@@ -266,11 +288,11 @@ module _ {words : Option (List (List ℕ))} {g : ℕ} {a b : LinkStand} where
   }
 
   pub gather_stopped : {ready : ℕ → ℕ → Bool} {k k' : Known Item} {m : Mode} {at : ℕ} {fault : SessionFault} (n : ℕ) (next : Then) → message_due m ≡ to_server.Pull at ∷ [] → ¬ IsSubmitting m
-      → ((c : List ℕ) (cs : List (List ℕ)) → Goes ready m (Pull at (c ∷ cs)) (Taking n at (c ∷ cs) next)) → GatherStopped k k' a b at fault
-      → Stopped ready (stand k a words g) (stand k' b words g) m fault
-  gather_stopped {ready} {k} {m = m} {fault = fault} n next due other goes (asking same fails) =
-      subst (λ (h : Known Item). Stopped ready (stand k a words g) (stand h b words g) m fault) (sym same) (ask_stopped due other fails)
-  gather_stopped {ready} {k} {k'} {m} {at} {fault} n next due other goes (taking {came} link h) = record {
+      → rounds_begun m ≡ n + 1 → ((c : List ℕ) (cs : List (List ℕ)) → Goes ready m (Pull at (c ∷ cs)) (Taking n at (c ∷ cs) next)) → GatherStopped k k' a b at fault
+      → Stopped ready (stand k a words g) (stand k' b words g) m (n + 1) fault
+  gather_stopped {ready} {k} {m = m} {fault = fault} n next due other begun goes (asking same fails) =
+      subst (λ (z : Known Item × ℕ). Stopped ready (stand k a words g) (stand z.0 b words g) m z.1 fault) (λ i. (sym same i, begun i)) (ask_stopped due other fails)
+  gather_stopped {ready} {k} {k'} {m} {at} {fault} n next due other begun goes (taking {came} link h) = record {
     acts = Pull at came ∷ takes_of at h.front;
     reached = Taking n (at + length h.front) (h.entry ∷ h.rest) next;
     written = [];
@@ -279,7 +301,8 @@ module _ {words : Option (List (List ℕ))} {g : ℕ} {a b : LinkStand} where
     course = gathered_course came h.front link h.knows;
     leads = subst (λ l. Leads ready m (Pull at l ∷ takes_of at h.front) (Taking n (at + length h.front) (h.entry ∷ h.rest) next)) (sym h.are)
         (Taking n at (h.front ++ h.entry ∷ h.rest) next, starts h.front, leads_takes ready n at h.front (h.entry ∷ h.rest) next);
-    beside = record { sent_due = (0, refl); few_came = omega arith; few = omega arith; drawn = λ _. refl };
+    within = omega arith;
+    beside = record { sent_due = (0, refl); came = inl refl; few = omega arith; drawn = λ _. refl };
     cause = cause_of fault h.cause;
   }
     where
@@ -316,6 +339,7 @@ module _ {link : LinkStand} {w w' : Option (List (List ℕ))} {c c' : ℕ} (low 
   submission_course {k} {k'} {answer = answer} s drew = record {
     knows = subst (KnowsMore k k') (sym (append-nil (map Happened (submission_added 0 answer)))) s.knows;
     fits = (s.fits, tt);
+    in_order = (s.later, tt);
     link = exchanged_none link;
     words_are = subst (AppendsWords w w') s.drawn_are drew;
     chance = low;
@@ -338,16 +362,17 @@ module _ {link : LinkStand} {w w' : Option (List (List ℕ))} {c c' : ℕ} (low 
   }
 
   pub submit_stopped : {ready : ℕ → ℕ → Bool} {n at : ℕ} {k k' : Known Item} {fault : SessionFault} (drawn : List (List ℕ)) → length drawn ≤ 2 → AppendsWords w w' drawn → KnowsMore k k' [] → SubmitCause k' drawn c c' fault
-      → Stopped ready (stand k link w c) (stand k' link w' c') (Taking n at [] Submits) fault
+      → Stopped ready (stand k link w c) (stand k' link w' c') (Taking n at [] Submits) (n + 1) fault
   submit_stopped {n = n} {at = at} {k = k} {k' = k'} {fault = fault} drawn few drew knows cause = record {
     acts = [];
     reached = M;
     written = [];
     answers = [];
     words = drawn;
-    course = record { knows = knows; fits = tt; link = exchanged_none link; words_are = drew; chance = low };
+    course = record { knows = knows; fits = tt; in_order = tt; link = exchanged_none link; words_are = drew; chance = low };
     leads = refl;
-    beside = record { sent_due = (0, refl); few_came = omega arith; few = few; drawn = λ no. absurd (no is) };
+    within = at_most (n + 1);
+    beside = record { sent_due = (0, refl); came = inl refl; few = few; drawn = λ no. absurd (no is) };
     cause = cause_of fault cause;
   }
     where

@@ -17,7 +17,7 @@ use Rattle.sporc_client.specs.Drawing.{MayDraw}
 use Rattle.sporc_client.specs.Submissions.{submission, submission_added}
 use Rattle.sporc_shared.specs.declared.answered.Answered.{Answered}
 use Rattle.sporc_shared.specs.declared.fault.SessionFault.{SessionFault}
-use Rattle.sporc_shared.specs.Calls.{IsCall, Submits}
+use Rattle.sporc_shared.specs.Calls.{IsCall, SubmitsAt}
 use Rattle.sporc_shared.specs.Courses.{AppendsWords, KnowsMore}
 use Rattle.sporc_shared.specs.Endings.{SubmitGives, Submission}
 use Rattle.sporc_shared.specs.Items.{Item, Happened, Past, client_of, items_of}
@@ -25,7 +25,7 @@ use Rattle.sporc_shared.specs.Outcomes.{Drew, SubmittedOne}
 use Rattle.sporc_shared.specs.Points.{IsPoint}
 use Rattle.sporc_shared.specs.Replies.{made_of, plain_of}
 use Rattle.sporc_shared.proofs.EntryLengths.{submitted_len}
-use Rattle.sporc_shared.proofs.Knowing.{call_client, call_drop, call_knows, call_point, knows_none}
+use Rattle.sporc_shared.proofs.Knowing.{call_client, call_drop, call_knows, call_later, call_point, knows_none}
 use Rattle.sporc_shared.proofs.Taking.{WornAs, none_point, plain_case}
 
 -- two words that were put into a buffer, one after the other
@@ -48,6 +48,7 @@ module _ (k k' : Known Item) (before : Past) (first second : List ℕ) (leaf : R
       let c0 : IsCall k k' before events = subst (λ (n : ℕ). IsCall k k' before (submission_added n answer)) zero' c in
       record {
         point = length (items_of before);
+        later = call_later k k' before events c0;
         first = first;
         second = second;
         knows = call_knows k k' before events c0;
@@ -74,7 +75,7 @@ module _ (k k' : Known Item) (before : Past) (first second : List ℕ) (leaf : R
   }
 
 abbrev SubmitCall : Known Item → List ℕ → Known Item → Result Submitted SubmitFault → Type 0
-SubmitCall k random k' answer = (before : Past) × IsCall k k' before (submission_added k.number answer) × Submits before random answer
+SubmitCall k random k' answer = (before : Past) × IsCall k k' before (submission_added k.number answer) × SubmitsAt before random answer
 
 module _ (k : Known Item) (w w' : Option (List (List ℕ))) (n n' : ℕ) (first second : List ℕ) (zero' : k.number ≡ 0) (drew : AppendsWords w w' (first ∷ second ∷ [])) where
   kept : (k' : Known Item) (answer : Result Submitted SubmitFault) → answer ≢ Err submits.Memory → SubmitCall k (first ++ second) k' answer → Submission k k' (first ∷ second ∷ []) answer

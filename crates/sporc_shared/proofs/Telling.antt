@@ -13,7 +13,7 @@ use Rattle.sporc_shared.specs.Calls.{IsCall}
 use Rattle.sporc_shared.specs.Courses.{CountsSame, KnowsMore, stand}
 use Rattle.sporc_shared.specs.Endings.{Stopped}
 use Rattle.sporc_shared.specs.Items.{Item, Past}
-use Rattle.sporc_shared.specs.Protocol.{Mode}
+use Rattle.sporc_shared.specs.Protocol.{Mode, rounds_begun}
 use Rattle.sporc_shared.specs.Replies.{plain_of, worn_of}
 use Rattle.sporc_shared.specs.Wires.{LinkStand}
 use Rattle.sporc_shared.proofs.Knowing.{call_counts, knows_none}
@@ -57,10 +57,10 @@ is_told {A} P reply {plain} {result} {answer} is is' ok h =
 
 -- if no ticket was left, the receiver stops where it is
 pub worn_stopped : {link : LinkStand} {words : Option (List (List ℕ))} {g : ℕ} {ready : ℕ → ℕ → Bool} {m : Mode} {A : Type 0} {P : Past → A → Type 0} {k k' : Known Item} {fault : SessionFault} {result : Result A SessionFault}
-    → result ≡ Err fault → TellsOr P k k' result → Stopped ready (stand k link words g) (stand k' link words g) m fault
+    → result ≡ Err fault → TellsOr P k k' result → Stopped ready (stand k link words g) (stand k' link words g) m (rounds_begun m) fault
 worn_stopped {link} {words} {g} {ready} {m} {P = P} {k = k} {k' = k'} is h =
     let t = (subst (TellsOr P k k') is h).ends in
-    subst (Stopped ready (stand k link words g) (stand k' link words g) m) (sym t.1.1)
+    subst (Stopped ready (stand k link words g) (stand k' link words g) m (rounds_begun m)) (sym t.1.1)
     (known_stopped (subst (λ (y : Known Item). KnowsMore k y []) (sym t.0) (knows_none k)) t.1.2)
 
 -- the pass splits and joins nothing

@@ -1,5 +1,5 @@
 -- What the receiver of a session does, as a list of acts, and what each act adds to the log, the link and the chance.
-use Rattle.std.specs.Prelude.{◌≡◌, ℕ, ◌+◌, Bool, List, [], ◌∷◌, ◌++◌, drop, length, map, Result, ⊤}
+use Rattle.std.specs.Prelude.{◌≡◌, ◌≤◌, ℕ, ◌+◌, Bool, List, [], ◌∷◌, ◌++◌, drop, length, map, Result, ⊤}
 use Rattle.lms_leaf.specs.declared.faults.LeafFault.{LeafFault}
 use Rattle.sporc_turn.specs.Log.{StartsWith}
 use Rattle.sporc_head.specs.declared.refusal.Refusal.{Refusal}
@@ -18,9 +18,9 @@ use Rattle.sporc_shared.specs.Items.{Item, Opened, Happened}
 use Rattle.sporc_shared.specs.Points.{IsClientAt, IsPoint}
 
 -- the server's answer to an entry that was sent
-pub data Reply : Type 0 where
-  Ordered : (position : ℕ) → Reply
-  Rejected : Refusal → Reply
+pub data ServerReply : Type 0 where
+  Ordered : (position : ℕ) → ServerReply
+  Rejected : Refusal → ServerReply
 
 pub data Act : Type 0 where
   -- the client was asked for its document and its member
@@ -36,7 +36,7 @@ pub data Act : Type 0 where
   -- a submission, with two random words, and its answer
   Submit : (point : ℕ) (first second : List ℕ) → Result Submitted SubmitFault → Act
   -- an entry was sent, and this answer came
-  Send : List ℕ → Reply → Act
+  Send : List ℕ → ServerReply → Act
   -- it was seen whether this entry is still on its way
   Check : (point : ℕ) → List ℕ → Bool → Act
 
@@ -67,7 +67,7 @@ abbrev pub handed_out : ℕ → List (List ℕ) → ToClient
 handed_out from [] = to_client.Empty
 handed_out from (entry ∷ entries) = to_client.Entries (from + 1) (entry ∷ entries)
 
-abbrev pub reply_message : Reply → ToClient
+abbrev pub reply_message : ServerReply → ToClient
 reply_message (Ordered position) = to_client.Ordered position
 reply_message (Rejected refusal) = to_client.Rejected refusal
 
@@ -92,6 +92,18 @@ words_by (Take position entry) = []
 words_by (Submit point first second answer) = first ∷ second ∷ []
 words_by (Send entry reply) = []
 words_by (Check point entry stays) = []
+
+-- the moment at which an act saw the client, or, if it didn't look at it, the one before
+abbrev pub moment_after : ℕ → Act → ℕ
+moment_after n (Look point at pending) = point
+moment_after n (Submit point first second answer) = point
+moment_after n (Check point entry stays) = point
+moment_after n _ = n
+
+-- no act saw the client at a moment before this one, nor at one before that of an earlier act
+abbrev pub AreInOrder : ℕ → List Act → Type 0
+AreInOrder n [] = ⊤
+AreInOrder n (act ∷ acts) = (n ≤ moment_after n act) × AreInOrder (moment_after n act) acts
 
 -- each of a list of acts, in order
 abbrev pub all_of : {X : Type 0} → (Act → List X) → List Act → List X

@@ -10,11 +10,11 @@ use Rattle.sporc_wire.specs.declared.to_server.ToServer.{ToServer}
 use Rattle.sporc_wire.specs.declared.to_server.ToServer.TheVariants as to_server
 use Rattle.sporc_shared.specs.declared.fault.SessionFault.{SessionFault}
 use Rattle.sporc_shared.specs.declared.fault.SessionFault.TheVariants as faults
-use Rattle.sporc_shared.specs.Acts.{Reply, Ordered, Rejected, handed_out, all_of, items_by}
+use Rattle.sporc_shared.specs.Acts.{ServerReply, Ordered, Rejected, handed_out, all_of, items_by}
 use Rattle.sporc_shared.specs.Courses.{KnowsMore}
 use Rattle.sporc_shared.specs.Endings.{IsAnswer, TakingStopped, takes_of}
 use Rattle.sporc_shared.specs.Items.{Item}
-use Rattle.sporc_shared.specs.Wires.{IsBadFrame, IsLastFrom, LinkStand, Exchanged, more_taken, spelled}
+use Rattle.sporc_shared.specs.Wires.{IsBadFrame, IsCut, IsLastFrom, LinkStand, Exchanged, more_taken, spelled}
 
 -- a piece was taken off the link, and nothing was written to it
 pub record Took (a b : LinkStand) (piece : List ℕ) : Type 0 where
@@ -26,36 +26,18 @@ pub record Took (a b : LinkStand) (piece : List ℕ) : Type 0 where
 -- why no whole message came, whatever was sent before
 abbrev pub SilentFor : LinkStand → LinkStand → SessionFault → Type 0
 SilentFor a b faults.LinkFault = Rose a.faults b.faults
-SilentFor a b (faults.LinkEnded taken) = IsAtEnd b.left × (taken ≡ b.inbox.taken)
+SilentFor a b (faults.LinkEnded taken) = IsAtEnd b.left × IsCut b.inbox × (taken ≡ b.inbox.taken)
 SilentFor a b (faults.BadMessage place) = IsBadFrame b.inbox place
 SilentFor a b faults.Memory = ⊤
-SilentFor a b (faults.Refused position refusal) = ⊥
-SilentFor a b (faults.NotSettled pending at) = ⊥
-SilentFor a b (faults.Leaf fault) = ⊥
-SilentFor a b faults.HistoryFull = ⊥
-SilentFor a b (faults.ServerRejected refusal) = ⊥
-SilentFor a b faults.JournalFull = ⊥
-SilentFor a b (faults.EditRefused editor line fault) = ⊥
-SilentFor a b (faults.Worn ticket) = ⊥
-SilentFor a b faults.ChanceFault = ⊥
+SilentFor a b _ = ⊥
 
 -- why a message was not sent whole
 abbrev pub UnsentFor : LinkStand → LinkStand → SessionFault → Type 0
 UnsentFor a b faults.LinkFault = Rose a.faults b.faults
 UnsentFor a b faults.Memory = ⊤
-UnsentFor a b (faults.LinkEnded taken) = ⊥
-UnsentFor a b (faults.BadMessage place) = ⊥
-UnsentFor a b (faults.Refused position refusal) = ⊥
-UnsentFor a b (faults.NotSettled pending at) = ⊥
-UnsentFor a b (faults.Leaf fault) = ⊥
-UnsentFor a b faults.HistoryFull = ⊥
-UnsentFor a b (faults.ServerRejected refusal) = ⊥
-UnsentFor a b faults.JournalFull = ⊥
-UnsentFor a b (faults.EditRefused editor line fault) = ⊥
-UnsentFor a b (faults.Worn ticket) = ⊥
-UnsentFor a b faults.ChanceFault = ⊥
+UnsentFor a b _ = ⊥
 
--- a message was not sent: a front of its bytes was written
+-- a message was not sent: a prefix of its bytes was written
 pub record Unsent (a b : LinkStand) (message : ToServer) (fault : SessionFault) : Type 0 where
   pub n : ℕ
   pub did : Exchanged a b (take n (spelled (message ∷ []))) []
@@ -92,7 +74,7 @@ pub record Asks (a b : LinkStand) (message : ToServer) (answer : ToClient) : Typ
   pub starts : IsLastFrom a.inbox.at answer b.inbox
 
 -- an entry was ordered, or refused
-abbrev pub IsReply : Option Refusal → Reply → Type 0
+abbrev pub IsReply : Option Refusal → ServerReply → Type 0
 IsReply None (Ordered position) = ⊤
 IsReply None (Rejected refusal) = ⊥
 IsReply (Some refusal) (Ordered position) = ⊥
@@ -109,9 +91,9 @@ pub data GatherStopped (k k' : Known Item) (a b : LinkStand) (at : ℕ) (fault :
   taking : {came : List (List ℕ)} → Exchanged a b (spelled (to_server.Pull at ∷ [])) (handed_out at came ∷ []) → TakingStopped k k' at came fault → GatherStopped k k' a b at fault
 
 -- what an answer to an entry says; anything else is no answer to it, and its frame began at this place
-abbrev pub IsReplyOf : ℕ → Result ToClient SessionFault → Result (Option Refusal) SessionFault → Type 0
-IsReplyOf place (Err fault) result = result ≡ Err fault
-IsReplyOf place (Ok (to_client.Ordered position)) result = result ≡ Ok None
-IsReplyOf place (Ok (to_client.Rejected refusal)) result = result ≡ Ok (Some refusal)
-IsReplyOf place (Ok (to_client.Entries first entries)) result = result ≡ Err (faults.BadMessage place)
-IsReplyOf place (Ok to_client.Empty) result = result ≡ Err (faults.BadMessage place)
+abbrev pub IsOutcomeOf : ℕ → Result ToClient SessionFault → Result (Option Refusal) SessionFault → Type 0
+IsOutcomeOf place (Err fault) result = result ≡ Err fault
+IsOutcomeOf place (Ok (to_client.Ordered position)) result = result ≡ Ok None
+IsOutcomeOf place (Ok (to_client.Rejected refusal)) result = result ≡ Ok (Some refusal)
+IsOutcomeOf place (Ok (to_client.Entries first entries)) result = result ≡ Err (faults.BadMessage place)
+IsOutcomeOf place (Ok to_client.Empty) result = result ≡ Err (faults.BadMessage place)

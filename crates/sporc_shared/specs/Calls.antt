@@ -28,7 +28,7 @@ pub record IsCall (k k' : Known Item) (before : Past) (added : List Logged) : Ty
   pub agrees : Agrees by_of k' (items_of (with_events before added))
 
 -- a submission's answer, by what the drawing of the leaf may have answered, if one was due
-pub record Submits (before : Past) (random : List ℕ) (answer : Result Submitted SubmitFault) : Type 0 where
+pub record SubmitsAt (before : Past) (random : List ℕ) (answer : Result Submitted SubmitFault) : Type 0 where
   pub leaf : Result ℕ LeafFault
   pub may : MayDraw (client_of before) leaf
   pub gives : GivesUnless Memory (λ s. s) answer (submission (client_of before) random leaf)

@@ -1,11 +1,11 @@
 -- What a receiver did from one moment to a later one.
-use Rattle.std.specs.Prelude.{◌≡◌, ◌≤◌, ℕ, List, ◌++◌, Option, None, Some}
+use Rattle.std.specs.Prelude.{◌≡◌, ◌≤◌, ℕ, List, ◌++◌, length, Option, None, Some}
 use Rattle.sporc_turn.specs.declared.known.Known.{Known}
 use Rattle.sporc_turn.specs.Log.{StartsWith, Agrees}
 use Rattle.sporc_wire.specs.declared.to_client.ToClient.{ToClient}
-use Rattle.sporc_shared.specs.Acts.{Act, items_by, messages_by, answers_by, words_by, all_of, FitAll}
+use Rattle.sporc_shared.specs.Acts.{Act, items_by, messages_by, answers_by, words_by, all_of, AreInOrder, FitAll}
 use Rattle.sporc_shared.specs.Items.{Item, Past, IsAllowed, by_of, items_of}
-use Rattle.sporc_shared.specs.Wires.{LinkStand, Exchanged, spelled}
+use Rattle.sporc_shared.specs.Wires.{InboxModel, LinkStand, Exchanged, link_at, spelled}
 
 -- the receiver's pass and what it knows, what the link tells, and the words that the chance gave, with its count of faults
 pub record Stand : Type 0 where
@@ -16,6 +16,10 @@ pub record Stand : Type 0 where
 
 abbrev pub stand : Known Item → LinkStand → Option (List (List ℕ)) → ℕ → Stand
 stand known link words chance_faults = record { known = known; link = link; words = words; chance_faults = chance_faults }
+
+-- by the functions by which a link and a chance tell these
+abbrev pub stand_at : {L C : Type 0} → (L → Option (List ℕ)) → (L → Option (List ℕ)) → (L → ℕ) → (C → Option (List (List ℕ))) → (C → ℕ) → Known Item → L → InboxModel → C → Stand
+stand_at written left faults given chance_faults known link inbox chance = stand known (link_at written left faults link inbox) (given chance) (chance_faults chance)
 
 -- told words grow by these
 abbrev pub AppendsWords : Option (List (List ℕ)) → Option (List (List ℕ)) → List (List ℕ) → Type 0
@@ -48,6 +52,7 @@ pub record CountsSame (k k' : Known Item) : Type 0 where
 pub record Course (a b : Stand) (acts : List Act) (written : List ℕ) (answers : List ToClient) (words : List (List ℕ)) : Type 0 where
   pub knows : KnowsMore a.known b.known (all_of items_by acts)
   pub fits : FitAll b.known.seen a.known.start a.known.mine acts
+  pub in_order : AreInOrder (length a.known.seen) acts
   pub link : Exchanged a.link b.link (spelled (all_of messages_by acts) ++ written) (all_of answers_by acts ++ answers)
   pub words_are : AppendsWords a.words b.words (all_of words_by acts ++ words)
   pub chance : a.chance_faults ≤ b.chance_faults

@@ -20,18 +20,18 @@ use Rattle.sporc_client.specs.PlainClient.{PlainClient}
 use Rattle.sporc_client.specs.Submissions.{submission, submission_added}
 use Rattle.sporc_shared.specs.declared.fault.SessionFault.{SessionFault}
 use Rattle.sporc_shared.specs.declared.fault.SessionFault.TheVariants as faults
-use Rattle.sporc_shared.specs.Acts.{Act, Take, Submit, Reply, handed_out, reply_message, all_of, items_by, Fits}
+use Rattle.sporc_shared.specs.Acts.{Act, Take, Submit, ServerReply, handed_out, reply_message, all_of, items_by, Fits}
 use Rattle.sporc_shared.specs.Courses.{Stand, Course, KnowsMore}
 use Rattle.sporc_shared.specs.Items.{Item, Happened}
 use Rattle.sporc_shared.specs.Points.{IsClientAt, IsPoint}
-use Rattle.sporc_shared.specs.Protocol.{Mode, Taking, Stuck, Then, Submits, Leads, message_due}
-use Rattle.sporc_shared.specs.Wires.{IsBadFrame, IsLastFrom, spelled}
+use Rattle.sporc_shared.specs.Protocol.{Mode, Taking, Stuck, Then, Submits, Leads, message_due, rounds_begun}
+use Rattle.sporc_shared.specs.Wires.{IsBadFrame, IsCut, IsLastFrom, spelled}
 
 -- a message from the server is an answer to this one
 abbrev pub IsAnswer : ToServer → ToClient → Type 0
 IsAnswer (to_server.Hello document member) answer = ⊥
 IsAnswer (to_server.Pull from) answer = (came : List (List ℕ)) × (answer ≡ handed_out from came)
-IsAnswer (to_server.Submit entry) answer = (reply : Reply) × (answer ≡ reply_message reply)
+IsAnswer (to_server.Submit entry) answer = (reply : ServerReply) × (answer ≡ reply_message reply)
 
 -- the next act is that this entry is accepted as the one at this position
 abbrev pub IsTaking : Mode → ℕ → List ℕ → Type 0
@@ -85,7 +85,7 @@ pub record IsNoMessage (b : Stand) (m : Mode) (written : List ℕ) (answers : Li
 abbrev pub Cause : Stand → Stand → Mode → List ℕ → List ToClient → List (List ℕ) → SessionFault → Type 0
 Cause a b m written answers words faults.LinkFault = Rose a.link.faults b.link.faults × (message_due m ≢ [])
 Cause a b m written answers words (faults.LinkEnded taken) =
-    IsAtEnd b.link.left × (message_due m ≢ []) × (written ≡ spelled (message_due m)) × (taken ≡ b.link.inbox.taken)
+    IsAtEnd b.link.left × (message_due m ≢ []) × (written ≡ spelled (message_due m)) × (answers ≡ []) × IsCut b.link.inbox × (taken ≡ b.link.inbox.taken)
 Cause a b m written answers words (faults.BadMessage place) = IsWrongAnswer b m written answers place ⊎ IsNoMessage b m written answers place
 Cause a b m written answers words (faults.Refused position refusal) =
     (entry : List ℕ) × IsTaking m position entry × AcceptGives b.known position entry (accepts.Refused refusal)
@@ -102,10 +102,13 @@ Cause a b m written answers words faults.Memory = ⊤
 Cause a b m written answers words (faults.NotSettled pending at) = ⊥
 Cause a b m written answers words (faults.EditRefused editor line fault) = ⊥
 
--- only a front of the message that was due was written, only a wrong answer came beside the acts, and at most two words were drawn
+-- only a prefix of the message that was due was written, only an answer that is none to it came beside the acts, and at most two
+-- words were drawn, for a submission
 pub record IsBeside (m : Mode) (written : List ℕ) (answers : List ToClient) (words : List (List ℕ)) : Type 0 where
   pub sent_due : (n : ℕ) × (written ≡ take n (spelled (message_due m)))
-  pub few_came : length answers ≤ 1
+  pub came :
+      (answers ≡ [])
+      ⊎ ((message : ToServer) × (answer : ToClient) × (message_due m ≡ message ∷ []) × (answers ≡ answer ∷ []) × ¬ IsAnswer message answer)
   pub few : length words ≤ 2
   pub drawn : ¬ IsSubmitting m → words ≡ []
 
@@ -115,8 +118,8 @@ pub record Did (ready : ℕ → ℕ → Bool) (a b : Stand) (m m' : Mode) : Type
   pub course : Course a b acts [] [] []
   pub leads : Leads ready m acts m'
 
--- The receiver did acts, and stopped with this fault in the mode to which they lead
-pub record Stopped (ready : ℕ → ℕ → Bool) (a b : Stand) (m : Mode) (fault : SessionFault) : Type 0 where
+-- The receiver did acts, and stopped with this fault in the mode to which they lead, with no more rounds begun than these
+pub record Stopped (ready : ℕ → ℕ → Bool) (a b : Stand) (m : Mode) (rounds : ℕ) (fault : SessionFault) : Type 0 where
   pub acts : List Act
   pub reached : Mode
   pub written : List ℕ
@@ -124,6 +127,7 @@ pub record Stopped (ready : ℕ → ℕ → Bool) (a b : Stand) (m : Mode) (faul
   pub words : List (List ℕ)
   pub course : Course a b acts written answers words
   pub leads : Leads ready m acts reached
+  pub within : rounds_begun reached ≤ rounds
   pub beside : IsBeside reached written answers words
   pub cause : Cause a b reached written answers words fault
 
@@ -133,32 +137,18 @@ TakeCause k position entry (faults.Refused p refusal) = (p ≡ position) × Acce
 TakeCause k position entry faults.JournalFull = AcceptGives k position entry accepts.JournalFull
 TakeCause k position entry (faults.Worn ticket) = ticket ≡ MAX_TICKETS
 TakeCause k position entry faults.Memory = ⊤
-TakeCause k position entry faults.LinkFault = ⊥
-TakeCause k position entry (faults.NotSettled pending at) = ⊥
-TakeCause k position entry (faults.BadMessage place) = ⊥
-TakeCause k position entry (faults.Leaf fault) = ⊥
-TakeCause k position entry faults.HistoryFull = ⊥
-TakeCause k position entry (faults.ServerRejected refusal) = ⊥
-TakeCause k position entry (faults.EditRefused editor line fault) = ⊥
-TakeCause k position entry faults.ChanceFault = ⊥
-TakeCause k position entry (faults.LinkEnded taken) = ⊥
+TakeCause k position entry _ = ⊥
 
 -- why a submission ends the session; the count of the chance's faults went from one number to another
 abbrev pub SubmitCause : Known Item → List (List ℕ) → ℕ → ℕ → SessionFault → Type 0
-SubmitCause k drawn before after (faults.Refused position refusal) = ⊥
 SubmitCause k drawn before after faults.JournalFull = SubmitGives k drawn submits.JournalFull
 SubmitCause k drawn before after (faults.Worn ticket) = ticket ≡ MAX_TICKETS
 SubmitCause k drawn before after faults.Memory = ⊤
-SubmitCause k drawn before after faults.LinkFault = ⊥
-SubmitCause k drawn before after (faults.NotSettled pending at) = ⊥
-SubmitCause k drawn before after (faults.BadMessage place) = ⊥
 SubmitCause k drawn before after (faults.Leaf (leaves.Exhausted next)) = SubmitGives k drawn (submits.Exhausted next)
 SubmitCause k drawn before after (faults.Leaf leaves.DiskFault) = SubmitGives k drawn submits.LeafFault
 SubmitCause k drawn before after faults.HistoryFull = SubmitGives k drawn submits.HistoryFull
-SubmitCause k drawn before after (faults.ServerRejected refusal) = ⊥
-SubmitCause k drawn before after (faults.EditRefused editor line fault) = ⊥
 SubmitCause k drawn before after faults.ChanceFault = Rose before after
-SubmitCause k drawn before after (faults.LinkEnded taken) = ⊥
+SubmitCause k drawn before after _ = ⊥
 
 -- the receiver accepts these entries after so many others
 abbrev pub takes_of : ℕ → List (List ℕ) → List Act
@@ -177,6 +167,7 @@ pub record TakingStopped (k k' : Known Item) (at : ℕ) (entries : List (List �
 -- a submission was answered
 pub record Submission (k k' : Known Item) (drawn : List (List ℕ)) (answer : Result Submitted SubmitFault) : Type 0 where
   pub point : ℕ
+  pub later : length k.seen ≤ point
   pub first : List ℕ
   pub second : List ℕ
   pub knows : KnowsMore k k' (map Happened (submission_added 0 answer))

@@ -5,10 +5,12 @@ pub mod Passes
 pub mod Points
 pub mod Acts
 pub mod Protocol
+pub mod Flows
 pub mod Wires
 pub mod Courses
 pub mod Endings
 pub mod Lines
+pub mod Makers
 pub mod Editing
 pub mod Sessions
 pub mod Runs

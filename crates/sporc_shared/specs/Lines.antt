@@ -82,15 +82,7 @@ LineFails number line Gives (faults.EditRefused editor l fault) = (editor ≡ nu
 LineFails number line Gives faults.JournalFull = Gives edits.JournalFull
 LineFails number line Gives (faults.Worn ticket) = ticket ≡ MAX_TICKETS
 LineFails number line Gives faults.Memory = ⊤
-LineFails number line Gives faults.LinkFault = ⊥
-LineFails number line Gives (faults.Refused position refusal) = ⊥
-LineFails number line Gives (faults.NotSettled pending at) = ⊥
-LineFails number line Gives (faults.BadMessage place) = ⊥
-LineFails number line Gives (faults.Leaf fault) = ⊥
-LineFails number line Gives faults.HistoryFull = ⊥
-LineFails number line Gives (faults.ServerRejected refusal) = ⊥
-LineFails number line Gives faults.ChanceFault = ⊥
-LineFails number line Gives (faults.LinkEnded taken) = ⊥
+LineFails number line Gives _ = ⊥
 
 -- why it stops before the first of these lines
 abbrev pub LineCause : List Item → ℕ → ℕ → List Item → List EditorLine → SessionFault → Type 0

@@ -13,7 +13,7 @@ use Rattle.sporc_shared.specs.Asking.{Gathered, GatherStopped}
 use Rattle.sporc_shared.specs.Courses.{Stand, KnowsMore, AppendsWords}
 use Rattle.sporc_shared.specs.Endings.{TakeCause, TakingStopped, takes_of, SubmitCause, Submission, Did, Stopped}
 use Rattle.sporc_shared.specs.Items.{Item, Happened}
-use Rattle.sporc_shared.specs.Protocol.{Mode, IsQuiet}
+use Rattle.sporc_shared.specs.Protocol.{Mode, IsQuiet, rounds_begun}
 use Rattle.sporc_shared.specs.Wires.{LinkStand}
 
 -- an entry was accepted after so many others, or why not
@@ -50,7 +50,7 @@ pub record GatheredAll (k k' : Known Item) (a b : LinkStand) (at : ℕ) (result 
 
 -- the receiver came from one mode to another, or stopped
 pub record DidOrStopped (ready : ℕ → ℕ → Bool) (a b : Stand) (m m' : Mode) (result : Result ⊤ SessionFault) : Type 0 where
-  pub ends : MatchResult result (λ x. Did ready a b m m') (λ f. Stopped ready a b m f)
+  pub ends : MatchResult result (λ x. Did ready a b m m') (λ f. Stopped ready a b m (rounds_begun m') f)
 
 -- two words were drawn, which make this string
 abbrev pub Drew : Option (List (List ℕ)) → Option (List (List ℕ)) → List ℕ → Type 0

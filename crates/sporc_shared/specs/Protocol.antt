@@ -79,6 +79,17 @@ always at pending = true
 abbrev pub is_unsettled : ℕ → ℕ → ℕ → Bool
 is_unsettled until at pending = nat_lt 0 pending || nat_lt at until
 
+-- how many rounds were begun
+abbrev pub rounds_begun : Mode → ℕ
+rounds_begun Asking = 0
+rounds_begun (Greeting document member) = 0
+rounds_begun (Between n) = n
+rounds_begun (Pulling n at) = n + 1
+rounds_begun (Taking n at came next) = n + 1
+rounds_begun (Sending n at e) = n + 1
+rounds_begun (Checking n e r) = n + 1
+rounds_begun (Stuck n r) = n + 1
+
 -- the message that is to be sent next, if it is one
 abbrev pub message_due : Mode → List ToServer
 message_due Asking = []

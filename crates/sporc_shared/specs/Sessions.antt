@@ -16,20 +16,19 @@ use Rattle.sporc_shared.specs.Protocol.{Asking, Between, always, is_unsettled}
 -- the first phase: the receiver does its rounds, or stops with a fault
 abbrev pub FirstPhase : Stand → Stand → ℕ → Option SessionFault → Type 0
 FirstPhase a b rounds None = Did always a b Asking (Between rounds)
-FirstPhase a b rounds (Some fault) = Stopped always a b Asking fault
+FirstPhase a b rounds (Some fault) = Stopped always a b Asking rounds fault
 
--- rounds of the second phase, and a last look at the client
+-- rounds of the second phase, and then a look at the client, at the end of its journal
 pub record Rounds (a b : Stand) (until done at pending : ℕ) : Type 0 where
   pub between : Stand
   pub did : Did (is_unsettled until) a between (Between 0) (Between done)
-  pub point : ℕ
-  pub last : Course between b (Look point at pending ∷ []) [] [] []
+  pub last : Course between b (Look (length b.known.seen) at pending ∷ []) [] [] []
 
 -- The second phase. It ends when the client is settled, if it isn't after all rounds, or with a fault in a round
 pub data SecondPhase (a b : Stand) (rounds until : ℕ) : Result ⊤ SessionFault → Type 0 where
   settles : {done at pending : ℕ} → done ≤ rounds → Rounds a b until done at pending → is_unsettled until at pending ≡ false → SecondPhase a b rounds until (Ok tt)
   doesnt_settle : {at pending : ℕ} → Rounds a b until rounds at pending → is_unsettled until at pending ≡ true → SecondPhase a b rounds until (Err (faults.NotSettled pending at))
-  stops : {fault : SessionFault} → Stopped (is_unsettled until) a b (Between 0) fault → SecondPhase a b rounds until (Err fault)
+  stops : {fault : SessionFault} → Stopped (is_unsettled until) a b (Between 0) rounds fault → SecondPhase a b rounds until (Err fault)
 
 -- what each editor did, from this number on; those beyond the list of faults weren't started
 abbrev pub EditorsDid : List Item → ℕ → ℕ → List (List EditorLine) → List (Option SessionFault) → Type 0

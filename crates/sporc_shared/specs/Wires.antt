@@ -53,6 +53,10 @@ pub record LinkStand : Type 0 where
 abbrev pub link_stand : Option (List ℕ) → Option (List ℕ) → ℕ → InboxModel → LinkStand
 link_stand written left faults inbox = record { written = written; left = left; faults = faults; inbox = inbox }
 
+-- by the functions by which a link tells these
+abbrev pub link_at : {L : Type 0} → (L → Option (List ℕ)) → (L → Option (List ℕ)) → (L → ℕ) → L → InboxModel → LinkStand
+link_at written left faults link inbox = link_stand (written link) (left link) (faults link) inbox
+
 -- the bytes that were taken off the link, with those from before, read as these answers, and then the rest
 pub record Received (a b : LinkStand) (answers : List ToClient) : Type 0 where
   pub came : List ℕ
@@ -71,6 +75,10 @@ pub record IsLastFrom (place : ℕ) (message : ToClient) (inbox : InboxModel) : 
   pub before : InboxModel
   pub place_is : place ≡ before.at
   pub next_is : next to_client_of (unread_of before) ≡ record { answer = Ok (Some message); after = unread_of inbox }
+
+-- no whole frame is left
+abbrev pub IsCut : InboxModel → Type 0
+IsCut inbox = (next to_client_of (unread_of inbox)).answer ≡ Ok None
 
 -- the next frame is no message, from this place of the stream on, or its length is above the limit: the place is then that
 -- of the frame's start

@@ -3,11 +3,10 @@
 ghost use Rattle.std.specs.Prelude.{◌≡◌, ◌+◌, ◌<◌, ◌^◌, length, IfSome};
 ghost use Rattle.std.specs.Thread.{IsSend, IsSync};
 ghost use Rattle.sporc_turn.specs.Passes.{known_of};
-ghost use Rattle.sporc_shared.specs.Courses.{CountsSame, stand};
+ghost use Rattle.sporc_shared.specs.Courses.{CountsSame, stand_at};
 ghost use Rattle.sporc_shared.specs.Crowds.{IsCrowd, IsFirst, IsOther, either_fault};
 ghost use Rattle.sporc_shared.specs.Editing.{LinesDid};
 ghost use Rattle.sporc_shared.specs.Passes.{IsPassOf};
-ghost use Rattle.sporc_shared.specs.Wires.{link_stand};
 
 use crate::editor::do_lines;
 use crate::fault::SessionFault;
@@ -52,7 +51,10 @@ pub(crate) fn crowd<
     requires room { (known_of first).splits + length scripts.now < 2 ^ 32 }
     ensures lock { IsPassOf shared.now result.1 }
     ensures first { (known_of result.1).number ≡ 0 }
-    ensures crowd { IsCrowd (stand (known_of first) (link_stand (L.written link.old) (L.left link.old) (L.faults link.old) inbox.old) (C.given chance.old) (C.faults chance.old)) (stand (known_of result.1) (link_stand (L.written link.new) (L.left link.new) (L.faults link.new) inbox.new) (C.given chance.new) (C.faults chance.new)) rounds scripts.now result.0.receiver result.0.editors }
+    ensures crowd { IsCrowd
+        (stand_at L.written L.left L.faults C.given C.faults (known_of first) link.old inbox.old chance.old)
+        (stand_at L.written L.left L.faults C.given C.faults (known_of result.1) link.new inbox.new chance.new)
+        rounds scripts.now result.0.receiver result.0.editors }
 {
     let Some((script, others)) = scripts.split_first() else {
         let (receiver, first) = first_phase(
@@ -81,7 +83,10 @@ pub(crate) fn crowd<
         &mut || -> (Faults, Pass)
             requires { IsSync R.row × IsSync G.row × IsSend D.row × IsSend L.row × IsSend C.row × IsFirst shared.now first (length others.now) }
             ensures { IfSome first.entry (λ p. IsPassOf shared.entry.now result.1 × ((known_of result.1).number ≡ 0)
-                × IsCrowd (stand (known_of p) (link_stand (L.written link.entry.now) (L.left link.entry.now) (L.faults link.entry.now) inbox.entry.now) (C.given chance.entry.now) (C.faults chance.entry.now)) (stand (known_of result.1) (link_stand (L.written link.exit.now) (L.left link.exit.now) (L.faults link.exit.now) inbox.exit.now) (C.given chance.exit.now) (C.faults chance.exit.now)) rounds others.entry.now result.0.receiver result.0.editors) }
+                × IsCrowd
+                (stand_at L.written L.left L.faults C.given C.faults (known_of p) link.entry.now inbox.entry.now chance.entry.now)
+                (stand_at L.written L.left L.faults C.given C.faults (known_of result.1) link.exit.now inbox.exit.now chance.exit.now)
+                rounds others.entry.now result.0.receiver result.0.editors) }
         {
             crowd(
                 rt,

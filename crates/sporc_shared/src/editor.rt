@@ -72,7 +72,7 @@ fn looked(reply: Reply<Look>) -> (Result<Seen, u64>, Pass)
 
 // Sees the client.
 fn see<R: Wait, D: LeafDisk>(rt: &R, shared: &SharedClient<D>, pass: Pass) -> Went<Seen>
-    requires { IsPassOf shared.now pass }
+    requires lock { IsPassOf shared.now pass }
     ensures lock { IsPassOf shared.now result.1 }
     ensures counts { CountsSame (known_of pass) (known_of result.1) }
     ensures knows { KnowsMore (known_of pass) (known_of result.1) [] }
@@ -138,7 +138,7 @@ fn insert<R: Wait, D: LeafDisk>(
     line: u32,
     asked: &Insertion,
 ) -> Went<()>
-    requires { IsPassOf shared.now pass }
+    requires lock { IsPassOf shared.now pass }
     ensures lock { IsPassOf shared.now result.1 }
     ensures counts { CountsSame (known_of pass) (known_of result.1) }
     ensures did { AskedDid (known_of pass) (known_of result.1) line (asked_by (commands.Insert asked.now)) result.0 }
@@ -163,7 +163,7 @@ fn remove<R: Wait, D: LeafDisk>(
     line: u32,
     asked: &Removal,
 ) -> Went<()>
-    requires { IsPassOf shared.now pass }
+    requires lock { IsPassOf shared.now pass }
     ensures lock { IsPassOf shared.now result.1 }
     ensures counts { CountsSame (known_of pass) (known_of result.1) }
     ensures did { AskedDid (known_of pass) (known_of result.1) line (asked_by (commands.Remove asked.now)) result.0 }
@@ -187,7 +187,7 @@ fn change<R: Wait, D: LeafDisk>(
     line: u32,
     change: Change,
 ) -> Went<()>
-    requires { IsPassOf shared.now pass }
+    requires lock { IsPassOf shared.now pass }
     ensures lock { IsPassOf shared.now result.1 }
     ensures counts { CountsSame (known_of pass) (known_of result.1) }
     ensures did { AskedDid (known_of pass) (known_of result.1) line (Changes change) result.0 }
@@ -206,7 +206,7 @@ fn do_line<R: Wait, D: LeafDisk, G: Gate>(
     pass: Pass,
     line: &EditorLine,
 ) -> Went<()>
-    requires { IsPassOf shared.now pass }
+    requires lock { IsPassOf shared.now pass }
     ensures lock { IsPassOf shared.now result.1 }
     ensures counts { CountsSame (known_of pass) (known_of result.1) }
     ensures did { LineDid (known_of pass) (known_of result.1) line.now result.0 }
@@ -247,7 +247,7 @@ pub(crate) fn do_lines<R: Wait, D: LeafDisk, G: Gate>(
     pass: Pass,
     lines: &[EditorLine],
 ) -> (Option<SessionFault>, Pass)
-    requires { IsPassOf shared.now pass }
+    requires lock { IsPassOf shared.now pass }
     ensures lock { IsPassOf shared.now result.1 }
     ensures counts { CountsSame (known_of pass) (known_of result.1) }
     ensures did { LinesDid (known_of pass) (known_of result.1) lines.now result.0 }

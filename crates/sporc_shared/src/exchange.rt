@@ -6,10 +6,10 @@ ghost use Rattle.sporc_wire.specs.declared.to_server.ToServer.TheVariants as to_
 ghost use Rattle.sporc_wire.specs.ToServer.{to_server_bytes};
 ghost use Rattle.sporc_wire.specs.Messages.{next};
 ghost use Rattle.sporc_wire.specs.ToClient.{to_client_of};
-ghost use Rattle.sporc_shared.specs.Acts.{Reply, handed_out, reply_message};
-ghost use Rattle.sporc_shared.specs.Asking.{AskFails, Asks, IsReply, IsReplyOf, IsSilent, Took, Unsent};
+ghost use Rattle.sporc_shared.specs.Acts.{ServerReply, handed_out, reply_message};
+ghost use Rattle.sporc_shared.specs.Asking.{AskFails, Asks, IsReply, IsOutcomeOf, IsSilent, Took, Unsent};
 ghost use Rattle.sporc_shared.specs.Replies.{unread_fault};
-ghost use Rattle.sporc_shared.specs.Wires.{Exchanged, IsLastFrom, link_stand, spelled, unread_of};
+ghost use Rattle.sporc_shared.specs.Wires.{Exchanged, IsLastFrom, spelled, unread_of, link_at};
 
 use crate::fault::SessionFault;
 use crate::inbox::{Inbox, PIECE};
@@ -27,8 +27,14 @@ pub(crate) fn send<L: Link>(
     message: &ToServer,
 ) -> Result<(), SessionFault>
     requires { length (to_server_bytes message.now) ≤ MAX_BODY }
-    ensures ok { OnOk result (Exchanged (link_stand (L.written link.old) (L.left link.old) (L.faults link.old) inbox.now) (link_stand (L.written link.new) (L.left link.new) (L.faults link.new) inbox.now) (spelled (message.now ∷ [])) []) }
-    ensures err { IfErr result (Unsent (link_stand (L.written link.old) (L.left link.old) (L.faults link.old) inbox.now) (link_stand (L.written link.new) (L.left link.new) (L.faults link.new) inbox.now) message.now) }
+    ensures ok { OnOk result (Exchanged
+        (link_at L.written L.left L.faults link.old inbox.now)
+        (link_at L.written L.left L.faults link.new inbox.now)
+        (spelled (message.now ∷ [])) []) }
+    ensures err { IfErr result (Unsent
+        (link_at L.written L.left L.faults link.old inbox.now)
+        (link_at L.written L.left L.faults link.new inbox.now)
+        message.now) }
 {
     match write_to_server(alloc, message) {
         Ok(bytes) => match write_all(link, bytes.as_slice()) {
@@ -44,8 +50,14 @@ pub(crate) fn send<L: Link>(
 fn read_piece<L: Link>(link: &mut L, inbox: &mut Inbox) -> Result<(), SessionFault>
     requires held { inbox.old.held ≡ [] }
     requires waits { (next to_client_of (unread_of inbox.old)).answer ≡ Ok None }
-    ensures ok { OnOk result ((piece : List ℕ) × (0 < length piece) × Took (link_stand (L.written link.old) (L.left link.old) (L.faults link.old) inbox.old) (link_stand (L.written link.new) (L.left link.new) (L.faults link.new) inbox.new) piece) }
-    ensures err { IfErr result (IsSilent (link_stand (L.written link.old) (L.left link.old) (L.faults link.old) inbox.old) (link_stand (L.written link.new) (L.left link.new) (L.faults link.new) inbox.new)) }
+    ensures ok { OnOk result ((piece : List ℕ) × (0 < length piece) × Took
+        (link_at L.written L.left L.faults link.old inbox.old)
+        (link_at L.written L.left L.faults link.new inbox.new)
+        piece) }
+    ensures err { IfErr result (IsSilent
+        (link_at L.written L.left L.faults link.old inbox.old)
+        (link_at L.written L.left L.faults link.new inbox.new)
+        ) }
 {
     let mut buf = [0u8; PIECE];
     let Ok(n) = link.read(&mut buf) else {
@@ -71,8 +83,14 @@ fn unread(place: u64, fault: FrameFault) -> SessionFault
 
 // The next message that comes.
 fn receive<L: Link>(link: &mut L, inbox: &mut Inbox) -> Result<ToClient, SessionFault>
-    ensures ok { IfOk result (λ answer. Exchanged (link_stand (L.written link.old) (L.left link.old) (L.faults link.old) inbox.old) (link_stand (L.written link.new) (L.left link.new) (L.faults link.new) inbox.new) [] (answer ∷ []) × IsLastFrom inbox.old.at answer inbox.new) }
-    ensures err { IfErr result (IsSilent (link_stand (L.written link.old) (L.left link.old) (L.faults link.old) inbox.old) (link_stand (L.written link.new) (L.left link.new) (L.faults link.new) inbox.new)) }
+    ensures ok { IfOk result (λ answer. Exchanged
+        (link_at L.written L.left L.faults link.old inbox.old)
+        (link_at L.written L.left L.faults link.new inbox.new)
+        [] (answer ∷ []) × IsLastFrom inbox.old.at answer inbox.new) }
+    ensures err { IfErr result (IsSilent
+        (link_at L.written L.left L.faults link.old inbox.old)
+        (link_at L.written L.left L.faults link.new inbox.new)
+        ) }
 {
     loop {
         match inbox.next() {
@@ -92,8 +110,14 @@ fn ask<L: Link>(
     message: &ToServer,
 ) -> Result<ToClient, SessionFault>
     requires { length (to_server_bytes message.now) ≤ MAX_BODY }
-    ensures ok { IfOk result (Asks (link_stand (L.written link.old) (L.left link.old) (L.faults link.old) inbox.old) (link_stand (L.written link.new) (L.left link.new) (L.faults link.new) inbox.new) message.now) }
-    ensures err { IfErr result (AskFails (link_stand (L.written link.old) (L.left link.old) (L.faults link.old) inbox.old) (link_stand (L.written link.new) (L.left link.new) (L.faults link.new) inbox.new) message.now) }
+    ensures ok { IfOk result (Asks
+        (link_at L.written L.left L.faults link.old inbox.old)
+        (link_at L.written L.left L.faults link.new inbox.new)
+        message.now) }
+    ensures err { IfErr result (AskFails
+        (link_at L.written L.left L.faults link.old inbox.old)
+        (link_at L.written L.left L.faults link.new inbox.new)
+        message.now) }
 {
     send(alloc, link, inbox, message)?;
     receive(link, inbox)
@@ -127,8 +151,14 @@ pub(crate) fn pull<L: Link>(
     from: u32,
 ) -> Result<Items<Bytes>, SessionFault>
     requires { from < 2 ^ 31 }
-    ensures ok { IfOk result (λ es. Exchanged (link_stand (L.written link.old) (L.left link.old) (L.faults link.old) inbox.old) (link_stand (L.written link.new) (L.left link.new) (L.faults link.new) inbox.new) (spelled (to_server.Pull from ∷ [])) (handed_out from es ∷ [])) }
-    ensures err { IfErr result (AskFails (link_stand (L.written link.old) (L.left link.old) (L.faults link.old) inbox.old) (link_stand (L.written link.new) (L.left link.new) (L.faults link.new) inbox.new) (to_server.Pull from)) }
+    ensures ok { IfOk result (λ es. Exchanged
+        (link_at L.written L.left L.faults link.old inbox.old)
+        (link_at L.written L.left L.faults link.new inbox.new)
+        (spelled (to_server.Pull from ∷ [])) (handed_out from es ∷ [])) }
+    ensures err { IfErr result (AskFails
+        (link_at L.written L.left L.faults link.old inbox.old)
+        (link_at L.written L.left L.faults link.new inbox.new)
+        (to_server.Pull from)) }
 {
     let place = inbox.at();
     let answer = ask(alloc, link, inbox, &ToServer::Pull { from })?;
@@ -147,8 +177,14 @@ pub(crate) fn send_entry<L: Link>(
 ) -> (Result<Option<Refusal>, SessionFault>, Bytes)
     requires { length entry < MAX_BODY }
     ensures returned { result.1 ≡ entry }
-    ensures ok { IfOk result.0 (λ refusal. (reply : Reply) × IsReply refusal reply × Exchanged (link_stand (L.written link.old) (L.left link.old) (L.faults link.old) inbox.old) (link_stand (L.written link.new) (L.left link.new) (L.faults link.new) inbox.new) (spelled (to_server.Submit entry ∷ [])) (reply_message reply ∷ [])) }
-    ensures err { IfErr result.0 (AskFails (link_stand (L.written link.old) (L.left link.old) (L.faults link.old) inbox.old) (link_stand (L.written link.new) (L.left link.new) (L.faults link.new) inbox.new) (to_server.Submit entry)) }
+    ensures ok { IfOk result.0 (λ refusal. (reply : ServerReply) × IsReply refusal reply × Exchanged
+        (link_at L.written L.left L.faults link.old inbox.old)
+        (link_at L.written L.left L.faults link.new inbox.new)
+        (spelled (to_server.Submit entry ∷ [])) (reply_message reply ∷ [])) }
+    ensures err { IfErr result.0 (AskFails
+        (link_at L.written L.left L.faults link.old inbox.old)
+        (link_at L.written L.left L.faults link.new inbox.new)
+        (to_server.Submit entry)) }
 {
     let place = inbox.at();
     let message = ToServer::Submit { entry };
@@ -164,7 +200,7 @@ fn reply_of(
     place: u64,
     answer: Result<ToClient, SessionFault>,
 ) -> Result<Option<Refusal>, SessionFault>
-    ensures { IsReplyOf place answer result }
+    ensures { IsOutcomeOf place answer result }
 {
     match answer {
         Ok(ToClient::Ordered { .. }) => Ok(None),

@@ -1,7 +1,7 @@
 //! All entries that a server has.
 
 ghost use Rattle.sporc_shared.specs.Fetches.{IsFetch};
-ghost use Rattle.sporc_shared.specs.Wires.{InboxModel, empty_inbox, link_stand};
+ghost use Rattle.sporc_shared.specs.Wires.{InboxModel, empty_inbox, link_at};
 
 use crate::entries::Entries;
 use crate::exchange::{pull, send};
@@ -25,7 +25,7 @@ pub fn fetch<L: Link>(
     member: u16,
 ) -> Result<Entries, SessionFault>
     ensures fetch { (inbox : InboxModel)
-        × IsFetch (link_stand (L.written link.old) (L.left link.old) (L.faults link.old) empty_inbox) (link_stand (L.written link.new) (L.left link.new) (L.faults link.new) inbox) document.now member result }
+        × IsFetch (link_at L.written L.left L.faults link.old empty_inbox) (link_at L.written L.left L.faults link.new inbox) document.now member result }
 {
     let mut inbox = Inbox::new(alloc);
     send(alloc, link, &inbox, &hello_of(document, member))?;

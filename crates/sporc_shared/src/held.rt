@@ -1,6 +1,6 @@
 // What calls do to the client while it is out with a pass. Each answers, beside the call's answer, how many events the journal then has.
 
-ghost use Rattle.std.specs.Prelude.{◌≡◌, ◌≤◌, length};
+ghost use Rattle.std.specs.Prelude.{◌≡◌, ◌≤◌, length, IfOk};
 ghost use Rattle.sporc_base.specs.FirstFault.{AnswersUnless};
 ghost use Rattle.sporc_client.specs.Answers.{accept_fault, added, change_fault, edit_fault};
 ghost use Rattle.sporc_client.specs.Log.{Accept as Accepted, Change as Changed, Edit as Edited};
@@ -9,7 +9,7 @@ ghost use Rattle.sporc_client.specs.Step.{is_flight};
 ghost use Rattle.sporc_turn.specs.Passes.{IsSameTurn, value_of};
 ghost use Rattle.sporc_wire.specs.declared.cutter.TheConstants.{MAX_BODY};
 ghost use Rattle.sporc_wire.specs.ToServer.{to_server_bytes};
-ghost use Rattle.sporc_shared.specs.Calls.{Submits};
+ghost use Rattle.sporc_shared.specs.Calls.{SubmitsAt};
 ghost use Rattle.sporc_shared.specs.Items.{IsAllowed, client_of, past_of, with_events};
 ghost use Rattle.sporc_shared.specs.Looks.{IsLookAt};
 
@@ -33,6 +33,7 @@ pub(crate) fn edit<D: LeafDisk>(
 ) -> (Result<u64, EditFault>, u64)
     ensures turn { IsSameTurn held.old held.new }
     ensures fault { AnswersUnless EditFault.Memory result.0 (edit_fault (client_of (past_of (value_of held.old).client.value)) seen delta.now) }
+    ensures ok { IfOk result.0 (λ n. n ≡ result.1) }
     ensures past { past_of (value_of held.new).client.value ≡ with_events (past_of (value_of held.old).client.value) (added result.0 (Edited by seen delta.now)) }
     ensures allowed { IsAllowed (past_of (value_of held.new).client.value) }
     ensures events { result.1 ≡ length (past_of (value_of held.new).client.value).log }
@@ -51,6 +52,7 @@ pub(crate) fn change<D: LeafDisk>(
 ) -> (Result<u64, EditFault>, u64)
     ensures turn { IsSameTurn held.old held.new }
     ensures fault { AnswersUnless EditFault.Memory result.0 (change_fault (client_of (past_of (value_of held.old).client.value))) }
+    ensures ok { IfOk result.0 (λ n. n ≡ result.1) }
     ensures past { past_of (value_of held.new).client.value ≡ with_events (past_of (value_of held.old).client.value) (added result.0 (Changed by change)) }
     ensures allowed { IsAllowed (past_of (value_of held.new).client.value) }
     ensures events { result.1 ≡ length (past_of (value_of held.new).client.value).log }
@@ -68,7 +70,7 @@ pub(crate) fn submit<D: LeafDisk>(
     random: &[u8; 64],
 ) -> (Result<Submitted, SubmitFault>, u64)
     ensures turn { IsSameTurn held.old held.new }
-    ensures answer { Submits (past_of (value_of held.old).client.value) random.now result.0 }
+    ensures answer { SubmitsAt (past_of (value_of held.old).client.value) random.now result.0 }
     ensures past { past_of (value_of held.new).client.value ≡ with_events (past_of (value_of held.old).client.value) (submission_added by result.0) }
     ensures allowed { IsAllowed (past_of (value_of held.new).client.value) }
     ensures events { result.1 ≡ length (past_of (value_of held.new).client.value).log }
@@ -88,6 +90,7 @@ pub(crate) fn accept<D: LeafDisk>(
 ) -> (Result<u64, AcceptFault>, u64)
     ensures turn { IsSameTurn held.old held.new }
     ensures fault { AnswersUnless AcceptFault.Memory result.0 (accept_fault (client_of (past_of (value_of held.old).client.value)) pos bytes.now) }
+    ensures ok { IfOk result.0 (λ n. n ≡ result.1) }
     ensures past { past_of (value_of held.new).client.value ≡ with_events (past_of (value_of held.old).client.value) (added result.0 (Accepted by bytes.now)) }
     ensures allowed { IsAllowed (past_of (value_of held.new).client.value) }
     ensures events { result.1 ≡ length (past_of (value_of held.new).client.value).log }
@@ -100,7 +103,7 @@ pub(crate) fn accept<D: LeafDisk>(
 
 // The client at a glance.
 pub(crate) fn look<D: LeafDisk>(held: &mut Held<Desk<D>>) -> (Look, u64)
-    ensures same { held.new ≡ held.old }
+    ensures unchanged { held.new ≡ held.old }
     ensures seen { IsLookAt (past_of (value_of held.old).client.value) result.0 }
     ensures allowed { IsAllowed (past_of (value_of held.old).client.value) }
     ensures events { result.1 ≡ length (past_of (value_of held.old).client.value).log }
@@ -113,7 +116,7 @@ pub(crate) fn look<D: LeafDisk>(held: &mut Held<Desk<D>>) -> (Look, u64)
 
 // Whether an entry is the one on its way.
 pub(crate) fn is_flight<D: LeafDisk>(held: &mut Held<Desk<D>>, entry: &[u8]) -> (bool, u64)
-    ensures same { held.new ≡ held.old }
+    ensures unchanged { held.new ≡ held.old }
     ensures is { result.0 ≡ is_flight (client_of (past_of (value_of held.old).client.value)) entry.now }
     ensures allowed { IsAllowed (past_of (value_of held.old).client.value) }
     ensures events { result.1 ≡ length (past_of (value_of held.old).client.value).log }
@@ -135,7 +138,7 @@ fn has_on_its_way<D: LeafDisk>(client: &Client<D>, entry: &[u8]) -> bool
 
 // The Hello of the client's member, for its document.
 pub(crate) fn hello<D: LeafDisk>(held: &mut Held<Desk<D>>) -> (ToServer, u64)
-    ensures same { held.new ≡ held.old }
+    ensures unchanged { held.new ≡ held.old }
     ensures hello { let opening = (past_of (value_of held.old).client.value).opening in result.0 ≡ ToServer.Hello opening.genesis.document opening.kit.me }
     ensures short { length (to_server_bytes result.0) ≤ MAX_BODY }
     ensures allowed { IsAllowed (past_of (value_of held.old).client.value) }

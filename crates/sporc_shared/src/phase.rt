@@ -2,12 +2,12 @@
 
 ghost use Rattle.std.specs.Prelude.{◌≡◌, ◌+◌, ℕ, List, Option, Some};
 ghost use Rattle.sporc_turn.specs.Passes.{known_of};
-ghost use Rattle.sporc_shared.specs.Courses.{CountsSame, stand};
+ghost use Rattle.sporc_shared.specs.Courses.{CountsSame, stand, stand_at};
 ghost use Rattle.sporc_shared.specs.Outcomes.{DidOrStopped};
 ghost use Rattle.sporc_shared.specs.Passes.{IsPassOf};
 ghost use Rattle.sporc_shared.specs.Protocol.{Asking, Between, always, is_unsettled};
 ghost use Rattle.sporc_shared.specs.Sessions.{FirstPhase, SecondPhase};
-ghost use Rattle.sporc_shared.specs.Wires.{link_stand};
+ghost use Rattle.sporc_shared.specs.Wires.{link_at};
 
 use crate::exchange::send;
 use crate::fault::SessionFault;
@@ -35,7 +35,10 @@ fn greet<R: Wait, D: LeafDisk, L: Link>(
     ensures lock { IsPassOf shared.now result.1 }
     ensures counts { CountsSame (known_of pass) (known_of result.1) }
     ensures did { (words : Option (List (List ℕ))) (count : ℕ)
-        → DidOrStopped always (stand (known_of pass) (link_stand (L.written link.old) (L.left link.old) (L.faults link.old) inbox.now) words count) (stand (known_of result.1) (link_stand (L.written link.new) (L.left link.new) (L.faults link.new) inbox.now) words count) Asking (Between 0) result.0 }
+        → DidOrStopped always
+        (stand (known_of pass) (link_at L.written L.left L.faults link.old inbox.now) words count)
+        (stand (known_of result.1) (link_at L.written L.left L.faults link.new inbox.now) words count)
+        Asking (Between 0) result.0 }
 {
     let (answer, pass) = plain(shared.hello(rt, pass));
     match worn(answer) {
@@ -60,7 +63,10 @@ fn look_and_round<R: Wait, D: LeafDisk, L: Link, C: Chance, G: Gate>(
     ensures lock { IsPassOf shared.now result.1 }
     ensures counts { CountsSame (known_of pass) (known_of result.1) }
     ensures did { (n : ℕ)
-        → DidOrStopped always (stand (known_of pass) (link_stand (L.written link.old) (L.left link.old) (L.faults link.old) inbox.old) (C.given chance.old) (C.faults chance.old)) (stand (known_of result.1) (link_stand (L.written link.new) (L.left link.new) (L.faults link.new) inbox.new) (C.given chance.new) (C.faults chance.new)) (Between n) (Between (n + 1)) result.0 }
+        → DidOrStopped always
+        (stand_at L.written L.left L.faults C.given C.faults (known_of pass) link.old inbox.old chance.old)
+        (stand_at L.written L.left L.faults C.given C.faults (known_of result.1) link.new inbox.new chance.new)
+        (Between n) (Between (n + 1)) result.0 }
 {
     let (answer, pass) = plain(shared.look(rt, pass));
     match worn(answer) {
@@ -85,7 +91,10 @@ fn rounds_of<R: Wait, D: LeafDisk, L: Link, C: Chance, G: Gate>(
     requires first { (known_of pass).number ≡ 0 }
     ensures lock { IsPassOf shared.now result.1 }
     ensures counts { CountsSame (known_of pass) (known_of result.1) }
-    ensures did { DidOrStopped always (stand (known_of pass) (link_stand (L.written link.old) (L.left link.old) (L.faults link.old) inbox.old) (C.given chance.old) (C.faults chance.old)) (stand (known_of result.1) (link_stand (L.written link.new) (L.left link.new) (L.faults link.new) inbox.new) (C.given chance.new) (C.faults chance.new)) (Between 0) (Between rounds) result.0 }
+    ensures did { DidOrStopped always
+        (stand_at L.written L.left L.faults C.given C.faults (known_of pass) link.old inbox.old chance.old)
+        (stand_at L.written L.left L.faults C.given C.faults (known_of result.1) link.new inbox.new chance.new)
+        (Between 0) (Between rounds) result.0 }
 {
     let mut mine = pass;
     let mut done = 0;
@@ -116,7 +125,10 @@ pub(crate) fn first_phase<R: Wait, D: LeafDisk, L: Link, C: Chance, G: Gate>(
     requires first { (known_of pass).number ≡ 0 }
     ensures lock { IsPassOf shared.now result.1 }
     ensures counts { CountsSame (known_of pass) (known_of result.1) }
-    ensures phase { FirstPhase (stand (known_of pass) (link_stand (L.written link.old) (L.left link.old) (L.faults link.old) inbox.old) (C.given chance.old) (C.faults chance.old)) (stand (known_of result.1) (link_stand (L.written link.new) (L.left link.new) (L.faults link.new) inbox.new) (C.given chance.new) (C.faults chance.new)) rounds result.0 }
+    ensures phase { FirstPhase
+        (stand_at L.written L.left L.faults C.given C.faults (known_of pass) link.old inbox.old chance.old)
+        (stand_at L.written L.left L.faults C.given C.faults (known_of result.1) link.new inbox.new chance.new)
+        rounds result.0 }
 {
     let (greeted, pass) = greet(rt, alloc, shared, link, inbox, pass);
     match greeted {
@@ -152,7 +164,10 @@ pub(crate) fn second_phase<R: Wait, D: LeafDisk, L: Link, C: Chance, G: Gate>(
     requires first { (known_of pass).number ≡ 0 }
     ensures lock { IsPassOf shared.now result.1 }
     ensures counts { CountsSame (known_of pass) (known_of result.1) }
-    ensures phase { SecondPhase (stand (known_of pass) (link_stand (L.written link.old) (L.left link.old) (L.faults link.old) inbox.old) (C.given chance.old) (C.faults chance.old)) (stand (known_of result.1) (link_stand (L.written link.new) (L.left link.new) (L.faults link.new) inbox.new) (C.given chance.new) (C.faults chance.new)) rounds until result.0 }
+    ensures phase { SecondPhase
+        (stand_at L.written L.left L.faults C.given C.faults (known_of pass) link.old inbox.old chance.old)
+        (stand_at L.written L.left L.faults C.given C.faults (known_of result.1) link.new inbox.new chance.new)
+        rounds until result.0 }
 {
     let mut mine = pass;
     let mut done = 0;

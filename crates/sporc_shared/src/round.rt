@@ -5,12 +5,12 @@ ghost use Rattle.sporc_head.specs.declared.refusal.Refusal.{Refusal};
 ghost use Rattle.sporc_head.specs.declared.limits.TheConstants.{MAX_ENTRIES};
 ghost use Rattle.sporc_turn.specs.Passes.{known_of};
 ghost use Rattle.sporc_wire.specs.declared.cutter.TheConstants.{MAX_BODY};
-ghost use Rattle.sporc_shared.specs.Courses.{CountsSame, stand};
+ghost use Rattle.sporc_shared.specs.Courses.{CountsSame, stand, stand_at};
 ghost use Rattle.sporc_shared.specs.Outcomes.{DidOrStopped, GatheredAll};
 ghost use Rattle.sporc_shared.specs.Passes.{IsPassOf};
 ghost use Rattle.sporc_shared.specs.Protocol.{Between, Pulling, Taking, Sending, Checking, Submits, Drains};
 ghost use Rattle.sporc_shared.specs.Replies.{checked_of};
-ghost use Rattle.sporc_shared.specs.Wires.{LinkStand, link_stand};
+ghost use Rattle.sporc_shared.specs.Wires.{LinkStand, link_at};
 
 use crate::exchange::{pull, send_entry};
 use crate::fault::SessionFault;
@@ -40,7 +40,10 @@ fn gather<R: Wait, D: LeafDisk, L: Link, G: Gate>(
     requires small { at ≤ MAX_ENTRIES }
     ensures lock { IsPassOf shared.now result.1 }
     ensures counts { CountsSame (known_of pass) (known_of result.1) }
-    ensures gathered { GatheredAll (known_of pass) (known_of result.1) (link_stand (L.written link.old) (L.left link.old) (L.faults link.old) inbox.old) (link_stand (L.written link.new) (L.left link.new) (L.faults link.new) inbox.new) at result.0 }
+    ensures gathered { GatheredAll (known_of pass) (known_of result.1)
+        (link_at L.written L.left L.faults link.old inbox.old)
+        (link_at L.written L.left L.faults link.new inbox.new)
+        at result.0 }
 {
     match pull(alloc, link, inbox, at) {
         Ok(entries) => {
@@ -72,7 +75,10 @@ fn drain<R: Wait, D: LeafDisk, L: Link, G: Gate>(
     ensures lock { IsPassOf shared.now result.1 }
     ensures counts { CountsSame (known_of pass) (known_of result.1) }
     ensures did { (ready : ℕ → ℕ → Bool) (n : ℕ) (words : Option (List (List ℕ))) (count : ℕ) (entry : List ℕ) (refusal : Refusal)
-        → DidOrStopped ready (stand (known_of pass) (link_stand (L.written link.old) (L.left link.old) (L.faults link.old) inbox.old) words count) (stand (known_of result.1) (link_stand (L.written link.new) (L.left link.new) (L.faults link.new) inbox.new) words count) (Taking n at [] (Drains entry refusal)) (Checking n entry refusal) result.0 }
+        → DidOrStopped ready
+        (stand (known_of pass) (link_at L.written L.left L.faults link.old inbox.old) words count)
+        (stand (known_of result.1) (link_at L.written L.left L.faults link.new inbox.new) words count)
+        (Taking n at [] (Drains entry refusal)) (Checking n entry refusal) result.0 }
 {
     let mut mine = pass;
     let mut now = at;
@@ -115,7 +121,10 @@ fn check<R: Wait, D: LeafDisk>(
     ensures lock { IsPassOf shared.now result.1 }
     ensures counts { CountsSame (known_of pass) (known_of result.1) }
     ensures did { (ready : ℕ → ℕ → Bool) (n : ℕ) (link : LinkStand) (words : Option (List (List ℕ))) (count : ℕ)
-        → DidOrStopped ready (stand (known_of pass) link words count) (stand (known_of result.1) link words count) (Checking n entry.now refusal) (Between (n + 1)) result.0 }
+        → DidOrStopped ready
+        (stand (known_of pass) link words count)
+        (stand (known_of result.1) link words count)
+        (Checking n entry.now refusal) (Between (n + 1)) result.0 }
 {
     let (answer, pass) = plain(shared.is_flight(rt, pass, entry));
     (checked(refusal, answer), pass)
@@ -140,7 +149,10 @@ fn settle<R: Wait, D: LeafDisk, L: Link, G: Gate>(
     ensures lock { IsPassOf shared.now result.1 }
     ensures counts { CountsSame (known_of pass) (known_of result.1) }
     ensures did { (ready : ℕ → ℕ → Bool) (n : ℕ) (words : Option (List (List ℕ))) (count : ℕ)
-        → DidOrStopped ready (stand (known_of pass) (link_stand (L.written link.old) (L.left link.old) (L.faults link.old) inbox.old) words count) (stand (known_of result.1) (link_stand (L.written link.new) (L.left link.new) (L.faults link.new) inbox.new) words count) (Taking n at [] (Drains entry.now refusal)) (Between (n + 1)) result.0 }
+        → DidOrStopped ready
+        (stand (known_of pass) (link_at L.written L.left L.faults link.old inbox.old) words count)
+        (stand (known_of result.1) (link_at L.written L.left L.faults link.new inbox.new) words count)
+        (Taking n at [] (Drains entry.now refusal)) (Between (n + 1)) result.0 }
 {
     let (drained, pass) = drain(rt, alloc, shared, gate, link, inbox, pass, at);
     match drained {
@@ -168,7 +180,10 @@ fn offer<R: Wait, D: LeafDisk, L: Link, G: Gate>(
     ensures lock { IsPassOf shared.now result.1 }
     ensures counts { CountsSame (known_of pass) (known_of result.1) }
     ensures did { (ready : ℕ → ℕ → Bool) (n : ℕ) (words : Option (List (List ℕ))) (count : ℕ)
-        → DidOrStopped ready (stand (known_of pass) (link_stand (L.written link.old) (L.left link.old) (L.faults link.old) inbox.old) words count) (stand (known_of result.1) (link_stand (L.written link.new) (L.left link.new) (L.faults link.new) inbox.new) words count) (Sending n at entry) (Between (n + 1)) result.0 }
+        → DidOrStopped ready
+        (stand (known_of pass) (link_at L.written L.left L.faults link.old inbox.old) words count)
+        (stand (known_of result.1) (link_at L.written L.left L.faults link.new inbox.new) words count)
+        (Sending n at entry) (Between (n + 1)) result.0 }
 {
     let (answer, entry) = send_entry(alloc, link, inbox, entry);
     match answer {
@@ -209,7 +224,10 @@ fn give<R: Wait, D: LeafDisk, L: Link, C: Chance, G: Gate>(
     ensures lock { IsPassOf shared.now result.1 }
     ensures counts { CountsSame (known_of pass) (known_of result.1) }
     ensures did { (ready : ℕ → ℕ → Bool) (n : ℕ)
-        → DidOrStopped ready (stand (known_of pass) (link_stand (L.written link.old) (L.left link.old) (L.faults link.old) inbox.old) (C.given chance.old) (C.faults chance.old)) (stand (known_of result.1) (link_stand (L.written link.new) (L.left link.new) (L.faults link.new) inbox.new) (C.given chance.new) (C.faults chance.new)) (Taking n at [] Submits) (Between (n + 1)) result.0 }
+        → DidOrStopped ready
+        (stand_at L.written L.left L.faults C.given C.faults (known_of pass) link.old inbox.old chance.old)
+        (stand_at L.written L.left L.faults C.given C.faults (known_of result.1) link.new inbox.new chance.new)
+        (Taking n at [] Submits) (Between (n + 1)) result.0 }
 {
     let (made, pass) = submit(rt, shared, chance, pass);
     match made {
@@ -239,7 +257,10 @@ pub(crate) fn round<R: Wait, D: LeafDisk, L: Link, C: Chance, G: Gate>(
     ensures lock { IsPassOf shared.now result.1 }
     ensures counts { CountsSame (known_of pass) (known_of result.1) }
     ensures did { (ready : ℕ → ℕ → Bool) (n : ℕ)
-        → DidOrStopped ready (stand (known_of pass) (link_stand (L.written link.old) (L.left link.old) (L.faults link.old) inbox.old) (C.given chance.old) (C.faults chance.old)) (stand (known_of result.1) (link_stand (L.written link.new) (L.left link.new) (L.faults link.new) inbox.new) (C.given chance.new) (C.faults chance.new)) (Pulling n at) (Between (n + 1)) result.0 }
+        → DidOrStopped ready
+        (stand_at L.written L.left L.faults C.given C.faults (known_of pass) link.old inbox.old chance.old)
+        (stand_at L.written L.left L.faults C.given C.faults (known_of result.1) link.new inbox.new chance.new)
+        (Pulling n at) (Between (n + 1)) result.0 }
 {
     let (gathered, pass) = gather(rt, alloc, shared, gate, link, inbox, pass, at);
     match gathered {

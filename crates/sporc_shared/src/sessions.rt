@@ -4,11 +4,11 @@ ghost use Rattle.std.specs.Prelude.{◌≡◌, ◌≤◌, [], length};
 ghost use Rattle.sporc_script.specs.declared.limits.TheConstants.{MAX_EDITORS};
 ghost use Rattle.sporc_turn.specs.Passes.{known_of, out_of};
 ghost use Rattle.sporc_turn.specs.Log.{Agrees};
-ghost use Rattle.sporc_shared.specs.Courses.{IsAllowedLog, stand};
+ghost use Rattle.sporc_shared.specs.Courses.{IsAllowedLog, stand_at};
 ghost use Rattle.sporc_shared.specs.Items.{by_of};
 ghost use Rattle.sporc_shared.specs.Passes.{IsPassOf};
 ghost use Rattle.sporc_shared.specs.Sessions.{IsSession};
-ghost use Rattle.sporc_shared.specs.Wires.{InboxModel, empty_inbox, link_stand};
+ghost use Rattle.sporc_shared.specs.Wires.{InboxModel, empty_inbox};
 
 use crate::crowd::crowd;
 use crate::fault::SessionFault;
@@ -28,6 +28,15 @@ use std::thread::Threads;
 ///
 /// A round is a pull of the entries that the client lacks, their acceptance, and a submission, whose entry is sent and
 /// answered. After an entry was rejected the receiver pulls until no entries come.
+///
+/// The pass is number 0, of which none was split, and is handed back as such. The editors have the numbers from 1 on, in the
+/// order of their scripts.
+///
+/// The fault is that of the receiver's first rounds, else that of the editor with the lowest number, else that of the rounds
+/// after them; an editor's fault ends its own script alone. In a round these may come, each with its cause
+/// (`specs/Endings.antt`): LinkFault, LinkEnded, BadMessage, Refused, JournalFull, ChanceFault, HistoryFull, Leaf,
+/// ServerRejected, Worn and Memory. An editor's line ends with EditRefused, JournalFull, Worn or Memory. NotSettled comes only
+/// after all rounds. A submission that is refused for another cause sends nothing, and its round ends.
 pub fn session<
     R: Threads + Wait + Sync,
     D: LeafDisk + Send,
@@ -54,8 +63,10 @@ pub fn session<
     requires few { length editors.now ≤ MAX_EDITORS }
     ensures lock { IsPassOf shared.now result.1 }
     ensures back { ((known_of result.1).number ≡ 0) × (out_of result.1 ≡ 0) }
-    ensures session { (inbox : InboxModel)
-        × IsSession (stand (known_of pass) (link_stand (L.written link.old) (L.left link.old) (L.faults link.old) empty_inbox) (C.given chance.old) (C.faults chance.old)) (stand (known_of result.1) (link_stand (L.written link.new) (L.left link.new) (L.faults link.new) inbox) (C.given chance.new) (C.faults chance.new)) rounds until editors.now result.0 }
+    ensures session { (inbox : InboxModel) × IsSession
+        (stand_at L.written L.left L.faults C.given C.faults (known_of pass) link.old empty_inbox chance.old)
+        (stand_at L.written L.left L.faults C.given C.faults (known_of result.1) link.new inbox chance.new)
+        rounds until editors.now result.0 }
 {
     let mut inbox = Inbox::new(alloc);
     let (faults, pass) = crowd(

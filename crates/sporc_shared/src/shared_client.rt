@@ -10,7 +10,7 @@ ghost use Rattle.sporc_turn.specs.Log.{Agrees, Extends, StartsWith};
 ghost use Rattle.sporc_turn.specs.Passes.{known_held, known_of, out_of, value_of, IsHeldOf};
 ghost use Rattle.sporc_wire.specs.declared.cutter.TheConstants.{MAX_BODY};
 ghost use Rattle.sporc_wire.specs.ToServer.{to_server_bytes};
-ghost use Rattle.sporc_shared.specs.Calls.{IsCall, Submits};
+ghost use Rattle.sporc_shared.specs.Calls.{IsCall, SubmitsAt};
 ghost use Rattle.sporc_shared.specs.Items.{IsAllowed, Past, by_of, client_of, items_of, past_of};
 ghost use Rattle.sporc_shared.specs.Looks.{IsLookAt};
 ghost use Rattle.sporc_shared.specs.Passes.{HasFront, IsPassOf, IsReplyOf, IsWornOnErr};
@@ -74,11 +74,12 @@ impl<D: LeafDisk> SharedClient<D> {
         seen: Front,
         delta: &Delta,
     ) -> Reply<Result<u64, EditFault>>
-        requires { IsPassOf self.now pass }
+        requires lock { IsPassOf self.now pass }
         ensures lock { IsReplyOf self.now result }
         ensures call { IfOk result (λ r. (before : Past)
             × IsCall (known_of pass) (known_of r.pass) before (added r.answer (Edited (known_of pass).number seen.events delta.now))
             × AnswersUnless EditFault.Memory r.answer (edit_fault (client_of before) seen.events delta.now)) }
+        ensures ok { IfOk result (λ r. IfOk r.answer (λ n. n ≡ r.front.events)) }
         ensures front { HasFront result }
         ensures worn { IsWornOnErr pass result }
     {
@@ -95,11 +96,12 @@ impl<D: LeafDisk> SharedClient<D> {
         pass: Pass,
         change: Change,
     ) -> Reply<Result<u64, EditFault>>
-        requires { IsPassOf self.now pass }
+        requires lock { IsPassOf self.now pass }
         ensures lock { IsReplyOf self.now result }
         ensures call { IfOk result (λ r. (before : Past)
             × IsCall (known_of pass) (known_of r.pass) before (added r.answer (Changed (known_of pass).number change))
             × AnswersUnless EditFault.Memory r.answer (change_fault (client_of before))) }
+        ensures ok { IfOk result (λ r. IfOk r.answer (λ n. n ≡ r.front.events)) }
         ensures front { HasFront result }
         ensures worn { IsWornOnErr pass result }
     {
@@ -117,11 +119,11 @@ impl<D: LeafDisk> SharedClient<D> {
         pass: Pass,
         random: &[u8; 64],
     ) -> Reply<Result<Submitted, SubmitFault>>
-        requires { IsPassOf self.now pass }
+        requires lock { IsPassOf self.now pass }
         ensures lock { IsReplyOf self.now result }
         ensures call { IfOk result (λ r. (before : Past)
             × IsCall (known_of pass) (known_of r.pass) before (submission_added (known_of pass).number r.answer)
-            × Submits before random.now r.answer) }
+            × SubmitsAt before random.now r.answer) }
         ensures front { HasFront result }
         ensures worn { IsWornOnErr pass result }
     {
@@ -139,11 +141,12 @@ impl<D: LeafDisk> SharedClient<D> {
         pos: u32,
         bytes: &[u8],
     ) -> Reply<Result<u64, AcceptFault>>
-        requires { IsPassOf self.now pass }
+        requires lock { IsPassOf self.now pass }
         ensures lock { IsReplyOf self.now result }
         ensures call { IfOk result (λ r. (before : Past)
             × IsCall (known_of pass) (known_of r.pass) before (added r.answer (Accepted (known_of pass).number bytes.now))
             × AnswersUnless AcceptFault.Memory r.answer (accept_fault (client_of before) pos bytes.now)) }
+        ensures ok { IfOk result (λ r. IfOk r.answer (λ n. n ≡ r.front.events)) }
         ensures front { HasFront result }
         ensures worn { IsWornOnErr pass result }
     {
@@ -155,7 +158,7 @@ impl<D: LeafDisk> SharedClient<D> {
 
     /// The client at a glance.
     pub fn look<R: Wait>(&self, rt: &R, pass: Pass) -> Reply<Look>
-        requires { IsPassOf self.now pass }
+        requires lock { IsPassOf self.now pass }
         ensures lock { IsReplyOf self.now result }
         ensures call { IfOk result (λ r. (before : Past)
             × IsCall (known_of pass) (known_of r.pass) before []
@@ -170,7 +173,7 @@ impl<D: LeafDisk> SharedClient<D> {
 
     // Whether an entry is the one on its way.
     pub(crate) fn is_flight<R: Wait>(&self, rt: &R, pass: Pass, entry: &[u8]) -> Reply<bool>
-        requires { IsPassOf self.now pass }
+        requires lock { IsPassOf self.now pass }
         ensures lock { IsReplyOf self.now result }
         ensures call { IfOk result (λ r. (before : Past)
             × IsCall (known_of pass) (known_of r.pass) before []
@@ -184,7 +187,7 @@ impl<D: LeafDisk> SharedClient<D> {
 
     // The Hello of the client's member, for its document.
     pub(crate) fn hello<R: Wait>(&self, rt: &R, pass: Pass) -> Reply<ToServer>
-        requires { IsPassOf self.now pass }
+        requires lock { IsPassOf self.now pass }
         ensures lock { IsReplyOf self.now result }
         ensures call { IfOk result (λ r. (before : Past)
             × IsCall (known_of pass) (known_of r.pass) before []

@@ -1,7 +1,8 @@
 //! Sessions with an honest order.
 
-use crate::staging::{Answer, Deed, FRESH, Outcome, Plan, TWO_ROUNDS, written};
+use crate::staging::{Answer, Deed, FRESH, Outcome, Plan, Start, TWO_ROUNDS, written};
 use sporc_samples::Cast;
+use sporc_script::MAX_EDITORS;
 use sporc_shared::SessionFault;
 use std::alloc::Global;
 use std::sync::Wait;
@@ -18,7 +19,7 @@ const NO_TARGET: Plan = Plan {
     until: 0,
 };
 
-const EDITORS: u32 = 8;
+const EDITORS: u32 = MAX_EDITORS as u32;
 
 const LINES: u64 = 100;
 
@@ -51,6 +52,29 @@ fn with_no_rounds_a_line_stays_pending(rt: HostRuntime) -> Result<(), Fail> {
     Ok(())
 }
 
+// An admin's lines. The second one counts more characters than there are, and the third is beyond the text's end.
+const EACH_LINE: &str =
+    "insert 0 \"hello\"\nremove 1 9\ninsert 9 \"i\"\nremove 0 1\nrole 2 reader\ndrop 5\n";
+
+const EACH_DEED: [Deed; 6] = [
+    Deed::Edit(1, 5),
+    Deed::Edit(1, 0),
+    Deed::Edit(1, 1),
+    Deed::Edit(1, 0),
+    Deed::Other(1),
+    Deed::Other(1),
+];
+
+#[test]
+fn an_admin_edits_and_changes_the_members(rt: HostRuntime) -> Result<(), Fail> {
+    let cast = Cast::new(rt.alloc())?;
+    let admin = Start { member: 1, ..FRESH };
+    let outcome = written(&rt, rt.alloc(), &cast, admin, 1, EACH_LINE, NO_ROUNDS)?;
+    let fault = Some(SessionFault::NotSettled(6, 0));
+    assert!(rt; left(&outcome, fault, "i", &EACH_DEED));
+    Ok(())
+}
+
 // Lines of which number n inserts n characters.
 fn longer_and_longer(alloc: Global) -> Result<String, Fail> {
     let mut text = String::new(alloc);
@@ -77,7 +101,7 @@ fn count_line(lines: &mut [u64], by: u32, len: u64) -> bool {
 
 // The lines of each editor stand in a journal once and in order, and no others.
 fn each_line_once(alloc: Global, deeds: &[Deed]) -> Result<bool, Fail> {
-    let mut lines = vec![in alloc; 0u64; 9]?;
+    let mut lines = vec![in alloc; 0u64; MAX_EDITORS + 1]?;
     for deed in deeds {
         if let Deed::Edit(by, len) = deed
             && !count_line(lines.as_mut_slice(), *by, *len)

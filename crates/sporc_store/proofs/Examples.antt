@@ -1,8 +1,7 @@
 -- Worked examples of the definitions.
 use Rattle.std.proofs.Common.{◌≡◌, ℕ, List, [], ◌∷◌, ◌++◌, take, refl}
-use Rattle.sporc_bytes.specs.Fields.{bytes_at, number_at, counted_at}
+use Rattle.sporc_bytes.specs.Fields.{bytes_at, number_at, counted_at, number_within}
 use Rattle.sporc_entry.specs.declared.genesis.Genesis.{Genesis}
-use Rattle.sporc_entry.specs.Fields.{number_within}
 use Rattle.sporc_entry.specs.Entry.{entry_of, header_at}
 use Rattle.sporc_head.specs.declared.refusal.Refusal.TheVariants.{Malformed}
 use Rattle.sporc_head.specs.HeadChecks.{head_fault}

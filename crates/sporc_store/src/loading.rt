@@ -27,9 +27,9 @@ pub fn read_saved(
 }
 
 /// Appends the entries of a saved history to the empty line of its document, up to the first that is cut short or that
-/// the line refuses. After want of memory the line has the entries taken so far.
+/// the line refuses. If memory runs out, the line has the entries taken so far.
 pub fn load(alloc: Global, bytes: &[u8], line: Line) -> Result<(Line, Stop), (Line, Memory)>
-    requires { line.entries ≡ [] }
+    requires empty { line.entries ≡ [] }
     ensures ok { IfOk result (λ done. read_to done.0.entries done.1
         ≡ loaded (a_member line.genesis line.kit) line.genesis.document bytes.now) }
     ensures named { IfOk result (λ done. NamesCheck done.1) }
@@ -37,8 +37,7 @@ pub fn load(alloc: Global, bytes: &[u8], line: Line) -> Result<(Line, Stop), (Li
         (loaded (a_member line.genesis line.kit) line.genesis.document bytes.now).entries) }
     ensures genesis { IfOk result (λ done. done.0.genesis ≡ line.genesis) }
     ensures kit { IfOk result (λ done. done.0.kit ≡ line.kit) }
-    ensures returned_genesis { IfErr result (λ failed. failed.0.genesis ≡ line.genesis) }
-    ensures returned_kit { IfErr result (λ failed. failed.0.kit ≡ line.kit) }
+    ensures returned { IfErr result (λ failed. (failed.0.genesis ≡ line.genesis) × (failed.0.kit ≡ line.kit)) }
 {
     let mut line = line;
     let document = *line.document();
@@ -54,14 +53,14 @@ pub fn load_order(
     bytes: &[u8],
     order: Order,
 ) -> Result<(Order, Stop), (Order, Memory)>
-    requires { order.entries ≡ [] }
+    requires empty { order.entries ≡ [] }
     ensures ok { IfOk result (λ done. read_to done.0.entries done.1
         ≡ loaded (an_order order.genesis) order.genesis.document bytes.now) }
     ensures named { IfOk result (λ done. NamesCheck done.1) }
     ensures memory { IfErr result (λ failed. IsPrefix failed.0.entries
         (loaded (an_order order.genesis) order.genesis.document bytes.now).entries) }
     ensures genesis { IfOk result (λ done. done.0.genesis ≡ order.genesis) }
-    ensures returned_genesis { IfErr result (λ failed. failed.0.genesis ≡ order.genesis) }
+    ensures returned { IfErr result (λ failed. failed.0.genesis ≡ order.genesis) }
 {
     let mut order = order;
     let document = *order.document();

@@ -14,10 +14,10 @@ use sporc_base::Memory;
 use sporc_outside::MAX_FILE;
 use std::alloc::Global;
 
-/// The file of a document's history: its entries, oldest first. `TooLong` exactly where the file would have more bytes
+/// The file of a document's history: its entries, oldest first. `TooLong` exactly if the file would have more bytes
 /// than a file may have, 1,073,741,824. Its memory is taken before anything is written.
 pub fn save(alloc: Global, document: &[u8; 16], entries: &[Vec<u8>]) -> Result<Vec<u8>, SaveFault>
-    requires { length entries.now ≤ MAX_ENTRIES }
+    requires limit { length entries.now ≤ MAX_ENTRIES }
     ensures value { GivesUnless SaveFault.Memory (λ file. file.items) result
         (saved_file document.now (map (λ entry. entry.items) entries.now)) }
 {

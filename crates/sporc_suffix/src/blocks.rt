@@ -94,7 +94,7 @@ impl Blocks {
     /// Takes the memory of one more form, which is handed back where there is none.
     pub fn ready(&mut self, form: Delta) -> Result<ReadyForm, (Delta, Memory)>
         requires base { base_len form ≡ reached self.old.base self.old.forms }
-        requires few { length self.old.forms < 2 ^ 32 - 1 }
+        requires limit { length self.old.forms < 2 ^ 32 - 1 }
         ensures ok { IfOk result (λ ready. ready ≡ form) }
         ensures spare { OnOk result (0 < self.new.spare) }
         ensures returned { IfErr result (λ e. e.0 ≡ form) }
@@ -110,7 +110,7 @@ impl Blocks {
     /// Appends a form that was made ready at this list.
     pub fn put(&mut self, ready: ReadyForm)
         requires base { base_len ready ≡ reached self.old.base self.old.forms }
-        requires few { length self.old.forms < 2 ^ 32 - 1 }
+        requires limit { length self.old.forms < 2 ^ 32 - 1 }
         requires spare { 0 < self.old.spare }
         ensures base { self.new.base ≡ self.old.base }
         ensures forms { self.new.forms ≡ self.old.forms ++ ready ∷ [] }
@@ -122,7 +122,7 @@ impl Blocks {
     /// Appends a form, which is handed back where there is no memory.
     pub fn push(&mut self, form: Delta) -> Result<(), (Delta, Memory)>
         requires base { base_len form ≡ reached self.old.base self.old.forms }
-        requires few { length self.old.forms < 2 ^ 32 - 1 }
+        requires limit { length self.old.forms < 2 ^ 32 - 1 }
         ensures ok { OnOk result (self.new.forms ≡ self.old.forms ++ form ∷ []) }
         ensures memory { OnErr result (self.new.forms ≡ self.old.forms) }
         ensures returned { IfErr result (λ e. e.0 ≡ form) }
@@ -150,6 +150,7 @@ impl Blocks {
         requires limit { base_len q.now + inserted_len q.now + all_inserted (drop from self.now.forms) ≤ MAX_TEXT_LEN }
         ensures ok { IfOk result (λ d. d ≡ later_over q.now (drop from self.now.forms)) }
         ensures cost { OnOk result (steps.new ≡ steps.old + (length self.now.forms - from)) }
+        ensures at_most { (steps.old ≤ steps.new) × (steps.new ≤ steps.old + (length self.now.forms - from)) }
     {
         let alloc = *self.forms.allocator();
         over_all(alloc, q, &self.forms[from as usize..], steps)
@@ -167,8 +168,32 @@ fn over_all<L: Ledger>(
     requires limit { base_len q.now + inserted_len q.now + all_inserted forms.now ≤ MAX_TEXT_LEN }
     ensures ok { IfOk result (λ d. d ≡ later_over q.now forms.now) }
     ensures cost { OnOk result (steps.new ≡ steps.old + length forms.now) }
+    ensures at_most { (steps.old ≤ steps.new) × (steps.new ≤ steps.old + length forms.now) }
 {
-    let mut passed = q.copy()?;
+    match forms {
+        [] => q.copy(),
+        [first, rest @ ..] => {
+            steps.tick();
+            let passed = later(alloc, q, first)?;
+            over_rest(alloc, passed, rest, steps)
+        }
+    }
+}
+
+// The same of a delta that isn't wanted any more.
+fn over_rest<L: Ledger>(
+    alloc: Global,
+    q: Delta,
+    forms: &[Delta],
+    steps: &mut Steps<L>,
+) -> Result<Delta, Memory>
+    requires follow { Follow (base_len q) forms.now }
+    requires limit { base_len q + inserted_len q + all_inserted forms.now ≤ MAX_TEXT_LEN }
+    ensures ok { IfOk result (λ d. d ≡ later_over q forms.now) }
+    ensures cost { OnOk result (steps.new ≡ steps.old + length forms.now) }
+    ensures at_most { (steps.old ≤ steps.new) × (steps.new ≤ steps.old + length forms.now) }
+{
+    let mut passed = q;
     for form in forms {
         steps.tick();
         passed = later(alloc, &passed, form)?;

@@ -12,8 +12,8 @@
 //! ```
 //!
 //! Proved: `later_over` gives the delta passed over each form after `from`, in order, with one step a form; forms follow one
-//! another, each over the text after the one before. Only tested: a delta behind two forms, and that memory suffices where
-//! there is ample.
+//! another, each over the text after the one before. Only tested: a delta behind two forms, and that memory suffices if
+//! there is ample. Neither: how long a call takes.
 #![tactic(auto)]
 
 mod blocks;

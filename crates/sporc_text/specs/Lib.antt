@@ -1,2 +1,2 @@
 pub mod Edit
-pub mod Rewrite
+pub mod ReadyTextModel

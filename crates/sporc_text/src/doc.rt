@@ -4,7 +4,7 @@ ghost use Rattle.std.specs.Prelude.{◌≡◌, ◌↔◌, [], length, IsTrue, If
 ghost use Rattle.std.specs.String.{string_bytes};
 ghost use Rattle.std.specs.Str.{chars, encode_utf8_all};
 ghost use Rattle.sporc_delta.specs.Marks.{base_len, apply};
-ghost use Rattle.sporc_text.specs.Rewrite.{rewritten};
+ghost use Rattle.sporc_text.specs.ReadyTextModel.{rewritten};
 
 use crate::ready::ReadyText;
 use sporc_base::Memory;
@@ -64,7 +64,7 @@ impl Doc {
     /// Takes all the memory that applying a delta wants, and leaves the text. The characters before the first change are
     /// not copied.
     pub fn ready(&mut self, delta: &Delta) -> Result<ReadyText, Memory>
-        requires { base_len delta.now ≡ length self.old }
+        requires base { base_len delta.now ≡ length self.old }
         ensures ok { IfOk result (λ r. rewritten r self.old ≡ apply delta.now self.old) }
         ensures unchanged { self.new ≡ self.old }
     {
@@ -82,9 +82,9 @@ impl Doc {
         ready.put_into(&mut self.characters);
     }
 
-    /// Applies a delta. Where memory is wanting the text stays.
+    /// Applies a delta. If memory runs out, the text stays.
     pub fn apply(&mut self, delta: &Delta) -> Result<(), Memory>
-        requires { base_len delta.now ≡ length self.old }
+        requires base { base_len delta.now ≡ length self.old }
         ensures ok { OnOk result (self.new ≡ apply delta.now self.old) }
         ensures memory { OnErr result (self.new ≡ self.old) }
     {

@@ -8,8 +8,8 @@
 //! doc.put(ready);                    // and is now the one after the delta
 //! ```
 //!
-//! Proved: the text after each call is the one that the definition `apply` of `sporc_delta` gives, and after want of memory
-//! the text is as before. Only tested: that memory suffices where there is ample.
+//! Proved: the text after each call is the one that the definition `apply` of `sporc_delta` gives, and if memory runs out
+//! the text is as before. Only tested: that memory suffices if there is ample. Neither: how long a call takes.
 #![tactic(auto)]
 
 mod doc;

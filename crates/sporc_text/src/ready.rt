@@ -3,7 +3,7 @@
 ghost use Rattle.std.specs.Prelude.{◌≡◌, ◌+◌, ◌≤◌, ◌++◌, length, IfOk};
 ghost use Rattle.std.specs.Vec.{vec_len, vec_capacity};
 ghost use Rattle.sporc_delta.specs.Marks.{base_len, apply};
-ghost use Rattle.sporc_text.specs.Rewrite.{rewritten};
+ghost use Rattle.sporc_text.specs.ReadyTextModel.{rewritten};
 
 use crate::edit::{edited, without_keep};
 use sporc_base::Memory;
@@ -23,9 +23,9 @@ pub struct ReadyText {
 impl Model for ReadyText {
     ghost use Rattle.std.specs.Prelude.{◌+◌, ◌≤◌};
     ghost use Rattle.std.specs.Vec.{vec_len, vec_capacity};
-    ghost use Rattle.sporc_text.specs.Rewrite.{Rewrite};
+    ghost use Rattle.sporc_text.specs.ReadyTextModel.{ReadyTextModel};
 
-    ghost Value = { Rewrite };
+    ghost Value = { ReadyTextModel };
 
     ghost view = { λ r. record { kept = r.kept; rest = r.rest.items } };
 

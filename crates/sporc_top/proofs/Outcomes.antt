@@ -23,7 +23,7 @@ use Rattle.sporc_files.specs.declared.fault.Fault.TheVariants as faults
 use Rattle.sporc_files.specs.Faults.{WritesFaultLine, fault_of_play, status_of}
 use Rattle.sporc_sessions.specs.Nets.{LinkView}
 use Rattle.sporc_clients.specs.Outcome.{DiskView}
-use Rattle.sporc_top.specs.Outcome.{Ends, RunOutcome, UnlessCutOff, command, done, from, no_command, stopped, unread, up_to}
+use Rattle.sporc_top.specs.Outcome.{Ends, RunOutcome, UnlessCutOff, command, done, from, no_command, stopped, unread, until}
 use Rattle.sporc_top.specs.Performing.{GeneratedOutcome, Performs, PlaysEdits, PlaysSource, as_program, names_of, no_files}
 use Rattle.sporc_top.specs.Uses.{Uses}
 
@@ -49,7 +49,7 @@ no_more n (Some xs) (Some ys) text tells taken =
 
 -- ---- the line of a fault before which nothing was written
 
-told_alone : (out : SinkUse) (written : Option (List ℕ)) (count : ℕ) (fault : Fault) → IsUnwritten (up_to written count out)
+told_alone : (out : SinkUse) (written : Option (List ℕ)) (count : ℕ) (fault : Fault) → IsUnwritten (until written count out)
     → WritesFaultLine (from written count out) no_files fault → WritesFaultLine out no_files fault
 told_alone out written count fault none line =
     subst (λ (w : Option (List ℕ)). WritesFaultLine (from w out.faults_before out) no_files fault) none.written
@@ -118,7 +118,7 @@ module _ (source : SourceUse) (text : List ℕ) (tells : source.left_before ≡ 
   stopped_script out script playing.TooLong P within is (taken, none) = absurd (short MAX_SCRIPT within taken)
 
   stopped_fault : (out : SinkUse) (written : Option (List ℕ)) (count k : ℕ) (fault : PlayFault) → length text ≤ MAX_SCRIPT → IsPlayFault text k
-      → PlayOutcome {T = ⊤} source (up_to written count out) (Err fault) → WritesFaultLine (from written count out) no_files (fault_of_play fault)
+      → PlayOutcome {T = ⊤} source (until written count out) (Err fault) → WritesFaultLine (from written count out) no_files (fault_of_play fault)
       → UnlessCutOff (status_of (fault_of_play fault)) ((status_of (fault_of_play fault) ≡ 3) × WritesFaultLine out no_files (faults.Line k))
   stopped_fault out written count k playing.Memory within outside plays line = inr (inl refl)
   stopped_fault out written count k playing.ReadFault within outside plays line = inr (inr refl)
@@ -128,7 +128,7 @@ module _ (source : SourceUse) (text : List ℕ) (tells : source.left_before ≡ 
   stopped_fault out written count k playing.TooLong within outside (taken, none) line = absurd (short MAX_SCRIPT within taken)
 
   stopped_long : (out : SinkUse) (written : Option (List ℕ)) (count : ℕ) (fault : PlayFault) → MAX_SCRIPT < length text
-      → PlayOutcome {T = ⊤} source (up_to written count out) (Err fault) → WritesFaultLine (from written count out) no_files (fault_of_play fault)
+      → PlayOutcome {T = ⊤} source (until written count out) (Err fault) → WritesFaultLine (from written count out) no_files (fault_of_play fault)
       → UnlessCutOff (status_of (fault_of_play fault)) ((status_of (fault_of_play fault) ≡ 3) × WritesFaultLine out no_files faults.LongScript)
   stopped_long out written count playing.Memory above plays line = inr (inl refl)
   stopped_long out written count playing.ReadFault above plays line = inr (inr refl)
@@ -140,23 +140,23 @@ module _ (source : SourceUse) (text : List ℕ) (tells : source.left_before ≡ 
   ended_script : (out : SinkUse) (script : List PlayLine) (status : ℕ) → length text ≤ MAX_SCRIPT → IsPlayScript text script → Ends (PlaysSource source) no_files out status
       → UnlessCutOff status ((status ≡ 0) × Reports script out.written_before out.written_after)
   ended_script out script status within is (done did) = inl (refl, done_script out script did.played is did.outcome did.answer_is)
-  ended_script out script status within is (stopped {fault} {written} {count} did line) =
-      by_cause source (up_to written count out) fault (λ f. UnlessCutOff (status_of f) ((status_of f ≡ 0) × Reports script out.written_before out.written_after)) did.played did.answer_is did.outcome
-      (λ cause outcome. stopped_script (up_to written count out) script cause ((status_of (fault_of_play cause) ≡ 0) × Reports script out.written_before out.written_after) within is outcome)
+  ended_script out script status within is (stopped {fault} {written} {count} did since line till) =
+      by_cause source (until written count out) fault (λ f. UnlessCutOff (status_of f) ((status_of f ≡ 0) × Reports script out.written_before out.written_after)) did.played did.answer_is did.outcome
+      (λ cause outcome. stopped_script (until written count out) script cause ((status_of (fault_of_play cause) ≡ 0) × Reports script out.written_before out.written_after) within is outcome)
 
   ended_fault : (out : SinkUse) (k status : ℕ) → length text ≤ MAX_SCRIPT → IsPlayFault text k → Ends (PlaysSource source) no_files out status
       → UnlessCutOff status ((status ≡ 3) × WritesFaultLine out no_files (faults.Line k))
   ended_fault out k status within outside (done did) = absurd (done_fault out k did.played outside did.outcome did.answer_is)
-  ended_fault out k status within outside (stopped {fault} {written} {count} did line) =
-      by_cause source (up_to written count out) fault
+  ended_fault out k status within outside (stopped {fault} {written} {count} did since line till) =
+      by_cause source (until written count out) fault
       (λ f. WritesFaultLine (from written count out) no_files f → UnlessCutOff (status_of f) ((status_of f ≡ 3) × WritesFaultLine out no_files (faults.Line k)))
       did.played did.answer_is did.outcome (λ cause outcome line. stopped_fault out written count k cause within outside outcome line) line
 
   ended_long : (out : SinkUse) (status : ℕ) → MAX_SCRIPT < length text → Ends (PlaysSource source) no_files out status
       → UnlessCutOff status ((status ≡ 3) × WritesFaultLine out no_files faults.LongScript)
   ended_long out status above (done did) = absurd (done_long out did.played above did.outcome did.answer_is)
-  ended_long out status above (stopped {fault} {written} {count} did line) =
-      by_cause source (up_to written count out) fault
+  ended_long out status above (stopped {fault} {written} {count} did since line till) =
+      by_cause source (until written count out) fault
       (λ f. WritesFaultLine (from written count out) no_files f → UnlessCutOff (status_of f) ((status_of f ≡ 3) × WritesFaultLine out no_files faults.LongScript))
       did.played did.answer_is did.outcome (λ cause outcome line. stopped_long out written count cause above outcome line) line
 
@@ -182,8 +182,8 @@ stopped_edits n out fault P (Err cause) outcome same =
 
 ended_edits : (n : ℕ) (out : SinkUse) (status : ℕ) → Ends (PlaysEdits n) no_files out status → UnlessCutOff status ((status ≡ 0) × PlaysGenerated n out)
 ended_edits n out status (done did) = inl (refl, done_edits n out did.played did.outcome did.answer_is)
-ended_edits n out status (stopped {fault} {written} {count} did line) =
-    stopped_edits n (up_to written count out) fault ((status_of fault ≡ 0) × PlaysGenerated n out) did.played did.outcome did.answer_is
+ended_edits n out status (stopped {fault} {written} {count} did since line till) =
+    stopped_edits n (until written count out) fault ((status_of fault ≡ 0) × PlaysGenerated n out) did.played did.outcome did.answer_is
 
 -- ---- runs
 
@@ -201,8 +201,8 @@ not_none words asked is none =
 -- what comes of a command, or memory ran out before the words were read
 by_command : {L D : Type 0} (links : LinkView L) (disks : DiskView D) (words : List (List ℕ)) (outside : Uses L) (status : ℕ) (asked : Command) → RunOutcome links disks words outside status
     → command_of words ≡ Some asked → (status ≡ 1) ⊎ Ends (λ out. Performs links disks asked (record outside { out = out })) (names_of asked) outside.out status
-by_command links disks words outside status asked (no_command none line) asks = absurd (not_none words asked asks none)
-by_command links disks words outside status asked (unread line) asks = inl refl
+by_command links disks words outside status asked (no_command none unused line) asks = absurd (not_none words asked asks none)
+by_command links disks words outside status asked (unread unused line) asks = inl refl
 by_command links disks words outside status asked (command {asked = other} is ends) asks =
     inr (subst (λ (c : Command). Ends (λ out. Performs links disks c (record outside { out = out })) (names_of c) outside.out status) (one_command words other asked is asks) ends)
 

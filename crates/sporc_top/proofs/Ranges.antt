@@ -1,7 +1,8 @@
 -- The values of a command are in their ranges.
-use Rattle.std.proofs.Common.{◌≡◌, ◌≤◌, ◌==◌, ◌&&◌, ℕ, Bool, true, false, nat_le, nat_lt, ◌^◌, List, [], ◌∷◌, length, Option, Some, None, find, option_map, refl, ap, subst, inl, inr, if◌then◌else◌, codes, slice_get}
+use Rattle.std.proofs.Common.{◌≡◌, ◌≤◌, ◌==◌, ◌&&◌, ℕ, Bool, true, false, nat_le, nat_lt, ◌^◌, List, [], ◌∷◌, length, Option, Some, None, find, option_map, ap, subst, inl, inr, if◌then◌else◌, codes, slice_get}
 use Rattle.std.specs.List.{AllByRecursion, after_first, before_first}
-use Rattle.std.proofs.lemmas.Bool.{leb-true, ltb-true}
+use Rattle.std.proofs.lemmas.Bool.{and_parts, leb-true, ltb-true}
+use Rattle.std.proofs.lemmas.Option.{cond_some, same_Some}
 use Rattle.clap.specs.Walk.{Row, Text, first_of}
 use Rattle.lms_leaf.specs.LeafFile.{IsLeafHeight}
 use Rattle.lms_ots.specs.declared.ots_type.OtsType.{OtsType}
@@ -15,6 +16,7 @@ use Rattle.sporc_keys.specs.KeyFile.{IsKeyWidth}
 use Rattle.sporc_script.specs.declared.limits.TheConstants.{MAX_EDITORS, MAX_GENERATED}
 use Rattle.sporc_script.specs.Readers.{is_member, passing, then_read, member_of, u32_of}
 use Rattle.sporc_script.specs.Words.{number_of}
+use Rattle.sporc_script.proofs.Exact.{map_some, then_some}
 use Rattle.sporc_serve.specs.declared.limits.TheConstants.{MAX_SESSIONS}
 use Rattle.sporc_words.specs.declared.client.Client.{Client}
 use Rattle.sporc_words.specs.declared.command.Command.{Command}
@@ -34,43 +36,17 @@ use Rattle.sporc_top.specs.Ranges.{IsInRange}
 
 -- ---- values that were read
 
--- what a value was read of
-read_of : {A B : Type 0} (found : Option A) (f : A → Option B) (b : B) → then_read found f ≡ Some b → (a : A) × (found ≡ Some a) × (f a ≡ Some b)
-read_of None f b is = absurd cc
-read_of (Some a) f b is = (a, refl, is)
-
--- what it was made of
-made_of : {A B : Type 0} (found : Option A) (f : A → B) (b : B) → option_map f found ≡ Some b → (a : A) × (found ≡ Some a) × (f a ≡ b)
-made_of None f b is = absurd cc
-made_of (Some a) f b is =
-    let same : f a ≡ b = cc in
-    (a, refl, same)
-
-some_same : {A : Type 0} (a b : A) → Some a ≡ Some b → a ≡ b
-some_same a b is = cc
-
--- one that passed a test
-kept_of : {A : Type 0} (test : Bool) (a b : A) → (if test then Some a else None) ≡ Some b → (test ≡ true) × (a ≡ b)
-kept_of true a b is =
-    let same : a ≡ b = cc in
-    (refl, same)
-kept_of false a b is = absurd cc
-
 passed_of : {A : Type 0} (test : A → Bool) (found : Option A) (b : A) → passing test found ≡ Some b → (found ≡ Some b) × (test b ≡ true)
 passed_of {A} test None b is = absurd cc
 passed_of {A} test (Some a) b is =
-    let kept = kept_of (test a) a b is in
+    let kept = cond_some (test a) a b is in
     (ap Some kept.1, subst (λ (x : A). test x ≡ true) kept.1 kept.0)
-
-both : (x y : Bool) → x && y ≡ true → (x ≡ true) × (y ≡ true)
-both true y is = (refl, is)
-both false y is = absurd cc
 
 -- ---- numbers and types
 
 within : (least most n : ℕ) → is_between least most n ≡ true → (least ≤ n) × (n ≤ most)
 within least most n is =
-    let sides = both (nat_le least n) (nat_le n most) is in
+    let sides = and_parts (nat_le least n) (nat_le n most) is in
     (leb-true least n sides.0, leb-true n most sides.1)
 
 pub in_bounds : (least most n : ℕ) (word : Text) → number_between least most word ≡ Some n → (least ≤ n) × (n ≤ most)
@@ -79,7 +55,7 @@ in_bounds least most n word is = within least most n (passed_of (is_between leas
 a_member : (word : Text) (n : ℕ) → member_of word ≡ Some n → IsMember n
 a_member word n is =
     let passed = passed_of is_member (number_of word) n (unfold member_of in is) in
-    let sides = both (nat_lt 0 n) (nat_lt n (2 ^ 16)) passed.1 in
+    let sides = and_parts (nat_lt 0 n) (nat_lt n (2 ^ 16)) passed.1 in
     record { positive = ltb-true 0 n sides.0; small = ltb-true n (2 ^ 16) sides.1 }
 
 one_of_three : (x y z : Bool) (t : LmsType) → (if x then Some H5 else if y then Some H10 else if z then Some H15 else None) ≡ Some t → IsLeafHeight (height_of t)
@@ -96,7 +72,7 @@ one_of_three false false false t is = absurd cc
 
 pub leaf_height : (word : Text) (t : LmsType) → tree_of word ≡ Some t → IsLeafHeight (height_of t)
 leaf_height word t is =
-    let read = read_of (number_of word) (λ n. find (λ t. height_of t == n) (H5 ∷ H10 ∷ H15 ∷ [])) t is in
+    let read = then_some (number_of word) (λ n. find (λ t. height_of t == n) (H5 ∷ H10 ∷ H15 ∷ [])) t is in
     one_of_three (height_of H5 == read.0) (height_of H10 == read.0) (height_of H15 == read.0) t read.2
 
 one_of_two : (x y : Bool) (t : OtsType) → (if x then Some W4 else if y then Some W8 else None) ≡ Some t → IsKeyWidth t
@@ -110,57 +86,57 @@ one_of_two false false t is = absurd cc
 
 pub key_width : (word : Text) (t : OtsType) → signatures_of word ≡ Some t → IsKeyWidth t
 key_width word t is =
-    let read = read_of (number_of word) (λ n. find (λ t. width_of t == n) (W4 ∷ W8 ∷ [])) t is in
+    let read = then_some (number_of word) (λ n. find (λ t. width_of t == n) (W4 ∷ W8 ∷ [])) t is in
     one_of_two (width_of W4 == read.0) (width_of W8 == read.0) t read.2
 
 -- ---- commands
 
 keygen_ranges : (rows : List Row) (asked : Keygen) → keygen_in rows ≡ Some asked → IsLeafHeight (height_of asked.height) × IsKeyWidth asked.width
 keygen_ranges rows asked is =
-    let name = read_of (first_of (codes "NAME") rows) _ asked is in
-    let member = read_of (value_of (codes "M") member_of rows) _ asked name.2 in
-    let height = read_of (value_of (codes "HEIGHT") tree_of rows) _ asked member.2 in
-    let width = read_of (value_of (codes "W") signatures_of rows) _ asked height.2 in
+    let name = then_some (first_of (codes "NAME") rows) _ asked is in
+    let member = then_some (value_of (codes "M") member_of rows) _ asked name.2 in
+    let height = then_some (value_of (codes "HEIGHT") tree_of rows) _ asked member.2 in
+    let width = then_some (value_of (codes "W") signatures_of rows) _ asked height.2 in
     let whole : Keygen = record { name = name.0; member = member.0; height = height.0; width = width.0 } in
-    let same : whole ≡ asked = some_same whole asked width.2 in
-    let tree = read_of (first_of (codes "HEIGHT") rows) tree_of height.0 height.1 in
-    let signatures = read_of (first_of (codes "W") rows) signatures_of width.0 width.1 in (
+    let same : whole ≡ asked = same_Some whole asked width.2 in
+    let tree = then_some (first_of (codes "HEIGHT") rows) tree_of height.0 height.1 in
+    let signatures = then_some (first_of (codes "W") rows) signatures_of width.0 width.1 in (
       subst (λ (k : Keygen). IsLeafHeight (height_of k.height)) same (leaf_height tree.0 height.0 tree.2),
       subst (λ (k : Keygen). IsKeyWidth k.width) same (key_width signatures.0 width.0 signatures.2),
     )
 
 serve_ranges : (rows : List Row) (asked : Serve) → serve_in rows ≡ Some asked → (1 ≤ asked.sessions) × (asked.sessions ≤ MAX_SESSIONS)
 serve_ranges rows asked is =
-    let name = read_of (first_of (codes "NAME") rows) _ asked is in
-    let address = read_of (first_of (codes "ADDRESS") rows) _ asked name.2 in
-    let sessions = read_of (value_of (codes "sessions") (number_between 1 MAX_SESSIONS) rows) _ asked address.2 in
+    let name = then_some (first_of (codes "NAME") rows) _ asked is in
+    let address = then_some (first_of (codes "ADDRESS") rows) _ asked name.2 in
+    let sessions = then_some (value_of (codes "sessions") (number_between 1 MAX_SESSIONS) rows) _ asked address.2 in
     let whole : Serve = record { name = name.0; address = address.0; sessions = sessions.0 } in
-    let same : whole ≡ asked = some_same whole asked sessions.2 in
-    let number = read_of (first_of (codes "sessions") rows) (number_between 1 MAX_SESSIONS) sessions.0 sessions.1 in
+    let same : whole ≡ asked = same_Some whole asked sessions.2 in
+    let number = then_some (first_of (codes "sessions") rows) (number_between 1 MAX_SESSIONS) sessions.0 sessions.1 in
     subst (λ (s : Serve). (1 ≤ s.sessions) × (s.sessions ≤ MAX_SESSIONS)) same (in_bounds 1 MAX_SESSIONS sessions.0 number.0 number.2)
 
 few_scripts : (words scripts : List Text) → scripts_of words ≡ Some scripts → length scripts ≤ MAX_EDITORS
 few_scripts words scripts is =
-    let kept = kept_of (nat_le (length words) MAX_EDITORS) words scripts is in
+    let kept = cond_some (nat_le (length words) MAX_EDITORS) words scripts is in
     subst (λ (w : List Text). length w ≤ MAX_EDITORS) kept.1 (leb-true (length words) MAX_EDITORS kept.0)
 
 client_ranges : (rows : List Row) (asked : Client) → client_in rows ≡ Some asked → length asked.scripts ≤ MAX_EDITORS
 client_ranges rows asked is =
-    let name = read_of (first_of (codes "NAME") rows) _ asked is in
-    let member = read_of (value_of (codes "M") member_of rows) _ asked name.2 in
-    let address = read_of (first_of (codes "ADDRESS") rows) _ asked member.2 in
-    let rounds = read_of (value_or (codes "rounds") DEFAULT_ROUNDS u32_of rows) _ asked address.2 in
-    let until = read_of (value_or (codes "until") DEFAULT_UNTIL u32_of rows) _ asked rounds.2 in
-    let scripts = read_of (scripts_of (values_of (codes "SCRIPT") rows)) _ asked until.2 in
+    let name = then_some (first_of (codes "NAME") rows) _ asked is in
+    let member = then_some (value_of (codes "M") member_of rows) _ asked name.2 in
+    let address = then_some (first_of (codes "ADDRESS") rows) _ asked member.2 in
+    let rounds = then_some (value_or (codes "rounds") DEFAULT_ROUNDS u32_of rows) _ asked address.2 in
+    let until = then_some (value_or (codes "until") DEFAULT_UNTIL u32_of rows) _ asked rounds.2 in
+    let scripts = then_some (scripts_of (values_of (codes "SCRIPT") rows)) _ asked until.2 in
     let whole : Client = record { name = name.0; member = member.0; address = address.0; rounds = rounds.0; until = until.0; scripts = scripts.0 } in
-    let same : whole ≡ asked = some_same whole asked scripts.2 in
+    let same : whole ≡ asked = same_Some whole asked scripts.2 in
     subst (λ (c : Client). length c.scripts ≤ MAX_EDITORS) same (few_scripts (values_of (codes "SCRIPT") rows) scripts.0 scripts.1)
 
 -- those who are named have numbers of members
 named_member : (number name : Text) (p : Participant) → participant_by number name ≡ Some p → IsMember p.member
 named_member number name p is =
-    let read = read_of (member_of number) (λ member. option_map (λ founding. record { member = member; founding = founding }) (founding_of name)) p is in
-    let made = made_of (founding_of name) (λ founding. record { member = read.0; founding = founding }) p read.2 in
+    let read = then_some (member_of number) (λ member. option_map (λ founding. record { member = member; founding = founding }) (founding_of name)) p is in
+    let made = map_some (founding_of name) (λ founding. record { member = read.0; founding = founding }) p read.2 in
     subst (λ (q : Participant). IsMember q.member) made.2 (a_member number read.0 read.1)
 
 one_named : (word : Text) (p : Participant) → participant_of word ≡ Some p → IsMember p.member
@@ -171,8 +147,8 @@ all_named [] all is =
     let same : [] ≡ all = cc in
     subst (AllByRecursion (λ p. IsMember p.member)) same tt
 all_named (word ∷ words) all is =
-    let read = read_of (participant_of word) (λ p. option_map (λ ps. p ∷ ps) (all_participants words)) all is in
-    let made = made_of (all_participants words) (λ ps. read.0 ∷ ps) all read.2 in
+    let read = then_some (participant_of word) (λ p. option_map (λ ps. p ∷ ps) (all_participants words)) all is in
+    let made = map_some (all_participants words) (λ ps. read.0 ∷ ps) all read.2 in
     subst (AllByRecursion (λ p. IsMember p.member)) made.2 (one_named word read.0 read.1, all_named words made.0 made.1)
 
 may_found_of : (words : List Text) (all : List Participant) (name : Text) → participants_of words ≡ Some all → MayFound (record { name = name; participants = all })
@@ -182,10 +158,10 @@ may_found_of words all name is =
 
 found_ranges : (rows : List Row) (asked : Found) → found_in rows ≡ Some asked → MayFound asked
 found_ranges rows asked is =
-    let name = read_of (first_of (codes "NAME") rows) _ asked is in
-    let participants = read_of (participants_of (values_of (codes "M:ROLE") rows)) _ asked name.2 in
+    let name = then_some (first_of (codes "NAME") rows) _ asked is in
+    let participants = then_some (participants_of (values_of (codes "M:ROLE") rows)) _ asked name.2 in
     let whole : Found = record { name = name.0; participants = participants.0 } in
-    let same : whole ≡ asked = some_same whole asked participants.2 in
+    let same : whole ≡ asked = same_Some whole asked participants.2 in
     subst MayFound same (may_found_of (values_of (codes "M:ROLE") rows) participants.0 name.0 participants.1)
 
 play_ranges : (option : Option Text) (c : Command) → play_by option ≡ Some c → IsInRange c
@@ -193,20 +169,20 @@ play_ranges None c is =
     let same : commands.Play ≡ c = cc in
     subst IsInRange same tt
 play_ranges (Some word) c is =
-    let made = made_of (number_between 1 MAX_GENERATED word) commands.Generate c is in
+    let made = map_some (number_between 1 MAX_GENERATED word) commands.Generate c is in
     subst IsInRange made.2 (in_bounds 1 MAX_GENERATED made.0 word made.1).1
 
 -- the values of what was read of a command's words
 module _ {A : Type 0} (read : List Row → Option A) (as_command : A → Command) (ranges : (rows : List Row) (asked : A) → read rows ≡ Some asked → IsInRange (as_command asked)) where
   read_ranges : (found : Option (List Row)) (c : Command) → option_map as_command (then_read found read) ≡ Some c → IsInRange c
   read_ranges found c is =
-      let made = made_of (then_read found read) as_command c is in
-      let rows = read_of found read made.0 made.1 in
+      let made = map_some (then_read found read) as_command c is in
+      let rows = then_some found read made.0 made.1 in
       subst IsInRange made.2 (ranges rows.0 made.0 rows.2)
 
 verb_ranges : (verb : Verb) (words : List Text) (c : Command) → command_by verb words ≡ Some c → IsInRange c
 verb_ranges verbs.Play words c is =
-    let rows = read_of (taken play_app words) play_in c (unfold command_by in is) in
+    let rows = then_some (taken play_app words) play_in c (unfold command_by in is) in
     play_ranges (first_of (codes "generate") rows.0) c rows.2
 verb_ranges verbs.Keygen words c is = read_ranges keygen_in commands.Keygen keygen_ranges (taken keygen_app words) c (unfold command_by in is)
 verb_ranges verbs.Found words c is = read_ranges found_in commands.Found found_ranges (taken found_app words) c (unfold command_by in is)
@@ -218,6 +194,6 @@ verb_ranges verbs.Compare words c is = read_ranges compare_in commands.Compare (
 -- the values of a command that words ask for are in their ranges
 pub in_range : (words : List Text) (c : Command) → command_of words ≡ Some c → IsInRange c
 in_range words c is =
-    let first = read_of (slice_get words 0) (λ first. then_read (verb_of first) (λ verb. command_by verb words)) c (unfold command_of in is) in
-    let verb = read_of (verb_of first.0) (λ verb. command_by verb words) c first.2 in
+    let first = then_some (slice_get words 0) (λ first. then_read (verb_of first) (λ verb. command_by verb words)) c (unfold command_of in is) in
+    let verb = then_some (verb_of first.0) (λ verb. command_by verb words) c first.2 in
     verb_ranges verb.0 words c verb.2

@@ -1,16 +1,21 @@
--- What `client` did, as a command.
+-- What a command did, by the words that it is.
 use Rattle.std.proofs.Common.{◌≡◌, Result, subst, sym}
 use Rattle.std.specs.Bool.{⊤}
 use Rattle.sporc_words.specs.declared.client.Client.{Client}
 use Rattle.sporc_words.specs.declared.command.Command.{Command}
 use Rattle.sporc_words.specs.declared.command.Command.TheVariants as commands
+use Rattle.sporc_words.specs.declared.serve.Serve.{Serve}
 use Rattle.sporc_files.specs.declared.fault.Fault.{Fault}
 use Rattle.sporc_sessions.specs.Nets.{LinkView}
 use Rattle.sporc_clients.specs.Outcome.{DiskView}
-use Rattle.sporc_top.specs.Performing.{Performs, WorksAsMember}
-use Rattle.sporc_top.specs.Uses.{Uses}
+use Rattle.sporc_top.specs.Performing.{Performs, ServesDocument, WorksAsMember}
+use Rattle.sporc_top.specs.Uses.{Uses, client_use}
 
 module _ {L D : Type 0} (links : LinkView L) (disks : DiskView D) (outside : Uses L) where
-  pub by_client : (asked : Command) (words : Client) (answer : Result ⊤ Fault) → asked ≡ commands.Client words → WorksAsMember links disks words outside answer
+  pub by_serve : (asked : Command) (words : Serve) (answer : Result ⊤ Fault) → asked ≡ commands.Serve words
+      → ServesDocument links words outside.folder outside.out outside.net answer → Performs links disks asked outside answer
+  by_serve asked words answer is serves = subst (λ (c : Command). Performs links disks c outside answer) (sym is) serves
+
+  pub by_client : (asked : Command) (words : Client) (answer : Result ⊤ Fault) → asked ≡ commands.Client words → WorksAsMember links disks words (client_use outside) answer
       → Performs links disks asked outside answer
   by_client asked words answer is works = subst (λ (c : Command). Performs links disks c outside answer) (sym is) works

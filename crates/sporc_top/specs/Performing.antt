@@ -16,35 +16,31 @@ use Rattle.sporc_files.specs.declared.fault.Fault.{Fault}
 use Rattle.sporc_files.specs.declared.file.File.{File}
 use Rattle.sporc_files.specs.declared.file.File.TheVariants as files
 use Rattle.sporc_files.specs.Faults.{fault_of_play}
-use Rattle.sporc_files.specs.Names.{FileNames, file_name}
-use Rattle.sporc_files.specs.Uses.{AsksOnly, FolderUse}
+use Rattle.sporc_files.specs.Names.{FileNames, file_name, names_of_document}
+use Rattle.sporc_files.specs.Uses.{AsksOnly, ChanceUse, FolderUse}
 use Rattle.sporc_founding.specs.Founding.{FoundOutcome, found_files}
 use Rattle.sporc_founding.specs.KeyMaking.{KeygenOutcome}
 use Rattle.sporc_histories.specs.Outcomes.{CheckOutcome, CompareOutcome, ServeOutcome}
 use Rattle.sporc_sessions.specs.Nets.{AsksAtMost, LinkView}
-use Rattle.sporc_clients.specs.Outcome.{ClientOutcome, DiskView, NetUse, client_files, names_of as names_of_client}
+use Rattle.sporc_clients.specs.Outcome.{ClientOutcome, ClientUse, DiskView, NetUse, client_files, names_of as names_of_client}
 use Rattle.sporc_top.specs.Uses.{Uses, client_use}
 
 -- ---- names
 
--- the files of a document alone
-abbrev pub files_of : List ℕ → FileNames
-files_of document = record { document = document; scripts = [] }
-
 -- no file has a name
 abbrev pub no_files : FileNames
-no_files = files_of []
+no_files = names_of_document []
 
 -- what the files of a command are named by
 abbrev pub names_of : Command → FileNames
 names_of commands.Play = no_files
 names_of (commands.Generate edits) = no_files
-names_of (commands.Keygen words) = files_of words.name
-names_of (commands.Found words) = files_of words.name
-names_of (commands.Serve words) = files_of words.name
+names_of (commands.Keygen words) = names_of_document words.name
+names_of (commands.Found words) = names_of_document words.name
+names_of (commands.Serve words) = names_of_document words.name
 names_of (commands.Client words) = names_of_client words
-names_of (commands.Check words) = files_of words.name
-names_of (commands.Compare words) = files_of words.name
+names_of (commands.Check words) = names_of_document words.name
+names_of (commands.Compare words) = names_of_document words.name
 
 -- of all files, the names of these alone were asked for
 abbrev pub AsksFor : FileNames → List File → FolderUse → Type 0
@@ -77,15 +73,15 @@ pub record PlaysEdits (edits : ℕ) (out : SinkUse) (answer : Result ⊤ Fault) 
 -- ---- keys and documents
 
 -- a key was made, of two files alone
-pub record MakesKey {L : Type 0} (words : Keygen) (outside : Uses L) (answer : Result ⊤ Fault) : Type 0 where
-  pub outcome : KeygenOutcome words outside.folder outside.chance outside.out answer
-  pub asked : AsksFor (files_of words.name) (files.Key words.member ∷ files.Leaf words.member ∷ []) outside.folder
+pub record MakesKey (words : Keygen) (folder : FolderUse) (chance : ChanceUse) (out : SinkUse) (answer : Result ⊤ Fault) : Type 0 where
+  pub outcome : KeygenOutcome words folder chance out answer
+  pub may_ask : AsksFor (names_of_document words.name) (files.Key words.member ∷ files.Leaf words.member ∷ []) folder
 
 -- a document was founded, of the files alone that its words name, and nothing was written of that
-pub record FoundsDocument {L : Type 0} (words : Found) (outside : Uses L) (answer : Result ⊤ Fault) : Type 0 where
-  pub outcome : FoundOutcome words outside.folder outside.chance answer
-  pub asked : AsksFor (files_of words.name) (found_files words.participants) outside.folder
-  pub unwritten : IsUnwritten outside.out
+pub record FoundsDocument (words : Found) (folder : FolderUse) (chance : ChanceUse) (out : SinkUse) (answer : Result ⊤ Fault) : Type 0 where
+  pub outcome : FoundOutcome words folder chance answer
+  pub may_ask : AsksFor (names_of_document words.name) (found_files words.participants) folder
+  pub unwritten : IsUnwritten out
 
 -- ---- a net
 
@@ -97,30 +93,30 @@ abbrev pub net_after : {L : Type 0} → NetUse L → Net L
 net_after net = net_of net.after.coming net.after.returned net.faults_after
 
 -- sessions were served at the address alone, from two files alone, and each link that came back is shut
-pub record ServesDocument {L : Type 0} (links : LinkView L) (words : Serve) (outside : Uses L) (answer : Result ⊤ Fault) : Type 0 where
-  pub outcome : ServeOutcome (λ l. (links.told l).left) (λ l. (links.told l).written) (λ l. (links.told l).faults) (files_of words.name) words.sessions outside.folder outside.out
-      (net_before outside.net) (net_after outside.net) answer
-  pub asked : AsksFor (files_of words.name) (files.Genesis ∷ files.Log ∷ []) outside.folder
-  pub called : MayAppend outside.net.before.asked outside.net.after.asked words.address
-  pub shut : AreShutBehind links.is_shut outside.net.before.returned outside.net.after.returned
+pub record ServesDocument {L : Type 0} (links : LinkView L) (words : Serve) (folder : FolderUse) (out : SinkUse) (net : NetUse L) (answer : Result ⊤ Fault) : Type 0 where
+  pub outcome : ServeOutcome (λ l. (links.told l).left) (λ l. (links.told l).written) (λ l. (links.told l).faults) (names_of_document words.name) words.sessions folder out
+      (net_before net) (net_after net) answer
+  pub files_may_ask : AsksFor (names_of_document words.name) (files.Genesis ∷ files.Log ∷ []) folder
+  pub net_may_ask : MayAppend net.before.asked net.after.asked words.address
+  pub shut : AreShutBehind links.is_shut net.before.returned net.after.returned
 
 -- a member worked from its own files and its editors' scripts alone, with the server at the address alone, over at most two links
-pub record WorksAsMember {L D : Type 0} (links : LinkView L) (disks : DiskView D) (words : Client) (outside : Uses L) (answer : Result ⊤ Fault) : Type 0 where
-  pub outcome : ClientOutcome links disks words (client_use outside) answer
-  pub asked : AsksFor (names_of_client words) (client_files words.member (length words.scripts)) outside.folder
-  pub called : AsksAtMost 2 outside.net.before.asked outside.net.after.asked words.address
-  pub counted : outside.net.before.link_faults ≤ outside.net.after.link_faults
+pub record WorksAsMember {L D : Type 0} (links : LinkView L) (disks : DiskView D) (words : Client) (did : ClientUse L) (answer : Result ⊤ Fault) : Type 0 where
+  pub outcome : ClientOutcome links disks words did answer
+  pub files_may_ask : AsksFor (names_of_client words) (client_files words.member (length words.scripts)) did.folder
+  pub net_may_ask : AsksAtMost 2 did.net.before.asked did.net.after.asked words.address
+  pub links_kept : did.net.before.link_faults ≤ did.net.after.link_faults
 
 -- ---- commands
 
--- what a command did, by its answer
+-- what a command did with what is outside, by its answer
 module _ {L D : Type 0} (links : LinkView L) (disks : DiskView D) where
   abbrev pub Performs : Command → Uses L → Result ⊤ Fault → Type 0
   Performs commands.Play outside answer = PlaysSource outside.source outside.out answer
   Performs (commands.Generate edits) outside answer = PlaysEdits edits outside.out answer
-  Performs (commands.Keygen words) outside answer = MakesKey words outside answer
-  Performs (commands.Found words) outside answer = FoundsDocument words outside answer
-  Performs (commands.Serve words) outside answer = ServesDocument links words outside answer
-  Performs (commands.Client words) outside answer = WorksAsMember links disks words outside answer
-  Performs (commands.Check words) outside answer = CheckOutcome (files_of words.name) words.member outside.folder outside.out answer
-  Performs (commands.Compare words) outside answer = CompareOutcome (files_of words.name) words.first words.second outside.folder outside.out answer
+  Performs (commands.Keygen words) outside answer = MakesKey words outside.folder outside.chance outside.out answer
+  Performs (commands.Found words) outside answer = FoundsDocument words outside.folder outside.chance outside.out answer
+  Performs (commands.Serve words) outside answer = ServesDocument links words outside.folder outside.out outside.net answer
+  Performs (commands.Client words) outside answer = WorksAsMember links disks words (client_use outside) answer
+  Performs (commands.Check words) outside answer = CheckOutcome (names_of_document words.name) words.member outside.folder outside.out answer
+  Performs (commands.Compare words) outside answer = CompareOutcome (names_of_document words.name) words.first words.second outside.folder outside.out answer

@@ -1,4 +1,5 @@
 -- All that a run found and left.
+use Rattle.std.specs.Prelude.{◌≡◌}
 use Rattle.sporc_outside.specs.Uses.{SinkUse, SourceUse}
 use Rattle.sporc_files.specs.Uses.{ChanceUse, FolderUse}
 use Rattle.sporc_clients.specs.Outcome.{ClientUse, NetUse}
@@ -14,3 +15,16 @@ pub record Uses (L : Type 0) : Type 0 where
 -- those that `client` is handed
 abbrev pub client_use : {L : Type 0} → Uses L → ClientUse L
 client_use outside = record { out = outside.out; folder = outside.folder; net = outside.net; chance = outside.chance }
+
+-- beside the sink nothing was used: all else tells what it told before
+pub record IsUnused {L : Type 0} (outside : Uses L) : Type 0 where
+  pub source : outside.source.left_after ≡ outside.source.left_before
+  pub source_faults : outside.source.faults_after ≡ outside.source.faults_before
+  pub files : outside.folder.files_after ≡ outside.folder.files_before
+  pub asked : outside.folder.asked_after ≡ outside.folder.asked_before
+  pub lent : outside.folder.lent_after ≡ outside.folder.lent_before
+  pub folder_faults : outside.folder.faults_after ≡ outside.folder.faults_before
+  pub net : outside.net.after ≡ outside.net.before
+  pub net_faults : outside.net.faults_after ≡ outside.net.faults_before
+  pub given : outside.chance.given_after ≡ outside.chance.given_before
+  pub chance_faults : outside.chance.faults_after ≡ outside.chance.faults_before

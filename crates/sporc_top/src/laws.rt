@@ -11,6 +11,7 @@ ghost use Rattle.sporc_words.specs.Commands.{command_of};
 ghost use Rattle.sporc_files.specs.declared.fault.Fault.TheVariants as faults;
 ghost use Rattle.sporc_files.specs.Faults.{WritesFaultLine};
 ghost use Rattle.sporc_sessions.specs.Nets.{link_view};
+ghost use Rattle.sporc_clients.specs.Outcome.{disk_view};
 ghost use Rattle.sporc_top.specs.Outcome.{RunOutcome, UnlessCutOff};
 ghost use Rattle.sporc_top.specs.Performing.{no_files};
 ghost use Rattle.sporc_top.specs.Uses.{Uses};
@@ -21,7 +22,7 @@ use sporc_outside::{LeafDisk, Link};
 pub fn scripts_are_played<L: Link, D: LeafDisk>()
     ensures { (words : List (List ℕ)) (outside : Uses L) (status : ℕ) (text : List ℕ) (script : List PlayLine)
         → RunOutcome (link_view L.written L.left L.faults L.is_shut)
-        (record { stored = D.stored; images = λ d. D.images d (D.moment d); faults = D.faults }) words outside status
+        (disk_view D.stored D.images D.moment D.faults) words outside status
         → command_of words ≡ Some commands.Play → outside.source.left_before ≡ Some text → length text ≤ MAX_SCRIPT
         → IsPlayScript text script → UnlessCutOff status ((status ≡ 0) × Reports script outside.out.written_before outside.out.written_after) }
 {}
@@ -30,7 +31,7 @@ pub fn scripts_are_played<L: Link, D: LeafDisk>()
 pub fn fault_lines_are_told<L: Link, D: LeafDisk>()
     ensures { (words : List (List ℕ)) (outside : Uses L) (status : ℕ) (text : List ℕ) (line : ℕ)
         → RunOutcome (link_view L.written L.left L.faults L.is_shut)
-        (record { stored = D.stored; images = λ d. D.images d (D.moment d); faults = D.faults }) words outside status
+        (disk_view D.stored D.images D.moment D.faults) words outside status
         → command_of words ≡ Some commands.Play → outside.source.left_before ≡ Some text → length text ≤ MAX_SCRIPT
         → IsPlayFault text line → UnlessCutOff status ((status ≡ 3) × WritesFaultLine outside.out no_files (faults.Line line)) }
 {}
@@ -39,7 +40,7 @@ pub fn fault_lines_are_told<L: Link, D: LeafDisk>()
 pub fn long_scripts_are_told<L: Link, D: LeafDisk>()
     ensures { (words : List (List ℕ)) (outside : Uses L) (status : ℕ) (text : List ℕ)
         → RunOutcome (link_view L.written L.left L.faults L.is_shut)
-        (record { stored = D.stored; images = λ d. D.images d (D.moment d); faults = D.faults }) words outside status
+        (disk_view D.stored D.images D.moment D.faults) words outside status
         → command_of words ≡ Some commands.Play → outside.source.left_before ≡ Some text → MAX_SCRIPT < length text
         → UnlessCutOff status ((status ≡ 3) × WritesFaultLine outside.out no_files faults.LongScript) }
 {}
@@ -48,6 +49,6 @@ pub fn long_scripts_are_told<L: Link, D: LeafDisk>()
 pub fn generated_runs_are_played<L: Link, D: LeafDisk>()
     ensures { (words : List (List ℕ)) (outside : Uses L) (status n : ℕ)
         → RunOutcome (link_view L.written L.left L.faults L.is_shut)
-        (record { stored = D.stored; images = λ d. D.images d (D.moment d); faults = D.faults }) words outside status
+        (disk_view D.stored D.images D.moment D.faults) words outside status
         → command_of words ≡ Some (commands.Generate n) → UnlessCutOff status ((status ≡ 0) × PlaysGenerated n outside.out) }
 {}

@@ -2,10 +2,17 @@
 
 ghost use Rattle.std.specs.Prelude.{◌≡◌, ◌+◌, ◌≤◌, false};
 ghost use Rattle.sporc_outside.specs.Reading.{ConsumesAtMost};
+ghost use Rattle.sporc_outside.specs.Uses.{sink_use, source_use};
+ghost use Rattle.sporc_script.specs.declared.limits.TheConstants.{MAX_GENERATED};
+ghost use Rattle.sporc_serve.specs.declared.limits.TheConstants.{MAX_SESSIONS};
 ghost use Rattle.sporc_play.specs.declared.playing.TheConstants.{MAX_SCRIPT};
-ghost use Rattle.sporc_sessions.specs.Nets.{link_view, net_told};
+ghost use Rattle.sporc_files.specs.Names.{names_of_document};
+ghost use Rattle.sporc_files.specs.Uses.{chance_use, folder_use};
+ghost use Rattle.sporc_histories.specs.Outcomes.{CheckOutcome, CompareOutcome};
+ghost use Rattle.sporc_sessions.specs.Nets.{link_view};
+ghost use Rattle.sporc_clients.specs.Outcome.{disk_view, net_use};
 ghost use Rattle.sporc_top.specs.Needs.{needs_of};
-ghost use Rattle.sporc_top.specs.Performing.{Performs, names_of};
+ghost use Rattle.sporc_top.specs.Performing.{Performs, PlaysEdits, PlaysSource, ServesDocument, names_of};
 ghost use Rattle.sporc_top.specs.Ranges.{IsInRange};
 
 use sporc_clients::client;
@@ -14,7 +21,7 @@ use sporc_founding::{found, keygen};
 use sporc_histories::{check, compare, serve};
 use sporc_outside::{Chance, Dial, Folder, Gate, Listen, Sink, Source};
 use sporc_play::{play, play_generated};
-use sporc_words::Command;
+use sporc_words::{Check, Command, Compare, Serve};
 use std::alloc::Global;
 use std::sync::Wait;
 use std::thread::Threads;
@@ -32,6 +39,94 @@ pub(crate) fn names_of(command: &Command) -> Names<'_>
         Command::Check(words) => Names::of_document(words.name.as_str()),
         Command::Compare(words) => Names::of_document(words.name.as_str()),
     }
+}
+
+// Plays the script of a source.
+fn play_source<S: Source, O: Sink>(alloc: Global, source: &mut S, out: &mut O) -> Result<(), Fault>
+    ensures outcome { PlaysSource (source_use S.left S.faults source.old source.new) (sink_use O.written O.faults out.old out.new) result }
+    ensures taken { ConsumesAtMost (MAX_SCRIPT + 1) (S.left source.old) (S.left source.new) }
+    ensures source_kept { S.faults source.old ≤ S.faults source.new }
+    ensures out_kept { O.faults out.old ≤ O.faults out.new }
+{
+    Ok(play(alloc, source, out)?)
+}
+
+// Plays the generated run of so many edits.
+fn play_edits<O: Sink>(alloc: Global, edits: u32, out: &mut O) -> Result<(), Fault>
+    requires { edits ≤ MAX_GENERATED }
+    ensures outcome { PlaysEdits edits (sink_use O.written O.faults out.old out.new) result }
+    ensures kept { O.faults out.old ≤ O.faults out.new }
+{
+    Ok(play_generated(alloc, edits, out)?)
+}
+
+// Serves sessions from the log of a document.
+fn serve_document<R: Threads + Wait + Sync, O: Sink, F: Folder, N: Listen, G: Gate + Sync>(
+    rt: &R,
+    alloc: Global,
+    words: &Serve,
+    out: &mut O,
+    files: &mut F,
+    net: &mut N,
+    gate: &G,
+) -> Result<(), Fault>
+where
+    N::Link: Send,
+    requires some { 1 ≤ words.now.sessions }
+    requires limit { words.now.sessions ≤ MAX_SESSIONS }
+    ensures outcome { ServesDocument (link_view N.Link.written N.Link.left N.Link.faults N.Link.is_shut) words.now
+        (folder_use F.files F.asked F.lent F.faults files.old files.new)
+        (sink_use O.written O.faults out.old out.new)
+        (net_use N.asked N.coming N.returned N.link_faults N.faults net.old net.new)
+        result }
+    ensures links_out { N.out net.new ≡ N.out net.old }
+    ensures lent { F.lent files.new ≡ F.lent files.old }
+    ensures files_kept { F.faults files.old ≤ F.faults files.new }
+    ensures net_kept { N.faults net.old ≤ N.faults net.new }
+    ensures out_kept { O.faults out.old ≤ O.faults out.new }
+{
+    let names = Names::of_document(words.name.as_str());
+    let address = words.address.as_str();
+    let sessions = words.sessions;
+    serve(rt, alloc, files, net, out, &names, address, sessions, gate)
+}
+
+// Examines the history of a member.
+fn check_history<O: Sink, F: Folder>(
+    alloc: Global,
+    words: &Check,
+    out: &mut O,
+    files: &mut F,
+) -> Result<(), Fault>
+    ensures outcome { CheckOutcome (names_of_document words.now.name) words.now.member
+        (folder_use F.files F.asked F.lent F.faults files.old files.new)
+        (sink_use O.written O.faults out.old out.new)
+        result }
+    ensures lent { F.lent files.new ≡ F.lent files.old }
+    ensures files_kept { F.faults files.old ≤ F.faults files.new }
+    ensures out_kept { O.faults out.old ≤ O.faults out.new }
+{
+    let names = Names::of_document(words.name.as_str());
+    check(alloc, files, out, &names, words.member)
+}
+
+// Compares the histories of two members.
+fn compare_histories<O: Sink, F: Folder>(
+    alloc: Global,
+    words: &Compare,
+    out: &mut O,
+    files: &mut F,
+) -> Result<(), Fault>
+    ensures outcome { CompareOutcome (names_of_document words.now.name) words.now.first words.now.second
+        (folder_use F.files F.asked F.lent F.faults files.old files.new)
+        (sink_use O.written O.faults out.old out.new)
+        result }
+    ensures lent { F.lent files.new ≡ F.lent files.old }
+    ensures files_kept { F.faults files.old ≤ F.faults files.new }
+    ensures out_kept { O.faults out.old ≤ O.faults out.new }
+{
+    let names = Names::of_document(words.name.as_str());
+    compare(alloc, files, out, &names, words.first, words.second)
 }
 
 // Does what a command asks for, and tells no fault.
@@ -59,42 +154,13 @@ where
     N::Link: Send,
     requires { IsInRange command.now }
     ensures outcome { Performs (link_view N.Link.written N.Link.left N.Link.faults N.Link.is_shut)
-        (record { stored = F.Disk.stored; images = λ d. F.Disk.images d (F.Disk.moment d); faults = F.Disk.faults }) command.now
+        (disk_view F.Disk.stored F.Disk.images F.Disk.moment F.Disk.faults) command.now
         (record {
-          source = record {
-            left_before = S.left source.old;
-            left_after = S.left source.new;
-            faults_before = S.faults source.old;
-            faults_after = S.faults source.new;
-          };
-          out = record {
-            written_before = O.written out.old;
-            written_after = O.written out.new;
-            faults_before = O.faults out.old;
-            faults_after = O.faults out.new;
-          };
-          folder = record {
-            files_before = F.files files.old;
-            files_after = F.files files.new;
-            asked_before = F.asked files.old;
-            asked_after = F.asked files.new;
-            lent_before = F.lent files.old;
-            lent_after = F.lent files.new;
-            faults_before = F.faults files.old;
-            faults_after = F.faults files.new;
-          };
-          net = record {
-            before = net_told (N.asked net.old) (N.coming net.old) (N.returned net.old) (N.link_faults net.old);
-            after = net_told (N.asked net.new) (N.coming net.new) (N.returned net.new) (N.link_faults net.new);
-            faults_before = N.faults net.old;
-            faults_after = N.faults net.new;
-          };
-          chance = record {
-            given_before = C.given chance.old;
-            given_after = C.given chance.new;
-            faults_before = C.faults chance.old;
-            faults_after = C.faults chance.new;
-          };
+          source = source_use S.left S.faults source.old source.new;
+          out = sink_use O.written O.faults out.old out.new;
+          folder = folder_use F.files F.asked F.lent F.faults files.old files.new;
+          net = net_use N.asked N.coming N.returned N.link_faults N.faults net.old net.new;
+          chance = chance_use C.given C.faults chance.old chance.new;
         })
         result }
     ensures source { (needs_of command.now).source ≡ false → source.new ≡ source.old }
@@ -102,7 +168,7 @@ where
     ensures net { (needs_of command.now).net ≡ false → net.new ≡ net.old }
     ensures chance { (needs_of command.now).chance ≡ false → chance.new ≡ chance.old }
     ensures taken { ConsumesAtMost (MAX_SCRIPT + 1) (S.left source.old) (S.left source.new) }
-    ensures links { N.out net.new ≡ N.out net.old }
+    ensures links_out { N.out net.new ≡ N.out net.old }
     ensures lent { F.lent files.new ≡ F.lent files.old }
     ensures source_kept { S.faults source.old ≤ S.faults source.new }
     ensures files_kept { F.faults files.old ≤ F.faults files.new }
@@ -110,19 +176,14 @@ where
     ensures chance_kept { C.faults chance.old ≤ C.faults chance.new }
     ensures out_kept { O.faults out.old ≤ O.faults out.new }
 {
-    let names = names_of(command);
     match command {
-        Command::Play => Ok(play(alloc, source, out)?),
-        Command::Generate(edits) => Ok(play_generated(alloc, *edits, out)?),
+        Command::Play => play_source(alloc, source, out),
+        Command::Generate(edits) => play_edits(alloc, *edits, out),
         Command::Keygen(words) => keygen(alloc, files, chance, out, words),
         Command::Found(words) => found(alloc, files, chance, words),
-        Command::Serve(words) => {
-            let address = words.address.as_str();
-            let sessions = words.sessions;
-            serve(rt, alloc, files, net, out, &names, address, sessions, gate)
-        }
+        Command::Serve(words) => serve_document(rt, alloc, words, out, files, net, gate),
         Command::Client(words) => client(rt, alloc, words, out, files, net, chance, gate),
-        Command::Check(words) => check(alloc, files, out, &names, words.member),
-        Command::Compare(words) => { compare(alloc, files, out, &names, words.first, words.second) }
+        Command::Check(words) => check_history(alloc, words, out, files),
+        Command::Compare(words) => compare_histories(alloc, words, out, files),
     }
 }

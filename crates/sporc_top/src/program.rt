@@ -2,10 +2,13 @@
 
 ghost use Rattle.std.specs.Prelude.{◌≡◌, ◌+◌, ◌≤◌, false, map, string_bytes};
 ghost use Rattle.sporc_outside.specs.Reading.{ConsumesAtMost};
+ghost use Rattle.sporc_outside.specs.Uses.{sink_use, source_use};
 ghost use Rattle.sporc_play.specs.declared.playing.TheConstants.{MAX_SCRIPT};
 ghost use Rattle.sporc_words.specs.Commands.{command_of};
 ghost use Rattle.sporc_files.specs.Faults.{WritesFaultLine, status_of};
-ghost use Rattle.sporc_sessions.specs.Nets.{link_view, net_told};
+ghost use Rattle.sporc_files.specs.Uses.{chance_use, folder_use};
+ghost use Rattle.sporc_sessions.specs.Nets.{link_view};
+ghost use Rattle.sporc_clients.specs.Outcome.{disk_view, net_use};
 ghost use Rattle.sporc_top.specs.Needs.{needs_by};
 ghost use Rattle.sporc_top.specs.Outcome.{RunOutcome};
 
@@ -30,6 +33,20 @@ use std::thread::Threads;
 /// | `check`, `compare` | `files` |
 ///
 /// A fault's line is written as far as `out` takes it, and nothing goes anywhere else.
+///
+/// | Status | The fault that was told |
+/// |---|---|
+/// | 0 | none: the command did all its work |
+/// | 1 | memory ran out |
+/// | 2 | the words ask for nothing |
+/// | 3 | a file is missing, there already, too long or malformed, or a script has a line that is not valid, or is too long |
+/// | 4 | an entry was refused by a check or rejected by the server, or a member's keys do not open the document |
+/// | 5 | the rounds of a session are over, and edits wait or the history is shorter than was asked for |
+/// | 6 | something outside failed, or the link ended before an answer |
+/// | 7 | the member's key has no leaf left |
+/// | 8 | a history, a journal or a file is full, or the tickets of a lock are used up |
+/// | 9 | what the server sent is no message |
+/// | 10 | an edit of an editor's script was refused |
 pub fn run<
     R: Threads + Wait + Sync,
     S: Source,
@@ -53,43 +70,14 @@ where
     F::Disk: Send,
     N::Link: Send,
     ensures outcome { RunOutcome (link_view N.Link.written N.Link.left N.Link.faults N.Link.is_shut)
-        (record { stored = F.Disk.stored; images = λ d. F.Disk.images d (F.Disk.moment d); faults = F.Disk.faults })
+        (disk_view F.Disk.stored F.Disk.images F.Disk.moment F.Disk.faults)
         (map (λ w. string_bytes w) words.now)
         (record {
-          source = record {
-            left_before = S.left source.old;
-            left_after = S.left source.new;
-            faults_before = S.faults source.old;
-            faults_after = S.faults source.new;
-          };
-          out = record {
-            written_before = O.written out.old;
-            written_after = O.written out.new;
-            faults_before = O.faults out.old;
-            faults_after = O.faults out.new;
-          };
-          folder = record {
-            files_before = F.files files.old;
-            files_after = F.files files.new;
-            asked_before = F.asked files.old;
-            asked_after = F.asked files.new;
-            lent_before = F.lent files.old;
-            lent_after = F.lent files.new;
-            faults_before = F.faults files.old;
-            faults_after = F.faults files.new;
-          };
-          net = record {
-            before = net_told (N.asked net.old) (N.coming net.old) (N.returned net.old) (N.link_faults net.old);
-            after = net_told (N.asked net.new) (N.coming net.new) (N.returned net.new) (N.link_faults net.new);
-            faults_before = N.faults net.old;
-            faults_after = N.faults net.new;
-          };
-          chance = record {
-            given_before = C.given chance.old;
-            given_after = C.given chance.new;
-            faults_before = C.faults chance.old;
-            faults_after = C.faults chance.new;
-          };
+          source = source_use S.left S.faults source.old source.new;
+          out = sink_use O.written O.faults out.old out.new;
+          folder = folder_use F.files F.asked F.lent F.faults files.old files.new;
+          net = net_use N.asked N.coming N.returned N.link_faults N.faults net.old net.new;
+          chance = chance_use C.given C.faults chance.old chance.new;
         })
         result }
     ensures source { (needs_by (command_of (map (λ w. string_bytes w) words.now))).source ≡ false → source.new ≡ source.old }
@@ -97,7 +85,7 @@ where
     ensures net { (needs_by (command_of (map (λ w. string_bytes w) words.now))).net ≡ false → net.new ≡ net.old }
     ensures chance { (needs_by (command_of (map (λ w. string_bytes w) words.now))).chance ≡ false → chance.new ≡ chance.old }
     ensures taken { ConsumesAtMost (MAX_SCRIPT + 1) (S.left source.old) (S.left source.new) }
-    ensures links { N.out net.new ≡ N.out net.old }
+    ensures links_out { N.out net.new ≡ N.out net.old }
     ensures lent { F.lent files.new ≡ F.lent files.old }
     ensures source_kept { S.faults source.old ≤ S.faults source.new }
     ensures files_kept { F.faults files.old ≤ F.faults files.new }
@@ -118,14 +106,7 @@ where
 // Writes the line of a fault, and answers its status.
 fn told<O: Sink>(fault: Fault, names: &Names<'_>, out: &mut O) -> u8
     ensures status { result ≡ status_of fault }
-    ensures line { WritesFaultLine
-        (record {
-          written_before = O.written out.old;
-          written_after = O.written out.new;
-          faults_before = O.faults out.old;
-          faults_after = O.faults out.new;
-        })
-        names.now fault }
+    ensures line { WritesFaultLine (sink_use O.written O.faults out.old out.new) names.now fault }
     ensures kept { O.faults out.old ≤ O.faults out.new }
 {
     fault.tell(names, out);

@@ -169,10 +169,3 @@ room_slot (c ∷ d ∷ cs) e = absurd (true≢false (sym e))
 -- the view of a badge
 pub view_there : {E : Type 0} (vs : List (View E)) (v : View E) → vs ≡ v ∷ [] → first_view vs ≡ v
 view_there vs v e = ap first_view e
-
-abbrev inside : {S : Type 0} → S → std.Option S → S
-inside d (Some x) = x
-inside d None = d
-
-pub same_inside : {S : Type 0} (x y : S) → Some x ≡ Some y → x ≡ y
-same_inside x y e = ap (inside x) e

@@ -26,14 +26,14 @@ impl<E> Pass<E> {
 
     /// The number: 0 of the pass that `open` gave, and k of the one that the k-th split gave.
     pub fn number(&self) -> u32
-        ensures { result ≡ (known_of self.now).number }
+        ensures value { result ≡ (known_of self.now).number }
     {
         self.numbers.number
     }
 
     /// How many passes were split from it and not joined back. Only number 0 is ever split.
     pub fn out(&self) -> u32
-        ensures out { result ≡ out_of self.now }
+        ensures value { result ≡ out_of self.now }
         ensures others { (known_of self.now).number ≢ 0 → result ≡ 0 }
     {
         self.numbers.splits - self.numbers.joined

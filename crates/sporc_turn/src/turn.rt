@@ -132,7 +132,7 @@ impl<S: Kept> Turn<S> {
         rt: &R,
         pass: Pass<S::Item>,
     ) -> Result<Held<S>, (Pass<S::Item>, Worn)>
-        requires { IsPassOf self.now pass }
+        requires lock { IsPassOf self.now pass }
         ensures lock { MatchResult result (IsHeldOf self.now) (λ e. IsPassOf self.now e.0) }
         ensures found { IfOk result (λ h. Agrees S.by (known_of pass) (S.log (value_of h))) }
         ensures news { IfOk result (λ h. (known_of pass).news ≤ length (S.log (value_of h))) }
@@ -195,7 +195,7 @@ impl<S: Kept> Turn<S> {
     /// A length of the log: at least that of what the pass has seen, and at least its earlier news.
     /// It waits for nobody.
     pub fn news(&self, pass: Pass<S::Item>) -> (u64, Pass<S::Item>)
-        requires { IsPassOf self.now pass }
+        requires lock { IsPassOf self.now pass }
         ensures lock { IsPassOf self.now result.1 }
         ensures seen { length (known_of pass).seen ≤ result.0 }
         ensures again { (known_of pass).news ≤ result.0 }

@@ -8,7 +8,8 @@ use Rattle.sporc_member.specs.ChangeFault.{change_fault_code_of, change_fault_wi
 use Rattle.sporc_head.specs.declared.refusal.Refusal.{Refusal}
 use Rattle.sporc_head.specs.declared.refusal.Refusal.TheVariants.{Malformed, BadChange, Memory}
 use Rattle.sporc_head.specs.Refusal.{refusal_code_of}
-use Rattle.sporc_wire.specs.Refusals.{refusal_detail_of, plain_refusals, bad_change, refusal_with}
+use Rattle.sporc_head.specs.HeadChecks.{bad_change}
+use Rattle.sporc_wire.specs.Refusals.{refusal_detail_of, plain_refusals, refusal_with}
 
 -- what a search finds passes its test
 found_passes : {X : Type 0} (p : X → Bool) (xs : List X) (x : X) → find p xs ≡ Some x → p x ≡ true

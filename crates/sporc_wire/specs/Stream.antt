@@ -7,7 +7,7 @@ use Rattle.sporc_wire.specs.declared.cutter.TheConstants.{MAX_BODY}
 abbrev pub frame : List ℕ → List ℕ
 frame body = to_be_bytes w32 (length body) ++ body
 
--- what stands at the front of a stream
+-- what a stream begins with
 pub data Front : Type 0 where
   -- a part of a frame, or nothing
   partial : Front

@@ -7,7 +7,8 @@ ghost use Rattle.sporc_wire.specs.Stream.{front, partial, too_long, whole};
 ghost use Rattle.sporc_wire.specs.CutterModel.{IsOurs, rest_of, put_back, unread, filled, FitsLimit};
 
 use bytes::BytesMut;
-use std::alloc::{AllocError, Global};
+use sporc_base::Memory;
+use std::alloc::Global;
 use std::io;
 use std::marker::Model;
 use tokio_util::codec::{Decoder, LengthDelimitedCodec};
@@ -58,7 +59,7 @@ impl Cutter {
     }
 
     // Appends a piece of the stream.
-    pub(crate) fn feed(&mut self, piece: &[u8]) -> Result<(), AllocError>
+    pub(crate) fn feed(&mut self, piece: &[u8]) -> Result<(), Memory>
         ensures body { self.new.body ≡ self.old.body }
         ensures ok { OnOk result (self.new.rest ≡ self.old.rest ++ piece.now) }
         ensures memory { OnErr result (self.new.rest ≡ self.old.rest) }

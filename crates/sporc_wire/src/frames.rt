@@ -62,7 +62,7 @@ impl Frames {
     /// Appends a piece, unless a `next` call found a fault.
     pub fn feed(&mut self, piece: &[u8]) -> Result<(), FrameFault>
         ensures ok { OnOk result (self.new ≡ fed piece.now self.old) }
-        ensures err { OnErr result (self.new ≡ self.old) }
+        ensures unchanged { OnErr result (self.new ≡ self.old) }
         ensures fault { MatchOption self.old.fault (IsOkUnless result FrameFault.Memory)
             (λ fault. result ≡ Err fault) }
     {
@@ -73,7 +73,7 @@ impl Frames {
         Ok(())
     }
 
-    /// The next message to a server. None exactly where no whole frame is left.
+    /// The next message to a server. None exactly if no whole frame is left.
     pub fn next_to_server(&mut self) -> Result<Option<ToServer>, FrameFault>
         ensures value { GivesUnless FrameFault.Memory (λ found. found) result (next to_server_of self.old).answer }
         ensures after { result ≢ Err FrameFault.Memory → self.new ≡ (next to_server_of self.old).after }
@@ -82,7 +82,7 @@ impl Frames {
         self.next()
     }
 
-    /// The next message to a client. None exactly where no whole frame is left.
+    /// The next message to a client. None exactly if no whole frame is left.
     pub fn next_to_client(&mut self) -> Result<Option<ToClient>, FrameFault>
         ensures value { GivesUnless FrameFault.Memory (λ found. found) result (next to_client_of self.old).answer }
         ensures after { result ≢ Err FrameFault.Memory → self.new ≡ (next to_client_of self.old).after }

@@ -3,14 +3,29 @@
 
 ghost use Rattle.std.specs.Prelude.{◌≡◌, ◌≤◌, ℕ, List, [], ◌∷◌, ◌++◌, length, Option, Some, Ok, Err};
 ghost use Rattle.sporc_base.specs.Bytes.{IsBytes};
+ghost use Rattle.sporc_wire.specs.declared.cutter.TheConstants.{MAX_BODY};
 ghost use Rattle.sporc_wire.specs.declared.fault.FrameFault.{FrameFault};
+ghost use Rattle.sporc_wire.specs.declared.to_client.TheConstants.{EMPTY, ENTRIES, MAX_CODE, MAX_PULLED, ORDERED, REJECTED};
 ghost use Rattle.sporc_wire.specs.declared.to_client.ToClient.{ToClient};
+ghost use Rattle.sporc_wire.specs.declared.to_server.TheConstants.{HELLO, PULL, SUBMIT};
 ghost use Rattle.sporc_wire.specs.declared.to_server.ToServer.{ToServer};
 ghost use Rattle.sporc_wire.specs.Messages.{Unread, Reads, AreMessages, stream_of, fed, next};
 ghost use Rattle.sporc_wire.specs.ToClient.{to_client_of, to_client_bytes, IsToClient};
 ghost use Rattle.sporc_wire.specs.ToServer.{to_server_of, to_server_bytes, IsToServer};
 
-use crate::cutter::MAX_BODY;
+/// The numbers of the format: the first byte of each body, and the limits.
+pub fn numbers_of_the_format()
+    ensures hello { HELLO ≡ 1 }
+    ensures submit { SUBMIT ≡ 2 }
+    ensures pull { PULL ≡ 3 }
+    ensures ordered { ORDERED ≡ 1 }
+    ensures rejected { REJECTED ≡ 2 }
+    ensures entries { ENTRIES ≡ 3 }
+    ensures empty { EMPTY ≡ 4 }
+    ensures max_code { MAX_CODE ≡ 21 }
+    ensures max_pulled { MAX_PULLED ≡ 16 }
+    ensures max_body { MAX_BODY ≡ 4194304 }
+{}
 
 /// Each message to a server in range is read again from its body, and a body that reads is that of the message read.
 pub fn to_server_and_its_body()

@@ -16,7 +16,7 @@
 //! Proved: each call of `Frames` answers what `specs/Messages.antt` says of the bytes fed so far, up to the first frame that
 //! is no message or is too long, with its place, and stays there; the pieces of a stream don't matter and a stream has one
 //! reading; a message that is written reads back, and a body that reads is the one spelling of its message ([`laws`]).
-//! Only tested: that with ample memory no call answers that memory ran out.
+//! Only tested: that with ample memory no call answers that memory ran out. Neither: how long a call takes.
 #![tactic(auto)]
 
 mod cutter;

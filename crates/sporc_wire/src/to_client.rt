@@ -2,8 +2,7 @@
 
 ghost use Rattle.std.specs.Prelude.{◌≡◌, ◌≤◌, length, map, IfOk};
 ghost use Rattle.sporc_base.specs.Outcome.{GivesUnless};
-ghost use Rattle.sporc_bytes.specs.Fields.{Reads, counted_at, fault_as};
-ghost use Rattle.sporc_entry.specs.Fields.{values_at};
+ghost use Rattle.sporc_bytes.specs.Fields.{Reads, counted_at, fault_as, values_at};
 ghost use Rattle.sporc_wire.specs.declared.to_client.ToClient.{ToClient};
 ghost use Rattle.sporc_wire.specs.declared.to_client.TheConstants.{MAX_PULLED};
 ghost use Rattle.sporc_wire.specs.Messages.{framed};
@@ -17,7 +16,6 @@ use crate::message::{BodyFault, Message};
 use crate::refusals::{detail_of, refusal_with};
 use sporc_base::{Bytes, Items, Memory};
 use sporc_bytes::{Cursor, Out, Short};
-use sporc_entry::fields::{read_end, read_u8};
 use sporc_head::Refusal;
 use std::alloc::Global;
 
@@ -71,7 +69,7 @@ fn read_ordered(cursor: &mut Cursor<'_>) -> Result<ToClient, Short>
     ensures { Reads (λ m. m) result (ordered_at cursor.old) }
 {
     let pos = cursor.u32()?;
-    read_end(cursor)?;
+    cursor.ended()?;
     Ok(ToClient::Ordered { pos })
 }
 
@@ -80,13 +78,13 @@ fn read_ordered(cursor: &mut Cursor<'_>) -> Result<ToClient, Short>
 fn read_rejected(cursor: &mut Cursor<'_>) -> Result<ToClient, Short>
     ensures { Reads (λ m. m) result (rejected_at cursor.old) }
 {
-    let code = read_u8(cursor, 1, MAX_CODE)?;
+    let code = cursor.u8_within(1, MAX_CODE)?;
     let at = cursor.at();
     let detail = cursor.u32()?;
     let Some(refusal) = refusal_with(code, detail) else {
         return Err(Short(at));
     };
-    read_end(cursor)?;
+    cursor.ended()?;
     Ok(ToClient::Rejected { refusal })
 }
 
@@ -96,9 +94,9 @@ fn read_entries(alloc: Global, cursor: &mut Cursor<'_>) -> Result<ToClient, Body
     ensures { GivesUnless BodyFault.Memory (λ m. m) result (fault_as BodyFault.Bad (entries_at cursor.old)) }
 {
     let first = cursor.u32()?;
-    let count = read_u8(cursor, 1, MAX_PULLED)?;
+    let count = cursor.u8_within(1, MAX_PULLED)?;
     let entries = read_list(alloc, cursor, count)?;
-    read_end(cursor)?;
+    cursor.ended()?;
     Ok(ToClient::Entries {
         first,
         entries: Items::new(entries),
@@ -110,7 +108,7 @@ fn read_entries(alloc: Global, cursor: &mut Cursor<'_>) -> Result<ToClient, Body
 fn read_empty(cursor: &mut Cursor<'_>) -> Result<ToClient, Short>
     ensures { Reads (λ m. m) result (empty_at cursor.old) }
 {
-    read_end(cursor)?;
+    cursor.ended()?;
     Ok(ToClient::Empty)
 }
 
@@ -162,7 +160,7 @@ fn empty_frame(alloc: Global) -> Result<Vec<u8>, Memory>
     Ok(out.into_bytes())
 }
 
-/// The frame of a message. `TooLong` exactly where its body is above the limit.
+/// The frame of a message. `TooLong` exactly if its body is above the limit.
 pub fn write_to_client(alloc: Global, message: &ToClient) -> Result<Vec<u8>, FrameFault>
     requires { IsToClient message.now }
     ensures value { GivesUnless FrameFault.Memory (λ v. v.items) result (framed (to_client_bytes message.now)) }
@@ -175,7 +173,7 @@ pub fn write_to_client(alloc: Global, message: &ToClient) -> Result<Vec<u8>, Fra
     }
 }
 
-/// The frame of an Entries whose entries stand elsewhere: each is copied once, into the frame. `TooLong` exactly where its
+/// The frame of an Entries whose entries stand elsewhere: each is copied once, into the frame. `TooLong` exactly if its
 /// body is above the limit.
 pub fn write_entries(alloc: Global, first: u32, entries: &[Vec<u8>]) -> Result<Vec<u8>, FrameFault>
     requires some { 1 ≤ length entries.now }

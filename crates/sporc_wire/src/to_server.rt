@@ -11,7 +11,6 @@ use crate::fault::FrameFault;
 use crate::message::{BodyFault, Message};
 use sporc_base::{Bytes, Memory};
 use sporc_bytes::{Cursor, Out, Short};
-use sporc_entry::fields::read_end;
 use std::alloc::Global;
 
 // The first byte of each body.
@@ -56,7 +55,7 @@ fn read_hello(cursor: &mut Cursor<'_>) -> Result<ToServer, Short>
 {
     let document = cursor.array()?;
     let member = cursor.u16()?;
-    read_end(cursor)?;
+    cursor.ended()?;
     Ok(ToServer::Hello { document, member })
 }
 
@@ -66,7 +65,7 @@ fn read_pull(cursor: &mut Cursor<'_>) -> Result<ToServer, Short>
     ensures { Reads (λ m. m) result (pull_at cursor.old) }
 {
     let from = cursor.u32()?;
-    read_end(cursor)?;
+    cursor.ended()?;
     Ok(ToServer::Pull { from })
 }
 
@@ -102,7 +101,7 @@ fn put_body(out: &mut Out, message: &ToServer) -> Result<(), Memory>
     }
 }
 
-/// The frame of a message. `TooLong` exactly where its body is above the limit.
+/// The frame of a message. `TooLong` exactly if its body is above the limit.
 pub fn write_to_server(alloc: Global, message: &ToServer) -> Result<Vec<u8>, FrameFault>
     ensures value { GivesUnless FrameFault.Memory (λ v. v.items) result (framed (to_server_bytes message.now)) }
 {

@@ -4,11 +4,11 @@ use Rattle.std.specs.Borrow.{Bor}
 use Rattle.std.specs.List.{after_first, before_first, position_or_len}
 use Rattle.std.proofs.Math.ListN.{drop_of_length-le}
 use Rattle.std.proofs.lemmas.List.{drop_more}
+use Rattle.std.proofs.lemmas.Option.{same_Some}
 use Rattle.std.proofs.lemmas.Str.Pattern.{IsSplitOnceResult, split_once_first}
 use Rattle.clap.specs.Walk.{Text, texts}
 use Rattle.sporc_script.specs.Plain.{role_of}
 use Rattle.sporc_script.specs.Readers.{member_of, then_read}
-use Rattle.sporc_script.proofs.Exact.{some_same}
 use Rattle.sporc_words.specs.declared.founding.Participant.{Participant}
 use Rattle.sporc_words.specs.Values.{all_participants, founding_of, is_colon, participant_by, participant_of}
 
@@ -39,7 +39,7 @@ unfolding participant_of
 at_some word None number name split is = cc
 at_some word (Some p) number name split is =
     let parts = split_once_first 58 word (Some p) split (omega arith) in
-    let same : p ≡ (number, name) = some_same p (number, name) is in
+    let same : p ≡ (number, name) = same_Some p (number, name) is in
     ap₂ participant_by (ap (λ (q : Bor Text × Bor Text). q.0.now) (sym same) ∙ parts.1) (ap (λ (q : Bor Text × Bor Text). q.1.now) (sym same) ∙ parts.2)
 
 -- ---- all words

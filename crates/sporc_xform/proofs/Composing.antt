@@ -10,7 +10,7 @@ use Rattle.sporc_delta.specs.Marks.{Mark, Retain, Delete, Insert, base_len, out_
 use Rattle.sporc_delta.specs.Parts.{marks_of}
 use Rattle.sporc_delta.specs.Transforms.{compose}
 use Rattle.sporc_delta.proofs.Lengths.{base_len-append, base_len-retains, base_len-deletes, base_len-inserts, out_len-append, out_len-retains, out_len-deletes, out_len-inserts}
-use Rattle.sporc_xform.specs.Left.{cut, without, first_len, first_text, first_inserts, first_removes, NoneEmpty, AreInARow}
+use Rattle.sporc_xform.specs.Left.{cut, without, first_len, first_text, first_inserts, first_removes, NoneEmpty, InARowInvariant}
 use Rattle.sporc_xform.specs.Runs.{base_mark}
 use Rattle.sporc_xform.specs.Chunks.{through_marks}
 use Rattle.sporc_xform.proofs.LawLemmas.{composes}
@@ -95,7 +95,7 @@ pub record Takes (ps qs ps' qs' : List Part) (marks : List Mark) : Type 0 where
 longer : {X : Type 0} (all front rest : List X) → all ≡ front ++ rest → length all ≡ length front + length rest
 longer all front rest is = ap length is ∙ length-append front rest
 
-pub take_second : (ps qs new : List Part) (text : List ℕ) → AreInARow ps qs → first_inserts qs ≡ true → text ≡ take (first_len qs) (first_text qs) → new ≡ without (first_len qs) qs → Takes ps qs ps new (inserts text)
+pub take_second : (ps qs new : List Part) (text : List ℕ) → InARowInvariant ps qs → first_inserts qs ≡ true → text ≡ take (first_len qs) (first_text qs) → new ≡ without (first_len qs) qs → Takes ps qs ps new (inserts text)
 take_second ps qs new text row h t is =
     let q = (text_first qs new text h t is).marks in
     let some = first_text_some qs row.second_none_empty h in
@@ -117,7 +117,7 @@ removes_alone (Keep n ∷ ps) h = refl
 removes_alone (InsertText text ∷ ps) h = absurd cc
 removes_alone (Remove n ∷ ps) h = refl
 
-pub take_removal : (ps qs new : List Part) → AreInARow ps qs → first_inserts qs ≡ false → first_removes ps ≡ true → new ≡ without (first_len ps) ps → Takes ps qs new qs (deletes (first_len ps))
+pub take_removal : (ps qs new : List Part) → InARowInvariant ps qs → first_inserts qs ≡ false → first_removes ps ≡ true → new ≡ without (first_len ps) ps → Takes ps qs new qs (deletes (first_len ps))
 take_removal ps qs new row none h is =
     let some = first_removal_some ps row.first_none_empty h in
     let p : marks_of ps ≡ deletes (first_len ps) ++ marks_of new =
@@ -133,7 +133,7 @@ take_removal ps qs new row none h is =
     first_removal_some (p ∷ ps) some h = some.0
 
 -- the first keeps characters
-take_kept : (removed : Bool) (n : ℕ) (text : List ℕ) (ps qs ps' qs' : List Part) → 0 < n → AreInARow ps qs → marks_of ps ≡ retains n ++ marks_of ps' → marks_of qs ≡ replicate n (base_mark removed) ++ marks_of qs'
+take_kept : (removed : Bool) (n : ℕ) (text : List ℕ) (ps qs ps' qs' : List Part) → 0 < n → InARowInvariant ps qs → marks_of ps ≡ retains n ++ marks_of ps' → marks_of qs ≡ replicate n (base_mark removed) ++ marks_of qs'
     → Takes ps qs ps' qs' (through_marks false removed text n)
 take_kept true n text ps qs ps' qs' some row p q = record {
   taken = rw (p, q) (kept_removed n (marks_of ps') (marks_of qs'));
@@ -147,7 +147,7 @@ take_kept false n text ps qs ps' qs' some row p q = record {
 }
 
 -- the first inserts them
-take_inserted : (removed : Bool) (text : List ℕ) (ps qs ps' qs' : List Part) → 0 < length text → AreInARow ps qs → marks_of ps ≡ inserts text ++ marks_of ps'
+take_inserted : (removed : Bool) (text : List ℕ) (ps qs ps' qs' : List Part) → 0 < length text → InARowInvariant ps qs → marks_of ps ≡ inserts text ++ marks_of ps'
     → marks_of qs ≡ replicate (length text) (base_mark removed) ++ marks_of qs' → Takes ps qs ps' qs' (through_marks true removed text (length text))
 take_inserted true text ps qs ps' qs' some row p q = record {
   taken = rw (p, q) (inserted_removed text (marks_of ps') (marks_of qs'));
@@ -160,7 +160,7 @@ take_inserted false text ps qs ps' qs' some row p q = record {
   less = omega (arith, longer (marks_of ps) (inserts text) (marks_of ps') p, longer (marks_of qs) (retains (length text)) (marks_of qs') q, length-map {A = ℕ} {B = Mark}, length-replicate (length text) Retain);
 }
 
-pub take_through : (inserted removed : Bool) (n : ℕ) (text : List ℕ) (ps qs ps' qs' : List Part) → inserted ≡ first_inserts ps → removed ≡ first_removes qs → AreInARow ps qs → first_inserts qs ≡ false → first_removes ps ≡ false
+pub take_through : (inserted removed : Bool) (n : ℕ) (text : List ℕ) (ps qs ps' qs' : List Part) → inserted ≡ first_inserts ps → removed ≡ first_removes qs → InARowInvariant ps qs → first_inserts qs ≡ false → first_removes ps ≡ false
     → n ≡ min (first_len ps) (first_len qs) → 0 < n → text ≡ take n (first_text ps) → ps' ≡ without n ps → qs' ≡ without n qs → Takes ps qs ps' qs' (through_marks inserted removed text n)
 take_through true removed n text ps qs ps' qs' i r row none keeps is some t np nq =
     let c = text_cut ps ps' text n (sym i) (omega arith) t np in
@@ -177,7 +177,7 @@ no_out (Keep n ∷ ps) some h b = absurd (omega (arith, out_len-append (retains 
 no_out (InsertText text ∷ ps) some h b = absurd (omega (arith, out_len-append (inserts text) (marks_of ps), out_len-inserts text))
 no_out (Remove n ∷ ps) some h b = absurd cc
 
-pub no_chunk : (ps qs : List Part) → AreInARow ps qs → first_inserts qs ≡ false → first_removes ps ≡ false → min (first_len ps) (first_len qs) ≡ 0 → compose (marks_of ps) (marks_of qs) ≡ []
+pub no_chunk : (ps qs : List Part) → InARowInvariant ps qs → first_inserts qs ≡ false → first_removes ps ≡ false → min (first_len ps) (first_len qs) ≡ 0 → compose (marks_of ps) (marks_of qs) ≡ []
 no_chunk ps qs row hq hp none = go (eqb (first_len ps) 0) refl
   where
     go : (b : Bool) → eqb (first_len ps) 0 ≡ b → compose (marks_of ps) (marks_of qs) ≡ []

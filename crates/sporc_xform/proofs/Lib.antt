@@ -1,4 +1,5 @@
 pub mod Composing
+pub mod InTurn
 pub mod LawLemmas
 pub mod LengthLemmas
 pub mod Restated

@@ -53,18 +53,18 @@ pub record CursorInvariant (parts : List Part) (left : ℕ) (text : List ℕ) : 
   pub text_is : text ≡ first_text (left_of parts left text)
 
 -- what is left of two deltas over one text
-pub record AreOverOneText (ps qs : List Part) : Type 0 where
+pub record SideBySideInvariant (ps qs : List Part) : Type 0 where
   pub base : base_len (marks_of ps) ≡ base_len (marks_of qs)
   pub first_none_empty : NoneEmpty ps
   pub second_none_empty : NoneEmpty qs
 
 -- what is left of two deltas, the second over the text after the first
-pub record AreInARow (ps qs : List Part) : Type 0 where
+pub record InARowInvariant (ps qs : List Part) : Type 0 where
   pub between : out_len (marks_of ps) ≡ base_len (marks_of qs)
   pub first_none_empty : NoneEmpty ps
   pub second_none_empty : NoneEmpty qs
 
 -- what is left of two such deltas
-pub record RowModel : Type 0 where
+pub record InARowModel : Type 0 where
   pub first : List Mark
   pub second : List Mark

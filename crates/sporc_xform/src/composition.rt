@@ -6,7 +6,7 @@ ghost use Rattle.sporc_delta.specs.Marks.{base_len, out_len};
 ghost use Rattle.sporc_delta.specs.Parts.{marks_of};
 ghost use Rattle.sporc_delta.specs.Transforms.{compose};
 ghost use Rattle.sporc_xform.specs.Chunks.{chunk_marks, through_marks};
-ghost use Rattle.sporc_xform.specs.Left.{AreInARow};
+ghost use Rattle.sporc_xform.specs.Left.{InARowInvariant};
 
 use crate::cursor::Cursor;
 use sporc_base::Memory;
@@ -47,13 +47,13 @@ struct InARow<'a> {
 
 impl<'a> Model for InARow<'a> {
     ghost use Rattle.sporc_delta.specs.Parts.{marks_of};
-    ghost use Rattle.sporc_xform.specs.Left.{AreInARow, RowModel};
+    ghost use Rattle.sporc_xform.specs.Left.{InARowInvariant, InARowModel};
 
-    ghost Value = { RowModel };
+    ghost Value = { InARowModel };
 
     ghost view = { λ r. record { first = marks_of r.first; second = marks_of r.second } };
 
-    ghost invariant = { λ r. AreInARow r.first r.second };
+    ghost invariant = { λ r. InARowInvariant r.first r.second };
 }
 
 impl<'a> InARow<'a> {
@@ -84,8 +84,8 @@ impl<'a> InARow<'a> {
 // The next piece of two deltas: an insertion of the second, else a removal of the first, else what both
 // do with characters of the text between them.
 fn next_chunk<'a>(p: &mut Cursor<'a>, q: &mut Cursor<'a>) -> Option<Chunk<'a>>
-    requires { AreInARow p.old q.old }
-    ensures row { AreInARow p.new q.new }
+    requires { InARowInvariant p.old q.old }
+    ensures row { InARowInvariant p.new q.new }
     ensures taken { IfSome result (λ chunk. compose (marks_of p.old) (marks_of q.old) ≡ chunk_marks chunk ++ compose (marks_of p.new) (marks_of q.new)) }
     ensures less { OnSome result (length (marks_of p.new) + length (marks_of q.new) < length (marks_of p.old) + length (marks_of q.old)) }
     ensures end { IfNone result (compose (marks_of p.old) (marks_of q.old) ≡ []) }

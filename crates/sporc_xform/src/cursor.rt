@@ -38,7 +38,7 @@ impl<'a> Cursor<'a> {
         ensures value { result ≡ runs delta.entry.now }
         ensures marks { marks_of result ≡ delta.entry.now }
         ensures none_empty { NoneEmpty result }
-        ensures small { (base_len delta.entry.now ≤ MAX_TEXT_LEN) × (out_len delta.entry.now ≤ MAX_TEXT_LEN) }
+        ensures within { (base_len delta.entry.now ≤ MAX_TEXT_LEN) × (out_len delta.entry.now ≤ MAX_TEXT_LEN) }
     {
         at_start(delta.parts())
     }

@@ -11,7 +11,7 @@
 //!
 //! Proved: that each call gives what the definitions of `sporc_delta` say; that both orders lead
 //! to one text; that a delta passes a composition as it passes its two deltas. Only tested: the worked rows of two inserts at
-//! one place, of overlapping removals and of texts cut in their midst, and that memory suffices where there is ample.
+//! one place, of overlapping removals and of texts cut in their midst, and that memory suffices if there is ample. Neither: how long a call takes.
 #![tactic(auto)]
 
 mod composition;

@@ -4,7 +4,7 @@ ghost use Rattle.std.specs.Prelude.{◌≡◌, ◌++◌, ◌<◌, [], length, If
 ghost use Rattle.sporc_delta.specs.Marks.{base_len};
 ghost use Rattle.sporc_delta.specs.Parts.{marks_of};
 ghost use Rattle.sporc_delta.specs.Transforms.{steps};
-ghost use Rattle.sporc_xform.specs.Left.{AreOverOneText};
+ghost use Rattle.sporc_xform.specs.Left.{SideBySideInvariant};
 ghost use Rattle.sporc_xform.specs.Runs.{run_steps};
 
 use crate::cursor::Cursor;
@@ -37,13 +37,13 @@ impl<'a> Model for SideBySide<'a> {
     ghost use Rattle.std.specs.Prelude.{List};
     ghost use Rattle.sporc_delta.specs.Parts.{marks_of};
     ghost use Rattle.sporc_delta.specs.Transforms.{Step, steps};
-    ghost use Rattle.sporc_xform.specs.Left.{AreOverOneText};
+    ghost use Rattle.sporc_xform.specs.Left.{SideBySideInvariant};
 
     ghost Value = { List Step };
 
     ghost view = { λ s. steps (marks_of s.earlier) (marks_of s.later) };
 
-    ghost invariant = { λ s. AreOverOneText s.earlier s.later };
+    ghost invariant = { λ s. SideBySideInvariant s.earlier s.later };
 }
 
 impl<'a> SideBySide<'a> {
@@ -70,8 +70,8 @@ impl<'a> SideBySide<'a> {
 
 // The next steps of `p` and `q`, `p` ordered earlier.
 fn next_run<'a>(p: &mut Cursor<'a>, q: &mut Cursor<'a>) -> Option<Run<'a>>
-    requires { AreOverOneText p.old q.old }
-    ensures over { AreOverOneText p.new q.new }
+    requires { SideBySideInvariant p.old q.old }
+    ensures over { SideBySideInvariant p.new q.new }
     ensures taken { IfSome result (λ run. steps (marks_of p.old) (marks_of q.old) ≡ run_steps run ++ steps (marks_of p.new) (marks_of q.new)) }
     ensures some { IfSome result (λ run. 0 < length (run_steps run)) }
     ensures end { IfNone result (steps (marks_of p.old) (marks_of q.old) ≡ []) }

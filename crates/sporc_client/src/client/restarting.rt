@@ -36,8 +36,7 @@ impl<D: LeafDisk> Client<D> {
           leaves = signer.leaves;
           ticket = None;
         }) }
-        ensures returned_line { IfErr result (λ e. e.0 ≡ line) }
-        ensures returned_signer { IfErr result (λ e. e.1 ≡ signer) }
+        ensures returned { IfErr result (λ e. (e.0 ≡ line) × (e.1 ≡ signer)) }
     {
         match accepted_before(alloc, &line) {
             Ok(own) => Ok(Client {
@@ -56,7 +55,7 @@ impl<D: LeafDisk> Client<D> {
     pub fn restart(&mut self, k: u32) -> Result<(), RestartFault>
         ensures fault { AnswersUnless RestartFault.Memory result (restart_fault (state_of self.old) k) }
         ensures ok { OnOk result (self.new ≡ record self.old { log = log_of_entries (take k (state_of self.old).entries) }) }
-        ensures err { OnErr result (self.new ≡ self.old) }
+        ensures unchanged { OnErr result (self.new ≡ self.old) }
     {
         let len = self.line.len();
         if k > len {

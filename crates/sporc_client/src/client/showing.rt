@@ -1,13 +1,15 @@
 // The texts of a client, and the key of the last epoch.
 
-ghost use Rattle.std.specs.Prelude.{◌≡◌, ◌<◌, ◌≤◌, ◌^◌, ◌↔◌, length, IsNone, IfSome, IfOk, OnOk, is_none, option_copied};
+ghost use Rattle.std.specs.Prelude.{◌≡◌, ◌<◌, ◌≤◌, ◌↔◌, length, IsNone, IfSome, IfOk, OnOk, is_none, option_copied};
 ghost use Rattle.std.specs.String.{string_bytes};
 ghost use Rattle.std.specs.Str.{chars, encode_utf8_all};
 ghost use Rattle.sporc_delta.specs.Marks.{apply, base_len};
 ghost use Rattle.sporc_delta.specs.declared.limits.TheConstants.{MAX_COUNT};
 ghost use Rattle.sporc_head.specs.History.{epoch_of};
+ghost use Rattle.sporc_line.specs.declared.limits.TheConstants.{MAX_COMMITTED_LEN};
 ghost use Rattle.sporc_line.specs.Document.{text_of};
 ghost use Rattle.sporc_line.specs.Keys.{key_of};
+ghost use Rattle.sporc_client.specs.declared.limits.TheConstants.{MAX_SHOWN_LEN};
 ghost use Rattle.sporc_client.specs.Answers.{is_out};
 ghost use Rattle.sporc_client.specs.ClientModel.{state_of};
 ghost use Rattle.sporc_client.specs.PlainClient.{committed_of, shown_after, shown_of};
@@ -25,7 +27,7 @@ impl<D: LeafDisk> Client<D> {
     /// The committed text as UTF-8.
     pub fn committed(&self) -> Result<String, Memory>
         ensures value { IfOk result (λ t. string_bytes t ≡ encode_utf8_all (committed_of (state_of self.now))) }
-        ensures small { length (committed_of (state_of self.now)) ≤ 2 ^ 35 }
+        ensures within { length (committed_of (state_of self.now)) ≤ MAX_COMMITTED_LEN }
     {
         self.line.text()
     }
@@ -33,7 +35,7 @@ impl<D: LeafDisk> Client<D> {
     /// The committed text with the pending edits, as UTF-8.
     pub fn shown(&self) -> Result<String, Memory>
         ensures value { IfOk result (λ t. string_bytes t ≡ encode_utf8_all (shown_of (state_of self.now))) }
-        ensures small { OnOk result (length (shown_of (state_of self.now)) ≤ 2 ^ 35) }
+        ensures within { OnOk result (length (shown_of (state_of self.now)) ≤ MAX_SHOWN_LEN) }
     {
         let text = self.line.text()?;
         let len = committed_len(&self.line);
@@ -46,7 +48,7 @@ impl<D: LeafDisk> Client<D> {
     /// How many characters the committed text has.
     pub fn committed_len(&self) -> u64
         ensures value { result ≡ length (committed_of (state_of self.now)) }
-        ensures small { result ≤ 2 ^ 35 }
+        ensures within { result ≤ MAX_COMMITTED_LEN }
     {
         committed_len(&self.line)
     }
@@ -74,7 +76,7 @@ impl<D: LeafDisk> Client<D> {
 // How many characters the committed text has.
 fn committed_len(line: &Line) -> u64
     ensures value { result ≡ length (text_of line.now.genesis line.now.kit line.now.entries) }
-    ensures small { result ≤ 2 ^ 35 }
+    ensures within { result ≤ MAX_COMMITTED_LEN }
 {
     line.text_len_at(line.len())
 }

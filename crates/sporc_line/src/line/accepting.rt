@@ -108,7 +108,7 @@ impl Line {
         if marks.base_len() != self.text_len_at(header.base) {
             return Err(Refusal::WrongLength);
         }
-        let form = self.over_forms(&marks, header.base)?;
+        let form = self.over_forms(marks, header.base)?;
         Ok(Effect {
             form,
             key: Some(*key),
@@ -132,11 +132,11 @@ impl Line {
     }
 
     // What marks, stated on the text after `from` entries, become behind all forms.
-    fn over_forms(&self, marks: &Delta, from: u32) -> Result<Delta, Memory>
+    fn over_forms(&self, marks: Delta, from: u32) -> Result<Delta, Memory>
         requires within { from ≤ length self.now.entries }
-        requires base { base_len marks.now ≡ length (text_of self.now.genesis self.now.kit (take from self.now.entries)) }
-        requires small { inserted_len marks.now ≤ MAX_EDIT_BODY }
-        ensures ok { IfOk result (λ form. form ≡ later_over marks.now (drop from (forms_of self.now.genesis self.now.kit self.now.entries))) }
+        requires base { base_len marks ≡ length (text_of self.now.genesis self.now.kit (take from self.now.entries)) }
+        requires limit { inserted_len marks ≤ MAX_EDIT_BODY }
+        ensures ok { IfOk result (λ form. form ≡ later_over marks (drop from (forms_of self.now.genesis self.now.kit self.now.entries))) }
     {
         pass_forms(&self.forms, marks, from)
     }

@@ -1,10 +1,7 @@
-use Rattle.std.proofs.Common.{◌∙◌, sym, Result, Ok, Err, OnOk}
+use Rattle.std.proofs.Common.{◌∙◌, sym}
+use Rattle.std.proofs.lemmas.Result.{on_ok_weaker}
 use Rattle.lms_leaf.proofs.StableLemmas.{keeps_stable-write, keeps_stable-same, keeps_stable-trans, stable-synced}
 use Rattle.lms_leaf.proofs.leaf_file.take_block.Goals as goal
-
-on_ok : {T E P Q : Type 0} (r : Result T E) → (P → Q) → OnOk r P → OnOk r Q
-on_ok (Ok x) f p = f p
-on_ok (Err e) f p = tt
 
 pub returns-in_err-write_at-clause-stable : goal.returns-in_err-write_at-clause-stable
 returns-in_err-write_at-clause-stable g c =
@@ -16,7 +13,7 @@ returns-in_err-write_at-clause-stable g c =
 pub returns-clause-taken : goal.returns-clause-taken
 returns-clause-taken g c =
     let written = rw c.from.ensures at c.in_ok-write_at.ensures.written in
-    on_ok c.sync.result
+    on_ok_weaker c.sync.result
     (λ durable. stable-synced (g.D.LeafDisk.stored c.args.disk.now) _ c.args.block c.requires
     (λ image is. sym written ∙ sym c.sync.ensures.stored ∙ durable image is))
     c.sync.ensures.durable

@@ -10,5 +10,5 @@ returns c =
       c.copy_from_slice.ensures.after,
       c.copy_from_slice-2.ensures.after,
       c.to_be_bytes.ensures,
-      c.checksum.ensures,
+      c.checksum.ensures.value,
     ) refl

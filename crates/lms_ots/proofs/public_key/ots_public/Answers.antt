@@ -17,4 +17,4 @@ pub returns : goal.returns
 unfolding ots_public_of
 returns c =
     let done : c.parts.i ≡ part_count_of c.args.t = omega (arith, c.p-i-end.ensures.value) in
-    rw (← done) (c.finalize.ensures _ c.parts.invariant)
+    record { value = rw (← done) (c.finalize.ensures _ c.parts.invariant) }

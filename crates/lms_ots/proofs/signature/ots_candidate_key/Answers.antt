@@ -11,7 +11,7 @@ parts-init c = fed_none _ _ _ c.public_hasher-hasher.ensures
 pub parts-preserved : goal.parts-preserved
 parts-preserved c =
     let wrote = c.copy_from_slice.ensures.after in
-    let from = rw c.w-w.ensures at c.coef-from.ensures.value in
+    let from = rw c.w-w.ensures.value at c.coef-from.ensures.value in
     let steps : c.greatest-greatest.result - c.coef-from.result ≡ 2 ^ width_of c.args.t - 1 - c.coef-from.result =
     omega (arith, c.greatest-greatest.ensures) in
     let here = rw steps at c.chain.ensures in
@@ -21,4 +21,4 @@ pub returns : goal.returns
 unfolding candidate_key
 returns c =
     let done : c.parts.i ≡ part_count_of c.args.t = omega (arith, c.p-i-end.ensures.value) in
-    rw (← done, ← c.message_digest-digest.ensures, ← c.with_checksum-string.ensures) (c.finalize.ensures _ c.parts.invariant)
+    record { value = rw (← done, ← c.message_digest-digest.ensures, ← c.with_checksum-string.ensures) (c.finalize.ensures _ c.parts.invariant) }

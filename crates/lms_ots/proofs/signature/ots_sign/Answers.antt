@@ -14,12 +14,12 @@ parts-init c =
       c.in_ok-extend_from_slice.ensures.items,
       c.in_ok-signature.ensures.items,
       c.to_be_bytes.ensures,
-      c.code.ensures,
+      c.code.ensures.value,
     ) (concatenated_none _ _)
 
 pub parts-preserved : goal.parts-preserved
 parts-preserved c =
-    let from = rw c.w-w.ensures at c.coef-steps.ensures.value in
+    let from = rw c.w-w.ensures.value at c.coef-steps.ensures.value in
     let steps : c.coef-steps.result - 0 ≡ coef_of c.with_checksum-string.result c.parts.i (width_of c.args.t) = omega (arith, from) in
     let part = signed_part c.args.t c.args.id.now c.args.q c.args.seed.now c.with_checksum-string.result in
     concatenated_more (to_be_bytes w32 (ots_code_of c.args.t) ++ c.args.c.now) part c.parts.i _ _ _ c.parts.invariant c.in_ok-extend_from_slice-3.ensures.items

@@ -6,7 +6,7 @@ ghost use Rattle.lms_tree.specs.Signatures.{lms_signature_of};
 ghost use Rattle.lms_tree.specs.Verification.{lms_signature_len_of};
 ghost use Rattle.sporc_entry.specs.declared.limits.TheConstants.{MAX_ENTRY, MAX_SIGNATURE};
 ghost use Rattle.sporc_entry.specs.Entry.{entry_bytes, signed_string};
-ghost use Rattle.sporc_client.specs.Drafts.{AreCopies, HasRoom, IsDraft, front_bytes};
+ghost use Rattle.sporc_client.specs.Drafts.{AreCopies, HasRoom, IsDraft, prefix_bytes};
 
 use lms_sign::{Signer, Ticket};
 use lms_tree::LmsPublic;
@@ -69,9 +69,9 @@ fn write_draft(alloc: Global, key: &LmsPublic, entry: &Entry) -> Result<Draft, M
 {
     let message = signed_part(alloc, entry)?;
     let len = signature_len(key);
-    let answer = front(alloc, message.as_slice(), len)?;
-    let flight = front(alloc, message.as_slice(), len)?;
-    let event = front(alloc, message.as_slice(), len)?;
+    let answer = prefix(alloc, message.as_slice(), len)?;
+    let flight = prefix(alloc, message.as_slice(), len)?;
+    let event = prefix(alloc, message.as_slice(), len)?;
     Ok(Draft {
         message,
         answer,
@@ -89,20 +89,20 @@ fn signature_len(key: &LmsPublic) -> u32
 }
 
 // The bytes of an entry up to its signature of `len` bytes, with room for that, by what its author signs.
-fn front(alloc: Global, message: &[u8], len: u32) -> Result<Vec<u8>, Memory>
+fn prefix(alloc: Global, message: &[u8], len: u32) -> Result<Vec<u8>, Memory>
     requires some { 1 ≤ length message.now }
     requires size { length message.now ≤ MAX_ENTRY }
-    ensures items { IfOk result (λ front. front.items ≡ front_bytes len message.now) }
-    ensures room { IfOk result (λ front. vec_len front + len ≤ vec_capacity front) }
+    ensures items { IfOk result (λ prefix. prefix.items ≡ prefix_bytes len message.now) }
+    ensures room { IfOk result (λ prefix. vec_len prefix + len ≤ vec_capacity prefix) }
 {
     let rest = &message[1..];
-    let mut front = Vec::with_capacity(alloc, rest.len() + 4 + len as usize)?;
-    front.extend_from_slice(rest)?;
-    front.extend_from_slice(&len.to_be_bytes())?;
-    Ok(front)
+    let mut prefix = Vec::with_capacity(alloc, rest.len() + 4 + len as usize)?;
+    prefix.extend_from_slice(rest)?;
+    prefix.extend_from_slice(&len.to_be_bytes())?;
+    Ok(prefix)
 }
 
-// Writes the signature behind each front of a draft, in the room that it has.
+// Writes the signature behind each prefix of a draft, in the room that it has.
 fn finish(draft: Draft, signature: &[u8]) -> Made
     requires room { HasRoom (length signature.now) draft }
     ensures answer { result.answer ≡ draft.answer.items ++ signature.now }
@@ -123,10 +123,10 @@ fn finish(draft: Draft, signature: &[u8]) -> Made
 }
 
 // Bytes with a signature behind them, in the room that they have.
-fn with_signature(mut front: Vec<u8>, signature: &[u8]) -> Bytes
-    requires { vec_len front + length signature.now ≤ vec_capacity front }
-    ensures { result ≡ front.items ++ signature.now }
+fn with_signature(mut prefix: Vec<u8>, signature: &[u8]) -> Bytes
+    requires { vec_len prefix + length signature.now ≤ vec_capacity prefix }
+    ensures { result ≡ prefix.items ++ signature.now }
 {
-    let _ = front.extend_from_slice(signature);
-    Bytes::new(front)
+    let _ = prefix.extend_from_slice(signature);
+    Bytes::new(prefix)
 }

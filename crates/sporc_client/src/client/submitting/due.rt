@@ -10,7 +10,7 @@ ghost use Rattle.sporc_head.specs.History.{roster_of};
 ghost use Rattle.sporc_client.specs.ClientInvariant.{plain_of};
 ghost use Rattle.sporc_client.specs.Entries.{kind_of};
 ghost use Rattle.sporc_client.specs.Submissions.{change_due, due, item_due, or_due, step_of, submit_checks};
-ghost use Rattle.sporc_client.specs.Workspace.{Workspace as WorkspaceModel};
+ghost use Rattle.sporc_client.specs.Workspace.{WorkspaceModel};
 
 use crate::client::has_right;
 use crate::fault::SubmitFault;

@@ -1,6 +1,6 @@
 // The entry that a submission makes.
 
-ghost use Rattle.std.specs.Prelude.{◌≡◌, ℕ, ◌<◌, ◌^◌, ◌∷◌, drop, length, take, true, None, Some, Ok, IfOk, IfErr, IfSome, IsSomeAnd, is_ok};
+ghost use Rattle.std.specs.Prelude.{◌≡◌, ℕ, ◌<◌, ◌^◌, ◌∷◌, drop, length, true, None, Some, Ok, IfOk, IfErr, IfSome, IsSomeAnd, is_ok};
 ghost use Rattle.lms_tree.specs.LmsType.{height_of};
 ghost use Rattle.lms_leaf.specs.Leaves.{DrawFaults, Draws};
 ghost use Rattle.sporc_base.specs.Outcome.{GivesUnless};
@@ -14,6 +14,7 @@ ghost use Rattle.sporc_client.specs.Submissions.{due, is_signing, submission};
 use super::draft::{Made, sign_entry};
 use super::unsigned::unsigned_entry;
 use crate::fault::SubmitFault;
+use crate::halves::{first_half, second_half};
 use crate::pending::Pending;
 use crate::submitted::Submitted;
 use crate::workspace::Workspace;
@@ -42,7 +43,7 @@ pub(crate) fn make_entry<D: LeafDisk>(
     ensures submission { IfOk result (λ made. IsSomeAnd (at_hand kept.old signer.old.leaves signer.new.leaves) (λ leaf. IsSubmission (plain_of signer.old.key line.now own.now) leaf made.answer)) }
     ensures undrawn { (leaf : ℕ) → kept.old ≡ Some leaf → signer.new ≡ signer.old }
     ensures drawn { kept.old ≡ None → IsDraw D.stored D.moment D.images D.faults signer.old.leaves signer.new.leaves }
-    ensures kept { kept.new ≡ kept_after kept.old signer.old.leaves signer.new.leaves (is_ok result) }
+    ensures ticket { kept.new ≡ kept_after kept.old signer.old.leaves signer.new.leaves (is_ok result) }
     ensures can_sign { IfSome kept.new (λ leaf. leaf < 2 ^ height_of signer.old.key.lms) }
     ensures key { signer.new.key ≡ signer.old.key }
 {
@@ -109,22 +110,4 @@ fn first_item(own: &Workspace) -> &Pending
     ensures { own.now.pending ≡ result.now ∷ drop 1 own.now.pending }
 {
     &own.pending()[0]
-}
-
-// The first 32 of 64 random bytes.
-fn first_half(random: &[u8; 64]) -> [u8; 32]
-    ensures { result ≡ take 32 random.now }
-{
-    let mut half = [0; 32];
-    half.copy_from_slice(&random[..32]);
-    half
-}
-
-// The last 32 of 64 random bytes.
-fn second_half(random: &[u8; 64]) -> [u8; 32]
-    ensures { result ≡ drop 32 random.now }
-{
-    let mut half = [0; 32];
-    half.copy_from_slice(&random[32..]);
-    half
 }

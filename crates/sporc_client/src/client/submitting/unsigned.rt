@@ -16,7 +16,7 @@ ghost use Rattle.sporc_client.specs.ClientInvariant.{plain_of};
 ghost use Rattle.sporc_client.specs.Contents.{CanTake, IsSpelled};
 ghost use Rattle.sporc_client.specs.Entries.{body_of, sealing_of, unsigned_entry};
 ghost use Rattle.sporc_client.specs.Typed.{IsTypedChange};
-ghost use Rattle.sporc_client.specs.Workspace.{Workspace as WorkspaceModel};
+ghost use Rattle.sporc_client.specs.Workspace.{WorkspaceModel};
 ghost use Rattle.sporc_client.specs.declared.pending.Pending.TheVariants as items;
 
 use super::due::kind_of;

@@ -55,18 +55,18 @@ returns-clause-outcome g c =
 
 -- ---- files
 
-pub returns-in_err-member-clause-asked : goal.returns-in_err-member-clause-asked
-returns-in_err-member-clause-asked g c =
-    asks_member c.names_of-names.result c.args.words.now c.names_of-names.ensures.value _ (ap (λ l. length l) c.as_slice.ensures.value) _ _ c.read_member.ensures.asked
+pub returns-in_err-member-clause-files_may_ask : goal.returns-in_err-member-clause-files_may_ask
+returns-in_err-member-clause-files_may_ask g c =
+    asks_member c.names_of-names.result c.args.words.now c.names_of-names.ensures.value _ (ap (λ l. length l) c.as_slice.ensures.value) _ _ c.read_member.ensures.may_ask
 
-pub returns-in_err-disk-clause-asked : goal.returns-in_err-disk-clause-asked
-returns-in_err-disk-clause-asked g c =
-    asks_leaf c.names_of-names.result c.args.words.now c.names_of-names.ensures.value _ (ap (λ l. length l) c.as_slice.ensures.value) _ _ _ c.read_member.ensures.asked c.lend_disk.ensures.asked
+pub returns-in_err-disk-clause-files_may_ask : goal.returns-in_err-disk-clause-files_may_ask
+returns-in_err-disk-clause-files_may_ask g c =
+    asks_leaf c.names_of-names.result c.args.words.now c.names_of-names.ensures.value _ (ap (λ l. length l) c.as_slice.ensures.value) _ _ _ c.read_member.ensures.may_ask c.lend_disk.ensures.may_ask
 
-pub returns-clause-asked : goal.returns-clause-asked
-returns-clause-asked g c =
-    let all = asks_all c.names_of-names.result c.args.words.now c.names_of-names.ensures.value _ (ap (λ l. length l) c.as_slice.ensures.value) _ _ _ _ c.read_member.ensures.asked
-    c.lend_disk.ensures.asked c.with_disk-result.ensures.asked in
+pub returns-clause-files_may_ask : goal.returns-clause-files_may_ask
+returns-clause-files_may_ask g c =
+    let all = asks_all c.names_of-names.result c.args.words.now c.names_of-names.ensures.value _ (ap (λ l. length l) c.as_slice.ensures.value) _ _ _ _ c.read_member.ensures.may_ask
+    c.lend_disk.ensures.may_ask c.with_disk-result.ensures.files_may_ask in
     subst (λ (o : Option (List (List ℕ))). AsksOnly (map (file_name (names_of c.args.words.now)) (client_files c.args.words.now.member (length c.args.words.now.scripts)))
     (g.F.Folder.asked c.args.files.now) o) (sym c.take_back.ensures.asked) all
 
@@ -76,17 +76,17 @@ returns-clause-lent g c =
 
 pub returns-clause-files_kept : goal.returns-clause-files_kept
 returns-clause-files_kept g c =
-    omega (arith, c.faults-faults.ensures, c.take_back.ensures.count, c.with_disk-result.ensures.files_kept, c.lend_disk.ensures.kept, c.read_member.ensures.kept)
+    omega (arith, c.faults-faults.ensures.value, c.take_back.ensures.count, c.with_disk-result.ensures.files_kept, c.lend_disk.ensures.kept, c.read_member.ensures.kept)
 
 -- ---- the address
 
-pub returns-in_err-member-clause-called : goal.returns-in_err-member-clause-called
-returns-in_err-member-clause-called g c = asks_never 2 _ c.args.words.now.address
+pub returns-in_err-member-clause-net_may_ask : goal.returns-in_err-member-clause-net_may_ask
+returns-in_err-member-clause-net_may_ask g c = asks_never 2 _ c.args.words.now.address
 
-pub returns-in_err-disk-clause-called : goal.returns-in_err-disk-clause-called
-returns-in_err-disk-clause-called g c = asks_never 2 _ c.args.words.now.address
+pub returns-in_err-disk-clause-net_may_ask : goal.returns-in_err-disk-clause-net_may_ask
+returns-in_err-disk-clause-net_may_ask g c = asks_never 2 _ c.args.words.now.address
 
-pub returns-clause-called : goal.returns-clause-called
-returns-clause-called g c =
+pub returns-clause-net_may_ask : goal.returns-clause-net_may_ask
+returns-clause-net_may_ask g c =
     let once = one_for_hints c.in_ok-member.member.ring in
-    asks_less _ 2 _ _ c.args.words.now.address (omega (arith, once)) c.with_disk-result.ensures.called
+    asks_less _ 2 _ _ c.args.words.now.address (omega (arith, once)) c.with_disk-result.ensures.net_may_ask

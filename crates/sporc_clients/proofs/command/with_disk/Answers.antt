@@ -47,7 +47,7 @@ returns-in-Ok-attend-clause-outcome g c =
           c.history_of.ensures.files c.history_of.ensures.kept c.conclude-session.ensures.saved;
       taken = c.conclude-session.ensures.taken;
       answers = answers_so _ c.faults.result _ c.conclude-session.result.session c.in-Ok-attend.ended.result c.conclude-session.result.printed c.conclude-session.result.saved
-          c.faults.ensures c.conclude-session.ensures.session c.first_fault.ensures.value;
+          c.faults.ensures.value c.conclude-session.ensures.session c.first_fault.ensures.value;
     })
 
 pub returns-clause-outcome : goal.returns-clause-outcome
@@ -67,32 +67,32 @@ returns-clause-outcome g c =
 
 -- ---- files
 
-pub returns-in-Err-clause-asked : goal.returns-in-Err-clause-asked
-returns-in-Err-clause-asked g c = AsksOnly-none (file_name (names_of c.args.words.now) (History c.args.words.now.member) ∷ []) (g.F.Folder.asked c.args.files.now)
+pub returns-in-Err-clause-files_may_ask : goal.returns-in-Err-clause-files_may_ask
+returns-in-Err-clause-files_may_ask g c = AsksOnly-none (file_name (names_of c.args.words.now) (History c.args.words.now.member) ∷ []) (g.F.Folder.asked c.args.files.now)
 
-pub returns-in-Err-history_of-clause-asked : goal.returns-in-Err-history_of-clause-asked
-returns-in-Err-history_of-clause-asked g c = asks_history c.names_of.result c.args.words.now c.names_of.ensures.value _ _ c.history_of.ensures.asked
+pub returns-in-Err-history_of-clause-files_may_ask : goal.returns-in-Err-history_of-clause-files_may_ask
+returns-in-Err-history_of-clause-files_may_ask g c = asks_history c.names_of.result c.args.words.now c.names_of.ensures.value _ _ c.history_of.ensures.may_ask
 
-pub returns-in-Ok-attend-clause-asked : goal.returns-in-Ok-attend-clause-asked
-returns-in-Ok-attend-clause-asked g c =
+pub returns-in-Ok-attend-clause-files_may_ask : goal.returns-in-Ok-attend-clause-files_may_ask
+returns-in-Ok-attend-clause-files_may_ask g c =
     asks_history_again c.names_of.result c.args.words.now c.names_of.ensures.value c.as_str-in-Ok-attend.result.now _ _ _
-    (c.as_str-in-Ok-attend.ensures.value ∙ c.in-Ok-history_of.ensures.name) c.history_of.ensures.asked c.conclude-session.ensures.may_ask
+    (c.as_str-in-Ok-attend.ensures.value ∙ c.in-Ok-history_of.ensures.name) c.history_of.ensures.may_ask c.conclude-session.ensures.may_ask
 
-pub returns-clause-asked : goal.returns-clause-asked
-returns-clause-asked g c = asks_history c.names_of.result c.args.words.now c.names_of.ensures.value _ _ c.history_of.ensures.asked
+pub returns-clause-files_may_ask : goal.returns-clause-files_may_ask
+returns-clause-files_may_ask g c = asks_history c.names_of.result c.args.words.now c.names_of.ensures.value _ _ c.history_of.ensures.may_ask
 
 -- ---- the address
 
-pub returns-in-Err-clause-called : goal.returns-in-Err-clause-called
-returns-in-Err-clause-called g c = asks_never _ _ c.args.words.now.address
+pub returns-in-Err-clause-net_may_ask : goal.returns-in-Err-clause-net_may_ask
+returns-in-Err-clause-net_may_ask g c = asks_never _ _ c.args.words.now.address
 
-pub returns-in-Err-history_of-clause-called : goal.returns-in-Err-history_of-clause-called
-returns-in-Err-history_of-clause-called g c = asks_never _ _ c.args.words.now.address
+pub returns-in-Err-history_of-clause-net_may_ask : goal.returns-in-Err-history_of-clause-net_may_ask
+returns-in-Err-history_of-clause-net_may_ask g c = asks_never _ _ c.args.words.now.address
 
-pub returns-in-Ok-attend-clause-called : goal.returns-in-Ok-attend-clause-called
-returns-in-Ok-attend-clause-called g c =
+pub returns-in-Ok-attend-clause-net_may_ask : goal.returns-in-Ok-attend-clause-net_may_ask
+returns-in-Ok-attend-clause-net_may_ask g c =
     subst (AsksAtMost (links_for_hints c.args.member.ring + 1) (g.N.Links.asked c.args.net.now) (g.N.Links.asked c.attend.new.net)) c.as_str.ensures.value c.attend.ensures.may_ask
 
-pub returns-clause-called : goal.returns-clause-called
-returns-clause-called g c =
+pub returns-clause-net_may_ask : goal.returns-clause-net_may_ask
+returns-clause-net_may_ask g c =
     subst (AsksAtMost (links_for_hints c.args.member.ring + 1) (g.N.Links.asked c.args.net.now) (g.N.Links.asked c.attend.new.net)) c.as_str.ensures.value c.attend.ensures.may_ask

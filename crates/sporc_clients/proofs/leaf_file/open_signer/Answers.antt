@@ -8,4 +8,4 @@ pub returns-in-Err-BadLength-default-clause-err : goal.returns-in-Err-BadLength-
 returns-in-Err-BadLength-default-clause-err g c =
     let len = c.in-Err-BadLength-default.len in
     let wrong = c.in-Err-BadLength-default.ensures.err.bad_length len c.in-Err-BadLength-default.field-0-0-is in
-    (refl, subst (λ (h : ℕ). len ≢ block_count h) (c.height-height.ensures.value ∙ ap (λ (p : LmsPublic). height_of p.lms) c.public.ensures) wrong.0, wrong.1)
+    (refl, subst (λ (h : ℕ). len ≢ block_count h) (c.height-height.ensures.value ∙ ap (λ (p : LmsPublic). height_of p.lms) c.public.ensures.value) wrong.0, wrong.1)

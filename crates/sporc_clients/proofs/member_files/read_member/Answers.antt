@@ -1,7 +1,8 @@
 use Rattle.std.proofs.Common.{◌∙◌, arith}
 use Rattle.std.proofs.lemmas.Result.{err_from_is_err_and}
+use Rattle.sporc_files.proofs.FaultCases.{if_err}
 use Rattle.sporc_clients.proofs.Asking.{asks_genesis, asks_key, asks_ring, asks_scripts}
-use Rattle.sporc_clients.proofs.Members.{if_err, key_unread, ring_unread, says_now, scripts_unread}
+use Rattle.sporc_clients.proofs.Members.{key_unread, ring_unread, says_now, scripts_unread}
 use Rattle.sporc_clients.proofs.member_files.read_member.Goals as goal
 
 pub returns-in_err-tree-clause-err : goal.returns-in_err-tree-clause-err
@@ -32,22 +33,22 @@ returns-in_err-editors-clause-err g c =
     (record { genesis_says = c.in_ok-genesis.ensures.ok; key_says = says_now _ _ _ _ _ e c.in_ok-tree.ensures.ok })
     (says_now _ _ _ _ _ f c.in_ok-ring.ensures.ok) c.in_err-editors.ensures.err)
 
-pub returns-in_err-genesis-clause-asked : goal.returns-in_err-genesis-clause-asked
-returns-in_err-genesis-clause-asked g c = asks_genesis c.args.names.now c.args.member c.args.editors _ _ c.read_genesis_file.ensures.asked
+pub returns-in_err-genesis-clause-may_ask : goal.returns-in_err-genesis-clause-may_ask
+returns-in_err-genesis-clause-may_ask g c = asks_genesis c.args.names.now c.args.member c.args.editors _ _ c.read_genesis_file.ensures.may_ask
 
-pub returns-in_err-tree-clause-asked : goal.returns-in_err-tree-clause-asked
-returns-in_err-tree-clause-asked g c = asks_key c.args.names.now c.args.member c.args.editors _ _ _ c.read_genesis_file.ensures.asked c.read_own_key.ensures.asked
+pub returns-in_err-tree-clause-may_ask : goal.returns-in_err-tree-clause-may_ask
+returns-in_err-tree-clause-may_ask g c = asks_key c.args.names.now c.args.member c.args.editors _ _ _ c.read_genesis_file.ensures.may_ask c.read_own_key.ensures.may_ask
 
-pub returns-in_err-ring-clause-asked : goal.returns-in_err-ring-clause-asked
-returns-in_err-ring-clause-asked g c =
-    asks_ring c.args.names.now c.args.member c.args.editors _ _ _ _ c.read_genesis_file.ensures.asked c.read_own_key.ensures.asked c.read_ring_file.ensures.asked
+pub returns-in_err-ring-clause-may_ask : goal.returns-in_err-ring-clause-may_ask
+returns-in_err-ring-clause-may_ask g c =
+    asks_ring c.args.names.now c.args.member c.args.editors _ _ _ _ c.read_genesis_file.ensures.may_ask c.read_own_key.ensures.may_ask c.read_ring_file.ensures.may_ask
 
-pub returns-in_err-editors-clause-asked : goal.returns-in_err-editors-clause-asked
-returns-in_err-editors-clause-asked g c =
-    asks_scripts c.args.names.now c.args.member c.args.editors _ _ _ _ _ c.read_genesis_file.ensures.asked c.read_own_key.ensures.asked c.read_ring_file.ensures.asked
-    c.read_scripts.ensures.asked
+pub returns-in_err-editors-clause-may_ask : goal.returns-in_err-editors-clause-may_ask
+returns-in_err-editors-clause-may_ask g c =
+    asks_scripts c.args.names.now c.args.member c.args.editors _ _ _ _ _ c.read_genesis_file.ensures.may_ask c.read_own_key.ensures.may_ask c.read_ring_file.ensures.may_ask
+    c.read_scripts.ensures.may_ask
 
-pub returns-clause-asked : goal.returns-clause-asked
-returns-clause-asked g c =
-    asks_scripts c.args.names.now c.args.member c.args.editors _ _ _ _ _ c.read_genesis_file.ensures.asked c.read_own_key.ensures.asked c.read_ring_file.ensures.asked
-    c.read_scripts.ensures.asked
+pub returns-clause-may_ask : goal.returns-clause-may_ask
+returns-clause-may_ask g c =
+    asks_scripts c.args.names.now c.args.member c.args.editors _ _ _ _ _ c.read_genesis_file.ensures.may_ask c.read_own_key.ensures.may_ask c.read_ring_file.ensures.may_ask
+    c.read_scripts.ensures.may_ask

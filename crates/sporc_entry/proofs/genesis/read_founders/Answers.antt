@@ -1,8 +1,8 @@
 use Rattle.std.proofs.Common.{refl}
 use Rattle.std.proofs.lemmas.Result.{err_from_is_err_and}
-use Rattle.sporc_entry.specs.Fields.{values_at}
+use Rattle.sporc_bytes.specs.Fields.{values_at}
 use Rattle.sporc_entry.specs.Genesis.{next_founder}
-use Rattle.sporc_entry.proofs.Lists.{goes_on, ends, is_done}
+use Rattle.sporc_bytes.proofs.Lists.{goes_on, ends, is_done}
 use Rattle.sporc_entry.proofs.FounderLoop.{next_is, next_fails, founders_are, founders_fail}
 use Rattle.sporc_entry.proofs.genesis.read_founders.Goals as goal
 

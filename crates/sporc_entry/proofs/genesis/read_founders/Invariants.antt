@@ -1,7 +1,7 @@
 use Rattle.std.proofs.Common.{◌≡◌, ◌-◌}
-use Rattle.sporc_entry.specs.Fields.{values_at}
+use Rattle.sporc_bytes.specs.Fields.{values_at}
 use Rattle.sporc_entry.specs.Genesis.{next_founder}
-use Rattle.sporc_entry.proofs.Lists.{with_front}
+use Rattle.sporc_bytes.proofs.Lists.{with_front}
 use Rattle.sporc_entry.proofs.genesis.read_founders.Given as goal
 
 abbrev pub invariant-loop : goal.invariant-loop

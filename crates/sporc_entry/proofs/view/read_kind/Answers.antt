@@ -2,9 +2,9 @@ use Rattle.std.proofs.Common.{arith, ap, sym}
 use Rattle.std.specs.Result.{result_ok}
 use Rattle.sporc_entry.specs.declared.fault.EntryFault.TheVariants.{Malformed}
 use Rattle.sporc_entry.specs.ChangeBody.{change_body_from}
-use Rattle.sporc_entry.proofs.FieldLaws.{is_read}
+use Rattle.sporc_bytes.proofs.Fields.{fault_as_ok}
 use Rattle.sporc_entry.proofs.ViewLaws.{change_anywhere}
 use Rattle.sporc_entry.proofs.view.read_kind.Goals as goal
 
 pub returns-clause-change : goal.returns-clause-change
-returns-clause-change c = λ _. sym (ap result_ok (change_anywhere 72 c.args.body.now c.in_ok-change.change (λ i. omega (arith, c.type_inv.body i)) (is_read Malformed (change_body_from 72 c.args.body.now) c.in_ok-change.change c.in_ok-change.ensures)))
+returns-clause-change c = λ _. sym (ap result_ok (change_anywhere 72 c.args.body.now c.in_ok-change.change (λ i. omega (arith, c.type_inv.body i)) (fault_as_ok Malformed (change_body_from 72 c.args.body.now) c.in_ok-change.change c.in_ok-change.ensures)))

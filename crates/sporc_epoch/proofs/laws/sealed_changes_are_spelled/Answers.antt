@@ -2,4 +2,4 @@ use Rattle.sporc_epoch.proofs.SpelledBodies.{body_spelled}
 use Rattle.sporc_epoch.proofs.laws.sealed_changes_are_spelled.Goals as goal
 
 pub returns : goal.returns
-returns c = body_spelled
+returns c = record { spelled = body_spelled }

@@ -1,5 +1,5 @@
 use Rattle.std.proofs.Common.{ap, ◌∙◌}
-use Rattle.sporc_founding.specs.KeyMaking.{names_of}
+use Rattle.sporc_files.specs.Names.{names_of_document}
 use Rattle.sporc_founding.proofs.Asking.{found_asks_all, found_asks_keys}
 use Rattle.sporc_founding.proofs.MayFound.{can_found}
 use Rattle.sporc_founding.proofs.founding.found.Goals as goal
@@ -8,20 +8,20 @@ pub make_founding-requires : goal.make_founding-requires
 make_founding-requires g c =
     rw c.as_slice-2.ensures.value (can_found (g.F.Folder.files c.args.files.now) c.of_document-names.result c.args.asked.now c.in_ok-named.named.items c.requires (rw c.as_slice.ensures.value at c.in_ok-named.ensures.ok))
 
-pub returns-in_err-named-clause-asked : goal.returns-in_err-named-clause-asked
-returns-in_err-named-clause-asked g c =
-    found_asks_keys c.of_document-names.result (names_of c.args.asked.now.name) c.as_slice.result.now c.args.asked.now.participants _ (c.of_document-names.ensures.value ∙ ap names_of c.as_str.ensures.value) c.as_slice.ensures.value _ c.read_founders.ensures.asked
+pub returns-in_err-named-clause-may_ask : goal.returns-in_err-named-clause-may_ask
+returns-in_err-named-clause-may_ask g c =
+    found_asks_keys c.of_document-names.result (names_of_document c.args.asked.now.name) c.as_slice.result.now c.args.asked.now.participants _ (c.of_document-names.ensures.value ∙ ap names_of_document c.as_str.ensures.value) c.as_slice.ensures.value _ c.read_founders.ensures.may_ask
 
-pub returns-in_err-founding-clause-asked : goal.returns-in_err-founding-clause-asked
-returns-in_err-founding-clause-asked g c =
-    found_asks_keys c.of_document-names.result (names_of c.args.asked.now.name) c.as_slice.result.now c.args.asked.now.participants _ (c.of_document-names.ensures.value ∙ ap names_of c.as_str.ensures.value) c.as_slice.ensures.value _ c.read_founders.ensures.asked
+pub returns-in_err-founding-clause-may_ask : goal.returns-in_err-founding-clause-may_ask
+returns-in_err-founding-clause-may_ask g c =
+    found_asks_keys c.of_document-names.result (names_of_document c.args.asked.now.name) c.as_slice.result.now c.args.asked.now.participants _ (c.of_document-names.ensures.value ∙ ap names_of_document c.as_str.ensures.value) c.as_slice.ensures.value _ c.read_founders.ensures.may_ask
 
-pub returns-in_err-write_founding-clause-asked : goal.returns-in_err-write_founding-clause-asked
-returns-in_err-write_founding-clause-asked g c =
-    found_asks_all c.of_document-names.result (names_of c.args.asked.now.name) c.as_slice.result.now c.args.asked.now.participants _ (c.of_document-names.ensures.value ∙ ap names_of c.as_str.ensures.value) c.as_slice.ensures.value
-    _ c.in_ok-named.named.items _ _ c.in_ok-founding.founding _ _ c.in_ok-named.ensures.ok (rw c.as_slice-2.ensures.value at c.in_ok-founding.ensures.ok) c.read_founders.ensures.asked c.write_founding.ensures.asked
+pub returns-in_err-write_founding-clause-may_ask : goal.returns-in_err-write_founding-clause-may_ask
+returns-in_err-write_founding-clause-may_ask g c =
+    found_asks_all c.of_document-names.result (names_of_document c.args.asked.now.name) c.as_slice.result.now c.args.asked.now.participants _ (c.of_document-names.ensures.value ∙ ap names_of_document c.as_str.ensures.value) c.as_slice.ensures.value
+    _ c.in_ok-named.named.items _ _ c.in_ok-founding.founding _ _ c.in_ok-named.ensures.ok (rw c.as_slice-2.ensures.value at c.in_ok-founding.ensures.ok) c.read_founders.ensures.may_ask c.write_founding.ensures.may_ask
 
-pub returns-clause-asked : goal.returns-clause-asked
-returns-clause-asked g c =
-    found_asks_all c.of_document-names.result (names_of c.args.asked.now.name) c.as_slice.result.now c.args.asked.now.participants _ (c.of_document-names.ensures.value ∙ ap names_of c.as_str.ensures.value) c.as_slice.ensures.value
-    _ c.in_ok-named.named.items _ _ c.in_ok-founding.founding _ _ c.in_ok-named.ensures.ok (rw c.as_slice-2.ensures.value at c.in_ok-founding.ensures.ok) c.read_founders.ensures.asked c.write_founding.ensures.asked
+pub returns-clause-may_ask : goal.returns-clause-may_ask
+returns-clause-may_ask g c =
+    found_asks_all c.of_document-names.result (names_of_document c.args.asked.now.name) c.as_slice.result.now c.args.asked.now.participants _ (c.of_document-names.ensures.value ∙ ap names_of_document c.as_str.ensures.value) c.as_slice.ensures.value
+    _ c.in_ok-named.named.items _ _ c.in_ok-founding.founding _ _ c.in_ok-named.ensures.ok (rw c.as_slice-2.ensures.value at c.in_ok-founding.ensures.ok) c.read_founders.ensures.may_ask c.write_founding.ensures.may_ask

@@ -10,19 +10,19 @@ use Rattle.sporc_founding.proofs.founding.write_founding.Goals as goal
 
 pub returns-clause-err : goal.returns-clause-err
 returns-clause-err g c =
-    let first = rw (c.as_slice.ensures.value, c.in_ok-bytes.ensures) at c.in_ok-write_whole_file.ensures.ok in
+    let first = rw (c.as_slice.ensures.value, c.in_ok-bytes.ensures.ok) at c.in_ok-write_whole_file.ensures.ok in
     let rest = rw c.as_slice-2.ensures.value at c.write_rings.ensures.err in
     behind_err (file_with c.args.names.now files.Genesis (genesis_bytes c.args.founding.now.genesis)) (map (ring_of_founding c.args.names.now) c.args.founding.now.rings) _ _ _ _ _ _
     first c.write_whole_file.ensures.kept c.write_rings.result rest
 
-pub returns-in_err-bytes-clause-asked : goal.returns-in_err-bytes-clause-asked
-returns-in_err-bytes-clause-asked g c = AsksOnly-none (names_in (founding_files c.args.names.now c.args.founding.now)) _
+pub returns-in_err-bytes-clause-may_ask : goal.returns-in_err-bytes-clause-may_ask
+returns-in_err-bytes-clause-may_ask g c = AsksOnly-none (names_in (founding_files c.args.names.now c.args.founding.now)) _
 
-pub returns-in_err-write_whole_file-clause-asked : goal.returns-in_err-write_whole_file-clause-asked
-returns-in_err-write_whole_file-clause-asked g c =
-    asks_first (file_name c.args.names.now files.Genesis ∷ []) (names_in (map (ring_of_founding c.args.names.now) c.args.founding.now.rings)) _ _ c.write_whole_file.ensures.asked
+pub returns-in_err-write_whole_file-clause-may_ask : goal.returns-in_err-write_whole_file-clause-may_ask
+returns-in_err-write_whole_file-clause-may_ask g c =
+    asks_first (file_name c.args.names.now files.Genesis ∷ []) (names_in (map (ring_of_founding c.args.names.now) c.args.founding.now.rings)) _ _ c.write_whole_file.ensures.may_ask
 
-pub returns-clause-asked : goal.returns-clause-asked
-returns-clause-asked g c =
-    let rest = rw c.as_slice-2.ensures.value at c.write_rings.ensures.asked in
-    asks_then (file_name c.args.names.now files.Genesis ∷ []) (names_in (map (ring_of_founding c.args.names.now) c.args.founding.now.rings)) _ _ _ c.write_whole_file.ensures.asked rest
+pub returns-clause-may_ask : goal.returns-clause-may_ask
+returns-clause-may_ask g c =
+    let rest = rw c.as_slice-2.ensures.value at c.write_rings.ensures.may_ask in
+    asks_then (file_name c.args.names.now files.Genesis ∷ []) (names_in (map (ring_of_founding c.args.names.now) c.args.founding.now.rings)) _ _ _ c.write_whole_file.ensures.may_ask rest

@@ -5,17 +5,17 @@ use Rattle.sporc_files.proofs.Asking.{asks_first, asks_then}
 use Rattle.sporc_founding.proofs.KeyFiles.{both_written, on_ok}
 use Rattle.sporc_founding.proofs.key_making.write_files.Goals as goal
 
-pub returns-in_err-write_new_file-clause-asked : goal.returns-in_err-write_new_file-clause-asked
-returns-in_err-write_new_file-clause-asked g c =
+pub returns-in_err-write_new_file-clause-may_ask : goal.returns-in_err-write_new_file-clause-may_ask
+returns-in_err-write_new_file-clause-may_ask g c =
     asks_first (file_name c.args.names.now (files.Key c.args.key.now.file.member) ∷ []) (file_name c.args.names.now (files.Leaf c.args.key.now.file.member) ∷ []) _ _
-    c.write_new_file.ensures.asked
+    c.write_new_file.ensures.may_ask
 
 pub returns-clause-ok : goal.returns-clause-ok
 returns-clause-ok g c =
     on_ok c.write_new_file-2.result _ _ _ (both_written c.args.names.now c.args.key.now _ _ _ c.as_slice.result.now c.as_slice-2.result.now (c.as_slice.ensures.value ∙ c.in_ok-bytes.ensures.value) (cc)
     c.in_ok-write_new_file.ensures.was_new c.in_ok-write_new_file.ensures.ok) c.write_new_file-2.ensures.was_new c.write_new_file-2.ensures.ok
 
-pub returns-clause-asked : goal.returns-clause-asked
-returns-clause-asked g c =
+pub returns-clause-may_ask : goal.returns-clause-may_ask
+returns-clause-may_ask g c =
     asks_then (file_name c.args.names.now (files.Key c.args.key.now.file.member) ∷ []) (file_name c.args.names.now (files.Leaf c.args.key.now.file.member) ∷ []) _ _ _
-    c.write_new_file.ensures.asked c.write_new_file-2.ensures.asked
+    c.write_new_file.ensures.may_ask c.write_new_file-2.ensures.may_ask

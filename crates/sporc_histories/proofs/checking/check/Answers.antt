@@ -11,7 +11,7 @@ returns-in_err-len-clause-outcome g c =
     record {
       content = content;
       are = are;
-      reads = record { unchanged = c.in_err-len.ensures.files; lent = c.in_err-len.ensures.lent; asked = c.in_err-len.ensures.asked; count = c.in_err-len.ensures.kept };
+      reads = record { unchanged = c.in_err-len.ensures.files; lent = c.in_err-len.ensures.lent; may_ask = c.in_err-len.ensures.may_ask; kept = c.in_err-len.ensures.kept };
       writes = not_found IsCheckedLine _ _ _ (λ (len : ℕ). len) _ _ (failed.1 ∙ ap Err failed.2) tells (record { written = refl; faults = refl });
     }
 
@@ -22,7 +22,7 @@ returns-in_err-line-clause-outcome g c =
     record {
       content = content;
       are = are;
-      reads = record { unchanged = c.in_ok-len.ensures.files; lent = c.in_ok-len.ensures.lent; asked = c.in_ok-len.ensures.asked; count = c.in_ok-len.ensures.kept };
+      reads = record { unchanged = c.in_ok-len.ensures.files; lent = c.in_ok-len.ensures.lent; may_ask = c.in_ok-len.ensures.may_ask; kept = c.in_ok-len.ensures.kept };
       writes = no_memory IsCheckedLine _ _ _ _ (failed.1 ∙ ap Err failed.2) (record { written = refl; faults = refl });
     }
 
@@ -33,7 +33,7 @@ returns-in_err-write_all-clause-outcome g c =
     record {
       content = content;
       are = are;
-      reads = record { unchanged = c.in_ok-len.ensures.files; lent = c.in_ok-len.ensures.lent; asked = c.in_ok-len.ensures.asked; count = c.in_ok-len.ensures.kept };
+      reads = record { unchanged = c.in_ok-len.ensures.files; lent = c.in_ok-len.ensures.lent; may_ask = c.in_ok-len.ensures.may_ask; kept = c.in_ok-len.ensures.kept };
       writes = line_cut IsCheckedLine _ _ _ c.in_ok-len.len c.as_bytes.result.now _ (failed.1 ∙ ap Err failed.2) tells (c.as_bytes.ensures.value ∙ c.in_ok-line.ensures) c.in_err-write_all.ensures.err c.in_err-write_all.ensures.count.failed;
     }
 
@@ -43,6 +43,6 @@ returns-clause-outcome g c =
     record {
       content = content;
       are = are;
-      reads = record { unchanged = c.in_ok-len.ensures.files; lent = c.in_ok-len.ensures.lent; asked = c.in_ok-len.ensures.asked; count = c.in_ok-len.ensures.kept };
+      reads = record { unchanged = c.in_ok-len.ensures.files; lent = c.in_ok-len.ensures.lent; may_ask = c.in_ok-len.ensures.may_ask; kept = c.in_ok-len.ensures.kept };
       writes = line_written IsCheckedLine _ _ _ c.in_ok-len.len c.as_bytes.result.now tells (c.as_bytes.ensures.value ∙ c.in_ok-line.ensures) c.in_ok-write_all.ensures.ok;
     }

@@ -5,31 +5,31 @@ use Rattle.sporc_keys.specs.RingFile.{ring_file_of_member}
 use Rattle.sporc_files.specs.declared.file.File.TheVariants as files
 use Rattle.sporc_files.specs.Names.{file_name}
 use Rattle.sporc_files.specs.Reading.{IsFileFault, SaysFile, any_bytes, own_key_file}
-use Rattle.sporc_histories.specs.Contents.{Tells}
+use Rattle.sporc_histories.specs.Contents.{AnswersUnlessOutside}
 use Rattle.sporc_histories.specs.Checking.{examined}
 use Rattle.sporc_files.proofs.Asking.{asks_first, asks_then}
 use Rattle.sporc_histories.proofs.Examined.{all_read, genesis_fails, history_fails, key_fails, ring_fails}
 use Rattle.sporc_histories.proofs.checking.read_checked.Goals as goal
 
-pub returns-in_err-genesis-clause-asked : goal.returns-in_err-genesis-clause-asked
-returns-in_err-genesis-clause-asked g c =
-    asks_first (file_name c.args.names.now files.Genesis ∷ []) (file_name c.args.names.now (files.Key c.args.member) ∷ file_name c.args.names.now (files.Ring c.args.member) ∷ file_name c.args.names.now (files.History c.args.member) ∷ []) _ _ c.in_err-genesis.ensures.asked
+pub returns-in_err-genesis-clause-may_ask : goal.returns-in_err-genesis-clause-may_ask
+returns-in_err-genesis-clause-may_ask g c =
+    asks_first (file_name c.args.names.now files.Genesis ∷ []) (file_name c.args.names.now (files.Key c.args.member) ∷ file_name c.args.names.now (files.Ring c.args.member) ∷ file_name c.args.names.now (files.History c.args.member) ∷ []) _ _ c.in_err-genesis.ensures.may_ask
 
-pub returns-in_err-read_own_key-clause-asked : goal.returns-in_err-read_own_key-clause-asked
-returns-in_err-read_own_key-clause-asked g c =
-    asks_then (file_name c.args.names.now files.Genesis ∷ []) (file_name c.args.names.now (files.Key c.args.member) ∷ file_name c.args.names.now (files.Ring c.args.member) ∷ file_name c.args.names.now (files.History c.args.member) ∷ []) _ _ _ c.in_ok-genesis.ensures.asked (asks_first (file_name c.args.names.now (files.Key c.args.member) ∷ []) (file_name c.args.names.now (files.Ring c.args.member) ∷ file_name c.args.names.now (files.History c.args.member) ∷ []) _ _ c.in_err-read_own_key.ensures.asked)
+pub returns-in_err-read_own_key-clause-may_ask : goal.returns-in_err-read_own_key-clause-may_ask
+returns-in_err-read_own_key-clause-may_ask g c =
+    asks_then (file_name c.args.names.now files.Genesis ∷ []) (file_name c.args.names.now (files.Key c.args.member) ∷ file_name c.args.names.now (files.Ring c.args.member) ∷ file_name c.args.names.now (files.History c.args.member) ∷ []) _ _ _ c.in_ok-genesis.ensures.may_ask (asks_first (file_name c.args.names.now (files.Key c.args.member) ∷ []) (file_name c.args.names.now (files.Ring c.args.member) ∷ file_name c.args.names.now (files.History c.args.member) ∷ []) _ _ c.in_err-read_own_key.ensures.may_ask)
 
-pub returns-in_err-ring-clause-asked : goal.returns-in_err-ring-clause-asked
-returns-in_err-ring-clause-asked g c =
-    asks_then (file_name c.args.names.now files.Genesis ∷ []) (file_name c.args.names.now (files.Key c.args.member) ∷ file_name c.args.names.now (files.Ring c.args.member) ∷ file_name c.args.names.now (files.History c.args.member) ∷ []) _ _ _ c.in_ok-genesis.ensures.asked (asks_then (file_name c.args.names.now (files.Key c.args.member) ∷ []) (file_name c.args.names.now (files.Ring c.args.member) ∷ file_name c.args.names.now (files.History c.args.member) ∷ []) _ _ _ c.in_ok-read_own_key.ensures.asked (asks_first (file_name c.args.names.now (files.Ring c.args.member) ∷ []) (file_name c.args.names.now (files.History c.args.member) ∷ []) _ _ c.in_err-ring.ensures.asked))
+pub returns-in_err-ring-clause-may_ask : goal.returns-in_err-ring-clause-may_ask
+returns-in_err-ring-clause-may_ask g c =
+    asks_then (file_name c.args.names.now files.Genesis ∷ []) (file_name c.args.names.now (files.Key c.args.member) ∷ file_name c.args.names.now (files.Ring c.args.member) ∷ file_name c.args.names.now (files.History c.args.member) ∷ []) _ _ _ c.in_ok-genesis.ensures.may_ask (asks_then (file_name c.args.names.now (files.Key c.args.member) ∷ []) (file_name c.args.names.now (files.Ring c.args.member) ∷ file_name c.args.names.now (files.History c.args.member) ∷ []) _ _ _ c.in_ok-read_own_key.ensures.may_ask (asks_first (file_name c.args.names.now (files.Ring c.args.member) ∷ []) (file_name c.args.names.now (files.History c.args.member) ∷ []) _ _ c.in_err-ring.ensures.may_ask))
 
-pub returns-in_err-history-clause-asked : goal.returns-in_err-history-clause-asked
-returns-in_err-history-clause-asked g c =
-    asks_then (file_name c.args.names.now files.Genesis ∷ []) (file_name c.args.names.now (files.Key c.args.member) ∷ file_name c.args.names.now (files.Ring c.args.member) ∷ file_name c.args.names.now (files.History c.args.member) ∷ []) _ _ _ c.in_ok-genesis.ensures.asked (asks_then (file_name c.args.names.now (files.Key c.args.member) ∷ []) (file_name c.args.names.now (files.Ring c.args.member) ∷ file_name c.args.names.now (files.History c.args.member) ∷ []) _ _ _ c.in_ok-read_own_key.ensures.asked (asks_then (file_name c.args.names.now (files.Ring c.args.member) ∷ []) (file_name c.args.names.now (files.History c.args.member) ∷ []) _ _ _ c.in_ok-ring.ensures.asked c.in_err-history.ensures.asked))
+pub returns-in_err-history-clause-may_ask : goal.returns-in_err-history-clause-may_ask
+returns-in_err-history-clause-may_ask g c =
+    asks_then (file_name c.args.names.now files.Genesis ∷ []) (file_name c.args.names.now (files.Key c.args.member) ∷ file_name c.args.names.now (files.Ring c.args.member) ∷ file_name c.args.names.now (files.History c.args.member) ∷ []) _ _ _ c.in_ok-genesis.ensures.may_ask (asks_then (file_name c.args.names.now (files.Key c.args.member) ∷ []) (file_name c.args.names.now (files.Ring c.args.member) ∷ file_name c.args.names.now (files.History c.args.member) ∷ []) _ _ _ c.in_ok-read_own_key.ensures.may_ask (asks_then (file_name c.args.names.now (files.Ring c.args.member) ∷ []) (file_name c.args.names.now (files.History c.args.member) ∷ []) _ _ _ c.in_ok-ring.ensures.may_ask c.in_err-history.ensures.may_ask))
 
-pub returns-clause-asked : goal.returns-clause-asked
-returns-clause-asked g c =
-    asks_then (file_name c.args.names.now files.Genesis ∷ []) (file_name c.args.names.now (files.Key c.args.member) ∷ file_name c.args.names.now (files.Ring c.args.member) ∷ file_name c.args.names.now (files.History c.args.member) ∷ []) _ _ _ c.in_ok-genesis.ensures.asked (asks_then (file_name c.args.names.now (files.Key c.args.member) ∷ []) (file_name c.args.names.now (files.Ring c.args.member) ∷ file_name c.args.names.now (files.History c.args.member) ∷ []) _ _ _ c.in_ok-read_own_key.ensures.asked (asks_then (file_name c.args.names.now (files.Ring c.args.member) ∷ []) (file_name c.args.names.now (files.History c.args.member) ∷ []) _ _ _ c.in_ok-ring.ensures.asked c.in_ok-history.ensures.asked))
+pub returns-clause-may_ask : goal.returns-clause-may_ask
+returns-clause-may_ask g c =
+    asks_then (file_name c.args.names.now files.Genesis ∷ []) (file_name c.args.names.now (files.Key c.args.member) ∷ file_name c.args.names.now (files.Ring c.args.member) ∷ file_name c.args.names.now (files.History c.args.member) ∷ []) _ _ _ c.in_ok-genesis.ensures.may_ask (asks_then (file_name c.args.names.now (files.Key c.args.member) ∷ []) (file_name c.args.names.now (files.Ring c.args.member) ∷ file_name c.args.names.now (files.History c.args.member) ∷ []) _ _ _ c.in_ok-read_own_key.ensures.may_ask (asks_then (file_name c.args.names.now (files.Ring c.args.member) ∷ []) (file_name c.args.names.now (files.History c.args.member) ∷ []) _ _ _ c.in_ok-ring.ensures.may_ask c.in_ok-history.ensures.may_ask))
 
 pub returns-in_err-genesis-clause-found : goal.returns-in_err-genesis-clause-found
 returns-in_err-genesis-clause-found g c =
@@ -66,4 +66,4 @@ returns-clause-found g c =
     (subst (λ (t : Option (List NamedFile)). SaysFile (own_key_file c.in_ok-genesis.genesis.founders c.args.member) t (file_name c.args.names.now (files.Key c.args.member)) c.in_ok-read_own_key.field-0) c.in_ok-genesis.ensures.files c.in_ok-read_own_key.ensures.ok)
     (subst (λ (t : Option (List NamedFile)). SaysFile (ring_file_of_member c.args.member) t (file_name c.args.names.now (files.Ring c.args.member)) c.in_ok-ring.ring) (c.in_ok-read_own_key.ensures.files ∙ c.in_ok-genesis.ensures.files) c.in_ok-ring.ensures.ok)
     (subst (λ (t : Option (List NamedFile)). SaysFile any_bytes t (file_name c.args.names.now (files.History c.args.member)) c.in_ok-history.history.items) (c.in_ok-ring.ensures.files ∙ c.in_ok-read_own_key.ensures.files ∙ c.in_ok-genesis.ensures.files) c.in_ok-history.ensures.ok)
-    (subst (λ (b : List ℕ). Tells (λ (len : ℕ). len) ⊥ c.examine.result (examined c.in_ok-genesis.genesis c.args.member c.in_ok-ring.ring b)) c.as_slice.ensures.value c.examine.ensures.value)
+    (subst (λ (b : List ℕ). AnswersUnlessOutside (λ (len : ℕ). len) ⊥ c.examine.result (examined c.in_ok-genesis.genesis c.args.member c.in_ok-ring.ring b)) c.as_slice.ensures.value c.examine.ensures.value)

@@ -12,7 +12,7 @@ returns-in_err-chains-clause-outcome g c =
     record {
       content = content;
       are = are;
-      reads = record { unchanged = c.in_err-chains.ensures.files; lent = c.in_err-chains.ensures.lent; asked = c.in_err-chains.ensures.asked; count = c.in_err-chains.ensures.kept };
+      reads = record { unchanged = c.in_err-chains.ensures.files; lent = c.in_err-chains.ensures.lent; may_ask = c.in_err-chains.ensures.may_ask; kept = c.in_err-chains.ensures.kept };
       writes = not_found (IsVerdictLine c.args.first c.args.second) _ _ _ both_chains _ _ (failed.1 ∙ ap Err failed.2) tells (record { written = refl; faults = refl });
     }
 
@@ -23,7 +23,7 @@ returns-in_err-line-clause-outcome g c =
     record {
       content = content;
       are = are;
-      reads = record { unchanged = c.in_ok-chains.ensures.files; lent = c.in_ok-chains.ensures.lent; asked = c.in_ok-chains.ensures.asked; count = c.in_ok-chains.ensures.kept };
+      reads = record { unchanged = c.in_ok-chains.ensures.files; lent = c.in_ok-chains.ensures.lent; may_ask = c.in_ok-chains.ensures.may_ask; kept = c.in_ok-chains.ensures.kept };
       writes = no_memory (IsVerdictLine c.args.first c.args.second) _ _ _ _ (failed.1 ∙ ap Err failed.2) (record { written = refl; faults = refl });
     }
 
@@ -34,7 +34,7 @@ returns-in_err-write_all-clause-outcome g c =
     record {
       content = content;
       are = are;
-      reads = record { unchanged = c.in_ok-chains.ensures.files; lent = c.in_ok-chains.ensures.lent; asked = c.in_ok-chains.ensures.asked; count = c.in_ok-chains.ensures.kept };
+      reads = record { unchanged = c.in_ok-chains.ensures.files; lent = c.in_ok-chains.ensures.lent; may_ask = c.in_ok-chains.ensures.may_ask; kept = c.in_ok-chains.ensures.kept };
       writes = line_cut (IsVerdictLine c.args.first c.args.second) _ _ _ (both_chains c.in_ok-chains.chains) c.as_bytes.result.now _ (failed.1 ∙ ap Err failed.2) tells (verdict_says c.args.first c.args.second _ _ _ _ _ _ c.as_slice.ensures.value c.as_slice-2.ensures.value c.as_bytes.ensures.value c.in_ok-line.ensures) c.in_err-write_all.ensures.err c.in_err-write_all.ensures.count.failed;
     }
 
@@ -44,6 +44,6 @@ returns-clause-outcome g c =
     record {
       content = content;
       are = are;
-      reads = record { unchanged = c.in_ok-chains.ensures.files; lent = c.in_ok-chains.ensures.lent; asked = c.in_ok-chains.ensures.asked; count = c.in_ok-chains.ensures.kept };
+      reads = record { unchanged = c.in_ok-chains.ensures.files; lent = c.in_ok-chains.ensures.lent; may_ask = c.in_ok-chains.ensures.may_ask; kept = c.in_ok-chains.ensures.kept };
       writes = line_written (IsVerdictLine c.args.first c.args.second) _ _ _ (both_chains c.in_ok-chains.chains) c.as_bytes.result.now tells (verdict_says c.args.first c.args.second _ _ _ _ _ _ c.as_slice.ensures.value c.as_slice-2.ensures.value c.as_bytes.ensures.value c.in_ok-line.ensures) c.in_ok-write_all.ensures.ok;
     }

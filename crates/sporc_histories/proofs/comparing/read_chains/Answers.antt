@@ -11,28 +11,28 @@ returns-in_err-genesis-clause-found g c =
     let failed = err_from_is_err_and c.from_residual.result c.from_residual.ensures.1 in
     genesis_fails (g.F.Folder.files c.args.files.now) c.args.names.now c.args.first c.args.second _ _ _ _ (failed.1 ∙ ap Err failed.2) c.in_err-genesis.ensures.err
 
-pub returns-in_err-genesis-clause-asked : goal.returns-in_err-genesis-clause-asked
-returns-in_err-genesis-clause-asked g c =
+pub returns-in_err-genesis-clause-may_ask : goal.returns-in_err-genesis-clause-may_ask
+returns-in_err-genesis-clause-may_ask g c =
     let names = c.args.names.now in
-    asks_first (file_name names files.Genesis ∷ []) (file_name names (files.History c.args.first) ∷ file_name names (files.History c.args.second) ∷ []) _ _ c.in_err-genesis.ensures.asked
+    asks_first (file_name names files.Genesis ∷ []) (file_name names (files.History c.args.first) ∷ file_name names (files.History c.args.second) ∷ []) _ _ c.in_err-genesis.ensures.may_ask
 
-pub returns-in_err-one-clause-asked : goal.returns-in_err-one-clause-asked
-returns-in_err-one-clause-asked g c =
+pub returns-in_err-one-clause-may_ask : goal.returns-in_err-one-clause-may_ask
+returns-in_err-one-clause-may_ask g c =
     let names = c.args.names.now in
-    asks_then (file_name names files.Genesis ∷ []) (file_name names (files.History c.args.first) ∷ file_name names (files.History c.args.second) ∷ []) _ _ _ c.in_ok-genesis.ensures.asked
-    (asks_first (file_name names (files.History c.args.first) ∷ []) (file_name names (files.History c.args.second) ∷ []) _ _ c.in_err-one.ensures.asked)
+    asks_then (file_name names files.Genesis ∷ []) (file_name names (files.History c.args.first) ∷ file_name names (files.History c.args.second) ∷ []) _ _ _ c.in_ok-genesis.ensures.may_ask
+    (asks_first (file_name names (files.History c.args.first) ∷ []) (file_name names (files.History c.args.second) ∷ []) _ _ c.in_err-one.ensures.may_ask)
 
-pub returns-in_err-other-clause-asked : goal.returns-in_err-other-clause-asked
-returns-in_err-other-clause-asked g c =
+pub returns-in_err-other-clause-may_ask : goal.returns-in_err-other-clause-may_ask
+returns-in_err-other-clause-may_ask g c =
     let names = c.args.names.now in
-    asks_then (file_name names files.Genesis ∷ []) (file_name names (files.History c.args.first) ∷ file_name names (files.History c.args.second) ∷ []) _ _ _ c.in_ok-genesis.ensures.asked
-    (asks_then (file_name names (files.History c.args.first) ∷ []) (file_name names (files.History c.args.second) ∷ []) _ _ _ c.in_ok-one.ensures.asked c.in_err-other.ensures.asked)
+    asks_then (file_name names files.Genesis ∷ []) (file_name names (files.History c.args.first) ∷ file_name names (files.History c.args.second) ∷ []) _ _ _ c.in_ok-genesis.ensures.may_ask
+    (asks_then (file_name names (files.History c.args.first) ∷ []) (file_name names (files.History c.args.second) ∷ []) _ _ _ c.in_ok-one.ensures.may_ask c.in_err-other.ensures.may_ask)
 
-pub returns-clause-asked : goal.returns-clause-asked
-returns-clause-asked g c =
+pub returns-clause-may_ask : goal.returns-clause-may_ask
+returns-clause-may_ask g c =
     let names = c.args.names.now in
-    asks_then (file_name names files.Genesis ∷ []) (file_name names (files.History c.args.first) ∷ file_name names (files.History c.args.second) ∷ []) _ _ _ c.in_ok-genesis.ensures.asked
-    (asks_then (file_name names (files.History c.args.first) ∷ []) (file_name names (files.History c.args.second) ∷ []) _ _ _ c.in_ok-one.ensures.asked c.in_ok-other.ensures.asked)
+    asks_then (file_name names files.Genesis ∷ []) (file_name names (files.History c.args.first) ∷ file_name names (files.History c.args.second) ∷ []) _ _ _ c.in_ok-genesis.ensures.may_ask
+    (asks_then (file_name names (files.History c.args.first) ∷ []) (file_name names (files.History c.args.second) ∷ []) _ _ _ c.in_ok-one.ensures.may_ask c.in_ok-other.ensures.may_ask)
 
 pub returns-in_err-one-clause-found : goal.returns-in_err-one-clause-found
 returns-in_err-one-clause-found g c =

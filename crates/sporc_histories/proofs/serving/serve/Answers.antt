@@ -14,14 +14,14 @@ returns-in_err-order-clause-outcome g c =
     inl (record {
       content = content;
       are = are;
-      reads = record { unchanged = c.in_err-order.ensures.files; lent = c.in_err-order.ensures.lent; asked = c.in_err-order.ensures.asked; count = c.in_err-order.ensures.kept };
+      reads = record { unchanged = c.in_err-order.ensures.files; lent = c.in_err-order.ensures.lent; may_ask = c.in_err-order.ensures.may_ask; kept = c.in_err-order.ensures.kept };
       fails = to_begin _ _ _ _ _ (failed.1 ∙ ap Err failed.2) tells;
       net = refl;
       unwritten = record { written = refl; faults = refl };
     })
 
-pub returns-clause-asked : goal.returns-clause-asked
-returns-clause-asked g c = asks_again (file_name c.args.names.now files.Genesis ∷ []) (file_name c.args.names.now files.Log ∷ []) _ _ _ c.in_ok-order.ensures.asked c.keep_log-kept.ensures.asked
+pub returns-clause-files_may_ask : goal.returns-clause-files_may_ask
+returns-clause-files_may_ask g c = asks_again (file_name c.args.names.now files.Genesis ∷ []) (file_name c.args.names.now files.Log ∷ []) _ _ _ c.in_ok-order.ensures.may_ask c.keep_log-kept.ensures.may_ask
 
 pub returns-clause-outcome : goal.returns-clause-outcome
 returns-clause-outcome g c =

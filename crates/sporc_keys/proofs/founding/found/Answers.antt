@@ -11,7 +11,7 @@ returns g c =
     let first : List ℕ = c.in_ok-first.first in
     let key : List ℕ = c.in_ok-key.key in
     let shared : List SharedKey = c.in_ok-shared.shared.items in
-    let ordered : AreInOrder all = are_in_order c.args.named.now c.requires in
+    let ordered : AreInOrder all = are_in_order c.args.named.now c.requires.named in
     let named : c.in_ok-named.named.items ≡ all = c.in_ok-named.ensures in
     let numbers : c.in_ok-numbers.numbers.items ≡ numbers_of all = c.in_ok-numbers.ensures ∙ ap numbers_of (c.as_slice.ensures.value ∙ named) in
     let len_first : length c.in_ok-first.first ≡ 32 = search rules in
@@ -21,7 +21,7 @@ returns g c =
     let words : Words (g.C.Chance.given c.args.chance.now) (g.C.Chance.given c.draw_pairs.new.chance) all first key shared =
     words_are (g.C.Chance.given c.args.chance.now) (g.C.Chance.given c.fill32.new.self) (g.C.Chance.given c.fill32-2.new.self) (g.C.Chance.given c.draw_pairs.new.chance) all c.in_ok-numbers.numbers.items first key shared numbers len_first len_key c.in_ok-first.ensures.ok c.in_ok-key.ensures.ok more in
     let genesis : c.in_ok-genesis.genesis ≡ genesis_of (take 16 first) key all =
-    c.in_ok-genesis.ensures.value ∙ ap₂ (λ (d : List ℕ) (ns : List Named). genesis_of d key ns) c.front_of.ensures (c.as_slice-3.ensures.value ∙ named) in
+    c.in_ok-genesis.ensures.value ∙ ap₂ (λ (d : List ℕ) (ns : List Named). genesis_of d key ns) c.prefix_of.ensures (c.as_slice-3.ensures.value ∙ named) in
     let rings : c.new.result ≡ map (ring_of key shared) all =
     c.new.ensures.value ∙ c.in_ok-rings.ensures ∙ ap₂ (λ (s : List SharedKey) (ns : List Named). map (ring_of key s) ns) c.as_slice-4.ensures.value (c.as_slice-5.ensures.value ∙ named) in
     record {

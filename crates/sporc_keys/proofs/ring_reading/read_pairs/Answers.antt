@@ -1,7 +1,7 @@
 use Rattle.std.proofs.Common.{refl}
 use Rattle.std.proofs.lemmas.Result.{err_from_is_err_and}
-use Rattle.sporc_entry.specs.Fields.{values_at}
-use Rattle.sporc_entry.proofs.Lists.{goes_on, ends, is_done}
+use Rattle.sporc_bytes.specs.Fields.{values_at}
+use Rattle.sporc_bytes.proofs.Lists.{goes_on, ends, is_done}
 use Rattle.sporc_keys.specs.RingFile.{next_pair}
 use Rattle.sporc_keys.proofs.PairLoop.{next_is, next_fails, pairs_are, pairs_fail}
 use Rattle.sporc_keys.proofs.ring_reading.read_pairs.Goals as goal

@@ -1,6 +1,6 @@
 use Rattle.std.proofs.Common.{◌≡◌, ◌-◌}
-use Rattle.sporc_entry.specs.Fields.{values_at}
-use Rattle.sporc_entry.proofs.Lists.{with_front}
+use Rattle.sporc_bytes.specs.Fields.{values_at}
+use Rattle.sporc_bytes.proofs.Lists.{with_front}
 use Rattle.sporc_keys.specs.RingFile.{next_pair}
 use Rattle.sporc_keys.proofs.ring_reading.read_pairs.Given as goal
 

@@ -1,4 +1,5 @@
-use Rattle.std.proofs.Common.{◌≡◌, ℕ, ◌<◌, ◌≤◌, ◌^◌, length, Some, refl, sym, ap, ◌∙◌, subst}
+use Rattle.std.proofs.Common.{◌≡◌, ℕ, ◌<◌, ◌≤◌, length, Some, refl, sym, ap, ◌∙◌, subst}
+use Rattle.sporc_delta.specs.declared.limits.TheConstants.{MAX_COUNT}
 use Rattle.sporc_client.specs.ClientModel.{state_of}
 use Rattle.sporc_client.specs.declared.limits.TheConstants.{MAX_EVENTS}
 use Rattle.sporc_play.specs.Scene.{marks_of}
@@ -31,5 +32,5 @@ delta_of-requires-clause-small c =
     let low : c.args.seen ≤ length client.log = not_below _ (length client.log) c.args.seen c.in-Some.ensures.none (λ h. cc) in
     let count : length c.journal-journal.result.now ≡ length client.log =
     journal_count client.opening client.log c.journal-journal.result.now c.journal-journal.ensures.value ∙ shown_count client.opening client.log in
-    subst (λ (n : ℕ). n ≤ 2 ^ 40) (sym c.in-Some.ensures.some)
+    subst (λ (n : ℕ). n ≤ MAX_COUNT) (sym c.in-Some.ensures.some)
     (short_texts client c.journal-journal.ensures.allowed c.journal-journal.ensures.sound (subst (λ (n : ℕ). n ≤ MAX_EVENTS) count c.journal-journal.ensures.few) c.args.seen low)

@@ -2,7 +2,7 @@ use Rattle.std.proofs.Common.{◌≡◌, ℕ, ◌*◌, List, ap, ◌∙◌}
 use Rattle.std.specs.Prelude.{replicate}
 use Rattle.lms_leaf.specs.declared.leaf_file.TheConstants.{LEAVES_PER_BLOCK}
 use Rattle.lms_leaf.specs.LeafFile.{block_count, taken_blocks}
-use Rattle.sporc_outside.specs.MemoryDisk.{MemoryDiskContent, state_after}
+use Rattle.sporc_outside.specs.MemoryDisk.{MemoryDiskModel, state_after}
 use Rattle.sporc_play.proofs.Blanks.{none_taken}
 use Rattle.sporc_play.proofs.cast.blank_leaves.Goals as goal
 
@@ -10,7 +10,7 @@ pub returns-in-Ok-clause-next : goal.returns-in-Ok-clause-next
 returns-in-Ok-clause-next c =
     let disk = c.in_ok-disk.disk in
     let stored : (state_after disk.first disk.log).bytes ≡ replicate (block_count c.args.height) 0 =
-    ap (λ (d : MemoryDiskContent). (state_after d.first d.log).bytes) c.in_ok-disk.ensures ∙ c.in_ok-bytes.ensures.value in
+    ap (λ (d : MemoryDiskModel). (state_after d.first d.log).bytes) c.in_ok-disk.ensures.ok ∙ c.in_ok-bytes.ensures.value in
     c.in-Ok.ensures.opens.next
     ∙ ap (λ (bytes : List ℕ). LEAVES_PER_BLOCK * taken_blocks bytes) stored
     ∙ ap (λ (n : ℕ). LEAVES_PER_BLOCK * n) (none_taken (block_count c.args.height))

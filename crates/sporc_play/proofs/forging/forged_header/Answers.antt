@@ -19,6 +19,6 @@ returns c =
     (c.number_by.ensures ∙ ap (λ (n : ℕ). number_by suffix (n + 1)) (c.count_of.ensures.value ∙ ap (count_of f.member) e.entries))
     c.value_at.ensures
     (c.base_by-base.ensures ∙ ap (base_by suffix) (c.len.ensures.value ∙ ap (λ (entries : List (List ℕ)). length entries) e.entries))
-    (c.epoch_by.ensures ∙ ap (epoch_by suffix) (c.epoch.ensures ∙ ap epoch_of e.entries))
+    (c.epoch_by.ensures ∙ ap (epoch_by suffix) (c.epoch.ensures.value ∙ ap epoch_of e.entries))
     c.leaf_by.ensures
     c.kind_of.ensures

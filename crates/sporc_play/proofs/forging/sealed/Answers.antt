@@ -15,7 +15,7 @@ use Rattle.sporc_play.proofs.forging.sealed.Goals as goal
 pub seal_change-requires : goal.seal_change-requires
 seal_change-requires c =
     let e = c.heads-heads.ensures in
-    record { epoch = omega (arith, c.epoch.ensures, epoch_le c.heads-heads.result.now.entries, c.len-count.ensures.value, c.len-count.ensures.within) }
+    record { epoch = omega (arith, c.epoch.ensures.value, epoch_le c.heads-heads.result.now.entries, c.len-count.ensures.value, c.len-count.ensures.within) }
 
 apart : (fault : SealFault) (member : ℕ) → fault ≡ NoPairKey member → fault ≡ Memory → ⊥
 apart fault member is memory = absurd cc
@@ -36,7 +36,7 @@ returns-in-Ok-clause-value c =
     forged_same (state_of client) c.args.header.now c.args.change.now c.as_slice-2.result.now _ _ _ _ _ c.in-Ok.body
     (c.as_slice-2.ensures.value ∙ members)
     (ap (λ (g : Genesis). g.document) (c.genesis.ensures.value ∙ e.genesis) ∙ ap (λ (o : Opening). o.genesis.document) opening)
-    (c.epoch.ensures ∙ ap epoch_of e.entries)
+    (c.epoch.ensures.value ∙ ap epoch_of e.entries)
     c.requires.old
     (c.in_ok-pairs.ensures ∙ ap (derived_pairs c.args.header.now.author) (c.as_slice.ensures.value ∙ sym c.as_slice-2.ensures.value))
     c.in-Ok.ensures.value

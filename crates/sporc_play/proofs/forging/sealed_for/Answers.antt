@@ -18,9 +18,9 @@ returns-in-Ok-clause-few c =
     let IsGood : Opening → Type 0 = λ o. Good o.genesis o.kit entries in
     let good = subst IsGood (replay_opening client.opening client.log) c.journal-events.ensures.sound.good in
     let few = few_sealed client.opening.genesis client.opening.kit entries c.args.change.now is good in
-    let members = accepted_members c.roster-roster.result.now.roster (roster_of client.opening.genesis entries) c.args.change.now c.roster-roster.ensures.value c.in-Ok.ensures in
+    let members = accepted_members c.roster-roster.result.now.roster (roster_of client.opening.genesis entries) c.args.change.now c.roster-roster.ensures.value c.in-Ok.ensures.value in
     let AreFew : List ℕ → Type 0 = λ numbers. length numbers ≤ MAX_MEMBERS in
-    if_ok c.members_after.result _ _ (λ v e. subst AreFew (sym (e ∙ members)) few) c.members_after.ensures
+    if_ok c.members_after.result _ _ (λ v e. subst AreFew (sym (e ∙ members)) few) c.members_after.ensures.ok
 
 pub returns-in-Err-clause-few : goal.returns-in-Err-clause-few
 returns-in-Err-clause-few c =
@@ -30,6 +30,6 @@ returns-in-Err-clause-few c =
     let IsGood : Opening → Type 0 = λ o. Good o.genesis o.kit entries in
     let good = subst IsGood (replay_opening client.opening client.log) c.journal-events.ensures.sound.good in
     let few = few_sealed client.opening.genesis client.opening.kit entries c.args.change.now is good in
-    let members = refused_members c.roster-roster.result.now.roster (roster_of client.opening.genesis entries) c.args.change.now _ c.roster-roster.ensures.value c.in-Err.ensures in
+    let members = refused_members c.roster-roster.result.now.roster (roster_of client.opening.genesis entries) c.args.change.now _ c.roster-roster.ensures.value c.in-Err.ensures.value in
     let AreFew : List ℕ → Type 0 = λ numbers. length numbers ≤ MAX_MEMBERS in
     if_ok c.from_slice.result _ _ (λ v e. subst AreFew (sym (e ∙ c.members.ensures.value ∙ members)) few) c.from_slice.ensures.items

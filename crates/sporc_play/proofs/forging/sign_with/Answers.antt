@@ -14,7 +14,7 @@ returns-in-Ok-sign-clause-entry c =
     (λ bytes e. λ s own is. e ∙ signed_same s client f random c.args.ticket c.in-Ok.entry c.args.signer.now.key c.first_half-randomizer.result c.as_slice.result.now c.in-Ok-sign.signature.items
     (c.in-Ok.ensures.entry s is ∙ ap (λ (leaf : ℕ). unsigned_by s client f random leaf) c.leaf.ensures.value)
     own
-    c.first_half-randomizer.ensures
+    c.first_half-randomizer.ensures.value
     (c.as_slice.ensures.value ∙ c.in-Ok.ensures.message)
     c.in-Ok-sign.ensures.value)
     c.with_signature.ensures

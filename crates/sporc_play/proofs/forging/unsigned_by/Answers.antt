@@ -11,5 +11,5 @@ returns-clause-entry c = λ s is.
     unsigned_same s client f c.args.random.now c.args.leaf c.forged_header-header.result c.new.result c.new-3.result
     c.forged_header-header.ensures
     (c.new.ensures.value ∙ c.in_ok-body.ensures.value s is
-    ∙ ap (λ (key : List ℕ). forged_body s client f.signed.suffix c.forged_header-header.result key f.signed.what) c.second_half-new_key.ensures)
+    ∙ ap (λ (key : List ℕ). forged_body s client f.signed.suffix c.forged_header-header.result key f.signed.what) c.second_half-new_key.ensures.value)
     (c.new-3.ensures.value ∙ c.new-2.ensures.items)

@@ -13,7 +13,7 @@ returns-then-base-len c =
     let base = c.args.base in
     let heads = c.heads-heads.result.now in
     let e = c.heads-heads.ensures in
-    c.hash_at.ensures
+    c.hash_at.ensures.value
     ∙ ap (λ (g : Genesis). hash_of g (take base heads.entries)) e.genesis
     ∙ ap (λ (entries : List (List ℕ)). hash_of client.opening.genesis (take base entries)) e.entries
     ∙ ap (λ (o : Opening). hash_of o.genesis (take base (state_of client).entries)) (sym (replay_opening client.opening client.log))

@@ -8,7 +8,7 @@ use Rattle.sporc_play.proofs.Generating.{generated_declared}
 use Rattle.sporc_play.proofs.generated.generated_run.Goals as goal
 
 pub new-requires : goal.new-requires
-new-requires c = subst AreDeclared (sym (c.as_slice.ensures.value ∙ c.in_ok-lines.ensures)) generated_declared
+new-requires c = record { declared = subst AreDeclared (sym (c.as_slice.ensures.value ∙ c.in_ok-lines.ensures)) generated_declared }
 
 pub perform_batch-requires-clause-room : goal.perform_batch-requires-clause-room
 perform_batch-requires-clause-room c = run_room c.loop-k.k c.loop-k.state (omega arith) c.loop-k.invariant

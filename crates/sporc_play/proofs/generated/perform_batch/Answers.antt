@@ -1,8 +1,8 @@
 use Rattle.std.proofs.Common.{◌+◌, ◌/◌, ◌++◌, flat_map, length, map, arith, length-append}
 use Rattle.std.proofs.lemmas.List.{length-map}
+use Rattle.std.proofs.lemmas.Result.{on_ok_weaker}
 use Rattle.sporc_play.specs.Generated.{edits, gives, submits, up_to}
 use Rattle.sporc_play.proofs.Batched.{has_room, length-up_to, mapped_room, performs_both}
-use Rattle.sporc_play.proofs.Results.{on_ok}
 use Rattle.sporc_play.proofs.generated.perform_batch.Goals as goal
 
 pub submit_all-requires-clause-room : goal.submit_all-requires-clause-room
@@ -22,7 +22,7 @@ returns c =
     let editing = map (edits (c.args.done / 3 + 1)) (up_to c.args.authors) in
     let submitting = map submits (up_to c.args.authors) in
     let accepting = flat_map (λ a. map (gives (c.args.done + a)) (up_to 3)) (up_to c.args.authors) in
-    on_ok c.accept_all.result _ _
+    on_ok_weaker c.accept_all.result
     (λ last. performs_both c.args.state.now c.submit_all.new.state c.accept_all.new.state (editing ++ submitting) accepting
     (performs_both c.args.state.now c.edit_all.new.state c.submit_all.new.state editing submitting c.in_ok-edit_all.ensures c.in_ok-submit_all.ensures) last)
     c.accept_all.ensures

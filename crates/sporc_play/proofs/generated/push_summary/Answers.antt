@@ -21,7 +21,7 @@ returns c =
     ∙ ap (λ (n : ℕ). old ++ counts n c.committed_len.result) (c.len.ensures.value ∙ ap (λ (entries : List (List ℕ)). length entries) c.heads.ensures.entries)
     ∙ ap (λ (n : ℕ). old ++ counts (length state.entries) n) c.committed_len.ensures.value in
     let digits : string_bytes c.push_digits.new.out ≡ string_bytes c.push_counts.new.out ++ encode_lower hash =
-    c.in_ok-push_digits.ensures ∙ ap (λ (bytes : List ℕ). string_bytes c.push_counts.new.out ++ encode_lower bytes)
-    (c.last_hash.ensures ∙ ap (λ (o : Opening). hash_of o.genesis state.entries) (sym (replay_opening client.opening client.log))) in
+    c.in_ok-push_digits.ensures.ok ∙ ap (λ (bytes : List ℕ). string_bytes c.push_counts.new.out ++ encode_lower bytes)
+    (c.last_hash.ensures.value ∙ ap (λ (o : Opening). hash_of o.genesis state.entries) (sym (replay_opening client.opening client.log))) in
     summary_told c.push_str.result old _ _ _ (codes "clients 3 entries ") (decimal (length state.entries)) (codes " characters ") (decimal (length (committed_of state))) (codes " ") word (codes " ")
     (encode_lower hash) (codes "\n") start digits c.push_str.ensures.bytes

@@ -2,4 +2,4 @@ use Rattle.sporc_play.proofs.OneRun.{one_run}
 use Rattle.sporc_play.proofs.laws.each_play_is_one_run.Goals as goal
 
 pub returns : goal.returns
-returns c = one_run
+returns c = record { run = one_run }

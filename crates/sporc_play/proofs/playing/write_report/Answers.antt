@@ -9,7 +9,7 @@ use Rattle.sporc_play.proofs.Reported.{reports_all, reports_failed, reports_more
 use Rattle.sporc_play.proofs.playing.write_report.Goals as goal
 
 pub new-requires : goal.new-requires
-new-requires g c = let (text, within, reads) = c.requires in are_declared text c.args.lines.now reads
+new-requires g c = record { declared = let (text, within, reads) = c.requires in are_declared text c.args.lines.now reads }
 
 pub write_line-requires : goal.write_line-requires
 write_line-requires g c =

@@ -1,5 +1,5 @@
 use Rattle.std.proofs.Common.{take}
-use Rattle.sporc_play.specs.Apart.{IsNotIn}
+use Rattle.sporc_play.proofs.Distinct.{IsNotIn}
 use Rattle.sporc_play.specs.Seats.{seated}
 use Rattle.sporc_play.proofs.seat.seat_at.Given as goal
 

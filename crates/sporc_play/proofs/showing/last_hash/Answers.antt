@@ -8,7 +8,9 @@ pub returns : goal.returns
 returns g c =
     let heads = c.heads-heads.result.now in
     let e = c.heads-heads.ensures in
-    c.hash_at.ensures
-    ∙ ap (hash_of heads.genesis) (take_all c.len.result heads.entries (omega (arith, c.len.ensures.value)))
-    ∙ ap (λ (start : Genesis). hash_of start heads.entries) e.genesis
-    ∙ ap (hash_of c.args.client.now.opening.genesis) e.entries
+    record {
+      value = c.hash_at.ensures.value
+          ∙ ap (hash_of heads.genesis) (take_all c.len.result heads.entries (omega (arith, c.len.ensures.value)))
+          ∙ ap (λ (start : Genesis). hash_of start heads.entries) e.genesis
+          ∙ ap (hash_of c.args.client.now.opening.genesis) e.entries;
+    }

@@ -16,8 +16,8 @@ returns g c =
     let state = state_of client in
     let hash = hash_of state.opening.genesis state.entries in
     let start : string_bytes c.push_start.new.out ≡ old ++ (decimal me ++ codes " hash ") =
-    c.in_ok-push_start.ensures ∙ ap (λ (m : ℕ). old ++ (decimal m ++ codes " hash ")) c.me.ensures.value in
+    c.in_ok-push_start.ensures.ok ∙ ap (λ (m : ℕ). old ++ (decimal m ++ codes " hash ")) c.me.ensures.value in
     let digits : string_bytes c.push_digits.new.out ≡ string_bytes c.push_start.new.out ++ encode_lower hash =
-    c.in_ok-push_digits.ensures ∙ ap (λ (bytes : List ℕ). string_bytes c.push_start.new.out ++ encode_lower bytes)
-    (c.last_hash.ensures ∙ ap (λ (o : Opening). hash_of o.genesis state.entries) (sym (replay_opening client.opening client.log))) in
-    told_in_parts c.push_str.result old _ _ _ (decimal me) (codes " hash ") (encode_lower hash) (codes "\n") start digits c.push_str.ensures.bytes
+    c.in_ok-push_digits.ensures.ok ∙ ap (λ (bytes : List ℕ). string_bytes c.push_start.new.out ++ encode_lower bytes)
+    (c.last_hash.ensures.value ∙ ap (λ (o : Opening). hash_of o.genesis state.entries) (sym (replay_opening client.opening client.log))) in
+    record { ok = told_in_parts c.push_str.result old _ _ _ (decimal me) (codes " hash ") (encode_lower hash) (codes "\n") start digits c.push_str.ensures.bytes }

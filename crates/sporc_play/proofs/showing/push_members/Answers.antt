@@ -14,10 +14,12 @@ returns c =
     let old = string_bytes c.args.out.now in
     let me = client.opening.kit.me in
     let start : string_bytes c.push_start.new.out ≡ old ++ (decimal me ++ codes " members") =
-    c.in_ok-push_start.ensures ∙ ap (λ (m : ℕ). old ++ (decimal m ++ codes " members")) c.me.ensures.value in
+    c.in_ok-push_start.ensures.ok ∙ ap (λ (m : ℕ). old ++ (decimal m ++ codes " members")) c.me.ensures.value in
     let state = state_of client in
     let members : string_bytes c.push_roster.new.out ≡ string_bytes c.push_start.new.out ++ flat_map member_text (roster_of state.opening.genesis state.entries).members =
     c.in_ok-push_roster.ensures
     ∙ ap (λ (o : Opening). string_bytes c.push_start.new.out ++ flat_map member_text (roster_of o.genesis state.entries).members) (sym (replay_opening client.opening client.log)) in
-    told_in_parts c.push_str.result old _ _ _ (decimal me) (codes " members") (flat_map member_text (roster_of state.opening.genesis state.entries).members) (codes "\n")
-    start members c.push_str.ensures.bytes
+    record {
+      ok = told_in_parts c.push_str.result old _ _ _ (decimal me) (codes " members") (flat_map member_text (roster_of state.opening.genesis state.entries).members) (codes "\n")
+          start members c.push_str.ensures.bytes;
+    }

@@ -1,12 +1,12 @@
 use Rattle.std.proofs.Common.{◌++◌, List, ℕ, string_bytes, sym, ap, ◌∙◌}
 use Rattle.std.proofs.lemmas.Str.{chars_from_encodes}
+use Rattle.std.proofs.lemmas.Result.{on_ok_weaker}
 use Rattle.sporc_client.specs.ClientModel.{state_of}
 use Rattle.sporc_client.specs.PlainClient.{shown_of}
 use Rattle.sporc_script.specs.Quoted.{quoted}
-use Rattle.sporc_play.proofs.Results.{on_ok}
 use Rattle.sporc_play.proofs.showing.push_shown.Goals as goal
 
 pub returns : goal.returns
 returns g c =
     let same = chars_from_encodes (shown_of (state_of c.args.client.now)) c.as_str.result.now c.as_str.utf8 (sym (c.as_str.ensures.value ∙ c.in_ok-text.ensures.value)) in
-    on_ok c.push_quoted.result _ _ (λ pushed. pushed ∙ ap (λ (cs : List ℕ). string_bytes c.args.out.now ++ quoted cs) (sym same)) c.push_quoted.ensures
+    on_ok_weaker c.push_quoted.result (λ pushed. pushed ∙ ap (λ (cs : List ℕ). string_bytes c.args.out.now ++ quoted cs) (sym same)) c.push_quoted.ensures.ok

@@ -5,4 +5,4 @@ use Rattle.sporc_script.proofs.PlainReaders.{role_exact}
 use Rattle.sporc_script.proofs.names.parse_role.Goals as goal
 
 pub returns : goal.returns
-returns c = named_is _ role_name role_of role_exact c.args.word.now c.role_named.result c.role_named.ensures
+returns c = record { value = named_is _ role_name role_of role_exact c.args.word.now c.role_named.result c.role_named.ensures }

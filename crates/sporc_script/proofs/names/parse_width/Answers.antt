@@ -5,4 +5,4 @@ use Rattle.sporc_script.proofs.PlainReaders.{width_exact}
 use Rattle.sporc_script.proofs.names.parse_width.Goals as goal
 
 pub returns : goal.returns
-returns c = named_is _ width_name width_of width_exact c.args.word.now c.width_named.result c.width_named.ensures
+returns c = record { value = named_is _ width_name width_of width_exact c.args.word.now c.width_named.result c.width_named.ensures }

@@ -3,4 +3,4 @@ use Rattle.std.proofs.lemmas.Bool.Decides.{Decides-eqb}
 use Rattle.sporc_script.proofs.words.after.Goals as goal
 
 pub returns : goal.returns
-returns c = strip_prefix_is Decides-eqb _ _ _ c.strip_prefix.ensures.cases
+returns c = record { value = strip_prefix_is Decides-eqb _ _ _ c.strip_prefix.ensures.cases }

@@ -3,4 +3,4 @@ use Rattle.std.proofs.lemmas.Bool.Decides.{Decides-eqb}
 use Rattle.sporc_script.proofs.words.before.Goals as goal
 
 pub returns : goal.returns
-returns c = strip_suffix_is Decides-eqb _ _ _ c.strip_suffix.ensures.cases
+returns c = record { value = strip_suffix_is Decides-eqb _ _ _ c.strip_suffix.ensures.cases }

@@ -11,8 +11,7 @@ loop-i-preserved c =
     rw c.place_after-place.ensures (cut_more c.args.line.now c.loop-i.place c.loop-i.i c.loop-i-test.true (sym c.ends_word.ensures ∙ c.if-ends_word.false) c.loop-i.invariant)
 
 pub returns-then-ends_word : goal.returns-then-ends_word
-returns-then-ends_word c =
-    cut_here c.args.line.now c.loop-i.place c.loop-i.i c.loop-i-test.true (sym c.ends_word.ensures ∙ c.if-ends_word.true) c.loop-i.invariant
+returns-then-ends_word c = record { value = cut_here c.args.line.now c.loop-i.place c.loop-i.i c.loop-i-test.true (sym c.ends_word.ensures ∙ c.if-ends_word.true) c.loop-i.invariant }
 
 pub returns : goal.returns
-returns c = cut_nowhere c.args.line.now c.loop-i.place c.loop-i.i c.loop-i-test.false c.loop-i.invariant
+returns c = record { value = cut_nowhere c.args.line.now c.loop-i.place c.loop-i.i c.loop-i-test.false c.loop-i.invariant }

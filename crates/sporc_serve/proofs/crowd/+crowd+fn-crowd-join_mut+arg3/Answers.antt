@@ -2,7 +2,7 @@ use Rattle.std.proofs.Common.{◌≡◌, ◌-◌, suc, List, Option, arith, rule
 use Rattle.sporc_outside.specs.Told.{IsTrueIfTold}
 use Rattle.sporc_turn.specs.Passes.{known_of}
 use Rattle.sporc_serve.specs.Logs.{OfDocument}
-use Rattle.sporc_serve.specs.Visits.{visit, IsSession}
+use Rattle.sporc_serve.specs.Visits.{visit, IsServedSession}
 use Rattle.sporc_serve.specs.Crowds.{net_of, IsCrowd}
 use Rattle.sporc_serve.specs.Returns.{AreShutBehind}
 use Rattle.sporc_serve.proofs.Crowding.{crowd_none, crowd_failed, crowd_unserved, crowd_joined}
@@ -42,7 +42,7 @@ returns-clause-crowd g t c genesis log =
     let left = net_of (g.N.Links.coming net) (g.N.Links.returned net) (g.N.Counted.faults net) in
     let same_link : link ≡ c.join_mut-session.new.f.4.now = search rules in
     let same_net : net ≡ c.join_mut-session.new.g.2.now = search rules in
-    let session = subst (λ (l : g.row.N-Link.Denot). OfDocument (known_of c.in-Ok-split.both.1).seen (λ h. IsSession g.N.Link.Source.left g.N.Link.Sink.written g.N.Link.Counted.faults h (known_of c.in-Ok-split.both.1) (known_of r.0.1) (visit c.in-Ok.link l r.0.0))) (sym same_link) c.join_mut-session.ensures.0.met.1.2 in
+    let session = subst (λ (l : g.row.N-Link.Denot). OfDocument (known_of c.in-Ok-split.both.1).seen (λ h. IsServedSession g.N.Link.Source.left g.N.Link.Sink.written g.N.Link.Counted.faults h (known_of c.in-Ok-split.both.1) (known_of r.0.1) (visit c.in-Ok.link l r.0.0))) (sym same_link) c.join_mut-session.ensures.0.met.1.2 in
     let number : (known_of r.0.1).number ≡ (known_of c.in-Ok-split.both.1).number = search rules in
     let crowd = subst (λ (n : g.row.N.Denot). OfDocument (known_of c.in-Ok-split.both.0).seen (λ h. IsCrowd g.N.Link.Source.left g.N.Link.Sink.written g.N.Link.Counted.faults h (known_of c.in-Ok-split.both.0) (known_of r.1.1) came (net_of (g.N.Links.coming n) (g.N.Links.returned n) (g.N.Counted.faults n)) others r.1.0)) (sym same_net) c.join_mut-session.ensures.1.met.1.2 in
     let size : c.args.sessions ≡ suc (c.args.sessions - 1) = omega (arith, c.if-sessions-eq0.false) in

@@ -2,7 +2,7 @@ use Rattle.std.proofs.Common.{[], false, None, Some, Option, refl, subst, ◌∙
 use Rattle.sporc_turn.specs.Passes.{known_of}
 use Rattle.sporc_wire.specs.Messages.{stream_of}
 use Rattle.sporc_serve.specs.declared.end.SessionEnd.{SessionEnd}
-use Rattle.sporc_serve.specs.Courses.{Stand, stand, Carries}
+use Rattle.sporc_serve.specs.Courses.{ServerStand, stand, Carries}
 use Rattle.sporc_serve.proofs.Stepping.{begun, carried, session_ended}
 use Rattle.sporc_serve.proofs.session.serve_link.Goals as goal
 
@@ -17,11 +17,11 @@ loop-init g c = record {
 
 pub loop-preserved : goal.loop-preserved
 loop-preserved g c =
-    let a : Stand =
+    let a : ServerStand =
     stand (known_of c.args.pass) (g.L.Source.left c.args.link.now) (g.L.Sink.written c.args.link.now) (g.L.Counted.faults c.args.link.now) (stream_of []) false in
-    let b : Stand =
+    let b : ServerStand =
     stand (known_of c.loop.pass) (g.L.Source.left c.loop.link) (g.L.Sink.written c.loop.link) (g.L.Counted.faults c.loop.link) c.loop.frames c.loop.session in
-    let b' : Stand =
+    let b' : ServerStand =
     stand (known_of c.step-end.result.1) (g.L.Source.left c.step-end.new.link) (g.L.Sink.written c.step-end.new.link) (g.L.Counted.faults c.step-end.new.link)
     c.step-end.new.frames c.step-end.new.session in
     record {
@@ -33,11 +33,11 @@ loop-preserved g c =
 
 pub returns-in-Some-end-clause-session : goal.returns-in-Some-end-clause-session
 returns-in-Some-end-clause-session g c genesis log =
-    let a : Stand =
+    let a : ServerStand =
     stand (known_of c.args.pass) (g.L.Source.left c.args.link.now) (g.L.Sink.written c.args.link.now) (g.L.Counted.faults c.args.link.now) (stream_of []) false in
-    let b : Stand =
+    let b : ServerStand =
     stand (known_of c.loop.pass) (g.L.Source.left c.loop.link) (g.L.Sink.written c.loop.link) (g.L.Counted.faults c.loop.link) c.loop.frames c.loop.session in
-    let b' : Stand =
+    let b' : ServerStand =
     stand (known_of c.step-end.result.1) (g.L.Source.left c.step-end.new.link) (g.L.Sink.written c.step-end.new.link) (g.L.Counted.faults c.step-end.new.link)
     c.step-end.new.frames c.step-end.new.session in
     session_ended g.L.Source.left g.L.Sink.written g.L.Counted.faults genesis (known_of c.args.pass) (known_of c.step-end.result.1) c.args.link.now

@@ -29,7 +29,7 @@ returns-in-Ok-work-clause-attended g c =
 
 pub returns-in-Ok-work-clause-causes : goal.returns-in-Ok-work-clause-causes
 returns-in-Ok-work-clause-causes g c =
-    rose_since (g.N.Links.link_faults c.args.net.now) (g.N.Links.link_faults c.open_line.new.net) (g.N.Links.link_faults c.work.new.net) _ _ _ c.open_line.ensures.links c.in-Ok-work.ensures.causes
+    rose_since (g.N.Links.link_faults c.args.net.now) (g.N.Links.link_faults c.open_line.new.net) (g.N.Links.link_faults c.work.new.net) _ _ _ c.open_line.ensures.links_kept c.in-Ok-work.ensures.causes
 
 pub returns-in-Err-clause-may_ask : goal.returns-in-Err-clause-may_ask
 returns-in-Err-clause-may_ask g c = asks_less _ _ _ _ c.args.address.now (omega arith) c.open_line.ensures.may_ask

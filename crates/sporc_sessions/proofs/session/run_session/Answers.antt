@@ -16,5 +16,5 @@ returns-in-Ok-close-clause-session g c =
 pub returns-in-Ok-close-clause-causes : goal.returns-in-Ok-close-clause-causes
 returns-in-Ok-close-clause-causes g c = session_rose _ _ c.args.rounds c.args.until c.args.editors.now c.session-result.result.0 c.session-result.ensures.session.1
 
-pub returns-in-Ok-close-clause-chance_count : goal.returns-in-Ok-close-clause-chance_count
-returns-in-Ok-close-clause-chance_count g c = (session_kept _ _ c.args.rounds c.args.until c.args.editors.now c.session-result.result.0 c.session-result.ensures.session.1).chance
+pub returns-in-Ok-close-clause-chance_kept : goal.returns-in-Ok-close-clause-chance_kept
+returns-in-Ok-close-clause-chance_kept g c = (session_kept _ _ c.args.rounds c.args.until c.args.editors.now c.session-result.result.0 c.session-result.ensures.session.1).chance

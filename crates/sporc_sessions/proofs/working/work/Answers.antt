@@ -21,16 +21,16 @@ returns-in-Ok-ended-clause-work g c = record {
   session = over_same_link _ _ _ _ _ _ _ _ c.shut.ensures.written c.shut.ensures.left c.shut.ensures.count c.in-Ok-ended.ensures.session;
 }
 
-pub returns-in-Ok-ended-clause-out : goal.returns-in-Ok-ended-clause-out
-returns-in-Ok-ended-clause-out g c = as_many (g.N.Links.out c.args.net.now) (g.N.Links.out c.connect.new.self) (g.N.Links.out c.take_back.new.self) c.in-Ok.ensures.out c.take_back.ensures.out
+pub returns-in-Ok-ended-clause-links_out : goal.returns-in-Ok-ended-clause-links_out
+returns-in-Ok-ended-clause-links_out g c = as_many (g.N.Links.out c.args.net.now) (g.N.Links.out c.connect.new.self) (g.N.Links.out c.take_back.new.self) c.in-Ok.ensures.out c.take_back.ensures.out
 
-pub returns-in-Ok-ended-clause-links : goal.returns-in-Ok-ended-clause-links
-returns-in-Ok-ended-clause-links g c =
+pub returns-in-Ok-ended-clause-links_kept : goal.returns-in-Ok-ended-clause-links_kept
+returns-in-Ok-ended-clause-links_kept g c =
     both_kept (g.N.Links.link_faults c.args.net.now) (g.N.Link.Counted.faults c.shut.new.self) (g.N.Links.link_faults c.take_back.new.self) (omega (arith, c.link_faults-faults.ensures))
     (subst (λ (n : ℕ). count_of_both n (g.N.Link.Counted.faults c.shut.new.self) ≤ g.N.Links.link_faults c.take_back.new.self) c.connect.ensures.links c.take_back.ensures.links)
 
-pub returns-in-Err-clause-links : goal.returns-in-Err-clause-links
-returns-in-Err-clause-links g c =
+pub returns-in-Err-clause-links_kept : goal.returns-in-Err-clause-links_kept
+returns-in-Err-clause-links_kept g c =
     both_kept (g.N.Links.link_faults c.args.net.now) (g.N.Link.Counted.faults c.shut.new.self) (g.N.Links.link_faults c.take_back.new.self) (omega (arith, c.link_faults-faults.ensures))
     (subst (λ (n : ℕ). count_of_both n (g.N.Link.Counted.faults c.shut.new.self) ≤ g.N.Links.link_faults c.take_back.new.self) c.connect.ensures.links c.take_back.ensures.links)
 

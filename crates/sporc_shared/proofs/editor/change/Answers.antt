@@ -4,5 +4,5 @@ use Rattle.sporc_shared.proofs.editor.change.Goals as goal
 
 pub returns-clause-did : goal.returns-clause-did
 returns-clause-did g c =
-    changed (known_of c.args.pass) c.number-number.result c.args.line c.number-number.ensures c.change.result c.plain-answer.result c.edited.result c.plain-answer.ensures c.edited.ensures c.change.ensures.worn
+    changed (known_of c.args.pass) c.number-number.result c.args.line c.number-number.ensures.value c.change.result c.plain-answer.result c.edited.result c.plain-answer.ensures c.edited.ensures c.change.ensures.worn
     c.args.change c.change.ensures.call

@@ -9,7 +9,7 @@ use Rattle.sporc_shared.proofs.Lining.{did_all, did_err, done_none, done_push}
 use Rattle.sporc_shared.proofs.editor.do_lines.Goals as goal
 
 pub loop-line-init : goal.loop-line-init
-loop-line-init g c = record { lock = c.requires; counts = record { number = refl; splits = refl; joined = refl }; done = ([], done_none (known_of c.args.pass)) }
+loop-line-init g c = record { lock = c.requires.lock; counts = record { number = refl; splits = refl; joined = refl }; done = ([], done_none (known_of c.args.pass)) }
 
 pub loop-line-preserved : goal.loop-line-preserved
 loop-line-preserved g c =

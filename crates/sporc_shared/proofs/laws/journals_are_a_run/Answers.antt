@@ -2,4 +2,4 @@ use Rattle.sporc_shared.proofs.Runs.{journals_run}
 use Rattle.sporc_shared.proofs.laws.journals_are_a_run.Goals as goal
 
 pub returns : goal.returns
-returns c = journals_run
+returns c = record { run = journals_run }

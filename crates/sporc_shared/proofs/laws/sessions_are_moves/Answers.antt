@@ -2,4 +2,4 @@ use Rattle.sporc_shared.proofs.Runs.{session_leads}
 use Rattle.sporc_shared.proofs.laws.sessions_are_moves.Goals as goal
 
 pub returns : goal.returns
-returns c = session_leads
+returns c = record { moves = session_leads }

@@ -16,7 +16,7 @@ pub returns-clause-short : goal.returns-clause-short
 returns-clause-short g c =
     let client = c.args.client.now in
     let value : c.in-Some.len ≡ length (shown_of (state_of client)) = returns-clause-value g c in
-    let committed : length (committed_of (state_of client)) ≤ 2 ^ 35 = omega (arith, c.committed_len-committed.ensures.value, c.committed_len-committed.ensures.small) in
+    let committed : length (committed_of (state_of client)) ≤ 2 ^ 35 = omega (arith, c.committed_len-committed.ensures.value, c.committed_len-committed.ensures.within) in
     let pending : length (state_of client).pending ≤ MAX_PENDING = omega (arith, c.pending-pending.ensures.value, c.pending-pending.ensures.few) in
     let short : length (shown_of (state_of client)) ≤ 2 ^ 36 = shown_short client.opening client.log c.count_events.ensures.allowed c.count_events.ensures.sound committed pending in
     omega (arith, value, short)

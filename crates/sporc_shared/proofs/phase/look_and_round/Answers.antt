@@ -1,7 +1,7 @@
-use Rattle.std.proofs.Common.{refl}
+use Rattle.std.proofs.Common.{refl, ◌+◌, arith}
 use Rattle.sporc_shared.specs.Looks.{IsLookAt}
 use Rattle.sporc_shared.specs.Protocol.{always}
-use Rattle.sporc_shared.proofs.Coursing.{and_then}
+use Rattle.sporc_shared.proofs.Coursing.{and_then, stopped_within}
 use Rattle.sporc_shared.proofs.Phasing.{look_small, round_begins}
 use Rattle.sporc_shared.proofs.Telling.{told, was_told, worn_stopped}
 use Rattle.sporc_shared.proofs.phase.look_and_round.Goals as goal
@@ -15,4 +15,4 @@ returns-in-Ok-clause-did g c n =
     and_then (round_begins c.requires.first t refl) (c.round.ensures.did always n)
 
 pub returns-in-Err-clause-did : goal.returns-in-Err-clause-did
-returns-in-Err-clause-did g c n = record { ends = worn_stopped c.in-Err.is (told IsLookAt c.look.result c.plain-answer.ensures c.worn.ensures c.look.ensures.call c.look.ensures.worn) }
+returns-in-Err-clause-did g c n = record { ends = stopped_within n (n + 1) (omega arith) (worn_stopped c.in-Err.is (told IsLookAt c.look.result c.plain-answer.ensures c.worn.ensures c.look.ensures.call c.look.ensures.worn)) }

@@ -1,6 +1,6 @@
-use Rattle.std.proofs.Common.{refl, arith}
+use Rattle.std.proofs.Common.{refl, ◌+◌, arith}
 use Rattle.sporc_turn.specs.Passes.{known_of}
-use Rattle.sporc_shared.proofs.Coursing.{did_none, did_stopped, did_then, was_done, was_stopped}
+use Rattle.sporc_shared.proofs.Coursing.{did_none, did_stopped, did_then, stopped_within, was_done, was_stopped}
 use Rattle.sporc_shared.proofs.Knowing.{counts_then}
 use Rattle.sporc_shared.proofs.phase.rounds_of.Goals as goal
 
@@ -16,4 +16,6 @@ loop-done-preserved g c = record {
 }
 
 pub returns-in-Err-clause-did : goal.returns-in-Err-clause-did
-returns-in-Err-clause-did g c = record { ends = did_stopped c.loop-done.invariant.did (was_stopped c.in-Err.is (c.look_and_round-one.ensures.did c.loop-done.done)) }
+returns-in-Err-clause-did g c = record {
+  ends = stopped_within (c.loop-done.done + 1) c.args.rounds (omega (arith, c.loop-done-test.true)) (did_stopped c.loop-done.invariant.did (was_stopped c.in-Err.is (c.look_and_round-one.ensures.did c.loop-done.done)));
+}

@@ -1,16 +1,17 @@
-use Rattle.std.proofs.Common.{List, drop, ap, subst, sym, ◌∙◌, ◌+◌, arith}
-use Rattle.sporc_delta.specs.Marks.{Mark}
-use Rattle.sporc_suffix.specs.Forms.{later_over}
-use Rattle.sporc_suffix.proofs.Passing.{Fits, passes, form_at}
+use Rattle.std.proofs.Common.{arith}
+use Rattle.sporc_suffix.proofs.Passing.{passes_first}
 use Rattle.sporc_suffix.proofs.blocks.over_all.Goals as goal
 
-pub loop-form-preserved : goal.loop-form-preserved
-loop-form-preserved g c =
-    let here = form_at c.args.forms.now c.loop-form.form-index c.form-item.result c.loop-form-test.true c.form-item.is in
-    let P : List (List Mark) → Type 0 = λ fs. Fits c.loop-form.passed fs in
-    let next = passes c.loop-form.passed c.form-item.result (drop (c.loop-form.form-index + 1) c.args.forms.now) (subst P here c.loop-form.invariant.fits) in
-    record {
-      value = rw c.in_ok-passed-2.ensures.ok (sym (ap (later_over c.loop-form.passed) here) ∙ c.loop-form.invariant.value);
-      fits = rw c.in_ok-passed-2.ensures.ok next.fits;
-      cost = omega (arith, c.tick.ensures.value, c.loop-form.invariant.cost);
-    }
+pub over_rest-requires-clause-follow : goal.over_rest-requires-clause-follow
+over_rest-requires-clause-follow g c =
+    let next =
+    passes_first c.args.q.now c.first-item.result c.args.forms.now (record { follow = c.requires.follow; limit = c.requires.limit }) c.first-item.is
+    (omega (arith, c.in-len1-up.len_at_least)) in
+    rw c.in_ok-passed-in-len1-up.ensures.ok next.follow
+
+pub over_rest-requires-clause-limit : goal.over_rest-requires-clause-limit
+over_rest-requires-clause-limit g c =
+    let next =
+    passes_first c.args.q.now c.first-item.result c.args.forms.now (record { follow = c.requires.follow; limit = c.requires.limit }) c.first-item.is
+    (omega (arith, c.in-len1-up.len_at_least)) in
+    rw c.in_ok-passed-in-len1-up.ensures.ok next.limit

@@ -1,8 +1,7 @@
 use Rattle.std.proofs.Common.{ap}
 use Rattle.std.proofs.lemmas.Result.{err_from_is_err_and}
-use Rattle.sporc_bytes.specs.Fields.{counted_at, fault_as}
-use Rattle.sporc_entry.specs.Fields.{values_at}
-use Rattle.sporc_entry.proofs.Lists.{goes_on, ends, is_done}
+use Rattle.sporc_bytes.specs.Fields.{counted_at, fault_as, values_at}
+use Rattle.sporc_bytes.proofs.Lists.{goes_on, ends, is_done}
 use Rattle.sporc_wire.specs.declared.cutter.TheConstants.{MAX_BODY}
 use Rattle.sporc_wire.specs.declared.message.BodyFault.TheVariants.{Bad}
 use Rattle.sporc_wire.proofs.to_client.read_list.Goals as goal

@@ -1,7 +1,6 @@
 use Rattle.std.proofs.Common.{◌≡◌, ◌-◌}
-use Rattle.sporc_bytes.specs.Fields.{counted_at}
-use Rattle.sporc_entry.specs.Fields.{values_at}
-use Rattle.sporc_entry.proofs.Lists.{with_front}
+use Rattle.sporc_bytes.specs.Fields.{counted_at, values_at}
+use Rattle.sporc_bytes.proofs.Lists.{with_front}
 use Rattle.sporc_wire.specs.declared.cutter.TheConstants.{MAX_BODY}
 use Rattle.sporc_wire.proofs.to_client.read_list.Given as goal
 

@@ -25,6 +25,6 @@ invariant_of-result g c =
       file = rw found.stored (if_some (g.D.LeafDisk.stored c.args.disk) (λ bytes is. omega (arith, is, leaves.value)) found.right_length);
       taken = λ leaf from below. absurd (omega arith);
       free = λ sound. rw found.stored (if_some (g.D.LeafDisk.stored c.args.disk) (λ bytes is. free c.in-Ok.next bytes is) found.next);
-      counted = omega (arith, c.faults-faults_at_open.ensures);
+      counted = omega (arith, c.faults-faults_at_open.ensures.value);
       fault = λ faulty. cc;
     }

@@ -5,4 +5,4 @@ use Rattle.lms_tree.proofs.tree.Tree.public.Goals as goal
 pub returns : goal.returns
 returns c =
     let root = root_is _ _ _ c.self.invariant c.index.ensures in
-    rw (← c.self.view_is, root) refl
+    record { value = rw (← c.self.view_is, root) refl }

@@ -1,6 +1,7 @@
 use Rattle.std.proofs.Common.{rules, ◌≡◌, List, ℕ, [], ◌∷◌, ◌++◌, Some, length, ap, sym, ◌∙◌, arith}
 use Rattle.std.specs.Str.{chars}
 use Rattle.sporc_delta.specs.Marks.{Mark, replacement}
+use Rattle.sporc_delta.proofs.Spelled.{length-encode_all}
 use Rattle.sporc_line.specs.Document.{text_of}
 use Rattle.sporc_client.specs.declared.event.Event.{Event}
 use Rattle.sporc_client.specs.declared.event.Event.TheVariants as events
@@ -12,7 +13,6 @@ use Rattle.sporc_client.specs.PlainClient.{committed_of, shown_of}
 use Rattle.sporc_client.proofs.Checked.{events_left}
 use Rattle.sporc_client.proofs.Events.{discard_records, length_of_shown, replaced_base, shown_length}
 use Rattle.sporc_client.proofs.Kept.{recorded}
-use Rattle.sporc_client.proofs.Small.{encode_all-le}
 use Rattle.sporc_client.proofs.client.Client.discard.Goals as goal
 
 pub returns-in_err-check_events-clause-fault : goal.returns-in_err-check_events-clause-fault
@@ -31,7 +31,7 @@ pub replace_all-requires-clause-text_limit : goal.replace_all-requires-clause-te
 replace_all-requires-clause-text_limit g c =
     let line = c.self.inside.line in
     let text = text_of line.genesis line.kit line.entries in
-    omega (arith, ap length c.as_str.ensures.value, ap length c.in_ok-text.ensures.ok, encode_all-le text, c.in_ok-text.ensures.small)
+    omega (arith, ap length c.as_str.ensures.value, ap length c.in_ok-text.ensures.ok, length-encode_all text, c.in_ok-text.ensures.within)
 
 pub ready-requires : goal.ready-requires
 ready-requires g c =

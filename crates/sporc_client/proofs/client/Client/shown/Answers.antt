@@ -1,6 +1,7 @@
 use Rattle.std.proofs.Common.{◌≡◌, ℕ, List, length, ap, sym, subst, ◌∙◌, arith}
 use Rattle.std.specs.Str.{chars, encode_utf8_all}
 use Rattle.sporc_delta.specs.Marks.{Mark, apply, base_len, retains}
+use Rattle.sporc_delta.proofs.Spelled.{length-encode_all}
 use Rattle.sporc_line.specs.Document.{text_of}
 use Rattle.sporc_client.specs.declared.pending.Pending.{Pending}
 use Rattle.sporc_client.specs.ClientInvariant.{plain_of}
@@ -9,7 +10,7 @@ use Rattle.sporc_client.specs.PlainClient.{PlainClient, committed_of, shown_of}
 use Rattle.sporc_client.specs.Rebasing.{AreOver, in_one}
 use Rattle.sporc_client.proofs.Comings.{stated_over}
 use Rattle.sporc_client.proofs.InOne.{pending_in_one}
-use Rattle.sporc_client.proofs.Small.{encode_all-le, length-shown, lengths}
+use Rattle.sporc_client.proofs.Small.{length-shown, lengths}
 use Rattle.sporc_client.proofs.client.Client.shown.Goals as goal
 
 pub in_one-requires-clause-over : goal.in_one-requires-clause-over
@@ -35,7 +36,7 @@ pub edited-requires-clause-short : goal.edited-requires-clause-short
 edited-requires-clause-short g c =
     let line = c.self.inside.line in
     let text = text_of line.genesis line.kit line.entries in
-    omega (arith, ap length c.as_str.ensures.value, ap length c.in_ok-text.ensures.ok, encode_all-le text, c.in_ok-text.ensures.small)
+    omega (arith, ap length c.as_str.ensures.value, ap length c.in_ok-text.ensures.ok, length-encode_all text, c.in_ok-text.ensures.within)
 
 pub returns : goal.returns
 returns g c =
@@ -57,5 +58,5 @@ returns g c =
     let all_few = length-shown committed inside.own.pending c.self.invariant.sound.stated in
     record {
       value = c.in_ok-shown.ensures.value ∙ ap encode_utf8_all shown;
-      small = omega (arith, ap (λ (p : PlainClient). length (shown_of p)) state, all_few, few.committed, few.pending);
+      within = omega (arith, ap (λ (p : PlainClient). length (shown_of p)) state, all_few, few.committed, few.pending);
     }

@@ -52,7 +52,7 @@ invariant_of-self-in_err-made g c =
     let order = order_at_hand g.D.LeafDisk.stored g.D.LeafDisk.moment g.D.LeafDisk.images g.D.Counted.faults signer.leaves signer'.leaves (leaves_of (log_of line.entries own.journal)) inside.ticket known.leaves
     (λ leaf h. ap (λ s. s.leaves) (made.undrawn leaf h)) made.drawn in
     let kept : AreInOrder signer'.leaves.next_at_open signer'.leaves.next c.make_entry.new.kept (leaves_of (log_of line.entries own.journal)) =
-    subst (λ (t : Option ℕ). AreInOrder signer'.leaves.next_at_open signer'.leaves.next t (leaves_of (log_of line.entries own.journal))) (sym made.kept) order in
+    subst (λ (t : Option ℕ). AreInOrder signer'.leaves.next_at_open signer'.leaves.next t (leaves_of (log_of line.entries own.journal))) (sym made.ticket) order in
     let with_ticket = same_key line signer inside.ticket own known signer' c.make_entry.new.kept made.key made.can_sign kept in
     same_fields line signer' c.make_entry.new.kept own with_ticket line c.ready.new.self
     (record { genesis = refl; kit = refl; entries = refl })
@@ -88,4 +88,4 @@ invariant_of-self-2 g c =
     (did.journal ∙ ap (λ (es : List Event). es ++ stored.Submit c.args.by c.in_ok-made.made.event ∷ []) ready.journal
     ∙ ap (λ (b : List ℕ). own.journal ++ stored.Submit c.args.by b ∷ []) made.made.event) in
     let with_none = (recorded line line signer signer' inside.ticket None own c.record_submission.new.self (Submit c.args.by bytes) known records).invariant in
-    subst (λ (t : Option ℕ). ClientInvariant line signer' t c.record_submission.new.self) (sym made.kept) with_none
+    subst (λ (t : Option ℕ). ClientInvariant line signer' t c.record_submission.new.self) (sym made.ticket) with_none

@@ -5,17 +5,19 @@ use Rattle.sporc_client.proofs.InOne.{insertion_base, insertion_text}
 use Rattle.sporc_client.proofs.client.showing.edited.Goals as goal
 
 pub apply-requires : goal.apply-requires
-apply-requires c = rw (c.in_ok-all.ensures.ok, c.new-doc.ensures.value) (insertion_base (chars c.args.text.now))
+apply-requires c = record { base = rw (c.in_ok-all.ensures.ok, c.new-doc.ensures.value) (insertion_base (chars c.args.text.now)) }
 
 pub apply-requires-2 : goal.apply-requires-2
-apply-requires-2 c =
-    let text = chars c.args.text.now in
-    let doc : c.apply.new.self ≡ text =
-    c.in_ok-apply.ensures.ok
-    ∙ ap (λ (ms : List Mark). apply ms c.new-doc.result) c.in_ok-all.ensures.ok
-    ∙ ap (apply (insertion 0 0 text)) c.new-doc.ensures.value
-    ∙ insertion_text text in
-    c.requires.base ∙ ap length (sym doc)
+apply-requires-2 c = record {
+  base =
+      let text = chars c.args.text.now in
+      let doc : c.apply.new.self ≡ text =
+      c.in_ok-apply.ensures.ok
+      ∙ ap (λ (ms : List Mark). apply ms c.new-doc.result) c.in_ok-all.ensures.ok
+      ∙ ap (apply (insertion 0 0 text)) c.new-doc.ensures.value
+      ∙ insertion_text text in
+      c.requires.base ∙ ap length (sym doc);
+}
 
 pub returns : goal.returns
 returns c =

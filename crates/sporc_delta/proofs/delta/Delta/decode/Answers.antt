@@ -14,12 +14,12 @@ loop-cursor-init c =
 pub returns-in_err-piece-clause-err : goal.returns-in_err-piece-clause-err
 returns-in_err-piece-clause-err c =
     let p = err_from_is_err_and c.from_residual.result c.from_residual.ensures.1 in
-    let some : 0 < length c.loop-cursor.cursor.rest = some_left c.loop-cursor.cursor.rest c.loop-cursor-test.ensures in
+    let some : 0 < length c.loop-cursor.cursor.rest = some_left c.loop-cursor.cursor.rest c.loop-cursor-test.ensures.value in
     rw (p.1, p.2) (λ other. stops c.loop-cursor.delta c.loop-cursor.before c.loop-cursor.cursor c.in_err-piece.field-0.0 (read_delta c.args.bytes.now) some c.in_err-piece.ensures.err c.loop-cursor.invariant.so_far)
 
 pub loop-cursor-preserved : goal.loop-cursor-preserved
 loop-cursor-preserved c =
-    let some : 0 < length c.loop-cursor.cursor.rest = some_left c.loop-cursor.cursor.rest c.loop-cursor-test.ensures in
+    let some : 0 < length c.loop-cursor.cursor.rest = some_left c.loop-cursor.cursor.rest c.loop-cursor-test.ensures.value in
     let piece = owned c.in_ok-piece.piece in
     record {
       so_far = rw (c.in_ok-push.ensures.ok, c.kind.ensures.value) (goes_on c.loop-cursor.delta c.loop-cursor.before c.loop-cursor.cursor (piece, c.read_part.new.cursor) (read_delta c.args.bytes.now) some c.in_ok-piece.ensures.ok c.loop-cursor.invariant.so_far);
@@ -28,4 +28,4 @@ loop-cursor-preserved c =
     }
 
 pub returns-clause-ok : goal.returns-clause-ok
-returns-clause-ok c = ended c.loop-cursor.delta c.loop-cursor.before c.loop-cursor.cursor (read_delta c.args.bytes.now) (none_left c.loop-cursor.cursor.rest c.loop-cursor-test.ensures) c.loop-cursor.invariant.so_far
+returns-clause-ok c = ended c.loop-cursor.delta c.loop-cursor.before c.loop-cursor.cursor (read_delta c.args.bytes.now) (none_left c.loop-cursor.cursor.rest c.loop-cursor-test.ensures.value) c.loop-cursor.invariant.so_far

@@ -22,8 +22,8 @@ invariant_of-result-2 c =
     let within : c.args.at ≤ length (chars c.self.inside.text.now) = omega (arith, ap length c.self.view_is) in
     rw (c.split_at.ensures.back, c.self.invariant.count_is) (cut_at text c.args.at c.place_of.result (IsUtf8-from_is_utf8 text c.self.invariant.utf8) within c.place_of.ensures.value).back
 
-pub returns-clause-front : goal.returns-clause-front
-returns-clause-front c =
+pub returns-clause-prefix : goal.returns-clause-prefix
+returns-clause-prefix c =
     let text = c.self.inside.text.now in
     let within : c.args.at ≤ length (chars c.self.inside.text.now) = omega (arith, ap length c.self.view_is) in
     rw (← c.self.view_is, c.split_at.ensures.front) (cut_at text c.args.at c.place_of.result (IsUtf8-from_is_utf8 text c.self.invariant.utf8) within c.place_of.ensures.value).front_is

@@ -14,5 +14,7 @@ slice_bounds-result-end c =
 pub returns : goal.returns
 returns c =
     let i = c.self.inside in
-    view_signed (parts_entry i.parts.header i.parts.body.now i.parts.signature.now) i.bytes.now c.self.invariant.entry c.self.invariant.spelled
-    ∙ ap (λ (m : EntryViewModel). signed_string m.entry) c.self.view_is
+    record {
+      value = view_signed (parts_entry i.parts.header i.parts.body.now i.parts.signature.now) i.bytes.now c.self.invariant.entry c.self.invariant.spelled
+          ∙ ap (λ (m : EntryViewModel). signed_string m.entry) c.self.view_is;
+    }

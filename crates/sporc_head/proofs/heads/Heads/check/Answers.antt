@@ -5,7 +5,7 @@ use Rattle.sporc_entry.specs.declared.entry.Entry.{Entry}
 use Rattle.sporc_entry.specs.declared.limits.TheConstants.{MAX_ENTRY}
 use Rattle.sporc_entry.specs.Entry.{entry_of}
 use Rattle.sporc_entry.specs.declared.fault.EntryFault.TheVariants.{Malformed}
-use Rattle.sporc_entry.proofs.FieldLaws.{is_read}
+use Rattle.sporc_entry.proofs.FieldLaws.{fault_as_ok}
 use Rattle.sporc_head.specs.History.{hash_of}
 use Rattle.sporc_head.proofs.ChecksPass.{fault_for_nobody}
 use Rattle.sporc_head.proofs.OnceChecked.{passed_of}
@@ -18,11 +18,11 @@ returns-clause-checked c =
     let checked = c.in_ok-checked.checked in
     let same : checked.bytes ≡ c.args.bytes.now = c.in_ok-checked.ensures.bytes ∙ c.in_ok-view.ensures.bytes in
     let made : Entry → Result Entry ℕ = λ e. Ok e in
-    let found : entry_of c.args.bytes.now ≡ Ok c.in_ok-view.view.entry = is_read Malformed (entry_of c.args.bytes.now) c.in_ok-view.view.entry c.in_ok-view.ensures.exact in
+    let found : entry_of c.args.bytes.now ≡ Ok c.in_ok-view.view.entry = fault_as_ok Malformed (entry_of c.args.bytes.now) c.in_ok-view.view.entry c.in_ok-view.ensures.exact in
     let read : entry_of checked.bytes ≡ Ok checked.entry = ap entry_of same ∙ found ∙ ap made (sym c.in_ok-checked.ensures.entry) in
     let seen : entry_of checked.bytes ≡ Ok c.in_ok-view.view.entry = ap entry_of same ∙ found in
     let all : length entries ≤ length entries = omega arith in
-    let last : c.hash_at-before.result ≡ hash_of g entries = c.hash_at-before.ensures ∙ ap (λ (n : ℕ). hash_of g (take n entries)) c.len.ensures.value ∙ ap (hash_of g) (take_all (length entries) entries all) in
+    let last : c.hash_at-before.result ≡ hash_of g entries = c.hash_at-before.ensures.value ∙ ap (λ (n : ℕ). hash_of g (take n entries)) c.len.ensures.value ∙ ap (hash_of g) (take_all (length entries) entries all) in
     record {
       read = read;
       sized = subst (λ (b : List ℕ). length b ≤ MAX_ENTRY) (sym same) c.in_ok-view.ensures.sized;

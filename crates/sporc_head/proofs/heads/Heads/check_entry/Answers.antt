@@ -14,18 +14,18 @@ returns-in_err-author c =
     let g = c.args.self.now.genesis in
     let entries = c.args.self.now.entries in
     let p = err_from_is_err_and c.from_residual-in_err-author.result c.from_residual-in_err-author.ensures.1 in
-    let place : first_of (place_checks g c.args.me entries c.args.pos c.args.view.now.entry.header) ≡ None = ap (λ (h : Header). first_of (place_checks g c.args.me entries c.args.pos h)) (sym c.header.ensures) ∙ c.in_ok-check_place.ensures in
+    let place : first_of (place_checks g c.args.me entries c.args.pos c.args.view.now.entry.header) ≡ None = ap (λ (h : Header). first_of (place_checks g c.args.me entries c.args.pos h)) (sym c.header.ensures.value) ∙ c.in_ok-check_place.ensures in
     unless_exit Memory _ p.0 c.in_err-author.field-0.0 _ p.1 p.2
-    (λ _. at_history g c.args.me entries c.args.pos c.args.view.now.entry place _ (ap (λ (h : Header). first_of (history_checks g entries h)) (sym c.header-2.ensures) ∙ c.in_err-author.ensures.fault))
+    (λ _. at_history g c.args.me entries c.args.pos c.args.view.now.entry place _ (ap (λ (h : Header). first_of (history_checks g entries h)) (sym c.header-2.ensures.value) ∙ c.in_err-author.ensures.fault))
 
 pub returns-in_err-check_author : goal.returns-in_err-check_author
 returns-in_err-check_author c =
     let g = c.args.self.now.genesis in
     let entries = c.args.self.now.entries in
     let p = err_from_is_err_and c.from_residual-in_err-check_author.result c.from_residual-in_err-check_author.ensures.1 in
-    let place : first_of (place_checks g c.args.me entries c.args.pos c.args.view.now.entry.header) ≡ None = ap (λ (h : Header). first_of (place_checks g c.args.me entries c.args.pos h)) (sym c.header.ensures) ∙ c.in_ok-check_place.ensures in
-    let history : first_of (history_checks g entries c.args.view.now.entry.header) ≡ None = ap (λ (h : Header). first_of (history_checks g entries h)) (sym c.header-2.ensures) ∙ c.in_ok-author.ensures.fault in
-    let author : Some c.in_ok-author.author.now ≡ member_at (roster_of g entries) c.args.view.now.entry.header.author = c.in_ok-author.ensures.author ∙ ap (λ (h : Header). member_at (roster_of g entries) h.author) c.header-2.ensures in
+    let place : first_of (place_checks g c.args.me entries c.args.pos c.args.view.now.entry.header) ≡ None = ap (λ (h : Header). first_of (place_checks g c.args.me entries c.args.pos h)) (sym c.header.ensures.value) ∙ c.in_ok-check_place.ensures in
+    let history : first_of (history_checks g entries c.args.view.now.entry.header) ≡ None = ap (λ (h : Header). first_of (history_checks g entries h)) (sym c.header-2.ensures.value) ∙ c.in_ok-author.ensures.fault in
+    let author : Some c.in_ok-author.author.now ≡ member_at (roster_of g entries) c.args.view.now.entry.header.author = c.in_ok-author.ensures.author ∙ ap (λ (h : Header). member_at (roster_of g entries) h.author) c.header-2.ensures.value in
     unless_exit Memory _ p.0 c.in_err-check_author.field-0.0 _ p.1 p.2
     (λ _. at_author g c.args.me entries c.args.pos c.args.view.now.entry place c.in_ok-author.author.now _ author history c.in_err-check_author.ensures)
 
@@ -34,19 +34,19 @@ returns-in_err-check_change c =
     let g = c.args.self.now.genesis in
     let entries = c.args.self.now.entries in
     let p = err_from_is_err_and c.from_residual-in_err-check_change.result c.from_residual-in_err-check_change.ensures.1 in
-    let place : first_of (place_checks g c.args.me entries c.args.pos c.args.view.now.entry.header) ≡ None = ap (λ (h : Header). first_of (place_checks g c.args.me entries c.args.pos h)) (sym c.header.ensures) ∙ c.in_ok-check_place.ensures in
-    let history : first_of (history_checks g entries c.args.view.now.entry.header) ≡ None = ap (λ (h : Header). first_of (history_checks g entries h)) (sym c.header-2.ensures) ∙ c.in_ok-author.ensures.fault in
-    let author : Some c.in_ok-author.author.now ≡ member_at (roster_of g entries) c.args.view.now.entry.header.author = c.in_ok-author.ensures.author ∙ ap (λ (h : Header). member_at (roster_of g entries) h.author) c.header-2.ensures in
+    let place : first_of (place_checks g c.args.me entries c.args.pos c.args.view.now.entry.header) ≡ None = ap (λ (h : Header). first_of (place_checks g c.args.me entries c.args.pos h)) (sym c.header.ensures.value) ∙ c.in_ok-check_place.ensures in
+    let history : first_of (history_checks g entries c.args.view.now.entry.header) ≡ None = ap (λ (h : Header). first_of (history_checks g entries h)) (sym c.header-2.ensures.value) ∙ c.in_ok-author.ensures.fault in
+    let author : Some c.in_ok-author.author.now ≡ member_at (roster_of g entries) c.args.view.now.entry.header.author = c.in_ok-author.ensures.author ∙ ap (λ (h : Header). member_at (roster_of g entries) h.author) c.header-2.ensures.value in
     unless_exit Memory _ p.0 c.in_err-check_change.field-0.0 _ p.1 p.2
-    (λ n. at_roster g c.args.me entries c.args.pos c.args.view.now.entry place c.in_ok-author.author.now (Some c.in-Some.body.now) _ author history c.in_ok-check_author.ensures c.in-Some.ensures
-    (ap (λ (r : Roster). first_of (roster_checks r (Some c.in-Some.body.now))) (sym c.roster.ensures) ∙ c.in_err-check_change.ensures n))
+    (λ n. at_roster g c.args.me entries c.args.pos c.args.view.now.entry place c.in_ok-author.author.now (Some c.in-Some.body.now) _ author history c.in_ok-check_author.ensures c.in-Some.ensures.value
+    (ap (λ (r : Roster). first_of (roster_checks r (Some c.in-Some.body.now))) (sym c.roster.ensures.value) ∙ c.in_err-check_change.ensures n))
 
 pub returns-in_ok-check_change : goal.returns-in_ok-check_change
 returns-in_ok-check_change c =
     let g = c.args.self.now.genesis in
     let entries = c.args.self.now.entries in
-    let place : first_of (place_checks g c.args.me entries c.args.pos c.args.view.now.entry.header) ≡ None = ap (λ (h : Header). first_of (place_checks g c.args.me entries c.args.pos h)) (sym c.header.ensures) ∙ c.in_ok-check_place.ensures in
-    let history : first_of (history_checks g entries c.args.view.now.entry.header) ≡ None = ap (λ (h : Header). first_of (history_checks g entries h)) (sym c.header-2.ensures) ∙ c.in_ok-author.ensures.fault in
-    let author : Some c.in_ok-author.author.now ≡ member_at (roster_of g entries) c.args.view.now.entry.header.author = c.in_ok-author.ensures.author ∙ ap (λ (h : Header). member_at (roster_of g entries) h.author) c.header-2.ensures in
-    at_roster g c.args.me entries c.args.pos c.args.view.now.entry place c.in_ok-author.author.now (Some c.in-Some.body.now) None author history c.in_ok-check_author.ensures c.in-Some.ensures
-    (ap (λ (r : Roster). first_of (roster_checks r (Some c.in-Some.body.now))) (sym c.roster.ensures) ∙ c.in_ok-check_change.ensures)
+    let place : first_of (place_checks g c.args.me entries c.args.pos c.args.view.now.entry.header) ≡ None = ap (λ (h : Header). first_of (place_checks g c.args.me entries c.args.pos h)) (sym c.header.ensures.value) ∙ c.in_ok-check_place.ensures in
+    let history : first_of (history_checks g entries c.args.view.now.entry.header) ≡ None = ap (λ (h : Header). first_of (history_checks g entries h)) (sym c.header-2.ensures.value) ∙ c.in_ok-author.ensures.fault in
+    let author : Some c.in_ok-author.author.now ≡ member_at (roster_of g entries) c.args.view.now.entry.header.author = c.in_ok-author.ensures.author ∙ ap (λ (h : Header). member_at (roster_of g entries) h.author) c.header-2.ensures.value in
+    at_roster g c.args.me entries c.args.pos c.args.view.now.entry place c.in_ok-author.author.now (Some c.in-Some.body.now) None author history c.in_ok-check_author.ensures c.in-Some.ensures.value
+    (ap (λ (r : Roster). first_of (roster_checks r (Some c.in-Some.body.now))) (sym c.roster.ensures.value) ∙ c.in_ok-check_change.ensures)

@@ -10,6 +10,8 @@ index-requires c =
     omega (arith, ap length c.self.invariant.chained, length-chain (genesis_bytes c.self.inside.genesis) (entries_in c.self.inside))
 
 pub returns : goal.returns
-returns c =
-    let h : c.args.i ≤ length (entries_in c.self.inside) = subst (λ (m : HeadsModel). c.args.i ≤ length m.entries) (sym c.self.view_is) c.requires in
-    rw (← c.self.view_is) (chain_read c.self.inside.genesis (entries_in c.self.inside) c.self.inside.hashes.items c.args.i c.index.result.now c.self.invariant.chained h c.index.ensures)
+returns c = record {
+  value =
+      let h : c.args.i ≤ length (entries_in c.self.inside) = subst (λ (m : HeadsModel). c.args.i ≤ length m.entries) (sym c.self.view_is) c.requires in
+      rw (← c.self.view_is) (chain_read c.self.inside.genesis (entries_in c.self.inside) c.self.inside.hashes.items c.args.i c.index.result.now c.self.invariant.chained h c.index.ensures);
+}

@@ -40,8 +40,8 @@ invariant_of-self c =
     keeps_change c.self.inside.genesis entries c.self.inside.hashes.items c.self.inside.roster.roster c.self.inside.barrier c.self.inside.epoch
     c.self.inside.tables.counts.items c.self.inside.tables.lasts.items c.self.inside.tables.removed.items checked.bytes c.hash.result.now c.header.result.now.author s.0 _ _ _ _ _ _ _ _
     c.self.invariant (omega (arith, room, ap length now)) c.requires.checked.sized (omega arith)
-    (λ n. checked_by before.genesis before.entries checked c.requires.checked n ∙ ap (λ (h : Header). eqb h.author n) (sym c.header.ensures)) s.1
-    (c.hash.ensures ∙ c.requires.checked.hash ∙ ap (λ (m : HeadsModel). next_value (hash_of m.genesis m.entries) checked.bytes) (sym c.self.view_is))
+    (λ n. checked_by before.genesis before.entries checked c.requires.checked n ∙ ap (λ (h : Header). eqb h.author n) (sym c.header.ensures.value)) s.1
+    (c.hash.ensures.value ∙ c.requires.checked.hash ∙ ap (λ (m : HeadsModel). next_value (hash_of m.genesis m.entries) checked.bytes) (sym c.self.view_is))
     grown c.push_reserved.ensures.items
     (made ∙ ap (after_change c.self.inside.roster.roster) (sym s.2))
     (ap (λ (n : ℕ). n + 1) size) refl c.record_entry.ensures.count

@@ -24,8 +24,8 @@ invariant_of-self c =
     keeps_edit c.self.inside.genesis entries c.self.inside.hashes.items c.self.inside.roster.roster c.self.inside.barrier c.self.inside.epoch
     c.self.inside.tables.counts.items c.self.inside.tables.lasts.items c.self.inside.tables.removed.items checked.bytes c.hash.result.now c.header.result.now.author _ _ _ _
     c.self.invariant (omega (arith, room, ap length now)) c.requires.checked.sized (omega arith)
-    (λ n. checked_by before.genesis before.entries checked c.requires.checked n ∙ ap (λ (h : Header). eqb h.author n) (sym c.header.ensures))
+    (λ n. checked_by before.genesis before.entries checked c.requires.checked n ∙ ap (λ (h : Header). eqb h.author n) (sym c.header.ensures.value))
     (checked_edit before.genesis before.entries checked c.requires.checked c.requires.edit)
-    (c.hash.ensures ∙ c.requires.checked.hash ∙ ap (λ (m : HeadsModel). next_value (hash_of m.genesis m.entries) checked.bytes) (sym c.self.view_is))
+    (c.hash.ensures.value ∙ c.requires.checked.hash ∙ ap (λ (m : HeadsModel). next_value (hash_of m.genesis m.entries) checked.bytes) (sym c.self.view_is))
     grown c.push_reserved.ensures.items c.record_entry.ensures.count
     (c.record_entry.ensures.last ∙ ap (λ (n : ℕ). set c.self.inside.tables.lasts.items c.header.result.now.author (n + 1)) size)

@@ -1,15 +1,16 @@
 use Rattle.std.proofs.Common.{◌≡◌, ◌≤◌, ◌++◌, ◌∷◌, [], arith, min, refl, sym, subst}
 use Rattle.sporc_line.specs.LineModel.{LineModel}
 use Rattle.sporc_line.specs.PreparedFields.{prepared_of}
-use Rattle.sporc_line.proofs.LineKeeps.{prepared_here, prepared_fits, line_pushed, ok_of}
+use Rattle.sporc_head.proofs.OnceChecked.{ok_of}
+use Rattle.sporc_line.proofs.LineKeeps.{prepared_here, prepared_fits, line_pushed}
 use Rattle.sporc_line.proofs.line.Line.commit.Goals as goal
 
 pub put-requires-clause-base : goal.put-requires-clause-base
 put-requires-clause-base c =
     (prepared_fits c.self.invariant (prepared_of c.prepared.inside) (prepared_here c.self.inside c.prepared.inside c.args.self.now c.args.prepared c.self.view_is c.prepared.view_is c.requires.prepared)).over_forms
 
-pub put-requires-clause-few : goal.put-requires-clause-few
-put-requires-clause-few c =
+pub put-requires-clause-limit : goal.put-requires-clause-limit
+put-requires-clause-limit c =
     (prepared_fits c.self.invariant (prepared_of c.prepared.inside) (prepared_here c.self.inside c.prepared.inside c.args.self.now c.args.prepared c.self.view_is c.prepared.view_is c.requires.prepared)).few
 
 pub invariant_of-self : goal.invariant_of-self

@@ -2,7 +2,8 @@ use Rattle.std.proofs.Common.{arith, ap, sym, ◌∙◌}
 use Rattle.std.specs.Option.{option_copied}
 use Rattle.std.proofs.lemmas.Result.{err_from_is_err_and}
 use Rattle.sporc_head.specs.declared.refusal.Refusal.TheVariants.{Memory}
-use Rattle.sporc_line.proofs.Effects.{EditSeen, seen_size, seen_within, seen_bad, seen_wrong, seen_right, seen_small, seen_does, no_key, unless_exit}
+use Rattle.sporc_head.proofs.OnceChecked.{unless_exit}
+use Rattle.sporc_line.proofs.Effects.{EditSeen, seen_size, seen_within, seen_bad, seen_wrong, seen_right, seen_small, seen_does, no_key}
 use Rattle.sporc_line.proofs.line.Line.edit_effect.Goals as goal
 
 pub returns-in_default-clause-fault : goal.returns-in_default-clause-fault
@@ -15,8 +16,8 @@ read_payload-requires c =
       checked = c.requires.checked;
       edit = c.requires.edit;
       key_is = ap option_copied (sym c.in-Some.is) ∙ c.key.ensures.value;
-      header_is = c.header-header.ensures;
-      body_is = c.body.ensures;
+      header_is = c.header-header.ensures.value;
+      body_is = c.body.ensures.value;
     } in
     omega (arith, seen_size s)
 
@@ -27,8 +28,8 @@ returns-in_err-marks-clause-fault c =
       checked = c.requires.checked;
       edit = c.requires.edit;
       key_is = ap option_copied (sym c.in-Some.is) ∙ c.key.ensures.value;
-      header_is = c.header-header.ensures;
-      body_is = c.body.ensures;
+      header_is = c.header-header.ensures.value;
+      body_is = c.body.ensures.value;
     } in
     unless_exit Memory _ p.0 c.in_err-marks.field-0.0 _ p.1 p.2 (λ n. seen_bad s c.in_err-marks.field-0.0 (c.in_err-marks.ensures.fault n))
 
@@ -38,8 +39,8 @@ text_len_at-requires c =
       checked = c.requires.checked;
       edit = c.requires.edit;
       key_is = ap option_copied (sym c.in-Some.is) ∙ c.key.ensures.value;
-      header_is = c.header-header.ensures;
-      body_is = c.body.ensures;
+      header_is = c.header-header.ensures.value;
+      body_is = c.body.ensures.value;
     } in
     seen_within s
 
@@ -49,8 +50,8 @@ returns-then-base_len-text_len_at-clause-fault c other =
       checked = c.requires.checked;
       edit = c.requires.edit;
       key_is = ap option_copied (sym c.in-Some.is) ∙ c.key.ensures.value;
-      header_is = c.header-header.ensures;
-      body_is = c.body.ensures;
+      header_is = c.header-header.ensures.value;
+      body_is = c.body.ensures.value;
     } in
     seen_wrong s c.in_ok-marks.marks c.in_ok-marks.ensures.ok (λ same. c.if-base_len-text_len_at.true (c.base_len.ensures.value ∙ same ∙ sym c.text_len_at.ensures.value))
 
@@ -60,19 +61,19 @@ over_forms-requires-clause-within c =
       checked = c.requires.checked;
       edit = c.requires.edit;
       key_is = ap option_copied (sym c.in-Some.is) ∙ c.key.ensures.value;
-      header_is = c.header-header.ensures;
-      body_is = c.body.ensures;
+      header_is = c.header-header.ensures.value;
+      body_is = c.body.ensures.value;
     } in
     seen_within s
 
-pub over_forms-requires-clause-small : goal.over_forms-requires-clause-small
-over_forms-requires-clause-small c =
+pub over_forms-requires-clause-limit : goal.over_forms-requires-clause-limit
+over_forms-requires-clause-limit c =
     let s : EditSeen c.args.self.now.genesis c.args.self.now.kit c.args.self.now.entries c.args.checked.now c.header-header.result.now c.in-Some.key.now c.body.result.now = record {
       checked = c.requires.checked;
       edit = c.requires.edit;
       key_is = ap option_copied (sym c.in-Some.is) ∙ c.key.ensures.value;
-      header_is = c.header-header.ensures;
-      body_is = c.body.ensures;
+      header_is = c.header-header.ensures.value;
+      body_is = c.body.ensures.value;
     } in
     seen_small s c.in_ok-marks.marks c.in_ok-marks.ensures.ok
 
@@ -82,8 +83,8 @@ returns-clause-fault c =
       checked = c.requires.checked;
       edit = c.requires.edit;
       key_is = ap option_copied (sym c.in-Some.is) ∙ c.key.ensures.value;
-      header_is = c.header-header.ensures;
-      body_is = c.body.ensures;
+      header_is = c.header-header.ensures.value;
+      body_is = c.body.ensures.value;
     } in
     seen_right s c.in_ok-marks.marks c.in_ok-marks.ensures.ok (sym c.base_len.ensures.value ∙ c.if-base_len-text_len_at.false ∙ c.text_len_at.ensures.value)
 
@@ -93,7 +94,7 @@ returns-clause-ok c =
       checked = c.requires.checked;
       edit = c.requires.edit;
       key_is = ap option_copied (sym c.in-Some.is) ∙ c.key.ensures.value;
-      header_is = c.header-header.ensures;
-      body_is = c.body.ensures;
+      header_is = c.header-header.ensures.value;
+      body_is = c.body.ensures.value;
     } in
     seen_does s c.in_ok-marks.marks c.in_ok-form.form c.in_ok-marks.ensures.ok c.in_ok-form.ensures.ok

@@ -6,7 +6,8 @@ use Rattle.sporc_head.specs.HeadChecks.{head_fault}
 use Rattle.sporc_line.specs.LineChecks.{key_checks, first_fault}
 use Rattle.sporc_line.specs.LineModel.{LineModel}
 use Rattle.sporc_line.proofs.NextEntry.{fault_at_head, at_next}
-use Rattle.sporc_line.proofs.Effects.{checked_faults, unless_exit}
+use Rattle.sporc_head.proofs.OnceChecked.{unless_exit}
+use Rattle.sporc_line.proofs.Effects.{checked_faults}
 use Rattle.sporc_line.proofs.line.Line.prepare.Goals as goal
 
 pub returns-in_err-checked-clause-fault : goal.returns-in_err-checked-clause-fault

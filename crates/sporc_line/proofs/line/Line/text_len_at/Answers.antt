@@ -9,8 +9,8 @@ form-requires c =
     let within : c.args.i ≤ length c.self.inside.heads.entries = subst (λ (m : LineModel). c.args.i ≤ length m.entries) (sym c.self.view_is) c.requires in
     form_place c.self.invariant c.args.i (omega (arith, within, c.len.ensures.value))
 
-pub returns-then-i-len-clause-small : goal.returns-then-i-len-clause-small
-returns-then-i-len-clause-small c =
+pub returns-then-i-len-clause-within : goal.returns-then-i-len-clause-within
+returns-then-i-len-clause-within c =
     omega (arith, text_small c.self.invariant)
 
 pub returns-else-i-len-clause-value : goal.returns-else-i-len-clause-value
@@ -18,7 +18,7 @@ returns-else-i-len-clause-value c =
     subst (λ (m : LineModel). c.base_len.result ≡ length (text_of m.genesis m.kit (take c.args.i m.entries))) c.self.view_is
     (c.base_len.ensures.value ∙ before_form c.self.invariant c.args.i c.form.result.now c.form.ensures.value)
 
-pub returns-else-i-len-clause-small : goal.returns-else-i-len-clause-small
-returns-else-i-len-clause-small c =
+pub returns-else-i-len-clause-within : goal.returns-else-i-len-clause-within
+returns-else-i-len-clause-within c =
     let same = c.base_len.ensures.value ∙ before_form c.self.invariant c.args.i c.form.result.now c.form.ensures.value in
     omega (arith, same, before_small c.self.invariant c.args.i)

@@ -14,8 +14,8 @@ returns-clause-entries c =
 pub returns-clause-empty : goal.returns-clause-empty
 returns-clause-empty c =
     is_empty _ c.args.self.now.entries c.args.from
-    (subst (λ (m : OrderModel). All (λ b. length b ≤ MAX_ENTRY) m.entries) c.self.view_is c.entries-entries.ensures.sized)
+    (subst (λ (m : OrderModel). All (λ b. length b ≤ MAX_ENTRY) m.entries) c.self.view_is c.entries-entries.ensures.within)
     (returns-clause-entries c)
 
-pub returns-clause-limit : goal.returns-clause-limit
-returns-clause-limit c = is_few _ c.args.self.now.entries c.args.from (returns-clause-entries c)
+pub returns-clause-within : goal.returns-clause-within
+returns-clause-within c = is_few _ c.args.self.now.entries c.args.from (returns-clause-entries c)

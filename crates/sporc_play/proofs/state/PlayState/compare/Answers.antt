@@ -13,7 +13,7 @@ pub compare-verdict-requires-clause-one_genesis : goal.compare-verdict-requires-
 compare-verdict-requires-clause-one_genesis c =
     let state = c.args.self.now in
     ap (λ (xs : List (List ℕ)). slice_get xs 0) c.hashes.ensures.value
-    ∙ one_beginning state c.args.pair.now.first c.args.pair.now.second c.in-Some.first.now c.in-Some-client.second.now c.requires.one_document (found_by state _ _ c.in-Some.ensures) (found_by state _ _ c.in-Some-client.ensures)
+    ∙ one_beginning state c.args.pair.now.first c.args.pair.now.second c.in-Some.first.now c.in-Some-client.second.now c.requires.one_document (found_by state _ _ c.in-Some.ensures.value) (found_by state _ _ c.in-Some-client.ensures.value)
     ∙ ap (λ (xs : List (List ℕ)). slice_get xs 0) (sym c.hashes-2.ensures.value)
 
 pub returns : goal.returns
@@ -26,5 +26,5 @@ returns c =
     let stand : Stands (chain_of (state_of a)) (chain_of (state_of b)) v =
     subst (λ (xs : List (List ℕ)). Stands xs (chain_of (state_of b)) v) (c.hashes.ensures.value ∙ chain_is a)
     (subst (λ (xs : List (List ℕ)). Stands c.hashes.result.now xs v) (c.hashes-2.ensures.value ∙ chain_is b) (stands c.hashes.result.now c.hashes-2.result.now v is.same is.prefix is.longer is.forked)) in
-    ok_then c.push_verdict.result _ _ c.push_verdict.ensures
-    (λ is. compare_tells state c.args.pair.now a b v _ _ (found_by state _ _ c.in-Some.ensures) (found_by state _ _ c.in-Some-client.ensures) stand is)
+    ok_then c.push_verdict.result _ _ c.push_verdict.ensures.ok
+    (λ is. compare_tells state c.args.pair.now a b v _ _ (found_by state _ _ c.in-Some.ensures.value) (found_by state _ _ c.in-Some-client.ensures.value) stand is)

@@ -9,14 +9,14 @@ use Rattle.sporc_play.proofs.state.PlayState.open_by.Goals as goal
 
 pub seat_at-i-requires : goal.seat_at-i-requires
 seat_at-i-requires c =
-    subst (λ (xs : List Seat). Contains (seated xs) c.in-Member.founder.member) (sym c.as_slice.ensures.value) (c.requires.seated c.in-Member.founder c.in-Member.is)
+    record { seated = subst (λ (xs : List Seat). Contains (seated xs) c.in-Member.founder.member) (sym c.as_slice.ensures.value) (c.requires.seated c.in-Member.founder c.in-Member.is) }
 
 pub returns-in-Member-clause-stands : goal.returns-in-Member-clause-stands
 returns-in-Member-clause-stands c =
     let old = c.args.self.now in
     let x = c.index_mut.result.now in
-    let at = seat_read c.as_slice.result.now old.seats.items c.seat_at-i.result c.in-Member.founder.member x c.as_slice.ensures.value c.seat_at-i.ensures c.index_mut.ensures.value in
-    ok_then c.open_founder.result _ _ c.open_founder.ensures (λ is script i low here stands.
+    let at = seat_read c.as_slice.result.now old.seats.items c.seat_at-i.result c.in-Member.founder.member x c.as_slice.ensures.value c.seat_at-i.ensures.value c.index_mut.ensures.value in
+    ok_then c.open_founder.result _ _ c.open_founder.ensures.ok (λ is script i low here stands.
     founder_stands script old _ i c.seat_at-i.result c.args.line.now c.in-Member.founder x c.open_founder.new.seat low here c.in-Member.is stands at (is (setup_of script) stands.cast stands.genesis)
     (record { genesis = refl; cast = refl; rogues = refl; seats = refl }) refl)
 

@@ -12,7 +12,7 @@ give-requires-clause-log g c =
     let k = known_of c.args.pass in
     let before = past_of (value_of c.in_ok-held.held).client.value in
     let held : known_held c.accept-answer.new.held ≡ seeing k (items_of before) = rw c.accept-answer.ensures.turn c.in_ok-held.ensures.held in
-    call_extends k _ before _ _ held c.accept-answer.ensures.past (added_by c.accept-answer.result.0 (Accept c.number-by.result c.args.bytes.now) k.number c.number-by.ensures)
+    call_extends k _ before _ _ held c.accept-answer.ensures.past (added_by c.accept-answer.result.0 (Accept c.number-by.result c.args.bytes.now) k.number c.number-by.ensures.value)
 
 pub returns-clause-call : goal.returns-clause-call
 returns-clause-call g c =
@@ -20,10 +20,13 @@ returns-clause-call g c =
     let before = past_of (value_of c.in_ok-held.held).client.value in
     let answer = c.accept-answer.result.0 in
     let held : known_held c.accept-answer.new.held ≡ seeing k (items_of before) = rw c.accept-answer.ensures.turn c.in_ok-held.ensures.held in
-    let became = c.accept-answer.ensures.past ∙ ap (λ (n : ℕ). with_events before (added answer (Accept n c.args.bytes.now))) c.number-by.ensures in
+    let became = c.accept-answer.ensures.past ∙ ap (λ (n : ℕ). with_events before (added answer (Accept n c.args.bytes.now))) c.number-by.ensures.value in
     let call =
     call_is k _ (known_of c.give.result.pass) before _ _ held became c.in_ok-held.ensures.found c.give.ensures.known c.give.ensures.agrees c.accept-answer.ensures.allowed in
     rw c.give.ensures.answer (before, call, c.accept-answer.ensures.fault)
 
 pub returns-clause-front : goal.returns-clause-front
 returns-clause-front g c = rw c.give.ensures.front (call_front _ (known_of c.give.result.pass) _ c.accept-answer.result.1 c.give.ensures.known c.accept-answer.ensures.events)
+
+pub returns-clause-ok : goal.returns-clause-ok
+returns-clause-ok g c = rw (c.give.ensures.answer, c.give.ensures.front) c.accept-answer.ensures.ok

@@ -9,16 +9,16 @@ pub give-requires-clause-log : goal.give-requires-clause-log
 give-requires-clause-log g c =
     let k = known_of c.args.pass in
     let before = past_of (value_of c.in_ok-held.held).client.value in
-    let held : known_held c.hello-greeting.new.held ≡ seeing k (items_of before) = rw c.hello-greeting.ensures.same c.in_ok-held.ensures.held in
-    let became : past_of (value_of c.hello-greeting.new.held).client.value ≡ with_events before [] = rw c.hello-greeting.ensures.same (with_none before) in
+    let held : known_held c.hello-greeting.new.held ≡ seeing k (items_of before) = rw c.hello-greeting.ensures.unchanged c.in_ok-held.ensures.held in
+    let became : past_of (value_of c.hello-greeting.new.held).client.value ≡ with_events before [] = rw c.hello-greeting.ensures.unchanged (with_none before) in
     call_extends k _ before _ [] held became (all_none k.number)
 
 pub returns-clause-call : goal.returns-clause-call
 returns-clause-call g c =
     let k = known_of c.args.pass in
     let before = past_of (value_of c.in_ok-held.held).client.value in
-    let held : known_held c.hello-greeting.new.held ≡ seeing k (items_of before) = rw c.hello-greeting.ensures.same c.in_ok-held.ensures.held in
-    let became : past_of (value_of c.hello-greeting.new.held).client.value ≡ with_events before [] = rw c.hello-greeting.ensures.same (with_none before) in
-    let allowed : IsAllowed (past_of (value_of c.hello-greeting.new.held).client.value) = rw c.hello-greeting.ensures.same c.hello-greeting.ensures.allowed in
+    let held : known_held c.hello-greeting.new.held ≡ seeing k (items_of before) = rw c.hello-greeting.ensures.unchanged c.in_ok-held.ensures.held in
+    let became : past_of (value_of c.hello-greeting.new.held).client.value ≡ with_events before [] = rw c.hello-greeting.ensures.unchanged (with_none before) in
+    let allowed : IsAllowed (past_of (value_of c.hello-greeting.new.held).client.value) = rw c.hello-greeting.ensures.unchanged c.hello-greeting.ensures.allowed in
     let call = call_is k _ (known_of c.give.result.pass) before _ [] held became c.in_ok-held.ensures.found c.give.ensures.known c.give.ensures.agrees allowed in
     rw c.give.ensures.answer (before, call, c.hello-greeting.ensures.hello)

@@ -9,21 +9,21 @@ pub give-requires-clause-log : goal.give-requires-clause-log
 give-requires-clause-log g c =
     let k = known_of c.args.pass in
     let before = past_of (value_of c.in_ok-held.held).client.value in
-    let held : known_held c.look-events.new.held ≡ seeing k (items_of before) = rw c.look-events.ensures.same c.in_ok-held.ensures.held in
-    let became : past_of (value_of c.look-events.new.held).client.value ≡ with_events before [] = rw c.look-events.ensures.same (with_none before) in
+    let held : known_held c.look-events.new.held ≡ seeing k (items_of before) = rw c.look-events.ensures.unchanged c.in_ok-held.ensures.held in
+    let became : past_of (value_of c.look-events.new.held).client.value ≡ with_events before [] = rw c.look-events.ensures.unchanged (with_none before) in
     call_extends k _ before _ [] held became (all_none k.number)
 
 pub returns-clause-call : goal.returns-clause-call
 returns-clause-call g c =
     let k = known_of c.args.pass in
     let before = past_of (value_of c.in_ok-held.held).client.value in
-    let held : known_held c.look-events.new.held ≡ seeing k (items_of before) = rw c.look-events.ensures.same c.in_ok-held.ensures.held in
-    let became : past_of (value_of c.look-events.new.held).client.value ≡ with_events before [] = rw c.look-events.ensures.same (with_none before) in
-    let allowed : IsAllowed (past_of (value_of c.look-events.new.held).client.value) = rw c.look-events.ensures.same c.look-events.ensures.allowed in
+    let held : known_held c.look-events.new.held ≡ seeing k (items_of before) = rw c.look-events.ensures.unchanged c.in_ok-held.ensures.held in
+    let became : past_of (value_of c.look-events.new.held).client.value ≡ with_events before [] = rw c.look-events.ensures.unchanged (with_none before) in
+    let allowed : IsAllowed (past_of (value_of c.look-events.new.held).client.value) = rw c.look-events.ensures.unchanged c.look-events.ensures.allowed in
     let call = call_is k _ (known_of c.give.result.pass) before _ [] held became c.in_ok-held.ensures.found c.give.ensures.known c.give.ensures.agrees allowed in
     rw c.give.ensures.answer (before, call, c.look-events.ensures.seen)
 
 pub returns-clause-front : goal.returns-clause-front
 returns-clause-front g c =
-    let events : c.look-events.result.1 ≡ length (past_of (value_of c.look-events.new.held).client.value).log = rw c.look-events.ensures.same c.look-events.ensures.events in
+    let events : c.look-events.result.1 ≡ length (past_of (value_of c.look-events.new.held).client.value).log = rw c.look-events.ensures.unchanged c.look-events.ensures.events in
     rw c.give.ensures.front (call_front _ (known_of c.give.result.pass) _ c.look-events.result.1 c.give.ensures.known events)

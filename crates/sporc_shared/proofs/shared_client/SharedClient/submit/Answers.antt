@@ -11,7 +11,7 @@ give-requires-clause-log g c =
     let k = known_of c.args.pass in
     let before = past_of (value_of c.in_ok-held.held).client.value in
     let held : known_held c.submit-answer.new.held ≡ seeing k (items_of before) = rw c.submit-answer.ensures.turn c.in_ok-held.ensures.held in
-    call_extends k _ before _ _ held c.submit-answer.ensures.past (submission_by c.submit-answer.result.0 c.number-by.result k.number c.number-by.ensures)
+    call_extends k _ before _ _ held c.submit-answer.ensures.past (submission_by c.submit-answer.result.0 c.number-by.result k.number c.number-by.ensures.value)
 
 pub returns-clause-call : goal.returns-clause-call
 returns-clause-call g c =
@@ -19,7 +19,7 @@ returns-clause-call g c =
     let before = past_of (value_of c.in_ok-held.held).client.value in
     let held : known_held c.submit-answer.new.held ≡ seeing k (items_of before) = rw c.submit-answer.ensures.turn c.in_ok-held.ensures.held in
     let answer = c.submit-answer.result.0 in
-    let became = c.submit-answer.ensures.past ∙ ap (λ (n : ℕ). with_events before (submission_added n answer)) c.number-by.ensures in
+    let became = c.submit-answer.ensures.past ∙ ap (λ (n : ℕ). with_events before (submission_added n answer)) c.number-by.ensures.value in
     let call =
     call_is k _ (known_of c.give.result.pass) before _ _ held became c.in_ok-held.ensures.found c.give.ensures.known c.give.ensures.agrees c.submit-answer.ensures.allowed in
     rw c.give.ensures.answer (before, call, c.submit-answer.ensures.answer)

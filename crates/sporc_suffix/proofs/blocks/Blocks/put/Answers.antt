@@ -15,5 +15,5 @@ invariant_of-self c =
     let held = ap (λ (r : BlocksModel). length r.forms) c.self.view_is in
     rw pushed record {
       follow = Follow-append c.self.inside.base fs form c.self.invariant.follow stated;
-      few = omega (arith, length-append c.self.inside.forms.items (c.ready.inside.form ∷ []), c.requires.few);
+      few = omega (arith, length-append c.self.inside.forms.items (c.ready.inside.form ∷ []), c.requires.limit);
     }

@@ -3,7 +3,7 @@ use Rattle.sporc_entry.specs.ChangeBody.{IsChangeBody, change_body_bytes}
 use Rattle.sporc_client.proofs.client.submitting.unsigned.change_body.Goals as goal
 
 pub returns-clause-value : goal.returns-clause-value
-returns-clause-value c = λ key own. c.new.ensures.value ∙ c.in_ok-bytes.ensures ∙ ap change_body_bytes (c.in_ok-body.ensures.value key own)
+returns-clause-value c = λ key own. c.new.ensures.value ∙ c.in_ok-bytes.ensures.ok ∙ ap change_body_bytes (c.in_ok-body.ensures.value key own)
 
 pub returns-clause-spelled : goal.returns-clause-spelled
 returns-clause-spelled c = λ key own. subst IsChangeBody (c.in_ok-body.ensures.value key own) c.in_ok-body.ensures.spelled

@@ -5,17 +5,17 @@ use Rattle.sporc_client.specs.declared.pending.Pending.{Pending}
 use Rattle.sporc_client.specs.ClientInvariant.{plain_of}
 use Rattle.sporc_client.specs.Contents.{IsSpelled}
 use Rattle.sporc_client.specs.Entries.{Chosen, body_of}
-use Rattle.sporc_client.specs.Workspace.{Workspace}
+use Rattle.sporc_client.specs.Workspace.{WorkspaceModel}
 use Rattle.sporc_client.proofs.client.submitting.unsigned.entry_body.Goals as goal
 
 pub returns-in-Change-clause-value : goal.returns-in-Change-clause-value
 returns-in-Change-clause-value c =
     let chosen : Chosen = record { leaf = c.args.leaf; randomizer = []; new_key = c.args.new_key.now } in
-    let P : Pending → Type 0 = λ item. IfOk c.change_body.result (λ (body : List ℕ). (key : LmsPrivate) (own : Workspace) → body ≡ body_of (plain_of key c.args.line.now own) chosen item) in
+    let P : Pending → Type 0 = λ item. IfOk c.change_body.result (λ (body : List ℕ). (key : LmsPrivate) (own : WorkspaceModel) → body ≡ body_of (plain_of key c.args.line.now own) chosen item) in
     subst P (sym c.in-Change.is) c.change_body.ensures.value
 
 pub returns-in-Change-clause-spelled : goal.returns-in-Change-clause-spelled
 returns-in-Change-clause-spelled c =
     let chosen : Chosen = record { leaf = c.args.leaf; randomizer = []; new_key = c.args.new_key.now } in
-    let P : Pending → Type 0 = λ item. OnOk c.change_body.result ((key : LmsPrivate) (own : Workspace) → IsSpelled (plain_of key c.args.line.now own) chosen item) in
+    let P : Pending → Type 0 = λ item. OnOk c.change_body.result ((key : LmsPrivate) (own : WorkspaceModel) → IsSpelled (plain_of key c.args.line.now own) chosen item) in
     subst P (sym c.in-Change.is) c.change_body.ensures.spelled

@@ -13,7 +13,7 @@ returns-clause-is_header c =
       number = omega (arith, c.count_of.ensures.within, ap length c.heads-heads.ensures.entries);
       base = omega (arith, c.len.ensures.value);
       base_hash = ap length c.hash.ensures.value ∙ length-hash_of line.genesis line.entries;
-      epoch = omega (arith, c.epoch.ensures, epoch_le line.entries, ap epoch_of c.heads-heads.ensures.entries);
+      epoch = omega (arith, c.epoch.ensures.value, epoch_le line.entries, ap epoch_of c.heads-heads.ensures.entries);
       leaf = omega arith;
       kind = c.requires.kind;
     }

@@ -12,7 +12,7 @@ use Rattle.sporc_client.proofs.SubmitRosters.{all_paired, can_seal, sealed_same,
 use Rattle.sporc_client.proofs.client.submitting.unsigned.seal.Goals as goal
 
 pub seal_change-requires : goal.seal_change-requires
-seal_change-requires c = record { epoch = omega (arith, c.epoch.ensures, ap epoch_of c.heads-heads.ensures.entries, epoch_le c.args.line.now.entries, c.requires.can_take.room) }
+seal_change-requires c = record { epoch = omega (arith, c.epoch.ensures.value, ap epoch_of c.heads-heads.ensures.entries, epoch_le c.args.line.now.entries, c.requires.can_take.room) }
 
 pub returns-in-Ok-clause-value : goal.returns-in-Ok-clause-value
 returns-in-Ok-clause-value c = λ key own.
@@ -21,11 +21,11 @@ returns-in-Ok-clause-value c = λ key own.
     let heads = c.heads-heads.ensures in
     let genesis : c.genesis.result.now ≡ line.genesis = c.genesis.ensures.value ∙ heads.genesis in
     let roster : c.roster.result.now.roster ≡ roster_of line.genesis line.entries =
-    c.roster.ensures ∙ ap (λ (g : Genesis). roster_of g c.heads-heads.result.now.entries) heads.genesis ∙ ap (roster_of line.genesis) heads.entries in
+    c.roster.ensures.value ∙ ap (λ (g : Genesis). roster_of g c.heads-heads.result.now.entries) heads.genesis ∙ ap (roster_of line.genesis) heads.entries in
     let members : c.as_slice.result.now ≡ numbers_of (after_change (roster_of line.genesis line.entries) change).members =
-    c.as_slice.ensures.value ∙ c.in_ok-members.ensures ∙ ap (λ (r : Roster). numbers_of (after_change r change).members) roster in
+    c.as_slice.ensures.value ∙ c.in_ok-members.ensures.ok ∙ ap (λ (r : Roster). numbers_of (after_change r change).members) roster in
     let same = sealing_same (plain_of key line own) (record { leaf = c.args.leaf; randomizer = []; new_key = c.args.new_key.now }) change c.as_slice.result.now c.genesis.result.now.document c.me.result c.epoch.result c.args.old_key.now
-    members (ap (λ (g : Genesis). g.document) genesis) c.me.ensures.value (c.epoch.ensures ∙ ap epoch_of heads.entries) c.requires.key in
+    members (ap (λ (g : Genesis). g.document) genesis) c.me.ensures.value (c.epoch.ensures.value ∙ ap epoch_of heads.entries) c.requires.key in
     sealed_same _ _ (pairs_in c.pairs.result.now) line.kit.pairs c.in-Ok.body c.in-Ok.ensures.value same c.pairs.ensures.value
 
 pub returns-in-Ok-clause-spelled : goal.returns-in-Ok-clause-spelled
@@ -35,9 +35,9 @@ returns-in-Ok-clause-spelled c =
     let heads = c.heads-heads.ensures in
     let genesis : c.genesis.result.now ≡ line.genesis = c.genesis.ensures.value ∙ heads.genesis in
     let roster : c.roster.result.now.roster ≡ roster_of line.genesis line.entries =
-    c.roster.ensures ∙ ap (λ (g : Genesis). roster_of g c.heads-heads.result.now.entries) heads.genesis ∙ ap (roster_of line.genesis) heads.entries in
+    c.roster.ensures.value ∙ ap (λ (g : Genesis). roster_of g c.heads-heads.result.now.entries) heads.genesis ∙ ap (roster_of line.genesis) heads.entries in
     let members : c.as_slice.result.now ≡ numbers_of (after_change (roster_of line.genesis line.entries) change).members =
-    c.as_slice.ensures.value ∙ c.in_ok-members.ensures ∙ ap (λ (r : Roster). numbers_of (after_change r change).members) roster in
+    c.as_slice.ensures.value ∙ c.in_ok-members.ensures.ok ∙ ap (λ (r : Roster). numbers_of (after_change r change).members) roster in
     let can = can_seal line change c.as_slice.result.now c.requires.can_take (subst IsGenesis genesis c.genesis.ensures.is_genesis) c.subject_of-subject.ensures.typed members in
     c.in-Ok.ensures.spelled can.is_change can.few
 
@@ -50,8 +50,8 @@ unreachable-requires c =
     let change = c.args.change.now in
     let heads = c.heads-heads.ensures in
     let roster : c.roster.result.now.roster ≡ roster_of line.genesis line.entries =
-    c.roster.ensures ∙ ap (λ (g : Genesis). roster_of g c.heads-heads.result.now.entries) heads.genesis ∙ ap (roster_of line.genesis) heads.entries in
+    c.roster.ensures.value ∙ ap (λ (g : Genesis). roster_of g c.heads-heads.result.now.entries) heads.genesis ∙ ap (roster_of line.genesis) heads.entries in
     let members : c.as_slice.result.now ≡ numbers_of (after_change (roster_of line.genesis line.entries) change).members =
-    c.as_slice.ensures.value ∙ c.in_ok-members.ensures ∙ ap (λ (r : Roster). numbers_of (after_change r change).members) roster in
+    c.as_slice.ensures.value ∙ c.in_ok-members.ensures.ok ∙ ap (λ (r : Roster). numbers_of (after_change r change).members) roster in
     all_paired _ (pairs_in c.pairs.result.now) line.kit.pairs _ c.in-Err-NoPairKey.field-0-0 members c.pairs.ensures.value c.requires.can_take.fits.1
     (c.in-Err-NoPairKey.ensures.value (λ memory. apart c.in-Err-NoPairKey.field-0 c.in-Err-NoPairKey.field-0-0 c.in-Err-NoPairKey.field-0-is memory) ∙ ap Err c.in-Err-NoPairKey.field-0-is)

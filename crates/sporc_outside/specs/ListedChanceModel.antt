@@ -1,0 +1,9 @@
+-- What contracts see of a list of random words.
+use Rattle.std.specs.Prelude.{ℕ, List}
+use Rattle.sporc_outside.specs.CallsModel.{CallsModel}
+
+-- the words given so far, those that are left, and the calls
+pub record ListedChanceModel : Type 0 where
+  pub given : List (List ℕ)
+  pub left : List (List ℕ)
+  pub calls : CallsModel

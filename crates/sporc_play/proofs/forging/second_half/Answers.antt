@@ -1,6 +1,0 @@
-use Rattle.std.proofs.Common.{drop, arith, ◌∙◌}
-use Rattle.std.proofs.lemmas.List.{length-drop, take_all}
-use Rattle.sporc_play.proofs.forging.second_half.Goals as goal
-
-pub returns : goal.returns
-returns c = c.copy_from_slice.ensures.after ∙ take_all 32 (drop 32 c.args.random.now) (omega (arith, length-drop 32 c.args.random.now, c.told-random))
