@@ -1,6 +1,6 @@
 -- Every run keeps the headline.
 use Rattle.std.proofs.Common.{◌≡◌, ℕ, ◌+◌, ◌≤◌, Bool, true, false, cond, List, ◌++◌, length, take, refl, ap, sym, ◌∙◌, subst, arith, Option, None, Some}
-use Rattle.std.specs.Prelude.{fold, is_some, slice_get, ◌==◌}
+use Rattle.std.specs.Prelude.{fold, is_some, ◌==◌}
 use Rattle.std.proofs.lemmas.Bool.{eqb-true}
 use Rattle.std.proofs.lemmas.List.{take_all}
 use Rattle.sporc_hash.specs.Strings.{CollisionFree}

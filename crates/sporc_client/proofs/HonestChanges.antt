@@ -1,5 +1,5 @@
 -- A change that a client made is read as it was sealed, and its keys open.
-use Rattle.std.proofs.Common.{◌≡◌, ℕ, ◌+◌, ◌^◌, ◌<◌, Bool, true, false, cond, ◌&&◌, List, [], ◌∷◌, length, map, refl, ap, sym, ◌∙◌, subst, arith, Option, None, Some, IfSome, Ok, length-append}
+use Rattle.std.proofs.Common.{◌≡◌, ℕ, ◌+◌, ◌^◌, ◌<◌, Bool, true, false, cond, List, [], ◌∷◌, length, map, refl, ap, sym, ◌∙◌, subst, arith, Option, None, Some, IfSome, Ok, length-append}
 use Rattle.std.specs.Prelude.{Contains, find, is_some, option_map, unwrap_or, ◌==◌, ◌||◌}
 use Rattle.std.specs.FinMap.{get}
 use Rattle.std.specs.Int.{w16, to_be_bytes}

@@ -1,5 +1,5 @@
 -- What a client signs verifies under its member's key in its history.
-use Rattle.std.proofs.Common.{◌≡◌, ℕ, zero, suc, ◌^◌, ◌<◌, ◌≤◌, Bool, true, false, ◌&&◌, List, ◌++◌, length, refl, ap, ◌∙◌, arith, Some, length-append}
+use Rattle.std.proofs.Common.{◌≡◌, ℕ, zero, suc, ◌^◌, ◌<◌, ◌≤◌, true, List, ◌++◌, length, refl, ap, ◌∙◌, arith, Some, length-append}
 use Rattle.std.specs.Prelude.{IsTrue}
 use Rattle.std.specs.Int.{w32, from_be_bytes, to_be_bytes}
 use Rattle.std.proofs.lemmas.Bool.{and_from, eq-eqb, le-leb}

@@ -1,6 +1,6 @@
 -- Deltas that follow each other, in one.
-use Rattle.std.proofs.Common.{◌≡◌, ℕ, suc, List, [], ◌∷◌, length, fold, refl, ap, sym, ◌∙◌, subst, arith}
-use Rattle.sporc_delta.specs.Marks.{Mark, Retain, Delete, Insert, apply, base_len, insertion, inserts, out_len, retains}
+use Rattle.std.proofs.Common.{◌≡◌, ℕ, List, [], ◌∷◌, length, fold, refl, ap, sym, ◌∙◌, subst}
+use Rattle.sporc_delta.specs.Marks.{Mark, apply, base_len, insertion, inserts, out_len, retains}
 use Rattle.sporc_delta.proofs.Lengths.{base_len-inserts, base_len-retains}
 use Rattle.std.proofs.lemmas.List.{append-nil as append_nil}
 use Rattle.sporc_delta.specs.Transforms.{compose}

@@ -1,5 +1,5 @@
 -- Each event keeps the limits.
-use Rattle.std.proofs.Common.{◌≡◌, ℕ, zero, suc, ◌+◌, ◌*◌, ◌^◌, ◌<◌, ◌≤◌, List, [], ◌∷◌, ◌++◌, length, drop, fold, refl, ap, arith, length-append}
+use Rattle.std.proofs.Common.{◌≡◌, ℕ, suc, ◌+◌, ◌*◌, ◌^◌, ◌<◌, ◌≤◌, List, [], ◌∷◌, ◌++◌, length, drop, fold, refl, ap, arith, length-append}
 use Rattle.std.proofs.Math.Nat.{mul-le-mul_left}
 use Rattle.std.proofs.lemmas.Str.{length-encode, len_utf8_bounds}
 use Rattle.std.specs.Char.{encode_utf8}
@@ -8,7 +8,7 @@ use Rattle.std.specs.Str.{encode_utf8_all}
 use Rattle.sporc_delta.specs.declared.part.Part.{Part}
 use Rattle.sporc_delta.specs.declared.part.Part.TheVariants.{Keep, Insert as InsertText, Remove}
 use Rattle.sporc_delta.specs.Format.{delta_bytes, part_bytes, parts_bytes}
-use Rattle.sporc_delta.specs.Marks.{Mark, Retain, Delete, Insert, apply, deletes, inserted_len, inserts, replacement, retains}
+use Rattle.sporc_delta.specs.Marks.{Mark, apply, deletes, inserted_len, inserts, replacement, retains}
 use Rattle.sporc_delta.specs.Parts.{marks_of, part_marks, runs}
 use Rattle.sporc_delta.specs.Transforms.{earlier}
 use Rattle.sporc_delta.proofs.Runs.{marks_of-runs}

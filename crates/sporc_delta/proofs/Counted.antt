@@ -1,5 +1,5 @@
 -- Texts in UTF-8 that count their characters.
-use Rattle.std.proofs.Common.{◌≡◌, ℕ, zero, suc, [], ◌∷◌, take, drop, ◌+◌, ◌≤◌, Bool, true, false, ◌&&◌, List, ◌++◌, length, refl, ap, sym, ◌∙◌, arith, add-one, append_assoc, ◌<◌, ◌-◌, Option, Some, None}
+use Rattle.std.proofs.Common.{◌≡◌, ℕ, zero, suc, [], ◌∷◌, take, drop, ◌+◌, ◌≤◌, Bool, true, false, List, ◌++◌, length, refl, ap, sym, ◌∙◌, arith, add-one, append_assoc, ◌<◌, ◌-◌, Option, Some, None}
 use Rattle.std.specs.Prelude.{MatchOption}
 use Rattle.std.proofs.lemmas.List.{append-nil, length-drop, length-take, take_at, drop_at, length-append, take-append-drop}
 use Rattle.std.proofs.lemmas.Str.{chars-append, encodes-chars, length-le-encodes, encodes-append, scalars-chars, chars-encodes, chars_past_char, chars-nil, IsUtf8-past_char, IsCharBoundary-at_seam, IsUtf8-append, IsUtf8-from_is_utf8, is_utf8-from_IsUtf8}

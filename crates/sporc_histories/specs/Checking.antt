@@ -17,7 +17,6 @@ use Rattle.sporc_line.specs.declared.fault.LineOpenFault.{LineOpenFault}
 use Rattle.sporc_store.specs.Loading.{a_member, loaded}
 use Rattle.sporc_store.specs.SavedFile.{Taken, saved_in}
 use Rattle.sporc_files.specs.declared.fault.Fault.{Fault}
-use Rattle.sporc_files.specs.declared.fault.Fault.TheVariants as faults
 use Rattle.sporc_files.specs.declared.file.File.TheVariants as files
 use Rattle.sporc_files.specs.Faults.{fault_of_hints, fault_of_line}
 use Rattle.sporc_files.specs.Names.{FileNames, file_name}

@@ -1,6 +1,5 @@
 -- Keys that are drawn one word after another.
 use Rattle.std.proofs.Common.{◌≡◌, ℕ, suc, ◌+◌, ◌-◌, ◌<◌, ◌≤◌, List, [], ◌∷◌, ◌++◌, length, get_or, take, drop, Option, Some, None, refl, sym, ap, subst, ◌∙◌, append_assoc, add-one, arith, drop-cons, map}
-use Rattle.std.specs.List.{AllByRecursion}
 use Rattle.std.proofs.lemmas.List.{append-nil, drop_all, length-drop, map-append, take_all}
 use Rattle.sporc_base.proofs.ListLemmas.{all_append}
 use Rattle.sporc_outside.specs.Told.{AppendsItem}

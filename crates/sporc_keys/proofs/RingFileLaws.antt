@@ -1,5 +1,5 @@
 -- A ring file that is read is spelled so, and one that is spelled so is read again.
-use Rattle.std.proofs.Common.{◌≡◌, ℕ, zero, suc, ◌+◌, ◌^◌, ◌<◌, ◌≤◌, Bool, true, false, cond, eqb, List, [], ◌∷◌, ◌++◌, length, Option, Some, None, Result, Ok, Err, refl, sym, ap, subst, ◌∙◌, append_assoc, arith, lit<}
+use Rattle.std.proofs.Common.{◌≡◌, ℕ, ◌+◌, ◌^◌, ◌<◌, ◌≤◌, Bool, true, false, cond, eqb, List, [], ◌∷◌, ◌++◌, length, Option, Some, None, Result, Ok, Err, refl, sym, ap, subst, ◌∙◌, append_assoc, arith, lit<}
 use Rattle.std.specs.Prelude.{IfOk, IfSome, codes, ◌==◌}
 use Rattle.std.specs.List.{flat_map, AllByRecursion}
 use Rattle.std.specs.List.Sorted.{IsStrictlyIncreasing}
@@ -7,11 +7,10 @@ use Rattle.std.specs.Int.{w8, w16, to_be_bytes}
 use Rattle.std.proofs.lemmas.Bool.{eqb-true}
 use Rattle.std.proofs.lemmas.Bool.Decides.{nat_tests}
 use Rattle.std.proofs.lemmas.List.{append-nil}
-use Rattle.std.proofs.lemmas.List.Concat.{flat_map-cons}
 use Rattle.sporc_base.specs.Bytes.{IsBytes}
 use Rattle.sporc_base.specs.Outcome.{GivesUnless}
 use Rattle.sporc_bytes.specs.Fields.{Reading, ◌>>=◌, fault_as, bytes_at, number_within, values_at}
-use Rattle.sporc_bytes.proofs.Fields.{bind_ok, fault_as_ok, ok_is, Takes, Takes-then, Takes-nothing, wide16, bytes_takes, bytes_again, number_takes, u16_again, within_takes, byte_takes, u16_within_again, byte_again}
+use Rattle.sporc_bytes.proofs.Fields.{bind_ok, fault_as_ok, ok_is, Takes, Takes-then, wide16, bytes_takes, bytes_again, number_takes, u16_again, within_takes, byte_takes, u16_within_again, byte_again}
 use Rattle.sporc_bytes.proofs.ListLaws as lists
 use Rattle.sporc_bytes.proofs.ListLaws.{IsReadFrom, ascending_again, ascending_take}
 use Rattle.sporc_entry.specs.declared.limits.TheConstants.{HIGHEST_MEMBER}

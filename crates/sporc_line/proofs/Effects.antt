@@ -1,9 +1,9 @@
 -- What an entry that passed the head's checks does, and its first fault of the checks that need keys.
-use Rattle.std.proofs.Common.{◌≡◌, ◌≢◌, ℕ, ◌+◌, ◌≤◌, Bool, true, false, List, [], ◌∷◌, ◌++◌, length, take, drop, refl, ap, sym, ◌∙◌, subst, arith, Option, None, Some, Result, Err}
+use Rattle.std.proofs.Common.{◌≡◌, ℕ, ◌+◌, ◌≤◌, Bool, true, false, List, [], ◌∷◌, ◌++◌, length, take, drop, refl, ap, sym, ◌∙◌, subst, arith, Option, None, Some}
 use Rattle.std.specs.Prelude.{is_some, nat_lt, nat_le, ◌==◌}
 use Rattle.std.specs.Str.{bytes_eq}
 use Rattle.std.proofs.lemmas.Bool.{leb-true, eqb-true, eq-eqb}
-use Rattle.sporc_base.specs.FirstFault.{unless, first_of, AnswersUnless}
+use Rattle.sporc_base.specs.FirstFault.{unless, first_of}
 use Rattle.sporc_delta.specs.Marks.{Mark, base_len, inserted_len, retains}
 use Rattle.sporc_suffix.specs.Forms.{later_over}
 use Rattle.sporc_member.specs.Roster.{member_at}

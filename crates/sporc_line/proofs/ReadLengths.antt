@@ -1,5 +1,5 @@
 -- The sizes of what is read: a body is within its limit, and a delta inserts no more characters than its bytes are many.
-use Rattle.std.proofs.Common.{◌≡◌, ℕ, zero, suc, ◌+◌, ◌≤◌, Bool, true, false, cond, List, [], ◌∷◌, ◌++◌, length, take, Option, Some, None, Result, Ok, Err, refl, ap, sym, ◌∙◌, subst, arith}
+use Rattle.std.proofs.Common.{◌≡◌, ℕ, zero, suc, ◌+◌, ◌≤◌, Bool, true, false, cond, List, [], ◌∷◌, length, take, Option, Some, None, Result, Ok, Err, refl, ap, sym, ◌∙◌, subst, arith}
 use Rattle.std.specs.Prelude.{nat_lt, nat_le, ◌==◌}
 use Rattle.std.specs.Int.{w32}
 use Rattle.std.specs.Result.{result_ok}
@@ -16,7 +16,7 @@ use Rattle.sporc_delta.specs.declared.part.Kind.{Kind}
 use Rattle.sporc_delta.specs.declared.part.Kind.TheVariants as kinds
 use Rattle.sporc_delta.specs.declared.part.Part.{Part}
 use Rattle.sporc_delta.specs.declared.part.Part.TheVariants.{Keep, Insert as InsertText, Remove}
-use Rattle.sporc_delta.specs.Marks.{Mark, Retain, Delete, Insert, inserted_len, retains, deletes, inserts}
+use Rattle.sporc_delta.specs.Marks.{Mark, Insert, inserted_len, retains, deletes, inserts}
 use Rattle.sporc_delta.specs.Parts.{part_marks, marks_of, kind_of}
 use Rattle.sporc_delta.specs.Reading.{head_at, text_at, body_at, part_at, parts_at, read_delta}
 use Rattle.sporc_delta.proofs.Counted.{length-chars}

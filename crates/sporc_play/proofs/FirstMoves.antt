@@ -16,7 +16,7 @@ use Rattle.sporc_script.specs.Grammar.{IsPlayScript}
 use Rattle.sporc_script.specs.declared.command.Command.{Command}
 use Rattle.sporc_script.specs.declared.command.Command.TheVariants as commands
 use Rattle.sporc_script.specs.declared.play_line.PlayLine.{PlayLine}
-use Rattle.sporc_play.specs.Cast.{first_ring, has_admin, member_by, opener_by, openers_by, setup_of, tree_of}
+use Rattle.sporc_play.specs.Cast.{first_ring, has_admin, member_by, opener_by, openers_by, setup_of}
 use Rattle.sporc_play.specs.Derived.{first_key}
 use Rattle.sporc_play.specs.Scene.{opening_moves, openings}
 use Rattle.sporc_play.proofs.Founders.{are_declared}

@@ -1,5 +1,5 @@
 -- In the generated run all entries are made by clients, and so no one forges.
-use Rattle.std.proofs.Common.{ℕ, zero, suc, ◌+◌, ◌*◌, ◌/◌, ◌%◌, ◌≤◌, ◌++◌, List, map}
+use Rattle.std.proofs.Common.{ℕ, zero, suc, ◌+◌, ◌*◌, ◌/◌, ◌%◌, ◌≤◌, ◌++◌, map}
 use Rattle.std.specs.List.{AllByRecursion}
 use Rattle.sporc_base.proofs.ListLemmas.{all_append}
 use Rattle.sporc_client.specs.Run.{Genuine, start}

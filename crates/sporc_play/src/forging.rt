@@ -1,6 +1,6 @@
 //! The entries that a script signs for rogues: as a client's history says, but for what the script says otherwise.
 
-ghost use Rattle.std.specs.Prelude.{◌≡◌, ℕ, ◌+◌, ◌<◌, ◌≤◌, ◌^◌, ◌==◌, not, List, drop, filter, length, map, take, Option, IfOk, OnOk, option_map};
+ghost use Rattle.std.specs.Prelude.{◌≡◌, ℕ, ◌+◌, ◌<◌, ◌≤◌, ◌^◌, ◌==◌, not, List, filter, length, map, Option, IfOk, OnOk, option_map};
 ghost use Rattle.std.specs.Option.{option_to_list};
 ghost use Rattle.lms_tree.specs.LmsType.{height_of};
 ghost use Rattle.sporc_client.specs.ClientModel.{state_of};

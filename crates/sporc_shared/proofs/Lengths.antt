@@ -1,17 +1,14 @@
 -- The shown text of a client is short, since each of its edits is.
-use Rattle.std.proofs.Common.{◌≡◌, ℕ, ◌*◌, ◌^◌, ◌≤◌, Bool, true, false, cond, ◌&&◌, List, [], ◌∷◌, ◌++◌, length, drop, Option, None, Some, refl, arith}
+use Rattle.std.proofs.Common.{◌≡◌, ℕ, ◌*◌, ◌^◌, ◌≤◌, Bool, true, false, cond, List, [], ◌∷◌, length, drop, Option, None, Some, refl, arith}
 use Rattle.std.proofs.lemmas.Bool.{and_parts}
 use Rattle.std.proofs.Math.Nat.{mul-le-mul_left}
 use Rattle.std.specs.Option.{is_some}
 use Rattle.std.specs.Prelude.{is_none}
 use Rattle.sporc_base.specs.FirstFault.{first_of}
-use Rattle.sporc_delta.specs.Marks.{Mark, inserted_len}
+use Rattle.sporc_delta.specs.Marks.{inserted_len}
 use Rattle.sporc_head.specs.History.{change_in}
 use Rattle.sporc_line.proofs.FormLengths.{inserted_len-over}
-use Rattle.sporc_member.specs.declared.change.Change.{Change as MemberChange}
 use Rattle.sporc_client.specs.declared.limits.TheConstants.{MAX_EDIT_BYTES, MAX_PENDING}
-use Rattle.sporc_client.specs.declared.pending.Pending.{Pending}
-use Rattle.sporc_client.specs.declared.pending.Pending.TheVariants as items
 use Rattle.sporc_client.specs.Allowed.{allows, allows_all, is_allowed}
 use Rattle.sporc_client.specs.Answers.{edit_checks, edit_fault}
 use Rattle.sporc_client.specs.Log.{Logged, Edit, Change, Submit, Dropped, Accept, Discard}

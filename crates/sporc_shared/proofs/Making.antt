@@ -12,7 +12,6 @@ use Rattle.sporc_turn.proofs.Lists.{drop_seen, own_append}
 use Rattle.sporc_client.specs.declared.fault.SubmitFault.{SubmitFault}
 use Rattle.sporc_client.specs.declared.submitted.Submitted.{Submitted}
 use Rattle.sporc_client.specs.declared.submitted.Submitted.TheVariants as submitted
-use Rattle.sporc_client.specs.Log.{Edit, Change}
 use Rattle.sporc_client.specs.Submissions.{submission_added}
 use Rattle.sporc_shared.specs.declared.fault.SessionFault.{SessionFault}
 use Rattle.sporc_shared.specs.Acts.{Act, Ask, Greet, Look, Pull, Take, Submit, Send, Check, all_of, items_by}
