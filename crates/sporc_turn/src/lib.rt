@@ -41,6 +41,3 @@ pub use limits::MAX_TICKETS;
 pub use pass::{Away, Pass};
 pub use sporc_base::Memory;
 pub use turn::{Turn, Worn};
-
-#[cfg(test)]
-mod tests;

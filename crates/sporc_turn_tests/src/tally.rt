@@ -1,6 +1,6 @@
 ghost use Rattle.std.specs.Prelude.{◌≡◌, [], ◌∷◌, ◌++◌, MatchBool};
 
-use crate::Kept;
+use sporc_turn::Kept;
 use std::alloc::Global;
 
 /// The numbers of those who had the value, in order.

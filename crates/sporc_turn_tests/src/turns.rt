@@ -1,10 +1,5 @@
-use super::*;
+use crate::work::{add_number, opened, tally_of};
 use std::test::Fail;
-use tally::Tally;
-use work::{add_number, opened, tally_of};
-
-mod tally;
-mod work;
 
 #[test]
 fn each_thread_adds_as_often(rt: HostRuntime) -> Result<(), Fail> {

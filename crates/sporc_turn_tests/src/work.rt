@@ -2,8 +2,8 @@ ghost use Rattle.std.specs.Prelude.{◌≡◌, ◌+◌, ◌-◌, ◌<◌, ◌^�
 ghost use Rattle.std.specs.Thread.{IsSync};
 ghost use Rattle.sporc_turn.specs.Passes.{IsPassOf, IsSameTurn, known_of, value_of};
 
-use crate::tests::tally::Tally;
-use crate::{Held, Pass, Turn};
+use crate::tally::Tally;
+use sporc_turn::{Held, Pass, Turn};
 use std::alloc::Global;
 use std::sync::Wait;
 use std::thread::{Threads, join};
