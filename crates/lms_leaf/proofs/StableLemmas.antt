@@ -5,13 +5,6 @@ use Rattle.sporc_outside.specs.LeafDisk.{IsStable, IsSame, IsSameOutside, CrashS
 use Rattle.sporc_outside.proofs.Overwrites.{slice_index-overwrite_inside}
 use Rattle.lms_leaf.specs.Leaves.{KeepsStable}
 
-pub keeps_stable-refl : {D : Type 0} (moment : D → ℕ) (images : D → ℕ → List ℕ → Type 0) (disk : D) → KeepsStable moment images disk disk
-keeps_stable-refl moment images disk = record {
-  later = omega arith;
-  earlier = λ m image le. (λ h. h, λ h. h);
-  each = λ at stable m low high. let now : m ≡ moment disk = omega arith in rw now stable;
-}
-
 pub keeps_stable-trans : {D : Type 0} (moment : D → ℕ) (images : D → ℕ → List ℕ → Type 0) (first next last : D)
     → KeepsStable moment images first next → KeepsStable moment images next last → KeepsStable moment images first last
 keeps_stable-trans moment images first next last one two = record {

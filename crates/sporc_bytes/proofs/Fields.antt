@@ -1,10 +1,10 @@
 -- A field that is read is spelled by the bytes that it took, and a spelled field is read again.
 use Rattle.std.proofs.Common.{◌≡◌, ℕ, ◌+◌, ◌^◌, ◌<◌, ◌≤◌, Bool, true, false, cond, ltb, leb, List, [], ◌∷◌, ◌++◌, length, take, drop, Option, Some, None, Result, Ok, Err, refl, sym, ap, subst, ◌∙◌, append_assoc, arith}
-use Rattle.std.specs.Int.{Width, w8, w16, w32, w64, byte_len, from_be_bytes, to_be_bytes}
+use Rattle.std.specs.Int.{Width, w8, w16, w32, byte_len, from_be_bytes, to_be_bytes}
 use Rattle.std.specs.Prelude.{◌&&◌}
 use Rattle.std.proofs.lemmas.Bool.{ltb-false, le-ltb, leb-true, le-leb, and_parts}
 use Rattle.std.proofs.lemmas.List.{take_at, drop_at, take-append-drop, length-append, length-take, length-drop}
-use Rattle.std.proofs.lemmas.Nat.{be_bytes_2, be_bytes_4, be_bytes_8, from_be_bytes-to_be_bytes_2, from_be_bytes-to_be_bytes_4, from_be_bytes-to_be_bytes_8}
+use Rattle.std.proofs.lemmas.Nat.{be_bytes_2, be_bytes_4, from_be_bytes-to_be_bytes_2, from_be_bytes-to_be_bytes_4}
 use Rattle.sporc_base.specs.Bytes.{IsBytes}
 use Rattle.sporc_base.proofs.ByteLemmas.{IsBytes-drop, IsBytes-take}
 use Rattle.sporc_bytes.specs.Fields.{Reading, past, ◌>>=◌, fault_as, bytes_at, number_at, number_within, only_if, present, counted_at, counted, end_at}
@@ -20,10 +20,6 @@ bind_ok (Err d) f y e = absurd cc
 pub fault_as_ok : {A D F : Type 0} (f : D → F) (r : Result A D) (x : A) → fault_as f r ≡ Ok x → r ≡ Ok x
 fault_as_ok f (Ok y) x e = cc
 fault_as_ok f (Err d) x e = absurd cc
-
--- a step that did not fail, and what reads on
-pub read_on : {A B F : Type 0} (r : Result A F) (x : A) (f : A → Result B F) → r ≡ Ok x → (r >>= f) ≡ f x
-read_on r x f h = ap (λ r. r >>= f) h
 
 abbrev done : {A : Type 0} → (F : Type 0) → A → Result A F
 done F x = Ok x
@@ -126,14 +122,6 @@ wide32 = record {
   back = λ bytes len fits. be_bytes_4 bytes _ len fits refl;
   again = λ n lt. from_be_bytes-to_be_bytes_4 n lt;
   below = λ bytes fits. omega (arith, fits 0, fits 1, fits 2, fits 3);
-}
-
-pub wide64 : IsWide w64 (2 ^ 64)
-wide64 = record {
-  len = λ n. refl;
-  back = λ bytes len fits. be_bytes_8 bytes _ len fits refl;
-  again = λ n lt. from_be_bytes-to_be_bytes_8 n lt;
-  below = λ bytes fits. omega (arith, fits 0, fits 1, fits 2, fits 3, fits 4, fits 5, fits 6, fits 7);
 }
 
 pub number_takes : (w : Width) (limit : ℕ) (wide : IsWide w limit) (r : Reading) (x : ℕ × Reading) → IsBytes r.rest → number_at w r ≡ Ok x → Takes r (to_be_bytes w x.0) x.1 × (x.0 < limit)

@@ -3,21 +3,13 @@ use Rattle.std.proofs.Common.{◌≡◌, ℕ, List, [], ◌∷◌, ◌++◌, len
 use Rattle.std.specs.Int.{w32, to_be_bytes}
 use Rattle.std.proofs.lemmas.List.{append-nil}
 use Rattle.sporc_bytes.specs.Fields.{counted}
-use Rattle.sporc_member.specs.declared.change.Change.{Change}
-use Rattle.sporc_member.specs.declared.change.Change.TheVariants.{Add, Remove, SetRole}
 use Rattle.sporc_entry.specs.declared.entry.Entry.{Entry}
 use Rattle.sporc_entry.specs.declared.header.Header.{Header}
-use Rattle.sporc_entry.specs.ChangeBody.{change_bytes}
 use Rattle.sporc_entry.specs.Entry.{header_bytes, counted_bytes, entry_bytes, signed_string}
 
 pub header_bytes-append : (h : Header) (rest : List ℕ) → header_bytes h [] ++ rest ≡ header_bytes h rest
 unfolding header_bytes
 header_bytes-append h rest = simp append_assoc
-
-pub change_bytes-append : (c : Change) (rest : List ℕ) → change_bytes c [] ++ rest ≡ change_bytes c rest
-change_bytes-append (Add member role key) rest = simp append_assoc
-change_bytes-append (Remove member) rest = simp append_assoc
-change_bytes-append (SetRole member role) rest = simp append_assoc
 
 -- the bytes of a counted string with nothing after it
 counted_alone : (xs : List ℕ) → counted xs ≡ counted_bytes xs []

@@ -90,10 +90,6 @@ tells_memory view P r s is = rw is tt
 pub tells_later : {X Y : Type 0} (view : X → Y) (before mid after : ℕ) (r : Result X Fault) (s : Result Y Fault) → before ≤ mid → AnswersUnlessOutside view (Rose mid after) r s → AnswersUnlessOutside view (Rose before after) r s
 tells_later view before mid after r s le told = tells_as view (Rose mid after) (Rose before after) r s (λ rose. omega (arith, le, rose)) told
 
--- a count that rose earlier rose
-pub tells_earlier : {X Y : Type 0} (view : X → Y) (before mid after : ℕ) (r : Result X Fault) (s : Result Y Fault) → mid ≤ after → AnswersUnlessOutside view (Rose before mid) r s → AnswersUnlessOutside view (Rose before after) r s
-tells_earlier view before mid after r s le told = tells_as view (Rose before mid) (Rose before after) r s (λ rose. omega (arith, le, rose)) told
-
 -- what is answered behind a value
 pub tells_behind : {A X Y : Type 0} (view : X → Y) (Failed : Type 0) (r : Result X Fault) (first : Result A Fault) (a : A) (k : A → Result Y Fault) → first ≡ Ok a → AnswersUnlessOutside view Failed r (k a)
     → AnswersUnlessOutside view Failed r (first >>= k)

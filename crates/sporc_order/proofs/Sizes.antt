@@ -1,23 +1,16 @@
 -- The entries of one answer fit a frame.
-use Rattle.std.proofs.Common.{◌≡◌, ℕ, zero, suc, ◌+◌, ◌-◌, ◌≤◌, ◌<◌, Bool, true, false, leb, ltb, List, [], ◌∷◌, length, map, drop, ap, Ok, Err, refl, sym, subst, arith, if◌then◌else◌, flat_map, length-append}
+use Rattle.std.proofs.Common.{◌≡◌, ℕ, zero, suc, ◌+◌, ◌-◌, ◌≤◌, ◌<◌, Bool, true, false, leb, List, [], ◌∷◌, length, map, drop, ap, refl, arith, if◌then◌else◌, flat_map, length-append}
 use Rattle.std.specs.Global.{Vec}
 use Rattle.std.specs.Int.{w32, to_be_bytes}
-use Rattle.std.proofs.lemmas.Bool.{leb-true, ltb-true}
+use Rattle.std.proofs.lemmas.Bool.{leb-true}
 use Rattle.std.proofs.lemmas.List.{length-map}
 use Rattle.sporc_bytes.specs.Fields.{counted}
 use Rattle.sporc_wire.specs.declared.cutter.TheConstants.{MAX_BODY}
-use Rattle.sporc_wire.specs.declared.fault.FrameFault.TheVariants.{TooLong}
 use Rattle.sporc_wire.specs.declared.to_client.ToClient.TheVariants.{Entries}
-use Rattle.sporc_wire.specs.Messages.{framed, counted_to_end}
-use Rattle.sporc_wire.specs.Stream.{frame}
 use Rattle.sporc_wire.specs.ToClient.{to_client_bytes}
 use Rattle.sporc_wire.specs.declared.to_client.TheConstants.{MAX_PULLED}
 use Rattle.sporc_order.specs.declared.order.TheConstants.{MAX_PULLED_BYTES}
-use Rattle.sporc_order.specs.declared.session.Answer.TheVariants.{Send}
-use Rattle.sporc_order.specs.declared.reply.Reply.TheVariants.{Frame}
 use Rattle.sporc_order.specs.Batches.{longest_batch, batch_after}
-use Rattle.sporc_order.specs.Replies.{Says}
-use Rattle.sporc_order.specs.Sessions.{entries_after}
 
 pub batch_len : (n room : ℕ) (es : List (List ℕ)) → length (longest_batch n room es) ≤ n
 batch_len zero room es = omega arith
@@ -51,25 +44,6 @@ batch_bytes (suc n) room (e ∷ es) = go (leb (length e + 4) room) refl (batch_b
 
 pub entries_fit : (first : ℕ) (es : List (List ℕ)) → length (flat_map counted es) ≤ MAX_PULLED_BYTES → length (to_client_bytes (Entries first es)) ≤ MAX_BODY
 entries_fit first es fits = omega (arith, length-append (to_be_bytes w32 first) (length es ∷ flat_map counted es), fits)
-
--- so they have a frame
-pub entries_framed : (first : ℕ) (es : List (List ℕ)) → length (flat_map counted es) ≤ MAX_PULLED_BYTES
-    → framed (to_client_bytes (Entries first es)) ≡ Ok (frame (to_client_bytes (Entries first es)))
-entries_framed first es fits = go (to_client_bytes (Entries first es)) (entries_fit first es fits)
-  where
-    go : (body : List ℕ) → length body ≤ MAX_BODY → framed body ≡ Ok (frame body)
-    go body le = by_test (ltb MAX_BODY (length body)) refl
-      where
-        by_test : (b : Bool) → ltb MAX_BODY (length body) ≡ b → framed body ≡ Ok (frame body)
-        by_test true is = absurd (omega (arith, ltb-true MAX_BODY (length body) is, le))
-        by_test false is =
-            subst (λ (b : Bool). (if b then Err (TooLong (counted_to_end (length body))) else Ok (frame body)) ≡ Ok (frame body)) (sym is) refl
-
--- the frame of some entries says the answer with them
-pub frame_says : (from : ℕ) (es batch : List (List ℕ)) (bytes : List ℕ) → es ≡ batch → 1 ≤ length es → bytes ≡ frame (to_client_bytes (Entries (from + 1) es))
-    → Says (Send (entries_after from batch)) (Frame bytes)
-frame_says from [] batch bytes is some framed = absurd (omega (arith, some))
-frame_says from (e ∷ es) batch bytes is some framed = subst (λ (b : List (List ℕ)). Says (Send (entries_after from b)) (Frame bytes)) is framed
 
 -- there are some where there are more
 pub some_left : (n len from : ℕ) → (n ≡ 0 → len ≤ from) → from < len → 1 ≤ n

@@ -52,10 +52,6 @@ pub put_at : (files : List NamedFile) (name : List ℕ) (place : ℕ) (f : Named
 put_at files name place f bytes p at =
     ap (λ (x : NamedFile). set files place (record x { bytes = bytes })) (at ∙ p.is f) ∙ sym (p.others bytes)
 
--- a file of a place is there
-pub place_some : (files : List NamedFile) (name : List ℕ) (place : ℕ) → IsPlaceOf files name place → IsSome (file_in files name)
-place_some files name place p = rw p.found refl
-
 -- a file that is written anew, or at the end
 pub with_new_file : (files : List NamedFile) (name bytes : List ℕ) → file_in files name ≡ None
     → with_file files name bytes ≡ files ++ record { name = name; bytes = bytes } ∷ []

@@ -1,6 +1,6 @@
 -- Entries that are fetched.
 use Rattle.std.proofs.Common.{◌≡◌, ◌≢◌, ◌==◌, eqb-true, Bool, true, ℕ, ◌+◌, ◌<◌, ◌≤◌, List, [], ◌∷◌, ◌++◌, length, take, Option, Some, refl, sym, ap, ◌∙◌, subst, arith, inl, inr}
-use Rattle.std.specs.Prelude.{◌⊎◌, Result, Ok, Err, ⊤}
+use Rattle.std.specs.Prelude.{◌⊎◌, ⊤}
 use Rattle.std.specs.Io.KnownBytes.{IsAtEnd}
 use Rattle.std.proofs.lemmas.Bool.{cases_lt}
 use Rattle.std.proofs.lemmas.List.{append-nil, length-append, nil_from_length, take-append-le, take_all}
@@ -14,8 +14,8 @@ use Rattle.sporc_wire.specs.declared.to_server.ToServer.TheVariants as to_server
 use Rattle.sporc_shared.specs.declared.fault.SessionFault.{SessionFault}
 use Rattle.sporc_shared.specs.declared.fault.SessionFault.TheVariants as faults
 use Rattle.sporc_shared.specs.Acts.{Act, Greet, Pull, all_of, answers_by, handed_out, messages_by}
-use Rattle.sporc_shared.specs.Asking.{AskFails, SilentFor, UnsentFor, silent, unsent, wrong}
-use Rattle.sporc_shared.specs.Fetches.{FetchEnds, FetchFails, IsFetch, IsPullDue, Pulled, all_came, loses, not_greeted, pulls_from, stops}
+use Rattle.sporc_shared.specs.Asking.{AskFails, SilentFor, UnsentFor}
+use Rattle.sporc_shared.specs.Fetches.{FetchEnds, FetchFails, IsPullDue, Pulled, all_came, loses, pulls_from, stops}
 use Rattle.sporc_shared.specs.Wires.{Exchanged, InboxModel, IsBadFrame, IsCut, IsLastFrom, LinkStand, empty_inbox, link_stand, spelled}
 use Rattle.sporc_shared.proofs.Exchanging.{exchanged_then, spelled_append}
 use Rattle.sporc_shared.proofs.Fitting.{all_of_append}
@@ -139,24 +139,6 @@ module _ {a b c : LinkStand} {document : List ℕ} {member : ℕ} {entries : Lis
 
 -- ---- what a caller reads off a fetch
 
--- some bytes were written, and some answers came
-abbrev pub Used : LinkStand → LinkStand → Type 0
-Used a b = (written : List ℕ) × (answers : List ToClient) × Exchanged a b written answers
-
-asked_used : {a b : LinkStand} {message : ToServer} {fault : SessionFault} → AskFails a b message fault → Used a b
-asked_used (unsent u) = (_, _, u.did)
-asked_used (silent s) = (_, _, s.did)
-asked_used (wrong w) = (_, _, w.did)
-
-used_then : {a b c : LinkStand} → Used a b → Used b c → Used a c
-used_then {a} {b} {c} f g = (f.0 ++ g.0, f.1 ++ g.1, exchanged_then a b c f.0 g.0 f.1 g.1 f.2 g.2)
-
-pub fetch_used : (a b : LinkStand) (document : List ℕ) (member : ℕ) (result : Result (List (List ℕ)) SessionFault) → IsFetch a b document member result → Used a b
-fetch_used a b document member (Ok entries) e = (_, _, e.did.did)
-fetch_used a b document member (Err fault) (not_greeted u) = (_, _, u.did)
-fetch_used a b document member (Err fault) (stops s) = used_then (_, _, s.did.did) (asked_used s.fails)
-fetch_used a b document member (Err fault) (loses l) = (_, _, l.did.did)
-
 -- why a fetch failed
 abbrev pub FetchCause : LinkStand → LinkStand → SessionFault → Type 0
 FetchCause a b faults.LinkFault = Rose a.faults b.faults
@@ -202,28 +184,3 @@ silent_cause a b faults.JournalFull cause = cause
 silent_cause a b (faults.EditRefused editor line fault) cause = cause
 silent_cause a b (faults.Worn ticket) cause = cause
 silent_cause a b faults.ChanceFault cause = cause
-
-asked_cause : (a b : LinkStand) (message : ToServer) (fault : SessionFault) → AskFails a b message fault → FetchCause a b fault
-asked_cause a b message fault (unsent u) = unsent_cause a b fault u.cause
-asked_cause a b message fault (silent s) = silent_cause a b fault s.cause
-asked_cause a b message fault (wrong w) = subst (FetchCause a b) (sym w.is) (inr (w.answer, w.starts))
-
-cause_from : (a b c : LinkStand) (fault : SessionFault) → a.faults ≤ b.faults → FetchCause b c fault → FetchCause a c fault
-cause_from a b c faults.LinkFault low cause = omega (arith, low, cause)
-cause_from a b c (faults.LinkEnded taken) low cause = cause
-cause_from a b c (faults.BadMessage place) low cause = cause
-cause_from a b c faults.Memory low cause = tt
-cause_from a b c (faults.Refused position refusal) low cause = cause
-cause_from a b c (faults.NotSettled pending at) low cause = cause
-cause_from a b c (faults.Leaf fault) low cause = cause
-cause_from a b c faults.HistoryFull low cause = cause
-cause_from a b c (faults.ServerRejected refusal) low cause = cause
-cause_from a b c faults.JournalFull low cause = cause
-cause_from a b c (faults.EditRefused editor line fault) low cause = cause
-cause_from a b c (faults.Worn ticket) low cause = cause
-cause_from a b c faults.ChanceFault low cause = cause
-
-pub fetch_cause : (a b : LinkStand) (document : List ℕ) (member : ℕ) (fault : SessionFault) → FetchFails a b document member fault → FetchCause a b fault
-fetch_cause a b document member fault (not_greeted u) = unsent_cause a b fault u.cause
-fetch_cause a b document member fault (stops s) = cause_from a s.middle b fault s.did.did.count (asked_cause s.middle b (to_server.Pull (length (all_came s.pulled))) fault s.fails)
-fetch_cause a b document member fault (loses l) = subst (FetchCause a b) (sym l.is) tt

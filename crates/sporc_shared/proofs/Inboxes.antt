@@ -14,7 +14,7 @@ use Rattle.sporc_wire.specs.Stream.{Front, partial, too_long, whole, body_front,
 use Rattle.sporc_wire.specs.ToClient.{to_client_of}
 use Rattle.sporc_wire.proofs.Fronts.{body_front-big, body_front-whole, front-long}
 use Rattle.sporc_wire.proofs.Nexts.{next-at, next-message, next-stopped}
-use Rattle.sporc_shared.specs.Wires.{InboxInvariant, InboxModel, none_held, unread_of}
+use Rattle.sporc_shared.specs.Wires.{InboxInvariant, InboxModel, unread_of}
 
 -- what the next call answers, and what is unread then
 abbrev answer_of : Unread → Result (Option ToClient) FrameFault
@@ -163,9 +163,6 @@ next_over f g taken len piece now r is empty few inv value after memory =
     nexts_over f g taken len piece now r (ap unread_of (sym is) ∙ unread_over f taken len piece none) (unread_over g taken len piece none) (nexts f g len r inv zero_len value after memory)
 
 -- ---- what is held
-
-pub fed_unread : (i j : InboxModel) → j ≡ none_held i → unread_of j ≡ unread_of i
-fed_unread i j is = ap unread_of is ∙ ap (λ (r : List ℕ). record { at = i.at; rest = r; fault = None }) (append-nil (i.rest ++ i.held))
 
 -- an inbox that holds something has found no fault
 pub held_unstopped : (f : Unread) (len : ℕ) → InboxInvariant f len → len ≢ 0 → f.fault ≡ None

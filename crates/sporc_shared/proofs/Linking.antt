@@ -1,25 +1,21 @@
 -- Calls on the link, as exchanges.
-use Rattle.std.proofs.Common.{◌≡◌, ◌≢◌, ℕ, ◌+◌, ◌≤◌, List, [], ◌∷◌, ◌++◌, length, take, Option, Some, None, Result, Ok, Err, refl, sym, ap, ◌∙◌, subst, append_assoc, arith, inl, inr}
+use Rattle.std.proofs.Common.{◌≡◌, ◌≢◌, ℕ, ◌+◌, ◌≤◌, List, [], ◌∷◌, ◌++◌, length, Option, Some, None, Result, Ok, Err, refl, sym, ap, ◌∙◌, subst, append_assoc, arith}
 use Rattle.std.proofs.lemmas.List.{append-nil, length-append}
 use Rattle.std.specs.Io.KnownBytes.{Appends, Consumes, Keeps}
 use Rattle.sporc_outside.specs.Counts.{Rose}
-use Rattle.sporc_outside.specs.Writing.{AppendsPrefix}
 use Rattle.std.specs.Prelude.{IfErr, IfOk}
 use Rattle.sporc_head.specs.declared.refusal.Refusal.{Refusal}
-use Rattle.sporc_wire.specs.declared.fault.FrameFault.{FrameFault}
-use Rattle.sporc_wire.specs.declared.fault.FrameFault.TheVariants as frames
 use Rattle.sporc_wire.specs.declared.to_client.ToClient.{ToClient}
 use Rattle.sporc_wire.specs.declared.to_client.ToClient.TheVariants as to_client
 use Rattle.sporc_wire.specs.declared.to_server.ToServer.{ToServer}
 use Rattle.sporc_wire.specs.declared.to_server.ToServer.TheVariants as to_server
-use Rattle.sporc_wire.specs.Messages.{Unread, fed, next}
+use Rattle.sporc_wire.specs.Messages.{Unread, next}
 use Rattle.sporc_wire.specs.ToClient.{to_client_of}
 use Rattle.sporc_shared.specs.declared.fault.SessionFault.{SessionFault}
 use Rattle.sporc_shared.specs.declared.fault.SessionFault.TheVariants as faults
-use Rattle.sporc_shared.specs.Acts.{ServerReply, Ordered, Rejected, handed_out, reply_message}
-use Rattle.sporc_shared.specs.Asking.{AskFails, Asks, IsReply, IsOutcomeOf, IsSilent, SilentFor, Took, Unsent, UnsentFor, silent, wrong}
+use Rattle.sporc_shared.specs.Acts.{ServerReply, Ordered, Rejected, reply_message}
+use Rattle.sporc_shared.specs.Asking.{AskFails, Asks, IsReply, IsOutcomeOf, IsSilent, SilentFor, Took, silent, wrong}
 use Rattle.sporc_shared.specs.Endings.{IsAnswer}
-use Rattle.sporc_shared.specs.Replies.{unread_fault}
 use Rattle.sporc_shared.specs.Wires.{Exchanged, InboxModel, IsLastFrom, LinkStand, more_taken, spelled, unread_of}
 use Rattle.sporc_shared.proofs.Exchanging.{appends_none, consumes_none, exchanged_then, received_nothing}
 
@@ -53,15 +49,7 @@ kept a b written keeps inbox count = record {
 }
 
 -- a message was not sent
-pub not_sent : (a b : LinkStand) (message : ToServer) (fault : SessionFault) → AppendsPrefix a.written b.written (spelled (message ∷ [])) → b.left ≡ a.left → b.inbox ≡ a.inbox → a.faults ≤ b.faults → UnsentFor a b fault → Unsent a b message fault
-not_sent a b message fault front left inbox count cause = record {
-  n = front.0;
-  did = wrote a b (take front.0 (spelled (message ∷ []))) front.2 left inbox count;
-  cause = cause;
 }
-
-pub not_written : (a : LinkStand) (message : ToServer) → Unsent a a message faults.Memory
-not_written a message = record { n = 0; did = wrote a a [] (appends_none a.written) refl refl (omega arith); cause = tt }
 
 -- a piece was taken
 pub took_piece : (a b : LinkStand) (piece : List ℕ) → Took a b piece → Exchanged a b [] []
@@ -79,30 +67,11 @@ took_piece a b piece t = record {
 -- ---- the next message
 
 -- a message was found at the front of what came
-pub found_message : (a b c : LinkStand) (m : ToClient) → Exchanged a b [] [] → c.written ≡ b.written → c.left ≡ b.left → c.faults ≡ b.faults → c.inbox.taken ≡ b.inbox.taken
-    → (next to_client_of (unread_of b.inbox)).answer ≡ Ok (Some m) → unread_of c.inbox ≡ (next to_client_of (unread_of b.inbox)).after → Exchanged a c [] (m ∷ [])
-found_message a b c m did written left count taken answer after = record {
-  sent = subst (λ (w : Option (List ℕ)). Appends a.written w []) (sym written) did.sent;
-  received = record {
-    came = did.received.came;
-    consumed = subst (λ (l : Option (List ℕ)). Consumes a.left l did.received.came) (sym left) did.received.consumed;
-    reads =
-        let s : Unread = fed did.received.came (unread_of a.inbox) in
-        (ap (λ (u : Unread). (next to_client_of u).answer) did.received.reads ∙ answer, ap (λ (u : Unread). (next to_client_of u).after) did.received.reads ∙ sym after);
-    counted = λ low. taken ∙ did.received.counted low;
-  };
-  count = omega (arith, did.count, count);
 }
 
 -- where it began
 pub found_from : (place : ℕ) (i j : InboxModel) (m : ToClient) → place ≡ i.at → (next to_client_of (unread_of i)).answer ≡ Ok (Some m) → unread_of j ≡ (next to_client_of (unread_of i)).after → IsLastFrom place m j
 found_from place i j m at answer after = record { before = i; place_is = at; next_is = λ k. record { answer = answer k; after = sym after k } }
-
--- the next frame is no message
-pub bad_next : (a b : LinkStand) (fault : FrameFault) → Exchanged a b [] [] → (fault ≢ frames.Memory → (next to_client_of (unread_of b.inbox)).answer ≡ Err fault) → IsSilent a b (unread_fault b.inbox.at fault)
-bad_next a b (frames.BadMessage at) did gives = record { did = did; cause = inl (gives (λ e. absurd cc)) }
-bad_next a b (frames.TooLong len) did gives = record { did = did; cause = inr ((len, gives (λ e. absurd cc)), refl) }
-bad_next a b frames.Memory did gives = record { did = did; cause = tt }
 
 -- no whole message is there
 pub waited : (a b c : LinkStand) → Exchanged a b [] [] → c.written ≡ b.written → c.left ≡ b.left → c.faults ≡ b.faults → unread_of c.inbox ≡ unread_of b.inbox → c.inbox.taken ≡ b.inbox.taken → Exchanged a c [] []
@@ -171,12 +140,6 @@ not_answered a b message answer place asks at none =
     wrong (record { answer = answer; place = place; did = asks.did; wrong = none; starts = subst (λ (n : ℕ). IsLastFrom n answer b.inbox) (sym at) asks.starts; is = refl })
 
 -- ---- answers
-
-pub not_handed : (from : ℕ) (answer : ToClient) → ((came : List (List ℕ)) → answer ≢ handed_out from came) → ¬ IsAnswer (to_server.Pull from) answer
-not_handed from answer none is = none is.0 is.1
-
-pub handed : (a b : LinkStand) (from : ℕ) (answer : ToClient) (es : List (List ℕ)) → answer ≡ handed_out from es → Asks a b (to_server.Pull from) answer → Exchanged a b (spelled (to_server.Pull from ∷ [])) (handed_out from es ∷ [])
-handed a b from answer es is asks = subst (λ (m : ToClient). Exchanged a b (spelled (to_server.Pull from ∷ [])) (m ∷ [])) is asks.did
 
 -- ---- answers to an entry
 

@@ -10,20 +10,19 @@ use Rattle.sporc_turn.specs.Passes.{known_of, read_of}
 use Rattle.sporc_client.specs.declared.fault.AcceptFault.{AcceptFault}
 use Rattle.sporc_client.specs.declared.fault.AcceptFault.TheVariants as accepts
 use Rattle.sporc_client.specs.Answers.{accept_fault, added}
-use Rattle.sporc_client.specs.Log.{Logged, Accept}
+use Rattle.sporc_client.specs.Log.{Accept}
 use Rattle.sporc_shared.specs.declared.answered.Answered.{Answered}
 use Rattle.sporc_shared.specs.declared.fault.SessionFault.{SessionFault}
 use Rattle.sporc_shared.specs.declared.shared_client.SharedClient.{SharedClient}
 use Rattle.sporc_shared.specs.Acts.{all_of, items_by}
 use Rattle.sporc_shared.specs.Calls.{IsCall}
-use Rattle.sporc_shared.specs.Courses.{CountsSame, KnowsMore}
+use Rattle.sporc_shared.specs.Courses.{KnowsMore}
 use Rattle.sporc_shared.specs.Endings.{AcceptGives, TakeCause, TakingStopped, takes_of}
 use Rattle.sporc_shared.specs.Items.{Item, Happened, Past, client_of, items_of}
 use Rattle.sporc_shared.specs.Outcomes.{TookAll, TookOne}
-use Rattle.sporc_shared.specs.Passes.{IsPassOf, IsReplyOf}
 use Rattle.sporc_shared.specs.Points.{IsPoint}
 use Rattle.sporc_shared.specs.Replies.{plain_of, taken_of}
-use Rattle.sporc_shared.proofs.Knowing.{call_client, call_counts, call_knows, call_point, knows_none, knows_then}
+use Rattle.sporc_shared.proofs.Knowing.{call_client, call_knows, call_point, knows_none, knows_then}
 use Rattle.sporc_shared.proofs.Positions.{accept_position}
 
 -- what a pass knows after a call that added nothing: the point at which the client was found
@@ -75,19 +74,6 @@ stop_later k k1 k' at entries e es fault is knows s = record {
 -- ---- replies
 
 module _ {D A : Type 0} (shared : SharedClient D) (k : Known Item) (reply : Result (Answered A) (Pass Item × Worn)) (plain : Result A ℕ × Pass Item) (is : plain ≡ plain_of reply) where
-  pub plain_lock : IsReplyOf shared reply → IsPassOf shared plain.1
-  plain_lock h = subst (λ (p : Result A ℕ × Pass Item). IsPassOf shared p.1) (sym is) (by reply h)
-    where
-      by : (r : Result (Answered A) (Pass Item × Worn)) → IsReplyOf shared r → IsPassOf shared (plain_of r).1
-      by (Ok r) h = h
-      by (Err e) h = h
-
-  pub plain_counts : (events : Answered A → List Logged) → IfOk reply (λ r. (before : Past) × IsCall k (known_of r.pass) before (events r)) → IfErr reply (λ e. known_of e.0 ≡ k) → CountsSame k (known_of plain.1)
-  plain_counts events h e = subst (λ (p : Result A ℕ × Pass Item). CountsSame k (known_of p.1)) (sym is) (by reply h e)
-    where
-      by : (r : Result (Answered A) (Pass Item × Worn)) → IfOk r (λ r. (before : Past) × IsCall k (known_of r.pass) before (events r)) → IfErr r (λ e. known_of e.0 ≡ k) → CountsSame k (known_of (plain_of r).1)
-      by (Ok r) h e = call_counts k (known_of r.pass) h.0 (events r) h.1
-      by (Err x) h e = record { number = ap (λ (z : Known Item). z.number) e; splits = ap (λ (z : Known Item). z.splits) e; joined = ap (λ (z : Known Item). z.joined) e }
 
 -- a fact of an answer, and of a pass that is the same if a ticket wasn't drawn
 module _ {A : Type 0} (reply : Result (Answered A) (Pass Item × Worn)) (plain : Result A ℕ × Pass Item) (is : plain ≡ plain_of reply) where

@@ -1,13 +1,13 @@
 -- Entries of a saved history, taken one after another as a loop does.
-use Rattle.std.proofs.Common.{◌≡◌, ℕ, zero, suc, ◌+◌, ◌-◌, ◌^◌, ◌<◌, ◌≤◌, List, [], ◌∷◌, ◌++◌, length, take, drop, Bool, true, false, cond, eqb, Option, None, Some, Result, Ok, Err, refl, sym, ap, ◌∙◌, append_assoc, length-append, arith}
-use Rattle.std.proofs.lemmas.List.{append-nil, take_at}
+use Rattle.std.proofs.Common.{◌≡◌, ℕ, zero, suc, ◌+◌, ◌-◌, ◌^◌, ◌<◌, ◌≤◌, List, [], ◌∷◌, ◌++◌, length, drop, Bool, true, false, cond, eqb, Option, None, Some, Result, Ok, Err, refl, sym, ap, ◌∙◌, append_assoc, length-append, arith}
+use Rattle.std.proofs.lemmas.List.{append-nil}
 use Rattle.std.specs.List.{starts_with}
 use Rattle.sporc_bytes.specs.Fields.{Reading, fault_as, counted_at, end_at}
 use Rattle.sporc_head.specs.declared.refusal.Refusal.{Refusal}
 use Rattle.sporc_store.specs.declared.head.TheConstants.{HEAD_LEN}
 use Rattle.sporc_store.specs.declared.stop.Stop.{Stop}
 use Rattle.sporc_store.specs.declared.stop.Stop.TheVariants.{Foreign, Cut, Refused}
-use Rattle.sporc_store.specs.SavedFile.{Taken, read_to, first_and, stop_behind, entry_and, entries_at, head_bytes, count_at, opened, listed, saved_in, IsPrefix, IsUnchecked}
+use Rattle.sporc_store.specs.SavedFile.{Taken, read_to, first_and, stop_behind, entry_and, entries_at, head_bytes, count_at, opened, listed, saved_in, IsUnchecked}
 use Rattle.sporc_store.specs.Loading.{Checker, fault_behind, appended, accepted_behind, accepted, loaded, nobody}
 
 -- what was taken, and what is taken behind it of so many entries that stand next
@@ -65,13 +65,6 @@ is_done checker front count i r total le so_far =
     let k : count - i ≡ 0 = omega arith in
     let one : taken_from checker front (count - i) r ≡ read_to (front ++ []) (stop_behind (end_at r)) = rw k refl in
     ap (λ (es : List (List ℕ)). read_to es (stop_behind (end_at r))) (sym (append-nil front)) ∙ sym one ∙ so_far
-
--- at any moment
-pub is_front : (checker : Checker) (front : List (List ℕ)) (n : ℕ) (r : Reading) (total : Taken) → taken_from checker front n r ≡ total → IsPrefix front total.entries
-is_front checker front n r total so_far =
-    let behind : Taken = accepted_behind checker front (entries_at n r).entries (entries_at n r).stop in
-    let all : front ++ behind.entries ≡ total.entries = ap (λ (t : Taken). t.entries) so_far in
-    sym (take_at front behind.entries (length front) refl) ∙ ap (take (length front)) all
 
 -- nothing was taken yet
 pub at_first : (checker : Checker) (front : List (List ℕ)) (n : ℕ) (r : Reading) → front ≡ [] → taken_from checker front n r ≡ accepted checker (entries_at n r)

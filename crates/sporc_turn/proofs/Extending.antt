@@ -8,8 +8,7 @@ use Rattle.std.proofs.lemmas.List.{append-nil, drop-append-le}
 use Rattle.std.proofs.lemmas.List.Elements.{All-nil, All-cons, All-contains, Contains-append_right}
 use Rattle.sporc_turn.specs.declared.known.Known.{Known}
 use Rattle.sporc_turn.specs.Log.{own, Extends, OnlyFirstAdds}
-use Rattle.sporc_turn.specs.Knowing.{adding}
-use Rattle.sporc_turn.proofs.Lists.{drop_seen, drop_length, starts_length, behind, All-of_each, Contains-nil, Contains-head, Contains-tail, Contains-cons}
+use Rattle.sporc_turn.proofs.Lists.{starts_length, behind, All-of_each, Contains-nil, Contains-head, Contains-tail, Contains-cons}
 
 module _ {E : Type 0} (by : E → ℕ) where
   -- nothing was added
@@ -26,12 +25,6 @@ module _ {E : Type 0} (by : E → ℕ) where
   Extends-push_or_same false k old new e is mine add = Extends-same k new (add ∙ is)
 
 module _ {E : Type 0} where
-  -- the pass's own items afterwards
-  pub mine-adding-same : (k : Known E) (log : List E) → log ≡ k.seen → (adding k log).mine ≡ k.mine
-  mine-adding-same k log is = ap (λ l. k.mine ++ drop (length k.seen) l) is ∙ ap (λ l. k.mine ++ l) (drop_length k.seen) ∙ append-nil k.mine
-
-  pub mine-adding-push : (k : Known E) (log : List E) (e : E) → log ≡ k.seen ++ e ∷ [] → (adding k log).mine ≡ k.mine ++ e ∷ []
-  mine-adding-push k log e is = ap (λ l. k.mine ++ drop (length k.seen) l) is ∙ ap (λ l. k.mine ++ l) (drop_seen k.seen (e ∷ []))
 
 -- once all passes are joined back, what is added is the first one's
 pub only_first_adds : {E : Type 0} (by : E → ℕ) → OnlyFirstAdds by

@@ -77,13 +77,6 @@ module _ {A : Type 0} where
   pub shorter_is : (P : List A → Type 0) (xs ys : List A) → P xs → P ys → P (shorter xs ys)
   shorter_is P xs ys p q = elim (leb (length ys) (length xs)) as (λ b. P (cond b ys xs)) [ true ↦ q | false ↦ p ]
 
-  -- the shorter one, where it is known to begin the longer one, makes both begin it
-  pub both_prefixes : (xs ys : List A) → (length (shorter xs ys) ≤ length (longer xs ys) → StartsWith (longer xs ys) (shorter xs ys)) → StartsWith (longer xs ys) xs × StartsWith (longer xs ys) ys
-  both_prefixes xs ys begins = ⊎_elim
-      (λ (t : (leb (length ys) (length xs) ≡ true) × (length ys ≤ length xs)). subst (λ b. (length (cond b ys xs) ≤ length (cond b xs ys) → StartsWith (cond b xs ys) (cond b ys xs)) → StartsWith (cond b xs ys) xs × StartsWith (cond b xs ys) ys) (sym t.0) (λ f. (starts_self xs, f t.1)) begins)
-      (λ (t : (leb (length ys) (length xs) ≡ false) × (length xs < length ys)). subst (λ b. (length (cond b ys xs) ≤ length (cond b xs ys) → StartsWith (cond b xs ys) (cond b ys xs)) → StartsWith (cond b xs ys) xs × StartsWith (cond b xs ys) ys) (sym t.0) (λ f. (f (omega (arith, t.1)), starts_self ys)) begins)
-      (leb_tells (length ys) (length xs))
-
   pub no_length : (xs : List A) → length xs ≡ 0 → xs ≡ []
   no_length [] e = refl
   no_length (x ∷ xs) e = absurd (omega arith)

@@ -1,7 +1,7 @@
 -- The pieces of two deltas that follow each other.
 use Rattle.std.proofs.Common.{◌≡◌, ℕ, zero, suc, ◌+◌, ◌<◌, ◌≤◌, Bool, true, false, List, [], ◌∷◌, ◌++◌, length, drop, take, min, refl, ap, sym, ◌∙◌, append_assoc, arith, eqb, cond}
 use Rattle.std.specs.Prelude.{replicate}
-use Rattle.std.proofs.lemmas.List.{append-nil, take_all, take-append-drop, map-append, length-take, length-append, length-map, length-replicate}
+use Rattle.std.proofs.lemmas.List.{take_all, take-append-drop, map-append, length-take, length-append, length-map, length-replicate}
 use Rattle.std.proofs.lemmas.Bool.{eqb-true, eqb-false}
 use Rattle.sporc_delta.specs.declared.limits.TheConstants.{MAX_TEXT_LEN}
 use Rattle.sporc_delta.specs.declared.part.Part.{Part}
@@ -209,13 +209,3 @@ pub Composed-room : (delta left chunk after whole : List Mark) → left ≡ chun
 Composed-room delta left chunk after whole is c =
     let all : delta ++ (chunk ++ after) ≡ whole = ap (λ ms. delta ++ ms) (sym is) ∙ c.so_far in
     (omega (arith, c.base_limit, ap base_len all, base_len-append delta (chunk ++ after), base_len-append chunk after), omega (arith, c.out_limit, ap out_len all, out_len-append delta (chunk ++ after), out_len-append chunk after))
-
-pub Composed-chunk : (delta new left chunk after whole : List Mark) → left ≡ chunk ++ after → new ≡ delta ++ chunk → Composed delta left whole → Composed new after whole
-Composed-chunk delta new left chunk after whole is grown c = rw grown record {
-  so_far = append_assoc delta chunk after ∙ ap (λ ms. delta ++ ms) (sym is) ∙ c.so_far;
-  base_limit = c.base_limit;
-  out_limit = c.out_limit;
-}
-
-pub Composed-end : (delta left whole : List Mark) → left ≡ [] → Composed delta left whole → delta ≡ whole
-Composed-end delta left whole none c = sym (append-nil delta) ∙ ap (λ ms. delta ++ ms) (sym none) ∙ c.so_far

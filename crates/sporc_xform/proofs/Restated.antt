@@ -2,7 +2,7 @@
 use Rattle.std.proofs.Common.{◌≡◌, ℕ, zero, suc, ◌+◌, ◌≤◌, Bool, true, false, List, [], ◌∷◌, ◌++◌, length, map, refl, ap, sym, ◌∙◌, append_assoc, arith}
 use Rattle.std.specs.Prelude.{replicate}
 use Rattle.std.specs.List.{flat_map}
-use Rattle.std.proofs.lemmas.List.{length-append, append-nil}
+use Rattle.std.proofs.lemmas.List.{length-append}
 use Rattle.std.proofs.lemmas.Grind.{flat_map-append}
 use Rattle.sporc_delta.specs.declared.limits.TheConstants.{MAX_TEXT_LEN}
 use Rattle.sporc_delta.specs.Marks.{Mark, Retain, Delete, Insert, base_len, out_len, inserted_len, retains, inserts}
@@ -121,13 +121,6 @@ Restates-start f delta p q left none is small = rw (none, is) record {
   out = omega (arith, length-steps p q);
 }
 
--- there is room for the next run
-pub Restates-room : (f : Step → List Mark) (delta : List Mark) (left run after : List Step) (whole : List Mark) → left ≡ run ++ after → Restates f delta left whole
-    → (base_len delta + length run ≤ MAX_TEXT_LEN) × (out_len delta + length run ≤ MAX_TEXT_LEN)
-Restates-room f delta left run after whole is r =
-    let all = ap length is ∙ length-append run after in
-    (omega (arith, r.base), omega (arith, r.out))
-
 pub Restates-run : (f : Step → List Mark) (delta new : List Mark) (left run after : List Step) (whole : List Mark) → left ≡ run ++ after → new ≡ delta ++ flat_map f run → NoMore (flat_map f run) run
     → Restates f delta left whole → Restates f new after whole
 Restates-run f delta new left run after whole is grown few r =
@@ -137,6 +130,3 @@ Restates-run f delta new left run after whole is grown few r =
       base = omega (arith, few.base, r.base, base_len-append delta (flat_map f run));
       out = omega (arith, few.out, r.out, out_len-append delta (flat_map f run));
     }
-
-pub Restates-end : (f : Step → List Mark) (delta : List Mark) (left : List Step) (whole : List Mark) → left ≡ [] → Restates f delta left whole → delta ≡ whole
-Restates-end f delta left whole none r = sym (append-nil delta) ∙ ap (λ u. delta ++ flat_map f u) (sym none) ∙ r.so_far
