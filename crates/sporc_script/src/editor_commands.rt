@@ -1,13 +1,12 @@
 //! One line of an editor script, read.
 
-ghost use Rattle.std.specs.Prelude.{◌≡◌, ◌≢◌, IfOk, MatchOption};
-ghost use Rattle.sporc_script.specs.declared.editor_line.EditorWord.{EditorWord};
-ghost use Rattle.sporc_script.specs.EditorLines.{editor_of, editor_with, editor_word_name, editor_word_of, key_of, newcomer_of};
+ghost use Rattle.std.specs.Prelude.{◌≡◌, IfOk};
+ghost use Rattle.sporc_script.specs.EditorLines.{editor_of, editor_with, key_of, newcomer_of};
 
 use crate::editor_line::{EditorCommand, EditorWord, KEY_BYTES};
 use crate::edits::{read_insertion, read_removal};
 use crate::hex_word::parse_hex;
-use crate::names::parse_role;
+use crate::names::{parse_editor_word, parse_role};
 use crate::plain::read_member_role;
 use crate::words::{cut, parse_member};
 use sporc_base::Memory;
@@ -97,23 +96,4 @@ fn parse_key(alloc: Global, word: &[u8]) -> Result<Option<[u8; 56]>, Memory>
     let mut key = [0; KEY_BYTES];
     key.copy_from_slice(bytes);
     Ok(Some(key))
-}
-
-fn parse_editor_word(word: &[u8]) -> Option<EditorWord>
-    ensures { result ≡ editor_word_of word.now }
-{
-    editor_word_named(word)
-}
-
-fn editor_word_named(word: &[u8]) -> Option<EditorWord>
-    ensures { MatchOption result ((w : EditorWord) → word.now ≢ editor_word_name w) (λ w. word.now ≡ editor_word_name w) }
-{
-    match word {
-        b"insert" => Some(EditorWord::Insert),
-        b"remove" => Some(EditorWord::Remove),
-        b"add" => Some(EditorWord::Add),
-        b"drop" => Some(EditorWord::Drop),
-        b"role" => Some(EditorWord::Role),
-        _ => None,
-    }
 }

@@ -1,14 +1,12 @@
 //! Edits of the text and of the members, read.
 
-ghost use Rattle.std.specs.Prelude.{◌≡◌, ◌≢◌, IfOk, MatchOption, Some, option_map};
-ghost use Rattle.sporc_script.specs.declared.roster_change.RosterWord.{RosterWord};
-ghost use Rattle.sporc_script.specs.declared.text_edit.TextWord.{TextWord};
-ghost use Rattle.sporc_script.specs.Edits.{edit_of, insertion_of, removal_of, roster_change_of, roster_edit_of, roster_word_of, stated_of, text_edit_of, text_word_of};
+ghost use Rattle.std.specs.Prelude.{◌≡◌, IfOk, Some, option_map};
+ghost use Rattle.sporc_script.specs.Edits.{edit_of, insertion_of, removal_of, roster_change_of, roster_edit_of, stated_of, text_edit_of};
 ghost use Rattle.sporc_script.specs.Readers.{pair_of};
-ghost use Rattle.sporc_script.specs.Spelling.{roster_word_name, text_word_name};
 ghost use Rattle.sporc_script.specs.Words.{number_of};
 
 use crate::command::{Edit, RosterEdit};
+use crate::names::{parse_roster_word, parse_text_word};
 use crate::plain::read_member_role;
 use crate::quoted::parse_text;
 use crate::roster_change::{RosterChange, RosterWord};
@@ -94,22 +92,6 @@ pub fn read_text_edit(alloc: Global, words: &[u8]) -> Result<Option<TextEdit>, M
     }
 }
 
-fn parse_text_word(word: &[u8]) -> Option<TextWord>
-    ensures { result ≡ text_word_of word.now }
-{
-    text_word_named(word)
-}
-
-fn text_word_named(word: &[u8]) -> Option<TextWord>
-    ensures { MatchOption result ((w : TextWord) → word.now ≢ text_word_name w) (λ w. word.now ≡ text_word_name w) }
-{
-    match word {
-        b"insert" => Some(TextWord::Insert),
-        b"remove" => Some(TextWord::Remove),
-        _ => None,
-    }
-}
-
 // `AT TEXT`
 #[tactic(auto, unfolding(crate::specs::Edits::insertion_of))]
 pub fn read_insertion(alloc: Global, words: &[u8]) -> Result<Option<Insertion>, Memory>
@@ -158,22 +140,5 @@ fn read_roster_change(words: &[u8]) -> Option<RosterChange>
         RosterWord::Add => Some(RosterChange::Add(read_member_role(rest)?)),
         RosterWord::Remove => Some(RosterChange::Remove(parse_member(rest)?)),
         RosterWord::Role => Some(RosterChange::SetRole(read_member_role(rest)?)),
-    }
-}
-
-fn parse_roster_word(word: &[u8]) -> Option<RosterWord>
-    ensures { result ≡ roster_word_of word.now }
-{
-    roster_word_named(word)
-}
-
-fn roster_word_named(word: &[u8]) -> Option<RosterWord>
-    ensures { MatchOption result ((w : RosterWord) → word.now ≢ roster_word_name w) (λ w. word.now ≡ roster_word_name w) }
-{
-    match word {
-        b"add" => Some(RosterWord::Add),
-        b"remove" => Some(RosterWord::Remove),
-        b"role" => Some(RosterWord::Role),
-        _ => None,
     }
 }

@@ -20,12 +20,12 @@ pub fn limits()
 
 /// A text is a play script, or has a first line outside the grammar.
 pub fn play_script_or_fault()
-    ensures { (text : List ℕ) → ((script : List PlayLine) × IsPlayScript text script) ⊎ ((line : ℕ) × IsPlayFault text line) }
+    ensures either { (text : List ℕ) → ((script : List PlayLine) × IsPlayScript text script) ⊎ ((line : ℕ) × IsPlayFault text line) }
 {}
 
 /// A text is one play script.
 pub fn one_play_script()
-    ensures { (text : List ℕ) (script other : List PlayLine) → IsPlayScript text script → IsPlayScript text other → script ≡ other }
+    ensures one { (text : List ℕ) (script other : List PlayLine) → IsPlayScript text script → IsPlayScript text other → script ≡ other }
 {}
 
 /// A text has one first line outside the grammar of play scripts, and none if it is one.
@@ -36,12 +36,12 @@ pub fn one_play_fault()
 
 /// A text is an editor script, or has a first line outside the grammar.
 pub fn editor_script_or_fault()
-    ensures { (text : List ℕ) → ((script : List EditorLine) × IsEditorScript text script) ⊎ ((line : ℕ) × IsEditorFault text line) }
+    ensures either { (text : List ℕ) → ((script : List EditorLine) × IsEditorScript text script) ⊎ ((line : ℕ) × IsEditorFault text line) }
 {}
 
 /// A text is one editor script.
 pub fn one_editor_script()
-    ensures { (text : List ℕ) (script other : List EditorLine) → IsEditorScript text script → IsEditorScript text other → script ≡ other }
+    ensures one { (text : List ℕ) (script other : List EditorLine) → IsEditorScript text script → IsEditorScript text other → script ≡ other }
 {}
 
 /// A text has one first line outside the grammar of editor scripts, and none if it is one.

@@ -29,6 +29,7 @@ pub mod laws;
 mod limits;
 mod lines;
 mod member_role;
+mod named;
 mod names;
 mod numbers;
 mod plain;

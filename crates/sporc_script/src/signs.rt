@@ -1,17 +1,17 @@
 //! What a script signs for a rogue, read.
 
-ghost use Rattle.std.specs.Prelude.{◌≡◌, ◌≢◌, IfOk, MatchOption, None, Some};
+ghost use Rattle.std.specs.Prelude.{◌≡◌, IfOk, MatchOption, None, Some};
 ghost use Rattle.sporc_script.specs.declared.sign.LoneWord.{LoneWord};
 ghost use Rattle.sporc_script.specs.declared.sign.SuffixWord.{SuffixWord};
 ghost use Rattle.sporc_script.specs.declared.sign.WhatWord.{WhatWord};
 ghost use Rattle.sporc_script.specs.declared.sign.WhatWord.TheVariants as what_words;
 ghost use Rattle.sporc_script.specs.Plain.{role_of};
 ghost use Rattle.sporc_script.specs.Readers.{behind_of, member_of, pair_of};
-ghost use Rattle.sporc_script.specs.Signs.{forgery_of, last_of, lone_suffix, lone_word_name, lone_word_of, needs_change, signed_of, signed_with, suffix_fits, suffix_of, suffix_with, suffix_word_name, suffix_word_of, what_word_name, what_word_of};
+ghost use Rattle.sporc_script.specs.Signs.{forgery_of, last_of, lone_suffix, needs_change, signed_of, signed_with, suffix_fits, suffix_of, suffix_with};
 
 use crate::hex_word::parse_hex;
 use crate::member_role::MemberRole;
-use crate::names::parse_role;
+use crate::names::{parse_lone_word, parse_role, parse_suffix_word, parse_what_word};
 use crate::quoted::parse_text;
 use crate::roster_change::RosterChange;
 use crate::sign::{Forgery, LoneWord, Signed, Suffix, SuffixWord, What, WhatWord};
@@ -228,60 +228,5 @@ fn lone_suffix(word: LoneWord) -> Suffix
     match word {
         LoneWord::Commit => Suffix::Commit,
         LoneWord::Previous => Suffix::Previous,
-    }
-}
-
-fn parse_what_word(word: &[u8]) -> Option<WhatWord>
-    ensures { result ≡ what_word_of word.now }
-{
-    what_word_named(word)
-}
-
-fn what_word_named(word: &[u8]) -> Option<WhatWord>
-    ensures { MatchOption result ((w : WhatWord) → word.now ≢ what_word_name w) (λ w. word.now ≡ what_word_name w) }
-{
-    match word {
-        b"insert" => Some(WhatWord::Insert),
-        b"raw" => Some(WhatWord::Raw),
-        b"add" => Some(WhatWord::Add),
-        b"remove" => Some(WhatWord::Remove),
-        b"role" => Some(WhatWord::Role),
-        _ => None,
-    }
-}
-
-fn parse_suffix_word(word: &[u8]) -> Option<SuffixWord>
-    ensures { result ≡ suffix_word_of word.now }
-{
-    suffix_word_named(word)
-}
-
-fn suffix_word_named(word: &[u8]) -> Option<SuffixWord>
-    ensures { MatchOption result ((w : SuffixWord) → word.now ≢ suffix_word_name w) (λ w. word.now ≡ suffix_word_name w) }
-{
-    match word {
-        b"number" => Some(SuffixWord::Number),
-        b"base" => Some(SuffixWord::Base),
-        b"epoch" => Some(SuffixWord::Epoch),
-        b"leaf" => Some(SuffixWord::Leaf),
-        b"wrap" => Some(SuffixWord::Wrap),
-        b"drop" => Some(SuffixWord::Drop),
-        _ => None,
-    }
-}
-
-fn parse_lone_word(word: &[u8]) -> Option<LoneWord>
-    ensures { result ≡ lone_word_of word.now }
-{
-    lone_word_named(word)
-}
-
-fn lone_word_named(word: &[u8]) -> Option<LoneWord>
-    ensures { MatchOption result ((w : LoneWord) → word.now ≢ lone_word_name w) (λ w. word.now ≡ lone_word_name w) }
-{
-    match word {
-        b"commit" => Some(LoneWord::Commit),
-        b"previous" => Some(LoneWord::Previous),
-        _ => None,
     }
 }

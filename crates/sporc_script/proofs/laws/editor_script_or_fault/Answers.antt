@@ -7,4 +7,4 @@ use Rattle.sporc_script.proofs.ScriptLines.{script_or_fault}
 use Rattle.sporc_script.proofs.laws.editor_script_or_fault.Goals as goal
 
 pub returns : goal.returns
-returns c = λ text. script_or_fault EditorCommand EditorLine editor_line IsEditorNext editor_or_none (lines_of text) _ 1
+returns c = record { either = λ text. script_or_fault EditorCommand EditorLine editor_line IsEditorNext editor_or_none (lines_of text) _ 1 }

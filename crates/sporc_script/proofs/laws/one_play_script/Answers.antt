@@ -7,4 +7,4 @@ use Rattle.sporc_script.proofs.ScriptLines.{one_reading}
 use Rattle.sporc_script.proofs.laws.one_play_script.Goals as goal
 
 pub returns : goal.returns
-returns c = λ text script other x y. one_reading Command PlayLine play_line IsNext one_next next_not_skipped (lines_of text) _ 1 script other x y
+returns c = record { one = λ text script other x y. one_reading Command PlayLine play_line IsNext one_next next_not_skipped (lines_of text) _ 1 script other x y }
