@@ -11,6 +11,6 @@ unfolding IsDistinct
 returns c = record {
   count = omega arith;
   members = (is_member 5 (omega arith) (omega arith), (is_member 9 (omega arith) (omega arith), (is_member 2 (omega arith) (omega arith), tt)));
-  apart = ((refl, (refl, tt)), ((refl, tt), (tt, tt)));
+  distinct = ((refl, (refl, tt)), ((refl, tt), (tt, tt)));
   admin = refl;
 }
