@@ -24,8 +24,6 @@ module _ {E : Type 0} (by : E → ℕ) where
   Extends-push_or_same true k old new e is mine add = Extends-push k new e (add ∙ ap (λ l. l ++ e ∷ []) is) mine
   Extends-push_or_same false k old new e is mine add = Extends-same k new (add ∙ is)
 
-module _ {E : Type 0} where
-
 -- once all passes are joined back, what is added is the first one's
 pub only_first_adds : {E : Type 0} (by : E → ℕ) → OnlyFirstAdds by
 only_first_adds {E} by k k' log more zero' all same a b =
