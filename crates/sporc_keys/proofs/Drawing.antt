@@ -1,10 +1,10 @@
 -- Keys that are drawn one word after another.
 use Rattle.std.proofs.Common.{◌≡◌, ℕ, suc, ◌+◌, ◌-◌, ◌<◌, ◌≤◌, List, [], ◌∷◌, ◌++◌, length, get_or, take, drop, Option, Some, None, refl, sym, ap, subst, ◌∙◌, append_assoc, add-one, arith, drop-cons, map}
-use Rattle.std.proofs.lemmas.List.{append-nil, drop_all, length-drop, map-append, take_all}
+use Rattle.std.proofs.lemmas.List.{append-nil, drop_all, length-append, length-drop, length-map, length-take, map-append, take_all}
 use Rattle.sporc_base.proofs.ListLemmas.{all_append}
 use Rattle.sporc_outside.specs.Told.{AppendsItem}
 use Rattle.sporc_keys.specs.declared.pair.SharedKey.{SharedKey}
-use Rattle.sporc_keys.specs.Drawn.{Draws, Grows}
+use Rattle.sporc_keys.specs.Drawn.{Draws, DrawsUpTo, Grows}
 use Rattle.sporc_keys.specs.Founding.{SharesMore, numbers_in, pairs_of, row}
 
 grows_then : (a b c : Option (List (List ℕ))) (xs ys : List (List ℕ)) → Grows a b xs → Grows b c ys → Grows a c (xs ++ ys)
@@ -22,10 +22,10 @@ grows_one None b word p = tt
 grows_one (Some given) None word p = p
 grows_one (Some given) (Some more) word p = p
 
-draws_nothing : (a : Option (List (List ℕ))) → Draws a a []
+pub draws_nothing : (a : Option (List (List ℕ))) → Draws a a []
 draws_nothing a = record { sized = tt; told = grows_nothing a }
 
-draws_one : (a b : Option (List (List ℕ))) (word : List ℕ) → length word ≡ 32 → AppendsItem a b word → Draws a b (word ∷ [])
+pub draws_one : (a b : Option (List (List ℕ))) (word : List ℕ) → length word ≡ 32 → AppendsItem a b word → Draws a b (word ∷ [])
 draws_one a b word len p = record { sized = (len, tt); told = grows_one a b word p }
 
 pub draws_then : (a b c : Option (List (List ℕ))) (xs ys : List (List ℕ)) → Draws a b xs → Draws b c ys → Draws a c (xs ++ ys)
@@ -34,6 +34,11 @@ draws_then a b c xs ys p q = record { sized = all_append (λ word. length word �
 pub draws_two : (a b c : Option (List (List ℕ))) (first second : List ℕ) → length first ≡ 32 → length second ≡ 32 → AppendsItem a b first → AppendsItem b c second → Draws a c (first ∷ second ∷ [])
 draws_two a b c first second len_first len_second told_first told_second =
     draws_then a b c (first ∷ []) (second ∷ []) (draws_one a b first len_first told_first) (draws_one b c second len_second told_second)
+
+-- these words, and then at most so many
+pub up_to_then : (n most : ℕ) (a b c : Option (List (List ℕ))) (xs : List (List ℕ)) → length xs + n ≤ most → Draws a b xs → DrawsUpTo n b c → DrawsUpTo most a c
+up_to_then n most a b c xs few drawn more =
+    (xs ++ more.0, omega (arith, few, more.1, length-append xs more.0), draws_then a b c xs more.0 drawn more.2)
 
 pub shares_nothing : (a : Option (List (List ℕ))) (old : List SharedKey) → SharesMore a a [] old old
 shares_nothing a old = ([], sym (append-nil old), refl, draws_nothing a)
@@ -48,7 +53,25 @@ shares_then a b c ps qs old mid new p q =
       subst D (sym keys) (draws_then a b c (map (λ s. s.key) p.0) (map (λ s. s.key) q.0) p.3 q.3),
     )
 
+-- keys for these pairs, and then at most so many words
+shares_up_to : (n most : ℕ) (a b c : Option (List (List ℕ))) (ps : List (ℕ × ℕ)) (old new : List SharedKey) → length ps + n ≤ most → SharesMore a b ps old new → DrawsUpTo n b c
+    → DrawsUpTo most a c
+shares_up_to n most a b c ps old new few drawn more =
+    let keys : length (map (λ s. s.key) drawn.0) ≡ length drawn.0 = length-map drawn.0 (λ s. s.key) in
+    let pairs : length drawn.0 ≡ length ps = sym (length-map drawn.0 numbers_in) ∙ ap length drawn.2 in
+    up_to_then n most a b c (map (λ s. s.key) drawn.0) (omega (arith, few, keys, pairs)) drawn.3 more
+
 -- ---- rows
+
+length_row : (first : ℕ) (numbers : List ℕ) → length (row first numbers) ≡ length numbers
+unfolding row
+length_row first numbers = length-map numbers (λ m. (first, m))
+
+-- a part of a row, and then at most so many words
+pub row_up_to : (n : ℕ) (a b c : Option (List (List ℕ))) (first : ℕ) (numbers : List ℕ) (i : ℕ) (old new : List SharedKey) → i + n ≤ length numbers
+    → SharesMore a b (row first (take i numbers)) old new → DrawsUpTo n b c → DrawsUpTo (length numbers) a c
+row_up_to n a b c first numbers i old new few drawn more =
+    shares_up_to n (length numbers) a b c (row first (take i numbers)) old new (omega (arith, few, length_row first (take i numbers), length-take i numbers)) drawn more
 
 -- the pairs of the rows so far, and those of the numbers that are left
 pub record Rows (a b : Option (List (List ℕ))) (numbers : List ℕ) (i : ℕ) (new : List SharedKey) : Type 0 where
@@ -79,3 +102,15 @@ all_rows a b numbers i new le rows =
     let whole : rows.front ≡ pairs_of numbers = sym (append-nil rows.front) ∙ ap (λ (ns : List ℕ). rows.front ++ pairs_of ns) (sym nothing) ∙ rows.whole in
     let P : List (ℕ × ℕ) → Type 0 = λ ps. SharesMore a b ps [] new in
     subst P whole rows.drawn
+
+-- whole rows, and then a part of the next
+pub rows_up_to : (a b c : Option (List (List ℕ))) (numbers : List ℕ) (i : ℕ) (mid : List SharedKey) → i < length numbers
+    → Rows a b numbers i mid → DrawsUpTo (length (take (length numbers - i) (drop i numbers))) b c → DrawsUpTo (length (pairs_of numbers)) a c
+rows_up_to a b c numbers i mid lt so_far more =
+    let all_left : take (length numbers - i) (drop i numbers) ≡ drop i numbers = take_all (length numbers - i) (drop i numbers) (omega (arith, length-drop i numbers)) in
+    let cut : drop i numbers ≡ get_or numbers i 0 ∷ drop (suc i) numbers = drop-cons numbers i 0 lt in
+    let left : length (pairs_of (drop i numbers)) ≡ length (drop i numbers) + length (pairs_of (drop (suc i) numbers)) =
+    ap (λ (ns : List ℕ). length (pairs_of ns)) cut ∙ length-append (row (get_or numbers i 0) (get_or numbers i 0 ∷ drop (suc i) numbers)) (pairs_of (drop (suc i) numbers))
+    ∙ ap (λ (n : ℕ). n + length (pairs_of (drop (suc i) numbers))) (length_row (get_or numbers i 0) (get_or numbers i 0 ∷ drop (suc i) numbers) ∙ ap length (sym cut)) in
+    let all : length so_far.front + length (pairs_of (drop i numbers)) ≡ length (pairs_of numbers) = sym (length-append so_far.front (pairs_of (drop i numbers))) ∙ ap length so_far.whole in
+    shares_up_to (length (take (length numbers - i) (drop i numbers))) (length (pairs_of numbers)) a b c so_far.front [] mid (omega (arith, ap length all_left, left, all)) so_far.drawn more

@@ -22,8 +22,8 @@ use Rattle.sporc_keys.specs.declared.named.Named.TheVariants as named
 use Rattle.sporc_keys.specs.declared.pair.SharedKey.{SharedKey}
 use Rattle.sporc_keys.specs.declared.ring_file.PairKey.{PairKey}
 use Rattle.sporc_keys.specs.declared.ring_file.RingFile.{RingFile}
-use Rattle.sporc_keys.specs.Founding.{CanFound, IsFounding, IsKnownKey, SharesMore, found_of, numbers_in, epoch_key_of, founders_in, genesis_of, in_order, is_first_admin, number_of, numbers_of, pair_keys_of, pairs_of, ring_of, row, shared_by, shared_keys}
-use Rattle.sporc_keys.specs.Drawn.{Draws}
+use Rattle.sporc_keys.specs.Founding.{CanFound, IsFounding, IsKnownKey, SharesMore, found_of, numbers_in, epoch_key_of, founders_in, genesis_of, in_order, is_first_admin, number_of, numbers_of, pair_keys_of, pairs_of, ring_of, row, shared_by, shared_keys, words_for}
+use Rattle.sporc_keys.specs.Drawn.{Draws, DrawsUpTo}
 use Rattle.sporc_keys.specs.RingFile.{IsPairKey, IsRingFile, members_of}
 use Rattle.sporc_keys.proofs.Ascending.{Ascends, ascends_below, ascends_increasing}
 use Rattle.sporc_keys.proofs.Drawing.{draws_then, draws_two}
@@ -205,6 +205,13 @@ drawn_again a d all first key shared words =
 words_count : (a d : Option (List (List ℕ))) (all : List Named) (first key : List ℕ) (shared : List SharedKey) → Words a d all first key shared
     → length (map (λ s. s.key) shared) ≡ length (pairs_of (numbers_of all))
 words_count a d all first key shared words = length-map shared (λ s. s.key) ∙ sym (length-map shared numbers_in) ∙ ap length words.pairs
+
+-- all the words that a founding takes are drawn
+pub all_drawn : (a b c d : Option (List (List ℕ))) (all : List Named) (numbers first key : List ℕ) (shared : List SharedKey) → numbers ≡ numbers_of all → length first ≡ 32 → length key ≡ 32
+    → AppendsItem a b first → AppendsItem b c key → SharesMore c d (pairs_of numbers) [] shared → DrawsUpTo (words_for all) a d
+all_drawn a b c d all numbers first key shared same len_first len_key told_first told_key more =
+    let words : Words a d all first key shared = words_are a b c d all numbers first key shared same len_first len_key told_first told_key more in
+    (first ∷ key ∷ map (λ s. s.key) shared, omega (arith, words_count a d all first key shared words), words.drawn)
 
 pub is_founding : (a d : Option (List (List ℕ))) (all : List Named) (first key : List ℕ) (shared : List SharedKey) (founding : Founding) → Words a d all first key shared
     → founding.genesis ≡ genesis_of (take 16 first) key all → founding.rings ≡ map (ring_of key shared) all → IsFounding a d all founding

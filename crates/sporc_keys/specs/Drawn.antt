@@ -1,5 +1,5 @@
 -- Words of 32 bytes, drawn from a chance.
-use Rattle.std.specs.Prelude.{◌≡◌, ℕ, List, ◌++◌, length, Option, None, Some}
+use Rattle.std.specs.Prelude.{◌≡◌, ◌≤◌, ℕ, List, ◌++◌, length, Option, None, Some}
 use Rattle.std.specs.List.{AllByRecursion}
 
 -- told words grow by these
@@ -12,3 +12,7 @@ Grows (Some given) (Some more) words = more ≡ given ++ words
 pub record Draws (before after : Option (List (List ℕ))) (words : List (List ℕ)) : Type 0 where
   pub sized : AllByRecursion (λ word. length word ≡ 32) words
   pub told : Grows before after words
+
+-- at most so many words are drawn, as `Draws` says
+abbrev pub DrawsUpTo : ℕ → Option (List (List ℕ)) → Option (List (List ℕ)) → Type 0
+DrawsUpTo most before after = (words : List (List ℕ)) × (length words ≤ most) × Draws before after words

@@ -1,5 +1,5 @@
 -- What a document begins with: its genesis, and a ring for each number that is named.
-use Rattle.std.specs.Prelude.{◌≡◌, ℕ, ◌==◌, ◌≤◌, nat_lt, nat_eq, Bool, true, false, List, [], ◌∷◌, ◌++◌, length, take, map, fold, filter_map, find, option_map, is_none, Option, None, Some, if◌then◌else◌}
+use Rattle.std.specs.Prelude.{◌≡◌, ℕ, ◌+◌, ◌==◌, ◌≤◌, nat_lt, nat_eq, Bool, true, false, List, [], ◌∷◌, ◌++◌, length, take, map, fold, filter_map, find, option_map, is_none, Option, None, Some, if◌then◌else◌}
 use Rattle.std.specs.List.{AllByRecursion, list_any, zip, IsDistinct}
 use Rattle.lms_tree.specs.LmsPublic.{public_key_bytes, public_key_in}
 use Rattle.sporc_hash.specs.Chain.{commitment_of}
@@ -124,6 +124,10 @@ found_of all first key words = record {
   genesis = genesis_of (take 16 first) key all;
   rings = map (ring_of key (shared_keys (numbers_of all) words)) all;
 }
+
+-- how many words that takes: two, and one for each pair
+abbrev pub words_for : List Named → ℕ
+words_for all = 2 + length (pairs_of (numbers_of all))
 
 -- what was made of the words that a chance gave, one for each pair behind two
 abbrev pub IsFounding : Option (List (List ℕ)) → Option (List (List ℕ)) → List Named → Founding → Type 0

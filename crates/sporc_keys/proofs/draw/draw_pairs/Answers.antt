@@ -1,5 +1,6 @@
 use Rattle.std.proofs.Common.{arith}
-use Rattle.sporc_keys.proofs.Drawing.{no_rows, rows_more, all_rows}
+use Rattle.std.proofs.lemmas.Result.{err_from_is_err_and}
+use Rattle.sporc_keys.proofs.Drawing.{no_rows, rows_more, rows_up_to, all_rows}
 use Rattle.sporc_keys.proofs.draw.draw_pairs.Goals as goal
 
 pub loop-i-init : goal.loop-i-init
@@ -14,3 +15,9 @@ loop-i-preserved g c = record {
 
 pub returns-clause-ok : goal.returns-clause-ok
 returns-clause-ok g c = all_rows (g.C.Chance.given c.args.chance.now) (g.C.Chance.given c.loop-i.chance) c.args.numbers.now c.loop-i.i c.loop-i.shared.items c.loop-i-test.false c.loop-i.invariant.drawn
+
+pub returns-in_err-draw_row-clause-drawn : goal.returns-in_err-draw_row-clause-drawn
+returns-in_err-draw_row-clause-drawn g c =
+    let p = err_from_is_err_and c.from_residual.result c.from_residual.ensures.1 in
+    rw p.1 (rows_up_to (g.C.Chance.given c.args.chance.now) (g.C.Chance.given c.loop-i.chance) (g.C.Chance.given c.draw_row.new.chance) c.args.numbers.now c.loop-i.i c.loop-i.shared.items
+    c.loop-i-test.true c.loop-i.invariant.drawn c.in_err-draw_row.ensures.drawn)

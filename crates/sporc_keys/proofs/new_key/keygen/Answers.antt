@@ -1,6 +1,7 @@
-use Rattle.std.proofs.Common.{◌≡◌, ℕ, List, length, ap, ◌∙◌, rules}
+use Rattle.std.proofs.Common.{◌≡◌, ℕ, List, [], ◌∷◌, length, ap, ◌∙◌, arith, rules}
+use Rattle.std.proofs.lemmas.Result.{err_from_is_err_and}
 use Rattle.sporc_keys.specs.NewKey.{made_of}
-use Rattle.sporc_keys.proofs.Drawing.{draws_two}
+use Rattle.sporc_keys.proofs.Drawing.{draws_nothing, draws_one, draws_two}
 use Rattle.sporc_keys.proofs.new_key.keygen.Goals as goal
 
 pub returns-clause-ok : goal.returns-clause-ok
@@ -13,4 +14,27 @@ returns-clause-ok g c =
       seed,
       draws_two (g.C.Chance.given c.args.chance.now) (g.C.Chance.given c.fill32.new.self) (g.C.Chance.given c.fill32-2.new.self) first seed len_first len_seed c.in_ok-first.ensures.ok c.in_ok-seed.ensures.ok,
       c.in_ok-key.ensures ∙ ap (λ (id : List ℕ). made_of (record { member = c.args.member; lms = c.args.lms; ots = c.args.ots; id = id; seed = seed })) c.prefix_of.ensures,
+    )
+
+pub returns-in_err-first-clause-drawn : goal.returns-in_err-first-clause-drawn
+returns-in_err-first-clause-drawn g c =
+    let p = err_from_is_err_and c.from_residual.result c.from_residual.ensures.1 in
+    rw (p.1, c.in_err-first.ensures.err) ([], omega arith, draws_nothing (g.C.Chance.given c.args.chance.now))
+
+pub returns-in_err-seed-clause-drawn : goal.returns-in_err-seed-clause-drawn
+returns-in_err-seed-clause-drawn g c =
+    let len_first : length c.in_ok-first.first ≡ 32 = search rules in
+    let p = err_from_is_err_and c.from_residual-in_err-seed.result c.from_residual-in_err-seed.ensures.1 in
+    rw (p.1, c.in_err-seed.ensures.err)
+    (c.in_ok-first.first ∷ [], omega arith, draws_one (g.C.Chance.given c.args.chance.now) (g.C.Chance.given c.fill32.new.self) c.in_ok-first.first len_first c.in_ok-first.ensures.ok)
+
+pub returns-in_err-key-clause-drawn : goal.returns-in_err-key-clause-drawn
+returns-in_err-key-clause-drawn g c =
+    let len_first : length c.in_ok-first.first ≡ 32 = search rules in
+    let len_seed : length c.in_ok-seed.seed ≡ 32 = search rules in
+    let p = err_from_is_err_and c.from_residual-in_err-key.result c.from_residual-in_err-key.ensures.1 in
+    rw p.1 (
+      c.in_ok-first.first ∷ c.in_ok-seed.seed ∷ [],
+      omega arith,
+      draws_two (g.C.Chance.given c.args.chance.now) (g.C.Chance.given c.fill32.new.self) (g.C.Chance.given c.fill32-2.new.self) c.in_ok-first.first c.in_ok-seed.seed len_first len_seed c.in_ok-first.ensures.ok c.in_ok-seed.ensures.ok,
     )
