@@ -1,3 +1,4 @@
+use sporc_base::Memory;
 use sporc_delta::{Delta, DeltaFault, Part, Text, TextSlice};
 use std::alloc::{AllocError, Global};
 use std::process::Abort;
@@ -17,30 +18,42 @@ fn shown(alloc: Global, delta: &Delta) -> Result<String, AllocError> {
     Ok(line)
 }
 
-fn is_shown(rt: &impl Abort, alloc: Global, delta: &Delta, line: &str) -> Result<(), Fail> {
-    assert_eq!(rt; shown(alloc, delta)?.as_str(), line);
+/// Fails unless this is the delta's line.
+pub(crate) fn is_shown(
+    rt: &impl Abort,
+    alloc: Global,
+    delta: &Delta,
+    line: &str,
+) -> Result<(), Fail> {
+    let found = shown(alloc, delta)?;
+    assert!(rt; found.as_str() == line, "{found}");
     Ok(())
+}
+
+fn is_made(
+    rt: &impl Abort,
+    alloc: Global,
+    made: Result<Delta, Memory>,
+    line: &str,
+) -> Result<(), Fail> {
+    let delta = made?;
+    is_shown(rt, alloc, &delta.copy()?, line)
 }
 
 #[test]
 fn makers_give_the_one_list_of_parts(rt: HostRuntime) -> Result<(), Fail> {
-    let alloc = rt.alloc();
-    is_shown(
-        &rt,
+    let (rt, alloc) = (&rt, rt.alloc());
+    is_made(
+        rt,
         alloc,
-        &Delta::insert_at(alloc, 3, 1, "é€")?,
+        Delta::insert_at(alloc, 3, 1, "é€"),
         "K1 I\"é€\" K2 ",
     )?;
-    is_shown(&rt, alloc, &Delta::insert_at(alloc, 3, 1, "")?, "K3 ")?;
-    is_shown(&rt, alloc, &Delta::remove_at(alloc, 5, 1, 3)?, "K1 R3 K1 ")?;
-    is_shown(&rt, alloc, &Delta::keep_all(alloc, 4)?.copy()?, "K4 ")?;
-    is_shown(
-        &rt,
-        alloc,
-        &Delta::replace_all(alloc, 4, "x")?,
-        "R4 I\"x\" ",
-    )?;
-    is_shown(&rt, alloc, &Delta::keep_all(alloc, 0)?, "")
+    is_made(rt, alloc, Delta::insert_at(alloc, 3, 1, ""), "K3 ")?;
+    is_made(rt, alloc, Delta::remove_at(alloc, 5, 1, 3), "K1 R3 K1 ")?;
+    is_made(rt, alloc, Delta::keep_all(alloc, 4), "K4 ")?;
+    is_made(rt, alloc, Delta::replace_all(alloc, 4, "x"), "R4 I\"x\" ")?;
+    is_made(rt, alloc, Delta::keep_all(alloc, 0), "")
 }
 
 #[test]

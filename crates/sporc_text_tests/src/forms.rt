@@ -1,8 +1,9 @@
 ghost use Rattle.std.specs.Prelude.{◌≡◌, ◌≤◌, ◌<◌, ◌∷◌, [], IsTrue, IfOk};
 ghost use Rattle.sporc_delta.specs.Marks.{base_len, inserted_len, out_len};
 
+use crate::deltas::is_shown;
 use sporc_base::Memory;
-use sporc_delta::{Delta, Part};
+use sporc_delta::Delta;
 use sporc_suffix::{Blocks, Steps};
 use std::alloc::Global;
 use std::marker::Brand;
@@ -38,7 +39,7 @@ fn is_short(delta: &Delta) -> bool
     delta.base_len() <= 100 && delta.out_len() <= 100
 }
 
-// How many forms there are, and what `q` becomes behind them, and behind the second alone what
+// What `q` becomes behind both forms, and behind the second alone what
 // `late` becomes, which is stated on the text after the first.
 fn behind<L: Ledger>(
     blank: Blank,
@@ -47,7 +48,7 @@ fn behind<L: Ledger>(
     second: Delta,
     q: &Delta,
     late: &Delta,
-) -> Result<(u32, Delta, Delta), Memory>
+) -> Result<(Delta, Delta), Memory>
     requires name { blank.name ≡ L.name }
     requires parts { blank.parts ≡ L.parts }
     requires some { 0 < blank.parts }
@@ -65,7 +66,7 @@ fn behind<L: Ledger>(
     let mut steps: Steps<L> = Steps::new(blank);
     let delta = blocks.later_over(q, 0, &mut steps)?;
     let last = blocks.later_over(late, 1, &mut steps)?;
-    Ok((blocks.len(), delta, last))
+    Ok((delta, last))
 }
 
 // The same, or nothing where the forms do not follow one another or the delta is stated elsewhere.
@@ -75,7 +76,7 @@ fn restated(
     second: Delta,
     q: &Delta,
     late: &Delta,
-) -> Result<Option<(u32, Delta, Delta)>, Memory> {
+) -> Result<Option<(Delta, Delta)>, Memory> {
     if q.base_len() != first.base_len() || second.base_len() != first.out_len() {
         return Ok(None);
     }
@@ -92,29 +93,12 @@ fn restated(
 // inserts before the `b`: the text is `aXYc`. A fourth, who saw `ac`, puts a character at its end.
 #[test]
 fn a_delta_passes_the_forms_in_their_order(rt: HostRuntime) -> Result<(), Fail> {
-    let alloc: Global = rt.alloc();
+    let alloc = rt.alloc();
     let first = Delta::remove_at(alloc, 3, 1, 1)?;
     let second = Delta::insert_at(alloc, 2, 1, "X")?;
     let q = Delta::insert_at(alloc, 3, 1, "Y")?;
     let late = Delta::insert_at(alloc, 2, 2, "Z")?;
-    match restated(alloc, first, second, &q, &late)? {
-        Some((count, delta, last)) => {
-            assert_eq!(rt; count, 2);
-            assert_eq!(rt; (delta.base_len(), delta.out_len()), (3, 4));
-            match delta.parts() {
-                [Part::Keep(before), Part::Insert(text), Part::Keep(after)] => {
-                    assert_eq!(rt; (*before, text.as_str(), *after), (2, "Y", 1));
-                }
-                _ => assert!(rt; false),
-            }
-            match last.parts() {
-                [Part::Keep(before), Part::Insert(text)] => {
-                    assert_eq!(rt; (*before, text.as_str()), (3, "Z"));
-                }
-                _ => assert!(rt; false),
-            }
-        }
-        None => assert!(rt; false),
-    }
-    Ok(())
+    let (delta, last) = restated(alloc, first, second, &q, &late)?.ok_or("other texts")?;
+    is_shown(&rt, alloc, &delta, "K2 I\"Y\" K1 ")?;
+    is_shown(&rt, alloc, &last, "K3 I\"Z\" ")
 }

@@ -113,7 +113,7 @@ fn push_mark(alloc: Global, delta: &mut Delta, mark: char) -> Result<(), AllocEr
     }
 }
 
-fn delta_of(alloc: Global, marks: &[char]) -> Result<Delta, AllocError> {
+pub(crate) fn delta_of(alloc: Global, marks: &[char]) -> Result<Delta, AllocError> {
     let mut delta = Delta::new(alloc);
     for mark in marks {
         push_mark(alloc, &mut delta, *mark)?;
@@ -145,7 +145,7 @@ fn marks_of(alloc: Global, delta: &Delta) -> Result<Vec<char>, AllocError> {
     Ok(marks)
 }
 
-fn chars_of(alloc: Global, text: &str) -> Result<Vec<char>, AllocError> {
+pub(crate) fn chars_of(alloc: Global, text: &str) -> Result<Vec<char>, AllocError> {
     let mut marks = Vec::new(alloc);
     for mark in text.chars() {
         marks.push(mark)?;
