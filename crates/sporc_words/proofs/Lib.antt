@@ -1,6 +1,8 @@
 pub mod Added
+pub mod ByVerb
 pub mod Chained
 pub mod Examples
+pub mod Literals
 pub mod NamedLemmas
 pub mod Simple
 pub mod Taken

@@ -34,9 +34,11 @@ none false [] rows e passes (inr never) other = absurd never
 none false (k ∷ ks) rows e passes has other = ap (λ (t : Bool). if t then Some rows else None) (sym (some_left k ks))
 
 pub taken_whole : (app : App) (words : List Text) → fault_of app words ≡ [] → taken app words ≡ Some (matches_of app words)
+unfolding taken
 taken_whole app words free =
     ap (λ (faults : Kinds). answer (takes app words) faults (matches_of app words)) free ∙ whole (takes app words) (matches_of app words)
 
 pub refused : (app : App) (words : List Text) (e : Error) → (takes app words ≡ true → kind_of e ≡ OutOfMemory) → HasKind (fault_of app words) e
     → (kind_of e ≡ OutOfMemory → ⊥) → None ≡ taken app words
+unfolding taken
 refused app words e passes has other = none (takes app words) (fault_of app words) (matches_of app words) e passes has other

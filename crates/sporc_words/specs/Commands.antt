@@ -1,5 +1,6 @@
 -- What a command line asks for.
 use Rattle.std.specs.Prelude.{nat_le, List, [], ◌∷◌, length, codes, Option, None, Some, option_map, slice_get, if◌then◌else◌}
+use Rattle.clap.specs.Simple.{App}
 use Rattle.clap.specs.Walk.{Row, Text, first_of}
 use Rattle.sporc_script.specs.declared.limits.TheConstants.{MAX_EDITORS, MAX_GENERATED}
 use Rattle.sporc_script.specs.Readers.{member_of, named_of, then_read, u32_of}
@@ -81,6 +82,26 @@ verb_name verbs.Compare = codes "compare"
 unfoldable pub verb_of : Text → Option Verb
 verb_of word =
     named_of verb_name (verbs.Play ∷ verbs.Keygen ∷ verbs.Found ∷ verbs.Serve ∷ verbs.Client ∷ verbs.Check ∷ verbs.Compare ∷ []) word
+
+-- the arguments of its command
+abbrev pub app_for : Verb → App
+app_for verbs.Play = play_app
+app_for verbs.Keygen = keygen_app
+app_for verbs.Found = found_app
+app_for verbs.Serve = serve_app
+app_for verbs.Client = client_app
+app_for verbs.Check = check_app
+app_for verbs.Compare = compare_app
+
+-- its command, by the values of the arguments
+abbrev pub command_in : Verb → List Row → Option Command
+command_in verbs.Play rows = play_in rows
+command_in verbs.Keygen rows = option_map commands.Keygen (keygen_in rows)
+command_in verbs.Found rows = option_map commands.Found (found_in rows)
+command_in verbs.Serve rows = option_map commands.Serve (serve_in rows)
+command_in verbs.Client rows = option_map commands.Client (client_in rows)
+command_in verbs.Check rows = option_map commands.Check (check_in rows)
+command_in verbs.Compare rows = option_map commands.Compare (compare_in rows)
 
 -- ---- all words
 

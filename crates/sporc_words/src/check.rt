@@ -1,13 +1,12 @@
 //! `check NAME M`.
 
-ghost use Rattle.std.specs.Prelude.{◌≡◌, map, IfOk, string_bytes};
-ghost use Rattle.clap.specs.Words.{app_of, found_of, rows_of};
-ghost use Rattle.sporc_script.specs.Readers.{then_read};
-ghost use Rattle.sporc_words.specs.Arguments.{taken, check_app};
+ghost use Rattle.std.specs.Prelude.{◌≡◌, IfOk};
+ghost use Rattle.clap.specs.Words.{found_of, rows_of};
+ghost use Rattle.sporc_words.specs.Arguments.{check_app, grammar_of};
 ghost use Rattle.sporc_words.specs.Commands.{check_in};
 
-use crate::arguments::positional;
-use crate::matches::{read_matches, value};
+use crate::arguments::{Kind, command_with};
+use crate::matches::value;
 use crate::values::member_value;
 use crate::word::Word;
 use clap::{ArgMatches, Command};
@@ -23,28 +22,20 @@ pub struct Check {
     pub member: u16,
 }
 
-/// What the words ask of `check`.
-pub fn read_check(alloc: Global, words: &[String]) -> Result<Option<Check>, Memory>
-    ensures ok { IfOk result (λ found. found ≡ then_read (taken check_app (map (λ w. string_bytes w) words.now)) check_in) }
+/// The command `check`.
+#[tactic(auto, unfolding(crate::specs::Arguments::check_app))]
+pub fn check_command<'a>(alloc: Global) -> Result<Command<'a>, Memory>
+    ensures ok { IfOk result (λ c. grammar_of c ≡ check_app) }
 {
-    let command = check_command(alloc)?;
-    let Some(matches) = read_matches(command, words)? else {
-        return Ok(None);
-    };
-    let found = check_from(alloc, &matches)?;
-    Ok(found)
+    command_with(
+        alloc,
+        "check",
+        &[(Kind::Positional, "NAME"), (Kind::Positional, "M")],
+    )
 }
 
-fn check_command<'a>(alloc: Global) -> Result<Command<'a>, Memory>
-    ensures ok { IfOk result (λ c. app_of c ≡ check_app) }
-{
-    let command = Command::new(alloc, "check")
-        .arg(positional(alloc, "NAME"))?
-        .arg(positional(alloc, "M"))?;
-    Ok(command)
-}
-
-fn check_from(alloc: Global, matches: &ArgMatches<'_>) -> Result<Option<Check>, Memory>
+/// What is asked for, by the values of the arguments.
+pub fn check_from(alloc: Global, matches: &ArgMatches<'_>) -> Result<Option<Check>, Memory>
     ensures ok { IfOk result (λ found. found ≡ check_in (rows_of (found_of matches.now))) }
 {
     let Some(name) = value(matches, "NAME") else {

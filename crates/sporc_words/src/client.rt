@@ -1,14 +1,13 @@
 //! `client NAME M ADDRESS --rounds R --until P SCRIPT ..`.
 
-ghost use Rattle.std.specs.Prelude.{◌≡◌, map, IfOk, string_bytes};
-ghost use Rattle.clap.specs.Words.{app_of, found_of, rows_of};
-ghost use Rattle.sporc_script.specs.Readers.{then_read};
-ghost use Rattle.sporc_words.specs.Arguments.{taken, client_app};
+ghost use Rattle.std.specs.Prelude.{◌≡◌, IfOk};
+ghost use Rattle.clap.specs.Words.{found_of, rows_of};
+ghost use Rattle.sporc_words.specs.Arguments.{client_app, grammar_of};
 ghost use Rattle.sporc_words.specs.Commands.{client_in};
 
-use crate::arguments::{optional, positional, repeated};
+use crate::arguments::{Kind, command_with};
 use crate::defaults::{DEFAULT_ROUNDS, DEFAULT_UNTIL};
-use crate::matches::{read_matches, value};
+use crate::matches::value;
 use crate::values::{member_value, scripts_value, value_or};
 use crate::word::Word;
 use clap::{ArgMatches, Command};
@@ -32,32 +31,27 @@ pub struct Client {
     pub scripts: Items<Word>,
 }
 
-/// What the words ask of `client`.
-pub fn read_client(alloc: Global, words: &[String]) -> Result<Option<Client>, Memory>
-    ensures ok { IfOk result (λ found. found ≡ then_read (taken client_app (map (λ w. string_bytes w) words.now)) client_in) }
+/// The command `client`.
+#[tactic(auto, unfolding(crate::specs::Arguments::client_app))]
+pub fn client_command<'a>(alloc: Global) -> Result<Command<'a>, Memory>
+    ensures ok { IfOk result (λ c. grammar_of c ≡ client_app) }
 {
-    let command = client_command(alloc)?;
-    let Some(matches) = read_matches(command, words)? else {
-        return Ok(None);
-    };
-    let found = client_from(alloc, &matches)?;
-    Ok(found)
+    command_with(
+        alloc,
+        "client",
+        &[
+            (Kind::Positional, "NAME"),
+            (Kind::Positional, "M"),
+            (Kind::Positional, "ADDRESS"),
+            (Kind::Optional, "rounds"),
+            (Kind::Optional, "until"),
+            (Kind::Repeated, "SCRIPT"),
+        ],
+    )
 }
 
-fn client_command<'a>(alloc: Global) -> Result<Command<'a>, Memory>
-    ensures ok { IfOk result (λ c. app_of c ≡ client_app) }
-{
-    let command = Command::new(alloc, "client")
-        .arg(positional(alloc, "NAME"))?
-        .arg(positional(alloc, "M"))?
-        .arg(positional(alloc, "ADDRESS"))?
-        .arg(optional(alloc, "rounds"))?
-        .arg(optional(alloc, "until"))?
-        .arg(repeated(alloc, "SCRIPT"))?;
-    Ok(command)
-}
-
-fn client_from(alloc: Global, matches: &ArgMatches<'_>) -> Result<Option<Client>, Memory>
+/// What is asked for, by the values of the arguments.
+pub fn client_from(alloc: Global, matches: &ArgMatches<'_>) -> Result<Option<Client>, Memory>
     ensures ok { IfOk result (λ found. found ≡ client_in (rows_of (found_of matches.now))) }
 {
     let Some(name) = value(matches, "NAME") else {

@@ -1,13 +1,12 @@
 //! `compare NAME M N`.
 
-ghost use Rattle.std.specs.Prelude.{◌≡◌, map, IfOk, string_bytes};
-ghost use Rattle.clap.specs.Words.{app_of, found_of, rows_of};
-ghost use Rattle.sporc_script.specs.Readers.{then_read};
-ghost use Rattle.sporc_words.specs.Arguments.{taken, compare_app};
+ghost use Rattle.std.specs.Prelude.{◌≡◌, IfOk};
+ghost use Rattle.clap.specs.Words.{found_of, rows_of};
+ghost use Rattle.sporc_words.specs.Arguments.{compare_app, grammar_of};
 ghost use Rattle.sporc_words.specs.Commands.{compare_in};
 
-use crate::arguments::positional;
-use crate::matches::{read_matches, value};
+use crate::arguments::{Kind, command_with};
+use crate::matches::value;
 use crate::values::member_value;
 use crate::word::Word;
 use clap::{ArgMatches, Command};
@@ -25,29 +24,24 @@ pub struct Compare {
     pub second: u16,
 }
 
-/// What the words ask of `compare`.
-pub fn read_compare(alloc: Global, words: &[String]) -> Result<Option<Compare>, Memory>
-    ensures ok { IfOk result (λ found. found ≡ then_read (taken compare_app (map (λ w. string_bytes w) words.now)) compare_in) }
+/// The command `compare`.
+#[tactic(auto, unfolding(crate::specs::Arguments::compare_app))]
+pub fn compare_command<'a>(alloc: Global) -> Result<Command<'a>, Memory>
+    ensures ok { IfOk result (λ c. grammar_of c ≡ compare_app) }
 {
-    let command = compare_command(alloc)?;
-    let Some(matches) = read_matches(command, words)? else {
-        return Ok(None);
-    };
-    let found = compare_from(alloc, &matches)?;
-    Ok(found)
+    command_with(
+        alloc,
+        "compare",
+        &[
+            (Kind::Positional, "NAME"),
+            (Kind::Positional, "M"),
+            (Kind::Positional, "N"),
+        ],
+    )
 }
 
-fn compare_command<'a>(alloc: Global) -> Result<Command<'a>, Memory>
-    ensures ok { IfOk result (λ c. app_of c ≡ compare_app) }
-{
-    let command = Command::new(alloc, "compare")
-        .arg(positional(alloc, "NAME"))?
-        .arg(positional(alloc, "M"))?
-        .arg(positional(alloc, "N"))?;
-    Ok(command)
-}
-
-fn compare_from(alloc: Global, matches: &ArgMatches<'_>) -> Result<Option<Compare>, Memory>
+/// What is asked for, by the values of the arguments.
+pub fn compare_from(alloc: Global, matches: &ArgMatches<'_>) -> Result<Option<Compare>, Memory>
     ensures ok { IfOk result (λ found. found ≡ compare_in (rows_of (found_of matches.now))) }
 {
     let Some(name) = value(matches, "NAME") else {

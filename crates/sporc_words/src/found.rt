@@ -1,14 +1,13 @@
 //! `found NAME M:ROLE ..`.
 
-ghost use Rattle.std.specs.Prelude.{◌≡◌, map, IfOk, string_bytes};
-ghost use Rattle.clap.specs.Words.{app_of, found_of, rows_of};
-ghost use Rattle.sporc_script.specs.Readers.{then_read};
-ghost use Rattle.sporc_words.specs.Arguments.{taken, found_app};
+ghost use Rattle.std.specs.Prelude.{◌≡◌, IfOk};
+ghost use Rattle.clap.specs.Words.{found_of, rows_of};
+ghost use Rattle.sporc_words.specs.Arguments.{found_app, grammar_of};
 ghost use Rattle.sporc_words.specs.Commands.{found_in};
 
-use crate::arguments::{positional, repeated};
+use crate::arguments::{Kind, command_with};
 use crate::founding::Participant;
-use crate::matches::{read_matches, value};
+use crate::matches::value;
 use crate::participants::participants_value;
 use crate::word::Word;
 use clap::{ArgMatches, Command};
@@ -25,28 +24,20 @@ pub struct Found {
     pub participants: Items<Participant>,
 }
 
-/// What the words ask of `found`.
-pub fn read_found(alloc: Global, words: &[String]) -> Result<Option<Found>, Memory>
-    ensures ok { IfOk result (λ found. found ≡ then_read (taken found_app (map (λ w. string_bytes w) words.now)) found_in) }
+/// The command `found`.
+#[tactic(auto, unfolding(crate::specs::Arguments::found_app))]
+pub fn found_command<'a>(alloc: Global) -> Result<Command<'a>, Memory>
+    ensures ok { IfOk result (λ c. grammar_of c ≡ found_app) }
 {
-    let command = found_command(alloc)?;
-    let Some(matches) = read_matches(command, words)? else {
-        return Ok(None);
-    };
-    let found = found_from(alloc, &matches)?;
-    Ok(found)
+    command_with(
+        alloc,
+        "found",
+        &[(Kind::Positional, "NAME"), (Kind::Repeated, "M:ROLE")],
+    )
 }
 
-fn found_command<'a>(alloc: Global) -> Result<Command<'a>, Memory>
-    ensures ok { IfOk result (λ c. app_of c ≡ found_app) }
-{
-    let command = Command::new(alloc, "found")
-        .arg(positional(alloc, "NAME"))?
-        .arg(repeated(alloc, "M:ROLE"))?;
-    Ok(command)
-}
-
-fn found_from(alloc: Global, matches: &ArgMatches<'_>) -> Result<Option<Found>, Memory>
+/// What is asked for, by the values of the arguments.
+pub fn found_from(alloc: Global, matches: &ArgMatches<'_>) -> Result<Option<Found>, Memory>
     ensures ok { IfOk result (λ found. found ≡ found_in (rows_of (found_of matches.now))) }
 {
     let Some(name) = value(matches, "NAME") else {

@@ -1,13 +1,12 @@
 //! `keygen NAME M HEIGHT W`.
 
-ghost use Rattle.std.specs.Prelude.{◌≡◌, map, IfOk, string_bytes};
-ghost use Rattle.clap.specs.Words.{app_of, found_of, rows_of};
-ghost use Rattle.sporc_script.specs.Readers.{then_read};
-ghost use Rattle.sporc_words.specs.Arguments.{taken, keygen_app};
+ghost use Rattle.std.specs.Prelude.{◌≡◌, IfOk};
+ghost use Rattle.clap.specs.Words.{found_of, rows_of};
+ghost use Rattle.sporc_words.specs.Arguments.{grammar_of, keygen_app};
 ghost use Rattle.sporc_words.specs.Commands.{keygen_in};
 
-use crate::arguments::positional;
-use crate::matches::{read_matches, value};
+use crate::arguments::{Kind, command_with};
+use crate::matches::value;
 use crate::values::{member_value, signatures_value, tree_value};
 use crate::word::Word;
 use clap::{ArgMatches, Command};
@@ -29,30 +28,25 @@ pub struct Keygen {
     pub width: OtsType,
 }
 
-/// What the words ask of `keygen`.
-pub fn read_keygen(alloc: Global, words: &[String]) -> Result<Option<Keygen>, Memory>
-    ensures ok { IfOk result (λ found. found ≡ then_read (taken keygen_app (map (λ w. string_bytes w) words.now)) keygen_in) }
+/// The command `keygen`.
+#[tactic(auto, unfolding(crate::specs::Arguments::keygen_app))]
+pub fn keygen_command<'a>(alloc: Global) -> Result<Command<'a>, Memory>
+    ensures ok { IfOk result (λ c. grammar_of c ≡ keygen_app) }
 {
-    let command = keygen_command(alloc)?;
-    let Some(matches) = read_matches(command, words)? else {
-        return Ok(None);
-    };
-    let found = keygen_from(alloc, &matches)?;
-    Ok(found)
+    command_with(
+        alloc,
+        "keygen",
+        &[
+            (Kind::Positional, "NAME"),
+            (Kind::Positional, "M"),
+            (Kind::Positional, "HEIGHT"),
+            (Kind::Positional, "W"),
+        ],
+    )
 }
 
-fn keygen_command<'a>(alloc: Global) -> Result<Command<'a>, Memory>
-    ensures ok { IfOk result (λ c. app_of c ≡ keygen_app) }
-{
-    let command = Command::new(alloc, "keygen")
-        .arg(positional(alloc, "NAME"))?
-        .arg(positional(alloc, "M"))?
-        .arg(positional(alloc, "HEIGHT"))?
-        .arg(positional(alloc, "W"))?;
-    Ok(command)
-}
-
-fn keygen_from(alloc: Global, matches: &ArgMatches<'_>) -> Result<Option<Keygen>, Memory>
+/// What is asked for, by the values of the arguments.
+pub fn keygen_from(alloc: Global, matches: &ArgMatches<'_>) -> Result<Option<Keygen>, Memory>
     ensures ok { IfOk result (λ found. found ≡ keygen_in (rows_of (found_of matches.now))) }
 {
     let Some(name) = value(matches, "NAME") else {

@@ -2,8 +2,8 @@
 
 ghost use Rattle.std.specs.Prelude.{◌≡◌, true, map, IfOk, option_map, string_bytes};
 ghost use Rattle.clap.specs.Walk.{texts};
-ghost use Rattle.clap.specs.Words.{all_of, app_of, first_of, found_of, is_simple_and_free, rows_of};
-ghost use Rattle.sporc_words.specs.Arguments.{taken};
+ghost use Rattle.clap.specs.Words.{all_of, first_of, found_of, is_simple_and_free, rows_of};
+ghost use Rattle.sporc_words.specs.Arguments.{grammar_of, taken};
 
 use clap::error::ErrorKind;
 use clap::{ArgMatches, Command};
@@ -16,9 +16,9 @@ pub fn read_matches<'a>(
     command: Command<'a>,
     words: &'a [String],
 ) -> Result<Option<ArgMatches<'a>>, Memory>
-    requires { is_simple_and_free (app_of command) ≡ true }
+    requires { is_simple_and_free (grammar_of command) ≡ true }
     ensures ok { IfOk result (λ found. option_map (λ m. rows_of (found_of m)) found
-        ≡ taken (app_of command.entry) (map (λ w. string_bytes w) words.entry.now)) }
+        ≡ taken (grammar_of command.entry) (map (λ w. string_bytes w) words.entry.now)) }
 {
     match command.try_get_matches_from(words) {
         Ok(matches) => Ok(Some(matches)),

@@ -1,13 +1,12 @@
 //! `serve NAME ADDRESS --sessions K`.
 
-ghost use Rattle.std.specs.Prelude.{◌≡◌, map, IfOk, string_bytes};
-ghost use Rattle.clap.specs.Words.{app_of, found_of, rows_of};
-ghost use Rattle.sporc_script.specs.Readers.{then_read};
-ghost use Rattle.sporc_words.specs.Arguments.{taken, serve_app};
+ghost use Rattle.std.specs.Prelude.{◌≡◌, IfOk};
+ghost use Rattle.clap.specs.Words.{found_of, rows_of};
+ghost use Rattle.sporc_words.specs.Arguments.{grammar_of, serve_app};
 ghost use Rattle.sporc_words.specs.Commands.{serve_in};
 
-use crate::arguments::{needed, positional};
-use crate::matches::{read_matches, value};
+use crate::arguments::{Kind, command_with};
+use crate::matches::value;
 use crate::values::between_value;
 use crate::word::Word;
 use clap::{ArgMatches, Command};
@@ -26,29 +25,24 @@ pub struct Serve {
     pub sessions: u32,
 }
 
-/// What the words ask of `serve`.
-pub fn read_serve(alloc: Global, words: &[String]) -> Result<Option<Serve>, Memory>
-    ensures ok { IfOk result (λ found. found ≡ then_read (taken serve_app (map (λ w. string_bytes w) words.now)) serve_in) }
+/// The command `serve`.
+#[tactic(auto, unfolding(crate::specs::Arguments::serve_app))]
+pub fn serve_command<'a>(alloc: Global) -> Result<Command<'a>, Memory>
+    ensures ok { IfOk result (λ c. grammar_of c ≡ serve_app) }
 {
-    let command = serve_command(alloc)?;
-    let Some(matches) = read_matches(command, words)? else {
-        return Ok(None);
-    };
-    let found = serve_from(alloc, &matches)?;
-    Ok(found)
+    command_with(
+        alloc,
+        "serve",
+        &[
+            (Kind::Positional, "NAME"),
+            (Kind::Positional, "ADDRESS"),
+            (Kind::Needed, "sessions"),
+        ],
+    )
 }
 
-fn serve_command<'a>(alloc: Global) -> Result<Command<'a>, Memory>
-    ensures ok { IfOk result (λ c. app_of c ≡ serve_app) }
-{
-    let command = Command::new(alloc, "serve")
-        .arg(positional(alloc, "NAME"))?
-        .arg(positional(alloc, "ADDRESS"))?
-        .arg(needed(alloc, "sessions"))?;
-    Ok(command)
-}
-
-fn serve_from(alloc: Global, matches: &ArgMatches<'_>) -> Result<Option<Serve>, Memory>
+/// What is asked for, by the values of the arguments.
+pub fn serve_from(alloc: Global, matches: &ArgMatches<'_>) -> Result<Option<Serve>, Memory>
     ensures ok { IfOk result (λ found. found ≡ serve_in (rows_of (found_of matches.now))) }
 {
     let Some(name) = value(matches, "NAME") else {

@@ -1,19 +1,24 @@
 //! Reading all words.
 
 ghost use Rattle.std.specs.Prelude.{◌≡◌, ◌≢◌, map, IfOk, MatchOption, Err, None, Some, string_bytes};
+ghost use Rattle.clap.specs.Words.{found_of, rows_of};
+ghost use Rattle.sporc_script.specs.Readers.{then_read};
 ghost use Rattle.sporc_words.specs.declared.command.Verb.{Verb};
 ghost use Rattle.sporc_words.specs.declared.fault.WordsFault.{WordsFault};
-ghost use Rattle.sporc_words.specs.Commands.{command_by, command_of, verb_name, verb_of};
+ghost use Rattle.sporc_words.specs.Arguments.{grammar_of, taken};
+ghost use Rattle.sporc_words.specs.Commands.{app_for, command_by, command_in, command_of, verb_name, verb_of};
 
-use crate::check::read_check;
-use crate::client::read_client;
+use crate::check::{check_command, check_from};
+use crate::client::{client_command, client_from};
 use crate::command::{Command, Verb};
-use crate::compare::read_compare;
+use crate::compare::{compare_command, compare_from};
 use crate::fault::WordsFault;
-use crate::found::read_found;
-use crate::keygen::read_keygen;
-use crate::play::read_play;
-use crate::serve::read_serve;
+use crate::found::{found_command, found_from};
+use crate::keygen::{keygen_command, keygen_from};
+use crate::matches::read_matches;
+use crate::play::{play_command, play_from};
+use crate::serve::{serve_command, serve_from};
+use clap::ArgMatches;
 use sporc_base::Memory;
 use std::alloc::Global;
 
@@ -44,18 +49,57 @@ fn find_command(alloc: Global, words: &[String]) -> Result<Option<Command>, Memo
 }
 
 // The command, of which the first word is this.
-#[tactic(auto, unfolding(crate::specs::Commands::command_by))]
+#[tactic(auto, using(crate::proofs::ByVerb::by_verb))]
 fn read_command(alloc: Global, verb: Verb, words: &[String]) -> Result<Option<Command>, Memory>
     ensures ok { IfOk result (λ found. found ≡ command_by verb (map (λ w. string_bytes w) words.now)) }
 {
+    let found = read_by(alloc, verb, words)?;
+    Ok(found)
+}
+
+// The same: its arguments first, and then what is made of their values.
+fn read_by(alloc: Global, verb: Verb, words: &[String]) -> Result<Option<Command>, Memory>
+    ensures ok { IfOk result (λ found. found ≡ then_read (taken (app_for verb) (map (λ w. string_bytes w) words.now)) (command_in verb)) }
+{
+    let command = command_for(alloc, verb)?;
+    let Some(matches) = read_matches(command, words)? else {
+        return Ok(None);
+    };
+    let found = command_from(alloc, verb, &matches)?;
+    Ok(found)
+}
+
+// What `clap` is told of the command.
+fn command_for<'a>(alloc: Global, verb: Verb) -> Result<clap::Command<'a>, Memory>
+    ensures ok { IfOk result (λ c. grammar_of c ≡ app_for verb) }
+{
     match verb {
-        Verb::Play => Ok(read_play(alloc, words)?),
-        Verb::Keygen => Ok(read_keygen(alloc, words)?.map(Command::Keygen)),
-        Verb::Found => Ok(read_found(alloc, words)?.map(Command::Found)),
-        Verb::Serve => Ok(read_serve(alloc, words)?.map(Command::Serve)),
-        Verb::Client => Ok(read_client(alloc, words)?.map(Command::Client)),
-        Verb::Check => Ok(read_check(alloc, words)?.map(Command::Check)),
-        Verb::Compare => Ok(read_compare(alloc, words)?.map(Command::Compare)),
+        Verb::Play => Ok(play_command(alloc)?),
+        Verb::Keygen => Ok(keygen_command(alloc)?),
+        Verb::Found => Ok(found_command(alloc)?),
+        Verb::Serve => Ok(serve_command(alloc)?),
+        Verb::Client => Ok(client_command(alloc)?),
+        Verb::Check => Ok(check_command(alloc)?),
+        Verb::Compare => Ok(compare_command(alloc)?),
+    }
+}
+
+// The command, by the values of its arguments.
+fn command_from(
+    alloc: Global,
+    verb: Verb,
+    matches: &ArgMatches<'_>,
+) -> Result<Option<Command>, Memory>
+    ensures ok { IfOk result (λ found. found ≡ command_in verb (rows_of (found_of matches.now))) }
+{
+    match verb {
+        Verb::Play => Ok(play_from(matches)),
+        Verb::Keygen => Ok(keygen_from(alloc, matches)?.map(Command::Keygen)),
+        Verb::Found => Ok(found_from(alloc, matches)?.map(Command::Found)),
+        Verb::Serve => Ok(serve_from(alloc, matches)?.map(Command::Serve)),
+        Verb::Client => Ok(client_from(alloc, matches)?.map(Command::Client)),
+        Verb::Check => Ok(check_from(alloc, matches)?.map(Command::Check)),
+        Verb::Compare => Ok(compare_from(alloc, matches)?.map(Command::Compare)),
     }
 }
 
