@@ -4,7 +4,7 @@ ghost use Rattle.std.specs.Prelude.{◌≡◌, length, IfOk};
 
 use crate::compare::same_bytes;
 use sporc_entry::{
-    Bytes, ChangeBody, Entry, EntryFault, GenesisFault, Header, Wrap, Wraps, read_change,
+    Bytes, ChangeBody, Entry, EntryFault, Genesis, GenesisFault, Header, Wrap, Wraps, read_change,
     read_entry, read_genesis, signed_part, write_change, write_entry, write_genesis,
 };
 use sporc_member::{Change, Founder, Role};
@@ -91,35 +91,44 @@ fn altered(alloc: Global, bytes: &[u8], place: usize, value: u8) -> Result<Vec<u
     Ok(all)
 }
 
+fn is_edit(entry: &Entry) -> bool {
+    entry.header == HEADER
+        && entry.body.as_slice() == [0xbbu8; 19].as_slice()
+        && entry.signature.as_slice().len() == 2348
+}
+
 #[test]
 fn an_edit_reads_and_is_written_again(rt: HostRuntime) -> Result<(), Fail> {
     let bytes = edit_bytes(rt.alloc())?;
     assert!(rt; bytes.len() == 2443);
     let entry = read_entry(rt.alloc(), bytes.as_slice())?;
-    assert!(rt; entry.header == HEADER);
-    same_bytes(&rt, entry.body.as_slice(), &[0xbb; 19]);
-    assert!(rt; entry.signature.as_slice().len() == 2348);
+    assert!(rt; is_edit(&entry));
     let written = write_entry(rt.alloc(), &entry)?;
     same_bytes(&rt, written.as_slice(), bytes.as_slice());
     Ok(())
 }
 
 // What is signed is a byte 3 and the entry up to the end of its body.
+fn signed_bytes(alloc: Global, entry: &[u8]) -> Result<Vec<u8>, Fail> {
+    let mut signed = Vec::from_slice(alloc, &[3u8])?;
+    signed.extend_from_slice(entry)?;
+    signed.truncate(92);
+    Ok(signed)
+}
+
 #[test]
 fn an_edit_is_signed_without_its_signature(rt: HostRuntime) -> Result<(), Fail> {
     let bytes = edit_bytes(rt.alloc())?;
     let entry = read_entry(rt.alloc(), bytes.as_slice())?;
     let part = signed_part(rt.alloc(), &entry)?;
-    let mut signed = Vec::from_slice(rt.alloc(), &[3u8])?;
-    signed.extend_from_slice(bytes.as_slice())?;
-    signed.truncate(92);
+    let signed = signed_bytes(rt.alloc(), bytes.as_slice())?;
     same_bytes(&rt, part.as_slice(), signed.as_slice());
     Ok(())
 }
 
 fn is_malformed(rt: &impl Abort, alloc: Global, bytes: &[u8], at: usize) {
     let found = read_entry(alloc, bytes).err();
-    assert_eq!(rt; found, Some(EntryFault::Malformed(at)));
+    assert!(rt; found == Some(EntryFault::Malformed(at)), "at {at}");
 }
 
 // The place of a byte, its new value, and where the entry is malformed then.
@@ -134,12 +143,24 @@ const EDIT_FAULTS: [(usize, u8, usize); 8] = [
     (93, 0x25, 91),
 ];
 
+// Bytes with another value at one place, as a row has it.
+fn altered_is_malformed(
+    rt: &impl Abort,
+    alloc: Global,
+    bytes: &[u8],
+    row: &(usize, u8, usize),
+) -> Result<(), Fail> {
+    let (place, value, at) = *row;
+    let other = altered(alloc, bytes, place, value)?;
+    is_malformed(rt, alloc, other.as_slice(), at);
+    Ok(())
+}
+
 #[test]
 fn an_edit_is_refused_at_its_first_fault(rt: HostRuntime) -> Result<(), Fail> {
     let mut bytes = edit_bytes(rt.alloc())?;
-    for (place, value, at) in &EDIT_FAULTS {
-        let other = altered(rt.alloc(), bytes.as_slice(), *place, *value)?;
-        is_malformed(&rt, rt.alloc(), other.as_slice(), *at);
+    for row in &EDIT_FAULTS {
+        altered_is_malformed(&rt, rt.alloc(), bytes.as_slice(), row)?;
     }
     bytes.push(0)?;
     is_malformed(&rt, rt.alloc(), bytes.as_slice(), 2443);
@@ -150,16 +171,22 @@ fn an_edit_is_refused_at_its_first_fault(rt: HostRuntime) -> Result<(), Fail> {
 }
 
 // An edit whose body and signature have so many bytes.
-fn edit_of(alloc: Global, body: usize, signature: usize) -> Result<Entry, Fail>
+fn edit_of(alloc: Global, body: u32, signature: u32) -> Result<Entry, Fail>
     ensures { IfOk result (λ e. (length e.body ≡ body) × (length e.signature ≡ signature)) }
 {
-    let body = Bytes::new(repeated(alloc, 0x61, body)?);
-    let signature = Bytes::new(repeated(alloc, 0x55, signature)?);
+    let body = Bytes::new(repeated(alloc, 0x61, body as usize)?);
+    let signature = Bytes::new(repeated(alloc, 0x55, signature as usize)?);
     Ok(Entry {
         header: HEADER,
         body,
         signature,
     })
+}
+
+fn is_same_entry(one: &Entry, other: &Entry) -> bool {
+    one.header == other.header
+        && one.body.as_slice() == other.body.as_slice()
+        && one.signature.as_slice() == other.signature.as_slice()
 }
 
 #[test]
@@ -168,19 +195,26 @@ fn the_largest_edit_reads_and_is_written_again(rt: HostRuntime) -> Result<(), Fa
     let bytes = write_entry(rt.alloc(), &largest)?;
     assert!(rt; bytes.len() == 1_057_976);
     let entry = read_entry(rt.alloc(), bytes.as_slice())?;
-    assert!(rt; entry.header == HEADER);
-    assert!(rt; entry.body.as_slice() == largest.body.as_slice());
-    assert!(rt; entry.signature.into_vec().as_slice() == largest.signature.as_slice());
+    assert!(rt; is_same_entry(&entry, &largest));
+    Ok(())
+}
+
+fn is_too_long(
+    rt: &impl Abort,
+    alloc: Global,
+    body: u32,
+    signature: u32,
+    at: usize,
+) -> Result<(), Fail> {
+    let bytes = write_entry(alloc, &edit_of(alloc, body, signature)?)?;
+    is_malformed(rt, alloc, bytes.as_slice(), at);
     Ok(())
 }
 
 #[test]
 fn an_edit_above_the_limits_is_refused(rt: HostRuntime) -> Result<(), Fail> {
-    let long_body = write_entry(rt.alloc(), &edit_of(rt.alloc(), 1_048_577, 0)?)?;
-    is_malformed(&rt, rt.alloc(), long_body.as_slice(), 68);
-    let long_signature = write_entry(rt.alloc(), &edit_of(rt.alloc(), 3, 9_325)?)?;
-    is_malformed(&rt, rt.alloc(), long_signature.as_slice(), 75);
-    Ok(())
+    is_too_long(&rt, rt.alloc(), 1_048_577, 0, 68)?;
+    is_too_long(&rt, rt.alloc(), 3, 9_325, 75)
 }
 
 #[test]
@@ -196,32 +230,39 @@ fn a_change_reads_and_is_written_again(rt: HostRuntime) -> Result<(), Fail> {
     Ok(())
 }
 
-// The change that the bytes spell.
-const ADDED: Change = Change::Add {
-    member: 3,
-    role: Role::Editor,
-    key: [0x77; 56],
-};
+// Whether it adds member 3 as an editor.
+fn is_added(change: &Change) -> bool {
+    match change {
+        Change::Add { member, role, key } => {
+            *member == 3 && *role == Role::Editor && *key == [0x77u8; 56]
+        }
+        _ => false,
+    }
+}
 
-const SEALED: [Wrap; 2] = [
-    Wrap {
-        member: 1,
-        sealed: [0xa1; 32],
-    },
-    Wrap {
-        member: 3,
-        sealed: [0xa3; 32],
-    },
-];
+fn is_sealed(wrap: &Wrap, member: u16, byte: u8) -> bool {
+    wrap.member == member && wrap.sealed == [byte; 32]
+}
+
+fn are_sealed(wraps: &[Wrap]) -> bool {
+    match wraps {
+        [one, other] => is_sealed(one, 1, 0xa1) && is_sealed(other, 3, 0xa3),
+        _ => false,
+    }
+}
+
+fn is_spelled(body: &ChangeBody) -> bool {
+    is_added(&body.change)
+        && body.commitment == [0xc0u8; 32]
+        && body.previous == [0xe0u8; 32]
+        && are_sealed(body.wraps.as_slice())
+}
 
 #[test]
 fn a_change_has_its_fields(rt: HostRuntime) -> Result<(), Fail> {
     let bytes = hex::decode(rt.alloc(), CHANGE)?;
     let body = read_change(rt.alloc(), bytes.as_slice())?;
-    assert!(rt; body.change == ADDED);
-    same_bytes(&rt, &body.commitment, &[0xc0; 32]);
-    same_bytes(&rt, &body.previous, &[0xe0; 32]);
-    assert!(rt; body.wraps.as_slice() == SEALED.as_slice());
+    assert!(rt; is_spelled(&body));
     Ok(())
 }
 
@@ -260,18 +301,22 @@ const CHANGE_FAULTS: [(usize, u8, usize); 11] = [
     (197, 1, 232),
 ];
 
+// The body alone, with a role that is none.
+fn body_is_malformed(rt: &impl Abort, alloc: Global) -> Result<(), Fail> {
+    let body = hex::decode(alloc, CHANGE)?;
+    let other = altered(alloc, body.as_slice(), 3, 0)?;
+    let found = read_change(alloc, other.as_slice()).err();
+    assert!(rt; found == Some(EntryFault::Malformed(3)));
+    Ok(())
+}
+
 #[test]
 fn a_change_is_refused_at_its_first_fault(rt: HostRuntime) -> Result<(), Fail> {
     let bytes = change_entry_bytes(rt.alloc())?;
-    for (place, value, at) in &CHANGE_FAULTS {
-        let other = altered(rt.alloc(), bytes.as_slice(), *place, *value)?;
-        is_malformed(&rt, rt.alloc(), other.as_slice(), *at);
+    for row in &CHANGE_FAULTS {
+        altered_is_malformed(&rt, rt.alloc(), bytes.as_slice(), row)?;
     }
-    let body = hex::decode(rt.alloc(), CHANGE)?;
-    let other = altered(rt.alloc(), body.as_slice(), 3, 0)?;
-    let found = read_change(rt.alloc(), other.as_slice()).err();
-    assert!(rt; found == Some(EntryFault::Malformed(3)));
-    Ok(())
+    body_is_malformed(&rt, rt.alloc())
 }
 
 fn are_two_and_seven(founders: &[Founder]) -> bool {
@@ -281,35 +326,31 @@ fn are_two_and_seven(founders: &[Founder]) -> bool {
     }
 }
 
-#[test]
-fn a_genesis_reads_and_is_written_again(rt: HostRuntime) -> Result<(), Fail> {
-    let bytes = hex::decode(rt.alloc(), GENESIS)?;
-    let genesis = read_genesis(rt.alloc(), bytes.as_slice())?;
-    same_bytes(&rt, &genesis.document, &[0xd0; 16]);
-    same_bytes(&rt, &genesis.commitment, &[0xc0; 32]);
-    assert!(rt; are_two_and_seven(genesis.founders.as_slice()));
-    let written = write_genesis(rt.alloc(), &genesis)?;
-    same_bytes(&rt, written.as_slice(), bytes.as_slice());
-    Ok(())
+fn is_of_two_and_seven(genesis: &Genesis) -> bool {
+    genesis.document == [0xd0u8; 16]
+        && genesis.commitment == [0xc0u8; 32]
+        && are_two_and_seven(genesis.founders.as_slice())
 }
 
 #[test]
-fn a_genesis_is_copied(rt: HostRuntime) -> Result<(), Fail> {
+fn a_genesis_reads_and_its_copy_is_written(rt: HostRuntime) -> Result<(), Fail> {
     let bytes = hex::decode(rt.alloc(), GENESIS)?;
     let genesis = read_genesis(rt.alloc(), bytes.as_slice())?;
+    assert!(rt; is_of_two_and_seven(&genesis));
     let copy = genesis.copy()?;
-    same_bytes(&rt, &copy.document, &genesis.document);
-    same_bytes(&rt, &copy.commitment, &genesis.commitment);
-    assert!(rt; copy.founders.as_slice() == genesis.founders.as_slice());
+    let written = write_genesis(rt.alloc(), &copy)?;
+    same_bytes(&rt, written.as_slice(), bytes.as_slice());
     Ok(())
 }
 
 fn founds_nothing(rt: &impl Abort, alloc: Global, bytes: &[u8], fault: GenesisFault) {
     let found = read_genesis(alloc, bytes).err();
-    assert_eq!(rt; found, Some(fault));
+    assert!(rt; found == Some(fault), "{found:?}");
 }
 
 // The place of a byte, its new value, and the fault then.
+const NO_ADMIN: (usize, u8, GenesisFault) = (112, 2, GenesisFault::NoAdmin);
+
 const GENESIS_FAULTS: [(usize, u8, GenesisFault); 11] = [
     (0, 2, GenesisFault::Malformed(0)),
     (50, 0, GenesisFault::Malformed(49)),
@@ -319,42 +360,54 @@ const GENESIS_FAULTS: [(usize, u8, GenesisFault); 11] = [
     (52, 0, GenesisFault::Malformed(51)),
     (53, 4, GenesisFault::Malformed(53)),
     (111, 2, GenesisFault::Malformed(110)),
-    (112, 2, GenesisFault::NoAdmin),
+    NO_ADMIN,
     (57, 4, GenesisFault::BadKey(2)),
     (120, 5, GenesisFault::BadKey(7)),
 ];
 
-#[test]
-fn a_genesis_is_refused_for_its_first_fault(rt: HostRuntime) -> Result<(), Fail> {
-    let mut bytes = hex::decode(rt.alloc(), GENESIS)?;
-    for (place, value, fault) in &GENESIS_FAULTS {
-        let other = altered(rt.alloc(), bytes.as_slice(), *place, *value)?;
-        founds_nothing(&rt, rt.alloc(), other.as_slice(), *fault);
-    }
-    bytes.push(0)?;
-    founds_nothing(
-        &rt,
-        rt.alloc(),
-        bytes.as_slice(),
-        GenesisFault::Malformed(169),
-    );
-    bytes.truncate(168);
-    founds_nothing(
-        &rt,
-        rt.alloc(),
-        bytes.as_slice(),
-        GenesisFault::Malformed(113),
-    );
-    founds_nothing(&rt, rt.alloc(), &[], GenesisFault::Malformed(0));
+// The length of a front of the genesis, or of the genesis and zeros, and the fault then.
+const GENESIS_LENGTHS: [(usize, GenesisFault); 3] = [
+    (170, GenesisFault::Malformed(169)),
+    (168, GenesisFault::Malformed(113)),
+    (0, GenesisFault::Malformed(0)),
+];
+
+fn is_refused_altered(
+    rt: &impl Abort,
+    alloc: Global,
+    genesis: &[u8],
+    row: &(usize, u8, GenesisFault),
+) -> Result<(), Fail> {
+    let (place, value, fault) = *row;
+    let other = altered(alloc, genesis, place, value)?;
+    founds_nothing(rt, alloc, other.as_slice(), fault);
     Ok(())
 }
 
-// A genesis with no admin and a bad key.
-#[test]
-fn no_admin_comes_before_a_bad_key(rt: HostRuntime) -> Result<(), Fail> {
-    let bytes = hex::decode(rt.alloc(), GENESIS)?;
-    let bytes = altered(rt.alloc(), bytes.as_slice(), 112, 2)?;
-    let bytes = altered(rt.alloc(), bytes.as_slice(), 57, 4)?;
-    founds_nothing(&rt, rt.alloc(), bytes.as_slice(), GenesisFault::NoAdmin);
+fn is_refused_resized(
+    rt: &impl Abort,
+    alloc: Global,
+    genesis: &[u8],
+    row: &(usize, GenesisFault),
+) -> Result<(), Fail> {
+    let (len, fault) = *row;
+    let mut other = Vec::from_slice(alloc, genesis)?;
+    other.push(0)?;
+    other.truncate(len);
+    founds_nothing(rt, alloc, other.as_slice(), fault);
     Ok(())
+}
+
+#[test]
+fn a_genesis_is_refused_for_its_first_fault(rt: HostRuntime) -> Result<(), Fail> {
+    let bytes = hex::decode(rt.alloc(), GENESIS)?;
+    for row in &GENESIS_FAULTS {
+        is_refused_altered(&rt, rt.alloc(), bytes.as_slice(), row)?;
+    }
+    for row in &GENESIS_LENGTHS {
+        is_refused_resized(&rt, rt.alloc(), bytes.as_slice(), row)?;
+    }
+    // No admin comes before a bad key.
+    let bytes = altered(rt.alloc(), bytes.as_slice(), 57, 4)?;
+    is_refused_altered(&rt, rt.alloc(), bytes.as_slice(), &NO_ADMIN)
 }

@@ -39,38 +39,53 @@ fn is_pull(found: &Option<ToServer>) -> bool {
     }
 }
 
+fn next_is_none(frames: &mut Frames) -> Result<bool, FrameFault> {
+    Ok(frames.next_to_server()?.is_none())
+}
+
+fn next_is_hello(frames: &mut Frames) -> Result<bool, FrameFault> {
+    Ok(is_hello(&frames.next_to_server()?))
+}
+
+fn next_is_pull(frames: &mut Frames) -> Result<bool, FrameFault> {
+    Ok(is_pull(&frames.next_to_server()?))
+}
+
+// Feeds bytes one by one, before each of which no message is whole.
+fn feed_bytes(rt: &impl Abort, frames: &mut Frames, bytes: &[u8]) -> Result<(), FrameFault> {
+    for byte in bytes {
+        assert!(rt; next_is_none(frames)?);
+        frames.feed(&[*byte])?;
+    }
+    Ok(())
+}
+
 #[test]
 fn hello_and_pull_byte_by_byte(rt: HostRuntime) -> Result<(), Fail> {
     let mut frames = Frames::new(rt.alloc());
-    let mut fed = 0u32;
-    for byte in HELLO.iter().chain(PULL.iter()) {
-        assert!(rt; frames.next_to_server()?.is_none() || fed == 23);
-        frames.feed(&[*byte])?;
-        fed = fed.wrapping_add(1);
-        if fed == 23 {
-            let found = frames.next_to_server()?;
-            assert!(rt; is_hello(&found));
-        }
-    }
-    let found = frames.next_to_server()?;
-    assert!(rt; is_pull(&found));
-    let found = frames.next_to_server()?;
-    assert!(rt; found.is_none());
+    feed_bytes(&rt, &mut frames, &HELLO)?;
+    assert!(rt; next_is_hello(&mut frames)?);
+    feed_bytes(&rt, &mut frames, &PULL)?;
+    assert!(rt; next_is_pull(&mut frames)?);
+    assert!(rt; next_is_none(&mut frames)?);
     Ok(())
 }
 
 const TOO_LONG: FrameFault = FrameFault::TooLong(4_194_305);
+
+fn stays_too_long(frames: &mut Frames) -> bool {
+    frames.next_to_server().err() == Some(TOO_LONG)
+        && frames.feed(&PULL) == Err(TOO_LONG)
+        && frames.next_to_client().err() == Some(TOO_LONG)
+}
 
 #[test]
 fn a_length_above_the_limit_stays(rt: HostRuntime) -> Result<(), Fail> {
     let mut frames = Frames::new(rt.alloc());
     frames.feed(&PULL)?;
     frames.feed(&[0, 0x40, 0, 1])?;
-    let found = frames.next_to_server()?;
-    assert!(rt; is_pull(&found));
-    assert!(rt; frames.next_to_server().err() == Some(TOO_LONG));
-    assert!(rt; frames.feed(&PULL) == Err(TOO_LONG));
-    assert!(rt; frames.next_to_client().err() == Some(TOO_LONG));
+    assert!(rt; next_is_pull(&mut frames)?);
+    assert!(rt; stays_too_long(&mut frames));
     Ok(())
 }
 
@@ -146,7 +161,8 @@ fn fault_to_client(alloc: Global, body: &[u8]) -> Result<Option<FrameFault>, Fai
 
 // Whether the fault names this place of the body behind 13 bytes.
 fn is_bad_at(rt: &impl Abort, fault: Option<FrameFault>, place: u64) {
-    assert_eq!(rt; fault, Some(FrameFault::BadMessage(place.wrapping_add(13))));
+    let expected = Some(FrameFault::BadMessage(place.wrapping_add(13)));
+    assert!(rt; fault == expected, "{fault:?}");
 }
 
 #[test]
@@ -162,30 +178,38 @@ fn a_body_that_is_no_message_is_refused_at_its_field(rt: HostRuntime) -> Result<
     Ok(())
 }
 
-// Whether nothing is handed out of a front of this length, and a message to a server of the whole.
-fn is_cut_to_server(alloc: Global, frame: &[u8], len: usize) -> Result<bool, Fail>
-    requires { len ≤ length frame.now }
-{
-    let mut frames = Frames::new(alloc);
-    let (front, rest) = frame.split_at(len);
-    frames.feed(front)?;
-    let early = frames.next_to_server()?;
-    frames.feed(rest)?;
-    let whole = frames.next_to_server()?;
-    Ok(early.is_none() && whole.is_some())
+// Whether a message to a server is whole once these bytes came.
+fn is_whole_to_server(frames: &mut Frames, bytes: &[u8]) -> Result<bool, FrameFault> {
+    frames.feed(bytes)?;
+    Ok(frames.next_to_server()?.is_some())
 }
 
 // The same of a message to a client.
-fn is_cut_to_client(alloc: Global, frame: &[u8], len: usize) -> Result<bool, Fail>
+fn is_whole_to_client(frames: &mut Frames, bytes: &[u8]) -> Result<bool, FrameFault> {
+    frames.feed(bytes)?;
+    Ok(frames.next_to_client()?.is_some())
+}
+
+// Whether nothing is handed out of a front of this length, and a message to a server of the whole.
+fn is_cut_to_server(alloc: Global, frame: &[u8], len: usize) -> Result<bool, FrameFault>
     requires { len ≤ length frame.now }
 {
     let mut frames = Frames::new(alloc);
     let (front, rest) = frame.split_at(len);
-    frames.feed(front)?;
-    let early = frames.next_to_client()?;
-    frames.feed(rest)?;
-    let whole = frames.next_to_client()?;
-    Ok(early.is_none() && whole.is_some())
+    let early = is_whole_to_server(&mut frames, front)?;
+    let whole = is_whole_to_server(&mut frames, rest)?;
+    Ok(whole && !early)
+}
+
+// The same of a message to a client.
+fn is_cut_to_client(alloc: Global, frame: &[u8], len: usize) -> Result<bool, FrameFault>
+    requires { len ≤ length frame.now }
+{
+    let mut frames = Frames::new(alloc);
+    let (front, rest) = frame.split_at(len);
+    let early = is_whole_to_client(&mut frames, front)?;
+    let whole = is_whole_to_client(&mut frames, rest)?;
+    Ok(whole && !early)
 }
 
 #[test]

@@ -136,14 +136,21 @@ fn short(rt: &impl Abort, alloc: Global, cast: &Cast) -> Result<Heads, Fail> {
     Ok(heads)
 }
 
+fn has_grown(heads: &Heads) -> bool {
+    heads.len() == 4
+        && heads.barrier() == 3
+        && heads.epoch() == 1
+        && heads.count_of(2) == 1
+        && heads.last_of(2) == 1
+        && heads.roster().members() == [1u16, 2, 3, 5].as_slice()
+        && heads.is_removed(4)
+}
+
 #[test]
 fn a_history_grows(rt: HostRuntime) -> Result<(), Fail> {
     let cast = Cast::new(rt.alloc())?;
     let heads = short(&rt, rt.alloc(), &cast)?;
-    assert!(rt; heads.len() == 4 && heads.barrier() == 3 && heads.epoch() == 1);
-    assert!(rt; heads.count_of(2) == 1 && heads.last_of(2) == 1);
-    assert!(rt; heads.roster().members() == [1u16, 2, 3, 5].as_slice());
-    assert!(rt; heads.is_removed(4));
+    assert!(rt; has_grown(&heads));
     Ok(())
 }
 
@@ -157,7 +164,7 @@ fn refused(
 ) -> Result<(), Fail> {
     let bytes = attempt.bytes(alloc, heads, cast)?;
     let found = heads.check(attempt.me, attempt.pos, bytes.as_slice()).err();
-    assert_eq!(rt; found, Some(refusal));
+    assert!(rt; found == Some(refusal), "{found:?}");
     Ok(())
 }
 
@@ -181,21 +188,31 @@ const REFUSALS: [Refusal; 15] = [
     Refusal::WrongDocument,
 ];
 
-// Each check refuses an entry that fails it alone, and one that fails all later checks too.
-#[test]
-fn each_check_refuses(rt: HostRuntime) -> Result<(), Fail> {
-    let alloc = rt.alloc();
-    let cast = Cast::new(alloc)?;
-    let heads = short(&rt, alloc, &cast)?;
-    let mut worse = Attempt::good(&heads);
-    for refusal in REFUSALS {
-        let mut alone = Attempt::good(&heads);
-        alone.spoil(refusal);
-        refused(&rt, alloc, &heads, &cast, &alone, refusal)?;
-        worse.spoil(refusal);
-        refused(&rt, alloc, &heads, &cast, &worse, refusal)?;
-    }
-    let mut bytes = worse.bytes(alloc, &heads, &cast)?;
+// A check refuses an entry that fails it alone, and one that fails all later checks too.
+fn refuses(
+    rt: &impl Abort,
+    alloc: Global,
+    heads: &Heads,
+    cast: &Cast,
+    worse: &mut Attempt,
+    refusal: Refusal,
+) -> Result<(), Fail> {
+    let mut alone = Attempt::good(heads);
+    alone.spoil(refusal);
+    refused(rt, alloc, heads, cast, &alone, refusal)?;
+    worse.spoil(refusal);
+    refused(rt, alloc, heads, cast, worse, refusal)
+}
+
+// The entry with a byte more.
+fn is_malformed(
+    rt: &impl Abort,
+    alloc: Global,
+    heads: &Heads,
+    cast: &Cast,
+    worse: &Attempt,
+) -> Result<(), Fail> {
+    let mut bytes = worse.bytes(alloc, heads, cast)?;
     let len = bytes.len();
     bytes.push(0)?;
     let found = heads.check(worse.me, worse.pos, bytes.as_slice()).err();
@@ -203,28 +220,55 @@ fn each_check_refuses(rt: HostRuntime) -> Result<(), Fail> {
     Ok(())
 }
 
+fn each_refuses(rt: &impl Abort, alloc: Global, heads: &Heads, cast: &Cast) -> Result<(), Fail> {
+    let mut worse = Attempt::good(heads);
+    for refusal in &REFUSALS {
+        refuses(rt, alloc, heads, cast, &mut worse, *refusal)?;
+    }
+    is_malformed(rt, alloc, heads, cast, &worse)
+}
+
+#[test]
+fn each_check_refuses(rt: HostRuntime) -> Result<(), Fail> {
+    let cast = Cast::new(rt.alloc())?;
+    let heads = short(&rt, rt.alloc(), &cast)?;
+    each_refuses(&rt, rt.alloc(), &heads, &cast)
+}
+
+// Edits as many as a history may have.
+fn fill(rt: &impl Abort, alloc: Global, heads: &mut Heads, cast: &Cast) -> Result<(), Fail> {
+    for _ in 4..MAX_ENTRIES {
+        let bytes = Attempt::good(heads).bytes(alloc, heads, cast)?;
+        take(rt, heads, bytes.as_slice())?;
+    }
+    Ok(())
+}
+
+// What a full history refuses an entry for that fails this check and all later ones.
+fn first_if_full(refusal: Refusal) -> Refusal {
+    match refusal {
+        Refusal::Removed | Refusal::WrongPosition | Refusal::WrongDocument => refusal,
+        _ => Refusal::HistoryFull,
+    }
+}
+
+fn full_refuses(rt: &impl Abort, alloc: Global, heads: &Heads, cast: &Cast) -> Result<(), Fail> {
+    let mut worse = Attempt::good(heads);
+    refused(rt, alloc, heads, cast, &worse, Refusal::HistoryFull)?;
+    for refusal in &REFUSALS {
+        worse.spoil(*refusal);
+        refused(rt, alloc, heads, cast, &worse, first_if_full(*refusal))?;
+    }
+    Ok(())
+}
+
 // So does a full history, before all but the first three.
 #[test]
 fn a_full_history_refuses(rt: HostRuntime) -> Result<(), Fail> {
-    let alloc = rt.alloc();
-    let cast = Cast::new(alloc)?;
-    let mut heads = short(&rt, alloc, &cast)?;
-    for _ in 4..MAX_ENTRIES {
-        let bytes = Attempt::good(&heads).bytes(alloc, &heads, &cast)?;
-        take(&rt, &mut heads, bytes.as_slice())?;
-    }
-    let full = Refusal::HistoryFull;
-    let mut worse = Attempt::good(&heads);
-    refused(&rt, alloc, &heads, &cast, &worse, full)?;
-    for refusal in REFUSALS {
-        worse.spoil(refusal);
-        let first = match refusal {
-            Refusal::Removed | Refusal::WrongPosition | Refusal::WrongDocument => refusal,
-            _ => full,
-        };
-        refused(&rt, alloc, &heads, &cast, &worse, first)?;
-    }
-    Ok(())
+    let cast = Cast::new(rt.alloc())?;
+    let mut heads = short(&rt, rt.alloc(), &cast)?;
+    fill(&rt, rt.alloc(), &mut heads, &cast)?;
+    full_refuses(&rt, rt.alloc(), &heads, &cast)
 }
 
 #[test]

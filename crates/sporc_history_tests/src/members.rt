@@ -42,7 +42,7 @@ fn set_role(member: u16, role: Role) -> Change {
 }
 
 fn is_refused(rt: &impl Abort, roster: &Roster, change: Change, fault: ChangeFault) {
-    assert_eq!(rt; roster.test(&change), Err(fault), "{change:?}");
+    assert!(rt; roster.test(&change) == Err(fault), "{fault:?}");
 }
 
 #[test]

@@ -38,29 +38,64 @@ fn grown(
     Ok((order, sample))
 }
 
+fn is_pulled(order: &Order) -> bool {
+    order.document() == &DOCUMENT
+        && order.len() == 18
+        && order.pull(0).len() == 16
+        && order.pull(5).len() == 13
+        && order.pull(18).len() == 0
+}
+
 #[test]
 fn sixteen_entries_are_pulled(rt: HostRuntime) -> Result<(), Fail> {
     let cast = Cast::new(rt.alloc())?;
     let (order, sample) = grown(&rt, rt.alloc(), &cast, 18)?;
-    assert!(rt; order.document() == &DOCUMENT);
-    assert!(rt; order.len() == 18);
-    assert!(rt; order.pull(0).len() == 16);
-    assert!(rt; order.pull(5).len() == 13);
-    assert!(rt; order.pull(18).len() == 0);
+    assert!(rt; is_pulled(&order));
     for (pulled, entry) in order.pull(0).iter().zip(sample.entries()) {
         same_bytes(&rt, pulled.as_slice(), entry.as_slice());
     }
     Ok(())
 }
 
-// What a session answers to the message.
-fn answer(
+// What a session answers.
+#[derive(Clone, Copy, Debug, PartialEq, Eq)]
+enum Heard {
+    Silent,
+    Close,
+    Empty,
+    OrderedFirst,
+    WrongNumber,
+    EntriesFromFirst,
+    Other,
+}
+
+fn heard_in(answer: &Answer) -> Heard {
+    match answer {
+        Answer::Silent => Heard::Silent,
+        Answer::Close => Heard::Close,
+        Answer::Send(ToClient::Empty) => Heard::Empty,
+        Answer::Send(ToClient::Ordered { pos: 1 }) => Heard::OrderedFirst,
+        Answer::Send(ToClient::Entries { first: 1, .. }) => Heard::EntriesFromFirst,
+        Answer::Send(ToClient::Rejected { refusal }) => match refusal {
+            Refusal::WrongNumber => Heard::WrongNumber,
+            _ => Heard::Other,
+        },
+        _ => Heard::Other,
+    }
+}
+
+// Fails unless a session answers the message so.
+fn answers(
+    rt: &impl Abort,
     alloc: Global,
     session: &mut Session,
     order: &mut Order,
     message: &ToServer,
-) -> Result<Answer, Fail> {
-    Ok(session.step(alloc, order, message)?)
+    wanted: Heard,
+) -> Result<(), Fail> {
+    let answer = session.step(alloc, order, message)?;
+    assert!(rt; heard_in(&answer) == wanted);
+    Ok(())
 }
 
 fn hello() -> ToServer {
@@ -74,21 +109,20 @@ fn pull() -> ToServer {
     ToServer::Pull { from: 0 }
 }
 
+// A session that is not greeted, and one that is greeted twice.
+fn is_greeted(rt: &impl Abort, alloc: Global, order: &mut Order) -> Result<(), Fail> {
+    let mut session = Session::new();
+    answers(rt, alloc, &mut session, order, &pull(), Heard::Close)?;
+    answers(rt, alloc, &mut session, order, &hello(), Heard::Silent)?;
+    answers(rt, alloc, &mut session, order, &pull(), Heard::Empty)?;
+    answers(rt, alloc, &mut session, order, &hello(), Heard::Close)
+}
+
 #[test]
 fn a_session_is_greeted_once(rt: HostRuntime) -> Result<(), Fail> {
     let cast = Cast::new(rt.alloc())?;
     let (mut order, _) = opened(rt.alloc(), &cast)?;
-    assert!(rt; order.pull(0).len() == 0);
-    let mut session = Session::new();
-    let early = answer(rt.alloc(), &mut session, &mut order, &pull())?;
-    assert!(rt; matches!(early, Answer::Close));
-    let first = answer(rt.alloc(), &mut session, &mut order, &hello())?;
-    assert!(rt; matches!(first, Answer::Silent));
-    let empty = answer(rt.alloc(), &mut session, &mut order, &pull())?;
-    assert!(rt; matches!(empty, Answer::Send(ToClient::Empty)));
-    let again = answer(rt.alloc(), &mut session, &mut order, &hello())?;
-    assert!(rt; matches!(again, Answer::Close));
-    Ok(())
+    is_greeted(&rt, rt.alloc(), &mut order)
 }
 
 // A message that submits the first entry of a history.
@@ -101,19 +135,24 @@ fn submission(alloc: Global, sample: &History) -> Result<ToServer, Fail> {
     Ok(ToServer::Submit { entry })
 }
 
-// A session that was greeted.
-fn greeted(rt: &impl Abort, alloc: Global, order: &mut Order) -> Result<Session, Fail> {
+fn is_ordered(
+    rt: &impl Abort,
+    alloc: Global,
+    order: &mut Order,
+    message: &ToServer,
+) -> Result<(), Fail> {
     let mut session = Session::new();
-    let first = answer(alloc, &mut session, order, &hello())?;
-    assert!(rt; matches!(first, Answer::Silent));
-    Ok(session)
-}
-
-fn is_wrong_number(found: &Answer) -> bool {
-    match found {
-        Answer::Send(ToClient::Rejected { refusal }) => *refusal == Refusal::WrongNumber,
-        _ => false,
-    }
+    answers(rt, alloc, &mut session, order, &hello(), Heard::Silent)?;
+    answers(rt, alloc, &mut session, order, message, Heard::OrderedFirst)?;
+    answers(rt, alloc, &mut session, order, message, Heard::WrongNumber)?;
+    answers(
+        rt,
+        alloc,
+        &mut session,
+        order,
+        &pull(),
+        Heard::EntriesFromFirst,
+    )
 }
 
 #[test]
@@ -121,13 +160,6 @@ fn a_session_orders_an_entry_once(rt: HostRuntime) -> Result<(), Fail> {
     let cast = Cast::new(rt.alloc())?;
     let (mut order, mut sample) = opened(rt.alloc(), &cast)?;
     sample.edit(rt.alloc(), &cast, 1, b"")?;
-    let mut session = greeted(&rt, rt.alloc(), &mut order)?;
     let message = submission(rt.alloc(), &sample)?;
-    let ordered = answer(rt.alloc(), &mut session, &mut order, &message)?;
-    assert!(rt; matches!(ordered, Answer::Send(ToClient::Ordered { pos: 1 })));
-    let again = answer(rt.alloc(), &mut session, &mut order, &message)?;
-    assert!(rt; is_wrong_number(&again));
-    let pulled = answer(rt.alloc(), &mut session, &mut order, &pull())?;
-    assert!(rt; matches!(pulled, Answer::Send(ToClient::Entries { first: 1, .. })));
-    Ok(())
+    is_ordered(&rt, rt.alloc(), &mut order, &message)
 }
