@@ -114,7 +114,3 @@ whole_takes {A} read bytes x e =
     let b = bind_ok (end_at a.0.1) (λ end. Ok a.0.0) x a.2 in
     let P : A → Type 0 = λ y. read (record { rest = bytes; at = 0 }) ≡ Ok (y, a.0.1) in
     (a.0.1, subst P (ok_is a.0.0 x b.2) a.1, end_takes a.0.1 b.1)
-
-pub whole_again : {A : Type 0} (read : Reading → Result (A × Reading) ℕ) (bytes : List ℕ) (x : A) (at : ℕ)
-    → read (record { rest = bytes; at = 0 }) ≡ Ok (x, record { rest = []; at = at }) → whole read bytes ≡ Ok x
-whole_again read bytes x at e = rw e refl
