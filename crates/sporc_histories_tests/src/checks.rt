@@ -93,17 +93,6 @@ fn a_history_is_examined(rt: HostRuntime) -> Result<(), Fail> {
     histories(&rt, rt.alloc(), &cast)
 }
 
-#[test]
-fn a_missing_key_is_named(rt: HostRuntime) -> Result<(), Fail> {
-    let alloc = rt.alloc();
-    let cast = Cast::new(alloc)?;
-    let mut folder = Files::new(alloc, &cast)?.folder(alloc, Vec::new(alloc));
-    let mut out = sink(alloc);
-    let answer = check(alloc, &mut folder, &mut out, &Names::of_document("D"), 7);
-    assert!(rt; answer == Err(Fault::Missing(File::Key(7))));
-    Ok(())
-}
-
 // Of a member without a history: the fourth call looks for it, and there is no fifth.
 #[test]
 fn each_failing_call_of_the_folder_is_told(rt: HostRuntime) -> Result<(), Fail> {
