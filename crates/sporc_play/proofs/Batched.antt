@@ -46,9 +46,6 @@ has_room n k old new commands room does few = record {
   room = λ m. omega (arith, room.room m, asked_grows (setup_of generated_cast) room.scene commands m, few);
 }
 
-pub less_room : (n k : ℕ) (state : PlayState) → HasRoom n state → k ≤ n → HasRoom k state
-less_room n k state room le = record { scene = room.scene; stands = room.stands; room = λ m. omega (arith, room.room m, le) }
-
 -- ---- the members
 
 three : (m : ℕ) → IsAsked m → Contains (1 ∷ 2 ∷ 3 ∷ []) m

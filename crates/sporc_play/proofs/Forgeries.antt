@@ -1,7 +1,7 @@
 -- What a rogue's entry holds, and how long it is.
-use Rattle.std.proofs.Common.{◌≡◌, ℕ, suc, ◌+◌, ◌*◌, ◌<◌, ◌≤◌, ◌^◌, Bool, true, false, cond, eqb, ltb, not, List, [], ◌∷◌, ◌++◌, length, leb, set, take, drop, get_or, map, filter, fold, flat_map, Option, Some, None, refl, ap, sym, ◌∙◌, arith, length-append}
+use Rattle.std.proofs.Common.{◌≡◌, ℕ, suc, ◌+◌, ◌*◌, ◌<◌, ◌≤◌, ◌^◌, Bool, true, false, cond, eqb, ltb, not, List, [], ◌∷◌, ◌++◌, length, leb, take, drop, map, filter, fold, flat_map, Option, Some, None, refl, ap, sym, ◌∙◌, arith, length-append}
 use Rattle.std.proofs.lemmas.Bool.{le-leb}
-use Rattle.std.specs.Prelude.{Result, Ok, Err, bit_xor, is_none, option_map}
+use Rattle.std.specs.Prelude.{Result, Ok, Err, is_none, option_map}
 use Rattle.std.proofs.lemmas.List.{length-map}
 use Rattle.std.proofs.lemmas.List.Concat.{flat_map-cons}
 use Rattle.std.specs.Int.{w16, to_be_bytes}
@@ -51,10 +51,6 @@ use Rattle.sporc_play.specs.Forged.{IsSmallBody, IsSmallChange, base_by, derived
 use Rattle.sporc_play.specs.Scene.{leaf_after}
 
 -- ---- a flipped byte
-
-pub set_flipped : (bytes : List ℕ) → 0 < length bytes → set bytes 0 (bit_xor (get_or bytes 0 0) 1) ≡ first_flipped bytes
-set_flipped [] some = absurd (omega arith)
-set_flipped (b ∷ bytes) some = refl
 
 length-first_flipped : (bytes : List ℕ) → length (first_flipped bytes) ≡ length bytes
 length-first_flipped [] = refl

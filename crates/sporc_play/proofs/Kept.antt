@@ -19,7 +19,7 @@ use Rattle.sporc_script.specs.declared.play_line.PlayLine.{PlayLine}
 use Rattle.sporc_play.specs.declared.seat.Seat.{Seat}
 use Rattle.sporc_play.specs.declared.state.PlayState.{PlayState}
 use Rattle.sporc_play.specs.Cast.{setup_of}
-use Rattle.sporc_play.specs.Report.{Compares, Stands, chain_of, compare_line, cut_line, flip_line, flipped_line}
+use Rattle.sporc_play.specs.Report.{Compares, Stands, chain_of, compare_line, flip_line, flipped_line}
 use Rattle.sporc_play.specs.Scene.{Act, Scene, cuts, entry_at, flip_byte, flipped, flips, performed}
 use Rattle.sporc_play.specs.Seats.{IsSeatAt}
 use Rattle.sporc_play.specs.Stage.{AreOfOneDocument, Becomes, HasSameMembers, StandsFor, AppendsLineOf}
@@ -53,10 +53,6 @@ cut_becomes old new number entries same grown act script scene stands =
 pub flip_tells : (old : PlayState) (f : Flip) (out out' : List ℕ) → out' ≡ out ++ flip_line (length (entries_of old) + 1) f.entry f.at (entry_at (entries_of old) f.entry) → AppendsLineOf old (commands.Flip f) out out'
 flip_tells old f out out' is script scene stands =
     (flip_line (length scene.made + 1) f.entry f.at (entry_at scene.made f.entry), refl, is ∙ ap (λ (es : List (List ℕ)). out ++ flip_line (length es + 1) f.entry f.at (entry_at es f.entry)) stands.made)
-
-pub cut_tells : (old : PlayState) (number : ℕ) (out out' : List ℕ) → out' ≡ out ++ cut_line (length (entries_of old) + 1) number (entry_at (entries_of old) number) → AppendsLineOf old (commands.Cut number) out out'
-cut_tells old number out out' is script scene stands =
-    (cut_line (length scene.made + 1) number (entry_at scene.made number), refl, is ∙ ap (λ (es : List (List ℕ)). out ++ cut_line (length es + 1) number (entry_at es number)) stands.made)
 
 -- nothing is made
 pub unchanged : (state : PlayState) → HasSameMembers state state

@@ -8,6 +8,7 @@ pub mod ClosedPlays
 pub mod Commands
 pub mod Declared
 pub mod Distinct
+mod Examples
 pub mod FirstMoves
 pub mod Forgeries
 pub mod Found

@@ -99,7 +99,7 @@ fn push_member(out: &mut String, number: u16, role: Role) -> Result<(), Memory>
 
 /// The word for a role.
 pub fn role_name(role: Role) -> &'static str
-    ensures { result.now ≡ role_name role }
+    ensures value { result.now ≡ role_name role }
 {
     match role {
         Role::Reader => "reader",

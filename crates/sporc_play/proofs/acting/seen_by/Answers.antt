@@ -1,4 +1,3 @@
-use Rattle.std.proofs.Common.{None}
 use Rattle.sporc_play.proofs.ShownForms.{journal_count}
 use Rattle.sporc_play.proofs.acting.seen_by.Goals as goal
 

@@ -1,4 +1,4 @@
-use Rattle.std.proofs.Common.{◌+◌, ◌/◌, ◌++◌, flat_map, length, map, arith, length-append}
+use Rattle.std.proofs.Common.{◌+◌, ◌/◌, ◌++◌, flat_map, map, arith, length-append}
 use Rattle.std.proofs.lemmas.List.{length-map}
 use Rattle.std.proofs.lemmas.Result.{on_ok_weaker}
 use Rattle.sporc_play.specs.Generated.{edits, gives, submits, up_to}
