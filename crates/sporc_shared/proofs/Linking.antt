@@ -48,9 +48,6 @@ kept a b written keeps inbox count = record {
   count = count;
 }
 
--- a message was not sent
-}
-
 -- a piece was taken
 pub took_piece : (a b : LinkStand) (piece : List ℕ) → Took a b piece → Exchanged a b [] []
 took_piece a b piece t = record {
@@ -65,9 +62,6 @@ took_piece a b piece t = record {
 }
 
 -- ---- the next message
-
--- a message was found at the front of what came
-}
 
 -- where it began
 pub found_from : (place : ℕ) (i j : InboxModel) (m : ToClient) → place ≡ i.at → (next to_client_of (unread_of i)).answer ≡ Ok (Some m) → unread_of j ≡ (next to_client_of (unread_of i)).after → IsLastFrom place m j
