@@ -1,8 +1,8 @@
 -- What stands of a key's files.
-use Rattle.std.proofs.Common.{◌≡◌, ℕ, ◌≤◌, List, [], ◌∷◌, Bool, true, false, Option, Some, None, option_map, Result, Ok, Err, inl, inr, refl, sym, ap, ◌∙◌, subst, arith}
+use Rattle.std.proofs.Common.{◌≡◌, ℕ, List, [], ◌∷◌, Bool, true, false, Option, Some, None, option_map, Result, Ok, Err, inl, refl, ap, ◌∙◌, subst}
 use Rattle.std.specs.Result.{OnOk}
 use Rattle.std.specs.Str.{bytes_eq}
-use Rattle.sporc_outside.specs.Files.{ChangesFile, HasNoFile, HasSomeFile, file_in, with_file}
+use Rattle.sporc_outside.specs.Files.{ChangesFile, HasNoFile, file_in, with_file}
 use Rattle.sporc_outside.specs.declared.named_file.NamedFile.{NamedFile}
 use Rattle.sporc_keys.specs.declared.new_key.NewKey.{NewKey}
 use Rattle.sporc_keys.specs.KeyFile.{key_file_bytes}
@@ -45,31 +45,15 @@ module _ (names : FileNames) (key : NewKey) (before between after : Option (List
   abbrev pub key_name : List ℕ
   key_name = file_name names (files.Key key.file.member)
 
-  abbrev pub leaf_name : List ℕ
-  leaf_name = file_name names (files.Leaf key.file.member)
-
   -- the key file was not written
   at_key : (fault : Fault) → NewCase before low high names (files.Key key.file.member) fault → LeavesFile key_name before after fault → IsFilesFault names key before after low high fault
   at_key fault NewMemory left = inl (unchanged before after key_name left)
   at_key fault (NewFailed rose) left = (rose, inl left)
   at_key fault (NewThere there) left = (refl, there, left)
 
-  -- the key file was written, and the leaf file was not
-  at_leaf : (fault : Fault) → HasNoFile before key_name → Stores (file_with names (files.Key key.file.member) (key_file_bytes key.file) ∷ []) before between
-      → NewCase between mid high names (files.Leaf key.file.member) fault → LeavesFile leaf_name between after fault → low ≤ mid → IsFilesFault names key before after low high fault
-  at_leaf fault new stored NewMemory left more = inr (inl (unchanged _ after leaf_name (left ∙ stored)))
-  at_leaf fault new stored (NewFailed rose) left more =
-      (omega (arith, rose, more), inr (inl (subst (λ (o : Option (List NamedFile)). ChangesFile o after leaf_name) stored left)))
-  at_leaf fault new stored (NewThere there) left more =
-      (refl, new, subst (λ (o : Option (List NamedFile)). HasSomeFile o leaf_name) (sym left) there, left ∙ stored)
-
   pub key_fails : (fault : Fault) → IsNewFault before low high names (files.Key key.file.member) fault → LeavesFile key_name before after fault
       → IsFilesFault names key before after low high fault
   key_fails fault why left = at_key fault (new_case before low high names (files.Key key.file.member) fault why) left
-
-  pub leaf_fails : (fault : Fault) → HasNoFile before key_name → Stores (file_with names (files.Key key.file.member) (key_file_bytes key.file) ∷ []) before between
-      → IsNewFault between mid high names (files.Leaf key.file.member) fault → LeavesFile leaf_name between after fault → low ≤ mid → IsFilesFault names key before after low high fault
-  leaf_fails fault new stored why left more = at_leaf fault new stored (new_case between mid high names (files.Leaf key.file.member) fault why) left more
 
 -- of two facts of one result
 pub on_ok : {T E : Type 0} (r : Result T E) (P Q R : Type 0) → (P → Q → R) → OnOk r P → OnOk r Q → OnOk r R
