@@ -13,7 +13,6 @@ use Rattle.sporc_client.specs.Answers.{accept_fault, added}
 use Rattle.sporc_client.specs.Log.{Accept}
 use Rattle.sporc_shared.specs.declared.answered.Answered.{Answered}
 use Rattle.sporc_shared.specs.declared.fault.SessionFault.{SessionFault}
-use Rattle.sporc_shared.specs.declared.shared_client.SharedClient.{SharedClient}
 use Rattle.sporc_shared.specs.Acts.{all_of, items_by}
 use Rattle.sporc_shared.specs.Calls.{IsCall}
 use Rattle.sporc_shared.specs.Courses.{KnowsMore}
@@ -72,8 +71,6 @@ stop_later k k1 k' at entries e es fault is knows s = record {
 }
 
 -- ---- replies
-
-module _ {D A : Type 0} (shared : SharedClient D) (k : Known Item) (reply : Result (Answered A) (Pass Item × Worn)) (plain : Result A ℕ × Pass Item) (is : plain ≡ plain_of reply) where
 
 -- a fact of an answer, and of a pass that is the same if a ticket wasn't drawn
 module _ {A : Type 0} (reply : Result (Answered A) (Pass Item × Worn)) (plain : Result A ℕ × Pass Item) (is : plain ≡ plain_of reply) where
