@@ -5,7 +5,7 @@ use Rattle.std.proofs.lemmas.List.Kept.{AllPairs-cons}
 use Rattle.sporc_outside.specs.LeafDisk.{IsStable, KeepsOutside, IsFound}
 use Rattle.lms_leaf.specs.LeafFile.{taken_blocks}
 use Rattle.lms_leaf.specs.declared.leaf_file.TheConstants.{LEAVES_PER_BLOCK}
-use Rattle.lms_leaf.specs.Traces.{Move, Open, OpenCut, Draw, DrawCut, Close, Crash, FileState, AtRest, InUse, disk_of, IsTrace, drawn}
+use Rattle.lms_leaf.specs.Traces.{LeafMove, Open, OpenCut, Draw, DrawCut, Close, Crash, FileState, AtRest, InUse, disk_of, IsTrace, drawn}
 use Rattle.lms_leaf.specs.Laws.{NoLeafTwice}
 use Rattle.lms_leaf.proofs.TakenBlocks.{below-taken_blocks}
 
@@ -42,7 +42,7 @@ module _ {D : Type 0} (stored : D → Option (List ℕ)) (moment : D → ℕ) (i
   told_found disk found at finds = rw finds.reads.2 refl
 
   -- no number that was given before is given again
-  never_again : (state : FileState D) (moves : List (Move D)) (leaf : ℕ) → IsSome (stored (disk_of state)) → IsTrace stored moment images state moves
+  never_again : (state : FileState D) (moves : List (LeafMove D)) (leaf : ℕ) → IsSome (stored (disk_of state)) → IsTrace stored moment images state moves
       → IsUsed state leaf → All (λ other. leaf ≢ other) (drawn moves)
   never_again state [] leaf told trace used = All-nil (λ other. leaf ≢ other)
   never_again state (Crash found ∷ moves) leaf told trace used =
@@ -76,7 +76,7 @@ module _ {D : Type 0} (stored : D → Option (List ℕ)) (moment : D → ℕ) (i
   never_again (InUse leaves) (Close ∷ moves) leaf told trace used = never_again (AtRest leaves.disk) moves leaf told trace used.0
 
   -- so all given numbers differ
-  distinct : (state : FileState D) (moves : List (Move D)) → IsSome (stored (disk_of state)) → IsTrace stored moment images state moves
+  distinct : (state : FileState D) (moves : List (LeafMove D)) → IsSome (stored (disk_of state)) → IsTrace stored moment images state moves
       → AllPairs (λ leaf other. leaf ≢ other) (drawn moves)
   distinct state [] told trace = λ i j d below h. absurd (omega arith)
   distinct state (Crash found ∷ moves) told trace = distinct (AtRest found) moves (told_found _ found _ trace.0) trace.1

@@ -7,13 +7,13 @@ use Rattle.lms_leaf.specs.declared.faults.LeafOpenFault.{LeafOpenFault}
 
 -- One thing that happens. A call that a crash cuts off at a moment never answers; its move has what the call
 -- would have answered, the moment, and the disk that is found afterwards.
-pub data Move (D : Type 0) : Type 0 where
-  Open : Result (LeavesModel D) (LeafOpenFault × D) → Move D
-  OpenCut : Result (LeavesModel D) (LeafOpenFault × D) → ℕ → D → Move D
-  Draw : Result ℕ LeafFault → LeavesModel D → Move D
-  DrawCut : Result ℕ LeafFault → LeavesModel D → ℕ → D → Move D
-  Close : Move D
-  Crash : D → Move D
+pub data LeafMove (D : Type 0) : Type 0 where
+  Open : Result (LeavesModel D) (LeafOpenFault × D) → LeafMove D
+  OpenCut : Result (LeavesModel D) (LeafOpenFault × D) → ℕ → D → LeafMove D
+  Draw : Result ℕ LeafFault → LeavesModel D → LeafMove D
+  DrawCut : Result ℕ LeafFault → LeavesModel D → ℕ → D → LeafMove D
+  Close : LeafMove D
+  Crash : D → LeafMove D
 
 -- between two moves the disk is at rest, or in leaves
 pub data FileState (D : Type 0) : Type 0 where
@@ -35,7 +35,7 @@ IsDuring moment old new at = (moment old ≤ at) × (at ≤ moment new)
 
 module _ {D : Type 0} (stored : D → Option (List ℕ)) (moment : D → ℕ) (images : D → ℕ → List ℕ → Type 0) where
   -- these moves can happen, one after another
-  abbrev pub IsTrace : FileState D → List (Move D) → Type 0
+  abbrev pub IsTrace : FileState D → List (LeafMove D) → Type 0
   IsTrace state [] = Unit {0}
   IsTrace state (Crash found ∷ moves) =
       IsFound stored moment images (disk_of state) (moment (disk_of state)) found × IsTrace (AtRest found) moves
@@ -53,7 +53,7 @@ module _ {D : Type 0} (stored : D → Option (List ℕ)) (moment : D → ℕ) (i
   IsTrace (InUse leaves) (move ∷ moves) = ⊥
 
 -- the numbers that were given
-abbrev pub drawn : {D : Type 0} → List (Move D) → List ℕ
+abbrev pub drawn : {D : Type 0} → List (LeafMove D) → List ℕ
 drawn [] = []
 drawn (Draw (Ok leaf) after ∷ moves) = leaf ∷ drawn moves
 drawn (move ∷ moves) = drawn moves

@@ -15,7 +15,7 @@ use Rattle.lms_tree.specs.declared.lms_type.LmsType.{LmsType}
 use Rattle.lms_tree.specs.declared.lms_type.LmsType.TheVariants.{H5, H10, H15, H20, H25}
 use Rattle.lms_tree.specs.declared.public_key.LmsPublic.{LmsPublic}
 use Rattle.lms_tree.specs.LmsType.{lms_code_of, lms_type_with_code}
-use Rattle.lms_tree.specs.Fields.{number_at}
+use Rattle.lms_tree.specs.Fields.{u32_at}
 use Rattle.lms_tree.specs.LmsPublic.{public_key_bytes, public_key_in}
 use Rattle.lms_tree.proofs.SignatureLemmas.{field_one, field_two, field_three, field_four, code_fits}
 
@@ -47,7 +47,7 @@ ots_code_fits W4 = omega arith
 ots_code_fits W8 = omega arith
 
 -- four bytes are the bytes of their number
-number_bytes : (bytes : List ℕ) (place : ℕ) → place + 4 ≤ length bytes → IsBytes bytes → to_be_bytes w32 (number_at bytes place) ≡ take 4 (drop place bytes)
+number_bytes : (bytes : List ℕ) (place : ℕ) → place + 4 ≤ length bytes → IsBytes bytes → to_be_bytes w32 (u32_at bytes place) ≡ take 4 (drop place bytes)
 number_bytes bytes place inside small =
     be_bytes_4 (take 4 (drop place bytes)) _ (omega (arith, length-take 4 (drop place bytes), length-drop place bytes)) (IsBytes-take 4 (drop place bytes) (IsBytes-drop place bytes small)) refl
 
@@ -57,7 +57,7 @@ fields_of bytes size = rw (← take-add 4 4 bytes, ← take-add 8 16 bytes, ← 
 
 -- the key that was read is the one that the bytes spell
 pub public_key_is : (bytes id root : List ℕ) (lms : LmsType) (ots : OtsType) → length bytes ≡ 56
-    → lms_type_with_code (number_at bytes 0) ≡ Some lms → ots_type_with_code (number_at bytes 4) ≡ Some ots
+    → lms_type_with_code (u32_at bytes 0) ≡ Some lms → ots_type_with_code (u32_at bytes 4) ≡ Some ots
     → id ≡ take 16 (drop 8 bytes) → root ≡ take 32 (drop 24 bytes)
     → Some (record { lms = lms; ots = ots; id = id; root = root }) ≡ public_key_in bytes
 public_key_is bytes id root lms ots size first second third fourth = rw (eq-eqb _ _ size, first, second, third, fourth) refl
@@ -65,12 +65,12 @@ public_key_is bytes id root lms ots size first second third fourth = rw (eq-eqb 
 -- its bytes are those that were read
 pub public_key_spelling : (bytes id root : List ℕ) (lms : LmsType) (ots : OtsType) → length bytes ≡ 56
     → IsBytes bytes
-    → lms_type_with_code (number_at bytes 0) ≡ Some lms → ots_type_with_code (number_at bytes 4) ≡ Some ots
+    → lms_type_with_code (u32_at bytes 0) ≡ Some lms → ots_type_with_code (u32_at bytes 4) ≡ Some ots
     → id ≡ take 16 (drop 8 bytes) → root ≡ take 32 (drop 24 bytes)
     → public_key_bytes (record { lms = lms; ots = ots; id = id; root = root }) ≡ bytes
 public_key_spelling bytes id root lms ots size small first second third fourth =
-    let lms_bytes = ap (to_be_bytes w32) (lms_code_of_found (number_at bytes 0) lms first) ∙ number_bytes bytes 0 (omega arith) small in
-    let ots_bytes = ap (to_be_bytes w32) (ots_code_of_found (number_at bytes 4) ots second) ∙ number_bytes bytes 4 (omega arith) small in
+    let lms_bytes = ap (to_be_bytes w32) (lms_code_of_found (u32_at bytes 0) lms first) ∙ number_bytes bytes 0 (omega arith) small in
+    let ots_bytes = ap (to_be_bytes w32) (ots_code_of_found (u32_at bytes 4) ots second) ∙ number_bytes bytes 4 (omega arith) small in
     joined _ _ id root _ _ _ _ lms_bytes ots_bytes third fourth ∙ fields_of bytes size
   where
     joined : (a b c d a' b' c' d' : List ℕ) → a ≡ a' → b ≡ b' → c ≡ c' → d ≡ d' → a ++ b ++ c ++ d ≡ a' ++ b' ++ c' ++ d'
@@ -84,10 +84,10 @@ public_key_read_back key sixteen all =
     let two : length (a ++ b) ≡ 8 = omega (arith, length-append a b) in
     let three : length (a ++ b ++ key.id) ≡ 24 = omega (arith, length-append (a ++ b) key.id) in
     let size : length (a ++ b ++ key.id ++ key.root) ≡ 56 = omega (arith, length-append (a ++ b ++ key.id) key.root) in
-    let first : lms_type_with_code (number_at (a ++ b ++ key.id ++ key.root) 0) ≡ Some key.lms =
+    let first : lms_type_with_code (u32_at (a ++ b ++ key.id ++ key.root) 0) ≡ Some key.lms =
     ap (λ (bytes : List ℕ). lms_type_with_code (from_be_bytes w32 bytes)) (field_one a b key.id key.root 4 refl)
     ∙ ap lms_type_with_code (from_be_bytes-to_be_bytes_4 (lms_code_of key.lms) (code_fits key.lms)) ∙ lms_type_with_code_of key.lms in
-    let second : ots_type_with_code (number_at (a ++ b ++ key.id ++ key.root) 4) ≡ Some key.ots =
+    let second : ots_type_with_code (u32_at (a ++ b ++ key.id ++ key.root) 4) ≡ Some key.ots =
     ap (λ (bytes : List ℕ). ots_type_with_code (from_be_bytes w32 bytes)) (field_two a b key.id key.root 4 4 refl refl)
     ∙ ap ots_type_with_code (from_be_bytes-to_be_bytes_4 (ots_code_of key.ots) (ots_code_fits key.ots)) ∙ ots_type_with_code_of key.ots in
     sym (public_key_is (a ++ b ++ key.id ++ key.root) key.id key.root key.lms key.ots size first second

@@ -4,7 +4,7 @@ use Rattle.std.specs.Int.{w32, to_be_bytes}
 use Rattle.lms_ots.specs.OtsType.{ots_code_of, ots_type_with_code}
 use Rattle.lms_tree.specs.declared.public_key.LmsPublic.{LmsPublic}
 use Rattle.lms_tree.specs.LmsType.{lms_code_of, lms_type_with_code}
-use Rattle.lms_tree.specs.Fields.{number_at}
+use Rattle.lms_tree.specs.Fields.{u32_at}
 
 -- the bytes of a key
 abbrev pub public_key_bytes : LmsPublic → List ℕ
@@ -15,5 +15,5 @@ abbrev pub public_key_in : List ℕ → Option LmsPublic
 public_key_in bytes =
     if length bytes == 56
     then option_and_then (λ lms. option_map (λ ots. record { lms = lms; ots = ots; id = take 16 (drop 8 bytes); root = take 32 (drop 24 bytes) })
-    (ots_type_with_code (number_at bytes 4))) (lms_type_with_code (number_at bytes 0))
+    (ots_type_with_code (u32_at bytes 4))) (lms_type_with_code (u32_at bytes 0))
     else None

@@ -5,7 +5,7 @@ use Rattle.lms_ots.specs.OtsType.{ots_code_of, ots_signature_len_of}
 use Rattle.lms_ots.specs.Signatures.{candidate_key}
 use Rattle.lms_tree.specs.declared.public_key.LmsPublic.{LmsPublic}
 use Rattle.lms_tree.specs.LmsType.{lms_code_of, height_of}
-use Rattle.lms_tree.specs.Fields.{number_at}
+use Rattle.lms_tree.specs.Fields.{u32_at}
 use Rattle.lms_tree.specs.Nodes.{leaf_value, ancestor_of}
 
 -- the length of a signature under a key
@@ -15,16 +15,16 @@ lms_signature_len_of key = 8 + ots_signature_len_of key.ots + 32 * height_of key
 -- the fields of a signature: the leaf number q, the LM-OTS signature, which begins with its type code, the LMS
 -- type code and the path
 abbrev pub leaf_in : List ℕ → ℕ
-leaf_in signature = number_at signature 0
+leaf_in signature = u32_at signature 0
 
 abbrev pub ots_code_in : List ℕ → ℕ
-ots_code_in signature = number_at signature 4
+ots_code_in signature = u32_at signature 4
 
 abbrev pub ots_signature_in : LmsPublic → List ℕ → List ℕ
 ots_signature_in key signature = take (ots_signature_len_of key.ots) (drop 4 signature)
 
 abbrev pub lms_code_in : LmsPublic → List ℕ → ℕ
-lms_code_in key signature = number_at signature (4 + ots_signature_len_of key.ots)
+lms_code_in key signature = u32_at signature (4 + ots_signature_len_of key.ots)
 
 abbrev pub path_in : LmsPublic → List ℕ → List ℕ
 path_in key signature = drop (8 + ots_signature_len_of key.ots) signature

@@ -3,7 +3,7 @@
 ghost use Rattle.std.specs.Prelude.{◌≡◌, ◌↔◌, length, Some, IsSome, IfSome};
 ghost use Rattle.lms_ots.specs.OtsType.{ots_type_with_code};
 
-use crate::fields::number_at;
+use crate::fields::u32_at;
 use crate::lms_type::LmsType;
 use lms_ots::OtsType;
 use sporc_base::put_at;
@@ -19,7 +19,7 @@ pub struct LmsPublic {
 }
 
 impl LmsPublic {
-    ghost use Rattle.lms_tree.specs.Fields.{number_at};
+    ghost use Rattle.lms_tree.specs.Fields.{u32_at};
     ghost use Rattle.lms_tree.specs.LmsType.{lms_type_with_code};
     ghost use Rattle.lms_tree.specs.LmsPublic.{public_key_bytes, public_key_in};
 
@@ -28,15 +28,15 @@ impl LmsPublic {
     pub fn from_bytes(bytes: &[u8]) -> Option<LmsPublic>
         ensures value { result ≡ public_key_in bytes.now }
         ensures found { IsSome result ↔ ((length bytes.now ≡ 56)
-            × IsSome (lms_type_with_code (number_at bytes.now 0))
-            × IsSome (ots_type_with_code (number_at bytes.now 4))) }
+            × IsSome (lms_type_with_code (u32_at bytes.now 0))
+            × IsSome (ots_type_with_code (u32_at bytes.now 4))) }
         ensures spelling { IfSome result (λ key. public_key_bytes key ≡ bytes.now) }
     {
         if bytes.len() != 56 {
             return None;
         }
-        let lms = LmsType::from_code(number_at(bytes, 0))?;
-        let ots = OtsType::from_code(number_at(bytes, 4))?;
+        let lms = LmsType::from_code(u32_at(bytes, 0))?;
+        let ots = OtsType::from_code(u32_at(bytes, 4))?;
         let mut id = [0u8; 16];
         id.copy_from_slice(&bytes[8..24]);
         let mut root = [0u8; 32];

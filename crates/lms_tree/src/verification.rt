@@ -4,7 +4,7 @@ ghost use Rattle.std.specs.Prelude.{◌≡◌, ◌*◌, ◌^◌, ◌<◌, ◌↔
 ghost use Rattle.lms_tree.specs.LmsType.{height_of};
 ghost use Rattle.lms_tree.specs.Verification.{HasForm, Verifies, root_from, root_in, verifies};
 
-use crate::fields::number_at;
+use crate::fields::u32_at;
 use crate::nodes::{ancestor_value, leaf_value};
 use crate::public_key::LmsPublic;
 use lms_ots::ots_candidate_key;
@@ -19,13 +19,13 @@ fn has_form(key: &LmsPublic, signature: &[u8]) -> bool
     if signature.len() != 8 + ots_len + 32 * height as usize {
         return false;
     }
-    if number_at(signature, 0) >= 1u32 << height {
+    if u32_at(signature, 0) >= 1u32 << height {
         return false;
     }
-    if number_at(signature, 4) != key.ots.code() {
+    if u32_at(signature, 4) != key.ots.code() {
         return false;
     }
-    number_at(signature, 4 + ots_len) == key.lms.code()
+    u32_at(signature, 4 + ots_len) == key.lms.code()
 }
 
 // The root to which a one-time public key at leaf `q` leads.
@@ -45,7 +45,7 @@ fn root_in(key: &LmsPublic, prefix: &[u8], message: &[u8], signature: &[u8]) -> 
     requires { HasForm key.now signature.now }
     ensures { result ≡ root_in key.now (prefix.now ++ message.now) signature.now }
 {
-    let q = number_at(signature, 0);
+    let q = u32_at(signature, 0);
     let ots_end = 4 + key.ots.signature_len();
     let ots_signature = &signature[4..ots_end];
     let candidate = ots_candidate_key(key.ots, &key.id, q, prefix, message, ots_signature);

@@ -12,7 +12,7 @@ use Rattle.sporc_files.specs.declared.file.File.{File}
 use Rattle.sporc_files.specs.declared.file.File.TheVariants as files
 use Rattle.sporc_files.specs.Names.{FileNames, file_name}
 use Rattle.sporc_files.specs.Reading.{IsFileFault, SaysFile, any_bytes, genesis_file, own_key_file}
-use Rattle.sporc_histories.specs.Contents.{AnswersUnlessOutside, IsAt, bytes_in, said}
+use Rattle.sporc_histories.specs.Contents.{AnswersUnlessOutside, IsFileAt, bytes_in, said}
 use Rattle.sporc_histories.specs.Checking.{FindsChecked, examined}
 use Rattle.sporc_histories.proofs.Found.{is_there, reads_none, reads_value, says, tells_behind, tells_later, there}
 
@@ -38,11 +38,11 @@ module _ (told : Option (List NamedFile)) (names : FileNames) (m : ℕ) where
 
   -- a file that holds this, and what is answered from it on
   abbrev Holds : File → (Option (List ℕ) → Result ℕ Fault) → ℕ → ℕ → Result ℕ Fault → Type 0
-  Holds file rest before after r = (content : Option (List ℕ)) × IsAt told (file_name names file) content × AnswersUnlessOutside length_of (Rose before after) r (rest content)
+  Holds file rest before after r = (content : Option (List ℕ)) × IsFileAt told (file_name names file) content × AnswersUnlessOutside length_of (Rose before after) r (rest content)
 
   -- the files before it say something
   module _ (g : Genesis) (says_g : SaysFile genesis_file told (file_name names files.Genesis) g) (c0 c1 c2 : ℕ) (r : Result ℕ Fault) (le : c0 ≤ c1) where
-    pub from_key : (ring history : Option (List ℕ)) → IsAt told (file_name names (files.Ring m)) ring → IsAt told (file_name names (files.History m)) history
+    pub from_key : (ring history : Option (List ℕ)) → IsFileAt told (file_name names (files.Ring m)) ring → IsFileAt told (file_name names (files.History m)) history
         → Holds (files.Key m) (λ key. with_key g key ring history) c1 c2 r → FindsChecked told names m c0 c2 r
     from_key ring history ring_at history_at (key, key_at, tells) =
         let (gc, g_at, g_is) = says genesis_file told (file_name names files.Genesis) files.Genesis g says_g in
@@ -52,7 +52,7 @@ module _ (told : Option (List NamedFile)) (names : FileNames) (m : ℕ) where
           tells_later length_of c0 c1 c2 r _ le all,
         )
 
-    pub from_ring : (key : LmsPrivate) → SaysFile (own_key_file g.founders m) told (file_name names (files.Key m)) key → (history : Option (List ℕ)) → IsAt told (file_name names (files.History m)) history
+    pub from_ring : (key : LmsPrivate) → SaysFile (own_key_file g.founders m) told (file_name names (files.Key m)) key → (history : Option (List ℕ)) → IsFileAt told (file_name names (files.History m)) history
         → Holds (files.Ring m) (λ ring. with_ring g ring history) c1 c2 r → FindsChecked told names m c0 c2 r
     from_ring key says_key history history_at (ring, ring_at, tells) =
         let (kc, k_at, k_is) = says (own_key_file g.founders m) told (file_name names (files.Key m)) (files.Key m) key says_key in

@@ -11,7 +11,7 @@ use Rattle.sporc_files.specs.declared.fault.Fault.TheVariants as faults
 use Rattle.sporc_files.specs.declared.file.File.{File}
 use Rattle.sporc_files.specs.Names.{FileNames, file_name}
 use Rattle.sporc_files.specs.Reading.{IsFileFault, SaysFile}
-use Rattle.sporc_histories.specs.Contents.{AnswersUnlessOutside, IsAt, said}
+use Rattle.sporc_histories.specs.Contents.{AnswersUnlessOutside, IsFileAt, said}
 
 -- ---- what a folder holds
 
@@ -20,15 +20,15 @@ abbrev pub there : Option (List NamedFile) → List ℕ → Option (List ℕ)
 there None name = None
 there (Some told) name = file_in told name
 
-pub is_there : (told : Option (List NamedFile)) (name : List ℕ) → IsAt told name (there told name)
+pub is_there : (told : Option (List NamedFile)) (name : List ℕ) → IsFileAt told name (there told name)
 is_there None name = tt
 is_there (Some told) name = refl
 
-pub has_at : (told : Option (List NamedFile)) (name bytes : List ℕ) → HasFile told name bytes → IsAt told name (Some bytes)
+pub has_at : (told : Option (List NamedFile)) (name bytes : List ℕ) → HasFile told name bytes → IsFileAt told name (Some bytes)
 has_at None name bytes has = tt
 has_at (Some told) name bytes has = has
 
-pub none_at : (told : Option (List NamedFile)) (name : List ℕ) → HasNoFile told name → IsAt told name None
+pub none_at : (told : Option (List NamedFile)) (name : List ℕ) → HasNoFile told name → IsFileAt told name None
 none_at None name has = tt
 none_at (Some told) name has = has
 
@@ -42,12 +42,12 @@ module _ {A : Type 0} (parse : List ℕ → Result A ℕ) where
   said_long file bytes long = rw (lt-ltb MAX_FILE (length bytes) long) refl
 
   pub says : (told : Option (List NamedFile)) (name : List ℕ) (file : File) (a : A) → SaysFile parse told name a
-      → (content : Option (List ℕ)) × IsAt told name content × (said parse file content ≡ Ok a)
+      → (content : Option (List ℕ)) × IsFileAt told name content × (said parse file content ≡ Ok a)
   says told name file a (bytes, short, has, is) = (Some bytes, has_at told name bytes has, said_short file bytes (Ok a) short is)
 
   pub fails : {X : Type 0} (view : X → A) (told : Option (List NamedFile)) (before after : ℕ) (names : FileNames) (file : File) (fault : Fault)
       → IsFileFault parse told before after names file fault
-      → (content : Option (List ℕ)) × IsAt told (file_name names file) content × AnswersUnlessOutside view (Rose before after) (Err fault) (said parse file content)
+      → (content : Option (List ℕ)) × IsFileAt told (file_name names file) content × AnswersUnlessOutside view (Rose before after) (Err fault) (said parse file content)
   fails view told before after names file faults.Memory why = (there told (file_name names file), is_there told (file_name names file), tt)
   fails view told before after names file faults.Outside why = (there told (file_name names file), is_there told (file_name names file), why)
   fails view told before after names file (faults.Missing other) (same, none) =
@@ -98,13 +98,13 @@ tells_behind view Failed r first a k is told = rw is told
 -- ---- a file that is read, and a value made of what it says
 module _ {A X Y : Type 0} (parse : List ℕ → Result A ℕ) (view : X → Y) (told : Option (List NamedFile)) (before after : ℕ) (names : FileNames) (file : File) (k : A → Result Y Fault) where
   pub reads_none : (fault : Fault) (r : Result X Fault) → r ≡ Err fault → IsFileFault parse told before after names file fault
-      → (content : Option (List ℕ)) × IsAt told (file_name names file) content × AnswersUnlessOutside view (Rose before after) r (said parse file content >>= k)
+      → (content : Option (List ℕ)) × IsFileAt told (file_name names file) content × AnswersUnlessOutside view (Rose before after) r (said parse file content >>= k)
   reads_none fault r is_fault why =
       let (content, is, tells) = fails parse (λ (a : A). a) told before after names file fault why in
       (content, is, rw is_fault (fails_first (λ (a : A). a) view (Rose before after) fault (said parse file content) k tells))
 
   pub reads_value : (a : A) (r : Result X Fault) → SaysFile parse told (file_name names file) a → AnswersUnlessOutside view ⊥ r (k a)
-      → (content : Option (List ℕ)) × IsAt told (file_name names file) content × AnswersUnlessOutside view (Rose before after) r (said parse file content >>= k)
+      → (content : Option (List ℕ)) × IsFileAt told (file_name names file) content × AnswersUnlessOutside view (Rose before after) r (said parse file content >>= k)
   reads_value a r said_a tells =
       let (content, is, value) = says parse told (file_name names file) file a said_a in
       (content, is, tells_behind view (Rose before after) r (said parse file content) a k value (tells_alone view (Rose before after) r (k a) tells))

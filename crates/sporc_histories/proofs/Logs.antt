@@ -15,7 +15,7 @@ use Rattle.sporc_files.specs.declared.file.File.TheVariants as files
 use Rattle.sporc_files.specs.Names.{FileNames, file_name}
 use Rattle.sporc_files.specs.Reading.{IsFileFault, SaysFile, any_bytes, genesis_file}
 use Rattle.sporc_files.specs.Uses.{FolderUse}
-use Rattle.sporc_histories.specs.Contents.{AnswersUnlessOutside, IsAt, genesis_in}
+use Rattle.sporc_histories.specs.Contents.{AnswersUnlessOutside, IsFileAt, genesis_in}
 use Rattle.sporc_histories.specs.Serving.{FindsOrder, logged, logged_in, order_with}
 use Rattle.sporc_histories.specs.Outcomes.{FailsToBegin, KeepsLog, SavesLog}
 use Rattle.sporc_histories.proofs.Found.{has_at, is_there, none_at, reads_none, said_long, said_short, says, tells_alone, tells_behind, tells_later, there}
@@ -70,7 +70,7 @@ module _ (told : Option (List NamedFile)) (names : FileNames) where
       (record { genesis = content; log = log }, record { genesis = at; log = is_there told (file_name names files.Log) }, tells)
 
   -- what is found behind the genesis
-  behind : (c0 c1 c2 : ℕ) (g : Genesis) (r : Result OrderModel Fault) → c0 ≤ c1 → SaysFile genesis_file told (file_name names files.Genesis) g → (log : Option (List ℕ)) → IsAt told (file_name names files.Log) log
+  behind : (c0 c1 c2 : ℕ) (g : Genesis) (r : Result OrderModel Fault) → c0 ≤ c1 → SaysFile genesis_file told (file_name names files.Genesis) g → (log : Option (List ℕ)) → IsFileAt told (file_name names files.Log) log
       → AnswersUnlessOutside (λ (order : OrderModel). order) (Rose c1 c2) r (logged g log) → FindsOrder told names c0 c2 r
   behind c0 c1 c2 g r le says_g log log_at tells =
       let (gc, g_at, g_is) = says genesis_file told (file_name names files.Genesis) files.Genesis g says_g in
@@ -85,7 +85,7 @@ module _ (told : Option (List NamedFile)) (names : FileNames) where
       behind c0 c1 c2 g r le says_g log at (subst (λ (o : Result OrderModel Fault). AnswersUnlessOutside (λ (order : OrderModel). order) (Rose c1 c2) o (logged g log)) (sym is) tells)
     where
       by : (fault : Fault) → ((other : File) → fault ≡ faults.Missing other → ⊥) → IsFileFault any_bytes told c1 c2 names files.Log fault
-          → (log : Option (List ℕ)) × IsAt told (file_name names files.Log) log × AnswersUnlessOutside (λ (order : OrderModel). order) (Rose c1 c2) (Err fault) (logged g log)
+          → (log : Option (List ℕ)) × IsFileAt told (file_name names files.Log) log × AnswersUnlessOutside (λ (order : OrderModel). order) (Rose c1 c2) (Err fault) (logged g log)
       by faults.Memory never why = (there told (file_name names files.Log), is_there told (file_name names files.Log), tt)
       by faults.Outside never why = (there told (file_name names files.Log), is_there told (file_name names files.Log), why)
       by (faults.Missing other) never why = absurd (never other refl)

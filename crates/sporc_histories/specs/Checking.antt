@@ -21,7 +21,7 @@ use Rattle.sporc_files.specs.declared.file.File.TheVariants as files
 use Rattle.sporc_files.specs.Faults.{fault_of_hints, fault_of_line}
 use Rattle.sporc_files.specs.Names.{FileNames, file_name}
 use Rattle.sporc_files.specs.Reading.{own_key_file}
-use Rattle.sporc_histories.specs.Contents.{AnswersUnlessOutside, IsAt, bytes_in, genesis_in, said, whole}
+use Rattle.sporc_histories.specs.Contents.{AnswersUnlessOutside, IsFileAt, bytes_in, genesis_in, said, whole}
 
 -- ---- files
 
@@ -34,10 +34,10 @@ pub record CheckedFiles : Type 0 where
 
 -- the same, as a folder holds them
 pub record AreCheckedFiles (told : Option (List NamedFile)) (names : FileNames) (member : ℕ) (content : CheckedFiles) : Type 0 where
-  pub genesis : IsAt told (file_name names files.Genesis) content.genesis
-  pub key : IsAt told (file_name names (files.Key member)) content.key
-  pub ring : IsAt told (file_name names (files.Ring member)) content.ring
-  pub history : IsAt told (file_name names (files.History member)) content.history
+  pub genesis : IsFileAt told (file_name names files.Genesis) content.genesis
+  pub key : IsFileAt told (file_name names (files.Key member)) content.key
+  pub ring : IsFileAt told (file_name names (files.Ring member)) content.ring
+  pub history : IsFileAt told (file_name names (files.History member)) content.history
 
 -- ---- what a member is given
 

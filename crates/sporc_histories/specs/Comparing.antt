@@ -13,7 +13,7 @@ use Rattle.sporc_files.specs.declared.fault.Fault.{Fault}
 use Rattle.sporc_files.specs.declared.file.File.{File}
 use Rattle.sporc_files.specs.declared.file.File.TheVariants as files
 use Rattle.sporc_files.specs.Names.{FileNames, file_name}
-use Rattle.sporc_histories.specs.Contents.{AnswersUnlessOutside, IsAt, genesis_in, entries_in}
+use Rattle.sporc_histories.specs.Contents.{AnswersUnlessOutside, IsFileAt, genesis_in, entries_in}
 
 -- the files of a comparison, in the order in which they are read
 pub record ComparedFiles : Type 0 where
@@ -44,9 +44,9 @@ chains_in m n content = do
 
 -- the files of a comparison, as a folder holds them
 pub record AreComparedFiles (told : Option (List NamedFile)) (names : FileNames) (m n : ℕ) (content : ComparedFiles) : Type 0 where
-  pub genesis : IsAt told (file_name names files.Genesis) content.genesis
-  pub first : IsAt told (file_name names (files.History m)) content.first
-  pub second : IsAt told (file_name names (files.History n)) content.second
+  pub genesis : IsFileAt told (file_name names files.Genesis) content.genesis
+  pub first : IsFileAt told (file_name names (files.History m)) content.first
+  pub second : IsFileAt told (file_name names (files.History n)) content.second
 
 -- two chains as a call gives them
 abbrev pub both_chains : Vec (List ℕ) × Vec (List ℕ) → Chains

@@ -19,9 +19,9 @@ use Rattle.sporc_files.specs.Reading.{any_bytes, genesis_file}
 -- ---- a folder
 
 -- told files hold this at a name: the bytes of a file, or none
-abbrev pub IsAt : Option (List NamedFile) → List ℕ → Option (List ℕ) → Type 0
-IsAt None name content = Unit {0}
-IsAt (Some told) name content = file_in told name ≡ content
+abbrev pub IsFileAt : Option (List NamedFile) → List ℕ → Option (List ℕ) → Type 0
+IsFileAt None name content = Unit {0}
+IsFileAt (Some told) name content = file_in told name ≡ content
 
 -- an answer is this value or this fault, unless memory ran out, or something outside failed, as `Failed` says
 abbrev pub AnswersUnlessOutside : {X Y : Type 0} → (X → Y) → Type 0 → Result X Fault → Result Y Fault → Type 0
@@ -32,7 +32,7 @@ AnswersUnlessOutside view Failed (Err fault) says = says ≡ Err fault
 
 -- the same of what a told folder holds at a name, where its count of faults went from `before` to `after`
 abbrev pub AnswersOfFile : {X Y : Type 0} → (X → Y) → Option (List NamedFile) → List ℕ → ℕ → ℕ → Result X Fault → (Option (List ℕ) → Result Y Fault) → Type 0
-AnswersOfFile view told name before after answer says = (content : Option (List ℕ)) × IsAt told name content × AnswersUnlessOutside view (Rose before after) answer (says content)
+AnswersOfFile view told name before after answer says = (content : Option (List ℕ)) × IsFileAt told name content × AnswersUnlessOutside view (Rose before after) answer (says content)
 
 -- ---- files
 

@@ -14,7 +14,7 @@ use Rattle.sporc_files.specs.declared.fault.Fault.TheVariants as faults
 use Rattle.sporc_files.specs.declared.file.File.TheVariants as files
 use Rattle.sporc_files.specs.Faults.{fault_of_saving}
 use Rattle.sporc_files.specs.Names.{FileNames, file_name}
-use Rattle.sporc_histories.specs.Contents.{AnswersUnlessOutside, IsAt, bytes_in, genesis_in, whole}
+use Rattle.sporc_histories.specs.Contents.{AnswersUnlessOutside, IsFileAt, bytes_in, genesis_in, whole}
 
 -- the files of a server, in the order in which they are read
 pub record ServedFiles : Type 0 where
@@ -23,8 +23,8 @@ pub record ServedFiles : Type 0 where
 
 -- the files of a server, as a folder holds them
 pub record AreServedFiles (told : Option (List NamedFile)) (names : FileNames) (content : ServedFiles) : Type 0 where
-  pub genesis : IsAt told (file_name names files.Genesis) content.genesis
-  pub log : IsAt told (file_name names files.Log) content.log
+  pub genesis : IsFileAt told (file_name names files.Genesis) content.genesis
+  pub log : IsFileAt told (file_name names files.Log) content.log
 
 -- an order of these entries
 abbrev pub order_with : Genesis → List (List ℕ) → OrderModel

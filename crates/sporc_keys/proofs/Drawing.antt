@@ -4,7 +4,7 @@ use Rattle.std.proofs.lemmas.List.{append-nil, drop_all, length-append, length-d
 use Rattle.sporc_base.proofs.ListLemmas.{all_append}
 use Rattle.sporc_outside.specs.Told.{AppendsItem}
 use Rattle.sporc_keys.specs.declared.pair.SharedKey.{SharedKey}
-use Rattle.sporc_keys.specs.Drawn.{Draws, DrawsUpTo, Grows}
+use Rattle.sporc_keys.specs.Drawn.{DrawsWords, DrawsWordsUpTo, Grows}
 use Rattle.sporc_keys.specs.Founding.{SharesMore, numbers_in, pairs_of, row}
 
 grows_then : (a b c : Option (List (List ℕ))) (xs ys : List (List ℕ)) → Grows a b xs → Grows b c ys → Grows a c (xs ++ ys)
@@ -22,21 +22,21 @@ grows_one None b word p = tt
 grows_one (Some given) None word p = p
 grows_one (Some given) (Some more) word p = p
 
-pub draws_nothing : (a : Option (List (List ℕ))) → Draws a a []
+pub draws_nothing : (a : Option (List (List ℕ))) → DrawsWords a a []
 draws_nothing a = record { sized = tt; told = grows_nothing a }
 
-pub draws_one : (a b : Option (List (List ℕ))) (word : List ℕ) → length word ≡ 32 → AppendsItem a b word → Draws a b (word ∷ [])
+pub draws_one : (a b : Option (List (List ℕ))) (word : List ℕ) → length word ≡ 32 → AppendsItem a b word → DrawsWords a b (word ∷ [])
 draws_one a b word len p = record { sized = (len, tt); told = grows_one a b word p }
 
-pub draws_then : (a b c : Option (List (List ℕ))) (xs ys : List (List ℕ)) → Draws a b xs → Draws b c ys → Draws a c (xs ++ ys)
+pub draws_then : (a b c : Option (List (List ℕ))) (xs ys : List (List ℕ)) → DrawsWords a b xs → DrawsWords b c ys → DrawsWords a c (xs ++ ys)
 draws_then a b c xs ys p q = record { sized = all_append (λ word. length word ≡ 32) xs ys p.sized q.sized; told = grows_then a b c xs ys p.told q.told }
 
-pub draws_two : (a b c : Option (List (List ℕ))) (first second : List ℕ) → length first ≡ 32 → length second ≡ 32 → AppendsItem a b first → AppendsItem b c second → Draws a c (first ∷ second ∷ [])
+pub draws_two : (a b c : Option (List (List ℕ))) (first second : List ℕ) → length first ≡ 32 → length second ≡ 32 → AppendsItem a b first → AppendsItem b c second → DrawsWords a c (first ∷ second ∷ [])
 draws_two a b c first second len_first len_second told_first told_second =
     draws_then a b c (first ∷ []) (second ∷ []) (draws_one a b first len_first told_first) (draws_one b c second len_second told_second)
 
 -- these words, and then at most so many
-pub up_to_then : (n most : ℕ) (a b c : Option (List (List ℕ))) (xs : List (List ℕ)) → length xs + n ≤ most → Draws a b xs → DrawsUpTo n b c → DrawsUpTo most a c
+pub up_to_then : (n most : ℕ) (a b c : Option (List (List ℕ))) (xs : List (List ℕ)) → length xs + n ≤ most → DrawsWords a b xs → DrawsWordsUpTo n b c → DrawsWordsUpTo most a c
 up_to_then n most a b c xs few drawn more =
     (xs ++ more.0, omega (arith, few, more.1, length-append xs more.0), draws_then a b c xs more.0 drawn more.2)
 
@@ -46,7 +46,7 @@ shares_nothing a old = ([], sym (append-nil old), refl, draws_nothing a)
 pub shares_then : (a b c : Option (List (List ℕ))) (ps qs : List (ℕ × ℕ)) (old mid new : List SharedKey) → SharesMore a b ps old mid → SharesMore b c qs mid new → SharesMore a c (ps ++ qs) old new
 shares_then a b c ps qs old mid new p q =
     let keys : map (λ s. s.key) (p.0 ++ q.0) ≡ map (λ s. s.key) p.0 ++ map (λ s. s.key) q.0 = map-append (λ s. s.key) p.0 q.0 in
-    let D : List (List ℕ) → Type 0 = λ words. Draws a c words in (
+    let D : List (List ℕ) → Type 0 = λ words. DrawsWords a c words in (
       p.0 ++ q.0,
       q.1 ∙ ap (λ (t : List SharedKey). t ++ q.0) p.1 ∙ append_assoc old p.0 q.0,
       map-append numbers_in p.0 q.0 ∙ ap (λ (t : List (ℕ × ℕ)). t ++ map numbers_in q.0) p.2 ∙ ap (λ (t : List (ℕ × ℕ)). ps ++ t) q.2,
@@ -54,8 +54,8 @@ shares_then a b c ps qs old mid new p q =
     )
 
 -- keys for these pairs, and then at most so many words
-shares_up_to : (n most : ℕ) (a b c : Option (List (List ℕ))) (ps : List (ℕ × ℕ)) (old new : List SharedKey) → length ps + n ≤ most → SharesMore a b ps old new → DrawsUpTo n b c
-    → DrawsUpTo most a c
+shares_up_to : (n most : ℕ) (a b c : Option (List (List ℕ))) (ps : List (ℕ × ℕ)) (old new : List SharedKey) → length ps + n ≤ most → SharesMore a b ps old new → DrawsWordsUpTo n b c
+    → DrawsWordsUpTo most a c
 shares_up_to n most a b c ps old new few drawn more =
     let keys : length (map (λ s. s.key) drawn.0) ≡ length drawn.0 = length-map drawn.0 (λ s. s.key) in
     let pairs : length drawn.0 ≡ length ps = sym (length-map drawn.0 numbers_in) ∙ ap length drawn.2 in
@@ -69,7 +69,7 @@ length_row first numbers = length-map numbers (λ m. (first, m))
 
 -- a part of a row, and then at most so many words
 pub row_up_to : (n : ℕ) (a b c : Option (List (List ℕ))) (first : ℕ) (numbers : List ℕ) (i : ℕ) (old new : List SharedKey) → i + n ≤ length numbers
-    → SharesMore a b (row first (take i numbers)) old new → DrawsUpTo n b c → DrawsUpTo (length numbers) a c
+    → SharesMore a b (row first (take i numbers)) old new → DrawsWordsUpTo n b c → DrawsWordsUpTo (length numbers) a c
 row_up_to n a b c first numbers i old new few drawn more =
     shares_up_to n (length numbers) a b c (row first (take i numbers)) old new (omega (arith, few, length_row first (take i numbers), length-take i numbers)) drawn more
 
@@ -105,7 +105,7 @@ all_rows a b numbers i new le rows =
 
 -- whole rows, and then a part of the next
 pub rows_up_to : (a b c : Option (List (List ℕ))) (numbers : List ℕ) (i : ℕ) (mid : List SharedKey) → i < length numbers
-    → Rows a b numbers i mid → DrawsUpTo (length (take (length numbers - i) (drop i numbers))) b c → DrawsUpTo (length (pairs_of numbers)) a c
+    → Rows a b numbers i mid → DrawsWordsUpTo (length (take (length numbers - i) (drop i numbers))) b c → DrawsWordsUpTo (length (pairs_of numbers)) a c
 rows_up_to a b c numbers i mid lt so_far more =
     let all_left : take (length numbers - i) (drop i numbers) ≡ drop i numbers = take_all (length numbers - i) (drop i numbers) (omega (arith, length-drop i numbers)) in
     let cut : drop i numbers ≡ get_or numbers i 0 ∷ drop (suc i) numbers = drop-cons numbers i 0 lt in

@@ -23,7 +23,7 @@ use Rattle.sporc_keys.specs.declared.pair.SharedKey.{SharedKey}
 use Rattle.sporc_keys.specs.declared.ring_file.PairKey.{PairKey}
 use Rattle.sporc_keys.specs.declared.ring_file.RingFile.{RingFile}
 use Rattle.sporc_keys.specs.Founding.{CanFound, IsFounding, IsKnownKey, SharesMore, found_of, numbers_in, epoch_key_of, founders_in, genesis_of, in_order, is_first_admin, number_of, numbers_of, pair_keys_of, pairs_of, ring_of, row, shared_by, shared_keys, words_for}
-use Rattle.sporc_keys.specs.Drawn.{Draws, DrawsUpTo}
+use Rattle.sporc_keys.specs.Drawn.{DrawsWords, DrawsWordsUpTo}
 use Rattle.sporc_keys.specs.RingFile.{IsPairKey, IsRingFile, members_of}
 use Rattle.sporc_keys.proofs.Ascending.{Ascends, ascends_below, ascends_increasing}
 use Rattle.sporc_keys.proofs.Drawing.{draws_then, draws_two}
@@ -182,13 +182,13 @@ rings_are all key words made = some_rings all all key words made made.ordered.me
 pub record Words (before after : Option (List (List ℕ))) (all : List Named) (first key : List ℕ) (shared : List SharedKey) : Type 0 where
   pub two : (length first ≡ 32) × (length key ≡ 32)
   pub pairs : map numbers_in shared ≡ pairs_of (numbers_of all)
-  pub drawn : Draws before after (first ∷ key ∷ map (λ s. s.key) shared)
+  pub drawn : DrawsWords before after (first ∷ key ∷ map (λ s. s.key) shared)
 
 pub words_are : (a b c d : Option (List (List ℕ))) (all : List Named) (numbers first key : List ℕ) (shared : List SharedKey) → numbers ≡ numbers_of all → length first ≡ 32 → length key ≡ 32
     → AppendsItem a b first → AppendsItem b c key → SharesMore c d (pairs_of numbers) [] shared → Words a d all first key shared
 words_are a b c d all numbers first key shared same len_first len_key told_first told_key more =
-    let two : Draws a c (first ∷ key ∷ []) = draws_two a b c first key len_first len_key told_first told_key in
-    let P : List SharedKey → Type 0 = λ s. (map numbers_in s ≡ pairs_of numbers) × Draws c d (map (λ s. s.key) s) in
+    let two : DrawsWords a c (first ∷ key ∷ []) = draws_two a b c first key len_first len_key told_first told_key in
+    let P : List SharedKey → Type 0 = λ s. (map numbers_in s ≡ pairs_of numbers) × DrawsWords c d (map (λ s. s.key) s) in
     let m : P shared = subst P (sym more.1) (more.2, more.3) in
     record {
       two = (len_first, len_key);
@@ -208,7 +208,7 @@ words_count a d all first key shared words = length-map shared (λ s. s.key) ∙
 
 -- all the words that a founding takes are drawn
 pub all_drawn : (a b c d : Option (List (List ℕ))) (all : List Named) (numbers first key : List ℕ) (shared : List SharedKey) → numbers ≡ numbers_of all → length first ≡ 32 → length key ≡ 32
-    → AppendsItem a b first → AppendsItem b c key → SharesMore c d (pairs_of numbers) [] shared → DrawsUpTo (words_for all) a d
+    → AppendsItem a b first → AppendsItem b c key → SharesMore c d (pairs_of numbers) [] shared → DrawsWordsUpTo (words_for all) a d
 all_drawn a b c d all numbers first key shared same len_first len_key told_first told_key more =
     let words : Words a d all first key shared = words_are a b c d all numbers first key shared same len_first len_key told_first told_key more in
     (first ∷ key ∷ map (λ s. s.key) shared, omega (arith, words_count a d all first key shared words), words.drawn)

@@ -9,10 +9,10 @@ Grows (Some given) None words = ⊥
 Grows (Some given) (Some more) words = more ≡ given ++ words
 
 -- these words of 32 bytes are drawn, in their order
-pub record Draws (before after : Option (List (List ℕ))) (words : List (List ℕ)) : Type 0 where
+pub record DrawsWords (before after : Option (List (List ℕ))) (words : List (List ℕ)) : Type 0 where
   pub sized : AllByRecursion (λ word. length word ≡ 32) words
   pub told : Grows before after words
 
--- at most so many words are drawn, as `Draws` says
-abbrev pub DrawsUpTo : ℕ → Option (List (List ℕ)) → Option (List (List ℕ)) → Type 0
-DrawsUpTo most before after = (words : List (List ℕ)) × (length words ≤ most) × Draws before after words
+-- at most so many words are drawn, as `DrawsWords` says
+abbrev pub DrawsWordsUpTo : ℕ → Option (List (List ℕ)) → Option (List (List ℕ)) → Type 0
+DrawsWordsUpTo most before after = (words : List (List ℕ)) × (length words ≤ most) × DrawsWords before after words

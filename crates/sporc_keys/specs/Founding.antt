@@ -14,7 +14,7 @@ use Rattle.sporc_keys.specs.declared.named.Named.TheVariants as named
 use Rattle.sporc_keys.specs.declared.pair.SharedKey.{SharedKey}
 use Rattle.sporc_keys.specs.declared.ring_file.PairKey.{PairKey}
 use Rattle.sporc_keys.specs.declared.ring_file.RingFile.{RingFile}
-use Rattle.sporc_keys.specs.Drawn.{Draws}
+use Rattle.sporc_keys.specs.Drawn.{DrawsWords}
 
 -- ---- the named
 
@@ -85,7 +85,7 @@ numbers_in s = (s.first, s.second)
 -- more keys, for these pairs in their order, one drawn word after another
 abbrev pub SharesMore : Option (List (List ℕ)) → Option (List (List ℕ)) → List (ℕ × ℕ) → List SharedKey → List SharedKey → Type 0
 SharesMore before after pairs old new =
-    (more : List SharedKey) × (new ≡ old ++ more) × (map numbers_in more ≡ pairs) × Draws before after (map (λ s. s.key) more)
+    (more : List SharedKey) × (new ≡ old ++ more) × (map numbers_in more ≡ pairs) × DrawsWords before after (map (λ s. s.key) more)
 
 -- the key that a member has of a pair, if it is one of the two: under the number of the other
 abbrev pub pair_key_of : ℕ → SharedKey → Option PairKey
@@ -133,4 +133,4 @@ words_for all = 2 + length (pairs_of (numbers_of all))
 abbrev pub IsFounding : Option (List (List ℕ)) → Option (List (List ℕ)) → List Named → Founding → Type 0
 IsFounding before after all founding =
     (first key : List ℕ) × (words : List (List ℕ)) × (length words ≡ length (pairs_of (numbers_of all)))
-    × Draws before after (first ∷ key ∷ words) × (founding ≡ found_of all first key words)
+    × DrawsWords before after (first ∷ key ∷ words) × (founding ≡ found_of all first key words)

@@ -8,7 +8,7 @@ use Rattle.lms_leaf.specs.LeafFile.{block_count}
 use Rattle.sporc_keys.specs.declared.key_file.KeyFile.{KeyFile}
 use Rattle.sporc_keys.specs.declared.new_key.NewKey.{NewKey}
 use Rattle.sporc_keys.specs.KeyFile.{private_in}
-use Rattle.sporc_keys.specs.Drawn.{Draws}
+use Rattle.sporc_keys.specs.Drawn.{DrawsWords}
 
 -- the key file of two words: I is the first 16 bytes of the first, SEED the second
 abbrev pub key_file_by : ℕ → LmsType → OtsType → List ℕ → List ℕ → KeyFile
@@ -30,4 +30,4 @@ keygen_of member lms ots first second = made_of (key_file_by member lms ots firs
 -- a key that was made of the two words that a chance gave
 abbrev pub IsKeygen : Option (List (List ℕ)) → Option (List (List ℕ)) → ℕ → LmsType → OtsType → NewKey → Type 0
 IsKeygen before after member lms ots key =
-    (first second : List ℕ) × Draws before after (first ∷ second ∷ []) × (key ≡ keygen_of member lms ots first second)
+    (first second : List ℕ) × DrawsWords before after (first ∷ second ∷ []) × (key ≡ keygen_of member lms ots first second)

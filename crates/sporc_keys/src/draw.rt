@@ -2,7 +2,7 @@
 
 ghost use Rattle.std.specs.Prelude.{◌≡◌, ◌<◌, ◌≤◌, [], Err, length, slice_index, take, OnOk, OnErr, IfOk};
 ghost use Rattle.sporc_outside.specs.Counts.{Rose};
-ghost use Rattle.sporc_keys.specs.Drawn.{DrawsUpTo};
+ghost use Rattle.sporc_keys.specs.Drawn.{DrawsWordsUpTo};
 ghost use Rattle.sporc_keys.specs.Founding.{SharesMore, pairs_of, row};
 
 use crate::fault::DrawFault;
@@ -38,7 +38,7 @@ fn draw_row<C: Chance>(
     ensures ok { OnOk result (SharesMore (C.given chance.old) (C.given chance.new)
         (row first numbers.now) shared.old.items shared.new.items) }
     ensures chance { result ≡ Err DrawFault.Chance → Rose (C.faults chance.old) (C.faults chance.new) }
-    ensures drawn { OnErr result (DrawsUpTo (length numbers.now) (C.given chance.old) (C.given chance.new)) }
+    ensures drawn { OnErr result (DrawsWordsUpTo (length numbers.now) (C.given chance.old) (C.given chance.new)) }
     ensures kept { C.faults chance.old ≤ C.faults chance.new }
 {
     for second in numbers {
@@ -61,7 +61,7 @@ pub(crate) fn draw_pairs<C: Chance>(
     ensures ok { IfOk result (λ shared. SharesMore (C.given chance.old) (C.given chance.new)
         (pairs_of numbers.now) [] shared.items) }
     ensures chance { result ≡ Err DrawFault.Chance → Rose (C.faults chance.old) (C.faults chance.new) }
-    ensures drawn { OnErr result (DrawsUpTo (length (pairs_of numbers.now)) (C.given chance.old) (C.given chance.new)) }
+    ensures drawn { OnErr result (DrawsWordsUpTo (length (pairs_of numbers.now)) (C.given chance.old) (C.given chance.new)) }
     ensures kept { C.faults chance.old ≤ C.faults chance.new }
 {
     let mut shared = Vec::new(alloc);

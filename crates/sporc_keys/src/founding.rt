@@ -4,7 +4,7 @@ ghost use Rattle.std.specs.Prelude.{◌≡◌, ◌≤◌, Err, IfOk, OnErr};
 ghost use Rattle.std.specs.List.{AllByRecursion};
 ghost use Rattle.sporc_entry.specs.Genesis.{IsGenesis};
 ghost use Rattle.sporc_outside.specs.Counts.{Rose};
-ghost use Rattle.sporc_keys.specs.Drawn.{DrawsUpTo};
+ghost use Rattle.sporc_keys.specs.Drawn.{DrawsWordsUpTo};
 ghost use Rattle.sporc_keys.specs.Founding.{CanFound, IsFounding, in_order, numbers_of, words_for};
 ghost use Rattle.sporc_keys.specs.RingFile.{IsRingFile};
 
@@ -46,7 +46,7 @@ pub fn found<C: Chance>(
     ensures genesis { IfOk result (λ founding. IsGenesis founding.genesis) }
     ensures rings { IfOk result (λ founding. AllByRecursion IsRingFile founding.rings) }
     ensures chance { result ≡ Err DrawFault.Chance → Rose (C.faults chance.old) (C.faults chance.new) }
-    ensures drawn { OnErr result (DrawsUpTo (words_for (in_order named.now)) (C.given chance.old) (C.given chance.new)) }
+    ensures drawn { OnErr result (DrawsWordsUpTo (words_for (in_order named.now)) (C.given chance.old) (C.given chance.new)) }
     ensures kept { C.faults chance.old ≤ C.faults chance.new }
 {
     let named = in_order(alloc, named)?;

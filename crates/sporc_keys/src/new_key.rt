@@ -4,7 +4,7 @@ ghost use Rattle.std.specs.Prelude.{◌≡◌, ◌≤◌, Err, IfOk, OnErr};
 ghost use Rattle.lms_leaf.specs.LeafFile.{IsLeafHeight};
 ghost use Rattle.lms_tree.specs.LmsType.{height_of};
 ghost use Rattle.sporc_outside.specs.Counts.{Rose};
-ghost use Rattle.sporc_keys.specs.Drawn.{DrawsUpTo};
+ghost use Rattle.sporc_keys.specs.Drawn.{DrawsWordsUpTo};
 ghost use Rattle.sporc_keys.specs.KeyFile.{IsKeyFile, IsKeyWidth};
 ghost use Rattle.sporc_keys.specs.NewKey.{IsKeygen, made_of};
 
@@ -40,7 +40,7 @@ pub fn keygen<C: Chance>(
     ensures ok { IfOk result (λ key. IsKeygen (C.given chance.old) (C.given chance.new) member lms ots key) }
     ensures spelled { IfOk result (λ key. IsKeyFile key.file) }
     ensures chance { result ≡ Err DrawFault.Chance → Rose (C.faults chance.old) (C.faults chance.new) }
-    ensures drawn { OnErr result (DrawsUpTo 2 (C.given chance.old) (C.given chance.new)) }
+    ensures drawn { OnErr result (DrawsWordsUpTo 2 (C.given chance.old) (C.given chance.new)) }
     ensures kept { C.faults chance.old ≤ C.faults chance.new }
 {
     let first = chance.fill32()?;

@@ -37,7 +37,7 @@ use Rattle.sporc_script.specs.declared.roster_change.RosterChange.TheVariants as
 use Rattle.sporc_script.specs.declared.play_line.PlayLine.{PlayLine}
 use Rattle.sporc_play.specs.Cast.{member_change, setup_of, tree_of}
 use Rattle.sporc_play.specs.Logs.{change_events, discard_events, edit_logged, logged_unless}
-use Rattle.sporc_play.specs.Scene.{Act, Scene, adds, cuts, delta_by, edit_events, entry_at, flip_byte, flips, gives, if_open, marks_of, nothing, restarts, seen_by}
+use Rattle.sporc_play.specs.Scene.{Effect, Scene, adds, cuts, delta_by, edit_events, entry_at, flip_byte, flips, gives, if_open, marks_of, nothing, restarts, seen_by}
 use Rattle.sporc_play.proofs.OwnKeys.{own_key_len}
 use Rattle.sporc_play.proofs.ByteFacts.{AreBytes, bytes_take, is_bytes}
 use Rattle.sporc_play.proofs.ByteClients.{IsByteChange, IsByteEvent}
@@ -51,7 +51,7 @@ pub no_act : (s : Setup) (scene : Scene) → MayAct s scene nothing
 no_act s scene = record { run = tt; typed = tt; bytes = tt; entries = tt }
 
 -- what a client does, if there is one
-pub open_acts : (s : Setup) (scene : Scene) (m : ℕ) (act : PlainClient → Act) → ((c : PlainClient) → scene.world.clients m ≡ Some c → MayAct s scene (act c)) → MayAct s scene (if_open (scene.world.clients m) act)
+pub open_acts : (s : Setup) (scene : Scene) (m : ℕ) (act : PlainClient → Effect) → ((c : PlainClient) → scene.world.clients m ≡ Some c → MayAct s scene (act c)) → MayAct s scene (if_open (scene.world.clients m) act)
 open_acts s scene m act each = go (scene.world.clients m) each
   where
     go : (o : Option PlainClient) → ((c : PlainClient) → o ≡ Some c → MayAct s scene (act c)) → MayAct s scene (if_open o act)

@@ -18,7 +18,7 @@ use Rattle.sporc_play.specs.Cast.{setup_of}
 use Rattle.sporc_play.specs.Generated.{batch, batches, edits, generated_cast, gives, inserts, removes, seen_len, submits, up_to}
 use Rattle.sporc_play.specs.Scene.{Scene, after, after_each, edit_size, opening, text_size}
 use Rattle.sporc_play.specs.Seats.{seated}
-use Rattle.sporc_play.specs.Stage.{AreNamed, Becomes, CanPerform, StandsFor}
+use Rattle.sporc_play.specs.Stage.{IsCast, Becomes, CanPerform, StandsFor}
 use Rattle.sporc_play.proofs.Ready.{asked_grows, can_perform}
 use Rattle.sporc_play.proofs.Reported.{after_push}
 
@@ -67,7 +67,7 @@ seated_by scene state m stands is = subst (λ (ns : List ℕ). Contains ns m) (s
 pub seated_there : (n : ℕ) (state : PlayState) (m : ℕ) → HasRoom n state → IsAsked m → Contains (seated state.seats.items) m
 seated_there n state m room is = seated_by room.scene state m room.stands is
 
-pub can_ask : (state : PlayState) (command : Command) → HasRoom 1 state → AreNamed state command → text_size command ≤ MAX_SCRIPT → CanPerform state command
+pub can_ask : (state : PlayState) (command : Command) → HasRoom 1 state → IsCast state command → text_size command ≤ MAX_SCRIPT → CanPerform state command
 can_ask state command room named short = can_perform generated_cast room.scene state command room.stands room.room named short
 
 -- ---- lists of commands

@@ -35,7 +35,7 @@ use Rattle.sporc_play.specs.Cast.{first_ring, founder_of, has_admin, member_chan
 use Rattle.sporc_play.specs.Logs.{change_events, discard_events, edit_logged, logged_unless}
 use Rattle.sporc_play.specs.Moves.{IsOneRun, moves_from, moves_of}
 use Rattle.sporc_play.specs.OwnPlays.{AreByClients, IsByClients}
-use Rattle.sporc_play.specs.Scene.{Act, Scene, act_of, adds, commands_of, delta_by, edit_events, entries_at, entry_at, gives, if_open, joins, nothing, opening, opening_moves, openings, opens_unless, opens_with, restarts, seen_by, submission_in, submits}
+use Rattle.sporc_play.specs.Scene.{Effect, Scene, effect_of, adds, commands_of, delta_by, edit_events, entries_at, entry_at, gives, if_open, joins, nothing, opening, opening_moves, openings, opens_unless, opens_with, restarts, seen_by, submission_in, submits}
 use Rattle.sporc_play.specs.Scene as scenes
 use Rattle.sporc_play.proofs.Founders.{founders, inserted}
 use Rattle.sporc_play.proofs.OneRun.{one_run}
@@ -74,14 +74,14 @@ all_stay s w (move ∷ moves) made all = all_stay s (after s w move) moves made 
 
 -- ---- what single commands do
 
-record IsOwn (s : Setup) (scene : Scene) (act : Act) : Type 0 where
+record IsOwn (s : Setup) (scene : Scene) (act : Effect) : Type 0 where
   closed : AreClosed s scene.world act.moves
   made : AllByRecursion (IsSigned (after_all s scene.world act.moves)) act.entries
 
 no_own : (s : Setup) (scene : Scene) → IsOwn s scene nothing
 no_own s scene = record { closed = tt; made = tt }
 
-own_if_open : (s : Setup) (scene : Scene) (m : ℕ) (act : PlainClient → Act) → ((c : PlainClient) → scene.world.clients m ≡ Some c → IsOwn s scene (act c)) → IsOwn s scene (if_open (scene.world.clients m) act)
+own_if_open : (s : Setup) (scene : Scene) (m : ℕ) (act : PlainClient → Effect) → ((c : PlainClient) → scene.world.clients m ≡ Some c → IsOwn s scene (act c)) → IsOwn s scene (if_open (scene.world.clients m) act)
 own_if_open s scene m act each = go (scene.world.clients m) each
   where
     go : (o : Option PlainClient) → ((c : PlainClient) → o ≡ Some c → IsOwn s scene (act c)) → IsOwn s scene (if_open o act)
@@ -140,7 +140,7 @@ own_join s scene m (Ok entries) None = hinted (hints_of entries m (s.pairs m))
     hinted (Ok ring) = opened ring (first_of (open_checks s.genesis (get ring 0)))
     hinted (Err fault) = no_own s scene
 
-own_act : (s : Setup) (scene : Scene) (c : Command) → IsByClients c → AllByRecursion (IsSigned scene.world) scene.made → IsOwn s scene (act_of s scene c)
+own_act : (s : Setup) (scene : Scene) (c : Command) → IsByClients c → AllByRecursion (IsSigned scene.world) scene.made → IsOwn s scene (effect_of s scene c)
 own_act s scene (commands.Edit e) by all = own_if_open s scene e.member (λ c. adds e.member (edit_events e c)) (λ c at. own_edit s scene e.member c (seen_by c e.seen) (delta_by c (seen_by c e.seen) e.change))
 own_act s scene (commands.Change e) by all =
     own_if_open s scene e.member (λ c. adds e.member (change_events (member_change s e.change) c))
@@ -177,7 +177,7 @@ lines_by_clients (l ∷ ls) by = (λ scene. by.0, lines_by_clients ls by.1)
 closed_from : (s : Setup) (scene : Scene) (asked : List (Scene → Command)) → AllByRecursion AlwaysByClients asked → AllByRecursion (IsSigned scene.world) scene.made → AreClosed s scene.world (moves_from s scene asked)
 closed_from s scene [] by all = tt
 closed_from s scene (command ∷ asked) by all =
-    let act = act_of s scene (command scene) in
+    let act = effect_of s scene (command scene) in
     let own = own_act s scene (command scene) (by.0 scene) all in
     let world = after_all s scene.world act.moves in
     closed_append s scene.world act.moves (moves_from s (scenes.after s scene (command scene)) asked) own.closed

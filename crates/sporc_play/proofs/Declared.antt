@@ -16,7 +16,7 @@ use Rattle.sporc_play.specs.declared.cast.Cast.{Cast}
 use Rattle.sporc_play.specs.declared.cast.Declared.{Declared}
 use Rattle.sporc_play.specs.declared.seat.Rogue.{Rogue}
 use Rattle.sporc_play.specs.declared.seat.Seat.{Seat}
-use Rattle.sporc_play.specs.Cast.{declared_by, founder_by, founder_of, member_by, public_of, rogue_by, unpaired_by}
+use Rattle.sporc_play.specs.Cast.{declared_member, founder_by, founder_of, member_by, public_of, rogue_by, unpaired_by}
 use Rattle.sporc_play.specs.Opening.{HasRogue, HasSat, HaveDeclared, IsFresh, IsFreshRogue, IsNamed, founders_by}
 use Rattle.sporc_play.specs.Seats.{rogue_numbers, seated}
 
@@ -59,13 +59,13 @@ push_more {Y = Y} f lines l c xs y is some so =
 
 -- the names after one more
 record Names (tree : Tree) (lines : List PlayLine) (l : PlayLine) (cast : Cast) : Type 0 where
-  declared : map (λ d. d.member) cast.declared.items ≡ filter_map (λ l. declared_by l.command) (lines ++ l ∷ [])
+  declared : map (λ d. d.member) cast.declared.items ≡ filter_map (λ l. declared_member l.command) (lines ++ l ∷ [])
   keys : AllByRecursion (λ d. d.key ≡ public_of tree d.member) cast.declared.items
 
-named : (tree : Tree) (lines : List PlayLine) (l : PlayLine) (c : Command) (m : ℕ) (cast new : Cast) (seats : List Seat) (rogues : List Rogue) → HaveDeclared tree lines cast seats rogues → l.command ≡ c → declared_by c ≡ Some m → IsNamed m cast new → Names tree lines l new
+named : (tree : Tree) (lines : List PlayLine) (l : PlayLine) (c : Command) (m : ℕ) (cast new : Cast) (seats : List Seat) (rogues : List Rogue) → HaveDeclared tree lines cast seats rogues → l.command ≡ c → declared_member c ≡ Some m → IsNamed m cast new → Names tree lines l new
 named tree lines l c m cast new seats rogues known is own did = record {
   declared = ap (map (λ (d : Declared). d.member)) did.declared ∙ map_push (λ (d : Declared). d.member) cast.declared.items (record { member = m; key = public_of cast.tree m })
-      ∙ push_more declared_by lines l c (map (λ (d : Declared). d.member) cast.declared.items) m is own known.declared;
+      ∙ push_more declared_member lines l c (map (λ (d : Declared). d.member) cast.declared.items) m is own known.declared;
   keys = subst (AllByRecursion (λ (d : Declared). d.key ≡ public_of tree d.member)) (sym did.declared)
       (all_push (λ (d : Declared). d.key ≡ public_of tree d.member) cast.declared.items (record { member = m; key = public_of cast.tree m }) known.keys (ap (λ (t : Tree). public_of t m) known.tree_is));
 }
@@ -129,7 +129,7 @@ pub unpaired_declared : (tree : Tree) (lines : List PlayLine) (l : PlayLine) (p 
     → new.unpaired.items ≡ cast.unpaired.items ++ p ∷ [] → new.tree ≡ cast.tree → new.declared.items ≡ cast.declared.items → new.founders.items ≡ cast.founders.items → HaveDeclared tree (lines ++ l ∷ []) new seats rogues
 unpaired_declared tree lines l p cast new seats rogues known is pushed tree_is declared founders = record {
   tree_is = tree_is ∙ known.tree_is;
-  declared = same_more declared_by lines l (commands.Unpaired p) (map (λ (d : Declared). d.member) new.declared.items) is refl (ap (map (λ (d : Declared). d.member)) declared ∙ known.declared);
+  declared = same_more declared_member lines l (commands.Unpaired p) (map (λ (d : Declared). d.member) new.declared.items) is refl (ap (map (λ (d : Declared). d.member)) declared ∙ known.declared);
   keys = subst (AllByRecursion (λ (d : Declared). d.key ≡ public_of tree d.member)) (sym declared) known.keys;
   unpaired = pushed ∙ push_more unpaired_by lines l (commands.Unpaired p) cast.unpaired.items p is refl known.unpaired;
   founders = founders ∙ known.founders ∙ sym (founders_same tree lines l (ap founder_by is));
@@ -141,7 +141,7 @@ unpaired_declared tree lines l p cast new seats rogues known is pushed tree_is d
 
 -- a line that declares nothing
 record DeclaresNone (c : Command) : Type 0 where
-  declared : declared_by c ≡ None
+  declared : declared_member c ≡ None
   unpaired : unpaired_by c ≡ None
   founder : founder_by c ≡ None
   member : member_by c ≡ None
@@ -161,7 +161,7 @@ none_declared tree lines l cast seats rogues a b d e known =
     let none = nothing_declared l.command a b d e in
     record {
       tree_is = known.tree_is;
-      declared = same_more declared_by lines l l.command (map (λ (x : Declared). x.member) cast.declared.items) refl none.declared known.declared;
+      declared = same_more declared_member lines l l.command (map (λ (x : Declared). x.member) cast.declared.items) refl none.declared known.declared;
       keys = known.keys;
       unpaired = same_more unpaired_by lines l l.command cast.unpaired.items refl none.unpaired known.unpaired;
       founders = known.founders ∙ sym (founders_same tree lines l none.founder);

@@ -20,7 +20,7 @@ use Rattle.sporc_play.specs.declared.seat.Seat.{Seat}
 use Rattle.sporc_play.specs.declared.state.PlayState.{PlayState}
 use Rattle.sporc_play.specs.Cast.{setup_of}
 use Rattle.sporc_play.specs.Joined.{client_with, seat_by, seat_joined, seat_open, seat_unless}
-use Rattle.sporc_play.specs.Scene.{Act, Scene, joins, opens_unless, opens_with}
+use Rattle.sporc_play.specs.Scene.{Effect, Scene, joins, opens_unless, opens_with}
 use Rattle.sporc_play.specs.Seats.{IsReady, IsSeatAt}
 use Rattle.sporc_play.specs.Stage.{Holds, IsSeatOf, IsSignerOf, StandsFor}
 use Rattle.sporc_play.proofs.Commands.{seat_there}
@@ -28,7 +28,7 @@ use Rattle.sporc_play.proofs.Moved.{AreOf, client_opened, log_moved}
 use Rattle.sporc_play.proofs.Seating.{ChangesSeat, Does, same_for_all, same_for_others, seat_kept, stands_seat, with_client}
 
 -- a join makes no entries, and moves the joiner's client alone
-record Quiet (m : ℕ) (act : Act) : Type 0 where
+record Quiet (m : ℕ) (act : Effect) : Type 0 where
   moves : AreOf m act.moves
   entries : act.entries ≡ []
 

@@ -19,8 +19,8 @@ use Rattle.sporc_script.specs.declared.play_line.PlayLine.{PlayLine}
 use Rattle.sporc_play.specs.declared.seat.Seat.{Seat}
 use Rattle.sporc_play.specs.declared.state.PlayState.{PlayState}
 use Rattle.sporc_play.specs.Cast.{setup_of}
-use Rattle.sporc_play.specs.Report.{Compares, Stands, chain_of, compare_line, flip_line, flipped_line}
-use Rattle.sporc_play.specs.Scene.{Act, Scene, cuts, entry_at, flip_byte, flipped, flips, performed}
+use Rattle.sporc_play.specs.Report.{Compares, Stands, hashes_of, compare_line, flip_line, flipped_line}
+use Rattle.sporc_play.specs.Scene.{Effect, Scene, cuts, entry_at, flip_byte, flipped, flips, performed}
 use Rattle.sporc_play.specs.Seats.{IsSeatAt}
 use Rattle.sporc_play.specs.Stage.{AreOfOneDocument, Becomes, HasSameMembers, StandsFor, AppendsLineOf}
 use Rattle.sporc_play.proofs.Becoming.{entries_of}
@@ -35,7 +35,7 @@ pub flip_becomes : (old new : PlayState) (f : Flip) (entries : List (List ℕ)) 
 flip_becomes old new f entries same grown act script scene stands =
     let s = setup_of script in
     let is : flips f.at (entry_at scene.made f.entry) ≡ makes entries = ap (λ (es : List (List ℕ)). flips f.at (entry_at es f.entry)) (sym stands.made) ∙ act in
-    subst (λ (a : Act). StandsFor script (performed s scene (commands.Flip f) a) new) (sym is)
+    subst (λ (a : Effect). StandsFor script (performed s scene (commands.Flip f) a) new) (sym is)
     (made_stands script scene (performed s scene (commands.Flip f) (makes entries)) old new stands same
     (λ m. record { client = refl; log = refl; last = refl; asked = refl; leaves = refl })
     (grown ∙ ap (λ (es : List (List ℕ)). es ++ entries) stands.made))
@@ -45,7 +45,7 @@ pub cut_becomes : (old new : PlayState) (number : ℕ) (entries : List (List ℕ
 cut_becomes old new number entries same grown act script scene stands =
     let s = setup_of script in
     let is : cuts (entry_at scene.made number) ≡ makes entries = ap (λ (es : List (List ℕ)). cuts (entry_at es number)) (sym stands.made) ∙ act in
-    subst (λ (a : Act). StandsFor script (performed s scene (commands.Cut number) a) new) (sym is)
+    subst (λ (a : Effect). StandsFor script (performed s scene (commands.Cut number) a) new) (sym is)
     (made_stands script scene (performed s scene (commands.Cut number) (makes entries)) old new stands same
     (λ m. record { client = refl; log = refl; last = refl; asked = refl; leaves = refl })
     (grown ∙ ap (λ (es : List (List ℕ)). es ++ entries) stands.made))
@@ -97,7 +97,7 @@ found_there script scene state m found stands f = client_there script scene stat
 
 -- ---- their chains
 
-pub chain_is : (c : ClientModel MemoryDiskModel) → chain (genesis_bytes c.opening.genesis) (state_of c).entries ≡ chain_of (state_of c)
+pub chain_is : (c : ClientModel MemoryDiskModel) → chain (genesis_bytes c.opening.genesis) (state_of c).entries ≡ hashes_of (state_of c)
 chain_is c = ap (λ (o : Opening). chain (genesis_bytes o.genesis) (state_of c).entries) (sym (replay_opening c.opening c.log))
 
 first_value : (genesis : List ℕ) (entries : List (List ℕ)) → slice_get (chain genesis entries) 0 ≡ Some (last_value genesis [])
@@ -131,7 +131,7 @@ stands a b Longer same prefix longer forked = longer.0 refl
 stands a b (ForkedAfter k) same prefix longer forked = forked
 
 pub compare_tells : (state : PlayState) (p : Pair) (a b : ClientModel MemoryDiskModel) (v : Verdict) (out out' : List ℕ) → IsFound state p.first (Some a) → IsFound state p.second (Some b)
-    → Stands (chain_of (state_of a)) (chain_of (state_of b)) v → out' ≡ out ++ compare_line p v → AppendsLineOf state (commands.Compare p) out out'
+    → Stands (hashes_of (state_of a)) (hashes_of (state_of b)) v → out' ≡ out ++ compare_line p v → AppendsLineOf state (commands.Compare p) out out'
 compare_tells state p a b v out out' first second stand is script scene stands =
     (compare_line p v, written, is)
   where

@@ -15,7 +15,7 @@ use Rattle.sporc_play.specs.declared.state.PlayState.{PlayState}
 use Rattle.sporc_play.specs.Cast.{setup_of}
 use Rattle.sporc_play.specs.Forged.{forged_entry}
 use Rattle.sporc_play.specs.Report.{line_by, next_number, sign_line}
-use Rattle.sporc_play.specs.Scene.{Act, Scene, after, if_open, leaf_after, performed, signs_by, with_more}
+use Rattle.sporc_play.specs.Scene.{Effect, Scene, after, if_open, leaf_after, performed, signs_by, with_more}
 use Rattle.sporc_play.specs.Seats.{AreDrawn, IsRogueAt}
 use Rattle.sporc_play.specs.Signing.{HasSigned, forged_by, signing_line}
 use Rattle.sporc_play.specs.Stage.{HasSameMembers, IsRogueOf, StandsFor}
@@ -29,7 +29,7 @@ pub rogue_there : (script : List PlayLine) (scene : Scene) (state : PlayState) (
 rogue_there script scene state i m rogue stands at = at_place (IsRogueOf (setup_of script) scene) state.rogues.items i rogue stands.rogues at.there
 
 -- entries alone
-abbrev pub makes : List (List ℕ) → Act
+abbrev pub makes : List (List ℕ) → Effect
 makes entries = record { moves = []; entries = entries }
 
 signs_is : (o : Option (List ℕ)) → signs_by o ≡ makes (option_to_list o)
@@ -57,7 +57,7 @@ sign_stands script scene state state' i f rogue new client made stands at client
     ∙ forged_is s scene f rogue client is at.own ∙ ap (λ (o : Option (List ℕ)). makes (option_to_list o)) (sym forged) in
     let own : new.member ≡ f.member = did.member ∙ at.own in
     let count = length (option_to_list made) in
-    subst (λ (a : Act). StandsFor script (performed s scene (commands.Sign f) a) state') (sym act)
+    subst (λ (a : Effect). StandsFor script (performed s scene (commands.Sign f) a) state') (sym act)
     (stands_rogue script scene (performed s scene (commands.Sign f) (makes (option_to_list made))) state state' i f.member rogue new stands at
     (λ other differs. record {
       client = refl;

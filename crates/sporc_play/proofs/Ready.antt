@@ -12,7 +12,7 @@ use Rattle.sporc_entry.specs.Genesis.{IsGenesis}
 use Rattle.sporc_client.specs.PlainClient.{Opening}
 use Rattle.sporc_client.specs.ClientModel.{ClientModel}
 use Rattle.sporc_client.specs.Run.{Setup}
-use Rattle.sporc_script.specs.Declarations.{declared_by as declarations, is_client, is_rogue, may_follow, names_performers}
+use Rattle.sporc_script.specs.Declarations.{declared_member as declarations, is_client, is_rogue, may_follow, names_performers}
 use Rattle.sporc_script.specs.declared.command.Command.{Command}
 use Rattle.sporc_script.specs.declared.command.Command.TheVariants as commands
 use Rattle.sporc_script.specs.declared.play_line.PlayLine.{PlayLine}
@@ -24,7 +24,7 @@ use Rattle.sporc_play.specs.Cast.{has_admin, member_by, setup_of}
 use Rattle.sporc_play.specs.Playing.{IsShortScript}
 use Rattle.sporc_play.specs.Scene.{Scene, after, after_each, commands_of, opening, scene_at, signer_of, text_size, with_more}
 use Rattle.sporc_play.specs.Seats.{AreDrawn, IsReady, rogue_numbers, seated}
-use Rattle.sporc_play.specs.Stage.{AreNamed, CanPerform, Holds, IsReadyRogue, IsReadySeat, IsRogueOf, IsSeatOf, StandsFor}
+use Rattle.sporc_play.specs.Stage.{IsCast, CanPerform, Holds, IsReadyRogue, IsReadySeat, IsRogueOf, IsSeatOf, StandsFor}
 use Rattle.sporc_play.proofs.Scripts.{client_named, joiner_named, line_at, rogue_named}
 use Rattle.sporc_play.proofs.Sizes.{script_count, script_sizes}
 
@@ -94,7 +94,7 @@ one_document s scene genesis (x ∷ xs) same all = (go x.signer x.client all.0.h
     go signer (Some c) holds = ap (λ (o : Opening). o.genesis) holds.opening ∙ sym same
 
 -- from whom a command names
-pub can_perform : (script : List PlayLine) (scene : Scene) (state : PlayState) (c : Command) → StandsFor script scene state → ((m : ℕ) → scene.asked m + 1 < 2 ^ 32) → AreNamed state c → text_size c ≤ MAX_SCRIPT → CanPerform state c
+pub can_perform : (script : List PlayLine) (scene : Scene) (state : PlayState) (c : Command) → StandsFor script scene state → ((m : ℕ) → scene.asked m + 1 < 2 ^ 32) → IsCast state c → text_size c ≤ MAX_SCRIPT → CanPerform state c
 can_perform script scene state c stands few named short = record {
   named = named;
   seats = ready_seats (setup_of script) scene state.seats.items few stands.seats;
@@ -113,7 +113,7 @@ seated_there : (script : List PlayLine) (scene : Scene) (state : PlayState) (i n
 seated_there script scene state i n stands is = subst (λ (ns : List ℕ). Contains ns n) (members_there script scene state stands) (client_named script i n is)
 
 pub are_named : (script : List PlayLine) (scene : Scene) (state : PlayState) (i : ℕ) (c : Command) → StandsFor script scene state → may_follow (declarations (take i script)) c ≡ true
-    → ((declarations (take i script)).has_admin ≡ true → has_admin script ≡ true) → AreNamed state c
+    → ((declarations (take i script)).has_admin ≡ true → has_admin script ≡ true) → IsCast state c
 are_named script scene state i (commands.Edit e) stands may founded = seated_there script scene state i e.member stands (and_parts (declarations (take i script)).has_admin (is_client (declarations (take i script)) e.member) may).1
 are_named script scene state i (commands.Change e) stands may founded =
     let d = declarations (take i script) in

@@ -16,7 +16,7 @@ use Rattle.sporc_script.specs.declared.play_line.PlayLine.{PlayLine}
 use Rattle.sporc_play.specs.Cast.{first_ring, has_admin, openers_by, setup_of}
 use Rattle.sporc_play.specs.Derived.{first_key}
 use Rattle.sporc_play.specs.Moves.{IsOneRun, moment, moves_from, moves_of}
-use Rattle.sporc_play.specs.Scene.{Act, Scene, act_of, after, after_each, opening, opening_moves, openings}
+use Rattle.sporc_play.specs.Scene.{Effect, Scene, effect_of, after, after_each, opening, opening_moves, openings}
 use Rattle.sporc_play.proofs.ByteClients.{AreByteClients, AreByteKeys, IsByteMove, moves_bytes}
 use Rattle.sporc_play.proofs.ByteFacts.{AreBytes, bytes_sha}
 
@@ -25,14 +25,14 @@ use Rattle.sporc_play.proofs.ByteFacts.{AreBytes, bytes_sha}
 moves_world : (s : Setup) (scene : Scene) (commands : List (Scene → Command)) → (after_each s scene commands).world ≡ after_all s scene.world (moves_from s scene commands)
 moves_world s scene [] = refl
 moves_world s scene (c ∷ cs) =
-    moves_world s (after s scene (c scene)) cs ∙ sym (after_append s scene.world (act_of s scene (c scene)).moves (moves_from s (after s scene (c scene)) cs))
+    moves_world s (after s scene (c scene)) cs ∙ sym (after_append s scene.world (effect_of s scene (c scene)).moves (moves_from s (after s scene (c scene)) cs))
 
 moves_append : (s : Setup) (scene : Scene) (xs ys : List (Scene → Command)) → moves_from s scene (xs ++ ys) ≡ moves_from s scene xs ++ moves_from s (after_each s scene xs) ys
 moves_append s scene [] ys = refl
 moves_append s scene (c ∷ cs) ys =
     let scene' = after s scene (c scene) in
-    ap (λ (moves : List Move). (act_of s scene (c scene)).moves ++ moves) (moves_append s scene' cs ys)
-    ∙ sym (append_assoc (act_of s scene (c scene)).moves (moves_from s scene' cs) (moves_from s (after_each s scene' cs) ys))
+    ap (λ (moves : List Move). (effect_of s scene (c scene)).moves ++ moves) (moves_append s scene' cs ys)
+    ∙ sym (append_assoc (effect_of s scene (c scene)).moves (moves_from s scene' cs) (moves_from s (after_each s scene' cs) ys))
 
 take_front : (xs ys : List Move) → take (length xs) (xs ++ ys) ≡ xs
 take_front [] ys = refl
@@ -72,18 +72,18 @@ pub record HasCome (s : Setup) (moves : List Move) (scene : Scene) : Type 0 wher
   pub clients : AreByteClients scene.world
 
 -- what a command does there may happen, and makes bytes
-pub record MayAct (s : Setup) (scene : Scene) (act : Act) : Type 0 where
+pub record MayAct (s : Setup) (scene : Scene) (act : Effect) : Type 0 where
   pub run : IsRun s scene.world act.moves
   pub typed : AllByRecursion IsTypedMove act.moves
   pub bytes : AllByRecursion IsByteMove act.moves
   pub entries : AllByRecursion AreBytes act.entries
 
 abbrev pub MayBe : Setup → (Scene → Command) → Type 0
-MayBe s command = (moves : List Move) (scene : Scene) → HasCome s moves scene → MayAct s scene (act_of s scene (command scene))
+MayBe s command = (moves : List Move) (scene : Scene) → HasCome s moves scene → MayAct s scene (effect_of s scene (command scene))
 
-come_further : (s : Setup) (moves : List Move) (scene : Scene) (command : Command) → HasCome s moves scene → MayAct s scene (act_of s scene command) → HasCome s (moves ++ (act_of s scene command).moves) (after s scene command)
+come_further : (s : Setup) (moves : List Move) (scene : Scene) (command : Command) → HasCome s moves scene → MayAct s scene (effect_of s scene command) → HasCome s (moves ++ (effect_of s scene command).moves) (after s scene command)
 come_further s moves scene command come may =
-    let more = (act_of s scene command).moves in
+    let more = (effect_of s scene command).moves in
     record {
       run = record {
         setup = come.run.setup;
@@ -91,14 +91,14 @@ come_further s moves scene command come may =
         run = run_append s start moves more come.run.run (subst (λ (w : World). IsRun s w more) come.world may.run);
       };
       world = ap (λ (w : World). after_all s w more) come.world ∙ sym (after_append s start moves more);
-      made = all_append AreBytes scene.made (act_of s scene command).entries come.made may.entries;
+      made = all_append AreBytes scene.made (effect_of s scene command).entries come.made may.entries;
       clients = moves_bytes s scene.world more may.bytes come.clients;
     }
 
 pub runs_on : (s : Setup) (moves : List Move) (scene : Scene) (commands : List (Scene → Command)) → HasCome s moves scene → AllByRecursion (MayBe s) commands → IsTypedRun s (moves ++ moves_from s scene commands)
 runs_on s moves scene [] come all = subst (IsTypedRun s) (sym (append-nil moves)) come.run
 runs_on s moves scene (c ∷ cs) come all =
-    let more = (act_of s scene (c scene)).moves in
+    let more = (effect_of s scene (c scene)).moves in
     subst (IsTypedRun s) (append_assoc moves more (moves_from s (after s scene (c scene)) cs))
     (runs_on s (moves ++ more) (after s scene (c scene)) cs (come_further s moves scene (c scene) come (all.0 moves scene come)) all.1)
 

@@ -5,14 +5,14 @@ use Rattle.std.specs.List.{cons_option}
 use Rattle.std.proofs.lemmas.Bool.{and_parts, eqb-true}
 use Rattle.std.proofs.lemmas.List.Elements.{filter_map-append}
 use Rattle.sporc_script.specs.Commands.{InRange}
-use Rattle.sporc_script.specs.Declarations.{Declared, declared_after, declared_by as declarations, is_among, is_client, is_declared, is_rogue, is_joiner, may_declare, may_follow, none_declared}
+use Rattle.sporc_script.specs.Declarations.{Declared, declared_after, declared_member as declarations, is_among, is_client, is_declared, is_rogue, is_joiner, may_declare, may_follow, none_declared}
 use Rattle.sporc_script.specs.Grammar.{IsNext, IsPlayScript, play_line}
 use Rattle.sporc_script.specs.Lines.{ReadsAs, lines_of}
 use Rattle.sporc_script.specs.declared.command.Command.{Command}
 use Rattle.sporc_script.specs.declared.command.Command.TheVariants as commands
 use Rattle.sporc_script.specs.declared.play_line.PlayLine.{PlayLine}
 use Rattle.sporc_play.proofs.Distinct.{AreDistinct, IsNotIn}
-use Rattle.sporc_play.specs.Cast.{declared_by, member_by, rogue_by}
+use Rattle.sporc_play.specs.Cast.{declared_member, member_by, rogue_by}
 use Rattle.sporc_play.proofs.Places.{among_cases, among_front, among_here, among_more, not_in_append, not_in_contains}
 
 -- ---- each line may follow those before it
@@ -49,7 +49,7 @@ line_at text script i l is low at = line_from [] script i l (script_follows text
 -- ---- what is declared, as lists that are read off the lines
 
 abbrev pub numbers : List PlayLine → List ℕ
-numbers lines = filter_map (λ (l : PlayLine). declared_by l.command) lines
+numbers lines = filter_map (λ (l : PlayLine). declared_member l.command) lines
 
 abbrev members : List PlayLine → List ℕ
 members lines = filter_map (λ (l : PlayLine). member_by l.command) lines
@@ -57,7 +57,7 @@ members lines = filter_map (λ (l : PlayLine). member_by l.command) lines
 abbrev rogues : List PlayLine → List ℕ
 rogues lines = filter_map (λ (l : PlayLine). rogue_by l.command) lines
 
-after_numbers : (d : Declared) (c : Command) → (declared_after d c).numbers ≡ d.numbers ++ cons_option (declared_by c) []
+after_numbers : (d : Declared) (c : Command) → (declared_after d c).numbers ≡ d.numbers ++ cons_option (declared_member c) []
 after_numbers d (commands.Member m) = refl
 after_numbers d (commands.Rogue m) = refl
 after_numbers d (commands.Joiner m) = refl
@@ -75,7 +75,7 @@ fold_numbers : (d : Declared) (lines : List PlayLine) → (fold (λ (d : Declare
 fold_numbers d [] = sym (append-nil d.numbers)
 fold_numbers d (l ∷ ls) =
     fold_numbers (declared_after d l.command) ls ∙ ap (λ (ns : List ℕ). ns ++ numbers ls) (after_numbers d l.command)
-    ∙ append_assoc d.numbers (cons_option (declared_by l.command) []) (numbers ls) ∙ ap (λ (ns : List ℕ). d.numbers ++ ns) (option_append (declared_by l.command) (numbers ls))
+    ∙ append_assoc d.numbers (cons_option (declared_member l.command) []) (numbers ls) ∙ ap (λ (ns : List ℕ). d.numbers ++ ns) (option_append (declared_member l.command) (numbers ls))
 
 fold_rogues : (d : Declared) (lines : List PlayLine) → (fold (λ (d : Declared) (l : PlayLine). declared_after d l.command) d lines).rogues ≡ d.rogues ++ rogues lines
 fold_rogues d [] = sym (append-nil d.rogues)
@@ -83,7 +83,7 @@ fold_rogues d (l ∷ ls) =
     fold_rogues (declared_after d l.command) ls ∙ ap (λ (ns : List ℕ). ns ++ rogues ls) (after_rogues d l.command)
     ∙ append_assoc d.rogues (cons_option (rogue_by l.command) []) (rogues ls) ∙ ap (λ (ns : List ℕ). d.rogues ++ ns) (option_append (rogue_by l.command) (rogues ls))
 
-pub numbers_are : (lines : List PlayLine) → (declarations lines).numbers ≡ filter_map (λ (l : PlayLine). declared_by l.command) lines
+pub numbers_are : (lines : List PlayLine) → (declarations lines).numbers ≡ filter_map (λ (l : PlayLine). declared_member l.command) lines
 numbers_are lines = fold_numbers none_declared lines
 
 rogues_are : (lines : List PlayLine) → (declarations lines).rogues ≡ rogues lines
@@ -139,7 +139,7 @@ new_number before n may =
     let b = and_parts (nat_lt (length d.numbers) _) (not (is_declared d n)) a.1 in
     subst (IsNotIn n) (numbers_are before) (not_among d.numbers n (is_not (is_declared d n) b.1))
 
-new_by : (before : List PlayLine) (c : Command) (n : ℕ) → may_follow (declarations before) c ≡ true → declared_by c ≡ Some n → IsNotIn n (numbers before)
+new_by : (before : List PlayLine) (c : Command) (n : ℕ) → may_follow (declarations before) c ≡ true → declared_member c ≡ Some n → IsNotIn n (numbers before)
 new_by before (commands.Member m) n may is = let same : m.member ≡ n = cc in subst (λ (k : ℕ). IsNotIn k (numbers before)) same (new_number before m.member may)
 new_by before (commands.Rogue m) n may is = let same : m.member ≡ n = cc in subst (λ (k : ℕ). IsNotIn k (numbers before)) same (new_number before m.member may)
 new_by before (commands.Joiner m) n may is = let same : m ≡ n = cc in subst (λ (k : ℕ). IsNotIn k (numbers before)) same (new_number before m may)
@@ -153,10 +153,10 @@ apart_push : (ns : List ℕ) (n : ℕ) → AreDistinct ns → IsNotIn n ns → A
 apart_push [] n apart new = (tt, tt)
 apart_push (m ∷ ms) n apart new = (not_in_both m ms (n ∷ []) apart.0 ((λ same. new.0 (sym same)), tt), apart_push ms n apart.1 new.1)
 
-pub numbers_push : (before : List PlayLine) (l : PlayLine) → numbers (before ++ l ∷ []) ≡ numbers before ++ cons_option (declared_by l.command) []
-numbers_push before l = filter_map-append (λ (l : PlayLine). declared_by l.command) before (l ∷ [])
+pub numbers_push : (before : List PlayLine) (l : PlayLine) → numbers (before ++ l ∷ []) ≡ numbers before ++ cons_option (declared_member l.command) []
+numbers_push before l = filter_map-append (λ (l : PlayLine). declared_member l.command) before (l ∷ [])
 
-apart_more : (before : List PlayLine) (l : PlayLine) (o : Option ℕ) → declared_by l.command ≡ o → may_follow (declarations before) l.command ≡ true → AreDistinct (numbers before) → AreDistinct (numbers before ++ cons_option o [])
+apart_more : (before : List PlayLine) (l : PlayLine) (o : Option ℕ) → declared_member l.command ≡ o → may_follow (declarations before) l.command ≡ true → AreDistinct (numbers before) → AreDistinct (numbers before ++ cons_option o [])
 apart_more before l None is may apart = subst AreDistinct (sym (append-nil (numbers before))) apart
 apart_more before l (Some n) is may apart = apart_push (numbers before) n apart (new_by before l.command n may is)
 
@@ -164,14 +164,14 @@ numbers_apart : (before script : List PlayLine) → Follows before script → Ar
 numbers_apart before [] all apart = subst (λ (ls : List PlayLine). AreDistinct (numbers ls)) (sym (append-nil before)) apart
 numbers_apart before (l ∷ ls) all apart =
     subst (λ (xs : List PlayLine). AreDistinct (numbers xs)) (append_assoc before (l ∷ []) ls)
-    (numbers_apart (before ++ l ∷ []) ls all.2 (subst AreDistinct (sym (numbers_push before l)) (apart_more before l (declared_by l.command) refl all.0 apart)))
+    (numbers_apart (before ++ l ∷ []) ls all.2 (subst AreDistinct (sym (numbers_push before l)) (apart_more before l (declared_member l.command) refl all.0 apart)))
 
-pub script_numbers_apart : (text : List ℕ) (script : List PlayLine) → IsPlayScript text script → AreDistinct (filter_map (λ (l : PlayLine). declared_by l.command) script)
+pub script_numbers_apart : (text : List ℕ) (script : List PlayLine) → IsPlayScript text script → AreDistinct (filter_map (λ (l : PlayLine). declared_member l.command) script)
 script_numbers_apart text script is = numbers_apart [] script (script_follows text script is) tt
 
 -- each that is declared is a member or a rogue
 record Splits (c : Command) : Type 0 where
-  parts : ((member_by c ≡ declared_by c) × (rogue_by c ≡ None)) ⊎ ((member_by c ≡ None) × (rogue_by c ≡ declared_by c))
+  parts : ((member_by c ≡ declared_member c) × (rogue_by c ≡ None)) ⊎ ((member_by c ≡ None) × (rogue_by c ≡ declared_member c))
 
 splits : (c : Command) → Splits c
 splits (commands.Rogue m) = record { parts = inr (refl, refl) }
@@ -180,10 +180,10 @@ splits c = record { parts = inl (refl, refl) }
 not_part : (n : ℕ) (lines : List PlayLine) → IsNotIn n (numbers lines) → IsNotIn n (members lines) × IsNotIn n (rogues lines)
 not_part n [] apart = (tt, tt)
 not_part n (l ∷ ls) apart = elim (splits l.command).parts [
-  | inl p ↦ let r = rest (declared_by l.command) apart in let q = not_part n ls r.1 in
-      (subst (λ (o : Option ℕ). IsNotIn n (cons_option o (members ls))) (sym p.0) (first (declared_by l.command) (members ls) apart q.0), subst (λ (o : Option ℕ). IsNotIn n (cons_option o (rogues ls))) (sym p.1) q.1)
-  | inr p ↦ let r = rest (declared_by l.command) apart in let q = not_part n ls r.1 in
-      (subst (λ (o : Option ℕ). IsNotIn n (cons_option o (members ls))) (sym p.0) q.0, subst (λ (o : Option ℕ). IsNotIn n (cons_option o (rogues ls))) (sym p.1) (first (declared_by l.command) (rogues ls) apart q.1))
+  | inl p ↦ let r = rest (declared_member l.command) apart in let q = not_part n ls r.1 in
+      (subst (λ (o : Option ℕ). IsNotIn n (cons_option o (members ls))) (sym p.0) (first (declared_member l.command) (members ls) apart q.0), subst (λ (o : Option ℕ). IsNotIn n (cons_option o (rogues ls))) (sym p.1) q.1)
+  | inr p ↦ let r = rest (declared_member l.command) apart in let q = not_part n ls r.1 in
+      (subst (λ (o : Option ℕ). IsNotIn n (cons_option o (members ls))) (sym p.0) q.0, subst (λ (o : Option ℕ). IsNotIn n (cons_option o (rogues ls))) (sym p.1) (first (declared_member l.command) (rogues ls) apart q.1))
 ]
   where
     rest : (o : Option ℕ) → IsNotIn n (cons_option o (numbers ls)) → Unit {0} × IsNotIn n (numbers ls)
@@ -204,9 +204,9 @@ parts_apart : (lines : List PlayLine) → AreDistinct (numbers lines) → AreDis
 parts_apart [] apart = tt
 parts_apart (l ∷ ls) apart = elim (splits l.command).parts [
   | inl p ↦ subst (λ (o : Option ℕ). AreDistinct (cons_option o (members ls) ++ cons_option (rogue_by l.command) (rogues ls))) (sym p.0)
-      (subst (λ (o : Option ℕ). AreDistinct (cons_option (declared_by l.command) (members ls) ++ cons_option o (rogues ls))) (sym p.1) (as_member (declared_by l.command) apart (parts_apart ls)))
+      (subst (λ (o : Option ℕ). AreDistinct (cons_option (declared_member l.command) (members ls) ++ cons_option o (rogues ls))) (sym p.1) (as_member (declared_member l.command) apart (parts_apart ls)))
   | inr p ↦ subst (λ (o : Option ℕ). AreDistinct (cons_option o (members ls) ++ cons_option (rogue_by l.command) (rogues ls))) (sym p.0)
-      (subst (λ (o : Option ℕ). AreDistinct (members ls ++ cons_option o (rogues ls))) (sym p.1) (as_rogue (declared_by l.command) apart (parts_apart ls)))
+      (subst (λ (o : Option ℕ). AreDistinct (members ls ++ cons_option o (rogues ls))) (sym p.1) (as_rogue (declared_member l.command) apart (parts_apart ls)))
 ]
   where
     as_member : (o : Option ℕ) → AreDistinct (cons_option o (numbers ls)) → (AreDistinct (numbers ls) → AreDistinct (members ls ++ rogues ls)) → AreDistinct (cons_option o (members ls) ++ rogues ls)
@@ -225,7 +225,7 @@ script_apart text script is = parts_apart script (numbers_apart [] script (scrip
 
 part_of : (n : ℕ) (lines : List PlayLine) → Contains (numbers lines) n → Contains (members lines) n ⊎ Contains (rogues lines) n
 part_of n [] is = absurd (omega (arith, is.1))
-part_of n (l ∷ ls) is = elim (among_cases n (declared_by l.command) (numbers ls) is) [
+part_of n (l ∷ ls) is = elim (among_cases n (declared_member l.command) (numbers ls) is) [
   | inl here ↦ elim (splits l.command).parts [
     | inl p ↦ inl (among_here n (member_by l.command) (members ls) (p.0 ∙ here))
     | inr p ↦ inr (among_here n (rogue_by l.command) (rogues ls) (p.1 ∙ here))

@@ -6,7 +6,7 @@ use Rattle.sporc_client.specs.Run.{Setup, World, Move, Open, Happen, Give, Resta
 use Rattle.sporc_client.specs.Answers.{refusal_of}
 use Rattle.sporc_client.specs.Step.{step}
 use Rattle.sporc_script.specs.declared.command.Command.{Command}
-use Rattle.sporc_play.specs.Scene.{Scene, act_of, after, after_each}
+use Rattle.sporc_play.specs.Scene.{Scene, effect_of, after, after_each}
 
 put_open : (clients : ℕ → Option PlainClient) (who m : ℕ) (c : PlainClient) → IsSome (clients m) → IsSome (with_client clients who c m)
 put_open clients who m c is = go (eqb m who)
@@ -39,4 +39,4 @@ open_moves s w (move ∷ moves) m is = open_moves s (after_move s w move) moves 
 
 pub open_each : (s : Setup) (scene : Scene) (commands : List (Scene → Command)) (m : ℕ) → IsSome (scene.world.clients m) → IsSome ((after_each s scene commands).world.clients m)
 open_each s scene [] m is = is
-open_each s scene (c ∷ cs) m is = open_each s (after s scene (c scene)) cs m (open_moves s scene.world (act_of s scene (c scene)).moves m is)
+open_each s scene (c ∷ cs) m is = open_each s (after s scene (c scene)) cs m (open_moves s scene.world (effect_of s scene (c scene)).moves m is)

@@ -23,7 +23,7 @@ use Rattle.sporc_play.specs.declared.state.PlayState.{PlayState}
 use Rattle.sporc_play.specs.Cast.{setup_of}
 use Rattle.sporc_play.specs.Derived.{random_of}
 use Rattle.sporc_play.specs.Report.{line_by, next_number, submit_line}
-use Rattle.sporc_play.specs.Scene.{Act, Scene, after, entries_in, if_open, last_made, leaf_after, performed, submission_in, submits, with_more}
+use Rattle.sporc_play.specs.Scene.{Effect, Scene, after, entries_in, if_open, last_made, leaf_after, performed, submission_in, submits, with_more}
 use Rattle.sporc_play.specs.Seats.{AreDrawn, ClientSubmitted, HasSubmitted, IsReady, IsSeatAt, IsSubmitted, answer_of, last_with, submission_line}
 use Rattle.sporc_play.specs.Stage.{Holds, IsSeatOf, StandsFor}
 use Rattle.sporc_play.proofs.Commands.{seat_there}
@@ -86,7 +86,7 @@ seat_done s scene seat made new is did = go seat.client is did.client
     m : ℕ
     m = seat.member
 
-    F : PlainClient → Act
+    F : PlainClient → Effect
     F c = submits seat.member (submission_in s scene seat.member c)
 
     P : Option PlainClient → Type 0
@@ -155,7 +155,7 @@ of_member : (s : Setup) (scene : Scene) (m : ℕ) (o : Option PlainClient) → A
 of_member s scene m None = tt
 of_member s scene m (Some c) = happens_of m (submission_added 0 (submission_in s scene m c))
 
-same_for_others : (s : Setup) (scene : Scene) (m other : ℕ) (act : Act) → AreOf m act.moves → other ≢ m → IsSameAt other scene (performed s scene (commands.Submit m) act)
+same_for_others : (s : Setup) (scene : Scene) (m other : ℕ) (act : Effect) → AreOf m act.moves → other ≢ m → IsSameAt other scene (performed s scene (commands.Submit m) act)
 same_for_others s scene m other act are differs = record {
   client = clients_other s scene.world act.moves m other are differs;
   log = logs_other s scene.world scene.logs act.moves m other are differs;

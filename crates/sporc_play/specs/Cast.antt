@@ -55,11 +55,11 @@ rogue_by (commands.Rogue m) = Some m.member
 rogue_by command = None
 
 -- anyone who is declared
-abbrev pub declared_by : Command → Option ℕ
-declared_by (commands.Member m) = Some m.member
-declared_by (commands.Rogue m) = Some m.member
-declared_by (commands.Joiner m) = Some m
-declared_by command = None
+abbrev pub declared_member : Command → Option ℕ
+declared_member (commands.Member m) = Some m.member
+declared_member (commands.Rogue m) = Some m.member
+declared_member (commands.Joiner m) = Some m
+declared_member command = None
 
 abbrev pub unpaired_by : Command → Option Pair
 unpaired_by (commands.Unpaired p) = Some p
@@ -124,7 +124,7 @@ with_pair script one keys other = if are_unpaired script one other then keys els
 
 -- with everyone who is declared, unless a line takes the key away
 abbrev pub pairs_of : List PlayLine → ℕ → Keys
-pairs_of script member = fold (with_pair script member) empty (filter_map (λ l. declared_by l.command) script)
+pairs_of script member = fold (with_pair script member) empty (filter_map (λ l. declared_member l.command) script)
 
 -- ---- the document
 

@@ -14,7 +14,7 @@ use Rattle.sporc_script.specs.declared.play_line.PlayLine.{PlayLine}
 use Rattle.sporc_script.specs.declared.text_edit.TextEdit.{TextEdit}
 use Rattle.sporc_script.specs.declared.text_edit.TextEdit.TheVariants.{Insert, Remove}
 use Rattle.sporc_play.specs.Cast.{setup_of}
-use Rattle.sporc_play.specs.Report.{chain_of}
+use Rattle.sporc_play.specs.Report.{hashes_of}
 use Rattle.sporc_play.specs.Scene.{Scene, after_each, opening}
 
 -- ---- what it declares
@@ -84,7 +84,7 @@ generated_scene n = after_each (setup_of generated_cast) (opening generated_cast
 
 -- clients have one list of chain values, and show one text
 abbrev pub AreSame : PlainClient → PlainClient → Type 0
-AreSame a b = (chain_of a ≡ chain_of b) × (shown_of a ≡ shown_of b)
+AreSame a b = (hashes_of a ≡ hashes_of b) × (shown_of a ≡ shown_of b)
 
 abbrev pub AllAgree : PlainClient → PlainClient → PlainClient → Type 0
 AllAgree a b c = AreSame a b × AreSame a c

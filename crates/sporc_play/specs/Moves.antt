@@ -6,12 +6,12 @@ use Rattle.sporc_client.specs.Typed.{IsTypedRun}
 use Rattle.sporc_script.specs.declared.command.Command.{Command}
 use Rattle.sporc_script.specs.declared.play_line.PlayLine.{PlayLine}
 use Rattle.sporc_play.specs.Cast.{setup_of}
-use Rattle.sporc_play.specs.Scene.{Scene, act_of, after, after_each, opening, opening_moves}
+use Rattle.sporc_play.specs.Scene.{Scene, effect_of, after, after_each, opening, opening_moves}
 
 -- the moves of commands, performed one after another from a scene on
 abbrev pub moves_from : Setup → Scene → List (Scene → Command) → List Move
 moves_from s scene [] = []
-moves_from s scene (command ∷ commands) = (act_of s scene (command scene)).moves ++ moves_from s (after s scene (command scene)) commands
+moves_from s scene (command ∷ commands) = (effect_of s scene (command scene)).moves ++ moves_from s (after s scene (command scene)) commands
 
 -- the moves of a play: the founders open their clients, and then what its commands do
 abbrev pub moves_of : List PlayLine → List (Scene → Command) → List Move

@@ -9,7 +9,7 @@ use Rattle.sporc_script.specs.declared.play_line.PlayLine.{PlayLine}
 use Rattle.sporc_play.specs.declared.cast.Cast.{Cast}
 use Rattle.sporc_play.specs.declared.seat.Rogue.{Rogue}
 use Rattle.sporc_play.specs.declared.seat.Seat.{Seat}
-use Rattle.sporc_play.specs.Cast.{declared_by, founder_by, founder_of, member_by, private_of, public_of, rogue_by, unpaired_by}
+use Rattle.sporc_play.specs.Cast.{declared_member, founder_by, founder_of, member_by, private_of, public_of, rogue_by, unpaired_by}
 use Rattle.sporc_play.specs.Seats.{AreDrawn, rogue_numbers, seated}
 
 -- a signer of a member with a blank leaf file
@@ -39,7 +39,7 @@ founders_by tree lines = fold (λ founders m. insert_sorted (founder_of tree m) 
 -- what these lines have declared is there
 pub record HaveDeclared (tree : Tree) (lines : List PlayLine) (cast : Cast) (seats : List Seat) (rogues : List Rogue) : Type 0 where
   pub tree_is : cast.tree ≡ tree
-  pub declared : map (λ d. d.member) cast.declared.items ≡ filter_map (λ l. declared_by l.command) lines
+  pub declared : map (λ d. d.member) cast.declared.items ≡ filter_map (λ l. declared_member l.command) lines
   pub keys : AllByRecursion (λ d. d.key ≡ public_of tree d.member) cast.declared.items
   pub unpaired : cast.unpaired.items ≡ filter_map (λ l. unpaired_by l.command) lines
   pub founders : cast.founders.items ≡ founders_by tree lines

@@ -157,12 +157,12 @@ compare_line p Prefix = decimal p.first ++ (codes " " ++ (decimal p.second ++ co
 compare_line p Longer = decimal p.first ++ (codes " " ++ (decimal p.second ++ codes " longer\n"))
 compare_line p (ForkedAfter k) = decimal p.first ++ (codes " " ++ (decimal p.second ++ (codes " forked after " ++ (decimal k ++ codes "\n"))))
 
-abbrev pub chain_of : PlainClient → List (List ℕ)
-chain_of c = chain (genesis_bytes c.opening.genesis) c.entries
+abbrev pub hashes_of : PlainClient → List (List ℕ)
+hashes_of c = chain (genesis_bytes c.opening.genesis) c.entries
 
 -- if values of both chains meet again after they parted, any place at which they part may stand in the line
 abbrev pub Compares : Pair → Option PlainClient → Option PlainClient → List ℕ → Type 0
-Compares p (Some a) (Some b) line = (v : Verdict) × Stands (chain_of a) (chain_of b) v × (line ≡ compare_line p v)
+Compares p (Some a) (Some b) line = (v : Verdict) × Stands (hashes_of a) (hashes_of b) v × (line ≡ compare_line p v)
 Compares p None b line = line ≡ not_open_line p.first
 Compares p (Some a) None line = line ≡ not_open_line p.second
 

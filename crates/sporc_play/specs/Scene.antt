@@ -48,21 +48,21 @@ pub record Scene : Type 0 where
   pub leaves : ℕ → ℕ
 
 -- what a command does to the clients, and the entries that it makes
-pub record Act : Type 0 where
+pub record Effect : Type 0 where
   pub moves : List Move
   pub entries : List (List ℕ)
 
-abbrev pub nothing : Act
+abbrev pub nothing : Effect
 nothing = record { moves = []; entries = [] }
 
-abbrev pub moved : List Move → Act
+abbrev pub moved : List Move → Effect
 moved moves = record { moves = moves; entries = [] }
 
-abbrev pub made_entry : List ℕ → Act
+abbrev pub made_entry : List ℕ → Effect
 made_entry bytes = record { moves = []; entries = bytes ∷ [] }
 
 -- a client adds these events
-abbrev pub adds : ℕ → List Logged → Act
+abbrev pub adds : ℕ → List Logged → Effect
 adds member events = moved (map (Happen member) events)
 
 -- entry E, counted from 1
@@ -117,16 +117,16 @@ entries_in (Ok submitted.Nothing) = []
 entries_in (Ok (submitted.Dropped fault)) = []
 entries_in (Err fault) = []
 
-abbrev pub submits : ℕ → Result Submitted SubmitFault → Act
+abbrev pub submits : ℕ → Result Submitted SubmitFault → Effect
 submits member answer = record { moves = map (Happen member) (submission_added 0 answer); entries = entries_in answer }
 
 -- ---- what is handed out
 
-abbrev pub gives : ℕ → ℕ → Option (List ℕ) → Act
+abbrev pub gives : ℕ → ℕ → Option (List ℕ) → Effect
 gives member position None = nothing
 gives member position (Some bytes) = moved (Give member position bytes ∷ [])
 
-abbrev pub restarts : ℕ → ℕ → PlainClient → Act
+abbrev pub restarts : ℕ → ℕ → PlainClient → Effect
 restarts member k c = if nat_le k (length c.entries) then moved (Restart member k ∷ []) else nothing
 
 -- ---- joiners
@@ -142,20 +142,20 @@ entries_at made [] = Ok []
 entries_at made (number ∷ numbers) = with_entry number (entry_at made number) (entries_at made numbers)
 
 -- a client opens with the hints that entries give, if there are hints and its line opens
-abbrev pub opens_unless : ℕ → Keys → Option LineOpenFault → Act
+abbrev pub opens_unless : ℕ → Keys → Option LineOpenFault → Effect
 opens_unless member ring None = moved (Open member ring ∷ [])
 opens_unless member ring (Some fault) = nothing
 
-abbrev pub opens_with : Setup → ℕ → Result Keys HintFault → Act
+abbrev pub opens_with : Setup → ℕ → Result Keys HintFault → Effect
 opens_with s member (Ok ring) = opens_unless member ring (first_of (open_checks s.genesis (get ring 0)))
 opens_with s member (Err fault) = nothing
 
-abbrev pub joins_with : Setup → ℕ → Result (List (List ℕ)) ℕ → Act
+abbrev pub joins_with : Setup → ℕ → Result (List (List ℕ)) ℕ → Effect
 joins_with s member (Ok entries) = opens_with s member (hints_of entries member (s.pairs member))
 joins_with s member (Err missing) = nothing
 
 -- one who has a client already does not join
-abbrev pub joins : Setup → ℕ → Result (List (List ℕ)) ℕ → Option PlainClient → Act
+abbrev pub joins : Setup → ℕ → Result (List (List ℕ)) ℕ → Option PlainClient → Effect
 joins s member entries (Some c) = nothing
 joins s member entries None = joins_with s member entries
 
@@ -165,46 +165,46 @@ joins s member entries None = joins_with s member entries
 abbrev pub flipped : ℕ → ℕ
 flipped byte = bit_xor byte 1
 
-abbrev pub flip_byte : List ℕ → ℕ → Option ℕ → Act
+abbrev pub flip_byte : List ℕ → ℕ → Option ℕ → Effect
 flip_byte bytes at None = nothing
 flip_byte bytes at (Some byte) = made_entry (set bytes at (flipped byte))
 
-abbrev pub flips : ℕ → Option (List ℕ) → Act
+abbrev pub flips : ℕ → Option (List ℕ) → Effect
 flips at None = nothing
 flips at (Some bytes) = flip_byte bytes at (slice_get bytes at)
 
-abbrev pub cuts : Option (List ℕ) → Act
+abbrev pub cuts : Option (List ℕ) → Effect
 cuts None = nothing
 cuts (Some bytes) = made_entry (take (length bytes - 1) bytes)
 
 -- ---- rogues
 
-abbrev pub signs_by : Option (List ℕ) → Act
+abbrev pub signs_by : Option (List ℕ) → Effect
 signs_by None = nothing
 signs_by (Some bytes) = made_entry bytes
 
 -- ---- commands
 
 -- what a call of a client does, if there is one
-abbrev pub if_open : Option PlainClient → (PlainClient → Act) → Act
+abbrev pub if_open : Option PlainClient → (PlainClient → Effect) → Effect
 if_open None act = nothing
 if_open (Some c) act = act c
 
-abbrev pub act_of : Setup → Scene → Command → Act
-act_of s scene (commands.Edit e) =
+abbrev pub effect_of : Setup → Scene → Command → Effect
+effect_of s scene (commands.Edit e) =
     if_open (scene.world.clients e.member) (λ c. adds e.member (edit_events e c))
-act_of s scene (commands.Change e) =
+effect_of s scene (commands.Change e) =
     if_open (scene.world.clients e.member) (λ c. adds e.member (change_events (member_change s e.change) c))
-act_of s scene (commands.Discard member) = if_open (scene.world.clients member) (λ c. adds member (discard_events c))
-act_of s scene (commands.Submit member) = if_open (scene.world.clients member) (λ c. submits member (submission_in s scene member c))
-act_of s scene (commands.Give g) = if_open (scene.world.clients g.member) (λ c. gives g.member g.position (entry_at scene.made g.entry))
-act_of s scene (commands.Restart r) = if_open (scene.world.clients r.member) (restarts r.member r.entries)
-act_of s scene (commands.Join j) = joins s j.member (entries_at scene.made j.entries) (scene.world.clients j.member)
-act_of s scene (commands.Flip f) = flips f.at (entry_at scene.made f.entry)
-act_of s scene (commands.Cut entry) = cuts (entry_at scene.made entry)
-act_of s scene (commands.Sign f) =
+effect_of s scene (commands.Discard member) = if_open (scene.world.clients member) (λ c. adds member (discard_events c))
+effect_of s scene (commands.Submit member) = if_open (scene.world.clients member) (λ c. submits member (submission_in s scene member c))
+effect_of s scene (commands.Give g) = if_open (scene.world.clients g.member) (λ c. gives g.member g.position (entry_at scene.made g.entry))
+effect_of s scene (commands.Restart r) = if_open (scene.world.clients r.member) (restarts r.member r.entries)
+effect_of s scene (commands.Join j) = joins s j.member (entries_at scene.made j.entries) (scene.world.clients j.member)
+effect_of s scene (commands.Flip f) = flips f.at (entry_at scene.made f.entry)
+effect_of s scene (commands.Cut entry) = cuts (entry_at scene.made entry)
+effect_of s scene (commands.Sign f) =
     if_open (scene.world.clients f.from) (λ c. signs_by (forged_entry s c f (scene.asked f.member + 1) (leaf_after (s.private f.member) (scene.leaves f.member))))
-act_of s scene command = nothing
+effect_of s scene command = nothing
 
 -- how many bytes the text or the payload of a command has
 abbrev pub what_size : What → ℕ
@@ -239,7 +239,7 @@ last_by last (commands.Submit member) next entries = last_made last member next 
 last_by last command next entries = last
 
 -- a scene after a command
-abbrev pub performed : Setup → Scene → Command → Act → Scene
+abbrev pub performed : Setup → Scene → Command → Effect → Scene
 performed s scene command act = record {
   world = after_all s scene.world act.moves;
   logs = logs_after s scene.world scene.logs act.moves;
@@ -250,7 +250,7 @@ performed s scene command act = record {
 }
 
 abbrev pub after : Setup → Scene → Command → Scene
-after s scene command = performed s scene command (act_of s scene command)
+after s scene command = performed s scene command (effect_of s scene command)
 
 -- those whom these lines declare as founders with clients open them
 abbrev pub openings : List PlayLine → List Move

@@ -96,21 +96,21 @@ pub record HasSameMembers (old new : PlayState) : Type 0 where
 -- ---- commands
 
 -- those whom a command names take part
-abbrev pub AreNamed : PlayState → Command → Type 0
-AreNamed state (commands.Edit e) = Contains (seated state.seats.items) e.member
-AreNamed state (commands.Change e) = Contains (seated state.seats.items) e.member
-AreNamed state (commands.Discard m) = Contains (seated state.seats.items) m
-AreNamed state (commands.Submit m) = Contains (seated state.seats.items) m
-AreNamed state (commands.Give g) = Contains (seated state.seats.items) g.member
-AreNamed state (commands.Restart r) = Contains (seated state.seats.items) r.member
-AreNamed state (commands.Join j) = Contains (seated state.seats.items) j.member × IsGenesis state.genesis
-AreNamed state (commands.Show m) = Contains (seated state.seats.items) m
-AreNamed state (commands.Members m) = Contains (seated state.seats.items) m
-AreNamed state (commands.Hash m) = Contains (seated state.seats.items) m
-AreNamed state (commands.Journal m) = Contains (seated state.seats.items) m
-AreNamed state (commands.Compare p) = Contains (seated state.seats.items) p.first × Contains (seated state.seats.items) p.second
-AreNamed state (commands.Sign f) = Contains (rogue_numbers state.rogues.items) f.member × Contains (seated state.seats.items) f.from
-AreNamed state command = ⊤
+abbrev pub IsCast : PlayState → Command → Type 0
+IsCast state (commands.Edit e) = Contains (seated state.seats.items) e.member
+IsCast state (commands.Change e) = Contains (seated state.seats.items) e.member
+IsCast state (commands.Discard m) = Contains (seated state.seats.items) m
+IsCast state (commands.Submit m) = Contains (seated state.seats.items) m
+IsCast state (commands.Give g) = Contains (seated state.seats.items) g.member
+IsCast state (commands.Restart r) = Contains (seated state.seats.items) r.member
+IsCast state (commands.Join j) = Contains (seated state.seats.items) j.member × IsGenesis state.genesis
+IsCast state (commands.Show m) = Contains (seated state.seats.items) m
+IsCast state (commands.Members m) = Contains (seated state.seats.items) m
+IsCast state (commands.Hash m) = Contains (seated state.seats.items) m
+IsCast state (commands.Journal m) = Contains (seated state.seats.items) m
+IsCast state (commands.Compare p) = Contains (seated state.seats.items) p.first × Contains (seated state.seats.items) p.second
+IsCast state (commands.Sign f) = Contains (rogue_numbers state.rogues.items) f.member × Contains (seated state.seats.items) f.from
+IsCast state command = ⊤
 
 -- a seat is ready for any call: its count has room, and its client can sign, or else its signer may open one
 pub record IsReadySeat (seat : Seat) : Type 0 where
@@ -128,7 +128,7 @@ AreOfOneDocument state = AllByRecursion (λ seat. IfSome seat.client (λ c. c.op
 
 -- a state can perform a command
 pub record CanPerform (state : PlayState) (command : Command) : Type 0 where
-  pub named : AreNamed state command
+  pub named : IsCast state command
   pub seats : AllByRecursion IsReadySeat state.seats.items
   pub rogues : AllByRecursion IsReadyRogue state.rogues.items
   pub one_document : AreOfOneDocument state

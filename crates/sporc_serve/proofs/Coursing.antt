@@ -7,9 +7,9 @@ use Rattle.sporc_entry.specs.declared.genesis.Genesis.{Genesis}
 use Rattle.sporc_turn.specs.declared.known.Known.{Known}
 use Rattle.sporc_turn.specs.Log.{StartsWith}
 use Rattle.sporc_wire.specs.declared.to_server.ToServer.{ToServer}
-use Rattle.sporc_wire.specs.Messages.{Unread, Reads, stream_of, fed, next}
+use Rattle.sporc_wire.specs.Messages.{Unread, HandsOut, stream_of, fed, next}
 use Rattle.sporc_wire.specs.ToServer.{to_server_of}
-use Rattle.sporc_wire.proofs.Readings.{Reads-fed, Reads-next}
+use Rattle.sporc_wire.proofs.Readings.{HandsOut-fed, HandsOut-next}
 use Rattle.sporc_order.specs.declared.session.Answer.{Answer}
 use Rattle.sporc_serve.specs.declared.item.Item.{Item}
 use Rattle.sporc_serve.specs.declared.item.Item.TheVariants.{Placed}
@@ -103,8 +103,8 @@ module _ (g : Genesis) where
   course_fed a b bytes piece xs left faults unread c taken more is = record {
     did = record {
       taken = Consumes-trans a.left b.left left bytes piece c.did.taken taken;
-      reads = subst (λ (u : Unread). Reads to_server_of (stream_of (bytes ++ piece)) (messages_of xs) u) (sym is)
-          (Reads-fed to_server_of (stream_of bytes) piece (messages_of xs) b.unread c.did.reads);
+      reads = subst (λ (u : Unread). HandsOut to_server_of (stream_of (bytes ++ piece)) (messages_of xs) u) (sym is)
+          (HandsOut-fed to_server_of (stream_of bytes) piece (messages_of xs) b.unread c.did.reads);
       greeted = c.did.greeted;
       number = c.did.number;
       start = c.did.start;
@@ -132,9 +132,9 @@ module _ (g : Genesis) where
       let grown = grows_more n a.known.seen false xs b.known.seen x c.did.grows h.adds.begins in
       record {
         taken = c.did.taken;
-        reads = subst (λ (ms : List ToServer). Reads to_server_of (stream_of bytes) ms unread) (sym (map-append (λ (y : Exchange). y.message) xs (x ∷ [])))
-            (subst (λ (u : Unread). Reads to_server_of (stream_of bytes) (messages_of xs ++ m ∷ []) u) (sym after)
-            (Reads-next to_server_of (stream_of bytes) (messages_of xs) b.unread m c.did.reads here));
+        reads = subst (λ (ms : List ToServer). HandsOut to_server_of (stream_of bytes) ms unread) (sym (map-append (λ (y : Exchange). y.message) xs (x ∷ [])))
+            (subst (λ (u : Unread). HandsOut to_server_of (stream_of bytes) (messages_of xs ++ m ∷ []) u) (sym after)
+            (HandsOut-next to_server_of (stream_of bytes) (messages_of xs) b.unread m c.did.reads here));
         greeted = h.greeted_is ∙ ap (λ (s : Bool). (step_at g s x).is_greeted) was ∙ sym (greeted_more false xs x);
         number = h.adds.number ∙ c.did.number;
         start = h.adds.start ∙ c.did.start;

@@ -9,15 +9,15 @@ use Rattle.sporc_wire.specs.declared.cutter.TheConstants.{MAX_BODY}
 use Rattle.sporc_wire.specs.declared.fault.FrameFault.{FrameFault}
 use Rattle.sporc_wire.specs.declared.to_server.ToServer.{ToServer}
 use Rattle.sporc_wire.specs.declared.to_server.ToServer.TheVariants.{Hello, Submit, Pull}
-use Rattle.sporc_wire.specs.Stream.{Front, partial, too_long, whole, body_front, front}
-use Rattle.sporc_wire.specs.Messages.{Unread, next, next_unless, next_front, next_read}
+use Rattle.sporc_wire.specs.Stream.{FirstFrame, partial, too_long, whole, frame_of_len, first_frame}
+use Rattle.sporc_wire.specs.Messages.{Unread, next, next_unless, next_frame, next_read}
 use Rattle.sporc_wire.specs.ToServer.{hello_at, pull_at, to_server_of_kind, to_server_of}
 use Rattle.sporc_order.specs.Sessions.{IsFramed}
 
 -- ---- the body of a frame
 
-body_fits : (len : ℕ) (bytes body more : List ℕ) → body_front len bytes ≡ whole body more → length body ≤ MAX_BODY
-unfolding body_front
+body_fits : (len : ℕ) (bytes body more : List ℕ) → frame_of_len len bytes ≡ whole body more → length body ≤ MAX_BODY
+unfolding frame_of_len
 body_fits len bytes body more is = go (nat_lt MAX_BODY len) refl (nat_lt (length bytes) len) is
   where
     go : (a : Bool) → nat_lt MAX_BODY len ≡ a → (b : Bool)
@@ -28,11 +28,11 @@ body_fits len bytes body more is = go (nat_lt MAX_BODY len) refl (nat_lt (length
         let same : take len bytes ≡ body = cc in
         subst (λ (l : List ℕ). length l ≤ MAX_BODY) same (omega (arith, ltb-false MAX_BODY len e, length-take len bytes))
 
-front_fits : (bytes body more : List ℕ) → front bytes ≡ whole body more → length body ≤ MAX_BODY
-unfolding front
+front_fits : (bytes body more : List ℕ) → first_frame bytes ≡ whole body more → length body ≤ MAX_BODY
+unfolding first_frame
 front_fits bytes body more is = go (nat_lt (length bytes) 4) is
   where
-    go : (a : Bool) → cond a partial (body_front (from_be_bytes w32 (take 4 bytes)) (drop 4 bytes)) ≡ whole body more → length body ≤ MAX_BODY
+    go : (a : Bool) → cond a partial (frame_of_len (from_be_bytes w32 (take 4 bytes)) (drop 4 bytes)) ≡ whole body more → length body ≤ MAX_BODY
     go true h = absurd cc
     go false h = body_fits (from_be_bytes w32 (take 4 bytes)) (drop 4 bytes) body more h
 
@@ -97,11 +97,11 @@ next_framed s m is = by_fault s.fault is
     by_read len rest body fits (Ok n) e h = let same : n ≡ m = cc in subst IsFramed same (to_server_framed body n fits e)
     by_read len rest body fits (Err place) e h = absurd cc
 
-    by_front : (f : Front) → front s.rest ≡ f → (next_front to_server_of s f).answer ≡ Ok (Some m) → IsFramed m
+    by_front : (f : FirstFrame) → first_frame s.rest ≡ f → (next_frame to_server_of s f).answer ≡ Ok (Some m) → IsFramed m
     by_front partial e h = absurd cc
     by_front (too_long len) e h = absurd cc
     by_front (whole body rest) e h = by_read (length body) rest body (front_fits s.rest body rest e) (to_server_of body) refl h
 
     by_fault : (f : Option FrameFault) → (next_unless to_server_of s f).answer ≡ Ok (Some m) → IsFramed m
     by_fault (Some fault) h = absurd cc
-    by_fault None h = by_front (front s.rest) refl h
+    by_fault None h = by_front (first_frame s.rest) refl h

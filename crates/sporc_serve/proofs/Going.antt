@@ -7,8 +7,8 @@ use Rattle.sporc_entry.specs.declared.genesis.Genesis.{Genesis}
 use Rattle.sporc_turn.specs.declared.known.Known.{Known}
 use Rattle.sporc_wire.specs.declared.fault.FrameFault.{FrameFault}
 use Rattle.sporc_wire.specs.declared.to_server.ToServer.{ToServer}
-use Rattle.sporc_wire.specs.Stream.{Front, partial, too_long, whole, front}
-use Rattle.sporc_wire.specs.Messages.{Unread, fed, next, next_unless, next_front, next_read}
+use Rattle.sporc_wire.specs.Stream.{FirstFrame, partial, too_long, whole, first_frame}
+use Rattle.sporc_wire.specs.Messages.{Unread, fed, next, next_unless, next_frame, next_read}
 use Rattle.sporc_wire.specs.ToServer.{to_server_of}
 use Rattle.sporc_order.specs.declared.session.Answer.{Answer}
 use Rattle.sporc_serve.specs.declared.end.SessionEnd.{SessionEnd}
@@ -29,14 +29,14 @@ next_waits {M = M} read s waits = by_fault s.fault waits
     by_read len rest (Ok m) h = absurd cc
     by_read len rest (Err place) h = absurd cc
 
-    by_front : (f : Front) → (next_front read s f).answer ≡ Ok None → (next_front read s f).after ≡ s
+    by_front : (f : FirstFrame) → (next_frame read s f).answer ≡ Ok None → (next_frame read s f).after ≡ s
     by_front partial h = refl
     by_front (too_long len) h = absurd cc
     by_front (whole body rest) h = by_read (length body) rest (read body) h
 
     by_fault : (f : Option FrameFault) → (next_unless read s f).answer ≡ Ok None → (next_unless read s f).after ≡ s
     by_fault (Some fault) h = absurd cc
-    by_fault None h = by_front (front s.rest) h
+    by_fault None h = by_front (first_frame s.rest) h
 
 -- a link that was given nothing
 written_as : (g : Genesis) (a b : ServerStand) (bytes : List ℕ) (xs : List Exchange) (written : Option (List ℕ)) → written ≡ b.written

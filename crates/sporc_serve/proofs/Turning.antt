@@ -20,7 +20,7 @@ use Rattle.sporc_serve.specs.declared.end.SessionEnd.TheVariants.{Worn, Memory}
 use Rattle.sporc_serve.specs.declared.item.Item.{Item}
 use Rattle.sporc_serve.specs.declared.item.Item.TheVariants.{Placed}
 use Rattle.sporc_serve.specs.Logs.{by_of, log_of, order_at, placed_by, added_of, if_answered, IsLogOf}
-use Rattle.sporc_serve.specs.Turns.{Adds, TakesTurn}
+use Rattle.sporc_serve.specs.Turns.{SeesAndAdds, TakesTurn}
 use Rattle.sporc_serve.proofs.Logs.{order_is}
 
 pub starts_log : (g : Genesis) (log seen : List Item) → StartsWith log seen → IsLogOf g seen → IsLogOf g log
@@ -36,7 +36,7 @@ pub extends_placed : (k : Known Item) (found log : List Item) (es : List (List �
 extends_placed k found log es is = record { more = placed_by k.number es; log_is = is; by_this = by-placed_by k.number es }
 
 adds_items : (k k' : Known Item) (found log items : List Item) → StartsWith found k.seen → log ≡ found ++ items
-    → k' ≡ adding (seeing k found) log → Adds k k' found items
+    → k' ≡ adding (seeing k found) log → SeesAndAdds k k' found items
 adds_items k k' found log items begins more is = record {
   begins = begins;
   seen = ap (λ (x : Known Item). x.seen) is ∙ more;

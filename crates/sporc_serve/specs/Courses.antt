@@ -8,7 +8,7 @@ use Rattle.sporc_turn.specs.Log.{StartsWith}
 use Rattle.sporc_entry.specs.declared.genesis.Genesis.{Genesis}
 use Rattle.sporc_wire.specs.declared.fault.FrameFault.{FrameFault}
 use Rattle.sporc_wire.specs.declared.to_server.ToServer.{ToServer}
-use Rattle.sporc_wire.specs.Messages.{Unread, Reads, stream_of, next}
+use Rattle.sporc_wire.specs.Messages.{Unread, HandsOut, stream_of, next}
 use Rattle.sporc_wire.specs.ToServer.{to_server_of}
 use Rattle.sporc_order.specs.declared.session.Answer.{Answer}
 use Rattle.sporc_order.specs.declared.session.Answer.TheVariants.{Close}
@@ -67,7 +67,7 @@ module _ (genesis : Genesis) where
   -- the messages of these exchanges are the first of the bytes taken, and each is answered at its log
   pub record Did (a b : ServerStand) (bytes : List ℕ) (xs : List Exchange) : Type 0 where
     pub taken : Consumes a.left b.left bytes
-    pub reads : Reads to_server_of (stream_of bytes) (messages_of xs) b.unread
+    pub reads : HandsOut to_server_of (stream_of bytes) (messages_of xs) b.unread
     pub greeted : b.greeted ≡ greeted_after false xs
     pub number : b.known.number ≡ a.known.number
     pub start : b.known.start ≡ a.known.start

@@ -15,7 +15,7 @@ use Rattle.sporc_serve.specs.declared.item.Item.{Item}
 use Rattle.sporc_serve.specs.Logs.{order_at, added_of, placed_by}
 
 -- a pass found a log, and added these items to it
-pub record Adds (before after : Known Item) (found items : List Item) : Type 0 where
+pub record SeesAndAdds (before after : Known Item) (found items : List Item) : Type 0 where
   pub begins : StartsWith found before.seen
   pub seen : after.seen ≡ found ++ items
   pub mine : after.mine ≡ before.mine ++ items
@@ -27,12 +27,12 @@ pub record IsAnswered (genesis : Genesis) (before after : Known Item) (greeted g
     (found : List Item) : Type 0 where
   pub answer_is : answer ≡ (step_of (order_at genesis found) greeted message).answer
   pub greeted_is : greeted' ≡ (step_of (order_at genesis found) greeted message).is_greeted
-  pub adds : Adds before after found (placed_by before.number (added_of (order_at genesis found) greeted message))
+  pub adds : SeesAndAdds before after found (placed_by before.number (added_of (order_at genesis found) greeted message))
 
 -- a turn ended without an answer, and changed nothing
 pub record IsUnanswered (before after : Known Item) (greeted greeted' : Bool) (found : List Item) : Type 0 where
   pub greeted_is : greeted' ≡ greeted
-  pub adds : Adds before after found []
+  pub adds : SeesAndAdds before after found []
 
 -- why a turn has no answer
 abbrev pub IsTurnEnd : SessionEnd → Type 0

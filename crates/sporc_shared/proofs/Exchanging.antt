@@ -6,11 +6,11 @@ use Rattle.std.specs.Io.KnownBytes.{Appends, Consumes}
 use Rattle.sporc_outside.proofs.Known.{Appends_then, Consumes_then}
 use Rattle.sporc_wire.specs.declared.to_client.ToClient.{ToClient}
 use Rattle.sporc_wire.specs.declared.to_server.ToServer.{ToServer}
-use Rattle.sporc_wire.specs.Messages.{Unread, Reads, counted_to_end, fed, next}
+use Rattle.sporc_wire.specs.Messages.{Unread, HandsOut, counted_to_end, fed, next}
 use Rattle.sporc_wire.specs.Stream.{frame}
 use Rattle.sporc_wire.specs.ToClient.{to_client_of}
 use Rattle.sporc_wire.specs.ToServer.{to_server_bytes}
-use Rattle.sporc_wire.proofs.Readings.{Reads-fed}
+use Rattle.sporc_wire.proofs.Readings.{HandsOut-fed}
 use Rattle.sporc_shared.specs.Wires.{Exchanged, InboxModel, LinkStand, Received, spelled, unread_of}
 
 pub appends_none : (u : Option (List ℕ)) → Appends u u []
@@ -22,8 +22,8 @@ consumes_none None = tt
 consumes_none (Some xs) = refl
 
 -- messages one after the other
-pub reads_append : (s t u : Unread) (xs ys : List ToClient) → Reads to_client_of s xs t → Reads to_client_of t ys u → Reads to_client_of s (xs ++ ys) u
-reads_append s t u [] ys f g = subst (λ (r : Unread). Reads to_client_of r ys u) (sym f) g
+pub reads_append : (s t u : Unread) (xs ys : List ToClient) → HandsOut to_client_of s xs t → HandsOut to_client_of t ys u → HandsOut to_client_of s (xs ++ ys) u
+reads_append s t u [] ys f g = subst (λ (r : Unread). HandsOut to_client_of r ys u) (sym f) g
 reads_append s t u (x ∷ xs) ys f g = (f.0, reads_append (next to_client_of s).after t u xs ys f.1 g)
 
 -- no bytes are fed
@@ -53,9 +53,9 @@ received_nothing a b consumed same = record {
 
 pub received_then : (a b c : LinkStand) (xs ys : List ToClient) → Received a b xs → Received b c ys → Received a c (xs ++ ys)
 received_then a b c xs ys f g =
-    let P : Unread → Type 0 = λ s. Reads to_client_of s xs (fed g.came (unread_of b.inbox)) in
-    let first : Reads to_client_of (fed (f.came ++ g.came) (unread_of a.inbox)) xs (fed g.came (unread_of b.inbox)) =
-    subst P (fed_then (unread_of a.inbox) f.came g.came) (Reads-fed to_client_of (fed f.came (unread_of a.inbox)) g.came xs (unread_of b.inbox) f.reads) in
+    let P : Unread → Type 0 = λ s. HandsOut to_client_of s xs (fed g.came (unread_of b.inbox)) in
+    let first : HandsOut to_client_of (fed (f.came ++ g.came) (unread_of a.inbox)) xs (fed g.came (unread_of b.inbox)) =
+    subst P (fed_then (unread_of a.inbox) f.came g.came) (HandsOut-fed to_client_of (fed f.came (unread_of a.inbox)) g.came xs (unread_of b.inbox) f.reads) in
     record {
       came = f.came ++ g.came;
       consumed = Consumes_then a.left b.left c.left f.came g.came f.consumed g.consumed;

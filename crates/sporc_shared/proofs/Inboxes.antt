@@ -10,9 +10,9 @@ use Rattle.sporc_wire.specs.declared.fault.FrameFault.{FrameFault}
 use Rattle.sporc_wire.specs.declared.fault.FrameFault.TheVariants as frames
 use Rattle.sporc_wire.specs.declared.to_client.ToClient.{ToClient}
 use Rattle.sporc_wire.specs.Messages.{Unread, Next, fed, next, next_read, waits, stops}
-use Rattle.sporc_wire.specs.Stream.{Front, partial, too_long, whole, body_front, front}
+use Rattle.sporc_wire.specs.Stream.{FirstFrame, partial, too_long, whole, frame_of_len, first_frame}
 use Rattle.sporc_wire.specs.ToClient.{to_client_of}
-use Rattle.sporc_wire.proofs.Fronts.{body_front-big, body_front-whole, front-long}
+use Rattle.sporc_wire.proofs.Fronts.{frame_of_len-big, frame_of_len-whole, first_frame-long}
 use Rattle.sporc_wire.proofs.Nexts.{next-at, next-message, next-stopped}
 use Rattle.sporc_shared.specs.Wires.{InboxInvariant, InboxModel, unread_of}
 
@@ -23,27 +23,27 @@ answer_of s = (next to_client_of s).answer
 abbrev after_of : Unread → Unread
 after_of s = (next to_client_of s).after
 
--- ---- by what stands at the front
+-- ---- by what stands at the first_frame
 
 data Case (s : Unread) : Next ToClient → Type 0 where
-  waiting : front s.rest ≡ partial → Case s (waits s)
+  waiting : first_frame s.rest ≡ partial → Case s (waits s)
   stopping : (fault : FrameFault) → Case s (stops fault s)
   reading : (len : ℕ) (rest : List ℕ) (message : ToClient) → Case s (next_read s len rest (Ok message))
 
 case_of : (s : Unread) → s.fault ≡ None → Case s (next to_client_of s)
-case_of s none = at_front (front s.rest) refl
+case_of s none = at_front (first_frame s.rest) refl
   where
-    by_body : (body rest : List ℕ) → front s.rest ≡ whole body rest → (r : Result ToClient ℕ) → to_client_of body ≡ r → Case s (next to_client_of s)
+    by_body : (body rest : List ℕ) → first_frame s.rest ≡ whole body rest → (r : Result ToClient ℕ) → to_client_of body ≡ r → Case s (next to_client_of s)
     by_body body rest f (Ok m) k = subst (Case s) (sym (next-message to_client_of s body rest (Ok m) none f k)) (reading (length body) rest m)
     by_body body rest f (Err place) k = subst (Case s) (sym (next-message to_client_of s body rest (Err place) none f k)) (stopping _)
 
-    at_front : (y : Front) → front s.rest ≡ y → Case s (next to_client_of s)
+    at_front : (y : FirstFrame) → first_frame s.rest ≡ y → Case s (next to_client_of s)
     at_front partial f = subst (Case s) (sym (next-at to_client_of s partial none f)) (waiting f)
     at_front (too_long len) f = subst (Case s) (sym (next-at to_client_of s (too_long len) none f)) (stopping (frames.TooLong len))
     at_front (whole body rest) f = by_body body rest f (to_client_of body) refl
 
 -- nothing is handed out exactly if no whole frame is there
-case_none : (s : Unread) (n : Next ToClient) → Case s n → n.answer ≡ Ok None → (front s.rest ≡ partial) × (n.after ≡ s)
+case_none : (s : Unread) (n : Next ToClient) → Case s n → n.answer ≡ Ok None → (first_frame s.rest ≡ partial) × (n.after ≡ s)
 case_none s n (waiting f) is = (f, refl)
 case_none s n (stopping fault) is = absurd cc
 case_none s n (reading len rest m) is = absurd cc
@@ -187,21 +187,21 @@ still_waits i j x answer none after =
     let same = after ∙ (case_none (unread_of i) (next to_client_of (unread_of i)) (case_of (unread_of i) refl) waits).1 in
     (same, ap answer_of same ∙ waits)
 
-body_partial : (len : ℕ) (xs : List ℕ) → body_front len xs ≡ partial → length xs < MAX_BODY
+body_partial : (len : ℕ) (xs : List ℕ) → frame_of_len len xs ≡ partial → length xs < MAX_BODY
 body_partial len xs e =
     elim (cases_lt MAX_BODY len) [
-      | inl big ↦ let no : too_long len ≡ partial = sym (body_front-big len xs big) ∙ e in absurd cc
+      | inl big ↦ let no : too_long len ≡ partial = sym (frame_of_len-big len xs big) ∙ e in absurd cc
       | inr small ↦ elim (cases_lt (length xs) len) [
         | inl lacks ↦ omega (arith, lacks, small)
-        | inr there ↦ let no : whole (take len xs) (drop len xs) ≡ partial = sym (body_front-whole len xs small there) ∙ e in absurd cc
+        | inr there ↦ let no : whole (take len xs) (drop len xs) ≡ partial = sym (frame_of_len-whole len xs small there) ∙ e in absurd cc
       ]
     ]
 
-partial_short : (xs : List ℕ) → front xs ≡ partial → length xs < MAX_BODY + 4
+partial_short : (xs : List ℕ) → first_frame xs ≡ partial → length xs < MAX_BODY + 4
 partial_short xs e =
     elim (cases_lt (length xs) 4) [
       | inl short ↦ omega (arith, short)
-      | inr long ↦ omega (arith, length-drop 4 xs, body_partial (from_be_bytes w32 (take 4 xs)) (drop 4 xs) (sym (front-long xs long) ∙ e))
+      | inr long ↦ omega (arith, length-drop 4 xs, body_partial (from_be_bytes w32 (take 4 xs)) (drop 4 xs) (sym (first_frame-long xs long) ∙ e))
     ]
 
 -- and is short

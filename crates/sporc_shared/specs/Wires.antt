@@ -6,7 +6,7 @@ use Rattle.sporc_wire.specs.declared.fault.FrameFault.TheVariants as frames
 use Rattle.sporc_wire.specs.declared.to_client.ToClient.{ToClient}
 use Rattle.sporc_wire.specs.declared.to_server.ToServer.{ToServer}
 use Rattle.sporc_shared.specs.declared.inbox.TheConstants.{PIECE}
-use Rattle.sporc_wire.specs.Messages.{Unread, Reads, counted_to_end, fed, next}
+use Rattle.sporc_wire.specs.Messages.{Unread, HandsOut, counted_to_end, fed, next}
 use Rattle.sporc_wire.specs.Stream.{frame}
 use Rattle.sporc_wire.specs.ToClient.{to_client_of}
 use Rattle.sporc_wire.specs.ToServer.{to_server_bytes}
@@ -61,7 +61,7 @@ link_at written left faults link inbox = link_stand (written link) (left link) (
 pub record Received (a b : LinkStand) (answers : List ToClient) : Type 0 where
   pub came : List ℕ
   pub consumed : Consumes a.left b.left came
-  pub reads : Reads to_client_of (fed came (unread_of a.inbox)) answers (unread_of b.inbox)
+  pub reads : HandsOut to_client_of (fed came (unread_of a.inbox)) answers (unread_of b.inbox)
   pub counted : a.inbox.taken < 2 ^ 64 → b.inbox.taken ≡ counted_to_end (a.inbox.taken + length came)
 
 -- these bytes were written, and these answers came

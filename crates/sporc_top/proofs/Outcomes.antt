@@ -3,7 +3,7 @@ use Rattle.std.proofs.Common.{◌≡◌, ℕ, ◌+◌, ◌<◌, ◌≤◌, ◌�
 use Rattle.std.specs.Bool.{⊤}
 use Rattle.std.specs.Io.KnownBytes.{Consumes, IsAtEnd}
 use Rattle.sporc_outside.specs.Reading.{ConsumesExactly}
-use Rattle.sporc_outside.specs.Uses.{IsUnwritten, SinkUse, SourceUse}
+use Rattle.sporc_outside.specs.OutsideUse.{IsUnwritten, SinkUse, SourceUse}
 use Rattle.sporc_script.specs.declared.command.Command.{Command as PlayCommand}
 use Rattle.sporc_script.specs.declared.play_line.PlayLine.{PlayLine}
 use Rattle.sporc_script.specs.Grammar.{IsNext, IsPlayFault, IsPlayScript, play_line}
@@ -25,7 +25,7 @@ use Rattle.sporc_sessions.specs.Nets.{LinkView}
 use Rattle.sporc_clients.specs.Outcome.{DiskView}
 use Rattle.sporc_top.specs.Outcome.{Ends, RunOutcome, UnlessCutOff, command, done, from, no_command, stopped, unread, until}
 use Rattle.sporc_top.specs.Performing.{GeneratedOutcome, Performs, PlaysEdits, PlaysSource, as_program, names_of, no_files}
-use Rattle.sporc_top.specs.Uses.{Uses}
+use Rattle.sporc_top.specs.OutsideUse.{OutsideUse}
 
 -- ---- what was read
 
@@ -199,7 +199,7 @@ not_none words asked is none =
     absurd cc
 
 -- what comes of a command, or memory ran out before the words were read
-by_command : {L D : Type 0} (links : LinkView L) (disks : DiskView D) (words : List (List ℕ)) (outside : Uses L) (status : ℕ) (asked : Command) → RunOutcome links disks words outside status
+by_command : {L D : Type 0} (links : LinkView L) (disks : DiskView D) (words : List (List ℕ)) (outside : OutsideUse L) (status : ℕ) (asked : Command) → RunOutcome links disks words outside status
     → command_of words ≡ Some asked → (status ≡ 1) ⊎ Ends (λ out. Performs links disks asked (record outside { out = out })) (names_of asked) outside.out status
 by_command links disks words outside status asked (no_command none unused line) asks = absurd (not_none words asked asks none)
 by_command links disks words outside status asked (unread unused line) asks = inl refl
@@ -211,7 +211,7 @@ unless_unread : {status : ℕ} {E P : Type 0} → (status ≡ 1) ⊎ E → (E �
 unless_unread (inl none) ended = inr (inl none)
 unless_unread (inr ends) ended = ended ends
 
-module _ {L D : Type 0} (links : LinkView L) (disks : DiskView D) (words : List (List ℕ)) (outside : Uses L) (status : ℕ) (outcome : RunOutcome links disks words outside status) where
+module _ {L D : Type 0} (links : LinkView L) (disks : DiskView D) (words : List (List ℕ)) (outside : OutsideUse L) (status : ℕ) (outcome : RunOutcome links disks words outside status) where
   module _ (text : List ℕ) (play : command_of words ≡ Some commands.Play) (tells : outside.source.left_before ≡ Some text) where
     pub on_script : (script : List PlayLine) → length text ≤ MAX_SCRIPT → IsPlayScript text script
         → UnlessCutOff status ((status ≡ 0) × Reports script outside.out.written_before outside.out.written_after)

@@ -11,9 +11,9 @@ use Rattle.sporc_sessions.specs.Nets.{LinkView}
 use Rattle.sporc_clients.specs.Outcome.{DiskView}
 use Rattle.sporc_top.specs.Outcome.{RunOutcome, command, from, no_command, stopped, unread, until}
 use Rattle.sporc_top.specs.Performing.{Performs, names_of, no_files}
-use Rattle.sporc_top.specs.Uses.{IsUnused, Uses}
+use Rattle.sporc_top.specs.OutsideUse.{IsUnused, OutsideUse}
 
-module _ {L D : Type 0} (links : LinkView L) (disks : DiskView D) (words : List (List ℕ)) (outside : Uses L) where
+module _ {L D : Type 0} (links : LinkView L) (disks : DiskView D) (words : List (List ℕ)) (outside : OutsideUse L) where
   -- the words were not read
   unread_words : (cause : WordsFault) (fault : Fault) (status : ℕ) → IsUnused outside → (cause ≡ reading.Words → command_of words ≡ None) → fault ≡ fault_of_words cause
       → WritesFaultLine outside.out no_files fault → status ≡ status_of fault → RunOutcome links disks words outside status

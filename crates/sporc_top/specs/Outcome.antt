@@ -1,6 +1,6 @@
 -- What a run of the program did.
 use Rattle.std.specs.Prelude.{◌≡◌, ◌≤◌, ◌⊎◌, ℕ, List, Option, None, Some, Result, Ok, Err, ⊤}
-use Rattle.sporc_outside.specs.Uses.{SinkUse}
+use Rattle.sporc_outside.specs.OutsideUse.{SinkUse}
 use Rattle.sporc_words.specs.declared.command.Command.{Command}
 use Rattle.sporc_words.specs.Commands.{command_of}
 use Rattle.sporc_files.specs.declared.fault.Fault.{Fault}
@@ -10,7 +10,7 @@ use Rattle.sporc_files.specs.Names.{FileNames}
 use Rattle.sporc_sessions.specs.Nets.{LinkView}
 use Rattle.sporc_clients.specs.Outcome.{DiskView}
 use Rattle.sporc_top.specs.Performing.{Performs, names_of, no_files}
-use Rattle.sporc_top.specs.Uses.{IsUnused, Uses}
+use Rattle.sporc_top.specs.OutsideUse.{IsUnused, OutsideUse}
 
 -- the sink from its beginning up to a moment between, at which it held this and had counted so many faults, and from then on
 abbrev pub until : Option (List ℕ) → ℕ → SinkUse → SinkUse
@@ -27,7 +27,7 @@ pub data Ends (Did : SinkUse → Result ⊤ Fault → Type 0) (names : FileNames
       → WritesFaultLine (from written count out) names fault → count ≤ out.faults_after → Ends Did names out (status_of fault)
 
 -- What a run did, by its exit status
-pub data RunOutcome {L D : Type 0} (links : LinkView L) (disks : DiskView D) (words : List (List ℕ)) (outside : Uses L) : ℕ → Type 0 where
+pub data RunOutcome {L D : Type 0} (links : LinkView L) (disks : DiskView D) (words : List (List ℕ)) (outside : OutsideUse L) : ℕ → Type 0 where
   -- the words ask for nothing: 2, `fault words`, and nothing else
   no_command : command_of words ≡ None → IsUnused outside → WritesFaultLine outside.out no_files faults.Words → RunOutcome links disks words outside 2
   -- memory ran out before they were read: 1, `fault memory`, and nothing else

@@ -1,11 +1,11 @@
 -- All that a run found and left.
 use Rattle.std.specs.Prelude.{◌≡◌}
-use Rattle.sporc_outside.specs.Uses.{SinkUse, SourceUse}
-use Rattle.sporc_files.specs.Uses.{ChanceUse, FolderUse}
+use Rattle.sporc_outside.specs.OutsideUse.{SinkUse, SourceUse}
+use Rattle.sporc_files.specs.OutsideUse.{ChanceUse, FolderUse}
 use Rattle.sporc_clients.specs.Outcome.{ClientUse, NetUse}
 
 -- what the objects outside told before and after
-pub record Uses (L : Type 0) : Type 0 where
+pub record OutsideUse (L : Type 0) : Type 0 where
   pub source : SourceUse
   pub out : SinkUse
   pub folder : FolderUse
@@ -13,11 +13,11 @@ pub record Uses (L : Type 0) : Type 0 where
   pub chance : ChanceUse
 
 -- those that `client` is handed
-abbrev pub client_use : {L : Type 0} → Uses L → ClientUse L
+abbrev pub client_use : {L : Type 0} → OutsideUse L → ClientUse L
 client_use outside = record { out = outside.out; folder = outside.folder; net = outside.net; chance = outside.chance }
 
 -- beside the sink nothing was used: all else tells what it told before
-pub record IsUnused {L : Type 0} (outside : Uses L) : Type 0 where
+pub record IsUnused {L : Type 0} (outside : OutsideUse L) : Type 0 where
   pub source : outside.source.left_after ≡ outside.source.left_before
   pub source_faults : outside.source.faults_after ≡ outside.source.faults_before
   pub files : outside.folder.files_after ≡ outside.folder.files_before

@@ -14,13 +14,13 @@ ghost use Rattle.sporc_sessions.specs.Nets.{link_view};
 ghost use Rattle.sporc_clients.specs.Outcome.{disk_view};
 ghost use Rattle.sporc_top.specs.Outcome.{RunOutcome, UnlessCutOff};
 ghost use Rattle.sporc_top.specs.Performing.{no_files};
-ghost use Rattle.sporc_top.specs.Uses.{Uses};
+ghost use Rattle.sporc_top.specs.OutsideUse.{OutsideUse};
 
 use sporc_outside::{LeafDisk, Link};
 
 /// Of a source that tells a script, `play` writes the report, unless memory runs out or the source or the sink fails.
 pub fn scripts_are_played<L: Link, D: LeafDisk>()
-    ensures { (words : List (List ℕ)) (outside : Uses L) (status : ℕ) (text : List ℕ) (script : List PlayLine)
+    ensures { (words : List (List ℕ)) (outside : OutsideUse L) (status : ℕ) (text : List ℕ) (script : List PlayLine)
         → RunOutcome (link_view L.written L.left L.faults L.is_shut)
         (disk_view D.stored D.images D.moment D.faults) words outside status
         → command_of words ≡ Some commands.Play → outside.source.left_before ≡ Some text → length text ≤ MAX_SCRIPT
@@ -29,7 +29,7 @@ pub fn scripts_are_played<L: Link, D: LeafDisk>()
 
 /// Of a source that tells a text with a line outside the grammar, it writes the number of the first one, unless the same.
 pub fn fault_lines_are_told<L: Link, D: LeafDisk>()
-    ensures { (words : List (List ℕ)) (outside : Uses L) (status : ℕ) (text : List ℕ) (line : ℕ)
+    ensures { (words : List (List ℕ)) (outside : OutsideUse L) (status : ℕ) (text : List ℕ) (line : ℕ)
         → RunOutcome (link_view L.written L.left L.faults L.is_shut)
         (disk_view D.stored D.images D.moment D.faults) words outside status
         → command_of words ≡ Some commands.Play → outside.source.left_before ≡ Some text → length text ≤ MAX_SCRIPT
@@ -38,7 +38,7 @@ pub fn fault_lines_are_told<L: Link, D: LeafDisk>()
 
 /// Of a source that tells more bytes than a script may have, it writes that, unless the same.
 pub fn long_scripts_are_told<L: Link, D: LeafDisk>()
-    ensures { (words : List (List ℕ)) (outside : Uses L) (status : ℕ) (text : List ℕ)
+    ensures { (words : List (List ℕ)) (outside : OutsideUse L) (status : ℕ) (text : List ℕ)
         → RunOutcome (link_view L.written L.left L.faults L.is_shut)
         (disk_view D.stored D.images D.moment D.faults) words outside status
         → command_of words ≡ Some commands.Play → outside.source.left_before ≡ Some text → MAX_SCRIPT < length text
@@ -47,7 +47,7 @@ pub fn long_scripts_are_told<L: Link, D: LeafDisk>()
 
 /// If the words ask for a generated run, `play` writes its summary, unless memory runs out or the sink fails.
 pub fn generated_runs_are_played<L: Link, D: LeafDisk>()
-    ensures { (words : List (List ℕ)) (outside : Uses L) (status n : ℕ)
+    ensures { (words : List (List ℕ)) (outside : OutsideUse L) (status n : ℕ)
         → RunOutcome (link_view L.written L.left L.faults L.is_shut)
         (disk_view D.stored D.images D.moment D.faults) words outside status
         → command_of words ≡ Some (commands.Generate n) → UnlessCutOff status ((status ≡ 0) × PlaysGenerated n outside.out) }

@@ -12,10 +12,10 @@ use Rattle.tokio_util.specs.Codec.LengthDelimited.{cut_payload, cut_adjusted, cu
 use Rattle.tokio_util.specs.Codec.LengthDelimitedLaws.{cut_payload_whole, cut_payload_short, cut_frame_short, cut_frame_big, cut_frame_head}
 use Rattle.sporc_base.specs.Bytes.{IsBytes}
 use Rattle.sporc_wire.specs.declared.cutter.TheConstants.{MAX_BODY}
-use Rattle.sporc_wire.specs.Stream.{front, partial, too_long, whole}
+use Rattle.sporc_wire.specs.Stream.{first_frame, partial, too_long, whole}
 use Rattle.sporc_wire.specs.Stream as stream
 use Rattle.sporc_wire.specs.CutterModel.{our_layout, rest_of, IsWithin}
-use Rattle.sporc_wire.proofs.Fronts.{body_front-big, body_front-short, body_front-whole, front-short, front-long, front-length}
+use Rattle.sporc_wire.proofs.Fronts.{frame_of_len-big, frame_of_len-short, frame_of_len-whole, first_frame-short, first_frame-long, first_frame-length}
 
 -- the length that the head says
 abbrev pub head_of : List ℕ → ℕ
@@ -52,27 +52,27 @@ head_back [] fits h = absurd (omega arith)
 
 -- what a cut says of the bytes that it was made in
 abbrev pub Means : DecodeState → List ℕ → Cut → Type 0
-Means s xs (frame payload rest) = (length payload ≤ MAX_BODY) × (rest_of s xs ≡ stream.frame payload ++ rest) × (front (rest_of s xs) ≡ whole payload rest)
-Means s xs too_big = (4 ≤ length xs) × (front (rest_of s xs) ≡ too_long (head_of xs)) × (s ≡ Head)
+Means s xs (frame payload rest) = (length payload ≤ MAX_BODY) × (rest_of s xs ≡ stream.frame payload ++ rest) × (first_frame (rest_of s xs) ≡ whole payload rest)
+Means s xs too_big = (4 ≤ length xs) × (first_frame (rest_of s xs) ≡ too_long (head_of xs)) × (s ≡ Head)
 Means s xs overflows = ⊥
-Means s xs (unfinished state kept) = IsWithin state × (rest_of state kept ≡ rest_of s xs) × (front (rest_of s xs) ≡ partial)
+Means s xs (unfinished state kept) = IsWithin state × (rest_of state kept ≡ rest_of s xs) × (first_frame (rest_of s xs) ≡ partial)
 
 pub payload_means : (n : ℕ) (xs : List ℕ) → n < 2 ^ 32 → n ≤ MAX_BODY → Means (Data n) xs (cut_in our_layout (Data n) xs)
 payload_means n xs fits small =
     elim (cases_lt (length xs) n) [
       | inl short ↦ subst (Means (Data n) xs) (sym (cut_payload_short n xs short))
-          (small, refl, front-length n xs fits ∙ body_front-short n xs small short)
+          (small, refl, first_frame-length n xs fits ∙ frame_of_len-short n xs small short)
       | inr long ↦ subst (Means (Data n) xs) (sym (cut_payload_whole n xs long))
           (let len = length-take-le n xs long in
-          (omega arith, rw (len, take-append-drop), front-length n xs fits ∙ body_front-whole n xs small long))
+          (omega arith, rw (len, take-append-drop), first_frame-length n xs fits ∙ frame_of_len-whole n xs small long))
     ]
 
 -- the head stands before the payload
 with_head : (n : ℕ) (xs ys : List ℕ) → xs ≡ to_be_bytes w32 n ++ ys → (c : Cut) → Means (Data n) ys c → Means Head xs c
-with_head n xs ys e (frame payload rest) m = (m.0, e ∙ m.1, ap front e ∙ m.2)
+with_head n xs ys e (frame payload rest) m = (m.0, e ∙ m.1, ap first_frame e ∙ m.2)
 with_head n xs ys e too_big m = let no : Data n ≡ Head = m.2 in cc
 with_head n xs ys e overflows m = m
-with_head n xs ys e (unfinished state kept) m = (m.0, m.1 ∙ sym e, ap front e ∙ m.2)
+with_head n xs ys e (unfinished state kept) m = (m.0, m.1 ∙ sym e, ap first_frame e ∙ m.2)
 
 no_adjustment : (n : ℕ) → n ≤ MAX_BODY → add_adjustment n (pos 0) ≡ Some n
 no_adjustment n small = grind (arith, nat_tests)
@@ -80,10 +80,10 @@ no_adjustment n small = grind (arith, nat_tests)
 pub head_means : (xs : List ℕ) → IsBytes xs → Means Head xs (cut_in our_layout Head xs)
 head_means xs fits =
     elim (cases_lt (length xs) 4) [
-      | inl short ↦ subst (Means Head xs) (sym (cut_frame_short our_layout xs short)) (tt, refl, front-short xs short)
+      | inl short ↦ subst (Means Head xs) (sym (cut_frame_short our_layout xs short)) (tt, refl, first_frame-short xs short)
       | inr long ↦ elim (cases_lt MAX_BODY (head_of xs)) [
         | inl big ↦ subst (Means Head xs) (sym (cut_frame_big our_layout xs long (rw (field_is_head xs long) big)))
-            (long, front-long xs long ∙ body_front-big (head_of xs) (drop 4 xs) big, refl)
+            (long, first_frame-long xs long ∙ frame_of_len-big (head_of xs) (drop 4 xs) big, refl)
         | inr small ↦
             let e : cut_frame our_layout xs ≡ cut_payload (head_of xs) (drop 4 xs) =
             cut_frame_head our_layout xs long (rw (field_is_head xs long) small)

@@ -14,7 +14,7 @@ use Rattle.tokio_util.specs.Codec.Next.{Decodes, Resumes, at_end}
 use Rattle.tokio_util.specs.Codec.LengthDelimited.{layout, codec_layout, with_state, Cut, frame, too_big, overflows, unfinished, cut_in, cut, Answers, AnswersLast, AnswersAtEnd, IsSettled, gives_frames}
 use Rattle.sporc_base.specs.Bytes.{IsBytes}
 use Rattle.sporc_wire.specs.declared.cutter.TheConstants.{MAX_BODY}
-use Rattle.sporc_wire.specs.Stream.{front, partial, too_long, whole}
+use Rattle.sporc_wire.specs.Stream.{first_frame, partial, too_long, whole}
 use Rattle.sporc_wire.specs.Stream as stream
 use Rattle.sporc_wire.specs.CutterModel.{our_layout, rest_of, IsWithin, IsOurs, FitsLimit, filled, put_back}
 use Rattle.sporc_wire.proofs.Cuts.{head_of, Means, cut_means, head_means, payload_means}
@@ -24,9 +24,9 @@ cut_is c xs fits ours =
     subst (λ l. Means c.state xs (cut_in l c.state xs)) (sym ours.layout) (cut_means c.state xs fits ours.within)
 
 pub some_of : (c t : LengthDelimitedCodec) (xs ys : List ℕ) (b : Filled) (cu : Cut) → Means c.state xs cu → Answers c xs cu (Ok b) t ys
-    → (length b.items ≤ MAX_BODY) × (rest_of c.state xs ≡ stream.frame b.items ++ ys) × (front (rest_of c.state xs) ≡ whole b.items ys) × (t ≡ with_state c Head)
+    → (length b.items ≤ MAX_BODY) × (rest_of c.state xs ≡ stream.frame b.items ++ ys) × (first_frame (rest_of c.state xs) ≡ whole b.items ys) × (t ≡ with_state c Head)
 some_of c t xs ys b (frame payload rest) m a =
-    subst (λ (zs : List ℕ). (length zs ≤ MAX_BODY) × (rest_of c.state xs ≡ stream.frame zs ++ ys) × (front (rest_of c.state xs) ≡ whole zs ys) × (t ≡ with_state c Head)) (sym a.0)
+    subst (λ (zs : List ℕ). (length zs ≤ MAX_BODY) × (rest_of c.state xs ≡ stream.frame zs ++ ys) × (first_frame (rest_of c.state xs) ≡ whole zs ys) × (t ≡ with_state c Head)) (sym a.0)
     (m.0, m.1 ∙ ap (λ zs. stream.frame payload ++ zs) (sym a.2), m.2 ∙ ap (whole payload) (sym a.2), a.1)
 some_of c t xs ys b too_big m a = absurd a
 some_of c t xs ys b overflows m a = absurd a
@@ -47,7 +47,7 @@ last_of (Data n) ys = (Err some_error, (some_error_is, λ h. let e : Data n ≡ 
 
 -- nothing is lost where the codec waits
 abbrev pub Waits : LengthDelimitedCodec → List ℕ → LengthDelimitedCodec → List ℕ → Type 0
-Waits c xs t ys = IsOurs t × (rest_of t.state ys ≡ rest_of c.state xs) × (front (rest_of c.state xs) ≡ partial)
+Waits c xs t ys = IsOurs t × (rest_of t.state ys ≡ rest_of c.state xs) × (first_frame (rest_of c.state xs) ≡ partial)
 
 at_end_of : (c t : LengthDelimitedCodec) (xs ys : List ℕ) (r : Result (Option Filled) Error) (cu : Cut) → IsOurs c → Means c.state xs cu → AnswersAtEnd c cu r t ys → Waits c xs t ys
 at_end_of c t xs ys r (frame payload rest) ours m a = absurd a
@@ -89,7 +89,7 @@ pub record Fails (c : LengthDelimitedCodec) (xs : List ℕ) (e : Error) (t : Len
   pub ours : IsOurs t
   pub same : rest_of t.state ys ≡ rest_of c.state xs
   pub long : error_kind e ≡ InvalidData → 4 ≤ length ys
-  pub cause : error_kind e ≡ InvalidData → front (rest_of c.state xs) ≡ too_long (head_of ys)
+  pub cause : error_kind e ≡ InvalidData → first_frame (rest_of c.state xs) ≡ too_long (head_of ys)
 
 pub err_of : (c t : LengthDelimitedCodec) (xs ys : List ℕ) (e : Error) (cu : Cut) → IsBytes ys → IsOurs c → Means c.state xs cu → Answers c xs cu (Err e) t ys → Fails c xs e t ys
 err_of c t xs ys e (frame payload rest) fits ours m a =
@@ -116,7 +116,7 @@ err_of c t xs ys e (unfinished state kept) fits ours m a = absurd a
 
 -- what `decode` says of the stream
 abbrev pub Says : LengthDelimitedCodec → List ℕ → Result (Option Filled) Error → LengthDelimitedCodec → List ℕ → Type 0
-Says c xs (Ok (Some b)) t ys = IsOurs t × (length b.items ≤ MAX_BODY) × (rest_of c.state xs ≡ stream.frame b.items ++ rest_of t.state ys) × (front (rest_of c.state xs) ≡ whole b.items (rest_of t.state ys))
+Says c xs (Ok (Some b)) t ys = IsOurs t × (length b.items ≤ MAX_BODY) × (rest_of c.state xs ≡ stream.frame b.items ++ rest_of t.state ys) × (first_frame (rest_of c.state xs) ≡ whole b.items (rest_of t.state ys))
 Says c xs (Ok None) t ys = Waits c xs t ys
 Says c xs (Err e) t ys = Fails c xs e t ys
 
@@ -143,7 +143,7 @@ says_same c t xs ys (Some b) h = sym h.2
 says_same c t xs ys None h = h.1
 
 pub says_front : (c t : LengthDelimitedCodec) (xs ys : List ℕ) (found : Option Filled) → Says c xs (Ok found) t ys
-    → MatchOption (filled found) (front (rest_of c.state xs) ≡ partial) (λ body. front (rest_of c.state xs) ≡ whole body (rest_of t.state ys))
+    → MatchOption (filled found) (first_frame (rest_of c.state xs) ≡ partial) (λ body. first_frame (rest_of c.state xs) ≡ whole body (rest_of t.state ys))
 says_front c t xs ys (Some b) h = h.3
 says_front c t xs ys None h = h.2
 

@@ -1,4 +1,4 @@
--- The next message of a stream, by what stands at its front.
+-- The next message of a stream, by what stands at its first_frame.
 use Rattle.std.proofs.Common.{◌≡◌, ℕ, List, length, Option, Some, None, Result, Ok, Err, sym, ap, ◌∙◌, subst}
 use Rattle.std.specs.Prelude.{MatchOption, ◌≢◌}
 use Rattle.sporc_base.specs.Outcome.{GivesUnless}
@@ -7,8 +7,8 @@ use Rattle.sporc_wire.specs.declared.fault.FrameFault.{FrameFault}
 use Rattle.sporc_wire.specs.declared.fault.FrameFault.TheVariants as faults
 use Rattle.sporc_wire.specs.declared.message.BodyFault.{BodyFault}
 use Rattle.sporc_wire.specs.declared.message.BodyFault.TheVariants.{Bad, Memory}
-use Rattle.sporc_wire.specs.Stream.{Front, whole, front}
-use Rattle.sporc_wire.specs.Messages.{Unread, stops, next_read, next_front, next_unless, next}
+use Rattle.sporc_wire.specs.Stream.{FirstFrame, whole, first_frame}
+use Rattle.sporc_wire.specs.Messages.{Unread, stops, next_read, next_frame, next_unless, next}
 
 -- a stream by its parts
 abbrev pub unread_of : ℕ → List ℕ → Option FrameFault → Unread
@@ -22,11 +22,11 @@ pub next-stopped : {M : Type 0} (read : List ℕ → Result M ℕ) (s : Unread) 
 unfolding next
 next-stopped read s fault e = ap (next_unless read s) e
 
-pub next-at : {M : Type 0} (read : List ℕ → Result M ℕ) (s : Unread) (x : Front) → s.fault ≡ None → front s.rest ≡ x → next read s ≡ next_front read s x
+pub next-at : {M : Type 0} (read : List ℕ → Result M ℕ) (s : Unread) (x : FirstFrame) → s.fault ≡ None → first_frame s.rest ≡ x → next read s ≡ next_frame read s x
 unfolding next
-next-at read s x e h = ap (next_unless read s) e ∙ ap (next_front read s) h
+next-at read s x e h = ap (next_unless read s) e ∙ ap (next_frame read s) h
 
-pub next-message : {M : Type 0} (read : List ℕ → Result M ℕ) (s : Unread) (body rest : List ℕ) (r : Result M ℕ) → s.fault ≡ None → front s.rest ≡ whole body rest → read body ≡ r
+pub next-message : {M : Type 0} (read : List ℕ → Result M ℕ) (s : Unread) (body rest : List ℕ) (r : Result M ℕ) → s.fault ≡ None → first_frame s.rest ≡ whole body rest → read body ≡ r
     → next read s ≡ next_read s (length body) rest r
 next-message read s body rest r e h k = next-at read s (whole body rest) e h ∙ ap (next_read s (length body) rest) k
 

@@ -5,38 +5,38 @@ use Rattle.std.proofs.lemmas.List.{take-append-le, drop-append-le}
 use Rattle.std.specs.Int.{w32, from_be_bytes}
 use Rattle.sporc_wire.specs.declared.cutter.TheConstants.{MAX_BODY}
 use Rattle.sporc_wire.specs.declared.fault.FrameFault.{FrameFault}
-use Rattle.sporc_wire.specs.Stream.{Front, partial, too_long, whole, front, body_front}
-use Rattle.sporc_wire.specs.Messages.{Unread, Reads, AreMessages, stream_of, fed, next, next_unless, next_front, next_read}
-use Rattle.sporc_wire.proofs.Fronts.{body_front-big, body_front-short, body_front-whole, front-short, front-long}
+use Rattle.sporc_wire.specs.Stream.{FirstFrame, partial, too_long, whole, first_frame, frame_of_len}
+use Rattle.sporc_wire.specs.Messages.{Unread, HandsOut, AreMessages, stream_of, fed, next, next_unless, next_frame, next_read}
+use Rattle.sporc_wire.proofs.Fronts.{frame_of_len-big, frame_of_len-short, frame_of_len-whole, first_frame-short, first_frame-long}
 use Rattle.sporc_wire.proofs.Nexts.{next-message}
 
 -- ---- a body that is there in whole stays so where more bytes come
 
-body_front-more : (len : ℕ) (xs more body rest : List ℕ) → body_front len xs ≡ whole body rest → body_front len (xs ++ more) ≡ whole body (rest ++ more)
-body_front-more len xs more body rest e =
+frame_of_len-more : (len : ℕ) (xs more body rest : List ℕ) → frame_of_len len xs ≡ whole body rest → frame_of_len len (xs ++ more) ≡ whole body (rest ++ more)
+frame_of_len-more len xs more body rest e =
     elim (cases_lt MAX_BODY len) [
-      | inl big ↦ let no : too_long len ≡ whole body rest = sym (body_front-big len xs big) ∙ e in cc
+      | inl big ↦ let no : too_long len ≡ whole body rest = sym (frame_of_len-big len xs big) ∙ e in cc
       | inr small ↦ elim (cases_lt (length xs) len) [
-        | inl short ↦ let no : partial ≡ whole body rest = sym (body_front-short len xs small short) ∙ e in cc
+        | inl short ↦ let no : partial ≡ whole body rest = sym (frame_of_len-short len xs small short) ∙ e in cc
         | inr long ↦
-            let is : whole (take len xs) (drop len xs) ≡ whole body rest = sym (body_front-whole len xs small long) ∙ e in
+            let is : whole (take len xs) (drop len xs) ≡ whole body rest = sym (frame_of_len-whole len xs small long) ∙ e in
             let taken : take len xs ≡ body = cc in
             let left : drop len xs ≡ rest = cc in
-            body_front-whole len (xs ++ more) small (omega (arith, length-append xs more))
+            frame_of_len-whole len (xs ++ more) small (omega (arith, length-append xs more))
             ∙ ap₂ whole (take-append-le len xs more long ∙ taken) (drop-append-le len xs more long ∙ ap (λ (ys : List ℕ). ys ++ more) left)
       ]
     ]
 
-front-more : (xs more body rest : List ℕ) → front xs ≡ whole body rest → front (xs ++ more) ≡ whole body (rest ++ more)
-front-more xs more body rest e =
+first_frame-more : (xs more body rest : List ℕ) → first_frame xs ≡ whole body rest → first_frame (xs ++ more) ≡ whole body (rest ++ more)
+first_frame-more xs more body rest e =
     elim (cases_lt (length xs) 4) [
-      | inl short ↦ let no : partial ≡ whole body rest = sym (front-short xs short) ∙ e in cc
+      | inl short ↦ let no : partial ≡ whole body rest = sym (first_frame-short xs short) ∙ e in cc
       | inr long ↦
-          let one : body_front (from_be_bytes w32 (take 4 xs)) (drop 4 xs) ≡ whole body rest = sym (front-long xs long) ∙ e in
+          let one : frame_of_len (from_be_bytes w32 (take 4 xs)) (drop 4 xs) ≡ whole body rest = sym (first_frame-long xs long) ∙ e in
           let len : from_be_bytes w32 (take 4 (xs ++ more)) ≡ from_be_bytes w32 (take 4 xs) = ap (from_be_bytes w32) (take-append-le 4 xs more long) in
-          front-long (xs ++ more) (omega (arith, length-append xs more))
-          ∙ ap₂ body_front len (drop-append-le 4 xs more long)
-          ∙ body_front-more (from_be_bytes w32 (take 4 xs)) (drop 4 xs) more body rest one
+          first_frame-long (xs ++ more) (omega (arith, length-append xs more))
+          ∙ ap₂ frame_of_len len (drop-append-le 4 xs more long)
+          ∙ frame_of_len-more (from_be_bytes w32 (take 4 xs)) (drop 4 xs) more body rest one
     ]
 
 -- ---- what a message that is given came of
@@ -45,25 +45,25 @@ record Given {M : Type 0} (read : List ℕ → Result M ℕ) (s : Unread) (m : M
   fault : s.fault ≡ None
   body : List ℕ
   rest : List ℕ
-  there : front s.rest ≡ whole body rest
+  there : first_frame s.rest ≡ whole body rest
   reads : read body ≡ Ok m
 
 given : {M : Type 0} (read : List ℕ → Result M ℕ) (s : Unread) (m : M) → (next read s).answer ≡ Ok (Some m) → Given read s m
 unfolding next
 given {M} read s m e = stopped s.fault refl e
   where
-    body_read : (none : s.fault ≡ None) (body rest : List ℕ) → front s.rest ≡ whole body rest → (r : Result M ℕ) → read body ≡ r → (next_read s (length body) rest r).answer ≡ Ok (Some m) → Given read s m
+    body_read : (none : s.fault ≡ None) (body rest : List ℕ) → first_frame s.rest ≡ whole body rest → (r : Result M ℕ) → read body ≡ r → (next_read s (length body) rest r).answer ≡ Ok (Some m) → Given read s m
     body_read none body rest f (Ok n) k e = let same : n ≡ m = cc in record { fault = none; body = body; rest = rest; there = f; reads = k ∙ ap (λ (x : M). Ok x) same }
     body_read none body rest f (Err place) k e = absurd cc
 
-    at_front : s.fault ≡ None → (x : Front) → front s.rest ≡ x → (next_front read s x).answer ≡ Ok (Some m) → Given read s m
+    at_front : s.fault ≡ None → (x : FirstFrame) → first_frame s.rest ≡ x → (next_frame read s x).answer ≡ Ok (Some m) → Given read s m
     at_front none partial f e = absurd cc
     at_front none (too_long len) f e = absurd cc
     at_front none (whole body rest) f e = body_read none body rest f (read body) refl e
 
     stopped : (o : Option FrameFault) → s.fault ≡ o → (next_unless read s o).answer ≡ Ok (Some m) → Given read s m
     stopped (Some fault) k e = absurd cc
-    stopped None k e = at_front k (front s.rest) refl e
+    stopped None k e = at_front k (first_frame s.rest) refl e
 
 -- ---- more bytes
 
@@ -72,23 +72,23 @@ next_fed : {M : Type 0} (read : List ℕ → Result M ℕ) (s : Unread) (more : 
 next_fed read s more m e =
     let g = given read s m e in
     let before = next-message read s g.body g.rest (Ok m) g.fault g.there g.reads in
-    let after = next-message read (fed more s) g.body (g.rest ++ more) (Ok m) g.fault (front-more s.rest more g.body g.rest g.there) g.reads in
+    let after = next-message read (fed more s) g.body (g.rest ++ more) (Ok m) g.fault (first_frame-more s.rest more g.body g.rest g.there) g.reads in
     (ap (λ n. n.answer) after, ap (λ n. n.after) after ∙ ap (λ n. fed more n.after) (sym before))
 
-pub Reads-fed : {M : Type 0} (read : List ℕ → Result M ℕ) (s : Unread) (more : List ℕ) (ms : List M) (t : Unread) → Reads read s ms t → Reads read (fed more s) ms (fed more t)
-Reads-fed read s more [] t r = ap (fed more) r
-Reads-fed {M} read s more (m ∷ ms) t r =
+pub HandsOut-fed : {M : Type 0} (read : List ℕ → Result M ℕ) (s : Unread) (more : List ℕ) (ms : List M) (t : Unread) → HandsOut read s ms t → HandsOut read (fed more s) ms (fed more t)
+HandsOut-fed read s more [] t r = ap (fed more) r
+HandsOut-fed {M} read s more (m ∷ ms) t r =
     let step = next_fed read s more m r.0 in
-    let P : Unread → Type 0 = λ u. Reads read u ms (fed more t) in
-    (step.0, subst P (sym step.1) (Reads-fed read (next read s).after more ms t r.1))
+    let P : Unread → Type 0 = λ u. HandsOut read u ms (fed more t) in
+    (step.0, subst P (sym step.1) (HandsOut-fed read (next read s).after more ms t r.1))
 
 -- ---- one message more
 
-pub Reads-next : {M : Type 0} (read : List ℕ → Result M ℕ) (s : Unread) (ms : List M) (t : Unread) (m : M) → Reads read s ms t → (next read t).answer ≡ Ok (Some m) → Reads read s (ms ++ m ∷ []) (next read t).after
-Reads-next {M} read s [] t m r e =
+pub HandsOut-next : {M : Type 0} (read : List ℕ → Result M ℕ) (s : Unread) (ms : List M) (t : Unread) (m : M) → HandsOut read s ms t → (next read t).answer ≡ Ok (Some m) → HandsOut read s (ms ++ m ∷ []) (next read t).after
+HandsOut-next {M} read s [] t m r e =
     let P : Unread → Type 0 = λ u. ((next read u).answer ≡ Ok (Some m)) × ((next read u).after ≡ (next read t).after) in
     subst P (sym r) (e, refl)
-Reads-next read s (n ∷ ms) t m r e = (r.0, Reads-next read (next read s).after ms t m r.1 e)
+HandsOut-next read s (n ∷ ms) t m r e = (r.0, HandsOut-next read (next read s).after ms t m r.1 e)
 
 -- ---- a fault stays
 
@@ -100,14 +100,14 @@ next_stays {M} read s fault e = stopped s.fault refl e
     body_read len rest (Ok n) e = absurd cc
     body_read len rest (Err place) e = e
 
-    at_front : (x : Front) → (next_front read s x).answer ≡ Err fault → (next_unless read (next_front read s x).after (next_front read s x).after.fault).answer ≡ Err fault
+    at_front : (x : FirstFrame) → (next_frame read s x).answer ≡ Err fault → (next_unless read (next_frame read s x).after (next_frame read s x).after.fault).answer ≡ Err fault
     at_front partial e = absurd cc
     at_front (too_long len) e = e
     at_front (whole body rest) e = body_read (length body) rest (read body) e
 
     stopped : (o : Option FrameFault) → s.fault ≡ o → (next_unless read s o).answer ≡ Err fault → (next_unless read (next_unless read s o).after (next_unless read s o).after.fault).answer ≡ Err fault
     stopped (Some f) k e = ap (λ (o : Option FrameFault). (next_unless read s o).answer) k ∙ e
-    stopped None k e = at_front (front s.rest) e
+    stopped None k e = at_front (first_frame s.rest) e
 
 -- ---- one reading
 
@@ -125,7 +125,7 @@ same_end {M} read s None (Some g) h k = let no : Ok None ≡ Err g = sym h ∙ k
 same_end {M} read s (Some f) None h k = let no : Err f ≡ Ok None = sym h ∙ k in cc
 same_end {M} read s (Some f) (Some g) h k = let same : Err f ≡ Err g = sym h ∙ k in cc
 
-one : {M : Type 0} (read : List ℕ → Result M ℕ) (s t u : Unread) (ms ns : List M) (f g : Option FrameFault) → Reads read s ms t → Ends read t f → Reads read s ns u → Ends read u g → (ms ≡ ns) × (f ≡ g)
+one : {M : Type 0} (read : List ℕ → Result M ℕ) (s t u : Unread) (ms ns : List M) (f g : Option FrameFault) → HandsOut read s ms t → Ends read t f → HandsOut read s ns u → Ends read u g → (ms ≡ ns) × (f ≡ g)
 one {M} read s t u [] [] f g r h q k =
     let P : Unread → Type 0 = λ v. Ends read v f in
     let Q : Unread → Type 0 = λ v. Ends read v g in

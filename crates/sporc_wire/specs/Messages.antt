@@ -3,7 +3,7 @@ use Rattle.std.specs.Prelude.{◌≡◌, ℕ, ◌+◌, ◌-◌, ◌^◌, min, na
 use Rattle.sporc_wire.specs.declared.cutter.TheConstants.{MAX_BODY}
 use Rattle.sporc_wire.specs.declared.fault.FrameFault.{FrameFault}
 use Rattle.sporc_wire.specs.declared.fault.FrameFault.TheVariants.{BadMessage, TooLong}
-use Rattle.sporc_wire.specs.Stream.{Front, partial, too_long, whole, front, frame}
+use Rattle.sporc_wire.specs.Stream.{FirstFrame, partial, too_long, whole, first_frame, frame}
 
 -- a number, as far as a u64 counts
 abbrev pub counted_to_end : ℕ → ℕ
@@ -42,29 +42,29 @@ next_read s len rest (Ok message) =
     record { answer = Ok (Some message); after = record { at = counted_to_end (s.at + (4 + len)); rest = rest; fault = s.fault } }
 next_read s len rest (Err place) = stops (BadMessage (counted_to_end (s.at + (4 + place)))) s
 
-abbrev pub next_front : {M : Type 0} → (List ℕ → Result M ℕ) → Unread → Front → Next M
-next_front read s partial = waits s
-next_front read s (too_long len) = stops (TooLong len) s
-next_front read s (whole body rest) = next_read s (length body) rest (read body)
+abbrev pub next_frame : {M : Type 0} → (List ℕ → Result M ℕ) → Unread → FirstFrame → Next M
+next_frame read s partial = waits s
+next_frame read s (too_long len) = stops (TooLong len) s
+next_frame read s (whole body rest) = next_read s (length body) rest (read body)
 
 -- the next message of those whose bodies are read so: none unless a whole frame is there; a frame that is no message and
 -- a length above the limit are answered from then on
 abbrev pub next_unless : {M : Type 0} → (List ℕ → Result M ℕ) → Unread → Option FrameFault → Next M
 next_unless read s (Some fault) = record { answer = Err fault; after = s }
-next_unless read s None = next_front read s (front s.rest)
+next_unless read s None = next_frame read s (first_frame s.rest)
 
 unfoldable pub next : {M : Type 0} → (List ℕ → Result M ℕ) → Unread → Next M
 next read s = next_unless read s s.fault
 
 -- these messages come first in a stream, and then this is unread
-abbrev pub Reads : {M : Type 0} → (List ℕ → Result M ℕ) → Unread → List M → Unread → Type 0
-Reads read s [] t = s ≡ t
-Reads read s (m ∷ ms) t = ((next read s).answer ≡ Ok (Some m)) × Reads read (next read s).after ms t
+abbrev pub HandsOut : {M : Type 0} → (List ℕ → Result M ℕ) → Unread → List M → Unread → Type 0
+HandsOut read s [] t = s ≡ t
+HandsOut read s (m ∷ ms) t = ((next read s).answer ≡ Ok (Some m)) × HandsOut read (next read s).after ms t
 
 -- a stream is these messages, and then no whole frame or a fault
 pub record AreMessages {M : Type 0} (read : List ℕ → Result M ℕ) (stream : List ℕ) (messages : List M) (fault : Option FrameFault) : Type 0 where
   pub rest : Unread
-  pub reads : Reads read (stream_of stream) messages rest
+  pub reads : HandsOut read (stream_of stream) messages rest
   pub end : (next read rest).answer ≡ (elim fault [ None ↦ Ok None | Some f ↦ Err f ])
 
 -- the frame of a body, if that is not too long

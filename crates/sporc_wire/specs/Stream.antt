@@ -8,22 +8,22 @@ abbrev pub frame : List ℕ → List ℕ
 frame body = to_be_bytes w32 (length body) ++ body
 
 -- what a stream begins with
-pub data Front : Type 0 where
+pub data FirstFrame : Type 0 where
   -- a part of a frame, or nothing
-  partial : Front
+  partial : FirstFrame
   -- a length above the limit
-  too_long : ℕ → Front
+  too_long : ℕ → FirstFrame
   -- a body, and the bytes after its frame
-  whole : List ℕ → List ℕ → Front
+  whole : List ℕ → List ℕ → FirstFrame
 
 -- a body of this length, and what follows it
-unfoldable pub body_front : ℕ → List ℕ → Front
+unfoldable pub body_front : ℕ → List ℕ → FirstFrame
 body_front len bytes =
     if nat_lt MAX_BODY len then too_long len
     else if nat_lt (length bytes) len then partial
     else whole (take len bytes) (drop len bytes)
 
-unfoldable pub front : List ℕ → Front
-front bytes =
+unfoldable pub first_frame : List ℕ → FirstFrame
+first_frame bytes =
     if nat_lt (length bytes) 4 then partial
     else body_front (from_be_bytes w32 (take 4 bytes)) (drop 4 bytes)

@@ -3,7 +3,7 @@
 ghost use Rattle.std.specs.Prelude.{◌≡◌, ◌≤◌, ◌++◌, ℕ, length, take, [], None, Some, Err, IfOk, OnOk, OnErr, MatchOption};
 ghost use Rattle.std.specs.Int.{w32, from_be_bytes};
 ghost use Rattle.sporc_base.specs.Bytes.{IsBytes};
-ghost use Rattle.sporc_wire.specs.Stream.{front, partial, too_long, whole};
+ghost use Rattle.sporc_wire.specs.Stream.{first_frame, partial, too_long, whole};
 ghost use Rattle.sporc_wire.specs.CutterModel.{IsOurs, rest_of, put_back, unread, filled, FitsLimit};
 
 use bytes::BytesMut;
@@ -70,10 +70,10 @@ impl Cutter {
     // Cuts out the body of the first frame, if that is there in whole and isn't cut out yet.
     pub(crate) fn cut(&mut self) -> Result<(), CutFault>
         ensures unread { unread self.new ≡ unread self.old }
-        ensures ok { OnOk result (MatchOption self.new.body (front (unread self.old) ≡ partial)
-            (λ body. front (unread self.old) ≡ whole body self.new.rest)) }
+        ensures ok { OnOk result (MatchOption self.new.body (first_frame (unread self.old) ≡ partial)
+            (λ body. first_frame (unread self.old) ≡ whole body self.new.rest)) }
         ensures too_long { (len : ℕ) → result ≡ Err (CutFault.TooLong len)
-            → front (unread self.old) ≡ too_long len }
+            → first_frame (unread self.old) ≡ too_long len }
     {
         if self.body.is_none() {
             self.body = take_body(&mut self.codec, &mut self.buffer)?;
@@ -111,10 +111,10 @@ fn take_body(
     ensures unread { OnErr result (rest_of codec.new.state buffer.new.items ≡ rest_of codec.old.state buffer.old.items) }
     ensures same { IfOk result (λ found. put_back (filled found) (rest_of codec.new.state buffer.new.items)
         ≡ rest_of codec.old.state buffer.old.items) }
-    ensures ok { IfOk result (λ found. MatchOption (filled found) (front (rest_of codec.old.state buffer.old.items) ≡ partial)
-        (λ body. front (rest_of codec.old.state buffer.old.items) ≡ whole body (rest_of codec.new.state buffer.new.items))) }
+    ensures ok { IfOk result (λ found. MatchOption (filled found) (first_frame (rest_of codec.old.state buffer.old.items) ≡ partial)
+        (λ body. first_frame (rest_of codec.old.state buffer.old.items) ≡ whole body (rest_of codec.new.state buffer.new.items))) }
     ensures too_long { (len : ℕ) → result ≡ Err (CutFault.TooLong len)
-        → front (rest_of codec.old.state buffer.old.items) ≡ too_long len }
+        → first_frame (rest_of codec.old.state buffer.old.items) ≡ too_long len }
 {
     let _before = bytes_of(buffer);
     let found = codec.decode(buffer);

@@ -9,7 +9,7 @@ ghost use Rattle.sporc_wire.specs.declared.to_client.TheConstants.{EMPTY, ENTRIE
 ghost use Rattle.sporc_wire.specs.declared.to_client.ToClient.{ToClient};
 ghost use Rattle.sporc_wire.specs.declared.to_server.TheConstants.{HELLO, PULL, SUBMIT};
 ghost use Rattle.sporc_wire.specs.declared.to_server.ToServer.{ToServer};
-ghost use Rattle.sporc_wire.specs.Messages.{Unread, Reads, AreMessages, stream_of, fed, next};
+ghost use Rattle.sporc_wire.specs.Messages.{Unread, HandsOut, AreMessages, stream_of, fed, next};
 ghost use Rattle.sporc_wire.specs.ToClient.{to_client_of, to_client_bytes, IsToClient};
 ghost use Rattle.sporc_wire.specs.ToServer.{to_server_of, to_server_bytes, IsToServer};
 
@@ -45,22 +45,22 @@ pub fn to_client_and_its_body()
 /// The messages of a stream don't depend on the pieces that it is fed in: where these messages were handed out of these
 /// bytes, they are handed out of more bytes too, and a message more once the next call gives it. A fault stays.
 pub fn any_pieces_to_a_server()
-    ensures fed { (bytes more : List ℕ) (ms : List ToServer) (s : Unread) → Reads to_server_of (stream_of bytes) ms s
-        → Reads to_server_of (stream_of (bytes ++ more)) ms (fed more s) }
+    ensures fed { (bytes more : List ℕ) (ms : List ToServer) (s : Unread) → HandsOut to_server_of (stream_of bytes) ms s
+        → HandsOut to_server_of (stream_of (bytes ++ more)) ms (fed more s) }
     ensures next { (bytes : List ℕ) (ms : List ToServer) (s : Unread) (m : ToServer)
-        → Reads to_server_of (stream_of bytes) ms s → (next to_server_of s).answer ≡ Ok (Some m)
-        → Reads to_server_of (stream_of bytes) (ms ++ m ∷ []) (next to_server_of s).after }
+        → HandsOut to_server_of (stream_of bytes) ms s → (next to_server_of s).answer ≡ Ok (Some m)
+        → HandsOut to_server_of (stream_of bytes) (ms ++ m ∷ []) (next to_server_of s).after }
     ensures stays { (s : Unread) (f : FrameFault) → (next to_server_of s).answer ≡ Err f
         → (next to_server_of (next to_server_of s).after).answer ≡ Err f }
 {}
 
 /// The same of messages to a client.
 pub fn any_pieces_to_a_client()
-    ensures fed { (bytes more : List ℕ) (ms : List ToClient) (s : Unread) → Reads to_client_of (stream_of bytes) ms s
-        → Reads to_client_of (stream_of (bytes ++ more)) ms (fed more s) }
+    ensures fed { (bytes more : List ℕ) (ms : List ToClient) (s : Unread) → HandsOut to_client_of (stream_of bytes) ms s
+        → HandsOut to_client_of (stream_of (bytes ++ more)) ms (fed more s) }
     ensures next { (bytes : List ℕ) (ms : List ToClient) (s : Unread) (m : ToClient)
-        → Reads to_client_of (stream_of bytes) ms s → (next to_client_of s).answer ≡ Ok (Some m)
-        → Reads to_client_of (stream_of bytes) (ms ++ m ∷ []) (next to_client_of s).after }
+        → HandsOut to_client_of (stream_of bytes) ms s → (next to_client_of s).answer ≡ Ok (Some m)
+        → HandsOut to_client_of (stream_of bytes) (ms ++ m ∷ []) (next to_client_of s).after }
     ensures stays { (s : Unread) (f : FrameFault) → (next to_client_of s).answer ≡ Err f
         → (next to_client_of (next to_client_of s).after).answer ≡ Err f }
 {}

@@ -6,7 +6,7 @@ use Rattle.sporc_hash.specs.Chain.{chain}
 use Rattle.sporc_client.specs.ClientModel.{ClientModel, state_of}
 use Rattle.sporc_client.specs.PlainClient.{Opening, shown_of}
 use Rattle.sporc_client.proofs.Calls.{replay_opening}
-use Rattle.sporc_play.specs.Report.{chain_of}
+use Rattle.sporc_play.specs.Report.{hashes_of}
 use Rattle.sporc_play.proofs.generated.is_same.Goals as goal
 
 pub returns-then-not-are_same_texts : goal.returns-then-not-are_same_texts
@@ -24,7 +24,7 @@ spelled : {Z : Type 0} (t : String Z) (cs : List ℕ) → string_bytes t ≡ enc
 spelled t cs is = sym (chars_from_encodes cs (string_bytes t) (IsUtf8-string_bytes t) (sym is))
 
 -- the chain values of a client's entries are those that its line of them keeps
-kept : {D : Type 0} (c : ClientModel D) (hashes : List (List ℕ)) → hashes ≡ chain (genesis_bytes c.opening.genesis) (state_of c).entries → hashes ≡ chain_of (state_of c)
+kept : {D : Type 0} (c : ClientModel D) (hashes : List (List ℕ)) → hashes ≡ chain (genesis_bytes c.opening.genesis) (state_of c).entries → hashes ≡ hashes_of (state_of c)
 kept c hashes is = is ∙ ap (λ (o : Opening). chain (genesis_bytes o.genesis) (state_of c).entries) (sym (replay_opening c.opening c.log))
 
 pub returns : goal.returns

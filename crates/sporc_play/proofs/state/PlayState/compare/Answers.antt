@@ -1,6 +1,6 @@
 use Rattle.std.proofs.Common.{◌<◌, ℕ, List, length, ap, ◌∙◌, sym, subst}
 use Rattle.std.specs.Prelude.{slice_get}
-use Rattle.sporc_play.specs.Report.{Stands, chain_of}
+use Rattle.sporc_play.specs.Report.{Stands, hashes_of}
 use Rattle.sporc_client.specs.ClientModel.{state_of}
 use Rattle.sporc_play.proofs.Becoming.{ok_then}
 use Rattle.sporc_play.proofs.Kept.{begun_chain, chain_is, compare_tells, found_by, one_beginning, stands}
@@ -23,8 +23,8 @@ returns c =
     let b = c.in-Some-client.second.now in
     let v = c.compare-verdict.result in
     let is = c.compare-verdict.ensures in
-    let stand : Stands (chain_of (state_of a)) (chain_of (state_of b)) v =
-    subst (λ (xs : List (List ℕ)). Stands xs (chain_of (state_of b)) v) (c.hashes.ensures.value ∙ chain_is a)
+    let stand : Stands (hashes_of (state_of a)) (hashes_of (state_of b)) v =
+    subst (λ (xs : List (List ℕ)). Stands xs (hashes_of (state_of b)) v) (c.hashes.ensures.value ∙ chain_is a)
     (subst (λ (xs : List (List ℕ)). Stands c.hashes.result.now xs v) (c.hashes-2.ensures.value ∙ chain_is b) (stands c.hashes.result.now c.hashes-2.result.now v is.same is.prefix is.longer is.forked)) in
     ok_then c.push_verdict.result _ _ c.push_verdict.ensures.ok
     (λ is. compare_tells state c.args.pair.now a b v _ _ (found_by state _ _ c.in-Some.ensures.value) (found_by state _ _ c.in-Some-client.ensures.value) stand is)

@@ -1,7 +1,7 @@
 use Rattle.std.proofs.Common.{◌≡◌, ◌+◌, length, Some, None, Ok, Err, sym, ap, ap₂, ◌∙◌, arith}
 use Rattle.sporc_wire.specs.declared.fault.FrameFault.{FrameFault}
 use Rattle.sporc_wire.specs.declared.fault.FrameFault.TheVariants.{BadMessage, TooLong}
-use Rattle.sporc_wire.specs.Stream.{front, partial, too_long, whole}
+use Rattle.sporc_wire.specs.Stream.{first_frame, partial, too_long, whole}
 use Rattle.sporc_wire.specs.CutterModel.{unread, put_back}
 use Rattle.sporc_wire.specs.Messages.{Unread, next, counted_to_end}
 use Rattle.sporc_wire.proofs.Nexts.{unread_is, next-stopped, next-at, next-message, read_ok, read_bad, cut_some, cut_none, stops_value, stops_after}
@@ -21,19 +21,19 @@ pub returns-in-Err-TooLong-clause-value : goal.returns-in-Err-TooLong-clause-val
 returns-in-Err-TooLong-clause-value g c =
     let old = c.args.self.now in
     let fault : old.fault ≡ None = sym (ap (λ (s : Unread). s.fault) c.self.view_is) ∙ c.in_default.is in
-    let front : front old.rest ≡ too_long c.in-Err-TooLong.len =
-    ap (λ (s : Unread). front s.rest) (sym c.self.view_is) ∙ c.cut.ensures.too_long c.in-Err-TooLong.len (c.in-Err-TooLong.is ∙ ap Err c.in-Err-TooLong.field-0-is) in
-    stops_value g.M.Message.of old (TooLong c.in-Err-TooLong.len) c.stop.result (next-at g.M.Message.of old (too_long c.in-Err-TooLong.len) fault front)
+    let first_frame : first_frame old.rest ≡ too_long c.in-Err-TooLong.len =
+    ap (λ (s : Unread). first_frame s.rest) (sym c.self.view_is) ∙ c.cut.ensures.too_long c.in-Err-TooLong.len (c.in-Err-TooLong.is ∙ ap Err c.in-Err-TooLong.field-0-is) in
+    stops_value g.M.Message.of old (TooLong c.in-Err-TooLong.len) c.stop.result (next-at g.M.Message.of old (too_long c.in-Err-TooLong.len) fault first_frame)
     (c.stop.ensures.value ∙ ap (λ n. Err (TooLong n)) c.from.ensures)
 
 pub returns-in-Err-TooLong-clause-after : goal.returns-in-Err-TooLong-clause-after
 returns-in-Err-TooLong-clause-after g c =
     let old = c.args.self.now in
     let fault : old.fault ≡ None = sym (ap (λ (s : Unread). s.fault) c.self.view_is) ∙ c.in_default.is in
-    let front : front old.rest ≡ too_long c.in-Err-TooLong.len =
-    ap (λ (s : Unread). front s.rest) (sym c.self.view_is) ∙ c.cut.ensures.too_long c.in-Err-TooLong.len (c.in-Err-TooLong.is ∙ ap Err c.in-Err-TooLong.field-0-is) in
+    let first_frame : first_frame old.rest ≡ too_long c.in-Err-TooLong.len =
+    ap (λ (s : Unread). first_frame s.rest) (sym c.self.view_is) ∙ c.cut.ensures.too_long c.in-Err-TooLong.len (c.in-Err-TooLong.is ∙ ap Err c.in-Err-TooLong.field-0-is) in
     let rest : unread c.cut.new.self ≡ old.rest = c.cut.ensures.unread ∙ ap (λ (s : Unread). s.rest) c.self.view_is in
-    λ _. stops_after g.M.Message.of old (TooLong c.in-Err-TooLong.len) c.stop.new.self (next-at g.M.Message.of old (too_long c.in-Err-TooLong.len) fault front)
+    λ _. stops_after g.M.Message.of old (TooLong c.in-Err-TooLong.len) c.stop.new.self (next-at g.M.Message.of old (too_long c.in-Err-TooLong.len) fault first_frame)
     (c.stop.ensures.after ∙ unread_is (record old { fault = Some (TooLong c.in-Err-TooLong.len) }) c.self.inside.at (unread c.cut.new.self) (Some (TooLong c.from.result))
     (ap (λ (s : Unread). s.at) c.self.view_is) rest (ap (λ n. Some (TooLong n)) c.from.ensures))
 
@@ -41,58 +41,58 @@ pub returns-in_default-body-clause-value : goal.returns-in_default-body-clause-v
 returns-in_default-body-clause-value g c =
     let old = c.args.self.now in
     let fault : old.fault ≡ None = sym (ap (λ (s : Unread). s.fault) c.self.view_is) ∙ c.in_default.is in
-    let front : front old.rest ≡ partial =
-    ap (λ (s : Unread). front s.rest) (sym c.self.view_is) ∙ cut_none c.cut.new.self.body _ _ c.in_default-body.ensures c.in-Ok.ensures.ok in
-    ap (λ n. n.answer) (next-at g.M.Message.of old partial fault front)
+    let first_frame : first_frame old.rest ≡ partial =
+    ap (λ (s : Unread). first_frame s.rest) (sym c.self.view_is) ∙ cut_none c.cut.new.self.body _ _ c.in_default-body.ensures c.in-Ok.ensures.ok in
+    ap (λ n. n.answer) (next-at g.M.Message.of old partial fault first_frame)
 
 pub returns-in_default-body-clause-after : goal.returns-in_default-body-clause-after
 returns-in_default-body-clause-after g c =
     let old = c.args.self.now in
     let fault : old.fault ≡ None = sym (ap (λ (s : Unread). s.fault) c.self.view_is) ∙ c.in_default.is in
-    let front : front old.rest ≡ partial =
-    ap (λ (s : Unread). front s.rest) (sym c.self.view_is) ∙ cut_none c.cut.new.self.body _ _ c.in_default-body.ensures c.in-Ok.ensures.ok in
+    let first_frame : first_frame old.rest ≡ partial =
+    ap (λ (s : Unread). first_frame s.rest) (sym c.self.view_is) ∙ cut_none c.cut.new.self.body _ _ c.in_default-body.ensures c.in-Ok.ensures.ok in
     let rest : unread c.cut.new.self ≡ old.rest = c.cut.ensures.unread ∙ ap (λ (s : Unread). s.rest) c.self.view_is in
     λ _. unread_is old c.self.inside.at (unread c.cut.new.self) c.self.inside.fault
     (ap (λ (s : Unread). s.at) c.self.view_is) rest (ap (λ (s : Unread). s.fault) c.self.view_is)
-    ∙ ap (λ n. n.after) (sym (next-at g.M.Message.of old partial fault front))
+    ∙ ap (λ n. n.after) (sym (next-at g.M.Message.of old partial fault first_frame))
 
 pub returns-in-Ok-read-clause-value : goal.returns-in-Ok-read-clause-value
 returns-in-Ok-read-clause-value g c =
     let old = c.args.self.now in
     let body = c.in-Some-body.body.now in
     let fault : old.fault ≡ None = sym (ap (λ (s : Unread). s.fault) c.self.view_is) ∙ c.in_default.is in
-    let front : front old.rest ≡ whole body c.cut.new.self.rest =
-    ap (λ (s : Unread). front s.rest) (sym c.self.view_is) ∙ cut_some c.cut.new.self.body body _ _ c.in-Some-body.ensures c.in-Ok.ensures.ok in
+    let first_frame : first_frame old.rest ≡ whole body c.cut.new.self.rest =
+    ap (λ (s : Unread). first_frame s.rest) (sym c.self.view_is) ∙ cut_some c.cut.new.self.body body _ _ c.in-Some-body.ensures c.in-Ok.ensures.ok in
     let read : g.M.Message.of body ≡ Ok c.in-Ok-read.message = read_ok (g.M.Message.of body) c.in-Ok-read.message c.in-Ok-read.ensures.value in
-    ap (λ n. n.answer) (next-message g.M.Message.of old body c.cut.new.self.rest (Ok c.in-Ok-read.message) fault front read)
+    ap (λ n. n.answer) (next-message g.M.Message.of old body c.cut.new.self.rest (Ok c.in-Ok-read.message) fault first_frame read)
 
 pub returns-in-Ok-read-clause-after : goal.returns-in-Ok-read-clause-after
 returns-in-Ok-read-clause-after g c =
     let old = c.args.self.now in
     let body = c.in-Some-body.body.now in
     let fault : old.fault ≡ None = sym (ap (λ (s : Unread). s.fault) c.self.view_is) ∙ c.in_default.is in
-    let front : front old.rest ≡ whole body c.cut.new.self.rest =
-    ap (λ (s : Unread). front s.rest) (sym c.self.view_is) ∙ cut_some c.cut.new.self.body body _ _ c.in-Some-body.ensures c.in-Ok.ensures.ok in
+    let first_frame : first_frame old.rest ≡ whole body c.cut.new.self.rest =
+    ap (λ (s : Unread). first_frame s.rest) (sym c.self.view_is) ∙ cut_some c.cut.new.self.body body _ _ c.in-Some-body.ensures c.in-Ok.ensures.ok in
     let read : g.M.Message.of body ≡ Ok c.in-Ok-read.message = read_ok (g.M.Message.of body) c.in-Ok-read.message c.in-Ok-read.ensures.value in
     let place : c.self.inside.at ≡ old.at = ap (λ (s : Unread). s.at) c.self.view_is in
     let at : c.saturating_add-self-inside.result ≡ counted_to_end (old.at + (4 + length body)) = omega arith in
     let rest : unread c.go_on.new.self ≡ c.cut.new.self.rest = ap₂ put_back c.go_on.ensures.body c.go_on.ensures.rest in
     let after : Unread = record { at = counted_to_end (old.at + (4 + length body)); rest = c.cut.new.self.rest; fault = old.fault } in
     λ _. unread_is after c.saturating_add-self-inside.result (unread c.go_on.new.self) c.self.inside.fault at rest (ap (λ (s : Unread). s.fault) c.self.view_is)
-    ∙ ap (λ n. n.after) (sym (next-message g.M.Message.of old body c.cut.new.self.rest (Ok c.in-Ok-read.message) fault front read))
+    ∙ ap (λ n. n.after) (sym (next-message g.M.Message.of old body c.cut.new.self.rest (Ok c.in-Ok-read.message) fault first_frame read))
 
 pub returns-in-Err-Bad-clause-value : goal.returns-in-Err-Bad-clause-value
 returns-in-Err-Bad-clause-value g c =
     let old = c.args.self.now in
     let body = c.in-Some-body.body.now in
     let fault : old.fault ≡ None = sym (ap (λ (s : Unread). s.fault) c.self.view_is) ∙ c.in_default.is in
-    let front : front old.rest ≡ whole body c.cut.new.self.rest =
-    ap (λ (s : Unread). front s.rest) (sym c.self.view_is) ∙ cut_some c.cut.new.self.body body _ _ c.in-Some-body.ensures c.in-Ok.ensures.ok in
+    let first_frame : first_frame old.rest ≡ whole body c.cut.new.self.rest =
+    ap (λ (s : Unread). first_frame s.rest) (sym c.self.view_is) ∙ cut_some c.cut.new.self.body body _ _ c.in-Some-body.ensures c.in-Ok.ensures.ok in
     let read : g.M.Message.of body ≡ Err c.in-Err-Bad.place = read_bad (g.M.Message.of body) c.in-Err-Bad.field-0 c.in-Err-Bad.place c.in-Err-Bad.field-0-is c.in-Err-Bad.ensures.value in
     let place : c.self.inside.at ≡ old.at = ap (λ (s : Unread). s.at) c.self.view_is in
     let at : c.saturating_add-place.result ≡ counted_to_end (old.at + (4 + c.in-Err-Bad.place)) = omega arith in
     stops_value g.M.Message.of old (BadMessage (counted_to_end (old.at + (4 + c.in-Err-Bad.place)))) c.stop-in-Err-Bad.result
-    (next-message g.M.Message.of old body c.cut.new.self.rest (Err c.in-Err-Bad.place) fault front read)
+    (next-message g.M.Message.of old body c.cut.new.self.rest (Err c.in-Err-Bad.place) fault first_frame read)
     (c.stop-in-Err-Bad.ensures.value ∙ ap (λ n. Err (BadMessage n)) at)
 
 pub returns-in-Err-Bad-clause-after : goal.returns-in-Err-Bad-clause-after
@@ -100,14 +100,14 @@ returns-in-Err-Bad-clause-after g c =
     let old = c.args.self.now in
     let body = c.in-Some-body.body.now in
     let fault : old.fault ≡ None = sym (ap (λ (s : Unread). s.fault) c.self.view_is) ∙ c.in_default.is in
-    let front : front old.rest ≡ whole body c.cut.new.self.rest =
-    ap (λ (s : Unread). front s.rest) (sym c.self.view_is) ∙ cut_some c.cut.new.self.body body _ _ c.in-Some-body.ensures c.in-Ok.ensures.ok in
+    let first_frame : first_frame old.rest ≡ whole body c.cut.new.self.rest =
+    ap (λ (s : Unread). first_frame s.rest) (sym c.self.view_is) ∙ cut_some c.cut.new.self.body body _ _ c.in-Some-body.ensures c.in-Ok.ensures.ok in
     let read : g.M.Message.of body ≡ Err c.in-Err-Bad.place = read_bad (g.M.Message.of body) c.in-Err-Bad.field-0 c.in-Err-Bad.place c.in-Err-Bad.field-0-is c.in-Err-Bad.ensures.value in
     let place : c.self.inside.at ≡ old.at = ap (λ (s : Unread). s.at) c.self.view_is in
     let at : c.saturating_add-place.result ≡ counted_to_end (old.at + (4 + c.in-Err-Bad.place)) = omega arith in
     let rest : unread c.cut.new.self ≡ old.rest = c.cut.ensures.unread ∙ ap (λ (s : Unread). s.rest) c.self.view_is in
     let found : FrameFault = BadMessage (counted_to_end (old.at + (4 + c.in-Err-Bad.place))) in
     λ _. stops_after g.M.Message.of old found c.stop-in-Err-Bad.new.self
-    (next-message g.M.Message.of old body c.cut.new.self.rest (Err c.in-Err-Bad.place) fault front read)
+    (next-message g.M.Message.of old body c.cut.new.self.rest (Err c.in-Err-Bad.place) fault first_frame read)
     (c.stop-in-Err-Bad.ensures.after ∙ unread_is (record old { fault = Some found }) c.self.inside.at (unread c.cut.new.self) (Some (BadMessage c.saturating_add-place.result))
     place rest (ap (λ n. Some (BadMessage n)) at))
