@@ -17,8 +17,8 @@ pub data FirstFrame : Type 0 where
   whole : List ℕ → List ℕ → FirstFrame
 
 -- a body of this length, and what follows it
-unfoldable pub body_front : ℕ → List ℕ → FirstFrame
-body_front len bytes =
+unfoldable pub frame_of_len : ℕ → List ℕ → FirstFrame
+frame_of_len len bytes =
     if nat_lt MAX_BODY len then too_long len
     else if nat_lt (length bytes) len then partial
     else whole (take len bytes) (drop len bytes)
@@ -26,4 +26,4 @@ body_front len bytes =
 unfoldable pub first_frame : List ℕ → FirstFrame
 first_frame bytes =
     if nat_lt (length bytes) 4 then partial
-    else body_front (from_be_bytes w32 (take 4 bytes)) (drop 4 bytes)
+    else frame_of_len (from_be_bytes w32 (take 4 bytes)) (drop 4 bytes)
