@@ -2,8 +2,7 @@
 //! on it.
 //!
 //! Entries are signed by real keys. Each refusal but that of a full history, which `sporc_history_tests` shows, comes of an
-//! entry that fails its check alone, and of one that fails all later checks, too. A function owns at most one of keys, history and line, and hands it down: one that owns more is slow
-//! to prove.
+//! entry that fails its check alone, and of one that fails all later checks, too.
 #![tactic(auto)]
 
 #[cfg(test)]

@@ -68,11 +68,6 @@ pub(crate) fn tried(
     Ok(given(line, position, bytes.as_slice()))
 }
 
-/// An entry was to be refused so.
-pub(crate) fn assert_refused(rt: &impl Abort, found: Option<Refusal>, refusal: Refusal) {
-    assert_eq!(rt; found, Some(refusal));
-}
-
 // The refusals of an edit's header, by the last check and those before it. The tenth is that of its author.
 const REFUSALS: [Refusal; 12] = [
     Refusal::BadSignature,
@@ -98,41 +93,24 @@ pub(crate) fn spoilt(good: &Draft, hashes: &[Digest32]) -> Draft {
     draft
 }
 
-// Edits that fail one check of their header.
-fn each_alone(
-    rt: &impl Abort,
+// Whether a line refuses an edit that fails a check of its header alone, and one that fails all later checks, too. A body
+// of one byte is no delta.
+fn refuses(
     alloc: Global,
     cast: &Cast,
     line: &mut Line,
     good: &Draft,
     body: &[u8],
-) -> Result<(), Fail> {
-    for refusal in &REFUSALS {
-        let mut draft = *good;
-        spoil(&mut draft, line.hashes(), *refusal);
-        let position = place(line, *refusal);
-        let found = tried(alloc, cast, line, &draft, position, body)?;
-        assert_refused(rt, found, *refusal);
-    }
-    Ok(())
-}
-
-// Edits that fail all checks from one on. A body of one byte is no delta.
-fn each_worse(
-    rt: &impl Abort,
-    alloc: Global,
-    cast: &Cast,
-    line: &mut Line,
-    good: &Draft,
-) -> Result<(), Fail> {
-    let mut draft = *good;
-    for refusal in &REFUSALS {
-        spoil(&mut draft, line.hashes(), *refusal);
-        let position = place(line, *refusal);
-        let found = tried(alloc, cast, line, &draft, position, &[5])?;
-        assert_refused(rt, found, *refusal);
-    }
-    Ok(())
+    worse: &mut Draft,
+    refusal: Refusal,
+) -> Result<bool, Fail> {
+    let mut alone = *good;
+    spoil(&mut alone, line.hashes(), refusal);
+    spoil(worse, line.hashes(), refusal);
+    let position = place(line, refusal);
+    let found = tried(alloc, cast, line, &alone, position, body)?;
+    let found_worse = tried(alloc, cast, line, worse, position, &[5])?;
+    Ok(found == Some(refusal) && found_worse == Some(refusal))
 }
 
 // The body of member 2's next edit of the short history: it keeps so many characters and inserts one.
@@ -142,24 +120,43 @@ fn body_keeping(alloc: Global, keep: u64) -> Result<Vec<u8>, Fail> {
     Ok(body)
 }
 
-// Edits whose body fails.
-fn each_payload(
+// Edits whose body fails, and one that fails no check.
+fn bodies_refused(
     rt: &impl Abort,
     alloc: Global,
     cast: &Cast,
     line: &mut Line,
     good: &Draft,
+    body: &[u8],
 ) -> Result<(), Fail> {
     let long = body_keeping(alloc, 5)?;
     let found = tried(alloc, cast, line, good, 5, long.as_slice())?;
-    assert_refused(rt, found, Refusal::WrongLength);
+    assert!(rt; found == Some(Refusal::WrongLength));
     let found = tried(alloc, cast, line, good, 5, &[5])?;
-    assert_refused(rt, found, Refusal::BadPayload);
-    assert_refused(rt, given(line, 1, b""), Refusal::Malformed(0));
+    assert!(rt; found == Some(Refusal::BadPayload));
+    assert!(rt; given(line, 1, b"") == Some(Refusal::Malformed(0)));
+    assert!(rt; tried(alloc, cast, line, good, 5, body)?.is_none());
     Ok(())
 }
 
-// Edits of all these kinds at the line of a member who accepted the short history, and one that fails no check.
+// Edits whose header fails.
+fn headers_refused(
+    rt: &impl Abort,
+    alloc: Global,
+    cast: &Cast,
+    line: &mut Line,
+    good: &Draft,
+    body: &[u8],
+) -> Result<(), Fail> {
+    let mut worse = *good;
+    for refusal in &REFUSALS {
+        let refused = refuses(alloc, cast, line, good, body, &mut worse, *refusal)?;
+        assert!(rt; refused, "{refusal:?}");
+    }
+    Ok(())
+}
+
+// Edits of all these kinds at the line of a member who accepted the short history.
 fn edits_refused(
     rt: &impl Abort,
     alloc: Global,
@@ -168,12 +165,8 @@ fn edits_refused(
     good: &Draft,
 ) -> Result<(), Fail> {
     let body = body_keeping(alloc, 4)?;
-    each_alone(rt, alloc, cast, line, good, body.as_slice())?;
-    each_worse(rt, alloc, cast, line, good)?;
-    each_payload(rt, alloc, cast, line, good)?;
-    let found = tried(alloc, cast, line, good, 5, body.as_slice())?;
-    assert_eq!(rt; found, None);
-    Ok(())
+    headers_refused(rt, alloc, cast, line, good, body.as_slice())?;
+    bodies_refused(rt, alloc, cast, line, good, body.as_slice())
 }
 
 // The same, at the line of editor 2.
@@ -216,92 +209,90 @@ const TWICE: &[u16] = &[1, 2, 2, 3, 4, 5];
 
 const NOT_MEMBER: Refusal = Refusal::BadChange(ChangeFault::NotMember);
 
-// Gives a line of one edit a change by the admin, whose keys are those that end this epoch and whose wraps name these
-// members: why the line refuses it, if it does.
-fn changed(
+// A change, the epoch that its keys end, the members that its wraps name, and why a line of one edit refuses it.
+type Row = (Change, u32, &'static [u16], Refusal);
+
+// Changes that fail one check, at the line of a member who shares a key with their author.
+const ALONE: [Row; 4] = [
+    (EDITOR, 1, ALL, Refusal::WrongKey),
+    (EDITOR, 0, FEW, Refusal::WrongWraps),
+    (EDITOR, 0, TWICE, Refusal::WrongWraps),
+    (STRANGER, 0, ALL, NOT_MEMBER),
+];
+
+// Changes that fail all checks from one on, at the line of a member who shares none. The first fails for want of that key
+// alone.
+const WORSE: [Row; 4] = [
+    (EDITOR, 0, ALL, Refusal::NoKey),
+    (EDITOR, 1, ALL, Refusal::NoKey),
+    (EDITOR, 1, FEW, Refusal::WrongWraps),
+    (STRANGER, 1, FEW, NOT_MEMBER),
+];
+
+// Gives a line of one edit a change by the admin.
+fn tries_change(
+    rt: &impl Abort,
     alloc: Global,
     cast: &Cast,
     line: &mut Line,
     draft: &Draft,
-    change: Change,
-    epoch: u32,
-    wraps: &[u16],
-) -> Result<Option<Refusal>, Fail> {
+    row: &Row,
+) -> Result<(), Fail> {
+    let (change, epoch, wraps, refusal) = *row;
     let body = change_body(alloc, change, 1, 0, epoch, wraps)?;
-    tried(alloc, cast, line, draft, 2, body.as_slice())
-}
-
-// Changes that fail one check, at the line of a member who shares a key with their author.
-fn each_change_alone(
-    rt: &impl Abort,
-    alloc: Global,
-    cast: &Cast,
-    line: &mut Line,
-    good: &Draft,
-) -> Result<(), Fail> {
-    let found = changed(alloc, cast, line, good, EDITOR, 1, ALL)?;
-    assert_refused(rt, found, Refusal::WrongKey);
-    let found = changed(alloc, cast, line, good, EDITOR, 0, FEW)?;
-    assert_refused(rt, found, Refusal::WrongWraps);
-    let found = changed(alloc, cast, line, good, EDITOR, 0, TWICE)?;
-    assert_refused(rt, found, Refusal::WrongWraps);
-    let found = changed(alloc, cast, line, good, STRANGER, 0, ALL)?;
-    assert_refused(rt, found, NOT_MEMBER);
+    let found = tried(alloc, cast, line, draft, 2, body.as_slice())?;
+    assert!(rt;
+        found == Some(refusal),
+        "{change:?} {epoch} {wraps:?}: {found:?}"
+    );
     Ok(())
 }
 
-// Changes that fail all checks from one on, at the line of a member who shares none; and one that fails for want of that
-// key alone.
-fn each_change_worse(
+// Gives a line a history, and then changes.
+fn changes_refused(
     rt: &impl Abort,
     alloc: Global,
     cast: &Cast,
+    sample: &History,
     line: &mut Line,
-    good: &Draft,
+    rows: &[Row],
 ) -> Result<(), Fail> {
-    let found = changed(alloc, cast, line, good, EDITOR, 0, ALL)?;
-    assert_refused(rt, found, Refusal::NoKey);
-    let found = changed(alloc, cast, line, good, EDITOR, 1, ALL)?;
-    assert_refused(rt, found, Refusal::NoKey);
-    let found = changed(alloc, cast, line, good, EDITOR, 1, FEW)?;
-    assert_refused(rt, found, Refusal::WrongWraps);
-    let found = changed(alloc, cast, line, good, STRANGER, 1, FEW)?;
-    assert_refused(rt, found, NOT_MEMBER);
+    take(rt, line, sample, None)?;
+    let draft = Draft::new(sample.header(1, CHANGE));
+    for row in rows {
+        tries_change(rt, alloc, cast, line, &draft, row)?;
+    }
     Ok(())
 }
 
-// Changes of the first kind at the line of editor 2.
-fn changes_refused_alone(
+// At the line of editor 2.
+fn refused_alone(
     rt: &impl Abort,
     alloc: Global,
     cast: &Cast,
     sample: &History,
 ) -> Result<(), Fail> {
     let mut line = founded(alloc, cast, 2)?;
-    take(rt, &mut line, sample, None)?;
-    let good = Draft::new(sample.header(1, CHANGE));
-    each_change_alone(rt, alloc, cast, &mut line, &good)
+    changes_refused(rt, alloc, cast, sample, &mut line, &ALONE)
 }
 
-// Changes of the second kind at that of editor 5, who shares no key.
-fn changes_refused_worse(
+// At that of editor 5, who shares no key.
+fn refused_worse(
     rt: &impl Abort,
     alloc: Global,
     cast: &Cast,
     sample: &History,
 ) -> Result<(), Fail> {
     let mut line = unpaired(alloc, cast, 5)?;
-    take(rt, &mut line, sample, None)?;
-    let good = Draft::new(sample.header(1, CHANGE));
-    each_change_worse(rt, alloc, cast, &mut line, &good)
+    changes_refused(rt, alloc, cast, sample, &mut line, &WORSE)
 }
 
 // Both, after one edit.
 fn changes_refused_after(rt: &impl Abort, alloc: Global, cast: &Cast) -> Result<(), Fail> {
     let mut sample = empty_history(alloc, cast)?;
     insert(alloc, cast, &mut sample, 2, 0, b"ab")?;
-    changes_refused_alone(rt, alloc, cast, &sample)?;
-    changes_refused_worse(rt, alloc, cast, &sample)
+    refused_alone(rt, alloc, cast, &sample)?;
+    refused_worse(rt, alloc, cast, &sample)
 }
 
 #[test]

@@ -22,28 +22,27 @@ pub(crate) fn paired(alloc: Global, me: u16) -> Result<Pairs, Fail> {
     Ok(pairs)
 }
 
-/// The empty line of a member.
+/// The empty line of a member, in a box: a function that owns a line itself is slow to prove.
 pub(crate) fn opened(
     alloc: Global,
     cast: &Cast,
     me: u16,
     ring: Ring,
     pairs: Pairs,
-) -> Result<Line, Fail> {
+) -> Result<Box<Line>, Fail> {
     let genesis = cast.genesis(alloc)?;
-    let line = Line::open(alloc, genesis, me, ring, pairs)?;
-    Ok(line)
+    Ok(Box::new(alloc, Line::open(alloc, genesis, me, ring, pairs)?)?)
 }
 
 /// The empty line of a founder who shares a key with the admin.
-pub(crate) fn founded(alloc: Global, cast: &Cast, me: u16) -> Result<Line, Fail> {
+pub(crate) fn founded(alloc: Global, cast: &Cast, me: u16) -> Result<Box<Line>, Fail> {
     let ring = founder_ring(alloc)?;
     let pairs = paired(alloc, me)?;
     opened(alloc, cast, me, ring, pairs)
 }
 
 /// The empty line of a founder who shares no key.
-pub(crate) fn unpaired(alloc: Global, cast: &Cast, me: u16) -> Result<Line, Fail> {
+pub(crate) fn unpaired(alloc: Global, cast: &Cast, me: u16) -> Result<Box<Line>, Fail> {
     let ring = founder_ring(alloc)?;
     opened(alloc, cast, me, ring, Pairs::new(alloc))
 }
@@ -92,6 +91,7 @@ pub(crate) fn take(
     sample: &History,
     refusal: Option<Refusal>,
 ) -> Result<(), Fail> {
-    assert_eq!(rt; all_given(line, sample.entries()), refusal);
+    let found = all_given(line, sample.entries());
+    assert!(rt; found == refusal, "{found:?} and not {refusal:?}");
     Ok(())
 }
