@@ -1,9 +1,7 @@
 //! Changes of the members, and what they do to what is pending. Before the rows, members 1 and 2 hold "abc".
 
-use crate::room::{ABC, Room};
+use crate::room::plays;
 use sporc_samples::Cast;
-use std::alloc::Global;
-use std::process::Abort;
 use std::test::Fail;
 
 // A change comes while an edit is on its way: that entry comes too late, and the edit stays pending. The member may submit it
@@ -62,17 +60,11 @@ const DROPPED: &str = "
 1 show -> [abcd] [abcd]
 ";
 
-fn tries(rt: &impl Abort, alloc: Global, cast: &Cast, rows: &str) -> Result<(), Fail> {
-    let mut room = Room::new(alloc, cast, 2)?;
-    room.tries(rt, alloc, ABC)?;
-    room.tries(rt, alloc, rows)
-}
-
 #[test]
 fn changes_come(rt: HostRuntime) -> Result<(), Fail> {
     let cast = Cast::new(rt.alloc())?;
     for rows in [BARRIER, REMOVAL, DROPPED] {
-        tries(&rt, rt.alloc(), &cast, rows)?;
+        plays(&rt, rt.alloc(), &cast, 2, rows)?;
     }
     Ok(())
 }

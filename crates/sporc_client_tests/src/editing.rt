@@ -1,7 +1,7 @@
 //! Edits of texts that were shown before, giving up what is pending, and how much may be.
 
-use crate::room::{ABC, Room, edit, shown_len};
-use crate::scene::{MemoryClient, insertion, joined};
+use crate::room::{Room, edit, plays, shown_len};
+use crate::scene::{MemoryClient, insertion};
 use sporc_client::EditFault;
 use sporc_samples::Cast;
 use std::alloc::Global;
@@ -33,17 +33,11 @@ const GIVEN_UP: &str = "
 1 show -> [abcd] [abcd]
 ";
 
-fn tries(rt: &impl Abort, alloc: Global, cast: &Cast, rows: &str) -> Result<(), Fail> {
-    let mut room = Room::new(alloc, cast, 2)?;
-    room.tries(rt, alloc, ABC)?;
-    room.tries(rt, alloc, rows)
-}
-
 #[test]
 fn edits_are_of_the_text_that_was_shown(rt: HostRuntime) -> Result<(), Fail> {
     let cast = Cast::new(rt.alloc())?;
-    tries(&rt, rt.alloc(), &cast, REBASED)?;
-    tries(&rt, rt.alloc(), &cast, GIVEN_UP)
+    plays(&rt, rt.alloc(), &cast, 2, REBASED)?;
+    plays(&rt, rt.alloc(), &cast, 2, GIVEN_UP)
 }
 
 // ---- how much may be pending
@@ -85,14 +79,14 @@ fn number_is_limited(
     Ok(())
 }
 
-fn is_limited(rt: &impl Abort, alloc: Global, cast: &Cast) -> Result<(), Fail> {
-    let mut client = joined(alloc, cast, 2)?;
-    length_is_limited(rt, alloc, &mut client)?;
-    number_is_limited(rt, alloc, &mut client)
+fn is_limited(rt: &impl Abort, alloc: Global, client: &mut MemoryClient) -> Result<(), Fail> {
+    length_is_limited(rt, alloc, client)?;
+    number_is_limited(rt, alloc, client)
 }
 
 #[test]
 fn few_and_short_edits_are_pending(rt: HostRuntime) -> Result<(), Fail> {
     let cast = Cast::new(rt.alloc())?;
-    is_limited(&rt, rt.alloc(), &cast)
+    let mut room = Room::new(rt.alloc(), &cast, 2)?;
+    is_limited(&rt, rt.alloc(), room.client(2)?)
 }

@@ -1,9 +1,7 @@
 //! Clients whose edits meet. Before the rows, members 1 and 2 hold "abc".
 
-use crate::room::{ABC, Room};
+use crate::room::plays;
 use sporc_samples::Cast;
-use std::alloc::Global;
-use std::process::Abort;
 use std::test::Fail;
 
 // Both insert at one place: the text that is ordered first comes first.
@@ -117,30 +115,18 @@ const FORK: &str = "
 2 show -> [abce] [abce]
 ";
 
-fn tries(
-    rt: &impl Abort,
-    alloc: Global,
-    cast: &Cast,
-    members: u16,
-    rows: &str,
-) -> Result<(), Fail> {
-    let mut room = Room::new(alloc, cast, members)?;
-    room.tries(rt, alloc, ABC)?;
-    room.tries(rt, alloc, rows)
-}
-
 #[test]
 fn edits_meet(rt: HostRuntime) -> Result<(), Fail> {
     let cast = Cast::new(rt.alloc())?;
     for rows in [TIE, INSERTION_IN_REMOVAL, REMOVED_TWICE, PASSED_BY] {
-        tries(&rt, rt.alloc(), &cast, 2, rows)?;
+        plays(&rt, rt.alloc(), &cast, 2, rows)?;
     }
-    tries(&rt, rt.alloc(), &cast, 4, FALSE_TIE)
+    plays(&rt, rt.alloc(), &cast, 4, FALSE_TIE)
 }
 
 #[test]
 fn a_client_takes_an_entry_of_its_history_alone(rt: HostRuntime) -> Result<(), Fail> {
     let cast = Cast::new(rt.alloc())?;
-    tries(&rt, rt.alloc(), &cast, 2, REPEATED)?;
-    tries(&rt, rt.alloc(), &cast, 2, FORK)
+    plays(&rt, rt.alloc(), &cast, 2, REPEATED)?;
+    plays(&rt, rt.alloc(), &cast, 2, FORK)
 }

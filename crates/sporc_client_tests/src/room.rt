@@ -14,11 +14,13 @@
 //!
 //! A call that is refused answers its fault.
 
-use crate::scene::{MemoryClient, RANDOM, insertion, joined, removal};
+use crate::scene::{MemoryClient, RANDOM, insertion, joined, opened, removal, resumed};
 use sporc_base::Bytes;
 use sporc_client::{EditFault, Submitted};
 use sporc_delta::Delta;
+use sporc_line::Line;
 use sporc_member::{Change, Role};
+use sporc_outside::Calls;
 use sporc_samples::Cast;
 use std::alloc::Global;
 use std::fmt::Debug;
@@ -26,7 +28,7 @@ use std::process::Abort;
 use std::str::SplitWhitespace;
 use std::test::Fail;
 
-/// Members 1 and 2 come to hold "abc".
+// Members 1 and 2 come to hold "abc".
 pub(crate) const ABC: &str = "
 1 insert 0 abc -> event 1
 1 submit -> entry
@@ -34,7 +36,8 @@ pub(crate) const ABC: &str = "
 2 give 1 1 -> event 1
 ";
 
-/// The clients of the members 1, 2, .., and the entries that they made.
+/// The clients of the members 1, 2, .., and the entries that they made. A function that owns a room is quick to prove;
+/// one that owns a client itself is slow.
 #[derive(Drop)]
 pub(crate) struct Room {
     clients: Vec<MemoryClient>,
@@ -54,22 +57,33 @@ impl Room {
         })
     }
 
-    /// A member's client.
+    /// The client of one founder alone, opened as [`opened`] says.
+    pub(crate) fn alone(
+        alloc: Global,
+        cast: &Cast,
+        me: u16,
+        last: u16,
+        calls: Calls,
+    ) -> Result<Room, Fail> {
+        let mut clients = Vec::new(alloc);
+        clients.push(opened(alloc, cast, me, last, calls)?)?;
+        Ok(Room {
+            clients,
+            entries: Vec::new(alloc),
+        })
+    }
+
+    /// The client of the member at this place, from 1 on.
     pub(crate) fn client(&mut self, member: u32) -> Result<&mut MemoryClient, Fail> {
         let place = (member as usize).wrapping_sub(1);
         let client = self.clients.get_mut(place).ok_or("no client")?;
         Ok(client)
     }
 
-    /// The last member's client leaves.
-    pub(crate) fn leaves(&mut self) -> Result<MemoryClient, Fail> {
+    /// The last client closes, and another begins with its signer and this line.
+    pub(crate) fn resumes(&mut self, alloc: Global, line: Box<Line>) -> Result<(), Fail> {
         let client = self.clients.pop().ok_or("no client")?;
-        Ok(client)
-    }
-
-    /// A client of the member after the last one comes.
-    pub(crate) fn comes(&mut self, client: MemoryClient) -> Result<(), Fail> {
-        self.clients.push(client)?;
+        self.clients.push(resumed(alloc, line, client.close())?)?;
         Ok(())
     }
 
@@ -96,15 +110,9 @@ impl Room {
     fn answer(&mut self, alloc: Global, words: &mut SplitWhitespace<'_>) -> Result<String, Fail> {
         let member = number(words)?;
         match word(words)? {
-            "insert" => insert(alloc, self.client(member)?, words),
-            "append" => append(alloc, self.client(member)?, words),
-            "remove" => remove(alloc, self.client(member)?, words),
             "submit" => self.submit(alloc, member),
             "give" => self.give(alloc, member, words),
-            "discard" => told(alloc, self.client(member)?.discard(1)),
-            "restart" => restart(alloc, self.client(member)?, words),
-            "show" => show(alloc, self.client(member)?),
-            change => changes(alloc, self.client(member)?, change, words),
+            act => answer_to(alloc, self.client(member)?, act, words),
         }
     }
 
@@ -133,6 +141,37 @@ impl Room {
         let place = (member as usize).wrapping_sub(1);
         let client = self.clients.get_mut(place).ok_or("no client")?;
         told(alloc, client.accept(1, position, entry.as_slice()))
+    }
+}
+
+/// Opens the clients of the first members, who come to hold "abc", and does what the rows say.
+pub(crate) fn plays(
+    rt: &impl Abort,
+    alloc: Global,
+    cast: &Cast,
+    members: u16,
+    rows: &str,
+) -> Result<(), Fail> {
+    let mut room = Room::new(alloc, cast, members)?;
+    room.tries(rt, alloc, ABC)?;
+    room.tries(rt, alloc, rows)
+}
+
+// What a client answers that needs no entry of the others.
+fn answer_to(
+    alloc: Global,
+    client: &mut MemoryClient,
+    act: &str,
+    words: &mut SplitWhitespace<'_>,
+) -> Result<String, Fail> {
+    match act {
+        "insert" => insert(alloc, client, words),
+        "append" => append(alloc, client, words),
+        "remove" => remove(alloc, client, words),
+        "discard" => told(alloc, client.discard(1)),
+        "restart" => restart(alloc, client, words),
+        "show" => show(alloc, client),
+        change => changes(alloc, client, change, words),
     }
 }
 

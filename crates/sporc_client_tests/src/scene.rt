@@ -7,6 +7,7 @@ use lms_tree::{LmsType, Tree};
 use sporc_client::Client;
 use sporc_delta::Delta;
 use sporc_epoch::{Pairs, Ring};
+use sporc_line::Line;
 use sporc_outside::{Calls, MemoryDisk};
 use sporc_samples::{Cast, epoch_key, pair_key};
 use std::alloc::Global;
@@ -65,6 +66,18 @@ pub(crate) fn opened(
     match Client::open(alloc, genesis, me, ring, pairs, signer) {
         Ok(client) => Ok(client),
         Err((fault, _)) => Err(fault.into()),
+    }
+}
+
+/// The client that begins with a line and a signer.
+pub(crate) fn resumed(
+    alloc: Global,
+    line: Box<Line>,
+    signer: Signer<MemoryDisk>,
+) -> Result<MemoryClient, Fail> {
+    match Client::resume(alloc, Box::into_inner(line), signer) {
+        Ok(client) => Ok(client),
+        Err((_, _, memory)) => Err(memory.into()),
     }
 }
 

@@ -1,7 +1,7 @@
 //! Submissions that give no entry.
 
-use crate::room::edit;
-use crate::scene::{MemoryClient, RANDOM, insertion, joined, no_calls, opened, removal};
+use crate::room::{Room, edit};
+use crate::scene::{MemoryClient, RANDOM, insertion, no_calls, removal};
 use sporc_client::{SubmitFault, Submitted};
 use sporc_member::Change;
 use sporc_outside::Calls;
@@ -42,8 +42,8 @@ fn change_is_not_sealed(rt: &impl Abort, client: &mut MemoryClient) -> Result<()
 }
 
 fn lacks_keys(rt: &impl Abort, alloc: Global, cast: &Cast) -> Result<(), Fail> {
-    let mut client = opened(alloc, cast, 1, 3, no_calls(alloc))?;
-    change_is_not_sealed(rt, &mut client)
+    let mut room = Room::alone(alloc, cast, 1, 3, no_calls(alloc))?;
+    change_is_not_sealed(rt, room.client(1)?)
 }
 
 #[test]
@@ -66,8 +66,8 @@ fn leaves_end(rt: &impl Abort, alloc: Global, client: &mut MemoryClient) -> Resu
 }
 
 fn all_leaves(rt: &impl Abort, alloc: Global, cast: &Cast) -> Result<(), Fail> {
-    let mut client = joined(alloc, cast, 2)?;
-    leaves_end(rt, alloc, &mut client)
+    let mut room = Room::new(alloc, cast, 2)?;
+    leaves_end(rt, alloc, room.client(2)?)
 }
 
 #[test]
@@ -93,8 +93,8 @@ fn draw_fails(rt: &impl Abort, alloc: Global, client: &mut MemoryClient) -> Resu
 }
 
 fn has_failing_disk(rt: &impl Abort, alloc: Global, cast: &Cast) -> Result<(), Fail> {
-    let mut client = opened(alloc, cast, 2, 5, failing_calls(alloc)?)?;
-    draw_fails(rt, alloc, &mut client)
+    let mut room = Room::alone(alloc, cast, 2, 5, failing_calls(alloc)?)?;
+    draw_fails(rt, alloc, room.client(1)?)
 }
 
 #[test]
@@ -178,28 +178,28 @@ fn head_grows(
     comes(alloc, cast, sample, client, more_splits(alloc)?)
 }
 
-fn with_long_head(alloc: Global, cast: &Cast) -> Result<MemoryClient, Fail> {
-    let mut client = joined(alloc, cast, 2)?;
-    let mut sample = empty_history(alloc, cast)?;
-    head_grows(alloc, cast, &mut sample, &mut client)?;
-    Ok(client)
-}
-
 fn empty_history(alloc: Global, cast: &Cast) -> Result<History, Fail> {
     let genesis = cast.genesis(alloc)?;
     let sample = History::new(alloc, &genesis)?;
     Ok(sample)
 }
 
-fn long_head(rt: &impl Abort, alloc: Global, cast: &Cast) -> Result<(), Fail> {
-    let mut client = with_long_head(alloc, cast)?;
+fn head_is_too_long(
+    rt: &impl Abort,
+    alloc: Global,
+    cast: &Cast,
+    client: &mut MemoryClient,
+) -> Result<(), Fail> {
+    let mut sample = empty_history(alloc, cast)?;
+    head_grows(alloc, cast, &mut sample, client)?;
     assert!(rt; client.shown_len_at(4) == Some(60_000));
-    refused(rt, &mut client, SubmitFault::HeadTooLong(1_080_009));
+    refused(rt, client, SubmitFault::HeadTooLong(1_080_009));
     Ok(())
 }
 
 #[test]
 fn an_edit_can_grow_too_long(rt: HostRuntime) -> Result<(), Fail> {
     let cast = Cast::new(rt.alloc())?;
-    long_head(&rt, rt.alloc(), &cast)
+    let mut room = Room::new(rt.alloc(), &cast, 2)?;
+    head_is_too_long(&rt, rt.alloc(), &cast, room.client(2)?)
 }

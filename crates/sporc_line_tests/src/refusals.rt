@@ -93,8 +93,8 @@ pub(crate) fn spoilt(good: &Draft, hashes: &[Digest32]) -> Draft {
     draft
 }
 
-// Whether a line refuses an edit that fails a check of its header alone, and one that fails all later checks, too. A body
-// of one byte is no delta.
+// Whether a line refuses an edit that fails a check of its header alone, and one that fails all later checks, too.
+// A body of one byte is no delta.
 fn refuses(
     alloc: Global,
     cast: &Cast,
@@ -209,7 +209,7 @@ const TWICE: &[u16] = &[1, 2, 2, 3, 4, 5];
 
 const NOT_MEMBER: Refusal = Refusal::BadChange(ChangeFault::NotMember);
 
-// A change, the epoch that its keys end, the members that its wraps name, and why a line of one edit refuses it.
+// A change, the epoch that its keys end, the members that its wraps name, and why it is refused.
 type Row = (Change, u32, &'static [u16], Refusal);
 
 // Changes that fail one check, at the line of a member who shares a key with their author.
@@ -220,8 +220,8 @@ const ALONE: [Row; 4] = [
     (STRANGER, 0, ALL, NOT_MEMBER),
 ];
 
-// Changes that fail all checks from one on, at the line of a member who shares none. The first fails for want of that key
-// alone.
+// Changes that fail all checks from one on, at the line of a member who shares none. The first fails for want of that
+// key alone.
 const WORSE: [Row; 4] = [
     (EDITOR, 0, ALL, Refusal::NoKey),
     (EDITOR, 1, ALL, Refusal::NoKey),
