@@ -3,6 +3,7 @@ use Rattle.std.proofs.Common.{◌≡◌, ℕ, zero, suc, ◌+◌, ◌-◌, ◌<�
 use Rattle.std.specs.Prelude.{◌↔◌, IfSome, slice_get}
 use Rattle.sporc_outside.specs.MemoryDisk.{MemoryDiskModel}
 use Rattle.sporc_client.specs.ClientModel.{ClientModel, state_of}
+use Rattle.sporc_client.specs.Log.{Logged, journal_of}
 use Rattle.sporc_client.specs.PlainClient.{Opening, PlainClient}
 use Rattle.sporc_client.proofs.Calls.{replay_opening}
 use Rattle.sporc_entry.specs.declared.genesis.Genesis.{Genesis}
@@ -19,12 +20,13 @@ use Rattle.sporc_script.specs.declared.play_line.PlayLine.{PlayLine}
 use Rattle.sporc_play.specs.declared.seat.Seat.{Seat}
 use Rattle.sporc_play.specs.declared.state.PlayState.{PlayState}
 use Rattle.sporc_play.specs.Cast.{setup_of}
-use Rattle.sporc_play.specs.Report.{Compares, Stands, hashes_of, compare_line, flip_line, flipped_line}
+use Rattle.sporc_play.specs.JournalLines.{journal_lines}
+use Rattle.sporc_play.specs.Report.{Compares, Stands, hashes_of, compare_line, flip_line, flipped_line, hash_line, line_by, members_line, not_open_line, show_line}
 use Rattle.sporc_play.specs.Scene.{Effect, Scene, cuts, entry_at, flip_byte, flipped, flips, performed}
 use Rattle.sporc_play.specs.Seats.{IsSeatAt}
-use Rattle.sporc_play.specs.Stage.{AreOfOneDocument, Becomes, HasSameMembers, StandsFor, AppendsLineOf}
+use Rattle.sporc_play.specs.Stage.{AreOfOneDocument, Becomes, HasSameMembers, Holds, IsClientOf, StandsFor, AppendsLineOf}
 use Rattle.sporc_play.proofs.Becoming.{entries_of}
-use Rattle.sporc_play.proofs.Commands.{client_there}
+use Rattle.sporc_play.proofs.Commands.{client_there, seat_there}
 use Rattle.sporc_play.proofs.MadeEntries.{made_stands, makes}
 use Rattle.sporc_play.proofs.Places.{at_place}
 
@@ -95,6 +97,37 @@ found_by state m found (i, seat, at, is) = record { place = i; seat = seat; at =
 found_there : (script : List PlayLine) (scene : Scene) (state : PlayState) (m : ℕ) (found : Option (ClientModel MemoryDiskModel)) → StandsFor script scene state → IsFound state m found → scene.world.clients m ≡ option_map state_of found
 found_there script scene state m found stands f = client_there script scene state f.place m f.seat stands f.at ∙ ap (option_map state_of) (sym f.is)
 
+-- what is known of a client that was found
+client_is : (script : List PlayLine) (scene : Scene) (state : PlayState) (m : ℕ) (c : ClientModel MemoryDiskModel) → StandsFor script scene state → IsFound state m (Some c) → IsClientOf (setup_of script) scene m c
+client_is script scene state m c stands f =
+    let s = setup_of script in
+    subst (λ (n : ℕ). IsClientOf s scene n c) f.at.own
+    (subst (λ (o : Option (ClientModel MemoryDiskModel)). Holds s scene f.seat.member f.seat.signer o) (sym f.is) (seat_there script scene state f.place m f.seat stands f.at).holds)
+
+-- the line of a client by its own number
+pub line_there : (script : List PlayLine) (scene : Scene) (state : PlayState) (m : ℕ) (c : ClientModel MemoryDiskModel) (line : ℕ → PlainClient → List ℕ) (out out' : List ℕ) → StandsFor script scene state → IsFound state m (Some c)
+    → out' ≡ out ++ line c.opening.kit.me (state_of c) → (l : List ℕ) × (l ≡ line_by m (scene.world.clients m) (line m)) × (out' ≡ out ++ l)
+line_there script scene state m c line out out' stands f is = (
+  line m (state_of c),
+  ap (λ (o : Option PlainClient). line_by m o (line m)) (sym (found_there script scene state m (Some c) stands f)),
+  is ∙ ap (λ (o : Opening). out ++ line o.kit.me (state_of c)) (client_is script scene state m c stands f).opening,
+)
+
+-- that it is not open
+pub none_there : (script : List PlayLine) (scene : Scene) (state : PlayState) (m : ℕ) (line : PlainClient → List ℕ) (out out' : List ℕ) → StandsFor script scene state → IsFound state m None
+    → out' ≡ out ++ not_open_line m → (l : List ℕ) × (l ≡ line_by m (scene.world.clients m) line) × (out' ≡ out ++ l)
+none_there script scene state m line out out' stands f is =
+    (not_open_line m, ap (λ (o : Option PlainClient). line_by m o line) (sym (found_there script scene state m None stands f)), is)
+
+-- the lines of its journal
+pub journal_there : (script : List PlayLine) (scene : Scene) (state : PlayState) (m : ℕ) (c : ClientModel MemoryDiskModel) (out out' : List ℕ) → StandsFor script scene state → IsFound state m (Some c)
+    → out' ≡ out ++ journal_lines (journal_of c.log) → (l : List ℕ) × (l ≡ line_by m (scene.world.clients m) (λ c. journal_lines (journal_of (scene.logs m)))) × (out' ≡ out ++ l)
+journal_there script scene state m c out out' stands f is = (
+  journal_lines (journal_of (scene.logs m)),
+  ap (λ (o : Option PlainClient). line_by m o (λ c. journal_lines (journal_of (scene.logs m)))) (sym (found_there script scene state m (Some c) stands f)),
+  is ∙ ap (λ (l : List Logged). out ++ journal_lines (journal_of l)) (sym (client_is script scene state m c stands f).log),
+)
+
 -- ---- their chains
 
 pub chain_is : (c : ClientModel MemoryDiskModel) → chain (genesis_bytes c.opening.genesis) (state_of c).entries ≡ hashes_of (state_of c)
@@ -138,3 +171,19 @@ compare_tells state p a b v out out' first second stand is script scene stands =
     written : Compares p (scene.world.clients p.first) (scene.world.clients p.second) (compare_line p v)
     written = subst (λ (o : Option PlainClient). Compares p o (scene.world.clients p.second) (compare_line p v)) (sym (found_there script scene state p.first (Some a) stands first))
         (subst (λ (o : Option PlainClient). Compares p (Some (state_of a)) o (compare_line p v)) (sym (found_there script scene state p.second (Some b) stands second)) (v, stand, refl))
+
+pub first_missing : (state : PlayState) (p : Pair) (out out' : List ℕ) → IsFound state p.first None → out' ≡ out ++ not_open_line p.first → AppendsLineOf state (commands.Compare p) out out'
+first_missing state p out out' f is script scene stands = (
+  not_open_line p.first,
+  subst (λ (o : Option PlainClient). Compares p o (scene.world.clients p.second) (not_open_line p.first)) (sym (found_there script scene state p.first None stands f)) refl,
+  is,
+)
+
+pub second_missing : (state : PlayState) (p : Pair) (a : ClientModel MemoryDiskModel) (out out' : List ℕ) → IsFound state p.first (Some a) → IsFound state p.second None → out' ≡ out ++ not_open_line p.second
+    → AppendsLineOf state (commands.Compare p) out out'
+second_missing state p a out out' first second is script scene stands = (
+  not_open_line p.second,
+  subst (λ (o : Option PlainClient). Compares p o (scene.world.clients p.second) (not_open_line p.second)) (sym (found_there script scene state p.first (Some a) stands first))
+      (subst (λ (o : Option PlainClient). Compares p (Some (state_of a)) o (not_open_line p.second)) (sym (found_there script scene state p.second None stands second)) refl),
+  is,
+)

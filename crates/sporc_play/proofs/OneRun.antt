@@ -4,7 +4,7 @@ use Rattle.std.specs.Prelude.{Contains}
 use Rattle.std.specs.List.{AllByRecursion}
 use Rattle.std.proofs.lemmas.Bool.{and_parts}
 use Rattle.sporc_script.specs.Commands.{InRange}
-use Rattle.sporc_script.specs.Declarations.{declared_member as declarations, may_follow, names_performers}
+use Rattle.sporc_script.specs.Declarations.{declared_by as declarations, may_follow, names_performers}
 use Rattle.sporc_script.specs.declared.command.Join.{Join}
 use Rattle.sporc_script.specs.Grammar.{IsPlayScript}
 use Rattle.sporc_script.specs.declared.command.Command.{Command}

@@ -12,7 +12,7 @@ use Rattle.sporc_entry.specs.Genesis.{IsGenesis}
 use Rattle.sporc_client.specs.PlainClient.{Opening}
 use Rattle.sporc_client.specs.ClientModel.{ClientModel}
 use Rattle.sporc_client.specs.Run.{Setup}
-use Rattle.sporc_script.specs.Declarations.{declared_member as declarations, is_client, is_rogue, may_follow, names_performers}
+use Rattle.sporc_script.specs.Declarations.{declared_by as declarations, is_client, is_rogue, may_follow, names_performers}
 use Rattle.sporc_script.specs.declared.command.Command.{Command}
 use Rattle.sporc_script.specs.declared.command.Command.TheVariants as commands
 use Rattle.sporc_script.specs.declared.play_line.PlayLine.{PlayLine}

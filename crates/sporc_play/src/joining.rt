@@ -14,10 +14,9 @@ ghost use Rattle.sporc_play.specs.Stage.{IsCastOf};
 use crate::cast::Cast;
 use crate::made::{Found, entries_at};
 use crate::names::{push_hint_fault, push_open_fault};
-use crate::seat::Seat;
+use crate::seat::{Seat, open_seat};
 use crate::showing::push_start;
 use sporc_base::Memory;
-use sporc_client::Client;
 use sporc_entry::Genesis;
 use sporc_epoch::{HintFault, Ring, hints_from};
 use sporc_line::LineOpenFault;
@@ -104,20 +103,9 @@ fn open_with(
     ensures seat { OnOk result ((s : Setup) → IsCastOf s cast.now → genesis.now ≡ s.genesis → seat.new ≡ seat_by s seat.old (Ok ring.keys)) }
 {
     let member = seat.member;
-    let pairs = cast.pairs_of(alloc, member)?;
-    let genesis = genesis.copy()?;
-    let Some(signer) = seat.signer.take() else {
-        unreachable!()
-    };
-    match Client::open(alloc, genesis, member, ring, pairs, signer) {
-        Ok(client) => {
-            seat.client = Some(client);
-            writeln!(out, "{member} join ok")
-        }
-        Err((fault, signer)) => {
-            seat.signer = Some(signer);
-            push_not_opened(out, member, fault)
-        }
+    match open_seat(alloc, cast, genesis, ring, seat) {
+        Ok(()) => push_start(out, member, " join ok\n"),
+        Err(fault) => push_not_opened(out, member, fault),
     }
 }
 

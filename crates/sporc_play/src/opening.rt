@@ -10,9 +10,8 @@ ghost use Rattle.sporc_play.specs.Opening.{HasRogue, HasSat, HaveDeclared, IsNam
 ghost use Rattle.sporc_play.specs.Stage.{IsCastOf};
 
 use crate::cast::{Cast, Declared, first_ring, insert_founder, signer_of};
-use crate::seat::{Rogue, Seat};
+use crate::seat::{Rogue, Seat, open_seat};
 use sporc_base::Memory;
-use sporc_client::Client;
 use sporc_entry::Genesis;
 use sporc_member::Founder;
 use sporc_script::{Command, MemberRole, PlayLine, Tree};
@@ -123,17 +122,12 @@ pub fn open_founder(
     requires genesis { IsGenesis genesis.now }
     ensures ok { OnOk result ((s : Setup) → IsCastOf s cast.now → genesis.now ≡ s.genesis → seat.new ≡ seat_open s first_ring seat.old seat.old.signer) }
 {
-    let ring = first_ring(alloc)?;
-    let pairs = cast.pairs_of(alloc, seat.member)?;
-    let genesis = genesis.copy()?;
-    let Some(signer) = seat.signer.take() else {
+    if seat.signer.is_none() {
         return Ok(());
-    };
-    match Client::open(alloc, genesis, seat.member, ring, pairs, signer) {
-        Ok(client) => {
-            seat.client = Some(client);
-            Ok(())
-        }
+    }
+    let ring = first_ring(alloc)?;
+    match open_seat(alloc, cast, genesis, ring, seat) {
+        Ok(()) => Ok(()),
         Err(_) => Err(AllocError),
     }
 }

@@ -1,12 +1,24 @@
 //! Members with their clients, and rogues with their signers.
 
+ghost use Rattle.std.specs.FinMap.{get};
 ghost use Rattle.std.specs.Option.{option_copied};
-ghost use Rattle.std.specs.Prelude.{◌≡◌, ℕ, Contains};
+ghost use Rattle.std.specs.Prelude.{◌≡◌, ◌≢◌, ℕ, Contains, IfErr, IsSome, OnOk};
+ghost use Rattle.sporc_base.specs.FirstFault.{AnswersUnless, first_of};
+ghost use Rattle.sporc_client.specs.Run.{Setup};
+ghost use Rattle.sporc_entry.specs.Genesis.{IsGenesis};
+ghost use Rattle.sporc_line.specs.Openings.{open_checks};
+ghost use Rattle.sporc_play.specs.Joined.{seat_open};
 ghost use Rattle.sporc_play.specs.Seats.{IsRogueAt, IsSeatAt, rogue_numbers, seated};
+ghost use Rattle.sporc_play.specs.Stage.{IsCastOf};
 
+use crate::cast::Cast;
 use lms_sign::Signer;
 use sporc_client::Client;
+use sporc_entry::Genesis;
+use sporc_epoch::Ring;
+use sporc_line::LineOpenFault;
 use sporc_outside::MemoryDisk;
+use std::alloc::Global;
 
 /// The client of a play's member. Its leaf file is in memory.
 pub type PlayClient = Client<MemoryDisk>;
@@ -65,4 +77,35 @@ pub fn client_of(seats: &[Seat], member: u16) -> Option<&PlayClient>
 {
     let i = seat_at(seats, member);
     seats[i].client.as_ref()
+}
+
+/// Opens the client of a seat with a ring.
+pub fn open_seat(
+    alloc: Global,
+    cast: &Cast,
+    genesis: &Genesis,
+    ring: Ring,
+    seat: &mut Seat,
+) -> Result<(), LineOpenFault>
+    requires genesis { IsGenesis genesis.now }
+    requires signer { IsSome seat.old.signer }
+    ensures fault { AnswersUnless LineOpenFault.Memory result (first_of (open_checks genesis.now (get ring.keys 0))) }
+    ensures ok { OnOk result ((s : Setup) → IsCastOf s cast.now → genesis.now ≡ s.genesis → seat.new ≡ seat_open s ring.keys seat.old seat.old.signer) }
+    ensures err { IfErr result (λ fault. fault ≢ LineOpenFault.Memory → seat.new ≡ seat.old) }
+{
+    let pairs = cast.pairs_of(alloc, seat.member)?;
+    let genesis = genesis.copy()?;
+    let Some(signer) = seat.signer.take() else {
+        unreachable!()
+    };
+    match Client::open(alloc, genesis, seat.member, ring, pairs, signer) {
+        Ok(client) => {
+            drop(seat.client.replace(client));
+            Ok(())
+        }
+        Err((fault, signer)) => {
+            drop(seat.signer.replace(signer));
+            Err(fault)
+        }
+    }
 }

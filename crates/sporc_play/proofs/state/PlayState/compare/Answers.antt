@@ -3,7 +3,7 @@ use Rattle.std.specs.Prelude.{slice_get}
 use Rattle.sporc_play.specs.Report.{Stands, hashes_of}
 use Rattle.sporc_client.specs.ClientModel.{state_of}
 use Rattle.sporc_play.proofs.Becoming.{ok_then}
-use Rattle.sporc_play.proofs.Kept.{begun_chain, chain_is, compare_tells, found_by, one_beginning, stands}
+use Rattle.sporc_play.proofs.Kept.{begun_chain, chain_is, compare_tells, first_missing, second_missing, found_by, one_beginning, stands}
 use Rattle.sporc_play.proofs.state.PlayState.compare.Goals as goal
 
 pub compare-verdict-requires-clause-begun : goal.compare-verdict-requires-clause-begun
@@ -28,3 +28,14 @@ returns c =
     (subst (λ (xs : List (List ℕ)). Stands c.hashes.result.now xs v) (c.hashes-2.ensures.value ∙ chain_is b) (stands c.hashes.result.now c.hashes-2.result.now v is.same is.prefix is.longer is.forked)) in
     ok_then c.push_verdict.result _ _ c.push_verdict.ensures.ok
     (λ is. compare_tells state c.args.pair.now a b v _ _ (found_by state _ _ c.in-Some.ensures.value) (found_by state _ _ c.in-Some-client.ensures.value) stand is)
+
+pub returns-in_default : goal.returns-in_default
+returns-in_default c =
+    let state = c.args.self.now in
+    ok_then c.push_not_open.result _ _ c.push_not_open.ensures.ok (first_missing state c.args.pair.now _ _ (found_by state _ _ c.in_default.ensures.value))
+
+pub returns-in_default-client : goal.returns-in_default-client
+returns-in_default-client c =
+    let state = c.args.self.now in
+    ok_then c.push_not_open-in_default-client.result _ _ c.push_not_open-in_default-client.ensures.ok
+    (second_missing state c.args.pair.now c.in-Some.first.now _ _ (found_by state _ _ c.in-Some.ensures.value) (found_by state _ _ c.in_default-client.ensures.value))

@@ -1,0 +1,15 @@
+use Rattle.std.proofs.Common.{◌≡◌, ◌++◌, None, Option, ap, string_bytes, subst, sym, ◌∙◌}
+use Rattle.std.specs.FinMap.{get}
+use Rattle.sporc_base.specs.FirstFault.{first_of}
+use Rattle.sporc_entry.specs.declared.genesis.Genesis.{Genesis}
+use Rattle.sporc_line.specs.Openings.{open_checks}
+use Rattle.sporc_line.specs.declared.fault.LineOpenFault.{LineOpenFault}
+use Rattle.sporc_play.specs.Report.{open_line}
+use Rattle.sporc_play.proofs.Becoming.{ok_then}
+use Rattle.sporc_play.proofs.joining.open_with.Goals as goal
+
+pub returns-in-Ok-clause-line : goal.returns-in-Ok-clause-line
+returns-in-Ok-clause-line c =
+    ok_then c.push_start.result _ _ c.push_start.ensures.ok (λ told s is same.
+    let opens : first_of (open_checks s.genesis (get c.args.ring.keys 0)) ≡ None = subst (λ (g : Genesis). first_of (open_checks g (get c.args.ring.keys 0)) ≡ None) same c.in-Ok.ensures.fault in
+    told ∙ ap (λ (fault : Option LineOpenFault). string_bytes c.args.out.now ++ open_line c.args.seat.now.member fault) (sym opens))
