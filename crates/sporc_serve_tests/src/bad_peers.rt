@@ -27,45 +27,50 @@ const STREAMS: [&[u8]; 7] = [
 ];
 
 // A client that submits an entry, among those peers.
-fn peers(alloc: Global, entry: &[u8]) -> Result<Peers, Fail> {
+fn peers(alloc: Global, cast: &Cast) -> Result<Peers, Fail> {
     let mut peers = Peers::new(alloc);
-    peers.add(alloc, hello_and_submit(alloc, entry)?, 5, Vec::new(alloc))?;
+    let entry = first_entry(alloc, cast, 2)?;
+    peers.add(
+        alloc,
+        hello_and_submit(alloc, entry.as_slice())?,
+        5,
+        Vec::new(alloc),
+    )?;
+    add_bad_peers(alloc, &mut peers)?;
+    Ok(peers)
+}
+
+fn add_bad_peers(alloc: Global, peers: &mut Peers) -> Result<(), Fail> {
     for stream in STREAMS {
         peers.add(alloc, Vec::from_slice(alloc, stream)?, 2, Vec::new(alloc))?;
     }
-    Ok(peers)
+    Ok(())
 }
 
 // The client's link was taken last, so it came back first.
 fn only_the_client_is_answered(rt: &impl Abort, outcome: &Outcome) {
-    outcome.is_written(rt, 0, &ORDERED_FIRST);
+    assert!(rt; outcome.order.len() == 1 && outcome.is_written(0, &ORDERED_FIRST));
     for place in 1..8usize {
-        outcome.is_written(rt, place, &[]);
+        assert!(rt; outcome.is_written(place, &[]), "{place}");
     }
 }
 
 #[test]
 fn bad_peers_end_their_own_sessions_alone(rt: HostRuntime) -> Result<(), Fail> {
-    let alloc = rt.alloc();
-    let cast = Cast::new(alloc)?;
-    let entry = first_entry(alloc, &cast, 2)?;
-    let peers = peers(alloc, entry.as_slice())?;
-    let outcome = served(&rt, alloc, &cast, peers, 8, &OpenGate)?;
-    assert_eq!(rt; outcome.answer, Ok(()));
-    assert_eq!(rt; outcome.order.len(), 1);
+    let cast = Cast::new(rt.alloc())?;
+    let peers = peers(rt.alloc(), &cast)?;
+    let outcome = served(&rt, rt.alloc(), &cast, peers, 8, &OpenGate)?;
+    assert!(rt; outcome.answer == Ok(()));
     only_the_client_is_answered(&rt, &outcome);
     Ok(())
 }
 
 #[test]
 fn a_link_that_does_not_come_is_told(rt: HostRuntime) -> Result<(), Fail> {
-    let alloc = rt.alloc();
-    let cast = Cast::new(alloc)?;
-    let entry = first_entry(alloc, &cast, 2)?;
-    let peers = peers(alloc, entry.as_slice())?;
-    let outcome = served(&rt, alloc, &cast, peers, 9, &OpenGate)?;
-    assert_eq!(rt; outcome.answer, Err(ServeFault::ListenFault));
-    assert_eq!(rt; outcome.order.len(), 1);
+    let cast = Cast::new(rt.alloc())?;
+    let peers = peers(rt.alloc(), &cast)?;
+    let outcome = served(&rt, rt.alloc(), &cast, peers, 9, &OpenGate)?;
+    assert!(rt; outcome.answer == Err(ServeFault::ListenFault));
     only_the_client_is_answered(&rt, &outcome);
     Ok(())
 }

@@ -1,13 +1,14 @@
+use crate::server::empty_order;
 use crate::streams::{HELLO, PULL, first_entry, hello_and_submit};
 use sporc_order::Order;
-use sporc_outside::{Dial, Link, Links, OpenGate, PipeNet, write_all};
+use sporc_outside::{Dial, Link, Links, Listen, OpenGate, PipeNet, write_all};
 use sporc_samples::Cast;
 use sporc_serve::serve;
 use sporc_wire::{Frames, ToClient};
 use std::alloc::Global;
 use std::sync::Wait;
 use std::test::Fail;
-use std::thread::join;
+use std::thread::{Threads, join};
 
 // How often a client reads for one answer, at the most.
 const READS: u32 = 100;
@@ -57,14 +58,6 @@ fn ask<L: Link>(link: &mut L, frames: &mut Frames, bytes: &[u8]) -> Heard {
     }
 }
 
-// The position that is answered, if the entry was ordered.
-fn position(heard: &Heard) -> Option<u32> {
-    match heard {
-        Heard::Answer(ToClient::Ordered { pos }) => Some(*pos),
-        _ => None,
-    }
-}
-
 // Whether these are entries from the first on, and this one has this position among them.
 fn has_entry(heard: &Heard, entry: &[u8], pos: u32) -> bool {
     match heard {
@@ -78,16 +71,49 @@ fn has_entry(heard: &Heard, entry: &[u8], pos: u32) -> bool {
     }
 }
 
-// Submits an entry, pulls it back, and greets again, so that the server shuts the link. Whether all went so.
-fn talks<L: Link>(alloc: Global, link: &mut L, stream: &[u8], entry: &[u8]) -> bool {
+// Submits an entry. The position that is answered, if it was ordered.
+fn submit<L: Link>(link: &mut L, frames: &mut Frames, stream: &[u8]) -> Option<u32> {
+    match ask(link, frames, stream) {
+        Heard::Answer(ToClient::Ordered { pos }) => Some(pos),
+        _ => None,
+    }
+}
+
+// Pulls all entries. Whether this one has this position among them.
+fn pulls<L: Link>(link: &mut L, frames: &mut Frames, entry: &[u8], pos: u32) -> bool {
+    let heard = ask(link, frames, &PULL);
+    has_entry(&heard, entry, pos)
+}
+
+// Greets again. Whether the server shut the link.
+fn is_shut<L: Link>(link: &mut L, frames: &mut Frames) -> bool {
+    matches!(ask(link, frames, &HELLO), Heard::End)
+}
+
+// What a client sends first, and the entry that it submits by that.
+#[derive(Drop)]
+struct Submission {
+    stream: Vec<u8>,
+    entry: Vec<u8>,
+}
+
+impl Submission {
+    fn new(alloc: Global, cast: &Cast, author: u16) -> Result<Submission, Fail> {
+        let entry = first_entry(alloc, cast, author)?;
+        let stream = hello_and_submit(alloc, entry.as_slice())?;
+        Ok(Submission { stream, entry })
+    }
+}
+
+// Submits an entry, pulls it back, and greets again. Whether all went as it is to.
+fn talks<L: Link>(alloc: Global, link: &mut L, submission: &Submission) -> bool {
     let mut frames = Frames::new(alloc);
-    let submitted = ask(link, &mut frames, stream);
-    let Some(pos) = position(&submitted) else {
-        return false;
-    };
-    let pulled = ask(link, &mut frames, &PULL);
-    let greeted = ask(link, &mut frames, &HELLO);
-    has_entry(&pulled, entry, pos) && matches!(greeted, Heard::End)
+    match submit(link, &mut frames, submission.stream.as_slice()) {
+        Some(pos) => {
+            pulls(link, &mut frames, submission.entry.as_slice(), pos) && is_shut(link, &mut frames)
+        }
+        None => false,
+    }
 }
 
 // A client, over a link of its own.
@@ -95,12 +121,11 @@ fn client<R: Wait + Copy + Drop>(
     rt: R,
     alloc: Global,
     net: &mut PipeNet<R>,
-    stream: &[u8],
-    entry: &[u8],
+    submission: &Submission,
 ) -> bool {
     match net.connect(&rt, "address") {
         Ok(mut link) => {
-            let went = talks(alloc, &mut link, stream, entry);
+            let went = talks(alloc, &mut link, submission);
             link.shut();
             net.take_back(link);
             went
@@ -109,34 +134,43 @@ fn client<R: Wait + Copy + Drop>(
     }
 }
 
+// Serves two links. Whether two entries were ordered and all went well.
+fn serves_two<R: Threads + Wait + Sync, N: Listen>(
+    rt: &R,
+    alloc: Global,
+    net: &mut N,
+    order: Box<Order>,
+) -> bool
+where
+    N::Link: Send,
+{
+    let order = Box::into_inner(order);
+    let (order, answer) = serve(rt, alloc, net, "address", order, 2, &OpenGate);
+    answer == Ok(()) && order.len() == 2
+}
+
 #[test]
 fn clients_in_threads_are_answered(rt: HostRuntime) -> Result<(), Fail> {
     let alloc = rt.alloc();
     let cast = Cast::new(alloc)?;
-    let entries = [first_entry(alloc, &cast, 2)?, first_entry(alloc, &cast, 4)?];
-    let [one, other] = &entries;
-    let streams = [
-        hello_and_submit(alloc, one.as_slice())?,
-        hello_and_submit(alloc, other.as_slice())?,
-    ];
-    let [near_stream, far_stream] = &streams;
-    let order = Order::open(alloc, cast.genesis(alloc)?)?;
+    let one = Submission::new(alloc, &cast, 2)?;
+    let other = Submission::new(alloc, &cast, 4)?;
+    let order = Box::new(alloc, empty_order(alloc, &cast)?)?;
     let rt = &rt;
     let mut net = PipeNet::new(rt, alloc)?;
     let (mut near, mut far) = (net.another()?, net.another()?);
-    let ((order, answer), (first, second)) = join(
+    let (served, (first, second)) = join(
         rt,
-        || serve(rt, alloc, &mut net, "address", order, 2, &OpenGate),
+        || serves_two(rt, alloc, &mut net, order),
         || {
             join(
                 rt,
-                || client(rt, alloc, &mut near, near_stream.as_slice(), one.as_slice()),
-                || client(rt, alloc, &mut far, far_stream.as_slice(), other.as_slice()),
+                || client(rt, alloc, &mut near, &one),
+                || client(rt, alloc, &mut far, &other),
             )
         },
     );
-    assert_eq!(rt; answer, Ok(()));
-    assert_eq!(rt; order.len(), 2);
+    assert!(rt; served);
     assert!(rt; first && second);
     Ok(())
 }

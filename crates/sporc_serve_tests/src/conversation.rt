@@ -1,5 +1,5 @@
 use crate::replies::{EMPTY, ORDERED_FIRST, WRONG_NUMBER, first_entries};
-use crate::server::{Peers, served};
+use crate::server::{Outcome, Peers, served};
 use crate::streams::{HELLO, PULL, first_entry, submit};
 use sporc_outside::OpenGate;
 use sporc_samples::Cast;
@@ -30,15 +30,21 @@ fn one_peer(alloc: Global, stream: Vec<u8>) -> Result<Peers, Fail> {
     Ok(peers)
 }
 
+fn is_answered(alloc: Global, outcome: &Outcome, entry: &[u8]) -> Result<bool, Fail> {
+    let wanted = wanted(alloc, entry)?;
+    Ok(
+        outcome.answer == Ok(())
+            && outcome.order.len() == 1
+            && outcome.is_written(0, wanted.as_slice()),
+    )
+}
+
 #[test]
 fn each_message_has_its_answer(rt: HostRuntime) -> Result<(), Fail> {
-    let alloc = rt.alloc();
-    let cast = Cast::new(alloc)?;
-    let entry = first_entry(alloc, &cast, 1)?;
-    let peers = one_peer(alloc, stream(alloc, entry.as_slice())?)?;
-    let outcome = served(&rt, alloc, &cast, peers, 1, &OpenGate)?;
-    assert_eq!(rt; outcome.answer, Ok(()));
-    assert_eq!(rt; outcome.order.len(), 1);
-    outcome.is_written(&rt, 0, wanted(alloc, entry.as_slice())?.as_slice());
+    let cast = Cast::new(rt.alloc())?;
+    let entry = first_entry(rt.alloc(), &cast, 1)?;
+    let peers = one_peer(rt.alloc(), stream(rt.alloc(), entry.as_slice())?)?;
+    let outcome = served(&rt, rt.alloc(), &cast, peers, 1, &OpenGate)?;
+    assert!(rt; is_answered(rt.alloc(), &outcome, entry.as_slice())?);
     Ok(())
 }

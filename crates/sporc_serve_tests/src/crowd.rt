@@ -1,7 +1,7 @@
 use crate::replies::count;
 use crate::server::{Outcome, Peers, served};
 use crate::streams::{HELLO, submit};
-use sporc_outside::OpenGate;
+use sporc_outside::{MemoryLink, OpenGate};
 use sporc_samples::{Cast, History};
 use std::alloc::Global;
 use std::process::Abort;
@@ -11,18 +11,27 @@ const ENTRIES: u32 = 100;
 
 const SESSIONS: u32 = 8;
 
+// The members that take turns.
+fn author(turn: u32) -> u16 {
+    match turn % 4 {
+        0 => 1,
+        1 => 2,
+        2 => 4,
+        _ => 5,
+    }
+}
+
+fn grow(alloc: Global, cast: &Cast, sample: &mut History) -> Result<(), Fail> {
+    for turn in 0..ENTRIES {
+        sample.edit(alloc, cast, author(turn), b"")?;
+    }
+    Ok(())
+}
+
 // A history of so many entries, by members 1, 2, 4 and 5 in turn.
 fn history(alloc: Global, cast: &Cast) -> Result<History, Fail> {
     let mut sample = History::new(alloc, &cast.genesis(alloc)?)?;
-    for i in 0..ENTRIES {
-        let author = match i % 4 {
-            0 => 1,
-            1 => 2,
-            2 => 4,
-            _ => 5,
-        };
-        sample.edit(alloc, cast, author, b"")?;
-    }
+    grow(alloc, cast, &mut sample)?;
     Ok(sample)
 }
 
@@ -43,29 +52,48 @@ fn peers(alloc: Global, entries: &[Vec<u8>]) -> Result<Peers, Fail> {
     Ok(peers)
 }
 
-// Each session was answered as often as it submitted, by Ordered or Rejected, and each position was given once in all.
-fn each_is_ordered_once(rt: &impl Abort, alloc: Global, outcome: &Outcome) -> Result<(), Fail> {
-    let mut times = vec![in alloc; 0u32; 101]?;
-    let mut links = 0u32;
-    for link in outcome.net.returned() {
-        let counts = count(alloc, link.written(), times.as_mut_slice())?;
-        assert_eq!(rt; counts.ordered.saturating_add(counts.rejected), ENTRIES);
-        assert_eq!(rt; counts.entries.saturating_add(counts.empty), 0);
-        links = links.saturating_add(1);
+// Whether a session was answered as often as it submitted, by Ordered or Rejected. Those that are Ordered are counted
+// by their positions.
+fn is_answered(alloc: Global, link: &MemoryLink, times: &mut [u32]) -> Result<bool, Fail> {
+    let counts = count(alloc, link.written(), times)?;
+    Ok(
+        counts.ordered.saturating_add(counts.rejected) == ENTRIES
+            && counts.entries.saturating_add(counts.empty) == 0,
+    )
+}
+
+fn are_answered(
+    rt: &impl Abort,
+    alloc: Global,
+    links: &[MemoryLink],
+    times: &mut [u32],
+) -> Result<(), Fail> {
+    for link in links {
+        assert!(rt; is_answered(alloc, link, times)?);
     }
-    assert_eq!(rt; links, SESSIONS);
+    assert!(rt; links.len() == SESSIONS as usize);
+    Ok(())
+}
+
+// Each session had its answers, and each position was given once in all.
+fn each_is_ordered_once(rt: &impl Abort, alloc: Global, links: &[MemoryLink]) -> Result<(), Fail> {
+    let mut times = vec![in alloc; 0u32; 101]?;
+    are_answered(rt, alloc, links, times.as_mut_slice())?;
     assert!(rt; times.iter().skip(1).all(|n| *n == 1));
     Ok(())
 }
 
+fn is_ordered(rt: &impl Abort, outcome: &Outcome, entries: &[Vec<u8>]) {
+    assert!(rt; outcome.answer == Ok(()));
+    assert!(rt; outcome.has_entries(entries));
+}
+
 #[test]
 fn eight_sessions_submit_a_hundred_entries(rt: HostRuntime) -> Result<(), Fail> {
-    let alloc = rt.alloc();
-    let cast = Cast::new(alloc)?;
-    let sample = history(alloc, &cast)?;
-    let peers = peers(alloc, sample.entries())?;
-    let outcome = served(&rt, alloc, &cast, peers, SESSIONS, &OpenGate)?;
-    assert_eq!(rt; outcome.answer, Ok(()));
-    outcome.has_entries(&rt, sample.entries());
-    each_is_ordered_once(&rt, alloc, &outcome)
+    let cast = Cast::new(rt.alloc())?;
+    let sample = history(rt.alloc(), &cast)?;
+    let peers = peers(rt.alloc(), sample.entries())?;
+    let outcome = served(&rt, rt.alloc(), &cast, peers, SESSIONS, &OpenGate)?;
+    is_ordered(&rt, &outcome, sample.entries());
+    each_is_ordered_once(&rt, rt.alloc(), outcome.net.returned())
 }

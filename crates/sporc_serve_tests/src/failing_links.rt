@@ -1,7 +1,8 @@
 use crate::replies::count;
 use crate::server::{Outcome, Peers, served};
 use crate::streams::{PULL, first_entry, hello_and_submit};
-use sporc_outside::{Counted, OpenGate};
+use sporc_order::Order;
+use sporc_outside::{Counted, MemoryLink, OpenGate};
 use sporc_samples::Cast;
 use std::alloc::Global;
 use std::process::Abort;
@@ -35,16 +36,27 @@ fn peers(alloc: Global, entries: &[Vec<u8>; 2], failing: u64) -> Result<Peers, F
     Ok(peers)
 }
 
-// The first client has its two answers, and no entry is lost that was answered Ordered. Whether the other one's link failed.
+// The first client has its two answers.
+fn is_answered(alloc: Global, good: &MemoryLink) -> Result<bool, Fail> {
+    let counts = count(alloc, good.written(), &mut [])?;
+    Ok(counts.ordered == 1 && counts.entries == 1)
+}
+
+// No entry is lost that was answered Ordered.
+fn is_kept(alloc: Global, order: &Order, cut: &MemoryLink) -> Result<bool, Fail> {
+    let counts = count(alloc, cut.written(), &mut [])?;
+    Ok(order.len() == 2 || counts.ordered == 0)
+}
+
+// Both of these hold. Whether the other one's link failed.
 fn is_cut(rt: &impl Abort, alloc: Global, outcome: &Outcome) -> Result<bool, Fail> {
     let [good, cut] = outcome.net.returned() else {
         assert!(rt; false);
         return Ok(false);
     };
-    let counts = count(alloc, good.written(), &mut [])?;
-    assert_eq!(rt; (counts.ordered, counts.entries), (1, 1));
-    let counts = count(alloc, cut.written(), &mut [])?;
-    assert!(rt; outcome.order.len() == 2 || counts.ordered == 0);
+    assert!(rt; outcome.answer == Ok(()));
+    assert!(rt; is_answered(alloc, good)?);
+    assert!(rt; is_kept(alloc, &outcome.order, cut)?);
     Ok(cut.faults() == 1)
 }
 
@@ -58,21 +70,33 @@ fn serve_both<R: Threads + Wait + Sync + Abort>(
 ) -> Result<bool, Fail> {
     let peers = peers(alloc, entries, failing)?;
     let outcome = served(rt, alloc, cast, peers, 2, &OpenGate)?;
-    assert_eq!(rt; outcome.answer, Ok(()));
     is_cut(rt, alloc, &outcome)
+}
+
+// On how many calls the link failed.
+fn cuts<R: Threads + Wait + Sync + Abort>(
+    rt: &R,
+    alloc: Global,
+    cast: &Cast,
+    entries: &[Vec<u8>; 2],
+) -> Result<u32, Fail> {
+    let mut cut = 0u32;
+    for failing in 1..=CALLS {
+        if serve_both(rt, alloc, cast, entries, failing)? {
+            cut = cut.saturating_add(1);
+        }
+    }
+    Ok(cut)
 }
 
 #[test]
 fn a_link_may_fail_at_any_call(rt: HostRuntime) -> Result<(), Fail> {
-    let alloc = rt.alloc();
-    let cast = Cast::new(alloc)?;
-    let entries = [first_entry(alloc, &cast, 2)?, first_entry(alloc, &cast, 4)?];
-    let mut cut = 0u32;
-    for failing in 1..=CALLS {
-        if serve_both(&rt, alloc, &cast, &entries, failing)? {
-            cut = cut.saturating_add(1);
-        }
-    }
+    let cast = Cast::new(rt.alloc())?;
+    let entries = [
+        first_entry(rt.alloc(), &cast, 2)?,
+        first_entry(rt.alloc(), &cast, 4)?,
+    ];
+    let cut = cuts(&rt, rt.alloc(), &cast, &entries)?;
     assert!(rt; cut >= 7 && u64::from(cut) < CALLS);
     Ok(())
 }

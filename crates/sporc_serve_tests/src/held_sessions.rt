@@ -1,9 +1,10 @@
 use crate::replies::count;
-use crate::server::{Peers, served};
+use crate::server::{Outcome, Peers, served};
 use crate::streams::{PULL, first_entry, hello_and_submit};
-use sporc_outside::Gate;
+use sporc_outside::{Gate, MemoryLink};
 use sporc_samples::Cast;
 use std::alloc::Global;
+use std::process::Abort;
 use std::sync::Wait;
 use std::sync::atomic::{AtomicU64, Ordering};
 use std::test::Fail;
@@ -34,32 +35,44 @@ impl Gate for Pairing {
     }
 }
 
-// Two clients that each submit an entry and then pull.
+// A client that submits an author's first entry and then pulls.
+fn add_peer(alloc: Global, cast: &Cast, peers: &mut Peers, author: u16) -> Result<(), Fail> {
+    let entry = first_entry(alloc, cast, author)?;
+    let mut stream = hello_and_submit(alloc, entry.as_slice())?;
+    stream.extend_from_slice(&PULL)?;
+    peers.add(alloc, stream, 100, Vec::new(alloc))
+}
+
+// Two such clients.
 fn peers(alloc: Global, cast: &Cast) -> Result<Peers, Fail> {
     let mut peers = Peers::new(alloc);
-    for author in [2, 4] {
-        let mut stream = hello_and_submit(alloc, first_entry(alloc, cast, author)?.as_slice())?;
-        stream.extend_from_slice(&PULL)?;
-        peers.add(alloc, stream, 100, Vec::new(alloc))?;
-    }
+    add_peer(alloc, cast, &mut peers, 2)?;
+    add_peer(alloc, cast, &mut peers, 4)?;
     Ok(peers)
+}
+
+fn is_answered(alloc: Global, link: &MemoryLink) -> Result<bool, Fail> {
+    let counts = count(alloc, link.written(), &mut [])?;
+    Ok(counts.ordered == 1 && counts.entries == 1)
+}
+
+fn are_answered(rt: &impl Abort, alloc: Global, outcome: &Outcome) -> Result<(), Fail> {
+    assert!(rt; outcome.answer == Ok(()) && outcome.order.len() == 2);
+    for link in outcome.net.returned() {
+        assert!(rt; is_answered(alloc, link)?);
+    }
+    Ok(())
 }
 
 #[test]
 fn a_session_goes_on_while_another_is_held(rt: HostRuntime) -> Result<(), Fail> {
-    let alloc = rt.alloc();
-    let cast = Cast::new(alloc)?;
+    let cast = Cast::new(rt.alloc())?;
     let gate = Pairing {
         accepted: AtomicU64::new(0),
         given_up: AtomicU64::new(0),
     };
-    let outcome = served(&rt, alloc, &cast, peers(alloc, &cast)?, 2, &gate)?;
-    assert_eq!(rt; gate.given_up.load(Ordering::SeqCst), 0);
-    assert_eq!(rt; outcome.answer, Ok(()));
-    assert_eq!(rt; outcome.order.len(), 2);
-    for link in outcome.net.returned() {
-        let counts = count(alloc, link.written(), &mut [])?;
-        assert_eq!(rt; (counts.ordered, counts.entries), (1, 1));
-    }
-    Ok(())
+    let peers = peers(rt.alloc(), &cast)?;
+    let outcome = served(&rt, rt.alloc(), &cast, peers, 2, &gate)?;
+    assert!(rt; gate.given_up.load(Ordering::SeqCst) == 0);
+    are_answered(&rt, rt.alloc(), &outcome)
 }

@@ -14,7 +14,7 @@ pub const WRONG_NUMBER: [u8; 10] = [0, 0, 0, 6, 2, 10, 0, 0, 0, 0];
 pub const EMPTY: [u8; 5] = [0, 0, 0, 1, 4];
 
 /// How many answers of each kind stand in what a server sent.
-#[derive(Clone, Copy, Debug, PartialEq, Eq)]
+#[derive(Clone, Copy)]
 pub struct Counts {
     pub ordered: u32,
     pub rejected: u32,
@@ -33,12 +33,22 @@ pub fn count(alloc: Global, sent: &[u8], ordered: &mut [u32]) -> Result<Counts, 
     let mut frames = Frames::new(alloc);
     frames.feed(sent)?;
     for _ in 0..sent.len() {
-        let Some(reply) = frames.next_to_client()? else {
+        if !count_next(&mut frames, &mut counts, ordered)? {
             return Ok(counts);
-        };
-        add(&mut counts, &reply, ordered);
+        }
     }
     Ok(counts)
+}
+
+// Counts the next answer, if one is left.
+fn count_next(frames: &mut Frames, counts: &mut Counts, ordered: &mut [u32]) -> Result<bool, Fail> {
+    match frames.next_to_client()? {
+        Some(reply) => {
+            add(counts, &reply, ordered);
+            Ok(true)
+        }
+        None => Ok(false),
+    }
 }
 
 fn add(counts: &mut Counts, reply: &ToClient, ordered: &mut [u32]) {

@@ -9,7 +9,6 @@ use sporc_outside::{Calls, Gate, MemoryLink, MemoryNet};
 use sporc_samples::Cast;
 use sporc_serve::{ServeFault, serve};
 use std::alloc::Global;
-use std::process::Abort;
 use std::sync::Wait;
 use std::test::Fail;
 use std::thread::Threads;
@@ -46,7 +45,7 @@ impl Peers {
     }
 }
 
-/// What a server left.
+/// What a server left. It is kept in a box: a function that owns an order or a net itself is slow to prove.
 #[derive(Drop)]
 pub struct Outcome {
     pub order: Order,
@@ -55,26 +54,35 @@ pub struct Outcome {
 }
 
 impl Outcome {
-    /// Fails unless the order has these entries.
-    pub fn has_entries(&self, rt: &impl Abort, entries: &[Vec<u8>]) {
+    /// Whether the order has these entries alone.
+    pub fn has_entries(&self, entries: &[Vec<u8>]) -> bool {
         let mut from = 0u32;
         for entry in entries {
             match self.order.pull(from) {
-                [first, ..] => assert_eq!(rt; first.as_slice(), entry.as_slice()),
-                [] => assert!(rt; false),
+                [first, ..] => {
+                    if first.as_slice() != entry.as_slice() {
+                        return false;
+                    }
+                }
+                [] => return false,
             }
             from = from.saturating_add(1);
         }
-        assert_eq!(rt; self.order.len(), from);
+        self.order.len() == from
     }
 
-    /// Fails unless this was written on the link that was taken as the last but so many.
-    pub fn is_written(&self, rt: &impl Abort, place: usize, wanted: &[u8]) {
+    /// Whether this was written on the link that was taken as the last but so many.
+    pub fn is_written(&self, place: usize, wanted: &[u8]) -> bool {
         match self.net.returned().get(place) {
-            Some(link) => assert_eq!(rt; link.written(), wanted),
-            None => assert!(rt; false),
+            Some(link) => link.written() == wanted,
+            None => false,
         }
     }
+}
+
+/// The empty order of the cast's document.
+pub fn empty_order(alloc: Global, cast: &Cast) -> Result<Order, Fail> {
+    Ok(Order::open(alloc, cast.genesis(alloc)?)?)
 }
 
 /// Serves so many links from the empty order of the cast's document.
@@ -85,12 +93,12 @@ pub fn served<R: Threads + Wait + Sync, G: Gate + Sync>(
     peers: Peers,
     sessions: u32,
     gate: &G,
-) -> Result<Outcome, Fail>
+) -> Result<Box<Outcome>, Fail>
     requires some { 1 ≤ sessions }
     requires limit { sessions ≤ MAX_SESSIONS }
 {
-    let order = Order::open(alloc, cast.genesis(alloc)?)?;
+    let order = empty_order(alloc, cast)?;
     let mut net = MemoryNet::new(alloc, peers.links, Calls::failing(Vec::new(alloc)));
     let (order, answer) = serve(rt, alloc, &mut net, "address", order, sessions, gate);
-    Ok(Outcome { order, net, answer })
+    Ok(Box::new(alloc, Outcome { order, net, answer })?)
 }

@@ -27,12 +27,15 @@ pub fn hello_and_submit(alloc: Global, entry: &[u8]) -> Result<Vec<u8>, Fail> {
     Ok(stream)
 }
 
+fn empty_history(alloc: Global, cast: &Cast) -> Result<History, Fail> {
+    let genesis = cast.genesis(alloc)?;
+    Ok(History::new(alloc, &genesis)?)
+}
+
 /// An author's first entry, which any history takes that has none of its.
 pub fn first_entry(alloc: Global, cast: &Cast, author: u16) -> Result<Vec<u8>, Fail> {
-    let mut sample = History::new(alloc, &cast.genesis(alloc)?)?;
+    let mut sample = empty_history(alloc, cast)?;
     sample.edit(alloc, cast, author, b"")?;
-    match sample.entries() {
-        [first, ..] => Ok(Vec::from_slice(alloc, first.as_slice())?),
-        [] => Ok(Vec::new(alloc)),
-    }
+    let first = sample.entries().first().ok_or("no entry")?;
+    Ok(Vec::from_slice(alloc, first.as_slice())?)
 }
