@@ -114,7 +114,7 @@ fn edit_all(alloc: Global, state: &mut PlayState, batch: u32, authors: u32) -> R
 {
     for a in 0..authors {
         let edit = edit_of(alloc, state, batch, a as u16 + 1)?;
-        perform(alloc, state, &edit)?;
+        perform(alloc, state, edit)?;
     }
     Ok(())
 }
@@ -126,7 +126,7 @@ fn submit_all(alloc: Global, state: &mut PlayState, authors: u32) -> Result<(), 
     ensures { OnOk result (Performs state.old (map submits (up_to authors)) state.new) }
 {
     for a in 0..authors {
-        perform(alloc, state, &Command::Submit(a as u16 + 1))?;
+        perform(alloc, state, Command::Submit(a as u16 + 1))?;
     }
     Ok(())
 }
@@ -155,18 +155,18 @@ fn give_all(alloc: Global, state: &mut PlayState, number: u32) -> Result<(), Mem
             position: number,
             entry: u64::from(number),
         };
-        perform(alloc, state, &Command::Give(give))?;
+        perform(alloc, state, Command::Give(give))?;
     }
     Ok(())
 }
 
 // Performs a command. Its line is not written.
-fn perform(alloc: Global, state: &mut PlayState, command: &Command) -> Result<(), Memory>
-    requires { CanPerform state.old command.now }
-    ensures { OnOk result (Becomes state.old command.now state.new) }
+fn perform(alloc: Global, state: &mut PlayState, command: Command) -> Result<(), Memory>
+    requires { CanPerform state.old command }
+    ensures { OnOk result (Becomes state.old command state.new) }
 {
     let mut line = String::new(alloc);
-    state.perform(alloc, command, &mut line)
+    state.perform(alloc, &command, &mut line)
 }
 
 // The edit of an author in a batch: a removal in each fifth batch, else an insertion of one letter.

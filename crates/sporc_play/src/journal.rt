@@ -2,6 +2,7 @@
 
 ghost use Rattle.std.specs.Prelude.{◌≡◌, ◌++◌, codes, OnOk, flat_map, string_bytes};
 ghost use Rattle.std.specs.Fmt.{decimal};
+ghost use Rattle.sporc_client.specs.declared.event.Event.TheVariants as events;
 ghost use Rattle.sporc_script.specs.Spelling.{role_name};
 ghost use Rattle.sporc_play.specs.JournalLines.{change_text, delta_text, event_text, journal_lines, part_text, spaced_part};
 
@@ -10,7 +11,7 @@ use crate::showing::{push_digits, role_name};
 use sporc_base::Memory;
 use sporc_client::Event;
 use sporc_delta::{Delta, Part};
-use sporc_member::{Change, Role};
+use sporc_member::{Change, ChangeFault, Role};
 use std::alloc::Global;
 use std::fmt::Write;
 
@@ -29,25 +30,47 @@ fn push_event(alloc: Global, out: &mut String, event: &Event) -> Result<(), Memo
     ensures { OnOk result (string_bytes out.new ≡ string_bytes out.old ++ event_text event.now) }
 {
     match event {
-        Event::Edit { by, seen, delta } => {
-            write!(out, "edit {by} {seen} ")?;
-            push_delta(out, delta)
-        }
-        Event::Change { by, change } => {
-            write!(out, "change {by} ")?;
-            push_change(alloc, out, change)
-        }
-        Event::Submit { by, entry } => {
-            write!(out, "submit {by} ")?;
-            push_digits(alloc, out, entry.as_slice())
-        }
-        Event::Dropped { by, fault } => {
-            let name = fault.name();
-            write!(out, "dropped {by} {name}")
-        }
-        Event::Accept { by, place } => write!(out, "accept {by} {place}"),
+        Event::Edit { by, seen, delta } => push_edit(out, *by, *seen, delta),
+        Event::Change { by, change } => push_asked(alloc, out, *by, change),
+        Event::Submit { by, entry } => push_submitted(alloc, out, *by, entry.as_slice()),
+        Event::Dropped { by, fault } => push_dropped(out, *by, *fault),
+        Event::Accept { by, place } => push_accepted(out, *by, *place),
         Event::Discard { by } => write!(out, "discard {by}"),
     }
+}
+
+fn push_edit(out: &mut String, by: u32, seen: u64, delta: &Delta) -> Result<(), Memory>
+    ensures { OnOk result (string_bytes out.new ≡ string_bytes out.old ++ event_text (events.Edit by seen delta.now)) }
+{
+    write!(out, "edit {by} {seen} ")?;
+    push_delta(out, delta)
+}
+
+fn push_asked(alloc: Global, out: &mut String, by: u32, change: &Change) -> Result<(), Memory>
+    ensures { OnOk result (string_bytes out.new ≡ string_bytes out.old ++ event_text (events.Change by change.now)) }
+{
+    write!(out, "change {by} ")?;
+    push_change(alloc, out, change)
+}
+
+fn push_submitted(alloc: Global, out: &mut String, by: u32, entry: &[u8]) -> Result<(), Memory>
+    ensures { OnOk result (string_bytes out.new ≡ string_bytes out.old ++ event_text (events.Submit by entry.now)) }
+{
+    write!(out, "submit {by} ")?;
+    push_digits(alloc, out, entry)
+}
+
+fn push_dropped(out: &mut String, by: u32, fault: ChangeFault) -> Result<(), Memory>
+    ensures { OnOk result (string_bytes out.new ≡ string_bytes out.old ++ event_text (events.Dropped by fault)) }
+{
+    let name = fault.name();
+    write!(out, "dropped {by} {name}")
+}
+
+fn push_accepted(out: &mut String, by: u32, place: u32) -> Result<(), Memory>
+    ensures { OnOk result (string_bytes out.new ≡ string_bytes out.old ++ event_text (events.Accept by place)) }
+{
+    write!(out, "accept {by} {place}")
 }
 
 fn push_change(alloc: Global, out: &mut String, change: &Change) -> Result<(), Memory>
