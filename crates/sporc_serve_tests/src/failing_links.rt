@@ -1,6 +1,6 @@
-use crate::replies::count;
+use crate::replies::{are_of_submit_and_pull, count};
 use crate::server::{Outcome, Peers, served};
-use crate::streams::{PULL, first_entry, hello_and_submit};
+use crate::streams::{first_entry, hello_submit_and_pull};
 use sporc_order::Order;
 use sporc_outside::{Counted, MemoryLink, OpenGate};
 use sporc_samples::Cast;
@@ -13,14 +13,7 @@ use std::thread::Threads;
 // How many calls are made on a link that submits an entry and pulls, at the most.
 const CALLS: u64 = 16;
 
-// A client that submits an entry and then pulls.
-fn stream(alloc: Global, entry: &[u8]) -> Result<Vec<u8>, Fail> {
-    let mut stream = hello_and_submit(alloc, entry)?;
-    stream.extend_from_slice(&PULL)?;
-    Ok(stream)
-}
-
-// Two such clients. The second one's link fails at this call.
+// Two clients that each submit an entry and then pull. The second one's link fails at this call.
 fn peers(alloc: Global, entries: &[Vec<u8>; 2], failing: u64) -> Result<Peers, Fail> {
     let [good, cut] = entries;
     let mut failing_calls = Vec::new(alloc);
@@ -28,18 +21,17 @@ fn peers(alloc: Global, entries: &[Vec<u8>; 2], failing: u64) -> Result<Peers, F
     let mut peers = Peers::new(alloc);
     peers.add(
         alloc,
-        stream(alloc, good.as_slice())?,
+        hello_submit_and_pull(alloc, good.as_slice())?,
         1000,
         Vec::new(alloc),
     )?;
-    peers.add(alloc, stream(alloc, cut.as_slice())?, 1000, failing_calls)?;
+    peers.add(
+        alloc,
+        hello_submit_and_pull(alloc, cut.as_slice())?,
+        1000,
+        failing_calls,
+    )?;
     Ok(peers)
-}
-
-// The first client has its two answers.
-fn is_answered(alloc: Global, good: &MemoryLink) -> Result<bool, Fail> {
-    let counts = count(alloc, good.written(), &mut [])?;
-    Ok(counts.ordered == 1 && counts.entries == 1)
 }
 
 // No entry is lost that was answered Ordered.
@@ -48,14 +40,14 @@ fn is_kept(alloc: Global, order: &Order, cut: &MemoryLink) -> Result<bool, Fail>
     Ok(order.len() == 2 || counts.ordered == 0)
 }
 
-// Both of these hold. Whether the other one's link failed.
+// That holds, and the first client has its two answers. Whether the other one's link failed.
 fn is_cut(rt: &impl Abort, alloc: Global, outcome: &Outcome) -> Result<bool, Fail> {
     let [good, cut] = outcome.net.returned() else {
         assert!(rt; false);
         return Ok(false);
     };
     assert!(rt; outcome.answer == Ok(()));
-    assert!(rt; is_answered(alloc, good)?);
+    assert!(rt; are_of_submit_and_pull(alloc, good.written())?);
     assert!(rt; is_kept(alloc, &outcome.order, cut)?);
     Ok(cut.faults() == 1)
 }

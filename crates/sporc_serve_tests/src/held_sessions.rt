@@ -1,7 +1,7 @@
-use crate::replies::count;
+use crate::replies::are_of_submit_and_pull;
 use crate::server::{Outcome, Peers, served};
-use crate::streams::{PULL, first_entry, hello_and_submit};
-use sporc_outside::{Gate, MemoryLink};
+use crate::streams::{first_entry, hello_submit_and_pull};
+use sporc_outside::Gate;
 use sporc_samples::Cast;
 use std::alloc::Global;
 use std::process::Abort;
@@ -38,8 +38,7 @@ impl Gate for Pairing {
 // A client that submits an author's first entry and then pulls.
 fn add_peer(alloc: Global, cast: &Cast, peers: &mut Peers, author: u16) -> Result<(), Fail> {
     let entry = first_entry(alloc, cast, author)?;
-    let mut stream = hello_and_submit(alloc, entry.as_slice())?;
-    stream.extend_from_slice(&PULL)?;
+    let stream = hello_submit_and_pull(alloc, entry.as_slice())?;
     peers.add(alloc, stream, 100, Vec::new(alloc))
 }
 
@@ -51,15 +50,10 @@ fn peers(alloc: Global, cast: &Cast) -> Result<Peers, Fail> {
     Ok(peers)
 }
 
-fn is_answered(alloc: Global, link: &MemoryLink) -> Result<bool, Fail> {
-    let counts = count(alloc, link.written(), &mut [])?;
-    Ok(counts.ordered == 1 && counts.entries == 1)
-}
-
 fn are_answered(rt: &impl Abort, alloc: Global, outcome: &Outcome) -> Result<(), Fail> {
     assert!(rt; outcome.answer == Ok(()) && outcome.order.len() == 2);
     for link in outcome.net.returned() {
-        assert!(rt; is_answered(alloc, link)?);
+        assert!(rt; are_of_submit_and_pull(alloc, link.written())?);
     }
     Ok(())
 }

@@ -65,6 +65,12 @@ fn add(counts: &mut Counts, reply: &ToClient, ordered: &mut [u32]) {
     }
 }
 
+/// Whether an entry was ordered once in what a server sent, and entries were pulled once.
+pub fn are_of_submit_and_pull(alloc: Global, sent: &[u8]) -> Result<bool, Fail> {
+    let counts = count(alloc, sent, &mut [])?;
+    Ok(counts.ordered == 1 && counts.entries == 1)
+}
+
 /// The frame of an Entries that holds one entry, at position 1.
 pub fn first_entries(alloc: Global, entry: &[u8]) -> Result<Vec<u8>, Fail> {
     let len = entry.len() as u64;

@@ -27,6 +27,13 @@ pub fn hello_and_submit(alloc: Global, entry: &[u8]) -> Result<Vec<u8>, Fail> {
     Ok(stream)
 }
 
+/// A Hello, a Submit, and then a Pull.
+pub fn hello_submit_and_pull(alloc: Global, entry: &[u8]) -> Result<Vec<u8>, Fail> {
+    let mut stream = hello_and_submit(alloc, entry)?;
+    stream.extend_from_slice(&PULL)?;
+    Ok(stream)
+}
+
 fn empty_history(alloc: Global, cast: &Cast) -> Result<History, Fail> {
     let genesis = cast.genesis(alloc)?;
     Ok(History::new(alloc, &genesis)?)
