@@ -116,11 +116,15 @@ fn signed_bytes(alloc: Global, entry: &[u8]) -> Result<Vec<u8>, Fail> {
     Ok(signed)
 }
 
+fn signed_of(alloc: Global, bytes: &[u8]) -> Result<Vec<u8>, Fail> {
+    let entry = read_entry(alloc, bytes)?;
+    Ok(signed_part(alloc, &entry)?)
+}
+
 #[test]
 fn an_edit_is_signed_without_its_signature(rt: HostRuntime) -> Result<(), Fail> {
     let bytes = edit_bytes(rt.alloc())?;
-    let entry = read_entry(rt.alloc(), bytes.as_slice())?;
-    let part = signed_part(rt.alloc(), &entry)?;
+    let part = signed_of(rt.alloc(), bytes.as_slice())?;
     let signed = signed_bytes(rt.alloc(), bytes.as_slice())?;
     same_bytes(&rt, part.as_slice(), signed.as_slice());
     Ok(())
@@ -332,13 +336,18 @@ fn is_of_two_and_seven(genesis: &Genesis) -> bool {
         && are_two_and_seven(genesis.founders.as_slice())
 }
 
+// The bytes of a copy of the genesis that is read from these.
+fn copied(rt: &impl Abort, alloc: Global, bytes: &[u8]) -> Result<Vec<u8>, Fail> {
+    let genesis = read_genesis(alloc, bytes)?;
+    assert!(rt; is_of_two_and_seven(&genesis));
+    let copy = genesis.copy()?;
+    Ok(write_genesis(alloc, &copy)?)
+}
+
 #[test]
 fn a_genesis_reads_and_its_copy_is_written(rt: HostRuntime) -> Result<(), Fail> {
     let bytes = hex::decode(rt.alloc(), GENESIS)?;
-    let genesis = read_genesis(rt.alloc(), bytes.as_slice())?;
-    assert!(rt; is_of_two_and_seven(&genesis));
-    let copy = genesis.copy()?;
-    let written = write_genesis(rt.alloc(), &copy)?;
+    let written = copied(&rt, rt.alloc(), bytes.as_slice())?;
     same_bytes(&rt, written.as_slice(), bytes.as_slice());
     Ok(())
 }

@@ -190,15 +190,35 @@ fn is_whole_to_client(frames: &mut Frames, bytes: &[u8]) -> Result<bool, FrameFa
     Ok(frames.next_to_client()?.is_some())
 }
 
+// Whether a message to a server is whole once both parts came, and not before.
+fn needs_both_to_server(
+    frames: &mut Frames,
+    front: &[u8],
+    rest: &[u8],
+) -> Result<bool, FrameFault> {
+    let early = is_whole_to_server(frames, front)?;
+    let whole = is_whole_to_server(frames, rest)?;
+    Ok(whole && !early)
+}
+
+// The same of a message to a client.
+fn needs_both_to_client(
+    frames: &mut Frames,
+    front: &[u8],
+    rest: &[u8],
+) -> Result<bool, FrameFault> {
+    let early = is_whole_to_client(frames, front)?;
+    let whole = is_whole_to_client(frames, rest)?;
+    Ok(whole && !early)
+}
+
 // Whether nothing is handed out of a front of this length, and a message to a server of the whole.
 fn is_cut_to_server(alloc: Global, frame: &[u8], len: usize) -> Result<bool, FrameFault>
     requires { len ≤ length frame.now }
 {
     let mut frames = Frames::new(alloc);
     let (front, rest) = frame.split_at(len);
-    let early = is_whole_to_server(&mut frames, front)?;
-    let whole = is_whole_to_server(&mut frames, rest)?;
-    Ok(whole && !early)
+    needs_both_to_server(&mut frames, front, rest)
 }
 
 // The same of a message to a client.
@@ -207,9 +227,7 @@ fn is_cut_to_client(alloc: Global, frame: &[u8], len: usize) -> Result<bool, Fra
 {
     let mut frames = Frames::new(alloc);
     let (front, rest) = frame.split_at(len);
-    let early = is_whole_to_client(&mut frames, front)?;
-    let whole = is_whole_to_client(&mut frames, rest)?;
-    Ok(whole && !early)
+    needs_both_to_client(&mut frames, front, rest)
 }
 
 #[test]

@@ -8,34 +8,40 @@ use std::alloc::Global;
 use std::process::Abort;
 use std::test::Fail;
 
-// The empty order and the empty history of the sample document.
-fn opened(alloc: Global, cast: &Cast) -> Result<(Order, History), Fail> {
-    let order = Order::open(alloc, cast.genesis(alloc)?)?;
+// The empty order of the sample document, in a box: a function that owns an order itself is slow to prove.
+fn opened(alloc: Global, cast: &Cast) -> Result<Box<Order>, Fail> {
+    Ok(Box::new(alloc, Order::open(alloc, cast.genesis(alloc)?)?)?)
+}
+
+fn empty_history(alloc: Global, cast: &Cast) -> Result<History, Fail> {
     let sample = History::new(alloc, &cast.genesis(alloc)?)?;
-    Ok((order, sample))
+    Ok(sample)
 }
 
-// Submits an entry, and again.
-fn submit(rt: &impl Abort, order: &mut Order, entry: &[u8], position: u32) {
-    assert!(rt; order.submit(entry) == Ok(position));
-    assert!(rt; order.submit(entry) == Err(Refusal::WrongNumber));
+// Whether an entry is ordered at this position, and refused if it is submitted again.
+fn is_ordered_once(order: &mut Order, entry: &[u8], position: u32) -> bool {
+    order.submit(entry) == Ok(position) && order.submit(entry) == Err(Refusal::WrongNumber)
 }
 
-// The order and the history of so many entries.
-fn grown(
+// Submits so many entries of one author.
+fn grow(
     rt: &impl Abort,
     alloc: Global,
     cast: &Cast,
+    order: &mut Order,
+    sample: &mut History,
     count: u32,
-) -> Result<(Order, History), Fail> {
-    let (mut order, mut sample) = opened(alloc, cast)?;
+) -> Result<(), Fail> {
     for before in 0..count {
         sample.edit(alloc, cast, 2, b"")?;
-        if let Some(entry) = sample.entries().last() {
-            submit(rt, &mut order, entry.as_slice(), before.wrapping_add(1));
-        }
+        let entry = sample.entries().last().ok_or("no entry")?;
+        let position = before.wrapping_add(1);
+        assert!(rt;
+            is_ordered_once(order, entry.as_slice(), position),
+            "{position}"
+        );
     }
-    Ok((order, sample))
+    Ok(())
 }
 
 fn is_pulled(order: &Order) -> bool {
@@ -46,14 +52,20 @@ fn is_pulled(order: &Order) -> bool {
         && order.pull(18).len() == 0
 }
 
+fn are_pulled(rt: &impl Abort, order: &Order, entries: &[Vec<u8>]) {
+    assert!(rt; is_pulled(order));
+    for (pulled, entry) in order.pull(0).iter().zip(entries) {
+        same_bytes(rt, pulled.as_slice(), entry.as_slice());
+    }
+}
+
 #[test]
 fn sixteen_entries_are_pulled(rt: HostRuntime) -> Result<(), Fail> {
     let cast = Cast::new(rt.alloc())?;
-    let (order, sample) = grown(&rt, rt.alloc(), &cast, 18)?;
-    assert!(rt; is_pulled(&order));
-    for (pulled, entry) in order.pull(0).iter().zip(sample.entries()) {
-        same_bytes(&rt, pulled.as_slice(), entry.as_slice());
-    }
+    let mut order = opened(rt.alloc(), &cast)?;
+    let mut sample = empty_history(rt.alloc(), &cast)?;
+    grow(&rt, rt.alloc(), &cast, &mut order, &mut sample, 18)?;
+    are_pulled(&rt, &order, sample.entries());
     Ok(())
 }
 
@@ -94,7 +106,8 @@ fn answers(
     wanted: Heard,
 ) -> Result<(), Fail> {
     let answer = session.step(alloc, order, message)?;
-    assert!(rt; heard_in(&answer) == wanted);
+    let heard = heard_in(&answer);
+    assert!(rt; heard == wanted, "{heard:?} and not {wanted:?}");
     Ok(())
 }
 
@@ -121,7 +134,7 @@ fn is_greeted(rt: &impl Abort, alloc: Global, order: &mut Order) -> Result<(), F
 #[test]
 fn a_session_is_greeted_once(rt: HostRuntime) -> Result<(), Fail> {
     let cast = Cast::new(rt.alloc())?;
-    let (mut order, _) = opened(rt.alloc(), &cast)?;
+    let mut order = opened(rt.alloc(), &cast)?;
     is_greeted(&rt, rt.alloc(), &mut order)
 }
 
@@ -158,7 +171,8 @@ fn is_ordered(
 #[test]
 fn a_session_orders_an_entry_once(rt: HostRuntime) -> Result<(), Fail> {
     let cast = Cast::new(rt.alloc())?;
-    let (mut order, mut sample) = opened(rt.alloc(), &cast)?;
+    let mut order = opened(rt.alloc(), &cast)?;
+    let mut sample = empty_history(rt.alloc(), &cast)?;
     sample.edit(rt.alloc(), &cast, 1, b"")?;
     let message = submission(rt.alloc(), &sample)?;
     is_ordered(&rt, rt.alloc(), &mut order, &message)
