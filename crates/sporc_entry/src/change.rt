@@ -1,10 +1,12 @@
 // The bodies of changes.
 
-ghost use Rattle.std.specs.Prelude.{◌≡◌, ◌+◌, ◌<◌, ◌^◌, ◌++◌, [], length, Ok, IfOk, OnOk};
+ghost use Rattle.std.specs.Prelude.{◌≡◌, ◌+◌, ◌<◌, ◌^◌, ◌++◌, [], ◌∷◌, length, Ok, IfOk, OnOk};
+ghost use Rattle.std.specs.Int.{w16, to_be_bytes};
 ghost use Rattle.std.specs.List.{flat_map};
 ghost use Rattle.sporc_bytes.specs.Fields.{Reads, values_at};
 ghost use Rattle.sporc_base.specs.Outcome.{GivesUnless};
 ghost use Rattle.sporc_bytes.specs.Fields.{fault_as};
+ghost use Rattle.sporc_member.specs.Role.{role_code_of};
 ghost use Rattle.sporc_entry.specs.declared.change.ChangeBody.{ChangeBody};
 ghost use Rattle.sporc_entry.specs.ChangeBody.{change_at, wrap_at, change_body_at, change_body_from, change_bytes, wrap_bytes, change_body_bytes, IsChangeBody};
 
@@ -15,7 +17,7 @@ use crate::wrap::{Wrap, Wraps};
 use sporc_base::Memory;
 use sporc_bytes::{Cursor, Out, Short};
 use sporc_hash::Digest32;
-use sporc_member::{Change, MAX_MEMBERS};
+use sporc_member::{Change, MAX_MEMBERS, Role};
 use std::alloc::Global;
 
 /// The body of a change, which begins an epoch.
@@ -127,22 +129,28 @@ fn put_change(out: &mut Out, change: &Change) -> Result<(), Memory>
 {
     match change {
         Change::Add { member, role, key } => {
-            out.put_u8(1)?;
-            out.put_u16(*member)?;
-            out.put_u8(role.code())?;
-            out.put_bytes(key)?;
+            put_role(out, 1, *member, *role)?;
+            out.put_bytes(key)
         }
-        Change::Remove { member } => {
-            out.put_u8(2)?;
-            out.put_u16(*member)?;
-        }
-        Change::SetRole { member, role } => {
-            out.put_u8(3)?;
-            out.put_u16(*member)?;
-            out.put_u8(role.code())?;
-        }
+        Change::Remove { member } => put_member(out, 2, *member),
+        Change::SetRole { member, role } => put_role(out, 3, *member, *role),
     }
-    Ok(())
+}
+
+// Appends the kind of a change and whom it is of.
+fn put_member(out: &mut Out, kind: u8, member: u16) -> Result<(), Memory>
+    ensures { OnOk result (out.new ≡ out.old ++ kind ∷ to_be_bytes w16 member) }
+{
+    out.put_u8(kind)?;
+    out.put_u16(member)
+}
+
+// The same, and the role that it gives.
+fn put_role(out: &mut Out, kind: u8, member: u16, role: Role) -> Result<(), Memory>
+    ensures { OnOk result (out.new ≡ out.old ++ kind ∷ to_be_bytes w16 member ++ role_code_of role ∷ []) }
+{
+    put_member(out, kind, member)?;
+    out.put_u8(role.code())
 }
 
 // Appends sealed keys.
@@ -160,22 +168,29 @@ fn put_wrap(out: &mut Out, wrap: &Wrap) -> Result<(), Memory>
     ensures { OnOk result (out.new ≡ out.old ++ wrap_bytes wrap.now) }
 {
     out.put_u16(wrap.member)?;
-    out.put_bytes(&wrap.sealed)?;
-    Ok(())
+    out.put_bytes(&wrap.sealed)
+}
+
+// Appends the body of a change.
+#[tactic(auto, unfolding(crate::specs::ChangeBody::change_body_bytes))]
+fn put_body(out: &mut Out, body: &ChangeBody) -> Result<(), Memory>
+    requires { length body.now.wraps < 2 ^ 16 }
+    ensures { OnOk result (out.new ≡ out.old ++ change_body_bytes body.now) }
+{
+    let wraps = body.wraps.as_slice();
+    put_change(out, &body.change)?;
+    out.put_bytes(&body.commitment)?;
+    out.put_bytes(&body.previous)?;
+    out.put_u16(wraps.len() as u16)?;
+    put_wraps(out, wraps)
 }
 
 /// The bytes of the body of a change: the one spelling of it, where it has one.
-#[tactic(auto, unfolding(crate::specs::ChangeBody::change_body_bytes))]
 pub fn write_change(alloc: Global, body: &ChangeBody) -> Result<Vec<u8>, Memory>
     requires { length body.now.wraps < 2 ^ 16 }
     ensures ok { IfOk result (λ bytes. bytes.items ≡ change_body_bytes body.now) }
 {
-    let wraps = body.wraps.as_slice();
     let mut out = Out::new(alloc);
-    put_change(&mut out, &body.change)?;
-    out.put_bytes(&body.commitment)?;
-    out.put_bytes(&body.previous)?;
-    out.put_u16(wraps.len() as u16)?;
-    put_wraps(&mut out, wraps)?;
+    put_body(&mut out, body)?;
     Ok(out.into_bytes())
 }

@@ -9,7 +9,7 @@ use std::marker::Model;
 
 /// The calls of an object in memory: which of them are to fail, by their numbers, how many were
 /// made, and how many failed. The first call has number 1.
-#[derive(Debug, Drop)]
+#[derive(Drop)]
 pub struct Calls {
     failing: Vec<u64>,
     made: u64,

@@ -3,7 +3,7 @@
 use std::marker::Model;
 
 /// Bytes that were written.
-#[derive(Debug, Drop)]
+#[derive(Drop)]
 pub struct DiskBytes {
     bytes: Vec<u8>,
 }
@@ -33,7 +33,7 @@ impl DiskBytes {
 }
 
 /// What a call asked of a disk.
-#[derive(Debug, Drop)]
+#[derive(Drop)]
 pub enum DiskRequest {
     Len,
     Read { at: u64, len: usize },
@@ -42,7 +42,7 @@ pub enum DiskRequest {
 }
 
 /// A call of a disk in memory, and whether it succeeded.
-#[derive(Debug, Drop)]
+#[derive(Drop)]
 pub struct DiskCall {
     pub request: DiskRequest,
     pub done: bool,

@@ -11,7 +11,7 @@ use crate::counted::{Counted, Failed};
 use std::marker::Model;
 
 /// Gives the words of a list in order, and tells them. A call behind the last word fails, and so do the listed calls.
-#[derive(Debug, Drop)]
+#[derive(Drop)]
 pub struct ListedChance {
     words: Vec<[u8; 32]>,
     at: usize,

@@ -14,7 +14,7 @@ use std::marker::Model;
 
 /// A disk that keeps its bytes and tells them, with a log of all its calls, from which what a crash
 /// after any of them may leave is read. A call that finds no memory for the log fails.
-#[derive(Debug, Drop)]
+#[derive(Drop)]
 pub struct MemoryDisk {
     alloc: Global,
     first: Vec<u8>,

@@ -15,7 +15,7 @@ use std::marker::Model;
 
 /// A link whose other end sends listed bytes. It keeps the bytes that are written, and tells both. A write that finds no
 /// memory fails, and so do the listed calls.
-#[derive(Debug, Drop)]
+#[derive(Drop)]
 pub struct MemoryLink {
     bytes: Vec<u8>,
     at: usize,

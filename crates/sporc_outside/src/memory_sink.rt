@@ -12,7 +12,7 @@ use std::alloc::Global;
 use std::marker::Model;
 
 /// A sink that keeps its bytes and tells them. A call that finds no memory for them fails.
-#[derive(Debug, Drop)]
+#[derive(Drop)]
 pub struct MemorySink {
     bytes: Vec<u8>,
     piece: usize,

@@ -11,7 +11,7 @@ use crate::source::Source;
 use std::marker::Model;
 
 /// A source of listed bytes, which it tells.
-#[derive(Debug, Drop)]
+#[derive(Drop)]
 pub struct MemorySource {
     bytes: Vec<u8>,
     at: usize,

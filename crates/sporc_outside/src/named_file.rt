@@ -3,7 +3,7 @@
 use crate::disk_call::DiskBytes;
 
 /// A file in memory.
-#[derive(Debug, Drop)]
+#[derive(Drop)]
 pub struct NamedFile {
     pub name: DiskBytes,
     pub bytes: DiskBytes,

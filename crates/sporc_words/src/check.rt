@@ -14,7 +14,7 @@ use sporc_base::Memory;
 use std::alloc::Global;
 
 /// What `check` is asked for.
-#[derive(Debug, Drop)]
+#[derive(Drop)]
 pub struct Check {
     /// The document's name.
     pub name: Word,

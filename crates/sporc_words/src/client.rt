@@ -15,7 +15,7 @@ use sporc_base::{Items, Memory};
 use std::alloc::Global;
 
 /// What `client` is asked for.
-#[derive(Debug, Drop)]
+#[derive(Drop)]
 pub struct Client {
     /// The document's name.
     pub name: Word,

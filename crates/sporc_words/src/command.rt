@@ -8,7 +8,7 @@ use crate::keygen::Keygen;
 use crate::serve::Serve;
 
 /// What a command line asks for.
-#[derive(Debug, Drop)]
+#[derive(Drop)]
 pub enum Command {
     /// `play` performs the script on standard input.
     Play,

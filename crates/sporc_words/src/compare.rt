@@ -14,7 +14,7 @@ use sporc_base::Memory;
 use std::alloc::Global;
 
 /// What `compare` is asked for. The two numbers may be the same.
-#[derive(Debug, Drop)]
+#[derive(Drop)]
 pub struct Compare {
     /// The document's name.
     pub name: Word,

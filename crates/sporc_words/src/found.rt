@@ -15,7 +15,7 @@ use sporc_base::{Items, Memory};
 use std::alloc::Global;
 
 /// What `found` is asked for.
-#[derive(Debug, Drop)]
+#[derive(Drop)]
 pub struct Found {
     /// The document's name.
     pub name: Word,

@@ -16,7 +16,7 @@ use sporc_base::Memory;
 use std::alloc::Global;
 
 /// What `keygen` is asked for.
-#[derive(Debug, Drop)]
+#[derive(Drop)]
 pub struct Keygen {
     /// The document's name.
     pub name: Word,

@@ -27,8 +27,7 @@ pub fn participants_value(
     let Some(words) = values(matches, id) else {
         return Ok(None);
     };
-    let found = read_participants(alloc, words)?;
-    Ok(found)
+    read_participants(alloc, words)
 }
 
 #[tactic(auto, unfolding(crate::specs::Values::participants_of))]

@@ -15,7 +15,7 @@ use sporc_serve::MAX_SESSIONS;
 use std::alloc::Global;
 
 /// What `serve` is asked for.
-#[derive(Debug, Drop)]
+#[derive(Drop)]
 pub struct Serve {
     /// The document's name.
     pub name: Word,

@@ -69,8 +69,7 @@ pub fn scripts_value(
     let Some(words) = values(matches, id) else {
         return Ok(Some(Items::new(Vec::new(alloc))));
     };
-    let scripts = read_scripts(alloc, words)?;
-    Ok(scripts)
+    read_scripts(alloc, words)
 }
 
 // The scripts of editors, unless they are too many.

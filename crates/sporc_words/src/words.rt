@@ -44,8 +44,7 @@ fn find_command(alloc: Global, words: &[String]) -> Result<Option<Command>, Memo
     let Some(verb) = parse_verb(first.as_str()) else {
         return Ok(None);
     };
-    let found = read_command(alloc, verb, words)?;
-    Ok(found)
+    read_command(alloc, verb, words)
 }
 
 // The command, of which the first word is this.
@@ -53,8 +52,7 @@ fn find_command(alloc: Global, words: &[String]) -> Result<Option<Command>, Memo
 fn read_command(alloc: Global, verb: Verb, words: &[String]) -> Result<Option<Command>, Memory>
     ensures ok { IfOk result (λ found. found ≡ command_by verb (map (λ w. string_bytes w) words.now)) }
 {
-    let found = read_by(alloc, verb, words)?;
-    Ok(found)
+    read_by(alloc, verb, words)
 }
 
 // The same: its arguments first, and then what is made of their values.
@@ -65,8 +63,7 @@ fn read_by(alloc: Global, verb: Verb, words: &[String]) -> Result<Option<Command
     let Some(matches) = read_matches(command, words)? else {
         return Ok(None);
     };
-    let found = command_from(alloc, verb, &matches)?;
-    Ok(found)
+    command_from(alloc, verb, &matches)
 }
 
 // What `clap` is told of the command.
@@ -74,13 +71,13 @@ fn command_for<'a>(alloc: Global, verb: Verb) -> Result<clap::Command<'a>, Memor
     ensures ok { IfOk result (λ c. grammar_of c ≡ app_for verb) }
 {
     match verb {
-        Verb::Play => Ok(play_command(alloc)?),
-        Verb::Keygen => Ok(keygen_command(alloc)?),
-        Verb::Found => Ok(found_command(alloc)?),
-        Verb::Serve => Ok(serve_command(alloc)?),
-        Verb::Client => Ok(client_command(alloc)?),
-        Verb::Check => Ok(check_command(alloc)?),
-        Verb::Compare => Ok(compare_command(alloc)?),
+        Verb::Play => play_command(alloc),
+        Verb::Keygen => keygen_command(alloc),
+        Verb::Found => found_command(alloc),
+        Verb::Serve => serve_command(alloc),
+        Verb::Client => client_command(alloc),
+        Verb::Check => check_command(alloc),
+        Verb::Compare => compare_command(alloc),
     }
 }
 
