@@ -1,7 +1,8 @@
 -- Where the file with a name stands.
-use Rattle.std.proofs.Common.{rules, ◌≡◌, ℕ, zero, suc, ◌<◌, Bool, true, false, List, [], ◌∷◌, ◌++◌, length, take, cond, Option, Some, None, IsSome, refl, ap, sym, subst, ◌∙◌, arith, get_or, set, length-append}
+use Rattle.std.proofs.Common.{rules, ◌≡◌, ℕ, zero, suc, ◌<◌, Bool, true, false, List, [], ◌∷◌, ◌++◌, length, take, cond, Option, Some, None, IsSome, Result, Ok, Err, OnOk, OnErr, refl, ap, sym, subst, ◌∙◌, arith, get_or, set, length-append}
 use Rattle.std.specs.Str.{bytes_eq}
 use Rattle.std.proofs.Math.ListN.{get_or-append}
+use Rattle.std.proofs.lemmas.List.Elements.{All-append}
 use Rattle.std.proofs.lemmas.Slice.Eq.{bytes_eq-Decides}
 use Rattle.sporc_outside.specs.declared.named_file.NamedFile.{NamedFile}
 use Rattle.sporc_outside.specs.Files.{file_in, with_file, IsPlaceOf}
@@ -113,3 +114,14 @@ each_left files more names rest last name bytes split is h =
     each_written files more rest name bytes is
     (λ k d lt. subst (λ (n : List ℕ). IsSome (file_in files n)) (get_or-append rest last d k lt)
     (both k d (omega (arith, lt, length-append rest last))))
+
+-- and once a file's disk is out
+pub each_lent : {D E : Type 0} (files : List NamedFile) (lent more : List (List ℕ)) (name bytes : List ℕ) (result : Result D E)
+    → file_in files name ≡ Some bytes → OnOk result (more ≡ lent ++ name ∷ []) → OnErr result (more ≡ lent)
+    → HasEach files lent → HasEach files more
+each_lent files lent more name bytes (Ok disk) there is same h = rw is (All-append (λ n. IsSome (file_in files n)) lent (name ∷ []) h just)
+  where
+    just : (k : ℕ) (d : List ℕ) → k < 1 → IsSome (file_in files (get_or (name ∷ []) k d))
+    just zero d lt = rw there refl
+    just (suc k) d lt = absurd (omega arith)
+each_lent files lent more name bytes (Err e) there is same h = rw same h

@@ -2,7 +2,10 @@
 
 ghost use Rattle.std.specs.Prelude.{◌≡◌, ◌≤◌, ◌++◌, ◌∷◌, [], length, Some, None, IsSome, IfOk, IfErr, IfSome, IfNone, OnOk, OnErr};
 ghost use Rattle.std.specs.Str.{bytes_eq};
-ghost use Rattle.sporc_outside.specs.Files.{file_in, with_file, IsPlaceOf, IsAbsence};
+ghost use Rattle.sporc_outside.specs.Counts.{Rose};
+ghost use Rattle.sporc_outside.specs.Files.{file_in, with_file, IsPlaceOf, IsAbsence, IsDiskFault, IsDiskOf};
+ghost use Rattle.sporc_outside.specs.Told.{MayAppend};
+ghost use Rattle.sporc_outside.specs.declared.file_fault.FileFault.TheVariants as faults;
 ghost use Rattle.sporc_outside.specs.declared.file_fault.TheConstants.{MAX_FILE};
 
 use crate::asked::ask;
@@ -95,8 +98,13 @@ impl Folder for MemoryFolder {
     ghost lent = { λ f. Some f.lent };
 
     fn read_file(&mut self, alloc: Global, name: &str) -> Result<Vec<u8>, FileFault> {
-        ask(self.alloc, &mut self.calls, &mut self.asked, name)?;
-        let bytes = found(&self.files, name.as_bytes())?;
+        let bytes = look_up(
+            self.alloc,
+            &mut self.calls,
+            &mut self.asked,
+            &self.files,
+            name,
+        )?;
         Ok(Vec::from_slice(alloc, bytes)?)
     }
 
@@ -120,13 +128,22 @@ impl Folder for MemoryFolder {
     }
 
     fn leaf_disk(&mut self, name: &str) -> Result<MemoryDisk, FileFault> {
-        ask(self.alloc, &mut self.calls, &mut self.asked, name)?;
-        let bytes = found(&self.files, name.as_bytes())?;
+        let bytes = look_up(
+            self.alloc,
+            &mut self.calls,
+            &mut self.asked,
+            &self.files,
+            name,
+        )?;
         let failing = std::mem::replace(&mut self.disk_calls, Vec::new(self.alloc));
-        match lend(self.alloc, &mut self.lent, name.as_bytes(), bytes, failing) {
-            Ok(disk) => Ok(disk),
-            Err(_) => Err(FileFault::from(self.calls.fail())),
-        }
+        lend(
+            self.alloc,
+            &mut self.calls,
+            &mut self.lent,
+            name.as_bytes(),
+            bytes,
+            failing,
+        )
     }
 
     fn take_back(&mut self, disk: MemoryDisk) {
@@ -155,6 +172,24 @@ fn place_of(files: &[NamedFile], name: &[u8]) -> Option<usize>
         }
     }
     None
+}
+
+// The bytes of the file that a call asks for.
+fn look_up<'a>(
+    alloc: Global,
+    calls: &mut Calls,
+    asked: &mut Vec<DiskBytes>,
+    files: &'a [NamedFile],
+    name: &str,
+) -> Result<&'a [u8], FileFault>
+    ensures ok { IfOk result (λ bytes. IsDiskOf (Some files.now) name.now (Some bytes.now)) }
+    ensures err { IfErr result (IsDiskFault (Some files.now) name.now calls.old.faults calls.new.faults) }
+    ensures asked { OnOk result (asked.new.items ≡ asked.old.items ++ name.now ∷ []) }
+    ensures may_ask { MayAppend (Some asked.old.items) (Some asked.new.items) name.now }
+    ensures count { calls.old.faults ≤ calls.new.faults }
+{
+    ask(alloc, calls, asked, name)?;
+    found(files, name.as_bytes())
 }
 
 // The bytes of the file with this name.
@@ -206,8 +241,28 @@ fn write(
     Ok(())
 }
 
-// A disk over a copy of these bytes, with the name kept for its return.
+// A disk over a copy of these bytes, with the name kept for its return. It fails where there is no memory.
 fn lend(
+    alloc: Global,
+    calls: &mut Calls,
+    lent: &mut Vec<DiskBytes>,
+    name: &[u8],
+    bytes: &[u8],
+    failing: Vec<u64>,
+) -> Result<MemoryDisk, FileFault>
+    ensures ok { IfOk result (λ disk. disk ≡ record { first = bytes.now; log = []; calls = record { failing = failing.items; made = 0; faults = 0 } }) }
+    ensures lent { OnOk result (lent.new.items ≡ lent.old.items ++ name.now ∷ []) }
+    ensures err { OnErr result (lent.new.items ≡ lent.old.items) }
+    ensures failed { IfErr result (λ fault. (fault ≡ faults.Failed) × Rose calls.old.faults calls.new.faults) }
+    ensures count { calls.old.faults ≤ calls.new.faults }
+{
+    match open(alloc, lent, name, bytes, failing) {
+        Ok(disk) => Ok(disk),
+        Err(_) => Err(FileFault::from(calls.fail())),
+    }
+}
+
+fn open(
     alloc: Global,
     lent: &mut Vec<DiskBytes>,
     name: &[u8],

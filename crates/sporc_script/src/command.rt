@@ -7,7 +7,7 @@ use crate::text_edit::TextEdit;
 use sporc_base::Items;
 
 /// A line of a play script.
-#[derive(Debug, Drop)]
+#[derive(Drop)]
 pub enum Command {
     /// `tree H W` has the sizes of all members' signature trees.
     Tree(Tree),
@@ -77,35 +77,35 @@ pub enum Keyword {
 }
 
 /// The height of a signature tree.
-#[derive(Clone, Copy, Debug)]
+#[derive(Clone, Copy)]
 pub enum Height {
     Five,
     Ten,
 }
 
 /// The width of a Winternitz coefficient in bits.
-#[derive(Clone, Copy, Debug)]
+#[derive(Clone, Copy)]
 pub enum Width {
     Four,
     Eight,
 }
 
 /// The sizes of signature trees.
-#[derive(Clone, Copy, Debug)]
+#[derive(Clone, Copy)]
 pub struct Tree {
     pub height: Height,
     pub width: Width,
 }
 
 /// Two members.
-#[derive(Clone, Copy, Debug)]
+#[derive(Clone, Copy)]
 pub struct Pair {
     pub first: u16,
     pub second: u16,
 }
 
 /// An edit of the text that a member sees, or saw.
-#[derive(Debug, Drop)]
+#[derive(Drop)]
 pub struct Edit {
     pub member: u16,
     /// How many events of the journal the member has seen, if that is stated.
@@ -114,14 +114,14 @@ pub struct Edit {
 }
 
 /// A change of the members that a member asks for.
-#[derive(Clone, Copy, Debug)]
+#[derive(Clone, Copy)]
 pub struct RosterEdit {
     pub member: u16,
     pub change: RosterChange,
 }
 
 /// An entry that a member is handed.
-#[derive(Clone, Copy, Debug)]
+#[derive(Clone, Copy)]
 pub struct Give {
     pub member: u16,
     /// The position that is stated, counted from 1.
@@ -131,7 +131,7 @@ pub struct Give {
 }
 
 /// A member that goes back to the first entries of its history.
-#[derive(Clone, Copy, Debug)]
+#[derive(Clone, Copy)]
 pub struct Restart {
     pub member: u16,
     /// How many entries of its history are kept.
@@ -139,7 +139,7 @@ pub struct Restart {
 }
 
 /// A joiner and the entries that its client opens from.
-#[derive(Debug, Drop)]
+#[derive(Drop)]
 pub struct Join {
     pub member: u16,
     /// The entries, at least one, by their numbers.
@@ -147,7 +147,7 @@ pub struct Join {
 }
 
 /// An entry, and the byte of it in which a bit is turned.
-#[derive(Clone, Copy, Debug)]
+#[derive(Clone, Copy)]
 pub struct Flip {
     pub entry: u64,
     /// The byte, counted from 0.

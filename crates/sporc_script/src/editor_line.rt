@@ -8,7 +8,7 @@ use sporc_member::Founder;
 pub const KEY_BYTES: usize = 56;
 
 /// A line of a script that is not skipped.
-#[derive(Debug, Drop)]
+#[derive(Drop)]
 pub struct EditorLine {
     /// Counted from 1, skipped lines counted too.
     pub number: u32,
@@ -16,7 +16,7 @@ pub struct EditorLine {
 }
 
 /// What a line of an editor script asks for.
-#[derive(Debug, Drop)]
+#[derive(Drop)]
 pub enum EditorCommand {
     /// `insert AT TEXT`
     Insert(Insertion),

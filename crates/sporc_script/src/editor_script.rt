@@ -15,7 +15,7 @@ use std::alloc::Global;
 use std::marker::Model;
 
 /// An editor script, seen as the list of its lines that are not skipped.
-#[derive(Debug, Drop)]
+#[derive(Drop)]
 pub struct EditorScript {
     lines: Vec<EditorLine>,
 }

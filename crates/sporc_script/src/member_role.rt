@@ -3,7 +3,7 @@
 use sporc_member::Role;
 
 /// A member and its role.
-#[derive(Clone, Copy, Debug)]
+#[derive(Clone, Copy)]
 pub struct MemberRole {
     pub member: u16,
     pub role: Role,

@@ -3,7 +3,7 @@
 use crate::command::Command;
 
 /// A line of a script that is not skipped.
-#[derive(Debug, Drop)]
+#[derive(Drop)]
 pub struct PlayLine {
     /// Counted from 1, skipped lines counted too.
     pub number: u32,

@@ -20,7 +20,7 @@ use std::alloc::Global;
 use std::marker::Model;
 
 /// A play script, seen as the list of its lines that are not skipped.
-#[derive(Debug, Drop)]
+#[derive(Drop)]
 pub struct PlayScript {
     lines: Vec<PlayLine>,
 }

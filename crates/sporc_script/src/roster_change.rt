@@ -3,7 +3,7 @@
 use crate::member_role::MemberRole;
 
 /// A change of the members. The key of a new one is the member's own.
-#[derive(Clone, Copy, Debug)]
+#[derive(Clone, Copy)]
 pub enum RosterChange {
     /// `add N ROLE`
     Add(MemberRole),

@@ -5,7 +5,7 @@ use crate::text_edit::Insertion;
 use sporc_base::Bytes;
 
 /// An entry that a rogue signs.
-#[derive(Debug, Drop)]
+#[derive(Drop)]
 pub struct Forgery {
     /// The rogue that signs.
     pub member: u16,
@@ -15,7 +15,7 @@ pub struct Forgery {
 }
 
 /// What is signed, and what is wrong about it.
-#[derive(Debug, Drop)]
+#[derive(Drop)]
 pub struct Signed {
     pub what: What,
     /// What is wrong about the entry, if that is stated.
@@ -23,7 +23,7 @@ pub struct Signed {
 }
 
 /// What is signed.
-#[derive(Debug, Drop)]
+#[derive(Drop)]
 pub enum What {
     /// `insert AT TEXT`
     Insert(Insertion),
@@ -34,7 +34,7 @@ pub enum What {
 }
 
 /// The last four stand behind a change of the members alone.
-#[derive(Clone, Copy, Debug)]
+#[derive(Clone, Copy)]
 pub enum Suffix {
     /// `with number K`
     Number(u32),

@@ -3,7 +3,7 @@
 use sporc_delta::Text;
 
 /// An edit of a text.
-#[derive(Debug, Drop)]
+#[derive(Drop)]
 pub enum TextEdit {
     /// `insert AT TEXT`
     Insert(Insertion),
@@ -12,14 +12,14 @@ pub enum TextEdit {
 }
 
 /// A text that is inserted at a place.
-#[derive(Debug, Drop)]
+#[derive(Drop)]
 pub struct Insertion {
     pub at: u64,
     pub text: Text,
 }
 
 /// A number of characters that are removed from a place on.
-#[derive(Clone, Copy, Debug)]
+#[derive(Clone, Copy)]
 pub struct Removal {
     pub at: u64,
     pub count: u64,
