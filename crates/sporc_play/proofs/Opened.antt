@@ -10,6 +10,8 @@ use Rattle.sporc_outside.specs.MemoryDisk.{MemoryDiskModel}
 use Rattle.sporc_epoch.specs.Keys.{Keys}
 use Rattle.sporc_client.specs.ClientModel.{ClientModel, state_of}
 use Rattle.sporc_client.specs.Run.{Move}
+use Rattle.sporc_member.specs.declared.founder.Founder.{Founder}
+use Rattle.sporc_member.specs.Role.{is_admin}
 use Rattle.sporc_script.specs.declared.command.Pair.{Pair}
 use Rattle.sporc_script.specs.declared.command.Tree.{Tree}
 use Rattle.sporc_script.specs.declared.play_line.PlayLine.{PlayLine}
@@ -21,7 +23,7 @@ use Rattle.sporc_play.specs.declared.state.PlayState.{PlayState}
 use Rattle.sporc_play.specs.Cast.{founders_of, genesis_by, has_admin, is_pair, private_of, public_of, setup_of, tree_of}
 use Rattle.sporc_play.specs.Derived.{pair_key}
 use Rattle.sporc_play.specs.Opening.{HasBlank, HaveDeclared, IsFresh, IsFreshRogue}
-use Rattle.sporc_play.specs.Scene.{opening, openings, scene_moved, scene_opened}
+use Rattle.sporc_play.specs.Scene.{Scene, opening, openings, scene_moved, scene_opened}
 use Rattle.sporc_play.specs.Stage.{AreDeclared, Holds, IsCastOf, IsRogueOf, IsSeatOf, StandsFor}
 
 -- ---- who takes part
@@ -90,6 +92,11 @@ stands_first script state declared known genesis none = record {
   declared = declared;
   made = ap (map (λ bytes. bytes.items)) none;
 }
+
+-- whether a founder is an admin, by the founders that a state keeps
+pub admin_among : (script : List PlayLine) (scene : Scene) (state : PlayState) → StandsFor script scene state → has_admin script ≡ list_any (λ f. is_admin f.role) state.cast.founders.items
+unfolding setup_of
+admin_among script scene state stands = sym (ap (λ (fs : List Founder). list_any (λ f. is_admin f.role) fs) stands.cast.founders)
 
 pub opened_all : (script : List PlayLine) (n : ℕ) (state : PlayState) → has_admin script ≡ true → length script ≤ n → StandsFor script (scene_opened script n) state → StandsFor script (opening script) state
 opened_all script n state founded all stands =

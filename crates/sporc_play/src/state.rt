@@ -41,6 +41,19 @@ impl PlayState {
         requires declared { AreDeclared lines.now }
         ensures value { IfOk result (λ state. StandsFor lines.now (opening lines.now) state) }
     {
+        let mut state = PlayState::declared(alloc, lines)?;
+        if !state.has_admin() {
+            return Ok(state);
+        }
+        state.open_founders(alloc, lines)?;
+        Ok(state)
+    }
+
+    // What the lines declare. No client is open yet.
+    fn declared(alloc: Global, lines: &[PlayLine]) -> Result<PlayState, Memory>
+        requires { AreDeclared lines.now }
+        ensures { IfOk result (λ state. StandsFor lines.now (scene_opened lines.now 0) state) }
+    {
         let mut cast = Cast::new(alloc, tree_of(lines));
         let mut seats = Vec::new(alloc);
         let mut rogues = Vec::new(alloc);
@@ -48,18 +61,13 @@ impl PlayState {
             declare(alloc, &mut cast, &mut seats, &mut rogues, line)?;
         }
         let genesis = cast.genesis(alloc)?;
-        let mut state = PlayState {
+        Ok(PlayState {
             cast,
             genesis,
             seats,
             rogues,
             made: Vec::new(alloc),
-        };
-        if !state.has_admin() {
-            return Ok(state);
-        }
-        state.open_founders(alloc, lines)?;
-        Ok(state)
+        })
     }
 
     // Whether a founder is an admin. Without one there is no document.

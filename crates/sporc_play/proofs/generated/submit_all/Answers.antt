@@ -1,6 +1,7 @@
-use Rattle.std.proofs.Common.{◌+◌, arith, refl}
+use Rattle.std.proofs.Common.{◌≡◌, ◌+◌, ℕ, map, arith, refl, subst}
 use Rattle.sporc_script.specs.declared.command.Command.TheVariants.{Submit}
-use Rattle.sporc_play.specs.Generated.{submits}
+use Rattle.sporc_play.specs.Batches.{Performs}
+use Rattle.sporc_play.specs.Generated.{submits, up_to}
 use Rattle.sporc_play.proofs.Batched.{can_submit, mapped_room, maps_more}
 use Rattle.sporc_play.proofs.generated.submit_all.Goals as goal
 
@@ -10,3 +11,9 @@ perform-requires c =
 
 pub loop-a-preserved : goal.loop-a-preserved
 loop-a-preserved c = maps_more c.args.state.now c.loop-a.state c.perform.new.state submits c.loop-a.a (Submit (c.loop-a.a + 1)) c.loop-a.invariant (λ scene stands. refl) c.in_ok-perform.ensures
+
+pub returns : goal.returns
+returns c =
+    let all : c.loop-a.a ≡ c.args.authors = omega arith in
+    let IsDone : ℕ → Type 0 = λ n. Performs c.args.state.now (map submits (up_to n)) c.loop-a.state in
+    subst IsDone all c.loop-a.invariant

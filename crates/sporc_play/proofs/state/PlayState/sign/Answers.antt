@@ -5,8 +5,24 @@ use Rattle.sporc_client.specs.ClientModel.{ClientModel}
 use Rattle.sporc_play.specs.declared.seat.Seat.{Seat}
 use Rattle.sporc_play.specs.Seats.{IsSeatAt}
 use Rattle.sporc_play.specs.Signing.{forged_by, signing_line}
+use Rattle.sporc_play.specs.Stage.{IsReadyRogue}
 use Rattle.sporc_play.proofs.Becoming.{entries_of, ok_any, ok_both, rogue_read, sign_becomes, sign_tells}
+use Rattle.sporc_play.proofs.Places.{at_place}
 use Rattle.sporc_play.proofs.state.PlayState.sign.Goals as goal
+
+pub sign-requires-clause-asked : goal.sign-requires-clause-asked
+sign-requires-clause-asked c =
+    let old = c.args.self.now in
+    let x = c.index_mut-rogue.result.now in
+    let at = rogue_read c.as_slice.result.now old.rogues.items c.rogue_at-i.result c.args.forgery.now.member x c.as_slice.ensures.value c.rogue_at-i.ensures.value c.index_mut-rogue.ensures.value in
+    (at_place IsReadyRogue old.rogues.items c.rogue_at-i.result x c.requires.can.rogues at.there).asked
+
+pub sign-requires-clause-leaves : goal.sign-requires-clause-leaves
+sign-requires-clause-leaves c =
+    let old = c.args.self.now in
+    let x = c.index_mut-rogue.result.now in
+    let at = rogue_read c.as_slice.result.now old.rogues.items c.rogue_at-i.result c.args.forgery.now.member x c.as_slice.ensures.value c.rogue_at-i.ensures.value c.index_mut-rogue.ensures.value in
+    (at_place IsReadyRogue old.rogues.items c.rogue_at-i.result x c.requires.can.rogues at.there).leaves
 
 pub returns-clause-state : goal.returns-clause-state
 returns-clause-state c =

@@ -1,7 +1,23 @@
 use Rattle.std.proofs.Common.{◌≡◌, ℕ, ◌+◌, arith, length, option_map, Vec, Global}
 use Rattle.std.proofs.lemmas.List.{length-map}
+use Rattle.sporc_play.specs.Stage.{IsReadySeat}
 use Rattle.sporc_play.proofs.Becoming.{entries_of, ok_any, ok_both, seat_read, submit_becomes, submit_tells}
+use Rattle.sporc_play.proofs.Places.{at_place}
 use Rattle.sporc_play.proofs.state.PlayState.submit.Goals as goal
+
+pub submit-requires-clause-asked : goal.submit-requires-clause-asked
+submit-requires-clause-asked c =
+    let old = c.args.self.now in
+    let x = c.index_mut.result.now in
+    let at = seat_read c.as_slice.result.now old.seats.items c.seat_at-i.result c.args.member x c.as_slice.ensures.value c.seat_at-i.ensures.value c.index_mut.ensures.value in
+    (at_place IsReadySeat old.seats.items c.seat_at-i.result x c.requires.can.seats at.there).asked
+
+pub submit-requires-clause-ready : goal.submit-requires-clause-ready
+submit-requires-clause-ready c =
+    let old = c.args.self.now in
+    let x = c.index_mut.result.now in
+    let at = seat_read c.as_slice.result.now old.seats.items c.seat_at-i.result c.args.member x c.as_slice.ensures.value c.seat_at-i.ensures.value c.index_mut.ensures.value in
+    (at_place IsReadySeat old.seats.items c.seat_at-i.result x c.requires.can.seats at.there).ready
 
 pub returns-clause-state : goal.returns-clause-state
 returns-clause-state c =

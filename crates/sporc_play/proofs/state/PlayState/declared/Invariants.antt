@@ -1,7 +1,7 @@
 use Rattle.std.proofs.Common.{take}
 use Rattle.sporc_play.specs.Cast.{tree_of}
 use Rattle.sporc_play.specs.Opening.{HaveDeclared}
-use Rattle.sporc_play.proofs.state.PlayState.new.Given as goal
+use Rattle.sporc_play.proofs.state.PlayState.declared.Given as goal
 
 abbrev pub invariant-loop-line : goal.invariant-loop-line
 invariant-loop-line l = HaveDeclared (tree_of l.lines) (take l.line-index l.lines) l.cast l.seats.items l.rogues.items
