@@ -1,5 +1,5 @@
 -- Worked examples: lines of a journal and of a report, as docs/FORMATS.md has them.
-use Rattle.std.proofs.Common.{◌≡◌, true, false, [], ◌∷◌, None, Some, Ok, Err, codes, refl}
+use Rattle.std.proofs.Common.{◌≡◌, true, [], ◌∷◌, None, Some, Ok, Err, codes, refl}
 use Rattle.std.specs.Fmt.{digits}
 use Rattle.hex.specs.Hex.{encode_with}
 use Rattle.sporc_delta.specs.Marks.{Delete, Insert, Retain}
