@@ -3,7 +3,7 @@ use Rattle.std.proofs.Common.{◌≡◌, ℕ, ◌+◌, ◌<◌, ◌≤◌, ◌�
 use Rattle.std.specs.Bool.{⊤}
 use Rattle.std.specs.Io.KnownBytes.{Consumes, IsAtEnd}
 use Rattle.sporc_outside.specs.Reading.{ConsumesExactly}
-use Rattle.sporc_outside.specs.OutsideUse.{IsUnwritten, SinkUse, SourceUse}
+use Rattle.sporc_outside.specs.Uses.{IsUnwritten, SinkUse, SourceUse}
 use Rattle.sporc_script.specs.declared.command.Command.{Command as PlayCommand}
 use Rattle.sporc_script.specs.declared.play_line.PlayLine.{PlayLine}
 use Rattle.sporc_script.specs.Grammar.{IsNext, IsPlayFault, IsPlayScript, play_line}
@@ -25,7 +25,7 @@ use Rattle.sporc_sessions.specs.Nets.{LinkView}
 use Rattle.sporc_clients.specs.Outcome.{DiskView}
 use Rattle.sporc_top.specs.Outcome.{Ends, RunOutcome, UnlessCutOff, command, done, from, no_command, stopped, unread, until}
 use Rattle.sporc_top.specs.Performing.{GeneratedOutcome, Performs, PlaysEdits, PlaysSource, as_program, names_of, no_files}
-use Rattle.sporc_top.specs.OutsideUse.{OutsideUse}
+use Rattle.sporc_top.specs.Uses.{OutsideUse}
 
 -- ---- what was read
 

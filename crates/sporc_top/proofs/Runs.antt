@@ -11,7 +11,7 @@ use Rattle.sporc_sessions.specs.Nets.{LinkView}
 use Rattle.sporc_clients.specs.Outcome.{DiskView}
 use Rattle.sporc_top.specs.Outcome.{RunOutcome, command, from, no_command, stopped, unread, until}
 use Rattle.sporc_top.specs.Performing.{Performs, names_of, no_files}
-use Rattle.sporc_top.specs.OutsideUse.{IsUnused, OutsideUse}
+use Rattle.sporc_top.specs.Uses.{IsUnused, OutsideUse}
 
 module _ {L D : Type 0} (links : LinkView L) (disks : DiskView D) (words : List (List ℕ)) (outside : OutsideUse L) where
   -- the words were not read

@@ -9,7 +9,7 @@ use Rattle.sporc_files.specs.declared.fault.Fault.{Fault}
 use Rattle.sporc_sessions.specs.Nets.{LinkView}
 use Rattle.sporc_clients.specs.Outcome.{DiskView}
 use Rattle.sporc_top.specs.Performing.{Performs, ServesDocument, WorksAsMember}
-use Rattle.sporc_top.specs.OutsideUse.{OutsideUse, client_use}
+use Rattle.sporc_top.specs.Uses.{OutsideUse, client_use}
 
 module _ {L D : Type 0} (links : LinkView L) (disks : DiskView D) (outside : OutsideUse L) where
   pub by_serve : (asked : Command) (words : Serve) (answer : Result ⊤ Fault) → asked ≡ commands.Serve words

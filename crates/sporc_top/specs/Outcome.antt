@@ -1,6 +1,6 @@
 -- What a run of the program did.
 use Rattle.std.specs.Prelude.{◌≡◌, ◌≤◌, ◌⊎◌, ℕ, List, Option, None, Some, Result, Ok, Err, ⊤}
-use Rattle.sporc_outside.specs.OutsideUse.{SinkUse}
+use Rattle.sporc_outside.specs.Uses.{SinkUse}
 use Rattle.sporc_words.specs.declared.command.Command.{Command}
 use Rattle.sporc_words.specs.Commands.{command_of}
 use Rattle.sporc_files.specs.declared.fault.Fault.{Fault}
@@ -10,7 +10,7 @@ use Rattle.sporc_files.specs.Names.{FileNames}
 use Rattle.sporc_sessions.specs.Nets.{LinkView}
 use Rattle.sporc_clients.specs.Outcome.{DiskView}
 use Rattle.sporc_top.specs.Performing.{Performs, names_of, no_files}
-use Rattle.sporc_top.specs.OutsideUse.{IsUnused, OutsideUse}
+use Rattle.sporc_top.specs.Uses.{IsUnused, OutsideUse}
 
 -- the sink from its beginning up to a moment between, at which it held this and had counted so many faults, and from then on
 abbrev pub until : Option (List ℕ) → ℕ → SinkUse → SinkUse

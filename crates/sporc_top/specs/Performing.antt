@@ -1,7 +1,7 @@
 -- What each command does.
 use Rattle.std.specs.Prelude.{◌≡◌, ◌≤◌, ℕ, List, [], ◌∷◌, length, map, Result, Ok, Err, ⊤}
 use Rattle.sporc_outside.specs.Told.{MayAppend}
-use Rattle.sporc_outside.specs.OutsideUse.{IsUnwritten, SinkUse, SourceUse}
+use Rattle.sporc_outside.specs.Uses.{IsUnwritten, SinkUse, SourceUse}
 use Rattle.sporc_words.specs.declared.client.Client.{Client}
 use Rattle.sporc_words.specs.declared.command.Command.{Command}
 use Rattle.sporc_words.specs.declared.command.Command.TheVariants as commands
@@ -17,13 +17,13 @@ use Rattle.sporc_files.specs.declared.file.File.{File}
 use Rattle.sporc_files.specs.declared.file.File.TheVariants as files
 use Rattle.sporc_files.specs.Faults.{fault_of_play}
 use Rattle.sporc_files.specs.Names.{FileNames, file_name, names_of_document}
-use Rattle.sporc_files.specs.OutsideUse.{AsksOnly, ChanceUse, FolderUse}
+use Rattle.sporc_files.specs.Uses.{AsksOnly, ChanceUse, FolderUse}
 use Rattle.sporc_founding.specs.Founding.{FoundOutcome, found_files}
 use Rattle.sporc_founding.specs.KeyMaking.{KeygenOutcome}
 use Rattle.sporc_histories.specs.Outcomes.{CheckOutcome, CompareOutcome, ServeOutcome}
 use Rattle.sporc_sessions.specs.Nets.{AsksAtMost, LinkView}
 use Rattle.sporc_clients.specs.Outcome.{ClientOutcome, ClientUse, DiskView, NetUse, client_files, names_of as names_of_client}
-use Rattle.sporc_top.specs.OutsideUse.{OutsideUse, client_use}
+use Rattle.sporc_top.specs.Uses.{OutsideUse, client_use}
 
 -- ---- names
 

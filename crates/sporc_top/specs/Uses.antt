@@ -1,7 +1,7 @@
 -- All that a run found and left.
 use Rattle.std.specs.Prelude.{◌≡◌}
-use Rattle.sporc_outside.specs.OutsideUse.{SinkUse, SourceUse}
-use Rattle.sporc_files.specs.OutsideUse.{ChanceUse, FolderUse}
+use Rattle.sporc_outside.specs.Uses.{SinkUse, SourceUse}
+use Rattle.sporc_files.specs.Uses.{ChanceUse, FolderUse}
 use Rattle.sporc_clients.specs.Outcome.{ClientUse, NetUse}
 
 -- what the objects outside told before and after

@@ -14,7 +14,7 @@ ghost use Rattle.sporc_sessions.specs.Nets.{link_view};
 ghost use Rattle.sporc_clients.specs.Outcome.{disk_view};
 ghost use Rattle.sporc_top.specs.Outcome.{RunOutcome, UnlessCutOff};
 ghost use Rattle.sporc_top.specs.Performing.{no_files};
-ghost use Rattle.sporc_top.specs.OutsideUse.{OutsideUse};
+ghost use Rattle.sporc_top.specs.Uses.{OutsideUse};
 
 use sporc_outside::{LeafDisk, Link};
 
