@@ -78,8 +78,8 @@ pub fn calls(alloc: Global, call: u64) -> Result<Calls, AllocError>
 /// A folder, 400 words for a chance, of which a session takes two in each of its rounds, and which call of `out` fails.
 #[derive(Drop)]
 pub struct Place {
-    pub files: MemoryFolder,
-    pub chance: ListedChance,
+    pub files: Box<MemoryFolder>,
+    pub chance: Box<ListedChance>,
     pub out: u64,
 }
 
@@ -151,8 +151,8 @@ impl Place {
         let mut files = MemoryFolder::new(alloc, files, calls(alloc, failing.files)?);
         files.fail_disk_calls([failing.disk].to_vec(alloc)?);
         Ok(Place {
-            files,
-            chance: ListedChance::new(words, calls(alloc, failing.chance)?),
+            files: Box::new(alloc, files)?,
+            chance: Box::new(alloc, ListedChance::new(words, calls(alloc, failing.chance)?))?,
             out: failing.out,
         })
     }
@@ -177,9 +177,9 @@ impl Place {
             &words,
             &mut source,
             &mut out,
-            &mut self.files,
+            &mut *self.files,
             net,
-            &mut self.chance,
+            &mut *self.chance,
             &OpenGate,
         );
         Ok((status, out.as_slice().to_vec(alloc)?))
