@@ -152,7 +152,10 @@ impl Place {
         files.fail_disk_calls([failing.disk].to_vec(alloc)?);
         Ok(Place {
             files: Box::new(alloc, files)?,
-            chance: Box::new(alloc, ListedChance::new(words, calls(alloc, failing.chance)?))?,
+            chance: Box::new(
+                alloc,
+                ListedChance::new(words, calls(alloc, failing.chance)?),
+            )?,
             out: failing.out,
         })
     }
