@@ -4,7 +4,7 @@ ghost use Rattle.std.specs.Prelude.{◌≡◌, ◌≢◌, ◌-◌, ◌≤◌, �
 
 /// A type of one-time signatures, named by the bits of a coefficient: LMOTS_SHA256_N32_W1 and its
 /// kin, of RFC 8554, table 1.
-#[derive(Clone, Copy, Debug, PartialEq, Eq)]
+#[derive(Clone, Copy, PartialEq, Eq)]
 pub enum OtsType {
     W1,
     W2,

@@ -6,7 +6,6 @@ use std::marker::Model;
 
 /// A leaf that was drawn and has not signed. It is spent by the signature that succeeds, or given
 /// up.
-#[derive(Debug)]
 pub struct Ticket {
     leaf: u32,
 }
@@ -47,7 +46,7 @@ impl Ticket {
 }
 
 /// A ticket that is kept for later, in a value that may be let go: then the ticket is given up.
-#[derive(Debug, Drop)]
+#[derive(Drop)]
 pub struct KeptTicket {
     leaf: u32,
 }

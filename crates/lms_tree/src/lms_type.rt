@@ -3,7 +3,7 @@
 ghost use Rattle.std.specs.Prelude.{◌≡◌, ◌≢◌, ◌≤◌, ◌↔◌, IsNone};
 
 /// A type of trees, named by its height: LMS_SHA256_M32_H5 and its kin, of RFC 8554, table 2.
-#[derive(Clone, Copy, Debug, PartialEq, Eq)]
+#[derive(Clone, Copy, PartialEq, Eq)]
 pub enum LmsType {
     H5,
     H10,

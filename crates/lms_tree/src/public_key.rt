@@ -10,7 +10,7 @@ use sporc_base::put_at;
 
 /// A public key: the types of the tree and of its one-time keys, the tree's identifier `I` and the
 /// value `T[1]` of its root.
-#[derive(Clone, Copy, Debug, PartialEq, Eq)]
+#[derive(Clone, Copy, PartialEq, Eq)]
 pub struct LmsPublic {
     pub lms: LmsType,
     pub ots: OtsType,

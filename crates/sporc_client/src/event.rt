@@ -3,7 +3,7 @@ use sporc_delta::Delta;
 use sporc_member::{Change, ChangeFault};
 
 /// An event of a client's journal; `by` is the number of who made it.
-#[derive(Debug, Drop)]
+#[derive(Drop)]
 pub enum Event {
     /// An edit of the text that was shown after `seen` events.
     Edit { by: u32, seen: u64, delta: Delta },

@@ -2,7 +2,7 @@ use sporc_delta::Delta;
 use sporc_member::Change;
 
 /// An edit or a change of a client's own that is not committed yet.
-#[derive(Debug, Drop)]
+#[derive(Drop)]
 pub enum Pending {
     Edit(Delta),
     Change(Change),

@@ -2,7 +2,7 @@ use sporc_base::Bytes;
 use sporc_member::ChangeFault;
 
 /// What a submission comes to.
-#[derive(Debug, Drop)]
+#[derive(Drop)]
 pub enum Submitted {
     /// An entry is on its way.
     Waiting,

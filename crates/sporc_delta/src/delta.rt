@@ -22,7 +22,7 @@ use std::alloc::Global;
 use std::marker::Model;
 
 /// A delta, seen as the list of its marks.
-#[derive(Debug, Drop)]
+#[derive(Drop)]
 pub struct Delta {
     parts: Vec<Part>,
     base: u64,

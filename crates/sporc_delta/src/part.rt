@@ -9,7 +9,7 @@ use sporc_base::Memory;
 use std::alloc::Global;
 
 /// A part of a delta. Lengths are in characters.
-#[derive(Debug, Drop)]
+#[derive(Drop)]
 pub enum Part {
     /// Keeps so many characters of the text before.
     Keep(u64),
@@ -20,7 +20,7 @@ pub enum Part {
 }
 
 /// A part of a delta whose text stands elsewhere.
-#[derive(Debug, Drop)]
+#[derive(Drop)]
 pub enum Piece<'a> {
     /// Keeps so many characters of the text before.
     Keep(u64),
@@ -31,7 +31,7 @@ pub enum Piece<'a> {
 }
 
 /// The kinds of parts.
-#[derive(Clone, Copy, Debug, PartialEq, Eq)]
+#[derive(Clone, Copy, PartialEq, Eq)]
 pub enum Kind {
     Keep,
     Insert,

@@ -9,7 +9,7 @@ use std::alloc::Global;
 use std::marker::Model;
 
 /// A text that counts its characters, seen as the list of them.
-#[derive(Debug, Drop)]
+#[derive(Drop)]
 pub struct Text {
     string: String,
     len: u64,
@@ -101,7 +101,7 @@ impl Text {
 }
 
 /// A part of a text that stands elsewhere, seen as the list of its characters.
-#[derive(Debug, Drop)]
+#[derive(Drop)]
 pub struct TextSlice<'a> {
     text: &'a str,
     len: u64,

@@ -21,7 +21,7 @@ use sporc_member::{Change, MAX_MEMBERS, Role};
 use std::alloc::Global;
 
 /// The body of a change, which begins an epoch.
-#[derive(Debug, Drop)]
+#[derive(Drop)]
 pub struct ChangeBody {
     /// What it does to the members.
     pub change: Change,

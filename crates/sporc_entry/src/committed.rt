@@ -12,7 +12,7 @@ use sporc_base::Memory;
 use std::alloc::{AllocError, Global};
 
 /// A change of a history, with the header that it stands under.
-#[derive(Debug, Drop)]
+#[derive(Drop)]
 pub struct CommittedChange {
     pub header: Header,
     pub body: ChangeBody,

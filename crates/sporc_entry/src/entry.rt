@@ -16,7 +16,7 @@ use std::alloc::Global;
 
 /// An entry of a history: an edit of the text, whose body is a masked delta, or a change of the members, whose body
 /// [`crate::read_change`] reads.
-#[derive(Debug, Drop)]
+#[derive(Drop)]
 pub struct Entry {
     pub header: Header,
     pub body: Bytes,

@@ -22,7 +22,7 @@ use std::alloc::Global;
 pub type Founders = Items<Founder>;
 
 /// What a document begins with.
-#[derive(Debug, Drop)]
+#[derive(Drop)]
 pub struct Genesis {
     pub document: [u8; 16],
     /// The commitment to the key of epoch 0.

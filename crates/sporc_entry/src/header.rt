@@ -9,7 +9,7 @@ use sporc_bytes::{Cursor, Out, Short};
 use sporc_hash::Digest32;
 
 /// What stands before an entry's body.
-#[derive(Clone, Copy, Debug, PartialEq, Eq)]
+#[derive(Clone, Copy, PartialEq, Eq)]
 pub struct Header {
     /// The document that the entry is of.
     pub document: [u8; 16],

@@ -24,7 +24,7 @@ use std::marker::Model;
 const EDIT: u8 = 1;
 
 // What reading found of an entry.
-#[derive(Debug, Drop)]
+#[derive(Drop)]
 struct Parts<'a> {
     header: Header,
     body: &'a [u8],
@@ -36,7 +36,7 @@ struct Parts<'a> {
 /// bytes, and the body of a change is read once.
 ///
 /// Contracts see the entry and its bytes.
-#[derive(Debug, Drop)]
+#[derive(Drop)]
 pub struct EntryView<'a> {
     parts: Parts<'a>,
     bytes: &'a [u8],

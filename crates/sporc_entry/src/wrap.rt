@@ -3,7 +3,7 @@
 use sporc_base::Items;
 
 /// The key of the next epoch, sealed for a member.
-#[derive(Clone, Copy, Debug, PartialEq, Eq)]
+#[derive(Clone, Copy, PartialEq, Eq)]
 pub struct Wrap {
     pub member: u16,
     pub sealed: [u8; 32],

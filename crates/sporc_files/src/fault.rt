@@ -31,7 +31,7 @@ use sporc_outside::{Failed, Sink, write_all};
 /// | 8 | `FullHistory` to `Worn` | a limit is reached |
 /// | 9 | `Message` | a server sent what is no message |
 /// | 10 | `Edit` | an editor's line was refused |
-#[derive(Clone, Copy, Debug, PartialEq, Eq)]
+#[derive(Clone, Copy, PartialEq, Eq)]
 pub enum Fault {
     /// Memory ran out.
     Memory,

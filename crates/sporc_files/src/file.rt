@@ -11,7 +11,7 @@ use std::alloc::Global;
 use std::fmt::Write;
 
 /// A file of a command.
-#[derive(Clone, Copy, Debug, PartialEq, Eq)]
+#[derive(Clone, Copy, PartialEq, Eq)]
 pub enum File {
     /// `NAME.genesis`: what the document begins with.
     Genesis,

@@ -8,7 +8,7 @@ use sporc_words::Word;
 use std::marker::Model;
 
 /// What a command's files are named by: the name of its document, and the words that name its editor scripts.
-#[derive(Debug, Drop)]
+#[derive(Drop)]
 pub struct Names<'a> {
     document: &'a str,
     scripts: &'a [Word],

@@ -8,7 +8,7 @@ ghost use Rattle.sporc_hash.specs.Verdict.{SameTip, TipIsIn, DivergesAfter, IfFo
 use crate::chain::Digest32;
 
 /// How one history stands to another.
-#[derive(Clone, Copy, Debug, PartialEq, Eq)]
+#[derive(Clone, Copy, PartialEq, Eq)]
 pub enum Verdict {
     /// They are one history.
     Same,

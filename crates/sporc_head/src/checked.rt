@@ -17,7 +17,7 @@ use std::marker::Model;
 /// body is a slice of them.
 ///
 /// Contracts see the entry, its bytes and that value.
-#[derive(Debug, Drop)]
+#[derive(Drop)]
 pub struct Checked {
     header: Header,
     body_len: usize,

@@ -10,7 +10,7 @@ use sporc_member::Change;
 use std::alloc::Global;
 
 /// How many entries each author has, where its last one stands, and which members a change removed.
-#[derive(Debug, Drop)]
+#[derive(Drop)]
 pub(crate) struct Tables {
     pub(crate) counts: Vec<u32>,
     pub(crate) lasts: Vec<u32>,

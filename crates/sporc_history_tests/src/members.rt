@@ -72,7 +72,7 @@ fn make(rt: &impl Abort, roster: &mut Roster, change: Change, numbers: &[u16]) -
     roster.reserve()?;
     assert!(rt; roster.members_after(&change)?.as_slice() == numbers);
     let accepted = roster.test(&change);
-    assert!(rt; accepted.is_ok(), "{change:?}");
+    assert!(rt; accepted.is_ok());
     if accepted.is_ok() {
         roster.make(&change)?;
     }

@@ -7,7 +7,7 @@ use lms_tree::LmsPublic;
 use sporc_member::{Founder, Role};
 
 /// One whom the founding of a document names.
-#[derive(Clone, Copy, Debug)]
+#[derive(Clone, Copy)]
 pub enum Named {
     /// A member from the beginning, with its role and its public key.
     Founder {

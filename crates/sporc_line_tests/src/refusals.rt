@@ -243,7 +243,7 @@ fn tries_change(
     let found = tried(alloc, cast, line, draft, 2, body.as_slice())?;
     assert!(rt;
         found == Some(refusal),
-        "{change:?} {epoch} {wraps:?}: {found:?}"
+        "{epoch} {wraps:?}: {found:?}"
     );
     Ok(())
 }

@@ -6,7 +6,7 @@ use crate::role::Role;
 use thiserror::Error;
 
 /// A change of the members.
-#[derive(Clone, Copy, Debug, PartialEq, Eq)]
+#[derive(Clone, Copy, PartialEq, Eq)]
 pub enum Change {
     /// A new member, with its role and the 56 bytes of its public key.
     Add {

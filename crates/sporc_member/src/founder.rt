@@ -3,7 +3,7 @@
 use crate::role::Role;
 
 /// A member: its number, its role and the 56 bytes of its public key (RFC 8554, section 5.3).
-#[derive(Clone, Copy, Debug, PartialEq, Eq)]
+#[derive(Clone, Copy, PartialEq, Eq)]
 pub struct Founder {
     pub member: u16,
     pub role: Role,

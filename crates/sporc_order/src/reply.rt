@@ -7,7 +7,7 @@ use sporc_base::Bytes;
 use sporc_wire::ToClient;
 
 /// What a session answers to a message, where entries stand in the frame that carries them.
-#[derive(Debug, Drop)]
+#[derive(Drop)]
 pub enum Reply {
     /// This message is sent.
     Message(ToClient),

@@ -16,7 +16,7 @@ use std::alloc::{AllocError, Global};
 use std::marker::Model;
 
 /// What a session answers to a message.
-#[derive(Debug, Drop)]
+#[derive(Drop)]
 pub enum Answer {
     /// This message is sent.
     Send(ToClient),
@@ -29,7 +29,7 @@ pub enum Answer {
 /// A session of one client with an order.
 ///
 /// Contracts see whether the client was greeted.
-#[derive(Debug, Drop)]
+#[derive(Drop)]
 pub struct Session {
     is_greeted: bool,
 }

@@ -4,7 +4,7 @@ use sporc_base::Bytes;
 use sporc_entry::Genesis;
 
 /// An item of the log that the sessions share.
-#[derive(Debug, Drop)]
+#[derive(Drop)]
 pub enum Item {
     /// The document that is served.
     Opened { genesis: Genesis },

@@ -1,5 +1,5 @@
 /// A moment of a journal: how many events it had.
-#[derive(Clone, Copy, Debug, PartialEq, Eq)]
+#[derive(Clone, Copy, PartialEq, Eq)]
 pub struct Front {
     pub events: u64,
 }

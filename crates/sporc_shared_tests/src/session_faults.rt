@@ -13,7 +13,7 @@ use std::test::Fail;
 use std::thread::Threads;
 
 // An object of a session.
-#[derive(Clone, Copy, Debug)]
+#[derive(Clone, Copy)]
 enum Object {
     Disk,
     Link,

@@ -22,7 +22,7 @@ use std::thread::Threads;
 pub(crate) type Answer = Result<(), SessionFault>;
 
 /// An event of a journal, and the number of its maker.
-#[derive(Clone, Copy, Debug, PartialEq, Eq)]
+#[derive(Clone, Copy, PartialEq, Eq)]
 pub(crate) enum Deed {
     /// So many characters were added.
     Edit(u32, u64),

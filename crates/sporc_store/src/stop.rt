@@ -3,7 +3,7 @@
 use sporc_head::Refusal;
 
 /// Where the reading of a saved history stops.
-#[derive(Clone, Copy, Debug, PartialEq, Eq)]
+#[derive(Clone, Copy, PartialEq, Eq)]
 pub enum Stop {
     /// At the end: every entry of the file is taken.
     End,

@@ -13,7 +13,7 @@ use std::alloc::Global;
 use std::marker::Model;
 
 /// The text of a document, seen as the list of its characters (Unicode scalar values).
-#[derive(Debug, Drop)]
+#[derive(Drop)]
 pub struct Doc {
     characters: Vec<char>,
 }

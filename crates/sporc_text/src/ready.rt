@@ -13,7 +13,7 @@ use std::marker::Model;
 
 /// All that the next [`Doc::put`](crate::Doc::put) needs: how many characters of the text stay, and those that then stand
 /// behind them.
-#[derive(Debug, Drop)]
+#[derive(Drop)]
 pub struct ReadyText {
     kept: usize,
     // It has room for the characters that stay, too.

@@ -6,7 +6,7 @@ use crate::numbers::Numbers;
 use atomic_table::Badge;
 
 /// How many passes were split from number 0 and not joined back.
-#[derive(Debug, Drop)]
+#[derive(Drop)]
 pub struct Away {
     pub out: u32,
 }

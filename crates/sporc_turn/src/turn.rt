@@ -28,7 +28,7 @@ const SERVING: usize = 1;
 const COUNT: usize = 2;
 
 /// The next ticket, which was read and not drawn: all tickets below it were drawn.
-#[derive(Debug, Drop)]
+#[derive(Drop)]
 pub struct Worn(pub u64);
 
 /// The lock. Each of its passes and held values is of this lock alone (`IsPassOf`, `IsHeldOf`).

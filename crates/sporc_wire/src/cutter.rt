@@ -17,7 +17,7 @@ use tokio_util::codec::{Decoder, LengthDelimitedCodec};
 pub const MAX_BODY: u32 = 4_194_304;
 
 // Why no body is cut out.
-#[derive(Debug, Drop)]
+#[derive(Drop)]
 pub(crate) enum CutFault {
     Memory,
     // A length above the limit.

@@ -35,7 +35,7 @@ const MAX_CODE: u8 = 21;
 pub const MAX_PULLED: u8 = 16;
 
 /// A message to a client. Submit is answered by Ordered or Rejected, and Pull by Entries or Empty.
-#[derive(Debug, Drop)]
+#[derive(Drop)]
 pub enum ToClient {
     /// The entry has this position.
     Ordered { pos: u32 },

@@ -21,7 +21,7 @@ const SUBMIT: u8 = 2;
 const PULL: u8 = 3;
 
 /// A message to the server.
-#[derive(Debug, Drop)]
+#[derive(Drop)]
 pub enum ToServer {
     /// The first message: whose document it is, and which member speaks. It has no answer.
     Hello { document: [u8; 16], member: u16 },

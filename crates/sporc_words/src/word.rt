@@ -7,7 +7,7 @@ use std::alloc::Global;
 use std::marker::Model;
 
 /// A word of a command line, seen as its bytes, which are UTF-8.
-#[derive(Debug, Drop)]
+#[derive(Drop)]
 pub struct Word {
     text: String,
 }

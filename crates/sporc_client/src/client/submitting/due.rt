@@ -24,7 +24,7 @@ use sporc_line::Line;
 use sporc_member::{Change, ChangeFault};
 
 /// What is due at a submission.
-#[derive(Debug, Drop)]
+#[derive(Drop)]
 pub(crate) enum Due {
     /// An entry is on its way already.
     Waiting,
