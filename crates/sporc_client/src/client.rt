@@ -198,7 +198,12 @@ impl<D: LeafDisk> Client<D> {
         ensures taken { AreTaken (D.images result.leaves.disk (D.moment result.leaves.disk)) result.leaves.next_at_open result.leaves.next }
     {
         let _taken = self.signer.next_leaf();
-        self.signer
+        let Client {
+            line, signer, own, ..
+        } = self;
+        drop(line);
+        drop(own);
+        signer
     }
 
     /// Edits the text that was shown after `seen` events. The length of the journal.
@@ -251,9 +256,14 @@ fn opened(
     ensures journal { IfOk result (λ both. both.1.journal ≡ []) }
 {
     let line = Line::open(alloc, genesis, me, ring, pairs)?;
-    let own = Workspace::new(alloc)?;
     let _good = line.len();
-    Ok((line, own))
+    match Workspace::new(alloc) {
+        Ok(own) => Ok((line, own)),
+        Err(memory) => {
+            drop(line);
+            Err(memory.into())
+        }
+    }
 }
 
 // Whether the member has the right to entries of this kind, 1 for edits and 2 for changes.

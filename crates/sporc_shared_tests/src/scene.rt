@@ -48,7 +48,10 @@ fn leaves<D: LeafDisk + Drop>(alloc: Global, disk: D) -> Result<Leaves<D>, Fail>
 {
     match Leaves::open(alloc, disk, 5) {
         Ok(leaves) => Ok(leaves),
-        Err((fault, _)) => Err(fault.into()),
+        Err((fault, disk)) => {
+            drop(disk);
+            Err(fault.into())
+        }
     }
 }
 
@@ -75,20 +78,23 @@ fn ring(alloc: Global) -> Result<Ring, Fail> {
     Ok(ring)
 }
 
-/// The client of a member, with an empty history.
+/// The client of a member, with an empty history. It is in a box: a function that owns a client itself is slow to prove.
 pub(crate) fn opened(
     alloc: Global,
     cast: &Cast,
     member: u8,
     file: LeafFile<'_>,
-) -> Result<Client<MemoryDisk>, Fail> {
+) -> Result<Box<Client<MemoryDisk>>, Fail> {
     let ring = ring(alloc)?;
     let genesis = cast.genesis(alloc)?;
     let signer = signer(alloc, member, file)?;
     let pairs = Pairs::new(alloc);
     match Client::open(alloc, genesis, u16::from(member), ring, pairs, signer) {
-        Ok(client) => Ok(client),
-        Err((fault, _)) => Err(fault.into()),
+        Ok(client) => Ok(Box::new(alloc, client)?),
+        Err((fault, signer)) => {
+            drop(signer);
+            Err(fault.into())
+        }
     }
 }
 

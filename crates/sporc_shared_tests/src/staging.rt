@@ -132,8 +132,15 @@ pub(crate) fn closed<D: LeafDisk + Drop>(
     requires first { (known_of first).number ≡ 0 }
 {
     match shared.close(first) {
-        Ok(client) => left_by(alloc, &client, answer),
-        Err(_) => Err("a pass is away".into()),
+        Ok(client) => {
+            let outcome = left_by(alloc, &client, answer);
+            drop(client);
+            outcome
+        }
+        Err(away) => {
+            drop(away);
+            Err("a pass is away".into())
+        }
     }
 }
 
@@ -147,7 +154,7 @@ fn run<
 >(
     rt: &R,
     alloc: Global,
-    client: Client<D>,
+    client: Box<Client<D>>,
     link: &mut L,
     chance: &mut C,
     editors: &[EditorScript],
@@ -157,14 +164,17 @@ fn run<
     requires { length editors.now ≤ MAX_EDITORS }
 {
     let Plan { rounds, until } = plan;
-    match SharedClient::open(alloc, client) {
+    match SharedClient::open(alloc, Box::into_inner(client)) {
         Ok((shared, first)) => {
             let (answer, first) = session(
                 rt, alloc, &shared, first, link, chance, editors, rounds, until, gate,
             );
             closed(alloc, shared, first, answer)
         }
-        Err((_, memory)) => Err(memory.into()),
+        Err((client, memory)) => {
+            drop(client);
+            Err(memory.into())
+        }
     }
 }
 

@@ -166,12 +166,15 @@ fn passed_by_two<R: Abort + Wait, D: LeafDisk + Drop>(
 fn shared_by_two<R: Abort + Wait, D: LeafDisk + Drop>(
     rt: &R,
     alloc: Global,
-    client: Client<D>,
+    client: Box<Client<D>>,
     sample: &History,
 ) -> Result<String, Fail> {
-    match SharedClient::open(alloc, client) {
+    match SharedClient::open(alloc, Box::into_inner(client)) {
         Ok((shared, first)) => passed_by_two(rt, alloc, shared, first, sample),
-        Err((_, memory)) => Err(memory.into()),
+        Err((client, memory)) => {
+            drop(client);
+            Err(memory.into())
+        }
     }
 }
 

@@ -21,6 +21,7 @@ use sporc_head::Refusal;
 use sporc_line::Line;
 use sporc_outside::LeafDisk;
 use std::alloc::{AllocError, Global};
+use std::mem::replace;
 
 impl<D: LeafDisk> Client<D> {
     /// The client of a history that was accepted before: its journal has an accept by 0 for each entry, and nothing is
@@ -62,10 +63,17 @@ impl<D: LeafDisk> Client<D> {
             return Err(RestartFault::Ahead(len));
         }
         let line = first_entries(&self.line, k)?;
-        let own = accepted_before(self.alloc, &line)?;
-        self.line = line;
-        self.own = own;
-        Ok(())
+        match accepted_before(self.alloc, &line) {
+            Ok(own) => {
+                drop(replace(&mut self.line, line));
+                drop(replace(&mut self.own, own));
+                Ok(())
+            }
+            Err(memory) => {
+                drop(line);
+                Err(memory.into())
+            }
+        }
     }
 }
 
