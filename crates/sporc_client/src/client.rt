@@ -199,7 +199,10 @@ impl<D: LeafDisk> Client<D> {
     {
         let _taken = self.signer.next_leaf();
         let Client {
-            line, signer, own, ..
+            line,
+            signer,
+            own,
+            ..
         } = self;
         drop(line);
         drop(own);

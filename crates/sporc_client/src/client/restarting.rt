@@ -108,7 +108,13 @@ fn first_entries(line: &Line, k: u32) -> Result<Line, Memory>
     let mut first = line.reopen()?;
     let entries = line.entries();
     for i in 0..k {
-        take_next(&mut first, entries[i as usize].as_slice())?;
+        match take_next(&mut first, entries[i as usize].as_slice()) {
+            Ok(()) => {}
+            Err(memory) => {
+                drop(first);
+                return Err(memory);
+            }
+        }
     }
     Ok(first)
 }

@@ -6,7 +6,7 @@ use Rattle.sporc_client.proofs.client.restarting.first_entries.Goals as goal
 pub loop-i-preserved : goal.loop-i-preserved
 loop-i-preserved c =
     let loop = c.loop-i in
-    let did = c.in_ok-take_next.ensures in
+    let did = c.in-Ok.ensures in
     let vs = c.entries-entries.result.now in
     let within : loop.i < length vs =
     omega (arith, c.loop-i-test.true, c.requires, ap length c.entries-entries.ensures.value, length-map vs (λ v. v.items)) in
