@@ -16,8 +16,7 @@ fn does<R: Threads + Wait + Sync + Abort>(
     words: &str,
     end: &[u8],
 ) -> Result<(), Fail> {
-    let mut net = PipeNet::new(rt, alloc)?;
-    let (status, written) = place.run(rt, alloc, &mut net, words)?;
+    let (status, written) = place.run_alone(rt, alloc, words)?;
     assert!(rt; written.as_slice().ends_with(end), "{words}");
     assert!(rt; status == 0, "{words}");
     Ok(())
@@ -31,8 +30,7 @@ fn fails<R: Threads + Wait + Sync + Abort>(
     words: &str,
     line: &[u8],
 ) -> Result<(), Fail> {
-    let mut net = PipeNet::new(rt, alloc)?;
-    let (status, written) = place.run(rt, alloc, &mut net, words)?;
+    let (status, written) = place.run_alone(rt, alloc, words)?;
     assert!(rt; written.as_slice() == line, "{words}");
     assert!(rt; status == 3, "{words}");
     Ok(())
@@ -111,6 +109,8 @@ fn work_together<R: Threads + Wait + Sync + Abort>(
         || server.run(rt, alloc, &mut net, "serve D a --sessions 2"),
         || sessions(rt, alloc, members, &mut near),
     );
+    drop(near);
+    drop(net);
     let (status, log) = served?;
     assert!(rt; log.as_slice() == b"log 1\n".as_slice());
     assert!(rt; status == 0);

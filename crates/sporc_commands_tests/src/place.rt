@@ -4,7 +4,7 @@ ghost use Rattle.std.specs.Prelude.{◌≡◌, IfOk};
 
 use sporc_outside::{
     Calls, Dial, DiskBytes, ListedChance, Listen, MemoryFolder, MemorySink, MemorySource,
-    NamedFile, OpenGate,
+    NamedFile, OpenGate, PipeNet,
 };
 use sporc_top::run;
 use std::alloc::{AllocError, Global};
@@ -148,14 +148,13 @@ impl Place {
         let mut words = Vec::new(alloc);
         push_words(&mut words)?;
         push_words(&mut words)?;
-        let mut files = MemoryFolder::new(alloc, files, calls(alloc, failing.files)?);
+        let folder = MemoryFolder::new(alloc, files, calls(alloc, failing.files)?);
+        let mut files = Box::new(alloc, folder)?;
         files.fail_disk_calls([failing.disk].to_vec(alloc)?);
+        let chance = ListedChance::new(words, calls(alloc, failing.chance)?);
         Ok(Place {
-            files: Box::new(alloc, files)?,
-            chance: Box::new(
-                alloc,
-                ListedChance::new(words, calls(alloc, failing.chance)?),
-            )?,
+            files,
+            chance: Box::new(alloc, chance)?,
             out: failing.out,
         })
     }
@@ -186,6 +185,19 @@ impl Place {
             &OpenGate,
         );
         Ok((status, out.as_slice().to_vec(alloc)?))
+    }
+
+    /// The same, over a net of its own.
+    pub fn run_alone<R: Threads + Wait + Sync>(
+        &mut self,
+        rt: &R,
+        alloc: Global,
+        words: &str,
+    ) -> Result<Answer, AllocError> {
+        let mut net = PipeNet::new(rt, alloc)?;
+        let answer = self.run(rt, alloc, &mut net, words);
+        drop(net);
+        answer
     }
 
     /// The bytes of the file with this name, if there is one.

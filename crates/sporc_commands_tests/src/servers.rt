@@ -68,11 +68,14 @@ fn served<R: Threads + Wait + Sync>(
     failing: Failing,
 ) -> Result<Ended, AllocError> {
     let mut net = listed_net(alloc, scene.stream.as_slice(), failing)?;
-    let (status, written) = place.run(rt, alloc, &mut net, "serve D a --sessions 1")?;
+    let answer = place.run(rt, alloc, &mut net, "serve D a --sessions 1");
+    let is_quiet = net.link_faults() == 0;
+    drop(net);
+    let (status, written) = answer?;
     Ok(Ended {
         status,
         written,
-        is_quiet: net.link_faults() == 0,
+        is_quiet,
     })
 }
 

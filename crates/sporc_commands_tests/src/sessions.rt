@@ -59,6 +59,8 @@ fn session<R: Threads + Wait + Sync>(
         || server.run(rt, alloc, &mut far, "serve D a --sessions 1"),
         || work(rt, alloc, member, &mut near),
     );
+    drop(near);
+    drop(far);
     let (status, _) = served?;
     if status != 0 {
         return Err("the server failed".into());
@@ -77,8 +79,7 @@ fn is_whole<R: Threads + Wait + Sync>(
     alloc: Global,
     member: &mut Place,
 ) -> Result<bool, Fail> {
-    let mut net = PipeNet::new(rt, alloc)?;
-    let (status, written) = member.run(rt, alloc, &mut net, "check D 2")?;
+    let (status, written) = member.run_alone(rt, alloc, "check D 2")?;
     let line = written.as_slice();
     Ok(status == 0 && (is_same(line, b"checked 1\n") || is_same(line, b"checked 2\n")))
 }

@@ -89,7 +89,10 @@ fn ends_so<R: Threads + Wait + Sync>(
 ) -> Result<bool, Fail> {
     let mut place = Place::new(alloc, files)?;
     let mut net = listed_net(alloc, row.sent, NONE)?;
-    let (status, written) = place.run(rt, alloc, &mut net, row.words)?;
+    let answer = place.run(rt, alloc, &mut net, row.words);
+    drop(net);
+    drop(place);
+    let (status, written) = answer?;
     Ok(status == row.status && written.as_slice().ends_with(row.line))
 }
 

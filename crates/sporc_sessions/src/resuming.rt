@@ -47,7 +47,10 @@ pub(crate) fn resume<D: LeafDisk>(
     match loaded(alloc, line, saved) {
         Ok(line) => match Client::resume(alloc, line, signer) {
             Ok(client) => Ok(client),
-            Err((_, signer, _)) => Err((ResumeFault::Memory, signer)),
+            Err((line, signer, _)) => {
+                drop(line);
+                Err((ResumeFault::Memory, signer))
+            }
         },
         Err(fault) => Err((fault, signer)),
     }
@@ -67,8 +70,13 @@ fn loaded(alloc: Global, line: Line, saved: Option<Vec<u8>>) -> Result<Line, Res
         return Ok(line);
     };
     match load(alloc, bytes.as_slice(), line) {
-        Ok((line, Stop::End)) => Ok(line),
-        Ok((_, stop)) => Err(ResumeFault::Stopped(stop)),
+        Ok((line, stop)) => match stop {
+            Stop::End => Ok(line),
+            stop => {
+                drop(line);
+                Err(ResumeFault::Stopped(stop))
+            }
+        },
         Err(_) => Err(ResumeFault::Memory),
     }
 }

@@ -1,5 +1,5 @@
 -- Acts that fit a log fit a longer one; acts in a row.
-use Rattle.std.proofs.Common.{◌≡◌, ◌≤◌, ℕ, ◌+◌, Bool, List, [], ◌∷◌, ◌++◌, length, map, drop, refl, sym, ap, ◌∙◌, subst, append_assoc, arith}
+use Rattle.std.proofs.Common.{◌≡◌, ◌≤◌, ℕ, Bool, List, [], ◌∷◌, ◌++◌, length, map, drop, refl, sym, ap, ◌∙◌, subst, append_assoc, arith}
 use Rattle.std.proofs.lemmas.List.{append-nil, drop-append-le}
 use Rattle.sporc_turn.specs.Log.{StartsWith}
 use Rattle.sporc_client.specs.Submissions.{submission_added}

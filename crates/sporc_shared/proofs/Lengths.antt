@@ -5,7 +5,6 @@ use Rattle.std.proofs.Math.Nat.{mul-le-mul_left}
 use Rattle.std.specs.Option.{is_some}
 use Rattle.std.specs.Prelude.{is_none}
 use Rattle.sporc_base.specs.FirstFault.{first_of}
-use Rattle.sporc_delta.specs.Marks.{inserted_len}
 use Rattle.sporc_head.specs.History.{change_in}
 use Rattle.sporc_line.proofs.FormLengths.{inserted_len-over}
 use Rattle.sporc_client.specs.declared.limits.TheConstants.{MAX_EDIT_BYTES, MAX_PENDING}

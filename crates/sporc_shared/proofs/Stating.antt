@@ -23,7 +23,7 @@ use Rattle.sporc_shared.specs.declared.fault.SessionFault.{SessionFault}
 use Rattle.sporc_shared.specs.declared.fault.SessionFault.TheVariants as faults
 use Rattle.sporc_shared.specs.declared.look.Look.{Look}
 use Rattle.sporc_shared.specs.Calls.{IsCall}
-use Rattle.sporc_shared.specs.Courses.{KnowsMore}
+use Rattle.sporc_shared.specs.Courses.{CountsSame, KnowsMore}
 use Rattle.sporc_shared.specs.Editing.{AskedDid, IsAtFront, IsWornFault, StatedDid, seen_of}
 use Rattle.sporc_shared.specs.Items.{Item, Happened, Past, client_of, items_of}
 use Rattle.sporc_shared.specs.Lines.{AnswersAt, Asked, Changes, Edits, IsDone, IsEditAt, IsOfLine, LineFails, LineGives}
@@ -32,7 +32,7 @@ use Rattle.sporc_shared.specs.Points.{IsPoint}
 use Rattle.sporc_shared.specs.Passes.{HasFront}
 use Rattle.sporc_shared.specs.Replies.{edited_of, plain_of, worn_of}
 use Rattle.sporc_shared.proofs.Calling.{length_items}
-use Rattle.sporc_shared.proofs.Knowing.{call_client, call_knows, call_point, client_later, knows_none, knows_then, point_later, seen_after}
+use Rattle.sporc_shared.proofs.Knowing.{call_client, call_counts, call_knows, call_point, client_later, knows_none, knows_then, point_later, seen_after}
 use Rattle.sporc_shared.proofs.Lining.{fails_as}
 use Rattle.sporc_shared.proofs.Pasts.{ShowsLater, shows_later}
 use Rattle.sporc_shared.proofs.Taking.{WornAs, plain_case}
@@ -186,6 +186,19 @@ module _ (k : Known Item) (number line : ℕ) (same : number ≡ k.number) (repl
       worn : (e : Pass Item × Worn) → reply ≡ Err e → Did (edited_of k.number line (Err e.1.0)) (known_of e.0)
       worn e x = let h = subst (WornAs k) x err in (subst (λ (z : Known Item). KnowsMore k z []) (sym h.2) (knows_none k), h.0)
 
+  -- it is the same pass, whatever the reply
+  replied_counts : (Call : Known Item → Result ℕ EditFault → Type 0) → ((answer : Result ℕ EditFault) (k' : Known Item) → Call k' answer → CountsSame k k') → IfOk reply (λ r. Call (known_of r.pass) r.answer) → CountsSame k (known_of plain.1)
+  replied_counts Call by ok = plain_case reply plain is (λ a k'. CountsSame k k') here worn
+    where
+      here : (r : Answered (Result ℕ EditFault)) → reply ≡ Ok r → CountsSame k (known_of r.pass)
+      here r e = by r.answer (known_of r.pass) (subst (λ (x : Result (Answered (Result ℕ EditFault)) (Pass Item × Worn)). IfOk x (λ r. Call (known_of r.pass) r.answer)) e ok)
+
+      worn : (e : Pass Item × Worn) → reply ≡ Err e → CountsSame k (known_of e.0)
+      worn e x = subst (CountsSame k) (sym (subst (WornAs k) x err).2) (record { number = refl; splits = refl; joined = refl })
+
+  pub stated_counts : (events : ℕ) (marks : List Mark) → IfOk reply (λ r. EditCall k events marks (known_of r.pass) r.answer) → CountsSame k (known_of plain.1)
+  stated_counts events marks ok = replied_counts (EditCall k events marks) (λ answer k' h. call_counts k k' h.0 (added answer (Edit k.number events marks)) h.1) ok
+
   pub stated : (events len : ℕ) (marks : List Mark) → IsAtFront k events len → base_len marks ≡ len → IfOk reply (λ r. EditCall k events marks (known_of r.pass) r.answer) → StatedDid k (known_of plain.1) line events marks result
   stated events len marks front base ok =
       replied (EditCall k events marks) (λ x k'. KnowsMore k k' (Happened (Edit k.number events marks) ∷ [])) (λ k'. AnswersAt k'.seen k.start k.number k.mine (λ client. edit_fault client events marks))
@@ -199,6 +212,9 @@ module _ (k : Known Item) (number line : ℕ) (same : number ≡ k.number) (repl
   changed_by change (Err fault) k' h =
       failed_for k k' k.number line (LineGives k'.seen k.start k.number k.mine (Changes change)) (λ x. (item : Item) × KnowsMore k k' (item ∷ []) × IsDone k'.seen k.start k.number k.mine (Changes change) item) fault
       (call_knows k k' h.0 [] h.1) (λ other. (found_at k k' h.0 change_fault fault h.1 (h.2 other), changing_late (client_of h.0) fault (h.2 other)))
+
+  pub changed_counts : (change : MemberChange) → IfOk reply (λ r. ChangeCall change (known_of r.pass) r.answer) → CountsSame k (known_of plain.1)
+  changed_counts change ok = replied_counts (ChangeCall change) (λ answer k' h. call_counts k k' h.0 (added answer (Change k.number change)) h.1) ok
 
   pub changed : (change : MemberChange) → IfOk reply (λ r. ChangeCall change (known_of r.pass) r.answer) → AskedDid k (known_of plain.1) line (Changes change) result
   changed change ok =

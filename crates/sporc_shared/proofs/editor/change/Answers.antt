@@ -1,8 +1,13 @@
 use Rattle.sporc_turn.specs.Passes.{known_of}
-use Rattle.sporc_shared.proofs.Stating.{changed}
+use Rattle.sporc_shared.proofs.Stating.{changed, changed_counts}
 use Rattle.sporc_shared.proofs.editor.change.Goals as goal
 
 pub returns-clause-did : goal.returns-clause-did
 returns-clause-did g c =
     changed (known_of c.args.pass) c.number-number.result c.args.line c.number-number.ensures.value c.change.result c.plain-answer.result c.edited.result c.plain-answer.ensures c.edited.ensures c.change.ensures.worn
+    c.args.change c.change.ensures.call
+
+pub returns-clause-counts : goal.returns-clause-counts
+returns-clause-counts g c =
+    changed_counts (known_of c.args.pass) c.number-number.result c.args.line c.number-number.ensures.value c.change.result c.plain-answer.result c.edited.result c.plain-answer.ensures c.edited.ensures c.change.ensures.worn
     c.args.change c.change.ensures.call
