@@ -33,13 +33,6 @@ const GIVEN_UP: &str = "
 1 show -> [abcd] [abcd]
 ";
 
-#[test]
-fn edits_are_of_the_text_that_was_shown(rt: HostRuntime) -> Result<(), Fail> {
-    let cast = Cast::new(rt.alloc())?;
-    plays(&rt, rt.alloc(), &cast, 2, REBASED)?;
-    plays(&rt, rt.alloc(), &cast, 2, GIVEN_UP)
-}
-
 // ---- how much may be pending
 
 // Inserts a text in front of the one that is shown: why that is refused, if it is.
@@ -52,6 +45,16 @@ fn inserts(
     Ok(edit(client, &delta).err())
 }
 
+// Whether that is refused for this.
+fn is_refused(
+    alloc: Global,
+    client: &mut MemoryClient,
+    text: &str,
+    fault: EditFault,
+) -> Result<bool, Fail> {
+    Ok(inserts(alloc, client, text)? == Some(fault))
+}
+
 // The bytes of an edit are nine and its text's.
 fn length_is_limited(
     rt: &impl Abort,
@@ -59,7 +62,7 @@ fn length_is_limited(
     client: &mut MemoryClient,
 ) -> Result<(), Fail> {
     let mut text = "a".repeat(alloc, 65_528)?;
-    assert!(rt; inserts(alloc, client, text.as_str())? == Some(EditFault::TooLong(65_537)));
+    assert!(rt; is_refused(alloc, client, text.as_str(), EditFault::TooLong(65_537))?);
     let _ = text.pop();
     assert!(rt; inserts(alloc, client, text.as_str())?.is_none());
     Ok(())
@@ -74,7 +77,7 @@ fn number_is_limited(
     for _ in 1..1_024 {
         assert!(rt; inserts(alloc, client, "b")?.is_none());
     }
-    assert!(rt; inserts(alloc, client, "c")? == Some(EditFault::PendingFull));
+    assert!(rt; is_refused(alloc, client, "c", EditFault::PendingFull)?);
     assert!(rt; client.pending() == 1_024);
     Ok(())
 }
@@ -84,9 +87,16 @@ fn is_limited(rt: &impl Abort, alloc: Global, client: &mut MemoryClient) -> Resu
     number_is_limited(rt, alloc, client)
 }
 
+fn pending_is_limited(rt: &impl Abort, alloc: Global, cast: &Cast) -> Result<(), Fail> {
+    let mut room = Room::new(alloc, cast, 2)?;
+    is_limited(rt, alloc, room.client(2)?)
+}
+
+// Edits are of the text that was shown, and only few and short ones may be pending.
 #[test]
-fn few_and_short_edits_are_pending(rt: HostRuntime) -> Result<(), Fail> {
+fn edits_are_pending(rt: HostRuntime) -> Result<(), Fail> {
     let cast = Cast::new(rt.alloc())?;
-    let mut room = Room::new(rt.alloc(), &cast, 2)?;
-    is_limited(&rt, rt.alloc(), room.client(2)?)
+    plays(&rt, rt.alloc(), &cast, 2, REBASED)?;
+    plays(&rt, rt.alloc(), &cast, 2, GIVEN_UP)?;
+    pending_is_limited(&rt, rt.alloc(), &cast)
 }

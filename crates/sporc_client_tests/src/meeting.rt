@@ -1,4 +1,5 @@
-//! Clients whose edits meet. Before the rows, members 1 and 2 hold "abc".
+//! Clients whose edits meet, and clients that take an entry of their own history alone. Before the rows, members 1 and 2 hold
+//! "abc".
 
 use crate::room::plays;
 use sporc_samples::Cast;
@@ -115,18 +116,21 @@ const FORK: &str = "
 2 show -> [abce] [abce]
 ";
 
+// What the clients of two members do.
+const ROWS: [&str; 6] = [
+    TIE,
+    INSERTION_IN_REMOVAL,
+    REMOVED_TWICE,
+    PASSED_BY,
+    REPEATED,
+    FORK,
+];
+
 #[test]
 fn edits_meet(rt: HostRuntime) -> Result<(), Fail> {
     let cast = Cast::new(rt.alloc())?;
-    for rows in [TIE, INSERTION_IN_REMOVAL, REMOVED_TWICE, PASSED_BY] {
+    for rows in ROWS {
         plays(&rt, rt.alloc(), &cast, 2, rows)?;
     }
     plays(&rt, rt.alloc(), &cast, 4, FALSE_TIE)
-}
-
-#[test]
-fn a_client_takes_an_entry_of_its_history_alone(rt: HostRuntime) -> Result<(), Fail> {
-    let cast = Cast::new(rt.alloc())?;
-    plays(&rt, rt.alloc(), &cast, 2, REPEATED)?;
-    plays(&rt, rt.alloc(), &cast, 2, FORK)
 }

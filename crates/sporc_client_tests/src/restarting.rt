@@ -77,12 +77,6 @@ fn restarts(rt: &impl Abort, alloc: Global, cast: &Cast) -> Result<(), Fail> {
     goes_back(rt, alloc, &mut room)
 }
 
-#[test]
-fn a_client_goes_back(rt: HostRuntime) -> Result<(), Fail> {
-    let cast = Cast::new(rt.alloc())?;
-    restarts(&rt, rt.alloc(), &cast)
-}
-
 // ---- with a history
 
 // Its journal has an accept for each entry, and nothing is pending.
@@ -131,7 +125,8 @@ fn resumes(rt: &impl Abort, alloc: Global, cast: &Cast) -> Result<(), Fail> {
 }
 
 #[test]
-fn a_client_begins_with_a_history(rt: HostRuntime) -> Result<(), Fail> {
+fn a_client_goes_back_or_begins_with_a_history(rt: HostRuntime) -> Result<(), Fail> {
     let cast = Cast::new(rt.alloc())?;
+    restarts(&rt, rt.alloc(), &cast)?;
     resumes(&rt, rt.alloc(), &cast)
 }

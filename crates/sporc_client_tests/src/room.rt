@@ -36,11 +36,10 @@ pub(crate) const ABC: &str = "
 2 give 1 1 -> event 1
 ";
 
-/// The clients of the members 1, 2, .., and the entries that they made. A function that owns a room is quick to prove;
-/// one that owns a client itself is slow.
+/// The clients of the members 1, 2, .., and the entries that they made. A function that owns a room is quick to prove.
 #[derive(Drop)]
 pub(crate) struct Room {
-    clients: Vec<MemoryClient>,
+    clients: Vec<Box<MemoryClient>>,
     entries: Vec<Bytes>,
 }
 
@@ -75,15 +74,14 @@ impl Room {
 
     /// The client of the member at this place, from 1 on.
     pub(crate) fn client(&mut self, member: u32) -> Result<&mut MemoryClient, Fail> {
-        let place = (member as usize).wrapping_sub(1);
-        let client = self.clients.get_mut(place).ok_or("no client")?;
-        Ok(client)
+        client_of(self.clients.as_mut_slice(), member)
     }
 
     /// The last client closes, and another begins with its signer and this line.
     pub(crate) fn resumes(&mut self, alloc: Global, line: Box<Line>) -> Result<(), Fail> {
         let client = self.clients.pop().ok_or("no client")?;
-        self.clients.push(resumed(alloc, line, client.close())?)?;
+        let signer = Box::into_inner(client).close();
+        self.clients.push(resumed(alloc, line, signer)?)?;
         Ok(())
     }
 
@@ -98,9 +96,7 @@ impl Room {
     }
 
     fn tries_row(&mut self, rt: &impl Abort, alloc: Global, row: &str) -> Result<(), Fail> {
-        let mut parts = row.split(" -> ");
-        let told = parts.next().ok_or("no act")?;
-        let answer = parts.next().ok_or("no answer")?;
+        let (told, answer) = row.split_once(" -> ").ok_or("no answer")?;
         let found = self.answer(alloc, &mut told.split_whitespace())?;
         assert!(rt; found.as_str() == answer, "{row}: {found}");
         Ok(())
@@ -136,11 +132,27 @@ impl Room {
         words: &mut SplitWhitespace<'_>,
     ) -> Result<String, Fail> {
         let position = number(words)?;
-        let place = (number(words)? as usize).wrapping_sub(1);
-        let entry = self.entries.get(place).ok_or("no entry")?;
-        let place = (member as usize).wrapping_sub(1);
-        let client = self.clients.get_mut(place).ok_or("no client")?;
-        told(alloc, client.accept(1, position, entry.as_slice()))
+        let entry = entry_at(self.entries.as_slice(), number(words)?)?;
+        let client = client_of(self.clients.as_mut_slice(), member)?;
+        told(alloc, client.accept(1, position, entry))
+    }
+}
+
+// The client at this place, from 1 on.
+fn client_of(clients: &mut [Box<MemoryClient>], member: u32) -> Result<&mut MemoryClient, Fail> {
+    let place = (member as usize).wrapping_sub(1);
+    match clients.get_mut(place) {
+        Some(client) => Ok(client),
+        None => Err("no client".into()),
+    }
+}
+
+// The entry at this place, from 1 on.
+fn entry_at(entries: &[Bytes], number: u32) -> Result<&[u8], Fail> {
+    let place = (number as usize).wrapping_sub(1);
+    match entries.get(place) {
+        Some(entry) => Ok(entry.as_slice()),
+        None => Err("no entry".into()),
     }
 }
 

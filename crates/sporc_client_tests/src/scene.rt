@@ -38,8 +38,6 @@ pub(crate) fn paired(alloc: Global, me: u16, last: u16) -> Result<Pairs, Fail> {
 
 // A signer with the keys of a member of the cast, on a disk some of whose calls fail.
 fn signer(alloc: Global, me: u16, calls: Calls) -> Result<Signer<MemoryDisk>, Fail> {
-    let disk = MemoryDisk::new(alloc, blank(alloc, 5)?, calls)?;
-    let leaves = Leaves::open(alloc, disk, 5).map_err(|fault| fault.0)?;
     let [high, low] = me.to_be_bytes();
     let tree = Tree::build(
         alloc,
@@ -48,24 +46,35 @@ fn signer(alloc: Global, me: u16, calls: Calls) -> Result<Signer<MemoryDisk>, Fa
         LmsType::H5,
         OtsType::W4,
     )?;
-    Ok(Signer::open(tree, leaves))
+    let disk = MemoryDisk::new(alloc, blank(alloc, 5)?, calls)?;
+    match Leaves::open(alloc, disk, 5) {
+        Ok(leaves) => Ok(Signer::open(tree, leaves)),
+        Err((fault, disk)) => {
+            drop(disk);
+            Err(fault.into())
+        }
+    }
 }
 
-/// The client of a founder who shares keys with the first members, just opened, on a disk some of whose calls fail.
+/// The client of a founder who shares keys with the first members, just opened, on a disk some of whose calls fail. It is in a
+/// box: a function that owns a client itself is slow to prove.
 pub(crate) fn opened(
     alloc: Global,
     cast: &Cast,
     me: u16,
     last: u16,
     calls: Calls,
-) -> Result<MemoryClient, Fail> {
-    let signer = signer(alloc, me, calls)?;
+) -> Result<Box<MemoryClient>, Fail> {
     let genesis = cast.genesis(alloc)?;
     let ring = founder_ring(alloc)?;
     let pairs = paired(alloc, me, last)?;
+    let signer = signer(alloc, me, calls)?;
     match Client::open(alloc, genesis, me, ring, pairs, signer) {
-        Ok(client) => Ok(client),
-        Err((fault, _)) => Err(fault.into()),
+        Ok(client) => Ok(Box::new(alloc, client)?),
+        Err((fault, signer)) => {
+            drop(signer);
+            Err(fault.into())
+        }
     }
 }
 
@@ -74,10 +83,14 @@ pub(crate) fn resumed(
     alloc: Global,
     line: Box<Line>,
     signer: Signer<MemoryDisk>,
-) -> Result<MemoryClient, Fail> {
+) -> Result<Box<MemoryClient>, Fail> {
     match Client::resume(alloc, Box::into_inner(line), signer) {
-        Ok(client) => Ok(client),
-        Err((_, _, memory)) => Err(memory.into()),
+        Ok(client) => Ok(Box::new(alloc, client)?),
+        Err((line, signer, memory)) => {
+            drop(line);
+            drop(signer);
+            Err(memory.into())
+        }
     }
 }
 
@@ -87,7 +100,7 @@ pub(crate) fn no_calls(alloc: Global) -> Calls {
 }
 
 /// The client of a founder who shares a key with each, just opened.
-pub(crate) fn joined(alloc: Global, cast: &Cast, me: u16) -> Result<MemoryClient, Fail> {
+pub(crate) fn joined(alloc: Global, cast: &Cast, me: u16) -> Result<Box<MemoryClient>, Fail> {
     opened(alloc, cast, me, 5, no_calls(alloc))
 }
 

@@ -10,10 +10,13 @@ use std::alloc::Global;
 use std::process::Abort;
 use std::test::Fail;
 
+fn is_refused(client: &mut MemoryClient, fault: SubmitFault) -> bool {
+    client.submit(1, &RANDOM).err() == Some(fault)
+}
+
 // A submission was to be refused for this.
 fn refused(rt: &impl Abort, client: &mut MemoryClient, fault: SubmitFault) {
-    let found = client.submit(1, &RANDOM).err();
-    assert!(rt; found == Some(fault), "{found:?}");
+    assert!(rt; is_refused(client, fault));
 }
 
 // A client commits its first pending item, as the entry at this position.
@@ -46,12 +49,6 @@ fn lacks_keys(rt: &impl Abort, alloc: Global, cast: &Cast) -> Result<(), Fail> {
     change_is_not_sealed(rt, room.client(1)?)
 }
 
-#[test]
-fn a_change_wants_a_key_for_each(rt: HostRuntime) -> Result<(), Fail> {
-    let cast = Cast::new(rt.alloc())?;
-    lacks_keys(&rt, rt.alloc(), &cast)
-}
-
 // ---- leaves
 
 // All 32 leaves sign, and then none is left.
@@ -68,12 +65,6 @@ fn leaves_end(rt: &impl Abort, alloc: Global, client: &mut MemoryClient) -> Resu
 fn all_leaves(rt: &impl Abort, alloc: Global, cast: &Cast) -> Result<(), Fail> {
     let mut room = Room::new(alloc, cast, 2)?;
     leaves_end(rt, alloc, room.client(2)?)
-}
-
-#[test]
-fn leaves_are_drawn_to_the_last(rt: HostRuntime) -> Result<(), Fail> {
-    let cast = Cast::new(rt.alloc())?;
-    all_leaves(&rt, rt.alloc(), &cast)
 }
 
 // The opening of a leaf file calls the disk twice; the first draw writes and syncs.
@@ -97,9 +88,12 @@ fn has_failing_disk(rt: &impl Abort, alloc: Global, cast: &Cast) -> Result<(), F
     draw_fails(rt, alloc, room.client(1)?)
 }
 
+// A change wants a key for each member, and an entry a leaf, of which there are few and which a failing disk doesn't give.
 #[test]
-fn a_disk_that_fails_draws_no_leaf(rt: HostRuntime) -> Result<(), Fail> {
+fn an_entry_wants_keys_and_a_leaf(rt: HostRuntime) -> Result<(), Fail> {
     let cast = Cast::new(rt.alloc())?;
+    lacks_keys(&rt, rt.alloc(), &cast)?;
+    all_leaves(&rt, rt.alloc(), &cast)?;
     has_failing_disk(&rt, rt.alloc(), &cast)
 }
 

@@ -67,17 +67,19 @@ fn repeated(alloc: Global, value: u8, count: usize) -> Result<Vec<u8>, Fail>
 }
 
 fn edit_bytes(alloc: Global) -> Result<Vec<u8>, Fail> {
+    let signature = repeated(alloc, 0x55, 2348)?;
     let mut bytes = hex::decode(alloc, EDIT)?;
-    bytes.extend_from_slice(repeated(alloc, 0x55, 2348)?.as_slice())?;
+    bytes.extend_from_slice(signature.as_slice())?;
     Ok(bytes)
 }
 
 // The change as an entry, with a signature of 8 bytes.
 fn change_entry_bytes(alloc: Global) -> Result<Vec<u8>, Fail> {
+    let change = hex::decode(alloc, CHANGE)?;
     let mut bytes = hex::decode(alloc, EDIT)?;
     bytes.truncate(67);
     bytes.extend_from_slice(&[2, 0, 0, 0, 194])?;
-    bytes.extend_from_slice(hex::decode(alloc, CHANGE)?.as_slice())?;
+    bytes.extend_from_slice(change.as_slice())?;
     bytes.extend_from_slice(&[0, 0, 0, 8, 0x55, 0x55, 0x55, 0x55, 0x55, 0x55, 0x55, 0x55])?;
     Ok(bytes)
 }
@@ -97,15 +99,16 @@ fn is_edit(entry: &Entry) -> bool {
         && entry.signature.as_slice().len() == 2348
 }
 
-#[test]
-fn an_edit_reads_and_is_written_again(rt: HostRuntime) -> Result<(), Fail> {
-    let bytes = edit_bytes(rt.alloc())?;
-    assert!(rt; bytes.len() == 2443);
-    let entry = read_entry(rt.alloc(), bytes.as_slice())?;
-    assert!(rt; is_edit(&entry));
-    let written = write_entry(rt.alloc(), &entry)?;
-    same_bytes(&rt, written.as_slice(), bytes.as_slice());
-    Ok(())
+// Whether bytes are read as the edit that is spelled out.
+fn reads_as_edit(alloc: Global, bytes: &[u8]) -> Result<bool, Fail> {
+    let entry = read_entry(alloc, bytes)?;
+    Ok(is_edit(&entry))
+}
+
+// The bytes of the entry that is read of these.
+fn rewritten(alloc: Global, bytes: &[u8]) -> Result<Vec<u8>, Fail> {
+    let entry = read_entry(alloc, bytes)?;
+    Ok(write_entry(alloc, &entry)?)
 }
 
 // What is signed is a byte 3 and the entry up to the end of its body.
@@ -121,18 +124,32 @@ fn signed_of(alloc: Global, bytes: &[u8]) -> Result<Vec<u8>, Fail> {
     Ok(signed_part(alloc, &entry)?)
 }
 
-#[test]
-fn an_edit_is_signed_without_its_signature(rt: HostRuntime) -> Result<(), Fail> {
-    let bytes = edit_bytes(rt.alloc())?;
-    let part = signed_of(rt.alloc(), bytes.as_slice())?;
-    let signed = signed_bytes(rt.alloc(), bytes.as_slice())?;
-    same_bytes(&rt, part.as_slice(), signed.as_slice());
+fn is_written_again(rt: &impl Abort, alloc: Global, bytes: &[u8]) -> Result<(), Fail> {
+    let written = rewritten(alloc, bytes)?;
+    same_bytes(rt, written.as_slice(), bytes);
     Ok(())
+}
+
+fn is_signed(rt: &impl Abort, alloc: Global, bytes: &[u8]) -> Result<(), Fail> {
+    let part = signed_of(alloc, bytes)?;
+    let signed = signed_bytes(alloc, bytes)?;
+    same_bytes(rt, part.as_slice(), signed.as_slice());
+    Ok(())
+}
+
+// It is signed without its signature.
+#[test]
+fn an_edit_reads_and_is_written_and_signed(rt: HostRuntime) -> Result<(), Fail> {
+    let bytes = edit_bytes(rt.alloc())?;
+    assert!(rt; bytes.len() == 2443);
+    assert!(rt; reads_as_edit(rt.alloc(), bytes.as_slice())?);
+    is_written_again(&rt, rt.alloc(), bytes.as_slice())?;
+    is_signed(&rt, rt.alloc(), bytes.as_slice())
 }
 
 fn is_malformed(rt: &impl Abort, alloc: Global, bytes: &[u8], at: usize) {
     let found = read_entry(alloc, bytes).err();
-    assert!(rt; found == Some(EntryFault::Malformed(at)), "at {at}");
+    assert!(rt; found == Some(EntryFault::Malformed(at)), "{at}");
 }
 
 // The place of a byte, its new value, and where the entry is malformed then.
@@ -160,18 +177,27 @@ fn altered_is_malformed(
     Ok(())
 }
 
+// An edit with a byte more, with one less, and without any.
+fn other_lengths_are_malformed(
+    rt: &impl Abort,
+    alloc: Global,
+    edit: &mut Vec<u8>,
+) -> Result<(), Fail> {
+    edit.push(0)?;
+    is_malformed(rt, alloc, edit.as_slice(), 2443);
+    edit.truncate(2442);
+    is_malformed(rt, alloc, edit.as_slice(), 95);
+    is_malformed(rt, alloc, &[], 0);
+    Ok(())
+}
+
 #[test]
 fn an_edit_is_refused_at_its_first_fault(rt: HostRuntime) -> Result<(), Fail> {
     let mut bytes = edit_bytes(rt.alloc())?;
     for row in &EDIT_FAULTS {
         altered_is_malformed(&rt, rt.alloc(), bytes.as_slice(), row)?;
     }
-    bytes.push(0)?;
-    is_malformed(&rt, rt.alloc(), bytes.as_slice(), 2443);
-    bytes.truncate(2442);
-    is_malformed(&rt, rt.alloc(), bytes.as_slice(), 95);
-    is_malformed(&rt, rt.alloc(), &[], 0);
-    Ok(())
+    other_lengths_are_malformed(&rt, rt.alloc(), &mut bytes)
 }
 
 // An edit whose body and signature have so many bytes.
@@ -193,13 +219,28 @@ fn is_same_entry(one: &Entry, other: &Entry) -> bool {
         && one.signature.as_slice() == other.signature.as_slice()
 }
 
-#[test]
-fn the_largest_edit_reads_and_is_written_again(rt: HostRuntime) -> Result<(), Fail> {
-    let largest = edit_of(rt.alloc(), 1_048_576, 9_324)?;
-    let bytes = write_entry(rt.alloc(), &largest)?;
+// The bytes of an edit whose body and signature have so many.
+fn long_bytes(alloc: Global, body: u32, signature: u32) -> Result<Vec<u8>, Fail> {
+    let edit = edit_of(alloc, body, signature)?;
+    Ok(write_entry(alloc, &edit)?)
+}
+
+// Whether bytes are read as this entry.
+fn reads_as(alloc: Global, bytes: &[u8], wanted: &Entry) -> Result<bool, Fail> {
+    let entry = read_entry(alloc, bytes)?;
+    Ok(is_same_entry(&entry, wanted))
+}
+
+// Whether bytes are read as the largest edit.
+fn reads_as_largest(alloc: Global, bytes: &[u8]) -> Result<bool, Fail> {
+    let largest = edit_of(alloc, 1_048_576, 9_324)?;
+    reads_as(alloc, bytes, &largest)
+}
+
+fn largest_is_read_again(rt: &impl Abort, alloc: Global) -> Result<(), Fail> {
+    let bytes = long_bytes(alloc, 1_048_576, 9_324)?;
     assert!(rt; bytes.len() == 1_057_976);
-    let entry = read_entry(rt.alloc(), bytes.as_slice())?;
-    assert!(rt; is_same_entry(&entry, &largest));
+    assert!(rt; reads_as_largest(alloc, bytes.as_slice())?);
     Ok(())
 }
 
@@ -210,28 +251,43 @@ fn is_too_long(
     signature: u32,
     at: usize,
 ) -> Result<(), Fail> {
-    let bytes = write_entry(alloc, &edit_of(alloc, body, signature)?)?;
+    let bytes = long_bytes(alloc, body, signature)?;
     is_malformed(rt, alloc, bytes.as_slice(), at);
     Ok(())
 }
 
+// The largest edit reads and is written again, and one above the limits is refused.
 #[test]
-fn an_edit_above_the_limits_is_refused(rt: HostRuntime) -> Result<(), Fail> {
+fn edits_are_limited(rt: HostRuntime) -> Result<(), Fail> {
+    largest_is_read_again(&rt, rt.alloc())?;
     is_too_long(&rt, rt.alloc(), 1_048_577, 0, 68)?;
     is_too_long(&rt, rt.alloc(), 3, 9_325, 75)
+}
+
+// The bytes of the change that is read of these.
+fn rewritten_change(alloc: Global, bytes: &[u8]) -> Result<Vec<u8>, Fail> {
+    let body = read_change(alloc, bytes)?;
+    Ok(write_change(alloc, &body)?)
+}
+
+fn body_is_written_again(rt: &impl Abort, alloc: Global, body: &[u8]) -> Result<(), Fail> {
+    let written = rewritten_change(alloc, body)?;
+    same_bytes(rt, written.as_slice(), body);
+    Ok(())
+}
+
+// The body of the change that is read of these bytes is written again.
+fn change_is_written_again(rt: &impl Abort, alloc: Global, bytes: &[u8]) -> Result<(), Fail> {
+    let entry = read_entry(alloc, bytes)?;
+    assert!(rt; entry.header.kind == 2);
+    body_is_written_again(rt, alloc, entry.body.as_slice())
 }
 
 #[test]
 fn a_change_reads_and_is_written_again(rt: HostRuntime) -> Result<(), Fail> {
     let bytes = change_entry_bytes(rt.alloc())?;
-    let entry = read_entry(rt.alloc(), bytes.as_slice())?;
-    assert!(rt; entry.header.kind == 2);
-    let written = write_entry(rt.alloc(), &entry)?;
-    same_bytes(&rt, written.as_slice(), bytes.as_slice());
-    let body = read_change(rt.alloc(), entry.body.as_slice())?;
-    let written = write_change(rt.alloc(), &body)?;
-    same_bytes(&rt, written.as_slice(), entry.body.as_slice());
-    Ok(())
+    is_written_again(&rt, rt.alloc(), bytes.as_slice())?;
+    change_is_written_again(&rt, rt.alloc(), bytes.as_slice())
 }
 
 // Whether it adds member 3 as an editor.
@@ -262,32 +318,49 @@ fn is_spelled(body: &ChangeBody) -> bool {
         && are_sealed(body.wraps.as_slice())
 }
 
-#[test]
-fn a_change_has_its_fields(rt: HostRuntime) -> Result<(), Fail> {
-    let bytes = hex::decode(rt.alloc(), CHANGE)?;
-    let body = read_change(rt.alloc(), bytes.as_slice())?;
-    assert!(rt; is_spelled(&body));
-    Ok(())
+// Whether bytes are read as the change that is spelled out.
+fn reads_as_spelled(alloc: Global, bytes: &[u8]) -> Result<bool, Fail> {
+    let body = read_change(alloc, bytes)?;
+    Ok(is_spelled(&body))
 }
 
-fn comes_back(rt: &impl Abort, alloc: Global, change: Change) -> Result<(), Fail> {
+const REMOVE: Change = Change::Remove { member: 3 };
+
+const SET_ROLE: Change = Change::SetRole {
+    member: 3,
+    role: Role::Reader,
+};
+
+#[test]
+fn changes_have_their_fields(rt: HostRuntime) -> Result<(), Fail> {
+    let bytes = hex::decode(rt.alloc(), CHANGE)?;
+    assert!(rt; reads_as_spelled(rt.alloc(), bytes.as_slice())?);
+    comes_back(&rt, rt.alloc(), REMOVE)?;
+    comes_back(&rt, rt.alloc(), SET_ROLE)
+}
+
+// The bytes of a change without a sealed key.
+fn without_wraps(alloc: Global, change: Change) -> Result<Vec<u8>, Fail> {
     let body = ChangeBody {
         change,
         commitment: [0xc0; 32],
         previous: [0xe0; 32],
         wraps: Wraps::new(Vec::new(alloc)),
     };
-    let bytes = write_change(alloc, &body)?;
-    let read = read_change(alloc, bytes.as_slice())?;
-    assert!(rt; read.change == change);
-    Ok(())
+    Ok(write_change(alloc, &body)?)
 }
 
-#[test]
-fn other_changes_come_back(rt: HostRuntime) -> Result<(), Fail> {
-    comes_back(&rt, rt.alloc(), Change::Remove { member: 3 })?;
-    let role = Role::Reader;
-    comes_back(&rt, rt.alloc(), Change::SetRole { member: 3, role })
+// The change that is read of bytes.
+fn change_in(alloc: Global, bytes: &[u8]) -> Result<Change, Fail> {
+    let body = read_change(alloc, bytes)?;
+    Ok(body.change)
+}
+
+fn comes_back(rt: &impl Abort, alloc: Global, change: Change) -> Result<(), Fail> {
+    let bytes = without_wraps(alloc, change)?;
+    let read = change_in(alloc, bytes.as_slice())?;
+    assert!(rt; read == change);
+    Ok(())
 }
 
 // The place of a byte, its new value, and where the entry is malformed then.
@@ -305,12 +378,17 @@ const CHANGE_FAULTS: [(usize, u8, usize); 11] = [
     (197, 1, 232),
 ];
 
+fn is_change_malformed(alloc: Global, bytes: &[u8], at: usize) -> bool {
+    read_change(alloc, bytes).err() == Some(EntryFault::Malformed(at))
+}
+
 // The body alone, with a role that is none.
 fn body_is_malformed(rt: &impl Abort, alloc: Global) -> Result<(), Fail> {
-    let body = hex::decode(alloc, CHANGE)?;
-    let other = altered(alloc, body.as_slice(), 3, 0)?;
-    let found = read_change(alloc, other.as_slice()).err();
-    assert!(rt; found == Some(EntryFault::Malformed(3)));
+    let mut body = hex::decode(alloc, CHANGE)?;
+    if let Some(role) = body.get_mut(3) {
+        *role = 0;
+    }
+    assert!(rt; is_change_malformed(alloc, body.as_slice(), 3));
     Ok(())
 }
 
@@ -344,11 +422,10 @@ fn copied(rt: &impl Abort, alloc: Global, bytes: &[u8]) -> Result<Vec<u8>, Fail>
     Ok(write_genesis(alloc, &copy)?)
 }
 
-#[test]
-fn a_genesis_reads_and_its_copy_is_written(rt: HostRuntime) -> Result<(), Fail> {
-    let bytes = hex::decode(rt.alloc(), GENESIS)?;
-    let written = copied(&rt, rt.alloc(), bytes.as_slice())?;
-    same_bytes(&rt, written.as_slice(), bytes.as_slice());
+// A genesis reads, and its copy is written.
+fn founds(rt: &impl Abort, alloc: Global, bytes: &[u8]) -> Result<(), Fail> {
+    let written = copied(rt, alloc, bytes)?;
+    same_bytes(rt, written.as_slice(), bytes);
     Ok(())
 }
 
@@ -407,16 +484,22 @@ fn is_refused_resized(
     Ok(())
 }
 
-#[test]
-fn a_genesis_is_refused_for_its_first_fault(rt: HostRuntime) -> Result<(), Fail> {
-    let bytes = hex::decode(rt.alloc(), GENESIS)?;
+// A genesis is refused for its first fault.
+fn is_refused(rt: &impl Abort, alloc: Global, bytes: &[u8]) -> Result<(), Fail> {
     for row in &GENESIS_FAULTS {
-        is_refused_altered(&rt, rt.alloc(), bytes.as_slice(), row)?;
+        is_refused_altered(rt, alloc, bytes, row)?;
     }
     for row in &GENESIS_LENGTHS {
-        is_refused_resized(&rt, rt.alloc(), bytes.as_slice(), row)?;
+        is_refused_resized(rt, alloc, bytes, row)?;
     }
     // No admin comes before a bad key.
-    let bytes = altered(rt.alloc(), bytes.as_slice(), 57, 4)?;
-    is_refused_altered(&rt, rt.alloc(), bytes.as_slice(), &NO_ADMIN)
+    let bytes = altered(alloc, bytes, 57, 4)?;
+    is_refused_altered(rt, alloc, bytes.as_slice(), &NO_ADMIN)
+}
+
+#[test]
+fn a_genesis_reads_unless_it_has_a_fault(rt: HostRuntime) -> Result<(), Fail> {
+    let bytes = hex::decode(rt.alloc(), GENESIS)?;
+    founds(&rt, rt.alloc(), bytes.as_slice())?;
+    is_refused(&rt, rt.alloc(), bytes.as_slice())
 }

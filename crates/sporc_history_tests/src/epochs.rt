@@ -138,74 +138,94 @@ fn is_key(rt: &impl Abort, found: Option<[u8; 32]>, wanted: Option<[u8; 32]>) {
     assert!(rt; found == wanted);
 }
 
-#[test]
-fn a_ring_gives_the_keys_that_were_put(rt: HostRuntime) -> Result<(), Fail> {
-    let mut ring = Ring::new(rt.alloc());
+// Puts two keys of one epoch, one after the other.
+fn put_twice(ring: &mut Ring) -> Result<(), Fail> {
     ring.reserve()?;
     ring.put(3, [7; 32])?;
     ring.put(3, [3; 32])?;
-    let copy = ring.copy()?;
+    Ok(())
+}
+
+fn copy_of_two(alloc: Global) -> Result<Ring, Fail> {
+    let mut ring = Ring::new(alloc);
+    put_twice(&mut ring)?;
+    Ok(ring.copy()?)
+}
+
+#[test]
+fn a_ring_gives_the_keys_that_were_put(rt: HostRuntime) -> Result<(), Fail> {
+    let copy = copy_of_two(rt.alloc())?;
     is_key(&rt, copy.key(3).copied(), Some([3; 32]));
     is_key(&rt, copy.key(7).copied(), None);
     Ok(())
 }
 
-#[test]
-fn a_sealed_change_is_that_of_openssl(rt: HostRuntime) -> Result<(), Fail> {
-    let body = sealed(rt.alloc(), &REMOVE, 0)?;
+// A sealed change is that of OpenSSL.
+fn is_that_of_openssl(rt: &impl Abort, body: &ChangeBody) {
     assert!(rt; body.change == REMOVE);
-    same_bytes(&rt, &body.commitment, &COMMITMENT);
-    same_bytes(&rt, &body.previous, &PREVIOUS);
+    same_bytes(rt, &body.commitment, &COMMITMENT);
+    same_bytes(rt, &body.previous, &PREVIOUS);
     assert!(rt; body.wraps.as_slice() == WRAPS.as_slice());
-    same_bytes(&rt, &open_previous(&body, 1, &[11; 32]), &[10; 32]);
-    Ok(())
+    same_bytes(rt, &open_previous(body, 1, &[11; 32]), &[10; 32]);
 }
 
-#[test]
-fn the_least_member_without_a_key_is_named(rt: HostRuntime) -> Result<(), Fail> {
-    let pairs = pairs_of(rt.alloc(), &[(4, 104)])?;
-    let (members, key) = ([7, 4, 3, 5], [0; 32]);
-    let fault = seal_change(
-        rt.alloc(),
-        &REMOVE,
-        &members,
-        &DOCUMENT,
-        1,
-        5,
-        0,
-        &key,
-        &key,
-        &pairs,
+// Why a change isn't sealed for these members.
+fn seal_fault(alloc: Global, members: &[u16], pairs: &Pairs) -> Option<SealFault> {
+    let key = [0; 32];
+    seal_change(
+        alloc, &REMOVE, members, &DOCUMENT, 1, 5, 0, &key, &key, pairs,
     )
-    .err();
+    .err()
+}
+
+// The least member without a key is named.
+fn least_is_named(rt: &impl Abort, alloc: Global) -> Result<(), Fail> {
+    let pairs = pairs_of(alloc, &[(4, 104)])?;
+    let fault = seal_fault(alloc, &[7, 4, 3, 5], &pairs);
     assert!(rt; fault == Some(SealFault::NoPairKey(3)));
     Ok(())
 }
 
-#[test]
-fn the_first_wrap_for_a_member_is_opened(rt: HostRuntime) -> Result<(), Fail> {
-    let mine = pairs_of(rt.alloc(), &[(1, 104)])?;
-    let mut body = sealed(rt.alloc(), &REMOVE, 0)?;
+// Two wraps for member 4, the first of which is good.
+fn wraps_twice(alloc: Global) -> Result<Wraps, Fail> {
     let again = Wrap {
         member: 4,
         sealed: [0; 32],
     };
-    body.wraps = Wraps::copy_of(rt.alloc(), &[WRAPS[0], WRAPS[1], again])?;
-    is_key(&rt, open_wrap(&body, 1, 5, 4, &mine), Some([11; 32]));
-    // No wrap, and then no pairwise key.
-    is_key(&rt, open_wrap(&body, 1, 5, 3, &mine), None);
-    is_key(&rt, open_wrap(&body, 2, 5, 4, &mine), None);
+    Ok(Wraps::copy_of(alloc, &[WRAPS[0], WRAPS[1], again])?)
+}
+
+// The first wrap for a member is opened. Then there is no wrap, and then no pairwise key.
+fn first_is_opened(rt: &impl Abort, body: &ChangeBody, mine: &Pairs) {
+    is_key(rt, open_wrap(body, 1, 5, 4, mine), Some([11; 32]));
+    is_key(rt, open_wrap(body, 1, 5, 3, mine), None);
+    is_key(rt, open_wrap(body, 2, 5, 4, mine), None);
+}
+
+fn is_opened(rt: &impl Abort, alloc: Global, body: &ChangeBody) -> Result<(), Fail> {
+    let mine = pairs_of(alloc, &[(1, 104)])?;
+    first_is_opened(rt, body, &mine);
     Ok(())
 }
 
 #[test]
-fn the_keys_of_four_epochs_are_found_backwards(rt: HostRuntime) -> Result<(), Fail> {
-    let ring = hints(&rt, rt.alloc(), 0, 1, 4)??;
+fn changes_are_sealed_and_opened(rt: HostRuntime) -> Result<(), Fail> {
+    least_is_named(&rt, rt.alloc())?;
+    let wraps = wraps_twice(rt.alloc())?;
+    let mut body = sealed(rt.alloc(), &REMOVE, 0)?;
+    is_that_of_openssl(&rt, &body);
+    body.wraps = wraps;
+    is_opened(&rt, rt.alloc(), &body)
+}
+
+// The keys of four epochs are found backwards.
+fn four_are_found(rt: &impl Abort, alloc: Global) -> Result<(), Fail> {
+    let ring = hints(rt, alloc, 0, 1, 4)??;
     for epoch in 0..4u8 {
         let key = ring.key(u32::from(epoch)).copied();
-        is_key(&rt, key, Some([10 + epoch; 32]));
+        is_key(rt, key, Some([10 + epoch; 32]));
     }
-    is_key(&rt, ring.key(4).copied(), None);
+    is_key(rt, ring.key(4).copied(), None);
     Ok(())
 }
 
@@ -218,22 +238,43 @@ const FAULTS: [(u8, u16, u16, HintFault); 5] = [
     (1, 1, 4, HintFault::WrongKey(1)),
 ];
 
-#[test]
-fn each_fault_of_hints(rt: HostRuntime) -> Result<(), Fail> {
+fn hint_fault(
+    rt: &impl Abort,
+    alloc: Global,
+    spoilt: u8,
+    other: u16,
+    me: u16,
+) -> Result<Option<HintFault>, Fail> {
+    Ok(hints(rt, alloc, spoilt, other, me)?.err())
+}
+
+fn each_fault_is_found(rt: &impl Abort, alloc: Global) -> Result<(), Fail> {
     for (spoilt, other, me, fault) in &FAULTS {
-        let found = hints(&rt, rt.alloc(), *spoilt, *other, *me)?.err();
-        assert!(rt; found == Some(*fault), "{found:?}");
+        let found = hint_fault(rt, alloc, *spoilt, *other, *me)?;
+        assert!(rt; found == Some(*fault), "{spoilt} {other}");
     }
     Ok(())
 }
 
-#[test]
-fn no_epoch_follows_the_last(rt: HostRuntime) -> Result<(), Fail> {
-    let mine = pairs_of(rt.alloc(), &[(1, 104)])?;
-    let body = sealed(rt.alloc(), &ADD, 0)?;
-    let last = entry_bytes(&rt, rt.alloc(), MAX_EPOCH, &body)?;
-    let entries = Vec::from_array(rt.alloc(), [last])?;
-    let fault = hints_from(rt.alloc(), entries.as_slice(), 4, &mine).err();
+// An entry that adds member 4 and would start an epoch behind the last one.
+fn behind_the_last(rt: &impl Abort, alloc: Global) -> Result<Vec<Vec<u8>>, Fail> {
+    let body = sealed(alloc, &ADD, 0)?;
+    let last = entry_bytes(rt, alloc, MAX_EPOCH, &body)?;
+    Ok(Vec::from_array(alloc, [last])?)
+}
+
+// No epoch follows the last.
+fn none_follows(rt: &impl Abort, alloc: Global) -> Result<(), Fail> {
+    let entries = behind_the_last(rt, alloc)?;
+    let mine = pairs_of(alloc, &[(1, 104)])?;
+    let fault = hints_from(alloc, entries.as_slice(), 4, &mine).err();
     assert!(rt; fault == Some(HintFault::NotAdded));
     Ok(())
+}
+
+#[test]
+fn keys_are_found_by_hints(rt: HostRuntime) -> Result<(), Fail> {
+    four_are_found(&rt, rt.alloc())?;
+    each_fault_is_found(&rt, rt.alloc())?;
+    none_follows(&rt, rt.alloc())
 }

@@ -60,14 +60,12 @@ fn feed_bytes(rt: &impl Abort, frames: &mut Frames, bytes: &[u8]) -> Result<(), 
     Ok(())
 }
 
-#[test]
-fn hello_and_pull_byte_by_byte(rt: HostRuntime) -> Result<(), Fail> {
-    let mut frames = Frames::new(rt.alloc());
-    feed_bytes(&rt, &mut frames, &HELLO)?;
-    assert!(rt; next_is_hello(&mut frames)?);
-    feed_bytes(&rt, &mut frames, &PULL)?;
-    assert!(rt; next_is_pull(&mut frames)?);
-    assert!(rt; next_is_none(&mut frames)?);
+fn come_byte_by_byte(rt: &impl Abort, frames: &mut Frames) -> Result<(), FrameFault> {
+    feed_bytes(rt, frames, &HELLO)?;
+    assert!(rt; next_is_hello(frames)?);
+    feed_bytes(rt, frames, &PULL)?;
+    assert!(rt; next_is_pull(frames)?);
+    assert!(rt; next_is_none(frames)?);
     Ok(())
 }
 
@@ -79,21 +77,27 @@ fn stays_too_long(frames: &mut Frames) -> bool {
         && frames.next_to_client().err() == Some(TOO_LONG)
 }
 
-#[test]
-fn a_length_above_the_limit_stays(rt: HostRuntime) -> Result<(), Fail> {
-    let mut frames = Frames::new(rt.alloc());
+// A length above the limit stays.
+fn is_above_the_limit(rt: &impl Abort, frames: &mut Frames) -> Result<(), FrameFault> {
     frames.feed(&PULL)?;
     frames.feed(&[0, 0x40, 0, 1])?;
-    assert!(rt; next_is_pull(&mut frames)?);
-    assert!(rt; stays_too_long(&mut frames));
+    assert!(rt; next_is_pull(frames)?);
+    assert!(rt; stays_too_long(frames));
+    Ok(())
+}
+
+// A length at the limit is waited for.
+fn is_at_the_limit(rt: &impl Abort, frames: &mut Frames) -> Result<(), FrameFault> {
+    frames.feed(&[0, 0x40, 0, 0, 2])?;
+    assert!(rt; next_is_none(frames)?);
     Ok(())
 }
 
 #[test]
-fn a_length_at_the_limit_is_waited_for(rt: HostRuntime) -> Result<(), Fail> {
-    let mut frames = Frames::new(rt.alloc());
-    frames.feed(&[0, 0x40, 0, 0, 2])?;
-    assert!(rt; frames.next_to_server()?.is_none());
+fn frames_come_byte_by_byte_up_to_a_limit(rt: HostRuntime) -> Result<(), Fail> {
+    come_byte_by_byte(&rt, &mut Frames::new(rt.alloc()))?;
+    is_above_the_limit(&rt, &mut Frames::new(rt.alloc()))?;
+    is_at_the_limit(&rt, &mut Frames::new(rt.alloc()))?;
     Ok(())
 }
 
@@ -162,7 +166,7 @@ fn fault_to_client(alloc: Global, body: &[u8]) -> Result<Option<FrameFault>, Fai
 // Whether the fault names this place of the body behind 13 bytes.
 fn is_bad_at(rt: &impl Abort, fault: Option<FrameFault>, place: u64) {
     let expected = Some(FrameFault::BadMessage(place.wrapping_add(13)));
-    assert!(rt; fault == expected, "{fault:?}");
+    assert!(rt; fault == expected, "{place}");
 }
 
 #[test]
@@ -250,59 +254,73 @@ fn a_front_of_a_frame_gives_nothing(rt: HostRuntime) -> Result<(), Fail> {
     Ok(())
 }
 
-#[test]
-fn messages_to_a_server_are_written(rt: HostRuntime) -> Result<(), Fail> {
-    let alloc = rt.alloc();
-    let document = [7u8; 16];
-    let hello = write_to_server(
-        alloc,
-        &ToServer::Hello {
-            document,
-            member: 9,
-        },
-    )?;
-    same_bytes(&rt, hello.as_slice(), &HELLO);
-    let pull = write_to_server(alloc, &ToServer::Pull { from: 65_538 })?;
-    same_bytes(&rt, pull.as_slice(), &PULL);
+fn is_written_to_server(
+    rt: &impl Abort,
+    alloc: Global,
+    message: &ToServer,
+    wanted: &[u8],
+) -> Result<(), Fail> {
+    let written = write_to_server(alloc, message)?;
+    same_bytes(rt, written.as_slice(), wanted);
+    Ok(())
+}
+
+fn submission(alloc: Global) -> Result<ToServer, Fail> {
     let entry = Bytes::copy_of(alloc, &[8, 9])?;
-    let submit = write_to_server(alloc, &ToServer::Submit { entry })?;
-    same_bytes(&rt, submit.as_slice(), &SUBMIT);
-    Ok(())
+    Ok(ToServer::Submit { entry })
 }
 
-#[test]
-fn messages_to_a_client_are_written(rt: HostRuntime) -> Result<(), Fail> {
-    let alloc = rt.alloc();
+const LAST_ADMIN: Refusal = Refusal::BadChange(ChangeFault::LastAdmin);
+
+fn are_written_to_server(rt: &impl Abort, alloc: Global) -> Result<(), Fail> {
+    let (document, member) = ([7u8; 16], 9);
+    is_written_to_server(rt, alloc, &ToServer::Hello { document, member }, &HELLO)?;
+    is_written_to_server(rt, alloc, &ToServer::Pull { from: 65_538 }, &PULL)?;
+    is_written_to_server(rt, alloc, &submission(alloc)?, &SUBMIT)
+}
+
+fn are_written_to_client(rt: &impl Abort, alloc: Global) -> Result<(), Fail> {
+    let refusal = LAST_ADMIN;
     let ordered = write_to_client(alloc, &ToClient::Ordered { pos: 8 })?;
-    same_bytes(&rt, ordered.as_slice(), &ORDERED);
-    let refusal = Refusal::BadChange(ChangeFault::LastAdmin);
+    same_bytes(rt, ordered.as_slice(), &ORDERED);
     let rejected = write_to_client(alloc, &ToClient::Rejected { refusal })?;
-    same_bytes(&rt, rejected.as_slice(), &REJECTED);
+    same_bytes(rt, rejected.as_slice(), &REJECTED);
     let empty = write_to_client(alloc, &ToClient::Empty)?;
-    same_bytes(&rt, empty.as_slice(), &EMPTY);
+    same_bytes(rt, empty.as_slice(), &EMPTY);
     Ok(())
 }
 
-#[test]
-fn entries_are_written(rt: HostRuntime) -> Result<(), Fail> {
-    let alloc = rt.alloc();
+fn entries_are_written(rt: &impl Abort, alloc: Global) -> Result<(), Fail> {
     let mut entries = Vec::new(alloc);
     entries.push(Bytes::copy_of(alloc, &[8, 9])?)?;
     entries.push(Bytes::copy_of(alloc, &[])?)?;
     let entries = Items::new(entries);
     let written = write_to_client(alloc, &ToClient::Entries { first: 3, entries })?;
-    same_bytes(&rt, written.as_slice(), &ENTRIES);
+    same_bytes(rt, written.as_slice(), &ENTRIES);
     Ok(())
 }
 
 #[test]
+fn messages_are_written(rt: HostRuntime) -> Result<(), Fail> {
+    are_written_to_server(&rt, rt.alloc())?;
+    are_written_to_client(&rt, rt.alloc())?;
+    entries_are_written(&rt, rt.alloc())
+}
+
+// The length of the frame that submits an entry of so many bytes, unless it is too long.
+fn submission_len(alloc: Global, len: usize) -> Result<Result<usize, FrameFault>, Fail> {
+    let entry = Bytes::new(vec![in alloc; 0; len]?);
+    Ok(frame_len(alloc, &ToServer::Submit { entry }))
+}
+
+fn frame_len(alloc: Global, message: &ToServer) -> Result<usize, FrameFault> {
+    let frame = write_to_server(alloc, message)?;
+    Ok(frame.len())
+}
+
+#[test]
 fn a_body_above_the_limit_is_not_written(rt: HostRuntime) -> Result<(), Fail> {
-    let alloc = rt.alloc();
-    let entry = Bytes::new(vec![in alloc; 0; 4_194_303]?);
-    let frame = write_to_server(alloc, &ToServer::Submit { entry })?;
-    assert!(rt; frame.len() == 4_194_308);
-    let entry = Bytes::new(vec![in alloc; 0; 4_194_304]?);
-    let long = write_to_server(alloc, &ToServer::Submit { entry });
-    assert!(rt; long.err() == Some(TOO_LONG));
+    assert!(rt; submission_len(rt.alloc(), 4_194_303)? == Ok(4_194_308));
+    assert!(rt; submission_len(rt.alloc(), 4_194_304)? == Err(TOO_LONG));
     Ok(())
 }

@@ -121,7 +121,10 @@ fn take(rt: &impl Abort, heads: &mut Heads, bytes: &[u8]) -> Result<(), Fail> {
     assert!(rt; checked.bytes() == bytes);
     match heads.push(checked) {
         Ok(()) => Ok(()),
-        Err((_, memory)) => Err(memory.into()),
+        Err((checked, memory)) => {
+            drop(checked);
+            Err(memory.into())
+        }
     }
 }
 
@@ -134,16 +137,28 @@ fn take_all(rt: &impl Abort, heads: &mut Heads, entries: &[Vec<u8>]) -> Result<(
 }
 
 fn opened(alloc: Global, cast: &Cast) -> Result<Box<Heads>, Fail> {
-    Ok(Box::new(alloc, Heads::open(alloc, cast.genesis(alloc)?)?)?)
+    let genesis = cast.genesis(alloc)?;
+    Ok(Box::new(alloc, Heads::open(alloc, genesis)?)?)
 }
 
-// The short history: edits by 2 and 4, a change by 1 that removes 4, and an edit by 5. Its heads are in a box: a
-// function that owns heads themselves is slow to prove.
-fn short(rt: &impl Abort, alloc: Global, cast: &Cast) -> Result<Box<Heads>, Fail> {
+// The heads of a history, in a box: a function that owns heads themselves is slow to prove.
+fn grown(
+    rt: &impl Abort,
+    alloc: Global,
+    cast: &Cast,
+    entries: &[Vec<u8>],
+) -> Result<Box<Heads>, Fail> {
     let mut heads = opened(alloc, cast)?;
-    let sample = short_history(alloc, cast)?;
-    take_all(rt, &mut heads, sample.entries())?;
+    take_all(rt, &mut heads, entries)?;
     Ok(heads)
+}
+
+// The short history: edits by 2 and 4, a change by 1 that removes 4, and an edit by 5.
+fn short(rt: &impl Abort, alloc: Global, cast: &Cast) -> Result<Box<Heads>, Fail> {
+    let sample = short_history(alloc, cast)?;
+    let heads = grown(rt, alloc, cast, sample.entries());
+    drop(sample);
+    heads
 }
 
 fn has_grown(heads: &Heads) -> bool {
@@ -156,12 +171,8 @@ fn has_grown(heads: &Heads) -> bool {
         && heads.is_removed(4)
 }
 
-#[test]
-fn a_history_grows(rt: HostRuntime) -> Result<(), Fail> {
-    let cast = Cast::new(rt.alloc())?;
-    let heads = short(&rt, rt.alloc(), &cast)?;
-    assert!(rt; has_grown(&heads));
-    Ok(())
+fn refusal_of(heads: &Heads, attempt: &Attempt, bytes: &[u8]) -> Option<Refusal> {
+    heads.check(attempt.me, attempt.pos, bytes).err()
 }
 
 fn refused(
@@ -173,7 +184,7 @@ fn refused(
     refusal: Refusal,
 ) -> Result<(), Fail> {
     let bytes = attempt.bytes(alloc, heads, cast)?;
-    let found = heads.check(attempt.me, attempt.pos, bytes.as_slice()).err();
+    let found = refusal_of(heads, attempt, bytes.as_slice());
     assert!(rt; found == Some(refusal), "{found:?}");
     Ok(())
 }
@@ -225,7 +236,7 @@ fn is_malformed(
     let mut bytes = worse.bytes(alloc, heads, cast)?;
     let len = bytes.len();
     bytes.push(0)?;
-    let found = heads.check(worse.me, worse.pos, bytes.as_slice()).err();
+    let found = refusal_of(heads, worse, bytes.as_slice());
     assert!(rt; found == Some(Refusal::Malformed(len)));
     Ok(())
 }
@@ -238,10 +249,12 @@ fn each_refuses(rt: &impl Abort, alloc: Global, heads: &Heads, cast: &Cast) -> R
     is_malformed(rt, alloc, heads, cast, &worse)
 }
 
+// The short history has grown, and each check refuses at it.
 #[test]
-fn each_check_refuses(rt: HostRuntime) -> Result<(), Fail> {
+fn a_history_grows_and_refuses(rt: HostRuntime) -> Result<(), Fail> {
     let cast = Cast::new(rt.alloc())?;
     let heads = short(&rt, rt.alloc(), &cast)?;
+    assert!(rt; has_grown(&heads));
     each_refuses(&rt, rt.alloc(), &heads, &cast)
 }
 

@@ -45,25 +45,25 @@ fn is_refused(rt: &impl Abort, roster: &Roster, change: Change, fault: ChangeFau
     assert!(rt; roster.test(&change) == Err(fault), "{fault:?}");
 }
 
-#[test]
-fn one_admin_alone(rt: HostRuntime) -> Result<(), Fail> {
-    let roster = Roster::found(rt.alloc(), &[founder(1, Role::Admin)])?;
-    is_refused(&rt, &roster, add(1, Role::Reader), ChangeFault::NumberUsed);
-    is_refused(&rt, &roster, remove(1), ChangeFault::LastAdmin);
+// What the roster of admin 1 alone refuses.
+fn one_admin_refuses(rt: &impl Abort, roster: &Roster) {
+    is_refused(rt, roster, add(1, Role::Reader), ChangeFault::NumberUsed);
+    is_refused(rt, roster, remove(1), ChangeFault::LastAdmin);
+    is_refused(rt, roster, set_role(1, Role::Admin), ChangeFault::SameRole);
     is_refused(
-        &rt,
-        &roster,
-        set_role(1, Role::Admin),
-        ChangeFault::SameRole,
-    );
-    is_refused(
-        &rt,
-        &roster,
+        rt,
+        roster,
         set_role(1, Role::Editor),
         ChangeFault::LastAdmin,
     );
-    is_refused(&rt, &roster, remove(2), ChangeFault::NotMember);
-    is_refused(&rt, &roster, add_without_key(2), ChangeFault::BadKey);
+    is_refused(rt, roster, remove(2), ChangeFault::NotMember);
+    is_refused(rt, roster, add_without_key(2), ChangeFault::BadKey);
+}
+
+#[test]
+fn one_admin_alone(rt: HostRuntime) -> Result<(), Fail> {
+    let roster = Roster::found(rt.alloc(), &[founder(1, Role::Admin)])?;
+    one_admin_refuses(&rt, &roster);
     Ok(())
 }
 
@@ -80,18 +80,26 @@ fn make(rt: &impl Abort, roster: &mut Roster, change: Change, numbers: &[u16]) -
     Ok(())
 }
 
+fn are_made(rt: &impl Abort, roster: &mut Roster) -> Result<(), Fail> {
+    make(rt, roster, add(3, Role::Reader), &[1, 3, 5])?;
+    make(rt, roster, set_role(3, Role::Admin), &[1, 3, 5])?;
+    make(rt, roster, remove(1), &[3, 5])?;
+    make(rt, roster, add(65535, Role::Editor), &[3, 5, 65535])?;
+    make(rt, roster, remove(5), &[3, 65535])
+}
+
+fn is_changed(roster: &Roster) -> bool {
+    roster.role(3) == Some(Role::Admin)
+        && roster.role(1).is_none()
+        && roster.key(65535).copied() == Some(key(9))
+}
+
 #[test]
 fn changes_are_made_in_order(rt: HostRuntime) -> Result<(), Fail> {
     let founders = [founder(1, Role::Admin), founder(5, Role::Editor)];
     let mut roster = Roster::found(rt.alloc(), &founders)?;
-    make(&rt, &mut roster, add(3, Role::Reader), &[1, 3, 5])?;
-    make(&rt, &mut roster, set_role(3, Role::Admin), &[1, 3, 5])?;
-    make(&rt, &mut roster, remove(1), &[3, 5])?;
-    make(&rt, &mut roster, add(65535, Role::Editor), &[3, 5, 65535])?;
-    make(&rt, &mut roster, remove(5), &[3, 65535])?;
-    assert!(rt; roster.role(3) == Some(Role::Admin));
-    assert!(rt; roster.role(1).is_none());
-    assert!(rt; roster.key(65535).copied() == Some(key(9)));
+    are_made(&rt, &mut roster)?;
+    assert!(rt; is_changed(&roster));
     is_refused(&rt, &roster, add(1, Role::Editor), ChangeFault::NumberUsed);
     Ok(())
 }

@@ -1,4 +1,3 @@
-use crate::compare::same_bytes;
 use sporc_base::Bytes;
 use sporc_head::Refusal;
 use sporc_order::{Answer, Order, Session};
@@ -10,12 +9,13 @@ use std::test::Fail;
 
 // The empty order of the sample document, in a box: a function that owns an order itself is slow to prove.
 fn opened(alloc: Global, cast: &Cast) -> Result<Box<Order>, Fail> {
-    Ok(Box::new(alloc, Order::open(alloc, cast.genesis(alloc)?)?)?)
+    let genesis = cast.genesis(alloc)?;
+    Ok(Box::new(alloc, Order::open(alloc, genesis)?)?)
 }
 
-fn empty_history(alloc: Global, cast: &Cast) -> Result<History, Fail> {
-    let sample = History::new(alloc, &cast.genesis(alloc)?)?;
-    Ok(sample)
+fn empty_history(alloc: Global, cast: &Cast) -> Result<Box<History>, Fail> {
+    let genesis = cast.genesis(alloc)?;
+    Ok(Box::new(alloc, History::new(alloc, &genesis)?)?)
 }
 
 // Whether an entry is ordered at this position, and refused if it is submitted again.
@@ -52,10 +52,18 @@ fn is_pulled(order: &Order) -> bool {
         && order.pull(18).len() == 0
 }
 
+// Whether the entry at this place, from 0 on, is pulled as it was submitted.
+fn is_pulled_at(order: &Order, entries: &[Vec<u8>], place: usize) -> bool {
+    match (order.pull(0).get(place), entries.get(place)) {
+        (Some(pulled), Some(entry)) => pulled.as_slice() == entry.as_slice(),
+        _ => false,
+    }
+}
+
 fn are_pulled(rt: &impl Abort, order: &Order, entries: &[Vec<u8>]) {
     assert!(rt; is_pulled(order));
-    for (pulled, entry) in order.pull(0).iter().zip(entries) {
-        same_bytes(rt, pulled.as_slice(), entry.as_slice());
+    for place in 0..16 {
+        assert!(rt; is_pulled_at(order, entries, place), "{place}");
     }
 }
 
@@ -110,31 +118,38 @@ fn answers(
     Ok(())
 }
 
-fn hello() -> ToServer {
-    ToServer::Hello {
+fn greets(
+    rt: &impl Abort,
+    alloc: Global,
+    session: &mut Session,
+    order: &mut Order,
+    wanted: Heard,
+) -> Result<(), Fail> {
+    let hello = ToServer::Hello {
         document: DOCUMENT,
         member: 1,
-    }
+    };
+    answers(rt, alloc, session, order, &hello, wanted)
 }
 
-fn pull() -> ToServer {
-    ToServer::Pull { from: 0 }
+fn pulls(
+    rt: &impl Abort,
+    alloc: Global,
+    session: &mut Session,
+    order: &mut Order,
+    wanted: Heard,
+) -> Result<(), Fail> {
+    let pull = ToServer::Pull { from: 0 };
+    answers(rt, alloc, session, order, &pull, wanted)
 }
 
 // A session that is not greeted, and one that is greeted twice.
 fn is_greeted(rt: &impl Abort, alloc: Global, order: &mut Order) -> Result<(), Fail> {
     let mut session = Session::new();
-    answers(rt, alloc, &mut session, order, &pull(), Heard::Close)?;
-    answers(rt, alloc, &mut session, order, &hello(), Heard::Silent)?;
-    answers(rt, alloc, &mut session, order, &pull(), Heard::Empty)?;
-    answers(rt, alloc, &mut session, order, &hello(), Heard::Close)
-}
-
-#[test]
-fn a_session_is_greeted_once(rt: HostRuntime) -> Result<(), Fail> {
-    let cast = Cast::new(rt.alloc())?;
-    let mut order = opened(rt.alloc(), &cast)?;
-    is_greeted(&rt, rt.alloc(), &mut order)
+    pulls(rt, alloc, &mut session, order, Heard::Close)?;
+    greets(rt, alloc, &mut session, order, Heard::Silent)?;
+    pulls(rt, alloc, &mut session, order, Heard::Empty)?;
+    greets(rt, alloc, &mut session, order, Heard::Close)
 }
 
 // A message that submits the first entry of a history.
@@ -154,25 +169,30 @@ fn is_ordered(
     message: &ToServer,
 ) -> Result<(), Fail> {
     let mut session = Session::new();
-    answers(rt, alloc, &mut session, order, &hello(), Heard::Silent)?;
+    greets(rt, alloc, &mut session, order, Heard::Silent)?;
     answers(rt, alloc, &mut session, order, message, Heard::OrderedFirst)?;
     answers(rt, alloc, &mut session, order, message, Heard::WrongNumber)?;
-    answers(
-        rt,
-        alloc,
-        &mut session,
-        order,
-        &pull(),
-        Heard::EntriesFromFirst,
-    )
+    pulls(rt, alloc, &mut session, order, Heard::EntriesFromFirst)
+}
+
+// Submits the first entry of a history, to which this adds it.
+fn is_submitted(
+    rt: &impl Abort,
+    alloc: Global,
+    cast: &Cast,
+    order: &mut Order,
+    sample: &mut History,
+) -> Result<(), Fail> {
+    sample.edit(alloc, cast, 1, b"")?;
+    let message = submission(alloc, sample)?;
+    is_ordered(rt, alloc, order, &message)
 }
 
 #[test]
-fn a_session_orders_an_entry_once(rt: HostRuntime) -> Result<(), Fail> {
+fn a_session_is_greeted_and_orders_an_entry_once(rt: HostRuntime) -> Result<(), Fail> {
     let cast = Cast::new(rt.alloc())?;
     let mut order = opened(rt.alloc(), &cast)?;
+    is_greeted(&rt, rt.alloc(), &mut order)?;
     let mut sample = empty_history(rt.alloc(), &cast)?;
-    sample.edit(rt.alloc(), &cast, 1, b"")?;
-    let message = submission(rt.alloc(), &sample)?;
-    is_ordered(&rt, rt.alloc(), &mut order, &message)
+    is_submitted(&rt, rt.alloc(), &cast, &mut order, &mut sample)
 }

@@ -7,7 +7,7 @@ use lms_ots::OtsType;
 use lms_tree::{LmsPublic, LmsType};
 use sporc_base::is_same;
 use sporc_entry::Genesis;
-use sporc_keys::{DrawFault, Named, PairKey, RingFile, found};
+use sporc_keys::{DrawFault, Founding, Named, PairKey, RingFile, found};
 use sporc_member::{Founder, Role};
 use sporc_outside::{Calls, ListedChance};
 use std::alloc::Global;
@@ -26,15 +26,15 @@ const fn key(byte: u8) -> LmsPublic {
 // The SHA-256 of 4, 16 bytes 1, four bytes 0 and 32 bytes 2, by Python's hashlib.
 const COMMITMENT: &str = "17f212f8e9fbed8818e8505f3ed771e5e71e0961381553c68556a61963365d2c";
 
+type Row = (u16, bool, [u8; 3]);
+
 // The members of rings, whether each has the key of epoch 0, and the bytes of the keys that it shares with 2, 5 and 9. The
 // pairs are (2, 2), (2, 5), (2, 9), (5, 5), (5, 9) and (9, 9).
-const RINGS: [(u16, bool, [u8; 3]); 3] = [
+const RINGS: [Row; 3] = [
     (2, true, [3, 4, 5]),
     (5, true, [4, 6, 7]),
     (9, false, [5, 7, 8]),
 ];
-
-const NUMBERS: [u16; 3] = [2, 5, 9];
 
 // Those who are named, in an order of their own.
 fn named() -> [Named; 3]
@@ -65,64 +65,101 @@ fn eight_words(alloc: Global, failing: &[u64]) -> Result<ListedChance, Fail> {
     Ok(ListedChance::new(words, Calls::failing(failing)))
 }
 
-fn is_founder(rt: &impl Abort, founder: &Founder, member: u16, role: Role, byte: u8) {
-    assert!(rt; founder.member == member);
-    assert!(rt; founder.role.is(role));
-    assert!(rt; is_same(&founder.key, &key(byte).to_bytes()));
+fn is_founder(founder: &Founder, member: u16, role: Role, byte: u8) -> bool {
+    founder.member == member
+        && founder.role.is(role)
+        && is_same(&founder.key, &key(byte).to_bytes())
 }
 
-fn is_the_genesis(rt: &impl Abort, genesis: &Genesis) -> Result<(), Fail> {
-    let commitment = <[u8; 32]>::from_hex(COMMITMENT)?;
-    assert!(rt; is_same(&genesis.document, &[1; 16]));
-    assert!(rt; is_same(&genesis.commitment, &commitment));
-    match genesis.founders.as_slice() {
+fn are_the_founders(founders: &[Founder]) -> bool {
+    match founders {
         [first, second] => {
-            is_founder(rt, first, 2, Role::Admin, 0x12);
-            is_founder(rt, second, 5, Role::Editor, 0x15);
+            is_founder(first, 2, Role::Admin, 0x12) && is_founder(second, 5, Role::Editor, 0x15)
         }
-        _ => assert!(rt; false),
+        _ => false,
     }
+}
+
+fn is_the_genesis(genesis: &Genesis) -> Result<bool, Fail> {
+    let commitment = <[u8; 32]>::from_hex(COMMITMENT)?;
+    Ok(
+        is_same(&genesis.document, &[1; 16])
+            && is_same(&genesis.commitment, &commitment)
+            && are_the_founders(genesis.founders.as_slice()),
+    )
+}
+
+fn is_the_pair(pair: &PairKey, member: u16, byte: u8) -> bool {
+    pair.member == member && is_same(&pair.key, &[byte; 32])
+}
+
+// The keys that are shared with 2, 5 and 9.
+fn are_the_pairs(pairs: &[PairKey], bytes: &[u8; 3]) -> bool {
+    let [first, second, third] = *bytes;
+    match pairs {
+        [two, five, nine] => {
+            is_the_pair(two, 2, first)
+                && is_the_pair(five, 5, second)
+                && is_the_pair(nine, 9, third)
+        }
+        _ => false,
+    }
+}
+
+fn is_the_epoch_key(key: Option<[u8; 32]>, founder: bool) -> bool {
+    match key {
+        Some(key) => founder && is_same(&key, &[2; 32]),
+        None => !founder,
+    }
+}
+
+fn is_the_ring(ring: &RingFile, row: &Row) -> bool {
+    let (member, founder, bytes) = row;
+    ring.member == *member
+        && is_the_epoch_key(ring.epoch_key, *founder)
+        && are_the_pairs(ring.pairs.as_slice(), bytes)
+}
+
+fn are_the_rings(rings: &[RingFile]) -> bool {
+    let [two, five, nine] = &RINGS;
+    match rings {
+        [first, second, third] => {
+            is_the_ring(first, two) && is_the_ring(second, five) && is_the_ring(third, nine)
+        }
+        _ => false,
+    }
+}
+
+fn is_the_founding(rt: &impl Abort, founding: &Founding) -> Result<(), Fail> {
+    assert!(rt; is_the_genesis(&founding.genesis)?);
+    assert!(rt; are_the_rings(founding.rings.as_slice()));
     Ok(())
 }
 
-fn are_the_pairs(rt: &impl Abort, pairs: &[PairKey], bytes: &[u8; 3]) {
-    assert!(rt; pairs.len() == 3);
-    for ((pair, member), byte) in pairs.iter().zip(&NUMBERS).zip(bytes) {
-        assert!(rt; pair.member == *member);
-        assert!(rt; is_same(&pair.key, &[*byte; 32]));
+fn three_found(rt: &impl Abort, alloc: Global) -> Result<(), Fail> {
+    let mut chance = eight_words(alloc, &[])?;
+    match found(alloc, &mut chance, &named()) {
+        Ok(founding) => {
+            let outcome = is_the_founding(rt, &founding);
+            drop(founding);
+            outcome
+        }
+        Err(_) => Err("no founding".into()),
     }
 }
 
-fn are_the_rings(rt: &impl Abort, rings: &[RingFile]) {
-    assert!(rt; rings.len() == 3);
-    for (ring, (member, founder, bytes)) in rings.iter().zip(&RINGS) {
-        assert!(rt; ring.member == *member);
-        assert!(rt; ring.epoch_key == if *founder { Some([2; 32]) } else { None });
-        are_the_pairs(rt, ring.pairs.as_slice(), bytes);
-    }
+// Why three found nothing, if this call fails.
+fn fault_at(alloc: Global, call: u64) -> Result<Option<DrawFault>, Fail> {
+    let mut chance = eight_words(alloc, &[call])?;
+    Ok(found(alloc, &mut chance, &named()).err())
 }
 
+// Three found a document, unless a call of the chance fails.
 #[test]
 fn three_found_a_document(rt: HostRuntime) -> Result<(), Fail> {
-    let mut chance = eight_words(rt.alloc(), &[])?;
-    match found(rt.alloc(), &mut chance, &named()) {
-        Ok(founding) => {
-            is_the_genesis(&rt, &founding.genesis)?;
-            are_the_rings(&rt, founding.rings.as_slice());
-        }
-        Err(_) => assert!(rt; false),
-    }
-    Ok(())
-}
-
-#[test]
-fn a_chance_that_fails(rt: HostRuntime) -> Result<(), Fail> {
+    three_found(&rt, rt.alloc())?;
     for call in 1..9 {
-        let mut chance = eight_words(rt.alloc(), &[call])?;
-        match found(rt.alloc(), &mut chance, &named()) {
-            Ok(_) => assert!(rt; false),
-            Err(fault) => assert!(rt; fault == DrawFault::Chance),
-        }
+        assert!(rt; fault_at(rt.alloc(), call)? == Some(DrawFault::Chance));
     }
     Ok(())
 }

@@ -60,64 +60,80 @@ fn changed(alloc: Global, place: usize, byte: u8) -> Result<Vec<u8>, Fail> {
     Ok(file)
 }
 
-fn is_the_key(rt: &impl Abort, key: &KeyFile) {
-    assert!(rt; key.member == KEY.member);
-    assert!(rt; key.lms == KEY.lms);
-    assert!(rt; key.ots == KEY.ots);
-    assert!(rt; is_same(&key.id, &KEY.id));
-    assert!(rt; is_same(&key.seed, &KEY.seed));
+fn is_the_key(key: &KeyFile) -> bool {
+    key.member == KEY.member
+        && key.lms == KEY.lms
+        && key.ots == KEY.ots
+        && is_same(&key.id, &KEY.id)
+        && is_same(&key.seed, &KEY.seed)
 }
 
 fn is_malformed(rt: &impl Abort, bytes: &[u8], at: usize) {
-    match read_key_file(bytes) {
-        Ok(_) => assert!(rt; false, "it is read, and not malformed at {at}"),
-        Err(malformed) => assert!(rt; malformed == Malformed(at)),
-    }
+    let found = read_key_file(bytes).err();
+    assert!(rt; found == Some(Malformed(at)), "{at}");
 }
 
 fn is_not_of(rt: &impl Abort, bytes: &[u8], member: u16, at: usize) {
-    match key_of_member(bytes, member) {
-        Ok(_) => assert!(rt; false, "it is read, and not malformed at {at}"),
-        Err(malformed) => assert!(rt; malformed == Malformed(at)),
+    let found = key_of_member(bytes, member).err();
+    assert!(rt; found == Some(Malformed(at)), "{at}");
+}
+
+fn is_written(alloc: Global, file: &[u8]) -> Result<bool, Fail> {
+    let written = write_key_file(alloc, &KEY)?;
+    Ok(is_same(written.as_slice(), file))
+}
+
+fn is_read(found: Result<KeyFile, Malformed>) -> bool {
+    match found {
+        Ok(key) => is_the_key(&key),
+        Err(_) => false,
     }
 }
 
 #[test]
-fn a_key_is_written(rt: HostRuntime) -> Result<(), Fail> {
-    let written = write_key_file(rt.alloc(), &KEY)?;
-    let expected = file(rt.alloc())?;
-    assert!(rt; is_same(written.as_slice(), expected.as_slice()));
-    Ok(())
-}
-
-#[test]
-fn a_key_is_read(rt: HostRuntime) -> Result<(), Fail> {
+fn a_key_is_written_and_read(rt: HostRuntime) -> Result<(), Fail> {
     let file = file(rt.alloc())?;
-    match read_key_file(file.as_slice()) {
-        Ok(key) => is_the_key(&rt, &key),
-        Err(_) => assert!(rt; false),
-    }
-    match key_of_member(file.as_slice(), 3) {
-        Ok(key) => is_the_key(&rt, &key),
-        Err(_) => assert!(rt; false),
+    assert!(rt; is_written(rt.alloc(), file.as_slice())?);
+    assert!(rt; is_read(read_key_file(file.as_slice())));
+    assert!(rt; is_read(key_of_member(file.as_slice(), 3)));
+    Ok(())
+}
+
+fn is_cut(rt: &impl Abort, file: &[u8], row: &(usize, usize, usize)) -> Result<(), Fail> {
+    let (from, to, at) = *row;
+    for len in from..to {
+        let part = file.get(..len).ok_or("the file is shorter")?;
+        is_malformed(rt, part, at);
     }
     Ok(())
 }
 
+// It is cut at each byte, and a byte follows it.
 #[test]
-fn a_key_file_is_cut_at_each_byte(rt: HostRuntime) -> Result<(), Fail> {
+fn a_key_file_has_another_length(rt: HostRuntime) -> Result<(), Fail> {
     let mut file = file(rt.alloc())?;
-    for (from, to, at) in CUTS.iter().rev() {
-        for len in (*from..*to).rev() {
-            file.truncate(len);
-            is_malformed(&rt, file.as_slice(), *at);
-        }
+    file.push(0)?;
+    is_malformed(&rt, file.as_slice(), 62);
+    for row in &CUTS {
+        is_cut(&rt, file.as_slice(), row)?;
     }
     Ok(())
 }
 
+// Another member's file is malformed at its number, also where a later field is forbidden, and not where an earlier one is.
+fn is_of_another_member(rt: &impl Abort, alloc: Global) -> Result<(), Fail> {
+    let whole = file(alloc)?;
+    is_not_of(rt, whole.as_slice(), 2, 4);
+    is_not_of(rt, whole.as_slice(), 4, 4);
+    let later = changed(alloc, 9, 8)?;
+    is_not_of(rt, later.as_slice(), 4, 4);
+    let earlier = changed(alloc, 0, 0)?;
+    is_not_of(rt, earlier.as_slice(), 4, 0);
+    Ok(())
+}
+
 #[test]
-fn a_byte_of_a_key_file_is_changed(rt: HostRuntime) -> Result<(), Fail> {
+fn a_key_file_has_other_bytes(rt: HostRuntime) -> Result<(), Fail> {
     for (place, byte, at) in &FORBIDDEN {
         let file = changed(rt.alloc(), *place, *byte)?;
         is_malformed(&rt, file.as_slice(), *at);
@@ -126,26 +142,5 @@ fn a_byte_of_a_key_file_is_changed(rt: HostRuntime) -> Result<(), Fail> {
         let file = changed(rt.alloc(), *place, *byte)?;
         assert!(rt; read_key_file(file.as_slice()).is_ok());
     }
-    Ok(())
-}
-
-#[test]
-fn a_byte_follows_a_key_file(rt: HostRuntime) -> Result<(), Fail> {
-    let mut file = file(rt.alloc())?;
-    file.push(0)?;
-    is_malformed(&rt, file.as_slice(), 62);
-    Ok(())
-}
-
-// Another member's file is malformed at its number, also where a later field is forbidden, and not where an earlier one is.
-#[test]
-fn a_key_file_of_another_member(rt: HostRuntime) -> Result<(), Fail> {
-    let whole = file(rt.alloc())?;
-    is_not_of(&rt, whole.as_slice(), 2, 4);
-    is_not_of(&rt, whole.as_slice(), 4, 4);
-    let later = changed(rt.alloc(), 9, 8)?;
-    is_not_of(&rt, later.as_slice(), 4, 4);
-    let earlier = changed(rt.alloc(), 0, 0)?;
-    is_not_of(&rt, earlier.as_slice(), 4, 0);
-    Ok(())
+    is_of_another_member(&rt, rt.alloc())
 }

@@ -40,24 +40,26 @@ fn is_the_key(rt: &impl Abort, key: &NewKey) -> Result<(), Fail> {
     Ok(())
 }
 
-#[test]
-fn a_key_of_two_words(rt: HostRuntime) -> Result<(), Fail> {
-    let mut chance = two_words(rt.alloc(), &[])?;
-    match keygen(rt.alloc(), &mut chance, 3, LmsType::H5, OtsType::W4) {
-        Ok(key) => is_the_key(&rt, &key)?,
-        Err(_) => assert!(rt; false),
+fn two_words_give_the_key(rt: &impl Abort, alloc: Global) -> Result<(), Fail> {
+    let mut chance = two_words(alloc, &[])?;
+    match keygen(alloc, &mut chance, 3, LmsType::H5, OtsType::W4) {
+        Ok(key) => is_the_key(rt, &key),
+        Err(_) => Err("no key".into()),
     }
-    Ok(())
 }
 
+// Why there is no new key, if this call fails.
+fn fault_at(alloc: Global, call: u64) -> Result<Option<DrawFault>, Fail> {
+    let mut chance = two_words(alloc, &[call])?;
+    Ok(keygen(alloc, &mut chance, 3, LmsType::H5, OtsType::W4).err())
+}
+
+// Two words give a key, unless a call of the chance fails.
 #[test]
-fn a_chance_that_fails(rt: HostRuntime) -> Result<(), Fail> {
-    for call in [1, 2] {
-        let mut chance = two_words(rt.alloc(), &[call])?;
-        match keygen(rt.alloc(), &mut chance, 3, LmsType::H5, OtsType::W4) {
-            Ok(_) => assert!(rt; false),
-            Err(fault) => assert!(rt; fault == DrawFault::Chance),
-        }
+fn a_key_of_two_words(rt: HostRuntime) -> Result<(), Fail> {
+    two_words_give_the_key(&rt, rt.alloc())?;
+    for call in 1..3 {
+        assert!(rt; fault_at(rt.alloc(), call)? == Some(DrawFault::Chance));
     }
     Ok(())
 }

@@ -1,5 +1,7 @@
 //! The ring files of members 3 and 7, worked by hand, and what is read of them whole, cut and changed.
 
+ghost use Rattle.sporc_keys.specs.RingFile.{IsRingFile};
+
 use sporc_base::is_same;
 use sporc_keys::{
     PairKey, PairKeys, RingFile, RingFileFault, read_ring_file, ring_of_member, write_ring_file,
@@ -68,119 +70,145 @@ fn founder(alloc: Global) -> Result<RingFile, Fail> {
 }
 
 fn is_malformed(rt: &impl Abort, alloc: Global, bytes: &[u8], at: usize) {
-    match read_ring_file(alloc, bytes) {
-        Ok(_) => assert!(rt; false, "it is read, and not malformed at {at}"),
-        Err(fault) => assert!(rt; fault == RingFileFault::Malformed(at)),
+    let found = read_ring_file(alloc, bytes).err();
+    assert!(rt; found == Some(RingFileFault::Malformed(at)), "{at}");
+}
+
+fn is_pair(pair: &PairKey, expected: &PairKey) -> bool {
+    pair.member == expected.member && is_same(&pair.key, &expected.key)
+}
+
+fn are_the_pairs(pairs: &[PairKey]) -> bool {
+    match pairs {
+        [one, other] => is_pair(one, &PAIRS[0]) && is_pair(other, &PAIRS[1]),
+        _ => false,
     }
+}
+
+fn is_founders(ring: &RingFile) -> bool {
+    ring.member == 3 && ring.epoch_key == Some([0x33; 32]) && are_the_pairs(ring.pairs.as_slice())
+}
+
+fn is_joiners(ring: &RingFile) -> bool {
+    ring.member == 7 && ring.epoch_key.is_none() && ring.pairs.as_slice().is_empty()
 }
 
 // What is read of a file is written again.
-fn is_written_again(rt: &impl Abort, alloc: Global, text: &str) -> Result<(), Fail> {
-    let file = bytes_of(alloc, text)?;
+fn is_written_again(
+    rt: &impl Abort,
+    alloc: Global,
+    file: &[u8],
+    ring: &RingFile,
+) -> Result<(), Fail>
+    requires { IsRingFile ring.now }
+{
+    let written = write_ring_file(alloc, ring)?;
+    assert!(rt; is_same(written.as_slice(), file));
+    Ok(())
+}
+
+fn is_read_as_founders(found: Result<RingFile, RingFileFault>) -> bool {
+    match found {
+        Ok(ring) => is_founders(&ring),
+        Err(_) => false,
+    }
+}
+
+fn founders_is_read(rt: &impl Abort, alloc: Global) -> Result<(), Fail> {
+    let file = bytes_of(alloc, FILE)?;
+    assert!(rt; is_read_as_founders(ring_of_member(alloc, file.as_slice(), 3)));
     match read_ring_file(alloc, file.as_slice()) {
         Ok(ring) => {
-            let written = write_ring_file(alloc, &ring)?;
-            assert!(rt; is_same(written.as_slice(), file.as_slice()));
+            assert!(rt; is_founders(&ring));
+            is_written_again(rt, alloc, file.as_slice(), &ring)
         }
-        Err(_) => assert!(rt; false),
-    }
-    Ok(())
-}
-
-#[test]
-fn rings_are_written(rt: HostRuntime) -> Result<(), Fail> {
-    is_written_again(&rt, rt.alloc(), FILE)?;
-    is_written_again(&rt, rt.alloc(), JOINER)?;
-    Ok(())
-}
-
-fn are_the_pairs(rt: &impl Abort, pairs: &[PairKey]) {
-    assert!(rt; pairs.len() == 2);
-    for (pair, expected) in pairs.iter().zip(&PAIRS) {
-        assert!(rt; pair.member == expected.member);
-        assert!(rt; is_same(&pair.key, &expected.key));
+        Err(_) => Err("no ring".into()),
     }
 }
 
-#[test]
-fn a_founders_ring_is_read(rt: HostRuntime) -> Result<(), Fail> {
-    let file = bytes_of(rt.alloc(), FILE)?;
-    match ring_of_member(rt.alloc(), file.as_slice(), 3) {
+fn joiners_is_read(rt: &impl Abort, alloc: Global) -> Result<(), Fail> {
+    let file = bytes_of(alloc, JOINER)?;
+    match read_ring_file(alloc, file.as_slice()) {
         Ok(ring) => {
-            assert!(rt; ring.member == 3);
-            assert!(rt; ring.epoch_key == Some([0x33; 32]));
-            are_the_pairs(&rt, ring.pairs.as_slice());
+            assert!(rt; is_joiners(&ring));
+            is_written_again(rt, alloc, file.as_slice(), &ring)
         }
-        Err(_) => assert!(rt; false),
+        Err(_) => Err("no ring".into()),
     }
-    Ok(())
 }
 
-#[test]
-fn a_joiners_ring_is_read(rt: HostRuntime) -> Result<(), Fail> {
-    let file = bytes_of(rt.alloc(), JOINER)?;
-    match read_ring_file(rt.alloc(), file.as_slice()) {
-        Ok(ring) => {
-            assert!(rt; ring.member == 7);
-            assert!(rt; ring.epoch_key.is_none());
-            assert!(rt; ring.pairs.as_slice().is_empty());
-        }
-        Err(_) => assert!(rt; false),
-    }
-    Ok(())
-}
-
-// The keys that a member has of its ring, by epoch and by member.
-#[test]
-fn keys_of_a_ring(rt: HostRuntime) -> Result<(), Fail> {
-    let file = founder(rt.alloc())?;
-    let ring = file.ring(rt.alloc())?;
+// The keys that a member has of its ring, by epoch.
+fn epochs_have_keys(rt: &impl Abort, alloc: Global, file: &RingFile) -> Result<(), Fail> {
+    let ring = file.ring(alloc)?;
     assert!(rt; ring.key(0) == Some(&[0x33; 32]));
     assert!(rt; ring.key(1).is_none());
-    let pairs = file.pairs(rt.alloc())?;
+    Ok(())
+}
+
+// And by member.
+fn members_have_keys(rt: &impl Abort, alloc: Global, file: &RingFile) -> Result<(), Fail> {
+    let pairs = file.pairs(alloc)?;
     assert!(rt; pairs.get(&7) == Some(&[0x55; 32]));
     assert!(rt; pairs.get(&4).is_none());
     Ok(())
 }
 
 #[test]
-fn a_ring_file_is_cut_at_each_byte(rt: HostRuntime) -> Result<(), Fail> {
-    let mut file = bytes_of(rt.alloc(), FILE)?;
-    for (from, to, at) in CUTS.iter().rev() {
-        for len in (*from..*to).rev() {
-            file.truncate(len);
-            is_malformed(&rt, rt.alloc(), file.as_slice(), *at);
-        }
+fn rings_are_read_and_written_and_have_keys(rt: HostRuntime) -> Result<(), Fail> {
+    founders_is_read(&rt, rt.alloc())?;
+    joiners_is_read(&rt, rt.alloc())?;
+    let file = founder(rt.alloc())?;
+    epochs_have_keys(&rt, rt.alloc(), &file)?;
+    members_have_keys(&rt, rt.alloc(), &file)
+}
+
+fn is_cut(
+    rt: &impl Abort,
+    alloc: Global,
+    file: &[u8],
+    row: &(usize, usize, usize),
+) -> Result<(), Fail> {
+    let (from, to, at) = *row;
+    for len in from..to {
+        let part = file.get(..len).ok_or("the file is shorter")?;
+        is_malformed(rt, alloc, part, at);
     }
     Ok(())
 }
 
+// It is cut at each byte, and a byte follows it.
 #[test]
-fn a_byte_of_a_ring_file_is_changed(rt: HostRuntime) -> Result<(), Fail> {
-    for (place, byte, at) in &MALFORMED {
-        let mut file = bytes_of(rt.alloc(), FILE)?;
-        if let Some(changed) = file.get_mut(*place) {
-            *changed = *byte;
-        }
-        is_malformed(&rt, rt.alloc(), file.as_slice(), *at);
-    }
-    Ok(())
-}
-
-#[test]
-fn a_byte_follows_a_ring_file(rt: HostRuntime) -> Result<(), Fail> {
+fn a_ring_file_has_another_length(rt: HostRuntime) -> Result<(), Fail> {
     let mut file = bytes_of(rt.alloc(), FILE)?;
     file.push(0)?;
     is_malformed(&rt, rt.alloc(), file.as_slice(), 109);
+    for row in &CUTS {
+        is_cut(&rt, rt.alloc(), file.as_slice(), row)?;
+    }
+    Ok(())
+}
+
+// The file with one byte changed.
+fn changed(alloc: Global, place: usize, byte: u8) -> Result<Vec<u8>, Fail> {
+    let mut file = bytes_of(alloc, FILE)?;
+    if let Some(changed) = file.get_mut(place) {
+        *changed = byte;
+    }
+    Ok(file)
+}
+
+fn is_of_another_member(rt: &impl Abort, alloc: Global) -> Result<(), Fail> {
+    let file = bytes_of(alloc, FILE)?;
+    let found = ring_of_member(alloc, file.as_slice(), 7).err();
+    assert!(rt; found == Some(RingFileFault::Malformed(4)));
     Ok(())
 }
 
 #[test]
-fn a_ring_file_of_another_member(rt: HostRuntime) -> Result<(), Fail> {
-    let file = bytes_of(rt.alloc(), FILE)?;
-    match ring_of_member(rt.alloc(), file.as_slice(), 7) {
-        Ok(_) => assert!(rt; false),
-        Err(fault) => assert!(rt; fault == RingFileFault::Malformed(4)),
+fn a_ring_file_has_other_bytes(rt: HostRuntime) -> Result<(), Fail> {
+    for (place, byte, at) in &MALFORMED {
+        let file = changed(rt.alloc(), *place, *byte)?;
+        is_malformed(&rt, rt.alloc(), file.as_slice(), *at);
     }
-    Ok(())
+    is_of_another_member(&rt, rt.alloc())
 }

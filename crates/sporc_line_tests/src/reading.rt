@@ -1,12 +1,12 @@
 //! What members read of a history.
 
 use crate::refusals::{spoilt, tried};
-use crate::scene::{empty_history, founded, insert, opened, paired, take, unpaired};
+use crate::scene::{empty_history, founded, insert, opened, paired, short, take, unpaired};
 use sporc_epoch::hints_from;
 use sporc_head::Refusal;
 use sporc_line::Line;
 use sporc_member::{Change, Role};
-use sporc_samples::{Cast, Draft, EDIT, History, Member, epoch_key, short_history};
+use sporc_samples::{Cast, Draft, EDIT, History, Member, epoch_key};
 use std::alloc::Global;
 use std::process::Abort;
 use std::test::Fail;
@@ -33,22 +33,21 @@ fn reads_short(
     let mut line = founded(alloc, cast, me)?;
     take(rt, &mut line, sample, None)?;
     assert!(rt; reads(&line, 4, "abcd", Some(epoch_key(1)))?, "{me}");
-    assert!(rt; line.hash() == sample.hash(), "{me}");
+    assert!(rt; line.hash() == sample.hash());
     Ok(())
 }
 
 // An admin, an editor and a reader read it alike.
-fn all_read_short(rt: &impl Abort, alloc: Global, cast: &Cast) -> Result<(), Fail> {
-    let sample = short_history(alloc, cast)?;
-    reads_short(rt, alloc, cast, &sample, 1)?;
-    reads_short(rt, alloc, cast, &sample, 2)?;
-    reads_short(rt, alloc, cast, &sample, 3)
-}
-
-#[test]
-fn members_read_a_history_alike(rt: HostRuntime) -> Result<(), Fail> {
-    let cast = Cast::new(rt.alloc())?;
-    all_read_short(&rt, rt.alloc(), &cast)
+fn all_read_short(
+    rt: &impl Abort,
+    alloc: Global,
+    cast: &Cast,
+    sample: &History,
+) -> Result<(), Fail> {
+    for me in [1, 2, 3] {
+        reads_short(rt, alloc, cast, sample, me)?;
+    }
+    Ok(())
 }
 
 // Gives member 4 the short history, whose third entry removes it.
@@ -95,16 +94,13 @@ fn removed_twice(
     is_removed_again(rt, alloc, &line, sample)
 }
 
-fn removed_by_short(rt: &impl Abort, alloc: Global, cast: &Cast) -> Result<(), Fail> {
-    let sample = short_history(alloc, cast)?;
-    removed_twice(rt, alloc, cast, &sample)
-}
-
 // Member 4 accepts the change that removes it, has no key from then on, and accepts nothing more; its line can begin anew.
 #[test]
-fn a_removed_member_accepts_nothing_more(rt: HostRuntime) -> Result<(), Fail> {
+fn members_read_a_history_alike_unless_removed(rt: HostRuntime) -> Result<(), Fail> {
     let cast = Cast::new(rt.alloc())?;
-    removed_by_short(&rt, rt.alloc(), &cast)
+    let sample = short(rt.alloc(), &cast)?;
+    all_read_short(&rt, rt.alloc(), &cast, &sample)?;
+    removed_twice(&rt, rt.alloc(), &cast, &sample)
 }
 
 // Appends a change by the admin, with the next key sealed for these members.
@@ -136,17 +132,14 @@ const READER: Change = Change::SetRole {
 
 const REMOVE: Change = Change::Remove { member: 4 };
 
-// A history of three epochs: three changes, each with an edit before it, the last of which adds member 6.
-fn three_epochs(alloc: Global, cast: &Cast) -> Result<History, Fail> {
-    let add = addition(alloc)?;
-    let mut sample = empty_history(alloc, cast)?;
-    insert(alloc, cast, &mut sample, 2, 0, b"a")?;
-    change(alloc, cast, &mut sample, READER, &[1, 2, 3, 4, 5])?;
-    insert(alloc, cast, &mut sample, 4, 1, b"b")?;
-    change(alloc, cast, &mut sample, REMOVE, &[1, 2, 3, 5])?;
-    insert(alloc, cast, &mut sample, 2, 2, b"c")?;
-    change(alloc, cast, &mut sample, add, &[1, 2, 3, 5, 6])?;
-    Ok(sample)
+// Three epochs: three changes, each with an edit before it, the last of which adds member 6.
+fn grow_three_epochs(alloc: Global, cast: &Cast, sample: &mut History) -> Result<(), Fail> {
+    insert(alloc, cast, sample, 2, 0, b"a")?;
+    change(alloc, cast, sample, READER, &[1, 2, 3, 4, 5])?;
+    insert(alloc, cast, sample, 4, 1, b"b")?;
+    change(alloc, cast, sample, REMOVE, &[1, 2, 3, 5])?;
+    insert(alloc, cast, sample, 2, 2, b"c")?;
+    change(alloc, cast, sample, addition(alloc)?, &[1, 2, 3, 5, 6])
 }
 
 // The empty line of joiner 6, with the hints that it finds in the history.
@@ -180,10 +173,15 @@ fn reads_without_hints(
     Ok(())
 }
 
-fn joiner_reads(rt: &impl Abort, alloc: Global, cast: &Cast) -> Result<(), Fail> {
-    let sample = three_epochs(alloc, cast)?;
-    reads_by_hints(rt, alloc, cast, &sample)?;
-    reads_without_hints(rt, alloc, cast, &sample)
+fn joiner_reads(
+    rt: &impl Abort,
+    alloc: Global,
+    cast: &Cast,
+    sample: &mut History,
+) -> Result<(), Fail> {
+    grow_three_epochs(alloc, cast, sample)?;
+    reads_by_hints(rt, alloc, cast, sample)?;
+    reads_without_hints(rt, alloc, cast, sample)
 }
 
 // A joiner reads the epochs before it by hints, which it opens backwards from the change that adds it. Without the hint of
@@ -191,5 +189,6 @@ fn joiner_reads(rt: &impl Abort, alloc: Global, cast: &Cast) -> Result<(), Fail>
 #[test]
 fn a_joiner_reads_by_hints(rt: HostRuntime) -> Result<(), Fail> {
     let cast = Cast::new(rt.alloc())?;
-    joiner_reads(&rt, rt.alloc(), &cast)
+    let mut sample = empty_history(rt.alloc(), &cast)?;
+    joiner_reads(&rt, rt.alloc(), &cast, &mut sample)
 }

@@ -1,14 +1,12 @@
 //! Each check of an entry refuses one that fails it alone, and one that fails all that come after it, too.
 
-use crate::scene::{empty_history, founded, given, insert, take, unpaired};
+use crate::scene::{empty_history, founded, given, insert, short, take, unpaired};
 use sporc_entry::Header;
 use sporc_hash::Digest32;
 use sporc_head::Refusal;
 use sporc_line::Line;
 use sporc_member::{Change, ChangeFault, Role};
-use sporc_samples::{
-    CHANGE, Cast, Draft, EDIT, History, change_body, edit_body, insertion, short_history,
-};
+use sporc_samples::{CHANGE, Cast, Draft, EDIT, History, change_body, edit_body, insertion};
 use std::alloc::Global;
 use std::process::Abort;
 use std::test::Fail;
@@ -68,6 +66,11 @@ pub(crate) fn tried(
     Ok(given(line, position, bytes.as_slice()))
 }
 
+// Whether what was found is this refusal.
+fn is(found: Option<Refusal>, refusal: Refusal) -> bool {
+    found == Some(refusal)
+}
+
 // The refusals of an edit's header, by the last check and those before it. The tenth is that of its author.
 const REFUSALS: [Refusal; 12] = [
     Refusal::BadSignature,
@@ -110,7 +113,7 @@ fn refuses(
     let position = place(line, refusal);
     let found = tried(alloc, cast, line, &alone, position, body)?;
     let found_worse = tried(alloc, cast, line, worse, position, &[5])?;
-    Ok(found == Some(refusal) && found_worse == Some(refusal))
+    Ok(is(found, refusal) && is(found_worse, refusal))
 }
 
 // The body of member 2's next edit of the short history: it keeps so many characters and inserts one.
@@ -131,10 +134,10 @@ fn bodies_refused(
 ) -> Result<(), Fail> {
     let long = body_keeping(alloc, 5)?;
     let found = tried(alloc, cast, line, good, 5, long.as_slice())?;
-    assert!(rt; found == Some(Refusal::WrongLength));
+    assert!(rt; is(found, Refusal::WrongLength));
     let found = tried(alloc, cast, line, good, 5, &[5])?;
-    assert!(rt; found == Some(Refusal::BadPayload));
-    assert!(rt; given(line, 1, b"") == Some(Refusal::Malformed(0)));
+    assert!(rt; is(found, Refusal::BadPayload));
+    assert!(rt; is(given(line, 1, b""), Refusal::Malformed(0)));
     assert!(rt; tried(alloc, cast, line, good, 5, body)?.is_none());
     Ok(())
 }
@@ -151,7 +154,7 @@ fn headers_refused(
     let mut worse = *good;
     for refusal in &REFUSALS {
         let refused = refuses(alloc, cast, line, good, body, &mut worse, *refusal)?;
-        assert!(rt; refused, "{refusal:?}");
+        assert!(rt; refused, "{}", refusal.code());
     }
     Ok(())
 }
@@ -180,18 +183,6 @@ fn edits_refused_by(
     take(rt, &mut line, sample, None)?;
     let good = Draft::new(sample.header(2, EDIT));
     edits_refused(rt, alloc, cast, &mut line, &good)
-}
-
-// The same, after the short history.
-fn edits_refused_after(rt: &impl Abort, alloc: Global, cast: &Cast) -> Result<(), Fail> {
-    let sample = short_history(alloc, cast)?;
-    edits_refused_by(rt, alloc, cast, &sample)
-}
-
-#[test]
-fn each_check_of_an_edit_refuses(rt: HostRuntime) -> Result<(), Fail> {
-    let cast = Cast::new(rt.alloc())?;
-    edits_refused_after(&rt, rt.alloc(), &cast)
 }
 
 const EDITOR: Change = Change::SetRole {
@@ -241,10 +232,7 @@ fn tries_change(
     let (change, epoch, wraps, refusal) = *row;
     let body = change_body(alloc, change, 1, 0, epoch, wraps)?;
     let found = tried(alloc, cast, line, draft, 2, body.as_slice())?;
-    assert!(rt;
-        found == Some(refusal),
-        "{epoch} {wraps:?}: {found:?}"
-    );
+    assert!(rt; is(found, refusal), "{}", refusal.code());
     Ok(())
 }
 
@@ -288,15 +276,22 @@ fn refused_worse(
 }
 
 // Both, after one edit.
-fn changes_refused_after(rt: &impl Abort, alloc: Global, cast: &Cast) -> Result<(), Fail> {
-    let mut sample = empty_history(alloc, cast)?;
-    insert(alloc, cast, &mut sample, 2, 0, b"ab")?;
-    refused_alone(rt, alloc, cast, &sample)?;
-    refused_worse(rt, alloc, cast, &sample)
+fn refused_at_both(
+    rt: &impl Abort,
+    alloc: Global,
+    cast: &Cast,
+    sample: &mut History,
+) -> Result<(), Fail> {
+    insert(alloc, cast, sample, 2, 0, b"ab")?;
+    refused_alone(rt, alloc, cast, sample)?;
+    refused_worse(rt, alloc, cast, sample)
 }
 
 #[test]
-fn each_check_of_a_change_refuses(rt: HostRuntime) -> Result<(), Fail> {
+fn each_check_of_an_edit_and_of_a_change_refuses(rt: HostRuntime) -> Result<(), Fail> {
     let cast = Cast::new(rt.alloc())?;
-    changes_refused_after(&rt, rt.alloc(), &cast)
+    let sample = short(rt.alloc(), &cast)?;
+    edits_refused_by(&rt, rt.alloc(), &cast, &sample)?;
+    let mut sample = empty_history(rt.alloc(), &cast)?;
+    refused_at_both(&rt, rt.alloc(), &cast, &mut sample)
 }

@@ -3,7 +3,7 @@
 use sporc_epoch::{Pairs, Ring};
 use sporc_head::Refusal;
 use sporc_line::Line;
-use sporc_samples::{Cast, History, epoch_key, insertion, pair_key};
+use sporc_samples::{Cast, History, epoch_key, insertion, pair_key, short_history};
 use std::alloc::Global;
 use std::process::Abort;
 use std::test::Fail;
@@ -47,11 +47,15 @@ pub(crate) fn unpaired(alloc: Global, cast: &Cast, me: u16) -> Result<Box<Line>,
     opened(alloc, cast, me, ring, Pairs::new(alloc))
 }
 
-/// The empty history of the sample document.
-pub(crate) fn empty_history(alloc: Global, cast: &Cast) -> Result<History, Fail> {
+/// The empty history of the sample document, in a box for the same reason.
+pub(crate) fn empty_history(alloc: Global, cast: &Cast) -> Result<Box<History>, Fail> {
     let genesis = cast.genesis(alloc)?;
-    let sample = History::new(alloc, &genesis)?;
-    Ok(sample)
+    Ok(Box::new(alloc, History::new(alloc, &genesis)?)?)
+}
+
+/// The short history, in a box, too.
+pub(crate) fn short(alloc: Global, cast: &Cast) -> Result<Box<History>, Fail> {
+    Ok(Box::new(alloc, short_history(alloc, cast)?)?)
 }
 
 /// Appends an edit that inserts a text behind so many characters.
@@ -92,6 +96,6 @@ pub(crate) fn take(
     refusal: Option<Refusal>,
 ) -> Result<(), Fail> {
     let found = all_given(line, sample.entries());
-    assert!(rt; found == refusal, "{found:?} and not {refusal:?}");
+    assert!(rt; found == refusal);
     Ok(())
 }

@@ -1,5 +1,5 @@
 -- What a state becomes by a command, and what it tells, from what the calls on its parts did.
-use Rattle.std.proofs.Common.{◌≡◌, ℕ, ◌+◌, List, ◌++◌, length, map, get_or, refl, sym, ap, ◌∙◌, subst, Option, Some, Result, Ok, Err, Vec, Global}
+use Rattle.std.proofs.Common.{◌≡◌, ℕ, ◌+◌, ◌<◌, List, ◌++◌, length, map, get_or, refl, sym, ap, ◌∙◌, subst, Option, Some, Result, Ok, Err, Vec, Global}
 use Rattle.std.specs.Prelude.{slice_get}
 use Rattle.std.specs.Option.{option_to_list}
 use Rattle.std.specs.Result.{OnOk}
@@ -64,6 +64,12 @@ rogue_read slice items i m x same found read =
     let there : slice_get items i ≡ Some found.0 = subst (λ (xs : List Rogue). slice_get xs i ≡ Some found.0) same found.1.there in
     let here : slice_get items i ≡ Some x = element items i x (slice_get_within items i found.0 there) read in
     record { there = here; own = ap (λ (r : Rogue). r.member) (same_Some x found.0 (sym here ∙ there)) ∙ found.1.own }
+
+pub seat_within : (slice : List Seat) (len i m : ℕ) → length slice ≡ len → (seat : Seat) × IsSeatAt slice i m seat → i < len
+seat_within slice len i m same found = subst (λ (n : ℕ). i < n) same (slice_get_within slice i found.0 found.1.there)
+
+pub rogue_within : (slice : List Rogue) (len i m : ℕ) → length slice ≡ len → (rogue : Rogue) × IsRogueAt slice i m rogue → i < len
+rogue_within slice len i m same found = subst (λ (n : ℕ). i < n) same (slice_get_within slice i found.0 found.1.there)
 
 -- ---- edits, changes and discards
 

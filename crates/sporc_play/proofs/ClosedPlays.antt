@@ -1,5 +1,5 @@
 -- Plays in which clients make all entries are closed: what is handed out was signed by a client of the play.
-use Rattle.std.proofs.Common.{◌≡◌, ℕ, zero, suc, ◌+◌, Bool, true, false, cond, List, [], ◌∷◌, ◌++◌, length, map, refl, sym, subst, arith, Option, None, Some, Result, Ok, Err}
+use Rattle.std.proofs.Common.{◌≡◌, ℕ, zero, suc, Bool, true, false, cond, List, [], ◌∷◌, ◌++◌, length, map, refl, sym, subst, arith, Option, None, Some, Result, Ok, Err}
 use Rattle.std.specs.Prelude.{Contains, if◌then◌else◌, nat_le}
 use Rattle.std.specs.List.{AllByRecursion}
 use Rattle.std.proofs.lemmas.List.Elements.{Contains-append_left, Contains-append_right}
@@ -17,7 +17,7 @@ use Rattle.sporc_client.specs.declared.submitted.Submitted.{Submitted}
 use Rattle.sporc_client.specs.declared.submitted.Submitted.TheVariants as submitted
 use Rattle.sporc_client.specs.Answers.{change_fault, discard_fault, edit_fault}
 use Rattle.sporc_client.specs.Closed.{AreClosed, HasItsKey, IsClosedMove, IsSigned}
-use Rattle.sporc_client.specs.Log.{Logged, Change, Discard, Dropped, Edit, Submit}
+use Rattle.sporc_client.specs.Log.{Logged, Change, Discard, Edit, Submit}
 use Rattle.sporc_client.specs.PlainClient.{PlainClient}
 use Rattle.sporc_client.specs.Run.{Setup, Signing, World, Move, Genuine, Give, Happen, Open, Restart, after, after_all, gives_to, happens_to, restarts as restarts_in, signings, start}
 use Rattle.sporc_client.proofs.ClosedRuns.{closed_runs_are_genuine}

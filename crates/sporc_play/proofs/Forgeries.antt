@@ -9,7 +9,7 @@ use Rattle.std.specs.List.{AllByRecursion, cons_option}
 use Rattle.std.specs.Ordering.{nat_cmp, eq_by_cmp}
 use Rattle.std.specs.Cmp.{nat_cmp_total, unsigned_tied}
 use Rattle.std.proofs.lemmas.Bool.Decides.{nat_tests}
-use Rattle.std.specs.FinMap.{empty, get, insert, get-insert}
+use Rattle.std.specs.FinMap.{empty, get, get-insert}
 use Rattle.sha2.proofs.Facts256.{length-sha256}
 use Rattle.lms_leaf.specs.declared.faults.LeafFault.{LeafFault}
 use Rattle.lms_leaf.specs.declared.faults.LeafFault.TheVariants.{Exhausted}

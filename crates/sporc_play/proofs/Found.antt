@@ -1,7 +1,10 @@
 -- Entries by their numbers.
-use Rattle.std.proofs.Common.{◌≡◌, ℕ, zero, suc, ◌+◌, ◌-◌, ◌<◌, List, [], ◌∷◌, ◌++◌, length, get_or, map, Some, Vec, Global, refl, ap, sym, subst, arith}
-use Rattle.std.specs.Prelude.{Result, Ok, Err, slice_get}
-use Rattle.sporc_play.specs.Scene.{entry_at}
+use Rattle.std.proofs.Common.{◌≡◌, ℕ, zero, suc, ◌+◌, ◌-◌, ◌<◌, List, [], ◌∷◌, ◌++◌, length, get_or, map, drop, drop-cons, add-one, append_assoc, Some, Option, Vec, Global, refl, ap, sym, subst, arith, ◌∙◌}
+use Rattle.std.specs.Prelude.{false, is_some, None, Result, Ok, Err, slice_get}
+use Rattle.sporc_play.specs.declared.made.Found.{Found}
+use Rattle.sporc_play.specs.declared.made.Found.TheVariants.{Entries}
+use Rattle.sporc_play.specs.Joined.{entries_found}
+use Rattle.sporc_play.specs.Scene.{entries_at, entry_at, with_entry}
 
 abbrev bytes_of : Vec ℕ Global → List ℕ
 bytes_of v = v.items
@@ -24,3 +27,25 @@ entry_there made (suc n) entry some low is =
 abbrev pub behind : List (List ℕ) → Result (List (List ℕ)) ℕ → Result (List (List ℕ)) ℕ
 behind found (Ok rest) = Ok (found ++ rest)
 behind found (Err missing) = Err missing
+
+behind_found : (found : List (List ℕ)) (entry : List ℕ) (n : ℕ) (at : Option (List ℕ)) (rest : Result (List (List ℕ)) ℕ) → Some entry ≡ at → behind found (with_entry n at rest) ≡ behind (found ++ entry ∷ []) rest
+behind_found found entry n at rest is = subst (λ (o : Option (List ℕ)). behind found (with_entry n o rest) ≡ behind (found ++ entry ∷ []) rest) is (go rest)
+  where
+    go : (r : Result (List (List ℕ)) ℕ) → behind found (with_entry n (Some entry) r) ≡ behind (found ++ entry ∷ []) r
+    go (Ok entries) = ap Ok (sym (append_assoc found (entry ∷ []) entries))
+    go (Err missing) = refl
+
+-- one more entry is found
+pub found_more : (made found : List (List ℕ)) (entry : List ℕ) (numbers : List ℕ) (i : ℕ) → i < length numbers → Some entry ≡ entry_at made (get_or numbers i 0)
+    → behind found (entries_at made (drop i numbers)) ≡ behind (found ++ entry ∷ []) (entries_at made (drop (i + 1) numbers))
+found_more made found entry numbers i low there = rw (add-one, drop-cons numbers i 0) (behind_found found entry _ _ (entries_at made (drop (suc i) numbers)) there)
+
+-- all entries are found
+pub all_found : (made : List (List ℕ)) (numbers slice : List ℕ) (found : Found) (entries : Vec (Vec ℕ Global) Global) (items : List (Vec ℕ Global))
+    → found ≡ Entries entries → entries_found found ≡ entries_at made slice → slice ≡ numbers → items ≡ entries.items → entries_at made numbers ≡ Ok (map bytes_of items)
+all_found made numbers slice found entries items is value same read =
+    ap (λ (ns : List ℕ). entries_at made ns) (sym same) ∙ sym value ∙ ap entries_found is ∙ ap (λ (xs : List (Vec ℕ Global)). Ok (map bytes_of xs)) (sym read)
+
+pub none_there : {X : Type 0} (o : Option X) → false ≡ is_some o → o ≡ None
+none_there None is = refl
+none_there (Some x) is = absurd cc

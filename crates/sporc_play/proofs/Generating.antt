@@ -1,5 +1,5 @@
 -- What the generated run declares, and whose clients are open in it.
-use Rattle.std.proofs.Common.{◌≡◌, ◌≢◌, ℕ, zero, suc, ◌<◌, ◌^◌, false, [], ◌∷◌, length, None, refl, ap, subst, inl, inr, arith}
+use Rattle.std.proofs.Common.{◌≡◌, ◌≢◌, ℕ, zero, suc, ◌<◌, ◌^◌, false, [], ◌∷◌, None, refl, ap, subst, inl, inr, arith}
 use Rattle.std.specs.Prelude.{IsSome, is_none}
 use Rattle.std.specs.List.Sorted.{IsStrictlyIncreasing}
 use Rattle.std.proofs.lemmas.Bool.{cases_lt}

@@ -1,5 +1,5 @@
 -- The keys that a play derives are such as a genesis can have.
-use Rattle.std.proofs.Common.{◌≡◌, ℕ, ◌+◌, ◌<◌, ◌^◌, ◌∷◌, ◌++◌, length, take, Some, arith, length-append}
+use Rattle.std.proofs.Common.{◌≡◌, ℕ, ◌<◌, ◌^◌, ◌∷◌, ◌++◌, length, take, Some, arith, length-append}
 use Rattle.std.proofs.lemmas.List.{length-take-le}
 use Rattle.std.specs.Int.{w16, w32, to_be_bytes}
 use Rattle.sha2.proofs.Facts256.{length-sha256}

@@ -1,5 +1,5 @@
 -- A state that stands for a scene of a script can perform the script's next command.
-use Rattle.std.proofs.Common.{◌≡◌, ℕ, zero, suc, ◌+◌, ◌^◌, ◌<◌, ◌≤◌, Bool, true, false, cond, List, [], ◌∷◌, length, take, get_or, map, refl, sym, ap, ◌∙◌, subst, arith, length-take, Option, None, Some, IfSome, IsSome}
+use Rattle.std.proofs.Common.{◌≡◌, ℕ, zero, suc, ◌+◌, ◌^◌, ◌<◌, ◌≤◌, Bool, true, false, cond, List, [], ◌∷◌, length, take, get_or, refl, sym, ap, ◌∙◌, subst, arith, length-take, Option, None, Some, IfSome, IsSome}
 use Rattle.std.specs.Prelude.{◌==◌, Contains, filter_map}
 use Rattle.std.specs.List.{AllByRecursion}
 use Rattle.std.proofs.lemmas.Bool.{and_parts}
@@ -23,7 +23,7 @@ use Rattle.sporc_play.specs.declared.state.PlayState.{PlayState}
 use Rattle.sporc_play.specs.Cast.{has_admin, member_by, setup_of}
 use Rattle.sporc_play.specs.Playing.{IsShortScript}
 use Rattle.sporc_play.specs.Scene.{Scene, after, after_each, commands_of, opening, scene_at, signer_of, text_size, with_more}
-use Rattle.sporc_play.specs.Seats.{AreDrawn, IsReady, rogue_numbers, seated}
+use Rattle.sporc_play.specs.Seats.{AreDrawn, IsReady, seated}
 use Rattle.sporc_play.specs.Stage.{IsCast, CanPerform, Holds, IsReadyRogue, IsReadySeat, IsRogueOf, IsSeatOf, StandsFor}
 use Rattle.sporc_play.proofs.Scripts.{client_named, joiner_named, line_at, rogue_named}
 use Rattle.sporc_play.proofs.Sizes.{script_count, script_sizes}

@@ -1,5 +1,5 @@
 -- Signatures and entries are strings of bytes.
-use Rattle.std.proofs.Common.{ℕ, zero, suc, ◌+◌, ◌<◌, List, [], ◌∷◌, ◌++◌, length, arith}
+use Rattle.std.proofs.Common.{ℕ, zero, suc, ◌<◌, List, [], ◌∷◌, ◌++◌, length, arith}
 use Rattle.std.specs.Int.{w16, w32, to_be_bytes}
 use Rattle.lms_ots.specs.Chains.{concatenated}
 use Rattle.lms_ots.specs.Coefficients.{coef_of, with_checksum}

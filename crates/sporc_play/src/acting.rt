@@ -18,6 +18,7 @@ ghost use Rattle.sporc_play.specs.Scene.{delta_by, edit_events, edit_size, entri
 use crate::derived::random_of;
 use crate::names::{push_accept_fault, push_edit_fault, push_submit_fault};
 use crate::seat::{PlayClient, Seat};
+use crate::showing::{push_number, push_start};
 use sporc_base::Memory;
 use sporc_client::{EditFault, RestartFault, SubmitFault, Submitted};
 use sporc_delta::Delta;
@@ -246,15 +247,15 @@ fn tell_submission(
 {
     match answer {
         Ok(Submitted::Entry(entry)) => {
-            writeln!(out, "{member} submit entry {next}")?;
+            push_number(out, member, " submit entry ", next)?;
             Ok(Some(entry.into_vec()))
         }
         Ok(Submitted::Nothing) => {
-            writeln!(out, "{member} submit nothing")?;
+            push_start(out, member, " submit nothing\n")?;
             Ok(None)
         }
         Ok(Submitted::Waiting) => {
-            writeln!(out, "{member} submit waiting {last}")?;
+            push_number(out, member, " submit waiting ", last)?;
             Ok(None)
         }
         Ok(Submitted::Dropped(fault)) => {

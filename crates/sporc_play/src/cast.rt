@@ -111,7 +111,9 @@ impl Cast {
             }
         }
         let signer = signer_of(alloc, self.tree, member)?;
-        Ok(signer.public().to_bytes())
+        let key = signer.public().to_bytes();
+        drop(signer);
+        Ok(key)
     }
 
     /// A change of the members. The key of a new one is its own.
@@ -170,8 +172,13 @@ pub fn signer_of(alloc: Global, tree: Tree, member: u16) -> Result<Signer<Memory
     let lms = lms_type_of(tree.height);
     let ots = ots_type_of(tree.width);
     let leaves = blank_leaves(alloc, lms.height())?;
-    let tree = SignatureTree::build(alloc, &seed_of(member), &identifier_of(member), lms, ots)?;
-    Ok(Signer::open(tree, leaves))
+    match SignatureTree::build(alloc, &seed_of(member), &identifier_of(member), lms, ots) {
+        Ok(tree) => Ok(Signer::open(tree, leaves)),
+        Err(memory) => {
+            drop(leaves);
+            Err(memory)
+        }
+    }
 }
 
 fn lms_type_of(height: Height) -> LmsType

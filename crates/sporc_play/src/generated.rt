@@ -38,7 +38,9 @@ pub fn play_generated<O: Sink>(alloc: Global, edits: u32, out: &mut O) -> Result
     ensures kept { O.faults out.old ≤ O.faults out.new }
 {
     let state = generated_run(alloc, edits)?;
-    let line = summary(alloc, &state)?;
+    let line = summary(alloc, &state);
+    drop(state);
+    let line = line?;
     write_all(out, line.as_bytes())?;
     Ok(())
 }
@@ -52,10 +54,18 @@ fn generated_run(alloc: Global, edits: u32) -> Result<PlayState, Memory>
     let mut state = PlayState::new(alloc, lines.as_slice())?;
     let whole = edits / MEMBERS;
     for k in 0..whole {
-        perform_batch(alloc, &mut state, MEMBERS * k, MEMBERS)?;
+        if let Err(memory) = perform_batch(alloc, &mut state, MEMBERS * k, MEMBERS) {
+            drop(state);
+            return Err(memory);
+        }
     }
-    perform_batch(alloc, &mut state, MEMBERS * whole, edits % MEMBERS)?;
-    Ok(state)
+    match perform_batch(alloc, &mut state, MEMBERS * whole, edits % MEMBERS) {
+        Ok(()) => Ok(state),
+        Err(memory) => {
+            drop(state);
+            Err(memory)
+        }
+    }
 }
 
 // What the generated run declares.

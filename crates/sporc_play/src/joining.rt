@@ -15,14 +15,13 @@ use crate::cast::Cast;
 use crate::made::{Found, entries_at};
 use crate::names::{push_hint_fault, push_open_fault};
 use crate::seat::{Seat, open_seat};
-use crate::showing::push_start;
+use crate::showing::{push_no_entry, push_start};
 use sporc_base::Memory;
 use sporc_entry::Genesis;
 use sporc_epoch::{HintFault, Ring, hints_from};
 use sporc_line::LineOpenFault;
 use sporc_script::Join;
 use std::alloc::Global;
-use std::fmt::Write;
 
 /// Opens the client of a joiner by the hints that some entries give, and appends the line that tells the answer.
 pub fn join(
@@ -43,11 +42,11 @@ pub fn join(
 {
     let member = seat.member;
     if seat.client.is_some() {
-        return writeln!(out, "{member} already open");
+        return push_start(out, member, " already open\n");
     }
     match entries_at(alloc, made, join.entries.as_slice())? {
         Found::Entries(entries) => join_by(alloc, cast, genesis, seat, entries.as_slice(), out),
-        Found::Missing(number) => writeln!(out, "no entry {number}"),
+        Found::Missing(number) => push_no_entry(out, number),
     }
 }
 

@@ -62,7 +62,10 @@ fn sit(
 {
     let signer = signer_of(alloc, cast.tree, member)?;
     let key = signer.public().to_bytes();
-    cast.declared.push(Declared { member, key })?;
+    if let Err(failed) = cast.declared.push(Declared { member, key }) {
+        drop(signer);
+        return Err(failed.into());
+    }
     seats.push(Seat {
         member,
         asked: 0,
@@ -86,7 +89,10 @@ fn employ(
 {
     let signer = signer_of(alloc, cast.tree, member)?;
     let key = signer.public().to_bytes();
-    cast.declared.push(Declared { member, key })?;
+    if let Err(failed) = cast.declared.push(Declared { member, key }) {
+        drop(signer);
+        return Err(failed.into());
+    }
     rogues.push(Rogue {
         member,
         asked: 0,

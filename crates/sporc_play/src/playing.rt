@@ -52,8 +52,12 @@ fn write_report<O: Sink>(alloc: Global, lines: &[PlayLine], out: &mut O) -> Resu
 {
     let mut state = PlayState::new(alloc, lines)?;
     for line in lines {
-        write_line(alloc, &mut state, &line.command, out)?;
+        if let Err(fault) = write_line(alloc, &mut state, &line.command, out) {
+            drop(state);
+            return Err(fault);
+        }
     }
+    drop(state);
     Ok(())
 }
 

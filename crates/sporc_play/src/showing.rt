@@ -8,7 +8,7 @@ ghost use Rattle.sporc_client.specs.PlainClient.{shown_of};
 ghost use Rattle.sporc_head.specs.History.{hash_of, roster_of};
 ghost use Rattle.sporc_member.specs.Roster.{member_at};
 ghost use Rattle.sporc_script.specs.Spelling.{role_name};
-ghost use Rattle.sporc_play.specs.Report.{compare_line, hash_line, if_removed, member_text, members_line, show_line, text_of_member};
+ghost use Rattle.sporc_play.specs.Report.{compare_line, hash_line, if_removed, member_text, members_line, no_entry_line, show_line, text_of_member};
 ghost use Rattle.sporc_script.specs.Quoted.{quoted};
 
 use crate::quoted::push_quoted;
@@ -58,6 +58,20 @@ pub fn push_start(out: &mut String, member: u16, words: &str) -> Result<(), Memo
     ensures ok { OnOk result (string_bytes out.new ≡ string_bytes out.old ++ (decimal member ++ words.now)) }
 {
     write!(out, "{member}{words}")
+}
+
+/// Appends a member's line that ends in a number.
+pub fn push_number(out: &mut String, member: u16, words: &str, number: u64) -> Result<(), Memory>
+    ensures ok { OnOk result (string_bytes out.new ≡ string_bytes out.old ++ (decimal member ++ (words.now ++ (decimal number ++ codes "\n")))) }
+{
+    writeln!(out, "{member}{words}{number}")
+}
+
+/// Appends that no entry has a number.
+pub fn push_no_entry(out: &mut String, number: u64) -> Result<(), Memory>
+    ensures ok { OnOk result (string_bytes out.new ≡ string_bytes out.old ++ no_entry_line number) }
+{
+    writeln!(out, "no entry {number}")
 }
 
 /// Appends the members, in ascending order of their numbers.
@@ -146,10 +160,11 @@ pub fn push_verdict(
 ) -> Result<(), Memory>
     ensures ok { OnOk result (string_bytes out.new ≡ string_bytes out.old ++ compare_line (record { first = first; second = second }) verdict) }
 {
+    push_start(out, first, " ")?;
     match verdict {
-        Verdict::Same => writeln!(out, "{first} {second} same"),
-        Verdict::Prefix => writeln!(out, "{first} {second} prefix"),
-        Verdict::Longer => writeln!(out, "{first} {second} longer"),
-        Verdict::ForkedAfter(count) => writeln!(out, "{first} {second} forked after {count}"),
+        Verdict::Same => push_start(out, second, " same\n"),
+        Verdict::Prefix => push_start(out, second, " prefix\n"),
+        Verdict::Longer => push_start(out, second, " longer\n"),
+        Verdict::ForkedAfter(count) => push_number(out, second, " forked after ", count as u64),
     }
 }

@@ -13,10 +13,10 @@ use crate::acting::push_not_open;
 use crate::cast::Cast;
 use crate::forging::forge;
 use crate::seat::{PlayClient, Rogue};
+use crate::showing::{push_number, push_start};
 use sporc_base::Memory;
 use sporc_script::Forgery;
 use std::alloc::Global;
-use std::fmt::Write;
 
 /// Signs for a rogue by the history of a client, if it is open. The entry that is made gets the number `next`.
 pub fn sign(
@@ -52,8 +52,8 @@ fn push_signed(out: &mut String, member: u16, next: u64, signed: bool) -> Result
     ensures { OnOk result (string_bytes out.new ≡ string_bytes out.old ++ signed_line member next signed) }
 {
     if signed {
-        writeln!(out, "{member} sign entry {next}")
+        push_number(out, member, " sign entry ", next)
     } else {
-        writeln!(out, "{member} sign exhausted")
+        push_start(out, member, " sign exhausted\n")
     }
 }

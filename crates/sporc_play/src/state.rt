@@ -16,7 +16,7 @@ use crate::journal::push_journal;
 use crate::made::entry_at;
 use crate::opening::{declare, open_founder};
 use crate::seat::{PlayClient, Rogue, Seat, client_of, rogue_at, seat_at};
-use crate::showing::{push_hash, push_members, push_show, push_verdict};
+use crate::showing::{push_hash, push_members, push_no_entry, push_show, push_verdict};
 use crate::{acting, joining, signing};
 use sporc_base::Memory;
 use sporc_entry::Genesis;
@@ -235,7 +235,7 @@ impl PlayState {
         let at = flip.at;
         let number = flip.entry;
         let Some(entry) = entry_at(self.made.as_slice(), number) else {
-            return writeln!(out, "no entry {number}");
+            return push_no_entry(out, number);
         };
         if at >= entry.len() as u64 {
             return push_no_byte(out, at);
@@ -249,7 +249,7 @@ impl PlayState {
         ensures line { OnOk result (AppendsLineOf self.old (Command.Cut number) (string_bytes out.old) (string_bytes out.new)) }
     {
         let Some(entry) = entry_at(self.made.as_slice(), number) else {
-            return writeln!(out, "no entry {number}");
+            return push_no_entry(out, number);
         };
         let len = entry.len().saturating_sub(1);
         let bytes = Vec::from_slice(alloc, &entry[..len])?;

@@ -1,3 +1,6 @@
+ghost use Rattle.std.specs.Prelude.{◌≤◌};
+ghost use Rattle.sporc_serve.specs.declared.limits.TheConstants.{MAX_SESSIONS};
+
 use crate::replies::ORDERED_FIRST;
 use crate::server::{Outcome, Peers, served};
 use crate::streams::{PULL, first_entry, hello_and_submit};
@@ -6,7 +9,9 @@ use sporc_samples::Cast;
 use sporc_serve::ServeFault;
 use std::alloc::Global;
 use std::process::Abort;
+use std::sync::Wait;
 use std::test::Fail;
+use std::thread::Threads;
 
 // What peers send that are no clients: nothing; a frame that is no message, a frame that never ends, a frame above the
 // limit; another document's Hello; a Pull before a Hello, and a second Hello.
@@ -55,22 +60,29 @@ fn only_the_client_is_answered(rt: &impl Abort, outcome: &Outcome) {
     }
 }
 
-#[test]
-fn bad_peers_end_their_own_sessions_alone(rt: HostRuntime) -> Result<(), Fail> {
-    let cast = Cast::new(rt.alloc())?;
-    let peers = peers(rt.alloc(), &cast)?;
-    let outcome = served(&rt, rt.alloc(), &cast, peers, 8, &OpenGate)?;
-    assert!(rt; outcome.answer == Ok(()));
-    only_the_client_is_answered(&rt, &outcome);
+// A server that is to take so many links answers so, and serves the client among the peers.
+fn is_served<R: Threads + Wait + Sync + Abort>(
+    rt: &R,
+    alloc: Global,
+    cast: &Cast,
+    sessions: u32,
+    answer: Result<(), ServeFault>,
+) -> Result<(), Fail>
+    requires some { 1 ≤ sessions }
+    requires limit { sessions ≤ MAX_SESSIONS }
+{
+    let peers = peers(alloc, cast)?;
+    let outcome = served(rt, alloc, cast, peers, sessions, &OpenGate)?;
+    assert!(rt; outcome.answer == answer);
+    only_the_client_is_answered(rt, &outcome);
     Ok(())
 }
 
+// The same if one link more is to come, and doesn't: that is told.
 #[test]
-fn a_link_that_does_not_come_is_told(rt: HostRuntime) -> Result<(), Fail> {
+fn bad_peers_end_their_own_sessions_alone(rt: HostRuntime) -> Result<(), Fail> {
     let cast = Cast::new(rt.alloc())?;
-    let peers = peers(rt.alloc(), &cast)?;
-    let outcome = served(&rt, rt.alloc(), &cast, peers, 9, &OpenGate)?;
-    assert!(rt; outcome.answer == Err(ServeFault::ListenFault));
-    only_the_client_is_answered(&rt, &outcome);
-    Ok(())
+    is_served(&rt, rt.alloc(), &cast, 8, Ok(()))?;
+    let missing = Err(ServeFault::ListenFault);
+    is_served(&rt, rt.alloc(), &cast, 9, missing)
 }

@@ -8,10 +8,11 @@ use std::test::Fail;
 
 // Pulls from an empty order, submits an entry, submits it again, and pulls it.
 fn stream(alloc: Global, entry: &[u8]) -> Result<Vec<u8>, Fail> {
+    let submission = submit(alloc, entry)?;
     let mut stream = Vec::from_slice(alloc, &HELLO)?;
     stream.extend_from_slice(&PULL)?;
-    stream.extend_from_slice(submit(alloc, entry)?.as_slice())?;
-    stream.extend_from_slice(submit(alloc, entry)?.as_slice())?;
+    stream.extend_from_slice(submission.as_slice())?;
+    stream.extend_from_slice(submission.as_slice())?;
     stream.extend_from_slice(&PULL)?;
     Ok(stream)
 }
@@ -24,7 +25,8 @@ fn wanted(alloc: Global, entry: &[u8]) -> Result<Vec<u8>, Fail> {
     Ok(bytes)
 }
 
-fn one_peer(alloc: Global, stream: Vec<u8>) -> Result<Peers, Fail> {
+fn one_peer(alloc: Global, entry: &[u8]) -> Result<Peers, Fail> {
+    let stream = stream(alloc, entry)?;
     let mut peers = Peers::new(alloc);
     peers.add(alloc, stream, 3, Vec::new(alloc))?;
     Ok(peers)
@@ -43,7 +45,7 @@ fn is_answered(alloc: Global, outcome: &Outcome, entry: &[u8]) -> Result<bool, F
 fn each_message_has_its_answer(rt: HostRuntime) -> Result<(), Fail> {
     let cast = Cast::new(rt.alloc())?;
     let entry = first_entry(rt.alloc(), &cast, 1)?;
-    let peers = one_peer(rt.alloc(), stream(rt.alloc(), entry.as_slice())?)?;
+    let peers = one_peer(rt.alloc(), entry.as_slice())?;
     let outcome = served(&rt, rt.alloc(), &cast, peers, 1, &OpenGate)?;
     assert!(rt; is_answered(rt.alloc(), &outcome, entry.as_slice())?);
     Ok(())

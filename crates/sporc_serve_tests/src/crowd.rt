@@ -1,6 +1,6 @@
 use crate::replies::count;
 use crate::server::{Outcome, Peers, served};
-use crate::streams::{HELLO, submit};
+use crate::streams::{HELLO, empty_history, submit};
 use sporc_outside::{MemoryLink, OpenGate};
 use sporc_samples::{Cast, History};
 use std::alloc::Global;
@@ -29,8 +29,8 @@ fn grow(alloc: Global, cast: &Cast, sample: &mut History) -> Result<(), Fail> {
 }
 
 // A history of so many entries, by members 1, 2, 4 and 5 in turn.
-fn history(alloc: Global, cast: &Cast) -> Result<History, Fail> {
-    let mut sample = History::new(alloc, &cast.genesis(alloc)?)?;
+fn history(alloc: Global, cast: &Cast) -> Result<Box<History>, Fail> {
+    let mut sample = empty_history(alloc, cast)?;
     grow(alloc, cast, &mut sample)?;
     Ok(sample)
 }

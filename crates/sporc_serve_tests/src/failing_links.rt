@@ -43,11 +43,9 @@ fn is_kept(alloc: Global, order: &Order, cut: &MemoryLink) -> Result<bool, Fail>
 // That holds, and the first client has its two answers. Whether the other one's link failed.
 fn is_cut(rt: &impl Abort, alloc: Global, outcome: &Outcome) -> Result<bool, Fail> {
     let [good, cut] = outcome.net.returned() else {
-        assert!(rt; false);
-        return Ok(false);
+        return Err("two links".into());
     };
-    assert!(rt; outcome.answer == Ok(()));
-    assert!(rt; are_of_submit_and_pull(alloc, good.written())?);
+    assert!(rt; outcome.answer == Ok(()) && are_of_submit_and_pull(alloc, good.written())?);
     assert!(rt; is_kept(alloc, &outcome.order, cut)?);
     Ok(cut.faults() == 1)
 }

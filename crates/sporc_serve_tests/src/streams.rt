@@ -34,9 +34,10 @@ pub fn hello_submit_and_pull(alloc: Global, entry: &[u8]) -> Result<Vec<u8>, Fai
     Ok(stream)
 }
 
-fn empty_history(alloc: Global, cast: &Cast) -> Result<History, Fail> {
+/// The empty history, in a box: a function that owns a history itself is slow to prove.
+pub fn empty_history(alloc: Global, cast: &Cast) -> Result<Box<History>, Fail> {
     let genesis = cast.genesis(alloc)?;
-    Ok(History::new(alloc, &genesis)?)
+    Ok(Box::new(alloc, History::new(alloc, &genesis)?)?)
 }
 
 /// An author's first entry, which any history takes that has none of its.

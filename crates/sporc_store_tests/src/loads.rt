@@ -12,25 +12,33 @@ use std::alloc::Global;
 use std::process::Abort;
 use std::test::Fail;
 
-// The empty line of a founder who shares a key with the admin.
-fn founded(alloc: Global, cast: &Cast, me: u16) -> Result<Line, Fail>
-    ensures { IfOk result (λ line. line.entries ≡ []) }
-{
+// A ring with the key of epoch 0.
+fn founder_ring(alloc: Global) -> Result<Ring, Fail> {
     let mut ring = Ring::new(alloc);
     ring.put(0, epoch_key(0))?;
+    Ok(ring)
+}
+
+// The empty line of a founder who shares a key with the admin, in a box: a function that owns a line itself is slow to prove.
+fn founded(alloc: Global, cast: &Cast, me: u16) -> Result<Box<Line>, Fail>
+    ensures { IfOk result (λ line. line.value.entries ≡ []) }
+{
+    let ring = founder_ring(alloc)?;
     let mut pairs = Pairs::new(alloc);
     pairs.insert(1, pair_key(me, 1))?;
     let genesis = cast.genesis(alloc)?;
-    let line = Line::open(alloc, genesis, me, ring, pairs)?;
-    Ok(line)
+    Ok(Box::new(alloc, Line::open(alloc, genesis, me, ring, pairs)?)?)
 }
 
 // What a member's line takes of a file.
-fn loaded(alloc: Global, cast: &Cast, me: u16, file: &[u8]) -> Result<(Line, Stop), Fail> {
+fn loaded(alloc: Global, cast: &Cast, me: u16, file: &[u8]) -> Result<(Box<Line>, Stop), Fail> {
     let line = founded(alloc, cast, me)?;
-    match load(alloc, file, line) {
-        Ok(done) => Ok(done),
-        Err((_, memory)) => Err(memory.into()),
+    match load(alloc, file, Box::into_inner(line)) {
+        Ok((line, stop)) => Ok((Box::new(alloc, line)?, stop)),
+        Err((line, memory)) => {
+            drop(line);
+            Err(memory.into())
+        }
     }
 }
 
@@ -51,11 +59,14 @@ fn line_takes(
 }
 
 // What an order takes of a file.
-fn loaded_order(alloc: Global, cast: &Cast, file: &[u8]) -> Result<(Order, Stop), Fail> {
+fn loaded_order(alloc: Global, cast: &Cast, file: &[u8]) -> Result<(Box<Order>, Stop), Fail> {
     let order = Order::open(alloc, cast.genesis(alloc)?)?;
     match load_order(alloc, file, order) {
-        Ok(done) => Ok(done),
-        Err((_, memory)) => Err(memory.into()),
+        Ok((order, stop)) => Ok((Box::new(alloc, order)?, stop)),
+        Err((order, memory)) => {
+            drop(order);
+            Err(memory.into())
+        }
     }
 }
 
@@ -114,17 +125,6 @@ fn whole(rt: &impl Abort, alloc: Global, cast: &Cast, sample: &History) -> Resul
     line_takes(rt, alloc, cast, 4, file.as_slice(), 3, removed)
 }
 
-fn whole_history(rt: &impl Abort, alloc: Global, cast: &Cast) -> Result<(), Fail> {
-    let sample = short_history(alloc, cast)?;
-    whole(rt, alloc, cast, &sample)
-}
-
-#[test]
-fn a_saved_history_is_loaded(rt: HostRuntime) -> Result<(), Fail> {
-    let cast = Cast::new(rt.alloc())?;
-    whole_history(&rt, rt.alloc(), &cast)
-}
-
 // The place of the file behind its head and these entries.
 fn place_behind(entries: &[Vec<u8>]) -> usize {
     let mut place = 24usize;
@@ -171,14 +171,21 @@ fn turned(rt: &impl Abort, alloc: Global, cast: &Cast, sample: &History) -> Resu
     reads(rt, alloc, file.as_slice(), 4, Stop::End)
 }
 
-fn spoilt_history(rt: &impl Abort, alloc: Global, cast: &Cast) -> Result<(), Fail> {
+fn loads(rt: &impl Abort, alloc: Global, cast: &Cast, sample: &History) -> Result<(), Fail> {
+    whole(rt, alloc, cast, sample)?;
+    cut(rt, alloc, cast, sample)?;
+    turned(rt, alloc, cast, sample)
+}
+
+fn short_history_loads(rt: &impl Abort, alloc: Global, cast: &Cast) -> Result<(), Fail> {
     let sample = short_history(alloc, cast)?;
-    cut(rt, alloc, cast, &sample)?;
-    turned(rt, alloc, cast, &sample)
+    let outcome = loads(rt, alloc, cast, &sample);
+    drop(sample);
+    outcome
 }
 
 #[test]
-fn a_spoilt_file_is_loaded_as_far_as_it_goes(rt: HostRuntime) -> Result<(), Fail> {
+fn a_file_is_loaded_as_far_as_it_goes(rt: HostRuntime) -> Result<(), Fail> {
     let cast = Cast::new(rt.alloc())?;
-    spoilt_history(&rt, rt.alloc(), &cast)
+    short_history_loads(&rt, rt.alloc(), &cast)
 }

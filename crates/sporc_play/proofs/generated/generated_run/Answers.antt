@@ -14,13 +14,13 @@ pub perform_batch-requires-clause-room : goal.perform_batch-requires-clause-room
 perform_batch-requires-clause-room c = run_room c.loop-k.k c.loop-k.state (omega arith) c.loop-k.invariant
 
 pub loop-k-preserved : goal.loop-k-preserved
-loop-k-preserved c = batches_more c.loop-k.state c.perform_batch.new.state c.loop-k.k c.loop-k.invariant c.in_ok-perform_batch.ensures
+loop-k-preserved c = batches_more c.loop-k.state c.perform_batch.new.state c.loop-k.k c.loop-k.invariant c.in_default.ensures
 
 pub perform_batch-requires-2-clause-room : goal.perform_batch-requires-2-clause-room
 perform_batch-requires-2-clause-room c = run_room c.loop-k.k c.loop-k.state (omega arith) c.loop-k.invariant
 
-pub returns : goal.returns
-returns c =
+pub returns-in-Ok : goal.returns-in-Ok
+returns-in-Ok c =
     let all : c.loop-k.k ≡ c.args.edits / 3 = omega arith in
     let IsStood : ℕ → Type 0 = λ n. StandsFor generated_cast (after_each (setup_of generated_cast) (opening generated_cast) (batches n)) c.loop-k.state in
-    stands_both c.loop-k.state c.perform_batch-2.new.state (batches (c.args.edits / 3)) (batch (3 * (c.args.edits / 3)) (c.args.edits % 3)) (subst IsStood all c.loop-k.invariant) c.in_ok-perform_batch-2.ensures
+    stands_both c.loop-k.state c.perform_batch-2.new.state (batches (c.args.edits / 3)) (batch (3 * (c.args.edits / 3)) (c.args.edits % 3)) (subst IsStood all c.loop-k.invariant) c.in-Ok.ensures

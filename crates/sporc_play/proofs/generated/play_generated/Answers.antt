@@ -8,8 +8,8 @@ use Rattle.sporc_play.proofs.GeneratedRun.{generated_one}
 use Rattle.sporc_play.proofs.Generating.{generated_open}
 use Rattle.sporc_play.proofs.generated.play_generated.Goals as goal
 
-pub summary-requires : goal.summary-requires
-summary-requires g c = generated_open c.args.edits c.in_ok-state.state c.in_ok-state.ensures
+pub summary-line-requires : goal.summary-line-requires
+summary-line-requires g c = generated_open c.args.edits c.in_ok-state.state c.in_ok-state.ensures
 
 pub returns-in_err-write_all-clause-err : goal.returns-in_err-write_all-clause-err
 returns-in_err-write_all-clause-err g c =

@@ -21,13 +21,11 @@ returns-in_err-state-clause-err g c =
     let failed = err_from_is_err_and c.from_residual.result c.from_residual.ensures.1 in
     rw failed.1 (reports_none c.args.lines.now _)
 
-pub returns-in_err-write_line-clause-err : goal.returns-in_err-write_line-clause-err
-returns-in_err-write_line-clause-err g c =
-    let failed = err_from_is_err_and c.from_residual-in_err-write_line.result c.from_residual-in_err-write_line.ensures.1 in
-    rw failed.1
-    (reports_failed c.args.lines.now c.loop-line.line-index c.line-item.result _ _ _ _ _ c.in_err-write_line.field-0.0 c.loop-line-test.true c.line-item.is
-    c.loop-line.invariant.written c.in_err-write_line.ensures.causes (λ is. ap g.O.Sink.written (c.in_err-write_line.ensures.memory (ap Err is)))
-    (λ is. c.in_err-write_line.ensures.prefix (ap Err is) c.args.lines.now (scene_at c.args.lines.now c.loop-line.line-index) c.loop-line.invariant.stands))
+pub returns-in-Err-clause-err : goal.returns-in-Err-clause-err
+returns-in-Err-clause-err g c =
+    reports_failed c.args.lines.now c.loop-line.line-index c.line-item.result _ _ _ _ _ c.in-Err.fault c.loop-line-test.true c.line-item.is
+    c.loop-line.invariant.written c.in-Err.ensures.causes (λ is. ap g.O.Sink.written (c.in-Err.ensures.memory (ap Err is)))
+    (λ is. c.in-Err.ensures.prefix (ap Err is) c.args.lines.now (scene_at c.args.lines.now c.loop-line.line-index) c.loop-line.invariant.stands)
 
 pub returns-clause-ok : goal.returns-clause-ok
 returns-clause-ok g c = reports_all c.args.lines.now c.loop-line.line-index _ _ (omega arith) c.loop-line.invariant.written
@@ -37,7 +35,7 @@ loop-line-preserved g c =
     let lines = c.args.lines.now in
     let scene = scene_at lines c.loop-line.line-index in
     let (report, so_far, first) = c.loop-line.invariant.written in
-    let (line, writes, then) = c.in_ok-write_line.ensures.ok lines scene c.loop-line.invariant.stands in
+    let (line, writes, then) = c.in_default.ensures.ok lines scene c.loop-line.invariant.stands in
     record {
       written = (
         report ++ line,
@@ -45,6 +43,6 @@ loop-line-preserved g c =
         Appends-trans _ _ _ _ _ first then,
       );
       stands = subst (λ (s : Scene). StandsFor lines s c.write_line.new.state) (sym (scene_more lines c.loop-line.line-index c.line-item.result c.loop-line-test.true c.line-item.is))
-          (c.in_ok-write_line.ensures.state lines scene c.loop-line.invariant.stands);
-      kept = omega (arith, c.in_ok-write_line.ensures.kept, c.loop-line.invariant.kept);
+          (c.in_default.ensures.state lines scene c.loop-line.invariant.stands);
+      kept = omega (arith, c.in_default.ensures.kept, c.loop-line.invariant.kept);
     }

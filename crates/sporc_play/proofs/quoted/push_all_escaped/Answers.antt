@@ -1,8 +1,18 @@
-use Rattle.std.proofs.Common.{◌++◌, flat_map, string_bytes, map-id, sym, ap, ◌∙◌}
+use Rattle.std.proofs.Common.{◌≡◌, ℕ, List, [], ◌∷◌, ◌++◌, append_assoc, append-nil, flat_map, string_bytes, map-id, sym, ap, ◌∙◌}
+use Rattle.std.proofs.lemmas.Grind.{flat_map-append}
 use Rattle.std.proofs.lemmas.Iterator.{YieldsList-from_chars}
 use Rattle.std.proofs.lemmas.Iterator.Consumers.{YieldsList-end}
 use Rattle.sporc_script.specs.Quoted.{escape}
 use Rattle.sporc_play.proofs.quoted.push_all_escaped.Goals as goal
+
+pub loop-c-preserved : goal.loop-c-preserved
+loop-c-preserved c =
+    let old = string_bytes c.args.out.now in
+    let told = flat_map escape c.loop-c.yielded in
+    let more : flat_map escape (c.loop-c.yielded ++ c.in-Some.c ∷ []) ≡ told ++ escape c.in-Some.c =
+    flat_map-append escape c.loop-c.yielded (c.in-Some.c ∷ []) ∙ ap (λ (t : List ℕ). told ++ t) (append-nil (escape c.in-Some.c)) in
+    c.in_ok-push_escaped.ensures ∙ ap (λ (t : List ℕ). t ++ escape c.in-Some.c) c.loop-c.invariant ∙ append_assoc old told (escape c.in-Some.c)
+    ∙ ap (λ (t : List ℕ). old ++ t) (sym more)
 
 pub returns : goal.returns
 returns c =

@@ -1,10 +1,19 @@
-use Rattle.std.proofs.Common.{List, arith, subst}
-use Rattle.std.proofs.lemmas.List.{take_all}
+use Rattle.std.proofs.Common.{◌≡◌, ◌+◌, ◌++◌, ◌∷◌, [], List, arith, ap, sym, subst, take, ◌∙◌}
+use Rattle.std.proofs.lemmas.List.{take_all, take_more}
 use Rattle.sporc_script.specs.declared.play_line.PlayLine.{PlayLine}
 use Rattle.sporc_play.specs.Cast.{tree_of}
 use Rattle.sporc_play.specs.Opening.{HaveDeclared}
 use Rattle.sporc_play.proofs.Opened.{stands_first}
 use Rattle.sporc_play.proofs.state.PlayState.declared.Goals as goal
+
+pub loop-line-preserved : goal.loop-line-preserved
+loop-line-preserved c =
+    let lines = c.args.lines.now in
+    let i = c.loop-line.line-index in
+    let line = c.line-item.result in
+    let more : take (i + 1) lines ≡ take i lines ++ line ∷ [] = take_more lines i line c.loop-line-test.true ∙ ap (λ (l : PlayLine). take i lines ++ l ∷ []) (sym c.line-item.is) in
+    subst (λ (ls : List PlayLine). HaveDeclared (tree_of lines) ls c.declare.new.cast c.declare.new.seats.items c.declare.new.rogues.items) (sym more)
+    (c.in_ok-declare.ensures.ok (tree_of lines) (take i lines) c.loop-line.invariant)
 
 pub returns : goal.returns
 returns c =

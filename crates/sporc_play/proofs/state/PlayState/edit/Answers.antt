@@ -1,6 +1,9 @@
 use Rattle.std.proofs.Common.{refl}
-use Rattle.sporc_play.proofs.Becoming.{edit_becomes, edit_tells, ok_then, seat_read}
+use Rattle.sporc_play.proofs.Becoming.{edit_becomes, edit_tells, ok_then, seat_read, seat_within}
 use Rattle.sporc_play.proofs.state.PlayState.edit.Goals as goal
+
+pub index_mut-requires : goal.index_mut-requires
+index_mut-requires c = seat_within c.as_slice.result.now _ c.seat_at-i.result c.args.edit.now.member c.as_slice.ensures.len c.seat_at-i.ensures.value
 
 pub returns-clause-state : goal.returns-clause-state
 returns-clause-state c =

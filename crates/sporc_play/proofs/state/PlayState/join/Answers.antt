@@ -5,9 +5,12 @@ use Rattle.sporc_play.specs.Report.{join_line}
 use Rattle.sporc_play.specs.Scene.{entries_at}
 use Rattle.sporc_play.specs.Seats.{plain_in}
 use Rattle.sporc_play.specs.Stage.{IsCastOf, IsReadySeat}
-use Rattle.sporc_play.proofs.Becoming.{join_becomes, join_tells, ok_then, seat_read}
+use Rattle.sporc_play.proofs.Becoming.{join_becomes, join_tells, ok_then, seat_read, seat_within}
 use Rattle.sporc_play.proofs.Places.{at_place}
 use Rattle.sporc_play.proofs.state.PlayState.join.Goals as goal
+
+pub index_mut-requires : goal.index_mut-requires
+index_mut-requires c = seat_within c.as_slice.result.now _ c.seat_at-i.result c.args.join.now.member c.as_slice.ensures.len c.seat_at-i.ensures.value
 
 pub join-requires-clause-signer : goal.join-requires-clause-signer
 join-requires-clause-signer c =

@@ -6,9 +6,12 @@ use Rattle.sporc_play.specs.declared.seat.Seat.{Seat}
 use Rattle.sporc_play.specs.Seats.{IsSeatAt}
 use Rattle.sporc_play.specs.Signing.{forged_by, signing_line}
 use Rattle.sporc_play.specs.Stage.{IsReadyRogue}
-use Rattle.sporc_play.proofs.Becoming.{entries_of, ok_any, ok_both, rogue_read, sign_becomes, sign_tells}
+use Rattle.sporc_play.proofs.Becoming.{entries_of, ok_any, ok_both, rogue_read, rogue_within, sign_becomes, sign_tells}
 use Rattle.sporc_play.proofs.Places.{at_place}
 use Rattle.sporc_play.proofs.state.PlayState.sign.Goals as goal
+
+pub index_mut-rogue-requires : goal.index_mut-rogue-requires
+index_mut-rogue-requires c = rogue_within c.as_slice.result.now _ c.rogue_at-i.result c.args.forgery.now.member c.as_slice.ensures.len c.rogue_at-i.ensures.value
 
 pub sign-requires-clause-asked : goal.sign-requires-clause-asked
 sign-requires-clause-asked c =

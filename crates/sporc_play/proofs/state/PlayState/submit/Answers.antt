@@ -1,9 +1,12 @@
 use Rattle.std.proofs.Common.{◌≡◌, ℕ, ◌+◌, arith, length, option_map, Vec, Global}
 use Rattle.std.proofs.lemmas.List.{length-map}
 use Rattle.sporc_play.specs.Stage.{IsReadySeat}
-use Rattle.sporc_play.proofs.Becoming.{entries_of, ok_any, ok_both, seat_read, submit_becomes, submit_tells}
+use Rattle.sporc_play.proofs.Becoming.{entries_of, ok_any, ok_both, seat_read, seat_within, submit_becomes, submit_tells}
 use Rattle.sporc_play.proofs.Places.{at_place}
 use Rattle.sporc_play.proofs.state.PlayState.submit.Goals as goal
+
+pub index_mut-requires : goal.index_mut-requires
+index_mut-requires c = seat_within c.as_slice.result.now _ c.seat_at-i.result c.args.member c.as_slice.ensures.len c.seat_at-i.ensures.value
 
 pub submit-requires-clause-asked : goal.submit-requires-clause-asked
 submit-requires-clause-asked c =
