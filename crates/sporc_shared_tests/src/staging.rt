@@ -154,7 +154,7 @@ fn run<
 >(
     rt: &R,
     alloc: Global,
-    client: Box<Client<D>>,
+    client: Client<D>,
     link: &mut L,
     chance: &mut C,
     editors: &[EditorScript],
@@ -164,7 +164,7 @@ fn run<
     requires { length editors.now ≤ MAX_EDITORS }
 {
     let Plan { rounds, until } = plan;
-    match SharedClient::open(alloc, Box::into_inner(client)) {
+    match SharedClient::open(alloc, client) {
         Ok((shared, first)) => {
             let (answer, first) = session(
                 rt, alloc, &shared, first, link, chance, editors, rounds, until, gate,
@@ -194,6 +194,7 @@ fn over<R: Threads + Wait + Sync, L: Link + Send, G: Gate + Sync>(
     let mut chance = words(alloc, start.chance)?;
     let mut client = opened(alloc, cast, start.member, start.file)?;
     live(alloc, cast, &mut client, start.past)?;
+    let client = Box::into_inner(client);
     run(rt, alloc, client, link, &mut chance, editors, plan, gate)
 }
 
