@@ -42,6 +42,12 @@ impl Tally {
     }
 
     pub fn count(&self, number: u32) -> usize {
-        self.numbers.iter().filter(|n| **n == number).count()
+        let mut count = 0usize;
+        for n in &self.numbers {
+            if *n == number {
+                count = count.saturating_add(1);
+            }
+        }
+        count
     }
 }

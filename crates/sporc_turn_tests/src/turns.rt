@@ -1,44 +1,81 @@
+ghost use Rattle.std.specs.Prelude.{◌≡◌};
+ghost use Rattle.sporc_turn.specs.Passes.{IsPassOf, known_of};
+
+use crate::tally::Tally;
 use crate::work::{add_number, opened, tally_of};
+use sporc_turn::{Pass, Turn};
+use std::process::Abort;
+use std::sync::Wait;
 use std::test::Fail;
+
+// How often each thread adds its number.
+const ROUNDS: u32 = 1000;
+
+// How many threads there are.
+const THREADS: [u32; 2] = [2, 8];
+
+// Each of so many threads added its number as often.
+fn have_added(rt: &impl Abort, tally: &Tally, threads: u32) {
+    assert!(rt; tally.len() == threads as usize * ROUNDS as usize);
+    for number in 0..threads {
+        assert!(rt;
+            tally.count(number) == ROUNDS as usize,
+            "of number {number}"
+        );
+    }
+}
 
 #[test]
 fn each_thread_adds_as_often(rt: HostRuntime) -> Result<(), Fail> {
-    for others in [1, 7] {
-        let tally = tally_of(&rt, rt.alloc(), others, 1000).ok_or("not closed")?;
-        assert_eq!(rt; tally.len(), (others as usize + 1) * 1000);
-        for number in 0..others + 1 {
-            assert_eq!(rt; tally.count(number), 1000, "of number {number}");
-        }
+    for threads in &THREADS {
+        let tally = tally_of(&rt, rt.alloc(), *threads, ROUNDS).ok_or("not closed")?;
+        have_added(&rt, &tally, *threads);
     }
     Ok(())
 }
 
-#[test]
-fn a_lock_whose_pass_is_away_stays_open(rt: HostRuntime) -> Result<(), Fail> {
-    let (turn, first, second) = opened(rt.alloc()).ok_or("no memory")?;
-    assert_eq!(rt; (first.out(), second.out()), (1, 0));
-    let Ok(held) = turn.take(&rt, second) else {
+// A lock stays open while its second pass is away, and closes when that is joined back.
+fn stays_open<R: Abort + Wait>(rt: &R, turn: Turn<Tally>, first: Pass<u32>, second: Pass<u32>)
+    requires lock { IsPassOf turn first × IsPassOf turn second }
+    requires numbers { ((known_of first).number ≡ 0) × ((known_of second).number ≡ 1) }
+{
+    assert!(rt; first.out() == 1 && second.out() == 0);
+    let Ok(held) = turn.take(rt, second) else {
         panic!(rt; "worn");
     };
     let Err((turn, first, away)) = turn.close(first) else {
         panic!(rt; "closed while a pass was away");
     };
-    assert_eq!(rt; away.out, 1);
+    assert!(rt; away.out == 1);
     let first = turn.join(first, turn.give(held));
     assert!(rt; turn.close(first).is_ok());
-    Ok(())
 }
 
 #[test]
-fn news_wait_for_nobody(rt: HostRuntime) -> Result<(), Fail> {
+fn a_lock_whose_pass_is_away_stays_open(rt: HostRuntime) -> Result<(), Fail> {
     let (turn, first, second) = opened(rt.alloc()).ok_or("no memory")?;
-    let Ok(mut held) = turn.take(&rt, second) else {
+    stays_open(&rt, turn, first, second);
+    Ok(())
+}
+
+// News of a lock are told to its first pass while the second holds the value.
+fn are_told<R: Abort + Wait>(rt: &R, turn: &Turn<Tally>, first: Pass<u32>, second: Pass<u32>)
+    requires lock { IsPassOf turn.now first × IsPassOf turn.now second }
+    requires numbers { ((known_of first).number ≡ 0) × ((known_of second).number ≡ 1) }
+{
+    let Ok(mut held) = turn.take(rt, second) else {
         panic!(rt; "worn");
     };
     let (before, first) = turn.news(first);
     assert!(rt; add_number(&mut held, 1));
     let second = turn.give(held);
     let (after, _) = turn.news(first);
-    assert_eq!(rt; (before, second.number(), after), (0, 1, 1));
+    assert!(rt; before == 0 && second.number() == 1 && after == 1);
+}
+
+#[test]
+fn news_wait_for_nobody(rt: HostRuntime) -> Result<(), Fail> {
+    let (turn, first, second) = opened(rt.alloc()).ok_or("no memory")?;
+    are_told(&rt, &turn, first, second);
     Ok(())
 }

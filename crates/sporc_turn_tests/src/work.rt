@@ -80,15 +80,15 @@ fn crowd<R: Threads + Wait + Sync>(
     turn.join(first, other)
 }
 
-/// What number 0 and so many others add, each so many times.
+/// What so many threads add, each so many times.
 pub fn tally_of<R: Threads + Wait + Sync>(
     rt: &R,
     alloc: Global,
-    others: u32,
+    threads: u32,
     rounds: u32,
 ) -> Option<Tally> {
     let (turn, first) = Turn::open(alloc, Tally::new(alloc)).ok()?;
-    let first = crowd(rt, &turn, first, others, rounds);
+    let first = crowd(rt, &turn, first, threads.saturating_sub(1), rounds);
     turn.close(first).ok()
 }
 
