@@ -4,15 +4,20 @@ use std::alloc::{AllocError, Global};
 use std::process::Abort;
 use std::test::Fail;
 
-// A delta in one line: K3 keeps, R3 removes, and I"abc" inserts.
+// A part: K3 keeps, R3 removes, and I"abc" inserts.
+fn shown_part(alloc: Global, part: &Part) -> Result<String, AllocError> {
+    match part {
+        Part::Keep(count) => format!(in alloc; "K{count} "),
+        Part::Insert(text) => format!(in alloc; "I{:?} ", text.as_str()),
+        Part::Remove(count) => format!(in alloc; "R{count} "),
+    }
+}
+
+// A delta in one line.
 fn shown(alloc: Global, delta: &Delta) -> Result<String, AllocError> {
     let mut line = String::new(alloc);
     for part in delta.parts() {
-        let part = match part {
-            Part::Keep(count) => format!(in alloc; "K{count} ")?,
-            Part::Insert(text) => format!(in alloc; "I{:?} ", text.as_str())?,
-            Part::Remove(count) => format!(in alloc; "R{count} ")?,
-        };
+        let part = shown_part(alloc, part)?;
         line.push_str(part.as_str())?;
     }
     Ok(line)
@@ -40,9 +45,7 @@ fn is_made(
     is_shown(rt, alloc, &delta.copy()?, line)
 }
 
-#[test]
-fn makers_give_the_one_list_of_parts(rt: HostRuntime) -> Result<(), Fail> {
-    let (rt, alloc) = (&rt, rt.alloc());
+fn makers_give_the_one_list_of_parts(rt: &impl Abort, alloc: Global) -> Result<(), Fail> {
     is_made(
         rt,
         alloc,
@@ -56,40 +59,37 @@ fn makers_give_the_one_list_of_parts(rt: HostRuntime) -> Result<(), Fail> {
     is_made(rt, alloc, Delta::keep_all(alloc, 0), "")
 }
 
-#[test]
-fn lengths_are_counted_in_characters(rt: HostRuntime) -> Result<(), Fail> {
-    let insertion = Delta::insert_at(rt.alloc(), 3, 1, "é€")?;
-    assert!(rt; insertion.base_len() == 3 && insertion.out_len() == 5);
-    let removal = Delta::remove_at(rt.alloc(), 5, 1, 3)?;
-    assert!(rt; removal.base_len() == 5 && removal.out_len() == 2);
-    Ok(())
+// Whether a delta is stated on a text of so many characters, and leaves so many.
+fn has_lengths(made: Result<Delta, Memory>, base: u64, out: u64) -> Result<bool, Memory> {
+    let delta = made?;
+    Ok(delta.base_len() == base && delta.out_len() == out)
+}
+
+fn texts_are_cut_behind_characters(alloc: Global) -> Result<bool, Memory> {
+    let text = Text::new(alloc, &TextSlice::new("aé€😀b"))?;
+    if text.len() != 5 {
+        return Ok(false);
+    }
+    let (front, back) = text.as_slice().split_at(3);
+    Ok(front.as_str() == "aé€" && back.as_str() == "😀b")
 }
 
 #[test]
-fn texts_are_cut_behind_characters(rt: HostRuntime) -> Result<(), Fail> {
-    let text = Text::new(rt.alloc(), &TextSlice::new("aé€😀b"))?;
-    assert!(rt; text.len() == 5);
-    let (front, back) = text.as_slice().split_at(3);
-    assert!(rt; front.as_str() == "aé€");
-    assert!(rt; back.as_str() == "😀b");
+fn deltas_are_made_and_texts_are_cut(rt: HostRuntime) -> Result<(), Fail> {
+    let alloc = rt.alloc();
+    makers_give_the_one_list_of_parts(&rt, alloc)?;
+    assert!(rt; has_lengths(Delta::insert_at(alloc, 3, 1, "é€"), 3, 5)?);
+    assert!(rt; has_lengths(Delta::remove_at(alloc, 5, 1, 3), 5, 2)?);
+    assert!(rt; texts_are_cut_behind_characters(alloc)?);
     Ok(())
 }
 
 // The example of the format's description.
-#[test]
-fn an_insertion_is_spelled_in_19_bytes(rt: HostRuntime) -> Result<(), Fail> {
-    let alloc = rt.alloc();
+const INSERTION: &[u8] = b"\x01\0\0\0\0\0\0\0\x03\x02\0\0\0\0\0\0\0\x01d";
+
+fn an_insertion_is_spelled_in_19_bytes(alloc: Global) -> Result<bool, Memory> {
     let delta = Delta::insert_at(alloc, 3, 3, "d")?;
-    let bytes = delta.encode()?;
-    let expected = hex::decode(alloc, "01000000000000000302000000000000000164")?;
-    assert!(rt; bytes.as_slice() == expected.as_slice());
-    assert!(rt; delta.encoded_len() == 19);
-    is_shown(
-        &rt,
-        alloc,
-        &Delta::decode(alloc, bytes.as_slice())?,
-        "K3 I\"d\" ",
-    )
+    Ok(delta.encoded_len() == 19 && delta.encode()?.as_slice() == INSERTION)
 }
 
 // Each fault alone, and two together, where the first in the format's order is answered.
@@ -112,19 +112,30 @@ const FAULTS: [(&str, DeltaFault); 10] = [
     ),
 ];
 
-fn is_refused(rt: &impl Abort, alloc: Global, text: &str, fault: DeltaFault) -> Result<(), Fail> {
+// Whether bytes are refused for this fault.
+fn is_refused(alloc: Global, text: &str, fault: DeltaFault) -> Result<bool, Fail> {
     let bytes = hex::decode(alloc, text)?;
-    assert!(rt; bytes.len() < 100);
-    let found = Delta::decode(alloc, bytes.as_slice()).err();
-    assert_eq!(rt; found, Some(fault), "{text}");
+    Ok(bytes.len() < 100 && Delta::decode(alloc, bytes.as_slice()).err() == Some(fault))
+}
+
+fn faults_are_the_first_from_the_left(rt: &impl Abort, alloc: Global) -> Result<(), Fail> {
+    for (text, fault) in &FAULTS {
+        assert!(rt; is_refused(alloc, *text, *fault)?, "{text}");
+    }
     Ok(())
 }
 
+// Fails unless bytes spell the delta of this line.
+fn is_read(rt: &impl Abort, alloc: Global, bytes: &[u8], line: &str) -> Result<(), Fail> {
+    assert!(rt; bytes.len() < 100);
+    let delta = Delta::decode(alloc, bytes)?;
+    is_shown(rt, alloc, &delta, line)
+}
+
 #[test]
-fn faults_are_the_first_from_the_left(rt: HostRuntime) -> Result<(), Fail> {
-    for (text, fault) in &FAULTS {
-        is_refused(&rt, rt.alloc(), *text, *fault)?;
-    }
-    let empty = Delta::decode(rt.alloc(), &[])?;
-    is_shown(&rt, rt.alloc(), &empty, "")
+fn deltas_are_spelled_and_read(rt: HostRuntime) -> Result<(), Fail> {
+    assert!(rt; an_insertion_is_spelled_in_19_bytes(rt.alloc())?);
+    is_read(&rt, rt.alloc(), INSERTION, "K3 I\"d\" ")?;
+    is_read(&rt, rt.alloc(), &[], "")?;
+    faults_are_the_first_from_the_left(&rt, rt.alloc())
 }

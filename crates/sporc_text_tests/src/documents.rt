@@ -1,8 +1,8 @@
-use crate::transforms::{chars_of, delta_of};
+use crate::transforms::marked;
+use sporc_base::Memory;
 use sporc_delta::Delta;
 use sporc_text::Doc;
 use std::alloc::Global;
-use std::process::Abort;
 use std::test::Fail;
 
 // Deltas one after the other, as marks, and the text after each: characters of one to four bytes come, go, and are replaced.
@@ -14,42 +14,54 @@ const EDITS: [(&str, &str); 5] = [
     ("ß", "ß"),
 ];
 
-fn has_text(rt: &impl Abort, doc: &Doc, text: &str) -> Result<(), Fail> {
-    assert!(rt; doc.text()?.as_str() == text);
-    Ok(())
+// Whether a document has this text.
+fn has_text(doc: &Doc, text: &str) -> Result<bool, Memory> {
+    Ok(doc.text()?.as_str() == text)
 }
 
-// A text is made ready, and the document stays until it is put.
-fn put(rt: &impl Abort, doc: &mut Doc, delta: &Delta, before: &str) -> Result<(), Fail> {
-    assert!(rt; delta.base_len() == doc.len());
-    let ready = doc.ready(delta)?;
-    has_text(rt, doc, before)?;
-    doc.put(ready);
-    Ok(())
-}
-
-fn apply(rt: &impl Abort, doc: &mut Doc, delta: &Delta) -> Result<(), Fail> {
-    assert!(rt; delta.base_len() == doc.len());
+// Applies a delta. Whether the document has this text then.
+fn applies(doc: &mut Doc, delta: &Delta, text: &str) -> Result<bool, Memory> {
+    if delta.base_len() != doc.len() {
+        return Ok(false);
+    }
     doc.apply(delta)?;
-    Ok(())
+    has_text(doc, text)
 }
 
-fn marked(alloc: Global, marks: &str) -> Result<Delta, Fail> {
-    let marks = chars_of(alloc, marks)?;
-    let delta = delta_of(alloc, &marks)?;
-    Ok(delta)
+// Makes a text ready, and puts it. Whether the document stays until then, and has this text.
+fn puts(doc: &mut Doc, delta: &Delta, before: &str, text: &str) -> Result<bool, Memory> {
+    if delta.base_len() != doc.len() {
+        return Ok(false);
+    }
+    let ready = doc.ready(delta)?;
+    let stays = has_text(doc, before)?;
+    doc.put(ready);
+    Ok(stays && has_text(doc, text)?)
+}
+
+// Edits two documents of one text, each in its way. Whether both have this text then.
+fn edits(
+    alloc: Global,
+    applied: &mut Doc,
+    made_ready: &mut Doc,
+    marks: &str,
+    before: &str,
+    text: &str,
+) -> Result<bool, Memory> {
+    let delta = marked(alloc, marks)?;
+    Ok(applies(applied, &delta, text)? && puts(made_ready, &delta, before, text)?)
 }
 
 #[test]
 fn edits_by_characters(rt: HostRuntime) -> Result<(), Fail> {
-    let (mut applied, mut made_ready) = (Doc::new(rt.alloc()), Doc::new(rt.alloc()));
+    let alloc = rt.alloc();
+    let (mut applied, mut made_ready) = (Doc::new(alloc), Doc::new(alloc));
     let mut before = "";
     for (marks, text) in &EDITS {
-        let delta = marked(rt.alloc(), *marks)?;
-        apply(&rt, &mut applied, &delta)?;
-        has_text(&rt, &applied, *text)?;
-        put(&rt, &mut made_ready, &delta, before)?;
-        has_text(&rt, &made_ready, *text)?;
+        assert!(rt;
+            edits(alloc, &mut applied, &mut made_ready, *marks, before, *text)?,
+            "{text}"
+        );
         before = *text;
     }
     Ok(())

@@ -1,5 +1,6 @@
 use sporc_base::Memory;
 use sporc_bytes::{Cursor, Out, Short};
+use std::alloc::Global;
 use std::test::Fail;
 
 // 1 to 18 in fields of one, two, four, eight and three bytes, and a counted text.
@@ -16,13 +17,10 @@ fn write(out: &mut Out) -> Result<(), Memory> {
     out.put_counted(b"abc")
 }
 
-#[test]
-fn fields_are_written(rt: HostRuntime) -> Result<(), Fail> {
-    let mut out = Out::new(rt.alloc());
+fn fields_are_written(alloc: Global) -> Result<bool, Memory> {
+    let mut out = Out::new(alloc);
     write(&mut out)?;
-    let bytes = out.into_bytes();
-    assert!(rt; bytes.as_slice() == FIELDS.as_slice());
-    Ok(())
+    Ok(out.into_bytes().as_slice() == FIELDS.as_slice())
 }
 
 fn has_numbers(cursor: &mut Cursor<'_>) -> bool {
@@ -47,9 +45,11 @@ fn has_text_at_its_end(cursor: &mut Cursor<'_>) -> bool {
 }
 
 #[test]
-fn fields_are_read_as_they_are_written(rt: HostRuntime) {
+fn fields_are_read_as_they_are_written(rt: HostRuntime) -> Result<(), Fail> {
+    assert!(rt; fields_are_written(rt.alloc())?);
     let mut cursor = Cursor::new(FIELDS.as_slice());
     assert!(rt; has_numbers(&mut cursor));
     assert!(rt; has_bytes(&mut cursor));
     assert!(rt; has_text_at_its_end(&mut cursor));
+    Ok(())
 }

@@ -69,7 +69,7 @@ fn behind<L: Ledger>(
     Ok((delta, last))
 }
 
-// The same, or nothing where the forms do not follow one another or the delta is stated elsewhere.
+// The same, or nothing where the forms do not follow one another or a delta is stated elsewhere.
 fn restated(
     alloc: Global,
     first: Delta,
@@ -91,14 +91,18 @@ fn restated(
 
 // Of `abc` the first author leaves `ac`, the second makes `aXc` of it, and a third, who saw `abc`,
 // inserts before the `b`: the text is `aXYc`. A fourth, who saw `ac`, puts a character at its end.
+fn by_four_authors(alloc: Global) -> Result<Option<(Delta, Delta)>, Memory> {
+    let q = Delta::insert_at(alloc, 3, 1, "Y")?;
+    let late = Delta::insert_at(alloc, 2, 2, "Z")?;
+    let first = Delta::remove_at(alloc, 3, 1, 1)?;
+    let second = Delta::insert_at(alloc, 2, 1, "X")?;
+    restated(alloc, first, second, &q, &late)
+}
+
 #[test]
 fn a_delta_passes_the_forms_in_their_order(rt: HostRuntime) -> Result<(), Fail> {
     let alloc = rt.alloc();
-    let first = Delta::remove_at(alloc, 3, 1, 1)?;
-    let second = Delta::insert_at(alloc, 2, 1, "X")?;
-    let q = Delta::insert_at(alloc, 3, 1, "Y")?;
-    let late = Delta::insert_at(alloc, 2, 2, "Z")?;
-    let (delta, last) = restated(alloc, first, second, &q, &late)?.ok_or("other texts")?;
+    let (delta, last) = by_four_authors(alloc)?.ok_or("other texts")?;
     is_shown(&rt, alloc, &delta, "K2 I\"Y\" K1 ")?;
     is_shown(&rt, alloc, &last, "K3 I\"Z\" ")
 }

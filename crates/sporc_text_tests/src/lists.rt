@@ -1,19 +1,36 @@
-use sporc_base::{Bytes, Items, is_same, put_at, unmarked};
+use sporc_base::{Bytes, Items, Memory, is_same, put_at, unmarked};
+use std::alloc::Global;
 use std::test::Fail;
+
+fn bytes_are_copied(alloc: Global) -> Result<bool, Memory> {
+    let name = Bytes::copy_of(alloc, b"ada")?;
+    let copy = name.copy()?;
+    let copied = is_same(copy.as_slice(), b"ada");
+    let again = Items::new(copy.into_vec());
+    Ok(copied && is_same(again.as_slice(), name.as_slice()))
+}
+
+fn numbers_are_copied(alloc: Global) -> Result<bool, Memory> {
+    let numbers = Items::copy_of(alloc, &[7u16, 9])?;
+    Ok(numbers.as_slice() == [7u16, 9].as_slice())
+}
+
+fn bytes_are_put_at_a_place() -> bool {
+    let mut field = [1u8, 2, 3, 4];
+    put_at(&mut field, 1, &[8, 9]);
+    is_same(&field, &[1, 8, 9, 4])
+}
+
+fn a_table_has_no_marks(alloc: Global) -> Result<bool, Memory> {
+    let marks = unmarked(alloc, 3)?;
+    Ok(marks.as_slice() == [false, false, false].as_slice())
+}
 
 #[test]
 fn lists_are_copied_and_a_table_has_no_marks(rt: HostRuntime) -> Result<(), Fail> {
-    let name = Bytes::copy_of(rt.alloc(), b"ada")?;
-    let copy = name.copy()?;
-    assert!(rt; is_same(copy.as_slice(), b"ada"));
-    let again = Items::new(copy.into_vec());
-    assert!(rt; is_same(again.as_slice(), name.as_slice()));
-    let numbers = Items::copy_of(rt.alloc(), &[7u16, 9])?;
-    assert!(rt; numbers.as_slice() == [7u16, 9].as_slice());
-    let mut field = [1u8, 2, 3, 4];
-    put_at(&mut field, 1, &[8, 9]);
-    assert!(rt; is_same(&field, &[1, 8, 9, 4]));
-    let marks = unmarked(rt.alloc(), 3)?;
-    assert!(rt; marks.as_slice() == [false, false, false].as_slice());
+    assert!(rt; bytes_are_copied(rt.alloc())?);
+    assert!(rt; numbers_are_copied(rt.alloc())?);
+    assert!(rt; bytes_are_put_at_a_place());
+    assert!(rt; a_table_has_no_marks(rt.alloc())?);
     Ok(())
 }

@@ -1,7 +1,7 @@
+use sporc_base::Memory;
 use sporc_delta::{Delta, Part, TextSlice};
 use sporc_xform::{both, compose, earlier, later};
 use std::alloc::{AllocError, Global};
-use std::process::Abort;
 use std::test::Fail;
 
 // Deltas as lists of marks: K keeps a character, R removes one, and any other is inserted.
@@ -113,7 +113,7 @@ fn push_mark(alloc: Global, delta: &mut Delta, mark: char) -> Result<(), AllocEr
     }
 }
 
-pub(crate) fn delta_of(alloc: Global, marks: &[char]) -> Result<Delta, AllocError> {
+fn delta_of(alloc: Global, marks: &[char]) -> Result<Delta, AllocError> {
     let mut delta = Delta::new(alloc);
     for mark in marks {
         push_mark(alloc, &mut delta, *mark)?;
@@ -145,7 +145,7 @@ fn marks_of(alloc: Global, delta: &Delta) -> Result<Vec<char>, AllocError> {
     Ok(marks)
 }
 
-pub(crate) fn chars_of(alloc: Global, text: &str) -> Result<Vec<char>, AllocError> {
+fn chars_of(alloc: Global, text: &str) -> Result<Vec<char>, AllocError> {
     let mut marks = Vec::new(alloc);
     for mark in text.chars() {
         marks.push(mark)?;
@@ -153,45 +153,54 @@ pub(crate) fn chars_of(alloc: Global, text: &str) -> Result<Vec<char>, AllocErro
     Ok(marks)
 }
 
-// Whether the delta is of these marks.
-fn is_of(rt: &impl Abort, alloc: Global, delta: &Delta, marks: &[char]) -> Result<(), Fail> {
-    assert_eq!(rt; marks_of(alloc, delta)?.as_slice(), marks);
-    Ok(())
+/// The delta of these marks.
+pub(crate) fn marked(alloc: Global, marks: &str) -> Result<Delta, AllocError> {
+    let marks = chars_of(alloc, marks)?;
+    delta_of(alloc, &marks)
 }
 
-// Both transforms of two deltas over one text, each call compared with these marks.
-#[tactic(auto, using(sporc_xform::proofs::LengthLemmas::inserted_len_le))]
-fn check_both(
-    rt: &impl Abort,
+// Whether a delta is made of these marks.
+fn is_of(alloc: Global, made: Result<Delta, Memory>, marks: &[char]) -> Result<bool, Memory> {
+    let delta = made?;
+    Ok(marks_of(alloc, &delta)?.as_slice() == marks)
+}
+
+// Whether two deltas are made, each of its marks.
+fn are_of(
     alloc: Global,
-    p: &[char],
-    q: &[char],
+    made: Result<(Delta, Delta), Memory>,
     first: &[char],
     second: &[char],
-) -> Result<(), Fail> {
-    let p = delta_of(alloc, p)?;
-    let q = delta_of(alloc, q)?;
-    assert!(rt; p.base_len() == q.base_len());
-    assert!(rt; p.base_len() + p.out_len() + q.out_len() < 1000);
-    is_of(rt, alloc, &earlier(alloc, &p, &q)?, first)?;
-    is_of(rt, alloc, &later(alloc, &q, &p)?, second)?;
-    let (one, other) = both(alloc, &p, &q)?;
-    is_of(rt, alloc, &one, first)?;
-    is_of(rt, alloc, &other, second)?;
-    Ok(())
+) -> Result<bool, Memory> {
+    let (one, other) = made?;
+    Ok(is_of(alloc, Ok(one), first)? && is_of(alloc, Ok(other), second)?)
 }
 
-fn check_compose(
-    rt: &impl Abort,
+// Whether each transform of two short deltas over one text gives these marks.
+#[tactic(auto, using(sporc_xform::proofs::LengthLemmas::inserted_len_le))]
+fn transforms_give(
     alloc: Global,
-    p: &[char],
-    q: &[char],
-    marks: &[char],
-) -> Result<(), Fail> {
-    let p = delta_of(alloc, p)?;
-    let q = delta_of(alloc, q)?;
-    assert!(rt; p.out_len() == q.base_len());
-    is_of(rt, alloc, &compose(alloc, &p, &q)?, marks)
+    p: &Delta,
+    q: &Delta,
+    first: &[char],
+    second: &[char],
+) -> Result<bool, Memory> {
+    if p.base_len() != q.base_len() || p.base_len() + p.out_len() + q.out_len() >= 1000 {
+        return Ok(false);
+    }
+    Ok(
+        is_of(alloc, earlier(alloc, p, q), first)?
+            && is_of(alloc, later(alloc, q, p), second)?
+            && are_of(alloc, both(alloc, p, q), first, second)?,
+    )
+}
+
+// Whether the composition of two deltas that follow one another has these marks.
+fn composition_gives(alloc: Global, p: &Delta, q: &Delta, marks: &[char]) -> Result<bool, Memory> {
+    if p.out_len() != q.base_len() {
+        return Ok(false);
+    }
+    is_of(alloc, compose(alloc, p, q), marks)
 }
 
 // Two deltas, the first ordered earlier, and what each becomes behind the other.
@@ -210,17 +219,13 @@ const TRANSFORMS: [(&str, &str, &str, &str); 7] = [
     ("KXK", "KYK", "KXKK", "KKYK"),
 ];
 
-#[test]
-fn worked_transforms(rt: HostRuntime) -> Result<(), Fail> {
-    let alloc = rt.alloc();
-    for (p, q, first, second) in &TRANSFORMS {
-        let p = chars_of(alloc, *p)?;
-        let q = chars_of(alloc, *q)?;
-        let first = chars_of(alloc, *first)?;
-        let second = chars_of(alloc, *second)?;
-        check_both(&rt, alloc, &p, &q, &first, &second)?;
-    }
-    Ok(())
+fn transforms_as(alloc: Global, row: (&str, &str, &str, &str)) -> Result<bool, Memory> {
+    let (p, q, first, second) = row;
+    let p = marked(alloc, p)?;
+    let q = marked(alloc, q)?;
+    let first = chars_of(alloc, first)?;
+    let second = chars_of(alloc, second)?;
+    transforms_give(alloc, &p, &q, &first, &second)
 }
 
 // Two deltas that follow one another, and their composition.
@@ -231,14 +236,21 @@ const COMPOSITIONS: [(&str, &str, &str); 3] = [
     ("xyéK", "KRKK", "xéK"),
 ];
 
+fn composes_as(alloc: Global, row: (&str, &str, &str)) -> Result<bool, Memory> {
+    let (p, q, marks) = row;
+    let p = marked(alloc, p)?;
+    let q = marked(alloc, q)?;
+    let marks = chars_of(alloc, marks)?;
+    composition_gives(alloc, &p, &q, &marks)
+}
+
 #[test]
-fn worked_compositions(rt: HostRuntime) -> Result<(), Fail> {
-    let alloc = rt.alloc();
-    for (p, q, marks) in &COMPOSITIONS {
-        let p = chars_of(alloc, *p)?;
-        let q = chars_of(alloc, *q)?;
-        let marks = chars_of(alloc, *marks)?;
-        check_compose(&rt, alloc, &p, &q, &marks)?;
+fn worked_rows(rt: HostRuntime) -> Result<(), Fail> {
+    for row in &TRANSFORMS {
+        assert!(rt; transforms_as(rt.alloc(), *row)?, "{} {}", row.0, row.1);
+    }
+    for row in &COMPOSITIONS {
+        assert!(rt; composes_as(rt.alloc(), *row)?, "{} {}", row.0, row.1);
     }
     Ok(())
 }
@@ -266,16 +278,29 @@ fn small_delta(
     Ok(marks)
 }
 
-// Two deltas over a text of so many characters, transformed and composed.
-fn check_pair(rt: &impl Abort, alloc: Global, base: u32, i: u32, j: u32) -> Result<(), Fail> {
+// Whether two deltas over one text are transformed by the rules on marks, which give the first of them these.
+fn is_transformed(alloc: Global, p: &[char], q: &[char], first: &[char]) -> Result<bool, Memory> {
+    let second = plain_later(alloc, q, p)?;
+    let p = delta_of(alloc, p)?;
+    let q = delta_of(alloc, q)?;
+    transforms_give(alloc, &p, &q, first, &second)
+}
+
+// Whether two deltas that follow one another are composed by the rules on marks.
+fn is_composed(alloc: Global, p: &[char], q: &[char]) -> Result<bool, Memory> {
+    let marks = plain_compose(alloc, p, q)?;
+    let p = delta_of(alloc, p)?;
+    let q = delta_of(alloc, q)?;
+    composition_gives(alloc, &p, &q, &marks)
+}
+
+// Whether that is so of the deltas of these numbers over a text of so many characters.
+fn is_by_the_rules(alloc: Global, base: u32, i: u32, j: u32) -> Result<bool, Memory> {
     let p = small_delta(alloc, base, i, 'a')?;
     let q = small_delta(alloc, base, j, 'é')?;
     let first = plain_earlier(alloc, &p, &q)?;
-    let second = plain_later(alloc, &q, &p)?;
-    check_both(rt, alloc, &p, &q, &first, &second)?;
     // The earlier one behind the later one is stated on the text after it.
-    let marks = plain_compose(alloc, &q, &first)?;
-    check_compose(rt, alloc, &q, &first, &marks)
+    Ok(is_transformed(alloc, &p, &q, &first)? && is_composed(alloc, &q, &first)?)
 }
 
 // The characters of a text, and how many such deltas there are.
@@ -286,7 +311,10 @@ fn small_deltas_are_like_the_rules_on_marks(rt: HostRuntime) -> Result<(), Fail>
     for (base, count) in &SMALL {
         for i in 0..*count {
             for j in 0..*count {
-                check_pair(&rt, rt.alloc(), *base, i, j)?;
+                assert!(rt;
+                    is_by_the_rules(rt.alloc(), *base, i, j)?,
+                    "{base}: {i} and {j}"
+                );
             }
         }
     }
