@@ -1,7 +1,8 @@
 use lms_leaf::{Leaves, blank, laws};
 use sporc_base::Memory;
-use sporc_outside::{Calls, DiskRequest, MemoryDisk};
+use sporc_outside::{Calls, DiskCall, DiskRequest, MemoryDisk};
 use std::alloc::Global;
+use std::process::Abort;
 use std::test::Fail;
 
 // A disk of these bytes, all calls of which succeed.
@@ -18,32 +19,58 @@ fn name_of(request: &DiskRequest) -> &'static str {
     }
 }
 
-#[test]
-fn blank_files_are_zeros(rt: HostRuntime) -> Result<(), Fail> {
-    assert!(rt; blank(rt.alloc(), 5)?.as_slice() == [0; 8].as_slice());
-    assert!(rt; blank(rt.alloc(), 10)?.len() == 256);
-    assert!(rt; blank(rt.alloc(), 15)?.len() == 8192);
-    laws::no_leaf_is_drawn_twice::<MemoryDisk>();
-    Ok(())
+fn blank_files_are_zeros(alloc: Global) -> Result<bool, Memory> {
+    Ok(
+        blank(alloc, 5)?.as_slice() == [0; 8].as_slice()
+            && blank(alloc, 10)?.len() == 256
+            && blank(alloc, 15)?.len() == 8192,
+    )
+}
+
+// The leaves of a file whose second block is not blank.
+fn opened(alloc: Global) -> Result<Box<Leaves<MemoryDisk>>, Fail> {
+    let disk = disk_of(alloc, b"\0\x09\0\0\0\0\0\0".to_vec(alloc)?)?;
+    let leaves = Leaves::open(alloc, disk, 5).map_err(|fault| fault.0)?;
+    Ok(Box::new(alloc, leaves)?)
+}
+
+// Draws the leaves of the third block.
+fn draws_a_block(leaves: &mut Leaves<MemoryDisk>) -> bool {
+    if leaves.next() != 8 {
+        return false;
+    }
+    for leaf in 8..12 {
+        if leaves.draw() != Ok(leaf) {
+            return false;
+        }
+    }
+    true
 }
 
 // The calls of an opening and of a block that is taken.
 const CALLS: [&str; 5] = ["sync", "len", "read", "write", "sync"];
 
+// Whether a call of this name was done.
+fn is_done(call: &DiskCall, name: &str) -> bool {
+    call.done && name_of(&call.request) == name
+}
+
 // What an opening calls before it reads, and that a block of four leaves is written and synced once.
+fn has_its_calls(rt: &impl Abort, log: &[DiskCall]) {
+    assert!(rt; log.len() == CALLS.len());
+    for (call, name) in log.iter().zip(&CALLS) {
+        assert!(rt; is_done(call, *name), "{name}");
+    }
+}
+
 #[test]
-fn opening_begins_with_a_sync(rt: HostRuntime) -> Result<(), Fail> {
-    let disk = disk_of(rt.alloc(), [0, 9, 0, 0, 0, 0, 0, 0].to_vec(rt.alloc())?)?;
-    let mut leaves = Leaves::open(rt.alloc(), disk, 5).map_err(|fault| fault.0)?;
-    assert!(rt; leaves.next() == 8);
-    for leaf in 8..12 {
-        assert!(rt; leaves.draw() == Ok(leaf));
-    }
-    let disk = leaves.close();
-    assert!(rt; disk.as_slice() == [0, 9, 1, 0, 0, 0, 0, 0].as_slice());
-    assert!(rt; disk.log().len() == CALLS.len());
-    for (call, name) in disk.log().iter().zip(&CALLS) {
-        assert!(rt; call.done && name_of(&call.request) == *name, "{name}");
-    }
+fn a_file_is_blank_at_first_and_is_drawn_by_blocks(rt: HostRuntime) -> Result<(), Fail> {
+    assert!(rt; blank_files_are_zeros(rt.alloc())?);
+    let mut leaves = opened(rt.alloc())?;
+    assert!(rt; draws_a_block(&mut leaves));
+    let disk = Box::into_inner(leaves).close();
+    assert!(rt; disk.as_slice() == b"\0\x09\x01\0\0\0\0\0".as_slice());
+    has_its_calls(&rt, disk.log());
+    laws::no_leaf_is_drawn_twice::<MemoryDisk>();
     Ok(())
 }

@@ -1,3 +1,5 @@
+ghost use Rattle.std.specs.Prelude.{◌≡◌, IfOk};
+
 use hex::FromHex;
 use lms_leaf::Leaves;
 use lms_ots::OtsType;
@@ -20,14 +22,22 @@ fn tree(alloc: Global) -> Result<Tree, Fail> {
     Ok(Tree::build(alloc, &seed, &id, LmsType::H5, OtsType::W4)?)
 }
 
-// A signer that has drawn all leaves but those of the last block.
-fn signer(rt: &impl Abort, alloc: Global) -> Result<Signer<MemoryDisk>, Fail> {
-    let tree = tree(alloc)?;
+// Leaves all of which are drawn but those of the last block.
+fn leaves(alloc: Global) -> Result<Leaves<MemoryDisk>, Fail>
+    ensures { IfOk result (λ leaves. leaves.leaf_count ≡ 32) }
+{
     let bytes = [1, 1, 1, 1, 1, 1, 1, 0].to_vec(alloc)?;
     let disk = MemoryDisk::new(alloc, bytes, Calls::failing(Vec::new(alloc)))?;
     let leaves = Leaves::open(alloc, disk, 5).map_err(|fault| fault.0)?;
+    Ok(leaves)
+}
+
+// A signer with these leaves. It is in a box: a function that owns a signer itself is slow to prove.
+fn signer(rt: &impl Abort, alloc: Global) -> Result<Box<Signer<MemoryDisk>>, Fail> {
+    let tree = tree(alloc)?;
+    let leaves = leaves(alloc)?;
     assert!(rt; tree.public().lms.height() == 5);
-    Ok(Signer::open(tree, leaves))
+    Ok(Box::new(alloc, Signer::open(tree, leaves))?)
 }
 
 fn give_up(rt: &impl Abort, signer: &mut Signer<MemoryDisk>, leaf: u32) -> Result<(), Fail> {
@@ -61,18 +71,33 @@ fn is_that_of_bouncy_castle(rt: &impl Abort, signature: &[u8]) -> Result<(), Fai
     Ok(())
 }
 
-#[test]
-fn signs_by_the_last_leaf_as_bouncy_castle(rt: HostRuntime) -> Result<(), Fail> {
-    let mut signer = signer(&rt, rt.alloc())?;
-    for leaf in 28..31 {
-        give_up(&rt, &mut signer, leaf)?;
-    }
+// Signs by the last leaf.
+fn signs(rt: &impl Abort, alloc: Global, signer: &mut Signer<MemoryDisk>) -> Result<(), Fail> {
     let c = <[u8; 32]>::from_hex(
         "390ebb28a8d23139cf32d618b9f87343a1dd9642ac4fc5060e82d01804a9dd6f",
     )?;
-    let signature = signed(rt.alloc(), &mut signer, &c, b"hello")?;
-    is_that_of_bouncy_castle(&rt, &signature)?;
+    let signature = signed(alloc, signer, &c, b"hello")?;
+    is_that_of_bouncy_castle(rt, &signature)?;
     assert!(rt; verify(&signer.public(), b"hello", &signature));
-    assert!(rt; signer.close().as_slice() == [1; 8].as_slice());
+    Ok(())
+}
+
+fn draws_the_last_block(
+    rt: &impl Abort,
+    alloc: Global,
+    signer: &mut Signer<MemoryDisk>,
+) -> Result<(), Fail> {
+    for leaf in 28..31 {
+        give_up(rt, signer, leaf)?;
+    }
+    signs(rt, alloc, signer)
+}
+
+#[test]
+fn signs_by_the_last_leaf_as_bouncy_castle(rt: HostRuntime) -> Result<(), Fail> {
+    let mut signer = signer(&rt, rt.alloc())?;
+    draws_the_last_block(&rt, rt.alloc(), &mut signer)?;
+    let disk = Box::into_inner(signer).close();
+    assert!(rt; disk.as_slice() == [1; 8].as_slice());
     Ok(())
 }
