@@ -8,7 +8,7 @@ use sporc_entry::CommittedChange;
 use sporc_hash::{Digest32, commit};
 
 /// What a change says of the epoch that it starts.
-#[derive(Clone, Copy, PartialEq, Eq)]
+#[derive(Clone, Copy)]
 pub(crate) struct EpochStart {
     /// The epoch that it ends, which is the one before.
     pub(crate) ended: u32,

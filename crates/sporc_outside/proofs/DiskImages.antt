@@ -1,5 +1,6 @@
 -- What a crash of a disk in memory may leave, over one call.
-use Rattle.std.proofs.Common.{◌≡◌, ℕ, ◌+◌, ◌-◌, ◌<◌, ◌≤◌, ◌⊎◌, inl, inr, Bool, true, false, List, [], ◌∷◌, ◌++◌, length, take, drop, slice_index, Some, refl, ap, sym, subst, ◌∙◌, arith, length-append, length-drop, length-take-le, get_or-take}
+use Rattle.std.proofs.Common.{◌≡◌, ℕ, ◌+◌, ◌-◌, ◌<◌, ◌≤◌, ◌⊎◌, inl, inr, Bool, true, false, Ok, Err, List, [], ◌∷◌, ◌++◌, length, take, drop, slice_index, Some, refl, ap, sym, subst, ◌∙◌, arith, length-append, length-drop, length-take-le, get_or-take}
+use Rattle.std.specs.Prelude.{Result, OnOk}
 use Rattle.std.proofs.Math.Seq.{get_or-drop}
 use Rattle.sporc_outside.specs.CallsModel.{CallsModel}
 use Rattle.std.proofs.lemmas.List.{take-append-le, take_all, ext_get_or}
@@ -7,9 +8,10 @@ use Rattle.std.proofs.Math.Nat.{eq-or-lt_of_le}
 use Rattle.std.proofs.lemmas.Bool.{cases_lt}
 use Rattle.std.proofs.lemmas.List.Sums.{fold-append}
 use Rattle.sporc_outside.specs.declared.disk_call.DiskCall.{DiskCall}
-use Rattle.sporc_outside.specs.declared.disk_call.DiskRequest.TheVariants.{Write, Sync}
-use Rattle.sporc_outside.specs.LeafDisk.{overwrite, IsSameOutside, CrashStep}
-use Rattle.sporc_outside.specs.MemoryDisk.{DiskState, state_after, MemoryDiskModel, after_call, IsUnsynced, IsImage, images_of}
+use Rattle.sporc_outside.specs.declared.disk_call.DiskRequest.{DiskRequest}
+use Rattle.sporc_outside.specs.declared.disk_call.DiskRequest.TheVariants.{Len, Read, Write, Sync}
+use Rattle.sporc_outside.specs.LeafDisk.{overwrite, IsSame, IsSameOutside, CrashStep}
+use Rattle.sporc_outside.specs.MemoryDisk.{DiskState, state_after, MemoryDiskModel, after_call, after_request, IsUnsynced, IsImage, IsWrite, LogsCall, images_of}
 use Rattle.sporc_outside.proofs.Overwrites.{length-overwrite, slice_index-overwrite_outside, slice_index-overwrite_inside}
 
 -- what a crash after the first m of these calls may leave
@@ -65,7 +67,7 @@ passes_unlogged old first log new calls step is same stays =
     subst (λ (d : MemoryDiskModel). P d new) is
     (subst (P (record { first = first; log = log; calls = calls })) (sym same) (passes_none first log step stays))
 
-pub passes_logged : (old : MemoryDiskModel) (first : List ℕ) (log new : List DiskCall) (calls : CallsModel) (call : DiskCall)
+passes_logged : (old : MemoryDiskModel) (first : List ℕ) (log new : List DiskCall) (calls : CallsModel) (call : DiskCall)
     (step : List ℕ → List ℕ → Type 0) → ◌≡◌ {A = MemoryDiskModel} (record { first = first; log = log; calls = calls }) old
     → new ≡ log ++ call ∷ [] → ((image : List ℕ) → step image image) → Steps (state_after first log) call step
     → CrashStep (length old.log) (length new) (images_of old) (images_in first new) step
@@ -79,7 +81,7 @@ pub synced_bytes : (bytes image : List ℕ) → IsImage (record { bytes = bytes;
 synced_bytes bytes image h = ext_get_or 0 image bytes h.length (λ i below. elim (h.synced i) [ inl unsynced ↦ absurd unsynced | inr same ↦ same ])
 
 -- after a sync that succeeded only what a read gives
-pub synced_log : (first : List ℕ) (log new : List DiskCall) (image : List ℕ) → new ≡ log ++ record { request = Sync; done = true } ∷ []
+synced_log : (first : List ℕ) (log new : List DiskCall) (image : List ℕ) → new ≡ log ++ record { request = Sync; done = true } ∷ []
     → images_in first new (length new) image → Some (state_after first new).bytes ≡ Some image
 synced_log first log new image more h =
     let state : state_after first new ≡ record (state_after first log) { unsynced = [] } =
@@ -88,8 +90,51 @@ synced_log first log new image more h =
     rw state (ap Some (sym (synced_bytes (state_after first log).bytes image got)))
 
 -- so it was one before
-pub image_synced : (s : DiskState) (image : List ℕ) → IsImage (record s { unsynced = [] }) image → IsImage s image
+image_synced : (s : DiskState) (image : List ℕ) → IsImage (record s { unsynced = [] }) image → IsImage s image
 image_synced s image h = record { length = h.length; synced = λ i. elim (h.synced i) [ inl unsynced ↦ absurd unsynced | inr same ↦ inr same ] }
+
+-- a call that writes nothing
+steps_same : (s : DiskState) (done : Bool) (request : DiskRequest) → (IsWrite request → ⊥) → Steps s (record { request = request; done = done }) IsSame
+steps_same s done Len quiet image h = (image, h, refl)
+steps_same s done (Read at len) quiet image h = (image, h, refl)
+steps_same s true Sync quiet image h = (image, image_synced s image h, refl)
+steps_same s false Sync quiet image h = (image, h, refl)
+steps_same s done (Write at bytes) quiet image h = absurd (quiet _)
+
+bytes_same : (s : DiskState) (done : Bool) (request : DiskRequest) → (IsWrite request → ⊥) → (after_request s done request).bytes ≡ s.bytes
+bytes_same s done Len quiet = refl
+bytes_same s done (Read at len) quiet = refl
+bytes_same s done Sync quiet = refl
+bytes_same s done (Write at bytes) quiet = absurd (quiet _)
+
+-- in the log
+pub same_images : {T E : Type 0} (old : MemoryDiskModel) (first : List ℕ) (log new : List DiskCall) (calls : CallsModel) (request : DiskRequest)
+    (r : Result T E) → ◌≡◌ {A = MemoryDiskModel} (record { first = first; log = log; calls = calls }) old → (IsWrite request → ⊥)
+    → LogsCall log new request r → CrashStep (length old.log) (length new) (images_of old) (images_in first new) IsSame
+same_images old first log new calls request (Ok _) is quiet more =
+    passes_logged old first log new calls (record { request = request; done = true }) IsSame is more (λ image. refl) (steps_same (state_after first log) true request quiet)
+same_images old first log new calls request (Err _) is quiet (inl more) =
+    passes_logged old first log new calls (record { request = request; done = false }) IsSame is more (λ image. refl) (steps_same (state_after first log) false request quiet)
+same_images old first log new calls request (Err _) is quiet (inr same) = passes_unlogged old first log new calls IsSame is same (λ image. refl)
+
+-- what a read gives then
+bytes_logged : (first : List ℕ) (log new : List DiskCall) (done : Bool) (request : DiskRequest) → (IsWrite request → ⊥)
+    → new ≡ log ++ record { request = request; done = done } ∷ [] → (state_after first new).bytes ≡ (state_after first log).bytes
+bytes_logged first log new done request quiet more =
+    ap (λ (l : List DiskCall). (state_after first l).bytes) more ∙ ap (λ (s : DiskState). s.bytes) (state_after-more first log (record { request = request; done = done }))
+    ∙ bytes_same (state_after first log) done request quiet
+
+pub same_bytes : {T E : Type 0} (first : List ℕ) (log new : List DiskCall) (request : DiskRequest) (r : Result T E) → (IsWrite request → ⊥)
+    → LogsCall log new request r → (state_after first new).bytes ≡ (state_after first log).bytes
+same_bytes first log new request (Ok _) quiet more = bytes_logged first log new true request quiet more
+same_bytes first log new request (Err _) quiet (inl more) = bytes_logged first log new false request quiet more
+same_bytes first log new request (Err _) quiet (inr same) = ap (λ (l : List DiskCall). (state_after first l).bytes) same
+
+-- after a sync that succeeded an image is what a read gives
+pub synced_images : {T E : Type 0} (old new : MemoryDiskModel) (r : Result T E) → LogsCall old.log new.log Sync r
+    → OnOk r ((image : List ℕ) → images_of new (length new.log) image → Some (state_after new.first new.log).bytes ≡ Some image)
+synced_images old new (Ok _) more = λ image h. synced_log new.first old.log new.log image more h
+synced_images old new (Err _) more = _
 
 -- a write leaves the bytes outside its range, in what a read gives and in each image
 pub overwrite_outside : (old : List ℕ) (at : ℕ) (bytes : List ℕ) → at + length bytes ≤ length old

@@ -1,5 +1,5 @@
 -- A disk in memory as its log tells it: what a read gives and what a crash may leave, after any of its calls.
-use Rattle.std.specs.Prelude.{◌≡◌, ◌⊎◌, ℕ, ◌+◌, ◌<◌, ◌≤◌, Bool, List, [], ◌∷◌, length, take, fold, slice_index, if◌then◌else◌, refl}
+use Rattle.std.specs.Prelude.{◌≡◌, ◌⊎◌, ℕ, ◌+◌, ◌<◌, ◌≤◌, Bool, true, false, List, [], ◌∷◌, ◌++◌, length, take, fold, slice_index, if◌then◌else◌, Result, Ok, Err, refl}
 use Rattle.std.proofs.Common.{subst, sym, inr}
 use Rattle.std.proofs.Math.Seq.{take-length}
 use Rattle.sporc_outside.specs.CallsModel.{CallsModel}
@@ -31,6 +31,18 @@ after_request s done (Read at len) = s
 
 abbrev pub after_call : DiskState → DiskCall → DiskState
 after_call s call = after_request s call.done call.request
+
+-- a request that writes
+abbrev pub IsWrite : DiskRequest → Type 0
+IsWrite (Write at bytes) = Unit {0}
+IsWrite Len = ⊥
+IsWrite (Read at len) = ⊥
+IsWrite Sync = ⊥
+
+-- the log after a call that returned this; a call that failed may be missing in it
+abbrev pub LogsCall : {T E : Type 0} → List DiskCall → List DiskCall → DiskRequest → Result T E → Type 0
+LogsCall old new request (Ok _) = new ≡ old ++ record { request = request; done = true } ∷ []
+LogsCall old new request (Err _) = (new ≡ old ++ record { request = request; done = false } ∷ []) ⊎ (new ≡ old)
 
 -- the state after these calls on a disk of these bytes
 abbrev pub state_after : List ℕ → List DiskCall → DiskState

@@ -1,9 +1,10 @@
 // Disks in memory.
 
-ghost use Rattle.std.specs.Prelude.{◌≡◌, ℕ, List, take, drop, ◌⊎◌, ◌+◌, ◌≤◌, [], ◌∷◌, ◌++◌, Some, true, false, length, IfOk, OnOk, OnErr};
+ghost use Rattle.std.specs.Prelude.{◌≡◌, ℕ, List, take, drop, ◌+◌, ◌≤◌, [], Some, length, IfOk, OnOk, OnErr};
 ghost use Rattle.sporc_outside.specs.CallsModel.{CountsCall};
 ghost use Rattle.sporc_outside.specs.LeafDisk.{overwrite, IsSame, IsSameOutside, KeepsOutside, CrashStep};
 ghost use Rattle.sporc_outside.specs.Counts.{CountsFaults, Rose, next_count};
+ghost use Rattle.sporc_outside.specs.MemoryDisk.{LogsCall};
 
 use crate::calls::Calls;
 use crate::counted::{Counted, Failed};
@@ -35,7 +36,7 @@ impl Model for MemoryDisk {
 }
 
 impl MemoryDisk {
-    ghost use Rattle.sporc_outside.specs.MemoryDisk.{state_after};
+    ghost use Rattle.sporc_outside.specs.MemoryDisk.{state_after, images_of, IsWrite};
 
     /// Holds these bytes, all of them synced. The listed calls fail.
     pub fn new(alloc: Global, bytes: Vec<u8>, calls: Calls) -> Result<MemoryDisk, AllocError>
@@ -72,6 +73,19 @@ impl MemoryDisk {
     {
         self.log.as_slice()
     }
+
+    // Counts and logs a call that writes nothing.
+    fn enter(&mut self, request: DiskRequest) -> Result<(), Failed>
+        requires { IsWrite request → ⊥ }
+        ensures logged { LogsCall self.old.log self.new.log request result }
+        ensures bytes { (state_after self.new.first self.new.log).bytes ≡ (state_after self.old.first self.old.log).bytes }
+        ensures images { CrashStep (length self.old.log) (length self.new.log) (images_of self.old) (images_of self.new)
+            IsSame }
+        ensures call { CountsCall self.old.calls self.new.calls result }
+        ensures count { CountsFaults self.old.calls.faults self.new.calls.faults result }
+    {
+        log_call(&mut self.calls, &mut self.log, request)
+    }
 }
 
 impl Counted for MemoryDisk {
@@ -104,7 +118,7 @@ impl LeafDisk for MemoryDisk {
         ensures call { CountsCall self.old.calls self.new.calls result }
         ensures count { CountsFaults self.old.calls.faults self.new.calls.faults result }
     {
-        enter(&mut self.calls, &mut self.log, DiskRequest::Len)?;
+        self.enter(DiskRequest::Len)?;
         Ok(self.bytes.len() as u64)
     }
 
@@ -118,11 +132,7 @@ impl LeafDisk for MemoryDisk {
         ensures count { CountsFaults self.old.calls.faults self.new.calls.faults result }
     {
         let len = buf.len();
-        enter(
-            &mut self.calls,
-            &mut self.log,
-            DiskRequest::Read { at, len },
-        )?;
+        self.enter(DiskRequest::Read { at, len })?;
         let at = at as usize;
         buf.copy_from_slice(&self.bytes[at..at + len]);
         Ok(())
@@ -144,7 +154,7 @@ impl LeafDisk for MemoryDisk {
             at,
             bytes: DiskBytes::new(kept),
         };
-        enter(&mut self.calls, &mut self.log, request)?;
+        log_call(&mut self.calls, &mut self.log, request)?;
         let at = at as usize;
         self.bytes[at..at + bytes.len()].copy_from_slice(bytes);
         Ok(())
@@ -159,18 +169,13 @@ impl LeafDisk for MemoryDisk {
         ensures call { CountsCall self.old.calls self.new.calls result }
         ensures count { CountsFaults self.old.calls.faults self.new.calls.faults result }
     {
-        enter(&mut self.calls, &mut self.log, DiskRequest::Sync)?;
-        Ok(())
+        self.enter(DiskRequest::Sync)
     }
 }
 
 // Counts a call, and puts it at the end of the log.
-fn enter(calls: &mut Calls, log: &mut Vec<DiskCall>, request: DiskRequest) -> Result<(), Failed>
-    ensures ok { OnOk result
-        (log.new.items ≡ log.old.items ++ record { request = request; done = true } ∷ []) }
-    ensures err { OnErr result
-        ((log.new.items ≡ log.old.items ++ record { request = request; done = false } ∷ [])
-        ⊎ (log.new.items ≡ log.old.items)) }
+fn log_call(calls: &mut Calls, log: &mut Vec<DiskCall>, request: DiskRequest) -> Result<(), Failed>
+    ensures logged { LogsCall log.old.items log.new.items request result }
     ensures call { CountsCall calls.old calls.new result }
     ensures count { CountsFaults calls.old.faults calls.new.faults result }
 {

@@ -12,7 +12,7 @@ pub const EDIT: u8 = 1;
 pub const CHANGE: u8 = 2;
 
 /// An entry to be signed: whatever stands in its header is signed as it stands.
-#[derive(Clone, Copy, PartialEq, Eq)]
+#[derive(Clone, Copy)]
 pub struct Draft {
     pub header: Header,
     /// The leaf whose key signs: at first the one that the header names.

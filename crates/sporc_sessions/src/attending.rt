@@ -35,7 +35,7 @@ pub struct Member {
 }
 
 /// Why no session began.
-#[derive(Clone, Copy, PartialEq, Eq)]
+#[derive(Clone, Copy)]
 pub enum AttendFault {
     /// The member's line does not open.
     Open(OpenFault),

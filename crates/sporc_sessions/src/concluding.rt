@@ -18,7 +18,7 @@ use sporc_store::{SaveFault, save};
 use std::alloc::{AllocError, Global};
 
 /// Why journal and report were not printed whole.
-#[derive(Clone, Copy, PartialEq, Eq)]
+#[derive(Clone, Copy)]
 pub enum PrintFault {
     /// The sink failed, after a prefix of them.
     Sink,
@@ -43,7 +43,7 @@ impl From<Failed> for PrintFault {
 }
 
 /// Why a history was not saved.
-#[derive(Clone, Copy, PartialEq, Eq)]
+#[derive(Clone, Copy)]
 pub enum KeepFault {
     /// Its file would be longer than a file may be.
     TooLong,

@@ -15,7 +15,7 @@ use sporc_store::{Stop, load};
 use std::alloc::Global;
 
 /// Why a saved history is not gone on with.
-#[derive(Clone, Copy, PartialEq, Eq)]
+#[derive(Clone, Copy)]
 pub enum ResumeFault {
     /// Its loading stops here, before the end.
     Stopped(Stop),

@@ -21,7 +21,7 @@ use std::sync::Wait;
 use std::thread::{Threads, join_mut};
 
 // The receiver's fault, and the first fault of an editor, if there is one.
-#[derive(Clone, Copy, PartialEq, Eq)]
+#[derive(Clone, Copy)]
 pub(crate) struct Faults {
     pub receiver: Option<SessionFault>,
     pub editors: Option<SessionFault>,

@@ -10,7 +10,7 @@ use sporc_hash::Digest32;
 use sporc_outside::LeafDisk;
 
 /// A client at a glance.
-#[derive(Clone, Copy, PartialEq, Eq)]
+#[derive(Clone, Copy)]
 pub struct Look {
     /// How many entries its history has.
     pub at: u32,

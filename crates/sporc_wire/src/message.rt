@@ -8,7 +8,7 @@ use sporc_bytes::Short;
 use std::alloc::{AllocError, AllocFailed, Global};
 
 // Why the body of a frame gives no message.
-#[derive(Clone, Copy, PartialEq, Eq)]
+#[derive(Clone, Copy)]
 pub(crate) enum BodyFault {
     // The field whose first byte has this place in the body is cut short or forbidden.
     Bad(usize),

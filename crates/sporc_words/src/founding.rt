@@ -3,7 +3,7 @@
 use sporc_member::Role;
 
 /// As what a number is named.
-#[derive(Clone, Copy, PartialEq, Eq)]
+#[derive(Clone, Copy)]
 pub enum Founding {
     /// As a founder with this role.
     Founder(Role),
@@ -27,7 +27,7 @@ impl Founding {
 }
 
 /// A number, and as what it is named: the word `M:ROLE`.
-#[derive(Clone, Copy, PartialEq, Eq)]
+#[derive(Clone, Copy)]
 pub struct Participant {
     /// The number, from 1 to 65,535.
     pub member: u16,

@@ -1,20 +1,5 @@
-use Rattle.std.proofs.Common.{inl, inr, refl, true, false}
-use Rattle.sporc_outside.specs.declared.disk_call.DiskRequest.TheVariants.{Sync}
-use Rattle.sporc_outside.specs.LeafDisk.{IsSame}
-use Rattle.sporc_outside.proofs.DiskImages.{passes_logged, passes_unlogged, image_synced, synced_log}
+use Rattle.sporc_outside.proofs.DiskImages.{synced_images}
 use Rattle.sporc_outside.proofs.memory_disk.MemoryDiskLeafDisk.sync.Goals as goal
 
-pub returns-in_err-enter-clause-images : goal.returns-in_err-enter-clause-images
-returns-in_err-enter-clause-images c =
-    elim c.in_err-enter.ensures.err [
-      | inl more ↦ passes_logged c.args.self.now _ _ _ _ (record { request = Sync; done = false }) IsSame c.self.view_is more (λ image. refl) (λ image h. (image, h, refl))
-      | inr same ↦ passes_unlogged c.args.self.now _ _ _ _ IsSame c.self.view_is same (λ image. refl)
-    ]
-
-pub returns-clause-images : goal.returns-clause-images
-returns-clause-images c =
-    passes_logged c.args.self.now _ _ _ _ (record { request = Sync; done = true }) IsSame c.self.view_is c.in_ok-enter.ensures.ok (λ image. refl)
-    (λ image h. (image, image_synced _ image h, refl))
-
 pub returns-clause-durable : goal.returns-clause-durable
-returns-clause-durable c = λ image h. synced_log _ _ _ image c.in_ok-enter.ensures.ok h
+returns-clause-durable c = synced_images c.args.self.now c.enter.new.self c.enter.result c.enter.ensures.logged
