@@ -1,5 +1,7 @@
 use sporc_member::Role;
-use sporc_words::{Client, Command, Found, Founding, Keygen, WordsFault, read_words};
+use sporc_words::{
+    Check, Client, Command, Compare, Found, Founding, Keygen, Serve, Word, WordsFault, read_words,
+};
 use std::alloc::{AllocError, Global};
 use std::fmt::Write;
 use std::process::Abort;
@@ -109,43 +111,39 @@ fn words_ask_for_commands(rt: HostRuntime) -> Result<(), Fail> {
     for (line, asked) in &ROWS {
         is_read(&rt, rt.alloc(), line, asked)?;
     }
-    Ok(())
-}
-
-#[test]
-fn other_words_ask_for_nothing(rt: HostRuntime) -> Result<(), Fail> {
     for line in &OTHERS {
         is_read(&rt, rt.alloc(), line, "nothing")?;
     }
-    Ok(())
+    no_words_ask_for_nothing(&rt, rt.alloc())?;
+    at_most_64_are_named(&rt, rt.alloc())
 }
 
-#[test]
-fn no_words_ask_for_nothing(rt: HostRuntime) -> Result<(), Fail> {
-    let words = Vec::new(rt.alloc());
-    let shown = shown(rt.alloc(), words.as_slice())?;
-    assert!(rt; shown.as_str() == "nothing");
-    Ok(())
+fn no_words_ask_for_nothing(rt: &impl Abort, alloc: Global) -> Result<(), Fail> {
+    ask_for(rt, alloc, &[], "nothing")
 }
 
-#[test]
-fn at_most_64_are_named(rt: HostRuntime) -> Result<(), Fail> {
-    let mut line = String::from_str(rt.alloc(), "found doc 100:admin")?;
-    let mut asked = String::from_str(rt.alloc(), "found doc 100 admin")?;
-    for member in 1..64 {
-        write!(line, " {member}:joiner")?;
-        write!(asked, " {member} joiner")?;
-    }
-    is_read(&rt, rt.alloc(), line.as_str(), asked.as_str())?;
+// The words of a founding with an admin and 63 joiners, and with one more.
+fn at_most_64_are_named(rt: &impl Abort, alloc: Global) -> Result<(), Fail> {
+    let mut line = String::from_str(alloc, "found doc 100:admin")?;
+    let mut asked = String::from_str(alloc, "found doc 100 admin")?;
+    name_joiners(&mut line, ":joiner")?;
+    name_joiners(&mut asked, " joiner")?;
+    is_read(rt, alloc, line.as_str(), asked.as_str())?;
     line.push_str(" 64:joiner")?;
-    is_read(&rt, rt.alloc(), line.as_str(), "nothing")
+    is_read(rt, alloc, line.as_str(), "nothing")
+}
+
+fn name_joiners(line: &mut String, role: &str) -> Result<(), Fail> {
+    for member in 1..64 {
+        push_number(line, member)?;
+        line.push_str(role)?;
+    }
+    Ok(())
 }
 
 fn is_read(rt: &impl Abort, alloc: Global, line: &str, asked: &str) -> Result<(), Fail> {
     let words = words_in(alloc, line)?;
-    let shown = shown(alloc, words.as_slice())?;
-    assert!(rt; shown.as_str() == asked);
-    Ok(())
+    ask_for(rt, alloc, words.as_slice(), asked)
 }
 
 fn words_in(alloc: Global, line: &str) -> Result<Vec<String>, AllocError> {
@@ -156,81 +154,111 @@ fn words_in(alloc: Global, line: &str) -> Result<Vec<String>, AllocError> {
     Ok(words)
 }
 
-// What words ask for in one line.
-fn shown(alloc: Global, words: &[String]) -> Result<String, Fail> {
-    let mut line = String::new(alloc);
+fn ask_for(rt: &impl Abort, alloc: Global, words: &[String], asked: &str) -> Result<(), Fail> {
+    let mut shown = String::new(alloc);
+    show_words(alloc, &mut shown, words)?;
+    assert!(rt; shown.as_str() == asked);
+    Ok(())
+}
+
+// Appends what words ask for, in one line.
+fn show_words(alloc: Global, line: &mut String, words: &[String]) -> Result<(), Fail> {
     match read_words(alloc, words) {
-        Ok(command) => show(&mut line, &command)?,
-        Err(WordsFault::Words) => line.push_str("nothing")?,
-        Err(WordsFault::Memory) => line.push_str("out of memory")?,
+        Ok(command) => {
+            let shown = show(line, &command);
+            drop(command);
+            shown
+        }
+        Err(WordsFault::Words) => Ok(line.push_str("nothing")?),
+        Err(WordsFault::Memory) => Ok(line.push_str("out of memory")?),
     }
-    Ok(line)
 }
 
 fn show(line: &mut String, command: &Command) -> Result<(), Fail> {
     match command {
-        Command::Play => line.push_str("play")?,
-        Command::Generate(edits) => write!(line, "generate {edits}")?,
-        Command::Keygen(keygen) => show_keygen(line, keygen)?,
-        Command::Found(found) => show_found(line, found)?,
-        Command::Serve(serve) => write!(
-            line,
-            "serve {} {} {}",
-            serve.name.as_str(),
-            serve.address.as_str(),
-            serve.sessions
-        )?,
-        Command::Client(client) => show_client(line, client)?,
-        Command::Check(check) => write!(line, "check {} {}", check.name.as_str(), check.member)?,
-        Command::Compare(compare) => write!(
-            line,
-            "compare {} {} {}",
-            compare.name.as_str(),
-            compare.first,
-            compare.second
-        )?,
+        Command::Play => Ok(line.push_str("play")?),
+        Command::Generate(edits) => show_generate(line, *edits),
+        Command::Keygen(keygen) => show_keygen(line, keygen),
+        Command::Found(found) => show_found(line, found),
+        Command::Serve(serve) => show_serve(line, serve),
+        Command::Client(client) => show_client(line, client),
+        Command::Check(check) => show_check(line, check),
+        Command::Compare(compare) => show_compare(line, compare),
     }
-    Ok(())
+}
+
+fn show_generate(line: &mut String, edits: u32) -> Result<(), Fail> {
+    line.push_str("generate")?;
+    push_number(line, edits)
 }
 
 fn show_keygen(line: &mut String, keygen: &Keygen) -> Result<(), Fail> {
-    let height = keygen.height.height();
-    let width = keygen.width.w();
-    write!(
-        line,
-        "keygen {} {} {height} {width}",
-        keygen.name.as_str(),
-        keygen.member
-    )?;
-    Ok(())
+    push_named(line, "keygen", &keygen.name)?;
+    push_number(line, u32::from(keygen.member))?;
+    push_number(line, keygen.height.height())?;
+    push_number(line, keygen.width.w())
 }
 
 fn show_found(line: &mut String, found: &Found) -> Result<(), Fail> {
-    write!(line, "found {}", found.name.as_str())?;
+    push_named(line, "found", &found.name)?;
     for participant in found.participants.as_slice() {
-        let part = match participant.founding {
-            Founding::Founder(Role::Reader) => "reader",
-            Founding::Founder(Role::Editor) => "editor",
-            Founding::Founder(Role::Admin) => "admin",
-            Founding::Joiner => "joiner",
-        };
-        write!(line, " {} {part}", participant.member)?;
+        push_number(line, u32::from(participant.member))?;
+        push_word(line, founding_name(participant.founding))?;
     }
     Ok(())
 }
 
+fn founding_name(founding: Founding) -> &'static str {
+    match founding {
+        Founding::Founder(Role::Reader) => "reader",
+        Founding::Founder(Role::Editor) => "editor",
+        Founding::Founder(Role::Admin) => "admin",
+        Founding::Joiner => "joiner",
+    }
+}
+
+fn show_serve(line: &mut String, serve: &Serve) -> Result<(), Fail> {
+    push_named(line, "serve", &serve.name)?;
+    push_word(line, serve.address.as_str())?;
+    push_number(line, serve.sessions)
+}
+
 fn show_client(line: &mut String, client: &Client) -> Result<(), Fail> {
-    write!(
-        line,
-        "client {} {} {} {} {}",
-        client.name.as_str(),
-        client.member,
-        client.address.as_str(),
-        client.rounds,
-        client.until
-    )?;
+    push_named(line, "client", &client.name)?;
+    push_number(line, u32::from(client.member))?;
+    push_word(line, client.address.as_str())?;
+    push_number(line, client.rounds)?;
+    push_number(line, client.until)?;
     for script in client.scripts.as_slice() {
-        write!(line, " {}", script.as_str())?;
+        push_word(line, script.as_str())?;
     }
     Ok(())
+}
+
+fn show_check(line: &mut String, check: &Check) -> Result<(), Fail> {
+    push_named(line, "check", &check.name)?;
+    push_number(line, u32::from(check.member))
+}
+
+fn show_compare(line: &mut String, compare: &Compare) -> Result<(), Fail> {
+    push_named(line, "compare", &compare.name)?;
+    push_number(line, u32::from(compare.first))?;
+    push_number(line, u32::from(compare.second))
+}
+
+// Appends a verb, and the document's name.
+fn push_named(line: &mut String, verb: &str, name: &Word) -> Result<(), AllocError> {
+    line.push_str(verb)?;
+    push_word(line, name.as_str())
+}
+
+// Appends a word behind a space.
+fn push_word(line: &mut String, word: &str) -> Result<(), AllocError> {
+    line.push_str(" ")?;
+    line.push_str(word)
+}
+
+// Appends a number behind a space.
+fn push_number(line: &mut String, number: u32) -> Result<(), Fail> {
+    Ok(write!(line, " {number}")?)
 }

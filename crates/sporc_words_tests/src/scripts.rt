@@ -1,7 +1,8 @@
-// Lines of every kind are read, and lines outside the grammar are not.
+//! Lines of scripts: those of every kind are read, and those that break a rule of the grammar are outside it.
 
-use sporc_script::{LineFault, read_editor, read_play};
+use sporc_script::{EditorLine, LineFault, read_editor, read_play};
 use std::alloc::Global;
+use std::process::Abort;
 use std::test::Fail;
 
 const PREAMBLE: &str =
@@ -74,48 +75,62 @@ const OUTSIDE: &[&str] = &[
     "sign 3 from 1 remove 2 with wrap 5",
 ];
 
-// The number of the first line outside, or 0.
-fn fault_behind(alloc: Global, line: &str) -> Result<u32, LineFault> {
-    let mut text = String::from_str(alloc, PREAMBLE)?;
-    text.push_str(line)?;
-    if text.len() > 1 << 10 {
+// The number of the first line of a play that is outside, or 0.
+fn first_outside(alloc: Global, script: &[u8]) -> Result<u32, LineFault> {
+    if script.len() > 1 << 10 {
         return Err(LineFault::Memory);
     }
-    match read_play(alloc, text.as_bytes()) {
-        Ok(_) => Ok(0),
+    match read_play(alloc, script) {
+        Ok(script) => {
+            drop(script);
+            Ok(0)
+        }
         Err(LineFault::Line { line }) => Ok(line),
         Err(LineFault::Memory) => Err(LineFault::Memory),
     }
 }
 
-#[test]
-fn each_kind_of_line_is_read(rt: HostRuntime) -> Result<(), Fail> {
-    for line in LINES {
-        assert_eq!(rt; fault_behind(rt.alloc(), line)?, 0);
-    }
-    Ok(())
+// The same, of a line behind the preamble.
+fn outside_behind(alloc: Global, line: &str) -> Result<u32, LineFault> {
+    let mut text = String::from_str(alloc, PREAMBLE)?;
+    text.push_str(line)?;
+    first_outside(alloc, text.as_bytes())
 }
 
-#[test]
-fn each_rule_of_the_grammar_is_kept(rt: HostRuntime) -> Result<(), Fail> {
-    for line in OUTSIDE {
-        assert_eq!(rt; fault_behind(rt.alloc(), line)?, 7);
+// Whether these are four lines, the last of which has the number 6.
+fn are_four(lines: &[EditorLine]) -> bool {
+    match lines {
+        [_, _, _, last] => last.number == 6,
+        _ => false,
     }
-    Ok(())
 }
 
-#[test]
-fn editor_scripts_are_read(rt: HostRuntime) -> Result<(), Fail> {
-    let alloc = rt.alloc();
+// Whether the second line of an editor's script is outside.
+fn is_second_outside(alloc: Global) -> bool {
+    match read_editor(alloc, b"drop 2\nadd 4 editor 00") {
+        Err(LineFault::Line { line }) => line == 2,
+        _ => false,
+    }
+}
+
+fn editor_scripts_are_read(rt: &impl Abort, alloc: Global) -> Result<(), Fail> {
     let script = read_editor(
         alloc,
         b"insert 0 \"a\"\n# more\n\nremove 0 1\ndrop 2\nrole 3 admin",
     )?;
-    assert_eq!(rt; script.lines().len(), 4);
-    assert_eq!(rt; script.lines()[3].number, 6);
-    match read_editor(alloc, b"drop 2\nadd 4 editor 00") {
-        Err(LineFault::Line { line }) => assert_eq!(rt; line, 2),
-        _ => assert!(rt; false),
-    }
+    assert!(rt; are_four(script.lines()));
+    drop(script);
+    assert!(rt; is_second_outside(alloc));
     Ok(())
+}
+
+#[test]
+fn each_kind_of_line_is_read_and_each_rule_is_kept(rt: HostRuntime) -> Result<(), Fail> {
+    for line in LINES {
+        assert!(rt; outside_behind(rt.alloc(), line)? == 0);
+    }
+    for line in OUTSIDE {
+        assert!(rt; outside_behind(rt.alloc(), line)? == 7);
+    }
+    editor_scripts_are_read(&rt, rt.alloc())
 }
