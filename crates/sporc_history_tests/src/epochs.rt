@@ -152,11 +152,11 @@ fn copy_of_two(alloc: Global) -> Result<Ring, Fail> {
     Ok(ring.copy()?)
 }
 
-#[test]
-fn a_ring_gives_the_keys_that_were_put(rt: HostRuntime) -> Result<(), Fail> {
-    let copy = copy_of_two(rt.alloc())?;
-    is_key(&rt, copy.key(3).copied(), Some([3; 32]));
-    is_key(&rt, copy.key(7).copied(), None);
+// A ring gives the keys that were put.
+fn ring_gives_keys(rt: &impl Abort, alloc: Global) -> Result<(), Fail> {
+    let copy = copy_of_two(alloc)?;
+    is_key(rt, copy.key(3).copied(), Some([3; 32]));
+    is_key(rt, copy.key(7).copied(), None);
     Ok(())
 }
 
@@ -208,14 +208,12 @@ fn is_opened(rt: &impl Abort, alloc: Global, body: &ChangeBody) -> Result<(), Fa
     Ok(())
 }
 
-#[test]
-fn changes_are_sealed_and_opened(rt: HostRuntime) -> Result<(), Fail> {
-    least_is_named(&rt, rt.alloc())?;
-    let wraps = wraps_twice(rt.alloc())?;
-    let mut body = sealed(rt.alloc(), &REMOVE, 0)?;
-    is_that_of_openssl(&rt, &body);
+fn change_is_sealed_and_opened(rt: &impl Abort, alloc: Global) -> Result<(), Fail> {
+    let wraps = wraps_twice(alloc)?;
+    let mut body = sealed(alloc, &REMOVE, 0)?;
+    is_that_of_openssl(rt, &body);
     body.wraps = wraps;
-    is_opened(&rt, rt.alloc(), &body)
+    is_opened(rt, alloc, &body)
 }
 
 // The keys of four epochs are found backwards.
@@ -272,8 +270,12 @@ fn none_follows(rt: &impl Abort, alloc: Global) -> Result<(), Fail> {
     Ok(())
 }
 
+// A ring gives the keys that were put, changes are sealed and opened, and keys are found by hints.
 #[test]
-fn keys_are_found_by_hints(rt: HostRuntime) -> Result<(), Fail> {
+fn keys_are_put_sealed_and_found(rt: HostRuntime) -> Result<(), Fail> {
+    ring_gives_keys(&rt, rt.alloc())?;
+    least_is_named(&rt, rt.alloc())?;
+    change_is_sealed_and_opened(&rt, rt.alloc())?;
     four_are_found(&rt, rt.alloc())?;
     each_fault_is_found(&rt, rt.alloc())?;
     none_follows(&rt, rt.alloc())

@@ -25,6 +25,10 @@ const ENTRIES: [u8; 20] = [0, 0, 0, 16, 3, 0, 0, 0, 3, 2, 0, 0, 0, 2, 8, 9, 0, 0
 
 const EMPTY: [u8; 5] = [0, 0, 0, 1, 4];
 
+const TO_SERVER: [&[u8]; 3] = [&HELLO, &PULL, &SUBMIT];
+
+const TO_CLIENT: [&[u8]; 4] = [&ORDERED, &REJECTED, &ENTRIES, &EMPTY];
+
 fn is_hello(found: &Option<ToServer>) -> bool {
     match found {
         Some(ToServer::Hello { document, member }) => *document == [7u8; 16] && *member == 9,
@@ -93,12 +97,10 @@ fn is_at_the_limit(rt: &impl Abort, frames: &mut Frames) -> Result<(), FrameFaul
     Ok(())
 }
 
-#[test]
-fn frames_come_byte_by_byte_up_to_a_limit(rt: HostRuntime) -> Result<(), Fail> {
-    come_byte_by_byte(&rt, &mut Frames::new(rt.alloc()))?;
-    is_above_the_limit(&rt, &mut Frames::new(rt.alloc()))?;
-    is_at_the_limit(&rt, &mut Frames::new(rt.alloc()))?;
-    Ok(())
+fn frames_come_up_to_a_limit(rt: &impl Abort, alloc: Global) -> Result<(), FrameFault> {
+    come_byte_by_byte(rt, &mut Frames::new(alloc))?;
+    is_above_the_limit(rt, &mut Frames::new(alloc))?;
+    is_at_the_limit(rt, &mut Frames::new(alloc))
 }
 
 // The frame of a body.
@@ -169,15 +171,15 @@ fn is_bad_at(rt: &impl Abort, fault: Option<FrameFault>, place: u64) {
     assert!(rt; fault == expected, "{place}");
 }
 
-#[test]
-fn a_body_that_is_no_message_is_refused_at_its_field(rt: HostRuntime) -> Result<(), Fail> {
+// A body that is no message is refused at its field.
+fn bad_bodies_are_refused(rt: &impl Abort, alloc: Global) -> Result<(), Fail> {
     for (body, place) in &BAD_TO_SERVER {
-        let fault = fault_to_server(rt.alloc(), *body)?;
-        is_bad_at(&rt, fault, *place);
+        let fault = fault_to_server(alloc, *body)?;
+        is_bad_at(rt, fault, *place);
     }
     for (body, place) in &BAD_TO_CLIENT {
-        let fault = fault_to_client(rt.alloc(), *body)?;
-        is_bad_at(&rt, fault, *place);
+        let fault = fault_to_client(alloc, *body)?;
+        is_bad_at(rt, fault, *place);
     }
     Ok(())
 }
@@ -234,23 +236,27 @@ fn is_cut_to_client(alloc: Global, frame: &[u8], len: usize) -> Result<bool, Fra
     needs_both_to_client(&mut frames, front, rest)
 }
 
+// A front of a frame gives nothing.
+fn fronts_give_nothing(rt: &impl Abort, alloc: Global) -> Result<(), FrameFault> {
+    for frame in &TO_SERVER {
+        for len in 0..frame.len() {
+            assert!(rt; is_cut_to_server(alloc, *frame, len)?);
+        }
+    }
+    for frame in &TO_CLIENT {
+        for len in 0..frame.len() {
+            assert!(rt; is_cut_to_client(alloc, *frame, len)?);
+        }
+    }
+    Ok(())
+}
+
+// They come byte by byte, up to a limit.
 #[test]
-fn a_front_of_a_frame_gives_nothing(rt: HostRuntime) -> Result<(), Fail> {
-    for frame in [HELLO.as_slice(), PULL.as_slice(), SUBMIT.as_slice()] {
-        for len in 0..frame.len() {
-            assert!(rt; is_cut_to_server(rt.alloc(), frame, len)?);
-        }
-    }
-    for frame in [
-        ORDERED.as_slice(),
-        REJECTED.as_slice(),
-        ENTRIES.as_slice(),
-        EMPTY.as_slice(),
-    ] {
-        for len in 0..frame.len() {
-            assert!(rt; is_cut_to_client(rt.alloc(), frame, len)?);
-        }
-    }
+fn frames_are_read(rt: HostRuntime) -> Result<(), Fail> {
+    frames_come_up_to_a_limit(&rt, rt.alloc())?;
+    bad_bodies_are_refused(&rt, rt.alloc())?;
+    fronts_give_nothing(&rt, rt.alloc())?;
     Ok(())
 }
 
@@ -300,13 +306,6 @@ fn entries_are_written(rt: &impl Abort, alloc: Global) -> Result<(), Fail> {
     Ok(())
 }
 
-#[test]
-fn messages_are_written(rt: HostRuntime) -> Result<(), Fail> {
-    are_written_to_server(&rt, rt.alloc())?;
-    are_written_to_client(&rt, rt.alloc())?;
-    entries_are_written(&rt, rt.alloc())
-}
-
 // The length of the frame that submits an entry of so many bytes, unless it is too long.
 fn submission_len(alloc: Global, len: usize) -> Result<Result<usize, FrameFault>, Fail> {
     let entry = Bytes::new(vec![in alloc; 0; len]?);
@@ -318,8 +317,12 @@ fn frame_len(alloc: Global, message: &ToServer) -> Result<usize, FrameFault> {
     Ok(frame.len())
 }
 
+// A body above the limit is not written.
 #[test]
-fn a_body_above_the_limit_is_not_written(rt: HostRuntime) -> Result<(), Fail> {
+fn messages_are_written(rt: HostRuntime) -> Result<(), Fail> {
+    are_written_to_server(&rt, rt.alloc())?;
+    are_written_to_client(&rt, rt.alloc())?;
+    entries_are_written(&rt, rt.alloc())?;
     assert!(rt; submission_len(rt.alloc(), 4_194_303)? == Ok(4_194_308));
     assert!(rt; submission_len(rt.alloc(), 4_194_304)? == Err(TOO_LONG));
     Ok(())

@@ -249,15 +249,6 @@ fn each_refuses(rt: &impl Abort, alloc: Global, heads: &Heads, cast: &Cast) -> R
     is_malformed(rt, alloc, heads, cast, &worse)
 }
 
-// The short history has grown, and each check refuses at it.
-#[test]
-fn a_history_grows_and_refuses(rt: HostRuntime) -> Result<(), Fail> {
-    let cast = Cast::new(rt.alloc())?;
-    let heads = short(&rt, rt.alloc(), &cast)?;
-    assert!(rt; has_grown(&heads));
-    each_refuses(&rt, rt.alloc(), &heads, &cast)
-}
-
 // Edits as many as a history may have.
 fn fill(rt: &impl Abort, alloc: Global, heads: &mut Heads, cast: &Cast) -> Result<(), Fail> {
     for _ in 4..MAX_ENTRIES {
@@ -285,11 +276,13 @@ fn full_refuses(rt: &impl Abort, alloc: Global, heads: &Heads, cast: &Cast) -> R
     Ok(())
 }
 
-// So does a full history, before all but the first three.
+// The short history has grown, and each check refuses at it. So does a full history, before all but the first three.
 #[test]
-fn a_full_history_refuses(rt: HostRuntime) -> Result<(), Fail> {
+fn a_history_grows_and_refuses(rt: HostRuntime) -> Result<(), Fail> {
     let cast = Cast::new(rt.alloc())?;
     let mut heads = short(&rt, rt.alloc(), &cast)?;
+    assert!(rt; has_grown(&heads));
+    each_refuses(&rt, rt.alloc(), &heads, &cast)?;
     fill(&rt, rt.alloc(), &mut heads, &cast)?;
     full_refuses(&rt, rt.alloc(), &heads, &cast)
 }

@@ -1,5 +1,6 @@
 use crate::compare::same_bytes;
 use sporc_cipher::{laws, mask};
+use std::process::Abort;
 
 // The first 65 bytes of a stream: a block of 64, and a byte of the next.
 struct Stream {
@@ -88,24 +89,28 @@ const STREAMS: [Stream; 5] = [
     },
 ];
 
-#[test]
-fn streams_are_those_of_openssl(rt: HostRuntime) {
-    for stream in &STREAMS {
-        let mut bytes = [0; 65];
-        mask(&stream.key, stream.number, &mut bytes);
-        same_bytes(&rt, &bytes, &stream.bytes);
-    }
-}
-
 const TEXT: [u8; 21] = *b"a text of 21 bytes...";
 
-#[test]
-fn a_mask_is_taken_off_again(rt: HostRuntime) {
+fn mask_is_taken_off_again(rt: &impl Abort) {
     let key = [7; 32];
     let mut text = TEXT;
     mask(&key, 3, &mut text);
     assert!(rt; text != TEXT);
     laws::mask_twice(&key, 3, &TEXT);
     mask(&key, 3, &mut text);
-    same_bytes(&rt, &text, &TEXT);
+    same_bytes(rt, &text, &TEXT);
+}
+
+fn stream_is_that_of_openssl(rt: &impl Abort, stream: &Stream) {
+    let mut bytes = [0; 65];
+    mask(&stream.key, stream.number, &mut bytes);
+    same_bytes(rt, &bytes, &stream.bytes);
+}
+
+#[test]
+fn masks_are_streams_and_are_taken_off_again(rt: HostRuntime) {
+    for stream in &STREAMS {
+        stream_is_that_of_openssl(&rt, stream);
+    }
+    mask_is_taken_off_again(&rt);
 }

@@ -1,6 +1,7 @@
 ghost use Rattle.std.specs.Prelude.{◌≡◌};
 
 use sporc_member::{Change, ChangeFault, Founder, Role, Roster};
+use std::alloc::Global;
 use std::process::Abort;
 use std::test::Fail;
 
@@ -60,13 +61,6 @@ fn one_admin_refuses(rt: &impl Abort, roster: &Roster) {
     is_refused(rt, roster, add_without_key(2), ChangeFault::BadKey);
 }
 
-#[test]
-fn one_admin_alone(rt: HostRuntime) -> Result<(), Fail> {
-    let roster = Roster::found(rt.alloc(), &[founder(1, Role::Admin)])?;
-    one_admin_refuses(&rt, &roster);
-    Ok(())
-}
-
 // Makes a change, after which these are the members.
 fn make(rt: &impl Abort, roster: &mut Roster, change: Change, numbers: &[u16]) -> Result<(), Fail> {
     roster.reserve()?;
@@ -94,13 +88,12 @@ fn is_changed(roster: &Roster) -> bool {
         && roster.key(65535).copied() == Some(key(9))
 }
 
-#[test]
-fn changes_are_made_in_order(rt: HostRuntime) -> Result<(), Fail> {
+fn two_change(rt: &impl Abort, alloc: Global) -> Result<(), Fail> {
     let founders = [founder(1, Role::Admin), founder(5, Role::Editor)];
-    let mut roster = Roster::found(rt.alloc(), &founders)?;
-    are_made(&rt, &mut roster)?;
+    let mut roster = Roster::found(alloc, &founders)?;
+    are_made(rt, &mut roster)?;
     assert!(rt; is_changed(&roster));
-    is_refused(&rt, &roster, add(1, Role::Editor), ChangeFault::NumberUsed);
+    is_refused(rt, &roster, add(1, Role::Editor), ChangeFault::NumberUsed);
     Ok(())
 }
 
@@ -114,8 +107,7 @@ const FAULTS: [(ChangeFault, &str); 6] = [
     (ChangeFault::BadKey, "bad-key"),
 ];
 
-#[test]
-fn names_and_numbers(rt: HostRuntime) {
+fn have_names_and_numbers(rt: &impl Abort) {
     let mut number = 1u8;
     for (fault, name) in &FAULTS {
         assert!(rt; fault.name() == *name, "{name}");
@@ -128,4 +120,12 @@ fn names_and_numbers(rt: HostRuntime) {
     }
     assert!(rt; Role::from_code(2) == Some(Role::Editor));
     assert!(rt; Role::from_code(4).is_none());
+}
+
+#[test]
+fn members_change(rt: HostRuntime) -> Result<(), Fail> {
+    let roster = Roster::found(rt.alloc(), &[founder(1, Role::Admin)])?;
+    one_admin_refuses(&rt, &roster);
+    have_names_and_numbers(&rt);
+    two_change(&rt, rt.alloc())
 }

@@ -67,40 +67,27 @@ fn are_pulled(rt: &impl Abort, order: &Order, entries: &[Vec<u8>]) {
     }
 }
 
-#[test]
-fn sixteen_entries_are_pulled(rt: HostRuntime) -> Result<(), Fail> {
-    let cast = Cast::new(rt.alloc())?;
-    let mut order = opened(rt.alloc(), &cast)?;
-    let mut sample = empty_history(rt.alloc(), &cast)?;
-    grow(&rt, rt.alloc(), &cast, &mut order, &mut sample, 18)?;
-    are_pulled(&rt, &order, sample.entries());
+fn sixteen_are_pulled(rt: &impl Abort, alloc: Global, cast: &Cast) -> Result<(), Fail> {
+    let mut order = opened(alloc, cast)?;
+    let mut sample = empty_history(alloc, cast)?;
+    grow(rt, alloc, cast, &mut order, &mut sample, 18)?;
+    are_pulled(rt, &order, sample.entries());
     Ok(())
 }
 
 // What a session answers.
-#[derive(Clone, Copy, PartialEq, Eq)]
-enum Heard {
-    Silent,
-    Close,
-    Empty,
-    OrderedFirst,
-    WrongNumber,
-    EntriesFromFirst,
-    Other,
-}
-
-fn heard_in(answer: &Answer) -> Heard {
+fn heard_in(answer: &Answer) -> &'static str {
     match answer {
-        Answer::Silent => Heard::Silent,
-        Answer::Close => Heard::Close,
-        Answer::Send(ToClient::Empty) => Heard::Empty,
-        Answer::Send(ToClient::Ordered { pos: 1 }) => Heard::OrderedFirst,
-        Answer::Send(ToClient::Entries { first: 1, .. }) => Heard::EntriesFromFirst,
+        Answer::Silent => "silent",
+        Answer::Close => "close",
+        Answer::Send(ToClient::Empty) => "empty",
+        Answer::Send(ToClient::Ordered { pos: 1 }) => "ordered 1",
+        Answer::Send(ToClient::Entries { first: 1, .. }) => "entries from 1",
         Answer::Send(ToClient::Rejected { refusal }) => match refusal {
-            Refusal::WrongNumber => Heard::WrongNumber,
-            _ => Heard::Other,
+            Refusal::WrongNumber => "wrong number",
+            _ => "another refusal",
         },
-        _ => Heard::Other,
+        _ => "something else",
     }
 }
 
@@ -111,10 +98,10 @@ fn answers(
     session: &mut Session,
     order: &mut Order,
     message: &ToServer,
-    wanted: Heard,
+    wanted: &str,
 ) -> Result<(), Fail> {
     let answer = session.step(alloc, order, message)?;
-    assert!(rt; heard_in(&answer) == wanted);
+    assert!(rt; heard_in(&answer) == wanted, "{wanted}");
     Ok(())
 }
 
@@ -123,7 +110,7 @@ fn greets(
     alloc: Global,
     session: &mut Session,
     order: &mut Order,
-    wanted: Heard,
+    wanted: &str,
 ) -> Result<(), Fail> {
     let hello = ToServer::Hello {
         document: DOCUMENT,
@@ -137,7 +124,7 @@ fn pulls(
     alloc: Global,
     session: &mut Session,
     order: &mut Order,
-    wanted: Heard,
+    wanted: &str,
 ) -> Result<(), Fail> {
     let pull = ToServer::Pull { from: 0 };
     answers(rt, alloc, session, order, &pull, wanted)
@@ -146,10 +133,10 @@ fn pulls(
 // A session that is not greeted, and one that is greeted twice.
 fn is_greeted(rt: &impl Abort, alloc: Global, order: &mut Order) -> Result<(), Fail> {
     let mut session = Session::new();
-    pulls(rt, alloc, &mut session, order, Heard::Close)?;
-    greets(rt, alloc, &mut session, order, Heard::Silent)?;
-    pulls(rt, alloc, &mut session, order, Heard::Empty)?;
-    greets(rt, alloc, &mut session, order, Heard::Close)
+    pulls(rt, alloc, &mut session, order, "close")?;
+    greets(rt, alloc, &mut session, order, "silent")?;
+    pulls(rt, alloc, &mut session, order, "empty")?;
+    greets(rt, alloc, &mut session, order, "close")
 }
 
 // A message that submits the first entry of a history.
@@ -169,10 +156,10 @@ fn is_ordered(
     message: &ToServer,
 ) -> Result<(), Fail> {
     let mut session = Session::new();
-    greets(rt, alloc, &mut session, order, Heard::Silent)?;
-    answers(rt, alloc, &mut session, order, message, Heard::OrderedFirst)?;
-    answers(rt, alloc, &mut session, order, message, Heard::WrongNumber)?;
-    pulls(rt, alloc, &mut session, order, Heard::EntriesFromFirst)
+    greets(rt, alloc, &mut session, order, "silent")?;
+    answers(rt, alloc, &mut session, order, message, "ordered 1")?;
+    answers(rt, alloc, &mut session, order, message, "wrong number")?;
+    pulls(rt, alloc, &mut session, order, "entries from 1")
 }
 
 // Submits the first entry of a history, to which this adds it.
@@ -188,11 +175,17 @@ fn is_submitted(
     is_ordered(rt, alloc, order, &message)
 }
 
+fn session_orders_once(rt: &impl Abort, alloc: Global, cast: &Cast) -> Result<(), Fail> {
+    let mut order = opened(alloc, cast)?;
+    is_greeted(rt, alloc, &mut order)?;
+    let mut sample = empty_history(alloc, cast)?;
+    is_submitted(rt, alloc, cast, &mut order, &mut sample)
+}
+
+// A session is greeted and orders an entry once, and sixteen entries are pulled at once.
 #[test]
-fn a_session_is_greeted_and_orders_an_entry_once(rt: HostRuntime) -> Result<(), Fail> {
+fn entries_are_ordered_and_pulled(rt: HostRuntime) -> Result<(), Fail> {
     let cast = Cast::new(rt.alloc())?;
-    let mut order = opened(rt.alloc(), &cast)?;
-    is_greeted(&rt, rt.alloc(), &mut order)?;
-    let mut sample = empty_history(rt.alloc(), &cast)?;
-    is_submitted(&rt, rt.alloc(), &cast, &mut order, &mut sample)
+    session_orders_once(&rt, rt.alloc(), &cast)?;
+    sixteen_are_pulled(&rt, rt.alloc(), &cast)
 }
