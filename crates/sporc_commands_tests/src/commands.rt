@@ -1,6 +1,7 @@
 //! Commands one after the other, and members who work with a server in another thread.
 
 use crate::place::{Place, named};
+use sporc_base::is_same;
 use sporc_outside::PipeNet;
 use std::alloc::{AllocError, Global};
 use std::process::Abort;
@@ -17,8 +18,7 @@ fn does<R: Threads + Wait + Sync + Abort>(
     end: &[u8],
 ) -> Result<(), Fail> {
     let (status, written) = place.run_alone(rt, alloc, words)?;
-    assert!(rt; written.as_slice().ends_with(end), "{words}");
-    assert!(rt; status == 0, "{words}");
+    assert!(rt; status == 0 && written.as_slice().ends_with(end), "{words}");
     Ok(())
 }
 
@@ -31,9 +31,14 @@ fn fails<R: Threads + Wait + Sync + Abort>(
     line: &[u8],
 ) -> Result<(), Fail> {
     let (status, written) = place.run_alone(rt, alloc, words)?;
-    assert!(rt; written.as_slice() == line, "{words}");
-    assert!(rt; status == 3, "{words}");
+    assert!(rt; status == 3 && is_same(written.as_slice(), line), "{words}");
     Ok(())
+}
+
+// A place with one file.
+fn place_with(alloc: Global, name: &str, bytes: &[u8]) -> Result<Place, AllocError> {
+    let file = named(alloc, name, bytes)?;
+    Place::new(alloc, vec![in alloc; file]?)
 }
 
 // Two keys, and the document of their members.
@@ -47,44 +52,21 @@ fn founded<R: Threads + Wait + Sync + Abort>(
     does(rt, alloc, place, "found D 1:admin 2:editor", b"")
 }
 
-#[test]
-fn files_that_are_there_or_missing_are_told(rt: HostRuntime) -> Result<(), Fail> {
-    let alloc = rt.alloc();
-    let mut place = Place::new(alloc, Vec::new(alloc))?;
-    founded(&rt, alloc, &mut place)?;
-    fails(
-        &rt,
-        alloc,
-        &mut place,
-        "keygen D 1 5 4",
-        b"fault exists D.1.key\n",
-    )?;
-    fails(
-        &rt,
-        alloc,
-        &mut place,
-        "check D 7",
-        b"fault missing D.7.key\n",
-    )?;
-    fails(
-        &rt,
-        alloc,
-        &mut place,
-        "client D 1 a S",
-        b"fault missing S\n",
-    )
-}
-
-// The lines of two sessions, one after the other.
-fn sessions<R: Threads + Wait + Sync>(
+// Files that are there, or missing.
+fn faults_are_told<R: Threads + Wait + Sync + Abort>(
     rt: &R,
     alloc: Global,
     place: &mut Place,
-    net: &mut PipeNet<&R>,
-) -> Result<((u8, Vec<u8>), (u8, Vec<u8>)), AllocError> {
-    let first = place.run(rt, alloc, net, "client D 1 a --until 1 S")?;
-    let second = place.run(rt, alloc, net, "client D 2 a --until 1")?;
-    Ok((first, second))
+) -> Result<(), Fail> {
+    fails(
+        rt,
+        alloc,
+        place,
+        "keygen D 1 5 4",
+        b"fault exists D.1.key\n",
+    )?;
+    fails(rt, alloc, place, "check D 7", b"fault missing D.7.key\n")?;
+    fails(rt, alloc, place, "client D 1 a T", b"fault missing T\n")
 }
 
 // Whether these bytes stand in what was written.
@@ -93,6 +75,45 @@ fn has_line(written: &[u8], line: &[u8]) -> bool {
         return false;
     }
     written.windows(line.len()).any(|w| w == line)
+}
+
+// Whether a session ends well, and writes this line.
+fn has_worked<R: Threads + Wait + Sync>(
+    rt: &R,
+    alloc: Global,
+    place: &mut Place,
+    net: &mut PipeNet<&R>,
+    words: &str,
+    line: &[u8],
+) -> Result<bool, AllocError> {
+    let (status, written) = place.run_piped(rt, alloc, net, words)?;
+    Ok(status == 0 && has_line(written.as_slice(), line))
+}
+
+// Whether both members' sessions do, one after the other.
+fn have_worked<R: Threads + Wait + Sync>(
+    rt: &R,
+    alloc: Global,
+    place: &mut Place,
+    net: &mut PipeNet<&R>,
+) -> Result<bool, AllocError> {
+    let first = "client D 1 a --until 1 S";
+    let line = b"\n1 at 1 pending 0 text \"hello\"\n";
+    let has_first = has_worked(rt, alloc, place, net, first, line)?;
+    let second = "client D 2 a --until 1";
+    let line = b"\n2 at 1 pending 0 text \"hello\"\n";
+    Ok(has_worked(rt, alloc, place, net, second, line)? && has_first)
+}
+
+// Whether a server of two sessions ends well, with one entry.
+fn has_served<R: Threads + Wait + Sync>(
+    rt: &R,
+    alloc: Global,
+    place: &mut Place,
+    net: &mut PipeNet<&R>,
+) -> Result<bool, AllocError> {
+    let (status, written) = place.run_piped(rt, alloc, net, "serve D a --sessions 2")?;
+    Ok(status == 0 && is_same(written.as_slice(), b"log 1\n"))
 }
 
 // Both members work with the server, one after the other.
@@ -106,31 +127,36 @@ fn work_together<R: Threads + Wait + Sync + Abort>(
     let mut near = net.another()?;
     let (served, worked) = join(
         rt,
-        || server.run(rt, alloc, &mut net, "serve D a --sessions 2"),
-        || sessions(rt, alloc, members, &mut near),
+        || has_served(rt, alloc, server, &mut net),
+        || have_worked(rt, alloc, members, &mut near),
     );
     drop(near);
     drop(net);
-    let (status, log) = served?;
-    assert!(rt; log.as_slice() == b"log 1\n".as_slice());
-    assert!(rt; status == 0);
-    let (first, second) = worked?;
-    assert!(rt; has_line(first.1.as_slice(), b"\n1 at 1 pending 0 text \"hello\"\n"));
-    assert!(rt; has_line(second.1.as_slice(), b"\n2 at 1 pending 0 text \"hello\"\n"));
-    assert!(rt; first.0 == 0 && second.0 == 0);
+    assert!(rt; served?);
+    assert!(rt; worked?);
     Ok(())
 }
 
-#[test]
-fn two_members_work_with_a_server(rt: HostRuntime) -> Result<(), Fail> {
-    let alloc = rt.alloc();
-    let script = named(alloc, "S", b"insert 0 \"hello\"\n")?;
-    let mut members = Place::new(alloc, vec![in alloc; script]?)?;
-    founded(&rt, alloc, &mut members)?;
+// Members with a document work with a server that has its genesis.
+fn share_a_document<R: Threads + Wait + Sync + Abort>(
+    rt: &R,
+    alloc: Global,
+    members: &mut Place,
+) -> Result<(), Fail> {
     let genesis = members.file("D.genesis").ok_or("no genesis")?;
-    let genesis = named(alloc, "D.genesis", genesis)?;
-    let mut server = Place::new(alloc, vec![in alloc; genesis]?)?;
-    work_together(&rt, alloc, &mut members, &mut server)?;
-    does(&rt, alloc, &mut members, "compare D 1 2", b"1 2 same\n")?;
-    does(&rt, alloc, &mut members, "check D 2", b"checked 1\n")
+    let mut server = place_with(alloc, "D.genesis", genesis)?;
+    let worked = work_together(rt, alloc, members, &mut server);
+    drop(server);
+    worked?;
+    does(rt, alloc, members, "compare D 1 2", b"1 2 same\n")?;
+    does(rt, alloc, members, "check D 2", b"checked 1\n")
+}
+
+#[test]
+fn members_found_a_document_and_work_with_a_server(rt: HostRuntime) -> Result<(), Fail> {
+    let alloc = rt.alloc();
+    let mut members = place_with(alloc, "S", b"insert 0 \"hello\"\n")?;
+    founded(&rt, alloc, &mut members)?;
+    faults_are_told(&rt, alloc, &mut members)?;
+    share_a_document(&rt, alloc, &mut members)
 }

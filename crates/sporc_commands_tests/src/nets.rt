@@ -2,23 +2,40 @@
 
 ghost use Rattle.std.specs.Prelude.{◌<◌, None, refl};
 
-use crate::place::{Failing, calls};
+use crate::place::{Answer, Failing, Place, calls};
 use sporc_outside::{
     Calls, Counted, Dial, Failed, Link, Links, Listen, MemoryLink, MemoryNet, PipeLink, PipeNet,
     Sink, Source,
 };
 use std::alloc::{AllocError, Global};
 use std::sync::Wait;
+use std::thread::Threads;
 
 // The most bytes that a listed link moves at once.
 const PIECE: usize = 1_000;
 
-/// A net with one link, which brings these bytes.
-pub fn listed_net(alloc: Global, sent: &[u8], failing: Failing) -> Result<MemoryNet, AllocError> {
+// A net with one link, which brings these bytes.
+fn listed_net(alloc: Global, sent: &[u8], failing: Failing) -> Result<MemoryNet, AllocError> {
     let sent = Vec::from_slice(alloc, sent)?;
     let link = MemoryLink::new(alloc, sent, PIECE, calls(alloc, failing.link)?);
     let links = vec![in alloc; link]?;
     Ok(MemoryNet::new(alloc, links, calls(alloc, failing.net)?))
+}
+
+/// What a run over such a net answers, and whether no call of its link failed.
+pub fn run_listed<R: Threads + Wait + Sync>(
+    rt: &R,
+    alloc: Global,
+    place: &mut Place,
+    words: &str,
+    sent: &[u8],
+    failing: Failing,
+) -> Result<(Answer, bool), AllocError> {
+    let mut net = listed_net(alloc, sent, failing)?;
+    let answer = place.run(rt, alloc, &mut net, words);
+    let is_quiet = net.link_faults() == 0;
+    drop(net);
+    Ok((answer?, is_quiet))
 }
 
 /// A handle of a net between threads, of which a call fails, and a call of each of its links. It tells no content.
@@ -39,16 +56,17 @@ pub struct FaultyLink<R: Wait + Copy + Drop> {
 }
 
 impl<R: Wait + Copy + Drop> FaultyNet<R> {
-    /// A net over this one, where these calls of the net and of its links fail.
+    /// Another handle of this net, where these calls of the net and of its links fail.
     pub fn new(
         alloc: Global,
-        net: PipeNet<R>,
+        net: &PipeNet<R>,
         failing: Failing,
     ) -> Result<FaultyNet<R>, AllocError> {
+        let calls = calls(alloc, failing.net)?;
         Ok(FaultyNet {
             alloc,
-            net,
-            calls: calls(alloc, failing.net)?,
+            net: net.another()?,
+            calls,
             link_call: failing.link,
             link_faults: 0,
         })

@@ -1,6 +1,6 @@
 //! A place where one command runs after the other.
 
-ghost use Rattle.std.specs.Prelude.{◌≡◌, IfOk};
+ghost use Rattle.std.specs.Prelude.{◌≡◌, ◌<◌, IfOk};
 
 use sporc_outside::{
     Calls, Dial, DiskBytes, ListedChance, Listen, MemoryFolder, MemorySink, MemorySource,
@@ -75,6 +75,13 @@ pub fn calls(alloc: Global, call: u64) -> Result<Calls, AllocError>
     Ok(Calls::failing([call].to_vec(alloc)?))
 }
 
+/// Standard input and output of a run.
+#[derive(Drop)]
+pub struct Streams {
+    pub source: Box<MemorySource>,
+    pub out: Box<MemorySink>,
+}
+
 /// A folder, 400 words for a chance, of which a session takes two in each of its rounds, and which call of `out` fails.
 #[derive(Drop)]
 pub struct Place {
@@ -116,13 +123,51 @@ pub fn file_in<'a>(files: &'a [NamedFile], name: &str) -> Option<&'a [u8]> {
     None
 }
 
-// The words of a line.
-fn few_words(alloc: Global, line: &str) -> Result<Vec<String>, AllocError> {
+/// The words of a line.
+pub fn few_words(alloc: Global, line: &str) -> Result<Vec<String>, AllocError> {
     let mut words = Vec::new(alloc);
     for word in line.split_whitespace() {
         words.push(String::from_str(alloc, word)?)?;
     }
     Ok(words)
+}
+
+// Standard input with these bytes.
+fn source_of(
+    alloc: Global,
+    bytes: &[u8],
+    piece: usize,
+    failing: u64,
+) -> Result<Box<MemorySource>, AllocError>
+    requires { 0 < piece }
+{
+    let calls = calls(alloc, failing)?;
+    let bytes = Vec::from_slice(alloc, bytes)?;
+    Ok(Box::new(alloc, MemorySource::new(bytes, piece, calls))?)
+}
+
+impl Streams {
+    /// Input with these bytes and output, each of which moves at most `piece` bytes a call, and fails at the call with this
+    /// number.
+    pub fn new(
+        alloc: Global,
+        bytes: &[u8],
+        piece: usize,
+        read_failing: u64,
+        write_failing: u64,
+    ) -> Result<Streams, AllocError>
+        requires { 0 < piece }
+    {
+        let writes = calls(alloc, write_failing)?;
+        let out = Box::new(alloc, MemorySink::new(alloc, piece, writes))?;
+        let source = source_of(alloc, bytes, piece, read_failing)?;
+        Ok(Streams { source, out })
+    }
+
+    /// What is written.
+    pub fn written(&self, alloc: Global) -> Result<Vec<u8>, AllocError> {
+        Vec::from_slice(alloc, self.out.as_slice())
+    }
 }
 
 // Appends 200 words.
@@ -131,6 +176,27 @@ fn push_words(words: &mut Vec<[u8; 32]>) -> Result<(), AllocError> {
         words.push([word; 32])?;
     }
     Ok(())
+}
+
+// 400 words, of whose calls this one fails.
+fn chance_of(alloc: Global, failing: u64) -> Result<Box<ListedChance>, AllocError> {
+    let calls = calls(alloc, failing)?;
+    let mut words = Vec::new(alloc);
+    push_words(&mut words)?;
+    push_words(&mut words)?;
+    Ok(Box::new(alloc, ListedChance::new(words, calls))?)
+}
+
+// A folder with these files, of whose calls, and of those of its disks, these fail.
+fn folder_of(
+    alloc: Global,
+    files: Vec<NamedFile>,
+    failing: Failing,
+) -> Result<Box<MemoryFolder>, AllocError> {
+    let calls = calls(alloc, failing.files)?;
+    let mut folder = Box::new(alloc, MemoryFolder::new(alloc, files, calls))?;
+    folder.fail_disk_calls([failing.disk].to_vec(alloc)?);
+    Ok(folder)
 }
 
 impl Place {
@@ -145,18 +211,38 @@ impl Place {
         files: Vec<NamedFile>,
         failing: Failing,
     ) -> Result<Place, AllocError> {
-        let mut words = Vec::new(alloc);
-        push_words(&mut words)?;
-        push_words(&mut words)?;
-        let folder = MemoryFolder::new(alloc, files, calls(alloc, failing.files)?);
-        let mut files = Box::new(alloc, folder)?;
-        files.fail_disk_calls([failing.disk].to_vec(alloc)?);
-        let chance = ListedChance::new(words, calls(alloc, failing.chance)?);
+        let files = folder_of(alloc, files, failing)?;
+        let chance = chance_of(alloc, failing.chance)?;
         Ok(Place {
             files,
-            chance: Box::new(alloc, chance)?,
+            chance,
             out: failing.out,
         })
+    }
+
+    // The status of a run over these.
+    fn status<R: Threads + Wait + Sync, N: Dial + Listen>(
+        &mut self,
+        rt: &R,
+        alloc: Global,
+        net: &mut N,
+        words: &[String],
+        streams: &mut Streams,
+    ) -> u8
+    where
+        N::Link: Send,
+    {
+        run(
+            rt,
+            alloc,
+            words,
+            &mut *streams.source,
+            &mut *streams.out,
+            &mut *self.files,
+            net,
+            &mut *self.chance,
+            &OpenGate,
+        )
     }
 
     /// What a run over these answers, if the words are those of a line.
@@ -171,23 +257,26 @@ impl Place {
         N::Link: Send,
     {
         let words = few_words(alloc, words)?;
-        let mut source = MemorySource::new(Vec::new(alloc), PIECE, calls(alloc, 0)?);
-        let mut out = MemorySink::new(alloc, PIECE, calls(alloc, self.out)?);
-        let status = run(
-            rt,
-            alloc,
-            &words,
-            &mut source,
-            &mut out,
-            &mut *self.files,
-            net,
-            &mut *self.chance,
-            &OpenGate,
-        );
-        Ok((status, out.as_slice().to_vec(alloc)?))
+        let mut streams = Streams::new(alloc, b"", PIECE, 0, self.out)?;
+        let status = self.status(rt, alloc, net, words.as_slice(), &mut streams);
+        drop(words);
+        let written = streams.written(alloc);
+        drop(streams);
+        Ok((status, written?))
     }
 
-    /// The same, over a net of its own.
+    /// The same over a net between threads.
+    pub fn run_piped<R: Threads + Wait + Sync>(
+        &mut self,
+        rt: &R,
+        alloc: Global,
+        net: &mut PipeNet<&R>,
+        words: &str,
+    ) -> Result<Answer, AllocError> {
+        self.run(rt, alloc, net, words)
+    }
+
+    /// The same over a net of its own.
     pub fn run_alone<R: Threads + Wait + Sync>(
         &mut self,
         rt: &R,
@@ -195,7 +284,7 @@ impl Place {
         words: &str,
     ) -> Result<Answer, AllocError> {
         let mut net = PipeNet::new(rt, alloc)?;
-        let answer = self.run(rt, alloc, &mut net, words);
+        let answer = self.run_piped(rt, alloc, &mut net, words);
         drop(net);
         answer
     }

@@ -1,10 +1,10 @@
 //! Sessions that are served, where each object that `serve` is handed fails at each of its calls in turn.
 
 use crate::document::{entries, history_file, of_server};
-use crate::nets::listed_net;
+use crate::nets::run_listed;
 use crate::place::{Failing, NONE, Object, Place, copied};
 use sporc_base::is_same;
-use sporc_outside::{Links, NamedFile};
+use sporc_outside::NamedFile;
 use sporc_samples::Cast;
 use std::alloc::{AllocError, Global};
 use std::process::Abort;
@@ -36,18 +36,29 @@ fn stream(alloc: Global, entry: &[u8]) -> Result<Vec<u8>, Fail> {
 }
 
 impl Scene {
+    // Of these two entries.
+    fn of(alloc: Global, cast: &Cast, entries: &[Vec<u8>]) -> Result<Scene, Fail> {
+        let first = entries.get(..1).ok_or("no entry")?;
+        let second = entries.get(1).ok_or("no entry")?;
+        let old = history_file(alloc, first)?;
+        let new = history_file(alloc, entries)?;
+        let stream = stream(alloc, second.as_slice())?;
+        let files = of_server(alloc, cast, old.as_slice())?;
+        Ok(Scene {
+            files,
+            old,
+            new,
+            stream,
+        })
+    }
+
     fn new(alloc: Global) -> Result<Scene, Fail> {
         let cast = Cast::new(alloc)?;
         let sample = entries(alloc, &cast, 2)?;
-        let first = sample.entries().get(..1).ok_or("no entry")?;
-        let second = sample.entries().get(1).ok_or("no entry")?;
-        let old = history_file(alloc, first)?;
-        Ok(Scene {
-            files: of_server(alloc, &cast, old.as_slice())?,
-            old,
-            new: history_file(alloc, sample.entries())?,
-            stream: stream(alloc, second.as_slice())?,
-        })
+        let scene = Scene::of(alloc, &cast, sample.entries());
+        drop(sample);
+        drop(cast);
+        scene
     }
 }
 
@@ -67,11 +78,9 @@ fn served<R: Threads + Wait + Sync>(
     place: &mut Place,
     failing: Failing,
 ) -> Result<Ended, AllocError> {
-    let mut net = listed_net(alloc, scene.stream.as_slice(), failing)?;
-    let answer = place.run(rt, alloc, &mut net, "serve D a --sessions 1");
-    let is_quiet = net.link_faults() == 0;
-    drop(net);
-    let (status, written) = answer?;
+    let words = "serve D a --sessions 1";
+    let sent = scene.stream.as_slice();
+    let ((status, written), is_quiet) = run_listed(rt, alloc, place, words, sent, failing)?;
     Ok(Ended {
         status,
         written,
@@ -97,6 +106,7 @@ fn goes_on<R: Threads + Wait + Sync>(
     let mut place = Place::new(alloc, copied(alloc, left)?)?;
     let ended = served(rt, alloc, scene, &mut place, NONE)?;
     let is_new = place.file("D.log") == Some(scene.new.as_slice());
+    drop(place);
     Ok(is_new && ended.status == 0 && is_same(ended.written.as_slice(), b"log 2\n"))
 }
 
@@ -110,7 +120,27 @@ fn is_told(object: Object, ended: &Ended) -> bool {
     }
 }
 
-// Whether a server ends well, since the object has no call left that fails. Else the fault is told.
+// Whether a server over this place ends well, since the object has no call left that fails. Else the fault is told.
+fn ends_well<R: Threads + Wait + Sync + Abort>(
+    rt: &R,
+    alloc: Global,
+    scene: &Scene,
+    place: &mut Place,
+    object: Object,
+    call: u64,
+) -> Result<bool, Fail> {
+    let ended = served(rt, alloc, scene, place, Failing::at(object, call))?;
+    assert!(rt; is_whole(scene, place), "call {call}");
+    assert!(rt;
+        goes_on(rt, alloc, scene, place.files.files())?,
+        "call {call}"
+    );
+    let is_well = ended.status == 0 && ended.is_quiet;
+    assert!(rt; is_well || is_told(object, &ended), "call {call}");
+    Ok(is_well)
+}
+
+// The same, over the scene's files.
 fn ends_without<R: Threads + Wait + Sync + Abort>(
     rt: &R,
     alloc: Global,
@@ -118,19 +148,11 @@ fn ends_without<R: Threads + Wait + Sync + Abort>(
     object: Object,
     call: u64,
 ) -> Result<bool, Fail> {
-    let failing = Failing::at(object, call);
-    let mut place = Place::failing(alloc, copied(alloc, scene.files.as_slice())?, failing)?;
-    let ended = served(rt, alloc, scene, &mut place, failing)?;
-    assert!(rt; is_whole(scene, &place), "call {call}");
-    assert!(rt;
-        goes_on(rt, alloc, scene, place.files.files())?,
-        "call {call}"
-    );
-    if ended.status == 0 && ended.is_quiet {
-        return Ok(true);
-    }
-    assert!(rt; is_told(object, &ended), "call {call}");
-    Ok(false)
+    let files = copied(alloc, scene.files.as_slice())?;
+    let mut place = Place::failing(alloc, files, Failing::at(object, call))?;
+    let ends = ends_well(rt, alloc, scene, &mut place, object, call);
+    drop(place);
+    ends
 }
 
 // The first call of an object that a server does not make.

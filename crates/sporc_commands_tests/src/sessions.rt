@@ -2,7 +2,7 @@
 
 use crate::document::{entries, history_file, of_member, of_server};
 use crate::nets::FaultyNet;
-use crate::place::{Answer, Failing, NONE, Object, Place, copied, file_in};
+use crate::place::{Failing, NONE, Object, Place, copied, file_in};
 use sporc_base::is_same;
 use sporc_outside::{NamedFile, PipeNet};
 use sporc_samples::{Cast, DOCUMENT};
@@ -21,16 +21,26 @@ struct Scene {
 }
 
 impl Scene {
+    // Of these entries.
+    fn of(alloc: Global, cast: &Cast, entries: &[Vec<u8>]) -> Result<Scene, Fail> {
+        let history = history_file(alloc, entries)?;
+        let member = of_member(alloc, cast, &[1, 0, 0, 0, 0, 0, 0, 0], history.as_slice())?;
+        let server = of_server(alloc, cast, history.as_slice())?;
+        Ok(Scene { member, server })
+    }
+
     fn new(alloc: Global) -> Result<Scene, Fail> {
         let cast = Cast::new(alloc)?;
         let sample = entries(alloc, &cast, 1)?;
-        let history = history_file(alloc, sample.entries())?;
-        Ok(Scene {
-            member: of_member(alloc, &cast, &[1, 0, 0, 0, 0, 0, 0, 0], history.as_slice())?,
-            server: of_server(alloc, &cast, history.as_slice())?,
-        })
+        let scene = Scene::of(alloc, &cast, sample.entries());
+        drop(sample);
+        drop(cast);
+        scene
     }
 }
+
+// The status that a session ends with, and whether its last line tells that a call outside failed.
+type Ended = (u8, bool);
 
 // What the member runs, and calls the server once more in case it did not come to that.
 fn work<R: Threads + Wait + Sync>(
@@ -38,10 +48,22 @@ fn work<R: Threads + Wait + Sync>(
     alloc: Global,
     member: &mut Place,
     net: &mut FaultyNet<&R>,
-) -> Result<Answer, AllocError> {
+) -> Result<Ended, AllocError> {
     let answer = member.run(rt, alloc, net, "client D 2 a --rounds 3 insert");
     net.visit(rt);
-    answer
+    let (status, written) = answer?;
+    Ok((status, written.as_slice().ends_with(b"fault outside\n")))
+}
+
+// Whether a server of one session ends well.
+fn has_served<R: Threads + Wait + Sync>(
+    rt: &R,
+    alloc: Global,
+    server: &mut Place,
+    net: &mut PipeNet<&R>,
+) -> Result<bool, AllocError> {
+    let (status, _) = server.run_piped(rt, alloc, net, "serve D a --sessions 1")?;
+    Ok(status == 0)
 }
 
 // A session beside a server of one session.
@@ -51,18 +73,17 @@ fn session<R: Threads + Wait + Sync>(
     member: &mut Place,
     server: &mut Place,
     failing: Failing,
-) -> Result<Answer, Fail> {
+) -> Result<Ended, Fail> {
     let mut far = PipeNet::new(rt, alloc)?;
-    let mut near = FaultyNet::new(alloc, far.another()?, failing)?;
+    let mut near = FaultyNet::new(alloc, &far, failing)?;
     let (served, worked) = join(
         rt,
-        || server.run(rt, alloc, &mut far, "serve D a --sessions 1"),
+        || has_served(rt, alloc, server, &mut far),
         || work(rt, alloc, member, &mut near),
     );
     drop(near);
     drop(far);
-    let (status, _) = served?;
-    if status != 0 {
+    if !served? {
         return Err("the server failed".into());
     }
     Ok(worked?)
@@ -92,11 +113,10 @@ fn leaf_of(entry: &[u8]) -> Option<u32> {
     }
 }
 
-// Whether each entry of a log was signed by a later leaf than the one before, if all are member 2's.
-fn leaves_rise(alloc: Global, log: &[u8]) -> Result<bool, Fail> {
-    let (entries, _) = read_saved(alloc, &DOCUMENT, log)?;
+// Whether each entry was signed by a later leaf than the one before, if all are member 2's.
+fn leaves_rise(entries: &[Vec<u8>]) -> Result<bool, Fail> {
     let mut least = 0;
-    for entry in &entries {
+    for entry in entries {
         let leaf = leaf_of(entry.as_slice()).ok_or("no leaf")?;
         if leaf < least {
             return Ok(false);
@@ -104,6 +124,29 @@ fn leaves_rise(alloc: Global, log: &[u8]) -> Result<bool, Fail> {
         least = leaf.saturating_add(1);
     }
     Ok(entries.len() > 1)
+}
+
+// The same of the entries of a log.
+fn leaves_rise_in(alloc: Global, log: &[u8]) -> Result<bool, Fail> {
+    let (entries, _) = read_saved(alloc, &DOCUMENT, log)?;
+    let rise = leaves_rise(entries.as_slice());
+    drop(entries);
+    rise
+}
+
+// Whether a session over the files that one left ends well, and the server's entries then have rising leaves.
+fn works_on<R: Threads + Wait + Sync>(
+    rt: &R,
+    alloc: Global,
+    member: &mut Place,
+    server: &mut Place,
+) -> Result<bool, Fail> {
+    if !is_whole(rt, alloc, member)? {
+        return Ok(false);
+    }
+    let (status, _) = session(rt, alloc, member, server, NONE)?;
+    let log = server.file("D.log").ok_or("no log")?;
+    Ok(status == 0 && leaves_rise_in(alloc, log)?)
 }
 
 // Whether the files that a session left are as they should, and the member goes on with them.
@@ -120,15 +163,33 @@ fn goes_on<R: Threads + Wait + Sync>(
         return Ok(false);
     }
     let mut member = Place::new(alloc, copied(alloc, left)?)?;
-    if !is_whole(rt, alloc, &mut member)? {
-        return Ok(false);
-    }
-    let (status, _) = session(rt, alloc, &mut member, server, NONE)?;
-    let log = server.file("D.log").ok_or("no log")?;
-    Ok(status == 0 && leaves_rise(alloc, log)?)
+    let works = works_on(rt, alloc, &mut member, server);
+    drop(member);
+    works
 }
 
-// Whether a session ends well, since the object has no call left that fails. Else the fault is told.
+// Whether the session of these two ends well, since the object has no call left that fails. Else the fault is told.
+fn ends_well<R: Threads + Wait + Sync + Abort>(
+    rt: &R,
+    alloc: Global,
+    scene: &Scene,
+    member: &mut Place,
+    server: &mut Place,
+    object: Object,
+    call: u64,
+) -> Result<bool, Fail> {
+    let failing = Failing::at(object, call);
+    let (status, is_told) = session(rt, alloc, member, server, failing)?;
+    assert!(rt;
+        goes_on(rt, alloc, scene, member.files.files(), server)?,
+        "call {call}"
+    );
+    let is_well = status == 0;
+    assert!(rt; is_well || (status == 6 && is_told), "call {call}");
+    Ok(is_well)
+}
+
+// The same, over the scene's files.
 fn ends_without<R: Threads + Wait + Sync + Abort>(
     rt: &R,
     alloc: Global,
@@ -136,23 +197,13 @@ fn ends_without<R: Threads + Wait + Sync + Abort>(
     object: Object,
     call: u64,
 ) -> Result<bool, Fail> {
-    let failing = Failing::at(object, call);
-    let mut member = Place::failing(alloc, copied(alloc, scene.member.as_slice())?, failing)?;
+    let files = copied(alloc, scene.member.as_slice())?;
+    let mut member = Place::failing(alloc, files, Failing::at(object, call))?;
     let mut server = Place::new(alloc, copied(alloc, scene.server.as_slice())?)?;
-    let (status, written) = session(rt, alloc, &mut member, &mut server, failing)?;
-    assert!(rt;
-        goes_on(rt, alloc, scene, member.files.files(), &mut server)?,
-        "call {call}"
-    );
-    if status == 0 {
-        return Ok(true);
-    }
-    assert!(rt;
-        written.as_slice().ends_with(b"fault outside\n"),
-        "call {call}"
-    );
-    assert!(rt; status == 6, "call {call}");
-    Ok(false)
+    let ends = ends_well(rt, alloc, scene, &mut member, &mut server, object, call);
+    drop(member);
+    drop(server);
+    ends
 }
 
 // The first call of an object that a session does not make.

@@ -1,12 +1,12 @@
 //! The statuses that sessions end with, over links whose bytes are listed.
 
-use crate::document::{entries, history_file, of_member};
-use crate::nets::listed_net;
+use crate::document::with_entries;
+use crate::nets::run_listed;
 use crate::place::{NONE, Place, copied};
 use sporc_head::MAX_ENTRIES;
 use sporc_outside::NamedFile;
-use sporc_samples::Cast;
 use std::alloc::Global;
+use std::process::Abort;
 use std::sync::Wait;
 use std::test::Fail;
 use std::thread::Threads;
@@ -72,7 +72,7 @@ const ROWS: [Row; 7] = [
     },
 ];
 
-// Of a member with as many entries as a history may have.
+// Of a member with as many entries as a history may have, whose key has leaves.
 const FULL: Row = Row {
     words: "client D 2 a --rounds 2 insert",
     sent: NOTHING,
@@ -88,38 +88,32 @@ fn ends_so<R: Threads + Wait + Sync>(
     row: &Row,
 ) -> Result<bool, Fail> {
     let mut place = Place::new(alloc, files)?;
-    let mut net = listed_net(alloc, row.sent, NONE)?;
-    let answer = place.run(rt, alloc, &mut net, row.words);
-    drop(net);
+    let ended = run_listed(rt, alloc, &mut place, row.words, row.sent, NONE);
     drop(place);
-    let (status, written) = answer?;
+    let ((status, written), _) = ended?;
     Ok(status == row.status && written.as_slice().ends_with(row.line))
 }
 
-#[test]
-fn sessions_have_their_statuses(rt: HostRuntime) -> Result<(), Fail> {
-    let alloc = rt.alloc();
-    let cast = Cast::new(alloc)?;
-    let empty = history_file(alloc, &[])?;
-    let files = of_member(alloc, &cast, &[1; 8], empty.as_slice())?;
+// The sessions of the rows, of a member with these files.
+fn end_as_rows_say<R: Threads + Wait + Sync + Abort>(
+    rt: &R,
+    alloc: Global,
+    files: &[NamedFile],
+) -> Result<(), Fail> {
     for row in &ROWS {
-        let files = copied(alloc, files.as_slice())?;
-        assert!(rt; ends_so(&rt, alloc, files, row)?, "status {}", row.status);
+        let files = copied(alloc, files)?;
+        assert!(rt; ends_so(rt, alloc, files, row)?, "status {}", row.status);
     }
     Ok(())
 }
 
-// The files of a member whose history is full, and whose key has leaves.
-fn full_files(alloc: Global) -> Result<Vec<NamedFile>, Fail> {
-    let cast = Cast::new(alloc)?;
-    let sample = entries(alloc, &cast, MAX_ENTRIES)?;
-    let history = history_file(alloc, sample.entries())?;
-    of_member(alloc, &cast, &[0; 8], history.as_slice())
-}
-
 #[test]
-fn a_full_history_takes_no_entry(rt: HostRuntime) -> Result<(), Fail> {
-    let files = full_files(rt.alloc())?;
-    assert!(rt; ends_so(&rt, rt.alloc(), files, &FULL)?);
+fn sessions_have_their_statuses(rt: HostRuntime) -> Result<(), Fail> {
+    let files = with_entries(rt.alloc(), &[1; 8], 0)?;
+    let ended = end_as_rows_say(&rt, rt.alloc(), files.as_slice());
+    drop(files);
+    ended?;
+    let full = with_entries(rt.alloc(), &[0; 8], MAX_ENTRIES)?;
+    assert!(rt; ends_so(&rt, rt.alloc(), full, &FULL)?);
     Ok(())
 }

@@ -20,7 +20,7 @@
 //! no memory before there are as many.
 //!
 //! Proved: the bytes that `save` gives, and when they are too many; what each call takes of any bytes, and where it stops; that
-//! line and order keep the entries taken if memory runs out; the laws. Tested, in `sporc_store_tests`: loading of entries with
+//! line and order keep the entries taken if memory runs out; the laws. Tested: loading of entries with
 //! real signatures, files cut at each byte, and that the calls succeed with ample memory. Neither: how long a call takes.
 #![tactic(auto)]
 

@@ -6,9 +6,9 @@
 //! ```
 //!
 //! Proved: what each run did, by its status ([`run`], in `specs/Outcome.antt`), which objects outside it left as they were, and
-//! what a source that tells its bytes calls for ([`laws`]). Tested only: the reports of worked scripts (`sporc_top_tests`);
-//! commands one after the other, members who work with a server in another thread, and each call outside failing in turn
-//! (`sporc_commands_tests`); in both, that a run does not run out of memory if there is ample. Neither: that a real file, port or
+//! what a source that tells its bytes calls for ([`laws`]). Tested only (`sporc_commands_tests`): the reports of worked scripts;
+//! commands one after the other, members who work with a server in another thread, and each call outside failing in turn;
+//! that a run does not run out of memory if there is ample. Neither: that a real file, port or
 //! terminal gives and keeps the bytes.
 #![tactic(auto)]
 

@@ -1,0 +1,182 @@
+//! The lines of faults of plays, and what is told if a read or a write fails.
+
+use crate::answers::{answer, answers};
+use sporc_base::is_same;
+use std::alloc::Global;
+use std::process::Abort;
+use std::sync::Wait;
+use std::test::Fail;
+use std::thread::Threads;
+
+const THIN: &str = "member 1 admin\nedit 1 insert 0 \"abc\"\nsubmit 1\ngive 1 1 1\nshow 1\n";
+
+const THIN_REPORT: &str =
+    "1 edit event 1\n1 submit entry 1\n1 accept 1 ok\n1 at 1 pending 0 text \"abc\"\n";
+
+// Scripts with a line outside the grammar, and the line that tells it.
+const OUTSIDE: [(&str, &str); 24] = [
+    ("member 1 admin\nedit 1 insert x \"a\"\n", "fault line 2\n"),
+    ("show 1\n", "fault line 1\n"),
+    ("# a\n\nmember 1 admin\nshow 2\n", "fault line 4\n"),
+    ("member 1 editor\nshow 1\n", "fault line 2\n"),
+    ("member 1 admin\nmember 1 editor\n", "fault line 2\n"),
+    (
+        "member 1 admin\nshow 1\nmember 2 editor\n",
+        "fault line 3\n",
+    ),
+    ("member 1 admin\ntree 5 4\n", "fault line 2\n"),
+    ("tree 6 4\n", "fault line 1\n"),
+    (
+        "member 1 admin\nrogue 3 editor\nsubmit 3\n",
+        "fault line 3\n",
+    ),
+    ("member 1 admin\nsign 1 from 1 remove 1\n", "fault line 2\n"),
+    ("member 1 admin\njoin 1 1\n", "fault line 2\n"),
+    ("member 1 admin\njoiner 4\njoin 4\n", "fault line 3\n"),
+    ("member 1 admin\nunpaired 1 1\n", "fault line 2\n"),
+    (
+        "member 1 admin\nrogue 3 admin\nsign 3 from 1 raw 0\n",
+        "fault line 3\n",
+    ),
+    (
+        "member 1 admin\nrogue 3 admin\nsign 3 from 1 insert 0 \"\" with commit\n",
+        "fault line 3\n",
+    ),
+    ("member 0 admin\n", "fault line 1\n"),
+    ("member 65536 admin\n", "fault line 1\n"),
+    ("member 01 admin\n", "fault line 1\n"),
+    ("member  1 admin\n", "fault line 1\n"),
+    ("member 1 admin \n", "fault line 1\n"),
+    ("member 1 admin\r\n", "fault line 1\n"),
+    ("member 1 admin\ngive 1 4294967296 1\n", "fault line 2\n"),
+    (
+        "member 1 admin\nedit 1 insert 0 \"a\\q\"\n",
+        "fault line 2\n",
+    ),
+    (
+        "member 1 admin\nedit 1 insert 0 \"a\"b\"\n",
+        "fault line 2\n",
+    ),
+];
+
+// Words that ask for nothing.
+const OTHER_WORDS: [&str; 13] = [
+    "paly",
+    "",
+    "play play",
+    "Play",
+    "play --generate",
+    "play --generate 0",
+    "play --generate 3001",
+    "play --generate 01",
+    "play --generate +1",
+    "play --generate 1 1",
+    "play --x",
+    "keygen D 1 5",
+    "check D 1 2",
+];
+
+fn lines_outside_the_grammar_are_told<R: Threads + Wait + Sync + Abort>(
+    rt: &R,
+    alloc: Global,
+) -> Result<(), Fail> {
+    for (script, report) in &OUTSIDE {
+        answers(rt, alloc, "play", script.as_bytes(), 3, report.as_bytes())?;
+    }
+    answers(rt, alloc, "play", b"# \xff\n", 3, b"fault line 1\n")
+}
+
+fn other_words_ask_for_nothing<R: Threads + Wait + Sync + Abort>(
+    rt: &R,
+    alloc: Global,
+) -> Result<(), Fail> {
+    for words in &OTHER_WORDS {
+        answers(rt, alloc, *words, THIN.as_bytes(), 2, b"fault words\n")?;
+    }
+    Ok(())
+}
+
+// The status stays if the second write of four bytes fails, and with it the line.
+fn keeps<R: Threads + Wait + Sync + Abort>(
+    rt: &R,
+    alloc: Global,
+    word: &str,
+    script: &[u8],
+    status: u8,
+) -> Result<(), Fail> {
+    let (got, written) = answer(rt, alloc, word, script, 4, 0, 2)?;
+    assert!(rt; is_same(written.as_slice(), b"faul"));
+    assert!(rt; got == status);
+    Ok(())
+}
+
+#[test]
+fn plays_have_lines_for_their_faults(rt: HostRuntime) -> Result<(), Fail> {
+    lines_outside_the_grammar_are_told(&rt, rt.alloc())?;
+    other_words_ask_for_nothing(&rt, rt.alloc())?;
+    keeps(&rt, rt.alloc(), "paly", b"", 2)?;
+    keeps(&rt, rt.alloc(), "play", b"x", 3)
+}
+
+// Which calls of a play fail.
+#[derive(Clone, Copy)]
+enum Side {
+    Read,
+    Write,
+}
+
+// Whether this is how a play ends one of whose calls failed: the fault alone if it was a read, and else the fault after a
+// prefix of the report.
+fn is_told(side: Side, status: u8, written: &[u8]) -> bool {
+    let Some(prefix) = written.strip_suffix(b"fault outside\n".as_slice()) else {
+        return false;
+    };
+    let is_prefix = match side {
+        Side::Read => prefix.is_empty(),
+        Side::Write => THIN_REPORT.as_bytes().starts_with(prefix),
+    };
+    is_prefix && status == 6
+}
+
+// Whether a play that moves seven bytes a call ends well, since no such call is left that fails. Else the fault is told.
+fn ends_without<R: Threads + Wait + Sync + Abort>(
+    rt: &R,
+    alloc: Global,
+    side: Side,
+    call: u64,
+) -> Result<bool, Fail> {
+    let (read, write) = match side {
+        Side::Read => (call, 0),
+        Side::Write => (0, call),
+    };
+    let (status, written) = answer(rt, alloc, "play", THIN.as_bytes(), 7, read, write)?;
+    let written = written.as_slice();
+    let is_well = status == 0 && is_same(written, THIN_REPORT.as_bytes());
+    assert!(rt; is_well || is_told(side, status, written), "call {call}");
+    Ok(is_well)
+}
+
+// The first such call that a play does not make.
+fn first_unmade<R: Threads + Wait + Sync + Abort>(
+    rt: &R,
+    alloc: Global,
+    side: Side,
+) -> Result<u64, Fail> {
+    for call in 1..100 {
+        if ends_without(rt, alloc, side, call)? {
+            return Ok(call);
+        }
+    }
+    Err("no end".into())
+}
+
+#[test]
+fn each_read_and_write_that_fails_is_told(rt: HostRuntime) -> Result<(), Fail> {
+    // As many reads of 7 bytes as the script takes, and one that finds its end.
+    let reads = first_unmade(&rt, rt.alloc(), Side::Read)?;
+    assert!(rt; reads == THIN.len().div_ceil(7) as u64 + 2);
+    // Lines of 15, 17, 14 and 28 bytes.
+    let writes = first_unmade(&rt, rt.alloc(), Side::Write)?;
+    assert!(rt; writes == 3 + 3 + 2 + 4 + 1);
+    Ok(())
+}

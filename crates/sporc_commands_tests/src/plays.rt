@@ -1,0 +1,54 @@
+//! The longest script that is read, and the generated run.
+
+use crate::answers::{answer, answers};
+use sporc_play::MAX_SCRIPT;
+use std::alloc::Global;
+use std::process::Abort;
+use std::sync::Wait;
+use std::test::Fail;
+use std::thread::Threads;
+
+fn reads_scripts_up_to_a_size<R: Threads + Wait + Sync + Abort>(
+    rt: &R,
+    alloc: Global,
+) -> Result<(), Fail> {
+    let mut script = vec![in alloc; b'#'; MAX_SCRIPT]?;
+    answers(rt, alloc, "play", script.as_slice(), 0, b"")?;
+    script.push(b'\n')?;
+    answers(
+        rt,
+        alloc,
+        "play",
+        script.as_slice(),
+        3,
+        b"fault too long script\n",
+    )
+}
+
+// 13 whole batches of 66 remove, 39 characters in all; the other 161 edits insert one each.
+const SUMMARY: &[u8] = b"clients 3 entries 200 characters 122 same ";
+
+// Whether this is a summary with a digest and an LF behind it.
+fn is_summary(written: &[u8]) -> bool {
+    match written.strip_prefix(SUMMARY) {
+        Some(hash) => hash.len() == 65,
+        None => false,
+    }
+}
+
+fn a_generated_run_has_one_summary<R: Threads + Wait + Sync + Abort>(
+    rt: &R,
+    alloc: Global,
+) -> Result<(), Fail> {
+    let words = "play --generate 200";
+    let (status, written) = answer(rt, alloc, words, b"", 1 << 20, 0, 0)?;
+    assert!(rt; status == 0);
+    assert!(rt; is_summary(written.as_slice()));
+    answers(rt, alloc, words, b"", 0, written.as_slice())
+}
+
+#[test]
+fn long_scripts_and_generated_runs_are_played(rt: HostRuntime) -> Result<(), Fail> {
+    reads_scripts_up_to_a_size(&rt, rt.alloc())?;
+    a_generated_run_has_one_summary(&rt, rt.alloc())
+}
