@@ -1,12 +1,12 @@
 //! The file of two entries, worked by hand, and what is read of it whole, cut and changed.
 
+use crate::folder::history_file;
 use sporc_base::{is_same, put_at};
-use sporc_store::{Stop, read_saved, save};
+use sporc_samples::DOCUMENT;
+use sporc_store::{Stop, read_saved};
 use std::alloc::Global;
 use std::process::Abort;
 use std::test::Fail;
-
-const DOCUMENT: [u8; 16] = [7; 16];
 
 // The file of the entries "ab" and "c": the format, the document, the number of entries, and each entry behind its length.
 const FILE: &str = "5350483107070707070707070707070707070707000000020000000261620000000163";
@@ -60,13 +60,6 @@ fn reads(rt: &impl Abort, alloc: Global, file: &[u8], len: usize, stop: Stop) ->
     Ok(())
 }
 
-// The file of entries.
-fn saved(rt: &impl Abort, alloc: Global, entries: &[Vec<u8>]) -> Result<Vec<u8>, Fail> {
-    assert!(rt; entries.len() <= 16_384);
-    let file = save(alloc, &DOCUMENT, entries)?;
-    Ok(file)
-}
-
 fn two_entries(alloc: Global) -> Result<Vec<Vec<u8>>, Fail> {
     let mut entries = Vec::new(alloc);
     entries.push(Vec::from_slice(alloc, b"ab")?)?;
@@ -74,24 +67,18 @@ fn two_entries(alloc: Global) -> Result<Vec<Vec<u8>>, Fail> {
     Ok(entries)
 }
 
-fn is_spelled(rt: &impl Abort, alloc: Global, file: &[u8]) -> Result<(), Fail> {
-    let expected = hex::decode(alloc, FILE)?;
-    assert!(rt; is_same(file, expected.as_slice()));
+fn is_saved(rt: &impl Abort, alloc: Global, entries: &[Vec<u8>], file: &[u8]) -> Result<(), Fail> {
+    let saved = history_file(rt, alloc, entries)?;
+    assert!(rt; is_same(saved.as_slice(), file));
     Ok(())
 }
 
-fn saves(rt: &impl Abort, alloc: Global, entries: &[Vec<u8>]) -> Result<(), Fail> {
-    let file = saved(rt, alloc, entries)?;
-    is_spelled(rt, alloc, file.as_slice())
+fn two_are_saved(rt: &impl Abort, alloc: Global, file: &[u8]) -> Result<(), Fail> {
+    let entries = two_entries(alloc)?;
+    is_saved(rt, alloc, entries.as_slice(), file)
 }
 
-#[test]
-fn two_entries_are_saved(rt: HostRuntime) -> Result<(), Fail> {
-    let entries = two_entries(rt.alloc())?;
-    saves(&rt, rt.alloc(), entries.as_slice())
-}
-
-fn cut(
+fn is_cut(
     rt: &impl Abort,
     alloc: Global,
     file: &[u8],
@@ -105,15 +92,13 @@ fn cut(
     Ok(())
 }
 
-// A file is cut at each byte, and then one follows.
-#[test]
-fn a_file_has_another_length(rt: HostRuntime) -> Result<(), Fail> {
-    let mut file = hex::decode(rt.alloc(), FILE)?;
+// It is cut at each byte, and then one follows.
+fn has_another_length(rt: &impl Abort, alloc: Global, file: &mut Vec<u8>) -> Result<(), Fail> {
     for row in &CUTS {
-        cut(&rt, rt.alloc(), file.as_slice(), row)?;
+        is_cut(rt, alloc, file.as_slice(), row)?;
     }
     file.push(0)?;
-    reads(&rt, rt.alloc(), file.as_slice(), 2, Stop::Cut(35))
+    reads(rt, alloc, file.as_slice(), 2, Stop::Cut(35))
 }
 
 fn changed(
@@ -133,13 +118,20 @@ fn changed(
 }
 
 // A byte is changed, or another number of entries stated.
-#[test]
-fn a_field_is_changed(rt: HostRuntime) -> Result<(), Fail> {
+fn has_changed_fields(rt: &impl Abort, alloc: Global) -> Result<(), Fail> {
     for (place, byte, entries, stop) in &CHANGES {
-        changed(&rt, rt.alloc(), *place, &[*byte], *entries, *stop)?;
+        changed(rt, alloc, *place, &[*byte], *entries, *stop)?;
     }
     for (count, entries, stop) in &COUNTS {
-        changed(&rt, rt.alloc(), 20, &count.to_be_bytes(), *entries, *stop)?;
+        changed(rt, alloc, 20, &count.to_be_bytes(), *entries, *stop)?;
     }
     Ok(())
+}
+
+#[test]
+fn a_file_is_saved_and_read(rt: HostRuntime) -> Result<(), Fail> {
+    has_changed_fields(&rt, rt.alloc())?;
+    let mut file = hex::decode(rt.alloc(), FILE)?;
+    two_are_saved(&rt, rt.alloc(), file.as_slice())?;
+    has_another_length(&rt, rt.alloc(), &mut file)
 }

@@ -8,4 +8,8 @@
 #[cfg(test)]
 mod files;
 #[cfg(test)]
+mod folder;
+#[cfg(test)]
+mod histories;
+#[cfg(test)]
 mod loads;

@@ -2,12 +2,13 @@
 
 ghost use Rattle.std.specs.Prelude.{◌≡◌, [], IfOk};
 
+use crate::folder::{history_file, place_behind};
 use sporc_epoch::{Pairs, Ring};
 use sporc_head::Refusal;
 use sporc_line::Line;
 use sporc_order::Order;
-use sporc_samples::{Cast, DOCUMENT, History, epoch_key, pair_key, short_history};
-use sporc_store::{Stop, load, load_order, read_saved, save};
+use sporc_samples::{Cast, DOCUMENT, History, epoch_key, pair_key};
+use sporc_store::{Stop, load, load_order, read_saved};
 use std::alloc::Global;
 use std::process::Abort;
 use std::test::Fail;
@@ -93,12 +94,10 @@ fn reads(rt: &impl Abort, alloc: Global, file: &[u8], len: usize, stop: Stop) ->
     Ok(())
 }
 
-// The file of the short history, of four entries.
-fn saved(rt: &impl Abort, alloc: Global, sample: &History) -> Result<Vec<u8>, Fail> {
-    let entries = sample.entries();
-    assert!(rt; entries.len() <= 16_384);
-    let file = save(alloc, &DOCUMENT, entries)?;
-    Ok(file)
+// Whether a line has read the short history.
+fn has_read(line: &Line, sample: &History) -> Result<bool, Fail> {
+    let text = line.text()?;
+    Ok(line.hash() == sample.hash() && text.as_str() == "abcd")
 }
 
 // A line reads the history that was saved.
@@ -110,82 +109,73 @@ fn line_reads(
     file: &[u8],
 ) -> Result<(), Fail> {
     let (line, stop) = loaded(alloc, cast, 2, file)?;
+    let outcome = has_read(&line, sample);
+    drop(line);
     assert!(rt; stop == Stop::End);
-    assert!(rt; line.hash() == sample.hash());
-    assert!(rt; line.text()?.as_str() == "abcd");
+    assert!(rt; outcome?);
     Ok(())
 }
 
 // Member 4, whom the third entry removes, loads as far as that.
 fn whole(rt: &impl Abort, alloc: Global, cast: &Cast, sample: &History) -> Result<(), Fail> {
-    let file = saved(rt, alloc, sample)?;
+    let file = history_file(rt, alloc, sample.entries())?;
     line_reads(rt, alloc, cast, sample, file.as_slice())?;
     order_takes(rt, alloc, cast, file.as_slice(), 4, Stop::End)?;
     let removed = Stop::Refused(4, Refusal::Removed);
     line_takes(rt, alloc, cast, 4, file.as_slice(), 3, removed)
 }
 
-// The place of the file behind its head and these entries.
-fn place_behind(entries: &[Vec<u8>]) -> usize {
-    let mut place = 24usize;
-    for entry in entries {
-        place = place.saturating_add(entry.len().saturating_add(4));
-    }
-    place
-}
-
-// A line, an order and an unchecked reading take as many entries.
+// A line and an order take so many entries, and an unchecked reading so many.
 fn all_take(
     rt: &impl Abort,
     alloc: Global,
     cast: &Cast,
     file: &[u8],
-    len: u32,
-    stop: Stop,
+    taken: (u32, Stop),
+    read: (usize, Stop),
 ) -> Result<(), Fail> {
-    line_takes(rt, alloc, cast, 2, file, len, stop)?;
-    order_takes(rt, alloc, cast, file, len, stop)?;
-    reads(rt, alloc, file, len as usize, stop)
+    line_takes(rt, alloc, cast, 2, file, taken.0, taken.1)?;
+    order_takes(rt, alloc, cast, file, taken.0, taken.1)?;
+    reads(rt, alloc, file, read.0, read.1)
 }
 
 // Without the file's last byte.
 fn cut(rt: &impl Abort, alloc: Global, cast: &Cast, sample: &History) -> Result<(), Fail> {
     let three = sample.entries().get(..3).ok_or("three entries")?;
     let last = place_behind(three).saturating_add(4);
-    let mut file = saved(rt, alloc, sample)?;
+    let mut file = history_file(rt, alloc, sample.entries())?;
     file.pop();
-    all_take(rt, alloc, cast, file.as_slice(), 3, Stop::Cut(last))
+    let stop = Stop::Cut(last);
+    all_take(rt, alloc, cast, file.as_slice(), (3, stop), (3, stop))
 }
 
 // With a bit of the second entry's signature turned, which only checks find.
 fn turned(rt: &impl Abort, alloc: Global, cast: &Cast, sample: &History) -> Result<(), Fail> {
     let two = sample.entries().get(..2).ok_or("two entries")?;
     let last = place_behind(two).saturating_sub(1);
-    let mut file = saved(rt, alloc, sample)?;
+    let mut file = history_file(rt, alloc, sample.entries())?;
     if let Some(byte) = file.get_mut(last) {
         *byte ^= 1;
     }
     let refused = Stop::Refused(2, Refusal::BadSignature);
-    line_takes(rt, alloc, cast, 2, file.as_slice(), 1, refused)?;
-    order_takes(rt, alloc, cast, file.as_slice(), 1, refused)?;
-    reads(rt, alloc, file.as_slice(), 4, Stop::End)
+    all_take(
+        rt,
+        alloc,
+        cast,
+        file.as_slice(),
+        (1, refused),
+        (4, Stop::End),
+    )
 }
 
-fn loads(rt: &impl Abort, alloc: Global, cast: &Cast, sample: &History) -> Result<(), Fail> {
+/// A saved history is loaded as far as it goes.
+pub fn histories_are_loaded(
+    rt: &impl Abort,
+    alloc: Global,
+    cast: &Cast,
+    sample: &History,
+) -> Result<(), Fail> {
     whole(rt, alloc, cast, sample)?;
     cut(rt, alloc, cast, sample)?;
     turned(rt, alloc, cast, sample)
-}
-
-fn short_history_loads(rt: &impl Abort, alloc: Global, cast: &Cast) -> Result<(), Fail> {
-    let sample = short_history(alloc, cast)?;
-    let outcome = loads(rt, alloc, cast, &sample);
-    drop(sample);
-    outcome
-}
-
-#[test]
-fn a_file_is_loaded_as_far_as_it_goes(rt: HostRuntime) -> Result<(), Fail> {
-    let cast = Cast::new(rt.alloc())?;
-    short_history_loads(&rt, rt.alloc(), &cast)
 }
