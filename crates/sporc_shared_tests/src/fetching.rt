@@ -1,6 +1,6 @@
 //! Entries that are fetched from a server.
 
-use sporc_outside::{Calls, MemoryLink};
+use crate::scene::listed_link;
 use sporc_shared::{Entries, SessionFault, fetch};
 use std::alloc::Global;
 use std::test::Fail;
@@ -18,12 +18,6 @@ const SENT: &[u8] =
 const WRITTEN: &[u8] =
     b"\0\0\0\x13\x01DDDDDDDDDDDDDDDD\0\x04\0\0\0\x05\x03\0\0\0\0\0\0\0\x05\x03\0\0\0\x02\0\0\0\x05\x03\0\0\0\x03";
 
-// A link whose other end sends these bytes. The calls with these numbers fail.
-fn link(alloc: Global, sent: &[u8], failing: Vec<u64>) -> Result<MemoryLink, Fail> {
-    let sent = Vec::from_slice(alloc, sent)?;
-    Ok(MemoryLink::new(alloc, sent, 64, Calls::failing(failing)))
-}
-
 // Entries one after the other.
 fn joined(alloc: Global, entries: &Entries) -> Result<Vec<u8>, Fail> {
     let mut bytes = Vec::new(alloc);
@@ -34,16 +28,11 @@ fn joined(alloc: Global, entries: &Entries) -> Result<Vec<u8>, Fail> {
     Ok(bytes)
 }
 
-#[test]
-fn all_entries_come(rt: HostRuntime) -> Result<(), Fail> {
-    let alloc = rt.alloc();
-    let mut link = link(alloc, SENT, Vec::new(alloc))?;
+fn all_entries_come(alloc: Global) -> Result<bool, Fail> {
+    let mut link = listed_link(alloc, SENT, 64, &[])?;
     let entries = fetch(alloc, &mut link, &DOCUMENT, 4)?;
-    assert!(rt; entries.len() == 3);
     let bytes = joined(alloc, &entries)?;
-    assert!(rt; bytes.as_slice() == b"a;bc;d;".as_slice());
-    assert!(rt; link.written() == WRITTEN);
-    Ok(())
+    Ok(entries.len() == 3 && bytes.as_slice() == b"a;bc;d;".as_slice() && link.written() == WRITTEN)
 }
 
 // What a server sends, and how the fetch ends.
@@ -65,29 +54,35 @@ const FAULTS: [(&[u8], SessionFault); 4] = [
     (b"\0\0\0\x01\x09", SessionFault::BadMessage(4)),
 ];
 
-#[test]
-fn what_a_server_sends_ends_a_fetch(rt: HostRuntime) -> Result<(), Fail> {
-    let alloc = rt.alloc();
-    for (sent, fault) in &FAULTS {
-        let mut link = link(alloc, *sent, Vec::new(alloc))?;
-        assert!(rt; fetch(alloc, &mut link, &DOCUMENT, 4).err() == Some(*fault));
-    }
-    Ok(())
+// Whether a fetch ends with this fault, or well if there is none, where a server sends this and these calls fail.
+fn ends_so(
+    alloc: Global,
+    sent: &[u8],
+    failing: &[u64],
+    fault: Option<SessionFault>,
+) -> Result<bool, Fail> {
+    let mut link = listed_link(alloc, sent, 64, failing)?;
+    Ok(fetch(alloc, &mut link, &DOCUMENT, 4).err() == fault)
 }
 
-// Hello and three pulls are written, and all answers are read at once.
+// Hello and three pulls are written, and all answers are read at once. How a fetch ends one of whose calls fails.
+fn fault_of(call: u64) -> Option<SessionFault> {
+    if call < 6 {
+        Some(SessionFault::LinkFault)
+    } else {
+        None
+    }
+}
+
 #[test]
-fn a_link_fails_at_each_of_its_calls(rt: HostRuntime) -> Result<(), Fail> {
+fn entries_are_fetched(rt: HostRuntime) -> Result<(), Fail> {
     let alloc = rt.alloc();
+    assert!(rt; all_entries_come(alloc)?);
+    for (sent, fault) in &FAULTS {
+        assert!(rt; ends_so(alloc, *sent, &[], Some(*fault))?);
+    }
     for call in 1..CALLS {
-        let mut link = link(alloc, SENT, Vec::from_slice(alloc, &[call])?)?;
-        let fault = fetch(alloc, &mut link, &DOCUMENT, 4).err();
-        let expected = if call < 6 {
-            Some(SessionFault::LinkFault)
-        } else {
-            None
-        };
-        assert!(rt; fault == expected);
+        assert!(rt; ends_so(alloc, SENT, &[call], fault_of(call))?);
     }
     Ok(())
 }

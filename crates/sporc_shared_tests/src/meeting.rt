@@ -71,6 +71,7 @@ fn two_entries(alloc: Global, cast: &Cast) -> Result<History, Fail> {
     Ok(sample)
 }
 
+// What a session leaves whose editor has two lines.
 fn met<R: Threads + Wait + Sync>(
     rt: &R,
     alloc: Global,
@@ -95,12 +96,15 @@ fn met<R: Threads + Wait + Sync>(
     )
 }
 
+fn goes_well<R: Threads + Wait + Sync>(rt: &R, alloc: Global, cast: &Cast) -> Result<bool, Fail> {
+    let gate = Meeting::new();
+    let outcome = met(rt, alloc, cast, &gate)?;
+    Ok(outcome.answer.is_ok() && gate.went_well() && outcome.text.as_str() == "yxabc")
+}
+
 #[test]
 fn an_editor_and_the_receiver_wait_for_one_another(rt: HostRuntime) -> Result<(), Fail> {
     let cast = Cast::new(rt.alloc())?;
-    let gate = Meeting::new();
-    let outcome = met(&rt, rt.alloc(), &cast, &gate)?;
-    assert!(rt; outcome.answer.is_ok() && gate.went_well());
-    assert!(rt; outcome.text.as_str() == "yxabc");
+    assert!(rt; goes_well(&rt, rt.alloc(), &cast)?);
     Ok(())
 }

@@ -6,7 +6,6 @@ use sporc_order::{Order, Reply, Session};
 use sporc_outside::{Calls, Counted, Failed, Link, Sink, Source};
 use sporc_wire::{Frames, ToClient, ToServer};
 use std::alloc::Global;
-use std::test::Fail;
 
 // The most messages that one write may bring.
 const MESSAGES: u32 = 1_000;
@@ -15,7 +14,7 @@ const MESSAGES: u32 = 1_000;
 #[derive(Drop)]
 struct Server {
     alloc: Global,
-    order: Order,
+    order: Box<Order>,
     session: Session,
     frames: Frames,
     answers: Vec<u8>,
@@ -96,7 +95,7 @@ pub(crate) struct OrderLink {
 
 impl OrderLink {
     /// A link to an order.
-    pub(crate) fn new(alloc: Global, order: Order, calls: Calls) -> OrderLink {
+    pub(crate) fn new(alloc: Global, order: Box<Order>, calls: Calls) -> OrderLink {
         OrderLink {
             server: Server {
                 alloc,
@@ -108,14 +107,6 @@ impl OrderLink {
             },
             calls,
         }
-    }
-
-    /// Has the order take entries.
-    pub(crate) fn fill(&mut self, entries: &[Vec<u8>]) -> Result<(), Fail> {
-        for entry in entries {
-            self.server.order.submit(entry.as_slice())?;
-        }
-        Ok(())
     }
 }
 

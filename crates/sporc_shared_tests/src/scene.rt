@@ -1,6 +1,6 @@
 //! Clients of the sample document.
 
-ghost use Rattle.std.specs.Prelude.{◌≡◌, IfOk};
+ghost use Rattle.std.specs.Prelude.{◌≡◌, ◌<◌, IfOk};
 
 use lms_leaf::Leaves;
 use lms_ots::OtsType;
@@ -10,7 +10,7 @@ use sporc_client::{Client, MAX_EVENTS};
 use sporc_delta::Delta;
 use sporc_epoch::{Pairs, Ring};
 use sporc_head::MAX_ENTRIES;
-use sporc_outside::{Calls, LeafDisk, MemoryDisk};
+use sporc_outside::{Calls, LeafDisk, MemoryDisk, MemoryLink};
 use sporc_samples::{Cast, History, epoch_key, insertion};
 use std::alloc::Global;
 use std::test::Fail;
@@ -32,6 +32,20 @@ pub(crate) const BLANK: LeafFile<'static> = LeafFile {
 /// An object's calls, of which those with these numbers fail.
 pub(crate) fn calls(alloc: Global, failing: &[u64]) -> Result<Calls, Fail> {
     Ok(Calls::failing(Vec::from_slice(alloc, failing)?))
+}
+
+/// A link whose other end sends these bytes, so many at once at most. The calls with these numbers fail.
+pub(crate) fn listed_link(
+    alloc: Global,
+    sent: &[u8],
+    piece: usize,
+    failing: &[u64],
+) -> Result<MemoryLink, Fail>
+    requires { 0 < piece }
+{
+    let calls = calls(alloc, failing)?;
+    let sent = Vec::from_slice(alloc, sent)?;
+    Ok(MemoryLink::new(alloc, sent, piece, calls))
 }
 
 // The disk that a leaf file is on.
@@ -148,8 +162,8 @@ fn discard_often<D: LeafDisk>(client: &mut Client<D>) -> Result<u64, Fail> {
     Ok(events)
 }
 
-/// Does what a client did before its session.
-pub(crate) fn live<D: LeafDisk>(
+// Does what a client did before its session.
+fn live<D: LeafDisk>(
     alloc: Global,
     cast: &Cast,
     client: &mut Client<D>,
@@ -167,6 +181,19 @@ pub(crate) fn live<D: LeafDisk>(
             insert(alloc, client, events)
         }
     }
+}
+
+/// The client of a member, after what it did before its session.
+pub(crate) fn lived(
+    alloc: Global,
+    cast: &Cast,
+    member: u8,
+    file: LeafFile<'_>,
+    past: Past,
+) -> Result<Box<Client<MemoryDisk>>, Fail> {
+    let mut client = opened(alloc, cast, member, file)?;
+    live(alloc, cast, &mut client, past)?;
+    Ok(client)
 }
 
 /// The history of the document, empty.

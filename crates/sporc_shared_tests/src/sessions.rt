@@ -1,6 +1,6 @@
 //! Sessions with an honest order.
 
-use crate::staging::{Answer, Deed, FRESH, Outcome, Plan, Start, TWO_ROUNDS, written};
+use crate::staging::{Deed, FRESH, Plan, Start, TWO_ROUNDS, written};
 use sporc_samples::Cast;
 use sporc_script::MAX_EDITORS;
 use sporc_shared::SessionFault;
@@ -26,35 +26,13 @@ const LINES: u64 = 100;
 // An editor writes a word.
 const HELLO: &str = "insert 0 \"hello\"\n";
 
-// Whether a session ended with this fault, or well if there is none, and left this text and journal.
-fn left(outcome: &Outcome, fault: Option<SessionFault>, text: &str, deeds: &[Deed]) -> bool {
-    outcome.answer.err() == fault
-        && outcome.text.as_str() == text
-        && outcome.deeds.as_slice() == deeds
-}
-
-const COMMITTED: [Deed; 3] = [Deed::Edit(1, 5), Deed::Submit(0), Deed::Accept(0, 1)];
-
-#[test]
-fn a_line_goes_to_the_order_and_comes_back(rt: HostRuntime) -> Result<(), Fail> {
-    let cast = Cast::new(rt.alloc())?;
-    let outcome = written(&rt, rt.alloc(), &cast, FRESH, 1, HELLO, TWO_ROUNDS)?;
-    assert!(rt; left(&outcome, None, "hello", &COMMITTED));
-    Ok(())
-}
-
-#[test]
-fn with_no_rounds_a_line_stays_pending(rt: HostRuntime) -> Result<(), Fail> {
-    let cast = Cast::new(rt.alloc())?;
-    let outcome = written(&rt, rt.alloc(), &cast, FRESH, 1, HELLO, NO_ROUNDS)?;
-    let fault = Some(SessionFault::NotSettled(1, 0));
-    assert!(rt; left(&outcome, fault, "hello", &[Deed::Edit(1, 5)]));
-    Ok(())
-}
-
 // An admin's lines. The second one counts more characters than there are, and the third is beyond the text's end.
 const EACH_LINE: &str =
     "insert 0 \"hello\"\nremove 1 9\ninsert 9 \"i\"\nremove 0 1\nrole 2 reader\ndrop 5\n";
+
+const COMMITTED: [Deed; 3] = [Deed::Edit(1, 5), Deed::Submit(0), Deed::Accept(0, 1)];
+
+const PENDING: [Deed; 1] = [Deed::Edit(1, 5)];
 
 const EACH_DEED: [Deed; 6] = [
     Deed::Edit(1, 5),
@@ -65,14 +43,55 @@ const EACH_DEED: [Deed; 6] = [
     Deed::Other(1),
 ];
 
-#[test]
-fn an_admin_edits_and_changes_the_members(rt: HostRuntime) -> Result<(), Fail> {
-    let cast = Cast::new(rt.alloc())?;
-    let admin = Start { member: 1, ..FRESH };
-    let outcome = written(&rt, rt.alloc(), &cast, admin, 1, EACH_LINE, NO_ROUNDS)?;
-    let fault = Some(SessionFault::NotSettled(6, 0));
-    assert!(rt; left(&outcome, fault, "i", &EACH_DEED));
-    Ok(())
+// A member, its one editor's lines, and how long its session goes; and its end, which is well if there is no fault, with the
+// text and the journal that it leaves.
+type Row = (
+    u8,
+    &'static str,
+    Plan,
+    Option<SessionFault>,
+    &'static str,
+    &'static [Deed],
+);
+
+const ROWS: [Row; 3] = [
+    // a line goes to the order and comes back
+    (4, HELLO, TWO_ROUNDS, None, "hello", &COMMITTED),
+    // with no rounds it stays pending
+    (
+        4,
+        HELLO,
+        NO_ROUNDS,
+        Some(SessionFault::NotSettled(1, 0)),
+        "hello",
+        &PENDING,
+    ),
+    // an admin edits and changes the members
+    (
+        1,
+        EACH_LINE,
+        NO_ROUNDS,
+        Some(SessionFault::NotSettled(6, 0)),
+        "i",
+        &EACH_DEED,
+    ),
+];
+
+// Whether a session leaves what its row tells.
+fn leaves<R: Threads + Wait + Sync>(
+    rt: &R,
+    alloc: Global,
+    cast: &Cast,
+    row: Row,
+) -> Result<bool, Fail> {
+    let (member, lines, plan, fault, text, deeds) = row;
+    let start = Start { member, ..FRESH };
+    let outcome = written(rt, alloc, cast, start, 1, lines, plan)?;
+    Ok(
+        outcome.answer.err() == fault
+            && outcome.text.as_str() == text
+            && outcome.deeds.as_slice() == deeds,
+    )
 }
 
 // Lines of which number n inserts n characters.
@@ -99,6 +118,16 @@ fn count_line(lines: &mut [u64], by: u32, len: u64) -> bool {
     }
 }
 
+// Whether each of these editors has all its lines.
+fn are_all(lines: &[u64]) -> bool {
+    for count in lines {
+        if *count != LINES {
+            return false;
+        }
+    }
+    true
+}
+
 // The lines of each editor stand in a journal once and in order, and no others.
 fn each_line_once(alloc: Global, deeds: &[Deed]) -> Result<bool, Fail> {
     let mut lines = vec![in alloc; 0u64; MAX_EDITORS + 1]?;
@@ -109,23 +138,32 @@ fn each_line_once(alloc: Global, deeds: &[Deed]) -> Result<bool, Fail> {
             return Ok(false);
         }
     }
-    Ok(lines.first() == Some(&0) && lines.iter().skip(1).all(|n| *n == LINES))
+    match lines.split_first() {
+        Some((receiver, editors)) => Ok(*receiver == 0 && are_all(editors)),
+        None => Ok(false),
+    }
 }
 
-fn crowded<R: Threads + Wait + Sync>(rt: &R, alloc: Global, cast: &Cast) -> Result<Outcome, Fail> {
+// Whether a session of eight editors leaves a hundred lines of each, which are not all committed.
+fn each_editor_writes<R: Threads + Wait + Sync>(
+    rt: &R,
+    alloc: Global,
+    cast: &Cast,
+) -> Result<bool, Fail> {
     let lines = longer_and_longer(alloc)?;
-    written(rt, alloc, cast, FRESH, EDITORS, lines.as_str(), NO_TARGET)
-}
-
-fn is_unsettled(answer: &Answer) -> bool {
-    matches!(answer, Err(SessionFault::NotSettled(..)))
+    let outcome = written(rt, alloc, cast, FRESH, EDITORS, lines.as_str(), NO_TARGET)?;
+    Ok(
+        matches!(&outcome.answer, Err(SessionFault::NotSettled(..)))
+            && each_line_once(alloc, outcome.deeds.as_slice())?,
+    )
 }
 
 #[test]
-fn eight_editors_write_a_hundred_lines_each(rt: HostRuntime) -> Result<(), Fail> {
+fn lines_go_to_the_order_or_stay_pending(rt: HostRuntime) -> Result<(), Fail> {
     let cast = Cast::new(rt.alloc())?;
-    let outcome = crowded(&rt, rt.alloc(), &cast)?;
-    assert!(rt; is_unsettled(&outcome.answer));
-    assert!(rt; each_line_once(rt.alloc(), outcome.deeds.as_slice())?);
+    for row in &ROWS {
+        assert!(rt; leaves(&rt, rt.alloc(), &cast, *row)?);
+    }
+    assert!(rt; each_editor_writes(&rt, rt.alloc(), &cast)?);
     Ok(())
 }

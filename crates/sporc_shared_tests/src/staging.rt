@@ -6,10 +6,10 @@ ghost use Rattle.sporc_turn.specs.Passes.{known_of};
 ghost use Rattle.sporc_shared.specs.Passes.{IsPassOf};
 
 use crate::order_link::OrderLink;
-use crate::scene::{BLANK, LeafFile, Past, calls, live, no_entries, opened};
+use crate::scene::{BLANK, LeafFile, Past, calls, listed_link, lived, no_entries};
 use sporc_client::{Client, Event};
 use sporc_order::Order;
-use sporc_outside::{Chance, Gate, LeafDisk, Link, ListedChance, MemoryLink, OpenGate};
+use sporc_outside::{Chance, Gate, LeafDisk, Link, ListedChance, OpenGate};
 use sporc_samples::{Cast, History};
 use sporc_script::{EditorScript, MAX_EDITORS, read_editor};
 use sporc_shared::{Pass, SessionFault, SharedClient, session};
@@ -80,11 +80,6 @@ pub(crate) const TWO_ROUNDS: Plan = Plan {
     rounds: 2,
     until: 1,
 };
-
-/// Whether a session ended with this fault.
-pub(crate) fn is_fault(answer: &Answer, fault: SessionFault) -> bool {
-    answer.err() == Some(fault)
-}
 
 fn deed_of(event: &Event) -> Deed {
     match event {
@@ -191,9 +186,15 @@ fn over<R: Threads + Wait + Sync, L: Link + Send, G: Gate + Sync>(
 ) -> Result<Outcome, Fail>
     requires { length editors.now ≤ MAX_EDITORS }
 {
-    let mut chance = words(alloc, start.chance)?;
-    let mut client = opened(alloc, cast, start.member, start.file)?;
-    live(alloc, cast, &mut client, start.past)?;
+    let Start {
+        member,
+        past,
+        file,
+        chance,
+        ..
+    } = start;
+    let mut chance = words(alloc, chance)?;
+    let client = lived(alloc, cast, member, file, past)?;
     let client = Box::into_inner(client);
     run(rt, alloc, client, link, &mut chance, editors, plan, gate)
 }
@@ -206,7 +207,7 @@ pub(crate) fn heard<R: Threads + Wait + Sync>(
     start: Start<'_>,
     sent: &[u8],
 ) -> Result<Answer, Fail> {
-    let mut link = listed_link(alloc, sent)?;
+    let mut link = listed_link(alloc, sent, 3, &[])?;
     let outcome = over(
         rt,
         alloc,
@@ -218,12 +219,6 @@ pub(crate) fn heard<R: Threads + Wait + Sync>(
         &OpenGate,
     )?;
     Ok(outcome.answer)
-}
-
-fn listed_link(alloc: Global, sent: &[u8]) -> Result<MemoryLink, Fail> {
-    let calls = calls(alloc, &[])?;
-    let sent = Vec::from_slice(alloc, sent)?;
-    Ok(MemoryLink::new(alloc, sent, 3, calls))
 }
 
 /// A session with an order that has the entries of a history, beside these editors.
@@ -240,16 +235,32 @@ pub(crate) fn held<R: Threads + Wait + Sync, G: Gate + Sync>(
     if editors.len() > MAX_EDITORS {
         return Err("too many editors".into());
     }
-    let mut link = order_link(alloc, cast, start.link)?;
-    link.fill(sample.entries())?;
-    over(rt, alloc, cast, start, &mut link, editors, plan, gate)
+    let mut link = order_link(alloc, cast, start.link, sample)?;
+    let outcome = over(rt, alloc, cast, start, &mut *link, editors, plan, gate);
+    drop(link);
+    outcome
 }
 
-// A link to an order that has no entries.
-fn order_link(alloc: Global, cast: &Cast, failing: &[u64]) -> Result<OrderLink, Fail> {
-    let calls = calls(alloc, failing)?;
+// An order that has the entries of a history.
+fn order_of(alloc: Global, cast: &Cast, sample: &History) -> Result<Box<Order>, Fail> {
     let order = Order::open(alloc, cast.genesis(alloc)?)?;
-    Ok(OrderLink::new(alloc, order, calls))
+    let mut order = Box::new(alloc, order)?;
+    for entry in sample.entries() {
+        order.submit(entry.as_slice())?;
+    }
+    Ok(order)
+}
+
+// A link to an order that has the entries of a history. It is in a box, so that a function that owns it is quick to prove.
+fn order_link(
+    alloc: Global,
+    cast: &Cast,
+    failing: &[u64],
+    sample: &History,
+) -> Result<Box<OrderLink>, Fail> {
+    let calls = calls(alloc, failing)?;
+    let order = order_of(alloc, cast, sample)?;
+    Ok(Box::new(alloc, OrderLink::new(alloc, order, calls))?)
 }
 
 /// A session with an order that has no entries, where so many editors have these lines each.

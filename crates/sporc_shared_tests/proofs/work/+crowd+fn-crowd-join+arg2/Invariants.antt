@@ -1,5 +1,5 @@
 use Rattle.std.proofs.Common.{◌*◌, ◌-◌}
-use Rattle.sporc_turn_tests.proofs.work.+crowd+fn-crowd-join+arg2.Given as goal
+use Rattle.sporc_shared_tests.proofs.work.+crowd+fn-crowd-join+arg2.Given as goal
 
 abbrev pub decreases-crowd : goal.decreases-crowd
 decreases-crowd g l = 2 * l.others

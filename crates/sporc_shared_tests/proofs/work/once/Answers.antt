@@ -1,6 +1,6 @@
 use Rattle.std.proofs.Common.{ap, ◌∙◌, sym}
 use Rattle.sporc_turn.proofs.Extending.{Extends-push_or_same}
-use Rattle.sporc_turn_tests.proofs.work.once.Goals as goal
+use Rattle.sporc_shared_tests.proofs.work.once.Goals as goal
 
 pub give-requires-clause-log : goal.give-requires-clause-log
 give-requires-clause-log g c =
