@@ -99,27 +99,26 @@ fn is_told(rt: &impl Abort, alloc: Global, fault: Fault, line: &[u8]) {
     assert!(rt; is_same(sink.as_slice(), line));
 }
 
-#[test]
-fn keys_and_a_document_are_made(rt: HostRuntime) -> Result<(), Fail> {
-    let mut room = Room::new(rt.alloc(), Vec::new(rt.alloc()), &NONE)?;
-    let answer = room.make_all(rt.alloc());
-    assert!(rt; answer == Ok(()));
+fn all_are_made(rt: &impl Abort, alloc: Global) -> Result<(), Fail> {
+    let mut room = Room::new(alloc, Vec::new(alloc), NONE)?;
+    assert!(rt; room.make_all(alloc) == Ok(()));
     assert!(rt; is_same(room.sink.as_slice(), LINES.as_bytes()));
-    are_the_names(&rt, room.folder.asked());
-    are_the_files(&rt, rt.alloc(), room.folder.files(), 8)
+    are_the_names(rt, room.folder.asked());
+    are_the_files(rt, alloc, room.folder.files(), 8)
 }
 
+fn key_is_made_once(rt: &impl Abort, alloc: Global) -> Result<(), Fail> {
+    let exists = Fault::Exists(File::Key(1));
+    let mut room = Room::new(alloc, Vec::new(alloc), NONE)?;
+    assert!(rt; room.make_key(alloc, 1) == Ok(()));
+    assert!(rt; room.make_key(alloc, 1) == Err(exists));
+    is_told(rt, alloc, exists, b"fault exists D.1.key\n");
+    are_the_files(rt, alloc, room.folder.files(), 2)
+}
+
+// A key file is not overwritten.
 #[test]
-fn a_key_file_is_not_overwritten(rt: HostRuntime) -> Result<(), Fail> {
-    let mut room = Room::new(rt.alloc(), Vec::new(rt.alloc()), &NONE)?;
-    let first = room.make_key(rt.alloc(), 1);
-    assert!(rt; first == Ok(()));
-    match room.make_key(rt.alloc(), 1) {
-        Ok(()) => assert!(rt; false),
-        Err(fault) => {
-            assert!(rt; fault == Fault::Exists(File::Key(1)));
-            is_told(&rt, rt.alloc(), fault, b"fault exists D.1.key\n");
-        }
-    }
-    are_the_files(&rt, rt.alloc(), room.folder.files(), 2)
+fn keys_and_a_document_are_made_once(rt: HostRuntime) -> Result<(), Fail> {
+    all_are_made(&rt, rt.alloc())?;
+    key_is_made_once(&rt, rt.alloc())
 }

@@ -3,14 +3,14 @@
 ghost use Rattle.std.specs.Prelude.{IfOk};
 ghost use Rattle.sporc_founding.specs.Founding.{MayFound};
 
-use hex::FromHex;
+use crate::chances::{Words, calls, chance, push_eight, push_key};
 use lms_ots::OtsType;
 use lms_tree::LmsType;
-use sporc_base::{Items, Memory, put_at};
+use sporc_base::{Items, Memory};
 use sporc_files::Fault;
 use sporc_founding::{found, keygen};
 use sporc_member::Role;
-use sporc_outside::{Calls, ListedChance, MemoryFolder, MemorySink, NamedFile};
+use sporc_outside::{ListedChance, MemoryFolder, MemorySink, NamedFile};
 use sporc_words::{Found, Founding, Keygen, Participant, Word};
 use std::alloc::Global;
 use std::test::Fail;
@@ -43,56 +43,33 @@ const PARTICIPANTS: [Participant; 3] = [
     },
 ];
 
-/// The calls that fail of a folder, a chance and a sink, counted from 1; with 0 none does.
-#[derive(Clone, Copy)]
-pub struct Failing {
-    pub folder: u64,
-    pub chance: u64,
-    pub sink: u64,
-}
+/// The calls that fail, one of the folder, one of the chance and one of the sink, counted from 1; with 0 none does.
+pub type Failing = [u64; 3];
 
 /// No call fails.
-pub const NONE: Failing = Failing {
-    folder: 0,
-    chance: 0,
-    sink: 0,
-};
+pub const NONE: Failing = [0, 0, 0];
 
-impl Failing {
-    /// This call of the folder fails too.
-    pub fn folder(self, folder: u64) -> Failing {
-        Failing { folder, ..self }
-    }
-
-    /// This call of the chance fails too.
-    pub fn chance(self, chance: u64) -> Failing {
-        Failing { chance, ..self }
-    }
-
-    /// This call of the sink fails too.
-    pub fn sink(self, sink: u64) -> Failing {
-        Failing { sink, ..self }
-    }
-}
-
-/// What commands are given. The sink takes 100 bytes in one call.
+/// What commands are given, in boxes: a function that owns it itself is slow to prove. The sink takes 100 bytes in one call.
 #[derive(Drop)]
 pub struct Room {
-    pub folder: MemoryFolder,
-    pub chance: ListedChance,
-    pub sink: MemorySink,
+    pub folder: Box<MemoryFolder>,
+    pub chance: Box<ListedChance>,
+    pub sink: Box<MemorySink>,
 }
 
 impl Room {
     /// A folder with these files, and the words of two keys and a document.
-    pub fn new(alloc: Global, files: Vec<NamedFile>, failing: &Failing) -> Result<Room, Fail> {
-        let folder = calls(alloc, failing.folder)?;
-        let chance = calls(alloc, failing.chance)?;
-        let sink = calls(alloc, failing.sink)?;
+    pub fn new(alloc: Global, files: Vec<NamedFile>, failing: Failing) -> Result<Room, Fail> {
+        let [in_folder, in_chance, in_sink] = failing;
+        let folder = MemoryFolder::new(alloc, files, calls(alloc, in_folder)?);
+        let folder = Box::new(alloc, folder)?;
+        let chance = chance(alloc, words(alloc)?, in_chance)?;
+        let sink = MemorySink::new(alloc, 100, calls(alloc, in_sink)?);
+        let sink = Box::new(alloc, sink)?;
         Ok(Room {
-            folder: MemoryFolder::new(alloc, files, folder),
-            chance: ListedChance::new(words(alloc)?, chance),
-            sink: MemorySink::new(alloc, 100, sink),
+            folder,
+            chance,
+            sink,
         })
     }
 
@@ -106,9 +83,9 @@ impl Room {
         };
         keygen(
             alloc,
-            &mut self.folder,
-            &mut self.chance,
-            &mut self.sink,
+            &mut *self.folder,
+            &mut *self.chance,
+            &mut *self.sink,
             &asked,
         )
     }
@@ -116,7 +93,7 @@ impl Room {
     /// `found D 2:editor 3:joiner 1:admin`.
     pub fn make_document(&mut self, alloc: Global) -> Result<(), Fault> {
         let asked = founding(alloc)?;
-        found(alloc, &mut self.folder, &mut self.chance, &asked)
+        found(alloc, &mut *self.folder, &mut *self.chance, &asked)
     }
 
     /// The keys of members 1 and 2, and then the document.
@@ -127,24 +104,13 @@ impl Room {
     }
 }
 
-// Calls of which this one fails.
-fn calls(alloc: Global, failing: u64) -> Result<Calls, Fail> {
-    let failing = vec![in alloc; failing]?;
-    Ok(Calls::failing(failing))
-}
-
-// The words of the keys, each identifier with bytes behind it that no key has, and eight words of bytes 1 to 8.
-fn words(alloc: Global) -> Result<Vec<[u8; 32]>, Fail> {
+// The words of two keys and a document.
+fn words(alloc: Global) -> Result<Words, Fail> {
     let mut words = Vec::new(alloc);
     for (id, seed) in &KEYS {
-        let mut first = [0xff; 32];
-        put_at(&mut first, 0, &<[u8; 16]>::from_hex(id)?);
-        words.push(first)?;
-        words.push(<[u8; 32]>::from_hex(seed)?)?;
+        push_key(&mut words, id, seed)?;
     }
-    for byte in 1..9 {
-        words.push([byte; 32])?;
-    }
+    push_eight(&mut words)?;
     Ok(words)
 }
 

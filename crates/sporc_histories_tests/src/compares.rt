@@ -1,13 +1,35 @@
 //! Histories that are compared.
 
-use crate::folder::{Files, history_file, sink};
+use crate::folder::{Files, Room, history_file};
 use sporc_base::is_same;
 use sporc_files::Names;
 use sporc_histories::compare;
-use sporc_samples::{Cast, forked_history, short_history};
+use sporc_samples::{Cast, History, forked_history};
 use std::alloc::Global;
 use std::process::Abort;
 use std::test::Fail;
+
+// A folder with the histories of members 1 and 2.
+fn two_histories(
+    rt: &impl Abort,
+    alloc: Global,
+    cast: &Cast,
+    first: &[Vec<u8>],
+    second: &[Vec<u8>],
+) -> Result<Room, Fail> {
+    let mut files = Files::new(alloc, cast)?;
+    files.add(
+        alloc,
+        "D.1.history",
+        history_file(rt, alloc, first)?.as_slice(),
+    )?;
+    files.add(
+        alloc,
+        "D.2.history",
+        history_file(rt, alloc, second)?.as_slice(),
+    )?;
+    files.room(alloc, 0)
+}
 
 // The line of what the histories of members 1 and 2 have in common.
 fn compared(
@@ -18,30 +40,38 @@ fn compared(
     second: &[Vec<u8>],
     line: &[u8],
 ) -> Result<(), Fail> {
-    let mut files = Files::new(alloc, cast)?;
-    files.add(alloc, "D.1.history", history_file(rt, alloc, first)?)?;
-    files.add(alloc, "D.2.history", history_file(rt, alloc, second)?)?;
-    let mut folder = files.folder(alloc, Vec::new(alloc));
-    let mut out = sink(alloc);
-    let answer = compare(alloc, &mut folder, &mut out, &Names::of_document("D"), 1, 2);
+    let mut room = two_histories(rt, alloc, cast, first, second)?;
+    let names = Names::of_document("D");
+    let answer = compare(alloc, &mut *room.folder, &mut *room.out, &names, 1, 2);
     assert!(rt; answer == Ok(()));
-    assert!(rt; is_same(out.as_slice(), line));
+    assert!(rt; is_same(room.out.as_slice(), line));
     Ok(())
 }
 
-fn histories(rt: &impl Abort, alloc: Global, cast: &Cast) -> Result<(), Fail> {
-    let sample = short_history(alloc, cast)?;
-    let fork = forked_history(alloc, cast)?;
-    let three = sample.entries().get(..3).ok_or("three entries")?;
+// A history of four entries, its first three, and another one that begins with these.
+fn histories(
+    rt: &impl Abort,
+    alloc: Global,
+    cast: &Cast,
+    four: &[Vec<u8>],
+    fork: &[Vec<u8>],
+) -> Result<(), Fail> {
+    let three = four.get(..3).ok_or("three entries")?;
     compared(rt, alloc, cast, three, three, b"1 2 same\n")?;
-    compared(rt, alloc, cast, three, sample.entries(), b"1 2 prefix\n")?;
-    compared(rt, alloc, cast, sample.entries(), three, b"1 2 longer\n")?;
-    let forked = b"1 2 forked after 3\n";
-    compared(rt, alloc, cast, sample.entries(), fork.entries(), forked)
+    compared(rt, alloc, cast, three, four, b"1 2 prefix\n")?;
+    compared(rt, alloc, cast, four, three, b"1 2 longer\n")?;
+    compared(rt, alloc, cast, four, fork, b"1 2 forked after 3\n")
 }
 
-#[test]
-fn histories_are_compared(rt: HostRuntime) -> Result<(), Fail> {
-    let cast = Cast::new(rt.alloc())?;
-    histories(&rt, rt.alloc(), &cast)
+/// Histories are compared.
+pub fn histories_are_compared(
+    rt: &impl Abort,
+    alloc: Global,
+    cast: &Cast,
+    sample: &History,
+) -> Result<(), Fail> {
+    let fork = forked_history(alloc, cast)?;
+    let outcome = histories(rt, alloc, cast, sample.entries(), fork.entries());
+    drop(fork);
+    outcome
 }

@@ -1,11 +1,12 @@
 //! New keys, of words that are listed.
 
+use crate::chances::{chance, push_key};
 use hex::FromHex;
 use lms_ots::OtsType;
 use lms_tree::LmsType;
 use sporc_base::is_same;
 use sporc_keys::{DrawFault, NewKey, keygen};
-use sporc_outside::{Calls, ListedChance};
+use sporc_outside::ListedChance;
 use std::alloc::Global;
 use std::process::Abort;
 use std::test::Fail;
@@ -18,16 +19,11 @@ const SEED: &str = "ea27ffea029dc2328007e05d3a1dfd83f357b2404bcc4061c787f0d0a3ed
 const PUBLIC: &str =
     "000000050000000305a7ca4e14a784c0e0daa5e6dd9709592f29e7467c09c25915bbfd16beab83d48525fc049982054d4ab9a5e6f98e8a9c";
 
-// The identifier with bytes behind it that no key has, and the seed. The listed calls fail.
-fn two_words(alloc: Global, failing: &[u64]) -> Result<ListedChance, Fail> {
-    let id = <[u8; 16]>::from_hex(ID)?;
-    let mut first = [0xff; 32];
-    sporc_base::put_at(&mut first, 0, &id);
+// The words of the key. This call fails.
+fn two_words(alloc: Global, failing: u64) -> Result<Box<ListedChance>, Fail> {
     let mut words = Vec::new(alloc);
-    words.push(first)?;
-    words.push(<[u8; 32]>::from_hex(SEED)?)?;
-    let failing = Vec::from_slice(alloc, failing)?;
-    Ok(ListedChance::new(words, Calls::failing(failing)))
+    push_key(&mut words, ID, SEED)?;
+    chance(alloc, words, failing)
 }
 
 fn is_the_key(rt: &impl Abort, key: &NewKey) -> Result<(), Fail> {
@@ -41,25 +37,25 @@ fn is_the_key(rt: &impl Abort, key: &NewKey) -> Result<(), Fail> {
 }
 
 fn two_words_give_the_key(rt: &impl Abort, alloc: Global) -> Result<(), Fail> {
-    let mut chance = two_words(alloc, &[])?;
-    match keygen(alloc, &mut chance, 3, LmsType::H5, OtsType::W4) {
+    let mut chance = two_words(alloc, 0)?;
+    match keygen(alloc, &mut *chance, 3, LmsType::H5, OtsType::W4) {
         Ok(key) => is_the_key(rt, &key),
         Err(_) => Err("no key".into()),
     }
 }
 
-// Why there is no new key, if this call fails.
-fn fault_at(alloc: Global, call: u64) -> Result<Option<DrawFault>, Fail> {
-    let mut chance = two_words(alloc, &[call])?;
-    Ok(keygen(alloc, &mut chance, 3, LmsType::H5, OtsType::W4).err())
+// Whether there is no new key, since this call fails.
+fn is_refused(alloc: Global, call: u64) -> Result<bool, Fail> {
+    let mut chance = two_words(alloc, call)?;
+    let found = keygen(alloc, &mut *chance, 3, LmsType::H5, OtsType::W4).err();
+    Ok(found == Some(DrawFault::Chance))
 }
 
-// Two words give a key, unless a call of the chance fails.
-#[test]
-fn a_key_of_two_words(rt: HostRuntime) -> Result<(), Fail> {
-    two_words_give_the_key(&rt, rt.alloc())?;
+/// Two words give a key, unless a call of the chance fails.
+pub fn a_key_of_two_words(rt: &impl Abort, alloc: Global) -> Result<(), Fail> {
+    two_words_give_the_key(rt, alloc)?;
     for call in 1..3 {
-        assert!(rt; fault_at(rt.alloc(), call)? == Some(DrawFault::Chance));
+        assert!(rt; is_refused(alloc, call)?);
     }
     Ok(())
 }

@@ -55,11 +55,6 @@ const MALFORMED: [(usize, u8, usize); 9] = [
     (42, 7, 75),
 ];
 
-fn bytes_of(alloc: Global, text: &str) -> Result<Vec<u8>, Fail> {
-    let bytes = hex::decode(alloc, text)?;
-    Ok(bytes)
-}
-
 fn founder(alloc: Global) -> Result<RingFile, Fail> {
     let pairs = PairKeys::copy_of(alloc, &PAIRS)?;
     Ok(RingFile {
@@ -107,30 +102,27 @@ fn is_written_again(
     Ok(())
 }
 
-fn is_read_as_founders(found: Result<RingFile, RingFileFault>) -> bool {
+// Whether it is the ring of this member, which is spelled out.
+fn is_ring_of(ring: &RingFile, member: u16) -> bool {
+    match member {
+        3 => is_founders(ring),
+        _ => is_joiners(ring),
+    }
+}
+
+fn is_found(found: Result<RingFile, RingFileFault>, member: u16) -> bool {
     match found {
-        Ok(ring) => is_founders(&ring),
+        Ok(ring) => is_ring_of(&ring, member),
         Err(_) => false,
     }
 }
 
-fn founders_is_read(rt: &impl Abort, alloc: Global) -> Result<(), Fail> {
-    let file = bytes_of(alloc, FILE)?;
-    assert!(rt; is_read_as_founders(ring_of_member(alloc, file.as_slice(), 3)));
+fn is_read(rt: &impl Abort, alloc: Global, file: &str, member: u16) -> Result<(), Fail> {
+    let file = hex::decode(alloc, file)?;
+    assert!(rt; is_found(ring_of_member(alloc, file.as_slice(), member), member));
     match read_ring_file(alloc, file.as_slice()) {
         Ok(ring) => {
-            assert!(rt; is_founders(&ring));
-            is_written_again(rt, alloc, file.as_slice(), &ring)
-        }
-        Err(_) => Err("no ring".into()),
-    }
-}
-
-fn joiners_is_read(rt: &impl Abort, alloc: Global) -> Result<(), Fail> {
-    let file = bytes_of(alloc, JOINER)?;
-    match read_ring_file(alloc, file.as_slice()) {
-        Ok(ring) => {
-            assert!(rt; is_joiners(&ring));
+            assert!(rt; is_ring_of(&ring, member));
             is_written_again(rt, alloc, file.as_slice(), &ring)
         }
         Err(_) => Err("no ring".into()),
@@ -153,13 +145,10 @@ fn members_have_keys(rt: &impl Abort, alloc: Global, file: &RingFile) -> Result<
     Ok(())
 }
 
-#[test]
-fn rings_are_read_and_written_and_have_keys(rt: HostRuntime) -> Result<(), Fail> {
-    founders_is_read(&rt, rt.alloc())?;
-    joiners_is_read(&rt, rt.alloc())?;
-    let file = founder(rt.alloc())?;
-    epochs_have_keys(&rt, rt.alloc(), &file)?;
-    members_have_keys(&rt, rt.alloc(), &file)
+fn founder_has_keys(rt: &impl Abort, alloc: Global) -> Result<(), Fail> {
+    let file = founder(alloc)?;
+    epochs_have_keys(rt, alloc, &file)?;
+    members_have_keys(rt, alloc, &file)
 }
 
 fn is_cut(
@@ -177,38 +166,44 @@ fn is_cut(
 }
 
 // It is cut at each byte, and a byte follows it.
-#[test]
-fn a_ring_file_has_another_length(rt: HostRuntime) -> Result<(), Fail> {
-    let mut file = bytes_of(rt.alloc(), FILE)?;
-    file.push(0)?;
-    is_malformed(&rt, rt.alloc(), file.as_slice(), 109);
+fn has_another_length(rt: &impl Abort, alloc: Global, file: &mut Vec<u8>) -> Result<(), Fail> {
     for row in &CUTS {
-        is_cut(&rt, rt.alloc(), file.as_slice(), row)?;
+        is_cut(rt, alloc, file.as_slice(), row)?;
     }
+    file.push(0)?;
+    is_malformed(rt, alloc, file.as_slice(), 109);
     Ok(())
 }
 
-// The file with one byte changed.
-fn changed(alloc: Global, place: usize, byte: u8) -> Result<Vec<u8>, Fail> {
-    let mut file = bytes_of(alloc, FILE)?;
+// One byte is changed.
+fn has_another_byte(rt: &impl Abort, alloc: Global, row: &(usize, u8, usize)) -> Result<(), Fail> {
+    let (place, byte, at) = *row;
+    let mut file = hex::decode(alloc, FILE)?;
     if let Some(changed) = file.get_mut(place) {
         *changed = byte;
     }
-    Ok(file)
-}
-
-fn is_of_another_member(rt: &impl Abort, alloc: Global) -> Result<(), Fail> {
-    let file = bytes_of(alloc, FILE)?;
-    let found = ring_of_member(alloc, file.as_slice(), 7).err();
-    assert!(rt; found == Some(RingFileFault::Malformed(4)));
+    is_malformed(rt, alloc, file.as_slice(), at);
     Ok(())
 }
 
-#[test]
-fn a_ring_file_has_other_bytes(rt: HostRuntime) -> Result<(), Fail> {
-    for (place, byte, at) in &MALFORMED {
-        let file = changed(rt.alloc(), *place, *byte)?;
-        is_malformed(&rt, rt.alloc(), file.as_slice(), *at);
+fn is_of_another_member(rt: &impl Abort, alloc: Global, file: &[u8]) {
+    let found = ring_of_member(alloc, file, 7).err();
+    assert!(rt; found == Some(RingFileFault::Malformed(4)));
+}
+
+fn founders_is_malformed(rt: &impl Abort, alloc: Global) -> Result<(), Fail> {
+    let mut file = hex::decode(alloc, FILE)?;
+    is_of_another_member(rt, alloc, file.as_slice());
+    for row in &MALFORMED {
+        has_another_byte(rt, alloc, row)?;
     }
-    is_of_another_member(&rt, rt.alloc())
+    has_another_length(rt, alloc, &mut file)
+}
+
+#[test]
+fn rings_are_read_and_written_and_have_keys(rt: HostRuntime) -> Result<(), Fail> {
+    is_read(&rt, rt.alloc(), FILE, 3)?;
+    is_read(&rt, rt.alloc(), JOINER, 7)?;
+    founder_has_keys(&rt, rt.alloc())?;
+    founders_is_malformed(&rt, rt.alloc())
 }

@@ -46,14 +46,18 @@ const FORBIDDEN: [(usize, u8, usize); 9] = [
 // Bytes that are changed, and allowed.
 const ALLOWED: [(usize, u8); 6] = [(4, 1), (5, 0), (9, 6), (9, 7), (13, 4), (61, 0)];
 
-fn file(alloc: Global) -> Result<Vec<u8>, Fail> {
-    let file = hex::decode(alloc, FILE)?;
-    Ok(file)
-}
+// Bytes that are changed, the member that reads the file, and the place of the field that forbids it: another member's file is
+// malformed at its number, also where a later field is forbidden, and not where an earlier one is.
+const OTHERS: [(usize, u8, u16, usize); 4] = [
+    (5, 3, 2, 4),
+    (5, 3, 4, 4),
+    (9, 8, 4, 4),
+    (0, 0, 4, 0),
+];
 
 // The file with one byte changed.
 fn changed(alloc: Global, place: usize, byte: u8) -> Result<Vec<u8>, Fail> {
-    let mut file = file(alloc)?;
+    let mut file = hex::decode(alloc, FILE)?;
     if let Some(changed) = file.get_mut(place) {
         *changed = byte;
     }
@@ -90,12 +94,10 @@ fn is_read(found: Result<KeyFile, Malformed>) -> bool {
     }
 }
 
-#[test]
-fn a_key_is_written_and_read(rt: HostRuntime) -> Result<(), Fail> {
-    let file = file(rt.alloc())?;
-    assert!(rt; is_written(rt.alloc(), file.as_slice())?);
-    assert!(rt; is_read(read_key_file(file.as_slice())));
-    assert!(rt; is_read(key_of_member(file.as_slice(), 3)));
+fn is_whole(rt: &impl Abort, alloc: Global, file: &[u8]) -> Result<(), Fail> {
+    assert!(rt; is_written(alloc, file)?);
+    assert!(rt; is_read(read_key_file(file)));
+    assert!(rt; is_read(key_of_member(file, 3)));
     Ok(())
 }
 
@@ -109,38 +111,35 @@ fn is_cut(rt: &impl Abort, file: &[u8], row: &(usize, usize, usize)) -> Result<(
 }
 
 // It is cut at each byte, and a byte follows it.
-#[test]
-fn a_key_file_has_another_length(rt: HostRuntime) -> Result<(), Fail> {
-    let mut file = file(rt.alloc())?;
-    file.push(0)?;
-    is_malformed(&rt, file.as_slice(), 62);
+fn has_another_length(rt: &impl Abort, file: &mut Vec<u8>) -> Result<(), Fail> {
     for row in &CUTS {
-        is_cut(&rt, file.as_slice(), row)?;
+        is_cut(rt, file.as_slice(), row)?;
     }
+    file.push(0)?;
+    is_malformed(rt, file.as_slice(), 62);
     Ok(())
 }
 
-// Another member's file is malformed at its number, also where a later field is forbidden, and not where an earlier one is.
-fn is_of_another_member(rt: &impl Abort, alloc: Global) -> Result<(), Fail> {
-    let whole = file(alloc)?;
-    is_not_of(rt, whole.as_slice(), 2, 4);
-    is_not_of(rt, whole.as_slice(), 4, 4);
-    let later = changed(alloc, 9, 8)?;
-    is_not_of(rt, later.as_slice(), 4, 4);
-    let earlier = changed(alloc, 0, 0)?;
-    is_not_of(rt, earlier.as_slice(), 4, 0);
-    Ok(())
-}
-
-#[test]
-fn a_key_file_has_other_bytes(rt: HostRuntime) -> Result<(), Fail> {
+fn has_other_bytes(rt: &impl Abort, alloc: Global) -> Result<(), Fail> {
     for (place, byte, at) in &FORBIDDEN {
-        let file = changed(rt.alloc(), *place, *byte)?;
-        is_malformed(&rt, file.as_slice(), *at);
+        let file = changed(alloc, *place, *byte)?;
+        is_malformed(rt, file.as_slice(), *at);
     }
     for (place, byte) in &ALLOWED {
-        let file = changed(rt.alloc(), *place, *byte)?;
+        let file = changed(alloc, *place, *byte)?;
         assert!(rt; read_key_file(file.as_slice()).is_ok());
     }
-    is_of_another_member(&rt, rt.alloc())
+    for (place, byte, member, at) in &OTHERS {
+        let file = changed(alloc, *place, *byte)?;
+        is_not_of(rt, file.as_slice(), *member, *at);
+    }
+    Ok(())
+}
+
+#[test]
+fn a_key_file_is_written_and_read(rt: HostRuntime) -> Result<(), Fail> {
+    has_other_bytes(&rt, rt.alloc())?;
+    let mut file = hex::decode(rt.alloc(), FILE)?;
+    is_whole(&rt, rt.alloc(), file.as_slice())?;
+    has_another_length(&rt, &mut file)
 }

@@ -2,6 +2,8 @@
 
 ghost use Rattle.sporc_keys.specs.Founding.{CanFound};
 
+use crate::chances::{chance, push_eight};
+use crate::new_keys::a_key_of_two_words;
 use hex::FromHex;
 use lms_ots::OtsType;
 use lms_tree::{LmsPublic, LmsType};
@@ -9,7 +11,7 @@ use sporc_base::is_same;
 use sporc_entry::Genesis;
 use sporc_keys::{DrawFault, Founding, Named, PairKey, RingFile, found};
 use sporc_member::{Founder, Role};
-use sporc_outside::{Calls, ListedChance};
+use sporc_outside::ListedChance;
 use std::alloc::Global;
 use std::process::Abort;
 use std::test::Fail;
@@ -55,14 +57,11 @@ fn named() -> [Named; 3]
     ]
 }
 
-// Eight words of bytes 1 to 8. The listed calls fail.
-fn eight_words(alloc: Global, failing: &[u64]) -> Result<ListedChance, Fail> {
+// Eight words of bytes 1 to 8. This call fails.
+fn eight_words(alloc: Global, failing: u64) -> Result<Box<ListedChance>, Fail> {
     let mut words = Vec::new(alloc);
-    for byte in 1..9 {
-        words.push([byte; 32])?;
-    }
-    let failing = Vec::from_slice(alloc, failing)?;
-    Ok(ListedChance::new(words, Calls::failing(failing)))
+    push_eight(&mut words)?;
+    chance(alloc, words, failing)
 }
 
 fn is_founder(founder: &Founder, member: u16, role: Role, byte: u8) -> bool {
@@ -137,8 +136,8 @@ fn is_the_founding(rt: &impl Abort, founding: &Founding) -> Result<(), Fail> {
 }
 
 fn three_found(rt: &impl Abort, alloc: Global) -> Result<(), Fail> {
-    let mut chance = eight_words(alloc, &[])?;
-    match found(alloc, &mut chance, &named()) {
+    let mut chance = eight_words(alloc, 0)?;
+    match found(alloc, &mut *chance, &named()) {
         Ok(founding) => {
             let outcome = is_the_founding(rt, &founding);
             drop(founding);
@@ -148,18 +147,24 @@ fn three_found(rt: &impl Abort, alloc: Global) -> Result<(), Fail> {
     }
 }
 
-// Why three found nothing, if this call fails.
-fn fault_at(alloc: Global, call: u64) -> Result<Option<DrawFault>, Fail> {
-    let mut chance = eight_words(alloc, &[call])?;
-    Ok(found(alloc, &mut chance, &named()).err())
+// Whether three found nothing, since this call fails.
+fn is_refused(alloc: Global, call: u64) -> Result<bool, Fail> {
+    let mut chance = eight_words(alloc, call)?;
+    let found = found(alloc, &mut *chance, &named()).err();
+    Ok(found == Some(DrawFault::Chance))
 }
 
 // Three found a document, unless a call of the chance fails.
-#[test]
-fn three_found_a_document(rt: HostRuntime) -> Result<(), Fail> {
-    three_found(&rt, rt.alloc())?;
+fn three_found_a_document(rt: &impl Abort, alloc: Global) -> Result<(), Fail> {
+    three_found(rt, alloc)?;
     for call in 1..9 {
-        assert!(rt; fault_at(rt.alloc(), call)? == Some(DrawFault::Chance));
+        assert!(rt; is_refused(alloc, call)?);
     }
     Ok(())
+}
+
+#[test]
+fn keys_and_a_document_are_made_of_words(rt: HostRuntime) -> Result<(), Fail> {
+    a_key_of_two_words(&rt, rt.alloc())?;
+    three_found_a_document(&rt, rt.alloc())
 }

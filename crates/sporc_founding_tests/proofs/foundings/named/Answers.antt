@@ -1,7 +1,7 @@
 use Rattle.std.proofs.Common.{ℕ, ◌<◌, ◌^◌, refl, arith}
 use Rattle.std.specs.List.{IsDistinct}
 use Rattle.sporc_entry.specs.ChangeBody.{IsMember}
-use Rattle.sporc_keys_tests.proofs.foundings.named.Goals as goal
+use Rattle.sporc_founding_tests.proofs.foundings.named.Goals as goal
 
 is_member : (n : ℕ) → 0 < n → n < 2 ^ 16 → IsMember n
 is_member n positive small = record { positive = positive; small = small }

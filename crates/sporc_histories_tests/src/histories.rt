@@ -1,0 +1,41 @@
+//! A history of four entries, and what is done with it once it is saved.
+
+use crate::checks::histories_are_examined;
+use crate::compares::histories_are_compared;
+use crate::loads::histories_are_loaded;
+use crate::serves::logs_are_saved;
+use sporc_samples::{Cast, History, short_history};
+use std::alloc::Global;
+use std::process::Abort;
+use std::sync::Wait;
+use std::test::Fail;
+use std::thread::Threads;
+
+fn is_used<R: Threads + Wait + Sync + Abort>(
+    rt: &R,
+    alloc: Global,
+    cast: &Cast,
+    sample: &History,
+) -> Result<(), Fail> {
+    histories_are_loaded(rt, alloc, cast, sample)?;
+    histories_are_examined(rt, alloc, cast, sample)?;
+    histories_are_compared(rt, alloc, cast, sample)?;
+    logs_are_saved(rt, alloc, cast, sample)
+}
+
+fn short_history_is_used<R: Threads + Wait + Sync + Abort>(
+    rt: &R,
+    alloc: Global,
+    cast: &Cast,
+) -> Result<(), Fail> {
+    let sample = short_history(alloc, cast)?;
+    let outcome = is_used(rt, alloc, cast, &sample);
+    drop(sample);
+    outcome
+}
+
+#[test]
+fn a_history_is_loaded_examined_compared_and_served(rt: HostRuntime) -> Result<(), Fail> {
+    let cast = Cast::new(rt.alloc())?;
+    short_history_is_used(&rt, rt.alloc(), &cast)
+}
