@@ -1,6 +1,6 @@
 // Disks in memory.
 
-ghost use Rattle.std.specs.Prelude.{◌≡◌, ℕ, List, take, drop, ◌+◌, ◌≤◌, [], Some, length, IfOk, OnOk, OnErr};
+ghost use Rattle.std.specs.Prelude.{◌≡◌, ℕ, List, take, drop, ◌+◌, ◌≤◌, [], Some, length, IfOk, OnOk};
 ghost use Rattle.sporc_outside.specs.CallsModel.{CountsCall};
 ghost use Rattle.sporc_outside.specs.LeafDisk.{overwrite, IsSame, IsSameOutside, KeepsOutside, CrashStep};
 ghost use Rattle.sporc_outside.specs.Counts.{CountsFaults, Rose, next_count};

@@ -1,4 +1,4 @@
-use Rattle.std.proofs.Common.{◌≡◌, ap, sym, ◌∙◌}
+use Rattle.std.proofs.Common.{ap, ◌∙◌}
 use Rattle.sporc_outside.specs.MemoryDisk.{MemoryDiskModel, state_after}
 use Rattle.sporc_outside.proofs.DiskImages.{same_bytes, same_images}
 use Rattle.sporc_outside.proofs.memory_disk.MemoryDisk.enter.Goals as goal
