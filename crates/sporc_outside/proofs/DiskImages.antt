@@ -215,3 +215,21 @@ others_write old first log new calls at bytes kept is same more fits =
       state_after-more first log (record { request = Write at bytes; done = true }),
     )
     (overwrite_outside (state_after first log).bytes at bytes here)) fits
+
+-- what a read gives after a write that succeeded, and after one that failed
+pub bytes_written : (first : List ℕ) (log new : List DiskCall) (at : ℕ) (bytes kept : List ℕ) → kept ≡ bytes
+    → new ≡ log ++ record { request = Write at kept; done = true } ∷ [] → (state_after first new).bytes ≡ overwrite (state_after first log).bytes at bytes
+bytes_written first log new at bytes kept same more =
+    ap (λ (l : List DiskCall). (state_after first l).bytes) more
+    ∙ ap (λ (s : DiskState). s.bytes) (state_after-more first log (record { request = Write at kept; done = true }))
+    ∙ ap (overwrite (state_after first log).bytes at) same
+
+pub bytes_unwritten : (first : List ℕ) (log new : List DiskCall) (at : ℕ) (kept : List ℕ)
+    → (new ≡ log ++ record { request = Write at kept; done = false } ∷ []) ⊎ (new ≡ log) → (state_after first new).bytes ≡ (state_after first log).bytes
+bytes_unwritten first log new at kept (inl more) =
+    ap (λ (l : List DiskCall). (state_after first l).bytes) more
+    ∙ ap (λ (s : DiskState). s.bytes) (state_after-more first log (record { request = Write at kept; done = false }))
+bytes_unwritten first log new at kept (inr same) = ap (λ (l : List DiskCall). (state_after first l).bytes) same
+
+pub others_unwritten : (at n : ℕ) (old new : List ℕ) → new ≡ old → IsSameOutside at n old new
+others_unwritten at n old new same = rw same (same_outside at n old)

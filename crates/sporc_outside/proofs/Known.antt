@@ -25,7 +25,7 @@ pub front_fits : (bytes : List ℕ) (i n : ℕ) → i ≤ length bytes → n ≤
 front_fits bytes i n within h = omega (arith, length-take (length bytes - i) (drop i bytes))
 
 -- what is left from a place on
-left-is : (bytes : List ℕ) (at : ℕ) → take (length bytes - at) (drop at bytes) ≡ drop at bytes
+pub left-is : (bytes : List ℕ) (at : ℕ) → take (length bytes - at) (drop at bytes) ≡ drop at bytes
 left-is bytes at = take_all (length bytes - at) (drop at bytes) (omega (arith, length-drop at bytes))
 
 -- the bytes that a read moved to the front of a buffer, and those that it left

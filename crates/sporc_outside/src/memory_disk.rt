@@ -155,8 +155,7 @@ impl LeafDisk for MemoryDisk {
             bytes: DiskBytes::new(kept),
         };
         log_call(&mut self.calls, &mut self.log, request)?;
-        let at = at as usize;
-        self.bytes[at..at + bytes.len()].copy_from_slice(bytes);
+        write_over(&mut self.bytes, at as usize, bytes);
         Ok(())
     }
 
@@ -171,6 +170,14 @@ impl LeafDisk for MemoryDisk {
     {
         self.enter(DiskRequest::Sync)
     }
+}
+
+// Writes these bytes over those from a place on.
+fn write_over(old: &mut Vec<u8>, at: usize, bytes: &[u8])
+    requires { at + length bytes.now ≤ length old.old.items }
+    ensures { old.new.items ≡ overwrite old.old.items at bytes.now }
+{
+    old[at..at + bytes.len()].copy_from_slice(bytes);
 }
 
 // Counts a call, and puts it at the end of the log.

@@ -82,9 +82,9 @@ impl MemoryNet {
         ensures count { CountsFaults self.old.calls.faults self.new.calls.faults result }
     {
         let room = self.out.saturating_add(1);
-        if self.returned.reserve(room).is_err() {
+        let Ok(()) = self.returned.reserve(room) else {
             return Err(self.calls.fail());
-        }
+        };
         match self.coming.pop() {
             Some(link) => {
                 self.out = room;
@@ -130,8 +130,7 @@ impl Links for MemoryNet {
 impl Dial for MemoryNet {
     fn connect<R: Wait>(&mut self, _rt: &R, address: &str) -> Result<MemoryLink, Failed> {
         ask(self.alloc, &mut self.calls, &mut self.asked, address)?;
-        let link = self.hand_out()?;
-        Ok(link)
+        self.hand_out()
     }
 }
 
@@ -142,7 +141,6 @@ impl Listen for MemoryNet {
 
     fn accept<R: Wait>(&mut self, _rt: &R) -> Result<MemoryLink, Failed> {
         self.calls.begin()?;
-        let link = self.hand_out()?;
-        Ok(link)
+        self.hand_out()
     }
 }

@@ -1,4 +1,4 @@
-use Rattle.std.proofs.Common.{ap, ◌∙◌}
+use Rattle.std.proofs.Common.{ap, sym, ◌∙◌}
 use Rattle.sporc_outside.specs.MemoryDisk.{MemoryDiskModel, state_after}
 use Rattle.sporc_outside.proofs.DiskImages.{same_bytes, same_images}
 use Rattle.sporc_outside.proofs.memory_disk.MemoryDisk.enter.Goals as goal
@@ -10,3 +10,8 @@ returns-clause-bytes c =
 
 pub returns-clause-images : goal.returns-clause-images
 returns-clause-images c = same_images c.args.self.now _ _ _ _ c.args.request c.log_call.result c.self.view_is c.requires c.log_call.ensures.logged
+
+pub invariant_of-self : goal.invariant_of-self
+invariant_of-self c =
+    c.self.invariant
+    ∙ sym (same_bytes c.self.inside.first.items c.self.inside.log.items c.log_call.new.log.items c.args.request c.log_call.result c.requires c.log_call.ensures.logged)
