@@ -1,16 +1,19 @@
 -- The bytes of parts.
-use Rattle.std.proofs.Common.{◌≡◌, ℕ, suc, ◌<◌, ◌+◌, ◌*◌, ◌≤◌, List, [], ◌∷◌, ◌++◌, length, ap, sym, ◌∙◌, arith, drop, get_or}
-use Rattle.std.proofs.lemmas.List.{length-append}
+use Rattle.std.proofs.Common.{◌≡◌, ℕ, suc, ◌<◌, ◌+◌, ◌*◌, ◌≤◌, List, [], ◌∷◌, ◌++◌, length, ap, sym, subst, ◌∙◌, arith, take, drop, get_or, add-one, append_assoc}
+use Rattle.std.proofs.lemmas.List.{length-append, append-nil, take_all, drop_all, take_more}
 use Rattle.std.proofs.Math.Seq.{drop-cons}
 use Rattle.std.specs.Char.{encode_utf8}
 use Rattle.std.proofs.lemmas.Str.{length-encode, len_utf8_bounds}
 use Rattle.std.specs.Int.{w64, to_be_bytes}
 use Rattle.std.specs.Str.{encode_utf8_all}
+use Rattle.std.specs.List.{AllByRecursion}
+use Rattle.sporc_base.proofs.ListLemmas.{all_append}
 use Rattle.sporc_delta.specs.declared.part.Part.{Part}
 use Rattle.sporc_delta.specs.declared.part.Part.TheVariants.{Keep, Insert as InsertText, Remove}
 use Rattle.sporc_delta.specs.Marks.{out_len}
 use Rattle.sporc_delta.specs.Parts.{part_marks, marks_of}
 use Rattle.sporc_delta.specs.Format.{part_bytes, parts_bytes}
+use Rattle.sporc_delta.specs.Typed.{IsTypedPart}
 use Rattle.sporc_delta.proofs.Lengths.{out_len-append, out_len-inserts}
 
 -- a character has at most four bytes
@@ -33,8 +36,29 @@ pub length-parts_bytes : (ps : List Part) → length (parts_bytes ps) ≤ 9 * le
 length-parts_bytes [] = omega arith
 length-parts_bytes (p ∷ ps) = omega (arith, length-part_bytes p, length-parts_bytes ps, length-append (part_bytes p) (parts_bytes ps), out_len-append (part_marks p) (marks_of ps))
 
+first_of_rest : (ps : List Part) (i : ℕ) (p : Part) → i < length ps → p ≡ get_or ps i p → parts_bytes (drop i ps) ≡ part_bytes p ++ parts_bytes (drop (suc i) ps)
+first_of_rest ps i p within is = ap parts_bytes (drop-cons ps i p within) ∙ ap (λ q. part_bytes q ++ parts_bytes (drop (suc i) ps)) (sym is)
+
 -- the bytes of one part are among those of it and the parts behind it
 pub part_within : (ps : List Part) (i : ℕ) (p : Part) → i < length ps → p ≡ get_or ps i p → length (part_bytes p) ≤ length (parts_bytes (drop i ps))
 part_within ps i p within is =
-    let here : parts_bytes (drop i ps) ≡ part_bytes p ++ parts_bytes (drop (suc i) ps) = ap parts_bytes (drop-cons ps i p within) ∙ ap (λ q. part_bytes q ++ parts_bytes (drop (suc i) ps)) (sym is) in
-    omega (arith, ap length here, length-append (part_bytes p) (parts_bytes (drop (suc i) ps)))
+    omega (arith, ap length (first_of_rest ps i p within is), length-append (part_bytes p) (parts_bytes (drop (suc i) ps)))
+
+-- one part more was written, and then all of them
+pub written_more : (ps : List Part) (i : ℕ) (p : Part) (old new : List ℕ) → i < length ps → p ≡ get_or ps i p → new ≡ old ++ part_bytes p
+    → old ++ parts_bytes (drop i ps) ≡ parts_bytes ps → new ++ parts_bytes (drop (i + 1) ps) ≡ parts_bytes ps
+written_more ps i p old new within is more before =
+    rw (more, add-one) (append_assoc old (part_bytes p) (parts_bytes (drop (suc i) ps)) ∙ ap (λ (t : List ℕ). old ++ t) (sym (first_of_rest ps i p within is)) ∙ before)
+
+pub written_all : (ps : List Part) (i : ℕ) (bytes : List ℕ) → length ps ≤ i → bytes ++ parts_bytes (drop i ps) ≡ parts_bytes ps → bytes ≡ parts_bytes ps
+written_all ps i bytes end before =
+    sym (append-nil bytes) ∙ ap (λ (rest : List Part). bytes ++ parts_bytes rest) (sym (drop_all i ps end)) ∙ before
+
+-- the same of what the parts are
+pub typed_more : (ps : List Part) (i : ℕ) (p : Part) → i < length ps → p ≡ get_or ps i p → IsTypedPart p → AllByRecursion IsTypedPart (take i ps)
+    → AllByRecursion IsTypedPart (take (i + 1) ps)
+typed_more ps i p within is typed before =
+    rw (take_more ps i p within) (all_append IsTypedPart (take i ps) (get_or ps i p ∷ []) before (subst (λ (q : Part). IsTypedPart q) is typed, tt))
+
+pub typed_all : (ps : List Part) (i : ℕ) → length ps ≤ i → AllByRecursion IsTypedPart (take i ps) → AllByRecursion IsTypedPart ps
+typed_all ps i end typed = subst (λ (qs : List Part). AllByRecursion IsTypedPart qs) (take_all i ps end) typed
