@@ -13,6 +13,8 @@ use Rattle.tokio_util.specs.declared.codec.length_delimited.DecodeState.TheVaria
 use Rattle.tokio_util.specs.Codec.Next.{Decodes, Resumes, at_end}
 use Rattle.tokio_util.specs.Codec.LengthDelimited.{layout, codec_layout, with_state, Cut, frame, too_big, overflows, unfinished, cut_in, cut, Answers, AnswersLast, AnswersAtEnd, IsSettled, gives_frames}
 use Rattle.sporc_base.specs.Bytes.{IsBytes}
+use Rattle.sporc_wire.specs.declared.cutter.CutFault.{CutFault}
+use Rattle.sporc_wire.specs.declared.cutter.CutFault.TheVariants.{Memory, TooLong}
 use Rattle.sporc_wire.specs.declared.cutter.TheConstants.{MAX_BODY}
 use Rattle.sporc_wire.specs.Stream.{first_frame, partial, too_long, whole}
 use Rattle.sporc_wire.specs.Stream as stream
@@ -150,3 +152,10 @@ says_front c t xs ys None h = h.2
 -- and of the code's results
 pub says_err : (c t : LengthDelimitedCodec) (xs ys : List ℕ) (e : Error) → IsBytes xs → IsBytes ys → IsOurs c → Answers c xs (cut c xs) (Err e) t ys → Fails c xs e t ys
 says_err c t xs ys e fits fits' ours d = err_of c t xs ys e (cut c xs) fits' ours (cut_is c xs fits ours) d
+
+-- the length that a fault tells
+pub same_length : {T : Type 0} (m n : ℕ) → ◌≡◌ {A = Result T CutFault} (Err (TooLong m)) (Err (TooLong n)) → m ≡ n
+same_length m n e = cc
+
+pub no_length : {T : Type 0} (n : ℕ) → ◌≡◌ {A = Result T CutFault} (Err Memory) (Err (TooLong n)) → ⊥
+no_length n e = absurd cc

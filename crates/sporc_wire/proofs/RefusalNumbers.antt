@@ -26,6 +26,12 @@ pub record HasNumbers (refusal : Refusal) (m n : ℕ) : Type 0 where
   pub detail : refusal_detail_of refusal ≡ n
   pub kind : refusal ≢ Memory
 
+same_refusal : (x r : Refusal) → Some x ≡ Some r → x ≡ r
+same_refusal x r e = cc
+
+no_refusal : (r : Refusal) → ◌≡◌ {A = Option Refusal} None (Some r) → ⊥
+no_refusal r e = absurd cc
+
 no_detail : (r : Refusal) → (refusal_code_of r ≡ 1 → ⊥) → (refusal_code_of r ≡ 18 → ⊥) → refusal_detail_of r ≡ 0
 no_detail (Malformed at) a b = absurd (a refl)
 no_detail (BadChange fault) a b = absurd (b refl)
@@ -46,7 +52,7 @@ refusal_takes code detail r positive e = go (eqb code 1) (eqb code 18) (eqb deta
         → cond a (Some (Malformed detail)) (cond b (bad_change (change_fault_with_code detail)) (cond c (find (λ r. refusal_code_of r == code) plain_refusals) None)) ≡ Some r
         → HasNumbers r code detail
     go true b c p q s e =
-        let is : Malformed detail ≡ r = cc in
+        let is = same_refusal (Malformed detail) r e in
         let P : Refusal → Type 0 = λ x. HasNumbers x code detail in
         subst P is (record { code = sym (eqb-true code 1 p); detail = refl; kind = not_memory (Malformed detail) code (sym (eqb-true code 1 p)) positive })
     go false true c p q s e =
@@ -61,7 +67,7 @@ refusal_takes code detail r positive e = go (eqb code 1) (eqb code 18) (eqb deta
           detail = no_detail r (λ k. eqb-false code 1 p (sym found ∙ k)) (λ k. eqb-false code 18 q (sym found ∙ k)) ∙ sym (eqb-true detail 0 s);
           kind = not_memory r code found positive;
         }
-    go false false false p q s e = absurd cc
+    go false false false p q s e = absurd (no_refusal r e)
 
 bad_change_again : (fault : ChangeFault) → change_fault_with_code (change_fault_code_of fault) ≡ Some fault
 bad_change_again NumberUsed = refl

@@ -1,7 +1,7 @@
-use Rattle.std.proofs.Common.{◌≡◌, Ok, Err, sym, ap, ◌∙◌}
+use Rattle.std.proofs.Common.{◌≡◌, Ok, sym, ap, ◌∙◌}
 use Rattle.sporc_wire.specs.Stream.{too_long}
 use Rattle.sporc_wire.proofs.Cuts.{head_of}
-use Rattle.sporc_wire.proofs.Decoding.{Says, says, says_ours, says_fits, says_same, says_front, says_err}
+use Rattle.sporc_wire.proofs.Decoding.{Says, says, says_ours, says_fits, says_same, says_front, says_err, same_length, no_length}
 use Rattle.sporc_wire.proofs.cutter.take_body.Goals as goal
 
 ok : (c : goal.In-Ok) → Says c.args.codec.now c.args.buffer.now.items (Ok c.in-Ok.found) c.decode-found.new.self c.decode-found.new.src.items
@@ -34,10 +34,10 @@ returns-in-InvalidData c =
       unread = fails.same;
       same = tt;
       ok = tt;
-      too_long = λ n e. fails.cause (sym c.kind.ensures ∙ c.in-InvalidData.is) ∙ ap too_long (sym len ∙ cc);
+      too_long = λ n e. fails.cause (sym c.kind.ensures ∙ c.in-InvalidData.is) ∙ ap too_long (sym len ∙ same_length c.length_of.result n e);
     }
 
 pub returns-in_default : goal.returns-in_default
 returns-in_default c =
     let fails = says_err _ _ _ _ _ c.bytes_of-before.ensures.fits c.bytes_of-after.ensures.fits c.requires c.in-Err.ensures.next in
-    record { ours = fails.ours; fits = tt; unread = fails.same; same = tt; ok = tt; too_long = λ n e. absurd cc }
+    record { ours = fails.ours; fits = tt; unread = fails.same; same = tt; ok = tt; too_long = λ n e. absurd (no_length n e) }

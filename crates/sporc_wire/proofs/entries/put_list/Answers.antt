@@ -2,6 +2,7 @@ use Rattle.std.proofs.Common.{length, arith, ap, length-append}
 use Rattle.std.proofs.lemmas.List.Folds.{length-flat_map-take}
 use Rattle.std.specs.Int.{w32, to_be_bytes}
 use Rattle.sporc_bytes.specs.Fields.{counted}
+use Rattle.sporc_wire.proofs.EntryFrames.{put_more, put_all}
 use Rattle.sporc_wire.proofs.entries.put_list.Goals as goal
 
 pub put_counted-requires : goal.put_counted-requires
@@ -12,3 +13,12 @@ put_counted-requires g c =
     let same = ap (λ e. length (counted (bytes e))) c.entry-item.is in
     let parts = length-append (to_be_bytes w32 (length (bytes entry))) (bytes entry) in
     omega (arith, one, same, parts, ap length c.as_bytes.ensures, c.requires)
+
+pub loop-entry-preserved : goal.loop-entry-preserved
+loop-entry-preserved g c =
+    put_more g.T.EntryBytes.bytes c.args.entries.now c.loop-entry.entry-index c.entry-item.result c.as_bytes.result.now c.args.frame.now.items
+    c.loop-entry.frame.items c.put_counted.new.frame.items c.loop-entry-test.true c.entry-item.is c.as_bytes.ensures c.loop-entry.invariant c.in_ok-put_counted.ensures
+
+pub returns : goal.returns
+returns g c =
+    put_all g.T.EntryBytes.bytes c.args.entries.now c.loop-entry.entry-index c.args.frame.now.items c.loop-entry.frame.items c.loop-entry-test.false c.loop-entry.invariant
