@@ -1,6 +1,6 @@
 -- Keys that are drawn one word after another.
-use Rattle.std.proofs.Common.{◌≡◌, ℕ, suc, ◌+◌, ◌-◌, ◌<◌, ◌≤◌, List, [], ◌∷◌, ◌++◌, length, get_or, take, drop, Option, Some, None, refl, sym, ap, subst, ◌∙◌, append_assoc, add-one, arith, drop-cons, map}
-use Rattle.std.proofs.lemmas.List.{append-nil, drop_all, length-append, length-drop, length-map, length-take, map-append, take_all}
+use Rattle.std.proofs.Common.{◌≡◌, ℕ, suc, ◌+◌, ◌-◌, ◌<◌, ◌≤◌, List, [], ◌∷◌, ◌++◌, length, get_or, take, drop, Option, Some, None, Result, Ok, Err, refl, sym, ap, subst, ◌∙◌, append_assoc, add-one, arith, drop-cons, map}
+use Rattle.std.proofs.lemmas.List.{append-nil, drop_all, length-append, length-drop, length-map, length-take, map-append, map_more, take_all}
 use Rattle.sporc_base.proofs.ListLemmas.{all_append}
 use Rattle.sporc_outside.specs.Told.{AppendsItem}
 use Rattle.sporc_keys.specs.declared.pair.SharedKey.{SharedKey}
@@ -21,6 +21,10 @@ grows_one : (a b : Option (List (List ℕ))) (word : List ℕ) → AppendsItem a
 grows_one None b word p = tt
 grows_one (Some given) None word p = p
 grows_one (Some given) (Some more) word p = p
+
+-- what was made shows no fault
+pub made_not_failed : {A E P : Type 0} {x : A} {e : E} → ◌≡◌ {A = Result A E} (Ok x) (Err e) → P
+made_not_failed is = absurd cc
 
 pub draws_nothing : (a : Option (List (List ℕ))) → DrawsWords a a []
 draws_nothing a = record { sized = tt; told = grows_nothing a }
@@ -72,6 +76,24 @@ pub row_up_to : (n : ℕ) (a b c : Option (List (List ℕ))) (first : ℕ) (numb
     → SharesMore a b (row first (take i numbers)) old new → DrawsWordsUpTo n b c → DrawsWordsUpTo (length numbers) a c
 row_up_to n a b c first numbers i old new few drawn more =
     shares_up_to n (length numbers) a b c (row first (take i numbers)) old new (omega (arith, few, length_row first (take i numbers), length-take i numbers)) drawn more
+
+-- one more of a row, and then the whole row
+pub row_more : (a b c : Option (List (List ℕ))) (first : ℕ) (numbers : List ℕ) (i : ℕ) (key : List ℕ) (old mid new : List SharedKey) → i < length numbers
+    → length key ≡ 32 → AppendsItem b c key → new ≡ mid ++ record { first = first; second = get_or numbers i 0; key = key } ∷ []
+    → SharesMore a b (row first (take i numbers)) old mid → SharesMore a c (row first (take (i + 1) numbers)) old new
+unfolding row
+row_more a b c first numbers i key old mid new within len told more before =
+    let one : SharedKey = record { first = first; second = get_or numbers i 0; key = key } in
+    let pair : ℕ → ℕ × ℕ = λ m. (first, m) in
+    let P : List (ℕ × ℕ) → Type 0 = λ pairs. SharesMore a c pairs old new in
+    subst P (sym (map_more pair numbers i 0 within))
+    (shares_then a b c (map pair (take i numbers)) (pair (get_or numbers i 0) ∷ []) old mid new before (one ∷ [], more, refl, draws_one b c key len told))
+
+pub row_whole : (a b : Option (List (List ℕ))) (first : ℕ) (numbers : List ℕ) (i : ℕ) (old new : List SharedKey) → length numbers ≤ i
+    → SharesMore a b (row first (take i numbers)) old new → SharesMore a b (row first numbers) old new
+row_whole a b first numbers i old new end drawn =
+    let P : List ℕ → Type 0 = λ ns. SharesMore a b (row first ns) old new in
+    subst P (take_all i numbers end) drawn
 
 -- the pairs of the rows so far, and those of the numbers that are left
 pub record Rows (a b : Option (List (List ℕ))) (numbers : List ℕ) (i : ℕ) (new : List SharedKey) : Type 0 where

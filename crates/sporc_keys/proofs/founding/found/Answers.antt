@@ -1,9 +1,9 @@
-use Rattle.std.proofs.Common.{◌≡◌, ℕ, List, [], ◌∷◌, length, map, take, ap, ap₂, ◌∙◌, arith, rules}
+use Rattle.std.proofs.Common.{◌≡◌, ℕ, List, [], ◌∷◌, length, map, take, ap, ap₂, ◌∙◌, arith}
 use Rattle.std.proofs.lemmas.Result.{err_from_is_err_and}
 use Rattle.sporc_keys.specs.declared.named.Named.{Named}
 use Rattle.sporc_keys.specs.declared.pair.SharedKey.{SharedKey}
 use Rattle.sporc_keys.specs.Founding.{genesis_of, in_order, numbers_of, pairs_of, ring_of, words_for}
-use Rattle.sporc_keys.proofs.Drawing.{draws_nothing, draws_one, draws_two, up_to_then}
+use Rattle.sporc_keys.proofs.Drawing.{draws_nothing, draws_one, draws_two, made_not_failed, up_to_then}
 use Rattle.sporc_keys.proofs.Foundings.{AreInOrder, Words, all_drawn, are_in_order, are_ring_files, is_founding, is_genesis, words_are}
 use Rattle.sporc_keys.proofs.founding.found.Goals as goal
 
@@ -16,8 +16,8 @@ returns g c =
     let ordered : AreInOrder all = are_in_order c.args.named.now c.requires.named in
     let named : c.in_ok-named.named.items ≡ all = c.in_ok-named.ensures in
     let numbers : c.as_slice-2.result.now ≡ numbers_of all = c.as_slice-2.ensures.value ∙ c.in_ok-numbers.ensures ∙ ap numbers_of (c.as_slice.ensures.value ∙ named) in
-    let len_first : length c.in_ok-first.first ≡ 32 = search rules in
-    let len_key : length c.in_ok-key.key ≡ 32 = search rules in
+    let len_first : length c.in_ok-first.first ≡ 32 = omega arith in
+    let len_key : length c.in_ok-key.key ≡ 32 = omega arith in
     let words : Words (g.C.Chance.given c.args.chance.now) (g.C.Chance.given c.draw_pairs.new.chance) all first key shared =
     words_are (g.C.Chance.given c.args.chance.now) (g.C.Chance.given c.fill32.new.self) (g.C.Chance.given c.fill32-2.new.self) (g.C.Chance.given c.draw_pairs.new.chance) all c.as_slice-2.result.now first key shared numbers len_first len_key c.in_ok-first.ensures.ok c.in_ok-key.ensures.ok c.in_ok-shared.ensures.ok in
     let genesis : c.in_ok-genesis.genesis ≡ genesis_of (take 16 first) key all =
@@ -28,9 +28,9 @@ returns g c =
       ok = is_founding (g.C.Chance.given c.args.chance.now) (g.C.Chance.given c.draw_pairs.new.chance) all first key shared (record { genesis = c.in_ok-genesis.genesis; rings = c.new.result }) words genesis rings;
       genesis = is_genesis all first key c.in_ok-genesis.genesis len_first ordered genesis c.in_ok-genesis.ensures.keys;
       rings = are_ring_files (g.C.Chance.given c.args.chance.now) (g.C.Chance.given c.draw_pairs.new.chance) all first key shared c.new.result words ordered rings;
-      chance = search rules;
+      chance = λ e. made_not_failed e;
       drawn = tt;
-      kept = search rules;
+      kept = omega (arith, c.in_ok-first.ensures.count.kept, c.in_ok-key.ensures.count.kept, c.in_ok-shared.ensures.kept);
     }
 
 pub returns-in_err-named-clause-drawn : goal.returns-in_err-named-clause-drawn
@@ -50,7 +50,7 @@ returns-in_err-first-clause-drawn g c =
 
 pub returns-in_err-key-clause-drawn : goal.returns-in_err-key-clause-drawn
 returns-in_err-key-clause-drawn g c =
-    let len_first : length c.in_ok-first.first ≡ 32 = search rules in
+    let len_first : length c.in_ok-first.first ≡ 32 = omega arith in
     let p = err_from_is_err_and c.from_residual-in_err-key.result c.from_residual-in_err-key.ensures.1 in
     rw (p.1, c.in_err-key.ensures.err)
     (c.in_ok-first.first ∷ [], omega arith, draws_one (g.C.Chance.given c.args.chance.now) (g.C.Chance.given c.fill32.new.self) c.in_ok-first.first len_first c.in_ok-first.ensures.ok)
@@ -59,8 +59,8 @@ pub returns-in_err-shared-clause-drawn : goal.returns-in_err-shared-clause-drawn
 returns-in_err-shared-clause-drawn g c =
     let all : List Named = in_order c.args.named.now in
     let numbers : c.as_slice-2.result.now ≡ numbers_of all = c.as_slice-2.ensures.value ∙ c.in_ok-numbers.ensures ∙ ap numbers_of (c.as_slice.ensures.value ∙ c.in_ok-named.ensures) in
-    let len_first : length c.in_ok-first.first ≡ 32 = search rules in
-    let len_key : length c.in_ok-key.key ≡ 32 = search rules in
+    let len_first : length c.in_ok-first.first ≡ 32 = omega arith in
+    let len_key : length c.in_ok-key.key ≡ 32 = omega arith in
     let p = err_from_is_err_and c.from_residual-in_err-shared.result c.from_residual-in_err-shared.ensures.1 in
     rw p.1 (up_to_then (length (pairs_of c.as_slice-2.result.now)) (words_for all) (g.C.Chance.given c.args.chance.now) (g.C.Chance.given c.fill32-2.new.self) (g.C.Chance.given c.draw_pairs.new.chance)
     (c.in_ok-first.first ∷ c.in_ok-key.key ∷ []) (omega (arith, ap (λ (ns : List ℕ). length (pairs_of ns)) numbers))
@@ -71,8 +71,8 @@ pub returns-in_err-genesis-clause-drawn : goal.returns-in_err-genesis-clause-dra
 returns-in_err-genesis-clause-drawn g c =
     let all : List Named = in_order c.args.named.now in
     let numbers : c.as_slice-2.result.now ≡ numbers_of all = c.as_slice-2.ensures.value ∙ c.in_ok-numbers.ensures ∙ ap numbers_of (c.as_slice.ensures.value ∙ c.in_ok-named.ensures) in
-    let len_first : length c.in_ok-first.first ≡ 32 = search rules in
-    let len_key : length c.in_ok-key.key ≡ 32 = search rules in
+    let len_first : length c.in_ok-first.first ≡ 32 = omega arith in
+    let len_key : length c.in_ok-key.key ≡ 32 = omega arith in
     let p = err_from_is_err_and c.from_residual-in_err-genesis.result c.from_residual-in_err-genesis.ensures.1 in
     rw p.1 (all_drawn (g.C.Chance.given c.args.chance.now) (g.C.Chance.given c.fill32.new.self) (g.C.Chance.given c.fill32-2.new.self) (g.C.Chance.given c.draw_pairs.new.chance) all c.as_slice-2.result.now
     c.in_ok-first.first c.in_ok-key.key c.in_ok-shared.shared.items numbers len_first len_key c.in_ok-first.ensures.ok c.in_ok-key.ensures.ok c.in_ok-shared.ensures.ok)
@@ -81,8 +81,8 @@ pub returns-in_err-rings-clause-drawn : goal.returns-in_err-rings-clause-drawn
 returns-in_err-rings-clause-drawn g c =
     let all : List Named = in_order c.args.named.now in
     let numbers : c.as_slice-2.result.now ≡ numbers_of all = c.as_slice-2.ensures.value ∙ c.in_ok-numbers.ensures ∙ ap numbers_of (c.as_slice.ensures.value ∙ c.in_ok-named.ensures) in
-    let len_first : length c.in_ok-first.first ≡ 32 = search rules in
-    let len_key : length c.in_ok-key.key ≡ 32 = search rules in
+    let len_first : length c.in_ok-first.first ≡ 32 = omega arith in
+    let len_key : length c.in_ok-key.key ≡ 32 = omega arith in
     let p = err_from_is_err_and c.from_residual-in_err-rings.result c.from_residual-in_err-rings.ensures.1 in
     rw p.1 (all_drawn (g.C.Chance.given c.args.chance.now) (g.C.Chance.given c.fill32.new.self) (g.C.Chance.given c.fill32-2.new.self) (g.C.Chance.given c.draw_pairs.new.chance) all c.as_slice-2.result.now
     c.in_ok-first.first c.in_ok-key.key c.in_ok-shared.shared.items numbers len_first len_key c.in_ok-first.ensures.ok c.in_ok-key.ensures.ok c.in_ok-shared.ensures.ok)
