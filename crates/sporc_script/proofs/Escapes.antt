@@ -1,7 +1,7 @@
 -- Escapes, read byte by byte, and the two laws of reading and writing them.
-use Rattle.std.proofs.Common.{◌≡◌, ℕ, ◌+◌, ◌<◌, Bool, true, false, List, [], ◌∷◌, ◌++◌, length, drop, get_or, flat_map, Option, Some, None, option_map, refl, sym, ap, ◌∙◌, subst, inl, inr, add-one, drop-cons, append_assoc}
+use Rattle.std.proofs.Common.{◌≡◌, ℕ, ◌+◌, ◌<◌, ◌≤◌, Bool, true, false, List, [], ◌∷◌, ◌++◌, length, drop, get_or, flat_map, Option, Some, None, option_map, refl, sym, ap, ◌∙◌, subst, inl, inr, add-one, drop-cons, append_assoc}
 use Rattle.std.proofs.lemmas.Bool.Decides.{eqb_tells}
-use Rattle.std.proofs.lemmas.List.{append_cancel_right}
+use Rattle.std.proofs.lemmas.List.{append-nil, append_cancel_right, drop_all}
 use Rattle.sporc_script.specs.declared.quoted.Step.{Step}
 use Rattle.sporc_script.specs.declared.quoted.Step.TheVariants.{Refused, Backslash, Byte}
 use Rattle.sporc_script.specs.Unescape.{step_of, resume, unescape}
@@ -32,6 +32,23 @@ pub after_byte : (xs text : List ℕ) (e : Bool) (i b : ℕ) → i < length xs �
     → step_of e (get_or xs i 0) ≡ Byte b → unescape false xs ≡ option_map (λ t. (text ++ b ∷ []) ++ t) (unescape false (drop (i + 1) xs))
 after_byte xs text e i b low so_far is =
     so_far ∙ ap (option_map (λ t. text ++ t)) (rw is at (unescape-drop e xs i low)) ∙ joined text b (unescape false (drop (i + 1) xs))
+
+pub refused_here : (xs text : List ℕ) (e : Bool) (i : ℕ) → i < length xs → unescape false xs ≡ option_map (λ t. text ++ t) (unescape e (drop i xs))
+    → step_of e (get_or xs i 0) ≡ Refused → unescape false xs ≡ None
+refused_here xs text e i low so_far is = so_far ∙ ap (option_map (λ t. text ++ t)) (rw is at (unescape-drop e xs i low))
+
+-- at the end a backslash may be left alone
+at_end : (xs text : List ℕ) (e : Bool) (i : ℕ) → length xs ≤ i → unescape false xs ≡ option_map (λ t. text ++ t) (unescape e (drop i xs))
+    → unescape false xs ≡ option_map (λ t. text ++ t) (unescape e [])
+at_end xs text e i end so_far = so_far ∙ ap (λ (ys : List ℕ). option_map (λ t. text ++ t) (unescape e ys)) (drop_all i xs end)
+
+pub cut_short : (xs text : List ℕ) (e : Bool) (i : ℕ) → length xs ≤ i → unescape false xs ≡ option_map (λ t. text ++ t) (unescape e (drop i xs))
+    → e ≡ true → unescape false xs ≡ None
+cut_short xs text e i end so_far is = rw is at (at_end xs text e i end so_far)
+
+pub read_whole : (xs text : List ℕ) (e : Bool) (i : ℕ) → length xs ≤ i → unescape false xs ≡ option_map (λ t. text ++ t) (unescape e (drop i xs))
+    → e ≡ false → unescape false xs ≡ Some text
+read_whole xs text e i end so_far is = rw is at (at_end xs text e i end so_far) ∙ ap Some (append-nil text)
 
 -- the backslash that stands before
 abbrev pub before : Bool → List ℕ
