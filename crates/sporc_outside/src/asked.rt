@@ -24,8 +24,8 @@ pub(crate) fn ask(
     let Ok(name) = Vec::from_slice(alloc, name.as_bytes()) else {
         return Err(calls.fail());
     };
-    match asked.push(DiskBytes::new(name)) {
-        Ok(()) => Ok(()),
-        Err(_) => Err(calls.fail()),
-    }
+    let Ok(()) = asked.push(DiskBytes::new(name)) else {
+        return Err(calls.fail());
+    };
+    Ok(())
 }

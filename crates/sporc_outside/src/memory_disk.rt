@@ -188,10 +188,10 @@ fn log_call(calls: &mut Calls, log: &mut Vec<DiskCall>, request: DiskRequest) ->
 {
     let answer = calls.begin();
     let done = answer.is_ok();
-    match log.push(DiskCall { request, done }) {
-        Ok(()) => answer,
-        Err(_) => Err(calls.fail()),
-    }
+    let Ok(()) = log.push(DiskCall { request, done }) else {
+        return Err(calls.fail());
+    };
+    answer
 }
 
 // Counts a call that fails.
