@@ -1,9 +1,10 @@
 -- Submissions.
-use Rattle.std.proofs.Common.{◌≡◌, ◌≢◌, ◌+◌, ℕ, List, [], ◌∷◌, ◌++◌, length, map, take, Option, Ok, Err, refl, sym, ap, ◌∙◌, subst, arith, append-nil}
+use Rattle.std.proofs.Common.{◌≡◌, ◌≢◌, ◌+◌, ℕ, List, [], ◌∷◌, ◌++◌, length, map, take, Option, None, Some, Ok, Err, refl, sym, ap, ◌∙◌, subst, append_assoc, arith, append-nil}
 use Rattle.std.proofs.lemmas.List.{take_all}
 use Rattle.std.specs.Prelude.{◌<◌, Result, IfOk, IfSome}
 use Rattle.lms_leaf.specs.declared.faults.LeafFault.{LeafFault}
 use Rattle.sporc_base.specs.Outcome.{GivesUnless}
+use Rattle.sporc_outside.specs.Told.{AppendsItem}
 use Rattle.sporc_wire.specs.declared.cutter.TheConstants.{MAX_BODY}
 use Rattle.sporc_turn.specs.declared.known.Known.{Known}
 use Rattle.sporc_turn.specs.declared.pass.Pass.{Pass}
@@ -17,13 +18,15 @@ use Rattle.sporc_client.specs.Drawing.{MayDraw}
 use Rattle.sporc_client.specs.Submissions.{submission, submission_added}
 use Rattle.sporc_shared.specs.declared.answered.Answered.{Answered}
 use Rattle.sporc_shared.specs.declared.fault.SessionFault.{SessionFault}
+use Rattle.sporc_shared.specs.declared.fault.SessionFault.TheVariants as faults
 use Rattle.sporc_shared.specs.Calls.{IsCall, SubmitsAt}
 use Rattle.sporc_shared.specs.Courses.{AppendsWords, KnowsMore}
 use Rattle.sporc_shared.specs.Endings.{SubmitGives, Submission}
 use Rattle.sporc_shared.specs.Items.{Item, Happened, Past, client_of, items_of}
-use Rattle.sporc_shared.specs.Outcomes.{Drew, SubmittedOne}
+use Rattle.sporc_shared.specs.Outcomes.{Drew, DrewFew, SubmittedOne}
 use Rattle.sporc_shared.specs.Points.{IsPoint}
 use Rattle.sporc_shared.specs.Replies.{made_of, plain_of}
+use Rattle.sporc_shared.proofs.Coursing.{words_none}
 use Rattle.sporc_shared.proofs.EntryLengths.{submitted_len}
 use Rattle.sporc_shared.proofs.Knowing.{call_client, call_drop, call_knows, call_later, call_point, knows_none}
 use Rattle.sporc_shared.proofs.Taking.{WornAs, none_point, plain_case}
@@ -35,6 +38,29 @@ both_put half both first second one two all put put' =
     let size : 32 ≡ 0 + length first = omega (arith, one) in
     let front : take 32 half ≡ first = ap (λ (n : ℕ). take n half) size ∙ put in
     sym (take_all (32 + length second) both (omega (arith, two, all))) ∙ put' ∙ ap (λ (l : List ℕ). l ++ second) front
+
+-- one word was drawn
+word_drawn : (u v : Option (List (List ℕ))) (first : List ℕ) → AppendsItem u v first → AppendsWords u v (first ∷ [])
+word_drawn None v first one = tt
+word_drawn (Some given) None first one = one
+word_drawn (Some given) (Some more) first one = one
+
+-- two words were, one after the other
+words_drawn : (u v w : Option (List (List ℕ))) (first second : List ℕ) → AppendsItem u v first → AppendsItem v w second → AppendsWords u w (first ∷ second ∷ [])
+words_drawn None v w first second one two = tt
+words_drawn (Some given) None w first second one two = absurd one
+words_drawn (Some given) (Some more) None first second one two = two
+words_drawn (Some given) (Some more) (Some all) first second one two = two ∙ ap (λ (words : List (List ℕ)). words ++ second ∷ []) one ∙ append_assoc given (first ∷ []) (second ∷ [])
+
+pub drew_both : (u v w : Option (List (List ℕ))) (first second random : List ℕ) → AppendsItem u v first → AppendsItem v w second → random ≡ first ++ second → Drew u w random
+drew_both u v w first second random one two is = (first, second, is, words_drawn u v w first second one two)
+
+-- the chance failed at the first word, or at the second
+pub drew_none : (u v : Option (List (List ℕ))) → v ≡ u → DrewFew u v faults.ChanceFault
+drew_none u v same = (refl, ([], omega arith, subst (λ (words : Option (List (List ℕ))). AppendsWords u words []) (sym same) (words_none u)))
+
+pub drew_one : (u v w : Option (List (List ℕ))) (first : List ℕ) → AppendsItem u v first → w ≡ v → DrewFew u w faults.ChanceFault
+drew_one u v w first one same = (refl, (first ∷ [], omega arith, subst (λ (words : Option (List (List ℕ))). AppendsWords u words (first ∷ [])) (sym same) (word_drawn u v first one)))
 
 -- an answer that is not for want of memory is the definition's
 given : (answer answer' : Result Submitted SubmitFault) → answer ≢ Err submits.Memory → GivesUnless submits.Memory (λ s. s) answer answer' → answer ≡ answer'
