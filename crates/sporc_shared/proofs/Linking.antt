@@ -1,23 +1,29 @@
 -- Calls on the link, as exchanges.
-use Rattle.std.proofs.Common.{◌≡◌, ◌≢◌, ℕ, ◌+◌, ◌≤◌, List, [], ◌∷◌, ◌++◌, length, Option, Some, None, Result, Ok, Err, refl, sym, ap, ◌∙◌, subst, append_assoc, arith}
+use Rattle.std.proofs.Common.{◌≡◌, ◌≢◌, ℕ, ◌+◌, ◌≤◌, Bool, List, [], ◌∷◌, ◌++◌, length, take, Option, Some, None, Result, Ok, Err, refl, sym, ap, ◌∙◌, subst, append_assoc, arith}
+use Rattle.std.proofs.lemmas.Bool.{le-ltb}
 use Rattle.std.proofs.lemmas.List.{append-nil, length-append}
 use Rattle.std.specs.Io.KnownBytes.{Appends, Consumes, Keeps}
 use Rattle.sporc_outside.specs.Counts.{Rose}
-use Rattle.std.specs.Prelude.{IfErr, IfOk}
+use Rattle.sporc_outside.specs.Writing.{AppendsPrefix}
+use Rattle.std.specs.Prelude.{IfErr, IfOk, if◌then◌else◌}
 use Rattle.sporc_head.specs.declared.refusal.Refusal.{Refusal}
+use Rattle.sporc_wire.specs.declared.cutter.TheConstants.{MAX_BODY}
+use Rattle.sporc_wire.specs.declared.fault.FrameFault.TheVariants.{TooLong}
 use Rattle.sporc_wire.specs.declared.to_client.ToClient.{ToClient}
 use Rattle.sporc_wire.specs.declared.to_client.ToClient.TheVariants as to_client
 use Rattle.sporc_wire.specs.declared.to_server.ToServer.{ToServer}
 use Rattle.sporc_wire.specs.declared.to_server.ToServer.TheVariants as to_server
-use Rattle.sporc_wire.specs.Messages.{Unread, next}
+use Rattle.sporc_wire.specs.Messages.{Unread, counted_to_end, framed, next}
+use Rattle.sporc_wire.specs.Stream.{frame}
 use Rattle.sporc_wire.specs.ToClient.{to_client_of}
+use Rattle.sporc_wire.specs.ToServer.{to_server_bytes}
 use Rattle.sporc_shared.specs.declared.fault.SessionFault.{SessionFault}
 use Rattle.sporc_shared.specs.declared.fault.SessionFault.TheVariants as faults
 use Rattle.sporc_shared.specs.Acts.{ServerReply, Ordered, Rejected, reply_message}
-use Rattle.sporc_shared.specs.Asking.{AskFails, Asks, IsReply, IsOutcomeOf, IsSilent, SilentFor, Took, silent, wrong}
+use Rattle.sporc_shared.specs.Asking.{AskFails, Asks, IsReply, IsOutcomeOf, IsSilent, SilentFor, Took, Unsent, silent, wrong}
 use Rattle.sporc_shared.specs.Endings.{IsAnswer}
 use Rattle.sporc_shared.specs.Wires.{Exchanged, InboxModel, IsLastFrom, LinkStand, more_taken, spelled, unread_of}
-use Rattle.sporc_shared.proofs.Exchanging.{appends_none, consumes_none, exchanged_then, received_nothing}
+use Rattle.sporc_shared.proofs.Exchanging.{appends_none, consumes_none, exchanged_none, exchanged_then, received_nothing}
 
 -- ---- one call
 
@@ -39,6 +45,29 @@ wrote a b bytes appends left inbox count = record {
   received = received_nothing a b (same_consumes a.left b.left left) inbox;
   count = count;
 }
+
+-- a message's frame was written, or a prefix of it
+module _ (a b : LinkStand) (message : ToServer) (bytes : List ℕ) (short : length (to_server_bytes message) ≤ MAX_BODY) (framed_is : framed (to_server_bytes message) ≡ Ok bytes) (left : b.left ≡ a.left) (inbox : b.inbox ≡ a.inbox) where
+  is_frame : bytes ≡ spelled (message ∷ [])
+  is_frame =
+      let body = to_server_bytes message in
+      let whole : Ok (frame body) ≡ framed body = ap (λ (long : Bool). if long then Err (TooLong (counted_to_end (length body))) else Ok (frame body)) (sym (le-ltb MAX_BODY (length body) short)) in
+      let same : frame body ≡ bytes = cc (whole, framed_is) in
+      sym same ∙ sym (append-nil (frame body))
+
+  pub sent_whole : Appends a.written b.written bytes → a.faults ≤ b.faults → Exchanged a b (spelled (message ∷ [])) []
+  sent_whole appends count = wrote a b (spelled (message ∷ [])) (subst (Appends a.written b.written) is_frame appends) left inbox count
+
+  pub sent_less : AppendsPrefix a.written b.written bytes → a.faults ≤ b.faults → Rose a.faults b.faults → Unsent a b message faults.LinkFault
+  sent_less appends count rose = record {
+    n = appends.0;
+    did = wrote a b (take appends.0 (spelled (message ∷ []))) (subst (λ (bs : List ℕ). Appends a.written b.written (take appends.0 bs)) is_frame appends.2) left inbox count;
+    cause = rose;
+  }
+
+-- memory ran out before
+pub sent_nothing : (a : LinkStand) (message : ToServer) → Unsent a a message faults.Memory
+sent_nothing a message = record { n = 0; did = exchanged_none a; cause = tt }
 
 -- nothing was, and nothing came
 pub kept : (a b : LinkStand) → b.written ≡ a.written → Keeps a.left b.left → b.inbox ≡ a.inbox → a.faults ≤ b.faults → Exchanged a b [] []
