@@ -1,9 +1,11 @@
 -- Submissions.
 use Rattle.std.proofs.Common.{◌≡◌, ◌≢◌, ◌+◌, ℕ, List, [], ◌∷◌, ◌++◌, length, map, take, Option, None, Some, Ok, Err, refl, sym, ap, ◌∙◌, subst, append_assoc, arith, append-nil}
 use Rattle.std.proofs.lemmas.List.{take_all}
+use Rattle.std.proofs.lemmas.Result.{IfOk-weaker}
 use Rattle.std.specs.Prelude.{◌<◌, Result, IfOk, IfSome}
 use Rattle.lms_leaf.specs.declared.faults.LeafFault.{LeafFault}
 use Rattle.sporc_base.specs.Outcome.{GivesUnless}
+use Rattle.sporc_outside.specs.Counts.{Rose}
 use Rattle.sporc_outside.specs.Told.{AppendsItem}
 use Rattle.sporc_wire.specs.declared.cutter.TheConstants.{MAX_BODY}
 use Rattle.sporc_turn.specs.declared.known.Known.{Known}
@@ -20,7 +22,7 @@ use Rattle.sporc_shared.specs.declared.answered.Answered.{Answered}
 use Rattle.sporc_shared.specs.declared.fault.SessionFault.{SessionFault}
 use Rattle.sporc_shared.specs.declared.fault.SessionFault.TheVariants as faults
 use Rattle.sporc_shared.specs.Calls.{IsCall, SubmitsAt}
-use Rattle.sporc_shared.specs.Courses.{AppendsWords, KnowsMore}
+use Rattle.sporc_shared.specs.Courses.{AppendsWords, CountsSame, KnowsMore}
 use Rattle.sporc_shared.specs.Endings.{SubmitGives, Submission}
 use Rattle.sporc_shared.specs.Items.{Item, Happened, Past, client_of, items_of}
 use Rattle.sporc_shared.specs.Outcomes.{Drew, DrewFew, SubmittedOne}
@@ -28,8 +30,8 @@ use Rattle.sporc_shared.specs.Points.{IsPoint}
 use Rattle.sporc_shared.specs.Replies.{made_of, plain_of}
 use Rattle.sporc_shared.proofs.Coursing.{words_none}
 use Rattle.sporc_shared.proofs.EntryLengths.{submitted_len}
-use Rattle.sporc_shared.proofs.Knowing.{call_client, call_drop, call_knows, call_later, call_point, knows_none}
-use Rattle.sporc_shared.proofs.Taking.{WornAs, none_point, plain_case}
+use Rattle.sporc_shared.proofs.Knowing.{call_client, call_counts, call_drop, call_knows, call_later, call_point, knows_none}
+use Rattle.sporc_shared.proofs.Taking.{WornAs, none_point, plain_case, plain_counts}
 
 -- two words that were put into a buffer, one after the other
 pub both_put : (half both first second : List ℕ) → length first ≡ 32 → length second ≡ 32 → length both ≡ 64
@@ -142,6 +144,16 @@ submitted_one k reply plain result w w' n n' random zero' is is' drew ok err =
     here r e =
         let call : SubmitCall k random (known_of r.pass) r.answer = subst (λ x. IfOk x (λ r. SubmitCall k random (known_of r.pass) r.answer)) e ok in
         submitted_by k w w' n n' drew.0 drew.1 zero' drew.3 r.answer (known_of r.pass) (subst (λ (s : List ℕ). SubmitCall k s (known_of r.pass) r.answer) drew.2 call)
+
+pub submitted_counts : (k : Known Item) (random : List ℕ) (reply : Result (Answered (Result Submitted SubmitFault)) (Pass Item × Worn)) (plain : Result (Result Submitted SubmitFault) ℕ × Pass Item)
+    → plain ≡ plain_of reply → IfOk reply (λ r. SubmitCall k random (known_of r.pass) r.answer) → WornAs k reply → CountsSame k (known_of plain.1)
+submitted_counts k random reply plain is ok err =
+    plain_counts k reply plain is
+    (IfOk-weaker reply (λ r. SubmitCall k random (known_of r.pass) r.answer) (λ r. CountsSame k (known_of r.pass)) (λ r h. call_counts k (known_of r.pass) h.0 (submission_added k.number r.answer) h.1) ok) err
+
+-- the chance failed before both words were drawn
+pub not_drawn : (k : Known Item) (u v : Option (List (List ℕ))) (n n' : ℕ) (fault : SessionFault) → DrewFew u v fault → Rose n n' → SubmittedOne k k u v n n' (Err fault)
+not_drawn k u v n n' fault few rose = subst (λ (f : SessionFault). SubmittedOne k k u v n n' (Err f)) (sym few.0) (few.1.0, few.1.1, few.1.2, knows_none k, rose)
 
 -- ---- the entry that was made fits into a message
 

@@ -1,6 +1,7 @@
 -- Entries that are accepted one after the other.
 use Rattle.std.proofs.Common.{◌≡◌, ◌≢◌, ◌+◌, ℕ, List, [], ◌∷◌, length, Some, Ok, Err, refl, sym, ap, ◌∙◌, subst, arith, append-nil}
 use Rattle.std.specs.Prelude.{Result, IfOk, IfErr, ⊤}
+use Rattle.std.proofs.lemmas.Result.{IfOk-weaker}
 use Rattle.sporc_base.specs.FirstFault.{AnswersUnless}
 use Rattle.sporc_turn.specs.declared.known.Known.{Known}
 use Rattle.sporc_turn.specs.declared.limits.TheConstants.{MAX_TICKETS}
@@ -15,13 +16,13 @@ use Rattle.sporc_shared.specs.declared.answered.Answered.{Answered}
 use Rattle.sporc_shared.specs.declared.fault.SessionFault.{SessionFault}
 use Rattle.sporc_shared.specs.Acts.{all_of, items_by}
 use Rattle.sporc_shared.specs.Calls.{IsCall}
-use Rattle.sporc_shared.specs.Courses.{KnowsMore}
+use Rattle.sporc_shared.specs.Courses.{CountsSame, KnowsMore}
 use Rattle.sporc_shared.specs.Endings.{AcceptGives, TakeCause, TakingStopped, takes_of}
 use Rattle.sporc_shared.specs.Items.{Item, Happened, Past, client_of, items_of}
 use Rattle.sporc_shared.specs.Outcomes.{TookAll, TookOne}
 use Rattle.sporc_shared.specs.Points.{IsPoint}
 use Rattle.sporc_shared.specs.Replies.{plain_of, taken_of}
-use Rattle.sporc_shared.proofs.Knowing.{call_client, call_knows, call_point, knows_none, knows_then}
+use Rattle.sporc_shared.proofs.Knowing.{call_client, call_counts, call_knows, call_point, knows_none, knows_then}
 use Rattle.sporc_shared.proofs.Positions.{accept_position}
 
 -- what a pass knows after a call that added nothing: the point at which the client was found
@@ -85,6 +86,15 @@ module _ {A : Type 0} (reply : Result (Answered A) (Pass Item × Worn)) (plain :
 abbrev pub WornAs : {A : Type 0} → Known Item → Result (Answered A) (Pass Item × Worn) → Type 0
 WornAs k reply = IfErr reply (λ e. (e.1.0 ≡ MAX_TICKETS) × (read_of e.0 ≡ e.1.0) × (known_of e.0 ≡ k))
 
+-- the pass is the same one, whatever the reply
+pub plain_counts : {A : Type 0} (k : Known Item) (reply : Result (Answered A) (Pass Item × Worn)) (plain : Result A ℕ × Pass Item)
+    → plain ≡ plain_of reply → IfOk reply (λ r. CountsSame k (known_of r.pass)) → WornAs k reply → CountsSame k (known_of plain.1)
+plain_counts {A} k reply plain is ok err = subst (λ (p : Result A ℕ × Pass Item). CountsSame k (known_of p.1)) (sym is) (by reply ok err)
+  where
+    by : (x : Result (Answered A) (Pass Item × Worn)) → IfOk x (λ r. CountsSame k (known_of r.pass)) → WornAs k x → CountsSame k (known_of (plain_of x).1)
+    by (Ok r) ok err = ok
+    by (Err e) ok err = subst (CountsSame k) (sym err.2) (record { number = refl; splits = refl; joined = refl })
+
 -- ---- one entry
 
 abbrev AcceptCall : Known Item → ℕ → List ℕ → Known Item → Result ℕ AcceptFault → Type 0
@@ -110,6 +120,12 @@ took_one k at entry reply plain result zero' is is' ok err =
 
     worn : (e : Pass Item × Worn) → reply ≡ Err e → TookOne k (known_of e.0) at entry (taken_of (at + 1) (Err e.1.0))
     worn e x = let h = subst (WornAs k) x err in (subst (λ (z : Known Item). KnowsMore k z []) (sym h.2) (knows_none k), h.0)
+
+pub took_counts : (k : Known Item) (at : ℕ) (entry : List ℕ) (reply : Result (Answered (Result ℕ AcceptFault)) (Pass Item × Worn)) (plain : Result (Result ℕ AcceptFault) ℕ × Pass Item)
+    → plain ≡ plain_of reply → IfOk reply (λ r. AcceptCall k at entry (known_of r.pass) r.answer) → WornAs k reply → CountsSame k (known_of plain.1)
+took_counts k at entry reply plain is ok err =
+    plain_counts k reply plain is
+    (IfOk-weaker reply (λ r. AcceptCall k at entry (known_of r.pass) r.answer) (λ r. CountsSame k (known_of r.pass)) (λ r h. call_counts k (known_of r.pass) h.0 (added r.answer (Accept k.number entry)) h.1) ok) err
 
 -- ---- the first entry, and then the others
 

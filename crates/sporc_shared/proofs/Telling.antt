@@ -66,3 +66,6 @@ worn_stopped {link} {words} {g} {ready} {m} {P = P} {k = k} {k' = k'} is h =
 -- the pass splits and joins nothing
 pub told_counts : {A : Type 0} {P : Past → A → Type 0} {k k' : Known Item} {answer : A} → Tells P k k' answer → CountsSame k k'
 told_counts {k = k} {k' = k'} t = call_counts k k' t.before [] t.call
+
+pub worn_counts : {A : Type 0} {P : Past → A → Type 0} {k k' : Known Item} {fault : SessionFault} {result : Result A SessionFault} → result ≡ Err fault → TellsOr P k k' result → CountsSame k k'
+worn_counts {P = P} {k = k} {k' = k'} is h = let t = (subst (TellsOr P k k') is h).ends in subst (CountsSame k) (sym t.0) (record { number = refl; splits = refl; joined = refl })

@@ -6,7 +6,7 @@ use Rattle.sporc_shared.specs.Sessions.{stops}
 use Rattle.sporc_shared.proofs.Coursing.{and_then, did_none, did_stopped, did_then, stopped_within, was_done, was_stopped}
 use Rattle.sporc_shared.proofs.Knowing.{counts_then}
 use Rattle.sporc_shared.proofs.Phasing.{look_small, round_begins, second_settles, second_spent, second_worn}
-use Rattle.sporc_shared.proofs.Telling.{told, told_counts, was_told}
+use Rattle.sporc_shared.proofs.Telling.{told, told_counts, was_told, worn_counts}
 use Rattle.sporc_shared.proofs.phase.second_phase.Goals as goal
 
 pub loop-look-init : goal.loop-look-init
@@ -52,3 +52,21 @@ returns-in-Err-one-clause-phase g c =
     stops (stopped_within (c.loop-look.done + 1) c.args.rounds (omega (arith, c.if-done-rounds.false)) (did_stopped c.loop-look.invariant.did
     (was_stopped c.in-Err-one.is
     (and_then (round_begins (c.loop-look.invariant.counts.number ∙ c.requires.first) t (sym c.unsettled.ensures ∙ c.if-not-unsettled.false)) (c.round-one.ensures.did (is_unsettled c.args.until) c.loop-look.done)))))
+
+pub returns-in-Err-clause-counts : goal.returns-in-Err-clause-counts
+returns-in-Err-clause-counts g c =
+    counts_then (known_of c.args.pass) (known_of c.loop-look.mine) (known_of c.plain-answer.result.1) c.loop-look.invariant.counts (worn_counts c.in-Err.is (told IsLookAt c.look.result c.plain-answer.ensures c.worn.ensures c.look.ensures.call c.look.ensures.worn))
+
+pub returns-then-not-unsettled-clause-counts : goal.returns-then-not-unsettled-clause-counts
+returns-then-not-unsettled-clause-counts g c =
+    counts_then (known_of c.args.pass) (known_of c.loop-look.mine) (known_of c.plain-answer.result.1) c.loop-look.invariant.counts (told_counts (was_told c.in-Ok.is (told IsLookAt c.look.result c.plain-answer.ensures c.worn.ensures c.look.ensures.call c.look.ensures.worn)))
+
+pub returns-then-done-rounds-clause-counts : goal.returns-then-done-rounds-clause-counts
+returns-then-done-rounds-clause-counts g c =
+    counts_then (known_of c.args.pass) (known_of c.loop-look.mine) (known_of c.plain-answer.result.1) c.loop-look.invariant.counts (told_counts (was_told c.in-Ok.is (told IsLookAt c.look.result c.plain-answer.ensures c.worn.ensures c.look.ensures.call c.look.ensures.worn)))
+
+pub returns-in-Err-one-clause-counts : goal.returns-in-Err-one-clause-counts
+returns-in-Err-one-clause-counts g c =
+    let looked = told_counts (was_told c.in-Ok.is (told IsLookAt c.look.result c.plain-answer.ensures c.worn.ensures c.look.ensures.call c.look.ensures.worn)) in
+    counts_then (known_of c.args.pass) (known_of c.loop-look.mine) (known_of c.round-one.result.1) c.loop-look.invariant.counts
+    (counts_then (known_of c.loop-look.mine) (known_of c.plain-answer.result.1) (known_of c.round-one.result.1) looked c.round-one.ensures.counts)

@@ -1,5 +1,5 @@
 use Rattle.sporc_turn.specs.Passes.{known_of}
-use Rattle.sporc_shared.proofs.Submitting.{submitted_one, submitted_short}
+use Rattle.sporc_shared.proofs.Submitting.{not_drawn, submitted_counts, submitted_one, submitted_short}
 use Rattle.sporc_shared.proofs.receiver.submit.Goals as goal
 
 pub returns-in-Ok-clause-submitted : goal.returns-in-Ok-clause-submitted
@@ -9,3 +9,12 @@ returns-in-Ok-clause-submitted g c =
 pub returns-in-Ok-clause-short : goal.returns-in-Ok-clause-short
 returns-in-Ok-clause-short g c =
     submitted_short (known_of c.args.pass) c.submit.result c.plain-answer.result c.made.result c.in-Ok.random c.plain-answer.ensures c.made.ensures c.submit.ensures.call
+
+pub returns-in-Ok-clause-counts : goal.returns-in-Ok-clause-counts
+returns-in-Ok-clause-counts g c =
+    submitted_counts (known_of c.args.pass) c.in-Ok.random c.submit.result c.plain-answer.result c.plain-answer.ensures c.submit.ensures.call c.submit.ensures.worn
+
+pub returns-in-Err-clause-submitted : goal.returns-in-Err-clause-submitted
+returns-in-Err-clause-submitted g c =
+    not_drawn (known_of c.args.pass) (g.C.Chance.given c.args.chance.now) (g.C.Chance.given c.draw.new.chance) (g.C.Counted.faults c.args.chance.now) (g.C.Counted.faults c.draw.new.chance) c.in-Err.fault c.in-Err.ensures.err
+    c.in-Err.ensures.count.failed

@@ -1,7 +1,11 @@
 use Rattle.sporc_turn.specs.Passes.{known_of}
-use Rattle.sporc_shared.proofs.Taking.{took_one}
+use Rattle.sporc_shared.proofs.Taking.{took_counts, took_one}
 use Rattle.sporc_shared.proofs.receiver.take_one.Goals as goal
 
 pub returns-clause-took : goal.returns-clause-took
 returns-clause-took g c =
     took_one (known_of c.args.pass) c.args.at c.args.entry.now c.accept.result c.plain-answer.result c.taken-took.result c.requires.first c.plain-answer.ensures c.taken-took.ensures c.accept.ensures.call c.accept.ensures.worn
+
+pub returns-clause-counts : goal.returns-clause-counts
+returns-clause-counts g c =
+    took_counts (known_of c.args.pass) c.args.at c.args.entry.now c.accept.result c.plain-answer.result c.plain-answer.ensures c.accept.ensures.call c.accept.ensures.worn

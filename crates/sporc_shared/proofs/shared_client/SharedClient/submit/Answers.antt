@@ -3,7 +3,7 @@ use Rattle.sporc_turn.specs.Knowing.{seeing}
 use Rattle.sporc_turn.specs.Passes.{known_held, known_of, value_of}
 use Rattle.sporc_client.specs.Submissions.{submission_added}
 use Rattle.sporc_shared.specs.Items.{items_of, past_of, with_events}
-use Rattle.sporc_shared.proofs.Calling.{call_extends, call_is, submission_by}
+use Rattle.sporc_shared.proofs.Calling.{call_extends, call_front, call_is, submission_by}
 use Rattle.sporc_shared.proofs.shared_client.SharedClient.submit.Goals as goal
 
 pub give-requires-clause-log : goal.give-requires-clause-log
@@ -23,3 +23,6 @@ returns-clause-call g c =
     let call =
     call_is k _ (known_of c.give.result.pass) before _ _ held became c.in_ok-held.ensures.found c.give.ensures.known c.give.ensures.agrees c.submit-answer.ensures.allowed in
     rw c.give.ensures.answer (before, call, c.submit-answer.ensures.answer)
+
+pub returns-clause-front : goal.returns-clause-front
+returns-clause-front g c = rw c.give.ensures.front (call_front _ (known_of c.give.result.pass) _ c.submit-answer.result.1 c.give.ensures.known c.submit-answer.ensures.events)
