@@ -1,7 +1,8 @@
 //! Commands that act on the client of a member, and the lines that tell their answers.
 
-ghost use Rattle.std.specs.Prelude.{◌≡◌, ◌≢◌, ℕ, ◌+◌, ◌<◌, ◌≤◌, ◌^◌, ◌++◌, length, take, Some, Ok, Err, Option, OnOk, OnErr, IfOk, IfErr, IfSome, option_map, string_bytes};
+ghost use Rattle.std.specs.Prelude.{◌≡◌, ◌≢◌, ℕ, ◌+◌, ◌<◌, ◌≤◌, ◌^◌, ◌++◌, codes, length, take, Some, true, false, Ok, Err, Option, OnOk, OnErr, IfOk, IfErr, IfSome, option_map, string_bytes};
 ghost use Rattle.std.specs.Option.{option_copied, option_to_list};
+ghost use Rattle.std.specs.Fmt.{decimal};
 ghost use Rattle.std.specs.Result.{result_ok};
 ghost use Rattle.sporc_base.specs.FirstFault.{AnswersUnless};
 ghost use Rattle.sporc_delta.specs.declared.limits.TheConstants.{MAX_COUNT};
@@ -11,7 +12,7 @@ ghost use Rattle.sporc_client.specs.PlainClient.{shown_after};
 ghost use Rattle.sporc_client.specs.Step.{log_of_entries};
 ghost use Rattle.sporc_client.specs.Submissions.{submission};
 ghost use Rattle.sporc_play.specs.Logs.{change_events, discard_events, edit_logged, given_by, given_events};
-ghost use Rattle.sporc_play.specs.Report.{change_line, discard_line, edit_line, edited_line, event_line, give_line, line_by, not_open_line, restart_line, submit_line};
+ghost use Rattle.sporc_play.specs.Report.{change_line, discard_line, edit_line, edited_line, event_line, give_line, line_by, not_open_line, restart_answer, restart_line, submit_line};
 ghost use Rattle.sporc_play.specs.Seats.{HasSubmitted, IsReady, IsSubmitted, client_logged, plain_in, seat_logged, seat_restarted, submission_line};
 ghost use Rattle.sporc_play.specs.Scene.{delta_by, edit_events, edit_size, entries_in, leaf_next, marks_of, seen_by};
 
@@ -62,7 +63,7 @@ fn edit_client(
     let seen = seen_by(client, edit.seen);
     match delta_by(alloc, client, seen, &edit.change)? {
         Ok(delta) => edit_by(client, member, seen, &delta, out),
-        Err(len) => writeln!(out, "{member} edit outside {len}"),
+        Err(len) => push_number(out, member, " edit outside ", len),
     }
 }
 
@@ -245,27 +246,37 @@ fn tell_submission(
     ensures named { OnOk result (answer ≢ Err SubmitFault.Memory) }
     ensures no_disk { OnOk result (answer ≢ Err SubmitFault.LeafFault) }
 {
+    push_submission(out, member, next, last, &answer)?;
+    Ok(entry_in(answer))
+}
+
+fn push_submission(
+    out: &mut String,
+    member: u16,
+    next: u64,
+    last: u64,
+    answer: &Result<Submitted, SubmitFault>,
+) -> Result<(), Memory>
+    ensures line { OnOk result (string_bytes out.new ≡ string_bytes out.old ++ submit_line member next last answer.now) }
+    ensures named { OnOk result (answer.now ≢ Err SubmitFault.Memory) }
+    ensures no_disk { OnOk result (answer.now ≢ Err SubmitFault.LeafFault) }
+{
     match answer {
-        Ok(Submitted::Entry(entry)) => {
-            push_number(out, member, " submit entry ", next)?;
-            Ok(Some(entry.into_vec()))
-        }
-        Ok(Submitted::Nothing) => {
-            push_start(out, member, " submit nothing\n")?;
-            Ok(None)
-        }
-        Ok(Submitted::Waiting) => {
-            push_number(out, member, " submit waiting ", last)?;
-            Ok(None)
-        }
-        Ok(Submitted::Dropped(fault)) => {
-            push_dropped(out, member, fault)?;
-            Ok(None)
-        }
-        Err(fault) => {
-            push_unsubmitted(out, member, fault)?;
-            Ok(None)
-        }
+        Ok(Submitted::Entry(_)) => push_number(out, member, " submit entry ", next),
+        Ok(Submitted::Nothing) => push_start(out, member, " submit nothing\n"),
+        Ok(Submitted::Waiting) => push_number(out, member, " submit waiting ", last),
+        Ok(Submitted::Dropped(fault)) => push_dropped(out, member, *fault),
+        Err(fault) => push_unsubmitted(out, member, *fault),
+    }
+}
+
+// The entry that a submission hands out.
+fn entry_in(answer: Result<Submitted, SubmitFault>) -> Option<Vec<u8>>
+    ensures { option_to_list (option_map (λ v. v.items) result) ≡ entries_in answer }
+{
+    match answer {
+        Ok(Submitted::Entry(entry)) => Some(entry.into_vec()),
+        _ => None,
     }
 }
 
@@ -283,7 +294,7 @@ fn push_unsubmitted(out: &mut String, member: u16, fault: SubmitFault) -> Result
     ensures named { OnOk result (fault ≢ SubmitFault.Memory) }
     ensures no_disk { OnOk result (fault ≢ SubmitFault.LeafFault) }
 {
-    write!(out, "{member} submit refused ")?;
+    push_start(out, member, " submit refused ")?;
     push_submit_fault(out, fault)?;
     out.push_str("\n")
 }
@@ -302,14 +313,12 @@ pub fn give(
         give_line give.now.member give.now.position c (option_copied entry.entry))) }
     ensures seat { OnOk result (seat.new ≡ seat_logged (given_by give.now.position (option_copied entry.entry)) seat.old) }
 {
-    let member = give.member;
-    let position = give.position;
     let Some(client) = &mut seat.client else {
-        return push_not_open(out, member);
+        return push_not_open(out, give.member);
     };
     match entry {
         Some(entry) => give_client(alloc, client, give, entry, out),
-        None => writeln!(out, "{member} accept {position} no entry"),
+        None => push_given(out, give, " no entry\n"),
     }
 }
 
@@ -323,16 +332,23 @@ fn give_client(
     ensures line { OnOk result (string_bytes out.new ≡ string_bytes out.old ++ give_line give.now.member give.now.position (state_of client.old) (Some entry.now)) }
     ensures log { OnOk result (client.new ≡ client_logged (λ c. given_events c give.now.position entry.now) client.old) }
 {
-    let member = give.member;
-    let position = give.position;
-    match client.accept(0, position, entry) {
-        Ok(_) => writeln!(out, "{member} accept {position} ok"),
+    match client.accept(0, give.position, entry) {
+        Ok(_) => push_given(out, give, " ok\n"),
         Err(fault) => {
-            write!(out, "{member} accept {position} refused ")?;
+            push_given(out, give, " refused ")?;
             push_accept_fault(alloc, out, fault)?;
             out.push_str("\n")
         }
     }
+}
+
+// Appends who is handed an entry at which position, and these words.
+fn push_given(out: &mut String, give: &Give, words: &str) -> Result<(), Memory>
+    ensures { OnOk result (string_bytes out.new ≡ string_bytes out.old ++ (decimal give.now.member ++ (codes " accept " ++ (decimal give.now.position ++ words.now)))) }
+{
+    let member = give.member;
+    let position = give.position;
+    write!(out, "{member} accept {position}{words}")
 }
 
 /// Goes back to the first entries.
@@ -340,16 +356,30 @@ pub fn restart(seat: &mut Seat, restart: &Restart, out: &mut String) -> Result<(
     ensures line { OnOk result (string_bytes out.new ≡ string_bytes out.old ++ line_by restart.now.member (plain_in seat.old) (restart_line restart.now.member restart.now.entries)) }
     ensures seat { OnOk result (seat.new ≡ seat_restarted restart.now.entries seat.old) }
 {
-    let member = restart.member;
-    let k = restart.entries;
     let Some(client) = &mut seat.client else {
-        return push_not_open(out, member);
+        return push_not_open(out, restart.member);
     };
-    match restart_to(client, k) {
-        Ok(()) => writeln!(out, "{member} restart {k} ok"),
-        Err(RestartFault::Ahead(len)) => writeln!(out, "{member} restart {k} ahead {len}"),
+    match restart_to(client, restart.entries) {
+        Ok(()) => push_restarted(out, restart),
+        Err(RestartFault::Ahead(len)) => push_ahead(out, restart, len),
         Err(RestartFault::Memory) => Err(AllocError),
     }
+}
+
+fn push_restarted(out: &mut String, restart: &Restart) -> Result<(), Memory>
+    ensures { OnOk result (string_bytes out.new ≡ string_bytes out.old ++ restart_answer false restart.now.member restart.now.entries 0) }
+{
+    let member = restart.member;
+    let k = restart.entries;
+    writeln!(out, "{member} restart {k} ok")
+}
+
+fn push_ahead(out: &mut String, restart: &Restart, len: u32) -> Result<(), Memory>
+    ensures { OnOk result (string_bytes out.new ≡ string_bytes out.old ++ restart_answer true restart.now.member restart.now.entries len) }
+{
+    let member = restart.member;
+    let k = restart.entries;
+    writeln!(out, "{member} restart {k} ahead {len}")
 }
 
 // The same for numbers that no history reaches.

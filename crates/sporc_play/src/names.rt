@@ -1,6 +1,6 @@
 //! The names of faults in a report. A fault of memory has none.
 
-ghost use Rattle.std.specs.Prelude.{◌≡◌, ◌≢◌, ◌++◌, OnOk, string_bytes};
+ghost use Rattle.std.specs.Prelude.{◌≡◌, ◌≢◌, ◌++◌, IfSome, OnOk, string_bytes};
 ghost use Rattle.sporc_play.specs.Names.{accept_fault_name, edit_fault_name, hint_fault_name, open_fault_name, submit_fault_name};
 
 use sporc_base::Memory;
@@ -33,15 +33,29 @@ pub fn push_submit_fault(out: &mut String, fault: SubmitFault) -> Result<(), Mem
     ensures named { OnOk result (fault ≢ SubmitFault.Memory) }
     ensures no_disk { OnOk result (fault ≢ SubmitFault.LeafFault) }
 {
+    if let Some(name) = submit_fault_name(fault) {
+        return out.push_str(name);
+    }
     match fault {
-        SubmitFault::Removed => out.push_str("removed"),
-        SubmitFault::NoRight => out.push_str("no-right"),
-        SubmitFault::HistoryFull => out.push_str("history-full"),
-        SubmitFault::JournalFull => out.push_str("journal-full"),
         SubmitFault::HeadTooLong(len) => write!(out, "head-too-long {len}"),
         SubmitFault::NoPairKey(member) => write!(out, "no-pair-key {member}"),
-        SubmitFault::Exhausted(_) => out.push_str("exhausted"),
-        SubmitFault::LeafFault | SubmitFault::Memory => Err(AllocError),
+        _ => Err(AllocError),
+    }
+}
+
+// The name of a fault, if it is a word alone.
+fn submit_fault_name(fault: SubmitFault) -> Option<&'static str>
+    ensures name { IfSome result (λ name. name.now ≡ submit_fault_name fault) }
+    ensures named { IfSome result (λ _. fault ≢ SubmitFault.Memory) }
+    ensures no_disk { IfSome result (λ _. fault ≢ SubmitFault.LeafFault) }
+{
+    match fault {
+        SubmitFault::Removed => Some("removed"),
+        SubmitFault::NoRight => Some("no-right"),
+        SubmitFault::HistoryFull => Some("history-full"),
+        SubmitFault::JournalFull => Some("journal-full"),
+        SubmitFault::Exhausted(_) => Some("exhausted"),
+        _ => None,
     }
 }
 

@@ -6,4 +6,4 @@ use Rattle.sporc_play.proofs.acting.push_unsubmitted.Goals as goal
 
 pub returns-clause-line : goal.returns-clause-line
 returns-clause-line c =
-    told_in_parts c.push_str.result _ _ _ _ (decimal c.args.member) (codes " submit refused ") (submit_fault_name c.args.fault) (codes "\n") c.in_ok-write.ensures.bytes c.in_ok-push_submit_fault.ensures.name c.push_str.ensures.bytes
+    told_in_parts c.push_str.result _ _ _ _ (decimal c.args.member) (codes " submit refused ") (submit_fault_name c.args.fault) (codes "\n") c.in_ok-push_start.ensures.ok c.in_ok-push_submit_fault.ensures.name c.push_str.ensures.bytes
