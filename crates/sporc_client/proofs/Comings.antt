@@ -1,12 +1,11 @@
 -- What an entry that comes does, by its kinds, with what the fields become.
-use Rattle.std.proofs.Common.{◌≡◌, ℕ, ◌+◌, ◌<◌, ◌≤◌, Bool, true, false, if◌then◌else◌, List, [], ◌∷◌, ◌++◌, length, Option, None, Some, Ok, refl, ap, sym, ◌∙◌, subst, arith, length-append}
+use Rattle.std.proofs.Common.{◌≡◌, ℕ, ◌<◌, Bool, true, false, if◌then◌else◌, List, [], ◌∷◌, ◌++◌, length, Option, None, Some, Ok, refl, ap, sym, ◌∙◌, subst, arith}
 use Rattle.std.specs.Prelude.{◌==◌}
 use Rattle.std.specs.Option.{is_some}
 use Rattle.std.specs.Prelude.{IsErr, nat_lt, Result, Err}
 use Rattle.std.proofs.lemmas.Bool.{ltb-true}
 use Rattle.std.proofs.lemmas.List.{append-nil as append_nil}
 use Rattle.lms_sign.specs.Signer.{SignerModel}
-use Rattle.sporc_delta.specs.declared.limits.TheConstants.{MAX_COUNT, MAX_TEXT_LEN}
 use Rattle.sporc_delta.specs.Marks.{Mark, apply, base_len, inserted_len, out_len}
 use Rattle.sporc_suffix.specs.Forms.{Follow, reached}
 use Rattle.sporc_entry.specs.declared.change.ChangeBody.{ChangeBody}
@@ -22,7 +21,6 @@ use Rattle.sporc_line.specs.Prepared.{IsPrepared, PreparedModel}
 use Rattle.sporc_line.proofs.FormLengths.{length-apply}
 use Rattle.sporc_client.specs.declared.coming.Coming.{Coming}
 use Rattle.sporc_client.specs.declared.event.Event.{Event}
-use Rattle.sporc_client.specs.declared.event.Event.TheVariants as events
 use Rattle.sporc_client.specs.declared.limits.TheConstants.{MAX_EVENTS}
 use Rattle.sporc_client.specs.declared.pending.Pending.{Pending}
 use Rattle.sporc_client.specs.declared.pending.Pending.TheVariants as items
@@ -32,9 +30,10 @@ use Rattle.sporc_client.specs.ClientModel.{ClientModel}
 use Rattle.sporc_client.specs.Coming.{coming_of, flight_after, pending_after, shown_form}
 use Rattle.sporc_client.specs.Log.{Logged, Accept, log_of}
 use Rattle.sporc_client.specs.PlainClient.{Opening, PlainClient, committed_of, me_of, shown_of}
-use Rattle.sporc_client.specs.Rebasing.{AreOver, AreStated, beyond, inserted_by, rebased}
+use Rattle.sporc_client.specs.Rebasing.{AreOver, AreStated, beyond, rebased}
 use Rattle.sporc_client.specs.Step.{accepted, change_comes, form_coming, is_flight, is_same_as, own_comes}
-use Rattle.sporc_client.specs.Workspace.{WorkspaceModel}
+use Rattle.sporc_client.specs.Taking.{CanSettle, Takes, coming_at, form_at}
+use Rattle.sporc_client.specs.Workspace.{SameOwn, WorkspaceModel}
 use Rattle.sporc_client.proofs.Accepting.{accepted_small, accepted_sound, allowed_accept, change_in_is}
 use Rattle.sporc_client.proofs.Events.{length_of_shown, rises, shown_length}
 use Rattle.sporc_client.proofs.Kept.{Recorded, Records, opening_of, recorded}
@@ -106,36 +105,7 @@ follow_last base (f ∷ fs) form h = follow_last (out_len f) fs form h.1
 
 -- ---- an entry that was prepared
 
--- what it does
-abbrev pub coming_at : LineModel → WorkspaceModel → PreparedModel → Coming
-coming_at line own p = coming_of (is_same_as own.flight p.checked.bytes) (is_some (change_of p.checked.entry)) (p.checked.entry.header.author == line.kit.me) p.form own.pending
-
--- and its shown delta
-abbrev pub form_at : WorkspaceModel → PreparedModel → List Mark
-form_at own p = shown_form (is_same_as own.flight p.checked.bytes) (is_some (change_of p.checked.entry)) (length (text_after own.shown)) p.form own.pending
-
--- what settling it asks
-pub record SettleLimits (own : WorkspaceModel) (form : List Mark) : Type 0 where
-  pub follow : Follow 0 own.shown
-  pub short : length (text_after own.shown) ≤ MAX_COUNT
-  pub over : AreOver (base_len form) own.pending
-  pub limit : base_len form + inserted_len form + inserted_by own.pending ≤ MAX_TEXT_LEN
-
 module _ {D : Type 0} (line : LineModel) (signer : SignerModel D) (ticket : Option ℕ) (own : WorkspaceModel) (known : ClientInvariant line signer ticket own) (p : PreparedModel) (prepared : IsPrepared line.genesis line.kit line.entries p) where
-  pub settle_limits : SettleLimits own p.form
-  settle_limits =
-      let c = plain_of signer.key line own in
-      let l = lengths c known.small in
-      let come = comes c p.checked.bytes known.sound.good prepared.passed in
-      let base : base_len p.form ≡ length (committed_of c) = ap base_len prepared.form_is ∙ come.base in
-      let P : ℕ → Type 0 = λ n. AreOver n own.pending in
-      record {
-        follow = known.sound.follow;
-        short = omega (arith, shown_length line signer ticket own known);
-        over = subst P (sym base) (stated_over (committed_of c) own.pending known.sound.stated);
-        limit = omega (arith, base, l.committed, l.pending, prepared.small);
-      }
-
   -- the definition's step
   accepted_here : accepted (plain_of signer.key line own) p.checked.bytes ≡ after_coming (plain_of signer.key line own) p.checked.bytes (coming_at line own p) (form_at own p)
   accepted_here =
@@ -148,25 +118,33 @@ module _ {D : Type 0} (line : LineModel) (signer : SignerModel D) (ticket : Opti
       ∙ ap (λ (form : List Mark). became form (length (shown_of c))) (sym prepared.form_is)
       ∙ ap (λ (len : ℕ). became p.form len) (sym (length_of_shown line signer ticket own known))
 
-  pub form_base : base_len (form_at own p) ≡ reached 0 own.shown
-  form_base =
+  pub can_settle : length own.shown < MAX_EVENTS → CanSettle own p
+  can_settle room =
       let c = plain_of signer.key line own in
+      let l = lengths c known.small in
+      let come = comes c p.checked.bytes known.sound.good prepared.passed in
+      let base : base_len p.form ≡ length (committed_of c) = ap base_len prepared.form_is ∙ come.base in
+      let P : ℕ → Type 0 = λ n. AreOver n own.pending in
       let F : PlainClient → Type 0 = λ d. Follow 0 d.shown in
-      follow_last 0 own.shown (form_at own p) (subst F accepted_here (accepted_sound c p.checked.bytes known.sound prepared.passed).follow)
+      record {
+        follow = known.sound.follow;
+        short = omega (arith, shown_length line signer ticket own known);
+        over = subst P (sym base) (stated_over (committed_of c) own.pending known.sound.stated);
+        limit = omega (arith, base, l.committed, l.pending, prepared.small);
+        base = follow_last 0 own.shown (form_at own p) (subst F accepted_here (accepted_sound c p.checked.bytes known.sound prepared.passed).follow);
+        room = room;
+      }
 
-  pub accept_records : (line' : LineModel) (own' : WorkspaceModel) (by : ℕ) → length own.shown < MAX_EVENTS
-      → line'.genesis ≡ line.genesis → line'.kit ≡ line.kit → line'.entries ≡ line.entries ++ p.checked.bytes ∷ []
-      → own'.pending ≡ pending_after (coming_at line own p) own.pending → own'.flight ≡ flight_after (coming_at line own p) own.flight
-      → own'.shown ≡ own.shown ++ form_at own p ∷ [] → own'.journal ≡ own.journal ++ events.Accept by (length line.entries + 1) ∷ []
+  pub accept_records : (line' : LineModel) (own' : WorkspaceModel) (by : ℕ) → length own.shown < MAX_EVENTS → Takes line line' own own' by p
       → Records line line' signer signer ticket own own' (Accept by p.checked.bytes)
-  accept_records line' own' by room genesis kit entries pending flight shown journal =
+  accept_records line' own' by room takes =
       let c = plain_of signer.key line own in
       let bytes = p.checked.bytes in
       record {
         key = refl;
-        entries = entries;
-        journal = journal;
-        state = rw (genesis, kit, entries, pending, flight, shown) (sym accepted_here);
+        entries = takes.entries;
+        journal = takes.journal;
+        state = rw (takes.genesis, takes.kit, takes.entries, takes.pending, takes.flight, takes.shown) (sym accepted_here);
         allowed = allowed_accept c by bytes prepared.passed room;
         sound = accepted_sound c bytes known.sound prepared.passed;
         small = accepted_small c bytes known.sound known.small prepared.passed (omega (arith, prepared.small, ap inserted_len prepared.form_is)) room;
@@ -187,11 +165,11 @@ pub record SameLine (line line' : LineModel) : Type 0 where
   pub kit : line'.kit ≡ line.kit
   pub entries : line'.entries ≡ line.entries
 
-pub record SameOwn (own own' : WorkspaceModel) : Type 0 where
-  pub pending : own'.pending ≡ own.pending
-  pub flight : own'.flight ≡ own.flight
-  pub shown : own'.shown ≡ own.shown
-  pub journal : own'.journal ≡ own.journal
+pub same_line : {line : LineModel} → SameLine line line
+same_line = record { genesis = refl; kit = refl; entries = refl }
+
+pub same_own : {own : WorkspaceModel} → SameOwn own own
+same_own = record { pending = refl; flight = refl; shown = refl; journal = refl }
 
 line_same : (line line' : LineModel) → SameLine line line' → line_with line'.spare line.genesis line.kit line.entries ≡ line'
 line_same line line' same =
@@ -275,40 +253,19 @@ pub form_there : (own : WorkspaceModel) (p : PreparedModel) (bytes : List ℕ) (
 form_there own p bytes form is settled =
     settled ∙ ap (λ (b : List ℕ). shown_form (is_same_as own.flight b) (is_some (change_of p.checked.entry)) (length (text_after own.shown)) p.form own.pending) (sym is)
 
--- the steps of taking an entry: the line and the own part as they were, once memory is taken, and afterwards
-pub record Takes (line line1 line' : LineModel) (own own1 own' : WorkspaceModel) (p : PreparedModel) (bytes : List ℕ) (me by place : ℕ) (coming : Coming) (form ready : List Mark) : Type 0 where
-  pub bytes_are : p.checked.bytes ≡ bytes
-  pub lines : SameLine line line1
-  pub me_is : me ≡ line1.kit.me
-  pub settled : coming ≡ coming_of (is_same_as own.flight bytes) (is_some (change_of p.checked.entry)) (p.checked.entry.header.author == me) p.form own.pending
-  pub form_is : form ≡ shown_form (is_same_as own.flight bytes) (is_some (change_of p.checked.entry)) (length (text_after own.shown)) p.form own.pending
-  pub ready_is : ready ≡ form
-  pub owns : SameOwn own own1
-  pub genesis : line'.genesis ≡ line1.genesis
-  pub kit : line'.kit ≡ line1.kit
-  pub entries : line'.entries ≡ line1.entries ++ p.checked.bytes ∷ []
-  pub place_is : place ≡ length line'.entries
-  pub pending : own'.pending ≡ pending_after coming own1.pending
-  pub flight : own'.flight ≡ flight_after coming own1.flight
-  pub shown : own'.shown ≡ own1.shown ++ ready ∷ []
-  pub journal : own'.journal ≡ own1.journal ++ events.Accept by place ∷ []
+-- an entry that was prepared is taken
+module _ {D : Type 0} (line line1 : LineModel) (signer : SignerModel D) (ticket : Option ℕ) (own : WorkspaceModel) (known : ClientInvariant line signer ticket own) (p : PreparedModel) (lines : SameLine line line1) (prepared : IsPrepared line.genesis line.kit line.entries p) where
+  pub prepared_there : IsPrepared line1.genesis line1.kit line1.entries p
+  prepared_there = subst (λ (l : LineModel). IsPrepared l.genesis l.kit l.entries p) (line_same line line1 lines) prepared
 
-pub accept_recorded : {D : Type 0} (line line1 line' : LineModel) (signer : SignerModel D) (ticket : Option ℕ) (own own1 own' : WorkspaceModel) (p : PreparedModel) (bytes : List ℕ) (me by place : ℕ) (coming : Coming) (form ready : List Mark)
-    → ClientInvariant line signer ticket own → IsPrepared line.genesis line.kit line.entries p → length own.shown < MAX_EVENTS
-    → Takes line line1 line' own own1 own' p bytes me by place coming form ready → Recorded line line' signer signer ticket own own' (Accept by p.checked.bytes)
-accept_recorded line line1 line' signer ticket own own1 own' p bytes me by place coming form ready known prepared room takes =
-    let b = p.checked.bytes in
-    let coming_is : coming ≡ coming_at line own p =
-    coming_there line own p bytes me coming takes.bytes_are (takes.me_is ∙ ap (λ (k : Kit). k.me) takes.lines.kit) takes.settled in
-    let ready_is : ready ≡ form_at own p = takes.ready_is ∙ form_there own p bytes form takes.bytes_are takes.form_is in
-    let entries : line'.entries ≡ line.entries ++ b ∷ [] = takes.entries ∙ ap (λ (es : List (List ℕ)). es ++ b ∷ []) takes.lines.entries in
-    let place_is : place ≡ length line.entries + 1 = omega (arith, takes.place_is, ap length entries, length-append line.entries (b ∷ [])) in
-    recorded line line' signer signer ticket ticket own own' (Accept by b) known
-    (accept_records line signer ticket own known p prepared line' own' by room
-    (takes.genesis ∙ takes.lines.genesis)
-    (takes.kit ∙ takes.lines.kit)
-    entries
-    (takes.pending ∙ ap (pending_after coming) takes.owns.pending ∙ ap (λ (k : Coming). pending_after k own.pending) coming_is)
-    (takes.flight ∙ ap (flight_after coming) takes.owns.flight ∙ ap (λ (k : Coming). flight_after k own.flight) coming_is)
-    (takes.shown ∙ ap (λ (fs : List (List Mark)). fs ++ ready ∷ []) takes.owns.shown ∙ ap (λ (f : List Mark). own.shown ++ f ∷ []) ready_is)
-    (takes.journal ∙ ap (λ (es : List Event). es ++ events.Accept by place ∷ []) takes.owns.journal ∙ ap (λ (n : ℕ). own.journal ++ events.Accept by n ∷ []) place_is))
+  pub accept_recorded : (line' : LineModel) (own' : WorkspaceModel) (by : ℕ) → length own.shown < MAX_EVENTS → Takes line1 line' own own' by p
+      → Recorded line1 line' signer signer ticket own own' (Accept by p.checked.bytes)
+  accept_recorded line' own' by room takes =
+      let known1 = same_fields line signer ticket own known line1 own lines same_own in
+      recorded line1 line' signer signer ticket ticket own own' (Accept by p.checked.bytes) known1 (accept_records line1 signer ticket own known1 p prepared_there line' own' by room takes)
+
+  pub accept_model : (line' : LineModel) (own' : WorkspaceModel) (by : ℕ) → length own.shown < MAX_EVENTS → Takes line1 line' own own' by p
+      → client_model line' signer ticket own' ≡ more_with line signer ticket own (Accept by p.checked.bytes)
+  accept_model line' own' by room takes =
+      let M : ClientModel D → ClientModel D = λ m. record m { log = m.log ++ Accept by p.checked.bytes ∷ [] } in
+      model_more line1 line' signer ticket own own' (Accept by p.checked.bytes) (accept_recorded line' own' by room takes) ∙ ap M (same_model line line1 signer ticket own own lines same_own)

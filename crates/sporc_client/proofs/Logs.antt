@@ -1,7 +1,7 @@
 -- One more event of a log.
 use Rattle.std.proofs.Common.{◌≡◌, ℕ, ◌+◌, ◌-◌, true, List, [], ◌∷◌, ◌++◌, length, refl, ap, sym, ◌∙◌, subst, arith, append_assoc, length-append}
 use Rattle.std.proofs.lemmas.Bool.{and_parts}
-use Rattle.std.proofs.lemmas.List.{append-nil as append_nil}
+use Rattle.std.proofs.lemmas.List.{append-nil as append_nil, length-map}
 use Rattle.std.proofs.Math.Seq.{get_or-append_seam}
 use Rattle.std.specs.List.{slice_index_or}
 use Rattle.sporc_client.specs.declared.event.Event.{Event}
@@ -16,6 +16,10 @@ use Rattle.sporc_client.proofs.Shown.{fold_more}
 accepted_more : (log : List Logged) (event : Logged) → accepted_in (log ++ event ∷ []) ≡ accepted_in log ++ entries_by event
 accepted_more [] event = append_nil (entries_by event)
 accepted_more (e ∷ log) event = ap (λ (es : List (List ℕ)). entries_by e ++ es) (accepted_more log event) ∙ sym (append_assoc (entries_by e) (accepted_in log) (entries_by event))
+
+-- a log has an event for each of its journal
+pub events_logged : (entries : List (List ℕ)) (journal found : List Event) → found ≡ journal → length found ≡ length (log_of entries journal)
+events_logged entries journal found is = ap length is ∙ sym (length-map journal (filled_event entries))
 
 journal_more : (n : ℕ) (log : List Logged) (event : Logged) → journal_from n (log ++ event ∷ []) ≡ journal_from n log ++ stored_event (n + length (accepted_in log)) event ∷ []
 journal_more n [] event = ap (λ (k : ℕ). stored_event k event ∷ []) (omega arith)

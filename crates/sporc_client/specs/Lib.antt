@@ -3,6 +3,7 @@ pub mod Log
 pub mod Rebasing
 pub mod Workspace
 pub mod Step
+pub mod Taking
 pub mod Coming
 pub mod Soundness
 pub mod Entries

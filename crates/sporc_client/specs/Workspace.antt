@@ -18,3 +18,10 @@ pub record WorkspaceInvariant (base : ℕ) (shown : List (List Mark)) (journal :
   pub base_is : base ≡ 0
   pub each : length shown ≡ length journal
   pub few : length journal ≤ MAX_EVENTS
+
+-- they say the same, and may have room for other numbers of events and items
+pub record SameOwn (own own' : WorkspaceModel) : Type 0 where
+  pub pending : own'.pending ≡ own.pending
+  pub flight : own'.flight ≡ own.flight
+  pub shown : own'.shown ≡ own.shown
+  pub journal : own'.journal ≡ own.journal

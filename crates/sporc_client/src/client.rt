@@ -1,6 +1,6 @@
 // A member's client.
 
-ghost use Rattle.std.specs.Prelude.{◌≡◌, ◌≢◌, ◌≤◌, ◌++◌, [], map as map_, length, true, None, Some, IfOk, IfErr, OnOk, option_copied};
+ghost use Rattle.std.specs.Prelude.{◌≡◌, ◌≢◌, ◌+◌, ◌<◌, ◌≤◌, ◌∷◌, ◌++◌, [], map as map_, drop, take, length, true, None, Some, IfOk, IfErr, OnOk, OnErr, option_copied};
 ghost use Rattle.std.specs.FinMap as map;
 ghost use Rattle.sporc_hash.specs.Chain.{chain};
 ghost use Rattle.sporc_entry.specs.Genesis.{IsGenesis, genesis_bytes};
@@ -18,10 +18,13 @@ ghost use Rattle.sporc_member.specs.Roster.{member_at};
 ghost use Rattle.sporc_client.specs.ClientInvariant.{plain_of};
 ghost use Rattle.lms_tree.specs.LmsPrivate.{LmsPrivate};
 ghost use Rattle.lms_leaf.specs.LeafFile.{AreTaken};
-ghost use Rattle.sporc_suffix.specs.Forms.{Follow};
+ghost use Rattle.sporc_delta.specs.Marks.{base_len, inserted_len};
+ghost use Rattle.sporc_delta.specs.declared.limits.TheConstants.{MAX_TEXT_LEN};
+ghost use Rattle.sporc_suffix.specs.Forms.{Follow, all_inserted, later_over, reached};
 ghost use Rattle.sporc_client.specs.Allowed.{is_allowed};
 ghost use Rattle.sporc_client.specs.Soundness.{IsSound};
 ghost use Rattle.sporc_client.specs.ClientModel.{Rise, leaves_of, state_of};
+ghost use Rattle.sporc_client.specs.Workspace.{SameOwn};
 
 mod accepting;
 mod discarding;
@@ -33,9 +36,9 @@ use crate::event::Event;
 use crate::fault::{ClientOpenFault, EditFault};
 use crate::limits::{MAX_EDIT_BYTES, MAX_EVENTS, MAX_PENDING};
 use crate::pending::Pending;
-use crate::workspace::Workspace;
+use crate::workspace::{Workspace, ready_keep};
 use lms_sign::{KeptTicket, Signer};
-use sporc_base::Bytes;
+use sporc_base::{Bytes, Memory};
 use sporc_delta::Delta;
 use sporc_entry::Genesis;
 use sporc_epoch::{Pairs, Ring};
@@ -216,12 +219,7 @@ impl<D: LeafDisk> Client<D> {
         ensures log { self.new ≡ record self.old { log = self.old.log ++ added result (Edited by seen delta.now) } }
     {
         check_edit(&self.line, &self.own, seen, delta)?;
-        let restated = self.own.restated(delta, seen as u32)?;
-        let item = Pending::Edit(restated.copy()?);
-        let delta = delta.copy()?;
-        let ready = self.own.ready(restated)?;
-        self.own
-            .record_item(Event::Edit { by, seen, delta }, ready, item);
+        record_edit(&mut self.own, by, seen as u32, delta)?;
         Ok(self.own.journal().len() as u64)
     }
 
@@ -232,8 +230,7 @@ impl<D: LeafDisk> Client<D> {
         ensures log { self.new ≡ record self.old { log = self.old.log ++ added result (Changed by change) } }
     {
         check_change(&self.line, &self.own)?;
-        let keep = Delta::keep_all(self.alloc, self.own.shown_len())?;
-        let ready = self.own.ready(keep)?;
+        let ready = ready_keep(self.alloc, &mut self.own)?;
         self.own.record_item(Event::Change { by, change }, ready, Pending::Change(change));
         Ok(self.own.journal().len() as u64)
     }
@@ -302,6 +299,32 @@ fn check_edit(line: &Line, own: &Workspace, seen: u64, delta: &Delta) -> Result<
         return Err(EditFault::TooLong(bytes));
     }
     check_room(own)
+}
+
+// Records an edit of the text that was shown after `seen` events, restated on the text shown now.
+fn record_edit(own: &mut Workspace, by: u32, seen: u32, delta: &Delta) -> Result<(), Memory>
+    requires within { seen ≤ length own.old.shown }
+    requires base { base_len delta.now ≡ reached 0 (take seen own.old.shown) }
+    requires limit { base_len delta.now + inserted_len delta.now + all_inserted (drop seen own.old.shown) ≤ MAX_TEXT_LEN }
+    requires restated { base_len (later_over delta.now (drop seen own.old.shown)) ≡ reached 0 own.old.shown }
+    requires room { length own.old.shown < MAX_EVENTS }
+    ensures pending { OnOk result (own.new.pending ≡ own.old.pending ++ Pending.Edit (later_over delta.now (drop seen own.old.shown)) ∷ []) }
+    ensures flight { own.new.flight ≡ own.old.flight }
+    ensures shown { OnOk result (own.new.shown ≡ own.old.shown ++ later_over delta.now (drop seen own.old.shown) ∷ []) }
+    ensures journal { OnOk result (own.new.journal ≡ own.old.journal ++ Event.Edit by seen delta.now ∷ []) }
+    ensures unchanged { OnErr result (SameOwn own.old own.new) }
+{
+    let restated = own.restated(delta, seen)?;
+    let item = restated.copy()?;
+    let stated = delta.copy()?;
+    let ready = own.ready(restated)?;
+    let event = Event::Edit {
+        by,
+        seen: u64::from(seen),
+        delta: stated,
+    };
+    own.record_item(event, ready, Pending::Edit(item));
+    Ok(())
 }
 
 // The checks of a change.

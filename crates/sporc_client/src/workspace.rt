@@ -1,13 +1,14 @@
 // A client's own part.
 
 ghost use Rattle.std.specs.Prelude.{◌≡◌, ◌+◌, ◌≤◌, ◌<◌, ◌∷◌, ◌++◌, [], drop, take, length, None, Some, option_copied, IfOk, OnOk};
-ghost use Rattle.sporc_delta.specs.Marks.{base_len, inserted_len};
-ghost use Rattle.sporc_delta.specs.declared.limits.TheConstants.{MAX_TEXT_LEN};
+ghost use Rattle.sporc_delta.specs.Marks.{base_len, inserted_len, retains};
+ghost use Rattle.sporc_delta.specs.declared.limits.TheConstants.{MAX_COUNT, MAX_TEXT_LEN};
 ghost use Rattle.sporc_suffix.specs.Forms.{Follow, all_inserted, later_over, reached};
 ghost use Rattle.sporc_line.specs.Document.{text_after};
 ghost use Rattle.sporc_client.specs.declared.limits.TheConstants.{MAX_EVENTS};
 ghost use Rattle.sporc_client.specs.Coming.{flight_after, pending_after};
 ghost use Rattle.sporc_client.specs.Step.{is_same_as};
+ghost use Rattle.sporc_client.specs.Workspace.{SameOwn};
 
 use crate::coming::Coming;
 use crate::event::Event;
@@ -253,6 +254,20 @@ impl Workspace {
         self.pending.clear();
         let _ = self.flight.take();
     }
+}
+
+/// Takes the memory of one more event that keeps the shown text, and of one more pending item.
+pub(crate) fn ready_keep(alloc: Global, own: &mut Workspace) -> Result<ReadyForm, Memory>
+    requires follow { Follow 0 own.old.shown }
+    requires short { length (text_after own.old.shown) ≤ MAX_COUNT }
+    ensures ok { IfOk result (λ ready. ready ≡ retains (length (text_after own.old.shown))) }
+    ensures base { IfOk result (λ ready. base_len ready ≡ reached 0 own.old.shown) }
+    ensures spare { OnOk result (0 < own.new.spare) }
+    ensures unchanged { SameOwn own.old own.new }
+{
+    let keep = Delta::keep_all(alloc, own.shown_len())?;
+    let ready = own.ready(keep)?;
+    Ok(ready)
 }
 
 // A delta that is stated after the first `seen` forms, restated behind all of them, with no count of steps.

@@ -1,23 +1,31 @@
 // Entries that come.
 
-ghost use Rattle.std.specs.Prelude.{◌≡◌, ◌≤◌, ◌++◌, length, nat_lt, IfOk, OnOk};
+ghost use Rattle.std.specs.Prelude.{◌≡◌, ◌<◌, ◌≤◌, ◌++◌, ◌==◌, length, is_some, nat_lt, IfOk, OnOk, OnErr};
 ghost use Rattle.sporc_base.specs.FirstFault.{AnswersUnless};
+ghost use Rattle.sporc_entry.specs.Entry.{change_of};
 ghost use Rattle.sporc_line.specs.LineChecks.{first_fault};
 ghost use Rattle.sporc_line.specs.Prepared.{IsPrepared};
 ghost use Rattle.sporc_client.specs.declared.limits.TheConstants.{MAX_EVENTS};
 ghost use Rattle.sporc_client.specs.Answers.{accept_fault, added, or_full};
 ghost use Rattle.sporc_client.specs.ClientModel.{state_of};
 ghost use Rattle.sporc_client.specs.Log.{Accept as Accepted};
+ghost use Rattle.sporc_client.specs.Coming.{coming_of};
+ghost use Rattle.sporc_client.specs.Step.{is_same_as};
+ghost use Rattle.sporc_client.specs.Taking.{CanSettle, Takes, form_at};
+ghost use Rattle.sporc_client.specs.Workspace.{SameOwn};
 
 use super::Client;
-use crate::coming::settle;
+use crate::coming::{Coming, settle};
 use crate::event::Event;
 use crate::fault::AcceptFault;
 use crate::limits::MAX_EVENTS;
 use crate::workspace::Workspace;
+use sporc_base::Memory;
 use sporc_head::Refusal;
 use sporc_line::{Line, Prepared};
 use sporc_outside::LeafDisk;
+use sporc_suffix::ReadyForm;
+use std::alloc::Global;
 
 impl<D: LeafDisk> Client<D> {
     /// Accepts an entry that is to stand at a position, if no check fails. The length of the journal.
@@ -30,13 +38,71 @@ impl<D: LeafDisk> Client<D> {
         ensures log { self.new ≡ record self.old { log = self.old.log ++ added result (Accepted by bytes.now) } }
     {
         let prepared = check_entry(&mut self.line, &self.own, pos, bytes)?;
-        let (coming, form) = settle(self.alloc, self.line.me(), &self.own, &prepared, bytes)?;
-        let ready = self.own.ready(form)?;
-        self.line.commit(prepared);
-        let place = self.line.len();
-        self.own
-            .record_coming(Event::Accept { by, place }, ready, coming);
+        take_entry(
+            self.alloc,
+            &mut self.line,
+            &mut self.own,
+            by,
+            prepared,
+            bytes,
+        )?;
         Ok(self.own.journal().len() as u64)
+    }
+}
+
+// Commits a prepared entry, of these bytes, and does what it does to a client's own part.
+fn take_entry(
+    alloc: Global,
+    line: &mut Line,
+    own: &mut Workspace,
+    by: u32,
+    prepared: Prepared,
+    bytes: &[u8],
+) -> Result<(), Memory>
+    requires bytes { prepared.checked.bytes ≡ bytes.now }
+    requires prepared { IsPrepared line.old.genesis line.old.kit line.old.entries prepared }
+    requires ready { 1 ≤ line.old.spare }
+    requires settles { CanSettle own.old prepared }
+    ensures ok { OnOk result (Takes line.old line.new own.old own.new by prepared) }
+    ensures unchanged_line { OnErr result (line.new ≡ line.old) }
+    ensures unchanged { OnErr result (SameOwn own.old own.new) }
+{
+    match ready_coming(alloc, line.me(), own, &prepared, bytes) {
+        Ok((coming, ready)) => {
+            line.commit(prepared);
+            let place = line.len();
+            own.record_coming(Event::Accept { by, place }, ready, coming);
+            Ok(())
+        }
+        Err(memory) => {
+            drop(prepared);
+            Err(memory)
+        }
+    }
+}
+
+// What a prepared entry, of these bytes, does to a client's own part, and its shown delta with the memory of its event.
+fn ready_coming(
+    alloc: Global,
+    me: u16,
+    own: &mut Workspace,
+    prepared: &Prepared,
+    bytes: &[u8],
+) -> Result<(Coming, ReadyForm), Memory>
+    requires bytes { prepared.now.checked.bytes ≡ bytes.now }
+    requires settles { CanSettle own.old prepared.now }
+    ensures coming { IfOk result (λ both. both.0 ≡ coming_of (is_same_as own.old.flight bytes.now) (is_some (change_of prepared.now.checked.entry)) (prepared.now.checked.entry.header.author == me) prepared.now.form own.old.pending) }
+    ensures ready { IfOk result (λ both. both.1 ≡ form_at own.old prepared.now) }
+    ensures spare { OnOk result (0 < own.new.spare) }
+    ensures unchanged { SameOwn own.old own.new }
+{
+    let (coming, form) = settle(alloc, me, own, prepared, bytes)?;
+    match own.ready(form) {
+        Ok(ready) => Ok((coming, ready)),
+        Err(memory) => {
+            drop(coming);
+            Err(memory)
+        }
     }
 }
 
@@ -61,6 +127,7 @@ fn check_entry(
         Err(refusal) => return Err(AcceptFault::Refused(refusal)),
     };
     if own.journal().len() >= MAX_EVENTS {
+        drop(prepared);
         return Err(AcceptFault::JournalFull);
     }
     Ok(prepared)

@@ -16,9 +16,9 @@ use crate::client::Client;
 use crate::event::Event;
 use crate::fault::SubmitFault;
 use crate::submitted::Submitted;
+use crate::workspace::ready_keep;
 use due::{Due, find_due};
 use making::make_entry;
-use sporc_delta::Delta;
 use sporc_member::ChangeFault;
 use sporc_outside::LeafDisk;
 
@@ -58,8 +58,7 @@ impl<D: LeafDisk> Client<D> {
         ensures err { IfErr result (λ e. e ≡ SubmitFault.Memory) }
         ensures log { self.new ≡ record self.old { log = self.old.log ++ submission_added by result } }
     {
-        let keep = Delta::keep_all(self.alloc, self.own.shown_len())?;
-        let ready = self.own.ready(keep)?;
+        let ready = ready_keep(self.alloc, &mut self.own)?;
         self.own.record_drop(Event::Dropped { by, fault }, ready);
         Ok(Submitted::Dropped(fault))
     }
@@ -77,8 +76,7 @@ impl<D: LeafDisk> Client<D> {
         ensures undrawn { (leaf : ℕ) → self.old.ticket ≡ Some leaf → self.new.leaves ≡ self.old.leaves }
         ensures drawn { self.old.ticket ≡ None → ((result ≡ Err SubmitFault.Memory) × (self.new.leaves ≡ self.old.leaves)) ⊎ IsDraw D.stored D.moment D.images D.faults self.old.leaves self.new.leaves }
     {
-        let keep = Delta::keep_all(self.alloc, self.own.shown_len())?;
-        let ready = self.own.ready(keep)?;
+        let ready = ready_keep(self.alloc, &mut self.own)?;
         let made = make_entry(
             self.alloc,
             &self.line,

@@ -1,13 +1,16 @@
-use Rattle.std.proofs.Common.{rules, ◌≡◌, List, [], ◌∷◌, ◌++◌, Some, ap, sym, ◌∙◌, arith}
+use Rattle.std.proofs.Common.{rules, ◌≡◌, List, [], ◌∷◌, ◌++◌, Some, refl, ap, sym, ◌∙◌, arith}
 use Rattle.sporc_delta.specs.Marks.{Mark, retains}
+use Rattle.sporc_suffix.specs.Forms.{reached}
 use Rattle.sporc_client.specs.Answers.{change_fault}
 use Rattle.sporc_client.specs.ClientInvariant.{plain_of}
 use Rattle.sporc_client.specs.ClientModel.{state_of}
 use Rattle.sporc_client.specs.Log.{Change}
 use Rattle.sporc_client.specs.Step.{keeps}
 use Rattle.sporc_client.proofs.Checked.{change_fault_is, change_passed}
-use Rattle.sporc_client.proofs.Events.{change_records, kept_base, length_of_shown, shown_length}
+use Rattle.sporc_client.proofs.Comings.{no_more, same_fields, same_line, same_model}
+use Rattle.sporc_client.proofs.Events.{change_records, length_of_shown, shown_length}
 use Rattle.sporc_client.proofs.Kept.{recorded}
+use Rattle.sporc_client.proofs.Logs.{events_logged}
 use Rattle.sporc_client.proofs.client.Client.change.Goals as goal
 
 pub returns-in_err-check_change-clause-fault : goal.returns-in_err-check_change-clause-fault
@@ -18,24 +21,33 @@ returns-in_err-check_change-clause-fault g c =
     ap change_fault state ∙ change_fault_is plain ∙ c.in_err-check_change.ensures.fault c.self.inside.signer.key in
     rw fault (search rules)
 
-pub keep_all-requires : goal.keep_all-requires
-keep_all-requires g c = omega (arith, c.shown_len.ensures.value, shown_length c.self.inside.line c.self.inside.signer c.self.inside.ticket c.self.inside.own c.self.invariant)
+pub returns-in_err-check_change-clause-log : goal.returns-in_err-check_change-clause-log
+returns-in_err-check_change-clause-log g c = no_more c.from_residual.result (Change c.args.by c.args.change) c.args.self.now c.args.self.now c.from_residual.ensures.0 refl
 
-pub ready-requires : goal.ready-requires
-ready-requires g c = record {
-  base = kept_base c.self.inside.line c.self.inside.signer c.self.inside.ticket c.self.inside.own c.self.invariant c.in_ok-keep.keep c.shown_len.result c.in_ok-keep.ensures.ok c.shown_len.ensures.value;
-}
+pub ready_keep-requires : goal.ready_keep-requires
+ready_keep-requires g c =
+    let inside = c.self.inside in
+    record { follow = c.self.invariant.sound.follow; short = omega (arith, shown_length inside.line inside.signer inside.ticket inside.own c.self.invariant) }
+
+pub invariant_of-self : goal.invariant_of-self
+invariant_of-self g c =
+    let inside = c.self.inside in
+    same_fields inside.line inside.signer inside.ticket inside.own c.self.invariant inside.line c.ready_keep.new.own same_line c.in_err-ready.ensures.unchanged
+
+pub returns-in_err-ready-clause-log : goal.returns-in_err-ready-clause-log
+returns-in_err-ready-clause-log g c =
+    let inside = c.self.inside in
+    let same = same_model inside.line inside.line inside.signer inside.ticket inside.own c.ready_keep.new.own same_line c.in_err-ready.ensures.unchanged in
+    no_more c.from_residual-in_err-ready.result (Change c.args.by c.args.change) c.args.self.now _ c.from_residual-in_err-ready.ensures.0 (same ∙ c.self.view_is)
 
 pub record_item-requires-clause-base : goal.record_item-requires-clause-base
-record_item-requires-clause-base g c =
-    rw (c.in_ok-ready.ensures.ok, c.in_ok-ready.ensures.shown)
-    (kept_base c.self.inside.line c.self.inside.signer c.self.inside.ticket c.self.inside.own c.self.invariant c.in_ok-keep.keep c.shown_len.result c.in_ok-keep.ensures.ok c.shown_len.ensures.value)
+record_item-requires-clause-base g c = c.in_ok-ready.ensures.base ∙ ap (reached 0) (sym c.in_ok-ready.ensures.unchanged.shown)
 
 pub record_item-requires-clause-room : goal.record_item-requires-clause-room
 record_item-requires-clause-room g c =
     let own = c.self.inside.own in
     let room = change_passed (plain_of c.self.inside.signer.key c.self.inside.line own) (c.in_ok-check_change.ensures.fault c.self.inside.signer.key) in
-    rw c.in_ok-ready.ensures.shown room.events
+    rw c.in_ok-ready.ensures.unchanged.shown room.events
 
 pub invariant_of-self-2 : goal.invariant_of-self-2
 invariant_of-self-2 g c =
@@ -46,9 +58,8 @@ invariant_of-self-2 g c =
     let known = c.self.invariant in
     let checks = c.in_ok-check_change.ensures.fault signer.key in
     let recorded_item = c.record_item.ensures in
-    let ready = c.in_ok-ready.ensures in
-    let form : c.in_ok-ready.ready ≡ keeps (plain_of signer.key line own) =
-    ready.ok ∙ c.in_ok-keep.ensures.ok ∙ ap retains (c.shown_len.ensures.value ∙ length_of_shown line signer inside.ticket own known) in
+    let ready = c.in_ok-ready.ensures.unchanged in
+    let form : c.in_ok-ready.ready ≡ keeps (plain_of signer.key line own) = c.in_ok-ready.ensures.ok ∙ ap retains (length_of_shown line signer inside.ticket own known) in
     let did = change_records line signer inside.ticket own known c.record_item.new.self c.args.by c.args.change checks
     (rw ready.pending at recorded_item.pending) (recorded_item.flight ∙ ready.flight) (recorded_item.shown ∙ ap (λ (fs : List (List Mark)). fs ++ c.in_ok-ready.ready ∷ []) ready.shown ∙ ap (λ (f : List Mark). own.shown ++ f ∷ []) form) (rw ready.journal at recorded_item.journal) in
     (recorded line line signer signer inside.ticket inside.ticket own c.record_item.new.self (Change c.args.by c.args.change) known did).invariant
@@ -58,3 +69,6 @@ returns-clause-fault g c =
     let plain = plain_of c.self.inside.signer.key c.self.inside.line c.self.inside.own in
     let state : state_of c.args.self.now ≡ plain = ap state_of (sym c.self.view_is) ∙ sym c.self.invariant.state in
     ap change_fault state ∙ change_fault_is plain ∙ c.in_ok-check_change.ensures.fault c.self.inside.signer.key
+
+pub returns-clause-ok : goal.returns-clause-ok
+returns-clause-ok g c = events_logged c.self.inside.line.entries c.record_item.new.self.journal c.journal.result.now c.journal.ensures.value

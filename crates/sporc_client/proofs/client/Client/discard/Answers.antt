@@ -13,6 +13,7 @@ use Rattle.sporc_client.specs.PlainClient.{committed_of, shown_of}
 use Rattle.sporc_client.proofs.Checked.{events_left}
 use Rattle.sporc_client.proofs.Events.{discard_records, length_of_shown, replaced_base, shown_length}
 use Rattle.sporc_client.proofs.Kept.{recorded}
+use Rattle.sporc_client.proofs.Logs.{events_logged}
 use Rattle.sporc_client.proofs.client.Client.discard.Goals as goal
 
 pub returns-in_err-check_events-clause-fault : goal.returns-in_err-check_events-clause-fault
@@ -75,3 +76,6 @@ returns-clause-fault g c =
     let plain = plain_of c.self.inside.signer.key c.self.inside.line c.self.inside.own in
     let state : state_of c.args.self.now ≡ plain = ap state_of (sym c.self.view_is) ∙ sym c.self.invariant.state in
     ap discard_fault state ∙ c.in_ok-check_events.ensures.fault
+
+pub returns-clause-ok : goal.returns-clause-ok
+returns-clause-ok g c = events_logged c.self.inside.line.entries c.record_discard.new.self.journal c.journal.result.now c.journal.ensures.value

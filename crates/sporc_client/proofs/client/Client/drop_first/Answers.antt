@@ -1,5 +1,6 @@
-use Rattle.std.proofs.Common.{◌≡◌, List, [], ◌∷◌, ◌++◌, ap, ◌∙◌, arith}
+use Rattle.std.proofs.Common.{◌≡◌, List, [], ◌∷◌, ◌++◌, ap, sym, ◌∙◌, arith}
 use Rattle.sporc_delta.specs.Marks.{Mark, retains}
+use Rattle.sporc_suffix.specs.Forms.{reached}
 use Rattle.sporc_client.specs.declared.event.Event.{Event}
 use Rattle.sporc_client.specs.declared.event.Event.TheVariants as stored
 use Rattle.sporc_client.specs.declared.pending.Pending.{Pending}
@@ -9,23 +10,24 @@ use Rattle.sporc_client.specs.ClientModel.{state_of}
 use Rattle.sporc_client.specs.Log.{Dropped}
 use Rattle.sporc_client.specs.Step.{keeps}
 use Rattle.sporc_client.specs.Submissions.{Drop, due}
-use Rattle.sporc_client.proofs.Events.{kept_base, length_of_shown, shown_length}
+use Rattle.sporc_client.proofs.Comings.{same_fields, same_line}
+use Rattle.sporc_client.proofs.Events.{length_of_shown, shown_length}
 use Rattle.sporc_client.proofs.Kept.{recorded}
 use Rattle.sporc_client.proofs.SubmitEvents.{drop_records, due_room, is_event}
 use Rattle.sporc_client.proofs.client.Client.drop_first.Goals as goal
 
-pub keep_all-requires : goal.keep_all-requires
-keep_all-requires g c = omega (arith, c.shown_len.ensures.value, shown_length c.self.inside.line c.self.inside.signer c.self.inside.ticket c.self.inside.own c.self.invariant)
+pub ready_keep-requires : goal.ready_keep-requires
+ready_keep-requires g c =
+    let inside = c.self.inside in
+    record { follow = c.self.invariant.sound.follow; short = omega (arith, shown_length inside.line inside.signer inside.ticket inside.own c.self.invariant) }
 
-pub ready-requires : goal.ready-requires
-ready-requires g c = record {
-  base = kept_base c.self.inside.line c.self.inside.signer c.self.inside.ticket c.self.inside.own c.self.invariant c.in_ok-keep.keep c.shown_len.result c.in_ok-keep.ensures.ok c.shown_len.ensures.value;
-}
+pub invariant_of-self : goal.invariant_of-self
+invariant_of-self g c =
+    let inside = c.self.inside in
+    same_fields inside.line inside.signer inside.ticket inside.own c.self.invariant inside.line c.ready_keep.new.own same_line c.in_err-ready.ensures.unchanged
 
 pub record_drop-requires-clause-base : goal.record_drop-requires-clause-base
-record_drop-requires-clause-base g c =
-    rw (c.in_ok-ready.ensures.ok, c.in_ok-ready.ensures.shown)
-    (kept_base c.self.inside.line c.self.inside.signer c.self.inside.ticket c.self.inside.own c.self.invariant c.in_ok-keep.keep c.shown_len.result c.in_ok-keep.ensures.ok c.shown_len.ensures.value)
+record_drop-requires-clause-base g c = c.in_ok-ready.ensures.base ∙ ap (reached 0) (sym c.in_ok-ready.ensures.unchanged.shown)
 
 pub record_drop-requires-clause-room : goal.record_drop-requires-clause-room
 record_drop-requires-clause-room g c =
@@ -33,7 +35,7 @@ record_drop-requires-clause-room g c =
     let plain = plain_of inside.signer.key inside.line inside.own in
     let state : plain ≡ state_of c.args.self.now = c.self.invariant.state ∙ ap state_of c.self.view_is in
     let is : due plain ≡ Drop c.args.fault = ap due state ∙ c.requires in
-    rw c.in_ok-ready.ensures.shown (due_room plain (ap is_event is))
+    rw c.in_ok-ready.ensures.unchanged.shown (due_room plain (ap is_event is))
 
 pub invariant_of-self-2 : goal.invariant_of-self-2
 invariant_of-self-2 g c =
@@ -46,8 +48,8 @@ invariant_of-self-2 g c =
     let state : plain ≡ state_of c.args.self.now = known.state ∙ ap state_of c.self.view_is in
     let is : due plain ≡ Drop c.args.fault = ap due state ∙ c.requires in
     let did = c.record_drop.ensures in
-    let ready = c.in_ok-ready.ensures in
-    let form : c.in_ok-ready.ready ≡ keeps plain = ready.ok ∙ c.in_ok-keep.ensures.ok ∙ ap retains (c.shown_len.ensures.value ∙ length_of_shown line signer inside.ticket own known) in
+    let ready = c.in_ok-ready.ensures.unchanged in
+    let form : c.in_ok-ready.ready ≡ keeps plain = c.in_ok-ready.ensures.ok ∙ ap retains (length_of_shown line signer inside.ticket own known) in
     let records = drop_records line signer inside.ticket own known c.record_drop.new.self c.args.by c.args.fault is
     (did.pending ∙ ap (λ (ps : List Pending). drop 1 ps) ready.pending)
     (did.flight ∙ ready.flight)

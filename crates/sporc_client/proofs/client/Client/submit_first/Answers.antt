@@ -1,5 +1,6 @@
 use Rattle.std.proofs.Common.{◌≡◌, ℕ, List, [], ◌∷◌, ◌++◌, Option, None, Some, refl, ap, sym, subst, ◌∙◌, true, arith}
 use Rattle.sporc_delta.specs.Marks.{Mark, retains}
+use Rattle.sporc_suffix.specs.Forms.{reached}
 use Rattle.sporc_client.specs.declared.event.Event.{Event}
 use Rattle.sporc_client.specs.declared.event.Event.TheVariants as stored
 use Rattle.sporc_client.specs.ClientInvariant.{ClientInvariant, plain_of}
@@ -10,25 +11,25 @@ use Rattle.sporc_client.specs.Log.{Submit, log_of}
 use Rattle.sporc_client.specs.PlainClient.{PlainClient}
 use Rattle.sporc_client.specs.Step.{keeps}
 use Rattle.sporc_client.specs.Submissions.{due, is_signing}
-use Rattle.sporc_client.proofs.Comings.{same_fields}
-use Rattle.sporc_client.proofs.Events.{kept_base, length_of_shown, shown_length}
+use Rattle.sporc_client.proofs.Comings.{same_fields, same_line}
+use Rattle.sporc_client.proofs.Events.{length_of_shown, shown_length}
 use Rattle.sporc_client.proofs.Kept.{recorded}
 use Rattle.sporc_client.proofs.SubmitEvents.{due_room, same_key, signs_event, submit_records}
 use Rattle.sporc_client.proofs.SubmitLeaves.{leaf_there, order_at_hand}
 use Rattle.sporc_client.proofs.client.Client.submit_first.Goals as goal
 
-pub keep_all-requires : goal.keep_all-requires
-keep_all-requires g c = omega (arith, c.shown_len.ensures.value, shown_length c.self.inside.line c.self.inside.signer c.self.inside.ticket c.self.inside.own c.self.invariant)
+pub ready_keep-requires : goal.ready_keep-requires
+ready_keep-requires g c =
+    let inside = c.self.inside in
+    record { follow = c.self.invariant.sound.follow; short = omega (arith, shown_length inside.line inside.signer inside.ticket inside.own c.self.invariant) }
 
-pub ready-requires : goal.ready-requires
-ready-requires g c = record {
-  base = kept_base c.self.inside.line c.self.inside.signer c.self.inside.ticket c.self.inside.own c.self.invariant c.in_ok-keep.keep c.shown_len.result c.in_ok-keep.ensures.ok c.shown_len.ensures.value;
-}
+pub invariant_of-self : goal.invariant_of-self
+invariant_of-self g c =
+    let inside = c.self.inside in
+    same_fields inside.line inside.signer inside.ticket inside.own c.self.invariant inside.line c.ready_keep.new.own same_line c.in_err-ready.ensures.unchanged
 
 pub record_submission-requires-clause-base : goal.record_submission-requires-clause-base
-record_submission-requires-clause-base g c =
-    rw (c.in_ok-ready.ensures.ok, c.in_ok-ready.ensures.shown)
-    (kept_base c.self.inside.line c.self.inside.signer c.self.inside.ticket c.self.inside.own c.self.invariant c.in_ok-keep.keep c.shown_len.result c.in_ok-keep.ensures.ok c.shown_len.ensures.value)
+record_submission-requires-clause-base g c = c.in_ok-ready.ensures.base ∙ ap (reached 0) (sym c.in_ok-ready.ensures.unchanged.shown)
 
 pub record_submission-requires-clause-room : goal.record_submission-requires-clause-room
 record_submission-requires-clause-room g c =
@@ -36,7 +37,7 @@ record_submission-requires-clause-room g c =
     let plain = plain_of inside.signer.key inside.line inside.own in
     let state : plain ≡ state_of c.args.self.now = c.self.invariant.state ∙ ap state_of c.self.view_is in
     let is : is_signing (due plain) ≡ true = ap (λ p. is_signing (due p)) state ∙ c.requires in
-    rw c.in_ok-ready.ensures.shown (due_room plain (signs_event (due plain) is))
+    rw c.in_ok-ready.ensures.unchanged.shown (due_room plain (signs_event (due plain) is))
 
 pub invariant_of-self-in_err-made : goal.invariant_of-self-in_err-made
 invariant_of-self-in_err-made g c =
@@ -45,7 +46,7 @@ invariant_of-self-in_err-made g c =
     let signer = inside.signer in
     let own = inside.own in
     let known = c.self.invariant in
-    let ready = c.in_ok-ready.ensures in
+    let ready = c.in_ok-ready.ensures.unchanged in
     let made = c.in_err-made.ensures in
     let signer' = c.make_entry.new.signer in
     let hand = at_hand inside.ticket signer.leaves signer'.leaves in
@@ -54,9 +55,8 @@ invariant_of-self-in_err-made g c =
     let kept : AreInOrder signer'.leaves.next_at_open signer'.leaves.next c.make_entry.new.kept (leaves_of (log_of line.entries own.journal)) =
     subst (λ (t : Option ℕ). AreInOrder signer'.leaves.next_at_open signer'.leaves.next t (leaves_of (log_of line.entries own.journal))) (sym made.ticket) order in
     let with_ticket = same_key line signer inside.ticket own known signer' c.make_entry.new.kept made.key made.can_sign kept in
-    same_fields line signer' c.make_entry.new.kept own with_ticket line c.ready.new.self
-    (record { genesis = refl; kit = refl; entries = refl })
-    (record { pending = ready.pending; flight = ready.flight; shown = ready.shown; journal = ready.journal })
+    same_fields line signer' c.make_entry.new.kept own with_ticket line c.ready_keep.new.own
+    same_line ready
 
 pub invariant_of-self-2 : goal.invariant_of-self-2
 invariant_of-self-2 g c =
@@ -69,18 +69,18 @@ invariant_of-self-2 g c =
     let state : plain ≡ state_of c.args.self.now = known.state ∙ ap state_of c.self.view_is in
     let is : is_signing (due plain) ≡ true = ap (λ p. is_signing (due p)) state ∙ c.requires in
     let did = c.record_submission.ensures in
-    let ready = c.in_ok-ready.ensures in
+    let ready = c.in_ok-ready.ensures.unchanged in
     let made = c.in_ok-made.ensures in
     let signer' = c.make_entry.new.signer in
     let bytes = c.in_ok-made.made.answer in
     let signed = leaves_of (log_of line.entries own.journal) in
-    let after = plain_of signer.key line c.ready.new.self in
+    let after = plain_of signer.key line c.ready_keep.new.own in
     let same : after ≡ plain = rw (ready.pending, ready.flight, ready.shown) refl in
     let leaf = leaf_there (λ leaf. IsSubmission after leaf bytes) (at_hand inside.ticket signer.leaves signer'.leaves) made.submission in
     let order = order_at_hand g.D.LeafDisk.stored g.D.LeafDisk.moment g.D.LeafDisk.images g.D.Counted.faults signer.leaves signer'.leaves signed inside.ticket known.leaves
     (λ leaf h. ap (λ s. s.leaves) (made.undrawn leaf h)) made.drawn in
     let kept : AreInOrder signer'.leaves.next_at_open signer'.leaves.next (Some leaf.0) signed = subst (λ (t : Option ℕ). AreInOrder signer'.leaves.next_at_open signer'.leaves.next t signed) leaf.1 order in
-    let form : c.in_ok-ready.ready ≡ keeps plain = ready.ok ∙ c.in_ok-keep.ensures.ok ∙ ap retains (c.shown_len.ensures.value ∙ length_of_shown line signer inside.ticket own known) in
+    let form : c.in_ok-ready.ready ≡ keeps plain = c.in_ok-ready.ensures.ok ∙ ap retains (length_of_shown line signer inside.ticket own known) in
     let records = submit_records line signer inside.ticket own known signer' c.record_submission.new.self c.args.by leaf.0 bytes made.key (subst (λ (p : PlainClient). IsSubmission p leaf.0 bytes) same leaf.2) (signs_event (due plain) is) kept
     (did.pending ∙ ready.pending)
     (did.flight ∙ ap Some made.made.flight)
