@@ -3,6 +3,10 @@ use Rattle.std.proofs.lemmas.List.{length-map}
 use Rattle.sporc_client.proofs.Resumed.{take_read}
 use Rattle.sporc_client.proofs.client.restarting.first_entries.Goals as goal
 
+pub bounds-entries-i : goal.bounds-entries-i
+bounds-entries-i c =
+    omega (arith, c.loop-i-test.true, c.requires, ap length c.entries-entries.ensures.value, length-map c.entries-entries.result.now (λ v. v.items))
+
 pub loop-i-preserved : goal.loop-i-preserved
 loop-i-preserved c =
     let loop = c.loop-i in
