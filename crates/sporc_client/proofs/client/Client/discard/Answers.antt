@@ -1,4 +1,4 @@
-use Rattle.std.proofs.Common.{rules, ◌≡◌, List, ℕ, [], ◌∷◌, ◌++◌, Some, length, ap, sym, ◌∙◌, arith}
+use Rattle.std.proofs.Common.{rules, ◌≡◌, List, ℕ, [], ◌∷◌, ◌++◌, Some, length, refl, ap, sym, ◌∙◌, arith}
 use Rattle.std.specs.Str.{chars}
 use Rattle.sporc_delta.specs.Marks.{Mark, replacement}
 use Rattle.sporc_delta.proofs.Spelled.{length-encode_all}
@@ -11,6 +11,7 @@ use Rattle.sporc_client.specs.ClientModel.{state_of}
 use Rattle.sporc_client.specs.Log.{Discard}
 use Rattle.sporc_client.specs.PlainClient.{committed_of, shown_of}
 use Rattle.sporc_client.proofs.Checked.{events_left}
+use Rattle.sporc_client.proofs.Comings.{no_more, same_fields, same_line, same_model}
 use Rattle.sporc_client.proofs.Events.{discard_records, length_of_shown, replaced_base, shown_length}
 use Rattle.sporc_client.proofs.Kept.{recorded}
 use Rattle.sporc_client.proofs.Logs.{events_logged}
@@ -22,6 +23,15 @@ returns-in_err-check_events-clause-fault g c =
     let state : state_of c.args.self.now ≡ plain = ap state_of (sym c.self.view_is) ∙ sym c.self.invariant.state in
     let fault : discard_fault (state_of c.args.self.now) ≡ Some c.in_err-check_events.field-0.0 = ap discard_fault state ∙ c.in_err-check_events.ensures.fault in
     rw fault (search rules)
+
+pub returns-in_err-check_events-clause-log : goal.returns-in_err-check_events-clause-log
+returns-in_err-check_events-clause-log g c = no_more c.from_residual.result (Discard c.args.by) c.args.self.now c.args.self.now c.from_residual.ensures.0 refl
+
+pub returns-in_err-text-clause-log : goal.returns-in_err-text-clause-log
+returns-in_err-text-clause-log g c = no_more c.from_residual-in_err-text.result (Discard c.args.by) c.args.self.now c.args.self.now c.from_residual-in_err-text.ensures.0 refl
+
+pub returns-in_err-form-clause-log : goal.returns-in_err-form-clause-log
+returns-in_err-form-clause-log g c = no_more c.from_residual-in_err-form.result (Discard c.args.by) c.args.self.now c.args.self.now c.from_residual-in_err-form.ensures.0 refl
 
 pub replace_all-requires-clause-limit : goal.replace_all-requires-clause-limit
 replace_all-requires-clause-limit g c =
@@ -38,6 +48,21 @@ pub ready-requires : goal.ready-requires
 ready-requires g c =
     let inside = c.self.inside in
     record { base = replaced_base inside.line inside.signer inside.ticket inside.own c.self.invariant c.in_ok-form.form c.shown_len.result _ c.in_ok-form.ensures.ok c.shown_len.ensures.value }
+
+pub invariant_of-self : goal.invariant_of-self
+invariant_of-self g c =
+    let inside = c.self.inside in
+    let ready = c.in_err-ready.ensures in
+    same_fields inside.line inside.signer inside.ticket inside.own c.self.invariant inside.line c.ready.new.self same_line
+    (record { pending = ready.pending; flight = ready.flight; shown = ready.shown; journal = ready.journal })
+
+pub returns-in_err-ready-clause-log : goal.returns-in_err-ready-clause-log
+returns-in_err-ready-clause-log g c =
+    let inside = c.self.inside in
+    let ready = c.in_err-ready.ensures in
+    let same = same_model inside.line inside.line inside.signer inside.ticket inside.own c.ready.new.self same_line
+    (record { pending = ready.pending; flight = ready.flight; shown = ready.shown; journal = ready.journal }) in
+    no_more c.from_residual-in_err-ready.result (Discard c.args.by) c.args.self.now _ c.from_residual-in_err-ready.ensures.0 (same ∙ c.self.view_is)
 
 pub record_discard-requires-clause-base : goal.record_discard-requires-clause-base
 record_discard-requires-clause-base g c =

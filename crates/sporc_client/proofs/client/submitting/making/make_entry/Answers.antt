@@ -1,4 +1,4 @@
-use Rattle.std.proofs.Common.{rules, ◌≡◌, Err, Result, ap, sym, subst, ◌∙◌}
+use Rattle.std.proofs.Common.{rules, ◌≡◌, Err, Ok, Result, ap, sym, subst, ◌∙◌}
 use Rattle.sporc_base.specs.Outcome.{GivesUnless}
 use Rattle.sporc_client.specs.declared.client.submitting.draft.Made.{Made}
 use Rattle.sporc_client.specs.declared.fault.SubmitFault.{SubmitFault}
@@ -30,3 +30,17 @@ returns-in_err-ticket-clause-answer g c =
     (λ none. drawn_is g.D.LeafDisk.stored g.D.LeafDisk.moment g.D.LeafDisk.images g.D.Counted.faults old new (Err fault) (e.draws none) (e.faults none)) in
     let P : Result Made SubmitFault → Type 0 = λ r. GivesUnless Memory (λ made. submitted.Entry made.answer) r (submission plain random (leaf_for c.args.kept.now old new)) in
     subst P (sym is) (λ _. ap (submission plain random) leaf ∙ undrawn plain random fault c.requires.due)
+
+pub returns-in-Ok-clause-drawn : goal.returns-in-Ok-clause-drawn
+returns-in-Ok-clause-drawn g c = λ none.
+    let ticket = c.in_ok-ticket in
+    let same : c.make_signed.new.signer.leaves ≡ c.take_ticket.new.signer.leaves = ap (λ s. s.leaves) c.make_signed.ensures.unchanged in
+    is_draw g.D.LeafDisk.stored g.D.LeafDisk.moment g.D.LeafDisk.images g.D.Counted.faults c.args.signer.now.leaves c.make_signed.new.signer.leaves (Ok ticket.ticket)
+    (rw same (ticket.ensures.draws none)) (rw same (ticket.ensures.faults none))
+
+pub returns-in-Err-clause-drawn : goal.returns-in-Err-clause-drawn
+returns-in-Err-clause-drawn g c = λ none.
+    let ticket = c.in_ok-ticket in
+    let same : c.make_signed.new.signer.leaves ≡ c.take_ticket.new.signer.leaves = ap (λ s. s.leaves) c.make_signed.ensures.unchanged in
+    is_draw g.D.LeafDisk.stored g.D.LeafDisk.moment g.D.LeafDisk.images g.D.Counted.faults c.args.signer.now.leaves c.make_signed.new.signer.leaves (Ok ticket.ticket)
+    (rw same (ticket.ensures.draws none)) (rw same (ticket.ensures.faults none))
