@@ -1,6 +1,6 @@
 // The bytes are spelled out by hand, field by field, from the tables of the formats.
 
-ghost use Rattle.std.specs.Prelude.{◌≡◌, length, IfOk};
+ghost use Rattle.std.specs.Prelude.{◌≡◌, length};
 
 use crate::compare::same_bytes;
 use sporc_entry::{
@@ -10,7 +10,6 @@ use sporc_entry::{
 use sporc_member::{Change, Founder, Role};
 use std::alloc::Global;
 use std::process::Abort;
-use std::test::Fail;
 
 // An edit of 19 bytes up to its signature of 2,348, in hexadecimal: version, document, author, number, base, base hash,
 // epoch, leaf, kind, body and length of the signature.
@@ -59,38 +58,45 @@ const GENESIS: &str = "01\
     888888888888888888888888888888888888888888888888888888888888888888888888888888888888888888888888";
 
 // So many bytes of one value.
-fn repeated(alloc: Global, value: u8, count: usize) -> Result<Vec<u8>, Fail>
-    ensures { IfOk result (λ all. length all.items ≡ count) }
+fn repeated(rt: &impl Abort, alloc: Global, value: u8, count: usize) -> Vec<u8>
+    ensures { length result.items ≡ count }
 {
-    let bytes = vec![in alloc; value; count]?;
-    Ok(bytes)
+    vec![in alloc; value; count].expect(rt, "memory")
 }
 
-fn edit_bytes(alloc: Global) -> Result<Vec<u8>, Fail> {
-    let signature = repeated(alloc, 0x55, 2348)?;
-    let mut bytes = hex::decode(alloc, EDIT)?;
-    bytes.extend_from_slice(signature.as_slice())?;
-    Ok(bytes)
+fn edit_bytes(rt: &impl Abort, alloc: Global) -> Vec<u8> {
+    let signature = repeated(rt, alloc, 0x55, 2348);
+    let mut bytes = hex::decode(alloc, EDIT).expect(rt, "hex digits");
+    bytes
+        .extend_from_slice(signature.as_slice())
+        .expect(rt, "memory");
+    bytes
 }
 
 // The change as an entry, with a signature of 8 bytes.
-fn change_entry_bytes(alloc: Global) -> Result<Vec<u8>, Fail> {
-    let change = hex::decode(alloc, CHANGE)?;
-    let mut bytes = hex::decode(alloc, EDIT)?;
+fn change_entry_bytes(rt: &impl Abort, alloc: Global) -> Vec<u8> {
+    let change = hex::decode(alloc, CHANGE).expect(rt, "hex digits");
+    let mut bytes = hex::decode(alloc, EDIT).expect(rt, "hex digits");
     bytes.truncate(67);
-    bytes.extend_from_slice(&[2, 0, 0, 0, 194])?;
-    bytes.extend_from_slice(change.as_slice())?;
-    bytes.extend_from_slice(&[0, 0, 0, 8, 0x55, 0x55, 0x55, 0x55, 0x55, 0x55, 0x55, 0x55])?;
-    Ok(bytes)
+    bytes
+        .extend_from_slice(&[2, 0, 0, 0, 194])
+        .expect(rt, "memory");
+    bytes
+        .extend_from_slice(change.as_slice())
+        .expect(rt, "memory");
+    bytes
+        .extend_from_slice(&[0, 0, 0, 8, 0x55, 0x55, 0x55, 0x55, 0x55, 0x55, 0x55, 0x55])
+        .expect(rt, "memory");
+    bytes
 }
 
 // Bytes with another value at one place.
-fn altered(alloc: Global, bytes: &[u8], place: usize, value: u8) -> Result<Vec<u8>, Fail> {
-    let mut all = Vec::from_slice(alloc, bytes)?;
+fn altered(rt: &impl Abort, alloc: Global, bytes: &[u8], place: usize, value: u8) -> Vec<u8> {
+    let mut all = Vec::from_slice(alloc, bytes).expect(rt, "memory");
     if let Some(byte) = all.get_mut(place) {
         *byte = value;
     }
-    Ok(all)
+    all
 }
 
 fn is_edit(entry: &Entry) -> bool {
@@ -100,49 +106,47 @@ fn is_edit(entry: &Entry) -> bool {
 }
 
 // Whether bytes are read as the edit that is spelled out.
-fn reads_as_edit(alloc: Global, bytes: &[u8]) -> Result<bool, Fail> {
-    let entry = read_entry(alloc, bytes)?;
-    Ok(is_edit(&entry))
+fn reads_as_edit(rt: &impl Abort, alloc: Global, bytes: &[u8]) -> bool {
+    let entry = read_entry(alloc, bytes).expect(rt, "an entry");
+    is_edit(&entry)
 }
 
 // The bytes of the entry that is read of these.
-fn rewritten(alloc: Global, bytes: &[u8]) -> Result<Vec<u8>, Fail> {
-    let entry = read_entry(alloc, bytes)?;
-    Ok(write_entry(alloc, &entry)?)
+fn rewritten(rt: &impl Abort, alloc: Global, bytes: &[u8]) -> Vec<u8> {
+    let entry = read_entry(alloc, bytes).expect(rt, "an entry");
+    write_entry(alloc, &entry).expect(rt, "memory")
 }
 
 // What is signed is a byte 3 and the entry up to the end of its body.
-fn signed_bytes(alloc: Global, entry: &[u8]) -> Result<Vec<u8>, Fail> {
-    let mut signed = Vec::from_slice(alloc, &[3u8])?;
-    signed.extend_from_slice(entry)?;
+fn signed_bytes(rt: &impl Abort, alloc: Global, entry: &[u8]) -> Vec<u8> {
+    let mut signed = Vec::from_slice(alloc, &[3u8]).expect(rt, "memory");
+    signed.extend_from_slice(entry).expect(rt, "memory");
     signed.truncate(92);
-    Ok(signed)
+    signed
 }
 
-fn signed_of(alloc: Global, bytes: &[u8]) -> Result<Vec<u8>, Fail> {
-    let entry = read_entry(alloc, bytes)?;
-    Ok(signed_part(alloc, &entry)?)
+fn signed_of(rt: &impl Abort, alloc: Global, bytes: &[u8]) -> Vec<u8> {
+    let entry = read_entry(alloc, bytes).expect(rt, "an entry");
+    signed_part(alloc, &entry).expect(rt, "memory")
 }
 
-fn is_written_again(rt: &impl Abort, alloc: Global, bytes: &[u8]) -> Result<(), Fail> {
-    let written = rewritten(alloc, bytes)?;
+fn is_written_again(rt: &impl Abort, alloc: Global, bytes: &[u8]) {
+    let written = rewritten(rt, alloc, bytes);
     same_bytes(rt, written.as_slice(), bytes);
-    Ok(())
 }
 
-fn is_signed(rt: &impl Abort, alloc: Global, bytes: &[u8]) -> Result<(), Fail> {
-    let part = signed_of(alloc, bytes)?;
-    let signed = signed_bytes(alloc, bytes)?;
+fn is_signed(rt: &impl Abort, alloc: Global, bytes: &[u8]) {
+    let part = signed_of(rt, alloc, bytes);
+    let signed = signed_bytes(rt, alloc, bytes);
     same_bytes(rt, part.as_slice(), signed.as_slice());
-    Ok(())
 }
 
 // An edit reads and is written again, and is signed without its signature.
-fn edit_is_read(rt: &impl Abort, alloc: Global, bytes: &[u8]) -> Result<(), Fail> {
+fn edit_is_read(rt: &impl Abort, alloc: Global, bytes: &[u8]) {
     assert!(rt; bytes.len() == 2443);
-    assert!(rt; reads_as_edit(alloc, bytes)?);
-    is_written_again(rt, alloc, bytes)?;
-    is_signed(rt, alloc, bytes)
+    assert!(rt; reads_as_edit(rt, alloc, bytes));
+    is_written_again(rt, alloc, bytes);
+    is_signed(rt, alloc, bytes);
 }
 
 fn is_malformed(rt: &impl Abort, alloc: Global, bytes: &[u8], at: usize) {
@@ -163,16 +167,10 @@ const EDIT_FAULTS: [(usize, u8, usize); 8] = [
 ];
 
 // Bytes with another value at one place, as a row has it.
-fn altered_is_malformed(
-    rt: &impl Abort,
-    alloc: Global,
-    bytes: &[u8],
-    row: &(usize, u8, usize),
-) -> Result<(), Fail> {
+fn altered_is_malformed(rt: &impl Abort, alloc: Global, bytes: &[u8], row: &(usize, u8, usize)) {
     let (place, value, at) = *row;
-    let other = altered(alloc, bytes, place, value)?;
+    let other = altered(rt, alloc, bytes, place, value);
     is_malformed(rt, alloc, other.as_slice(), at);
-    Ok(())
 }
 
 // Bytes are malformed with another value at one place, as each row has it.
@@ -181,38 +179,33 @@ fn each_altered_is_malformed(
     alloc: Global,
     bytes: &[u8],
     rows: &[(usize, u8, usize)],
-) -> Result<(), Fail> {
+) {
     for row in rows {
-        altered_is_malformed(rt, alloc, bytes, row)?;
+        altered_is_malformed(rt, alloc, bytes, row);
     }
-    Ok(())
 }
 
 // An edit with a byte more, with one less, and without any.
-fn other_lengths_are_malformed(
-    rt: &impl Abort,
-    alloc: Global,
-    edit: &mut Vec<u8>,
-) -> Result<(), Fail> {
-    edit.push(0)?;
+fn other_lengths_are_malformed(rt: &impl Abort, alloc: Global, edit: &mut Vec<u8>) {
+    edit.push(0).expect(rt, "memory");
     is_malformed(rt, alloc, edit.as_slice(), 2443);
     edit.truncate(2442);
     is_malformed(rt, alloc, edit.as_slice(), 95);
     is_malformed(rt, alloc, &[], 0);
-    Ok(())
 }
 
 // An edit whose body and signature have so many bytes.
-fn edit_of(alloc: Global, body: u32, signature: u32) -> Result<Entry, Fail>
-    ensures { IfOk result (λ e. (length e.body ≡ body) × (length e.signature ≡ signature)) }
+fn edit_of(rt: &impl Abort, alloc: Global, body: u32, signature: u32) -> Entry
+    ensures body { length result.body ≡ body }
+    ensures signature { length result.signature ≡ signature }
 {
-    let body = Bytes::new(repeated(alloc, 0x61, body as usize)?);
-    let signature = Bytes::new(repeated(alloc, 0x55, signature as usize)?);
-    Ok(Entry {
+    let body = Bytes::new(repeated(rt, alloc, 0x61, body as usize));
+    let signature = Bytes::new(repeated(rt, alloc, 0x55, signature as usize));
+    Entry {
         header: HEADER,
         body,
         signature,
-    })
+    }
 }
 
 fn is_same_entry(one: &Entry, other: &Entry) -> bool {
@@ -222,75 +215,66 @@ fn is_same_entry(one: &Entry, other: &Entry) -> bool {
 }
 
 // The bytes of an edit whose body and signature have so many.
-fn long_bytes(alloc: Global, body: u32, signature: u32) -> Result<Vec<u8>, Fail> {
-    let edit = edit_of(alloc, body, signature)?;
-    Ok(write_entry(alloc, &edit)?)
+fn long_bytes(rt: &impl Abort, alloc: Global, body: u32, signature: u32) -> Vec<u8> {
+    let edit = edit_of(rt, alloc, body, signature);
+    write_entry(alloc, &edit).expect(rt, "memory")
 }
 
 // Whether bytes are read as this entry.
-fn reads_as(alloc: Global, bytes: &[u8], wanted: &Entry) -> Result<bool, Fail> {
-    let entry = read_entry(alloc, bytes)?;
-    Ok(is_same_entry(&entry, wanted))
+fn reads_as(rt: &impl Abort, alloc: Global, bytes: &[u8], wanted: &Entry) -> bool {
+    let entry = read_entry(alloc, bytes).expect(rt, "an entry");
+    is_same_entry(&entry, wanted)
 }
 
 // Whether bytes are read as the largest edit.
-fn reads_as_largest(alloc: Global, bytes: &[u8]) -> Result<bool, Fail> {
-    let largest = edit_of(alloc, 1_048_576, 9_324)?;
-    reads_as(alloc, bytes, &largest)
+fn reads_as_largest(rt: &impl Abort, alloc: Global, bytes: &[u8]) -> bool {
+    let largest = edit_of(rt, alloc, 1_048_576, 9_324);
+    reads_as(rt, alloc, bytes, &largest)
 }
 
-fn largest_is_read_again(rt: &impl Abort, alloc: Global) -> Result<(), Fail> {
-    let bytes = long_bytes(alloc, 1_048_576, 9_324)?;
+fn largest_is_read_again(rt: &impl Abort, alloc: Global) {
+    let bytes = long_bytes(rt, alloc, 1_048_576, 9_324);
     assert!(rt; bytes.len() == 1_057_976);
-    assert!(rt; reads_as_largest(alloc, bytes.as_slice())?);
-    Ok(())
+    assert!(rt; reads_as_largest(rt, alloc, bytes.as_slice()));
 }
 
-fn is_too_long(
-    rt: &impl Abort,
-    alloc: Global,
-    body: u32,
-    signature: u32,
-    at: usize,
-) -> Result<(), Fail> {
-    let bytes = long_bytes(alloc, body, signature)?;
+fn is_too_long(rt: &impl Abort, alloc: Global, body: u32, signature: u32, at: usize) {
+    let bytes = long_bytes(rt, alloc, body, signature);
     is_malformed(rt, alloc, bytes.as_slice(), at);
-    Ok(())
 }
 
 // The largest edit reads and is written again, and one above the limits is refused.
-fn edits_are_limited(rt: &impl Abort, alloc: Global) -> Result<(), Fail> {
-    largest_is_read_again(rt, alloc)?;
-    is_too_long(rt, alloc, 1_048_577, 0, 68)?;
-    is_too_long(rt, alloc, 3, 9_325, 75)
+fn edits_are_limited(rt: &impl Abort, alloc: Global) {
+    largest_is_read_again(rt, alloc);
+    is_too_long(rt, alloc, 1_048_577, 0, 68);
+    is_too_long(rt, alloc, 3, 9_325, 75);
 }
 
 #[test]
-fn an_edit_is_read_unless_it_has_a_fault(rt: HostRuntime) -> Result<(), Fail> {
-    let mut bytes = edit_bytes(rt.alloc())?;
-    edit_is_read(&rt, rt.alloc(), bytes.as_slice())?;
-    each_altered_is_malformed(&rt, rt.alloc(), bytes.as_slice(), &EDIT_FAULTS)?;
-    other_lengths_are_malformed(&rt, rt.alloc(), &mut bytes)?;
-    edits_are_limited(&rt, rt.alloc())
+fn an_edit_is_read_unless_it_has_a_fault(rt: HostRuntime) {
+    let mut bytes = edit_bytes(&rt, rt.alloc());
+    edit_is_read(&rt, rt.alloc(), bytes.as_slice());
+    each_altered_is_malformed(&rt, rt.alloc(), bytes.as_slice(), &EDIT_FAULTS);
+    other_lengths_are_malformed(&rt, rt.alloc(), &mut bytes);
+    edits_are_limited(&rt, rt.alloc());
 }
 
 // The bytes of the change that is read of these.
-fn rewritten_change(alloc: Global, bytes: &[u8]) -> Result<Vec<u8>, Fail> {
-    let body = read_change(alloc, bytes)?;
-    Ok(write_change(alloc, &body)?)
+fn rewritten_change(rt: &impl Abort, alloc: Global, bytes: &[u8]) -> Vec<u8> {
+    let body = read_change(alloc, bytes).expect(rt, "a change");
+    write_change(alloc, &body).expect(rt, "memory")
 }
 
-fn body_is_written_again(rt: &impl Abort, alloc: Global, body: &[u8]) -> Result<(), Fail> {
-    let written = rewritten_change(alloc, body)?;
+fn body_is_written_again(rt: &impl Abort, alloc: Global, body: &[u8]) {
+    let written = rewritten_change(rt, alloc, body);
     same_bytes(rt, written.as_slice(), body);
-    Ok(())
 }
 
 // The body of the change that is read of these bytes is written again.
-fn change_is_written_again(rt: &impl Abort, alloc: Global, bytes: &[u8]) -> Result<(), Fail> {
-    let entry = read_entry(alloc, bytes)?;
+fn change_is_written_again(rt: &impl Abort, alloc: Global, bytes: &[u8]) {
+    let entry = read_entry(alloc, bytes).expect(rt, "an entry");
     assert!(rt; entry.header.kind == 2);
-    body_is_written_again(rt, alloc, entry.body.as_slice())
+    body_is_written_again(rt, alloc, entry.body.as_slice());
 }
 
 // Whether it adds member 3 as an editor.
@@ -322,9 +306,9 @@ fn is_spelled(body: &ChangeBody) -> bool {
 }
 
 // Whether bytes are read as the change that is spelled out.
-fn reads_as_spelled(alloc: Global, bytes: &[u8]) -> Result<bool, Fail> {
-    let body = read_change(alloc, bytes)?;
-    Ok(is_spelled(&body))
+fn reads_as_spelled(rt: &impl Abort, alloc: Global, bytes: &[u8]) -> bool {
+    let body = read_change(alloc, bytes).expect(rt, "a change");
+    is_spelled(&body)
 }
 
 const REMOVE: Change = Change::Remove { member: 3 };
@@ -335,27 +319,26 @@ const SET_ROLE: Change = Change::SetRole {
 };
 
 // The bytes of a change without a sealed key.
-fn without_wraps(alloc: Global, change: Change) -> Result<Vec<u8>, Fail> {
+fn without_wraps(rt: &impl Abort, alloc: Global, change: Change) -> Vec<u8> {
     let body = ChangeBody {
         change,
         commitment: [0xc0; 32],
         previous: [0xe0; 32],
         wraps: Wraps::new(Vec::new(alloc)),
     };
-    Ok(write_change(alloc, &body)?)
+    write_change(alloc, &body).expect(rt, "memory")
 }
 
 // The change that is read of bytes.
-fn change_in(alloc: Global, bytes: &[u8]) -> Result<Change, Fail> {
-    let body = read_change(alloc, bytes)?;
-    Ok(body.change)
+fn change_in(rt: &impl Abort, alloc: Global, bytes: &[u8]) -> Change {
+    let body = read_change(alloc, bytes).expect(rt, "a change");
+    body.change
 }
 
-fn comes_back(rt: &impl Abort, alloc: Global, change: Change) -> Result<(), Fail> {
-    let bytes = without_wraps(alloc, change)?;
-    let read = change_in(alloc, bytes.as_slice())?;
+fn comes_back(rt: &impl Abort, alloc: Global, change: Change) {
+    let bytes = without_wraps(rt, alloc, change);
+    let read = change_in(rt, alloc, bytes.as_slice());
     assert!(rt; read == change);
-    Ok(())
 }
 
 // The place of a byte, its new value, and where the entry is malformed then.
@@ -378,25 +361,24 @@ fn is_change_malformed(alloc: Global, bytes: &[u8], at: usize) -> bool {
 }
 
 // The body alone, and with a role that is none.
-fn body_is_read(rt: &impl Abort, alloc: Global) -> Result<(), Fail> {
-    let mut body = hex::decode(alloc, CHANGE)?;
-    assert!(rt; reads_as_spelled(alloc, body.as_slice())?);
+fn body_is_read(rt: &impl Abort, alloc: Global) {
+    let mut body = hex::decode(alloc, CHANGE).expect(rt, "hex digits");
+    assert!(rt; reads_as_spelled(rt, alloc, body.as_slice()));
     if let Some(role) = body.get_mut(3) {
         *role = 0;
     }
     assert!(rt; is_change_malformed(alloc, body.as_slice(), 3));
-    Ok(())
 }
 
 #[test]
-fn a_change_is_read_unless_it_has_a_fault(rt: HostRuntime) -> Result<(), Fail> {
-    let bytes = change_entry_bytes(rt.alloc())?;
-    is_written_again(&rt, rt.alloc(), bytes.as_slice())?;
-    change_is_written_again(&rt, rt.alloc(), bytes.as_slice())?;
-    each_altered_is_malformed(&rt, rt.alloc(), bytes.as_slice(), &CHANGE_FAULTS)?;
-    body_is_read(&rt, rt.alloc())?;
-    comes_back(&rt, rt.alloc(), REMOVE)?;
-    comes_back(&rt, rt.alloc(), SET_ROLE)
+fn a_change_is_read_unless_it_has_a_fault(rt: HostRuntime) {
+    let bytes = change_entry_bytes(&rt, rt.alloc());
+    is_written_again(&rt, rt.alloc(), bytes.as_slice());
+    change_is_written_again(&rt, rt.alloc(), bytes.as_slice());
+    each_altered_is_malformed(&rt, rt.alloc(), bytes.as_slice(), &CHANGE_FAULTS);
+    body_is_read(&rt, rt.alloc());
+    comes_back(&rt, rt.alloc(), REMOVE);
+    comes_back(&rt, rt.alloc(), SET_ROLE);
 }
 
 fn are_two_and_seven(founders: &[Founder]) -> bool {
@@ -413,18 +395,17 @@ fn is_of_two_and_seven(genesis: &Genesis) -> bool {
 }
 
 // The bytes of a copy of the genesis that is read from these.
-fn copied(rt: &impl Abort, alloc: Global, bytes: &[u8]) -> Result<Vec<u8>, Fail> {
-    let genesis = read_genesis(alloc, bytes)?;
+fn copied(rt: &impl Abort, alloc: Global, bytes: &[u8]) -> Vec<u8> {
+    let genesis = read_genesis(alloc, bytes).expect(rt, "a genesis");
     assert!(rt; is_of_two_and_seven(&genesis));
-    let copy = genesis.copy()?;
-    Ok(write_genesis(alloc, &copy)?)
+    let copy = genesis.copy().expect(rt, "memory");
+    write_genesis(alloc, &copy).expect(rt, "memory")
 }
 
 // A genesis reads, and its copy is written.
-fn founds(rt: &impl Abort, alloc: Global, bytes: &[u8]) -> Result<(), Fail> {
-    let written = copied(rt, alloc, bytes)?;
+fn founds(rt: &impl Abort, alloc: Global, bytes: &[u8]) {
+    let written = copied(rt, alloc, bytes);
     same_bytes(rt, written.as_slice(), bytes);
-    Ok(())
 }
 
 fn founds_nothing(rt: &impl Abort, alloc: Global, bytes: &[u8], fault: GenesisFault) {
@@ -461,43 +442,36 @@ fn is_refused_altered(
     alloc: Global,
     genesis: &[u8],
     row: &(usize, u8, GenesisFault),
-) -> Result<(), Fail> {
+) {
     let (place, value, fault) = *row;
-    let other = altered(alloc, genesis, place, value)?;
+    let other = altered(rt, alloc, genesis, place, value);
     founds_nothing(rt, alloc, other.as_slice(), fault);
-    Ok(())
 }
 
-fn is_refused_resized(
-    rt: &impl Abort,
-    alloc: Global,
-    genesis: &[u8],
-    row: &(usize, GenesisFault),
-) -> Result<(), Fail> {
+fn is_refused_resized(rt: &impl Abort, alloc: Global, genesis: &[u8], row: &(usize, GenesisFault)) {
     let (len, fault) = *row;
-    let mut other = Vec::from_slice(alloc, genesis)?;
-    other.push(0)?;
+    let mut other = Vec::from_slice(alloc, genesis).expect(rt, "memory");
+    other.push(0).expect(rt, "memory");
     other.truncate(len);
     founds_nothing(rt, alloc, other.as_slice(), fault);
-    Ok(())
 }
 
 // A genesis is refused for its first fault.
-fn is_refused(rt: &impl Abort, alloc: Global, bytes: &[u8]) -> Result<(), Fail> {
+fn is_refused(rt: &impl Abort, alloc: Global, bytes: &[u8]) {
     for row in &GENESIS_FAULTS {
-        is_refused_altered(rt, alloc, bytes, row)?;
+        is_refused_altered(rt, alloc, bytes, row);
     }
     for row in &GENESIS_LENGTHS {
-        is_refused_resized(rt, alloc, bytes, row)?;
+        is_refused_resized(rt, alloc, bytes, row);
     }
     // No admin comes before a bad key.
-    let bytes = altered(alloc, bytes, 57, 4)?;
-    is_refused_altered(rt, alloc, bytes.as_slice(), &NO_ADMIN)
+    let bytes = altered(rt, alloc, bytes, 57, 4);
+    is_refused_altered(rt, alloc, bytes.as_slice(), &NO_ADMIN);
 }
 
 #[test]
-fn a_genesis_reads_unless_it_has_a_fault(rt: HostRuntime) -> Result<(), Fail> {
-    let bytes = hex::decode(rt.alloc(), GENESIS)?;
-    founds(&rt, rt.alloc(), bytes.as_slice())?;
-    is_refused(&rt, rt.alloc(), bytes.as_slice())
+fn a_genesis_reads_unless_it_has_a_fault(rt: HostRuntime) {
+    let bytes = hex::decode(rt.alloc(), GENESIS).expect(&rt, "hex digits");
+    founds(&rt, rt.alloc(), bytes.as_slice());
+    is_refused(&rt, rt.alloc(), bytes.as_slice());
 }

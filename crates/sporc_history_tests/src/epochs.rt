@@ -7,7 +7,6 @@ use sporc_epoch::{
 use sporc_member::{Change, Role};
 use std::alloc::Global;
 use std::process::Abort;
-use std::test::Fail;
 
 const DOCUMENT: [u8; 16] = [9; 16];
 
@@ -51,20 +50,21 @@ const WRAPS: [Wrap; 2] = [
 ];
 
 // Pairwise keys, each of one byte 32 times.
-fn pairs_of(alloc: Global, keys: &[(u16, u8)]) -> Result<Pairs, Fail> {
+fn pairs_of(rt: &impl Abort, alloc: Global, keys: &[(u16, u8)]) -> Pairs {
     let mut pairs = Pairs::new(alloc);
     for (member, byte) in keys {
-        pairs.insert(*member, [*byte; 32])?;
+        let inserted: Result<_, _> = pairs.insert(*member, [*byte; 32]);
+        inserted.expect(rt, "memory");
     }
-    Ok(pairs)
+    pairs
 }
 
 // A change by member 1, signed by leaf 5, for itself and for member 4.
-fn sealed(alloc: Global, change: &Change, epoch: u8) -> Result<ChangeBody, Fail> {
-    let pairs = pairs_of(alloc, &[(1, 101), (4, 104)])?;
+fn sealed(rt: &impl Abort, alloc: Global, change: &Change, epoch: u8) -> ChangeBody {
+    let pairs = pairs_of(rt, alloc, &[(1, 101), (4, 104)]);
     let (old, new) = ([10 + epoch % 100; 32], [11 + epoch % 100; 32]);
     let ended = u32::from(epoch);
-    Ok(seal_change(
+    seal_change(
         alloc,
         change,
         &[1, 4],
@@ -75,18 +75,14 @@ fn sealed(alloc: Global, change: &Change, epoch: u8) -> Result<ChangeBody, Fail>
         &old,
         &new,
         &pairs,
-    )?)
+    )
+    .expect(rt, "a sealed change")
 }
 
 // The bytes of an entry that holds a change, without a signature.
-fn entry_bytes(
-    rt: &impl Abort,
-    alloc: Global,
-    epoch: u32,
-    body: &ChangeBody,
-) -> Result<Vec<u8>, Fail> {
+fn entry_bytes(rt: &impl Abort, alloc: Global, epoch: u32, body: &ChangeBody) -> Vec<u8> {
     assert!(rt; body.wraps.as_slice().len() < 65_536);
-    let body = write_change(alloc, body)?;
+    let body = write_change(alloc, body).expect(rt, "memory");
     assert!(rt; body.len() < 4_294_967_296);
     let header = Header {
         document: DOCUMENT,
@@ -103,22 +99,26 @@ fn entry_bytes(
         body: Bytes::new(body),
         signature: Bytes::new(Vec::new(alloc)),
     };
-    Ok(write_entry(alloc, &entry)?)
+    write_entry(alloc, &entry).expect(rt, "memory")
 }
 
 // Bytes that are no entry, and three changes that start epochs 1 to 3, the last of which adds member 4. The one that
 // starts the epoch `spoilt` commits to another key.
-fn history(rt: &impl Abort, alloc: Global, spoilt: u8) -> Result<Vec<Vec<u8>>, Fail> {
+fn history(rt: &impl Abort, alloc: Global, spoilt: u8) -> Vec<Vec<u8>> {
     let mut entries = Vec::new(alloc);
-    entries.push(Vec::from_slice(alloc, b"no entry")?)?;
+    entries
+        .push(Vec::from_slice(alloc, b"no entry").expect(rt, "memory"))
+        .expect(rt, "memory");
     for epoch in 0..3u8 {
-        let mut body = sealed(alloc, if epoch == 2 { &ADD } else { &REMOVE }, epoch)?;
+        let mut body = sealed(rt, alloc, if epoch == 2 { &ADD } else { &REMOVE }, epoch);
         if epoch + 1 == spoilt {
             body.commitment = [0; 32];
         }
-        entries.push(entry_bytes(rt, alloc, u32::from(epoch), &body)?)?;
+        entries
+            .push(entry_bytes(rt, alloc, u32::from(epoch), &body))
+            .expect(rt, "memory");
     }
-    Ok(entries)
+    entries
 }
 
 // The keys that member 4 finds in a history, under a key with one other member.
@@ -128,10 +128,10 @@ fn hints(
     spoilt: u8,
     other: u16,
     me: u16,
-) -> Result<Result<Ring, HintFault>, Fail> {
-    let entries = history(rt, alloc, spoilt)?;
-    let mine = pairs_of(alloc, &[(other, 104)])?;
-    Ok(hints_from(alloc, entries.as_slice(), me, &mine))
+) -> Result<Ring, HintFault> {
+    let entries = history(rt, alloc, spoilt);
+    let mine = pairs_of(rt, alloc, &[(other, 104)]);
+    hints_from(alloc, entries.as_slice(), me, &mine)
 }
 
 fn is_key(rt: &impl Abort, found: Option<[u8; 32]>, wanted: Option<[u8; 32]>) {
@@ -139,25 +139,23 @@ fn is_key(rt: &impl Abort, found: Option<[u8; 32]>, wanted: Option<[u8; 32]>) {
 }
 
 // Puts two keys of one epoch, one after the other.
-fn put_twice(ring: &mut Ring) -> Result<(), Fail> {
-    ring.reserve()?;
-    ring.put(3, [7; 32])?;
-    ring.put(3, [3; 32])?;
-    Ok(())
+fn put_twice(rt: &impl Abort, ring: &mut Ring) {
+    ring.reserve().expect(rt, "memory");
+    ring.put(3, [7; 32]).expect(rt, "memory");
+    ring.put(3, [3; 32]).expect(rt, "memory");
 }
 
-fn copy_of_two(alloc: Global) -> Result<Ring, Fail> {
+fn copy_of_two(rt: &impl Abort, alloc: Global) -> Ring {
     let mut ring = Ring::new(alloc);
-    put_twice(&mut ring)?;
-    Ok(ring.copy()?)
+    put_twice(rt, &mut ring);
+    ring.copy().expect(rt, "memory")
 }
 
 // A ring gives the keys that were put.
-fn ring_gives_keys(rt: &impl Abort, alloc: Global) -> Result<(), Fail> {
-    let copy = copy_of_two(alloc)?;
+fn ring_gives_keys(rt: &impl Abort, alloc: Global) {
+    let copy = copy_of_two(rt, alloc);
     is_key(rt, copy.key(3).copied(), Some([3; 32]));
     is_key(rt, copy.key(7).copied(), None);
-    Ok(())
 }
 
 // A sealed change is that of OpenSSL.
@@ -179,20 +177,19 @@ fn seal_fault(alloc: Global, members: &[u16], pairs: &Pairs) -> Option<SealFault
 }
 
 // The least member without a key is named.
-fn least_is_named(rt: &impl Abort, alloc: Global) -> Result<(), Fail> {
-    let pairs = pairs_of(alloc, &[(4, 104)])?;
+fn least_is_named(rt: &impl Abort, alloc: Global) {
+    let pairs = pairs_of(rt, alloc, &[(4, 104)]);
     let fault = seal_fault(alloc, &[7, 4, 3, 5], &pairs);
     assert!(rt; fault == Some(SealFault::NoPairKey(3)));
-    Ok(())
 }
 
 // Two wraps for member 4, the first of which is good.
-fn wraps_twice(alloc: Global) -> Result<Wraps, Fail> {
+fn wraps_twice(rt: &impl Abort, alloc: Global) -> Wraps {
     let again = Wrap {
         member: 4,
         sealed: [0; 32],
     };
-    Ok(Wraps::copy_of(alloc, &[WRAPS[0], WRAPS[1], again])?)
+    Wraps::copy_of(alloc, &[WRAPS[0], WRAPS[1], again]).expect(rt, "memory")
 }
 
 // The first wrap for a member is opened. Then there is no wrap, and then no pairwise key.
@@ -202,29 +199,27 @@ fn first_is_opened(rt: &impl Abort, body: &ChangeBody, mine: &Pairs) {
     is_key(rt, open_wrap(body, 2, 5, 4, mine), None);
 }
 
-fn is_opened(rt: &impl Abort, alloc: Global, body: &ChangeBody) -> Result<(), Fail> {
-    let mine = pairs_of(alloc, &[(1, 104)])?;
+fn is_opened(rt: &impl Abort, alloc: Global, body: &ChangeBody) {
+    let mine = pairs_of(rt, alloc, &[(1, 104)]);
     first_is_opened(rt, body, &mine);
-    Ok(())
 }
 
-fn change_is_sealed_and_opened(rt: &impl Abort, alloc: Global) -> Result<(), Fail> {
-    let wraps = wraps_twice(alloc)?;
-    let mut body = sealed(alloc, &REMOVE, 0)?;
+fn change_is_sealed_and_opened(rt: &impl Abort, alloc: Global) {
+    let wraps = wraps_twice(rt, alloc);
+    let mut body = sealed(rt, alloc, &REMOVE, 0);
     is_that_of_openssl(rt, &body);
     body.wraps = wraps;
-    is_opened(rt, alloc, &body)
+    is_opened(rt, alloc, &body);
 }
 
 // The keys of four epochs are found backwards.
-fn four_are_found(rt: &impl Abort, alloc: Global) -> Result<(), Fail> {
-    let ring = hints(rt, alloc, 0, 1, 4)??;
+fn four_are_found(rt: &impl Abort, alloc: Global) {
+    let ring = hints(rt, alloc, 0, 1, 4).expect(rt, "keys");
     for epoch in 0..4u8 {
         let key = ring.key(u32::from(epoch)).copied();
         is_key(rt, key, Some([10 + epoch; 32]));
     }
     is_key(rt, ring.key(4).copied(), None);
-    Ok(())
 }
 
 // The epoch that a history spoils, whom the member holds a key with, the member, and the fault.
@@ -242,41 +237,39 @@ fn hint_fault(
     spoilt: u8,
     other: u16,
     me: u16,
-) -> Result<Option<HintFault>, Fail> {
-    Ok(hints(rt, alloc, spoilt, other, me)?.err())
+) -> Option<HintFault> {
+    hints(rt, alloc, spoilt, other, me).err()
 }
 
-fn each_fault_is_found(rt: &impl Abort, alloc: Global) -> Result<(), Fail> {
+fn each_fault_is_found(rt: &impl Abort, alloc: Global) {
     for (spoilt, other, me, fault) in &FAULTS {
-        let found = hint_fault(rt, alloc, *spoilt, *other, *me)?;
+        let found = hint_fault(rt, alloc, *spoilt, *other, *me);
         assert!(rt; found == Some(*fault), "{spoilt} {other}");
     }
-    Ok(())
 }
 
 // An entry that adds member 4 and would start an epoch behind the last one.
-fn behind_the_last(rt: &impl Abort, alloc: Global) -> Result<Vec<Vec<u8>>, Fail> {
-    let body = sealed(alloc, &ADD, 0)?;
-    let last = entry_bytes(rt, alloc, MAX_EPOCH, &body)?;
-    Ok(Vec::from_array(alloc, [last])?)
+fn behind_the_last(rt: &impl Abort, alloc: Global) -> Vec<Vec<u8>> {
+    let body = sealed(rt, alloc, &ADD, 0);
+    let last = entry_bytes(rt, alloc, MAX_EPOCH, &body);
+    Vec::from_array(alloc, [last]).expect(rt, "memory")
 }
 
 // No epoch follows the last.
-fn none_follows(rt: &impl Abort, alloc: Global) -> Result<(), Fail> {
-    let entries = behind_the_last(rt, alloc)?;
-    let mine = pairs_of(alloc, &[(1, 104)])?;
+fn none_follows(rt: &impl Abort, alloc: Global) {
+    let entries = behind_the_last(rt, alloc);
+    let mine = pairs_of(rt, alloc, &[(1, 104)]);
     let fault = hints_from(alloc, entries.as_slice(), 4, &mine).err();
     assert!(rt; fault == Some(HintFault::NotAdded));
-    Ok(())
 }
 
 // A ring gives the keys that were put, changes are sealed and opened, and keys are found by hints.
 #[test]
-fn keys_are_put_sealed_and_found(rt: HostRuntime) -> Result<(), Fail> {
-    ring_gives_keys(&rt, rt.alloc())?;
-    least_is_named(&rt, rt.alloc())?;
-    change_is_sealed_and_opened(&rt, rt.alloc())?;
-    four_are_found(&rt, rt.alloc())?;
-    each_fault_is_found(&rt, rt.alloc())?;
-    none_follows(&rt, rt.alloc())
+fn keys_are_put_sealed_and_found(rt: HostRuntime) {
+    ring_gives_keys(&rt, rt.alloc());
+    least_is_named(&rt, rt.alloc());
+    change_is_sealed_and_opened(&rt, rt.alloc());
+    four_are_found(&rt, rt.alloc());
+    each_fault_is_found(&rt, rt.alloc());
+    none_follows(&rt, rt.alloc());
 }

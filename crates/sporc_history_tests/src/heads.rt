@@ -4,7 +4,6 @@ use sporc_member::{Change, ChangeFault};
 use sporc_samples::{CHANGE, Cast, DOCUMENT, Draft, EDIT, change_body, short_history};
 use std::alloc::Global;
 use std::process::Abort;
-use std::test::Fail;
 
 // The next entry at a history, and who checks it at which position. Leaf 0 signs each: no check asks which leaves have
 // signed.
@@ -94,7 +93,7 @@ impl Attempt {
         }
     }
 
-    fn bytes(&self, alloc: Global, heads: &Heads, cast: &Cast) -> Result<Vec<u8>, Fail> {
+    fn bytes(&self, rt: &impl Abort, alloc: Global, heads: &Heads, cast: &Cast) -> Vec<u8> {
         let body = match self.removes {
             Some(member) => change_body(
                 alloc,
@@ -103,7 +102,8 @@ impl Attempt {
                 self.leaf,
                 self.epoch,
                 &self.sealed_for,
-            )?,
+            )
+            .expect(rt, "a change"),
             None => Vec::new(alloc),
         };
         let draft = Draft {
@@ -111,51 +111,44 @@ impl Attempt {
             signing_leaf: 0,
             turned: self.turned,
         };
-        Ok(draft.signed(alloc, cast.member(self.author)?, body.as_slice())?)
+        let signer = cast.member(self.author).expect(rt, "a member");
+        draft
+            .signed(alloc, signer, body.as_slice())
+            .expect(rt, "an entry")
     }
 }
 
 // Appends an entry.
-fn take(rt: &impl Abort, heads: &mut Heads, bytes: &[u8]) -> Result<(), Fail> {
-    let checked = heads.check(Some(2), heads.len().wrapping_add(1), bytes)?;
+fn take(rt: &impl Abort, heads: &mut Heads, bytes: &[u8]) {
+    let checked = heads
+        .check(Some(2), heads.len().wrapping_add(1), bytes)
+        .expect(rt, "an entry");
     assert!(rt; checked.bytes() == bytes);
-    match heads.push(checked) {
-        Ok(()) => Ok(()),
-        Err((checked, memory)) => {
-            drop(checked);
-            Err(memory.into())
-        }
-    }
+    heads.push(checked).ok().expect(rt, "memory");
 }
 
-fn take_all(rt: &impl Abort, heads: &mut Heads, entries: &[Vec<u8>]) -> Result<(), Fail> {
-    heads.reserve()?;
+fn take_all(rt: &impl Abort, heads: &mut Heads, entries: &[Vec<u8>]) {
+    heads.reserve().expect(rt, "memory");
     for bytes in entries {
-        take(rt, heads, bytes.as_slice())?;
+        take(rt, heads, bytes.as_slice());
     }
-    Ok(())
 }
 
-fn opened(alloc: Global, cast: &Cast) -> Result<Box<Heads>, Fail> {
-    let genesis = cast.genesis(alloc)?;
-    Ok(Box::new(alloc, Heads::open(alloc, genesis)?)?)
+fn opened(rt: &impl Abort, alloc: Global, cast: &Cast) -> Box<Heads> {
+    let genesis = cast.genesis(alloc).expect(rt, "a genesis");
+    Box::new(alloc, Heads::open(alloc, genesis).expect(rt, "memory")).expect(rt, "memory")
 }
 
 // The heads of a history, in a box: a function that owns heads themselves is slow to prove.
-fn grown(
-    rt: &impl Abort,
-    alloc: Global,
-    cast: &Cast,
-    entries: &[Vec<u8>],
-) -> Result<Box<Heads>, Fail> {
-    let mut heads = opened(alloc, cast)?;
-    take_all(rt, &mut heads, entries)?;
-    Ok(heads)
+fn grown(rt: &impl Abort, alloc: Global, cast: &Cast, entries: &[Vec<u8>]) -> Box<Heads> {
+    let mut heads = opened(rt, alloc, cast);
+    take_all(rt, &mut heads, entries);
+    heads
 }
 
 // The short history: edits by 2 and 4, a change by 1 that removes 4, and an edit by 5.
-fn short(rt: &impl Abort, alloc: Global, cast: &Cast) -> Result<Box<Heads>, Fail> {
-    let sample = short_history(alloc, cast)?;
+fn short(rt: &impl Abort, alloc: Global, cast: &Cast) -> Box<Heads> {
+    let sample = short_history(alloc, cast).expect(rt, "a history");
     let heads = grown(rt, alloc, cast, sample.entries());
     drop(sample);
     heads
@@ -182,11 +175,10 @@ fn refused(
     cast: &Cast,
     attempt: &Attempt,
     refusal: Refusal,
-) -> Result<(), Fail> {
-    let bytes = attempt.bytes(alloc, heads, cast)?;
+) {
+    let bytes = attempt.bytes(rt, alloc, heads, cast);
     let found = refusal_of(heads, attempt, bytes.as_slice());
     assert!(rt; found == Some(refusal), "{found:?}");
-    Ok(())
 }
 
 // The refusals of a history that is not full, by the last check and those before it. A base that is ahead is neither
@@ -217,45 +209,37 @@ fn refuses(
     cast: &Cast,
     worse: &mut Attempt,
     refusal: Refusal,
-) -> Result<(), Fail> {
+) {
     let mut alone = Attempt::good(heads);
     alone.spoil(refusal);
-    refused(rt, alloc, heads, cast, &alone, refusal)?;
+    refused(rt, alloc, heads, cast, &alone, refusal);
     worse.spoil(refusal);
-    refused(rt, alloc, heads, cast, worse, refusal)
+    refused(rt, alloc, heads, cast, worse, refusal);
 }
 
 // The entry with a byte more.
-fn is_malformed(
-    rt: &impl Abort,
-    alloc: Global,
-    heads: &Heads,
-    cast: &Cast,
-    worse: &Attempt,
-) -> Result<(), Fail> {
-    let mut bytes = worse.bytes(alloc, heads, cast)?;
+fn is_malformed(rt: &impl Abort, alloc: Global, heads: &Heads, cast: &Cast, worse: &Attempt) {
+    let mut bytes = worse.bytes(rt, alloc, heads, cast);
     let len = bytes.len();
-    bytes.push(0)?;
+    bytes.push(0).expect(rt, "memory");
     let found = refusal_of(heads, worse, bytes.as_slice());
     assert!(rt; found == Some(Refusal::Malformed(len)));
-    Ok(())
 }
 
-fn each_refuses(rt: &impl Abort, alloc: Global, heads: &Heads, cast: &Cast) -> Result<(), Fail> {
+fn each_refuses(rt: &impl Abort, alloc: Global, heads: &Heads, cast: &Cast) {
     let mut worse = Attempt::good(heads);
     for refusal in &REFUSALS {
-        refuses(rt, alloc, heads, cast, &mut worse, *refusal)?;
+        refuses(rt, alloc, heads, cast, &mut worse, *refusal);
     }
-    is_malformed(rt, alloc, heads, cast, &worse)
+    is_malformed(rt, alloc, heads, cast, &worse);
 }
 
 // Edits as many as a history may have.
-fn fill(rt: &impl Abort, alloc: Global, heads: &mut Heads, cast: &Cast) -> Result<(), Fail> {
+fn fill(rt: &impl Abort, alloc: Global, heads: &mut Heads, cast: &Cast) {
     for _ in 4..MAX_ENTRIES {
-        let bytes = Attempt::good(heads).bytes(alloc, heads, cast)?;
-        take(rt, heads, bytes.as_slice())?;
+        let bytes = Attempt::good(heads).bytes(rt, alloc, heads, cast);
+        take(rt, heads, bytes.as_slice());
     }
-    Ok(())
 }
 
 // What a full history refuses an entry for that fails this check and all later ones.
@@ -266,38 +250,36 @@ fn first_if_full(refusal: Refusal) -> Refusal {
     }
 }
 
-fn full_refuses(rt: &impl Abort, alloc: Global, heads: &Heads, cast: &Cast) -> Result<(), Fail> {
+fn full_refuses(rt: &impl Abort, alloc: Global, heads: &Heads, cast: &Cast) {
     let mut worse = Attempt::good(heads);
-    refused(rt, alloc, heads, cast, &worse, Refusal::HistoryFull)?;
+    refused(rt, alloc, heads, cast, &worse, Refusal::HistoryFull);
     for refusal in &REFUSALS {
         worse.spoil(*refusal);
-        refused(rt, alloc, heads, cast, &worse, first_if_full(*refusal))?;
+        refused(rt, alloc, heads, cast, &worse, first_if_full(*refusal));
     }
-    Ok(())
 }
 
 // The short history has grown, and each check refuses at it. So does a full history, before all but the first three.
 #[test]
-fn a_history_grows_and_refuses(rt: HostRuntime) -> Result<(), Fail> {
-    let cast = Cast::new(rt.alloc())?;
-    let mut heads = short(&rt, rt.alloc(), &cast)?;
+fn a_history_grows_and_refuses(rt: HostRuntime) {
+    let cast = Cast::new(rt.alloc()).expect(&rt, "a cast");
+    let mut heads = short(&rt, rt.alloc(), &cast);
     assert!(rt; has_grown(&heads));
-    each_refuses(&rt, rt.alloc(), &heads, &cast)?;
-    fill(&rt, rt.alloc(), &mut heads, &cast)?;
-    full_refuses(&rt, rt.alloc(), &heads, &cast)
+    each_refuses(&rt, rt.alloc(), &heads, &cast);
+    fill(&rt, rt.alloc(), &mut heads, &cast);
+    full_refuses(&rt, rt.alloc(), &heads, &cast);
 }
 
-fn is_named(alloc: Global, refusal: Refusal, name: &str) -> Result<bool, Fail> {
-    let found = refusal.name(alloc)?;
-    Ok(found.as_str() == name)
+fn is_named(rt: &impl Abort, alloc: Global, refusal: Refusal, name: &str) -> bool {
+    let found = refusal.name(alloc).expect(rt, "memory");
+    found.as_str() == name
 }
 
 const LAST_ADMIN: Refusal = Refusal::BadChange(ChangeFault::LastAdmin);
 
 #[test]
-fn refusals_have_names(rt: HostRuntime) -> Result<(), Fail> {
-    assert!(rt; is_named(rt.alloc(), Refusal::Malformed(95), "malformed 95")?);
-    assert!(rt; is_named(rt.alloc(), LAST_ADMIN, "bad-change last-admin")?);
+fn refusals_have_names(rt: HostRuntime) {
+    assert!(rt; is_named(&rt, rt.alloc(), Refusal::Malformed(95), "malformed 95"));
+    assert!(rt; is_named(&rt, rt.alloc(), LAST_ADMIN, "bad-change last-admin"));
     assert!(rt; Refusal::WrongKey.code() == 21);
-    Ok(())
 }

@@ -3,7 +3,6 @@ ghost use Rattle.std.specs.Prelude.{◌≡◌};
 use sporc_member::{Change, ChangeFault, Founder, Role, Roster};
 use std::alloc::Global;
 use std::process::Abort;
-use std::test::Fail;
 
 // A key of the types 5 (LMS_SHA256_M32_H5) and 3 (LMOTS_SHA256_N32_W4), numbered in its last byte.
 fn key(number: u8) -> [u8; 56] {
@@ -62,24 +61,24 @@ fn one_admin_refuses(rt: &impl Abort, roster: &Roster) {
 }
 
 // Makes a change, after which these are the members.
-fn make(rt: &impl Abort, roster: &mut Roster, change: Change, numbers: &[u16]) -> Result<(), Fail> {
-    roster.reserve()?;
-    assert!(rt; roster.members_after(&change)?.as_slice() == numbers);
+fn make(rt: &impl Abort, roster: &mut Roster, change: Change, numbers: &[u16]) {
+    roster.reserve().expect(rt, "memory");
+    let after = roster.members_after(&change).expect(rt, "memory");
+    assert!(rt; after.as_slice() == numbers);
     let accepted = roster.test(&change);
     assert!(rt; accepted.is_ok());
     if accepted.is_ok() {
-        roster.make(&change)?;
+        roster.make(&change).expect(rt, "memory");
     }
     assert!(rt; roster.members() == numbers);
-    Ok(())
 }
 
-fn are_made(rt: &impl Abort, roster: &mut Roster) -> Result<(), Fail> {
-    make(rt, roster, add(3, Role::Reader), &[1, 3, 5])?;
-    make(rt, roster, set_role(3, Role::Admin), &[1, 3, 5])?;
-    make(rt, roster, remove(1), &[3, 5])?;
-    make(rt, roster, add(65535, Role::Editor), &[3, 5, 65535])?;
-    make(rt, roster, remove(5), &[3, 65535])
+fn are_made(rt: &impl Abort, roster: &mut Roster) {
+    make(rt, roster, add(3, Role::Reader), &[1, 3, 5]);
+    make(rt, roster, set_role(3, Role::Admin), &[1, 3, 5]);
+    make(rt, roster, remove(1), &[3, 5]);
+    make(rt, roster, add(65535, Role::Editor), &[3, 5, 65535]);
+    make(rt, roster, remove(5), &[3, 65535]);
 }
 
 fn is_changed(roster: &Roster) -> bool {
@@ -88,13 +87,12 @@ fn is_changed(roster: &Roster) -> bool {
         && roster.key(65535).copied() == Some(key(9))
 }
 
-fn two_change(rt: &impl Abort, alloc: Global) -> Result<(), Fail> {
+fn two_change(rt: &impl Abort, alloc: Global) {
     let founders = [founder(1, Role::Admin), founder(5, Role::Editor)];
-    let mut roster = Roster::found(alloc, &founders)?;
-    are_made(rt, &mut roster)?;
+    let mut roster = Roster::found(alloc, &founders).expect(rt, "memory");
+    are_made(rt, &mut roster);
     assert!(rt; is_changed(&roster));
     is_refused(rt, &roster, add(1, Role::Editor), ChangeFault::NumberUsed);
-    Ok(())
 }
 
 // By their numbers, from 1 on.
@@ -123,9 +121,9 @@ fn have_names_and_numbers(rt: &impl Abort) {
 }
 
 #[test]
-fn members_change(rt: HostRuntime) -> Result<(), Fail> {
-    let roster = Roster::found(rt.alloc(), &[founder(1, Role::Admin)])?;
+fn members_change(rt: HostRuntime) {
+    let roster = Roster::found(rt.alloc(), &[founder(1, Role::Admin)]).expect(&rt, "memory");
     one_admin_refuses(&rt, &roster);
     have_names_and_numbers(&rt);
-    two_change(&rt, rt.alloc())
+    two_change(&rt, rt.alloc());
 }

@@ -5,17 +5,16 @@ use sporc_samples::{Cast, DOCUMENT, History};
 use sporc_wire::{ToClient, ToServer};
 use std::alloc::Global;
 use std::process::Abort;
-use std::test::Fail;
 
 // The empty order of the sample document, in a box: a function that owns an order itself is slow to prove.
-fn opened(alloc: Global, cast: &Cast) -> Result<Box<Order>, Fail> {
-    let genesis = cast.genesis(alloc)?;
-    Ok(Box::new(alloc, Order::open(alloc, genesis)?)?)
+fn opened(rt: &impl Abort, alloc: Global, cast: &Cast) -> Box<Order> {
+    let genesis = cast.genesis(alloc).expect(rt, "a genesis");
+    Box::new(alloc, Order::open(alloc, genesis).expect(rt, "memory")).expect(rt, "memory")
 }
 
-fn empty_history(alloc: Global, cast: &Cast) -> Result<Box<History>, Fail> {
-    let genesis = cast.genesis(alloc)?;
-    Ok(Box::new(alloc, History::new(alloc, &genesis)?)?)
+fn empty_history(rt: &impl Abort, alloc: Global, cast: &Cast) -> Box<History> {
+    let genesis = cast.genesis(alloc).expect(rt, "a genesis");
+    Box::new(alloc, History::new(alloc, &genesis).expect(rt, "a history")).expect(rt, "memory")
 }
 
 // Whether an entry is ordered at this position, and refused if it is submitted again.
@@ -31,17 +30,16 @@ fn grow(
     order: &mut Order,
     sample: &mut History,
     count: u32,
-) -> Result<(), Fail> {
+) {
     for before in 0..count {
-        sample.edit(alloc, cast, 2, b"")?;
-        let entry = sample.entries().last().ok_or("no entry")?;
+        sample.edit(alloc, cast, 2, b"").expect(rt, "an edit");
+        let entry = sample.entries().last().expect(rt, "an entry");
         let position = before.wrapping_add(1);
         assert!(rt;
             is_ordered_once(order, entry.as_slice(), position),
             "{position}"
         );
     }
-    Ok(())
 }
 
 fn is_pulled(order: &Order) -> bool {
@@ -67,12 +65,11 @@ fn are_pulled(rt: &impl Abort, order: &Order, entries: &[Vec<u8>]) {
     }
 }
 
-fn sixteen_are_pulled(rt: &impl Abort, alloc: Global, cast: &Cast) -> Result<(), Fail> {
-    let mut order = opened(alloc, cast)?;
-    let mut sample = empty_history(alloc, cast)?;
-    grow(rt, alloc, cast, &mut order, &mut sample, 18)?;
+fn sixteen_are_pulled(rt: &impl Abort, alloc: Global, cast: &Cast) {
+    let mut order = opened(rt, alloc, cast);
+    let mut sample = empty_history(rt, alloc, cast);
+    grow(rt, alloc, cast, &mut order, &mut sample, 18);
     are_pulled(rt, &order, sample.entries());
-    Ok(())
 }
 
 // What a session answers.
@@ -99,67 +96,49 @@ fn answers(
     order: &mut Order,
     message: &ToServer,
     wanted: &str,
-) -> Result<(), Fail> {
-    let answer = session.step(alloc, order, message)?;
+) {
+    let answer = session.step(alloc, order, message).expect(rt, "memory");
     assert!(rt; heard_in(&answer) == wanted, "{wanted}");
-    Ok(())
 }
 
-fn greets(
-    rt: &impl Abort,
-    alloc: Global,
-    session: &mut Session,
-    order: &mut Order,
-    wanted: &str,
-) -> Result<(), Fail> {
+fn greets(rt: &impl Abort, alloc: Global, session: &mut Session, order: &mut Order, wanted: &str) {
     let hello = ToServer::Hello {
         document: DOCUMENT,
         member: 1,
     };
-    answers(rt, alloc, session, order, &hello, wanted)
+    answers(rt, alloc, session, order, &hello, wanted);
 }
 
-fn pulls(
-    rt: &impl Abort,
-    alloc: Global,
-    session: &mut Session,
-    order: &mut Order,
-    wanted: &str,
-) -> Result<(), Fail> {
+fn pulls(rt: &impl Abort, alloc: Global, session: &mut Session, order: &mut Order, wanted: &str) {
     let pull = ToServer::Pull { from: 0 };
-    answers(rt, alloc, session, order, &pull, wanted)
+    answers(rt, alloc, session, order, &pull, wanted);
 }
 
 // A session that is not greeted, and one that is greeted twice.
-fn is_greeted(rt: &impl Abort, alloc: Global, order: &mut Order) -> Result<(), Fail> {
+fn is_greeted(rt: &impl Abort, alloc: Global, order: &mut Order) {
     let mut session = Session::new();
-    pulls(rt, alloc, &mut session, order, "close")?;
-    greets(rt, alloc, &mut session, order, "silent")?;
-    pulls(rt, alloc, &mut session, order, "empty")?;
-    greets(rt, alloc, &mut session, order, "close")
+    pulls(rt, alloc, &mut session, order, "close");
+    greets(rt, alloc, &mut session, order, "silent");
+    pulls(rt, alloc, &mut session, order, "empty");
+    greets(rt, alloc, &mut session, order, "close");
 }
 
 // A message that submits the first entry of a history.
-fn submission(alloc: Global, sample: &History) -> Result<ToServer, Fail> {
+fn submission(rt: &impl Abort, alloc: Global, sample: &History) -> ToServer {
     let first = match sample.entries() {
         [first, ..] => first.as_slice(),
         [] => b"",
     };
-    let entry = Bytes::copy_of(alloc, first)?;
-    Ok(ToServer::Submit { entry })
+    let entry = Bytes::copy_of(alloc, first).expect(rt, "memory");
+    ToServer::Submit { entry }
 }
 
-fn is_ordered(
-    rt: &impl Abort,
-    alloc: Global,
-    order: &mut Order,
-    message: &ToServer,
-) -> Result<(), Fail> {
+fn is_ordered(rt: &impl Abort, alloc: Global, order: &mut Order, message: &ToServer) {
     let mut session = Session::new();
-    greets(rt, alloc, &mut session, order, "silent")?;
-    answers(rt, alloc, &mut session, order, message, "ordered 1")?;
-    answers(rt, alloc, &mut session, order, message, "wrong number")?;
-    pulls(rt, alloc, &mut session, order, "entries from 1")
+    greets(rt, alloc, &mut session, order, "silent");
+    answers(rt, alloc, &mut session, order, message, "ordered 1");
+    answers(rt, alloc, &mut session, order, message, "wrong number");
+    pulls(rt, alloc, &mut session, order, "entries from 1");
 }
 
 // Submits the first entry of a history, to which this adds it.
@@ -169,23 +148,23 @@ fn is_submitted(
     cast: &Cast,
     order: &mut Order,
     sample: &mut History,
-) -> Result<(), Fail> {
-    sample.edit(alloc, cast, 1, b"")?;
-    let message = submission(alloc, sample)?;
-    is_ordered(rt, alloc, order, &message)
+) {
+    sample.edit(alloc, cast, 1, b"").expect(rt, "an edit");
+    let message = submission(rt, alloc, sample);
+    is_ordered(rt, alloc, order, &message);
 }
 
-fn session_orders_once(rt: &impl Abort, alloc: Global, cast: &Cast) -> Result<(), Fail> {
-    let mut order = opened(alloc, cast)?;
-    is_greeted(rt, alloc, &mut order)?;
-    let mut sample = empty_history(alloc, cast)?;
-    is_submitted(rt, alloc, cast, &mut order, &mut sample)
+fn session_orders_once(rt: &impl Abort, alloc: Global, cast: &Cast) {
+    let mut order = opened(rt, alloc, cast);
+    is_greeted(rt, alloc, &mut order);
+    let mut sample = empty_history(rt, alloc, cast);
+    is_submitted(rt, alloc, cast, &mut order, &mut sample);
 }
 
 // A session is greeted and orders an entry once, and sixteen entries are pulled at once.
 #[test]
-fn entries_are_ordered_and_pulled(rt: HostRuntime) -> Result<(), Fail> {
-    let cast = Cast::new(rt.alloc())?;
-    session_orders_once(&rt, rt.alloc(), &cast)?;
-    sixteen_are_pulled(&rt, rt.alloc(), &cast)
+fn entries_are_ordered_and_pulled(rt: HostRuntime) {
+    let cast = Cast::new(rt.alloc()).expect(&rt, "a cast");
+    session_orders_once(&rt, rt.alloc(), &cast);
+    sixteen_are_pulled(&rt, rt.alloc(), &cast);
 }
