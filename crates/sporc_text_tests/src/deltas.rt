@@ -1,95 +1,82 @@
 use sporc_base::Memory;
 use sporc_delta::{Delta, DeltaFault, Part, Text, TextSlice};
-use std::alloc::{AllocError, Global};
+use std::alloc::Global;
 use std::process::Abort;
-use std::test::Fail;
 
 // A part: K3 keeps, R3 removes, and I"abc" inserts.
-fn shown_part(alloc: Global, part: &Part) -> Result<String, AllocError> {
+fn shown_part(rt: &impl Abort, alloc: Global, part: &Part) -> String {
     match part {
-        Part::Keep(count) => format!(in alloc; "K{count} "),
-        Part::Insert(text) => format!(in alloc; "I{:?} ", text.as_str()),
-        Part::Remove(count) => format!(in alloc; "R{count} "),
+        Part::Keep(count) => format!(in alloc; "K{count} ").expect(rt, "memory"),
+        Part::Insert(text) => format!(in alloc; "I{:?} ", text.as_str()).expect(rt, "memory"),
+        Part::Remove(count) => format!(in alloc; "R{count} ").expect(rt, "memory"),
     }
 }
 
 // A delta in one line.
-fn shown(alloc: Global, delta: &Delta) -> Result<String, AllocError> {
+fn shown(rt: &impl Abort, alloc: Global, delta: &Delta) -> String {
     let mut line = String::new(alloc);
     for part in delta.parts() {
-        let part = shown_part(alloc, part)?;
-        line.push_str(part.as_str())?;
+        let part = shown_part(rt, alloc, part);
+        line.push_str(part.as_str()).expect(rt, "memory");
     }
-    Ok(line)
+    line
 }
 
 /// Fails unless this is the delta's line.
-pub(crate) fn is_shown(
-    rt: &impl Abort,
-    alloc: Global,
-    delta: &Delta,
-    line: &str,
-) -> Result<(), Fail> {
-    let found = shown(alloc, delta)?;
+pub(crate) fn is_shown(rt: &impl Abort, alloc: Global, delta: &Delta, line: &str) {
+    let found = shown(rt, alloc, delta);
     assert!(rt; found.as_str() == line, "{found}");
-    Ok(())
 }
 
-fn is_made(
-    rt: &impl Abort,
-    alloc: Global,
-    made: Result<Delta, Memory>,
-    line: &str,
-) -> Result<(), Fail> {
-    let delta = made?;
-    is_shown(rt, alloc, &delta.copy()?, line)
+fn is_made(rt: &impl Abort, alloc: Global, made: Result<Delta, Memory>, line: &str) {
+    let delta = made.expect(rt, "memory");
+    is_shown(rt, alloc, &delta.copy().expect(rt, "memory"), line);
 }
 
-fn makers_give_the_one_list_of_parts(rt: &impl Abort, alloc: Global) -> Result<(), Fail> {
+fn makers_give_the_one_list_of_parts(rt: &impl Abort, alloc: Global) {
     is_made(
         rt,
         alloc,
         Delta::insert_at(alloc, 3, 1, "é€"),
         "K1 I\"é€\" K2 ",
-    )?;
-    is_made(rt, alloc, Delta::insert_at(alloc, 3, 1, ""), "K3 ")?;
-    is_made(rt, alloc, Delta::remove_at(alloc, 5, 1, 3), "K1 R3 K1 ")?;
-    is_made(rt, alloc, Delta::keep_all(alloc, 4), "K4 ")?;
-    is_made(rt, alloc, Delta::replace_all(alloc, 4, "x"), "R4 I\"x\" ")?;
-    is_made(rt, alloc, Delta::keep_all(alloc, 0), "")
+    );
+    is_made(rt, alloc, Delta::insert_at(alloc, 3, 1, ""), "K3 ");
+    is_made(rt, alloc, Delta::remove_at(alloc, 5, 1, 3), "K1 R3 K1 ");
+    is_made(rt, alloc, Delta::keep_all(alloc, 4), "K4 ");
+    is_made(rt, alloc, Delta::replace_all(alloc, 4, "x"), "R4 I\"x\" ");
+    is_made(rt, alloc, Delta::keep_all(alloc, 0), "");
 }
 
 // Whether a delta is stated on a text of so many characters, and leaves so many.
-fn has_lengths(made: Result<Delta, Memory>, base: u64, out: u64) -> Result<bool, Memory> {
-    let delta = made?;
-    Ok(delta.base_len() == base && delta.out_len() == out)
+fn has_lengths(rt: &impl Abort, made: Result<Delta, Memory>, base: u64, out: u64) -> bool {
+    let delta = made.expect(rt, "memory");
+    delta.base_len() == base && delta.out_len() == out
 }
 
-fn texts_are_cut_behind_characters(alloc: Global) -> Result<bool, Memory> {
-    let text = Text::new(alloc, &TextSlice::new("aé€😀b"))?;
+fn texts_are_cut_behind_characters(rt: &impl Abort, alloc: Global) -> bool {
+    let text = Text::new(alloc, &TextSlice::new("aé€😀b")).expect(rt, "memory");
     if text.len() != 5 {
-        return Ok(false);
+        return false;
     }
     let (front, back) = text.as_slice().split_at(3);
-    Ok(front.as_str() == "aé€" && back.as_str() == "😀b")
+    front.as_str() == "aé€" && back.as_str() == "😀b"
 }
 
 #[test]
-fn deltas_are_made_and_texts_are_cut(rt: HostRuntime) -> Result<(), Fail> {
+fn deltas_are_made_and_texts_are_cut(rt: HostRuntime) {
     let alloc = rt.alloc();
-    makers_give_the_one_list_of_parts(&rt, alloc)?;
-    assert!(rt; has_lengths(Delta::insert_at(alloc, 3, 1, "é€"), 3, 5)?);
-    assert!(rt; has_lengths(Delta::remove_at(alloc, 5, 1, 3), 5, 2)?);
-    assert!(rt; texts_are_cut_behind_characters(alloc)?);
-    Ok(())
+    makers_give_the_one_list_of_parts(&rt, alloc);
+    assert!(rt; has_lengths(&rt, Delta::insert_at(alloc, 3, 1, "é€"), 3, 5));
+    assert!(rt; has_lengths(&rt, Delta::remove_at(alloc, 5, 1, 3), 5, 2));
+    assert!(rt; texts_are_cut_behind_characters(&rt, alloc));
 }
 
 // The example of the format's description.
 const INSERTION: &[u8] = b"\x01\0\0\0\0\0\0\0\x03\x02\0\0\0\0\0\0\0\x01d";
 
-fn an_insertion_is_spelled_in_19_bytes(alloc: Global) -> Result<bool, Memory> {
-    let delta = Delta::insert_at(alloc, 3, 3, "d")?;
-    Ok(delta.encoded_len() == 19 && delta.encode()?.as_slice() == INSERTION)
+fn an_insertion_is_spelled_in_19_bytes(rt: &impl Abort, alloc: Global) -> bool {
+    let delta = Delta::insert_at(alloc, 3, 3, "d").expect(rt, "memory");
+    delta.encoded_len() == 19 && delta.encode().expect(rt, "memory").as_slice() == INSERTION
 }
 
 // Each fault alone, and two together, where the first in the format's order is answered.
@@ -113,29 +100,28 @@ const FAULTS: [(&str, DeltaFault); 10] = [
 ];
 
 // Whether bytes are refused for this fault.
-fn is_refused(alloc: Global, text: &str, fault: DeltaFault) -> Result<bool, Fail> {
-    let bytes = hex::decode(alloc, text)?;
-    Ok(bytes.len() < 100 && Delta::decode(alloc, bytes.as_slice()).err() == Some(fault))
+fn is_refused(rt: &impl Abort, alloc: Global, text: &str, fault: DeltaFault) -> bool {
+    let bytes = hex::decode(alloc, text).expect(rt, "hex digits");
+    bytes.len() < 100 && Delta::decode(alloc, bytes.as_slice()).err() == Some(fault)
 }
 
-fn faults_are_the_first_from_the_left(rt: &impl Abort, alloc: Global) -> Result<(), Fail> {
+fn faults_are_the_first_from_the_left(rt: &impl Abort, alloc: Global) {
     for (text, fault) in &FAULTS {
-        assert!(rt; is_refused(alloc, *text, *fault)?, "{text}");
+        assert!(rt; is_refused(rt, alloc, *text, *fault), "{text}");
     }
-    Ok(())
 }
 
 // Fails unless bytes spell the delta of this line.
-fn is_read(rt: &impl Abort, alloc: Global, bytes: &[u8], line: &str) -> Result<(), Fail> {
+fn is_read(rt: &impl Abort, alloc: Global, bytes: &[u8], line: &str) {
     assert!(rt; bytes.len() < 100);
-    let delta = Delta::decode(alloc, bytes)?;
-    is_shown(rt, alloc, &delta, line)
+    let delta = Delta::decode(alloc, bytes).expect(rt, "a delta");
+    is_shown(rt, alloc, &delta, line);
 }
 
 #[test]
-fn deltas_are_spelled_and_read(rt: HostRuntime) -> Result<(), Fail> {
-    assert!(rt; an_insertion_is_spelled_in_19_bytes(rt.alloc())?);
-    is_read(&rt, rt.alloc(), INSERTION, "K3 I\"d\" ")?;
-    is_read(&rt, rt.alloc(), &[], "")?;
-    faults_are_the_first_from_the_left(&rt, rt.alloc())
+fn deltas_are_spelled_and_read(rt: HostRuntime) {
+    assert!(rt; an_insertion_is_spelled_in_19_bytes(&rt, rt.alloc()));
+    is_read(&rt, rt.alloc(), INSERTION, "K3 I\"d\" ");
+    is_read(&rt, rt.alloc(), &[], "");
+    faults_are_the_first_from_the_left(&rt, rt.alloc());
 }

@@ -1,26 +1,25 @@
-use sporc_base::Memory;
 use sporc_bytes::{Cursor, Out, Short};
 use std::alloc::Global;
-use std::test::Fail;
+use std::process::Abort;
 
 // 1 to 18 in fields of one, two, four, eight and three bytes, and a counted text.
 const FIELDS: [u8; 25] = [
     1, 2, 3, 4, 5, 6, 7, 8, 9, 10, 11, 12, 13, 14, 15, 16, 17, 18, 0, 0, 0, 3, 97, 98, 99,
 ];
 
-fn write(out: &mut Out) -> Result<(), Memory> {
-    out.put_u8(0x01)?;
-    out.put_u16(0x0203)?;
-    out.put_u32(0x0405_0607)?;
-    out.put_u64(0x0809_0a0b_0c0d_0e0f)?;
-    out.put_bytes(&[0x10, 0x11, 0x12])?;
-    out.put_counted(b"abc")
+fn write(rt: &impl Abort, out: &mut Out) {
+    out.put_u8(0x01).expect(rt, "memory");
+    out.put_u16(0x0203).expect(rt, "memory");
+    out.put_u32(0x0405_0607).expect(rt, "memory");
+    out.put_u64(0x0809_0a0b_0c0d_0e0f).expect(rt, "memory");
+    out.put_bytes(&[0x10, 0x11, 0x12]).expect(rt, "memory");
+    out.put_counted(b"abc").expect(rt, "memory");
 }
 
-fn fields_are_written(alloc: Global) -> Result<bool, Memory> {
+fn fields_are_written(rt: &impl Abort, alloc: Global) -> bool {
     let mut out = Out::new(alloc);
-    write(&mut out)?;
-    Ok(out.into_bytes().as_slice() == FIELDS.as_slice())
+    write(rt, &mut out);
+    out.into_bytes().as_slice() == FIELDS.as_slice()
 }
 
 fn has_numbers(cursor: &mut Cursor<'_>) -> bool {
@@ -45,11 +44,10 @@ fn has_text_at_its_end(cursor: &mut Cursor<'_>) -> bool {
 }
 
 #[test]
-fn fields_are_read_as_they_are_written(rt: HostRuntime) -> Result<(), Fail> {
-    assert!(rt; fields_are_written(rt.alloc())?);
+fn fields_are_read_as_they_are_written(rt: HostRuntime) {
+    assert!(rt; fields_are_written(&rt, rt.alloc()));
     let mut cursor = Cursor::new(FIELDS.as_slice());
     assert!(rt; has_numbers(&mut cursor));
     assert!(rt; has_bytes(&mut cursor));
     assert!(rt; has_text_at_its_end(&mut cursor));
-    Ok(())
 }

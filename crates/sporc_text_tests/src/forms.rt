@@ -1,33 +1,29 @@
-ghost use Rattle.std.specs.Prelude.{◌≡◌, ◌≤◌, ◌<◌, ◌∷◌, [], IsTrue, IfOk};
+ghost use Rattle.std.specs.Prelude.{◌≡◌, ◌≤◌, ◌<◌, ◌∷◌, [], IsTrue};
 ghost use Rattle.sporc_delta.specs.Marks.{base_len, inserted_len, out_len};
 
 use crate::deltas::is_shown;
-use sporc_base::Memory;
 use sporc_delta::Delta;
 use sporc_suffix::{Blocks, Steps};
 use std::alloc::Global;
 use std::marker::Brand;
+use std::process::Abort;
 use std::sync::ledger::{Blank, Ledger};
-use std::test::Fail;
 
 // Two forms, the second of which is stated on the text after the first.
-fn two_forms(alloc: Global, first: Delta, second: Delta) -> Result<Blocks, Memory>
+fn two_forms(rt: &impl Abort, alloc: Global, first: Delta, second: Delta) -> Blocks
     requires { base_len second ≡ out_len first }
-    ensures base { IfOk result (λ b. b.base ≡ base_len first) }
-    ensures forms { IfOk result (λ b. b.forms ≡ first ∷ second ∷ []) }
+    ensures base { result.base ≡ base_len first }
+    ensures forms { result.forms ≡ first ∷ second ∷ [] }
 {
-    let mut blocks = Blocks::new(alloc, first.base_len())?;
-    match blocks.push(first) {
-        Ok(()) => {}
-        Err((_, e)) => return Err(e),
-    }
-    match blocks.ready(second) {
-        Ok(ready) => {
-            blocks.put(ready);
-            Ok(blocks)
-        }
-        Err((_, e)) => Err(e),
-    }
+    let mut blocks = Blocks::new(alloc, first.base_len()).expect(rt, "memory");
+    let Ok(()) = blocks.push(first) else {
+        panic!(rt; "memory");
+    };
+    let Ok(ready) = blocks.ready(second) else {
+        panic!(rt; "memory");
+    };
+    blocks.put(ready);
+    blocks
 }
 
 // Whether the texts before and after it are short.
@@ -42,13 +38,14 @@ fn is_short(delta: &Delta) -> bool
 // What `q` becomes behind both forms, and behind the second alone what
 // `late` becomes, which is stated on the text after the first.
 fn behind<L: Ledger>(
+    rt: &impl Abort,
     blank: Blank,
     alloc: Global,
     first: Delta,
     second: Delta,
     q: &Delta,
     late: &Delta,
-) -> Result<(Delta, Delta), Memory>
+) -> (Delta, Delta)
     requires name { blank.name ≡ L.name }
     requires parts { blank.parts ≡ L.parts }
     requires some { 0 < blank.parts }
@@ -62,47 +59,48 @@ fn behind<L: Ledger>(
     requires first_few { inserted_len first ≤ 100 }
     requires second_few { inserted_len second ≤ 100 }
 {
-    let blocks = two_forms(alloc, first, second)?;
+    let blocks = two_forms(rt, alloc, first, second);
     let mut steps: Steps<L> = Steps::new(blank);
-    let delta = blocks.later_over(q, 0, &mut steps)?;
-    let last = blocks.later_over(late, 1, &mut steps)?;
-    Ok((delta, last))
+    let delta = blocks.later_over(q, 0, &mut steps).expect(rt, "memory");
+    let last = blocks.later_over(late, 1, &mut steps).expect(rt, "memory");
+    (delta, last)
 }
 
 // The same, or nothing where the forms do not follow one another or a delta is stated elsewhere.
 fn restated(
+    rt: &impl Abort,
     alloc: Global,
     first: Delta,
     second: Delta,
     q: &Delta,
     late: &Delta,
-) -> Result<Option<(Delta, Delta)>, Memory> {
+) -> Option<(Delta, Delta)> {
     if q.base_len() != first.base_len() || second.base_len() != first.out_len() {
-        return Ok(None);
+        return None;
     }
     if late.base_len() != first.out_len() || !is_short(late) {
-        return Ok(None);
+        return None;
     }
     if !is_short(q) || !is_short(&first) || !is_short(&second) {
-        return Ok(None);
+        return None;
     }
-    Ok(Some(behind::<Brand>(Blank::new(1), alloc, first, second, q, late)?))
+    Some(behind::<Brand>(rt, Blank::new(1), alloc, first, second, q, late))
 }
 
 // Of `abc` the first author leaves `ac`, the second makes `aXc` of it, and a third, who saw `abc`,
 // inserts before the `b`: the text is `aXYc`. A fourth, who saw `ac`, puts a character at its end.
-fn by_four_authors(alloc: Global) -> Result<Option<(Delta, Delta)>, Memory> {
-    let q = Delta::insert_at(alloc, 3, 1, "Y")?;
-    let late = Delta::insert_at(alloc, 2, 2, "Z")?;
-    let first = Delta::remove_at(alloc, 3, 1, 1)?;
-    let second = Delta::insert_at(alloc, 2, 1, "X")?;
-    restated(alloc, first, second, &q, &late)
+fn by_four_authors(rt: &impl Abort, alloc: Global) -> Option<(Delta, Delta)> {
+    let q = Delta::insert_at(alloc, 3, 1, "Y").expect(rt, "memory");
+    let late = Delta::insert_at(alloc, 2, 2, "Z").expect(rt, "memory");
+    let first = Delta::remove_at(alloc, 3, 1, 1).expect(rt, "memory");
+    let second = Delta::insert_at(alloc, 2, 1, "X").expect(rt, "memory");
+    restated(rt, alloc, first, second, &q, &late)
 }
 
 #[test]
-fn a_delta_passes_the_forms_in_their_order(rt: HostRuntime) -> Result<(), Fail> {
+fn a_delta_passes_the_forms_in_their_order(rt: HostRuntime) {
     let alloc = rt.alloc();
-    let (delta, last) = by_four_authors(alloc)?.ok_or("other texts")?;
-    is_shown(&rt, alloc, &delta, "K2 I\"Y\" K1 ")?;
-    is_shown(&rt, alloc, &last, "K3 I\"Z\" ")
+    let (delta, last) = by_four_authors(&rt, alloc).expect(&rt, "forms that follow");
+    is_shown(&rt, alloc, &delta, "K2 I\"Y\" K1 ");
+    is_shown(&rt, alloc, &last, "K3 I\"Z\" ");
 }

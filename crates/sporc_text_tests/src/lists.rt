@@ -1,18 +1,18 @@
-use sporc_base::{Bytes, Items, Memory, is_same, put_at, unmarked};
+use sporc_base::{Bytes, Items, is_same, put_at, unmarked};
 use std::alloc::Global;
-use std::test::Fail;
+use std::process::Abort;
 
-fn bytes_are_copied(alloc: Global) -> Result<bool, Memory> {
-    let name = Bytes::copy_of(alloc, b"ada")?;
-    let copy = name.copy()?;
+fn bytes_are_copied(rt: &impl Abort, alloc: Global) -> bool {
+    let name = Bytes::copy_of(alloc, b"ada").expect(rt, "memory");
+    let copy = name.copy().expect(rt, "memory");
     let copied = is_same(copy.as_slice(), b"ada");
     let again = Items::new(copy.into_vec());
-    Ok(copied && is_same(again.as_slice(), name.as_slice()))
+    copied && is_same(again.as_slice(), name.as_slice())
 }
 
-fn numbers_are_copied(alloc: Global) -> Result<bool, Memory> {
-    let numbers = Items::copy_of(alloc, &[7u16, 9])?;
-    Ok(numbers.as_slice() == [7u16, 9].as_slice())
+fn numbers_are_copied(rt: &impl Abort, alloc: Global) -> bool {
+    let numbers = Items::copy_of(alloc, &[7u16, 9]).expect(rt, "memory");
+    numbers.as_slice() == [7u16, 9].as_slice()
 }
 
 fn bytes_are_put_at_a_place() -> bool {
@@ -21,16 +21,15 @@ fn bytes_are_put_at_a_place() -> bool {
     is_same(&field, &[1, 8, 9, 4])
 }
 
-fn a_table_has_no_marks(alloc: Global) -> Result<bool, Memory> {
-    let marks = unmarked(alloc, 3)?;
-    Ok(marks.as_slice() == [false, false, false].as_slice())
+fn a_table_has_no_marks(rt: &impl Abort, alloc: Global) -> bool {
+    let marks = unmarked(alloc, 3).expect(rt, "memory");
+    marks.as_slice() == [false, false, false].as_slice()
 }
 
 #[test]
-fn lists_are_copied_and_a_table_has_no_marks(rt: HostRuntime) -> Result<(), Fail> {
-    assert!(rt; bytes_are_copied(rt.alloc())?);
-    assert!(rt; numbers_are_copied(rt.alloc())?);
+fn lists_are_copied_and_a_table_has_no_marks(rt: HostRuntime) {
+    assert!(rt; bytes_are_copied(&rt, rt.alloc()));
+    assert!(rt; numbers_are_copied(&rt, rt.alloc()));
     assert!(rt; bytes_are_put_at_a_place());
-    assert!(rt; a_table_has_no_marks(rt.alloc())?);
-    Ok(())
+    assert!(rt; a_table_has_no_marks(&rt, rt.alloc()));
 }

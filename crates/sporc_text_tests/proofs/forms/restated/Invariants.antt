@@ -1,4 +1,4 @@
 use Rattle.sporc_text_tests.proofs.forms.restated.Given as goal
 
 abbrev pub ghosts-behind : goal.ghosts-behind
-ghosts-behind a = record { name = a.blank.name; parts = a.blank.parts }
+ghosts-behind g a = record { name = a.blank.name; parts = a.blank.parts }
