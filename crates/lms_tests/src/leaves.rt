@@ -1,13 +1,11 @@
 use lms_leaf::{Leaves, blank, laws};
-use sporc_base::Memory;
 use sporc_outside::{Calls, DiskCall, DiskRequest, MemoryDisk};
 use std::alloc::Global;
 use std::process::Abort;
-use std::test::Fail;
 
 // A disk of these bytes, all calls of which succeed.
-fn disk_of(alloc: Global, bytes: Vec<u8>) -> Result<MemoryDisk, Memory> {
-    MemoryDisk::new(alloc, bytes, Calls::failing(Vec::new(alloc)))
+fn disk_of(rt: &impl Abort, alloc: Global, bytes: Vec<u8>) -> MemoryDisk {
+    MemoryDisk::new(alloc, bytes, Calls::failing(Vec::new(alloc))).expect(rt, "memory")
 }
 
 fn name_of(request: &DiskRequest) -> &'static str {
@@ -19,19 +17,20 @@ fn name_of(request: &DiskRequest) -> &'static str {
     }
 }
 
-fn blank_files_are_zeros(alloc: Global) -> Result<bool, Memory> {
-    Ok(
-        blank(alloc, 5)?.as_slice() == [0; 8].as_slice()
-            && blank(alloc, 10)?.len() == 256
-            && blank(alloc, 15)?.len() == 8192,
-    )
+fn blank_files_are_zeros(rt: &impl Abort, alloc: Global) -> bool {
+    blank(alloc, 5).expect(rt, "memory").as_slice() == [0; 8].as_slice()
+        && blank(alloc, 10).expect(rt, "memory").len() == 256
+        && blank(alloc, 15).expect(rt, "memory").len() == 8192
 }
 
 // The leaves of a file whose second block is not blank.
-fn opened(alloc: Global) -> Result<Box<Leaves<MemoryDisk>>, Fail> {
-    let disk = disk_of(alloc, b"\0\x09\0\0\0\0\0\0".to_vec(alloc)?)?;
-    let leaves = Leaves::open(alloc, disk, 5).map_err(|fault| fault.0)?;
-    Ok(Box::new(alloc, leaves)?)
+fn opened(rt: &impl Abort, alloc: Global) -> Box<Leaves<MemoryDisk>> {
+    let bytes = b"\0\x09\0\0\0\0\0\0".to_vec(alloc).expect(rt, "memory");
+    let disk = disk_of(rt, alloc, bytes);
+    let leaves = Leaves::open(alloc, disk, 5)
+        .map_err(|fault| fault.0)
+        .expect(rt, "leaves");
+    Box::new(alloc, leaves).expect(rt, "memory")
 }
 
 // Draws the leaves of the third block.
@@ -64,13 +63,12 @@ fn has_its_calls(rt: &impl Abort, log: &[DiskCall]) {
 }
 
 #[test]
-fn a_file_is_blank_at_first_and_is_drawn_by_blocks(rt: HostRuntime) -> Result<(), Fail> {
-    assert!(rt; blank_files_are_zeros(rt.alloc())?);
-    let mut leaves = opened(rt.alloc())?;
+fn a_file_is_blank_at_first_and_is_drawn_by_blocks(rt: HostRuntime) {
+    assert!(rt; blank_files_are_zeros(&rt, rt.alloc()));
+    let mut leaves = opened(&rt, rt.alloc());
     assert!(rt; draws_a_block(&mut leaves));
     let disk = Box::into_inner(leaves).close();
     assert!(rt; disk.as_slice() == b"\0\x09\x01\0\0\0\0\0".as_slice());
     has_its_calls(&rt, disk.log());
     laws::no_leaf_is_drawn_twice::<MemoryDisk>();
-    Ok(())
 }
