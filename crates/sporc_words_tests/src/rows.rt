@@ -2,10 +2,9 @@ use sporc_member::Role;
 use sporc_words::{
     Check, Client, Command, Compare, Found, Founding, Keygen, Serve, Word, WordsFault, read_words,
 };
-use std::alloc::{AllocError, Global};
+use std::alloc::Global;
 use std::fmt::Write;
 use std::process::Abort;
-use std::test::Fail;
 
 // Command lines, with one space between two words, and what they ask for in one line.
 const ROWS: [(&str, &str); 25] = [
@@ -107,105 +106,102 @@ const OTHERS: [&str; 48] = [
 ];
 
 #[test]
-fn words_ask_for_commands(rt: HostRuntime) -> Result<(), Fail> {
+fn words_ask_for_commands(rt: HostRuntime) {
     for (line, asked) in &ROWS {
-        is_read(&rt, rt.alloc(), line, asked)?;
+        is_read(&rt, rt.alloc(), line, asked);
     }
     for line in &OTHERS {
-        is_read(&rt, rt.alloc(), line, "nothing")?;
+        is_read(&rt, rt.alloc(), line, "nothing");
     }
-    no_words_ask_for_nothing(&rt, rt.alloc())?;
-    at_most_64_are_named(&rt, rt.alloc())
+    no_words_ask_for_nothing(&rt, rt.alloc());
+    at_most_64_are_named(&rt, rt.alloc());
 }
 
-fn no_words_ask_for_nothing(rt: &impl Abort, alloc: Global) -> Result<(), Fail> {
-    ask_for(rt, alloc, &[], "nothing")
+fn no_words_ask_for_nothing(rt: &impl Abort, alloc: Global) {
+    ask_for(rt, alloc, &[], "nothing");
 }
 
 // The words of a founding with an admin and 63 joiners, and with one more.
-fn at_most_64_are_named(rt: &impl Abort, alloc: Global) -> Result<(), Fail> {
-    let mut line = String::from_str(alloc, "found doc 100:admin")?;
-    let mut asked = String::from_str(alloc, "found doc 100 admin")?;
-    name_joiners(&mut line, ":joiner")?;
-    name_joiners(&mut asked, " joiner")?;
-    is_read(rt, alloc, line.as_str(), asked.as_str())?;
-    line.push_str(" 64:joiner")?;
-    is_read(rt, alloc, line.as_str(), "nothing")
+fn at_most_64_are_named(rt: &impl Abort, alloc: Global) {
+    let mut line = String::from_str(alloc, "found doc 100:admin").expect(rt, "memory");
+    let mut asked = String::from_str(alloc, "found doc 100 admin").expect(rt, "memory");
+    name_joiners(rt, &mut line, ":joiner");
+    name_joiners(rt, &mut asked, " joiner");
+    is_read(rt, alloc, line.as_str(), asked.as_str());
+    line.push_str(" 64:joiner").expect(rt, "memory");
+    is_read(rt, alloc, line.as_str(), "nothing");
 }
 
-fn name_joiners(line: &mut String, role: &str) -> Result<(), Fail> {
+fn name_joiners(rt: &impl Abort, line: &mut String, role: &str) {
     for member in 1..64 {
-        push_number(line, member)?;
-        line.push_str(role)?;
+        push_number(rt, line, member);
+        line.push_str(role).expect(rt, "memory");
     }
-    Ok(())
 }
 
-fn is_read(rt: &impl Abort, alloc: Global, line: &str, asked: &str) -> Result<(), Fail> {
-    let words = words_in(alloc, line)?;
-    ask_for(rt, alloc, words.as_slice(), asked)
+fn is_read(rt: &impl Abort, alloc: Global, line: &str, asked: &str) {
+    let words = words_in(rt, alloc, line);
+    ask_for(rt, alloc, words.as_slice(), asked);
 }
 
-fn words_in(alloc: Global, line: &str) -> Result<Vec<String>, AllocError> {
+fn words_in(rt: &impl Abort, alloc: Global, line: &str) -> Vec<String> {
     let mut words = Vec::new(alloc);
     for word in line.split(' ') {
-        words.push(String::from_str(alloc, word)?)?;
+        let word = String::from_str(alloc, word).expect(rt, "memory");
+        words.push(word).expect(rt, "memory");
     }
-    Ok(words)
+    words
 }
 
-fn ask_for(rt: &impl Abort, alloc: Global, words: &[String], asked: &str) -> Result<(), Fail> {
+fn ask_for(rt: &impl Abort, alloc: Global, words: &[String], asked: &str) {
     let mut shown = String::new(alloc);
-    show_words(alloc, &mut shown, words)?;
+    show_words(rt, alloc, &mut shown, words);
     assert!(rt; shown.as_str() == asked);
-    Ok(())
 }
 
 // Appends what words ask for, in one line.
-fn show_words(alloc: Global, line: &mut String, words: &[String]) -> Result<(), Fail> {
+fn show_words(rt: &impl Abort, alloc: Global, line: &mut String, words: &[String]) {
     match read_words(alloc, words) {
         Ok(command) => {
-            let shown = show(line, &command);
+            show(rt, line, &command);
             drop(command);
-            shown
         }
-        Err(WordsFault::Words) => Ok(line.push_str("nothing")?),
-        Err(WordsFault::Memory) => Ok(line.push_str("out of memory")?),
+        Err(WordsFault::Words) => line.push_str("nothing").expect(rt, "memory"),
+        Err(WordsFault::Memory) => line.push_str("out of memory").expect(rt, "memory"),
     }
 }
 
-fn show(line: &mut String, command: &Command) -> Result<(), Fail> {
+fn show(rt: &impl Abort, line: &mut String, command: &Command) {
     match command {
-        Command::Play => Ok(line.push_str("play")?),
-        Command::Generate(edits) => show_generate(line, *edits),
-        Command::Keygen(keygen) => show_keygen(line, keygen),
-        Command::Found(found) => show_found(line, found),
-        Command::Serve(serve) => show_serve(line, serve),
-        Command::Client(client) => show_client(line, client),
-        Command::Check(check) => show_check(line, check),
-        Command::Compare(compare) => show_compare(line, compare),
+        Command::Play => line.push_str("play").expect(rt, "memory"),
+        Command::Generate(edits) => show_generate(rt, line, *edits),
+        Command::Keygen(keygen) => show_keygen(rt, line, keygen),
+        Command::Found(found) => show_found(rt, line, found),
+        Command::Serve(serve) => show_serve(rt, line, serve),
+        Command::Client(client) => show_client(rt, line, client),
+        Command::Check(check) => show_check(rt, line, check),
+        Command::Compare(compare) => show_compare(rt, line, compare),
     }
 }
 
-fn show_generate(line: &mut String, edits: u32) -> Result<(), Fail> {
-    line.push_str("generate")?;
-    push_number(line, edits)
+fn show_generate(rt: &impl Abort, line: &mut String, edits: u32) {
+    line.push_str("generate").expect(rt, "memory");
+    push_number(rt, line, edits);
 }
 
-fn show_keygen(line: &mut String, keygen: &Keygen) -> Result<(), Fail> {
-    push_named(line, "keygen", &keygen.name)?;
-    push_number(line, u32::from(keygen.member))?;
-    push_number(line, keygen.height.height())?;
-    push_number(line, keygen.width.w())
+fn show_keygen(rt: &impl Abort, line: &mut String, keygen: &Keygen) {
+    push_named(rt, line, "keygen", &keygen.name);
+    push_number(rt, line, u32::from(keygen.member));
+    push_number(rt, line, keygen.height.height());
+    push_number(rt, line, keygen.width.w());
 }
 
-fn show_found(line: &mut String, found: &Found) -> Result<(), Fail> {
-    push_named(line, "found", &found.name)?;
+fn show_found(rt: &impl Abort, line: &mut String, found: &Found) {
+    push_named(rt, line, "found", &found.name);
     for participant in found.participants.as_slice() {
-        push_number(line, u32::from(participant.member))?;
-        push_word(line, founding_name(participant.founding))?;
+        push_number(rt, line, u32::from(participant.member));
+        push_word(rt, line, founding_name(participant.founding));
     }
-    Ok(())
 }
 
 fn founding_name(founding: Founding) -> &'static str {
@@ -217,48 +213,47 @@ fn founding_name(founding: Founding) -> &'static str {
     }
 }
 
-fn show_serve(line: &mut String, serve: &Serve) -> Result<(), Fail> {
-    push_named(line, "serve", &serve.name)?;
-    push_word(line, serve.address.as_str())?;
-    push_number(line, serve.sessions)
+fn show_serve(rt: &impl Abort, line: &mut String, serve: &Serve) {
+    push_named(rt, line, "serve", &serve.name);
+    push_word(rt, line, serve.address.as_str());
+    push_number(rt, line, serve.sessions);
 }
 
-fn show_client(line: &mut String, client: &Client) -> Result<(), Fail> {
-    push_named(line, "client", &client.name)?;
-    push_number(line, u32::from(client.member))?;
-    push_word(line, client.address.as_str())?;
-    push_number(line, client.rounds)?;
-    push_number(line, client.until)?;
+fn show_client(rt: &impl Abort, line: &mut String, client: &Client) {
+    push_named(rt, line, "client", &client.name);
+    push_number(rt, line, u32::from(client.member));
+    push_word(rt, line, client.address.as_str());
+    push_number(rt, line, client.rounds);
+    push_number(rt, line, client.until);
     for script in client.scripts.as_slice() {
-        push_word(line, script.as_str())?;
+        push_word(rt, line, script.as_str());
     }
-    Ok(())
 }
 
-fn show_check(line: &mut String, check: &Check) -> Result<(), Fail> {
-    push_named(line, "check", &check.name)?;
-    push_number(line, u32::from(check.member))
+fn show_check(rt: &impl Abort, line: &mut String, check: &Check) {
+    push_named(rt, line, "check", &check.name);
+    push_number(rt, line, u32::from(check.member));
 }
 
-fn show_compare(line: &mut String, compare: &Compare) -> Result<(), Fail> {
-    push_named(line, "compare", &compare.name)?;
-    push_number(line, u32::from(compare.first))?;
-    push_number(line, u32::from(compare.second))
+fn show_compare(rt: &impl Abort, line: &mut String, compare: &Compare) {
+    push_named(rt, line, "compare", &compare.name);
+    push_number(rt, line, u32::from(compare.first));
+    push_number(rt, line, u32::from(compare.second));
 }
 
 // Appends a verb, and the document's name.
-fn push_named(line: &mut String, verb: &str, name: &Word) -> Result<(), AllocError> {
-    line.push_str(verb)?;
-    push_word(line, name.as_str())
+fn push_named(rt: &impl Abort, line: &mut String, verb: &str, name: &Word) {
+    line.push_str(verb).expect(rt, "memory");
+    push_word(rt, line, name.as_str());
 }
 
 // Appends a word behind a space.
-fn push_word(line: &mut String, word: &str) -> Result<(), AllocError> {
-    line.push_str(" ")?;
-    line.push_str(word)
+fn push_word(rt: &impl Abort, line: &mut String, word: &str) {
+    line.push_str(" ").expect(rt, "memory");
+    line.push_str(word).expect(rt, "memory");
 }
 
 // Appends a number behind a space.
-fn push_number(line: &mut String, number: u32) -> Result<(), Fail> {
-    Ok(write!(line, " {number}")?)
+fn push_number(rt: &impl Abort, line: &mut String, number: u32) {
+    write!(line, " {number}").expect(rt, "memory");
 }

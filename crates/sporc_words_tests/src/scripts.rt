@@ -3,7 +3,6 @@
 use sporc_script::{EditorLine, LineFault, read_editor, read_play};
 use std::alloc::Global;
 use std::process::Abort;
-use std::test::Fail;
 
 const PREAMBLE: &str =
     "tree 10 8\nmember 1 admin\nmember 2 reader\nrogue 3 editor\njoiner 4\nunpaired 1 2\n";
@@ -76,25 +75,23 @@ const OUTSIDE: &[&str] = &[
 ];
 
 // The number of the first line of a play that is outside, or 0.
-fn first_outside(alloc: Global, script: &[u8]) -> Result<u32, LineFault> {
-    if script.len() > 1 << 10 {
-        return Err(LineFault::Memory);
-    }
+fn first_outside(rt: &impl Abort, alloc: Global, script: &[u8]) -> u32 {
+    assert!(rt; script.len() <= 1 << 10);
     match read_play(alloc, script) {
         Ok(script) => {
             drop(script);
-            Ok(0)
+            0
         }
-        Err(LineFault::Line { line }) => Ok(line),
-        Err(LineFault::Memory) => Err(LineFault::Memory),
+        Err(LineFault::Line { line }) => line,
+        Err(LineFault::Memory) => panic!(rt; "memory"),
     }
 }
 
 // The same, of a line behind the preamble.
-fn outside_behind(alloc: Global, line: &str) -> Result<u32, LineFault> {
-    let mut text = String::from_str(alloc, PREAMBLE)?;
-    text.push_str(line)?;
-    first_outside(alloc, text.as_bytes())
+fn outside_behind(rt: &impl Abort, alloc: Global, line: &str) -> u32 {
+    let mut text = String::from_str(alloc, PREAMBLE).expect(rt, "memory");
+    text.push_str(line).expect(rt, "memory");
+    first_outside(rt, alloc, text.as_bytes())
 }
 
 // Whether these are four lines, the last of which has the number 6.
@@ -113,24 +110,24 @@ fn is_second_outside(alloc: Global) -> bool {
     }
 }
 
-fn editor_scripts_are_read(rt: &impl Abort, alloc: Global) -> Result<(), Fail> {
+fn editor_scripts_are_read(rt: &impl Abort, alloc: Global) {
     let script = read_editor(
         alloc,
         b"insert 0 \"a\"\n# more\n\nremove 0 1\ndrop 2\nrole 3 admin",
-    )?;
+    )
+    .expect(rt, "a script");
     assert!(rt; are_four(script.lines()));
     drop(script);
     assert!(rt; is_second_outside(alloc));
-    Ok(())
 }
 
 #[test]
-fn each_kind_of_line_is_read_and_each_rule_is_kept(rt: HostRuntime) -> Result<(), Fail> {
+fn each_kind_of_line_is_read_and_each_rule_is_kept(rt: HostRuntime) {
     for line in LINES {
-        assert!(rt; outside_behind(rt.alloc(), line)? == 0);
+        assert!(rt; outside_behind(&rt, rt.alloc(), line) == 0);
     }
     for line in OUTSIDE {
-        assert!(rt; outside_behind(rt.alloc(), line)? == 7);
+        assert!(rt; outside_behind(&rt, rt.alloc(), line) == 7);
     }
-    editor_scripts_are_read(&rt, rt.alloc())
+    editor_scripts_are_read(&rt, rt.alloc());
 }
