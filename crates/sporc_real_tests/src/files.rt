@@ -4,8 +4,7 @@ use sporc_real::RealFolder;
 use std::os::unix::fs::MetadataExt;
 use std::process::Abort;
 use std::rt::Files;
-use std::test::Fail;
-use std::{fs, io, process};
+use std::{fs, process};
 
 fn has<F: Folder>(rt: &(impl Abort + AllocGlobal), folder: &mut F, name: &str, bytes: &[u8]) {
     match folder.read_file(rt.alloc(), name) {
@@ -19,15 +18,14 @@ fn lacks<F: Folder>(rt: &(impl Abort + AllocGlobal), folder: &mut F, name: &str)
 }
 
 // Who may read and write a file, as the system has it.
-fn rights<R: Files>(rt: &R, name: &str) -> io::Result<u32> {
-    Ok(fs::metadata(rt, name)?.mode() & 0o777)
+fn rights<R: Abort + Files>(rt: &R, name: &str) -> u32 {
+    fs::metadata(rt, name).expect(rt, "a file").mode() & 0o777
 }
 
 // Whether something lies where a file is written before it takes its name.
-fn has_beside<R: Files + AllocGlobal>(rt: &R, name: &str) -> io::Result<bool> {
-    let beside = format!(in rt.alloc(); "{name}.new")?;
-    let there = fs::exists(rt, beside.as_str())?;
-    Ok(there)
+fn has_beside<R: Abort + Files + AllocGlobal>(rt: &R, name: &str) -> bool {
+    let beside = format!(in rt.alloc(); "{name}.new").expect(rt, "memory");
+    fs::exists(rt, beside.as_str()).expect(rt, "an answer")
 }
 
 fn saves<F: Folder>(rt: &(impl Abort + AllocGlobal), folder: &mut F, name: &str) {
@@ -51,35 +49,32 @@ fn fails<F: Folder>(rt: &(impl Abort + AllocGlobal), folder: &mut F, path: &str)
 }
 
 #[test]
-fn a_saved_file_replaces_the_old_one(rt: HostRuntime) -> Result<(), Fail> {
-    let path = make_folder(&rt, process::id(rt.process()), "saved")?;
-    let name = format!(in rt.alloc(); "{path}/a.history")?;
+fn a_saved_file_replaces_the_old_one(rt: HostRuntime) {
+    let path = make_folder(&rt, process::id(rt.process()), "saved");
+    let name = format!(in rt.alloc(); "{path}/a.history").expect(&rt, "memory");
     saves(&rt, &mut RealFolder::new(&rt), name.as_str());
-    let beside = has_beside(&rt, name.as_str())?;
-    fs::remove_dir_all(&rt, path.as_str())?;
+    let beside = has_beside(&rt, name.as_str());
+    fs::remove_dir_all(&rt, path.as_str()).expect(&rt, "a folder");
     assert!(rt; !beside);
-    Ok(())
 }
 
 #[test]
-fn a_file_with_keys_is_made_once_for_its_owner_alone(rt: HostRuntime) -> Result<(), Fail> {
-    let path = make_folder(&rt, process::id(rt.process()), "keys")?;
-    let name = format!(in rt.alloc(); "{path}/a.1.key")?;
+fn a_file_with_keys_is_made_once_for_its_owner_alone(rt: HostRuntime) {
+    let path = make_folder(&rt, process::id(rt.process()), "keys");
+    let name = format!(in rt.alloc(); "{path}/a.1.key").expect(&rt, "memory");
     makes_new(&rt, &mut RealFolder::new(&rt), name.as_str());
-    let rights = rights(&rt, name.as_str())?;
-    fs::remove_dir_all(&rt, path.as_str())?;
+    let rights = rights(&rt, name.as_str());
+    fs::remove_dir_all(&rt, path.as_str()).expect(&rt, "a folder");
     assert!(rt; rights == 0o600);
-    Ok(())
 }
 
 #[test]
-fn errors_of_files_are_counted_and_leave_nothing(rt: HostRuntime) -> Result<(), Fail> {
-    let path = make_folder(&rt, process::id(rt.process()), "errors")?;
-    let name = format!(in rt.alloc(); "{path}/a")?;
-    fs::create_dir(&rt, name.as_str())?;
+fn errors_of_files_are_counted_and_leave_nothing(rt: HostRuntime) {
+    let path = make_folder(&rt, process::id(rt.process()), "errors");
+    let name = format!(in rt.alloc(); "{path}/a").expect(&rt, "memory");
+    fs::create_dir(&rt, name.as_str()).expect(&rt, "a folder");
     fails(&rt, &mut RealFolder::new(&rt), name.as_str());
-    let beside = has_beside(&rt, name.as_str())?;
-    fs::remove_dir_all(&rt, path.as_str())?;
+    let beside = has_beside(&rt, name.as_str());
+    fs::remove_dir_all(&rt, path.as_str()).expect(&rt, "a folder");
     assert!(rt; !beside);
-    Ok(())
 }

@@ -1,26 +1,21 @@
 use crate::scratch::make_folder;
-use sporc_outside::{Counted, FileFault, Folder, LeafDisk};
+use sporc_outside::{Counted, Folder, LeafDisk};
 use sporc_real::{RealDisk, RealFolder};
 use std::fs::File;
 use std::process::Abort;
 use std::rt::Files;
-use std::test::Fail;
 use std::{fs, process};
 
-type Answer = Result<(), FileFault>;
-
-fn writes(rt: &impl Abort, disk: &mut RealDisk) -> Answer {
+fn writes(rt: &impl Abort, disk: &mut RealDisk) {
     assert!(rt; disk.len() == Ok(4));
-    disk.write_at(1, b"oo")?;
-    disk.sync()?;
-    Ok(())
+    disk.write_at(1, b"oo").expect(rt, "a leaf file");
+    disk.sync().expect(rt, "a leaf file");
 }
 
-fn reads(rt: &impl Abort, disk: &mut RealDisk) -> Answer {
+fn reads(rt: &impl Abort, disk: &mut RealDisk) {
     let mut bytes = [0u8; 3];
-    disk.read(0, &mut bytes)?;
+    disk.read(0, &mut bytes).expect(rt, "a leaf file");
     assert!(rt; bytes.as_slice() == b"loo".as_slice());
-    Ok(())
 }
 
 fn is_bounded(rt: &impl Abort, disk: &mut RealDisk) {
@@ -33,24 +28,21 @@ fn keeps_leaves<R: Abort + Files<File = File> + AllocGlobal + Drop>(
     rt: &R,
     folder: &mut RealFolder<&R>,
     name: &str,
-) -> Answer {
-    folder.write_new(name, b"leaf")?;
-    let mut disk = folder.leaf_disk(name)?;
-    writes(rt, &mut disk)?;
-    reads(rt, &mut disk)?;
+) {
+    folder.write_new(name, b"leaf").expect(rt, "a leaf file");
+    let mut disk = folder.leaf_disk(name).expect(rt, "a leaf file");
+    writes(rt, &mut disk);
+    reads(rt, &mut disk);
     is_bounded(rt, &mut disk);
     folder.take_back(disk);
     assert!(rt; folder.faults() == 2);
-    Ok(())
 }
 
 #[test]
-fn a_leaf_file_is_read_and_written_in_bounds(rt: HostRuntime) -> Result<(), Fail> {
-    let path = make_folder(&rt, process::id(rt.process()), "leaves")?;
-    let name = format!(in rt.alloc(); "{path}/a.leaf")?;
+fn a_leaf_file_is_read_and_written_in_bounds(rt: HostRuntime) {
+    let path = make_folder(&rt, process::id(rt.process()), "leaves");
+    let name = format!(in rt.alloc(); "{path}/a.leaf").expect(&rt, "memory");
     let mut folder = RealFolder::new(&rt);
-    let answer = keeps_leaves(&rt, &mut folder, name.as_str());
-    fs::remove_dir_all(&rt, path.as_str())?;
-    answer?;
-    Ok(())
+    keeps_leaves(&rt, &mut folder, name.as_str());
+    fs::remove_dir_all(&rt, path.as_str()).expect(&rt, "a folder");
 }

@@ -1,16 +1,14 @@
 use sporc_outside::{Counted, Dial, Link, Links, Listen, write_all};
 use sporc_real::TcpNet;
-use std::io;
 use std::net::{Net, OpenListener, TcpListener};
 use std::process::Abort;
-use std::test::Fail;
 use std::thread::join;
 
 // An address of this machine where nobody listens.
-fn free_address<R: Net + AllocGlobal>(rt: &R) -> io::Result<String> {
-    let listener = TcpListener::bind(rt, "127.0.0.1:0")?;
-    let address = listener.local_addr()?;
-    Ok(format!(in rt.alloc(); "{address}")?)
+fn free_address<R: Abort + Net + AllocGlobal>(rt: &R) -> String {
+    let listener = TcpListener::bind(rt, "127.0.0.1:0").expect(rt, "a listener");
+    let address = listener.local_addr().expect(rt, "an address");
+    format!(in rt.alloc(); "{address}").expect(rt, "memory")
 }
 
 fn hears<L: Link>(rt: &impl Abort, link: &mut L, bytes: usize) {
@@ -31,12 +29,12 @@ fn both_hear<L: Link>(rt: &impl Abort, caller: &mut L, called: &mut L) {
 }
 
 #[test]
-fn a_connection_carries_bytes_both_ways(rt: HostRuntime) -> Result<(), Fail> {
-    let address = free_address(&rt)?;
+fn a_connection_carries_bytes_both_ways(rt: HostRuntime) {
+    let address = free_address(&rt);
     let mut net = TcpNet::new(&rt);
-    net.listen(address.as_str())?;
-    let mut caller = net.connect(&rt, address.as_str())?;
-    let mut called = net.accept(&rt)?;
+    net.listen(address.as_str()).expect(&rt, "a listener");
+    let mut caller = net.connect(&rt, address.as_str()).expect(&rt, "a link");
+    let mut called = net.accept(&rt).expect(&rt, "a link");
     join(
         &rt,
         || says(&rt, &mut caller, b"hi"),
@@ -46,15 +44,13 @@ fn a_connection_carries_bytes_both_ways(rt: HostRuntime) -> Result<(), Fail> {
     net.take_back(caller);
     net.take_back(called);
     assert!(rt; net.link_faults() == 0);
-    Ok(())
 }
 
 #[test]
-fn a_call_that_nobody_takes_fails(rt: HostRuntime) -> Result<(), Fail> {
-    let address = free_address(&rt)?;
+fn a_call_that_nobody_takes_fails(rt: HostRuntime) {
+    let address = free_address(&rt);
     let mut net = TcpNet::new(&rt);
     assert!(rt; net.connect(&rt, address.as_str()).is_err());
     assert!(rt; net.accept(&rt).is_err());
     assert!(rt; net.faults() == 2);
-    Ok(())
 }

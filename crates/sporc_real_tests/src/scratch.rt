@@ -1,16 +1,18 @@
 //! Folders for tests.
 
+use std::process::Abort;
 use std::rt::{Env, Files};
-use std::{env, fs, io};
+use std::{env, fs};
 
 /// Makes a folder of this process and this name in the folder for temporary files, and gives its path.
-pub fn make_folder<R: Files + Env + AllocGlobal>(
+pub fn make_folder<R: Abort + Files + Env + AllocGlobal>(
     rt: &R,
     process: u32,
     name: &str,
-) -> io::Result<String> {
-    let parent = env::temp_dir(rt)?;
-    let path = format!(in rt.alloc(); "{}/sporc-{process}-{name}", parent.as_str())?;
-    fs::create_dir(rt, path.as_str())?;
-    Ok(path)
+) -> String {
+    let temporary = env::temp_dir(rt).expect(rt, "a folder");
+    let parent = temporary.as_str();
+    let path = format!(in rt.alloc(); "{parent}/sporc-{process}-{name}").expect(rt, "memory");
+    fs::create_dir(rt, path.as_str()).expect(rt, "a folder");
+    path
 }
