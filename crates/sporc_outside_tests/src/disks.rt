@@ -3,12 +3,12 @@ ghost use Rattle.std.specs.Prelude.{◌+◌, ◌≤◌, length};
 use sporc_outside::{Calls, Counted, DiskRequest, LeafDisk, MemoryDisk};
 use std::alloc::Global;
 use std::process::Abort;
-use std::test::Fail;
 
 // A disk of four zeros, whose third and fourth calls fail.
-fn disk(alloc: Global) -> Result<MemoryDisk, Fail> {
-    let calls = Calls::failing([3, 4].to_vec(alloc)?);
-    Ok(MemoryDisk::new(alloc, [0; 4].to_vec(alloc)?, calls)?)
+fn disk(rt: &impl Abort, alloc: Global) -> MemoryDisk {
+    let calls = Calls::failing([3, 4].to_vec(alloc).expect(rt, "memory"));
+    let zeros = [0; 4].to_vec(alloc).expect(rt, "memory");
+    MemoryDisk::new(alloc, zeros, calls).expect(rt, "memory")
 }
 
 fn has_length(rt: &impl Abort, disk: &mut MemoryDisk) {
@@ -65,8 +65,8 @@ fn has_logged(rt: &impl Abort, disk: &MemoryDisk) {
 }
 
 #[test]
-fn a_disk_in_memory_does_and_logs_its_calls(rt: HostRuntime) -> Result<(), Fail> {
-    let mut disk = disk(rt.alloc())?;
+fn a_disk_in_memory_does_and_logs_its_calls(rt: HostRuntime) {
+    let mut disk = disk(&rt, rt.alloc());
     has_length(&rt, &mut disk);
     writes(&rt, &mut disk, 1, &[7, 8], true);
     writes(&rt, &mut disk, 0, &[5], false);
@@ -76,5 +76,4 @@ fn a_disk_in_memory_does_and_logs_its_calls(rt: HostRuntime) -> Result<(), Fail>
     assert!(rt; disk.faults() == 2);
     has_logged(&rt, &disk);
     assert!(rt; disk.into_bytes().as_slice() == [0, 7, 8, 0].as_slice());
-    Ok(())
 }

@@ -1,7 +1,6 @@
 use sporc_outside::{Calls, FileFault, Folder, MemoryFolder};
 use std::alloc::Global;
 use std::process::Abort;
-use std::test::Fail;
 
 fn folder(alloc: Global) -> MemoryFolder {
     MemoryFolder::new(alloc, Vec::new(alloc), Calls::failing(Vec::new(alloc)))
@@ -21,27 +20,24 @@ fn writes_a_file(rt: &impl Abort, folder: &mut MemoryFolder) {
     assert!(rt; folder.write_file("b", b"two").is_ok());
 }
 
-fn lends_a_disk(rt: &impl Abort, folder: &mut MemoryFolder) -> Result<(), FileFault> {
-    let disk = folder.leaf_disk("a")?;
+fn lends_a_disk(rt: &impl Abort, folder: &mut MemoryFolder) {
+    let disk = folder.leaf_disk("a").expect(rt, "a leaf file");
     assert!(rt; disk.as_slice() == b"one".as_slice());
     folder.take_back(disk);
-    Ok(())
 }
 
-fn reads(rt: &impl Abort, alloc: Global, folder: &mut MemoryFolder) -> Result<(), FileFault> {
-    let bytes = folder.read_file(alloc, "b")?;
+fn reads(rt: &impl Abort, alloc: Global, folder: &mut MemoryFolder) {
+    let bytes = folder.read_file(alloc, "b").expect(rt, "a file");
     assert!(rt; bytes.as_slice() == b"two".as_slice());
-    Ok(())
 }
 
 #[test]
-fn a_folder_in_memory_keeps_its_files(rt: HostRuntime) -> Result<(), Fail> {
+fn a_folder_in_memory_keeps_its_files(rt: HostRuntime) {
     let mut folder = folder(rt.alloc());
     writes_a_new_file(&rt, &mut folder);
     misses(&rt, rt.alloc(), &mut folder);
     writes_a_file(&rt, &mut folder);
-    lends_a_disk(&rt, &mut folder)?;
-    reads(&rt, rt.alloc(), &mut folder)?;
+    lends_a_disk(&rt, &mut folder);
+    reads(&rt, rt.alloc(), &mut folder);
     assert!(rt; folder.asked().len() == 6);
-    Ok(())
 }

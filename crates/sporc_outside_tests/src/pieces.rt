@@ -4,44 +4,37 @@ use sporc_outside::{
     Calls, Chance, Counted, ListedChance, MemoryLink, MemorySink, MemorySource, ReadFault, Sink,
     Source, read_all, write_all,
 };
-use std::alloc::{AllocError, Global};
+use std::alloc::Global;
 use std::process::Abort;
-use std::test::Fail;
 
 // The word in pieces. The call with this number fails.
-fn hello(alloc: Global, piece: usize, failing: u64) -> Result<MemorySource, AllocError>
+fn hello(rt: &impl Abort, alloc: Global, piece: usize, failing: u64) -> MemorySource
     requires { 0 < piece }
 {
-    let calls = Calls::failing([failing].to_vec(alloc)?);
-    Ok(MemorySource::new(b"hello".to_vec(alloc)?, piece, calls))
+    let calls = Calls::failing([failing].to_vec(alloc).expect(rt, "memory"));
+    let word = b"hello".to_vec(alloc).expect(rt, "memory");
+    MemorySource::new(word, piece, calls)
 }
 
 // The length of a piece, and how many bytes are read at most.
 const READS: [(usize, usize); 4] = [(1, 5), (2, 5), (9, 5), (9, 6)];
 
-fn reads_to_the_end(
-    rt: &impl Abort,
-    alloc: Global,
-    piece: usize,
-    limit: usize,
-) -> Result<(), ReadFault> {
+fn reads_to_the_end(rt: &impl Abort, alloc: Global, piece: usize, limit: usize) {
     assert!(rt; 0 < piece && limit < 10);
-    let mut source = hello(alloc, piece, 0)?;
-    let text = read_all(alloc, &mut source, limit)?;
+    let mut source = hello(rt, alloc, piece, 0);
+    let text = read_all(alloc, &mut source, limit).expect(rt, "a text");
     assert!(rt;
         text.as_slice() == b"hello".as_slice(),
         "in pieces of {piece}"
     );
     assert!(rt; source.faults() == 0);
-    Ok(())
 }
 
 #[test]
-fn reads_a_source_to_its_end_in_pieces(rt: HostRuntime) -> Result<(), Fail> {
+fn reads_a_source_to_its_end_in_pieces(rt: HostRuntime) {
     for &(piece, limit) in &READS {
-        reads_to_the_end(&rt, rt.alloc(), piece, limit)?;
+        reads_to_the_end(&rt, rt.alloc(), piece, limit);
     }
-    Ok(())
 }
 
 // The call that fails, how many bytes are read at most, and why the source is not read.
@@ -51,26 +44,18 @@ const FAULTS: [(u64, usize, ReadFault); 3] = [
     (9, 4, ReadFault::TooLong),
 ];
 
-fn is_not_read(
-    rt: &impl Abort,
-    alloc: Global,
-    failing: u64,
-    limit: usize,
-    fault: ReadFault,
-) -> Result<(), AllocError> {
+fn is_not_read(rt: &impl Abort, alloc: Global, failing: u64, limit: usize, fault: ReadFault) {
     assert!(rt; limit < 10);
-    let mut source = hello(alloc, 3, failing)?;
+    let mut source = hello(rt, alloc, 3, failing);
     assert!(rt; read_all(alloc, &mut source, limit).err() == Some(fault));
     assert!(rt; source.faults() == (fault == ReadFault::Failed) as u64);
-    Ok(())
 }
 
 #[test]
-fn says_why_a_source_was_not_read(rt: HostRuntime) -> Result<(), Fail> {
+fn says_why_a_source_was_not_read(rt: HostRuntime) {
     for &(failing, limit, fault) in &FAULTS {
-        is_not_read(&rt, rt.alloc(), failing, limit, fault)?;
+        is_not_read(&rt, rt.alloc(), failing, limit, fault);
     }
-    Ok(())
 }
 
 // The call that fails, the length of a piece, and what is written.
@@ -82,44 +67,41 @@ fn writes_all_or_a_front(
     failing: u64,
     piece: usize,
     written: &str,
-) -> Result<(), AllocError> {
+) {
     assert!(rt; 0 < piece);
-    let calls = Calls::failing([failing].to_vec(alloc)?);
+    let calls = Calls::failing([failing].to_vec(alloc).expect(rt, "memory"));
     let mut sink = MemorySink::new(alloc, piece, calls);
     let done = write_all(&mut sink, b"hello").is_ok();
     assert!(rt; done == (written.len() == 5));
     assert!(rt; sink.as_slice() == written.as_bytes());
     assert!(rt; sink.faults() == !done as u64);
-    Ok(())
 }
 
 #[test]
-fn writes_all_in_pieces_or_a_front(rt: HostRuntime) -> Result<(), Fail> {
+fn writes_all_in_pieces_or_a_front(rt: HostRuntime) {
     for &(failing, piece, written) in &WRITES {
-        writes_all_or_a_front(&rt, rt.alloc(), failing, piece, written)?;
+        writes_all_or_a_front(&rt, rt.alloc(), failing, piece, written);
     }
-    Ok(())
 }
 
-fn link(alloc: Global) -> Result<MemoryLink, AllocError> {
+fn link(rt: &impl Abort, alloc: Global) -> MemoryLink {
     let calls = Calls::failing(Vec::new(alloc));
-    Ok(MemoryLink::new(alloc, b"hi".to_vec(alloc)?, 8, calls))
+    let word = b"hi".to_vec(alloc).expect(rt, "memory");
+    MemoryLink::new(alloc, word, 8, calls)
 }
 
 #[test]
-fn a_link_gives_its_bytes_and_keeps_what_is_written(rt: HostRuntime) -> Result<(), Fail> {
-    let mut link = link(rt.alloc())?;
+fn a_link_gives_its_bytes_and_keeps_what_is_written(rt: HostRuntime) {
+    let mut link = link(&rt, rt.alloc());
     let mut buffer = [0u8; 2];
     assert!(rt; link.read(&mut buffer) == Ok(2));
     assert!(rt; link.write(&buffer) == Ok(2));
     assert!(rt; link.written() == b"hi".as_slice());
-    Ok(())
 }
 
 #[test]
-fn a_listed_word_is_given(rt: HostRuntime) -> Result<(), Fail> {
-    let words = vec![in rt.alloc(); [1; 32]; 1]?;
+fn a_listed_word_is_given(rt: HostRuntime) {
+    let words = vec![in rt.alloc(); [1; 32]; 1].expect(&rt, "memory");
     let mut chance = ListedChance::new(words, Calls::failing(Vec::new(rt.alloc())));
     assert!(rt; chance.fill32() == Ok([1; 32]));
-    Ok(())
 }

@@ -1,19 +1,17 @@
-use sporc_outside::{Dial, Failed, Link, Links, Listen, PipeLink, PipeNet, write_all};
+use sporc_outside::{Dial, Link, Links, Listen, PipeLink, PipeNet, write_all};
 use std::process::Abort;
 use std::sync::Wait;
-use std::test::Fail;
 
 fn hears<L: Link>(rt: &impl Abort, link: &mut L, bytes: usize) {
     let mut buffer = [0u8; 4];
     assert!(rt; link.read(&mut buffer) == Ok(bytes));
 }
 
-fn says_and_shuts<L: Link>(rt: &impl Abort, caller: &mut L, called: &mut L) -> Result<(), Failed> {
-    write_all(caller, b"hi")?;
+fn says_and_shuts<L: Link>(rt: &impl Abort, caller: &mut L, called: &mut L) {
+    write_all(caller, b"hi").expect(rt, "a link");
     hears(rt, called, 2);
     caller.shut();
     hears(rt, called, 0);
-    Ok(())
 }
 
 // The call comes to another handle of the net.
@@ -21,27 +19,21 @@ fn is_accepted<R: Abort + Wait + Copy + Drop>(
     rt: R,
     there: &mut PipeNet<R>,
     caller: &mut PipeLink<R>,
-) -> Result<(), Failed> {
-    let mut called = there.accept(&rt)?;
-    says_and_shuts(&rt, caller, &mut called)
+) {
+    let mut called = there.accept(&rt).expect(&rt, "a link");
+    says_and_shuts(&rt, caller, &mut called);
 }
 
-fn calls<R: Abort + Wait + Copy + Drop>(
-    rt: R,
-    here: &mut PipeNet<R>,
-    there: &mut PipeNet<R>,
-) -> Result<(), Failed> {
-    let mut caller = here.connect(&rt, "a")?;
-    is_accepted(rt, there, &mut caller)?;
+fn calls<R: Abort + Wait + Copy + Drop>(rt: R, here: &mut PipeNet<R>, there: &mut PipeNet<R>) {
+    let mut caller = here.connect(&rt, "a").expect(&rt, "a link");
+    is_accepted(rt, there, &mut caller);
     here.take_back(caller);
-    Ok(())
 }
 
 #[test]
-fn a_pipe_carries_bytes_to_the_other_handle(rt: HostRuntime) -> Result<(), Fail> {
-    let mut here = PipeNet::new(&rt, rt.alloc())?;
-    let mut there = here.another()?;
-    calls(&rt, &mut here, &mut there)?;
+fn a_pipe_carries_bytes_to_the_other_handle(rt: HostRuntime) {
+    let mut here = PipeNet::new(&rt, rt.alloc()).expect(&rt, "memory");
+    let mut there = here.another().expect(&rt, "memory");
+    calls(&rt, &mut here, &mut there);
     assert!(rt; here.link_faults() == 0);
-    Ok(())
 }
