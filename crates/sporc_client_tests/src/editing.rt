@@ -6,7 +6,6 @@ use sporc_client::EditFault;
 use sporc_samples::Cast;
 use std::alloc::Global;
 use std::process::Abort;
-use std::test::Fail;
 
 // Edits of the text shown now and of older ones: each is restated behind what came since, and at one place comes behind it.
 const REBASED: &str = "
@@ -37,66 +36,58 @@ const GIVEN_UP: &str = "
 
 // Inserts a text in front of the one that is shown: why that is refused, if it is.
 fn inserts(
+    rt: &impl Abort,
     alloc: Global,
     client: &mut MemoryClient,
     text: &str,
-) -> Result<Option<EditFault>, Fail> {
-    let delta = insertion(alloc, shown_len(client), 0, text)?;
-    Ok(edit(client, &delta).err())
+) -> Option<EditFault> {
+    let delta = insertion(rt, alloc, shown_len(client), 0, text);
+    edit(client, &delta).err()
 }
 
 // Whether that is refused for this.
 fn is_refused(
+    rt: &impl Abort,
     alloc: Global,
     client: &mut MemoryClient,
     text: &str,
     fault: EditFault,
-) -> Result<bool, Fail> {
-    Ok(inserts(alloc, client, text)? == Some(fault))
+) -> bool {
+    inserts(rt, alloc, client, text) == Some(fault)
 }
 
 // The bytes of an edit are nine and its text's.
-fn length_is_limited(
-    rt: &impl Abort,
-    alloc: Global,
-    client: &mut MemoryClient,
-) -> Result<(), Fail> {
-    let mut text = "a".repeat(alloc, 65_528)?;
-    assert!(rt; is_refused(alloc, client, text.as_str(), EditFault::TooLong(65_537))?);
+fn length_is_limited(rt: &impl Abort, alloc: Global, client: &mut MemoryClient) {
+    let mut text = "a".repeat(alloc, 65_528).expect(rt, "memory");
+    assert!(rt; is_refused(rt, alloc, client, text.as_str(), EditFault::TooLong(65_537)));
     let _ = text.pop();
-    assert!(rt; inserts(alloc, client, text.as_str())?.is_none());
-    Ok(())
+    assert!(rt; inserts(rt, alloc, client, text.as_str()).is_none());
 }
 
 // 1,024 edits are pending, and no more may be.
-fn number_is_limited(
-    rt: &impl Abort,
-    alloc: Global,
-    client: &mut MemoryClient,
-) -> Result<(), Fail> {
+fn number_is_limited(rt: &impl Abort, alloc: Global, client: &mut MemoryClient) {
     for _ in 1..1_024 {
-        assert!(rt; inserts(alloc, client, "b")?.is_none());
+        assert!(rt; inserts(rt, alloc, client, "b").is_none());
     }
-    assert!(rt; is_refused(alloc, client, "c", EditFault::PendingFull)?);
+    assert!(rt; is_refused(rt, alloc, client, "c", EditFault::PendingFull));
     assert!(rt; client.pending() == 1_024);
-    Ok(())
 }
 
-fn is_limited(rt: &impl Abort, alloc: Global, client: &mut MemoryClient) -> Result<(), Fail> {
-    length_is_limited(rt, alloc, client)?;
-    number_is_limited(rt, alloc, client)
+fn is_limited(rt: &impl Abort, alloc: Global, client: &mut MemoryClient) {
+    length_is_limited(rt, alloc, client);
+    number_is_limited(rt, alloc, client);
 }
 
-fn pending_is_limited(rt: &impl Abort, alloc: Global, cast: &Cast) -> Result<(), Fail> {
-    let mut room = Room::new(alloc, cast, 2)?;
-    is_limited(rt, alloc, room.client(2)?)
+fn pending_is_limited(rt: &impl Abort, alloc: Global, cast: &Cast) {
+    let mut room = Room::new(rt, alloc, cast, 2);
+    is_limited(rt, alloc, room.client(rt, 2));
 }
 
 // Edits are of the text that was shown, and only few and short ones may be pending.
 #[test]
-fn edits_are_pending(rt: HostRuntime) -> Result<(), Fail> {
-    let cast = Cast::new(rt.alloc())?;
-    plays(&rt, rt.alloc(), &cast, 2, REBASED)?;
-    plays(&rt, rt.alloc(), &cast, 2, GIVEN_UP)?;
-    pending_is_limited(&rt, rt.alloc(), &cast)
+fn edits_are_pending(rt: HostRuntime) {
+    let cast = Cast::new(rt.alloc()).expect(&rt, "a cast");
+    plays(&rt, rt.alloc(), &cast, 2, REBASED);
+    plays(&rt, rt.alloc(), &cast, 2, GIVEN_UP);
+    pending_is_limited(&rt, rt.alloc(), &cast);
 }

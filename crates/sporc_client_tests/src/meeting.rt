@@ -3,7 +3,6 @@
 
 use crate::room::plays;
 use sporc_samples::Cast;
-use std::test::Fail;
 
 // Both insert at one place: the text that is ordered first comes first.
 const TIE: &str = "
@@ -127,10 +126,10 @@ const ROWS: [&str; 6] = [
 ];
 
 #[test]
-fn edits_meet(rt: HostRuntime) -> Result<(), Fail> {
-    let cast = Cast::new(rt.alloc())?;
+fn edits_meet(rt: HostRuntime) {
+    let cast = Cast::new(rt.alloc()).expect(&rt, "a cast");
     for rows in ROWS {
-        plays(&rt, rt.alloc(), &cast, 2, rows)?;
+        plays(&rt, rt.alloc(), &cast, 2, rows);
     }
-    plays(&rt, rt.alloc(), &cast, 4, FALSE_TIE)
+    plays(&rt, rt.alloc(), &cast, 4, FALSE_TIE);
 }

@@ -6,7 +6,6 @@ use sporc_line::Line;
 use sporc_samples::{Cast, epoch_key};
 use std::alloc::Global;
 use std::process::Abort;
-use std::test::Fail;
 
 // Member 2 holds "abc", a change and "d" behind it, and has sent an edit of its own.
 const TWO_EPOCHS: &str = "
@@ -54,27 +53,26 @@ const ANEW: &str = "
 2 show -> [z] [z]
 ";
 
-fn knows(rt: &impl Abort, room: &mut Room, key: [u8; 32]) -> Result<(), Fail> {
-    let client = room.client(2)?;
+fn knows(rt: &impl Abort, room: &mut Room, key: [u8; 32]) {
+    let client = room.client(rt, 2);
     assert!(rt; client.key().copied() == Some(key));
-    Ok(())
 }
 
 // The second half of a submission's random bytes is the key of the next epoch.
-fn goes_back(rt: &impl Abort, alloc: Global, room: &mut Room) -> Result<(), Fail> {
-    room.tries(rt, alloc, ABC)?;
-    room.tries(rt, alloc, TWO_EPOCHS)?;
-    knows(rt, room, [5; 32])?;
-    room.tries(rt, alloc, BACK)?;
-    knows(rt, room, epoch_key(0))?;
-    room.tries(rt, alloc, FORTH)?;
-    knows(rt, room, [5; 32])?;
-    room.tries(rt, alloc, ANEW)
+fn goes_back(rt: &impl Abort, alloc: Global, room: &mut Room) {
+    room.tries(rt, alloc, ABC);
+    room.tries(rt, alloc, TWO_EPOCHS);
+    knows(rt, room, [5; 32]);
+    room.tries(rt, alloc, BACK);
+    knows(rt, room, epoch_key(0));
+    room.tries(rt, alloc, FORTH);
+    knows(rt, room, [5; 32]);
+    room.tries(rt, alloc, ANEW);
 }
 
-fn restarts(rt: &impl Abort, alloc: Global, cast: &Cast) -> Result<(), Fail> {
-    let mut room = Room::new(alloc, cast, 2)?;
-    goes_back(rt, alloc, &mut room)
+fn restarts(rt: &impl Abort, alloc: Global, cast: &Cast) {
+    let mut room = Room::new(rt, alloc, cast, 2);
+    goes_back(rt, alloc, &mut room);
 }
 
 // ---- with a history
@@ -90,43 +88,44 @@ const GOES_ON: &str = "
 ";
 
 // The empty line of member 2, in a box: a function that owns a line itself is slow to prove.
-fn empty_line(alloc: Global, cast: &Cast) -> Result<Box<Line>, Fail> {
-    let genesis = cast.genesis(alloc)?;
-    let ring = founder_ring(alloc)?;
-    let pairs = paired(alloc, 2, 5)?;
-    Ok(Box::new(alloc, Line::open(alloc, genesis, 2, ring, pairs)?)?)
+fn empty_line(rt: &impl Abort, alloc: Global, cast: &Cast) -> Box<Line> {
+    let genesis = cast.genesis(alloc).expect(rt, "a genesis");
+    let ring = founder_ring(rt, alloc);
+    let pairs = paired(rt, alloc, 2, 5);
+    let line = Line::open(alloc, genesis, 2, ring, pairs).expect(rt, "a line");
+    Box::new(alloc, line).expect(rt, "memory")
 }
 
-fn accept_all(line: &mut Line, entries: &[Vec<u8>]) -> Result<(), Fail> {
+fn accept_all(rt: &impl Abort, line: &mut Line, entries: &[Vec<u8>]) {
     for entry in entries {
-        line.accept(line.len().wrapping_add(1), entry.as_slice())?;
+        line.accept(line.len().wrapping_add(1), entry.as_slice())
+            .expect(rt, "an entry");
     }
-    Ok(())
 }
 
 // The history that a client accepted, once more.
-fn accepted_again(alloc: Global, cast: &Cast, client: &MemoryClient) -> Result<Box<Line>, Fail> {
-    let mut line = empty_line(alloc, cast)?;
-    accept_all(&mut line, client.entries())?;
-    Ok(line)
+fn accepted_again(rt: &impl Abort, alloc: Global, cast: &Cast, client: &MemoryClient) -> Box<Line> {
+    let mut line = empty_line(rt, alloc, cast);
+    accept_all(rt, &mut line, client.entries());
+    line
 }
 
-fn goes_on(rt: &impl Abort, alloc: Global, cast: &Cast, room: &mut Room) -> Result<(), Fail> {
-    room.tries(rt, alloc, ABC)?;
-    room.tries(rt, alloc, TWO_EPOCHS)?;
-    let line = accepted_again(alloc, cast, room.client(2)?)?;
-    room.resumes(alloc, line)?;
-    room.tries(rt, alloc, GOES_ON)
+fn goes_on(rt: &impl Abort, alloc: Global, cast: &Cast, room: &mut Room) {
+    room.tries(rt, alloc, ABC);
+    room.tries(rt, alloc, TWO_EPOCHS);
+    let line = accepted_again(rt, alloc, cast, room.client(rt, 2));
+    room.resumes(rt, alloc, line);
+    room.tries(rt, alloc, GOES_ON);
 }
 
-fn resumes(rt: &impl Abort, alloc: Global, cast: &Cast) -> Result<(), Fail> {
-    let mut room = Room::new(alloc, cast, 2)?;
-    goes_on(rt, alloc, cast, &mut room)
+fn resumes(rt: &impl Abort, alloc: Global, cast: &Cast) {
+    let mut room = Room::new(rt, alloc, cast, 2);
+    goes_on(rt, alloc, cast, &mut room);
 }
 
 #[test]
-fn a_client_goes_back_or_begins_with_a_history(rt: HostRuntime) -> Result<(), Fail> {
-    let cast = Cast::new(rt.alloc())?;
-    restarts(&rt, rt.alloc(), &cast)?;
-    resumes(&rt, rt.alloc(), &cast)
+fn a_client_goes_back_or_begins_with_a_history(rt: HostRuntime) {
+    let cast = Cast::new(rt.alloc()).expect(&rt, "a cast");
+    restarts(&rt, rt.alloc(), &cast);
+    resumes(&rt, rt.alloc(), &cast);
 }

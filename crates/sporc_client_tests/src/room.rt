@@ -26,7 +26,6 @@ use std::alloc::Global;
 use std::fmt::Debug;
 use std::process::Abort;
 use std::str::SplitWhitespace;
-use std::test::Fail;
 
 // Members 1 and 2 come to hold "abc".
 pub(crate) const ABC: &str = "
@@ -45,168 +44,167 @@ pub(crate) struct Room {
 
 impl Room {
     /// Clients of the first members, just opened, each with the keys that it shares with all.
-    pub(crate) fn new(alloc: Global, cast: &Cast, members: u16) -> Result<Room, Fail> {
+    pub(crate) fn new(rt: &impl Abort, alloc: Global, cast: &Cast, members: u16) -> Room {
         let mut clients = Vec::new(alloc);
         for i in 0..members {
-            clients.push(joined(alloc, cast, i.wrapping_add(1))?)?;
+            let client = joined(rt, alloc, cast, i.wrapping_add(1));
+            clients.push(client).expect(rt, "memory");
         }
-        Ok(Room {
+        Room {
             clients,
             entries: Vec::new(alloc),
-        })
+        }
     }
 
     /// The client of one founder alone, opened as [`opened`] says.
     pub(crate) fn alone(
+        rt: &impl Abort,
         alloc: Global,
         cast: &Cast,
         me: u16,
         last: u16,
         calls: Calls,
-    ) -> Result<Room, Fail> {
+    ) -> Room {
         let mut clients = Vec::new(alloc);
-        clients.push(opened(alloc, cast, me, last, calls)?)?;
-        Ok(Room {
+        let client = opened(rt, alloc, cast, me, last, calls);
+        clients.push(client).expect(rt, "memory");
+        Room {
             clients,
             entries: Vec::new(alloc),
-        })
+        }
     }
 
     /// The client of the member at this place, from 1 on.
-    pub(crate) fn client(&mut self, member: u32) -> Result<&mut MemoryClient, Fail> {
-        client_of(self.clients.as_mut_slice(), member)
+    pub(crate) fn client(&mut self, rt: &impl Abort, member: u32) -> &mut MemoryClient {
+        client_of(rt, self.clients.as_mut_slice(), member)
     }
 
     /// The last client closes, and another begins with its signer and this line.
-    pub(crate) fn resumes(&mut self, alloc: Global, line: Box<Line>) -> Result<(), Fail> {
-        let client = self.clients.pop().ok_or("no client")?;
+    pub(crate) fn resumes(&mut self, rt: &impl Abort, alloc: Global, line: Box<Line>) {
+        let client = self.clients.pop().expect(rt, "a client");
         let signer = Box::into_inner(client).close();
-        self.clients.push(resumed(alloc, line, signer)?)?;
-        Ok(())
+        let client = resumed(rt, alloc, line, signer);
+        self.clients.push(client).expect(rt, "memory");
     }
 
     /// Does what the rows say, one after the other, and compares what is answered.
-    pub(crate) fn tries(&mut self, rt: &impl Abort, alloc: Global, rows: &str) -> Result<(), Fail> {
+    pub(crate) fn tries(&mut self, rt: &impl Abort, alloc: Global, rows: &str) {
         for row in rows.lines() {
             if !row.is_empty() {
-                self.tries_row(rt, alloc, row)?;
+                self.tries_row(rt, alloc, row);
             }
         }
-        Ok(())
     }
 
-    fn tries_row(&mut self, rt: &impl Abort, alloc: Global, row: &str) -> Result<(), Fail> {
-        let (told, answer) = row.split_once(" -> ").ok_or("no answer")?;
-        let found = self.answer(alloc, &mut told.split_whitespace())?;
+    fn tries_row(&mut self, rt: &impl Abort, alloc: Global, row: &str) {
+        let (told, answer) = row.split_once(" -> ").expect(rt, "an answer");
+        let found = self.answer(rt, alloc, &mut told.split_whitespace());
         assert!(rt; found.as_str() == answer, "{row}: {found}");
-        Ok(())
     }
 
     // What a client answers.
-    fn answer(&mut self, alloc: Global, words: &mut SplitWhitespace<'_>) -> Result<String, Fail> {
-        let member = number(words)?;
-        match word(words)? {
-            "submit" => self.submit(alloc, member),
-            "give" => self.give(alloc, member, words),
-            act => answer_to(alloc, self.client(member)?, act, words),
+    fn answer(
+        &mut self,
+        rt: &impl Abort,
+        alloc: Global,
+        words: &mut SplitWhitespace<'_>,
+    ) -> String {
+        let member = number(rt, words);
+        match word(rt, words) {
+            "submit" => self.submit(rt, alloc, member),
+            "give" => self.give(rt, alloc, member, words),
+            act => answer_to(rt, alloc, self.client(rt, member), act, words),
         }
     }
 
-    fn submit(&mut self, alloc: Global, member: u32) -> Result<String, Fail> {
-        match self.client(member)?.submit(1, &RANDOM) {
-            Ok(Submitted::Waiting) => text(alloc, "waiting"),
-            Ok(Submitted::Nothing) => text(alloc, "nothing"),
-            Ok(Submitted::Dropped(fault)) => Ok(format!(in alloc; "dropped {fault:?}")?),
-            Ok(Submitted::Entry(entry)) => {
-                self.entries.push(entry)?;
-                text(alloc, "entry")
+    fn submit(&mut self, rt: &impl Abort, alloc: Global, member: u32) -> String {
+        match self.client(rt, member).submit(1, &RANDOM) {
+            Ok(Submitted::Waiting) => text(rt, alloc, "waiting"),
+            Ok(Submitted::Nothing) => text(rt, alloc, "nothing"),
+            Ok(Submitted::Dropped(fault)) => {
+                format!(in alloc; "dropped {fault:?}").expect(rt, "memory")
             }
-            Err(fault) => Ok(format!(in alloc; "{fault:?}")?),
+            Ok(Submitted::Entry(entry)) => {
+                self.entries.push(entry).expect(rt, "memory");
+                text(rt, alloc, "entry")
+            }
+            Err(fault) => format!(in alloc; "{fault:?}").expect(rt, "memory"),
         }
     }
 
     fn give(
         &mut self,
+        rt: &impl Abort,
         alloc: Global,
         member: u32,
         words: &mut SplitWhitespace<'_>,
-    ) -> Result<String, Fail> {
-        let position = number(words)?;
-        let entry = entry_at(self.entries.as_slice(), number(words)?)?;
-        let client = client_of(self.clients.as_mut_slice(), member)?;
-        told(alloc, client.accept(1, position, entry))
+    ) -> String {
+        let position = number(rt, words);
+        let entry = entry_at(rt, self.entries.as_slice(), number(rt, words));
+        let client = client_of(rt, self.clients.as_mut_slice(), member);
+        told(rt, alloc, client.accept(1, position, entry))
     }
 }
 
 // The client at this place, from 1 on.
-fn client_of(clients: &mut [Box<MemoryClient>], member: u32) -> Result<&mut MemoryClient, Fail> {
+fn client_of<'a>(
+    rt: &impl Abort,
+    clients: &'a mut [Box<MemoryClient>],
+    member: u32,
+) -> &'a mut MemoryClient {
     let place = (member as usize).wrapping_sub(1);
-    match clients.get_mut(place) {
-        Some(client) => Ok(client),
-        None => Err("no client".into()),
-    }
+    clients.get_mut(place).expect(rt, "a client")
 }
 
 // The entry at this place, from 1 on.
-fn entry_at(entries: &[Bytes], number: u32) -> Result<&[u8], Fail> {
+fn entry_at<'a>(rt: &impl Abort, entries: &'a [Bytes], number: u32) -> &'a [u8] {
     let place = (number as usize).wrapping_sub(1);
-    match entries.get(place) {
-        Some(entry) => Ok(entry.as_slice()),
-        None => Err("no entry".into()),
-    }
+    entries.get(place).expect(rt, "an entry").as_slice()
 }
 
 /// Opens the clients of the first members, who come to hold "abc", and does what the rows say.
-pub(crate) fn plays(
-    rt: &impl Abort,
-    alloc: Global,
-    cast: &Cast,
-    members: u16,
-    rows: &str,
-) -> Result<(), Fail> {
-    let mut room = Room::new(alloc, cast, members)?;
-    room.tries(rt, alloc, ABC)?;
-    room.tries(rt, alloc, rows)
+pub(crate) fn plays(rt: &impl Abort, alloc: Global, cast: &Cast, members: u16, rows: &str) {
+    let mut room = Room::new(rt, alloc, cast, members);
+    room.tries(rt, alloc, ABC);
+    room.tries(rt, alloc, rows);
 }
 
 // What a client answers that needs no entry of the others.
 fn answer_to(
+    rt: &impl Abort,
     alloc: Global,
     client: &mut MemoryClient,
     act: &str,
     words: &mut SplitWhitespace<'_>,
-) -> Result<String, Fail> {
+) -> String {
     match act {
-        "insert" => insert(alloc, client, words),
-        "append" => append(alloc, client, words),
-        "remove" => remove(alloc, client, words),
-        "discard" => told(alloc, client.discard(1)),
-        "restart" => restart(alloc, client, words),
-        "show" => show(alloc, client),
-        change => changes(alloc, client, change, words),
+        "insert" => insert(rt, alloc, client, words),
+        "append" => append(rt, alloc, client, words),
+        "remove" => remove(rt, alloc, client, words),
+        "discard" => told(rt, alloc, client.discard(1)),
+        "restart" => restart(rt, alloc, client, words),
+        "show" => show(rt, alloc, client),
+        change => changes(rt, alloc, client, change, words),
     }
 }
 
-fn word<'a>(words: &mut SplitWhitespace<'a>) -> Result<&'a str, Fail> {
-    let word = words.next().ok_or("no word")?;
-    Ok(word)
+fn word<'a>(rt: &impl Abort, words: &mut SplitWhitespace<'a>) -> &'a str {
+    words.next().expect(rt, "a word")
 }
 
-fn number(words: &mut SplitWhitespace<'_>) -> Result<u32, Fail> {
-    let number = word(words)?.parse::<u32>()?;
-    Ok(number)
+fn number(rt: &impl Abort, words: &mut SplitWhitespace<'_>) -> u32 {
+    word(rt, words).parse::<u32>().expect(rt, "a number")
 }
 
-fn text(alloc: Global, text: &str) -> Result<String, Fail> {
-    let text = String::from_str(alloc, text)?;
-    Ok(text)
+fn text(rt: &impl Abort, alloc: Global, text: &str) -> String {
+    String::from_str(alloc, text).expect(rt, "memory")
 }
 
 // The answer of a call that gives the length of the journal.
-fn told<E: Debug + Drop>(alloc: Global, outcome: Result<u64, E>) -> Result<String, Fail> {
+fn told<E: Debug + Drop>(rt: &impl Abort, alloc: Global, outcome: Result<u64, E>) -> String {
     match outcome {
-        Ok(events) => Ok(format!(in alloc; "event {events}")?),
-        Err(fault) => Ok(format!(in alloc; "{fault:?}")?),
+        Ok(events) => format!(in alloc; "event {events}").expect(rt, "memory"),
+        Err(fault) => format!(in alloc; "{fault:?}").expect(rt, "memory"),
     }
 }
 
@@ -224,44 +222,48 @@ pub(crate) fn shown_len(client: &MemoryClient) -> u64 {
 }
 
 fn insert(
+    rt: &impl Abort,
     alloc: Global,
     client: &mut MemoryClient,
     words: &mut SplitWhitespace<'_>,
-) -> Result<String, Fail> {
-    let at = u64::from(number(words)?);
-    let delta = insertion(alloc, shown_len(client), at, word(words)?)?;
-    told(alloc, edit(client, &delta))
+) -> String {
+    let at = u64::from(number(rt, words));
+    let delta = insertion(rt, alloc, shown_len(client), at, word(rt, words));
+    told(rt, alloc, edit(client, &delta))
 }
 
 fn append(
+    rt: &impl Abort,
     alloc: Global,
     client: &mut MemoryClient,
     words: &mut SplitWhitespace<'_>,
-) -> Result<String, Fail> {
-    let seen = u64::from(number(words)?);
-    let len = u64::from(number(words)?);
-    let delta = insertion(alloc, len, len, word(words)?)?;
-    told(alloc, client.edit(1, seen, &delta))
+) -> String {
+    let seen = u64::from(number(rt, words));
+    let len = u64::from(number(rt, words));
+    let delta = insertion(rt, alloc, len, len, word(rt, words));
+    told(rt, alloc, client.edit(1, seen, &delta))
 }
 
 fn remove(
+    rt: &impl Abort,
     alloc: Global,
     client: &mut MemoryClient,
     words: &mut SplitWhitespace<'_>,
-) -> Result<String, Fail> {
-    let at = u64::from(number(words)?);
-    let count = u64::from(number(words)?);
-    let delta = removal(alloc, shown_len(client), at, count)?;
-    told(alloc, edit(client, &delta))
+) -> String {
+    let at = u64::from(number(rt, words));
+    let count = u64::from(number(rt, words));
+    let delta = removal(rt, alloc, shown_len(client), at, count);
+    told(rt, alloc, edit(client, &delta))
 }
 
 fn changes(
+    rt: &impl Abort,
     alloc: Global,
     client: &mut MemoryClient,
     change: &str,
     words: &mut SplitWhitespace<'_>,
-) -> Result<String, Fail> {
-    let member = u16::try_from(number(words)?)?;
+) -> String {
+    let member = u16::try_from(number(rt, words)).expect(rt, "a member");
     let change = match change {
         "edits" => Change::SetRole {
             member,
@@ -272,24 +274,25 @@ fn changes(
             role: Role::Reader,
         },
         "drops" => Change::Remove { member },
-        _ => return Err("no such act".into()),
+        _ => panic!(rt; "no such act"),
     };
-    told(alloc, client.change(1, change))
+    told(rt, alloc, client.change(1, change))
 }
 
 fn restart(
+    rt: &impl Abort,
     alloc: Global,
     client: &mut MemoryClient,
     words: &mut SplitWhitespace<'_>,
-) -> Result<String, Fail> {
-    match client.restart(number(words)?) {
-        Ok(()) => text(alloc, "back"),
-        Err(fault) => Ok(format!(in alloc; "{fault:?}")?),
+) -> String {
+    match client.restart(number(rt, words)) {
+        Ok(()) => text(rt, alloc, "back"),
+        Err(fault) => format!(in alloc; "{fault:?}").expect(rt, "memory"),
     }
 }
 
-fn show(alloc: Global, client: &MemoryClient) -> Result<String, Fail> {
-    let committed = client.committed()?;
-    let shown = client.shown()?;
-    Ok(format!(in alloc; "[{committed}] [{shown}]")?)
+fn show(rt: &impl Abort, alloc: Global, client: &MemoryClient) -> String {
+    let committed = client.committed().expect(rt, "memory");
+    let shown = client.shown().expect(rt, "memory");
+    format!(in alloc; "[{committed}] [{shown}]").expect(rt, "memory")
 }

@@ -8,7 +8,6 @@ use sporc_outside::Calls;
 use sporc_samples::{Cast, History, insertion as insertion_bytes};
 use std::alloc::Global;
 use std::process::Abort;
-use std::test::Fail;
 
 fn is_refused(client: &mut MemoryClient, fault: SubmitFault) -> bool {
     client.submit(1, &RANDOM).err() == Some(fault)
@@ -20,81 +19,80 @@ fn refused(rt: &impl Abort, client: &mut MemoryClient, fault: SubmitFault) {
 }
 
 // A client commits its first pending item, as the entry at this position.
-fn commit(client: &mut MemoryClient, position: u32) -> Result<(), Fail> {
-    match client.submit(1, &RANDOM)? {
-        Submitted::Entry(entry) => client.accept(1, position, entry.as_slice())?,
-        _ => return Err("no entry".into()),
+fn commit(rt: &impl Abort, client: &mut MemoryClient, position: u32) {
+    match client.submit(1, &RANDOM).expect(rt, "an entry") {
+        Submitted::Entry(entry) => client
+            .accept(1, position, entry.as_slice())
+            .expect(rt, "an event"),
+        _ => panic!(rt; "no entry"),
     };
-    Ok(())
 }
 
 // A client inserts "a" in front of a text of so many characters.
-fn insert(alloc: Global, client: &mut MemoryClient, len: u64) -> Result<(), Fail> {
-    edit(client, &insertion(alloc, len, 0, "a")?)?;
-    Ok(())
+fn insert(rt: &impl Abort, alloc: Global, client: &mut MemoryClient, len: u64) {
+    edit(client, &insertion(rt, alloc, len, 0, "a")).expect(rt, "an event");
 }
 
 // ---- pairwise keys
 
 // Member 1 shares no key with 4 and 5, so it can seal no key for them. The change stays pending.
-fn change_is_not_sealed(rt: &impl Abort, client: &mut MemoryClient) -> Result<(), Fail> {
-    client.change(1, Change::Remove { member: 3 })?;
+fn change_is_not_sealed(rt: &impl Abort, client: &mut MemoryClient) {
+    client
+        .change(1, Change::Remove { member: 3 })
+        .expect(rt, "an event");
     refused(rt, client, SubmitFault::NoPairKey(4));
     assert!(rt; client.pending() == 1);
-    Ok(())
 }
 
-fn lacks_keys(rt: &impl Abort, alloc: Global, cast: &Cast) -> Result<(), Fail> {
-    let mut room = Room::alone(alloc, cast, 1, 3, no_calls(alloc))?;
-    change_is_not_sealed(rt, room.client(1)?)
+fn lacks_keys(rt: &impl Abort, alloc: Global, cast: &Cast) {
+    let mut room = Room::alone(rt, alloc, cast, 1, 3, no_calls(alloc));
+    change_is_not_sealed(rt, room.client(rt, 1));
 }
 
 // ---- leaves
 
 // All 32 leaves sign, and then none is left.
-fn leaves_end(rt: &impl Abort, alloc: Global, client: &mut MemoryClient) -> Result<(), Fail> {
+fn leaves_end(rt: &impl Abort, alloc: Global, client: &mut MemoryClient) {
     for i in 0..32u32 {
-        insert(alloc, client, u64::from(i))?;
-        commit(client, i.wrapping_add(1))?;
+        insert(rt, alloc, client, u64::from(i));
+        commit(rt, client, i.wrapping_add(1));
     }
-    insert(alloc, client, 32)?;
+    insert(rt, alloc, client, 32);
     refused(rt, client, SubmitFault::Exhausted(32));
-    Ok(())
 }
 
-fn all_leaves(rt: &impl Abort, alloc: Global, cast: &Cast) -> Result<(), Fail> {
-    let mut room = Room::new(alloc, cast, 2)?;
-    leaves_end(rt, alloc, room.client(2)?)
+fn all_leaves(rt: &impl Abort, alloc: Global, cast: &Cast) {
+    let mut room = Room::new(rt, alloc, cast, 2);
+    leaves_end(rt, alloc, room.client(rt, 2));
 }
 
 // The opening of a leaf file calls the disk twice; the first draw writes and syncs.
-fn failing_calls(alloc: Global) -> Result<Calls, Fail> {
+fn failing_calls(rt: &impl Abort, alloc: Global) -> Calls {
     let mut failing = Vec::new(alloc);
-    failing.push(4)?;
-    Ok(Calls::failing(failing))
+    failing.push(4).expect(rt, "memory");
+    Calls::failing(failing)
 }
 
 // A disk that failed once draws no more. The edit stays pending.
-fn draw_fails(rt: &impl Abort, alloc: Global, client: &mut MemoryClient) -> Result<(), Fail> {
-    insert(alloc, client, 0)?;
+fn draw_fails(rt: &impl Abort, alloc: Global, client: &mut MemoryClient) {
+    insert(rt, alloc, client, 0);
     refused(rt, client, SubmitFault::LeafFault);
     refused(rt, client, SubmitFault::LeafFault);
     assert!(rt; client.pending() == 1);
-    Ok(())
 }
 
-fn has_failing_disk(rt: &impl Abort, alloc: Global, cast: &Cast) -> Result<(), Fail> {
-    let mut room = Room::alone(alloc, cast, 2, 5, failing_calls(alloc)?)?;
-    draw_fails(rt, alloc, room.client(1)?)
+fn has_failing_disk(rt: &impl Abort, alloc: Global, cast: &Cast) {
+    let mut room = Room::alone(rt, alloc, cast, 2, 5, failing_calls(rt, alloc));
+    draw_fails(rt, alloc, room.client(rt, 1));
 }
 
 // A change wants a key for each member, and an entry a leaf, of which there are few and which a failing disk doesn't give.
 #[test]
-fn an_entry_wants_keys_and_a_leaf(rt: HostRuntime) -> Result<(), Fail> {
-    let cast = Cast::new(rt.alloc())?;
-    lacks_keys(&rt, rt.alloc(), &cast)?;
-    all_leaves(&rt, rt.alloc(), &cast)?;
-    has_failing_disk(&rt, rt.alloc(), &cast)
+fn an_entry_wants_keys_and_a_leaf(rt: HostRuntime) {
+    let cast = Cast::new(rt.alloc()).expect(&rt, "a cast");
+    lacks_keys(&rt, rt.alloc(), &cast);
+    all_leaves(&rt, rt.alloc(), &cast);
+    has_failing_disk(&rt, rt.alloc(), &cast);
 }
 
 // ---- long edits
@@ -102,98 +100,94 @@ fn an_entry_wants_keys_and_a_leaf(rt: HostRuntime) -> Result<(), Fail> {
 // Keeps one character and inserts another behind it, as an edit's bytes have it.
 const SPLIT: [u8; 19] = [1, 0, 0, 0, 0, 0, 0, 0, 1, 2, 0, 0, 0, 0, 0, 0, 0, 1, b'x'];
 
-fn push_keep(bytes: &mut Vec<u8>, count: u64) -> Result<(), Fail> {
-    bytes.push(1)?;
-    bytes.extend_from_slice(&count.to_be_bytes())?;
-    Ok(())
+fn push_keep(rt: &impl Abort, bytes: &mut Vec<u8>, count: u64) {
+    bytes.push(1).expect(rt, "memory");
+    bytes
+        .extend_from_slice(&count.to_be_bytes())
+        .expect(rt, "memory");
 }
 
-fn push_splits(bytes: &mut Vec<u8>, count: u32) -> Result<(), Fail> {
+fn push_splits(rt: &impl Abort, bytes: &mut Vec<u8>, count: u32) {
     for _ in 0..count {
-        bytes.extend_from_slice(&SPLIT)?;
+        bytes.extend_from_slice(&SPLIT).expect(rt, "memory");
     }
-    Ok(())
 }
 
 // Inserts 30,000 characters, one behind each of the first of 60,001.
-fn first_splits(alloc: Global) -> Result<Vec<u8>, Fail> {
+fn first_splits(rt: &impl Abort, alloc: Global) -> Vec<u8> {
     let mut bytes = Vec::new(alloc);
-    push_splits(&mut bytes, 30_000)?;
-    push_keep(&mut bytes, 30_001)?;
-    Ok(bytes)
+    push_splits(rt, &mut bytes, 30_000);
+    push_keep(rt, &mut bytes, 30_001);
+    bytes
 }
 
 // And one behind each of the others but the last.
-fn more_splits(alloc: Global) -> Result<Vec<u8>, Fail> {
+fn more_splits(rt: &impl Abort, alloc: Global) -> Vec<u8> {
     let mut bytes = Vec::new(alloc);
-    push_keep(&mut bytes, 60_001)?;
-    bytes.extend_from_slice(&SPLIT[9..])?;
-    push_splits(&mut bytes, 29_999)?;
-    push_keep(&mut bytes, 1)?;
-    Ok(bytes)
+    push_keep(rt, &mut bytes, 60_001);
+    bytes.extend_from_slice(&SPLIT[9..]).expect(rt, "memory");
+    push_splits(rt, &mut bytes, 29_999);
+    push_keep(rt, &mut bytes, 1);
+    bytes
 }
 
-fn long_text(alloc: Global) -> Result<Vec<u8>, Fail> {
-    let text = vec![in alloc; b'a'; 60_001]?;
-    let bytes = insertion_bytes(alloc, 0, text.as_slice())?;
-    Ok(bytes)
+fn long_text(rt: &impl Abort, alloc: Global) -> Vec<u8> {
+    let text = vec![in alloc; b'a'; 60_001].expect(rt, "memory");
+    insertion_bytes(alloc, 0, text.as_slice()).expect(rt, "memory")
 }
 
 // Member 4 edits, and a client accepts that.
 fn comes(
+    rt: &impl Abort,
     alloc: Global,
     cast: &Cast,
     sample: &mut History,
     client: &mut MemoryClient,
     delta: Vec<u8>,
-) -> Result<(), Fail> {
-    sample.edit(alloc, cast, 4, delta.as_slice())?;
-    let entry = sample.entries().last().ok_or("no entry")?;
-    client.accept(1, client.heads().len().wrapping_add(1), entry.as_slice())?;
-    Ok(())
+) {
+    sample
+        .edit(alloc, cast, 4, delta.as_slice())
+        .expect(rt, "an entry");
+    let entry = sample.entries().last().expect(rt, "an entry");
+    client
+        .accept(1, client.heads().len().wrapping_add(1), entry.as_slice())
+        .expect(rt, "an event");
 }
 
-fn remove_all(alloc: Global, client: &mut MemoryClient) -> Result<(), Fail> {
-    let delta = removal(alloc, 60_001, 0, 60_001)?;
-    edit(client, &delta)?;
-    Ok(())
+fn remove_all(rt: &impl Abort, alloc: Global, client: &mut MemoryClient) {
+    let delta = removal(rt, alloc, 60_001, 0, 60_001);
+    edit(client, &delta).expect(rt, "an event");
 }
 
 // All 60,001 characters are removed in one part of nine bytes. Split at 60,000 places, it has 120,001 parts.
 fn head_grows(
+    rt: &impl Abort,
     alloc: Global,
     cast: &Cast,
     sample: &mut History,
     client: &mut MemoryClient,
-) -> Result<(), Fail> {
-    comes(alloc, cast, sample, client, long_text(alloc)?)?;
-    remove_all(alloc, client)?;
-    comes(alloc, cast, sample, client, first_splits(alloc)?)?;
-    comes(alloc, cast, sample, client, more_splits(alloc)?)
+) {
+    comes(rt, alloc, cast, sample, client, long_text(rt, alloc));
+    remove_all(rt, alloc, client);
+    comes(rt, alloc, cast, sample, client, first_splits(rt, alloc));
+    comes(rt, alloc, cast, sample, client, more_splits(rt, alloc));
 }
 
-fn empty_history(alloc: Global, cast: &Cast) -> Result<History, Fail> {
-    let genesis = cast.genesis(alloc)?;
-    let sample = History::new(alloc, &genesis)?;
-    Ok(sample)
+fn empty_history(rt: &impl Abort, alloc: Global, cast: &Cast) -> History {
+    let genesis = cast.genesis(alloc).expect(rt, "a genesis");
+    History::new(alloc, &genesis).expect(rt, "a history")
 }
 
-fn head_is_too_long(
-    rt: &impl Abort,
-    alloc: Global,
-    cast: &Cast,
-    client: &mut MemoryClient,
-) -> Result<(), Fail> {
-    let mut sample = empty_history(alloc, cast)?;
-    head_grows(alloc, cast, &mut sample, client)?;
+fn head_is_too_long(rt: &impl Abort, alloc: Global, cast: &Cast, client: &mut MemoryClient) {
+    let mut sample = empty_history(rt, alloc, cast);
+    head_grows(rt, alloc, cast, &mut sample, client);
     assert!(rt; client.shown_len_at(4) == Some(60_000));
     refused(rt, client, SubmitFault::HeadTooLong(1_080_009));
-    Ok(())
 }
 
 #[test]
-fn an_edit_can_grow_too_long(rt: HostRuntime) -> Result<(), Fail> {
-    let cast = Cast::new(rt.alloc())?;
-    let mut room = Room::new(rt.alloc(), &cast, 2)?;
-    head_is_too_long(&rt, rt.alloc(), &cast, room.client(2)?)
+fn an_edit_can_grow_too_long(rt: HostRuntime) {
+    let cast = Cast::new(rt.alloc()).expect(&rt, "a cast");
+    let mut room = Room::new(&rt, rt.alloc(), &cast, 2);
+    head_is_too_long(&rt, rt.alloc(), &cast, room.client(&rt, 2));
 }
