@@ -9,7 +9,6 @@ use sporc_member::{Change, ChangeFault, Role};
 use sporc_samples::{CHANGE, Cast, Draft, EDIT, History, change_body, edit_body, insertion};
 use std::alloc::Global;
 use std::process::Abort;
-use std::test::Fail;
 
 // No value of the chain.
 const NOWHERE: Digest32 = [0; 32];
@@ -54,16 +53,17 @@ fn place(line: &Line, refusal: Refusal) -> u32 {
 
 /// Signs an entry with this body and gives it to a line: why the line refuses it, if it does.
 pub(crate) fn tried(
+    rt: &impl Abort,
     alloc: Global,
     cast: &Cast,
     line: &mut Line,
     draft: &Draft,
     position: u32,
     body: &[u8],
-) -> Result<Option<Refusal>, Fail> {
-    let signer = cast.member(draft.header.author)?;
-    let bytes = draft.signed(alloc, signer, body)?;
-    Ok(given(line, position, bytes.as_slice()))
+) -> Option<Refusal> {
+    let signer = cast.member(draft.header.author).expect(rt, "a member");
+    let bytes = draft.signed(alloc, signer, body).expect(rt, "an entry");
+    given(line, position, bytes.as_slice())
 }
 
 // Whether what was found is this refusal.
@@ -99,6 +99,7 @@ pub(crate) fn spoilt(good: &Draft, hashes: &[Digest32]) -> Draft {
 // Whether a line refuses an edit that fails a check of its header alone, and one that fails all later checks, too.
 // A body of one byte is no delta.
 fn refuses(
+    rt: &impl Abort,
     alloc: Global,
     cast: &Cast,
     line: &mut Line,
@@ -106,21 +107,20 @@ fn refuses(
     body: &[u8],
     worse: &mut Draft,
     refusal: Refusal,
-) -> Result<bool, Fail> {
+) -> bool {
     let mut alone = *good;
     spoil(&mut alone, line.hashes(), refusal);
     spoil(worse, line.hashes(), refusal);
     let position = place(line, refusal);
-    let found = tried(alloc, cast, line, &alone, position, body)?;
-    let found_worse = tried(alloc, cast, line, worse, position, &[5])?;
-    Ok(is(found, refusal) && is(found_worse, refusal))
+    let found = tried(rt, alloc, cast, line, &alone, position, body);
+    let found_worse = tried(rt, alloc, cast, line, worse, position, &[5]);
+    is(found, refusal) && is(found_worse, refusal)
 }
 
 // The body of member 2's next edit of the short history: it keeps so many characters and inserts one.
-fn body_keeping(alloc: Global, keep: u64) -> Result<Vec<u8>, Fail> {
-    let delta = insertion(alloc, keep, b"e")?;
-    let body = edit_body(alloc, 2, 1, 1, delta.as_slice())?;
-    Ok(body)
+fn body_keeping(rt: &impl Abort, alloc: Global, keep: u64) -> Vec<u8> {
+    let delta = insertion(alloc, keep, b"e").expect(rt, "memory");
+    edit_body(alloc, 2, 1, 1, delta.as_slice()).expect(rt, "memory")
 }
 
 // Edits whose body fails, and one that fails no check.
@@ -131,15 +131,14 @@ fn bodies_refused(
     line: &mut Line,
     good: &Draft,
     body: &[u8],
-) -> Result<(), Fail> {
-    let long = body_keeping(alloc, 5)?;
-    let found = tried(alloc, cast, line, good, 5, long.as_slice())?;
+) {
+    let long = body_keeping(rt, alloc, 5);
+    let found = tried(rt, alloc, cast, line, good, 5, long.as_slice());
     assert!(rt; is(found, Refusal::WrongLength));
-    let found = tried(alloc, cast, line, good, 5, &[5])?;
+    let found = tried(rt, alloc, cast, line, good, 5, &[5]);
     assert!(rt; is(found, Refusal::BadPayload));
     assert!(rt; is(given(line, 1, b""), Refusal::Malformed(0)));
-    assert!(rt; tried(alloc, cast, line, good, 5, body)?.is_none());
-    Ok(())
+    assert!(rt; tried(rt, alloc, cast, line, good, 5, body).is_none());
 }
 
 // Edits whose header fails.
@@ -150,39 +149,27 @@ fn headers_refused(
     line: &mut Line,
     good: &Draft,
     body: &[u8],
-) -> Result<(), Fail> {
+) {
     let mut worse = *good;
     for refusal in &REFUSALS {
-        let refused = refuses(alloc, cast, line, good, body, &mut worse, *refusal)?;
+        let refused = refuses(rt, alloc, cast, line, good, body, &mut worse, *refusal);
         assert!(rt; refused, "{}", refusal.code());
     }
-    Ok(())
 }
 
 // Edits of all these kinds at the line of a member who accepted the short history.
-fn edits_refused(
-    rt: &impl Abort,
-    alloc: Global,
-    cast: &Cast,
-    line: &mut Line,
-    good: &Draft,
-) -> Result<(), Fail> {
-    let body = body_keeping(alloc, 4)?;
-    headers_refused(rt, alloc, cast, line, good, body.as_slice())?;
-    bodies_refused(rt, alloc, cast, line, good, body.as_slice())
+fn edits_refused(rt: &impl Abort, alloc: Global, cast: &Cast, line: &mut Line, good: &Draft) {
+    let body = body_keeping(rt, alloc, 4);
+    headers_refused(rt, alloc, cast, line, good, body.as_slice());
+    bodies_refused(rt, alloc, cast, line, good, body.as_slice());
 }
 
 // The same, at the line of editor 2.
-fn edits_refused_by(
-    rt: &impl Abort,
-    alloc: Global,
-    cast: &Cast,
-    sample: &History,
-) -> Result<(), Fail> {
-    let mut line = founded(alloc, cast, 2)?;
-    take(rt, &mut line, sample, None)?;
+fn edits_refused_by(rt: &impl Abort, alloc: Global, cast: &Cast, sample: &History) {
+    let mut line = founded(rt, alloc, cast, 2);
+    take(rt, &mut line, sample, None);
     let good = Draft::new(sample.header(2, EDIT));
-    edits_refused(rt, alloc, cast, &mut line, &good)
+    edits_refused(rt, alloc, cast, &mut line, &good);
 }
 
 const EDITOR: Change = Change::SetRole {
@@ -228,12 +215,11 @@ fn tries_change(
     line: &mut Line,
     draft: &Draft,
     row: &Row,
-) -> Result<(), Fail> {
+) {
     let (change, epoch, wraps, refusal) = *row;
-    let body = change_body(alloc, change, 1, 0, epoch, wraps)?;
-    let found = tried(alloc, cast, line, draft, 2, body.as_slice())?;
+    let body = change_body(alloc, change, 1, 0, epoch, wraps).expect(rt, "a body");
+    let found = tried(rt, alloc, cast, line, draft, 2, body.as_slice());
     assert!(rt; is(found, refusal), "{}", refusal.code());
-    Ok(())
 }
 
 // Gives a line a history, and then changes.
@@ -244,54 +230,38 @@ fn changes_refused(
     sample: &History,
     line: &mut Line,
     rows: &[Row],
-) -> Result<(), Fail> {
-    take(rt, line, sample, None)?;
+) {
+    take(rt, line, sample, None);
     let draft = Draft::new(sample.header(1, CHANGE));
     for row in rows {
-        tries_change(rt, alloc, cast, line, &draft, row)?;
+        tries_change(rt, alloc, cast, line, &draft, row);
     }
-    Ok(())
 }
 
 // At the line of editor 2.
-fn refused_alone(
-    rt: &impl Abort,
-    alloc: Global,
-    cast: &Cast,
-    sample: &History,
-) -> Result<(), Fail> {
-    let mut line = founded(alloc, cast, 2)?;
-    changes_refused(rt, alloc, cast, sample, &mut line, &ALONE)
+fn refused_alone(rt: &impl Abort, alloc: Global, cast: &Cast, sample: &History) {
+    let mut line = founded(rt, alloc, cast, 2);
+    changes_refused(rt, alloc, cast, sample, &mut line, &ALONE);
 }
 
 // At that of editor 5, who shares no key.
-fn refused_worse(
-    rt: &impl Abort,
-    alloc: Global,
-    cast: &Cast,
-    sample: &History,
-) -> Result<(), Fail> {
-    let mut line = unpaired(alloc, cast, 5)?;
-    changes_refused(rt, alloc, cast, sample, &mut line, &WORSE)
+fn refused_worse(rt: &impl Abort, alloc: Global, cast: &Cast, sample: &History) {
+    let mut line = unpaired(rt, alloc, cast, 5);
+    changes_refused(rt, alloc, cast, sample, &mut line, &WORSE);
 }
 
 // Both, after one edit.
-fn refused_at_both(
-    rt: &impl Abort,
-    alloc: Global,
-    cast: &Cast,
-    sample: &mut History,
-) -> Result<(), Fail> {
-    insert(alloc, cast, sample, 2, 0, b"ab")?;
-    refused_alone(rt, alloc, cast, sample)?;
-    refused_worse(rt, alloc, cast, sample)
+fn refused_at_both(rt: &impl Abort, alloc: Global, cast: &Cast, sample: &mut History) {
+    insert(rt, alloc, cast, sample, 2, 0, b"ab");
+    refused_alone(rt, alloc, cast, sample);
+    refused_worse(rt, alloc, cast, sample);
 }
 
 #[test]
-fn each_check_of_an_edit_and_of_a_change_refuses(rt: HostRuntime) -> Result<(), Fail> {
-    let cast = Cast::new(rt.alloc())?;
-    let sample = short(rt.alloc(), &cast)?;
-    edits_refused_by(&rt, rt.alloc(), &cast, &sample)?;
-    let mut sample = empty_history(rt.alloc(), &cast)?;
-    refused_at_both(&rt, rt.alloc(), &cast, &mut sample)
+fn each_check_of_an_edit_and_of_a_change_refuses(rt: HostRuntime) {
+    let cast = Cast::new(rt.alloc()).expect(&rt, "a cast");
+    let sample = short(&rt, rt.alloc(), &cast);
+    edits_refused_by(&rt, rt.alloc(), &cast, &sample);
+    let mut sample = empty_history(&rt, rt.alloc(), &cast);
+    refused_at_both(&rt, rt.alloc(), &cast, &mut sample);
 }

@@ -6,70 +6,76 @@ use sporc_line::Line;
 use sporc_samples::{Cast, History, epoch_key, insertion, pair_key, short_history};
 use std::alloc::Global;
 use std::process::Abort;
-use std::test::Fail;
 
 /// A ring with the key of epoch 0.
-pub(crate) fn founder_ring(alloc: Global) -> Result<Ring, Fail> {
+pub(crate) fn founder_ring(rt: &impl Abort, alloc: Global) -> Ring {
     let mut ring = Ring::new(alloc);
-    ring.put(0, epoch_key(0))?;
-    Ok(ring)
+    ring.put(0, epoch_key(0)).expect(rt, "memory");
+    ring
 }
 
 /// The key that a member shares with the admin, 1.
-pub(crate) fn paired(alloc: Global, me: u16) -> Result<Pairs, Fail> {
+pub(crate) fn paired(rt: &impl Abort, alloc: Global, me: u16) -> Pairs {
     let mut pairs = Pairs::new(alloc);
-    pairs.insert(1, pair_key(me, 1))?;
-    Ok(pairs)
+    let inserted: Result<_, _> = pairs.insert(1, pair_key(me, 1));
+    inserted.expect(rt, "memory");
+    pairs
 }
 
 /// The empty line of a member, in a box: a function that owns a line itself is slow to prove.
 pub(crate) fn opened(
+    rt: &impl Abort,
     alloc: Global,
     cast: &Cast,
     me: u16,
     ring: Ring,
     pairs: Pairs,
-) -> Result<Box<Line>, Fail> {
-    let genesis = cast.genesis(alloc)?;
-    Ok(Box::new(alloc, Line::open(alloc, genesis, me, ring, pairs)?)?)
+) -> Box<Line> {
+    let genesis = cast.genesis(alloc).expect(rt, "a genesis");
+    let line = Line::open(alloc, genesis, me, ring, pairs).expect(rt, "a line");
+    Box::new(alloc, line).expect(rt, "memory")
 }
 
 /// The empty line of a founder who shares a key with the admin.
-pub(crate) fn founded(alloc: Global, cast: &Cast, me: u16) -> Result<Box<Line>, Fail> {
-    let ring = founder_ring(alloc)?;
-    let pairs = paired(alloc, me)?;
-    opened(alloc, cast, me, ring, pairs)
+pub(crate) fn founded(rt: &impl Abort, alloc: Global, cast: &Cast, me: u16) -> Box<Line> {
+    let ring = founder_ring(rt, alloc);
+    let pairs = paired(rt, alloc, me);
+    opened(rt, alloc, cast, me, ring, pairs)
 }
 
 /// The empty line of a founder who shares no key.
-pub(crate) fn unpaired(alloc: Global, cast: &Cast, me: u16) -> Result<Box<Line>, Fail> {
-    let ring = founder_ring(alloc)?;
-    opened(alloc, cast, me, ring, Pairs::new(alloc))
+pub(crate) fn unpaired(rt: &impl Abort, alloc: Global, cast: &Cast, me: u16) -> Box<Line> {
+    let ring = founder_ring(rt, alloc);
+    opened(rt, alloc, cast, me, ring, Pairs::new(alloc))
 }
 
 /// The empty history of the sample document, in a box for the same reason.
-pub(crate) fn empty_history(alloc: Global, cast: &Cast) -> Result<Box<History>, Fail> {
-    let genesis = cast.genesis(alloc)?;
-    Ok(Box::new(alloc, History::new(alloc, &genesis)?)?)
+pub(crate) fn empty_history(rt: &impl Abort, alloc: Global, cast: &Cast) -> Box<History> {
+    let genesis = cast.genesis(alloc).expect(rt, "a genesis");
+    let sample = History::new(alloc, &genesis).expect(rt, "a history");
+    Box::new(alloc, sample).expect(rt, "memory")
 }
 
 /// The short history, in a box, too.
-pub(crate) fn short(alloc: Global, cast: &Cast) -> Result<Box<History>, Fail> {
-    Ok(Box::new(alloc, short_history(alloc, cast)?)?)
+pub(crate) fn short(rt: &impl Abort, alloc: Global, cast: &Cast) -> Box<History> {
+    let sample = short_history(alloc, cast).expect(rt, "a history");
+    Box::new(alloc, sample).expect(rt, "memory")
 }
 
 /// Appends an edit that inserts a text behind so many characters.
 pub(crate) fn insert(
+    rt: &impl Abort,
     alloc: Global,
     cast: &Cast,
     sample: &mut History,
     author: u16,
     keep: u64,
     text: &[u8],
-) -> Result<(), Fail> {
-    let delta = insertion(alloc, keep, text)?;
-    sample.edit(alloc, cast, author, delta.as_slice())?;
-    Ok(())
+) {
+    let delta = insertion(alloc, keep, text).expect(rt, "memory");
+    sample
+        .edit(alloc, cast, author, delta.as_slice())
+        .expect(rt, "an entry");
 }
 
 /// Gives a line an entry: why it refuses it, if it does.
@@ -89,13 +95,7 @@ pub(crate) fn all_given(line: &mut Line, entries: &[Vec<u8>]) -> Option<Refusal>
 }
 
 /// Gives a line a history, which ends with this refusal, if any.
-pub(crate) fn take(
-    rt: &impl Abort,
-    line: &mut Line,
-    sample: &History,
-    refusal: Option<Refusal>,
-) -> Result<(), Fail> {
+pub(crate) fn take(rt: &impl Abort, line: &mut Line, sample: &History, refusal: Option<Refusal>) {
     let found = all_given(line, sample.entries());
     assert!(rt; found == refusal);
-    Ok(())
 }
