@@ -10,7 +10,6 @@ use sporc_serve::ServeFault;
 use std::alloc::Global;
 use std::process::Abort;
 use std::sync::Wait;
-use std::test::Fail;
 use std::thread::Threads;
 
 // What peers send that are no clients: nothing; a frame that is no message, a frame that never ends, a frame above the
@@ -32,24 +31,20 @@ const STREAMS: [&[u8]; 7] = [
 ];
 
 // A client that submits an entry, among those peers.
-fn peers(alloc: Global, cast: &Cast) -> Result<Peers, Fail> {
+fn peers(rt: &impl Abort, alloc: Global, cast: &Cast) -> Peers {
     let mut peers = Peers::new(alloc);
-    let entry = first_entry(alloc, cast, 2)?;
-    peers.add(
-        alloc,
-        hello_and_submit(alloc, entry.as_slice())?,
-        5,
-        Vec::new(alloc),
-    )?;
-    add_bad_peers(alloc, &mut peers)?;
-    Ok(peers)
+    let entry = first_entry(rt, alloc, cast, 2);
+    let stream = hello_and_submit(rt, alloc, entry.as_slice());
+    peers.add(rt, alloc, stream, 5, Vec::new(alloc));
+    add_bad_peers(rt, alloc, &mut peers);
+    peers
 }
 
-fn add_bad_peers(alloc: Global, peers: &mut Peers) -> Result<(), Fail> {
+fn add_bad_peers(rt: &impl Abort, alloc: Global, peers: &mut Peers) {
     for stream in STREAMS {
-        peers.add(alloc, Vec::from_slice(alloc, stream)?, 2, Vec::new(alloc))?;
+        let stream = Vec::from_slice(alloc, stream).expect(rt, "memory");
+        peers.add(rt, alloc, stream, 2, Vec::new(alloc));
     }
-    Ok(())
 }
 
 // The client's link was taken last, so it came back first.
@@ -67,22 +62,21 @@ fn is_served<R: Threads + Wait + Sync + Abort>(
     cast: &Cast,
     sessions: u32,
     answer: Result<(), ServeFault>,
-) -> Result<(), Fail>
+)
     requires some { 1 ≤ sessions }
     requires limit { sessions ≤ MAX_SESSIONS }
 {
-    let peers = peers(alloc, cast)?;
-    let outcome = served(rt, alloc, cast, peers, sessions, &OpenGate)?;
+    let peers = peers(rt, alloc, cast);
+    let outcome = served(rt, alloc, cast, peers, sessions, &OpenGate);
     assert!(rt; outcome.answer == answer);
     only_the_client_is_answered(rt, &outcome);
-    Ok(())
 }
 
 // The same if one link more is to come, and doesn't: that is told.
 #[test]
-fn bad_peers_end_their_own_sessions_alone(rt: HostRuntime) -> Result<(), Fail> {
-    let cast = Cast::new(rt.alloc())?;
-    is_served(&rt, rt.alloc(), &cast, 8, Ok(()))?;
+fn bad_peers_end_their_own_sessions_alone(rt: HostRuntime) {
+    let cast = Cast::new(rt.alloc()).expect(&rt, "the cast");
+    is_served(&rt, rt.alloc(), &cast, 8, Ok(()));
     let missing = Err(ServeFault::ListenFault);
-    is_served(&rt, rt.alloc(), &cast, 9, missing)
+    is_served(&rt, rt.alloc(), &cast, 9, missing);
 }

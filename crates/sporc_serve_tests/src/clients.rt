@@ -6,8 +6,8 @@ use sporc_samples::Cast;
 use sporc_serve::serve;
 use sporc_wire::{Frames, ToClient};
 use std::alloc::Global;
+use std::process::Abort;
 use std::sync::Wait;
-use std::test::Fail;
 use std::thread::{Threads, join};
 
 // How often a client reads for one answer, at the most.
@@ -98,10 +98,10 @@ struct Submission {
 }
 
 impl Submission {
-    fn new(alloc: Global, cast: &Cast, author: u16) -> Result<Submission, Fail> {
-        let entry = first_entry(alloc, cast, author)?;
-        let stream = hello_and_submit(alloc, entry.as_slice())?;
-        Ok(Submission { stream, entry })
+    fn new(rt: &impl Abort, alloc: Global, cast: &Cast, author: u16) -> Submission {
+        let entry = first_entry(rt, alloc, cast, author);
+        let stream = hello_and_submit(rt, alloc, entry.as_slice());
+        Submission { stream, entry }
     }
 }
 
@@ -150,15 +150,16 @@ where
 }
 
 #[test]
-fn clients_in_threads_are_answered(rt: HostRuntime) -> Result<(), Fail> {
-    let alloc = rt.alloc();
-    let cast = Cast::new(alloc)?;
-    let one = Submission::new(alloc, &cast, 2)?;
-    let other = Submission::new(alloc, &cast, 4)?;
-    let order = Box::new(alloc, empty_order(alloc, &cast)?)?;
+fn clients_in_threads_are_answered(rt: HostRuntime) {
     let rt = &rt;
-    let mut net = PipeNet::new(rt, alloc)?;
-    let (mut near, mut far) = (net.another()?, net.another()?);
+    let alloc = rt.alloc();
+    let cast = Cast::new(alloc).expect(rt, "the cast");
+    let one = Submission::new(rt, alloc, &cast, 2);
+    let other = Submission::new(rt, alloc, &cast, 4);
+    let order = Box::new(alloc, empty_order(rt, alloc, &cast)).expect(rt, "memory");
+    let mut net = PipeNet::new(rt, alloc).expect(rt, "memory");
+    let mut near = net.another().expect(rt, "memory");
+    let mut far = net.another().expect(rt, "memory");
     let (served, (first, second)) = join(
         rt,
         || serves_two(rt, alloc, &mut net, order),
@@ -172,5 +173,4 @@ fn clients_in_threads_are_answered(rt: HostRuntime) -> Result<(), Fail> {
     );
     assert!(rt; served);
     assert!(rt; first && second);
-    Ok(())
 }

@@ -4,49 +4,51 @@ use crate::streams::{HELLO, PULL, first_entry, submit};
 use sporc_outside::OpenGate;
 use sporc_samples::Cast;
 use std::alloc::Global;
-use std::test::Fail;
+use std::process::Abort;
 
 // Pulls from an empty order, submits an entry, submits it again, and pulls it.
-fn stream(alloc: Global, entry: &[u8]) -> Result<Vec<u8>, Fail> {
-    let submission = submit(alloc, entry)?;
-    let mut stream = Vec::from_slice(alloc, &HELLO)?;
-    stream.extend_from_slice(&PULL)?;
-    stream.extend_from_slice(submission.as_slice())?;
-    stream.extend_from_slice(submission.as_slice())?;
-    stream.extend_from_slice(&PULL)?;
-    Ok(stream)
+fn stream(rt: &impl Abort, alloc: Global, entry: &[u8]) -> Vec<u8> {
+    let submission = submit(rt, alloc, entry);
+    let mut stream = Vec::from_slice(alloc, &HELLO).expect(rt, "memory");
+    stream.extend_from_slice(&PULL).expect(rt, "memory");
+    stream
+        .extend_from_slice(submission.as_slice())
+        .expect(rt, "memory");
+    stream
+        .extend_from_slice(submission.as_slice())
+        .expect(rt, "memory");
+    stream.extend_from_slice(&PULL).expect(rt, "memory");
+    stream
 }
 
-fn wanted(alloc: Global, entry: &[u8]) -> Result<Vec<u8>, Fail> {
-    let mut bytes = Vec::from_slice(alloc, &EMPTY)?;
-    bytes.extend_from_slice(&ORDERED_FIRST)?;
-    bytes.extend_from_slice(&WRONG_NUMBER)?;
-    bytes.extend_from_slice(first_entries(alloc, entry)?.as_slice())?;
-    Ok(bytes)
+fn wanted(rt: &impl Abort, alloc: Global, entry: &[u8]) -> Vec<u8> {
+    let mut bytes = Vec::from_slice(alloc, &EMPTY).expect(rt, "memory");
+    bytes.extend_from_slice(&ORDERED_FIRST).expect(rt, "memory");
+    bytes.extend_from_slice(&WRONG_NUMBER).expect(rt, "memory");
+    let entries = first_entries(rt, alloc, entry);
+    bytes
+        .extend_from_slice(entries.as_slice())
+        .expect(rt, "memory");
+    bytes
 }
 
-fn one_peer(alloc: Global, entry: &[u8]) -> Result<Peers, Fail> {
-    let stream = stream(alloc, entry)?;
+fn one_peer(rt: &impl Abort, alloc: Global, entry: &[u8]) -> Peers {
+    let stream = stream(rt, alloc, entry);
     let mut peers = Peers::new(alloc);
-    peers.add(alloc, stream, 3, Vec::new(alloc))?;
-    Ok(peers)
+    peers.add(rt, alloc, stream, 3, Vec::new(alloc));
+    peers
 }
 
-fn is_answered(alloc: Global, outcome: &Outcome, entry: &[u8]) -> Result<bool, Fail> {
-    let wanted = wanted(alloc, entry)?;
-    Ok(
-        outcome.answer == Ok(())
-            && outcome.order.len() == 1
-            && outcome.is_written(0, wanted.as_slice()),
-    )
+fn is_answered(rt: &impl Abort, alloc: Global, outcome: &Outcome, entry: &[u8]) -> bool {
+    let wanted = wanted(rt, alloc, entry);
+    outcome.answer == Ok(()) && outcome.order.len() == 1 && outcome.is_written(0, wanted.as_slice())
 }
 
 #[test]
-fn each_message_has_its_answer(rt: HostRuntime) -> Result<(), Fail> {
-    let cast = Cast::new(rt.alloc())?;
-    let entry = first_entry(rt.alloc(), &cast, 1)?;
-    let peers = one_peer(rt.alloc(), entry.as_slice())?;
-    let outcome = served(&rt, rt.alloc(), &cast, peers, 1, &OpenGate)?;
-    assert!(rt; is_answered(rt.alloc(), &outcome, entry.as_slice())?);
-    Ok(())
+fn each_message_has_its_answer(rt: HostRuntime) {
+    let cast = Cast::new(rt.alloc()).expect(&rt, "the cast");
+    let entry = first_entry(&rt, rt.alloc(), &cast, 1);
+    let peers = one_peer(&rt, rt.alloc(), entry.as_slice());
+    let outcome = served(&rt, rt.alloc(), &cast, peers, 1, &OpenGate);
+    assert!(rt; is_answered(&rt, rt.alloc(), &outcome, entry.as_slice()));
 }

@@ -7,7 +7,6 @@ use std::alloc::Global;
 use std::process::Abort;
 use std::sync::Wait;
 use std::sync::atomic::{AtomicU64, Ordering};
-use std::test::Fail;
 use std::thread::yield_now;
 
 // How often a session that is held looks whether the other one was answered.
@@ -36,37 +35,36 @@ impl Gate for Pairing {
 }
 
 // A client that submits an author's first entry and then pulls.
-fn add_peer(alloc: Global, cast: &Cast, peers: &mut Peers, author: u16) -> Result<(), Fail> {
-    let entry = first_entry(alloc, cast, author)?;
-    let stream = hello_submit_and_pull(alloc, entry.as_slice())?;
-    peers.add(alloc, stream, 100, Vec::new(alloc))
+fn add_peer(rt: &impl Abort, alloc: Global, cast: &Cast, peers: &mut Peers, author: u16) {
+    let entry = first_entry(rt, alloc, cast, author);
+    let stream = hello_submit_and_pull(rt, alloc, entry.as_slice());
+    peers.add(rt, alloc, stream, 100, Vec::new(alloc));
 }
 
 // Two such clients.
-fn peers(alloc: Global, cast: &Cast) -> Result<Peers, Fail> {
+fn peers(rt: &impl Abort, alloc: Global, cast: &Cast) -> Peers {
     let mut peers = Peers::new(alloc);
-    add_peer(alloc, cast, &mut peers, 2)?;
-    add_peer(alloc, cast, &mut peers, 4)?;
-    Ok(peers)
+    add_peer(rt, alloc, cast, &mut peers, 2);
+    add_peer(rt, alloc, cast, &mut peers, 4);
+    peers
 }
 
-fn are_answered(rt: &impl Abort, alloc: Global, outcome: &Outcome) -> Result<(), Fail> {
+fn are_answered(rt: &impl Abort, alloc: Global, outcome: &Outcome) {
     assert!(rt; outcome.answer == Ok(()) && outcome.order.len() == 2);
     for link in outcome.net.returned() {
-        assert!(rt; are_of_submit_and_pull(alloc, link.written())?);
+        assert!(rt; are_of_submit_and_pull(rt, alloc, link.written()));
     }
-    Ok(())
 }
 
 #[test]
-fn a_session_goes_on_while_another_is_held(rt: HostRuntime) -> Result<(), Fail> {
-    let cast = Cast::new(rt.alloc())?;
+fn a_session_goes_on_while_another_is_held(rt: HostRuntime) {
+    let cast = Cast::new(rt.alloc()).expect(&rt, "the cast");
     let gate = Pairing {
         accepted: AtomicU64::new(0),
         given_up: AtomicU64::new(0),
     };
-    let peers = peers(rt.alloc(), &cast)?;
-    let outcome = served(&rt, rt.alloc(), &cast, peers, 2, &gate)?;
+    let peers = peers(&rt, rt.alloc(), &cast);
+    let outcome = served(&rt, rt.alloc(), &cast, peers, 2, &gate);
     assert!(rt; gate.given_up.load(Ordering::SeqCst) == 0);
-    are_answered(&rt, rt.alloc(), &outcome)
+    are_answered(&rt, rt.alloc(), &outcome);
 }

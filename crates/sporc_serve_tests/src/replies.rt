@@ -2,7 +2,7 @@
 
 use sporc_wire::{Frames, ToClient};
 use std::alloc::Global;
-use std::test::Fail;
+use std::process::Abort;
 
 /// An Ordered at position 1.
 pub const ORDERED_FIRST: [u8; 9] = [0, 0, 0, 5, 1, 0, 0, 0, 1];
@@ -23,7 +23,7 @@ pub struct Counts {
 }
 
 /// Counts the answers in what a server sent, and at each position in `ordered` those that are Ordered there.
-pub fn count(alloc: Global, sent: &[u8], ordered: &mut [u32]) -> Result<Counts, Fail> {
+pub fn count(rt: &impl Abort, alloc: Global, sent: &[u8], ordered: &mut [u32]) -> Counts {
     let mut counts = Counts {
         ordered: 0,
         rejected: 0,
@@ -31,23 +31,28 @@ pub fn count(alloc: Global, sent: &[u8], ordered: &mut [u32]) -> Result<Counts, 
         empty: 0,
     };
     let mut frames = Frames::new(alloc);
-    frames.feed(sent)?;
+    frames.feed(sent).expect(rt, "frames");
     for _ in 0..sent.len() {
-        if !count_next(&mut frames, &mut counts, ordered)? {
-            return Ok(counts);
+        if !count_next(rt, &mut frames, &mut counts, ordered) {
+            return counts;
         }
     }
-    Ok(counts)
+    counts
 }
 
 // Counts the next answer, if one is left.
-fn count_next(frames: &mut Frames, counts: &mut Counts, ordered: &mut [u32]) -> Result<bool, Fail> {
-    match frames.next_to_client()? {
+fn count_next(
+    rt: &impl Abort,
+    frames: &mut Frames,
+    counts: &mut Counts,
+    ordered: &mut [u32],
+) -> bool {
+    match frames.next_to_client().expect(rt, "a message") {
         Some(reply) => {
             add(counts, &reply, ordered);
-            Ok(true)
+            true
         }
-        None => Ok(false),
+        None => false,
     }
 }
 
@@ -66,17 +71,22 @@ fn add(counts: &mut Counts, reply: &ToClient, ordered: &mut [u32]) {
 }
 
 /// Whether an entry was ordered once in what a server sent, and entries were pulled once.
-pub fn are_of_submit_and_pull(alloc: Global, sent: &[u8]) -> Result<bool, Fail> {
-    let counts = count(alloc, sent, &mut [])?;
-    Ok(counts.ordered == 1 && counts.entries == 1)
+pub fn are_of_submit_and_pull(rt: &impl Abort, alloc: Global, sent: &[u8]) -> bool {
+    let counts = count(rt, alloc, sent, &mut []);
+    counts.ordered == 1 && counts.entries == 1
 }
 
 /// The frame of an Entries that holds one entry, at position 1.
-pub fn first_entries(alloc: Global, entry: &[u8]) -> Result<Vec<u8>, Fail> {
+pub fn first_entries(rt: &impl Abort, alloc: Global, entry: &[u8]) -> Vec<u8> {
     let len = entry.len() as u64;
-    let mut frame = Vec::from_slice(alloc, &len.saturating_add(10).to_be_bytes()[4..])?;
-    frame.extend_from_slice(&[3, 0, 0, 0, 1, 1])?;
-    frame.extend_from_slice(&len.to_be_bytes()[4..])?;
-    frame.extend_from_slice(entry)?;
-    Ok(frame)
+    let frame_len = len.saturating_add(10).to_be_bytes();
+    let mut frame = Vec::from_slice(alloc, &frame_len[4..]).expect(rt, "memory");
+    frame
+        .extend_from_slice(&[3, 0, 0, 0, 1, 1])
+        .expect(rt, "memory");
+    frame
+        .extend_from_slice(&len.to_be_bytes()[4..])
+        .expect(rt, "memory");
+    frame.extend_from_slice(entry).expect(rt, "memory");
+    frame
 }

@@ -9,8 +9,8 @@ use sporc_outside::{Calls, Gate, MemoryLink, MemoryNet};
 use sporc_samples::Cast;
 use sporc_serve::{ServeFault, serve};
 use std::alloc::Global;
+use std::process::Abort;
 use std::sync::Wait;
-use std::test::Fail;
 use std::thread::Threads;
 
 /// The links that a server is to take, the last one first.
@@ -32,16 +32,16 @@ impl Peers {
     /// numbers fail.
     pub fn add(
         &mut self,
+        rt: &impl Abort,
         alloc: Global,
         stream: Vec<u8>,
         piece: usize,
         failing: Vec<u64>,
-    ) -> Result<(), Fail>
+    )
         requires { 0 < piece }
     {
         let link = MemoryLink::new(alloc, stream, piece, Calls::failing(failing));
-        self.links.push(link)?;
-        Ok(())
+        self.links.push(link).expect(rt, "memory");
     }
 }
 
@@ -81,24 +81,25 @@ impl Outcome {
 }
 
 /// The empty order of the cast's document.
-pub fn empty_order(alloc: Global, cast: &Cast) -> Result<Order, Fail> {
-    Ok(Order::open(alloc, cast.genesis(alloc)?)?)
+pub fn empty_order(rt: &impl Abort, alloc: Global, cast: &Cast) -> Order {
+    let genesis = cast.genesis(alloc).expect(rt, "a genesis");
+    Order::open(alloc, genesis).expect(rt, "memory")
 }
 
 /// Serves so many links from the empty order of the cast's document.
-pub fn served<R: Threads + Wait + Sync, G: Gate + Sync>(
+pub fn served<R: Threads + Wait + Sync + Abort, G: Gate + Sync>(
     rt: &R,
     alloc: Global,
     cast: &Cast,
     peers: Peers,
     sessions: u32,
     gate: &G,
-) -> Result<Box<Outcome>, Fail>
+) -> Box<Outcome>
     requires some { 1 ≤ sessions }
     requires limit { sessions ≤ MAX_SESSIONS }
 {
-    let order = empty_order(alloc, cast)?;
+    let order = empty_order(rt, alloc, cast);
     let mut net = MemoryNet::new(alloc, peers.links, Calls::failing(Vec::new(alloc)));
     let (order, answer) = serve(rt, alloc, &mut net, "address", order, sessions, gate);
-    Ok(Box::new(alloc, Outcome { order, net, answer })?)
+    Box::new(alloc, Outcome { order, net, answer }).expect(rt, "memory")
 }
