@@ -3,7 +3,7 @@
 use crate::scene::listed_link;
 use sporc_shared::{Entries, SessionFault, fetch};
 use std::alloc::Global;
-use std::test::Fail;
+use std::process::Abort;
 
 const DOCUMENT: [u8; 16] = [b'D'; 16];
 
@@ -19,20 +19,22 @@ const WRITTEN: &[u8] =
     b"\0\0\0\x13\x01DDDDDDDDDDDDDDDD\0\x04\0\0\0\x05\x03\0\0\0\0\0\0\0\x05\x03\0\0\0\x02\0\0\0\x05\x03\0\0\0\x03";
 
 // Entries one after the other.
-fn joined(alloc: Global, entries: &Entries) -> Result<Vec<u8>, Fail> {
+fn joined(rt: &impl Abort, alloc: Global, entries: &Entries) -> Vec<u8> {
     let mut bytes = Vec::new(alloc);
     for entry in entries.as_slice() {
-        bytes.extend_from_slice(entry.as_slice())?;
-        bytes.push(b';')?;
+        bytes
+            .extend_from_slice(entry.as_slice())
+            .expect(rt, "memory");
+        bytes.push(b';').expect(rt, "memory");
     }
-    Ok(bytes)
+    bytes
 }
 
-fn all_entries_come(alloc: Global) -> Result<bool, Fail> {
-    let mut link = listed_link(alloc, SENT, 64, &[])?;
-    let entries = fetch(alloc, &mut link, &DOCUMENT, 4)?;
-    let bytes = joined(alloc, &entries)?;
-    Ok(entries.len() == 3 && bytes.as_slice() == b"a;bc;d;".as_slice() && link.written() == WRITTEN)
+fn all_entries_come(rt: &impl Abort, alloc: Global) -> bool {
+    let mut link = listed_link(rt, alloc, SENT, 64, &[]);
+    let entries = fetch(alloc, &mut link, &DOCUMENT, 4).expect(rt, "entries");
+    let bytes = joined(rt, alloc, &entries);
+    entries.len() == 3 && bytes.as_slice() == b"a;bc;d;".as_slice() && link.written() == WRITTEN
 }
 
 // What a server sends, and how the fetch ends.
@@ -56,13 +58,14 @@ const FAULTS: [(&[u8], SessionFault); 4] = [
 
 // Whether a fetch ends with this fault, or well if there is none, where a server sends this and these calls fail.
 fn ends_so(
+    rt: &impl Abort,
     alloc: Global,
     sent: &[u8],
     failing: &[u64],
     fault: Option<SessionFault>,
-) -> Result<bool, Fail> {
-    let mut link = listed_link(alloc, sent, 64, failing)?;
-    Ok(fetch(alloc, &mut link, &DOCUMENT, 4).err() == fault)
+) -> bool {
+    let mut link = listed_link(rt, alloc, sent, 64, failing);
+    fetch(alloc, &mut link, &DOCUMENT, 4).err() == fault
 }
 
 // Hello and three pulls are written, and all answers are read at once. How a fetch ends one of whose calls fails.
@@ -75,14 +78,13 @@ fn fault_of(call: u64) -> Option<SessionFault> {
 }
 
 #[test]
-fn entries_are_fetched(rt: HostRuntime) -> Result<(), Fail> {
+fn entries_are_fetched(rt: HostRuntime) {
     let alloc = rt.alloc();
-    assert!(rt; all_entries_come(alloc)?);
+    assert!(rt; all_entries_come(&rt, alloc));
     for (sent, fault) in &FAULTS {
-        assert!(rt; ends_so(alloc, *sent, &[], Some(*fault))?);
+        assert!(rt; ends_so(&rt, alloc, *sent, &[], Some(*fault)));
     }
     for call in 1..CALLS {
-        assert!(rt; ends_so(alloc, SENT, &[call], fault_of(call))?);
+        assert!(rt; ends_so(&rt, alloc, SENT, &[call], fault_of(call)));
     }
-    Ok(())
 }

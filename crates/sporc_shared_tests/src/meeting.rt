@@ -5,9 +5,9 @@ use crate::staging::{FRESH, Outcome, Plan, held, scripts};
 use sporc_outside::Gate;
 use sporc_samples::{Cast, History, insertion};
 use std::alloc::Global;
+use std::process::Abort;
 use std::sync::Wait;
 use std::sync::atomic::{AtomicU64, Ordering};
-use std::test::Fail;
 use std::thread::{Threads, yield_now};
 
 // How often one looks for the other.
@@ -65,21 +65,24 @@ impl Gate for Meeting {
 }
 
 // Two entries of another member.
-fn two_entries(alloc: Global, cast: &Cast) -> Result<History, Fail> {
-    let mut sample = one_entry(alloc, cast, b"ab")?;
-    sample.edit(alloc, cast, 2, insertion(alloc, 2, b"c")?.as_slice())?;
-    Ok(sample)
+fn two_entries(rt: &impl Abort, alloc: Global, cast: &Cast) -> History {
+    let mut sample = one_entry(rt, alloc, cast, b"ab");
+    let edit = insertion(alloc, 2, b"c").expect(rt, "memory");
+    sample
+        .edit(alloc, cast, 2, edit.as_slice())
+        .expect(rt, "an entry");
+    sample
 }
 
 // What a session leaves whose editor has two lines.
-fn met<R: Threads + Wait + Sync>(
+fn met<R: Abort + Threads + Wait + Sync>(
     rt: &R,
     alloc: Global,
     cast: &Cast,
     gate: &Meeting,
-) -> Result<Outcome, Fail> {
-    let sample = two_entries(alloc, cast)?;
-    let editors = scripts(alloc, 1, "insert 0 \"x\"\ninsert 0 \"y\"\n")?;
+) -> Outcome {
+    let sample = two_entries(rt, alloc, cast);
+    let editors = scripts(rt, alloc, 1, "insert 0 \"x\"\ninsert 0 \"y\"\n");
     let plan = Plan {
         rounds: 4,
         until: 4,
@@ -96,15 +99,14 @@ fn met<R: Threads + Wait + Sync>(
     )
 }
 
-fn goes_well<R: Threads + Wait + Sync>(rt: &R, alloc: Global, cast: &Cast) -> Result<bool, Fail> {
+fn goes_well<R: Abort + Threads + Wait + Sync>(rt: &R, alloc: Global, cast: &Cast) -> bool {
     let gate = Meeting::new();
-    let outcome = met(rt, alloc, cast, &gate)?;
-    Ok(outcome.answer.is_ok() && gate.went_well() && outcome.text.as_str() == "yxabc")
+    let outcome = met(rt, alloc, cast, &gate);
+    outcome.answer.is_ok() && gate.went_well() && outcome.text.as_str() == "yxabc"
 }
 
 #[test]
-fn an_editor_and_the_receiver_wait_for_one_another(rt: HostRuntime) -> Result<(), Fail> {
-    let cast = Cast::new(rt.alloc())?;
-    assert!(rt; goes_well(&rt, rt.alloc(), &cast)?);
-    Ok(())
+fn an_editor_and_the_receiver_wait_for_one_another(rt: HostRuntime) {
+    let cast = Cast::new(rt.alloc()).expect(&rt, "the cast");
+    assert!(rt; goes_well(&rt, rt.alloc(), &cast));
 }

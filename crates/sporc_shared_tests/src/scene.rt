@@ -1,6 +1,6 @@
 //! Clients of the sample document.
 
-ghost use Rattle.std.specs.Prelude.{◌≡◌, ◌<◌, IfOk};
+ghost use Rattle.std.specs.Prelude.{◌≡◌, ◌<◌};
 
 use lms_leaf::Leaves;
 use lms_ots::OtsType;
@@ -13,7 +13,7 @@ use sporc_head::MAX_ENTRIES;
 use sporc_outside::{Calls, LeafDisk, MemoryDisk, MemoryLink};
 use sporc_samples::{Cast, History, epoch_key, insertion};
 use std::alloc::Global;
-use std::test::Fail;
+use std::process::Abort;
 
 /// A leaf file each of whose eight blocks has this byte: 0 if it was not drawn, and 1 if it was. The disk's calls with
 /// these numbers fail.
@@ -30,85 +30,79 @@ pub(crate) const BLANK: LeafFile<'static> = LeafFile {
 };
 
 /// An object's calls, of which those with these numbers fail.
-pub(crate) fn calls(alloc: Global, failing: &[u64]) -> Result<Calls, Fail> {
-    Ok(Calls::failing(Vec::from_slice(alloc, failing)?))
+pub(crate) fn calls(rt: &impl Abort, alloc: Global, failing: &[u64]) -> Calls {
+    Calls::failing(Vec::from_slice(alloc, failing).expect(rt, "memory"))
 }
 
 /// A link whose other end sends these bytes, so many at once at most. The calls with these numbers fail.
 pub(crate) fn listed_link(
+    rt: &impl Abort,
     alloc: Global,
     sent: &[u8],
     piece: usize,
     failing: &[u64],
-) -> Result<MemoryLink, Fail>
+) -> MemoryLink
     requires { 0 < piece }
 {
-    let calls = calls(alloc, failing)?;
-    let sent = Vec::from_slice(alloc, sent)?;
-    Ok(MemoryLink::new(alloc, sent, piece, calls))
+    let calls = calls(rt, alloc, failing);
+    let sent = Vec::from_slice(alloc, sent).expect(rt, "memory");
+    MemoryLink::new(alloc, sent, piece, calls)
 }
 
 // The disk that a leaf file is on.
-fn disk(alloc: Global, file: LeafFile<'_>) -> Result<MemoryDisk, Fail> {
-    let calls = calls(alloc, file.failing)?;
-    let bytes = [file.byte; 8].to_vec(alloc)?;
-    let disk = MemoryDisk::new(alloc, bytes, calls)?;
-    Ok(disk)
+fn disk(rt: &impl Abort, alloc: Global, file: LeafFile<'_>) -> MemoryDisk {
+    let calls = calls(rt, alloc, file.failing);
+    let bytes = [file.byte; 8].to_vec(alloc).expect(rt, "memory");
+    MemoryDisk::new(alloc, bytes, calls).expect(rt, "memory")
 }
 
 // The leaves of a tree of height 5, on a disk.
-fn leaves<D: LeafDisk + Drop>(alloc: Global, disk: D) -> Result<Leaves<D>, Fail>
-    ensures { IfOk result (λ leaves. leaves.leaf_count ≡ 32) }
+fn leaves<D: LeafDisk + Drop>(rt: &impl Abort, alloc: Global, disk: D) -> Leaves<D>
+    ensures { result.leaf_count ≡ 32 }
 {
     match Leaves::open(alloc, disk, 5) {
-        Ok(leaves) => Ok(leaves),
-        Err((fault, disk)) => {
-            drop(disk);
-            Err(fault.into())
-        }
+        Ok(leaves) => leaves,
+        Err((fault, _)) => panic!(rt; "leaves: {fault:?}"),
     }
 }
 
 // The tree of a member of the cast.
-fn tree(alloc: Global, number: u8) -> Result<Tree, Fail>
-    ensures { IfOk result (λ tree. tree.lms ≡ LmsType.H5) }
+fn tree(rt: &impl Abort, alloc: Global, number: u8) -> Tree
+    ensures { result.lms ≡ LmsType.H5 }
 {
     let seed = [number; 32];
     let id = [number; 16];
-    let tree = Tree::build(alloc, &seed, &id, LmsType::H5, OtsType::W4)?;
-    Ok(tree)
+    Tree::build(alloc, &seed, &id, LmsType::H5, OtsType::W4).expect(rt, "a tree")
 }
 
 // The signer of a member of the cast.
-fn signer(alloc: Global, number: u8, file: LeafFile<'_>) -> Result<Signer<MemoryDisk>, Fail> {
-    let tree = tree(alloc, number)?;
-    let leaves = leaves(alloc, disk(alloc, file)?)?;
-    Ok(Signer::open(tree, leaves))
+fn signer(rt: &impl Abort, alloc: Global, number: u8, file: LeafFile<'_>) -> Signer<MemoryDisk> {
+    let tree = tree(rt, alloc, number);
+    let leaves = leaves(rt, alloc, disk(rt, alloc, file));
+    Signer::open(tree, leaves)
 }
 
-fn ring(alloc: Global) -> Result<Ring, Fail> {
+fn ring(rt: &impl Abort, alloc: Global) -> Ring {
     let mut ring = Ring::new(alloc);
-    ring.put(0, epoch_key(0))?;
-    Ok(ring)
+    ring.put(0, epoch_key(0)).expect(rt, "memory");
+    ring
 }
 
 /// The client of a member, with an empty history. It is in a box: a function that owns a client itself is slow to prove.
 pub(crate) fn opened(
+    rt: &impl Abort,
     alloc: Global,
     cast: &Cast,
     member: u8,
     file: LeafFile<'_>,
-) -> Result<Box<Client<MemoryDisk>>, Fail> {
-    let ring = ring(alloc)?;
-    let genesis = cast.genesis(alloc)?;
-    let signer = signer(alloc, member, file)?;
+) -> Box<Client<MemoryDisk>> {
+    let ring = ring(rt, alloc);
+    let genesis = cast.genesis(alloc).expect(rt, "a genesis");
+    let signer = signer(rt, alloc, member, file);
     let pairs = Pairs::new(alloc);
     match Client::open(alloc, genesis, u16::from(member), ring, pairs, signer) {
-        Ok(client) => Ok(Box::new(alloc, client)?),
-        Err((fault, signer)) => {
-            drop(signer);
-            Err(fault.into())
-        }
+        Ok(client) => Box::new(alloc, client).expect(rt, "memory"),
+        Err((fault, _)) => panic!(rt; "a client: {fault:?}"),
     }
 }
 
@@ -125,87 +119,91 @@ pub(crate) enum Past {
 }
 
 // Inserts a character at the start of a text that was shown after so many events, and is empty.
-fn insert<D: LeafDisk>(alloc: Global, client: &mut Client<D>, events: u64) -> Result<(), Fail> {
-    let delta = Delta::insert_at(alloc, 0, 0, "x")?;
-    client.edit(0, events, &delta)?;
-    Ok(())
+fn insert<D: LeafDisk>(rt: &impl Abort, alloc: Global, client: &mut Client<D>, events: u64) {
+    let delta = Delta::insert_at(alloc, 0, 0, "x").expect(rt, "memory");
+    client.edit(0, events, &delta).expect(rt, "an event");
 }
 
 // Accepts one entry more of member 2.
 fn accept_next<D: LeafDisk>(
+    rt: &impl Abort,
     alloc: Global,
     cast: &Cast,
     sample: &mut History,
     client: &mut Client<D>,
     position: u32,
-) -> Result<(), Fail> {
-    sample.edit(alloc, cast, 2, b"")?;
-    let entry = sample.entries().last().ok_or("no entry")?;
-    client.accept(0, position, entry.as_slice())?;
-    Ok(())
+) {
+    sample.edit(alloc, cast, 2, b"").expect(rt, "an entry");
+    let entry = sample.entries().last().expect(rt, "an entry");
+    client
+        .accept(0, position, entry.as_slice())
+        .expect(rt, "an event");
 }
 
-fn accept_all<D: LeafDisk>(alloc: Global, cast: &Cast, client: &mut Client<D>) -> Result<(), Fail> {
-    let mut sample = no_entries(alloc, cast)?;
+fn accept_all<D: LeafDisk>(rt: &impl Abort, alloc: Global, cast: &Cast, client: &mut Client<D>) {
+    let mut sample = no_entries(rt, alloc, cast);
     for position in 1..=MAX_ENTRIES {
-        accept_next(alloc, cast, &mut sample, client, position)?;
+        accept_next(rt, alloc, cast, &mut sample, client, position);
     }
-    Ok(())
 }
 
 // Leaves room for one event in the journal. How many it has.
-fn discard_often<D: LeafDisk>(client: &mut Client<D>) -> Result<u64, Fail> {
+fn discard_often<D: LeafDisk>(rt: &impl Abort, client: &mut Client<D>) -> u64 {
     let mut events = 0;
     for _ in 1..MAX_EVENTS {
-        events = client.discard(0)?;
+        events = client.discard(0).expect(rt, "an event");
     }
-    Ok(events)
+    events
 }
 
 // Does what a client did before its session.
 fn live<D: LeafDisk>(
+    rt: &impl Abort,
     alloc: Global,
     cast: &Cast,
     client: &mut Client<D>,
     past: Past,
-) -> Result<(), Fail> {
+) {
     match past {
-        Past::Nothing => Ok(()),
-        Past::Edit => insert(alloc, client, 0),
+        Past::Nothing => {}
+        Past::Edit => insert(rt, alloc, client, 0),
         Past::AllEntries => {
-            insert(alloc, client, 0)?;
-            accept_all(alloc, cast, client)
+            insert(rt, alloc, client, 0);
+            accept_all(rt, alloc, cast, client);
         }
         Past::AllEvents => {
-            let events = discard_often(client)?;
-            insert(alloc, client, events)
+            let events = discard_often(rt, client);
+            insert(rt, alloc, client, events);
         }
     }
 }
 
 /// The client of a member, after what it did before its session.
 pub(crate) fn lived(
+    rt: &impl Abort,
     alloc: Global,
     cast: &Cast,
     member: u8,
     file: LeafFile<'_>,
     past: Past,
-) -> Result<Box<Client<MemoryDisk>>, Fail> {
-    let mut client = opened(alloc, cast, member, file)?;
-    live(alloc, cast, &mut client, past)?;
-    Ok(client)
+) -> Box<Client<MemoryDisk>> {
+    let mut client = opened(rt, alloc, cast, member, file);
+    live(rt, alloc, cast, &mut client, past);
+    client
 }
 
 /// The history of the document, empty.
-pub(crate) fn no_entries(alloc: Global, cast: &Cast) -> Result<History, Fail> {
-    let genesis = cast.genesis(alloc)?;
-    let sample = History::new(alloc, &genesis)?;
-    Ok(sample)
+pub(crate) fn no_entries(rt: &impl Abort, alloc: Global, cast: &Cast) -> History {
+    let genesis = cast.genesis(alloc).expect(rt, "a genesis");
+    History::new(alloc, &genesis).expect(rt, "a history")
 }
 
 /// A history of one entry, by which member 2 inserts a text.
-pub(crate) fn one_entry(alloc: Global, cast: &Cast, text: &[u8]) -> Result<History, Fail> {
-    let mut sample = no_entries(alloc, cast)?;
-    sample.edit(alloc, cast, 2, insertion(alloc, 0, text)?.as_slice())?;
-    Ok(sample)
+pub(crate) fn one_entry(rt: &impl Abort, alloc: Global, cast: &Cast, text: &[u8]) -> History {
+    let mut sample = no_entries(rt, alloc, cast);
+    let edit = insertion(alloc, 0, text).expect(rt, "memory");
+    sample
+        .edit(alloc, cast, 2, edit.as_slice())
+        .expect(rt, "an entry");
+    sample
 }

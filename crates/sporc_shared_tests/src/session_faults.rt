@@ -10,7 +10,6 @@ use sporc_shared::SessionFault;
 use std::alloc::Global;
 use std::process::Abort;
 use std::sync::Wait;
-use std::test::Fail;
 use std::thread::Threads;
 
 // An object of a session.
@@ -44,7 +43,7 @@ fn failing(object: Object, calls: &[u64]) -> Start<'_> {
 
 // Whether a session of two rounds with an order ends with this fault, or well if there is none, where so many editors have
 // these lines.
-fn ends_so<R: Threads + Wait + Sync>(
+fn ends_so<R: Abort + Threads + Wait + Sync>(
     rt: &R,
     alloc: Global,
     cast: &Cast,
@@ -52,9 +51,9 @@ fn ends_so<R: Threads + Wait + Sync>(
     editors: u32,
     lines: &str,
     fault: Option<SessionFault>,
-) -> Result<bool, Fail> {
-    let outcome = written(rt, alloc, cast, start, editors, lines, TWO_ROUNDS)?;
-    Ok(outcome.answer.err() == fault)
+) -> bool {
+    let outcome = written(rt, alloc, cast, start, editors, lines, TWO_ROUNDS);
+    outcome.answer.err() == fault
 }
 
 // An object, the first of its calls that a session makes and the first that it doesn't make, and how the session ends if
@@ -69,18 +68,18 @@ const CALLS: [(Object, u64, u64, SessionFault); 3] = [
 ];
 
 // Whether each of an object's calls ends a session if it fails.
-fn each_call_ends<R: Threads + Wait + Sync>(
+fn each_call_ends<R: Abort + Threads + Wait + Sync>(
     rt: &R,
     alloc: Global,
     cast: &Cast,
     row: (Object, u64, u64, SessionFault),
-) -> Result<bool, Fail> {
+) -> bool {
     let (object, first, end, fault) = row;
     for call in first..end {
         let calls = [call];
         let start = failing(object, &calls);
-        if !ends_so(rt, alloc, cast, start, 0, "", Some(fault))? {
-            return Ok(false);
+        if !ends_so(rt, alloc, cast, start, 0, "", Some(fault)) {
+            return false;
         }
     }
     ends_so(rt, alloc, cast, failing(object, &[end]), 0, "", None)
@@ -139,16 +138,16 @@ const SENT: [(Past, &[u8], SessionFault); 11] = [
 ];
 
 // Whether a session ends so, where a server sends this.
-fn ends_by<R: Threads + Wait + Sync>(
+fn ends_by<R: Abort + Threads + Wait + Sync>(
     rt: &R,
     alloc: Global,
     cast: &Cast,
     row: (Past, &[u8], SessionFault),
-) -> Result<bool, Fail> {
+) -> bool {
     let (past, sent, fault) = row;
     let start = Start { past, ..FRESH };
-    let answer = heard(rt, alloc, cast, start, sent)?;
-    Ok(answer.err() == Some(fault))
+    let answer = heard(rt, alloc, cast, start, sent);
+    answer.err() == Some(fault)
 }
 
 // No leaf of this file is left.
@@ -160,31 +159,26 @@ const USED: LeafFile<'static> = LeafFile {
 const LINES: &str = "# none of these\n\ninsert 0 \"x\"\n";
 
 // Calls that fail, servers, a file with no leaf, and the edit of a reader.
-fn each_fault_ends_one<R: Abort + Threads + Wait + Sync>(
-    rt: &R,
-    alloc: Global,
-    cast: &Cast,
-) -> Result<(), Fail> {
+fn each_fault_ends_one<R: Abort + Threads + Wait + Sync>(rt: &R, alloc: Global, cast: &Cast) {
     for row in &CALLS {
-        assert!(rt; each_call_ends(rt, alloc, cast, *row)?);
+        assert!(rt; each_call_ends(rt, alloc, cast, *row));
     }
     for row in &SENT {
-        assert!(rt; ends_by(rt, alloc, cast, *row)?);
+        assert!(rt; ends_by(rt, alloc, cast, *row));
     }
     let last = Start {
         file: USED,
         ..EDITED
     };
     let fault = SessionFault::Leaf(LeafFault::Exhausted(32));
-    assert!(rt; ends_so(rt, alloc, cast, last, 0, "", Some(fault))?);
+    assert!(rt; ends_so(rt, alloc, cast, last, 0, "", Some(fault)));
     let reader = Start { member: 3, ..FRESH };
     let fault = SessionFault::EditRefused(1, 3, EditFault::NoRight);
-    assert!(rt; ends_so(rt, alloc, cast, reader, 1, LINES, Some(fault))?);
-    Ok(())
+    assert!(rt; ends_so(rt, alloc, cast, reader, 1, LINES, Some(fault)));
 }
 
 #[test]
-fn each_fault_ends_a_session(rt: HostRuntime) -> Result<(), Fail> {
-    let cast = Cast::new(rt.alloc())?;
-    each_fault_ends_one(&rt, rt.alloc(), &cast)
+fn each_fault_ends_a_session(rt: HostRuntime) {
+    let cast = Cast::new(rt.alloc()).expect(&rt, "the cast");
+    each_fault_ends_one(&rt, rt.alloc(), &cast);
 }

@@ -5,8 +5,8 @@ use sporc_samples::Cast;
 use sporc_script::MAX_EDITORS;
 use sporc_shared::SessionFault;
 use std::alloc::Global;
+use std::process::Abort;
 use std::sync::Wait;
-use std::test::Fail;
 use std::thread::Threads;
 
 const NO_ROUNDS: Plan = Plan {
@@ -78,33 +78,26 @@ const ROWS: [Row; 3] = [
 ];
 
 // Whether a session leaves what its row tells.
-fn leaves<R: Threads + Wait + Sync>(
-    rt: &R,
-    alloc: Global,
-    cast: &Cast,
-    row: Row,
-) -> Result<bool, Fail> {
+fn leaves<R: Abort + Threads + Wait + Sync>(rt: &R, alloc: Global, cast: &Cast, row: Row) -> bool {
     let (member, lines, plan, fault, text, deeds) = row;
     let start = Start { member, ..FRESH };
-    let outcome = written(rt, alloc, cast, start, 1, lines, plan)?;
-    Ok(
-        outcome.answer.err() == fault
-            && outcome.text.as_str() == text
-            && outcome.deeds.as_slice() == deeds,
-    )
+    let outcome = written(rt, alloc, cast, start, 1, lines, plan);
+    outcome.answer.err() == fault
+        && outcome.text.as_str() == text
+        && outcome.deeds.as_slice() == deeds
 }
 
 // Lines of which number n inserts n characters.
-fn longer_and_longer(alloc: Global) -> Result<String, Fail> {
+fn longer_and_longer(rt: &impl Abort, alloc: Global) -> String {
     let mut text = String::new(alloc);
     for line in 0..LINES {
-        text.push_str("insert 0 \"x")?;
+        text.push_str("insert 0 \"x").expect(rt, "memory");
         for _ in 0..line {
-            text.push('x')?;
+            text.push('x').expect(rt, "memory");
         }
-        text.push_str("\"\n")?;
+        text.push_str("\"\n").expect(rt, "memory");
     }
-    Ok(text)
+    text
 }
 
 // Counts an editor's line. Whether it is the next one.
@@ -129,41 +122,38 @@ fn are_all(lines: &[u64]) -> bool {
 }
 
 // The lines of each editor stand in a journal once and in order, and no others.
-fn each_line_once(alloc: Global, deeds: &[Deed]) -> Result<bool, Fail> {
-    let mut lines = vec![in alloc; 0u64; MAX_EDITORS + 1]?;
+fn each_line_once(rt: &impl Abort, alloc: Global, deeds: &[Deed]) -> bool {
+    let mut lines = vec![in alloc; 0u64; MAX_EDITORS + 1].expect(rt, "memory");
     for deed in deeds {
         if let Deed::Edit(by, len) = deed
             && !count_line(lines.as_mut_slice(), *by, *len)
         {
-            return Ok(false);
+            return false;
         }
     }
     match lines.split_first() {
-        Some((receiver, editors)) => Ok(*receiver == 0 && are_all(editors)),
-        None => Ok(false),
+        Some((receiver, editors)) => *receiver == 0 && are_all(editors),
+        None => false,
     }
 }
 
 // Whether a session of eight editors leaves a hundred lines of each, which are not all committed.
-fn each_editor_writes<R: Threads + Wait + Sync>(
+fn each_editor_writes<R: Abort + Threads + Wait + Sync>(
     rt: &R,
     alloc: Global,
     cast: &Cast,
-) -> Result<bool, Fail> {
-    let lines = longer_and_longer(alloc)?;
-    let outcome = written(rt, alloc, cast, FRESH, EDITORS, lines.as_str(), NO_TARGET)?;
-    Ok(
-        matches!(&outcome.answer, Err(SessionFault::NotSettled(..)))
-            && each_line_once(alloc, outcome.deeds.as_slice())?,
-    )
+) -> bool {
+    let lines = longer_and_longer(rt, alloc);
+    let outcome = written(rt, alloc, cast, FRESH, EDITORS, lines.as_str(), NO_TARGET);
+    matches!(&outcome.answer, Err(SessionFault::NotSettled(..)))
+        && each_line_once(rt, alloc, outcome.deeds.as_slice())
 }
 
 #[test]
-fn lines_go_to_the_order_or_stay_pending(rt: HostRuntime) -> Result<(), Fail> {
-    let cast = Cast::new(rt.alloc())?;
+fn lines_go_to_the_order_or_stay_pending(rt: HostRuntime) {
+    let cast = Cast::new(rt.alloc()).expect(&rt, "the cast");
     for row in &ROWS {
-        assert!(rt; leaves(&rt, rt.alloc(), &cast, *row)?);
+        assert!(rt; leaves(&rt, rt.alloc(), &cast, *row));
     }
-    assert!(rt; each_editor_writes(&rt, rt.alloc(), &cast)?);
-    Ok(())
+    assert!(rt; each_editor_writes(&rt, rt.alloc(), &cast));
 }

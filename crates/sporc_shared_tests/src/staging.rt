@@ -14,8 +14,8 @@ use sporc_samples::{Cast, History};
 use sporc_script::{EditorScript, MAX_EDITORS, read_editor};
 use sporc_shared::{Pass, SessionFault, SharedClient, session};
 use std::alloc::Global;
+use std::process::Abort;
 use std::sync::Wait;
-use std::test::Fail;
 use std::thread::Threads;
 
 /// How a session ended.
@@ -94,54 +94,51 @@ fn deed_of(event: &Event) -> Deed {
     }
 }
 
-fn deeds(alloc: Global, journal: &[Event]) -> Result<Vec<Deed>, Fail> {
+fn deeds(rt: &impl Abort, alloc: Global, journal: &[Event]) -> Vec<Deed> {
     let mut deeds = Vec::new(alloc);
     for event in journal {
-        deeds.push(deed_of(event))?;
+        deeds.push(deed_of(event)).expect(rt, "memory");
     }
-    Ok(deeds)
+    deeds
 }
 
 fn left_by<D: LeafDisk>(
+    rt: &impl Abort,
     alloc: Global,
     client: &Client<D>,
     answer: Answer,
-) -> Result<Outcome, Fail> {
-    let deeds = deeds(alloc, client.journal())?;
-    let text = client.shown()?;
-    Ok(Outcome {
+) -> Outcome {
+    let deeds = deeds(rt, alloc, client.journal());
+    let text = client.shown().expect(rt, "a text");
+    Outcome {
         answer,
         text,
         deeds,
-    })
+    }
 }
 
 /// Closes a client.
 pub(crate) fn closed<D: LeafDisk + Drop>(
+    rt: &impl Abort,
     alloc: Global,
     shared: SharedClient<D>,
     first: Pass,
     answer: Answer,
-) -> Result<Outcome, Fail>
+) -> Outcome
     requires lock { IsPassOf shared first }
     requires first { (known_of first).number ≡ 0 }
 {
-    match shared.close(first) {
-        Ok(client) => {
-            let outcome = left_by(alloc, &client, answer);
-            drop(client);
-            outcome
-        }
-        Err(away) => {
-            drop(away);
-            Err("a pass is away".into())
-        }
-    }
+    let Ok(client) = shared.close(first) else {
+        panic!(rt; "a pass is away");
+    };
+    let outcome = left_by(rt, alloc, &client, answer);
+    drop(client);
+    outcome
 }
 
 // Runs a session, and closes the client.
 fn run<
-    R: Threads + Wait + Sync,
+    R: Abort + Threads + Wait + Sync,
     D: LeafDisk + Send + Drop,
     L: Link + Send,
     C: Chance + Send,
@@ -155,7 +152,7 @@ fn run<
     editors: &[EditorScript],
     plan: Plan,
     gate: &G,
-) -> Result<Outcome, Fail>
+) -> Outcome
     requires { length editors.now ≤ MAX_EDITORS }
 {
     let Plan { rounds, until } = plan;
@@ -164,17 +161,14 @@ fn run<
             let (answer, first) = session(
                 rt, alloc, &shared, first, link, chance, editors, rounds, until, gate,
             );
-            closed(alloc, shared, first, answer)
+            closed(rt, alloc, shared, first, answer)
         }
-        Err((client, memory)) => {
-            drop(client);
-            Err(memory.into())
-        }
+        Err(_) => panic!(rt; "memory"),
     }
 }
 
 // A session over a link.
-fn over<R: Threads + Wait + Sync, L: Link + Send, G: Gate + Sync>(
+fn over<R: Abort + Threads + Wait + Sync, L: Link + Send, G: Gate + Sync>(
     rt: &R,
     alloc: Global,
     cast: &Cast,
@@ -183,7 +177,7 @@ fn over<R: Threads + Wait + Sync, L: Link + Send, G: Gate + Sync>(
     editors: &[EditorScript],
     plan: Plan,
     gate: &G,
-) -> Result<Outcome, Fail>
+) -> Outcome
     requires { length editors.now ≤ MAX_EDITORS }
 {
     let Start {
@@ -193,21 +187,21 @@ fn over<R: Threads + Wait + Sync, L: Link + Send, G: Gate + Sync>(
         chance,
         ..
     } = start;
-    let mut chance = words(alloc, chance)?;
-    let client = lived(alloc, cast, member, file, past)?;
+    let mut chance = words(rt, alloc, chance);
+    let client = lived(rt, alloc, cast, member, file, past);
     let client = Box::into_inner(client);
     run(rt, alloc, client, link, &mut chance, editors, plan, gate)
 }
 
 /// A session of two rounds with a server that sends these bytes. How it ends.
-pub(crate) fn heard<R: Threads + Wait + Sync>(
+pub(crate) fn heard<R: Abort + Threads + Wait + Sync>(
     rt: &R,
     alloc: Global,
     cast: &Cast,
     start: Start<'_>,
     sent: &[u8],
-) -> Result<Answer, Fail> {
-    let mut link = listed_link(alloc, sent, 3, &[])?;
+) -> Answer {
+    let mut link = listed_link(rt, alloc, sent, 3, &[]);
     let outcome = over(
         rt,
         alloc,
@@ -217,12 +211,12 @@ pub(crate) fn heard<R: Threads + Wait + Sync>(
         &[],
         TWO_ROUNDS,
         &OpenGate,
-    )?;
-    Ok(outcome.answer)
+    );
+    outcome.answer
 }
 
 /// A session with an order that has the entries of a history, beside these editors.
-pub(crate) fn held<R: Threads + Wait + Sync, G: Gate + Sync>(
+pub(crate) fn held<R: Abort + Threads + Wait + Sync, G: Gate + Sync>(
     rt: &R,
     alloc: Global,
     cast: &Cast,
@@ -231,40 +225,40 @@ pub(crate) fn held<R: Threads + Wait + Sync, G: Gate + Sync>(
     editors: &[EditorScript],
     plan: Plan,
     gate: &G,
-) -> Result<Outcome, Fail> {
-    if editors.len() > MAX_EDITORS {
-        return Err("too many editors".into());
-    }
-    let mut link = order_link(alloc, cast, start.link, sample)?;
+) -> Outcome {
+    assert!(rt; editors.len() <= MAX_EDITORS, "too many editors");
+    let mut link = order_link(rt, alloc, cast, start.link, sample);
     let outcome = over(rt, alloc, cast, start, &mut *link, editors, plan, gate);
     drop(link);
     outcome
 }
 
 // An order that has the entries of a history.
-fn order_of(alloc: Global, cast: &Cast, sample: &History) -> Result<Box<Order>, Fail> {
-    let order = Order::open(alloc, cast.genesis(alloc)?)?;
-    let mut order = Box::new(alloc, order)?;
+fn order_of(rt: &impl Abort, alloc: Global, cast: &Cast, sample: &History) -> Box<Order> {
+    let genesis = cast.genesis(alloc).expect(rt, "a genesis");
+    let order = Order::open(alloc, genesis).expect(rt, "memory");
+    let mut order = Box::new(alloc, order).expect(rt, "memory");
     for entry in sample.entries() {
-        order.submit(entry.as_slice())?;
+        order.submit(entry.as_slice()).expect(rt, "an entry");
     }
-    Ok(order)
+    order
 }
 
 // A link to an order that has the entries of a history. It is in a box, so that a function that owns it is quick to prove.
 fn order_link(
+    rt: &impl Abort,
     alloc: Global,
     cast: &Cast,
     failing: &[u64],
     sample: &History,
-) -> Result<Box<OrderLink>, Fail> {
-    let calls = calls(alloc, failing)?;
-    let order = order_of(alloc, cast, sample)?;
-    Ok(Box::new(alloc, OrderLink::new(alloc, order, calls))?)
+) -> Box<OrderLink> {
+    let calls = calls(rt, alloc, failing);
+    let order = order_of(rt, alloc, cast, sample);
+    Box::new(alloc, OrderLink::new(alloc, order, calls)).expect(rt, "memory")
 }
 
 /// A session with an order that has no entries, where so many editors have these lines each.
-pub(crate) fn written<R: Threads + Wait + Sync>(
+pub(crate) fn written<R: Abort + Threads + Wait + Sync>(
     rt: &R,
     alloc: Global,
     cast: &Cast,
@@ -272,9 +266,9 @@ pub(crate) fn written<R: Threads + Wait + Sync>(
     editors: u32,
     lines: &str,
     plan: Plan,
-) -> Result<Outcome, Fail> {
-    let sample = no_entries(alloc, cast)?;
-    let editors = scripts(alloc, editors, lines)?;
+) -> Outcome {
+    let sample = no_entries(rt, alloc, cast);
+    let editors = scripts(rt, alloc, editors, lines);
     held(
         rt,
         alloc,
@@ -288,22 +282,26 @@ pub(crate) fn written<R: Threads + Wait + Sync>(
 }
 
 // Twenty words. The calls with these numbers fail.
-fn words(alloc: Global, failing: &[u64]) -> Result<ListedChance, Fail> {
+fn words(rt: &impl Abort, alloc: Global, failing: &[u64]) -> ListedChance {
     let mut words = Vec::new(alloc);
     for number in 0..20u8 {
-        words.push([number; 32])?;
+        words.push([number; 32]).expect(rt, "memory");
     }
-    Ok(ListedChance::new(words, calls(alloc, failing)?))
+    ListedChance::new(words, calls(rt, alloc, failing))
 }
 
 /// A script of these lines for each of so many editors.
-pub(crate) fn scripts(alloc: Global, editors: u32, lines: &str) -> Result<Vec<EditorScript>, Fail> {
-    if lines.len() > 1_000_000 {
-        return Err("too long".into());
-    }
+pub(crate) fn scripts(
+    rt: &impl Abort,
+    alloc: Global,
+    editors: u32,
+    lines: &str,
+) -> Vec<EditorScript> {
+    assert!(rt; lines.len() <= 1_000_000, "too long");
     let mut scripts = Vec::new(alloc);
     for _ in 0..editors {
-        scripts.push(read_editor(alloc, lines.as_bytes())?)?;
+        let script = read_editor(alloc, lines.as_bytes()).expect(rt, "a script");
+        scripts.push(script).expect(rt, "memory");
     }
-    Ok(scripts)
+    scripts
 }

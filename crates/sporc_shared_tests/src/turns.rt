@@ -6,7 +6,6 @@ use crate::work::{add_number, opened, tally_of};
 use sporc_turn::{Pass, Turn};
 use std::process::Abort;
 use std::sync::Wait;
-use std::test::Fail;
 
 // How often each thread adds its number.
 const ROUNDS: u32 = 1000;
@@ -26,12 +25,11 @@ fn have_added(rt: &impl Abort, tally: &Tally, threads: u32) {
 }
 
 #[test]
-fn each_thread_adds_as_often(rt: HostRuntime) -> Result<(), Fail> {
+fn each_thread_adds_as_often(rt: HostRuntime) {
     for threads in &THREADS {
-        let tally = tally_of(&rt, rt.alloc(), *threads, ROUNDS).ok_or("not closed")?;
+        let tally = tally_of(&rt, rt.alloc(), *threads, ROUNDS);
         have_added(&rt, &tally, *threads);
     }
-    Ok(())
 }
 
 // A lock stays open while its second pass is away, and closes when that is joined back.
@@ -52,10 +50,9 @@ fn stays_open<R: Abort + Wait>(rt: &R, turn: Turn<Tally>, first: Pass<u32>, seco
 }
 
 #[test]
-fn a_lock_whose_pass_is_away_stays_open(rt: HostRuntime) -> Result<(), Fail> {
-    let (turn, first, second) = opened(rt.alloc()).ok_or("no memory")?;
+fn a_lock_whose_pass_is_away_stays_open(rt: HostRuntime) {
+    let (turn, first, second) = opened(&rt, rt.alloc());
     stays_open(&rt, turn, first, second);
-    Ok(())
 }
 
 // News of a lock are told to its first pass while the second holds the value.
@@ -74,8 +71,7 @@ fn are_told<R: Abort + Wait>(rt: &R, turn: &Turn<Tally>, first: Pass<u32>, secon
 }
 
 #[test]
-fn news_wait_for_nobody(rt: HostRuntime) -> Result<(), Fail> {
-    let (turn, first, second) = opened(rt.alloc()).ok_or("no memory")?;
+fn news_wait_for_nobody(rt: HostRuntime) {
+    let (turn, first, second) = opened(&rt, rt.alloc());
     are_told(&rt, &turn, first, second);
-    Ok(())
 }

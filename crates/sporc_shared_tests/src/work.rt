@@ -1,10 +1,11 @@
-ghost use Rattle.std.specs.Prelude.{◌≡◌, ◌+◌, ◌-◌, ◌<◌, ◌^◌, [], ◌∷◌, ◌++◌, IfSome, MatchBool};
+ghost use Rattle.std.specs.Prelude.{◌≡◌, ◌+◌, ◌-◌, ◌<◌, ◌^◌, [], ◌∷◌, ◌++◌, MatchBool};
 ghost use Rattle.std.specs.Thread.{IsSync};
 ghost use Rattle.sporc_turn.specs.Passes.{IsPassOf, IsSameTurn, known_of, value_of};
 
 use crate::tally::Tally;
 use sporc_turn::{Held, Pass, Turn};
 use std::alloc::Global;
+use std::process::Abort;
 use std::sync::Wait;
 use std::thread::{Threads, join};
 
@@ -81,23 +82,29 @@ fn crowd<R: Threads + Wait + Sync>(
 }
 
 /// What so many threads add, each so many times.
-pub fn tally_of<R: Threads + Wait + Sync>(
+pub fn tally_of<R: Abort + Threads + Wait + Sync>(
     rt: &R,
     alloc: Global,
     threads: u32,
     rounds: u32,
-) -> Option<Tally> {
-    let (turn, first) = Turn::open(alloc, Tally::new(alloc)).ok()?;
+) -> Tally {
+    let Ok((turn, first)) = Turn::open(alloc, Tally::new(alloc)) else {
+        panic!(rt; "memory");
+    };
     let first = crowd(rt, &turn, first, threads.saturating_sub(1), rounds);
-    turn.close(first).ok()
+    turn.close(first).ok().expect(rt, "the tally")
 }
 
 /// A lock with two passes.
-pub fn opened(alloc: Global) -> Option<(Turn<Tally>, Pass<u32>, Pass<u32>)>
-    ensures lock { IfSome result (λ t. IsPassOf t.0 t.1 × IsPassOf t.0 t.2) }
-    ensures numbers { IfSome result (λ t. ((known_of t.1).number ≡ 0) × ((known_of t.2).number ≡ 1)) }
+pub fn opened(rt: &impl Abort, alloc: Global) -> (Turn<Tally>, Pass<u32>, Pass<u32>)
+    ensures lock { IsPassOf result.0 result.1 × IsPassOf result.0 result.2 }
+    ensures numbers { ((known_of result.1).number ≡ 0) × ((known_of result.2).number ≡ 1) }
 {
-    let (turn, first) = Turn::open(alloc, Tally::new(alloc)).ok()?;
-    let (first, second) = turn.split(first).ok()?;
-    Some((turn, first, second))
+    let Ok((turn, first)) = Turn::open(alloc, Tally::new(alloc)) else {
+        panic!(rt; "memory");
+    };
+    let Ok((first, second)) = turn.split(first) else {
+        panic!(rt; "memory");
+    };
+    (turn, first, second)
 }
