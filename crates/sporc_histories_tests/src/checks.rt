@@ -8,7 +8,6 @@ use sporc_histories::check;
 use sporc_samples::{Cast, History};
 use std::alloc::Global;
 use std::process::Abort;
-use std::test::Fail;
 
 // Member 2 examines its history.
 fn examines(
@@ -32,27 +31,20 @@ fn examined(
     history: &[u8],
     answer: Result<(), Fault>,
     line: &[u8],
-) -> Result<(), Fail> {
-    let mut files = Files::of_member(alloc, cast)?;
-    files.add(alloc, "D.2.history", history)?;
-    let mut room = files.room(alloc, 0)?;
+) {
+    let mut files = Files::of_member(rt, alloc, cast);
+    files.add(rt, alloc, "D.2.history", history);
+    let mut room = files.room(rt, alloc, 0);
     examines(rt, alloc, &mut room, answer, line);
-    Ok(())
 }
 
 // The first three entries, whole and without the last byte. The last one stands at this place.
-fn three_entries(
-    rt: &impl Abort,
-    alloc: Global,
-    cast: &Cast,
-    three: &[Vec<u8>],
-    last: usize,
-) -> Result<(), Fail> {
-    let mut file = history_file(rt, alloc, three)?;
-    examined(rt, alloc, cast, file.as_slice(), Ok(()), b"checked 3\n")?;
+fn three_entries(rt: &impl Abort, alloc: Global, cast: &Cast, three: &[Vec<u8>], last: usize) {
+    let mut file = history_file(rt, alloc, three);
+    examined(rt, alloc, cast, file.as_slice(), Ok(()), b"checked 3\n");
     file.pop();
     let cut = Fault::Malformed(File::History(2), last.saturating_add(4) as u64);
-    examined(rt, alloc, cast, file.as_slice(), Err(cut), b"")
+    examined(rt, alloc, cast, file.as_slice(), Err(cut), b"");
 }
 
 // This byte of the file of these entries has another bit.
@@ -63,60 +55,42 @@ fn spoilt(
     three: &[Vec<u8>],
     place: usize,
     fault: Fault,
-) -> Result<(), Fail> {
-    let mut file = history_file(rt, alloc, three)?;
+) {
+    let mut file = history_file(rt, alloc, three);
     if let Some(byte) = file.get_mut(place) {
         *byte ^= 1;
     }
-    examined(rt, alloc, cast, file.as_slice(), Err(fault), b"")
+    examined(rt, alloc, cast, file.as_slice(), Err(fault), b"");
 }
 
 // With a bit of the second signature turned, and of another document.
-fn spoilt_entries(
-    rt: &impl Abort,
-    alloc: Global,
-    cast: &Cast,
-    three: &[Vec<u8>],
-    last: usize,
-) -> Result<(), Fail> {
+fn spoilt_entries(rt: &impl Abort, alloc: Global, cast: &Cast, three: &[Vec<u8>], last: usize) {
     let refused = Fault::Refused(2, Refusal::BadSignature);
-    spoilt(rt, alloc, cast, three, last.saturating_sub(1), refused)?;
+    spoilt(rt, alloc, cast, three, last.saturating_sub(1), refused);
     let foreign = Fault::Malformed(File::History(2), 0);
-    spoilt(rt, alloc, cast, three, 4, foreign)
+    spoilt(rt, alloc, cast, three, 4, foreign);
 }
 
 // There is no history, and this call of the folder fails.
-fn failing(
-    rt: &impl Abort,
-    alloc: Global,
-    cast: &Cast,
-    call: u64,
-    fault: Fault,
-) -> Result<(), Fail> {
-    let mut room = Files::of_member(alloc, cast)?.room(alloc, call)?;
+fn failing(rt: &impl Abort, alloc: Global, cast: &Cast, call: u64, fault: Fault) {
+    let mut room = Files::of_member(rt, alloc, cast).room(rt, alloc, call);
     examines(rt, alloc, &mut room, Err(fault), b"");
-    Ok(())
 }
 
 // The fourth call looks for the history, and there is no fifth.
-fn each_failing_call_is_told(rt: &impl Abort, alloc: Global, cast: &Cast) -> Result<(), Fail> {
+fn each_failing_call_is_told(rt: &impl Abort, alloc: Global, cast: &Cast) {
     for call in 1..=4 {
-        failing(rt, alloc, cast, call, Fault::Outside)?;
+        failing(rt, alloc, cast, call, Fault::Outside);
     }
-    failing(rt, alloc, cast, 5, Fault::Missing(File::History(2)))
+    failing(rt, alloc, cast, 5, Fault::Missing(File::History(2)));
 }
 
 /// A history is examined, and a folder's failing call is told.
-pub fn histories_are_examined(
-    rt: &impl Abort,
-    alloc: Global,
-    cast: &Cast,
-    sample: &History,
-) -> Result<(), Fail> {
-    let three = sample.entries().get(..3).ok_or("three entries")?;
-    let two = three.get(..2).ok_or("two entries")?;
+pub fn histories_are_examined(rt: &impl Abort, alloc: Global, cast: &Cast, sample: &History) {
+    let three = sample.entries().get(..3).expect(rt, "three entries");
+    let two = three.get(..2).expect(rt, "two entries");
     let last = place_behind(two);
-    three_entries(rt, alloc, cast, three, last)?;
-    spoilt_entries(rt, alloc, cast, three, last)?;
-    each_failing_call_is_told(rt, alloc, cast)
+    three_entries(rt, alloc, cast, three, last);
+    spoilt_entries(rt, alloc, cast, three, last);
+    each_failing_call_is_told(rt, alloc, cast);
 }

@@ -7,7 +7,6 @@ use sporc_histories::compare;
 use sporc_samples::{Cast, History, forked_history};
 use std::alloc::Global;
 use std::process::Abort;
-use std::test::Fail;
 
 // A folder with the histories of members 1 and 2.
 fn two_histories(
@@ -16,19 +15,21 @@ fn two_histories(
     cast: &Cast,
     first: &[Vec<u8>],
     second: &[Vec<u8>],
-) -> Result<Room, Fail> {
-    let mut files = Files::new(alloc, cast)?;
+) -> Room {
+    let mut files = Files::new(rt, alloc, cast);
     files.add(
+        rt,
         alloc,
         "D.1.history",
-        history_file(rt, alloc, first)?.as_slice(),
-    )?;
+        history_file(rt, alloc, first).as_slice(),
+    );
     files.add(
+        rt,
         alloc,
         "D.2.history",
-        history_file(rt, alloc, second)?.as_slice(),
-    )?;
-    files.room(alloc, 0)
+        history_file(rt, alloc, second).as_slice(),
+    );
+    files.room(rt, alloc, 0)
 }
 
 // The line of what the histories of members 1 and 2 have in common.
@@ -39,39 +40,26 @@ fn compared(
     first: &[Vec<u8>],
     second: &[Vec<u8>],
     line: &[u8],
-) -> Result<(), Fail> {
-    let mut room = two_histories(rt, alloc, cast, first, second)?;
+) {
+    let mut room = two_histories(rt, alloc, cast, first, second);
     let names = Names::of_document("D");
     let answer = compare(alloc, &mut *room.folder, &mut *room.out, &names, 1, 2);
     assert!(rt; answer == Ok(()));
     assert!(rt; is_same(room.out.as_slice(), line));
-    Ok(())
 }
 
 // A history of four entries, its first three, and another one that begins with these.
-fn histories(
-    rt: &impl Abort,
-    alloc: Global,
-    cast: &Cast,
-    four: &[Vec<u8>],
-    fork: &[Vec<u8>],
-) -> Result<(), Fail> {
-    let three = four.get(..3).ok_or("three entries")?;
-    compared(rt, alloc, cast, three, three, b"1 2 same\n")?;
-    compared(rt, alloc, cast, three, four, b"1 2 prefix\n")?;
-    compared(rt, alloc, cast, four, three, b"1 2 longer\n")?;
-    compared(rt, alloc, cast, four, fork, b"1 2 forked after 3\n")
+fn histories(rt: &impl Abort, alloc: Global, cast: &Cast, four: &[Vec<u8>], fork: &[Vec<u8>]) {
+    let three = four.get(..3).expect(rt, "three entries");
+    compared(rt, alloc, cast, three, three, b"1 2 same\n");
+    compared(rt, alloc, cast, three, four, b"1 2 prefix\n");
+    compared(rt, alloc, cast, four, three, b"1 2 longer\n");
+    compared(rt, alloc, cast, four, fork, b"1 2 forked after 3\n");
 }
 
 /// Histories are compared.
-pub fn histories_are_compared(
-    rt: &impl Abort,
-    alloc: Global,
-    cast: &Cast,
-    sample: &History,
-) -> Result<(), Fail> {
-    let fork = forked_history(alloc, cast)?;
-    let outcome = histories(rt, alloc, cast, sample.entries(), fork.entries());
+pub fn histories_are_compared(rt: &impl Abort, alloc: Global, cast: &Cast, sample: &History) {
+    let fork = forked_history(alloc, cast).expect(rt, "a history");
+    histories(rt, alloc, cast, sample.entries(), fork.entries());
     drop(fork);
-    outcome
 }

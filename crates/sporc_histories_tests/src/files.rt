@@ -6,7 +6,6 @@ use sporc_samples::DOCUMENT;
 use sporc_store::{Stop, read_saved};
 use std::alloc::Global;
 use std::process::Abort;
-use std::test::Fail;
 
 // The file of the entries "ab" and "c": the format, the document, the number of entries, and each entry behind its length.
 const FILE: &str = "5350483107070707070707070707070707070707000000020000000261620000000163";
@@ -53,85 +52,73 @@ fn are_first(entries: &[Vec<u8>]) -> bool {
 }
 
 // What is read of a file: so many of the two entries, and where reading stops.
-fn reads(rt: &impl Abort, alloc: Global, file: &[u8], len: usize, stop: Stop) -> Result<(), Fail> {
-    let (entries, found) = read_saved(alloc, &DOCUMENT, file)?;
+fn reads(rt: &impl Abort, alloc: Global, file: &[u8], len: usize, stop: Stop) {
+    let (entries, found) = read_saved(alloc, &DOCUMENT, file).expect(rt, "memory");
     assert!(rt; found == stop);
     assert!(rt; entries.len() == len && are_first(entries.as_slice()));
-    Ok(())
 }
 
-fn two_entries(alloc: Global) -> Result<Vec<Vec<u8>>, Fail> {
+fn two_entries(rt: &impl Abort, alloc: Global) -> Vec<Vec<u8>> {
     let mut entries = Vec::new(alloc);
-    entries.push(Vec::from_slice(alloc, b"ab")?)?;
-    entries.push(Vec::from_slice(alloc, b"c")?)?;
-    Ok(entries)
+    entries
+        .push(Vec::from_slice(alloc, b"ab").expect(rt, "memory"))
+        .expect(rt, "memory");
+    entries
+        .push(Vec::from_slice(alloc, b"c").expect(rt, "memory"))
+        .expect(rt, "memory");
+    entries
 }
 
-fn is_saved(rt: &impl Abort, alloc: Global, entries: &[Vec<u8>], file: &[u8]) -> Result<(), Fail> {
-    let saved = history_file(rt, alloc, entries)?;
+fn is_saved(rt: &impl Abort, alloc: Global, entries: &[Vec<u8>], file: &[u8]) {
+    let saved = history_file(rt, alloc, entries);
     assert!(rt; is_same(saved.as_slice(), file));
-    Ok(())
 }
 
-fn two_are_saved(rt: &impl Abort, alloc: Global, file: &[u8]) -> Result<(), Fail> {
-    let entries = two_entries(alloc)?;
-    is_saved(rt, alloc, entries.as_slice(), file)
+fn two_are_saved(rt: &impl Abort, alloc: Global, file: &[u8]) {
+    let entries = two_entries(rt, alloc);
+    is_saved(rt, alloc, entries.as_slice(), file);
 }
 
-fn is_cut(
-    rt: &impl Abort,
-    alloc: Global,
-    file: &[u8],
-    row: &(usize, usize, usize, Stop),
-) -> Result<(), Fail> {
+fn is_cut(rt: &impl Abort, alloc: Global, file: &[u8], row: &(usize, usize, usize, Stop)) {
     let (from, to, entries, stop) = *row;
     for len in from..to {
-        let part = file.get(..len).ok_or("the file is shorter")?;
-        reads(rt, alloc, part, entries, stop)?;
+        let part = file.get(..len).expect(rt, "a part");
+        reads(rt, alloc, part, entries, stop);
     }
-    Ok(())
 }
 
 // It is cut at each byte, and then one follows.
-fn has_another_length(rt: &impl Abort, alloc: Global, file: &mut Vec<u8>) -> Result<(), Fail> {
+fn has_another_length(rt: &impl Abort, alloc: Global, file: &mut Vec<u8>) {
     for row in &CUTS {
-        is_cut(rt, alloc, file.as_slice(), row)?;
+        is_cut(rt, alloc, file.as_slice(), row);
     }
-    file.push(0)?;
-    reads(rt, alloc, file.as_slice(), 2, Stop::Cut(35))
+    file.push(0).expect(rt, "memory");
+    reads(rt, alloc, file.as_slice(), 2, Stop::Cut(35));
 }
 
-fn changed(
-    rt: &impl Abort,
-    alloc: Global,
-    place: usize,
-    field: &[u8],
-    entries: usize,
-    stop: Stop,
-) -> Result<(), Fail> {
-    let mut file = hex::decode(alloc, FILE)?;
+fn changed(rt: &impl Abort, alloc: Global, place: usize, field: &[u8], entries: usize, stop: Stop) {
+    let mut file = hex::decode(alloc, FILE).expect(rt, "bytes");
     assert!(rt; place < 64);
     assert!(rt; field.len() < 64);
     assert!(rt; place + field.len() <= file.len());
     put_at(file.as_mut_slice(), place, field);
-    reads(rt, alloc, file.as_slice(), entries, stop)
+    reads(rt, alloc, file.as_slice(), entries, stop);
 }
 
 // A byte is changed, or another number of entries stated.
-fn has_changed_fields(rt: &impl Abort, alloc: Global) -> Result<(), Fail> {
+fn has_changed_fields(rt: &impl Abort, alloc: Global) {
     for (place, byte, entries, stop) in &CHANGES {
-        changed(rt, alloc, *place, &[*byte], *entries, *stop)?;
+        changed(rt, alloc, *place, &[*byte], *entries, *stop);
     }
     for (count, entries, stop) in &COUNTS {
-        changed(rt, alloc, 20, &count.to_be_bytes(), *entries, *stop)?;
+        changed(rt, alloc, 20, &count.to_be_bytes(), *entries, *stop);
     }
-    Ok(())
 }
 
 #[test]
-fn a_file_is_saved_and_read(rt: HostRuntime) -> Result<(), Fail> {
-    has_changed_fields(&rt, rt.alloc())?;
-    let mut file = hex::decode(rt.alloc(), FILE)?;
-    two_are_saved(&rt, rt.alloc(), file.as_slice())?;
-    has_another_length(&rt, rt.alloc(), &mut file)
+fn a_file_is_saved_and_read(rt: HostRuntime) {
+    has_changed_fields(&rt, rt.alloc());
+    let mut file = hex::decode(rt.alloc(), FILE).expect(&rt, "bytes");
+    two_are_saved(&rt, rt.alloc(), file.as_slice());
+    has_another_length(&rt, rt.alloc(), &mut file);
 }

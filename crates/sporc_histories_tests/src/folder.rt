@@ -7,7 +7,6 @@ use sporc_samples::{Cast, DOCUMENT, epoch_key, pair_key};
 use sporc_store::save;
 use std::alloc::Global;
 use std::process::Abort;
-use std::test::Fail;
 
 /// The files of a document `D`.
 #[derive(Drop)]
@@ -24,68 +23,73 @@ pub struct Room {
 
 impl Files {
     /// The genesis alone.
-    pub fn new(alloc: Global, cast: &Cast) -> Result<Files, Fail> {
+    pub fn new(rt: &impl Abort, alloc: Global, cast: &Cast) -> Files {
         let mut files = Files {
             files: Vec::new(alloc),
         };
-        let genesis = genesis(alloc, cast)?;
-        files.add(alloc, "D.genesis", genesis.as_slice())?;
-        Ok(files)
+        let genesis = genesis(rt, alloc, cast);
+        files.add(rt, alloc, "D.genesis", genesis.as_slice());
+        files
     }
 
     /// The genesis, and the key and the ring of member 2.
-    pub fn of_member(alloc: Global, cast: &Cast) -> Result<Files, Fail> {
-        let mut files = Files::new(alloc, cast)?;
-        files.add(alloc, "D.2.key", key_file(alloc)?.as_slice())?;
-        files.add(alloc, "D.2.ring", ring_file(alloc)?.as_slice())?;
-        Ok(files)
+    pub fn of_member(rt: &impl Abort, alloc: Global, cast: &Cast) -> Files {
+        let mut files = Files::new(rt, alloc, cast);
+        files.add(rt, alloc, "D.2.key", key_file(rt, alloc).as_slice());
+        files.add(rt, alloc, "D.2.ring", ring_file(rt, alloc).as_slice());
+        files
     }
 
     /// One file more.
-    pub fn add(&mut self, alloc: Global, name: &str, bytes: &[u8]) -> Result<(), Fail> {
-        let name = DiskBytes::new(Vec::from_slice(alloc, name.as_bytes())?);
-        let bytes = DiskBytes::new(Vec::from_slice(alloc, bytes)?);
-        self.files.push(NamedFile { name, bytes })?;
-        Ok(())
+    pub fn add(&mut self, rt: &impl Abort, alloc: Global, name: &str, bytes: &[u8]) {
+        let name = DiskBytes::new(Vec::from_slice(alloc, name.as_bytes()).expect(rt, "memory"));
+        let bytes = DiskBytes::new(Vec::from_slice(alloc, bytes).expect(rt, "memory"));
+        self.files
+            .push(NamedFile { name, bytes })
+            .expect(rt, "memory");
     }
 
     /// A folder with these files, and an empty sink. This call of the folder fails, counted from 1; with 0 none does.
-    pub fn room(self, alloc: Global, failing: u64) -> Result<Room, Fail> {
-        let calls = Calls::failing(vec![in alloc; failing]?);
-        let folder = Box::new(alloc, MemoryFolder::new(alloc, self.files, calls))?;
+    pub fn room(self, rt: &impl Abort, alloc: Global, failing: u64) -> Room {
+        let calls = Calls::failing(vec![in alloc; failing].expect(rt, "memory"));
+        let folder = MemoryFolder::new(alloc, self.files, calls);
+        let folder = Box::new(alloc, folder).expect(rt, "memory");
         let out = MemorySink::new(alloc, 7, Calls::failing(Vec::new(alloc)));
-        let out = Box::new(alloc, out)?;
-        Ok(Room { folder, out })
+        let out = Box::new(alloc, out).expect(rt, "memory");
+        Room { folder, out }
     }
 }
 
-fn genesis(alloc: Global, cast: &Cast) -> Result<Vec<u8>, Fail> {
-    let genesis = cast.genesis(alloc)?;
-    Ok(write_genesis(alloc, &genesis)?)
+fn genesis(rt: &impl Abort, alloc: Global, cast: &Cast) -> Vec<u8> {
+    let genesis = cast.genesis(alloc).expect(rt, "a genesis");
+    write_genesis(alloc, &genesis).expect(rt, "a genesis")
 }
 
 // The key file of member 2 of the cast: a tree of height 5 with four bits a coefficient.
-fn key_file(alloc: Global) -> Result<Vec<u8>, Fail> {
-    let mut bytes = Vec::from_slice(alloc, b"SPK1\0\x02\0\0\0\x05\0\0\0\x03")?;
-    bytes.extend_from_slice(&[2; 16])?;
-    bytes.extend_from_slice(&[2; 32])?;
-    Ok(bytes)
+fn key_file(rt: &impl Abort, alloc: Global) -> Vec<u8> {
+    let mut bytes = Vec::from_slice(alloc, b"SPK1\0\x02\0\0\0\x05\0\0\0\x03").expect(rt, "memory");
+    bytes.extend_from_slice(&[2; 16]).expect(rt, "memory");
+    bytes.extend_from_slice(&[2; 32]).expect(rt, "memory");
+    bytes
 }
 
 // The ring file of member 2, who shares a key with the admin, and is a founder.
-fn ring_file(alloc: Global) -> Result<Vec<u8>, Fail> {
-    let mut bytes = Vec::from_slice(alloc, b"SPR1\0\x02\x01")?;
-    bytes.extend_from_slice(&epoch_key(0))?;
-    bytes.extend_from_slice(b"\0\x01\0\x01")?;
-    bytes.extend_from_slice(&pair_key(2, 1))?;
-    Ok(bytes)
+fn ring_file(rt: &impl Abort, alloc: Global) -> Vec<u8> {
+    let mut bytes = Vec::from_slice(alloc, b"SPR1\0\x02\x01").expect(rt, "memory");
+    bytes.extend_from_slice(&epoch_key(0)).expect(rt, "memory");
+    bytes
+        .extend_from_slice(b"\0\x01\0\x01")
+        .expect(rt, "memory");
+    bytes
+        .extend_from_slice(&pair_key(2, 1))
+        .expect(rt, "memory");
+    bytes
 }
 
 /// The file of these entries.
-pub fn history_file(rt: &impl Abort, alloc: Global, entries: &[Vec<u8>]) -> Result<Vec<u8>, Fail> {
+pub fn history_file(rt: &impl Abort, alloc: Global, entries: &[Vec<u8>]) -> Vec<u8> {
     assert!(rt; entries.len() <= MAX_ENTRIES as usize);
-    let file = save(alloc, &DOCUMENT, entries)?;
-    Ok(file)
+    save(alloc, &DOCUMENT, entries).expect(rt, "a file")
 }
 
 /// The place of the file behind its head and these entries.

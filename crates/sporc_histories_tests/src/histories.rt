@@ -8,34 +8,23 @@ use sporc_samples::{Cast, History, short_history};
 use std::alloc::Global;
 use std::process::Abort;
 use std::sync::Wait;
-use std::test::Fail;
 use std::thread::Threads;
 
-fn is_used<R: Threads + Wait + Sync + Abort>(
-    rt: &R,
-    alloc: Global,
-    cast: &Cast,
-    sample: &History,
-) -> Result<(), Fail> {
-    histories_are_loaded(rt, alloc, cast, sample)?;
-    histories_are_examined(rt, alloc, cast, sample)?;
-    histories_are_compared(rt, alloc, cast, sample)?;
-    logs_are_saved(rt, alloc, cast, sample)
+fn is_used<R: Threads + Wait + Sync + Abort>(rt: &R, alloc: Global, cast: &Cast, sample: &History) {
+    histories_are_loaded(rt, alloc, cast, sample);
+    histories_are_examined(rt, alloc, cast, sample);
+    histories_are_compared(rt, alloc, cast, sample);
+    logs_are_saved(rt, alloc, cast, sample);
 }
 
-fn short_history_is_used<R: Threads + Wait + Sync + Abort>(
-    rt: &R,
-    alloc: Global,
-    cast: &Cast,
-) -> Result<(), Fail> {
-    let sample = short_history(alloc, cast)?;
-    let outcome = is_used(rt, alloc, cast, &sample);
+fn short_history_is_used<R: Threads + Wait + Sync + Abort>(rt: &R, alloc: Global, cast: &Cast) {
+    let sample = short_history(alloc, cast).expect(rt, "a history");
+    is_used(rt, alloc, cast, &sample);
     drop(sample);
-    outcome
 }
 
 #[test]
-fn a_history_is_loaded_examined_compared_and_served(rt: HostRuntime) -> Result<(), Fail> {
-    let cast = Cast::new(rt.alloc())?;
-    short_history_is_used(&rt, rt.alloc(), &cast)
+fn a_history_is_loaded_examined_compared_and_served(rt: HostRuntime) {
+    let cast = Cast::new(rt.alloc()).expect(&rt, "a cast");
+    short_history_is_used(&rt, rt.alloc(), &cast);
 }

@@ -11,37 +11,38 @@ use sporc_samples::{Cast, History};
 use std::alloc::Global;
 use std::process::Abort;
 use std::sync::Wait;
-use std::test::Fail;
 use std::thread::Threads;
 
 // A client of the sample document that submits one entry.
-fn stream(alloc: Global, entry: &[u8]) -> Result<Vec<u8>, Fail> {
-    let mut stream = Vec::from_slice(alloc, b"\0\0\0\x13\x01")?;
-    stream.extend_from_slice(&[7; 16])?;
-    stream.extend_from_slice(b"\0\x02")?;
+fn stream(rt: &impl Abort, alloc: Global, entry: &[u8]) -> Vec<u8> {
+    let mut stream = Vec::from_slice(alloc, b"\0\0\0\x13\x01").expect(rt, "memory");
+    stream.extend_from_slice(&[7; 16]).expect(rt, "memory");
+    stream.extend_from_slice(b"\0\x02").expect(rt, "memory");
     let len = u32::try_from(entry.len().saturating_add(1)).unwrap_or(u32::MAX);
-    stream.extend_from_slice(&len.to_be_bytes())?;
-    stream.push(2)?;
-    stream.extend_from_slice(entry)?;
-    Ok(stream)
+    stream
+        .extend_from_slice(&len.to_be_bytes())
+        .expect(rt, "memory");
+    stream.push(2).expect(rt, "memory");
+    stream.extend_from_slice(entry).expect(rt, "memory");
+    stream
 }
 
 // A net with that client, in a box: a function that owns the net itself is slow to prove.
-fn net(alloc: Global, entry: &[u8]) -> Result<Box<MemoryNet>, Fail> {
-    let stream = stream(alloc, entry)?;
+fn net(rt: &impl Abort, alloc: Global, entry: &[u8]) -> Box<MemoryNet> {
+    let stream = stream(rt, alloc, entry);
     let link = MemoryLink::new(alloc, stream, 100, Calls::failing(Vec::new(alloc)));
-    let links = vec![in alloc; link]?;
+    let links = vec![in alloc; link].expect(rt, "memory");
     let net = MemoryNet::new(alloc, links, Calls::failing(Vec::new(alloc)));
-    Ok(Box::new(alloc, net)?)
+    Box::new(alloc, net).expect(rt, "memory")
 }
 
 // A folder with the log of these entries, if there are any.
-fn room(rt: &impl Abort, alloc: Global, cast: &Cast, log: &[Vec<u8>]) -> Result<Room, Fail> {
-    let mut files = Files::new(alloc, cast)?;
+fn room(rt: &impl Abort, alloc: Global, cast: &Cast, log: &[Vec<u8>]) -> Room {
+    let mut files = Files::new(rt, alloc, cast);
     if !log.is_empty() {
-        files.add(alloc, "D.log", history_file(rt, alloc, log)?.as_slice())?;
+        files.add(rt, alloc, "D.log", history_file(rt, alloc, log).as_slice());
     }
-    files.room(alloc, 0)
+    files.room(rt, alloc, 0)
 }
 
 // One session is served, and this line written.
@@ -69,13 +70,8 @@ fn is_served<R: Threads + Wait + Sync + Abort>(
 }
 
 // The file in a folder with the log's name is that of these entries.
-fn has_log(
-    rt: &impl Abort,
-    alloc: Global,
-    folder: &MemoryFolder,
-    entries: &[Vec<u8>],
-) -> Result<(), Fail> {
-    let log = history_file(rt, alloc, entries)?;
+fn has_log(rt: &impl Abort, alloc: Global, folder: &MemoryFolder, entries: &[Vec<u8>]) {
+    let log = history_file(rt, alloc, entries);
     let mut found = false;
     for file in folder.files() {
         if is_same(file.name.as_slice(), b"D.log") {
@@ -84,7 +80,6 @@ fn has_log(
         }
     }
     assert!(rt; found);
-    Ok(())
 }
 
 // One session that submits the entry behind these.
@@ -95,14 +90,14 @@ fn served<R: Threads + Wait + Sync + Abort>(
     sample: &History,
     before: usize,
     line: &[u8],
-) -> Result<(), Fail> {
-    let had = sample.entries().get(..before).ok_or("entries")?;
-    let entry = sample.entries().get(before).ok_or("an entry")?;
-    let all = sample.entries().get(..=before).ok_or("entries")?;
-    let mut net = net(alloc, entry.as_slice())?;
-    let mut room = room(rt, alloc, cast, had)?;
+) {
+    let had = sample.entries().get(..before).expect(rt, "entries");
+    let entry = sample.entries().get(before).expect(rt, "an entry");
+    let all = sample.entries().get(..=before).expect(rt, "entries");
+    let mut net = net(rt, alloc, entry.as_slice());
+    let mut room = room(rt, alloc, cast, had);
     is_served(rt, alloc, &mut room, &mut net, line);
-    has_log(rt, alloc, &room.folder, all)
+    has_log(rt, alloc, &room.folder, all);
 }
 
 /// A log that a session starts is saved, and one that a session continues.
@@ -111,7 +106,7 @@ pub fn logs_are_saved<R: Threads + Wait + Sync + Abort>(
     alloc: Global,
     cast: &Cast,
     sample: &History,
-) -> Result<(), Fail> {
-    served(rt, alloc, cast, sample, 0, b"log 1\n")?;
-    served(rt, alloc, cast, sample, 2, b"log 3\n")
+) {
+    served(rt, alloc, cast, sample, 0, b"log 1\n");
+    served(rt, alloc, cast, sample, 2, b"log 3\n");
 }
