@@ -4,36 +4,35 @@ use hex::FromHex;
 use sporc_base::put_at;
 use sporc_outside::{Calls, ListedChance};
 use std::alloc::Global;
-use std::test::Fail;
+use std::process::Abort;
 
 /// The words of a chance.
 pub type Words = Vec<[u8; 32]>;
 
 /// Appends the words of a key: its identifier with bytes behind it that no key has, and its seed.
-pub fn push_key(words: &mut Words, id: &str, seed: &str) -> Result<(), Fail> {
+pub fn push_key(rt: &impl Abort, words: &mut Words, id: &str, seed: &str) {
     let mut first = [0xff; 32];
-    put_at(&mut first, 0, &<[u8; 16]>::from_hex(id)?);
-    words.push(first)?;
-    words.push(<[u8; 32]>::from_hex(seed)?)?;
-    Ok(())
+    put_at(&mut first, 0, &<[u8; 16]>::from_hex(id).expect(rt, "bytes"));
+    words.push(first).expect(rt, "memory");
+    let seed = <[u8; 32]>::from_hex(seed).expect(rt, "bytes");
+    words.push(seed).expect(rt, "memory");
 }
 
 /// Appends eight words of bytes 1 to 8.
-pub fn push_eight(words: &mut Words) -> Result<(), Fail> {
+pub fn push_eight(rt: &impl Abort, words: &mut Words) {
     for byte in 1..9 {
-        words.push([byte; 32])?;
+        words.push([byte; 32]).expect(rt, "memory");
     }
-    Ok(())
 }
 
 /// Calls of which this one fails, counted from 1; with 0 none does.
-pub fn calls(alloc: Global, failing: u64) -> Result<Calls, Fail> {
-    let failing = vec![in alloc; failing]?;
-    Ok(Calls::failing(failing))
+pub fn calls(rt: &impl Abort, alloc: Global, failing: u64) -> Calls {
+    let failing = vec![in alloc; failing].expect(rt, "memory");
+    Calls::failing(failing)
 }
 
 /// A chance of which this call fails, in a box: a function that owns it itself is slow to prove.
-pub fn chance(alloc: Global, words: Words, failing: u64) -> Result<Box<ListedChance>, Fail> {
-    let chance = ListedChance::new(words, calls(alloc, failing)?);
-    Ok(Box::new(alloc, chance)?)
+pub fn chance(rt: &impl Abort, alloc: Global, words: Words, failing: u64) -> Box<ListedChance> {
+    let chance = ListedChance::new(words, calls(rt, alloc, failing));
+    Box::new(alloc, chance).expect(rt, "memory")
 }

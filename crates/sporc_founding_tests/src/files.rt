@@ -6,7 +6,6 @@ use sporc_files::{Fault, File, Names};
 use sporc_outside::{Calls, DiskBytes, MemorySink, NamedFile};
 use std::alloc::Global;
 use std::process::Abort;
-use std::test::Fail;
 
 /// The key file of member 1.
 pub const FIRST_KEY: &str =
@@ -59,31 +58,18 @@ const ASKED: [&str; 10] = [
     "D.3.ring",
 ];
 
-fn is_the_file(
-    rt: &impl Abort,
-    alloc: Global,
-    file: &NamedFile,
-    name: &str,
-    bytes: &str,
-) -> Result<(), Fail> {
-    let bytes = hex::decode(alloc, bytes)?;
+fn is_the_file(rt: &impl Abort, alloc: Global, file: &NamedFile, name: &str, bytes: &str) {
+    let bytes = hex::decode(alloc, bytes).expect(rt, "bytes");
     assert!(rt; is_same(file.name.as_slice(), name.as_bytes()));
     assert!(rt; is_same(file.bytes.as_slice(), bytes.as_slice()));
-    Ok(())
 }
 
 // These are so many of the files.
-fn are_the_files(
-    rt: &impl Abort,
-    alloc: Global,
-    files: &[NamedFile],
-    len: usize,
-) -> Result<(), Fail> {
+fn are_the_files(rt: &impl Abort, alloc: Global, files: &[NamedFile], len: usize) {
     assert!(rt; files.len() == len);
     for (file, (name, bytes)) in files.iter().zip(&FILES) {
-        is_the_file(rt, alloc, file, name, bytes)?;
+        is_the_file(rt, alloc, file, name, bytes);
     }
-    Ok(())
 }
 
 fn are_the_names(rt: &impl Abort, asked: &[DiskBytes]) {
@@ -99,26 +85,26 @@ fn is_told(rt: &impl Abort, alloc: Global, fault: Fault, line: &[u8]) {
     assert!(rt; is_same(sink.as_slice(), line));
 }
 
-fn all_are_made(rt: &impl Abort, alloc: Global) -> Result<(), Fail> {
-    let mut room = Room::new(alloc, Vec::new(alloc), NONE)?;
-    assert!(rt; room.make_all(alloc) == Ok(()));
+fn all_are_made(rt: &impl Abort, alloc: Global) {
+    let mut room = Room::new(rt, alloc, Vec::new(alloc), NONE);
+    assert!(rt; room.make_all(rt, alloc) == Ok(()));
     assert!(rt; is_same(room.sink.as_slice(), LINES.as_bytes()));
     are_the_names(rt, room.folder.asked());
-    are_the_files(rt, alloc, room.folder.files(), 8)
+    are_the_files(rt, alloc, room.folder.files(), 8);
 }
 
-fn key_is_made_once(rt: &impl Abort, alloc: Global) -> Result<(), Fail> {
+fn key_is_made_once(rt: &impl Abort, alloc: Global) {
     let exists = Fault::Exists(File::Key(1));
-    let mut room = Room::new(alloc, Vec::new(alloc), NONE)?;
-    assert!(rt; room.make_key(alloc, 1) == Ok(()));
-    assert!(rt; room.make_key(alloc, 1) == Err(exists));
+    let mut room = Room::new(rt, alloc, Vec::new(alloc), NONE);
+    assert!(rt; room.make_key(rt, alloc, 1) == Ok(()));
+    assert!(rt; room.make_key(rt, alloc, 1) == Err(exists));
     is_told(rt, alloc, exists, b"fault exists D.1.key\n");
-    are_the_files(rt, alloc, room.folder.files(), 2)
+    are_the_files(rt, alloc, room.folder.files(), 2);
 }
 
 // A key file is not overwritten.
 #[test]
-fn keys_and_a_document_are_made_once(rt: HostRuntime) -> Result<(), Fail> {
-    all_are_made(&rt, rt.alloc())?;
-    key_is_made_once(&rt, rt.alloc())
+fn keys_and_a_document_are_made_once(rt: HostRuntime) {
+    all_are_made(&rt, rt.alloc());
+    key_is_made_once(&rt, rt.alloc());
 }

@@ -14,7 +14,6 @@ use sporc_member::{Founder, Role};
 use sporc_outside::ListedChance;
 use std::alloc::Global;
 use std::process::Abort;
-use std::test::Fail;
 
 const fn key(byte: u8) -> LmsPublic {
     LmsPublic {
@@ -58,10 +57,10 @@ fn named() -> [Named; 3]
 }
 
 // Eight words of bytes 1 to 8. This call fails.
-fn eight_words(alloc: Global, failing: u64) -> Result<Box<ListedChance>, Fail> {
+fn eight_words(rt: &impl Abort, alloc: Global, failing: u64) -> Box<ListedChance> {
     let mut words = Vec::new(alloc);
-    push_eight(&mut words)?;
-    chance(alloc, words, failing)
+    push_eight(rt, &mut words);
+    chance(rt, alloc, words, failing)
 }
 
 fn is_founder(founder: &Founder, member: u16, role: Role, byte: u8) -> bool {
@@ -79,13 +78,11 @@ fn are_the_founders(founders: &[Founder]) -> bool {
     }
 }
 
-fn is_the_genesis(genesis: &Genesis) -> Result<bool, Fail> {
-    let commitment = <[u8; 32]>::from_hex(COMMITMENT)?;
-    Ok(
-        is_same(&genesis.document, &[1; 16])
-            && is_same(&genesis.commitment, &commitment)
-            && are_the_founders(genesis.founders.as_slice()),
-    )
+fn is_the_genesis(rt: &impl Abort, genesis: &Genesis) -> bool {
+    let commitment = <[u8; 32]>::from_hex(COMMITMENT).expect(rt, "bytes");
+    is_same(&genesis.document, &[1; 16])
+        && is_same(&genesis.commitment, &commitment)
+        && are_the_founders(genesis.founders.as_slice())
 }
 
 fn is_the_pair(pair: &PairKey, member: u16, byte: u8) -> bool {
@@ -129,42 +126,35 @@ fn are_the_rings(rings: &[RingFile]) -> bool {
     }
 }
 
-fn is_the_founding(rt: &impl Abort, founding: &Founding) -> Result<(), Fail> {
-    assert!(rt; is_the_genesis(&founding.genesis)?);
+fn is_the_founding(rt: &impl Abort, founding: &Founding) {
+    assert!(rt; is_the_genesis(rt, &founding.genesis));
     assert!(rt; are_the_rings(founding.rings.as_slice()));
-    Ok(())
 }
 
-fn three_found(rt: &impl Abort, alloc: Global) -> Result<(), Fail> {
-    let mut chance = eight_words(alloc, 0)?;
-    match found(alloc, &mut *chance, &named()) {
-        Ok(founding) => {
-            let outcome = is_the_founding(rt, &founding);
-            drop(founding);
-            outcome
-        }
-        Err(_) => Err("no founding".into()),
-    }
+fn three_found(rt: &impl Abort, alloc: Global) {
+    let mut chance = eight_words(rt, alloc, 0);
+    let founding = found(alloc, &mut *chance, &named()).expect(rt, "a founding");
+    is_the_founding(rt, &founding);
+    drop(founding);
 }
 
 // Whether three found nothing, since this call fails.
-fn is_refused(alloc: Global, call: u64) -> Result<bool, Fail> {
-    let mut chance = eight_words(alloc, call)?;
+fn is_refused(rt: &impl Abort, alloc: Global, call: u64) -> bool {
+    let mut chance = eight_words(rt, alloc, call);
     let found = found(alloc, &mut *chance, &named()).err();
-    Ok(found == Some(DrawFault::Chance))
+    found == Some(DrawFault::Chance)
 }
 
 // Three found a document, unless a call of the chance fails.
-fn three_found_a_document(rt: &impl Abort, alloc: Global) -> Result<(), Fail> {
-    three_found(rt, alloc)?;
+fn three_found_a_document(rt: &impl Abort, alloc: Global) {
+    three_found(rt, alloc);
     for call in 1..9 {
-        assert!(rt; is_refused(alloc, call)?);
+        assert!(rt; is_refused(rt, alloc, call));
     }
-    Ok(())
 }
 
 #[test]
-fn keys_and_a_document_are_made_of_words(rt: HostRuntime) -> Result<(), Fail> {
-    a_key_of_two_words(&rt, rt.alloc())?;
-    three_found_a_document(&rt, rt.alloc())
+fn keys_and_a_document_are_made_of_words(rt: HostRuntime) {
+    a_key_of_two_words(&rt, rt.alloc());
+    three_found_a_document(&rt, rt.alloc());
 }

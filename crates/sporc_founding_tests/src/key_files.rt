@@ -6,7 +6,6 @@ use sporc_base::is_same;
 use sporc_keys::{KeyFile, Malformed, key_of_member, read_key_file, write_key_file};
 use std::alloc::Global;
 use std::process::Abort;
-use std::test::Fail;
 
 // The format, the member, both types, `I` and `SEED`.
 const FILE: &str =
@@ -56,12 +55,12 @@ const OTHERS: [(usize, u8, u16, usize); 4] = [
 ];
 
 // The file with one byte changed.
-fn changed(alloc: Global, place: usize, byte: u8) -> Result<Vec<u8>, Fail> {
-    let mut file = hex::decode(alloc, FILE)?;
+fn changed(rt: &impl Abort, alloc: Global, place: usize, byte: u8) -> Vec<u8> {
+    let mut file = hex::decode(alloc, FILE).expect(rt, "bytes");
     if let Some(changed) = file.get_mut(place) {
         *changed = byte;
     }
-    Ok(file)
+    file
 }
 
 fn is_the_key(key: &KeyFile) -> bool {
@@ -82,9 +81,9 @@ fn is_not_of(rt: &impl Abort, bytes: &[u8], member: u16, at: usize) {
     assert!(rt; found == Some(Malformed(at)), "{at}");
 }
 
-fn is_written(alloc: Global, file: &[u8]) -> Result<bool, Fail> {
-    let written = write_key_file(alloc, &KEY)?;
-    Ok(is_same(written.as_slice(), file))
+fn is_written(rt: &impl Abort, alloc: Global, file: &[u8]) -> bool {
+    let written = write_key_file(alloc, &KEY).expect(rt, "memory");
+    is_same(written.as_slice(), file)
 }
 
 fn is_read(found: Result<KeyFile, Malformed>) -> bool {
@@ -94,52 +93,48 @@ fn is_read(found: Result<KeyFile, Malformed>) -> bool {
     }
 }
 
-fn is_whole(rt: &impl Abort, alloc: Global, file: &[u8]) -> Result<(), Fail> {
-    assert!(rt; is_written(alloc, file)?);
+fn is_whole(rt: &impl Abort, alloc: Global, file: &[u8]) {
+    assert!(rt; is_written(rt, alloc, file));
     assert!(rt; is_read(read_key_file(file)));
     assert!(rt; is_read(key_of_member(file, 3)));
-    Ok(())
 }
 
-fn is_cut(rt: &impl Abort, file: &[u8], row: &(usize, usize, usize)) -> Result<(), Fail> {
+fn is_cut(rt: &impl Abort, file: &[u8], row: &(usize, usize, usize)) {
     let (from, to, at) = *row;
     for len in from..to {
-        let part = file.get(..len).ok_or("the file is shorter")?;
+        let part = file.get(..len).expect(rt, "a part");
         is_malformed(rt, part, at);
     }
-    Ok(())
 }
 
 // It is cut at each byte, and a byte follows it.
-fn has_another_length(rt: &impl Abort, file: &mut Vec<u8>) -> Result<(), Fail> {
+fn has_another_length(rt: &impl Abort, file: &mut Vec<u8>) {
     for row in &CUTS {
-        is_cut(rt, file.as_slice(), row)?;
+        is_cut(rt, file.as_slice(), row);
     }
-    file.push(0)?;
+    file.push(0).expect(rt, "memory");
     is_malformed(rt, file.as_slice(), 62);
-    Ok(())
 }
 
-fn has_other_bytes(rt: &impl Abort, alloc: Global) -> Result<(), Fail> {
+fn has_other_bytes(rt: &impl Abort, alloc: Global) {
     for (place, byte, at) in &FORBIDDEN {
-        let file = changed(alloc, *place, *byte)?;
+        let file = changed(rt, alloc, *place, *byte);
         is_malformed(rt, file.as_slice(), *at);
     }
     for (place, byte) in &ALLOWED {
-        let file = changed(alloc, *place, *byte)?;
+        let file = changed(rt, alloc, *place, *byte);
         assert!(rt; read_key_file(file.as_slice()).is_ok());
     }
     for (place, byte, member, at) in &OTHERS {
-        let file = changed(alloc, *place, *byte)?;
+        let file = changed(rt, alloc, *place, *byte);
         is_not_of(rt, file.as_slice(), *member, *at);
     }
-    Ok(())
 }
 
 #[test]
-fn a_key_file_is_written_and_read(rt: HostRuntime) -> Result<(), Fail> {
-    has_other_bytes(&rt, rt.alloc())?;
-    let mut file = hex::decode(rt.alloc(), FILE)?;
-    is_whole(&rt, rt.alloc(), file.as_slice())?;
-    has_another_length(&rt, &mut file)
+fn a_key_file_is_written_and_read(rt: HostRuntime) {
+    has_other_bytes(&rt, rt.alloc());
+    let mut file = hex::decode(rt.alloc(), FILE).expect(&rt, "bytes");
+    is_whole(&rt, rt.alloc(), file.as_slice());
+    has_another_length(&rt, &mut file);
 }

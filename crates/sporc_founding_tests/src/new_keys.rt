@@ -9,7 +9,6 @@ use sporc_keys::{DrawFault, NewKey, keygen};
 use sporc_outside::ListedChance;
 use std::alloc::Global;
 use std::process::Abort;
-use std::test::Fail;
 
 // An identifier and a seed, and the public key that Bouncy Castle 1.72 made of them.
 const ID: &str = "05a7ca4e14a784c0e0daa5e6dd970959";
@@ -20,42 +19,38 @@ const PUBLIC: &str =
     "000000050000000305a7ca4e14a784c0e0daa5e6dd9709592f29e7467c09c25915bbfd16beab83d48525fc049982054d4ab9a5e6f98e8a9c";
 
 // The words of the key. This call fails.
-fn two_words(alloc: Global, failing: u64) -> Result<Box<ListedChance>, Fail> {
+fn two_words(rt: &impl Abort, alloc: Global, failing: u64) -> Box<ListedChance> {
     let mut words = Vec::new(alloc);
-    push_key(&mut words, ID, SEED)?;
-    chance(alloc, words, failing)
+    push_key(rt, &mut words, ID, SEED);
+    chance(rt, alloc, words, failing)
 }
 
-fn is_the_key(rt: &impl Abort, key: &NewKey) -> Result<(), Fail> {
-    let public = <[u8; 56]>::from_hex(PUBLIC)?;
-    let seed = <[u8; 32]>::from_hex(SEED)?;
+fn is_the_key(rt: &impl Abort, key: &NewKey) {
+    let public = <[u8; 56]>::from_hex(PUBLIC).expect(rt, "bytes");
+    let seed = <[u8; 32]>::from_hex(SEED).expect(rt, "bytes");
     assert!(rt; is_same(&key.public.to_bytes(), &public));
     assert!(rt; key.file.member == 3);
     assert!(rt; is_same(&key.file.seed, &seed));
     assert!(rt; is_same(key.leaves.as_slice(), &[0; 8]));
-    Ok(())
 }
 
-fn two_words_give_the_key(rt: &impl Abort, alloc: Global) -> Result<(), Fail> {
-    let mut chance = two_words(alloc, 0)?;
-    match keygen(alloc, &mut *chance, 3, LmsType::H5, OtsType::W4) {
-        Ok(key) => is_the_key(rt, &key),
-        Err(_) => Err("no key".into()),
-    }
+fn two_words_give_the_key(rt: &impl Abort, alloc: Global) {
+    let mut chance = two_words(rt, alloc, 0);
+    let key = keygen(alloc, &mut *chance, 3, LmsType::H5, OtsType::W4).expect(rt, "a key");
+    is_the_key(rt, &key);
 }
 
 // Whether there is no new key, since this call fails.
-fn is_refused(alloc: Global, call: u64) -> Result<bool, Fail> {
-    let mut chance = two_words(alloc, call)?;
+fn is_refused(rt: &impl Abort, alloc: Global, call: u64) -> bool {
+    let mut chance = two_words(rt, alloc, call);
     let found = keygen(alloc, &mut *chance, 3, LmsType::H5, OtsType::W4).err();
-    Ok(found == Some(DrawFault::Chance))
+    found == Some(DrawFault::Chance)
 }
 
 /// Two words give a key, unless a call of the chance fails.
-pub fn a_key_of_two_words(rt: &impl Abort, alloc: Global) -> Result<(), Fail> {
-    two_words_give_the_key(rt, alloc)?;
+pub fn a_key_of_two_words(rt: &impl Abort, alloc: Global) {
+    two_words_give_the_key(rt, alloc);
     for call in 1..3 {
-        assert!(rt; is_refused(alloc, call)?);
+        assert!(rt; is_refused(rt, alloc, call));
     }
-    Ok(())
 }

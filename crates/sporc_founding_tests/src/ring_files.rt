@@ -8,7 +8,6 @@ use sporc_keys::{
 };
 use std::alloc::Global;
 use std::process::Abort;
-use std::test::Fail;
 
 // A founder's: the format, the member, the key of epoch 0 behind a 1, the number of shared keys, and those with 3 and 7.
 const FILE: &str =
@@ -55,13 +54,13 @@ const MALFORMED: [(usize, u8, usize); 9] = [
     (42, 7, 75),
 ];
 
-fn founder(alloc: Global) -> Result<RingFile, Fail> {
-    let pairs = PairKeys::copy_of(alloc, &PAIRS)?;
-    Ok(RingFile {
+fn founder(rt: &impl Abort, alloc: Global) -> RingFile {
+    let pairs = PairKeys::copy_of(alloc, &PAIRS).expect(rt, "memory");
+    RingFile {
         member: 3,
         epoch_key: Some([0x33; 32]),
         pairs,
-    })
+    }
 }
 
 fn is_malformed(rt: &impl Abort, alloc: Global, bytes: &[u8], at: usize) {
@@ -89,17 +88,11 @@ fn is_joiners(ring: &RingFile) -> bool {
 }
 
 // What is read of a file is written again.
-fn is_written_again(
-    rt: &impl Abort,
-    alloc: Global,
-    file: &[u8],
-    ring: &RingFile,
-) -> Result<(), Fail>
+fn is_written_again(rt: &impl Abort, alloc: Global, file: &[u8], ring: &RingFile)
     requires { IsRingFile ring.now }
 {
-    let written = write_ring_file(alloc, ring)?;
+    let written = write_ring_file(alloc, ring).expect(rt, "memory");
     assert!(rt; is_same(written.as_slice(), file));
-    Ok(())
 }
 
 // Whether it is the ring of this member, which is spelled out.
@@ -117,73 +110,59 @@ fn is_found(found: Result<RingFile, RingFileFault>, member: u16) -> bool {
     }
 }
 
-fn is_read(rt: &impl Abort, alloc: Global, file: &str, member: u16) -> Result<(), Fail> {
-    let file = hex::decode(alloc, file)?;
+fn is_read(rt: &impl Abort, alloc: Global, file: &str, member: u16) {
+    let file = hex::decode(alloc, file).expect(rt, "bytes");
     assert!(rt; is_found(ring_of_member(alloc, file.as_slice(), member), member));
-    match read_ring_file(alloc, file.as_slice()) {
-        Ok(ring) => {
-            assert!(rt; is_ring_of(&ring, member));
-            is_written_again(rt, alloc, file.as_slice(), &ring)
-        }
-        Err(_) => Err("no ring".into()),
-    }
+    let ring = read_ring_file(alloc, file.as_slice()).expect(rt, "a ring");
+    assert!(rt; is_ring_of(&ring, member));
+    is_written_again(rt, alloc, file.as_slice(), &ring);
 }
 
 // The keys that a member has of its ring, by epoch.
-fn epochs_have_keys(rt: &impl Abort, alloc: Global, file: &RingFile) -> Result<(), Fail> {
-    let ring = file.ring(alloc)?;
+fn epochs_have_keys(rt: &impl Abort, alloc: Global, file: &RingFile) {
+    let ring = file.ring(alloc).expect(rt, "memory");
     assert!(rt; ring.key(0) == Some(&[0x33; 32]));
     assert!(rt; ring.key(1).is_none());
-    Ok(())
 }
 
 // And by member.
-fn members_have_keys(rt: &impl Abort, alloc: Global, file: &RingFile) -> Result<(), Fail> {
-    let pairs = file.pairs(alloc)?;
+fn members_have_keys(rt: &impl Abort, alloc: Global, file: &RingFile) {
+    let pairs = file.pairs(alloc).expect(rt, "memory");
     assert!(rt; pairs.get(&7) == Some(&[0x55; 32]));
     assert!(rt; pairs.get(&4).is_none());
-    Ok(())
 }
 
-fn founder_has_keys(rt: &impl Abort, alloc: Global) -> Result<(), Fail> {
-    let file = founder(alloc)?;
-    epochs_have_keys(rt, alloc, &file)?;
-    members_have_keys(rt, alloc, &file)
+fn founder_has_keys(rt: &impl Abort, alloc: Global) {
+    let file = founder(rt, alloc);
+    epochs_have_keys(rt, alloc, &file);
+    members_have_keys(rt, alloc, &file);
 }
 
-fn is_cut(
-    rt: &impl Abort,
-    alloc: Global,
-    file: &[u8],
-    row: &(usize, usize, usize),
-) -> Result<(), Fail> {
+fn is_cut(rt: &impl Abort, alloc: Global, file: &[u8], row: &(usize, usize, usize)) {
     let (from, to, at) = *row;
     for len in from..to {
-        let part = file.get(..len).ok_or("the file is shorter")?;
+        let part = file.get(..len).expect(rt, "a part");
         is_malformed(rt, alloc, part, at);
     }
-    Ok(())
 }
 
 // It is cut at each byte, and a byte follows it.
-fn has_another_length(rt: &impl Abort, alloc: Global, file: &mut Vec<u8>) -> Result<(), Fail> {
+fn has_another_length(rt: &impl Abort, alloc: Global, file: &mut Vec<u8>) {
     for row in &CUTS {
-        is_cut(rt, alloc, file.as_slice(), row)?;
+        is_cut(rt, alloc, file.as_slice(), row);
     }
-    file.push(0)?;
+    file.push(0).expect(rt, "memory");
     is_malformed(rt, alloc, file.as_slice(), 109);
-    Ok(())
 }
 
 // One byte is changed.
-fn has_another_byte(rt: &impl Abort, alloc: Global, row: &(usize, u8, usize)) -> Result<(), Fail> {
+fn has_another_byte(rt: &impl Abort, alloc: Global, row: &(usize, u8, usize)) {
     let (place, byte, at) = *row;
-    let mut file = hex::decode(alloc, FILE)?;
+    let mut file = hex::decode(alloc, FILE).expect(rt, "bytes");
     if let Some(changed) = file.get_mut(place) {
         *changed = byte;
     }
     is_malformed(rt, alloc, file.as_slice(), at);
-    Ok(())
 }
 
 fn is_of_another_member(rt: &impl Abort, alloc: Global, file: &[u8]) {
@@ -191,19 +170,19 @@ fn is_of_another_member(rt: &impl Abort, alloc: Global, file: &[u8]) {
     assert!(rt; found == Some(RingFileFault::Malformed(4)));
 }
 
-fn founders_is_malformed(rt: &impl Abort, alloc: Global) -> Result<(), Fail> {
-    let mut file = hex::decode(alloc, FILE)?;
+fn founders_is_malformed(rt: &impl Abort, alloc: Global) {
+    let mut file = hex::decode(alloc, FILE).expect(rt, "bytes");
     is_of_another_member(rt, alloc, file.as_slice());
     for row in &MALFORMED {
-        has_another_byte(rt, alloc, row)?;
+        has_another_byte(rt, alloc, row);
     }
-    has_another_length(rt, alloc, &mut file)
+    has_another_length(rt, alloc, &mut file);
 }
 
 #[test]
-fn rings_are_read_and_written_and_have_keys(rt: HostRuntime) -> Result<(), Fail> {
-    is_read(&rt, rt.alloc(), FILE, 3)?;
-    is_read(&rt, rt.alloc(), JOINER, 7)?;
-    founder_has_keys(&rt, rt.alloc())?;
-    founders_is_malformed(&rt, rt.alloc())
+fn rings_are_read_and_written_and_have_keys(rt: HostRuntime) {
+    is_read(&rt, rt.alloc(), FILE, 3);
+    is_read(&rt, rt.alloc(), JOINER, 7);
+    founder_has_keys(&rt, rt.alloc());
+    founders_is_malformed(&rt, rt.alloc());
 }

@@ -13,7 +13,7 @@ use sporc_member::Role;
 use sporc_outside::{ListedChance, MemoryFolder, MemorySink, NamedFile};
 use sporc_words::{Found, Founding, Keygen, Participant, Word};
 use std::alloc::Global;
-use std::test::Fail;
+use std::process::Abort;
 
 // Identifiers and seeds of two keys.
 const KEYS: [(&str, &str); 2] = [
@@ -59,24 +59,24 @@ pub struct Room {
 
 impl Room {
     /// A folder with these files, and the words of two keys and a document.
-    pub fn new(alloc: Global, files: Vec<NamedFile>, failing: Failing) -> Result<Room, Fail> {
+    pub fn new(rt: &impl Abort, alloc: Global, files: Vec<NamedFile>, failing: Failing) -> Room {
         let [in_folder, in_chance, in_sink] = failing;
-        let folder = MemoryFolder::new(alloc, files, calls(alloc, in_folder)?);
-        let folder = Box::new(alloc, folder)?;
-        let chance = chance(alloc, words(alloc)?, in_chance)?;
-        let sink = MemorySink::new(alloc, 100, calls(alloc, in_sink)?);
-        let sink = Box::new(alloc, sink)?;
-        Ok(Room {
+        let folder = MemoryFolder::new(alloc, files, calls(rt, alloc, in_folder));
+        let folder = Box::new(alloc, folder).expect(rt, "memory");
+        let chance = chance(rt, alloc, words(rt, alloc), in_chance);
+        let sink = MemorySink::new(alloc, 100, calls(rt, alloc, in_sink));
+        let sink = Box::new(alloc, sink).expect(rt, "memory");
+        Room {
             folder,
             chance,
             sink,
-        })
+        }
     }
 
     /// `keygen D M 5 4`.
-    pub fn make_key(&mut self, alloc: Global, member: u16) -> Result<(), Fault> {
+    pub fn make_key(&mut self, rt: &impl Abort, alloc: Global, member: u16) -> Result<(), Fault> {
         let asked = Keygen {
-            name: Word::new(alloc, "D")?,
+            name: Word::new(alloc, "D").expect(rt, "memory"),
             member,
             height: LmsType::H5,
             width: OtsType::W4,
@@ -91,27 +91,27 @@ impl Room {
     }
 
     /// `found D 2:editor 3:joiner 1:admin`.
-    pub fn make_document(&mut self, alloc: Global) -> Result<(), Fault> {
-        let asked = founding(alloc)?;
+    pub fn make_document(&mut self, rt: &impl Abort, alloc: Global) -> Result<(), Fault> {
+        let asked = founding(alloc).expect(rt, "memory");
         found(alloc, &mut *self.folder, &mut *self.chance, &asked)
     }
 
     /// The keys of members 1 and 2, and then the document.
-    pub fn make_all(&mut self, alloc: Global) -> Result<(), Fault> {
-        self.make_key(alloc, 1)?;
-        self.make_key(alloc, 2)?;
-        self.make_document(alloc)
+    pub fn make_all(&mut self, rt: &impl Abort, alloc: Global) -> Result<(), Fault> {
+        self.make_key(rt, alloc, 1)?;
+        self.make_key(rt, alloc, 2)?;
+        self.make_document(rt, alloc)
     }
 }
 
 // The words of two keys and a document.
-fn words(alloc: Global) -> Result<Words, Fail> {
+fn words(rt: &impl Abort, alloc: Global) -> Words {
     let mut words = Vec::new(alloc);
     for (id, seed) in &KEYS {
-        push_key(&mut words, id, seed)?;
+        push_key(rt, &mut words, id, seed);
     }
-    push_eight(&mut words)?;
-    Ok(words)
+    push_eight(rt, &mut words);
+    words
 }
 
 // What `found` is asked for.
