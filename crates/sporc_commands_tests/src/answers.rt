@@ -6,10 +6,9 @@ use crate::place::{Answer, Streams, few_words};
 use sporc_base::is_same;
 use sporc_outside::{Calls, ListedChance, MemoryFolder, MemoryNet, OpenGate};
 use sporc_top::run;
-use std::alloc::{AllocError, Global};
+use std::alloc::Global;
 use std::process::Abort;
 use std::sync::Wait;
-use std::test::Fail;
 use std::thread::Threads;
 
 // Calls none of which fails.
@@ -45,21 +44,21 @@ fn status<R: Threads + Wait + Sync>(
 }
 
 // The status and what is written, if the words are those of a line.
-fn answer_over<R: Threads + Wait + Sync>(
+fn answer_over<R: Threads + Wait + Sync + Abort>(
     rt: &R,
     alloc: Global,
     words: &str,
     streams: &mut Streams,
-) -> Result<Answer, AllocError> {
-    let words = few_words(alloc, words)?;
+) -> Answer {
+    let words = few_words(rt, alloc, words);
     let status = status(rt, alloc, words.as_slice(), streams);
     drop(words);
-    Ok((status, streams.written(alloc)?))
+    (status, streams.written(rt, alloc))
 }
 
 /// The same over this script, if the source and the sink move at most `piece` bytes a call, and their calls of these numbers
 /// fail.
-pub fn answer<R: Threads + Wait + Sync>(
+pub fn answer<R: Threads + Wait + Sync + Abort>(
     rt: &R,
     alloc: Global,
     words: &str,
@@ -67,10 +66,10 @@ pub fn answer<R: Threads + Wait + Sync>(
     piece: usize,
     read_failing: u64,
     write_failing: u64,
-) -> Result<Answer, AllocError>
+) -> Answer
     requires { 0 < piece }
 {
-    let mut streams = Streams::new(alloc, script, piece, read_failing, write_failing)?;
+    let mut streams = Streams::new(rt, alloc, script, piece, read_failing, write_failing);
     let answer = answer_over(rt, alloc, words, &mut streams);
     drop(streams);
     answer
@@ -84,9 +83,8 @@ pub fn answers<R: Threads + Wait + Sync + Abort>(
     script: &[u8],
     status: u8,
     report: &[u8],
-) -> Result<(), Fail> {
-    let (got, written) = answer(rt, alloc, words, script, 1 << 20, 0, 0)?;
+) {
+    let (got, written) = answer(rt, alloc, words, script, 1 << 20, 0, 0);
     assert!(rt; is_same(written.as_slice(), report));
     assert!(rt; got == status);
-    Ok(())
 }

@@ -3,10 +3,9 @@
 use crate::place::{Place, named};
 use sporc_base::is_same;
 use sporc_outside::PipeNet;
-use std::alloc::{AllocError, Global};
+use std::alloc::Global;
 use std::process::Abort;
 use std::sync::Wait;
-use std::test::Fail;
 use std::thread::{Threads, join};
 
 // A command that is done: what it writes ends with this.
@@ -16,10 +15,9 @@ fn does<R: Threads + Wait + Sync + Abort>(
     place: &mut Place,
     words: &str,
     end: &[u8],
-) -> Result<(), Fail> {
-    let (status, written) = place.run_alone(rt, alloc, words)?;
+) {
+    let (status, written) = place.run_alone(rt, alloc, words);
     assert!(rt; status == 0 && written.as_slice().ends_with(end), "{words}");
-    Ok(())
 }
 
 // A command that is stopped by a fault with this line.
@@ -29,44 +27,36 @@ fn fails<R: Threads + Wait + Sync + Abort>(
     place: &mut Place,
     words: &str,
     line: &[u8],
-) -> Result<(), Fail> {
-    let (status, written) = place.run_alone(rt, alloc, words)?;
+) {
+    let (status, written) = place.run_alone(rt, alloc, words);
     assert!(rt; status == 3 && is_same(written.as_slice(), line), "{words}");
-    Ok(())
 }
 
 // A place with one file.
-fn place_with(alloc: Global, name: &str, bytes: &[u8]) -> Result<Place, AllocError> {
-    let file = named(alloc, name, bytes)?;
-    Place::new(alloc, vec![in alloc; file]?)
+fn place_with(rt: &impl Abort, alloc: Global, name: &str, bytes: &[u8]) -> Place {
+    let file = named(rt, alloc, name, bytes);
+    let files = vec![in alloc; file].expect(rt, "memory");
+    Place::new(rt, alloc, files)
 }
 
 // Two keys, and the document of their members.
-fn founded<R: Threads + Wait + Sync + Abort>(
-    rt: &R,
-    alloc: Global,
-    place: &mut Place,
-) -> Result<(), Fail> {
-    does(rt, alloc, place, "keygen D 1 5 4", b"\n")?;
-    does(rt, alloc, place, "keygen D 2 5 4", b"\n")?;
-    does(rt, alloc, place, "found D 1:admin 2:editor", b"")
+fn founded<R: Threads + Wait + Sync + Abort>(rt: &R, alloc: Global, place: &mut Place) {
+    does(rt, alloc, place, "keygen D 1 5 4", b"\n");
+    does(rt, alloc, place, "keygen D 2 5 4", b"\n");
+    does(rt, alloc, place, "found D 1:admin 2:editor", b"");
 }
 
 // Files that are there, or missing.
-fn faults_are_told<R: Threads + Wait + Sync + Abort>(
-    rt: &R,
-    alloc: Global,
-    place: &mut Place,
-) -> Result<(), Fail> {
+fn faults_are_told<R: Threads + Wait + Sync + Abort>(rt: &R, alloc: Global, place: &mut Place) {
     fails(
         rt,
         alloc,
         place,
         "keygen D 1 5 4",
         b"fault exists D.1.key\n",
-    )?;
-    fails(rt, alloc, place, "check D 7", b"fault missing D.7.key\n")?;
-    fails(rt, alloc, place, "client D 1 a T", b"fault missing T\n")
+    );
+    fails(rt, alloc, place, "check D 7", b"fault missing D.7.key\n");
+    fails(rt, alloc, place, "client D 1 a T", b"fault missing T\n");
 }
 
 // Whether these bytes stand in what was written.
@@ -78,42 +68,42 @@ fn has_line(written: &[u8], line: &[u8]) -> bool {
 }
 
 // Whether a session ends well, and writes this line.
-fn has_worked<R: Threads + Wait + Sync>(
+fn has_worked<R: Threads + Wait + Sync + Abort>(
     rt: &R,
     alloc: Global,
     place: &mut Place,
     net: &mut PipeNet<&R>,
     words: &str,
     line: &[u8],
-) -> Result<bool, AllocError> {
-    let (status, written) = place.run_piped(rt, alloc, net, words)?;
-    Ok(status == 0 && has_line(written.as_slice(), line))
+) -> bool {
+    let (status, written) = place.run_piped(rt, alloc, net, words);
+    status == 0 && has_line(written.as_slice(), line)
 }
 
 // Whether both members' sessions do, one after the other.
-fn have_worked<R: Threads + Wait + Sync>(
+fn have_worked<R: Threads + Wait + Sync + Abort>(
     rt: &R,
     alloc: Global,
     place: &mut Place,
     net: &mut PipeNet<&R>,
-) -> Result<bool, AllocError> {
+) -> bool {
     let first = "client D 1 a --until 1 S";
     let line = b"\n1 at 1 pending 0 text \"hello\"\n";
-    let has_first = has_worked(rt, alloc, place, net, first, line)?;
+    let has_first = has_worked(rt, alloc, place, net, first, line);
     let second = "client D 2 a --until 1";
     let line = b"\n2 at 1 pending 0 text \"hello\"\n";
-    Ok(has_worked(rt, alloc, place, net, second, line)? && has_first)
+    has_worked(rt, alloc, place, net, second, line) && has_first
 }
 
 // Whether a server of two sessions ends well, with one entry.
-fn has_served<R: Threads + Wait + Sync>(
+fn has_served<R: Threads + Wait + Sync + Abort>(
     rt: &R,
     alloc: Global,
     place: &mut Place,
     net: &mut PipeNet<&R>,
-) -> Result<bool, AllocError> {
-    let (status, written) = place.run_piped(rt, alloc, net, "serve D a --sessions 2")?;
-    Ok(status == 0 && is_same(written.as_slice(), b"log 1\n"))
+) -> bool {
+    let (status, written) = place.run_piped(rt, alloc, net, "serve D a --sessions 2");
+    status == 0 && is_same(written.as_slice(), b"log 1\n")
 }
 
 // Both members work with the server, one after the other.
@@ -122,9 +112,9 @@ fn work_together<R: Threads + Wait + Sync + Abort>(
     alloc: Global,
     members: &mut Place,
     server: &mut Place,
-) -> Result<(), Fail> {
-    let mut net = PipeNet::new(rt, alloc)?;
-    let mut near = net.another()?;
+) {
+    let mut net = PipeNet::new(rt, alloc).expect(rt, "memory");
+    let mut near = net.another().expect(rt, "memory");
     let (served, worked) = join(
         rt,
         || has_served(rt, alloc, server, &mut net),
@@ -132,31 +122,25 @@ fn work_together<R: Threads + Wait + Sync + Abort>(
     );
     drop(near);
     drop(net);
-    assert!(rt; served?);
-    assert!(rt; worked?);
-    Ok(())
+    assert!(rt; served);
+    assert!(rt; worked);
 }
 
 // Members with a document work with a server that has its genesis.
-fn share_a_document<R: Threads + Wait + Sync + Abort>(
-    rt: &R,
-    alloc: Global,
-    members: &mut Place,
-) -> Result<(), Fail> {
-    let genesis = members.file("D.genesis").ok_or("no genesis")?;
-    let mut server = place_with(alloc, "D.genesis", genesis)?;
-    let worked = work_together(rt, alloc, members, &mut server);
+fn share_a_document<R: Threads + Wait + Sync + Abort>(rt: &R, alloc: Global, members: &mut Place) {
+    let genesis = members.file("D.genesis").expect(rt, "a genesis");
+    let mut server = place_with(rt, alloc, "D.genesis", genesis);
+    work_together(rt, alloc, members, &mut server);
     drop(server);
-    worked?;
-    does(rt, alloc, members, "compare D 1 2", b"1 2 same\n")?;
-    does(rt, alloc, members, "check D 2", b"checked 1\n")
+    does(rt, alloc, members, "compare D 1 2", b"1 2 same\n");
+    does(rt, alloc, members, "check D 2", b"checked 1\n");
 }
 
 #[test]
-fn members_found_a_document_and_work_with_a_server(rt: HostRuntime) -> Result<(), Fail> {
+fn members_found_a_document_and_work_with_a_server(rt: HostRuntime) {
     let alloc = rt.alloc();
-    let mut members = place_with(alloc, "S", b"insert 0 \"hello\"\n")?;
-    founded(&rt, alloc, &mut members)?;
-    faults_are_told(&rt, alloc, &mut members)?;
-    share_a_document(&rt, alloc, &mut members)
+    let mut members = place_with(&rt, alloc, "S", b"insert 0 \"hello\"\n");
+    founded(&rt, alloc, &mut members);
+    faults_are_told(&rt, alloc, &mut members);
+    share_a_document(&rt, alloc, &mut members);
 }

@@ -5,7 +5,6 @@ use sporc_base::is_same;
 use std::alloc::Global;
 use std::process::Abort;
 use std::sync::Wait;
-use std::test::Fail;
 use std::thread::Threads;
 
 const THIN: &str = "member 1 admin\nedit 1 insert 0 \"abc\"\nsubmit 1\ngive 1 1 1\nshow 1\n";
@@ -76,24 +75,17 @@ const OTHER_WORDS: [&str; 13] = [
     "check D 1 2",
 ];
 
-fn lines_outside_the_grammar_are_told<R: Threads + Wait + Sync + Abort>(
-    rt: &R,
-    alloc: Global,
-) -> Result<(), Fail> {
+fn lines_outside_the_grammar_are_told<R: Threads + Wait + Sync + Abort>(rt: &R, alloc: Global) {
     for (script, report) in &OUTSIDE {
-        answers(rt, alloc, "play", script.as_bytes(), 3, report.as_bytes())?;
+        answers(rt, alloc, "play", script.as_bytes(), 3, report.as_bytes());
     }
-    answers(rt, alloc, "play", b"# \xff\n", 3, b"fault line 1\n")
+    answers(rt, alloc, "play", b"# \xff\n", 3, b"fault line 1\n");
 }
 
-fn other_words_ask_for_nothing<R: Threads + Wait + Sync + Abort>(
-    rt: &R,
-    alloc: Global,
-) -> Result<(), Fail> {
+fn other_words_ask_for_nothing<R: Threads + Wait + Sync + Abort>(rt: &R, alloc: Global) {
     for words in &OTHER_WORDS {
-        answers(rt, alloc, *words, THIN.as_bytes(), 2, b"fault words\n")?;
+        answers(rt, alloc, *words, THIN.as_bytes(), 2, b"fault words\n");
     }
-    Ok(())
 }
 
 // The status stays if the second write of four bytes fails, and with it the line.
@@ -103,19 +95,18 @@ fn keeps<R: Threads + Wait + Sync + Abort>(
     word: &str,
     script: &[u8],
     status: u8,
-) -> Result<(), Fail> {
-    let (got, written) = answer(rt, alloc, word, script, 4, 0, 2)?;
+) {
+    let (got, written) = answer(rt, alloc, word, script, 4, 0, 2);
     assert!(rt; is_same(written.as_slice(), b"faul"));
     assert!(rt; got == status);
-    Ok(())
 }
 
 #[test]
-fn plays_have_lines_for_their_faults(rt: HostRuntime) -> Result<(), Fail> {
-    lines_outside_the_grammar_are_told(&rt, rt.alloc())?;
-    other_words_ask_for_nothing(&rt, rt.alloc())?;
-    keeps(&rt, rt.alloc(), "paly", b"", 2)?;
-    keeps(&rt, rt.alloc(), "play", b"x", 3)
+fn plays_have_lines_for_their_faults(rt: HostRuntime) {
+    lines_outside_the_grammar_are_told(&rt, rt.alloc());
+    other_words_ask_for_nothing(&rt, rt.alloc());
+    keeps(&rt, rt.alloc(), "paly", b"", 2);
+    keeps(&rt, rt.alloc(), "play", b"x", 3);
 }
 
 // Which calls of a play fail.
@@ -144,39 +135,34 @@ fn ends_without<R: Threads + Wait + Sync + Abort>(
     alloc: Global,
     side: Side,
     call: u64,
-) -> Result<bool, Fail> {
+) -> bool {
     let (read, write) = match side {
         Side::Read => (call, 0),
         Side::Write => (0, call),
     };
-    let (status, written) = answer(rt, alloc, "play", THIN.as_bytes(), 7, read, write)?;
+    let (status, written) = answer(rt, alloc, "play", THIN.as_bytes(), 7, read, write);
     let written = written.as_slice();
     let is_well = status == 0 && is_same(written, THIN_REPORT.as_bytes());
     assert!(rt; is_well || is_told(side, status, written), "call {call}");
-    Ok(is_well)
+    is_well
 }
 
 // The first such call that a play does not make.
-fn first_unmade<R: Threads + Wait + Sync + Abort>(
-    rt: &R,
-    alloc: Global,
-    side: Side,
-) -> Result<u64, Fail> {
+fn first_unmade<R: Threads + Wait + Sync + Abort>(rt: &R, alloc: Global, side: Side) -> u64 {
     for call in 1..100 {
-        if ends_without(rt, alloc, side, call)? {
-            return Ok(call);
+        if ends_without(rt, alloc, side, call) {
+            return call;
         }
     }
-    Err("no end".into())
+    panic!(rt; "no end")
 }
 
 #[test]
-fn each_read_and_write_that_fails_is_told(rt: HostRuntime) -> Result<(), Fail> {
+fn each_read_and_write_that_fails_is_told(rt: HostRuntime) {
     // As many reads of 7 bytes as the script takes, and one that finds its end.
-    let reads = first_unmade(&rt, rt.alloc(), Side::Read)?;
+    let reads = first_unmade(&rt, rt.alloc(), Side::Read);
     assert!(rt; reads == THIN.len().div_ceil(7) as u64 + 2);
     // Lines of 15, 17, 14 and 28 bytes.
-    let writes = first_unmade(&rt, rt.alloc(), Side::Write)?;
+    let writes = first_unmade(&rt, rt.alloc(), Side::Write);
     assert!(rt; writes == 3 + 3 + 2 + 4 + 1);
-    Ok(())
 }

@@ -7,7 +7,8 @@ use sporc_outside::{
     Calls, Counted, Dial, Failed, Link, Links, Listen, MemoryLink, MemoryNet, PipeLink, PipeNet,
     Sink, Source,
 };
-use std::alloc::{AllocError, Global};
+use std::alloc::Global;
+use std::process::Abort;
 use std::sync::Wait;
 use std::thread::Threads;
 
@@ -15,27 +16,29 @@ use std::thread::Threads;
 const PIECE: usize = 1_000;
 
 // A net with one link, which brings these bytes.
-fn listed_net(alloc: Global, sent: &[u8], failing: Failing) -> Result<MemoryNet, AllocError> {
-    let sent = Vec::from_slice(alloc, sent)?;
-    let link = MemoryLink::new(alloc, sent, PIECE, calls(alloc, failing.link)?);
-    let links = vec![in alloc; link]?;
-    Ok(MemoryNet::new(alloc, links, calls(alloc, failing.net)?))
+fn listed_net(rt: &impl Abort, alloc: Global, sent: &[u8], failing: Failing) -> MemoryNet {
+    let sent = Vec::from_slice(alloc, sent).expect(rt, "memory");
+    let link_calls = calls(alloc, failing.link).expect(rt, "memory");
+    let link = MemoryLink::new(alloc, sent, PIECE, link_calls);
+    let links = vec![in alloc; link].expect(rt, "memory");
+    let net_calls = calls(alloc, failing.net).expect(rt, "memory");
+    MemoryNet::new(alloc, links, net_calls)
 }
 
 /// What a run over such a net answers, and whether no call of its link failed.
-pub fn run_listed<R: Threads + Wait + Sync>(
+pub fn run_listed<R: Threads + Wait + Sync + Abort>(
     rt: &R,
     alloc: Global,
     place: &mut Place,
     words: &str,
     sent: &[u8],
     failing: Failing,
-) -> Result<(Answer, bool), AllocError> {
-    let mut net = listed_net(alloc, sent, failing)?;
+) -> (Answer, bool) {
+    let mut net = listed_net(rt, alloc, sent, failing);
     let answer = place.run(rt, alloc, &mut net, words);
     let is_quiet = net.link_faults() == 0;
     drop(net);
-    Ok((answer?, is_quiet))
+    (answer, is_quiet)
 }
 
 /// A handle of a net between threads, of which a call fails, and a call of each of its links. It tells no content.
@@ -57,19 +60,15 @@ pub struct FaultyLink<R: Wait + Copy + Drop> {
 
 impl<R: Wait + Copy + Drop> FaultyNet<R> {
     /// Another handle of this net, where these calls of the net and of its links fail.
-    pub fn new(
-        alloc: Global,
-        net: &PipeNet<R>,
-        failing: Failing,
-    ) -> Result<FaultyNet<R>, AllocError> {
-        let calls = calls(alloc, failing.net)?;
-        Ok(FaultyNet {
+    pub fn new(rt: &impl Abort, alloc: Global, net: &PipeNet<R>, failing: Failing) -> FaultyNet<R> {
+        let calls = calls(alloc, failing.net).expect(rt, "memory");
+        FaultyNet {
             alloc,
-            net: net.another()?,
+            net: net.another().expect(rt, "memory"),
             calls,
             link_call: failing.link,
             link_faults: 0,
-        })
+        }
     }
 
     /// Calls the other end and hangs up, so that it waits no longer.

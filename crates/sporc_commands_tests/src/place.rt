@@ -8,6 +8,7 @@ use sporc_outside::{
 };
 use sporc_top::run;
 use std::alloc::{AllocError, Global};
+use std::process::Abort;
 use std::sync::Wait;
 use std::thread::Threads;
 
@@ -94,23 +95,28 @@ pub struct Place {
 pub type Answer = (u8, Vec<u8>);
 
 /// A file.
-pub fn named(alloc: Global, name: &str, bytes: &[u8]) -> Result<NamedFile, AllocError> {
-    Ok(NamedFile {
-        name: DiskBytes::new(Vec::from_slice(alloc, name.as_bytes())?),
-        bytes: DiskBytes::new(Vec::from_slice(alloc, bytes)?),
-    })
+pub fn named(rt: &impl Abort, alloc: Global, name: &str, bytes: &[u8]) -> NamedFile {
+    let name = Vec::from_slice(alloc, name.as_bytes()).expect(rt, "memory");
+    let bytes = Vec::from_slice(alloc, bytes).expect(rt, "memory");
+    NamedFile {
+        name: DiskBytes::new(name),
+        bytes: DiskBytes::new(bytes),
+    }
 }
 
 /// The same files.
-pub fn copied(alloc: Global, files: &[NamedFile]) -> Result<Vec<NamedFile>, AllocError> {
+pub fn copied(rt: &impl Abort, alloc: Global, files: &[NamedFile]) -> Vec<NamedFile> {
     let mut copies = Vec::new(alloc);
     for file in files {
-        copies.push(NamedFile {
-            name: DiskBytes::new(Vec::from_slice(alloc, file.name.as_slice())?),
-            bytes: DiskBytes::new(Vec::from_slice(alloc, file.bytes.as_slice())?),
-        })?;
+        let name = Vec::from_slice(alloc, file.name.as_slice()).expect(rt, "memory");
+        let bytes = Vec::from_slice(alloc, file.bytes.as_slice()).expect(rt, "memory");
+        let copy = NamedFile {
+            name: DiskBytes::new(name),
+            bytes: DiskBytes::new(bytes),
+        };
+        copies.push(copy).expect(rt, "memory");
     }
-    Ok(copies)
+    copies
 }
 
 /// The bytes of the file with this name, if there is one.
@@ -124,100 +130,105 @@ pub fn file_in<'a>(files: &'a [NamedFile], name: &str) -> Option<&'a [u8]> {
 }
 
 /// The words of a line.
-pub fn few_words(alloc: Global, line: &str) -> Result<Vec<String>, AllocError> {
+pub fn few_words(rt: &impl Abort, alloc: Global, line: &str) -> Vec<String> {
     let mut words = Vec::new(alloc);
     for word in line.split_whitespace() {
-        words.push(String::from_str(alloc, word)?)?;
+        let word = String::from_str(alloc, word).expect(rt, "memory");
+        words.push(word).expect(rt, "memory");
     }
-    Ok(words)
+    words
 }
 
 // Standard input with these bytes.
 fn source_of(
+    rt: &impl Abort,
     alloc: Global,
     bytes: &[u8],
     piece: usize,
     failing: u64,
-) -> Result<Box<MemorySource>, AllocError>
+) -> Box<MemorySource>
     requires { 0 < piece }
 {
-    let calls = calls(alloc, failing)?;
-    let bytes = Vec::from_slice(alloc, bytes)?;
-    Ok(Box::new(alloc, MemorySource::new(bytes, piece, calls))?)
+    let calls = calls(alloc, failing).expect(rt, "memory");
+    let bytes = Vec::from_slice(alloc, bytes).expect(rt, "memory");
+    Box::new(alloc, MemorySource::new(bytes, piece, calls)).expect(rt, "memory")
 }
 
 impl Streams {
     /// Input with these bytes and output, each of which moves at most `piece` bytes a call, and fails at the call with this
     /// number.
     pub fn new(
+        rt: &impl Abort,
         alloc: Global,
         bytes: &[u8],
         piece: usize,
         read_failing: u64,
         write_failing: u64,
-    ) -> Result<Streams, AllocError>
+    ) -> Streams
         requires { 0 < piece }
     {
-        let writes = calls(alloc, write_failing)?;
-        let out = Box::new(alloc, MemorySink::new(alloc, piece, writes))?;
-        let source = source_of(alloc, bytes, piece, read_failing)?;
-        Ok(Streams { source, out })
+        let writes = calls(alloc, write_failing).expect(rt, "memory");
+        let out = Box::new(alloc, MemorySink::new(alloc, piece, writes)).expect(rt, "memory");
+        let source = source_of(rt, alloc, bytes, piece, read_failing);
+        Streams { source, out }
     }
 
     /// What is written.
-    pub fn written(&self, alloc: Global) -> Result<Vec<u8>, AllocError> {
-        Vec::from_slice(alloc, self.out.as_slice())
+    pub fn written(&self, rt: &impl Abort, alloc: Global) -> Vec<u8> {
+        Vec::from_slice(alloc, self.out.as_slice()).expect(rt, "memory")
     }
 }
 
 // Appends 200 words.
-fn push_words(words: &mut Vec<[u8; 32]>) -> Result<(), AllocError> {
+fn push_words(rt: &impl Abort, words: &mut Vec<[u8; 32]>) {
     for word in 0..200u8 {
-        words.push([word; 32])?;
+        words.push([word; 32]).expect(rt, "memory");
     }
-    Ok(())
 }
 
 // 400 words, of whose calls this one fails.
-fn chance_of(alloc: Global, failing: u64) -> Result<Box<ListedChance>, AllocError> {
-    let calls = calls(alloc, failing)?;
+fn chance_of(rt: &impl Abort, alloc: Global, failing: u64) -> Box<ListedChance> {
+    let calls = calls(alloc, failing).expect(rt, "memory");
     let mut words = Vec::new(alloc);
-    push_words(&mut words)?;
-    push_words(&mut words)?;
-    Ok(Box::new(alloc, ListedChance::new(words, calls))?)
+    push_words(rt, &mut words);
+    push_words(rt, &mut words);
+    Box::new(alloc, ListedChance::new(words, calls)).expect(rt, "memory")
 }
 
 // A folder with these files, of whose calls, and of those of its disks, these fail.
 fn folder_of(
+    rt: &impl Abort,
     alloc: Global,
     files: Vec<NamedFile>,
     failing: Failing,
-) -> Result<Box<MemoryFolder>, AllocError> {
-    let calls = calls(alloc, failing.files)?;
-    let mut folder = Box::new(alloc, MemoryFolder::new(alloc, files, calls))?;
-    folder.fail_disk_calls([failing.disk].to_vec(alloc)?);
-    Ok(folder)
+) -> Box<MemoryFolder> {
+    let calls = calls(alloc, failing.files).expect(rt, "memory");
+    let folder = MemoryFolder::new(alloc, files, calls);
+    let mut folder = Box::new(alloc, folder).expect(rt, "memory");
+    folder.fail_disk_calls([failing.disk].to_vec(alloc).expect(rt, "memory"));
+    folder
 }
 
 impl Place {
     /// A folder with these files, where no call fails.
-    pub fn new(alloc: Global, files: Vec<NamedFile>) -> Result<Place, AllocError> {
-        Place::failing(alloc, files, NONE)
+    pub fn new(rt: &impl Abort, alloc: Global, files: Vec<NamedFile>) -> Place {
+        Place::failing(rt, alloc, files, NONE)
     }
 
     /// The same, where these calls fail.
     pub fn failing(
+        rt: &impl Abort,
         alloc: Global,
         files: Vec<NamedFile>,
         failing: Failing,
-    ) -> Result<Place, AllocError> {
-        let files = folder_of(alloc, files, failing)?;
-        let chance = chance_of(alloc, failing.chance)?;
-        Ok(Place {
+    ) -> Place {
+        let files = folder_of(rt, alloc, files, failing);
+        let chance = chance_of(rt, alloc, failing.chance);
+        Place {
             files,
             chance,
             out: failing.out,
-        })
+        }
     }
 
     // The status of a run over these.
@@ -246,44 +257,44 @@ impl Place {
     }
 
     /// What a run over these answers, if the words are those of a line.
-    pub fn run<R: Threads + Wait + Sync, N: Dial + Listen>(
+    pub fn run<R: Threads + Wait + Sync + Abort, N: Dial + Listen>(
         &mut self,
         rt: &R,
         alloc: Global,
         net: &mut N,
         words: &str,
-    ) -> Result<Answer, AllocError>
+    ) -> Answer
     where
         N::Link: Send,
     {
-        let words = few_words(alloc, words)?;
-        let mut streams = Streams::new(alloc, b"", PIECE, 0, self.out)?;
+        let words = few_words(rt, alloc, words);
+        let mut streams = Streams::new(rt, alloc, b"", PIECE, 0, self.out);
         let status = self.status(rt, alloc, net, words.as_slice(), &mut streams);
         drop(words);
-        let written = streams.written(alloc);
+        let written = streams.written(rt, alloc);
         drop(streams);
-        Ok((status, written?))
+        (status, written)
     }
 
     /// The same over a net between threads.
-    pub fn run_piped<R: Threads + Wait + Sync>(
+    pub fn run_piped<R: Threads + Wait + Sync + Abort>(
         &mut self,
         rt: &R,
         alloc: Global,
         net: &mut PipeNet<&R>,
         words: &str,
-    ) -> Result<Answer, AllocError> {
+    ) -> Answer {
         self.run(rt, alloc, net, words)
     }
 
     /// The same over a net of its own.
-    pub fn run_alone<R: Threads + Wait + Sync>(
+    pub fn run_alone<R: Threads + Wait + Sync + Abort>(
         &mut self,
         rt: &R,
         alloc: Global,
         words: &str,
-    ) -> Result<Answer, AllocError> {
-        let mut net = PipeNet::new(rt, alloc)?;
+    ) -> Answer {
+        let mut net = PipeNet::new(rt, alloc).expect(rt, "memory");
         let answer = self.run_piped(rt, alloc, &mut net, words);
         drop(net);
         answer

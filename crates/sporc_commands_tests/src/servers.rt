@@ -6,10 +6,9 @@ use crate::place::{Failing, NONE, Object, Place, copied};
 use sporc_base::is_same;
 use sporc_outside::NamedFile;
 use sporc_samples::Cast;
-use std::alloc::{AllocError, Global};
+use std::alloc::Global;
 use std::process::Abort;
 use std::sync::Wait;
-use std::test::Fail;
 use std::thread::Threads;
 
 // The server's files before a session, the log of one entry that it has before, that of two that it has at the end, and what
@@ -23,39 +22,43 @@ struct Scene {
 }
 
 // Hello, an entry, and a pull.
-fn stream(alloc: Global, entry: &[u8]) -> Result<Vec<u8>, Fail> {
-    let mut stream = Vec::from_slice(alloc, b"\0\0\0\x13\x01")?;
-    stream.extend_from_slice(&[7; 16])?;
-    stream.extend_from_slice(b"\0\x02")?;
+fn stream(rt: &impl Abort, alloc: Global, entry: &[u8]) -> Vec<u8> {
+    let mut stream = Vec::from_slice(alloc, b"\0\0\0\x13\x01").expect(rt, "memory");
+    stream.extend_from_slice(&[7; 16]).expect(rt, "memory");
+    stream.extend_from_slice(b"\0\x02").expect(rt, "memory");
     let len = u32::try_from(entry.len().saturating_add(1)).unwrap_or(u32::MAX);
-    stream.extend_from_slice(&len.to_be_bytes())?;
-    stream.push(2)?;
-    stream.extend_from_slice(entry)?;
-    stream.extend_from_slice(b"\0\0\0\x05\x03\0\0\0\x02")?;
-    Ok(stream)
+    stream
+        .extend_from_slice(&len.to_be_bytes())
+        .expect(rt, "memory");
+    stream.push(2).expect(rt, "memory");
+    stream.extend_from_slice(entry).expect(rt, "memory");
+    stream
+        .extend_from_slice(b"\0\0\0\x05\x03\0\0\0\x02")
+        .expect(rt, "memory");
+    stream
 }
 
 impl Scene {
     // Of these two entries.
-    fn of(alloc: Global, cast: &Cast, entries: &[Vec<u8>]) -> Result<Scene, Fail> {
-        let first = entries.get(..1).ok_or("no entry")?;
-        let second = entries.get(1).ok_or("no entry")?;
-        let old = history_file(alloc, first)?;
-        let new = history_file(alloc, entries)?;
-        let stream = stream(alloc, second.as_slice())?;
-        let files = of_server(alloc, cast, old.as_slice())?;
-        Ok(Scene {
+    fn of(rt: &impl Abort, alloc: Global, cast: &Cast, entries: &[Vec<u8>]) -> Scene {
+        let first = entries.get(..1).expect(rt, "an entry");
+        let second = entries.get(1).expect(rt, "an entry");
+        let old = history_file(rt, alloc, first);
+        let new = history_file(rt, alloc, entries);
+        let stream = stream(rt, alloc, second.as_slice());
+        let files = of_server(rt, alloc, cast, old.as_slice());
+        Scene {
             files,
             old,
             new,
             stream,
-        })
+        }
     }
 
-    fn new(alloc: Global) -> Result<Scene, Fail> {
-        let cast = Cast::new(alloc)?;
-        let sample = entries(alloc, &cast, 2)?;
-        let scene = Scene::of(alloc, &cast, sample.entries());
+    fn new(rt: &impl Abort, alloc: Global) -> Scene {
+        let cast = Cast::new(alloc).expect(rt, "a cast");
+        let sample = entries(rt, alloc, &cast, 2);
+        let scene = Scene::of(rt, alloc, &cast, sample.entries());
         drop(sample);
         drop(cast);
         scene
@@ -71,21 +74,21 @@ struct Ended {
 }
 
 // A server of one session, to which the client comes.
-fn served<R: Threads + Wait + Sync>(
+fn served<R: Threads + Wait + Sync + Abort>(
     rt: &R,
     alloc: Global,
     scene: &Scene,
     place: &mut Place,
     failing: Failing,
-) -> Result<Ended, AllocError> {
+) -> Ended {
     let words = "serve D a --sessions 1";
     let sent = scene.stream.as_slice();
-    let ((status, written), is_quiet) = run_listed(rt, alloc, place, words, sent, failing)?;
-    Ok(Ended {
+    let ((status, written), is_quiet) = run_listed(rt, alloc, place, words, sent, failing);
+    Ended {
         status,
         written,
         is_quiet,
-    })
+    }
 }
 
 // Whether the log is the old one or the new one, whole.
@@ -97,17 +100,17 @@ fn is_whole(scene: &Scene, place: &Place) -> bool {
 }
 
 // Whether a server over what is left has both entries at the end.
-fn goes_on<R: Threads + Wait + Sync>(
+fn goes_on<R: Threads + Wait + Sync + Abort>(
     rt: &R,
     alloc: Global,
     scene: &Scene,
     left: &[NamedFile],
-) -> Result<bool, AllocError> {
-    let mut place = Place::new(alloc, copied(alloc, left)?)?;
-    let ended = served(rt, alloc, scene, &mut place, NONE)?;
+) -> bool {
+    let mut place = Place::new(rt, alloc, copied(rt, alloc, left));
+    let ended = served(rt, alloc, scene, &mut place, NONE);
     let is_new = place.file("D.log") == Some(scene.new.as_slice());
     drop(place);
-    Ok(is_new && ended.status == 0 && is_same(ended.written.as_slice(), b"log 2\n"))
+    is_new && ended.status == 0 && is_same(ended.written.as_slice(), b"log 2\n")
 }
 
 // Whether this is how a server ends one of whose calls failed. A link that fails ends its session alone.
@@ -128,16 +131,16 @@ fn ends_well<R: Threads + Wait + Sync + Abort>(
     place: &mut Place,
     object: Object,
     call: u64,
-) -> Result<bool, Fail> {
-    let ended = served(rt, alloc, scene, place, Failing::at(object, call))?;
+) -> bool {
+    let ended = served(rt, alloc, scene, place, Failing::at(object, call));
     assert!(rt; is_whole(scene, place), "call {call}");
     assert!(rt;
-        goes_on(rt, alloc, scene, place.files.files())?,
+        goes_on(rt, alloc, scene, place.files.files()),
         "call {call}"
     );
     let is_well = ended.status == 0 && ended.is_quiet;
     assert!(rt; is_well || is_told(object, &ended), "call {call}");
-    Ok(is_well)
+    is_well
 }
 
 // The same, over the scene's files.
@@ -147,9 +150,9 @@ fn ends_without<R: Threads + Wait + Sync + Abort>(
     scene: &Scene,
     object: Object,
     call: u64,
-) -> Result<bool, Fail> {
-    let files = copied(alloc, scene.files.as_slice())?;
-    let mut place = Place::failing(alloc, files, Failing::at(object, call))?;
+) -> bool {
+    let files = copied(rt, alloc, scene.files.as_slice());
+    let mut place = Place::failing(rt, alloc, files, Failing::at(object, call));
     let ends = ends_well(rt, alloc, scene, &mut place, object, call);
     drop(place);
     ends
@@ -161,13 +164,13 @@ fn first_unmade<R: Threads + Wait + Sync + Abort>(
     alloc: Global,
     scene: &Scene,
     object: Object,
-) -> Result<u64, Fail> {
+) -> u64 {
     for call in 1..100 {
-        if ends_without(rt, alloc, scene, object, call)? {
-            return Ok(call);
+        if ends_without(rt, alloc, scene, object, call) {
+            return call;
         }
     }
-    Err("no end".into())
+    panic!(rt; "no end")
 }
 
 // Each object, and how many calls of it a server of one session makes at least.
@@ -182,11 +185,10 @@ const OBJECTS: [(Object, u64); 4] = [
 ];
 
 #[test]
-fn each_call_that_fails_is_told(rt: HostRuntime) -> Result<(), Fail> {
-    let scene = Scene::new(rt.alloc())?;
+fn each_call_that_fails_is_told(rt: HostRuntime) {
+    let scene = Scene::new(&rt, rt.alloc());
     for (object, calls) in &OBJECTS {
-        let unmade = first_unmade(&rt, rt.alloc(), &scene, *object)?;
+        let unmade = first_unmade(&rt, rt.alloc(), &scene, *object);
         assert!(rt; unmade > *calls, "{calls} calls");
     }
-    Ok(())
 }

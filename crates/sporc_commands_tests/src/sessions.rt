@@ -7,10 +7,9 @@ use sporc_base::is_same;
 use sporc_outside::{NamedFile, PipeNet};
 use sporc_samples::{Cast, DOCUMENT};
 use sporc_store::read_saved;
-use std::alloc::{AllocError, Global};
+use std::alloc::Global;
 use std::process::Abort;
 use std::sync::Wait;
-use std::test::Fail;
 use std::thread::{Threads, join};
 
 // The member's and the server's files before a session: both have one entry, and the block of its leaf is taken.
@@ -22,17 +21,18 @@ struct Scene {
 
 impl Scene {
     // Of these entries.
-    fn of(alloc: Global, cast: &Cast, entries: &[Vec<u8>]) -> Result<Scene, Fail> {
-        let history = history_file(alloc, entries)?;
-        let member = of_member(alloc, cast, &[1, 0, 0, 0, 0, 0, 0, 0], history.as_slice())?;
-        let server = of_server(alloc, cast, history.as_slice())?;
-        Ok(Scene { member, server })
+    fn of(rt: &impl Abort, alloc: Global, cast: &Cast, entries: &[Vec<u8>]) -> Scene {
+        let leaf = [1, 0, 0, 0, 0, 0, 0, 0];
+        let history = history_file(rt, alloc, entries);
+        let member = of_member(rt, alloc, cast, &leaf, history.as_slice());
+        let server = of_server(rt, alloc, cast, history.as_slice());
+        Scene { member, server }
     }
 
-    fn new(alloc: Global) -> Result<Scene, Fail> {
-        let cast = Cast::new(alloc)?;
-        let sample = entries(alloc, &cast, 1)?;
-        let scene = Scene::of(alloc, &cast, sample.entries());
+    fn new(rt: &impl Abort, alloc: Global) -> Scene {
+        let cast = Cast::new(alloc).expect(rt, "a cast");
+        let sample = entries(rt, alloc, &cast, 1);
+        let scene = Scene::of(rt, alloc, &cast, sample.entries());
         drop(sample);
         drop(cast);
         scene
@@ -43,39 +43,38 @@ impl Scene {
 type Ended = (u8, bool);
 
 // What the member runs, and calls the server once more in case it did not come to that.
-fn work<R: Threads + Wait + Sync>(
+fn work<R: Threads + Wait + Sync + Abort>(
     rt: &R,
     alloc: Global,
     member: &mut Place,
     net: &mut FaultyNet<&R>,
-) -> Result<Ended, AllocError> {
-    let answer = member.run(rt, alloc, net, "client D 2 a --rounds 3 insert");
+) -> Ended {
+    let (status, written) = member.run(rt, alloc, net, "client D 2 a --rounds 3 insert");
     net.visit(rt);
-    let (status, written) = answer?;
-    Ok((status, written.as_slice().ends_with(b"fault outside\n")))
+    (status, written.as_slice().ends_with(b"fault outside\n"))
 }
 
 // Whether a server of one session ends well.
-fn has_served<R: Threads + Wait + Sync>(
+fn has_served<R: Threads + Wait + Sync + Abort>(
     rt: &R,
     alloc: Global,
     server: &mut Place,
     net: &mut PipeNet<&R>,
-) -> Result<bool, AllocError> {
-    let (status, _) = server.run_piped(rt, alloc, net, "serve D a --sessions 1")?;
-    Ok(status == 0)
+) -> bool {
+    let (status, _) = server.run_piped(rt, alloc, net, "serve D a --sessions 1");
+    status == 0
 }
 
 // A session beside a server of one session.
-fn session<R: Threads + Wait + Sync>(
+fn session<R: Threads + Wait + Sync + Abort>(
     rt: &R,
     alloc: Global,
     member: &mut Place,
     server: &mut Place,
     failing: Failing,
-) -> Result<Ended, Fail> {
-    let mut far = PipeNet::new(rt, alloc)?;
-    let mut near = FaultyNet::new(alloc, &far, failing)?;
+) -> Ended {
+    let mut far = PipeNet::new(rt, alloc).expect(rt, "memory");
+    let mut near = FaultyNet::new(rt, alloc, &far, failing);
     let (served, worked) = join(
         rt,
         || has_served(rt, alloc, server, &mut far),
@@ -83,10 +82,8 @@ fn session<R: Threads + Wait + Sync>(
     );
     drop(near);
     drop(far);
-    if !served? {
-        return Err("the server failed".into());
-    }
-    Ok(worked?)
+    assert!(rt; served, "the server failed");
+    worked
 }
 
 // Whether each block of leaves that was taken still is.
@@ -95,14 +92,10 @@ fn stay_taken(before: &[u8], after: &[u8]) -> bool {
 }
 
 // Whether the member's history is whole, with one entry or two.
-fn is_whole<R: Threads + Wait + Sync>(
-    rt: &R,
-    alloc: Global,
-    member: &mut Place,
-) -> Result<bool, Fail> {
-    let (status, written) = member.run_alone(rt, alloc, "check D 2")?;
+fn is_whole<R: Threads + Wait + Sync + Abort>(rt: &R, alloc: Global, member: &mut Place) -> bool {
+    let (status, written) = member.run_alone(rt, alloc, "check D 2");
     let line = written.as_slice();
-    Ok(status == 0 && (is_same(line, b"checked 1\n") || is_same(line, b"checked 2\n")))
+    status == 0 && (is_same(line, b"checked 1\n") || is_same(line, b"checked 2\n"))
 }
 
 // The number of the leaf that signed an entry.
@@ -114,55 +107,55 @@ fn leaf_of(entry: &[u8]) -> Option<u32> {
 }
 
 // Whether each entry was signed by a later leaf than the one before, if all are member 2's.
-fn leaves_rise(entries: &[Vec<u8>]) -> Result<bool, Fail> {
+fn leaves_rise(rt: &impl Abort, entries: &[Vec<u8>]) -> bool {
     let mut least = 0;
     for entry in entries {
-        let leaf = leaf_of(entry.as_slice()).ok_or("no leaf")?;
+        let leaf = leaf_of(entry.as_slice()).expect(rt, "a leaf");
         if leaf < least {
-            return Ok(false);
+            return false;
         }
         least = leaf.saturating_add(1);
     }
-    Ok(entries.len() > 1)
+    entries.len() > 1
 }
 
 // The same of the entries of a log.
-fn leaves_rise_in(alloc: Global, log: &[u8]) -> Result<bool, Fail> {
-    let (entries, _) = read_saved(alloc, &DOCUMENT, log)?;
-    let rise = leaves_rise(entries.as_slice());
+fn leaves_rise_in(rt: &impl Abort, alloc: Global, log: &[u8]) -> bool {
+    let (entries, _) = read_saved(alloc, &DOCUMENT, log).expect(rt, "memory");
+    let rise = leaves_rise(rt, entries.as_slice());
     drop(entries);
     rise
 }
 
 // Whether a session over the files that one left ends well, and the server's entries then have rising leaves.
-fn works_on<R: Threads + Wait + Sync>(
+fn works_on<R: Threads + Wait + Sync + Abort>(
     rt: &R,
     alloc: Global,
     member: &mut Place,
     server: &mut Place,
-) -> Result<bool, Fail> {
-    if !is_whole(rt, alloc, member)? {
-        return Ok(false);
+) -> bool {
+    if !is_whole(rt, alloc, member) {
+        return false;
     }
-    let (status, _) = session(rt, alloc, member, server, NONE)?;
-    let log = server.file("D.log").ok_or("no log")?;
-    Ok(status == 0 && leaves_rise_in(alloc, log)?)
+    let (status, _) = session(rt, alloc, member, server, NONE);
+    let log = server.file("D.log").expect(rt, "a log");
+    status == 0 && leaves_rise_in(rt, alloc, log)
 }
 
 // Whether the files that a session left are as they should, and the member goes on with them.
-fn goes_on<R: Threads + Wait + Sync>(
+fn goes_on<R: Threads + Wait + Sync + Abort>(
     rt: &R,
     alloc: Global,
     scene: &Scene,
     left: &[NamedFile],
     server: &mut Place,
-) -> Result<bool, Fail> {
-    let before = file_in(scene.member.as_slice(), "D.2.leaf").ok_or("no leaf file")?;
-    let after = file_in(left, "D.2.leaf").ok_or("no leaf file")?;
+) -> bool {
+    let before = file_in(scene.member.as_slice(), "D.2.leaf").expect(rt, "a leaf file");
+    let after = file_in(left, "D.2.leaf").expect(rt, "a leaf file");
     if !stay_taken(before, after) {
-        return Ok(false);
+        return false;
     }
-    let mut member = Place::new(alloc, copied(alloc, left)?)?;
+    let mut member = Place::new(rt, alloc, copied(rt, alloc, left));
     let works = works_on(rt, alloc, &mut member, server);
     drop(member);
     works
@@ -177,16 +170,16 @@ fn ends_well<R: Threads + Wait + Sync + Abort>(
     server: &mut Place,
     object: Object,
     call: u64,
-) -> Result<bool, Fail> {
+) -> bool {
     let failing = Failing::at(object, call);
-    let (status, is_told) = session(rt, alloc, member, server, failing)?;
+    let (status, is_told) = session(rt, alloc, member, server, failing);
     assert!(rt;
-        goes_on(rt, alloc, scene, member.files.files(), server)?,
+        goes_on(rt, alloc, scene, member.files.files(), server),
         "call {call}"
     );
     let is_well = status == 0;
     assert!(rt; is_well || (status == 6 && is_told), "call {call}");
-    Ok(is_well)
+    is_well
 }
 
 // The same, over the scene's files.
@@ -196,10 +189,10 @@ fn ends_without<R: Threads + Wait + Sync + Abort>(
     scene: &Scene,
     object: Object,
     call: u64,
-) -> Result<bool, Fail> {
-    let files = copied(alloc, scene.member.as_slice())?;
-    let mut member = Place::failing(alloc, files, Failing::at(object, call))?;
-    let mut server = Place::new(alloc, copied(alloc, scene.server.as_slice())?)?;
+) -> bool {
+    let files = copied(rt, alloc, scene.member.as_slice());
+    let mut member = Place::failing(rt, alloc, files, Failing::at(object, call));
+    let mut server = Place::new(rt, alloc, copied(rt, alloc, scene.server.as_slice()));
     let ends = ends_well(rt, alloc, scene, &mut member, &mut server, object, call);
     drop(member);
     drop(server);
@@ -212,13 +205,13 @@ fn first_unmade<R: Threads + Wait + Sync + Abort>(
     alloc: Global,
     scene: &Scene,
     object: Object,
-) -> Result<u64, Fail> {
+) -> u64 {
     for call in 1..100 {
-        if ends_without(rt, alloc, scene, object, call)? {
-            return Ok(call);
+        if ends_without(rt, alloc, scene, object, call) {
+            return call;
         }
     }
-    Err("no end".into())
+    panic!(rt; "no end")
 }
 
 // Each object, and how many calls of it a session makes at least.
@@ -237,11 +230,10 @@ const OBJECTS: [(Object, u64); 6] = [
 ];
 
 #[test]
-fn each_call_that_fails_ends_a_session(rt: HostRuntime) -> Result<(), Fail> {
-    let scene = Scene::new(rt.alloc())?;
+fn each_call_that_fails_ends_a_session(rt: HostRuntime) {
+    let scene = Scene::new(&rt, rt.alloc());
     for (object, calls) in &OBJECTS {
-        let unmade = first_unmade(&rt, rt.alloc(), &scene, *object)?;
+        let unmade = first_unmade(&rt, rt.alloc(), &scene, *object);
         assert!(rt; unmade > *calls, "{calls} calls");
     }
-    Ok(())
 }

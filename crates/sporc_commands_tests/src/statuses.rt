@@ -8,7 +8,6 @@ use sporc_outside::NamedFile;
 use std::alloc::Global;
 use std::process::Abort;
 use std::sync::Wait;
-use std::test::Fail;
 use std::thread::Threads;
 
 // What member 2 runs, what the server sends it, and the status with the fault's line.
@@ -81,39 +80,31 @@ const FULL: Row = Row {
 };
 
 // Whether a session of a member with these files ends so.
-fn ends_so<R: Threads + Wait + Sync>(
+fn ends_so<R: Threads + Wait + Sync + Abort>(
     rt: &R,
     alloc: Global,
     files: Vec<NamedFile>,
     row: &Row,
-) -> Result<bool, Fail> {
-    let mut place = Place::new(alloc, files)?;
-    let ended = run_listed(rt, alloc, &mut place, row.words, row.sent, NONE);
+) -> bool {
+    let mut place = Place::new(rt, alloc, files);
+    let ((status, written), _) = run_listed(rt, alloc, &mut place, row.words, row.sent, NONE);
     drop(place);
-    let ((status, written), _) = ended?;
-    Ok(status == row.status && written.as_slice().ends_with(row.line))
+    status == row.status && written.as_slice().ends_with(row.line)
 }
 
 // The sessions of the rows, of a member with these files.
-fn end_as_rows_say<R: Threads + Wait + Sync + Abort>(
-    rt: &R,
-    alloc: Global,
-    files: &[NamedFile],
-) -> Result<(), Fail> {
+fn end_as_rows_say<R: Threads + Wait + Sync + Abort>(rt: &R, alloc: Global, files: &[NamedFile]) {
     for row in &ROWS {
-        let files = copied(alloc, files)?;
-        assert!(rt; ends_so(rt, alloc, files, row)?, "status {}", row.status);
+        let files = copied(rt, alloc, files);
+        assert!(rt; ends_so(rt, alloc, files, row), "status {}", row.status);
     }
-    Ok(())
 }
 
 #[test]
-fn sessions_have_their_statuses(rt: HostRuntime) -> Result<(), Fail> {
-    let files = with_entries(rt.alloc(), &[1; 8], 0)?;
-    let ended = end_as_rows_say(&rt, rt.alloc(), files.as_slice());
+fn sessions_have_their_statuses(rt: HostRuntime) {
+    let files = with_entries(&rt, rt.alloc(), &[1; 8], 0);
+    end_as_rows_say(&rt, rt.alloc(), files.as_slice());
     drop(files);
-    ended?;
-    let full = with_entries(rt.alloc(), &[0; 8], MAX_ENTRIES)?;
-    assert!(rt; ends_so(&rt, rt.alloc(), full, &FULL)?);
-    Ok(())
+    let full = with_entries(&rt, rt.alloc(), &[0; 8], MAX_ENTRIES);
+    assert!(rt; ends_so(&rt, rt.alloc(), full, &FULL));
 }
