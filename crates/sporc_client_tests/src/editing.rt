@@ -1,5 +1,6 @@
 //! Edits of texts that were shown before, giving up what is pending, and how much may be.
 
+use crate::checks::check;
 use crate::room::{Room, edit, plays, shown_len};
 use crate::scene::{MemoryClient, insertion};
 use sporc_client::EditFault;
@@ -59,18 +60,27 @@ fn is_refused(
 // The bytes of an edit are nine and its text's.
 fn length_is_limited(rt: &impl Abort, alloc: Global, client: &mut MemoryClient) {
     let mut text = "a".repeat(alloc, 65_528).expect(rt, "memory");
-    assert!(rt; is_refused(rt, alloc, client, text.as_str(), EditFault::TooLong(65_537)));
+    let refused = is_refused(rt, alloc, client, text.as_str(), EditFault::TooLong(65_537));
+    check(rt, "too long", refused);
     let _ = text.pop();
-    assert!(rt; inserts(rt, alloc, client, text.as_str()).is_none());
+    check(
+        rt,
+        "longest",
+        inserts(rt, alloc, client, text.as_str()).is_none(),
+    );
 }
 
 // 1,024 edits are pending, and no more may be.
 fn number_is_limited(rt: &impl Abort, alloc: Global, client: &mut MemoryClient) {
     for _ in 1..1_024 {
-        assert!(rt; inserts(rt, alloc, client, "b").is_none());
+        check(rt, "one more", inserts(rt, alloc, client, "b").is_none());
     }
-    assert!(rt; is_refused(rt, alloc, client, "c", EditFault::PendingFull));
-    assert!(rt; client.pending() == 1_024);
+    check(
+        rt,
+        "too many",
+        is_refused(rt, alloc, client, "c", EditFault::PendingFull),
+    );
+    check(rt, "number pending", client.pending() == 1_024);
 }
 
 fn is_limited(rt: &impl Abort, alloc: Global, client: &mut MemoryClient) {

@@ -7,6 +7,8 @@
 #[cfg(test)]
 mod changing;
 #[cfg(test)]
+mod checks;
+#[cfg(test)]
 mod editing;
 #[cfg(test)]
 mod meeting;

@@ -1,5 +1,6 @@
 //! Clients that go back, and clients that begin with a history.
 
+use crate::checks::check;
 use crate::room::{ABC, Room};
 use crate::scene::{MemoryClient, founder_ring, paired};
 use sporc_line::Line;
@@ -55,7 +56,7 @@ const ANEW: &str = "
 
 fn knows(rt: &impl Abort, room: &mut Room, key: [u8; 32]) {
     let client = room.client(rt, 2);
-    assert!(rt; client.key().copied() == Some(key));
+    check(rt, "key", client.key().copied() == Some(key));
 }
 
 // The second half of a submission's random bytes is the key of the next epoch.

@@ -14,6 +14,7 @@
 //!
 //! A call that is refused answers its fault.
 
+use crate::checks::check_answer;
 use crate::scene::{MemoryClient, RANDOM, insertion, joined, opened, removal, resumed};
 use sporc_base::Bytes;
 use sporc_client::{EditFault, Submitted};
@@ -99,7 +100,7 @@ impl Room {
     fn tries_row(&mut self, rt: &impl Abort, alloc: Global, row: &str) {
         let (told, answer) = row.split_once(" -> ").expect(rt, "an answer");
         let found = self.answer(rt, alloc, &mut told.split_whitespace());
-        assert!(rt; found.as_str() == answer, "{row}: {found}");
+        check_answer(rt, row, found.as_str(), answer);
     }
 
     // What a client answers.

@@ -1,5 +1,6 @@
 //! Submissions that give no entry.
 
+use crate::checks::check;
 use crate::room::{Room, edit};
 use crate::scene::{MemoryClient, RANDOM, insertion, no_calls, removal};
 use sporc_client::{SubmitFault, Submitted};
@@ -9,13 +10,9 @@ use sporc_samples::{Cast, History, insertion as insertion_bytes};
 use std::alloc::Global;
 use std::process::Abort;
 
+// Whether a submission is refused for this.
 fn is_refused(client: &mut MemoryClient, fault: SubmitFault) -> bool {
     client.submit(1, &RANDOM).err() == Some(fault)
-}
-
-// A submission was to be refused for this.
-fn refused(rt: &impl Abort, client: &mut MemoryClient, fault: SubmitFault) {
-    assert!(rt; is_refused(client, fault));
 }
 
 // A client commits its first pending item, as the entry at this position.
@@ -40,8 +37,12 @@ fn change_is_not_sealed(rt: &impl Abort, client: &mut MemoryClient) {
     client
         .change(1, Change::Remove { member: 3 })
         .expect(rt, "an event");
-    refused(rt, client, SubmitFault::NoPairKey(4));
-    assert!(rt; client.pending() == 1);
+    check(
+        rt,
+        "no pairwise key",
+        is_refused(client, SubmitFault::NoPairKey(4)),
+    );
+    check(rt, "change pending", client.pending() == 1);
 }
 
 fn lacks_keys(rt: &impl Abort, alloc: Global, cast: &Cast) {
@@ -58,7 +59,11 @@ fn leaves_end(rt: &impl Abort, alloc: Global, client: &mut MemoryClient) {
         commit(rt, client, i.wrapping_add(1));
     }
     insert(rt, alloc, client, 32);
-    refused(rt, client, SubmitFault::Exhausted(32));
+    check(
+        rt,
+        "no leaf",
+        is_refused(client, SubmitFault::Exhausted(32)),
+    );
 }
 
 fn all_leaves(rt: &impl Abort, alloc: Global, cast: &Cast) {
@@ -76,9 +81,13 @@ fn failing_calls(rt: &impl Abort, alloc: Global) -> Calls {
 // A disk that failed once draws no more. The edit stays pending.
 fn draw_fails(rt: &impl Abort, alloc: Global, client: &mut MemoryClient) {
     insert(rt, alloc, client, 0);
-    refused(rt, client, SubmitFault::LeafFault);
-    refused(rt, client, SubmitFault::LeafFault);
-    assert!(rt; client.pending() == 1);
+    check(rt, "draw fails", is_refused(client, SubmitFault::LeafFault));
+    check(
+        rt,
+        "draws no more",
+        is_refused(client, SubmitFault::LeafFault),
+    );
+    check(rt, "edit pending", client.pending() == 1);
 }
 
 fn has_failing_disk(rt: &impl Abort, alloc: Global, cast: &Cast) {
@@ -181,8 +190,12 @@ fn empty_history(rt: &impl Abort, alloc: Global, cast: &Cast) -> History {
 fn head_is_too_long(rt: &impl Abort, alloc: Global, cast: &Cast, client: &mut MemoryClient) {
     let mut sample = empty_history(rt, alloc, cast);
     head_grows(rt, alloc, cast, &mut sample, client);
-    assert!(rt; client.shown_len_at(4) == Some(60_000));
-    refused(rt, client, SubmitFault::HeadTooLong(1_080_009));
+    check(rt, "shown length", client.shown_len_at(4) == Some(60_000));
+    check(
+        rt,
+        "head",
+        is_refused(client, SubmitFault::HeadTooLong(1_080_009)),
+    );
 }
 
 #[test]

@@ -2,8 +2,8 @@
 
 ghost use Rattle.std.specs.Prelude.{◌<◌};
 
+use crate::checks::check_answer;
 use crate::place::{Answer, Streams, few_words};
-use sporc_base::is_same;
 use sporc_outside::{Calls, ListedChance, MemoryFolder, MemoryNet, OpenGate};
 use sporc_top::run;
 use std::alloc::Global;
@@ -75,16 +75,16 @@ pub fn answer<R: Threads + Wait + Sync + Abort>(
     answer
 }
 
-/// Asserts that the words and the script are answered so, if nothing fails.
+/// The words and the script of this row are answered so, if nothing fails.
 pub fn answers<R: Threads + Wait + Sync + Abort>(
     rt: &R,
     alloc: Global,
+    row: &str,
     words: &str,
     script: &[u8],
     status: u8,
     report: &[u8],
 ) {
     let (got, written) = answer(rt, alloc, words, script, 1 << 20, 0, 0);
-    assert!(rt; is_same(written.as_slice(), report));
-    assert!(rt; got == status);
+    check_answer(rt, row, (got, written.as_slice()), status, report);
 }

@@ -1,5 +1,6 @@
 //! Commands one after the other, and members who work with a server in another thread.
 
+use crate::checks::check;
 use crate::place::{Place, named};
 use sporc_base::is_same;
 use sporc_outside::PipeNet;
@@ -7,6 +8,14 @@ use std::alloc::Global;
 use std::process::Abort;
 use std::sync::Wait;
 use std::thread::{Threads, join};
+
+fn is_done(status: u8, written: &[u8], end: &[u8]) -> bool {
+    status == 0 && written.ends_with(end)
+}
+
+fn is_stopped(status: u8, written: &[u8], line: &[u8]) -> bool {
+    status == 3 && is_same(written, line)
+}
 
 // A command that is done: what it writes ends with this.
 fn does<R: Threads + Wait + Sync + Abort>(
@@ -17,7 +26,7 @@ fn does<R: Threads + Wait + Sync + Abort>(
     end: &[u8],
 ) {
     let (status, written) = place.run_alone(rt, alloc, words);
-    assert!(rt; status == 0 && written.as_slice().ends_with(end), "{words}");
+    check(rt, words, is_done(status, written.as_slice(), end));
 }
 
 // A command that is stopped by a fault with this line.
@@ -29,7 +38,7 @@ fn fails<R: Threads + Wait + Sync + Abort>(
     line: &[u8],
 ) {
     let (status, written) = place.run_alone(rt, alloc, words);
-    assert!(rt; status == 3 && is_same(written.as_slice(), line), "{words}");
+    check(rt, words, is_stopped(status, written.as_slice(), line));
 }
 
 // A place with one file.
@@ -122,8 +131,8 @@ fn work_together<R: Threads + Wait + Sync + Abort>(
     );
     drop(near);
     drop(net);
-    assert!(rt; served);
-    assert!(rt; worked);
+    check(rt, "server", served);
+    check(rt, "members", worked);
 }
 
 // Members with a document work with a server that has its genesis.

@@ -1,5 +1,6 @@
 //! The files of the sample document, by the name `D`.
 
+use crate::bytes::{append, bytes_of};
 use crate::place::named;
 use sporc_entry::write_genesis;
 use sporc_head::MAX_ENTRIES;
@@ -12,27 +13,32 @@ use std::process::Abort;
 // The key file of member 2: a tree of height 5 with four bits a coefficient.
 fn key_file(rt: &impl Abort, alloc: Global) -> Vec<u8> {
     let head = b"SPK1\0\x02\0\0\0\x05\0\0\0\x03";
-    let mut bytes = Vec::from_slice(alloc, head).expect(rt, "memory");
-    bytes.extend_from_slice(&[2; 16]).expect(rt, "memory");
-    bytes.extend_from_slice(&[2; 32]).expect(rt, "memory");
+    let mut bytes = bytes_of(rt, alloc, head);
+    append(rt, &mut bytes, &[2; 16]);
+    append(rt, &mut bytes, &[2; 32]);
     bytes
 }
 
 // The ring file of member 2, a founder who shares no key.
 fn ring_file(rt: &impl Abort, alloc: Global) -> Vec<u8> {
-    let mut bytes = Vec::from_slice(alloc, b"SPR1\0\x02\x01").expect(rt, "memory");
-    bytes.extend_from_slice(&epoch_key(0)).expect(rt, "memory");
-    bytes.extend_from_slice(b"\0\0").expect(rt, "memory");
+    let mut bytes = bytes_of(rt, alloc, b"SPR1\0\x02\x01");
+    append(rt, &mut bytes, &epoch_key(0));
+    append(rt, &mut bytes, b"\0\0");
     bytes
+}
+
+// Adds an entry of member 2, which inserts a character behind so many.
+fn add_entry(rt: &impl Abort, alloc: Global, sample: &mut History, cast: &Cast, place: u32) {
+    let delta = insertion(alloc, u64::from(place), b"a").expect(rt, "memory");
+    sample
+        .edit(alloc, cast, 2, delta.as_slice())
+        .expect(rt, "an entry");
 }
 
 // Adds so many entries of member 2, each of which inserts a character behind those before it.
 fn add_entries(rt: &impl Abort, alloc: Global, sample: &mut History, cast: &Cast, count: u32) {
     for entry in 0..count {
-        let delta = insertion(alloc, u64::from(entry), b"a").expect(rt, "memory");
-        sample
-            .edit(alloc, cast, 2, delta.as_slice())
-            .expect(rt, "an entry");
+        add_entry(rt, alloc, sample, cast, entry);
     }
 }
 

@@ -1,6 +1,7 @@
 //! The lines of faults of plays, and what is told if a read or a write fails.
 
 use crate::answers::{answer, answers};
+use crate::checks::{check, check_answer, check_at};
 use sporc_base::is_same;
 use std::alloc::Global;
 use std::process::Abort;
@@ -75,16 +76,23 @@ const OTHER_WORDS: [&str; 13] = [
     "check D 1 2",
 ];
 
+fn is_outside<R: Threads + Wait + Sync + Abort>(rt: &R, alloc: Global, script: &str, line: &str) {
+    let report = line.as_bytes();
+    answers(rt, alloc, script, "play", script.as_bytes(), 3, report);
+}
+
 fn lines_outside_the_grammar_are_told<R: Threads + Wait + Sync + Abort>(rt: &R, alloc: Global) {
     for (script, report) in &OUTSIDE {
-        answers(rt, alloc, "play", script.as_bytes(), 3, report.as_bytes());
+        is_outside(rt, alloc, script, report);
     }
-    answers(rt, alloc, "play", b"# \xff\n", 3, b"fault line 1\n");
+    let script = b"# \xff\n";
+    answers(rt, alloc, "no UTF-8", "play", script, 3, b"fault line 1\n");
 }
 
 fn other_words_ask_for_nothing<R: Threads + Wait + Sync + Abort>(rt: &R, alloc: Global) {
     for words in &OTHER_WORDS {
-        answers(rt, alloc, *words, THIN.as_bytes(), 2, b"fault words\n");
+        let script = THIN.as_bytes();
+        answers(rt, alloc, *words, *words, script, 2, b"fault words\n");
     }
 }
 
@@ -97,8 +105,7 @@ fn keeps<R: Threads + Wait + Sync + Abort>(
     status: u8,
 ) {
     let (got, written) = answer(rt, alloc, word, script, 4, 0, 2);
-    assert!(rt; is_same(written.as_slice(), b"faul"));
-    assert!(rt; got == status);
+    check_answer(rt, word, (got, written.as_slice()), status, b"faul");
 }
 
 #[test]
@@ -114,6 +121,11 @@ fn plays_have_lines_for_their_faults(rt: HostRuntime) {
 enum Side {
     Read,
     Write,
+}
+
+// Whether this is how a play ends none of whose calls failed.
+fn is_well(status: u8, written: &[u8]) -> bool {
+    status == 0 && is_same(written, THIN_REPORT.as_bytes())
 }
 
 // Whether this is how a play ends one of whose calls failed: the fault alone if it was a read, and else the fault after a
@@ -141,9 +153,9 @@ fn ends_without<R: Threads + Wait + Sync + Abort>(
         Side::Write => (0, call),
     };
     let (status, written) = answer(rt, alloc, "play", THIN.as_bytes(), 7, read, write);
-    let written = written.as_slice();
-    let is_well = status == 0 && is_same(written, THIN_REPORT.as_bytes());
-    assert!(rt; is_well || is_told(side, status, written), "call {call}");
+    let is_well = is_well(status, written.as_slice());
+    let is_told = is_told(side, status, written.as_slice());
+    check_at(rt, "call", call, is_well || is_told);
     is_well
 }
 
@@ -161,8 +173,8 @@ fn first_unmade<R: Threads + Wait + Sync + Abort>(rt: &R, alloc: Global, side: S
 fn each_read_and_write_that_fails_is_told(rt: HostRuntime) {
     // As many reads of 7 bytes as the script takes, and one that finds its end.
     let reads = first_unmade(&rt, rt.alloc(), Side::Read);
-    assert!(rt; reads == THIN.len().div_ceil(7) as u64 + 2);
+    check(&rt, "reads", reads == THIN.len().div_ceil(7) as u64 + 2);
     // Lines of 15, 17, 14 and 28 bytes.
     let writes = first_unmade(&rt, rt.alloc(), Side::Write);
-    assert!(rt; writes == 3 + 3 + 2 + 4 + 1);
+    check(&rt, "writes", writes == 3 + 3 + 2 + 4 + 1);
 }

@@ -11,6 +11,10 @@
 #[cfg(test)]
 mod answers;
 #[cfg(test)]
+mod bytes;
+#[cfg(test)]
+mod checks;
+#[cfg(test)]
 mod commands;
 #[cfg(test)]
 mod document;

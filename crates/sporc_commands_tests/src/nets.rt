@@ -2,7 +2,8 @@
 
 ghost use Rattle.std.specs.Prelude.{◌<◌, None, refl};
 
-use crate::place::{Answer, Failing, Place, calls};
+use crate::bytes::bytes_of;
+use crate::place::{Answer, Failing, Place, calls, calls_of};
 use sporc_outside::{
     Calls, Counted, Dial, Failed, Link, Links, Listen, MemoryLink, MemoryNet, PipeLink, PipeNet,
     Sink, Source,
@@ -17,12 +18,10 @@ const PIECE: usize = 1_000;
 
 // A net with one link, which brings these bytes.
 fn listed_net(rt: &impl Abort, alloc: Global, sent: &[u8], failing: Failing) -> MemoryNet {
-    let sent = Vec::from_slice(alloc, sent).expect(rt, "memory");
-    let link_calls = calls(alloc, failing.link).expect(rt, "memory");
-    let link = MemoryLink::new(alloc, sent, PIECE, link_calls);
+    let sent = bytes_of(rt, alloc, sent);
+    let link = MemoryLink::new(alloc, sent, PIECE, calls_of(rt, alloc, failing.link));
     let links = vec![in alloc; link].expect(rt, "memory");
-    let net_calls = calls(alloc, failing.net).expect(rt, "memory");
-    MemoryNet::new(alloc, links, net_calls)
+    MemoryNet::new(alloc, links, calls_of(rt, alloc, failing.net))
 }
 
 /// What a run over such a net answers, and whether no call of its link failed.
@@ -61,11 +60,10 @@ pub struct FaultyLink<R: Wait + Copy + Drop> {
 impl<R: Wait + Copy + Drop> FaultyNet<R> {
     /// Another handle of this net, where these calls of the net and of its links fail.
     pub fn new(rt: &impl Abort, alloc: Global, net: &PipeNet<R>, failing: Failing) -> FaultyNet<R> {
-        let calls = calls(alloc, failing.net).expect(rt, "memory");
         FaultyNet {
             alloc,
             net: net.another().expect(rt, "memory"),
-            calls,
+            calls: calls_of(rt, alloc, failing.net),
             link_call: failing.link,
             link_faults: 0,
         }

@@ -2,6 +2,8 @@
 
 ghost use Rattle.std.specs.Prelude.{◌≡◌, ◌<◌, IfOk};
 
+use crate::bytes::bytes_of;
+use sporc_base::is_same;
 use sporc_outside::{
     Calls, Dial, DiskBytes, ListedChance, Listen, MemoryFolder, MemorySink, MemorySource,
     NamedFile, OpenGate, PipeNet,
@@ -76,6 +78,13 @@ pub fn calls(alloc: Global, call: u64) -> Result<Calls, AllocError>
     Ok(Calls::failing([call].to_vec(alloc)?))
 }
 
+/// The same.
+pub fn calls_of(rt: &impl Abort, alloc: Global, call: u64) -> Calls
+    ensures { result.faults ≡ 0 }
+{
+    calls(alloc, call).expect(rt, "memory")
+}
+
 /// Standard input and output of a run.
 #[derive(Drop)]
 pub struct Streams {
@@ -96,24 +105,20 @@ pub type Answer = (u8, Vec<u8>);
 
 /// A file.
 pub fn named(rt: &impl Abort, alloc: Global, name: &str, bytes: &[u8]) -> NamedFile {
-    let name = Vec::from_slice(alloc, name.as_bytes()).expect(rt, "memory");
-    let bytes = Vec::from_slice(alloc, bytes).expect(rt, "memory");
-    NamedFile {
-        name: DiskBytes::new(name),
-        bytes: DiskBytes::new(bytes),
-    }
+    copy_of(rt, alloc, name.as_bytes(), bytes)
+}
+
+fn copy_of(rt: &impl Abort, alloc: Global, name: &[u8], bytes: &[u8]) -> NamedFile {
+    let name = DiskBytes::new(bytes_of(rt, alloc, name));
+    let bytes = DiskBytes::new(bytes_of(rt, alloc, bytes));
+    NamedFile { name, bytes }
 }
 
 /// The same files.
 pub fn copied(rt: &impl Abort, alloc: Global, files: &[NamedFile]) -> Vec<NamedFile> {
     let mut copies = Vec::new(alloc);
     for file in files {
-        let name = Vec::from_slice(alloc, file.name.as_slice()).expect(rt, "memory");
-        let bytes = Vec::from_slice(alloc, file.bytes.as_slice()).expect(rt, "memory");
-        let copy = NamedFile {
-            name: DiskBytes::new(name),
-            bytes: DiskBytes::new(bytes),
-        };
+        let copy = copy_of(rt, alloc, file.name.as_slice(), file.bytes.as_slice());
         copies.push(copy).expect(rt, "memory");
     }
     copies
@@ -122,7 +127,7 @@ pub fn copied(rt: &impl Abort, alloc: Global, files: &[NamedFile]) -> Vec<NamedF
 /// The bytes of the file with this name, if there is one.
 pub fn file_in<'a>(files: &'a [NamedFile], name: &str) -> Option<&'a [u8]> {
     for file in files {
-        if file.name.as_slice() == name.as_bytes() {
+        if is_same(file.name.as_slice(), name.as_bytes()) {
             return Some(file.bytes.as_slice());
         }
     }
@@ -149,9 +154,20 @@ fn source_of(
 ) -> Box<MemorySource>
     requires { 0 < piece }
 {
-    let calls = calls(alloc, failing).expect(rt, "memory");
-    let bytes = Vec::from_slice(alloc, bytes).expect(rt, "memory");
-    Box::new(alloc, MemorySource::new(bytes, piece, calls)).expect(rt, "memory")
+    let source = MemorySource::new(
+        bytes_of(rt, alloc, bytes),
+        piece,
+        calls_of(rt, alloc, failing),
+    );
+    Box::new(alloc, source).expect(rt, "memory")
+}
+
+// Standard output without any.
+fn sink_of(rt: &impl Abort, alloc: Global, piece: usize, failing: u64) -> Box<MemorySink>
+    requires { 0 < piece }
+{
+    let out = MemorySink::new(alloc, piece, calls_of(rt, alloc, failing));
+    Box::new(alloc, out).expect(rt, "memory")
 }
 
 impl Streams {
@@ -167,15 +183,14 @@ impl Streams {
     ) -> Streams
         requires { 0 < piece }
     {
-        let writes = calls(alloc, write_failing).expect(rt, "memory");
-        let out = Box::new(alloc, MemorySink::new(alloc, piece, writes)).expect(rt, "memory");
         let source = source_of(rt, alloc, bytes, piece, read_failing);
+        let out = sink_of(rt, alloc, piece, write_failing);
         Streams { source, out }
     }
 
     /// What is written.
     pub fn written(&self, rt: &impl Abort, alloc: Global) -> Vec<u8> {
-        Vec::from_slice(alloc, self.out.as_slice()).expect(rt, "memory")
+        bytes_of(rt, alloc, self.out.as_slice())
     }
 }
 
@@ -188,11 +203,11 @@ fn push_words(rt: &impl Abort, words: &mut Vec<[u8; 32]>) {
 
 // 400 words, of whose calls this one fails.
 fn chance_of(rt: &impl Abort, alloc: Global, failing: u64) -> Box<ListedChance> {
-    let calls = calls(alloc, failing).expect(rt, "memory");
     let mut words = Vec::new(alloc);
     push_words(rt, &mut words);
     push_words(rt, &mut words);
-    Box::new(alloc, ListedChance::new(words, calls)).expect(rt, "memory")
+    let chance = ListedChance::new(words, calls_of(rt, alloc, failing));
+    Box::new(alloc, chance).expect(rt, "memory")
 }
 
 // A folder with these files, of whose calls, and of those of its disks, these fail.
@@ -202,8 +217,7 @@ fn folder_of(
     files: Vec<NamedFile>,
     failing: Failing,
 ) -> Box<MemoryFolder> {
-    let calls = calls(alloc, failing.files).expect(rt, "memory");
-    let folder = MemoryFolder::new(alloc, files, calls);
+    let folder = MemoryFolder::new(alloc, files, calls_of(rt, alloc, failing.files));
     let mut folder = Box::new(alloc, folder).expect(rt, "memory");
     folder.fail_disk_calls([failing.disk].to_vec(alloc).expect(rt, "memory"));
     folder

@@ -1,6 +1,7 @@
 //! The longest script that is read, and the generated run.
 
 use crate::answers::{answer, answers};
+use crate::checks::check;
 use sporc_play::MAX_SCRIPT;
 use std::alloc::Global;
 use std::process::Abort;
@@ -9,16 +10,10 @@ use std::thread::Threads;
 
 fn reads_scripts_up_to_a_size<R: Threads + Wait + Sync + Abort>(rt: &R, alloc: Global) {
     let mut script = vec![in alloc; b'#'; MAX_SCRIPT].expect(rt, "memory");
-    answers(rt, alloc, "play", script.as_slice(), 0, b"");
+    answers(rt, alloc, "longest", "play", script.as_slice(), 0, b"");
     script.push(b'\n').expect(rt, "memory");
-    answers(
-        rt,
-        alloc,
-        "play",
-        script.as_slice(),
-        3,
-        b"fault too long script\n",
-    );
+    let report = b"fault too long script\n";
+    answers(rt, alloc, "longer", "play", script.as_slice(), 3, report);
 }
 
 // 13 whole batches of 66 remove, 39 characters in all; the other 161 edits insert one each.
@@ -35,9 +30,9 @@ fn is_summary(written: &[u8]) -> bool {
 fn a_generated_run_has_one_summary<R: Threads + Wait + Sync + Abort>(rt: &R, alloc: Global) {
     let words = "play --generate 200";
     let (status, written) = answer(rt, alloc, words, b"", 1 << 20, 0, 0);
-    assert!(rt; status == 0);
-    assert!(rt; is_summary(written.as_slice()));
-    answers(rt, alloc, words, b"", 0, written.as_slice());
+    check(rt, words, status == 0);
+    check(rt, "summary", is_summary(written.as_slice()));
+    answers(rt, alloc, "again", words, b"", 0, written.as_slice());
 }
 
 #[test]

@@ -1,5 +1,7 @@
 //! Sessions that are served, where each object that `serve` is handed fails at each of its calls in turn.
 
+use crate::bytes::{append, bytes_of};
+use crate::checks::check_at;
 use crate::document::{entries, history_file, of_server};
 use crate::nets::run_listed;
 use crate::place::{Failing, NONE, Object, Place, copied};
@@ -23,18 +25,14 @@ struct Scene {
 
 // Hello, an entry, and a pull.
 fn stream(rt: &impl Abort, alloc: Global, entry: &[u8]) -> Vec<u8> {
-    let mut stream = Vec::from_slice(alloc, b"\0\0\0\x13\x01").expect(rt, "memory");
-    stream.extend_from_slice(&[7; 16]).expect(rt, "memory");
-    stream.extend_from_slice(b"\0\x02").expect(rt, "memory");
     let len = u32::try_from(entry.len().saturating_add(1)).unwrap_or(u32::MAX);
-    stream
-        .extend_from_slice(&len.to_be_bytes())
-        .expect(rt, "memory");
-    stream.push(2).expect(rt, "memory");
-    stream.extend_from_slice(entry).expect(rt, "memory");
-    stream
-        .extend_from_slice(b"\0\0\0\x05\x03\0\0\0\x02")
-        .expect(rt, "memory");
+    let mut stream = bytes_of(rt, alloc, b"\0\0\0\x13\x01");
+    append(rt, &mut stream, &[7; 16]);
+    append(rt, &mut stream, b"\0\x02");
+    append(rt, &mut stream, &len.to_be_bytes());
+    append(rt, &mut stream, &[2]);
+    append(rt, &mut stream, entry);
+    append(rt, &mut stream, b"\0\0\0\x05\x03\0\0\0\x02");
     stream
 }
 
@@ -113,6 +111,11 @@ fn goes_on<R: Threads + Wait + Sync + Abort>(
     is_new && ended.status == 0 && is_same(ended.written.as_slice(), b"log 2\n")
 }
 
+// Whether this is how a server ends none of whose calls failed.
+fn is_well(ended: &Ended) -> bool {
+    ended.status == 0 && ended.is_quiet
+}
+
 // Whether this is how a server ends one of whose calls failed. A link that fails ends its session alone.
 fn is_told(object: Object, ended: &Ended) -> bool {
     let written = ended.written.as_slice();
@@ -133,13 +136,12 @@ fn ends_well<R: Threads + Wait + Sync + Abort>(
     call: u64,
 ) -> bool {
     let ended = served(rt, alloc, scene, place, Failing::at(object, call));
-    assert!(rt; is_whole(scene, place), "call {call}");
-    assert!(rt;
-        goes_on(rt, alloc, scene, place.files.files()),
-        "call {call}"
-    );
-    let is_well = ended.status == 0 && ended.is_quiet;
-    assert!(rt; is_well || is_told(object, &ended), "call {call}");
+    check_at(rt, "whole after call", call, is_whole(scene, place));
+    let goes_on = goes_on(rt, alloc, scene, place.files.files());
+    check_at(rt, "on after call", call, goes_on);
+    let is_well = is_well(&ended);
+    let is_told = is_told(object, &ended);
+    check_at(rt, "told of call", call, is_well || is_told);
     is_well
 }
 
@@ -189,6 +191,6 @@ fn each_call_that_fails_is_told(rt: HostRuntime) {
     let scene = Scene::new(&rt, rt.alloc());
     for (object, calls) in &OBJECTS {
         let unmade = first_unmade(&rt, rt.alloc(), &scene, *object);
-        assert!(rt; unmade > *calls, "{calls} calls");
+        check_at(&rt, "calls", *calls, unmade > *calls);
     }
 }

@@ -1,5 +1,6 @@
 //! Sessions of a member beside an honest server, where each object that `client` is handed fails at each of its calls in turn.
 
+use crate::checks::{check, check_at};
 use crate::document::{entries, history_file, of_member, of_server};
 use crate::nets::FaultyNet;
 use crate::place::{Failing, NONE, Object, Place, copied, file_in};
@@ -82,7 +83,7 @@ fn session<R: Threads + Wait + Sync + Abort>(
     );
     drop(near);
     drop(far);
-    assert!(rt; served, "the server failed");
+    check(rt, "the server failed", served);
     worked
 }
 
@@ -173,12 +174,15 @@ fn ends_well<R: Threads + Wait + Sync + Abort>(
 ) -> bool {
     let failing = Failing::at(object, call);
     let (status, is_told) = session(rt, alloc, member, server, failing);
-    assert!(rt;
-        goes_on(rt, alloc, scene, member.files.files(), server),
-        "call {call}"
-    );
+    let goes_on = goes_on(rt, alloc, scene, member.files.files(), server);
+    check_at(rt, "on after call", call, goes_on);
     let is_well = status == 0;
-    assert!(rt; is_well || (status == 6 && is_told), "call {call}");
+    check_at(
+        rt,
+        "told of call",
+        call,
+        is_well || (status == 6 && is_told),
+    );
     is_well
 }
 
@@ -234,6 +238,6 @@ fn each_call_that_fails_ends_a_session(rt: HostRuntime) {
     let scene = Scene::new(&rt, rt.alloc());
     for (object, calls) in &OBJECTS {
         let unmade = first_unmade(&rt, rt.alloc(), &scene, *object);
-        assert!(rt; unmade > *calls, "{calls} calls");
+        check_at(&rt, "calls", *calls, unmade > *calls);
     }
 }

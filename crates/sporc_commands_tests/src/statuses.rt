@@ -1,5 +1,6 @@
 //! The statuses that sessions end with, over links whose bytes are listed.
 
+use crate::checks::check_at;
 use crate::document::with_entries;
 use crate::nets::run_listed;
 use crate::place::{NONE, Place, copied};
@@ -92,11 +93,22 @@ fn ends_so<R: Threads + Wait + Sync + Abort>(
     status == row.status && written.as_slice().ends_with(row.line)
 }
 
+// It does.
+fn ends_as_row_says<R: Threads + Wait + Sync + Abort>(
+    rt: &R,
+    alloc: Global,
+    files: Vec<NamedFile>,
+    row: &Row,
+) {
+    let ends_so = ends_so(rt, alloc, files, row);
+    check_at(rt, "status", u64::from(row.status), ends_so);
+}
+
 // The sessions of the rows, of a member with these files.
 fn end_as_rows_say<R: Threads + Wait + Sync + Abort>(rt: &R, alloc: Global, files: &[NamedFile]) {
     for row in &ROWS {
         let files = copied(rt, alloc, files);
-        assert!(rt; ends_so(rt, alloc, files, row), "status {}", row.status);
+        ends_as_row_says(rt, alloc, files, row);
     }
 }
 
@@ -106,5 +118,5 @@ fn sessions_have_their_statuses(rt: HostRuntime) {
     end_as_rows_say(&rt, rt.alloc(), files.as_slice());
     drop(files);
     let full = with_entries(&rt, rt.alloc(), &[0; 8], MAX_ENTRIES);
-    assert!(rt; ends_so(&rt, rt.alloc(), full, &FULL));
+    ends_as_row_says(&rt, rt.alloc(), full, &FULL);
 }

@@ -1,6 +1,6 @@
 // The digests are those of Python's hashlib for the strings that the definitions list.
 
-use crate::compare::same_bytes;
+use crate::checks::check_bytes;
 use sporc_hash::{commit, genesis_hash, next_hash};
 
 // Of `abc`.
@@ -29,7 +29,12 @@ const COMMITMENT: [u8; 32] = [
 
 #[test]
 fn known_values(rt: HostRuntime) {
-    same_bytes(&rt, &genesis_hash(b"abc"), &GENESIS);
-    same_bytes(&rt, &next_hash(&GENESIS, b"entry"), &NEXT);
-    same_bytes(&rt, &commit(&DOCUMENT, 0x01020304, &KEY), &COMMITMENT);
+    check_bytes(&rt, "genesis", &genesis_hash(b"abc"), &GENESIS);
+    check_bytes(&rt, "next", &next_hash(&GENESIS, b"entry"), &NEXT);
+    check_bytes(
+        &rt,
+        "commitment",
+        &commit(&DOCUMENT, 0x01020304, &KEY),
+        &COMMITMENT,
+    );
 }

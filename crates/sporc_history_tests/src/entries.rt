@@ -2,7 +2,8 @@
 
 ghost use Rattle.std.specs.Prelude.{◌≡◌, length};
 
-use crate::compare::same_bytes;
+use crate::checks::{check, check_at, check_bytes};
+use sporc_base::is_same;
 use sporc_entry::{
     Bytes, ChangeBody, Entry, EntryFault, Genesis, GenesisFault, Header, Wrap, Wraps, read_change,
     read_entry, read_genesis, signed_part, write_change, write_entry, write_genesis,
@@ -101,7 +102,7 @@ fn altered(rt: &impl Abort, alloc: Global, bytes: &[u8], place: usize, value: u8
 
 fn is_edit(entry: &Entry) -> bool {
     entry.header == HEADER
-        && entry.body.as_slice() == [0xbbu8; 19].as_slice()
+        && is_same(entry.body.as_slice(), &[0xbb; 19])
         && entry.signature.as_slice().len() == 2348
 }
 
@@ -132,26 +133,31 @@ fn signed_of(rt: &impl Abort, alloc: Global, bytes: &[u8]) -> Vec<u8> {
 
 fn is_written_again(rt: &impl Abort, alloc: Global, bytes: &[u8]) {
     let written = rewritten(rt, alloc, bytes);
-    same_bytes(rt, written.as_slice(), bytes);
+    check_bytes(rt, "written again", written.as_slice(), bytes);
 }
 
 fn is_signed(rt: &impl Abort, alloc: Global, bytes: &[u8]) {
     let part = signed_of(rt, alloc, bytes);
     let signed = signed_bytes(rt, alloc, bytes);
-    same_bytes(rt, part.as_slice(), signed.as_slice());
+    check_bytes(rt, "signed", part.as_slice(), signed.as_slice());
 }
 
 // An edit reads and is written again, and is signed without its signature.
 fn edit_is_read(rt: &impl Abort, alloc: Global, bytes: &[u8]) {
-    assert!(rt; bytes.len() == 2443);
-    assert!(rt; reads_as_edit(rt, alloc, bytes));
+    check(rt, "length", bytes.len() == 2443);
+    check(rt, "edit", reads_as_edit(rt, alloc, bytes));
     is_written_again(rt, alloc, bytes);
     is_signed(rt, alloc, bytes);
 }
 
 fn is_malformed(rt: &impl Abort, alloc: Global, bytes: &[u8], at: usize) {
     let found = read_entry(alloc, bytes).err();
-    assert!(rt; found == Some(EntryFault::Malformed(at)), "{at}");
+    check_at(
+        rt,
+        "malformed",
+        at as u64,
+        found == Some(EntryFault::Malformed(at)),
+    );
 }
 
 // The place of a byte, its new value, and where the entry is malformed then.
@@ -210,8 +216,8 @@ fn edit_of(rt: &impl Abort, alloc: Global, body: u32, signature: u32) -> Entry
 
 fn is_same_entry(one: &Entry, other: &Entry) -> bool {
     one.header == other.header
-        && one.body.as_slice() == other.body.as_slice()
-        && one.signature.as_slice() == other.signature.as_slice()
+        && is_same(one.body.as_slice(), other.body.as_slice())
+        && is_same(one.signature.as_slice(), other.signature.as_slice())
 }
 
 // The bytes of an edit whose body and signature have so many.
@@ -234,8 +240,12 @@ fn reads_as_largest(rt: &impl Abort, alloc: Global, bytes: &[u8]) -> bool {
 
 fn largest_is_read_again(rt: &impl Abort, alloc: Global) {
     let bytes = long_bytes(rt, alloc, 1_048_576, 9_324);
-    assert!(rt; bytes.len() == 1_057_976);
-    assert!(rt; reads_as_largest(rt, alloc, bytes.as_slice()));
+    check(rt, "length", bytes.len() == 1_057_976);
+    check(
+        rt,
+        "largest edit",
+        reads_as_largest(rt, alloc, bytes.as_slice()),
+    );
 }
 
 fn is_too_long(rt: &impl Abort, alloc: Global, body: u32, signature: u32, at: usize) {
@@ -267,13 +277,13 @@ fn rewritten_change(rt: &impl Abort, alloc: Global, bytes: &[u8]) -> Vec<u8> {
 
 fn body_is_written_again(rt: &impl Abort, alloc: Global, body: &[u8]) {
     let written = rewritten_change(rt, alloc, body);
-    same_bytes(rt, written.as_slice(), body);
+    check_bytes(rt, "body written again", written.as_slice(), body);
 }
 
 // The body of the change that is read of these bytes is written again.
 fn change_is_written_again(rt: &impl Abort, alloc: Global, bytes: &[u8]) {
     let entry = read_entry(alloc, bytes).expect(rt, "an entry");
-    assert!(rt; entry.header.kind == 2);
+    check(rt, "kind", entry.header.kind == 2);
     body_is_written_again(rt, alloc, entry.body.as_slice());
 }
 
@@ -281,14 +291,14 @@ fn change_is_written_again(rt: &impl Abort, alloc: Global, bytes: &[u8]) {
 fn is_added(change: &Change) -> bool {
     match change {
         Change::Add { member, role, key } => {
-            *member == 3 && *role == Role::Editor && *key == [0x77u8; 56]
+            *member == 3 && *role == Role::Editor && is_same(key, &[0x77; 56])
         }
         _ => false,
     }
 }
 
 fn is_sealed(wrap: &Wrap, member: u16, byte: u8) -> bool {
-    wrap.member == member && wrap.sealed == [byte; 32]
+    wrap.member == member && is_same(&wrap.sealed, &[byte; 32])
 }
 
 fn are_sealed(wraps: &[Wrap]) -> bool {
@@ -300,8 +310,8 @@ fn are_sealed(wraps: &[Wrap]) -> bool {
 
 fn is_spelled(body: &ChangeBody) -> bool {
     is_added(&body.change)
-        && body.commitment == [0xc0u8; 32]
-        && body.previous == [0xe0u8; 32]
+        && is_same(&body.commitment, &[0xc0; 32])
+        && is_same(&body.previous, &[0xe0; 32])
         && are_sealed(body.wraps.as_slice())
 }
 
@@ -338,7 +348,7 @@ fn change_in(rt: &impl Abort, alloc: Global, bytes: &[u8]) -> Change {
 fn comes_back(rt: &impl Abort, alloc: Global, change: Change) {
     let bytes = without_wraps(rt, alloc, change);
     let read = change_in(rt, alloc, bytes.as_slice());
-    assert!(rt; read == change);
+    check(rt, "comes back", read == change);
 }
 
 // The place of a byte, its new value, and where the entry is malformed then.
@@ -363,11 +373,11 @@ fn is_change_malformed(alloc: Global, bytes: &[u8], at: usize) -> bool {
 // The body alone, and with a role that is none.
 fn body_is_read(rt: &impl Abort, alloc: Global) {
     let mut body = hex::decode(alloc, CHANGE).expect(rt, "hex digits");
-    assert!(rt; reads_as_spelled(rt, alloc, body.as_slice()));
+    check(rt, "change", reads_as_spelled(rt, alloc, body.as_slice()));
     if let Some(role) = body.get_mut(3) {
         *role = 0;
     }
-    assert!(rt; is_change_malformed(alloc, body.as_slice(), 3));
+    check(rt, "role", is_change_malformed(alloc, body.as_slice(), 3));
 }
 
 #[test]
@@ -389,15 +399,15 @@ fn are_two_and_seven(founders: &[Founder]) -> bool {
 }
 
 fn is_of_two_and_seven(genesis: &Genesis) -> bool {
-    genesis.document == [0xd0u8; 16]
-        && genesis.commitment == [0xc0u8; 32]
+    is_same(&genesis.document, &[0xd0; 16])
+        && is_same(&genesis.commitment, &[0xc0; 32])
         && are_two_and_seven(genesis.founders.as_slice())
 }
 
 // The bytes of a copy of the genesis that is read from these.
 fn copied(rt: &impl Abort, alloc: Global, bytes: &[u8]) -> Vec<u8> {
     let genesis = read_genesis(alloc, bytes).expect(rt, "a genesis");
-    assert!(rt; is_of_two_and_seven(&genesis));
+    check(rt, "genesis", is_of_two_and_seven(&genesis));
     let copy = genesis.copy().expect(rt, "memory");
     write_genesis(alloc, &copy).expect(rt, "memory")
 }
@@ -405,12 +415,11 @@ fn copied(rt: &impl Abort, alloc: Global, bytes: &[u8]) -> Vec<u8> {
 // A genesis reads, and its copy is written.
 fn founds(rt: &impl Abort, alloc: Global, bytes: &[u8]) {
     let written = copied(rt, alloc, bytes);
-    same_bytes(rt, written.as_slice(), bytes);
+    check_bytes(rt, "copy written", written.as_slice(), bytes);
 }
 
-fn founds_nothing(rt: &impl Abort, alloc: Global, bytes: &[u8], fault: GenesisFault) {
-    let found = read_genesis(alloc, bytes).err();
-    assert!(rt; found == Some(fault), "{found:?}");
+fn is_fault(alloc: Global, bytes: &[u8], fault: GenesisFault) -> bool {
+    read_genesis(alloc, bytes).err() == Some(fault)
 }
 
 // The place of a byte, its new value, and the fault then.
@@ -445,7 +454,12 @@ fn is_refused_altered(
 ) {
     let (place, value, fault) = *row;
     let other = altered(rt, alloc, genesis, place, value);
-    founds_nothing(rt, alloc, other.as_slice(), fault);
+    check_at(
+        rt,
+        "altered at",
+        place as u64,
+        is_fault(alloc, other.as_slice(), fault),
+    );
 }
 
 fn is_refused_resized(rt: &impl Abort, alloc: Global, genesis: &[u8], row: &(usize, GenesisFault)) {
@@ -453,7 +467,12 @@ fn is_refused_resized(rt: &impl Abort, alloc: Global, genesis: &[u8], row: &(usi
     let mut other = Vec::from_slice(alloc, genesis).expect(rt, "memory");
     other.push(0).expect(rt, "memory");
     other.truncate(len);
-    founds_nothing(rt, alloc, other.as_slice(), fault);
+    check_at(
+        rt,
+        "of length",
+        len as u64,
+        is_fault(alloc, other.as_slice(), fault),
+    );
 }
 
 // A genesis is refused for its first fault.

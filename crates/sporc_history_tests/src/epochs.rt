@@ -1,4 +1,4 @@
-use crate::compare::same_bytes;
+use crate::checks::{check, check_bytes};
 use sporc_base::Bytes;
 use sporc_entry::{ChangeBody, Entry, Header, Wrap, Wraps, write_change, write_entry};
 use sporc_epoch::{
@@ -134,8 +134,8 @@ fn hints(
     hints_from(alloc, entries.as_slice(), me, &mine)
 }
 
-fn is_key(rt: &impl Abort, found: Option<[u8; 32]>, wanted: Option<[u8; 32]>) {
-    assert!(rt; found == wanted);
+fn check_key(rt: &impl Abort, what: &str, found: Option<[u8; 32]>, wanted: Option<[u8; 32]>) {
+    check(rt, what, found == wanted);
 }
 
 // Puts two keys of one epoch, one after the other.
@@ -154,17 +154,17 @@ fn copy_of_two(rt: &impl Abort, alloc: Global) -> Ring {
 // A ring gives the keys that were put.
 fn ring_gives_keys(rt: &impl Abort, alloc: Global) {
     let copy = copy_of_two(rt, alloc);
-    is_key(rt, copy.key(3).copied(), Some([3; 32]));
-    is_key(rt, copy.key(7).copied(), None);
+    check_key(rt, "put", copy.key(3).copied(), Some([3; 32]));
+    check_key(rt, "not put", copy.key(7).copied(), None);
 }
 
 // A sealed change is that of OpenSSL.
 fn is_that_of_openssl(rt: &impl Abort, body: &ChangeBody) {
-    assert!(rt; body.change == REMOVE);
-    same_bytes(rt, &body.commitment, &COMMITMENT);
-    same_bytes(rt, &body.previous, &PREVIOUS);
-    assert!(rt; body.wraps.as_slice() == WRAPS.as_slice());
-    same_bytes(rt, &open_previous(body, 1, &[11; 32]), &[10; 32]);
+    check(rt, "change", body.change == REMOVE);
+    check_bytes(rt, "commitment", &body.commitment, &COMMITMENT);
+    check_bytes(rt, "previous", &body.previous, &PREVIOUS);
+    check(rt, "wraps", body.wraps.as_slice() == WRAPS.as_slice());
+    check_bytes(rt, "opened", &open_previous(body, 1, &[11; 32]), &[10; 32]);
 }
 
 // Why a change isn't sealed for these members.
@@ -180,7 +180,7 @@ fn seal_fault(alloc: Global, members: &[u16], pairs: &Pairs) -> Option<SealFault
 fn least_is_named(rt: &impl Abort, alloc: Global) {
     let pairs = pairs_of(rt, alloc, &[(4, 104)]);
     let fault = seal_fault(alloc, &[7, 4, 3, 5], &pairs);
-    assert!(rt; fault == Some(SealFault::NoPairKey(3)));
+    check(rt, "least", fault == Some(SealFault::NoPairKey(3)));
 }
 
 // Two wraps for member 4, the first of which is good.
@@ -194,9 +194,9 @@ fn wraps_twice(rt: &impl Abort, alloc: Global) -> Wraps {
 
 // The first wrap for a member is opened. Then there is no wrap, and then no pairwise key.
 fn first_is_opened(rt: &impl Abort, body: &ChangeBody, mine: &Pairs) {
-    is_key(rt, open_wrap(body, 1, 5, 4, mine), Some([11; 32]));
-    is_key(rt, open_wrap(body, 1, 5, 3, mine), None);
-    is_key(rt, open_wrap(body, 2, 5, 4, mine), None);
+    check_key(rt, "first", open_wrap(body, 1, 5, 4, mine), Some([11; 32]));
+    check_key(rt, "no wrap", open_wrap(body, 1, 5, 3, mine), None);
+    check_key(rt, "no pairwise key", open_wrap(body, 2, 5, 4, mine), None);
 }
 
 fn is_opened(rt: &impl Abort, alloc: Global, body: &ChangeBody) {
@@ -217,18 +217,18 @@ fn four_are_found(rt: &impl Abort, alloc: Global) {
     let ring = hints(rt, alloc, 0, 1, 4).expect(rt, "keys");
     for epoch in 0..4u8 {
         let key = ring.key(u32::from(epoch)).copied();
-        is_key(rt, key, Some([10 + epoch; 32]));
+        check_key(rt, "found", key, Some([10 + epoch; 32]));
     }
-    is_key(rt, ring.key(4).copied(), None);
+    check_key(rt, "a fifth", ring.key(4).copied(), None);
 }
 
-// The epoch that a history spoils, whom the member holds a key with, the member, and the fault.
-const FAULTS: [(u8, u16, u16, HintFault); 5] = [
-    (0, 1, 3, HintFault::NotAdded),
-    (0, 2, 4, HintFault::NoPairKey(1)),
-    (3, 1, 4, HintFault::WrongKey(3)),
-    (2, 1, 4, HintFault::WrongKey(2)),
-    (1, 1, 4, HintFault::WrongKey(1)),
+// A row's name, the epoch that a history spoils, whom the member holds a key with, the member, and the fault.
+const FAULTS: [(&str, u8, u16, u16, HintFault); 5] = [
+    ("not added", 0, 1, 3, HintFault::NotAdded),
+    ("no pairwise key", 0, 2, 4, HintFault::NoPairKey(1)),
+    ("third spoilt", 3, 1, 4, HintFault::WrongKey(3)),
+    ("second spoilt", 2, 1, 4, HintFault::WrongKey(2)),
+    ("first spoilt", 1, 1, 4, HintFault::WrongKey(1)),
 ];
 
 fn hint_fault(
@@ -242,9 +242,9 @@ fn hint_fault(
 }
 
 fn each_fault_is_found(rt: &impl Abort, alloc: Global) {
-    for (spoilt, other, me, fault) in &FAULTS {
+    for (name, spoilt, other, me, fault) in &FAULTS {
         let found = hint_fault(rt, alloc, *spoilt, *other, *me);
-        assert!(rt; found == Some(*fault), "{spoilt} {other}");
+        check(rt, *name, found == Some(*fault));
     }
 }
 
@@ -260,7 +260,7 @@ fn none_follows(rt: &impl Abort, alloc: Global) {
     let entries = behind_the_last(rt, alloc);
     let mine = pairs_of(rt, alloc, &[(1, 104)]);
     let fault = hints_from(alloc, entries.as_slice(), 4, &mine).err();
-    assert!(rt; fault == Some(HintFault::NotAdded));
+    check(rt, "behind the last", fault == Some(HintFault::NotAdded));
 }
 
 // A ring gives the keys that were put, changes are sealed and opened, and keys are found by hints.

@@ -1,7 +1,7 @@
 ghost use Rattle.std.specs.Prelude.{◌≤◌, length};
 
-use crate::compare::same_bytes;
-use sporc_base::{Bytes, Items};
+use crate::checks::{check, check_at, check_bytes};
+use sporc_base::{Bytes, Items, is_same};
 use sporc_head::Refusal;
 use sporc_member::ChangeFault;
 use sporc_wire::{FrameFault, Frames, ToClient, ToServer, write_to_client, write_to_server};
@@ -30,7 +30,7 @@ const TO_CLIENT: [&[u8]; 4] = [&ORDERED, &REJECTED, &ENTRIES, &EMPTY];
 
 fn is_hello(found: &Option<ToServer>) -> bool {
     match found {
-        Some(ToServer::Hello { document, member }) => *document == [7u8; 16] && *member == 9,
+        Some(ToServer::Hello { document, member }) => is_same(document, &[7; 16]) && *member == 9,
         _ => false,
     }
 }
@@ -57,17 +57,17 @@ fn next_is_pull(rt: &impl Abort, frames: &mut Frames) -> bool {
 // Feeds bytes one by one, before each of which no message is whole.
 fn feed_bytes(rt: &impl Abort, frames: &mut Frames, bytes: &[u8]) {
     for byte in bytes {
-        assert!(rt; next_is_none(rt, frames));
+        check(rt, "no message yet", next_is_none(rt, frames));
         frames.feed(&[*byte]).expect(rt, "good frames");
     }
 }
 
 fn come_byte_by_byte(rt: &impl Abort, frames: &mut Frames) {
     feed_bytes(rt, frames, &HELLO);
-    assert!(rt; next_is_hello(rt, frames));
+    check(rt, "hello", next_is_hello(rt, frames));
     feed_bytes(rt, frames, &PULL);
-    assert!(rt; next_is_pull(rt, frames));
-    assert!(rt; next_is_none(rt, frames));
+    check(rt, "pull", next_is_pull(rt, frames));
+    check(rt, "no message", next_is_none(rt, frames));
 }
 
 const TOO_LONG: FrameFault = FrameFault::TooLong(4_194_305);
@@ -82,14 +82,14 @@ fn stays_too_long(frames: &mut Frames) -> bool {
 fn is_above_the_limit(rt: &impl Abort, frames: &mut Frames) {
     frames.feed(&PULL).expect(rt, "good frames");
     frames.feed(&[0, 0x40, 0, 1]).expect(rt, "good frames");
-    assert!(rt; next_is_pull(rt, frames));
-    assert!(rt; stays_too_long(frames));
+    check(rt, "pull", next_is_pull(rt, frames));
+    check(rt, "too long", stays_too_long(frames));
 }
 
 // A length at the limit is waited for.
 fn is_at_the_limit(rt: &impl Abort, frames: &mut Frames) {
     frames.feed(&[0, 0x40, 0, 0, 2]).expect(rt, "good frames");
-    assert!(rt; next_is_none(rt, frames));
+    check(rt, "no message", next_is_none(rt, frames));
 }
 
 fn frames_come_up_to_a_limit(rt: &impl Abort, alloc: Global) {
@@ -165,20 +165,19 @@ fn fault_to_client(rt: &impl Abort, alloc: Global, body: &[u8]) -> Option<FrameF
 }
 
 // Whether the fault names this place of the body behind 13 bytes.
-fn is_bad_at(rt: &impl Abort, fault: Option<FrameFault>, place: u64) {
-    let expected = Some(FrameFault::BadMessage(place.wrapping_add(13)));
-    assert!(rt; fault == expected, "{place}");
+fn is_bad_at(fault: Option<FrameFault>, place: u64) -> bool {
+    fault == Some(FrameFault::BadMessage(place.wrapping_add(13)))
 }
 
 // A body that is no message is refused at its field.
 fn bad_bodies_are_refused(rt: &impl Abort, alloc: Global) {
     for (body, place) in &BAD_TO_SERVER {
         let fault = fault_to_server(rt, alloc, *body);
-        is_bad_at(rt, fault, *place);
+        check_at(rt, "to a server, at", *place, is_bad_at(fault, *place));
     }
     for (body, place) in &BAD_TO_CLIENT {
         let fault = fault_to_client(rt, alloc, *body);
-        is_bad_at(rt, fault, *place);
+        check_at(rt, "to a client, at", *place, is_bad_at(fault, *place));
     }
 }
 
@@ -226,17 +225,35 @@ fn is_cut_to_client(rt: &impl Abort, alloc: Global, frame: &[u8], len: usize) ->
     needs_both_to_client(rt, &mut frames, front, rest)
 }
 
+fn fronts_to_server_give_nothing(rt: &impl Abort, alloc: Global, frame: &[u8]) {
+    for len in 0..frame.len() {
+        check_at(
+            rt,
+            "to a server, cut at",
+            len as u64,
+            is_cut_to_server(rt, alloc, frame, len),
+        );
+    }
+}
+
+fn fronts_to_client_give_nothing(rt: &impl Abort, alloc: Global, frame: &[u8]) {
+    for len in 0..frame.len() {
+        check_at(
+            rt,
+            "to a client, cut at",
+            len as u64,
+            is_cut_to_client(rt, alloc, frame, len),
+        );
+    }
+}
+
 // A front of a frame gives nothing.
 fn fronts_give_nothing(rt: &impl Abort, alloc: Global) {
     for frame in &TO_SERVER {
-        for len in 0..frame.len() {
-            assert!(rt; is_cut_to_server(rt, alloc, *frame, len));
-        }
+        fronts_to_server_give_nothing(rt, alloc, *frame);
     }
     for frame in &TO_CLIENT {
-        for len in 0..frame.len() {
-            assert!(rt; is_cut_to_client(rt, alloc, *frame, len));
-        }
+        fronts_to_client_give_nothing(rt, alloc, *frame);
     }
 }
 
@@ -250,7 +267,7 @@ fn frames_are_read(rt: HostRuntime) {
 
 fn is_written_to_server(rt: &impl Abort, alloc: Global, message: &ToServer, wanted: &[u8]) {
     let written = write_to_server(alloc, message).expect(rt, "a frame");
-    same_bytes(rt, written.as_slice(), wanted);
+    check_bytes(rt, "to a server", written.as_slice(), wanted);
 }
 
 fn submission(rt: &impl Abort, alloc: Global) -> ToServer {
@@ -270,11 +287,11 @@ fn are_written_to_server(rt: &impl Abort, alloc: Global) {
 fn are_written_to_client(rt: &impl Abort, alloc: Global) {
     let refusal = LAST_ADMIN;
     let ordered = write_to_client(alloc, &ToClient::Ordered { pos: 8 }).expect(rt, "a frame");
-    same_bytes(rt, ordered.as_slice(), &ORDERED);
+    check_bytes(rt, "ordered", ordered.as_slice(), &ORDERED);
     let rejected = write_to_client(alloc, &ToClient::Rejected { refusal }).expect(rt, "a frame");
-    same_bytes(rt, rejected.as_slice(), &REJECTED);
+    check_bytes(rt, "rejected", rejected.as_slice(), &REJECTED);
     let empty = write_to_client(alloc, &ToClient::Empty).expect(rt, "a frame");
-    same_bytes(rt, empty.as_slice(), &EMPTY);
+    check_bytes(rt, "empty", empty.as_slice(), &EMPTY);
 }
 
 fn entries_are_written(rt: &impl Abort, alloc: Global) {
@@ -288,7 +305,7 @@ fn entries_are_written(rt: &impl Abort, alloc: Global) {
     let entries = Items::new(entries);
     let message = ToClient::Entries { first: 3, entries };
     let written = write_to_client(alloc, &message).expect(rt, "a frame");
-    same_bytes(rt, written.as_slice(), &ENTRIES);
+    check_bytes(rt, "entries", written.as_slice(), &ENTRIES);
 }
 
 // The length of the frame that submits an entry of so many bytes, unless it is too long.
@@ -302,12 +319,24 @@ fn frame_len(alloc: Global, message: &ToServer) -> Result<usize, FrameFault> {
     Ok(frame.len())
 }
 
+fn lengths_are_limited(rt: &impl Abort, alloc: Global) {
+    check(
+        rt,
+        "longest",
+        submission_len(rt, alloc, 4_194_303) == Ok(4_194_308),
+    );
+    check(
+        rt,
+        "too long",
+        submission_len(rt, alloc, 4_194_304) == Err(TOO_LONG),
+    );
+}
+
 // A body above the limit is not written.
 #[test]
 fn messages_are_written(rt: HostRuntime) {
     are_written_to_server(&rt, rt.alloc());
     are_written_to_client(&rt, rt.alloc());
     entries_are_written(&rt, rt.alloc());
-    assert!(rt; submission_len(&rt, rt.alloc(), 4_194_303) == Ok(4_194_308));
-    assert!(rt; submission_len(&rt, rt.alloc(), 4_194_304) == Err(TOO_LONG));
+    lengths_are_limited(&rt, rt.alloc());
 }

@@ -1,7 +1,10 @@
+use crate::checks::{check, check_at, is_refusal};
+use crate::samples::short_sample;
+use sporc_base::is_same;
 use sporc_entry::Header;
 use sporc_head::{Heads, MAX_ENTRIES, Refusal};
 use sporc_member::{Change, ChangeFault};
-use sporc_samples::{CHANGE, Cast, DOCUMENT, Draft, EDIT, change_body, short_history};
+use sporc_samples::{CHANGE, Cast, DOCUMENT, Draft, EDIT, change_body};
 use std::alloc::Global;
 use std::process::Abort;
 
@@ -123,7 +126,7 @@ fn take(rt: &impl Abort, heads: &mut Heads, bytes: &[u8]) {
     let checked = heads
         .check(Some(2), heads.len().wrapping_add(1), bytes)
         .expect(rt, "an entry");
-    assert!(rt; checked.bytes() == bytes);
+    check(rt, "checked bytes", is_same(checked.bytes(), bytes));
     heads.push(checked).ok().expect(rt, "memory");
 }
 
@@ -148,11 +151,11 @@ fn grown(rt: &impl Abort, alloc: Global, cast: &Cast, entries: &[Vec<u8>]) -> Bo
 
 // The short history: edits by 2 and 4, a change by 1 that removes 4, and an edit by 5.
 fn short(rt: &impl Abort, alloc: Global, cast: &Cast) -> Box<Heads> {
-    let sample = short_history(alloc, cast).expect(rt, "a history");
-    let heads = grown(rt, alloc, cast, sample.entries());
-    drop(sample);
-    heads
+    let sample = short_sample(rt, alloc, cast);
+    grown(rt, alloc, cast, sample.entries())
 }
+
+const MEMBERS: [u16; 4] = [1, 2, 3, 5];
 
 fn has_grown(heads: &Heads) -> bool {
     heads.len() == 4
@@ -160,7 +163,7 @@ fn has_grown(heads: &Heads) -> bool {
         && heads.epoch() == 1
         && heads.count_of(2) == 1
         && heads.last_of(2) == 1
-        && heads.roster().members() == [1u16, 2, 3, 5].as_slice()
+        && heads.roster().members() == MEMBERS.as_slice()
         && heads.is_removed(4)
 }
 
@@ -168,17 +171,16 @@ fn refusal_of(heads: &Heads, attempt: &Attempt, bytes: &[u8]) -> Option<Refusal>
     heads.check(attempt.me, attempt.pos, bytes).err()
 }
 
-fn refused(
+fn is_refused(
     rt: &impl Abort,
     alloc: Global,
     heads: &Heads,
     cast: &Cast,
     attempt: &Attempt,
     refusal: Refusal,
-) {
+) -> bool {
     let bytes = attempt.bytes(rt, alloc, heads, cast);
-    let found = refusal_of(heads, attempt, bytes.as_slice());
-    assert!(rt; found == Some(refusal), "{found:?}");
+    is_refusal(refusal_of(heads, attempt, bytes.as_slice()), refusal)
 }
 
 // The refusals of a history that is not full, by the last check and those before it. A base that is ahead is neither
@@ -210,11 +212,22 @@ fn refuses(
     worse: &mut Attempt,
     refusal: Refusal,
 ) {
+    let code = u64::from(refusal.code());
     let mut alone = Attempt::good(heads);
     alone.spoil(refusal);
-    refused(rt, alloc, heads, cast, &alone, refusal);
+    check_at(
+        rt,
+        "alone",
+        code,
+        is_refused(rt, alloc, heads, cast, &alone, refusal),
+    );
     worse.spoil(refusal);
-    refused(rt, alloc, heads, cast, worse, refusal);
+    check_at(
+        rt,
+        "with later ones",
+        code,
+        is_refused(rt, alloc, heads, cast, worse, refusal),
+    );
 }
 
 // The entry with a byte more.
@@ -223,7 +236,7 @@ fn is_malformed(rt: &impl Abort, alloc: Global, heads: &Heads, cast: &Cast, wors
     let len = bytes.len();
     bytes.push(0).expect(rt, "memory");
     let found = refusal_of(heads, worse, bytes.as_slice());
-    assert!(rt; found == Some(Refusal::Malformed(len)));
+    check(rt, "malformed", is_refusal(found, Refusal::Malformed(len)));
 }
 
 fn each_refuses(rt: &impl Abort, alloc: Global, heads: &Heads, cast: &Cast) {
@@ -252,10 +265,15 @@ fn first_if_full(refusal: Refusal) -> Refusal {
 
 fn full_refuses(rt: &impl Abort, alloc: Global, heads: &Heads, cast: &Cast) {
     let mut worse = Attempt::good(heads);
-    refused(rt, alloc, heads, cast, &worse, Refusal::HistoryFull);
+    check(
+        rt,
+        "full",
+        is_refused(rt, alloc, heads, cast, &worse, Refusal::HistoryFull),
+    );
     for refusal in &REFUSALS {
         worse.spoil(*refusal);
-        refused(rt, alloc, heads, cast, &worse, first_if_full(*refusal));
+        let refused = is_refused(rt, alloc, heads, cast, &worse, first_if_full(*refusal));
+        check_at(rt, "full", u64::from(refusal.code()), refused);
     }
 }
 
@@ -264,22 +282,22 @@ fn full_refuses(rt: &impl Abort, alloc: Global, heads: &Heads, cast: &Cast) {
 fn a_history_grows_and_refuses(rt: HostRuntime) {
     let cast = Cast::new(rt.alloc()).expect(&rt, "a cast");
     let mut heads = short(&rt, rt.alloc(), &cast);
-    assert!(rt; has_grown(&heads));
+    check(&rt, "grown", has_grown(&heads));
     each_refuses(&rt, rt.alloc(), &heads, &cast);
     fill(&rt, rt.alloc(), &mut heads, &cast);
     full_refuses(&rt, rt.alloc(), &heads, &cast);
 }
 
-fn is_named(rt: &impl Abort, alloc: Global, refusal: Refusal, name: &str) -> bool {
+fn check_name(rt: &impl Abort, alloc: Global, refusal: Refusal, name: &str) {
     let found = refusal.name(alloc).expect(rt, "memory");
-    found.as_str() == name
+    check(rt, name, found.as_str() == name);
 }
 
 const LAST_ADMIN: Refusal = Refusal::BadChange(ChangeFault::LastAdmin);
 
 #[test]
 fn refusals_have_names(rt: HostRuntime) {
-    assert!(rt; is_named(&rt, rt.alloc(), Refusal::Malformed(95), "malformed 95"));
-    assert!(rt; is_named(&rt, rt.alloc(), LAST_ADMIN, "bad-change last-admin"));
-    assert!(rt; Refusal::WrongKey.code() == 21);
+    check_name(&rt, rt.alloc(), Refusal::Malformed(95), "malformed 95");
+    check_name(&rt, rt.alloc(), LAST_ADMIN, "bad-change last-admin");
+    check(&rt, "code", Refusal::WrongKey.code() == 21);
 }

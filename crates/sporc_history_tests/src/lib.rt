@@ -1,14 +1,16 @@
-//! The tests of `sporc_hash`, `sporc_cipher`, `sporc_member`, `sporc_entry`, `sporc_epoch`, `sporc_head`, `sporc_wire` and
-//! `sporc_order`. They stand in a crate of their own, since a crate with tests is proved twice. No program stands on it.
+//! The tests of `sporc_hash`, `sporc_cipher`, `sporc_member`, `sporc_entry`, `sporc_epoch`, `sporc_head`, `sporc_line`,
+//! `sporc_wire` and `sporc_order`. They stand in a crate of their own, since a crate with tests is proved twice. No program
+//! stands on it.
 //!
 //! Digests are compared with those of Python's hashlib, masks with those of OpenSSL; formats with bytes that are spelled out by
-//! hand; each refusal comes of an entry that fails its check alone, and of one that fails all later checks too.
+//! hand. Entries are signed by real keys. Each refusal comes of an entry that fails its check alone, and of one that fails all
+//! later checks too; that of a full history, of heads alone.
 #![tactic(auto)]
 
 #[cfg(test)]
 mod chains;
 #[cfg(test)]
-mod compare;
+mod checks;
 #[cfg(test)]
 mod entries;
 #[cfg(test)]
@@ -18,8 +20,12 @@ mod frames;
 #[cfg(test)]
 mod heads;
 #[cfg(test)]
+mod lines;
+#[cfg(test)]
 mod masks;
 #[cfg(test)]
 mod members;
 #[cfg(test)]
 mod orders;
+#[cfg(test)]
+mod samples;

@@ -1,4 +1,5 @@
-use crate::compare::same_bytes;
+use crate::checks::{check, check_at, check_bytes};
+use sporc_base::is_same;
 use sporc_cipher::{laws, mask};
 use std::process::Abort;
 
@@ -95,16 +96,16 @@ fn mask_is_taken_off_again(rt: &impl Abort) {
     let key = [7; 32];
     let mut text = TEXT;
     mask(&key, 3, &mut text);
-    assert!(rt; text != TEXT);
+    check(rt, "masked", !is_same(&text, &TEXT));
     laws::mask_twice(&key, 3, &TEXT);
     mask(&key, 3, &mut text);
-    same_bytes(rt, &text, &TEXT);
+    check_bytes(rt, "taken off", &text, &TEXT);
 }
 
 fn stream_is_that_of_openssl(rt: &impl Abort, stream: &Stream) {
     let mut bytes = [0; 65];
     mask(&stream.key, stream.number, &mut bytes);
-    same_bytes(rt, &bytes, &stream.bytes);
+    check_at(rt, "stream", stream.number, is_same(&bytes, &stream.bytes));
 }
 
 #[test]

@@ -1,5 +1,7 @@
 ghost use Rattle.std.specs.Prelude.{◌≡◌};
 
+use crate::checks::check;
+use sporc_base::is_same;
 use sporc_member::{Change, ChangeFault, Founder, Role, Roster};
 use std::alloc::Global;
 use std::process::Abort;
@@ -42,7 +44,7 @@ fn set_role(member: u16, role: Role) -> Change {
 }
 
 fn is_refused(rt: &impl Abort, roster: &Roster, change: Change, fault: ChangeFault) {
-    assert!(rt; roster.test(&change) == Err(fault), "{fault:?}");
+    check(rt, fault.name(), roster.test(&change) == Err(fault));
 }
 
 // What the roster of admin 1 alone refuses.
@@ -60,17 +62,30 @@ fn one_admin_refuses(rt: &impl Abort, roster: &Roster) {
     is_refused(rt, roster, add_without_key(2), ChangeFault::BadKey);
 }
 
+fn are(found: &[u16], numbers: &[u16]) -> bool {
+    found == numbers
+}
+
+// Whether these are the members after a change.
+fn come_after(rt: &impl Abort, roster: &Roster, change: &Change, numbers: &[u16]) -> bool {
+    let after = roster.members_after(change).expect(rt, "memory");
+    are(after.as_slice(), numbers)
+}
+
 // Makes a change, after which these are the members.
 fn make(rt: &impl Abort, roster: &mut Roster, change: Change, numbers: &[u16]) {
     roster.reserve().expect(rt, "memory");
-    let after = roster.members_after(&change).expect(rt, "memory");
-    assert!(rt; after.as_slice() == numbers);
+    check(
+        rt,
+        "members after",
+        come_after(rt, roster, &change, numbers),
+    );
     let accepted = roster.test(&change);
-    assert!(rt; accepted.is_ok());
+    check(rt, "accepted", accepted.is_ok());
     if accepted.is_ok() {
         roster.make(&change).expect(rt, "memory");
     }
-    assert!(rt; roster.members() == numbers);
+    check(rt, "members", are(roster.members(), numbers));
 }
 
 fn are_made(rt: &impl Abort, roster: &mut Roster) {
@@ -81,17 +96,24 @@ fn are_made(rt: &impl Abort, roster: &mut Roster) {
     make(rt, roster, remove(5), &[3, 65535]);
 }
 
+fn is_key(found: Option<&[u8; 56]>, key: &[u8; 56]) -> bool {
+    match found {
+        Some(found) => is_same(found, key),
+        None => false,
+    }
+}
+
 fn is_changed(roster: &Roster) -> bool {
     roster.role(3) == Some(Role::Admin)
         && roster.role(1).is_none()
-        && roster.key(65535).copied() == Some(key(9))
+        && is_key(roster.key(65535), &key(9))
 }
 
 fn two_change(rt: &impl Abort, alloc: Global) {
     let founders = [founder(1, Role::Admin), founder(5, Role::Editor)];
     let mut roster = Roster::found(alloc, &founders).expect(rt, "memory");
     are_made(rt, &mut roster);
-    assert!(rt; is_changed(&roster));
+    check(rt, "changed", is_changed(&roster));
     is_refused(rt, &roster, add(1, Role::Editor), ChangeFault::NumberUsed);
 }
 
@@ -105,19 +127,20 @@ const FAULTS: [(ChangeFault, &str); 6] = [
     (ChangeFault::BadKey, "bad-key"),
 ];
 
+fn is_named_and_numbered(fault: ChangeFault, name: &str, number: u8) -> bool {
+    fault.name() == name
+        && fault.code() == number
+        && ChangeFault::from_code(u32::from(number)) == Some(fault)
+}
+
 fn have_names_and_numbers(rt: &impl Abort) {
     let mut number = 1u8;
     for (fault, name) in &FAULTS {
-        assert!(rt; fault.name() == *name, "{name}");
-        assert!(rt; fault.code() == number, "{name}");
-        assert!(rt;
-            ChangeFault::from_code(u32::from(number)) == Some(*fault),
-            "{name}"
-        );
+        check(rt, *name, is_named_and_numbered(*fault, *name, number));
         number = number.wrapping_add(1);
     }
-    assert!(rt; Role::from_code(2) == Some(Role::Editor));
-    assert!(rt; Role::from_code(4).is_none());
+    check(rt, "role 2", Role::from_code(2) == Some(Role::Editor));
+    check(rt, "role 4", Role::from_code(4).is_none());
 }
 
 #[test]

@@ -1,4 +1,6 @@
-use sporc_base::Bytes;
+use crate::checks::{check, check_at};
+use crate::samples::empty_sample;
+use sporc_base::{Bytes, is_same};
 use sporc_head::Refusal;
 use sporc_order::{Answer, Order, Session};
 use sporc_samples::{Cast, DOCUMENT, History};
@@ -10,11 +12,6 @@ use std::process::Abort;
 fn opened(rt: &impl Abort, alloc: Global, cast: &Cast) -> Box<Order> {
     let genesis = cast.genesis(alloc).expect(rt, "a genesis");
     Box::new(alloc, Order::open(alloc, genesis).expect(rt, "memory")).expect(rt, "memory")
-}
-
-fn empty_history(rt: &impl Abort, alloc: Global, cast: &Cast) -> Box<History> {
-    let genesis = cast.genesis(alloc).expect(rt, "a genesis");
-    Box::new(alloc, History::new(alloc, &genesis).expect(rt, "a history")).expect(rt, "memory")
 }
 
 // Whether an entry is ordered at this position, and refused if it is submitted again.
@@ -35,15 +32,13 @@ fn grow(
         sample.edit(alloc, cast, 2, b"").expect(rt, "an edit");
         let entry = sample.entries().last().expect(rt, "an entry");
         let position = before.wrapping_add(1);
-        assert!(rt;
-            is_ordered_once(order, entry.as_slice(), position),
-            "{position}"
-        );
+        let ordered = is_ordered_once(order, entry.as_slice(), position);
+        check_at(rt, "ordered at", u64::from(position), ordered);
     }
 }
 
 fn is_pulled(order: &Order) -> bool {
-    order.document() == &DOCUMENT
+    is_same(order.document(), &DOCUMENT)
         && order.len() == 18
         && order.pull(0).len() == 16
         && order.pull(5).len() == 13
@@ -53,21 +48,26 @@ fn is_pulled(order: &Order) -> bool {
 // Whether the entry at this place, from 0 on, is pulled as it was submitted.
 fn is_pulled_at(order: &Order, entries: &[Vec<u8>], place: usize) -> bool {
     match (order.pull(0).get(place), entries.get(place)) {
-        (Some(pulled), Some(entry)) => pulled.as_slice() == entry.as_slice(),
+        (Some(pulled), Some(entry)) => is_same(pulled.as_slice(), entry.as_slice()),
         _ => false,
     }
 }
 
 fn are_pulled(rt: &impl Abort, order: &Order, entries: &[Vec<u8>]) {
-    assert!(rt; is_pulled(order));
+    check(rt, "lengths", is_pulled(order));
     for place in 0..16 {
-        assert!(rt; is_pulled_at(order, entries, place), "{place}");
+        check_at(
+            rt,
+            "pulled at",
+            place as u64,
+            is_pulled_at(order, entries, place),
+        );
     }
 }
 
 fn sixteen_are_pulled(rt: &impl Abort, alloc: Global, cast: &Cast) {
     let mut order = opened(rt, alloc, cast);
-    let mut sample = empty_history(rt, alloc, cast);
+    let mut sample = empty_sample(rt, alloc, cast);
     grow(rt, alloc, cast, &mut order, &mut sample, 18);
     are_pulled(rt, &order, sample.entries());
 }
@@ -98,7 +98,7 @@ fn answers(
     wanted: &str,
 ) {
     let answer = session.step(alloc, order, message).expect(rt, "memory");
-    assert!(rt; heard_in(&answer) == wanted, "{wanted}");
+    check(rt, wanted, heard_in(&answer) == wanted);
 }
 
 fn greets(rt: &impl Abort, alloc: Global, session: &mut Session, order: &mut Order, wanted: &str) {
@@ -157,7 +157,7 @@ fn is_submitted(
 fn session_orders_once(rt: &impl Abort, alloc: Global, cast: &Cast) {
     let mut order = opened(rt, alloc, cast);
     is_greeted(rt, alloc, &mut order);
-    let mut sample = empty_history(rt, alloc, cast);
+    let mut sample = empty_sample(rt, alloc, cast);
     is_submitted(rt, alloc, cast, &mut order, &mut sample);
 }
 

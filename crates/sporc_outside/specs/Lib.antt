@@ -5,7 +5,6 @@ pub mod Told
 pub mod ListedChanceModel
 pub mod Counts
 pub mod MemoryBytesModel
-pub mod Reading
 pub mod Uses
 pub mod Writing
 pub mod LeafDisk

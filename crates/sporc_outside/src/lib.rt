@@ -1,7 +1,7 @@
 //! The outside world as traits: where bytes come from and go to, and how its faults are counted.
 //!
-//! - [`Source`] and [`Sink`] give and take bytes, and a [`Link`] does both for one connection; [`read_all`] and
-//!   [`write_all`] go to the end. [`Dial`] and [`Listen`] make links.
+//! - [`Source`] and [`Sink`] give and take bytes, and a [`Link`] does both for one connection; [`write_all`] goes to the
+//!   end. [`Dial`] and [`Listen`] make links.
 //! - [`Chance`] gives random words, a [`Folder`] keeps files, a [`LeafDisk`] keeps a key's state, and a [`Gate`] is called
 //!   between the steps of threads.
 //! - [`Counted`]: each object counts its faults, and a call answers [`Failed`] only where that count rose.
@@ -11,8 +11,9 @@
 //! tell it, as a real file or terminal does, and as the links of a [`PipeNet`] do, which join two threads.
 //!
 //! ```text
-//! let mut source = MemorySource::new(b"hello".to_vec(alloc)?, 2, Calls::failing(Vec::new(alloc)));
-//! read_all(alloc, &mut source, 16)?                   // hello, in pieces of two
+//! let mut sink = MemorySink::new(alloc, 2, Calls::failing(Vec::new(alloc)));
+//! write_all(&mut sink, b"hello")?;                    // in pieces of two
+//! sink.as_slice()                                     // hello
 //! ```
 //!
 //! Proved: what each call does to the told content and to the counts. Only tested: that a call succeeds with ample memory. Neither:
@@ -66,4 +67,4 @@ pub use crate::named_file::NamedFile;
 pub use crate::pipe_link::PipeLink;
 pub use crate::pipe_net::PipeNet;
 pub use crate::sink::{Sink, write_all};
-pub use crate::source::{ReadFault, Source, read_all};
+pub use crate::source::Source;

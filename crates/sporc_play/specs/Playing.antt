@@ -1,12 +1,12 @@
 -- What a play does with its source and its sink.
 use Rattle.std.specs.Prelude.{◌≡◌, true, ℕ, ◌+◌, ◌≤◌, ◌⊎◌, List, length, Result, Ok, Err}
 use Rattle.std.specs.Io.KnownBytes.{Appends, Consumes, IsAtEnd}
-use Rattle.sporc_outside.specs.declared.source.ReadFault.{ReadFault}
-use Rattle.sporc_outside.specs.declared.source.ReadFault.TheVariants as reading
 use Rattle.sporc_outside.specs.Counts.{Rose}
-use Rattle.sporc_outside.specs.Reading.{ConsumesExactly}
 use Rattle.sporc_outside.specs.Uses.{IsUnwritten, SinkUse, SourceUse}
 use Rattle.sporc_outside.specs.Writing.{AppendsPrefix}
+use Rattle.sporc_reading.specs.declared.reading.ReadFault.{ReadFault}
+use Rattle.sporc_reading.specs.declared.reading.ReadFault.TheVariants as reading
+use Rattle.sporc_reading.specs.Reading.{ConsumesExactly}
 use Rattle.sporc_play.specs.declared.fault.PlayFault.{PlayFault}
 use Rattle.sporc_play.specs.declared.fault.PlayFault.TheVariants as faults
 use Rattle.sporc_play.specs.declared.playing.TheConstants.{MAX_SCRIPT}

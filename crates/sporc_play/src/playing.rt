@@ -1,6 +1,6 @@
 ghost use Rattle.std.specs.Prelude.{◌≡◌, ◌≢◌, ◌+◌, ◌≤◌, List, IfErr, OnOk, OnErr};
-ghost use Rattle.sporc_outside.specs.Reading.{ConsumesAtMost};
 ghost use Rattle.sporc_outside.specs.Uses.{sink_use, source_use};
+ghost use Rattle.sporc_reading.specs.Reading.{ConsumesAtMost};
 ghost use Rattle.sporc_play.specs.Cast.{setup_of};
 ghost use Rattle.sporc_play.specs.Lines.{WritesLine, WritesPrefix};
 ghost use Rattle.sporc_play.specs.Playing.{IsShortScript, IsWriteCause, PlayOutcome};
@@ -10,7 +10,8 @@ ghost use Rattle.sporc_play.specs.Stage.{Becomes, CanPerform, StandsFor};
 
 use crate::fault::PlayFault;
 use crate::state::PlayState;
-use sporc_outside::{Sink, Source, read_all, write_all};
+use sporc_outside::{Sink, Source, write_all};
+use sporc_reading::read_all;
 use sporc_script::{Command, PlayLine, read_play};
 use std::alloc::Global;
 

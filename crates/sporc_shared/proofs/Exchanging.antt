@@ -3,7 +3,7 @@ use Rattle.std.proofs.Common.{◌≡◌, ℕ, ◌+◌, ◌^◌, ◌<◌, List, [
 use Rattle.std.proofs.lemmas.List.{append-nil, length-append}
 use Rattle.std.proofs.lemmas.List.Concat.{flat_map-append}
 use Rattle.std.specs.Io.KnownBytes.{Appends, Consumes}
-use Rattle.sporc_outside.proofs.Known.{Appends_then, Consumes_then}
+use Rattle.std.proofs.KnownBytes.{Appends-trans, Consumes-trans}
 use Rattle.sporc_wire.specs.declared.to_client.ToClient.{ToClient}
 use Rattle.sporc_wire.specs.declared.to_server.ToServer.{ToServer}
 use Rattle.sporc_wire.specs.Messages.{Unread, HandsOut, counted_to_end, fed, next}
@@ -58,7 +58,7 @@ received_then a b c xs ys f g =
     subst P (fed_then (unread_of a.inbox) f.came g.came) (HandsOut-fed to_client_of (fed f.came (unread_of a.inbox)) g.came xs (unread_of b.inbox) f.reads) in
     record {
       came = f.came ++ g.came;
-      consumed = Consumes_then a.left b.left c.left f.came g.came f.consumed g.consumed;
+      consumed = Consumes-trans a.left b.left c.left f.came g.came f.consumed g.consumed;
       reads = reads_append (fed (f.came ++ g.came) (unread_of a.inbox)) (fed g.came (unread_of b.inbox)) (unread_of c.inbox) xs ys first g.reads;
       counted = λ low.
           let before = f.counted low in
@@ -70,7 +70,7 @@ received_then a b c xs ys f g =
 
 pub exchanged_then : (a b c : LinkStand) (w v : List ℕ) (xs ys : List ToClient) → Exchanged a b w xs → Exchanged b c v ys → Exchanged a c (w ++ v) (xs ++ ys)
 exchanged_then a b c w v xs ys f g = record {
-  sent = Appends_then a.written b.written c.written w v f.sent g.sent;
+  sent = Appends-trans a.written b.written c.written w v f.sent g.sent;
   received = received_then a b c xs ys f.received g.received;
   count = omega (arith, f.count, g.count);
 }

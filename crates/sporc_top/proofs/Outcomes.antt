@@ -2,8 +2,8 @@
 use Rattle.std.proofs.Common.{◌≡◌, ℕ, ◌+◌, ◌<◌, ◌≤◌, ◌⊎◌, List, ◌++◌, length, Option, Some, None, Result, Ok, Err, refl, sym, ap, ◌∙◌, subst, inl, inr, arith, append-nil, length-append}
 use Rattle.std.specs.Bool.{⊤}
 use Rattle.std.specs.Io.KnownBytes.{Consumes, IsAtEnd}
-use Rattle.sporc_outside.specs.Reading.{ConsumesExactly}
 use Rattle.sporc_outside.specs.Uses.{IsUnwritten, SinkUse, SourceUse}
+use Rattle.sporc_reading.specs.Reading.{ConsumesExactly}
 use Rattle.sporc_script.specs.declared.command.Command.{Command as PlayCommand}
 use Rattle.sporc_script.specs.declared.play_line.PlayLine.{PlayLine}
 use Rattle.sporc_script.specs.Grammar.{IsNext, IsPlayFault, IsPlayScript, play_line}

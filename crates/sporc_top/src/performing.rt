@@ -1,8 +1,8 @@
 // What each command does.
 
 ghost use Rattle.std.specs.Prelude.{◌≡◌, ◌+◌, ◌≤◌, false};
-ghost use Rattle.sporc_outside.specs.Reading.{ConsumesAtMost};
 ghost use Rattle.sporc_outside.specs.Uses.{sink_use, source_use};
+ghost use Rattle.sporc_reading.specs.Reading.{ConsumesAtMost};
 ghost use Rattle.sporc_script.specs.declared.limits.TheConstants.{MAX_GENERATED};
 ghost use Rattle.sporc_serve.specs.declared.limits.TheConstants.{MAX_SESSIONS};
 ghost use Rattle.sporc_play.specs.declared.playing.TheConstants.{MAX_SCRIPT};

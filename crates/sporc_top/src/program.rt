@@ -1,8 +1,8 @@
 //! The program.
 
 ghost use Rattle.std.specs.Prelude.{◌≡◌, ◌+◌, ◌≤◌, false, map, string_bytes};
-ghost use Rattle.sporc_outside.specs.Reading.{ConsumesAtMost};
 ghost use Rattle.sporc_outside.specs.Uses.{sink_use, source_use};
+ghost use Rattle.sporc_reading.specs.Reading.{ConsumesAtMost};
 ghost use Rattle.sporc_play.specs.declared.playing.TheConstants.{MAX_SCRIPT};
 ghost use Rattle.sporc_words.specs.Commands.{command_of};
 ghost use Rattle.sporc_files.specs.Faults.{WritesFaultLine, status_of};

@@ -1,11 +1,12 @@
 use Rattle.std.proofs.Common.{◌∙◌, arith}
-use Rattle.sporc_outside.proofs.Known.{Appends_then, take-front, front_fits}
+use Rattle.std.proofs.KnownBytes.{Appends-trans}
+use Rattle.sporc_outside.proofs.Known.{take-front, front_fits}
 use Rattle.sporc_outside.proofs.sink.write_all.Goals as goal
 
 pub loop-at-preserved : goal.loop-at-preserved
 loop-at-preserved g c = record {
   within = front_fits c.args.bytes.now c.loop-at.at c.in_ok-at.field-0 c.loop-at.invariant.within c.in_ok-at.ensures.bound;
-  written = rw take-front (Appends_then _ _ _ _ _ c.loop-at.invariant.written c.in_ok-at.ensures.bytes);
+  written = rw take-front (Appends-trans _ _ _ _ _ c.loop-at.invariant.written c.in_ok-at.ensures.bytes);
   pending = c.in_ok-at.ensures.pending ∙ c.loop-at.invariant.pending;
   kept = omega (arith, c.in_ok-at.ensures.count.kept);
 }

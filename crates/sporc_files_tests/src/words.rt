@@ -1,0 +1,4 @@
+//! Command lines, and lines of scripts.
+
+mod rows;
+mod scripts;

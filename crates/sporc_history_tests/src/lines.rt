@@ -1,0 +1,5 @@
+//! Lines of members.
+
+mod reading;
+mod refusals;
+mod scene;

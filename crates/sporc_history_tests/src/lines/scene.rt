@@ -1,0 +1,89 @@
+//! Lines of the sample document, and what they are given.
+
+use crate::checks::check;
+use sporc_epoch::{Pairs, Ring};
+use sporc_head::Refusal;
+use sporc_line::Line;
+use sporc_samples::{Cast, History, epoch_key, insertion, pair_key};
+use std::alloc::Global;
+use std::process::Abort;
+
+/// A ring with the key of epoch 0.
+pub(crate) fn founder_ring(rt: &impl Abort, alloc: Global) -> Ring {
+    let mut ring = Ring::new(alloc);
+    ring.put(0, epoch_key(0)).expect(rt, "memory");
+    ring
+}
+
+/// The key that a member shares with the admin, 1.
+pub(crate) fn paired(rt: &impl Abort, alloc: Global, me: u16) -> Pairs {
+    let mut pairs = Pairs::new(alloc);
+    let inserted: Result<_, _> = pairs.insert(1, pair_key(me, 1));
+    inserted.expect(rt, "memory");
+    pairs
+}
+
+/// The empty line of a member, in a box: a function that owns a line itself is slow to prove.
+pub(crate) fn opened(
+    rt: &impl Abort,
+    alloc: Global,
+    cast: &Cast,
+    me: u16,
+    ring: Ring,
+    pairs: Pairs,
+) -> Box<Line> {
+    let genesis = cast.genesis(alloc).expect(rt, "a genesis");
+    let line = Line::open(alloc, genesis, me, ring, pairs).expect(rt, "a line");
+    Box::new(alloc, line).expect(rt, "memory")
+}
+
+/// The empty line of a founder who shares a key with the admin.
+pub(crate) fn founded(rt: &impl Abort, alloc: Global, cast: &Cast, me: u16) -> Box<Line> {
+    let ring = founder_ring(rt, alloc);
+    let pairs = paired(rt, alloc, me);
+    opened(rt, alloc, cast, me, ring, pairs)
+}
+
+/// The empty line of a founder who shares no key.
+pub(crate) fn unpaired(rt: &impl Abort, alloc: Global, cast: &Cast, me: u16) -> Box<Line> {
+    let ring = founder_ring(rt, alloc);
+    opened(rt, alloc, cast, me, ring, Pairs::new(alloc))
+}
+
+/// Appends an edit that inserts a text behind so many characters.
+pub(crate) fn insert(
+    rt: &impl Abort,
+    alloc: Global,
+    cast: &Cast,
+    sample: &mut History,
+    author: u16,
+    keep: u64,
+    text: &[u8],
+) {
+    let delta = insertion(alloc, keep, text).expect(rt, "memory");
+    sample
+        .edit(alloc, cast, author, delta.as_slice())
+        .expect(rt, "an entry");
+}
+
+/// Gives a line an entry: why it refuses it, if it does.
+pub(crate) fn given(line: &mut Line, position: u32, entry: &[u8]) -> Option<Refusal> {
+    line.accept(position, entry).err()
+}
+
+/// Gives a line entries, each at the next position, up to one that it refuses.
+pub(crate) fn all_given(line: &mut Line, entries: &[Vec<u8>]) -> Option<Refusal> {
+    for entry in entries {
+        let position = line.len().wrapping_add(1);
+        if let Some(refusal) = given(line, position, entry.as_slice()) {
+            return Some(refusal);
+        }
+    }
+    None
+}
+
+/// Gives a line a history, which ends with this refusal, if any.
+pub(crate) fn take(rt: &impl Abort, line: &mut Line, sample: &History, refusal: Option<Refusal>) {
+    let found = all_given(line, sample.entries());
+    check(rt, "how a history ends", found == refusal);
+}

@@ -1,0 +1,7 @@
+//! The outside in memory.
+
+mod disks;
+mod folders;
+mod nets;
+mod pieces;
+mod pipes;

@@ -1,0 +1,5 @@
+//! Signatures.
+
+mod leaves;
+mod signers;
+mod trees;

@@ -1,0 +1,5 @@
+//! The lock of `sporc_turn`.
+
+mod tally;
+mod turns;
+mod work;
