@@ -15,7 +15,7 @@
 //!
 //! Proved: names, statuses and lines to the byte, which are written as far as the sink takes them and take no memory; what is
 //! read of which file, and which fault is answered; that a call asks for the names of its files alone. Tested, in the tests of the
-//! commands (`sporc_founding_tests`, `sporc_histories_tests`, `sporc_commands_tests`): that reading and writing succeed with ample
+//! commands (`sporc_files_tests`, `sporc_commands_tests`): that reading and writing succeed with ample
 //! memory. Neither: that a real folder keeps what is written.
 #![tactic(auto)]
 

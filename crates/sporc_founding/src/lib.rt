@@ -9,7 +9,7 @@
 //! ```
 //!
 //! Proved: which files are asked for, which stand after each answer, of which words of the chance they are made, what is
-//! printed, and why a command failed. Tested, in `sporc_founding_tests`: the files of a document in memory, the names asked
+//! printed, and why a command failed. Tested, in `sporc_files_tests`: the files of a document in memory, the names asked
 //! for, in their order, and each call outside failing in turn.
 #![tactic(auto)]
 

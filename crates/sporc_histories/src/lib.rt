@@ -12,7 +12,7 @@
 //!
 //! Proved: for each command one relation, in `specs/Outcomes.antt`, between its words, the folder, the sink and the net as it
 //! found and left them, and its answer: what the files say is a function of their bytes (`Checking`, `Comparing`, `Serving`),
-//! whose first fault is answered, unless memory runs out or something outside fails. Tested, in `sporc_histories_tests`: the
+//! whose first fault is answered, unless memory runs out or something outside fails. Tested, in `sporc_files_tests`: the
 //! lines of histories with real signatures, and that calls succeed with ample memory. Neither: that a real folder keeps what
 //! is written, and that a client gets an answer.
 #![tactic(auto)]

@@ -16,7 +16,7 @@
 //!
 //! Proved: `prepare` and `accept` answer exactly the first fault of the definition, unless memory runs out, and leave the
 //! line as it is, or append; every getter is its definition over the list; the history stays good after any calls; both
-//! laws. Nothing is looked up in the list while an entry is checked. Tested, in `sporc_line_tests` and `sporc_history_tests`:
+//! laws. Nothing is looked up in the list while an entry is checked. Tested, in `sporc_history_tests`:
 //! each refusal by entries with real signatures, and what members, a joiner and a removed member read. Neither: how long a
 //! call takes.
 #![tactic(auto)]
