@@ -4,7 +4,7 @@ ghost use Rattle.std.specs.Prelude.{◌≡◌, ◌≤◌, ◌++◌, ◌∷◌, [
 ghost use Rattle.std.specs.Str.{bytes_eq};
 ghost use Rattle.sporc_outside.specs.Counts.{Rose};
 ghost use Rattle.sporc_outside.specs.Files.{file_in, with_file, IsPlaceOf, IsAbsence, IsDiskFault, IsDiskOf};
-ghost use Rattle.sporc_outside.specs.Told.{MayAppend};
+ghost use Rattle.sporc_outside.specs.Told.{AppendsItem, MayAppend};
 ghost use Rattle.sporc_outside.specs.declared.file_fault.FileFault.TheVariants as faults;
 ghost use Rattle.sporc_outside.specs.declared.file_fault.TheConstants.{MAX_FILE};
 
@@ -36,7 +36,7 @@ impl Model for MemoryFolder {
 
     ghost Value = { MemoryFolderModel };
 
-    ghost view = { λ f. record { files = f.files.items; asked = f.asked.items; lent = reverse f.lent.items; calls = f.calls } };
+    ghost view = { λ f. record { files = f.files.items; asked = f.asked.items; lent = reverse f.lent.items; calls = f.calls; disk_calls = f.disk_calls.items } };
 
     ghost invariant = { λ f. HasEach f.files.items f.lent.items };
 }
@@ -44,7 +44,7 @@ impl Model for MemoryFolder {
 impl MemoryFolder {
     /// Holds these files. The listed calls fail.
     pub fn new(alloc: Global, files: Vec<NamedFile>, calls: Calls) -> MemoryFolder
-        ensures value { result ≡ record { files = files.items; asked = []; lent = []; calls = calls } }
+        ensures value { result ≡ record { files = files.items; asked = []; lent = []; calls = calls; disk_calls = [] } }
     {
         MemoryFolder {
             alloc,
@@ -58,7 +58,7 @@ impl MemoryFolder {
 
     /// Of the next disk that is handed out, the calls with these numbers fail.
     pub fn fail_disk_calls(&mut self, failing: Vec<u64>)
-        ensures unchanged { self.new ≡ self.old }
+        ensures value { self.new ≡ record self.old { disk_calls = failing.items } }
     {
         self.disk_calls = failing;
     }
@@ -90,6 +90,7 @@ impl Folder for MemoryFolder {
     type Disk = MemoryDisk;
 
     ghost use Rattle.std.specs.Prelude.{Some};
+    ghost use Rattle.sporc_outside.specs.MemoryDisk.{state_after};
 
     ghost files = { λ f. Some f.files };
 
@@ -127,7 +128,19 @@ impl Folder for MemoryFolder {
         }
     }
 
-    fn leaf_disk(&mut self, name: &str) -> Result<MemoryDisk, FileFault> {
+    fn leaf_disk(&mut self, name: &str) -> Result<MemoryDisk, FileFault>
+        ensures ok { IfOk result (λ disk. IsDiskOf (Some self.old.files) name.now (Some (state_after disk.first disk.log).bytes)) }
+        ensures fresh { IfOk result (λ disk. disk.calls.faults ≡ 0) }
+        ensures err { IfErr result (IsDiskFault (Some self.old.files) name.now self.old.calls.faults self.new.calls.faults) }
+        ensures files { Some self.new.files ≡ Some self.old.files }
+        ensures lent { OnOk result (Some self.new.lent ≡ Some (name.now ∷ self.old.lent)) }
+        ensures not_lent { OnErr result (Some self.new.lent ≡ Some self.old.lent) }
+        ensures asked { OnOk result (AppendsItem (Some self.old.asked) (Some self.new.asked) name.now) }
+        ensures may_ask { MayAppend (Some self.old.asked) (Some self.new.asked) name.now }
+        ensures count { self.old.calls.faults ≤ self.new.calls.faults }
+        ensures failing { IfOk result (λ disk. disk.calls.failing ≡ self.old.disk_calls) }
+        ensures taken { OnOk result (self.new.disk_calls ≡ []) }
+    {
         let bytes = look_up(
             self.alloc,
             &mut self.calls,
