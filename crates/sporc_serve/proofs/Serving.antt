@@ -1,5 +1,5 @@
 -- What a server did, from what number 0 knew at last.
-use Rattle.std.proofs.Common.{◌≡◌, ◌≢◌, ℕ, zero, suc, ◌+◌, ◌≤◌, ◌==◌, Bool, true, false, List, [], ◌∷◌, ◌-◌, length, drop, replicate, filter, All, Option, Result, Ok, Err, refl, ap, sym, subst, ◌∙◌, arith, inl, inr, get_or}
+use Rattle.std.proofs.Common.{◌≡◌, ◌≢◌, ℕ, zero, suc, ◌+◌, ◌≤◌, ◌<◌, ◌==◌, Bool, true, false, List, [], ◌∷◌, ◌-◌, length, drop, replicate, filter, All, Option, Result, Ok, Err, refl, ap, sym, subst, ◌∙◌, arith, inl, inr, get_or}
 use Rattle.std.proofs.lemmas.List.{drop_all, length-replicate}
 use Rattle.std.proofs.lemmas.List.Elements.{All-head, All-tail, All-nil, All-cons}
 use Rattle.sporc_entry.specs.declared.genesis.Genesis.{Genesis}
@@ -35,34 +35,30 @@ positive zero h = absurd (h refl)
 positive (suc n) h = omega arith
 
 module _ {L : Type 0} (left written : L → Option (List ℕ)) (faults : L → ℕ) (g : Genesis) where
-  -- what number 0 keeps, and how many passes it split and joined
+  -- what number 0 keeps, and that it joined back each pass that it split
   visits_keep : (k k' : Known Item) (vs : List (Visit L)) → Visits left written faults g k k' vs
       → (k'.number ≡ k.number) × (k'.mine ≡ k.mine) × (k'.start ≡ k.start)
-      × (k'.splits + length k.joined ≡ k.splits + length k'.joined) × (k'.splits ≤ k.splits + length vs)
+      × (k'.splits + length k.joined ≡ k.splits + length k'.joined)
   visits_keep k k' [] is = (
     ap (λ (x : Known Item). x.number) is,
     ap (λ (x : Known Item). x.mine) is,
     ap (λ (x : Known Item). x.start) is,
     subst (λ (x : Known Item). x.splits + length k.joined ≡ k.splits + length x.joined) (sym is) refl,
-    subst (λ (x : Known Item). x.splits ≤ k.splits + 0) (sym is) (omega arith),
   )
   visits_keep k k' (v ∷ vs) (inl h) = (
     ap (λ (x : Known Item). x.number) h.2,
     ap (λ (x : Known Item). x.mine) h.2,
     ap (λ (x : Known Item). x.start) h.2,
     subst (λ (x : Known Item). x.splits + length k.joined ≡ k.splits + length x.joined) (sym h.2) refl,
-    subst (λ (x : Known Item). x.splits ≤ k.splits + length (v ∷ vs)) (sym h.2) (omega arith),
   )
   visits_keep k k' (v ∷ vs) (inr h) =
       let more = visits_keep (splitting k) h.0 vs h.3 in
       let is = h.5 in
-      let low : h.0.splits + length k.joined ≡ k.splits + 1 + length h.0.joined = more.3 in
-      let high : h.0.splits ≤ k.splits + 1 + length vs = more.4 in (
+      let low : h.0.splits + length k.joined ≡ k.splits + 1 + length h.0.joined = more.3 in (
         ap (λ (x : Known Item). x.number) is ∙ more.0,
         ap (λ (x : Known Item). x.mine) is ∙ more.1,
         ap (λ (x : Known Item). x.start) is ∙ more.2,
         subst (λ (x : Known Item). x.splits + length k.joined ≡ k.splits + length x.joined) (sym is) (omega (arith, low)),
-        subst (λ (x : Known Item). x.splits ≤ k.splits + length (v ∷ vs)) (sym is) (omega (arith, high)),
       )
 
   begins_first : (k k' : Known Item) (vs : List (Visit L)) → Visits left written faults g k k' vs → StartsWith k'.seen k.seen
@@ -74,9 +70,9 @@ module _ {L : Type 0} (left written : L → Option (List ℕ)) (faults : L → �
     -- each session's items are those of the log with its number
     attended : (k k' : Known Item) (vs : List (Visit L)) → Visits left written faults g k k' vs → StartsWith log k'.seen
         → All (λ (j : Joined Item). own by_of j.number (length start) log ≡ j.items) k'.joined → StartsWith k.seen start
-        → Attended left written faults g start log (k.splits + 1) vs
-    attended k k' [] is seen owns begins = tt
-    attended k k' (v ∷ vs) (inl h) seen owns begins = inl h.0
+        → Attended left written faults g start log (k.splits + 1) vs (k'.splits + 1)
+    attended k k' [] is seen owns begins = ap (λ (x : Known Item). x.splits + 1) is
+    attended k k' (v ∷ vs) (inl h) seen owns begins = inl (h.0, h.1, ap (λ (x : Known Item). x.splits + 1) h.2)
     attended k k' (v ∷ vs) (inr h) seen owns begins =
         let rest = h.0 in
         let last = h.1 in
@@ -95,7 +91,8 @@ module _ {L : Type 0} (left written : L → Option (List ℕ)) (faults : L → �
             known = starts_then last.seen k'.seen log h.7 seen;
             own_are = subst (λ (n : ℕ). own by_of n (length start) log ≡ last.mine) h.4 here;
           },
-          attended (splitting k) rest vs h.3 (starts_then rest.seen k'.seen log h.6 seen) there begins,
+          subst (λ (x : Known Item). Attended left written faults g start log (k.splits + 1 + 1) vs (x.splits + 1)) (sym h.5)
+              (attended (splitting k) rest vs h.3 (starts_then rest.seen k'.seen log h.6 seen) there begins),
         )
 
 pub served : {L : Type 0} (left written : L → Option (List ℕ)) (faults : L → ℕ) (o : OrderModel) (after : OrderModel) (k : Known Item) (vs : List (Visit L))
@@ -114,8 +111,9 @@ served left written faults o after k vs log h is agrees at =
     record {
       order_is = at;
       begins = starts_then (log_at_first o) k.seen log (begins_first left written faults o.genesis first k vs h) (subst (λ (l : List Item). StartsWith l k.seen) (sym is) (starts_same k.seen));
+      next = k.splits + 1;
       sessions = attended left written faults o.genesis (log_at_first o) log first k vs h (subst (λ (l : List Item). StartsWith l k.seen) (sym is) (starts_same k.seen)) owns (starts_same (log_at_first o));
-      numbered = λ i d lt. (positive (by_of (get_or (drop n log) i d)) (others i d lt), omega (arith, numbers i d lt, keep.4));
+      numbered = λ i d lt. (positive (by_of (get_or (drop n log) i d)) (others i d lt), omega (arith, numbers i d lt));
     }
 
 -- the first log is of the order's document, and its entries are the order's
@@ -141,9 +139,10 @@ module _ {L : Type 0} (left written : L → Option (List ℕ)) (faults : L → �
       served = record {
         order_is = same ∙ first_is o;
         begins = starts_same (log_at_first o);
-        sessions = tt;
-        numbered = subst (λ (l : List Item). All (λ e. (1 ≤ by_of e) × (by_of e ≤ 0)) l) (sym (drop_all (length (log_at_first o)) (log_at_first o) (omega arith)))
-            (All-nil (λ e. (1 ≤ by_of e) × (by_of e ≤ 0)));
+        next = 1;
+        sessions = refl;
+        numbered = subst (λ (l : List Item). All (λ e. (1 ≤ by_of e) × (by_of e < 1)) l) (sym (drop_all (length (log_at_first o)) (log_at_first o) (omega arith)))
+            (All-nil (λ e. (1 ≤ by_of e) × (by_of e < 1)));
       };
       coming = subst (λ (c : Option (List L)). AreFrom old.coming c []) (sym coming) (from_none old.coming);
       returned = subst (λ (c : Option (List L)). AreBehind old.returned c []) (sym returned) (behind_none old.returned);

@@ -1,5 +1,5 @@
 -- What a server did, whole.
-use Rattle.std.specs.Prelude.{◌≡◌, ◌⊎◌, ◌+◌, ◌≤◌, ℕ, List, [], ◌∷◌, length, drop, replicate, Option, Result}
+use Rattle.std.specs.Prelude.{◌≡◌, ◌⊎◌, ◌+◌, ◌≤◌, ◌<◌, ℕ, List, [], ◌∷◌, length, drop, replicate, Option, Result}
 use Rattle.std.specs.List.{All}
 use Rattle.sporc_turn.specs.declared.known.Known.{Known}
 use Rattle.sporc_turn.specs.Log.{StartsWith, own}
@@ -26,21 +26,23 @@ module _ {L : Type 0} (left written : L → Option (List ℕ)) (faults : L → �
     pub known : StartsWith log last.seen
     pub own_are : own by_of number (length start) log ≡ last.mine
 
-  -- sessions by passes with the numbers from this one on
-  abbrev pub Attended : ℕ → List (Visit L) → Type 0
-  Attended number [] = Unit {0}
-  Attended number (v ∷ vs) =
-      IsUnserved left written faults genesis v
-      ⊎ ((first : Known Item) × (last : Known Item) × Attends number first last v × Attended (number + 1) vs)
+  -- sessions by passes with the numbers from this one on, `next` being the one after theirs; only the last link can be
+  -- unserved, and no pass was split for it
+  abbrev pub Attended : ℕ → List (Visit L) → ℕ → Type 0
+  Attended number [] next = next ≡ number
+  Attended number (v ∷ vs) next =
+      (IsUnserved left written faults genesis v × (vs ≡ []) × (next ≡ number))
+      ⊎ ((first : Known Item) × (last : Known Item) × Attends number first last v × Attended (number + 1) vs next)
 
 -- The order that is handed back is that of a log which begins with the order that was handed in. Each further entry was added
--- by one of the sessions.
+-- by one of the sessions: it has the number of a session's pass. `next` is the number after those.
 pub record Served {L : Type 0} (left written : L → Option (List ℕ)) (faults : L → ℕ) (before after : OrderModel) (visits : List (Visit L)) (log : List Item)
     : Type 0 where
   pub order_is : after ≡ order_at before.genesis log
   pub begins : StartsWith log (log_at_first before)
-  pub sessions : Attended left written faults before.genesis (log_at_first before) log 1 visits
-  pub numbered : All (λ e. (1 ≤ by_of e) × (by_of e ≤ length visits)) (drop (length (log_at_first before)) log)
+  pub next : ℕ
+  pub sessions : Attended left written faults before.genesis (log_at_first before) log 1 visits next
+  pub numbered : All (λ e. (1 ≤ by_of e) × (by_of e < next)) (drop (length (log_at_first before)) log)
 
 -- so many sessions at a net, of which this is answered
 pub record ServesAt {L : Type 0} (left written : L → Option (List ℕ)) (faults : L → ℕ) (before after : OrderModel) (old new : Net L) (sessions : ℕ)

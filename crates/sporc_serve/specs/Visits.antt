@@ -31,7 +31,7 @@ module _ {L : Type 0} (left written : L → Option (List ℕ)) (faults : L → �
       IsEnd genesis (stand first (left v.before) (written v.before) (faults v.before) (stream_of []) false)
       (stand last (left v.after) (written v.after) (faults v.after) (stream_of []) false) v.end
 
-  -- a link whose session ended for want of memory before its first message
+  -- a link whose session ended before its first message, out of memory
   pub record IsUnserved (v : Visit L) : Type 0 where
     pub end_is : v.end ≡ Memory
     pub left_is : left v.after ≡ left v.before
@@ -68,7 +68,7 @@ AreBehind None new links = Unit {0}
 AreBehind (Some old) None links = ⊥
 AreBehind (Some old) (Some new) links = new ≡ old ++ links
 
--- a session ended for want of memory or of a ticket
+-- a session ended out of memory, or at the lock's last ticket
 abbrev pub IsWant : SessionEnd → Type 0
 IsWant end = (end ≡ Memory) ⊎ (end ≡ Worn MAX_TICKETS)
 
@@ -78,7 +78,7 @@ module _ {L : Type 0} where
   NoneWants [] = Unit {0}
   NoneWants (v ∷ vs) = ¬ IsWant v.end × NoneWants vs
 
-  -- a session ended for want of this ticket
+  -- a session ended at this ticket
   abbrev pub SomeWorn : ℕ → List (Visit L) → Type 0
   SomeWorn ticket [] = ⊥
   SomeWorn ticket (v ∷ vs) = (v.end ≡ Worn ticket) ⊎ SomeWorn ticket vs
@@ -90,7 +90,7 @@ module _ {L : Type 0} where
   TellsOf sessions before after visits (Err (faults.Worn ticket)) = (ticket ≡ MAX_TICKETS) × SomeWorn ticket visits
   TellsOf sessions before after visits (Err faults.Memory) = Unit {0}
 
--- what is answered once one session more has ended: a fault of the net goes before a ticket's, and that before want of memory
+-- what is answered once one session more has ended: a fault of the net goes before a ticket's, and that before running out of memory
 abbrev pub with_end : Result (Unit {0}) ServeFault → SessionEnd → Result (Unit {0}) ServeFault
 with_end (Err faults.ListenFault) end = Err faults.ListenFault
 with_end (Err (faults.Worn ticket)) end = Err (faults.Worn ticket)

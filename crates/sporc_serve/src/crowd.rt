@@ -91,8 +91,8 @@ where
         (net_of (N.coming net.old) (N.returned net.old) (N.faults net.old)) (net_of (N.coming net.new) (N.returned net.new) (N.faults net.new)) sessions result.0) }
     ensures shut { AreShutBehind N.Link.is_shut (N.returned net.old) (N.returned net.new) }
     ensures asked { N.asked net.new ≡ N.asked net.old }
-    ensures out { N.out net.new ≡ N.out net.old }
-    ensures count { N.faults net.old ≤ N.faults net.new }
+    ensures links_out { N.out net.new ≡ N.out net.old }
+    ensures kept { N.faults net.old ≤ N.faults net.new }
 {
     if sessions == 0 {
         return (Ok(()), first);

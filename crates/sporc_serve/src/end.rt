@@ -1,7 +1,7 @@
 //! How a session ended.
 
 /// How a session of a server ended.
-#[derive(Clone, Copy, Drop)]
+#[derive(Clone, Copy)]
 pub enum SessionEnd {
     /// The first message was no Hello with this document, or a later one was a Hello.
     Closed,

@@ -31,7 +31,7 @@ pub(crate) fn send<R: Wait, L: Link, G: Gate>(
     ensures some { (answer : Answer) → Says answer reply.now
         → IfSome result (IsSendEnd answer (L.written link.old) (L.written link.new) (L.faults link.old) (L.faults link.new)) }
     ensures left { L.left link.new ≡ L.left link.old }
-    ensures count { L.faults link.old ≤ L.faults link.new }
+    ensures kept { L.faults link.old ≤ L.faults link.new }
 {
     match reply {
         Reply::Message(message) => {
@@ -52,7 +52,7 @@ fn write<L: Link>(alloc: Global, link: &mut L, message: &ToClient) -> Option<Ses
     ensures none { IfNone result (Appends (L.written link.old) (L.written link.new) (bytes_of (answers.Send message.now))) }
     ensures some { IfSome result (IsSendEnd (answers.Send message.now) (L.written link.old) (L.written link.new) (L.faults link.old) (L.faults link.new)) }
     ensures left { L.left link.new ≡ L.left link.old }
-    ensures count { L.faults link.old ≤ L.faults link.new }
+    ensures kept { L.faults link.old ≤ L.faults link.new }
 {
     match write_to_client(alloc, message) {
         Ok(frame) => write_frame(link, &frame),
@@ -65,7 +65,7 @@ fn write_frame<L: Link>(link: &mut L, frame: &[u8]) -> Option<SessionEnd>
     ensures none { IfNone result (Appends (L.written link.old) (L.written link.new) frame.now) }
     ensures some { IfSome result (λ end. (end ≡ SessionEnd.LinkFault) × AppendsPrefix (L.written link.old) (L.written link.new) frame.now × Rose (L.faults link.old) (L.faults link.new)) }
     ensures left { L.left link.new ≡ L.left link.old }
-    ensures count { L.faults link.old ≤ L.faults link.new }
+    ensures kept { L.faults link.old ≤ L.faults link.new }
 {
     match write_all(link, frame) {
         Ok(()) => None,

@@ -20,7 +20,7 @@ use std::thread::Threads;
 /// Listens at the address, takes so many links, and answers the messages of each from one order: a session each, in a
 /// thread of its own where one can be made. Each link is shut as its session ends, and handed back to the net.
 ///
-/// A fault of a link or of its frames ends that session alone, and so does want of memory in it.
+/// A fault of a link or of its frames ends that session alone, and so does running out of memory in it.
 pub fn serve<R: Threads + Wait + Sync, N: Listen, G: Gate + Sync>(
     rt: &R,
     alloc: Global,
@@ -39,8 +39,8 @@ where
     ensures asked { result.1 ≢ Err ServeFault.ListenFault → AppendsItem (N.asked net.old) (N.asked net.new) address.now }
     ensures may_ask { MayAppend (N.asked net.old) (N.asked net.new) address.now }
     ensures shut { AreShutBehind N.Link.is_shut (N.returned net.old) (N.returned net.new) }
-    ensures out { N.out net.new ≡ N.out net.old }
-    ensures count { N.faults net.old ≤ N.faults net.new }
+    ensures links_out { N.out net.new ≡ N.out net.old }
+    ensures kept { N.faults net.old ≤ N.faults net.new }
 {
     let Ok(()) = net.listen(address) else {
         return (order, Err(ServeFault::ListenFault));

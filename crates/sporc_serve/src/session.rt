@@ -32,7 +32,7 @@ fn take_piece<L: Link>(link: &mut L, frames: &mut Frames) -> Result<(), SessionE
     ensures ok { OnOk result (IsNext (inlet (L.left link.old) (L.faults link.old) frames.old) (inlet (L.left link.new) (L.faults link.new) frames.new) (Ok None)) }
     ensures err { IfErr result (λ end. IsNext (inlet (L.left link.old) (L.faults link.old) frames.old) (inlet (L.left link.new) (L.faults link.new) frames.new) (Err end)) }
     ensures written { L.written link.new ≡ L.written link.old }
-    ensures count { L.faults link.old ≤ L.faults link.new }
+    ensures kept { L.faults link.old ≤ L.faults link.new }
 {
     let mut buffer = [0u8; PIECE];
     let Ok(n) = link.read(&mut buffer) else {
@@ -62,7 +62,7 @@ fn end_of(fault: FrameFault) -> SessionEnd
 fn next_message<L: Link>(link: &mut L, frames: &mut Frames) -> Result<Option<ToServer>, SessionEnd>
     ensures next { IsNext (inlet (L.left link.old) (L.faults link.old) frames.old) (inlet (L.left link.new) (L.faults link.new) frames.new) result }
     ensures written { L.written link.new ≡ L.written link.old }
-    ensures count { L.faults link.old ≤ L.faults link.new }
+    ensures kept { L.faults link.old ≤ L.faults link.new }
 {
     let found = match frames.next_to_server() {
         Ok(found) => found,

@@ -8,14 +8,14 @@ pub returns-in-Err-clause-goes : goal.returns-in-Err-clause-goes
 returns-in-Err-clause-goes g c =
     step_ends (known_of c.args.pass) (g.L.Source.left c.args.link.now) (g.L.Source.left c.next_message.new.link) (g.L.Sink.written c.args.link.now)
     (g.L.Sink.written c.next_message.new.link) (g.L.Counted.faults c.args.link.now) (g.L.Counted.faults c.next_message.new.link) c.args.frames.now
-    c.next_message.new.frames c.args.session.now c.next_message.result c.next_message.ensures.next c.next_message.ensures.written c.next_message.ensures.count
+    c.next_message.new.frames c.args.session.now c.next_message.result c.next_message.ensures.next c.next_message.ensures.written c.next_message.ensures.kept
     c.in-Err.end c.in-Err.is
 
 pub returns-in_default-clause-goes : goal.returns-in_default-clause-goes
 returns-in_default-clause-goes g c =
     step_waits (known_of c.args.pass) (g.L.Source.left c.args.link.now) (g.L.Source.left c.next_message.new.link) (g.L.Sink.written c.args.link.now)
     (g.L.Sink.written c.next_message.new.link) (g.L.Counted.faults c.args.link.now) (g.L.Counted.faults c.next_message.new.link) c.args.frames.now
-    c.next_message.new.frames c.args.session.now c.next_message.result c.next_message.ensures.next c.next_message.ensures.written c.next_message.ensures.count
+    c.next_message.new.frames c.args.session.now c.next_message.result c.next_message.ensures.next c.next_message.ensures.written c.next_message.ensures.kept
     (c.in-Ok.is ∙ ap Ok c.in_default.is)
 
 pub answer-requires-clause-framed : goal.answer-requires-clause-framed
@@ -28,6 +28,6 @@ pub returns-clause-goes : goal.returns-clause-goes
 returns-clause-goes g c =
     step_answers (known_of c.args.pass) (g.L.Source.left c.args.link.now) (g.L.Source.left c.next_message.new.link) (g.L.Sink.written c.args.link.now)
     (g.L.Sink.written c.next_message.new.link) (g.L.Counted.faults c.args.link.now) (g.L.Counted.faults c.next_message.new.link) c.args.frames.now
-    c.next_message.new.frames c.args.session.now c.next_message.result c.next_message.ensures.next c.next_message.ensures.written c.next_message.ensures.count
+    c.next_message.new.frames c.args.session.now c.next_message.result c.next_message.ensures.next c.next_message.ensures.written c.next_message.ensures.kept
     c.in-Some.message (known_of c.answer.result.1) (g.L.Source.left c.answer.new.link) (g.L.Sink.written c.answer.new.link) (g.L.Counted.faults c.answer.new.link)
     c.answer.new.session c.answer.result.0 (c.in-Ok.is ∙ ap Ok c.in-Some.is) c.answer.ensures.goes
