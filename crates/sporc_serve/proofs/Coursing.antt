@@ -1,5 +1,5 @@
 -- A session, one message or one piece of its stream after another.
-use Rattle.std.proofs.Common.{◌≡◌, ℕ, ◌≤◌, Bool, false, List, [], ◌∷◌, ◌++◌, Option, Some, Ok, refl, ap, ap₂, sym, subst, ◌∙◌, append_assoc, append-nil, arith}
+use Rattle.std.proofs.Common.{◌≡◌, ◌≢◌, ℕ, ◌≤◌, Bool, false, List, [], ◌∷◌, ◌++◌, Option, Some, Ok, refl, ap, ap₂, sym, subst, ◌∙◌, append_assoc, append-nil, arith}
 use Rattle.std.specs.Io.KnownBytes.{Consumes}
 use Rattle.std.proofs.KnownBytes.{Consumes-nil, Consumes-trans, Appends-nil}
 use Rattle.std.proofs.lemmas.List.{map-append}
@@ -11,12 +11,13 @@ use Rattle.sporc_wire.specs.Messages.{Unread, HandsOut, stream_of, fed, next}
 use Rattle.sporc_wire.specs.ToServer.{to_server_of}
 use Rattle.sporc_wire.proofs.Readings.{HandsOut-fed, HandsOut-next}
 use Rattle.sporc_order.specs.declared.session.Answer.{Answer}
+use Rattle.sporc_order.specs.declared.session.Answer.TheVariants.{Close}
 use Rattle.sporc_serve.specs.declared.item.Item.{Item}
 use Rattle.sporc_serve.specs.declared.item.Item.TheVariants.{Placed}
 use Rattle.sporc_serve.specs.Logs.{order_at, added_of, placed_by}
 use Rattle.sporc_serve.specs.Sending.{bytes_of, sent_of}
 use Rattle.sporc_serve.specs.Turns.{IsAnswered, IsUnanswered}
-use Rattle.sporc_serve.specs.Courses.{Exchange, ServerStand, stand, messages_of, step_at, greeted_after, answers_of, entries_of, Grows, Did, ServerCourse}
+use Rattle.sporc_serve.specs.Courses.{Exchange, ServerStand, stand, messages_of, step_at, greeted_after, answers_of, entries_of, Grows, NoneCloses, Did, ServerCourse}
 
 -- ---- lists that begin with others
 
@@ -34,6 +35,10 @@ placed_by-append n (e ∷ es) fs = ap (λ (l : List Item). Placed n e ∷ l) (pl
 pub sent_of-append : (xs ys : List Answer) → sent_of (xs ++ ys) ≡ sent_of xs ++ sent_of ys
 sent_of-append [] ys = refl
 sent_of-append (x ∷ xs) ys = ap (λ (l : List ℕ). bytes_of x ++ l) (sent_of-append xs ys) ∙ sym (append_assoc (bytes_of x) (sent_of xs) (sent_of ys))
+
+pub none_closes_more : (before : List Answer) (last : Answer) → NoneCloses before → last ≢ Close → NoneCloses (before ++ last ∷ [])
+none_closes_more [] last none here = (here, tt)
+none_closes_more (a ∷ before) last none here = (none.0, none_closes_more before last none.1 here)
 
 -- ---- one exchange more
 
@@ -93,6 +98,7 @@ module _ (g : Genesis) where
       grows = starts_same known.seen;
       faults = omega arith;
     };
+    none_closes = tt;
     sent = Appends-nil written;
   }
 
@@ -112,6 +118,7 @@ module _ (g : Genesis) where
       grows = c.did.grows;
       faults = omega (arith, c.did.faults, more);
     };
+    none_closes = c.none_closes;
     sent = c.sent;
   }
 
@@ -170,5 +177,6 @@ module _ (g : Genesis) where
           (starts_then b.known.seen found known.seen h.adds.begins ([], h.adds.seen));
       faults = c.did.faults;
     };
+    none_closes = c.none_closes;
     sent = c.sent;
   }

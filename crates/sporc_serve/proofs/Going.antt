@@ -1,5 +1,5 @@
 -- A session goes on, or ends.
-use Rattle.std.proofs.Common.{◌≡◌, ℕ, ◌≤◌, Bool, false, List, [], ◌∷◌, ◌++◌, length, take, Option, Some, None, Result, Ok, Err, refl, ap, sym, subst, ◌∙◌, append-nil, arith, IfNone, IfSome}
+use Rattle.std.proofs.Common.{◌≡◌, ◌≢◌, ℕ, ◌≤◌, Bool, false, List, [], ◌∷◌, ◌++◌, length, take, Option, Some, None, Result, Ok, Err, refl, ap, sym, subst, ◌∙◌, append-nil, arith, IfNone, IfSome, inl, inr}
 use Rattle.std.specs.Io.KnownBytes.{Consumes, Appends}
 use Rattle.std.proofs.KnownBytes.{Consumes-trans, Appends-trans}
 use Rattle.sporc_outside.specs.Counts.{Rose}
@@ -11,14 +11,15 @@ use Rattle.sporc_wire.specs.Stream.{FirstFrame, partial, too_long, whole, first_
 use Rattle.sporc_wire.specs.Messages.{Unread, fed, next, next_unless, next_frame, next_read}
 use Rattle.sporc_wire.specs.ToServer.{to_server_of}
 use Rattle.sporc_order.specs.declared.session.Answer.{Answer}
+use Rattle.sporc_order.specs.declared.session.Answer.TheVariants.{Close}
 use Rattle.sporc_serve.specs.declared.end.SessionEnd.{SessionEnd}
 use Rattle.sporc_serve.specs.declared.end.SessionEnd.TheVariants.{Closed, LinkEnded, LinkFault, BadFrame, Worn, Memory}
 use Rattle.sporc_serve.specs.declared.item.Item.{Item}
 use Rattle.sporc_serve.specs.Sending.{bytes_of, sent_of}
 use Rattle.sporc_serve.specs.Turns.{IsAnswered, TakesTurn}
 use Rattle.sporc_serve.specs.Endings.{IsSendEnd, Inlet, inlet, IsNextEnd, IsNext}
-use Rattle.sporc_serve.specs.Courses.{Exchange, ServerStand, answers_of, Did, ServerCourse, all, part, IsEnd, GoesOn}
-use Rattle.sporc_serve.proofs.Coursing.{did_more, answer_more, course_fed, course_unanswered, sent_of-append}
+use Rattle.sporc_serve.specs.Courses.{Exchange, ServerStand, answers_of, NoneCloses, Did, ServerCourse, Broken, IsEnd, GoesOn}
+use Rattle.sporc_serve.proofs.Coursing.{did_more, answer_more, course_fed, course_unanswered, sent_of-append, none_closes_more}
 
 -- a stream that waits for more stays as it is
 pub next_waits : {M : Type 0} (read : List ℕ → Result M ℕ) (s : Unread) → (next read s).answer ≡ Ok None → (next read s).after ≡ s
@@ -61,6 +62,7 @@ module _ (g : Genesis) (a b : ServerStand) (bytes : List ℕ) (xs : List Exchang
       grows = c.did.grows;
       faults = omega (arith, c.did.faults, more);
     };
+    none_closes = c.none_closes;
     sent = c.sent;
   }
 
@@ -80,9 +82,17 @@ module _ (g : Genesis) (a b : ServerStand) (bytes : List ℕ) (xs : List Exchang
   pub goes_no_further : (d : Inlet) (written : Option (List ℕ)) (end : SessionEnd) → IsNextEnd (inlet b.left b.faults b.unread) d end → written ≡ b.written
       → b.faults ≤ d.faults → IsEnd g a (record b { left = d.left; written = written; faults = d.faults; unread = d.unread }) end
   goes_no_further d written LinkEnded h same more =
-      (b.unread, b.greeted, (bytes, xs, kept d.left d.faults written h.0 more same, h.1, h.2))
-  goes_no_further d written LinkFault h same more =
-      (b.unread, b.greeted, (bytes, xs, all (kept d.left d.faults written h.0 more same), rose_before a.faults b.faults d.faults c.did.faults h.1))
+      (b.unread, b.greeted, (bytes, xs, record { course = kept d.left d.faults written h.0 more same; none_left = h.2 }, h.1))
+  goes_no_further d written LinkFault h same more = (
+    b.unread,
+    b.greeted,
+    (
+      bytes,
+      xs,
+      inl (record { course = kept d.left d.faults written h.0 more same; none_left = h.2 }),
+      rose_before a.faults b.faults d.faults c.did.faults h.1,
+    ),
+  )
   goes_no_further d written BadFrame h same more =
       (b.unread, b.greeted, (bytes, xs, h.1, kept d.left d.faults written h.0 more same, h.2))
   goes_no_further d written Memory h same more =
@@ -92,7 +102,7 @@ module _ (g : Genesis) (a b : ServerStand) (bytes : List ℕ) (xs : List Exchang
         (
           bytes ++ h.0,
           xs,
-          all (written_as g a (record b { left = d.left; faults = d.faults; unread = unread }) (bytes ++ h.0) xs written same
+          inl (written_as g a (record b { left = d.left; faults = d.faults; unread = unread }) (bytes ++ h.0) xs written same
               (course_fed g a b bytes h.0 xs d.left d.faults unread c h.1 more refl)),
         ),
       )
@@ -105,7 +115,7 @@ module _ (g : Genesis) (a b : ServerStand) (bytes : List ℕ) (xs : List Exchang
   goes_unanswered m known s (Worn ticket) unread h =
       (b.unread, b.greeted, (bytes, xs, course_unanswered g a b bytes xs known s h.0 c h.1, h.2))
   goes_unanswered m known s Memory unread h =
-      (b.unread, b.greeted, (bytes, xs, all (course_unanswered g a b bytes xs known s h.0 c h.1)))
+      (b.unread, b.greeted, (bytes, xs, inl (course_unanswered g a b bytes xs known s h.0 c h.1)))
   goes_unanswered m known s Closed unread h = absurd h.2
   goes_unanswered m known s LinkEnded unread h = absurd h.2
   goes_unanswered m known s LinkFault unread h = absurd h.2
@@ -127,64 +137,63 @@ module _ (g : Genesis) (a b : ServerStand) (bytes : List ℕ) (xs : List Exchang
     answers = answer_more g b xs m known greeted answer found c.did.greeted h
 
     -- the answer was sent
-    answered : Appends b.written written (bytes_of answer) → ServerCourse g a b' bytes (xs ++ x ∷ [])
-    answered sent = record {
+    answered : answer ≢ Close → Appends b.written written (bytes_of answer) → ServerCourse g a b' bytes (xs ++ x ∷ [])
+    answered no_close sent = record {
       did = did;
+      none_closes = subst NoneCloses (sym answers) (none_closes_more (answers_of g false xs) answer c.none_closes no_close);
       sent = subst (λ (t : List ℕ). Appends a.written written t)
           (ap (λ (t : List ℕ). sent_of (answers_of g false xs) ++ t) (sym (append-nil (bytes_of answer)))
           ∙ sym (sent_of-append (answers_of g false xs) (answer ∷ [])) ∙ ap sent_of (sym answers))
           (Appends-trans a.written b.written written (sent_of (answers_of g false xs)) (bytes_of answer) c.sent sent);
     }
 
-    pub goes_answered : Appends b.written written (bytes_of answer) → GoesOn g a b' None
-    goes_answered sent = (bytes, xs ++ x ∷ [], answered sent)
+    pub goes_answered : answer ≢ Close → Appends b.written written (bytes_of answer) → GoesOn g a b' None
+    goes_answered no_close sent = (bytes, xs ++ x ∷ [], answered no_close sent)
 
-    -- or it was not, or is the last one
-    pub goes_cut : (end : SessionEnd) → IsSendEnd answer b.written written b.faults faults end → IsEnd g a b' end
-    goes_cut Closed e = (
+    -- so many bytes of it were
+    cut : (n : ℕ) → Appends b.written written (take n (bytes_of answer)) → Broken g a b' bytes (xs ++ x ∷ []) (answers_of g false xs) answer
+    cut n sent = record {
+      did = did;
+      answers = answers;
+      none_closes = c.none_closes;
+      sent = (n, Appends-trans a.written b.written written (sent_of (answers_of g false xs)) (take n (bytes_of answer)) c.sent sent);
+    }
+
+    -- it is the last one
+    pub goes_cut : (end : SessionEnd) → IsSendEnd answer b.written written b.faults faults end → (answer ≡ Close → Some end ≡ Some Closed) → IsEnd g a b' end
+    goes_cut Closed e close = (
       (next to_server_of b.unread).after,
       greeted,
       (
         bytes,
         xs ++ x ∷ [],
         answers_of g false xs,
-        answered (subst (λ (z : Answer). Appends b.written written (bytes_of z)) (sym e.0) e.1),
-        answers ∙ ap (λ (z : Answer). answers_of g false xs ++ z ∷ []) e.0,
+        subst (λ (z : Answer). Broken g a b' bytes (xs ++ x ∷ []) (answers_of g false xs) z) e.0 (cut 0 e.1),
       ),
     )
-    goes_cut LinkFault e = (
+    goes_cut LinkFault e close = (
       (next to_server_of b.unread).after,
       greeted,
       (
         bytes,
         xs ++ x ∷ [],
-        part (answers_of g false xs) answer (record {
-          did = did;
-          answers = answers;
-          sent = (e.0.0, Appends-trans a.written b.written written (sent_of (answers_of g false xs)) (take e.0.0 (bytes_of answer)) c.sent e.0.2);
-        }),
+        inr (answers_of g false xs, answer, cut e.0.0 e.0.2, (λ is. let clash = close is in absurd cc)),
         rose_before a.faults b.faults faults c.did.faults e.1,
       ),
     )
-    goes_cut Memory e = (
+    goes_cut Memory e close = (
       (next to_server_of b.unread).after,
       greeted,
-      (
-        bytes,
-        xs ++ x ∷ [],
-        part (answers_of g false xs) answer (record {
-          did = did;
-          answers = answers;
-          sent = (0, Appends-trans a.written b.written written (sent_of (answers_of g false xs)) [] c.sent e);
-        }),
-      ),
+      (bytes, xs ++ x ∷ [], inr (answers_of g false xs, answer, cut 0 e, (λ is. let clash = close is in absurd cc))),
     )
-    goes_cut LinkEnded e = absurd e
-    goes_cut BadFrame e = absurd e
-    goes_cut (Worn ticket) e = absurd e
+    goes_cut LinkEnded e close = absurd e
+    goes_cut BadFrame e close = absurd e
+    goes_cut (Worn ticket) e close = absurd e
 
     -- whatever became of the answer
     pub sent_goes : (left : Option (List ℕ)) (e : Option SessionEnd) → left ≡ b.left → IfNone e (Appends b.written written (bytes_of answer))
-        → IfSome e (IsSendEnd answer b.written written b.faults faults) → GoesOn g a (record b' { left = left }) e
-    sent_goes left None same none some = subst (λ (l : Option (List ℕ)). GoesOn g a (record b' { left = l }) None) (sym same) (goes_answered none)
-    sent_goes left (Some end) same none some = subst (λ (l : Option (List ℕ)). GoesOn g a (record b' { left = l }) (Some end)) (sym same) (goes_cut end some)
+        → IfSome e (IsSendEnd answer b.written written b.faults faults) → (answer ≡ Close → e ≡ Some Closed) → GoesOn g a (record b' { left = left }) e
+    sent_goes left None same none some close =
+        subst (λ (l : Option (List ℕ)). GoesOn g a (record b' { left = l }) None) (sym same) (goes_answered (λ is. let clash = close is in absurd cc) none)
+    sent_goes left (Some end) same none some close =
+        subst (λ (l : Option (List ℕ)). GoesOn g a (record b' { left = l }) (Some end)) (sym same) (goes_cut end some close)

@@ -1,5 +1,5 @@
 -- A step of a session: a message that is answered, or a piece more of its stream.
-use Rattle.std.proofs.Common.{◌≡◌, ◌≢◌, ◌∙◌, ℕ, ◌≤◌, Bool, false, List, [], Option, Some, None, Result, Ok, Err, IfOk, OnErr, IfNone, IfSome, sym, subst}
+use Rattle.std.proofs.Common.{◌≡◌, ◌≢◌, ◌∙◌, ℕ, ◌≤◌, Bool, false, List, [], Option, Some, None, Result, Ok, Err, IfOk, OnErr, IfNone, IfSome, refl, sym, subst}
 use Rattle.std.specs.Io.KnownBytes.{Consumes, Appends}
 use Rattle.std.proofs.KnownBytes.{Consumes-nil}
 use Rattle.sporc_entry.specs.declared.genesis.Genesis.{Genesis}
@@ -11,11 +11,13 @@ use Rattle.sporc_wire.specs.declared.to_server.ToServer.{ToServer}
 use Rattle.sporc_wire.specs.Messages.{Unread, stream_of, next}
 use Rattle.sporc_wire.specs.ToServer.{to_server_of}
 use Rattle.sporc_order.specs.declared.session.Answer.{Answer}
+use Rattle.sporc_order.specs.declared.session.Answer.TheVariants as answers
 use Rattle.sporc_order.specs.declared.reply.Reply.{Reply}
+use Rattle.sporc_order.specs.declared.reply.Reply.TheVariants.{Message, Frame, Silent, Close}
 use Rattle.sporc_order.specs.Replies.{Says}
 use Rattle.sporc_order.specs.Sessions.{IsFramed}
 use Rattle.sporc_serve.specs.declared.end.SessionEnd.{SessionEnd}
-use Rattle.sporc_serve.specs.declared.end.SessionEnd.TheVariants.{Memory}
+use Rattle.sporc_serve.specs.declared.end.SessionEnd.TheVariants.{Closed, Memory}
 use Rattle.sporc_serve.specs.declared.item.Item.{Item}
 use Rattle.sporc_serve.specs.Logs.{IsLogOf, OfDocument}
 use Rattle.sporc_serve.specs.Sending.{bytes_of, CanBeSent}
@@ -38,18 +40,26 @@ turn_sendable (Err e) result sendable ok err = subst (λ (x : Result Reply Sessi
 
 -- ---- an answer
 
+-- what says a close is one
+says_close : (reply : Reply) → Says answers.Close reply → reply ≡ Close
+says_close Close says = refl
+says_close Silent says = absurd says
+says_close (Message m) says = absurd says
+says_close (Frame f) says = absurd says
+
 module _ (known known' : Known Item) (left left' written written' : Option (List ℕ)) (faults faults' : ℕ) (unread : Unread) (s s' : Bool) (m : ToServer)
     (r : Result Reply SessionEnd) (turn : OfDocument known.seen (λ g. TakesTurn g known known' s s' m r))
     (here : (next to_server_of unread).answer ≡ Ok (Some m)) where
   -- the turn answered, whatever became of the answer
   pub answer_goes : (reply : Reply) (e : Option SessionEnd) → r ≡ Ok reply → left' ≡ left → faults ≤ faults'
       → ((answer : Answer) → Says answer reply → IfNone e (Appends written written' (bytes_of answer)))
-      → ((answer : Answer) → Says answer reply → IfSome e (IsSendEnd answer written written' faults faults'))
+      → ((answer : Answer) → Says answer reply → IfSome e (IsSendEnd answer written written' faults faults')) → (reply ≡ Close → e ≡ Some Closed)
       → Carries (stand known left written faults unread s) (stand known' left' written' faults' (next to_server_of unread).after s') e
-  answer_goes reply e is same more none some g a bytes xs log c =
+  answer_goes reply e is same more none some close g a bytes xs log c =
       let t = subst (λ (x : Result Reply SessionEnd). TakesTurn g known known' s s' m x) is (turn g log) in
       sent_goes g a (stand known left written faults unread s) bytes xs c m known' s' t.0 t.1 here t.2 written' faults' more left' e same
       (none t.0 t.3) (some t.0 t.3)
+      (λ is_close. close (says_close reply (subst (λ (z : Answer). Says z reply) is_close t.3)))
 
   -- the turn did not answer
   pub answer_ends : (end : SessionEnd) → r ≡ Err end

@@ -1,5 +1,5 @@
 -- What one session of a server does, as a list of its messages with what the order's log was at each.
-use Rattle.std.specs.Prelude.{◌≡◌, ◌≤◌, ℕ, Bool, false, List, [], ◌∷◌, ◌++◌, map, take, Option, Some, None, Ok, Err}
+use Rattle.std.specs.Prelude.{◌≡◌, ◌≢◌, ◌⊎◌, ◌≤◌, ℕ, Bool, false, List, [], ◌∷◌, ◌++◌, map, take, Option, Some, None, Ok, Err}
 use Rattle.std.specs.Io.KnownBytes.{Consumes, Appends, IsAtEnd}
 use Rattle.sporc_outside.specs.Counts.{Rose}
 use Rattle.sporc_turn.specs.declared.known.Known.{Known}
@@ -36,6 +36,11 @@ pub record ServerStand : Type 0 where
 
 abbrev pub messages_of : List Exchange → List ToServer
 messages_of xs = map (λ (x : Exchange). x.message) xs
+
+-- none of these answers closes the session
+abbrev pub NoneCloses : List Answer → Type 0
+NoneCloses [] = Unit {0}
+NoneCloses (answer ∷ answers) = (answer ≢ Close) × NoneCloses answers
 
 module _ (genesis : Genesis) where
   -- the order machine's answer to a message, at the log that it was answered at
@@ -75,33 +80,37 @@ module _ (genesis : Genesis) where
     pub grows : Grows a.known.number a.known.seen false xs b.known.seen
     pub faults : a.faults ≤ b.faults
 
-  -- and all of the answers were sent
+  -- and all of the answers were sent, none of which closes the session
   pub record ServerCourse (a b : ServerStand) (bytes : List ℕ) (xs : List Exchange) : Type 0 where
     pub did : Did a b bytes xs
+    pub none_closes : NoneCloses (answers_of false xs)
     pub sent : Appends a.written b.written (sent_of (answers_of false xs))
 
-  -- as far as one gets: of the last answer the first n bytes were sent
+  -- as far as one gets: none before the last answer closes the session, and of the last one the first n bytes were sent
   pub record Broken (a b : ServerStand) (bytes : List ℕ) (xs : List Exchange) (before : List Answer) (last : Answer) : Type 0 where
     pub did : Did a b bytes xs
     pub answers : answers_of false xs ≡ before ++ last ∷ []
+    pub none_closes : NoneCloses before
     pub sent : (n : ℕ) × Appends a.written b.written (sent_of before ++ take n (bytes_of last))
 
-  -- all answers were sent, or of the last one the first bytes
-  pub data SentUp (a b : ServerStand) (bytes : List ℕ) (xs : List Exchange) : Type 0 where
-    all : ServerCourse a b bytes xs → SentUp a b bytes xs
-    part : (before : List Answer) (last : Answer) → Broken a b bytes xs before last → SentUp a b bytes xs
+  -- each whole message of the bytes was answered
+  pub record AllAnswered (a b : ServerStand) (bytes : List ℕ) (xs : List Exchange) : Type 0 where
+    pub course : ServerCourse a b bytes xs
+    pub none_left : (next to_server_of b.unread).answer ≡ Ok None
 
-  -- how a session ended
+  -- the last answer was sent in part or not at all, and closes nothing
+  abbrev pub IsCut : ServerStand → ServerStand → List ℕ → List Exchange → Type 0
+  IsCut a b bytes xs = (before : List Answer) × (last : Answer) × Broken a b bytes xs before last × (last ≢ Close)
+
+  -- how a session ended; one that closed sent all of its answers, since a Close has no bytes
   abbrev pub EndsAs : ServerStand → ServerStand → SessionEnd → Type 0
-  EndsAs a b Closed = (bytes : List ℕ) × (xs : List Exchange) × (before : List Answer) × ServerCourse a b bytes xs
-      × (answers_of false xs ≡ before ++ Close ∷ [])
-  EndsAs a b LinkEnded = (bytes : List ℕ) × (xs : List Exchange) × ServerCourse a b bytes xs × IsAtEnd b.left
-      × ((next to_server_of b.unread).answer ≡ Ok None)
-  EndsAs a b LinkFault = (bytes : List ℕ) × (xs : List Exchange) × SentUp a b bytes xs × Rose a.faults b.faults
+  EndsAs a b Closed = (bytes : List ℕ) × (xs : List Exchange) × (before : List Answer) × Broken a b bytes xs before Close
+  EndsAs a b LinkEnded = (bytes : List ℕ) × (xs : List Exchange) × AllAnswered a b bytes xs × IsAtEnd b.left
+  EndsAs a b LinkFault = (bytes : List ℕ) × (xs : List Exchange) × (AllAnswered a b bytes xs ⊎ IsCut a b bytes xs) × Rose a.faults b.faults
   EndsAs a b BadFrame = (bytes : List ℕ) × (xs : List Exchange) × (fault : FrameFault) × ServerCourse a b bytes xs
       × ((next to_server_of b.unread).answer ≡ Err fault)
   EndsAs a b (Worn ticket) = (bytes : List ℕ) × (xs : List Exchange) × ServerCourse a b bytes xs × (ticket ≡ MAX_TICKETS)
-  EndsAs a b Memory = (bytes : List ℕ) × (xs : List Exchange) × SentUp a b bytes xs
+  EndsAs a b Memory = (bytes : List ℕ) × (xs : List Exchange) × (ServerCourse a b bytes xs ⊎ IsCut a b bytes xs)
 
 -- a stand of these
 abbrev pub stand : Known Item → Option (List ℕ) → Option (List ℕ) → ℕ → Unread → Bool → ServerStand

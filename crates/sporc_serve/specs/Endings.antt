@@ -39,7 +39,7 @@ pub record TakesPiece (a b : Inlet) (piece : List ℕ) : Type 0 where
 -- why no message is to follow
 abbrev pub IsNextEnd : Inlet → Inlet → SessionEnd → Type 0
 IsNextEnd a b LinkEnded = Consumes a.left b.left [] × IsAtEnd b.left × ((next to_server_of a.unread).answer ≡ Ok None)
-IsNextEnd a b LinkFault = Consumes a.left b.left [] × Rose a.faults b.faults
+IsNextEnd a b LinkFault = Consumes a.left b.left [] × Rose a.faults b.faults × ((next to_server_of a.unread).answer ≡ Ok None)
 IsNextEnd a b BadFrame = Consumes a.left b.left [] × (fault : FrameFault) × ((next to_server_of a.unread).answer ≡ Err fault)
 IsNextEnd a b Memory = (piece : List ℕ) × Consumes a.left b.left piece
 IsNextEnd a b Closed = ⊥

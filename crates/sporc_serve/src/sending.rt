@@ -1,6 +1,6 @@
 // Sending an answer.
 
-ghost use Rattle.std.specs.Prelude.{◌≡◌, ◌≤◌, IfNone, IfSome};
+ghost use Rattle.std.specs.Prelude.{◌≡◌, ◌≤◌, Some, IfNone, IfSome};
 ghost use Rattle.std.specs.Io.KnownBytes.{Appends};
 ghost use Rattle.sporc_outside.specs.Counts.{Rose};
 ghost use Rattle.sporc_outside.specs.Writing.{AppendsPrefix};
@@ -30,6 +30,7 @@ pub(crate) fn send<R: Wait, L: Link, G: Gate>(
     ensures none { (answer : Answer) → Says answer reply.now → IfNone result (Appends (L.written link.old) (L.written link.new) (bytes_of answer)) }
     ensures some { (answer : Answer) → Says answer reply.now
         → IfSome result (IsSendEnd answer (L.written link.old) (L.written link.new) (L.faults link.old) (L.faults link.new)) }
+    ensures close { reply.now ≡ Reply.Close → result ≡ Some SessionEnd.Closed }
     ensures left { L.left link.new ≡ L.left link.old }
     ensures kept { L.faults link.old ≤ L.faults link.new }
 {
