@@ -8,10 +8,10 @@ ghost use Rattle.sporc_histories.specs.Checking.{accepted_in, examined, hints_in
 
 use crate::entries::{stopped, whole_entries};
 use sporc_entry::Genesis;
-use sporc_epoch::{HintFault, Pairs, Ring, hints_from};
+use sporc_epoch::{Pairs, Ring, hints_from};
 use sporc_files::{Fault, File};
 use sporc_keys::RingFile;
-use sporc_line::{Line, LineOpenFault};
+use sporc_line::Line;
 use sporc_store::{Stop, load};
 use std::alloc::Global;
 
@@ -64,8 +64,7 @@ fn hints_of(
     let entries = whole_entries(alloc, File::History(member), document, history)?;
     match hints_from(alloc, entries.as_slice(), member, pairs) {
         Ok(hints) => Ok(hints),
-        Err(HintFault::Memory) => Err(Fault::Memory),
-        Err(fault) => Err(Fault::Hints(fault)),
+        Err(fault) => Err(Fault::from(fault)),
     }
 }
 
@@ -83,8 +82,7 @@ fn accept(
 {
     let line = match Line::open(alloc, genesis, member, keys, pairs) {
         Ok(line) => line,
-        Err(LineOpenFault::Memory) => return Err(Fault::Memory),
-        Err(fault) => return Err(Fault::Opening(fault)),
+        Err(fault) => return Err(Fault::from(fault)),
     };
     match load(alloc, history, line) {
         Ok((line, stop)) => whole_len(member, &line, stop),
