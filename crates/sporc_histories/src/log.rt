@@ -81,7 +81,7 @@ pub(crate) fn keep_log<F: Folder, O: Sink>(
     ensures out_kept { O.faults out.old ≤ O.faults out.new }
 {
     let log = log_of(alloc, order)?;
-    let line = line_of(alloc, order.len())?;
+    let line = log_line(alloc, order.len())?;
     write_whole_file(alloc, files, names, File::Log, log.as_slice())?;
     write_all(out, line.as_bytes())?;
     Ok(())
@@ -96,7 +96,7 @@ fn log_of(alloc: Global, order: &Order) -> Result<Vec<u8>, Fault>
 }
 
 // The line that says how many entries were saved.
-fn line_of(alloc: Global, len: u32) -> Result<String, Memory>
+fn log_line(alloc: Global, len: u32) -> Result<String, Memory>
     ensures { IfOk result (λ line. string_bytes line ≡ log_line len) }
 {
     let mut line = String::new(alloc);
