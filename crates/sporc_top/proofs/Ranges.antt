@@ -30,7 +30,7 @@ use Rattle.sporc_words.specs.declared.serve.Serve.{Serve}
 use Rattle.sporc_words.specs.declared.defaults.TheConstants.{DEFAULT_ROUNDS, DEFAULT_UNTIL}
 use Rattle.sporc_words.specs.Arguments.{client_app, found_app, keygen_app, play_app, serve_app, taken, check_app, compare_app}
 use Rattle.sporc_words.specs.Commands.{client_in, command_by, command_of, found_in, keygen_in, play_by, play_in, scripts_of, serve_in, verb_of, check_in, compare_in}
-use Rattle.sporc_words.specs.Values.{all_participants, founding_of, is_between, is_colon, may_found, number_between, participant_by, participant_of, participants_of, signatures_of, tree_of, value_of, value_or, values_of}
+use Rattle.sporc_words.specs.Values.{all_participants, founding_of, is_between, is_colon, may_found, number_between, participant_by, participant_of, participants_of, tree_of, value_of, value_or, values_of, width_named}
 use Rattle.sporc_founding.specs.Founding.{MayFound}
 use Rattle.sporc_top.specs.Ranges.{IsInRange}
 
@@ -84,7 +84,7 @@ one_of_two false true t is =
     inr same
 one_of_two false false t is = absurd cc
 
-pub key_width : (word : Text) (t : OtsType) → signatures_of word ≡ Some t → IsKeyWidth t
+pub key_width : (word : Text) (t : OtsType) → width_named word ≡ Some t → IsKeyWidth t
 key_width word t is =
     let read = then_some (number_of word) (λ n. find (λ t. width_of t == n) (W4 ∷ W8 ∷ [])) t is in
     one_of_two (width_of W4 == read.0) (width_of W8 == read.0) t read.2
@@ -96,13 +96,13 @@ keygen_ranges rows asked is =
     let name = then_some (first_of (codes "NAME") rows) _ asked is in
     let member = then_some (value_of (codes "M") member_of rows) _ asked name.2 in
     let height = then_some (value_of (codes "HEIGHT") tree_of rows) _ asked member.2 in
-    let width = then_some (value_of (codes "W") signatures_of rows) _ asked height.2 in
+    let width = then_some (value_of (codes "W") width_named rows) _ asked height.2 in
     let whole : Keygen = record { name = name.0; member = member.0; height = height.0; width = width.0 } in
     let same : whole ≡ asked = same_Some whole asked width.2 in
     let tree = then_some (first_of (codes "HEIGHT") rows) tree_of height.0 height.1 in
-    let signatures = then_some (first_of (codes "W") rows) signatures_of width.0 width.1 in (
+    let bits = then_some (first_of (codes "W") rows) width_named width.0 width.1 in (
       subst (λ (k : Keygen). IsLeafHeight (height_of k.height)) same (leaf_height tree.0 height.0 tree.2),
-      subst (λ (k : Keygen). IsKeyWidth k.width) same (key_width signatures.0 width.0 signatures.2),
+      subst (λ (k : Keygen). IsKeyWidth k.width) same (key_width bits.0 width.0 bits.2),
     )
 
 serve_ranges : (rows : List Row) (asked : Serve) → serve_in rows ≡ Some asked → (1 ≤ asked.sessions) × (asked.sessions ≤ MAX_SESSIONS)

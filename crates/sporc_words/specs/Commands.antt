@@ -17,7 +17,7 @@ use Rattle.sporc_words.specs.declared.found.Found.{Found}
 use Rattle.sporc_words.specs.declared.keygen.Keygen.{Keygen}
 use Rattle.sporc_words.specs.declared.serve.Serve.{Serve}
 use Rattle.sporc_words.specs.Arguments.{check_app, client_app, compare_app, found_app, keygen_app, play_app, serve_app, taken}
-use Rattle.sporc_words.specs.Values.{number_between, participants_of, signatures_of, tree_of, value_of, value_or, values_of}
+use Rattle.sporc_words.specs.Values.{number_between, participants_of, tree_of, value_of, value_or, values_of, width_named}
 
 -- ---- each command, by the values of its arguments
 
@@ -32,7 +32,7 @@ play_in rows = play_by (first_of (codes "generate") rows)
 abbrev pub keygen_in : List Row → Option Keygen
 keygen_in rows =
     then_read (first_of (codes "NAME") rows) (λ name. then_read (value_of (codes "M") member_of rows) (λ member.
-    then_read (value_of (codes "HEIGHT") tree_of rows) (λ height. then_read (value_of (codes "W") signatures_of rows) (λ width.
+    then_read (value_of (codes "HEIGHT") tree_of rows) (λ height. then_read (value_of (codes "W") width_named rows) (λ width.
     Some (record { name = name; member = member; height = height; width = width })))))
 
 abbrev pub found_in : List Row → Option Found

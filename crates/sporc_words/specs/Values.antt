@@ -51,8 +51,8 @@ abbrev pub tree_of : Text → Option LmsType
 tree_of word = then_read (number_of word) (λ n. find (λ t. height_of t == n) (H5 ∷ H10 ∷ H15 ∷ []))
 
 -- the type of the one-time signatures with so many bits a coefficient: 4 or 8
-abbrev pub signatures_of : Text → Option OtsType
-signatures_of word = then_read (number_of word) (λ n. find (λ t. width_of t == n) (W4 ∷ W8 ∷ []))
+abbrev pub width_named : Text → Option OtsType
+width_named word = then_read (number_of word) (λ n. find (λ t. width_of t == n) (W4 ∷ W8 ∷ []))
 
 -- ---- participants
 

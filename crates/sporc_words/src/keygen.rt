@@ -7,7 +7,7 @@ ghost use Rattle.sporc_words.specs.Commands.{keygen_in};
 
 use crate::arguments::{Kind, command_with};
 use crate::matches::value;
-use crate::values::{member_value, signatures_value, tree_value};
+use crate::values::{member_value, tree_value, width_value};
 use crate::word::Word;
 use clap::{ArgMatches, Command};
 use lms_ots::OtsType;
@@ -58,7 +58,7 @@ pub fn keygen_from(alloc: Global, matches: &ArgMatches<'_>) -> Result<Option<Key
     let Some(height) = tree_value(matches, "HEIGHT") else {
         return Ok(None);
     };
-    let Some(width) = signatures_value(matches, "W") else {
+    let Some(width) = width_value(matches, "W") else {
         return Ok(None);
     };
     let name = Word::new(alloc, name)?;

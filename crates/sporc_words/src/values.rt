@@ -5,7 +5,7 @@ ghost use Rattle.clap.specs.Walk.{texts};
 ghost use Rattle.clap.specs.Words.{found_of, rows_of};
 ghost use Rattle.sporc_script.specs.Readers.{member_of, u32_of};
 ghost use Rattle.sporc_words.specs.Commands.{scripts_of};
-ghost use Rattle.sporc_words.specs.Values.{number_between, signatures_of, tree_of, value_of, value_or, values_of};
+ghost use Rattle.sporc_words.specs.Values.{number_between, tree_of, value_of, value_or, values_of, width_named};
 
 use crate::matches::{value, values};
 use crate::word::Word;
@@ -51,11 +51,11 @@ pub fn tree_value(matches: &ArgMatches<'_>, id: &str) -> Option<LmsType>
 }
 
 /// The type of the one-time signatures whose bits a coefficient are the value of an argument.
-pub fn signatures_value(matches: &ArgMatches<'_>, id: &str) -> Option<OtsType>
-    ensures value { result ≡ value_of id.now signatures_of (rows_of (found_of matches.now)) }
+pub fn width_value(matches: &ArgMatches<'_>, id: &str) -> Option<OtsType>
+    ensures value { result ≡ value_of id.now width_named (rows_of (found_of matches.now)) }
 {
     let word = value(matches, id)?;
-    parse_signatures(word)
+    parse_width(word)
 }
 
 /// The words that are the values of an argument, unless there are too many scripts among them.
@@ -115,8 +115,8 @@ fn parse_tree(word: &str) -> Option<LmsType>
     }
 }
 
-fn parse_signatures(word: &str) -> Option<OtsType>
-    ensures value { result ≡ signatures_of word.now }
+fn parse_width(word: &str) -> Option<OtsType>
+    ensures value { result ≡ width_named word.now }
 {
     match parse_u64(word.as_bytes())? {
         4 => Some(OtsType::W4),

@@ -14,10 +14,10 @@ returns-in_default-tree_value c =
           (there _ _ _ _ c.in-Some-member_value.ensures.value (missing _ _ c.in_default-tree_value.ensures.value));
     }
 
-pub returns-in_default-signatures_value : goal.returns-in_default-signatures_value
-returns-in_default-signatures_value c =
+pub returns-in_default-width_value : goal.returns-in_default-width_value
+returns-in_default-width_value c =
     record {
       ok = there _ _ _ _ c.in-Some.ensures.value
           (there _ _ _ _ c.in-Some-member_value.ensures.value
-          (there _ _ _ _ c.in-Some-tree_value.ensures.value (missing _ _ c.in_default-signatures_value.ensures.value)));
+          (there _ _ _ _ c.in-Some-tree_value.ensures.value (missing _ _ c.in_default-width_value.ensures.value)));
     }
