@@ -24,13 +24,13 @@ use Rattle.sporc_words.specs.declared.command.Command.TheVariants as commands
 use Rattle.sporc_words.specs.declared.command.Verb.{Verb}
 use Rattle.sporc_words.specs.declared.command.Verb.TheVariants as verbs
 use Rattle.sporc_words.specs.declared.found.Found.{Found}
-use Rattle.sporc_words.specs.declared.founding.Participant.{Participant}
+use Rattle.sporc_words.specs.declared.standing.Participant.{Participant}
 use Rattle.sporc_words.specs.declared.keygen.Keygen.{Keygen}
 use Rattle.sporc_words.specs.declared.serve.Serve.{Serve}
 use Rattle.sporc_words.specs.declared.defaults.TheConstants.{DEFAULT_ROUNDS, DEFAULT_UNTIL}
 use Rattle.sporc_words.specs.Arguments.{client_app, found_app, keygen_app, play_app, serve_app, taken, check_app, compare_app}
 use Rattle.sporc_words.specs.Commands.{client_in, command_by, command_of, found_in, keygen_in, play_by, play_in, scripts_of, serve_in, verb_of, check_in, compare_in}
-use Rattle.sporc_words.specs.Values.{all_participants, founding_of, is_between, is_colon, may_found, number_between, participant_by, participant_of, participants_of, tree_of, value_of, value_or, values_of, width_named}
+use Rattle.sporc_words.specs.Values.{all_participants, is_between, is_colon, may_found, number_between, participant_by, participant_of, participants_of, standing_of, tree_of, value_of, value_or, values_of, width_named}
 use Rattle.sporc_founding.specs.Founding.{MayFound}
 use Rattle.sporc_top.specs.Ranges.{IsInRange}
 
@@ -135,8 +135,8 @@ client_ranges rows asked is =
 -- those who are named have numbers of members
 named_member : (number name : Text) (p : Participant) → participant_by number name ≡ Some p → IsMember p.member
 named_member number name p is =
-    let read = then_some (member_of number) (λ member. option_map (λ founding. record { member = member; founding = founding }) (founding_of name)) p is in
-    let made = map_some (founding_of name) (λ founding. record { member = read.0; founding = founding }) p read.2 in
+    let read = then_some (member_of number) (λ member. option_map (λ standing. record { member = member; standing = standing }) (standing_of name)) p is in
+    let made = map_some (standing_of name) (λ standing. record { member = read.0; standing = standing }) p read.2 in
     subst (λ (q : Participant). IsMember q.member) made.2 (a_member number read.0 read.1)
 
 one_named : (word : Text) (p : Participant) → participant_of word ≡ Some p → IsMember p.member

@@ -4,7 +4,7 @@ use Rattle.lms_ots.specs.declared.ots_type.OtsType.TheVariants.{W4}
 use Rattle.lms_tree.specs.declared.lms_type.LmsType.TheVariants.{H10}
 use Rattle.sporc_member.specs.declared.role.Role.TheVariants.{Admin, Editor}
 use Rattle.sporc_words.specs.declared.command.Command.TheVariants.{Check, Client, Compare, Found, Generate, Keygen, Play, Serve}
-use Rattle.sporc_words.specs.declared.founding.Founding.TheVariants.{Founder, Joiner}
+use Rattle.sporc_words.specs.declared.standing.Standing.TheVariants.{Founder, Joiner}
 use Rattle.sporc_words.specs.Commands.{command_of}
 use Rattle.sporc_words.proofs.Literals.{words_on_literals}
 
@@ -37,7 +37,7 @@ a_document : command_of (codes "found" ∷ codes "plan" ∷ codes "2:editor" ∷
     ≡ Some (Found (record {
       name = codes "plan";
       participants =
-          record { member = 2; founding = Founder Editor } ∷ record { member = 1; founding = Founder Admin } ∷ record { member = 3; founding = Joiner } ∷ [];
+          record { member = 2; standing = Founder Editor } ∷ record { member = 1; standing = Founder Admin } ∷ record { member = 3; standing = Joiner } ∷ [];
     }))
 unfolding words_on_literals
 a_document = refl

@@ -9,8 +9,8 @@ use Rattle.std.proofs.lemmas.Str.Pattern.{IsSplitOnceResult, split_once_first}
 use Rattle.clap.specs.Walk.{Text, texts}
 use Rattle.sporc_script.specs.Plain.{role_of}
 use Rattle.sporc_script.specs.Readers.{member_of, then_read}
-use Rattle.sporc_words.specs.declared.founding.Participant.{Participant}
-use Rattle.sporc_words.specs.Values.{all_participants, founding_of, is_colon, participant_by, participant_of}
+use Rattle.sporc_words.specs.declared.standing.Participant.{Participant}
+use Rattle.sporc_words.specs.Values.{all_participants, is_colon, participant_by, participant_of, standing_of}
 
 -- ---- one word
 
@@ -18,7 +18,7 @@ never : {A B : Type 0} (o : Option A) (f : A → Option B) → ((a : A) → f a 
 never None f each = refl
 never (Some a) f each = sym (each a)
 
-no_name : founding_of [] ≡ None
+no_name : standing_of [] ≡ None
 unfolding role_of
 no_name = refl
 
@@ -27,7 +27,7 @@ no_colon : (word : Text) → position_or_len is_colon word ≡ length word → N
 unfolding participant_of
 no_colon word none =
     let past : after_first is_colon word ≡ [] = drop_of_length-le word (omega (arith, none)) in
-    never (member_of (before_first is_colon word)) _ (λ member. ap (option_map (λ founding. record { member = member; founding = founding })) (ap founding_of past ∙ no_name))
+    never (member_of (before_first is_colon word)) _ (λ member. ap (option_map (λ standing. record { member = member; standing = standing })) (ap standing_of past ∙ no_name))
 
 pub at_none : (word : Text) (r : Option (Bor Text × Bor Text)) → IsSplitOnceResult 58 word r → r ≡ None → None ≡ participant_of word
 at_none word None split is = no_colon word (split_once_first 58 word None split (omega arith))

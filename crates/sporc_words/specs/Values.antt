@@ -14,9 +14,9 @@ use Rattle.sporc_member.specs.Role.{is_admin}
 use Rattle.sporc_script.specs.Plain.{role_of}
 use Rattle.sporc_script.specs.Readers.{member_of, passing, then_read}
 use Rattle.sporc_script.specs.Words.{number_of}
-use Rattle.sporc_words.specs.declared.founding.Founding.{Founding}
-use Rattle.sporc_words.specs.declared.founding.Founding.TheVariants.{Founder, Joiner}
-use Rattle.sporc_words.specs.declared.founding.Participant.{Participant}
+use Rattle.sporc_words.specs.declared.standing.Standing.{Standing}
+use Rattle.sporc_words.specs.declared.standing.Standing.TheVariants.{Founder, Joiner}
+use Rattle.sporc_words.specs.declared.standing.Participant.{Participant}
 
 -- ---- arguments
 
@@ -60,13 +60,13 @@ abbrev pub is_colon : ℕ → Bool
 is_colon b = b == 58
 
 -- `joiner`, or a role
-abbrev pub founding_of : Text → Option Founding
-founding_of word = if bytes_eq word (codes "joiner") then Some Joiner else option_map Founder (role_of word)
+abbrev pub standing_of : Text → Option Standing
+standing_of word = if bytes_eq word (codes "joiner") then Some Joiner else option_map Founder (role_of word)
 
--- a number, and the name of what it is named as
+-- a number, and the name of what it stands for
 abbrev pub participant_by : Text → Text → Option Participant
 participant_by number name =
-    then_read (member_of number) (λ member. option_map (λ founding. record { member = member; founding = founding }) (founding_of name))
+    then_read (member_of number) (λ member. option_map (λ standing. record { member = member; standing = standing }) (standing_of name))
 
 -- `M:ROLE`
 unfoldable pub participant_of : Text → Option Participant
@@ -77,7 +77,7 @@ abbrev pub all_participants : List Text → Option (List Participant)
 all_participants [] = Some []
 all_participants (word ∷ words) = then_read (participant_of word) (λ p. option_map (λ ps. p ∷ ps) (all_participants words))
 
-abbrev pub founds_admin : Founding → Bool
+abbrev pub founds_admin : Standing → Bool
 founds_admin (Founder role) = is_admin role
 founds_admin Joiner = false
 
@@ -89,7 +89,7 @@ has_twice (p ∷ ps) = list_any (λ q. q.member == p.member) ps || has_twice ps
 -- not too many, each number once, and an admin among them
 abbrev pub may_found : List Participant → Bool
 may_found ps =
-    nat_le (length ps) MAX_MEMBERS && (not (has_twice ps) && list_any (λ p. founds_admin p.founding) ps)
+    nat_le (length ps) MAX_MEMBERS && (not (has_twice ps) && list_any (λ p. founds_admin p.standing) ps)
 
 -- who founds, by these words
 unfoldable pub participants_of : List Text → Option (List Participant)

@@ -6,9 +6,9 @@ ghost use Rattle.sporc_words.specs.Arguments.{found_app, grammar_of};
 ghost use Rattle.sporc_words.specs.Commands.{found_in};
 
 use crate::arguments::{Kind, command_with};
-use crate::founding::Participant;
 use crate::matches::value;
 use crate::participants::participants_value;
+use crate::standing::Participant;
 use crate::word::Word;
 use clap::{ArgMatches, Command};
 use sporc_base::{Items, Memory};

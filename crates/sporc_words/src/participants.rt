@@ -4,10 +4,10 @@ ghost use Rattle.std.specs.Prelude.{◌≡◌, ◌==◌, IfOk};
 ghost use Rattle.std.specs.List.{list_any};
 ghost use Rattle.clap.specs.Walk.{texts};
 ghost use Rattle.clap.specs.Words.{found_of, rows_of};
-ghost use Rattle.sporc_words.specs.Values.{all_participants, founding_of, founds_admin, has_twice, may_found, participant_by, participant_of, participants_of, values_of};
+ghost use Rattle.sporc_words.specs.Values.{all_participants, founds_admin, has_twice, may_found, participant_by, participant_of, participants_of, standing_of, values_of};
 
-use crate::founding::{Founding, Participant};
 use crate::matches::values;
+use crate::standing::{Participant, Standing};
 use clap::ArgMatches;
 use sporc_base::{Items, Memory};
 use sporc_member::MAX_MEMBERS;
@@ -69,18 +69,18 @@ fn parse_parts(number: &str, name: &str) -> Option<Participant>
     ensures value { result ≡ participant_by number.now name.now }
 {
     let member = parse_member(number.as_bytes())?;
-    let founding = parse_founding(name)?;
-    Some(Participant { member, founding })
+    let standing = parse_standing(name)?;
+    Some(Participant { member, standing })
 }
 
-fn parse_founding(name: &str) -> Option<Founding>
-    ensures value { result ≡ founding_of name.now }
+fn parse_standing(name: &str) -> Option<Standing>
+    ensures value { result ≡ standing_of name.now }
 {
     if name == "joiner" {
-        return Some(Founding::Joiner);
+        return Some(Standing::Joiner);
     }
     let role = parse_role(name.as_bytes())?;
-    Some(Founding::Founder(role))
+    Some(Standing::Founder(role))
 }
 
 fn may_found(participants: &[Participant]) -> bool
@@ -111,7 +111,7 @@ fn is_named(participants: &[Participant], member: u16) -> bool
 }
 
 fn has_admin(participants: &[Participant]) -> bool
-    ensures value { result ≡ list_any (λ p. founds_admin p.founding) participants.now }
+    ensures value { result ≡ list_any (λ p. founds_admin p.standing) participants.now }
 {
-    participants.iter().any(|p| p.founding.is_admin())
+    participants.iter().any(|p| p.standing.is_admin())
 }

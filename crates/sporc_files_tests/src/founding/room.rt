@@ -12,7 +12,7 @@ use sporc_files::Fault;
 use sporc_founding::{found, keygen};
 use sporc_member::Role;
 use sporc_outside::{ListedChance, MemoryFolder, MemorySink, NamedFile};
-use sporc_words::{Found, Founding, Keygen, Participant, Word};
+use sporc_words::{Found, Keygen, Participant, Standing, Word};
 use std::alloc::Global;
 use std::process::Abort;
 
@@ -32,15 +32,15 @@ const KEYS: [(&str, &str); 2] = [
 const PARTICIPANTS: [Participant; 3] = [
     Participant {
         member: 2,
-        founding: Founding::Founder(Role::Editor),
+        standing: Standing::Founder(Role::Editor),
     },
     Participant {
         member: 3,
-        founding: Founding::Joiner,
+        standing: Standing::Joiner,
     },
     Participant {
         member: 1,
-        founding: Founding::Founder(Role::Admin),
+        standing: Standing::Founder(Role::Admin),
     },
 ];
 

@@ -4,7 +4,7 @@ use crate::bytes::{push, text_of};
 use crate::checks::check;
 use sporc_member::Role;
 use sporc_words::{
-    Check, Client, Command, Compare, Found, Founding, Keygen, Serve, Word, WordsFault, read_words,
+    Check, Client, Command, Compare, Found, Keygen, Serve, Standing, Word, WordsFault, read_words,
 };
 use std::alloc::Global;
 use std::fmt::Write;
@@ -206,16 +206,16 @@ fn show_found(rt: &impl Abort, line: &mut String, found: &Found) {
     push_named(rt, line, "found", &found.name);
     for participant in found.participants.as_slice() {
         push_number(rt, line, u32::from(participant.member));
-        push_word(rt, line, founding_name(participant.founding));
+        push_word(rt, line, standing_name(participant.standing));
     }
 }
 
-fn founding_name(founding: Founding) -> &'static str {
-    match founding {
-        Founding::Founder(Role::Reader) => "reader",
-        Founding::Founder(Role::Editor) => "editor",
-        Founding::Founder(Role::Admin) => "admin",
-        Founding::Joiner => "joiner",
+fn standing_name(standing: Standing) -> &'static str {
+    match standing {
+        Standing::Founder(Role::Reader) => "reader",
+        Standing::Founder(Role::Editor) => "editor",
+        Standing::Founder(Role::Admin) => "admin",
+        Standing::Joiner => "joiner",
     }
 }
 

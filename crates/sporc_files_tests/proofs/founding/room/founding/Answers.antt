@@ -2,14 +2,14 @@ use Rattle.std.proofs.Common.{ℕ, ◌≡◌, ◌<◌, ◌^◌, List, [], ◌∷
 use Rattle.std.specs.List.{AllByRecursion}
 use Rattle.sporc_member.specs.declared.role.Role.TheVariants.{Admin, Editor}
 use Rattle.sporc_entry.specs.ChangeBody.{IsMember}
-use Rattle.sporc_words.specs.declared.founding.Founding.TheVariants.{Founder, Joiner}
-use Rattle.sporc_words.specs.declared.founding.Participant.{Participant}
+use Rattle.sporc_words.specs.declared.standing.Standing.TheVariants.{Founder, Joiner}
+use Rattle.sporc_words.specs.declared.standing.Participant.{Participant}
 use Rattle.sporc_words.specs.Values.{may_found}
 use Rattle.sporc_files_tests.proofs.founding.room.founding.Goals as goal
 
 -- who is named
 abbrev the_three : List Participant
-the_three = record { member = 2; founding = Founder Editor } ∷ record { member = 3; founding = Joiner } ∷ record { member = 1; founding = Founder Admin } ∷ []
+the_three = record { member = 2; standing = Founder Editor } ∷ record { member = 3; standing = Joiner } ∷ record { member = 1; standing = Founder Admin } ∷ []
 
 is_member : (n : ℕ) → 0 < n → n < 2 ^ 16 → IsMember n
 is_member n positive small = record { positive = positive; small = small }

@@ -1,17 +1,17 @@
-//! As what a number is named where a document is founded.
+//! What a number stands for where a document is founded.
 
 use sporc_member::Role;
 
-/// As what a number is named.
+/// What a number stands for: a founder with a role, or one who may be added later.
 #[derive(Clone, Copy)]
-pub enum Founding {
-    /// As a founder with this role.
+pub enum Standing {
+    /// A founder with this role.
     Founder(Role),
-    /// As one who may be added later.
+    /// One who may be added later.
     Joiner,
 }
 
-impl Founding {
+impl Standing {
     ghost use Rattle.std.specs.Prelude.{◌≡◌};
     ghost use Rattle.sporc_words.specs.Values.{founds_admin};
 
@@ -20,16 +20,16 @@ impl Founding {
         ensures value { result ≡ founds_admin self }
     {
         match self {
-            Founding::Founder(role) => role.is_admin(),
-            Founding::Joiner => false,
+            Standing::Founder(role) => role.is_admin(),
+            Standing::Joiner => false,
         }
     }
 }
 
-/// A number, and as what it is named: the word `M:ROLE`.
+/// A number, and what it stands for: the word `M:ROLE`.
 #[derive(Clone, Copy)]
 pub struct Participant {
     /// The number, from 1 to 65,535.
     pub member: u16,
-    pub founding: Founding,
+    pub standing: Standing,
 }
