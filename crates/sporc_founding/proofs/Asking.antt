@@ -10,7 +10,7 @@ use Rattle.sporc_keys.specs.declared.pair.SharedKey.{SharedKey}
 use Rattle.sporc_keys.specs.declared.ring_file.RingFile.{RingFile}
 use Rattle.sporc_keys.specs.Founding.{IsFounding, in_order, numbers_of, ring_of, shared_keys}
 use Rattle.sporc_keys.proofs.Naming.{ordered_all}
-use Rattle.sporc_words.specs.declared.founding.Participant.{Participant}
+use Rattle.sporc_words.specs.declared.standing.Participant.{Participant}
 use Rattle.sporc_files.specs.declared.file.File.TheVariants as files
 use Rattle.sporc_files.specs.Names.{FileNames, file_name}
 use Rattle.sporc_files.specs.Uses.{AsksOnly}
@@ -22,22 +22,22 @@ use Rattle.sporc_founding.proofs.MayFound.{members_of, same_numbers}
 
 module _ (names : FileNames) where
   key_among : (ps : List Participant) (i : ℕ) (d : Participant) → i < length ps → (name : List ℕ)
-      → Contains (map (file_name names) (key_read (get_or ps i d).member (get_or ps i d).founding)) name → Contains (map (file_name names) (keys_read ps)) name
+      → Contains (map (file_name names) (key_read (get_or ps i d).member (get_or ps i d).standing)) name → Contains (map (file_name names) (keys_read ps)) name
   key_among [] i d within name is = absurd (omega (arith, within))
   key_among (p ∷ ps) zero d within name is =
-      subst (λ (all : List (List ℕ)). Contains all name) (sym (map-append (file_name names) (key_read p.member p.founding) (keys_read ps)))
-      (Contains-append_left (map (file_name names) (key_read p.member p.founding)) (map (file_name names) (keys_read ps)) name is)
+      subst (λ (all : List (List ℕ)). Contains all name) (sym (map-append (file_name names) (key_read p.member p.standing) (keys_read ps)))
+      (Contains-append_left (map (file_name names) (key_read p.member p.standing)) (map (file_name names) (keys_read ps)) name is)
   key_among (p ∷ ps) (suc i) d within name is =
-      subst (λ (all : List (List ℕ)). Contains all name) (sym (map-append (file_name names) (key_read p.member p.founding) (keys_read ps)))
-      (Contains-append_right (map (file_name names) (key_read p.member p.founding)) (map (file_name names) (keys_read ps)) name
+      subst (λ (all : List (List ℕ)). Contains all name) (sym (map-append (file_name names) (key_read p.member p.standing) (keys_read ps)))
+      (Contains-append_right (map (file_name names) (key_read p.member p.standing)) (map (file_name names) (keys_read ps)) name
       (key_among ps i d (omega (arith, within)) name is))
 
   -- a key file more
   pub asks_key : (ps : List Participant) (i : ℕ) (d : Participant) (a b c : Option (List (List ℕ))) → i < length ps → AsksOnly (map (file_name names) (keys_read ps)) a b
-      → AsksOnly (map (file_name names) (key_read (get_or ps i d).member (get_or ps i d).founding)) b c → AsksOnly (map (file_name names) (keys_read ps)) a c
+      → AsksOnly (map (file_name names) (key_read (get_or ps i d).member (get_or ps i d).standing)) b c → AsksOnly (map (file_name names) (keys_read ps)) a c
   asks_key ps i d a b c within asked then =
       AsksOnly-trans (map (file_name names) (keys_read ps)) a b c asked
-      (AsksOnly-among (map (file_name names) (key_read (get_or ps i d).member (get_or ps i d).founding)) (map (file_name names) (keys_read ps)) b c (key_among ps i d within) then)
+      (AsksOnly-among (map (file_name names) (key_read (get_or ps i d).member (get_or ps i d).standing)) (map (file_name names) (keys_read ps)) b c (key_among ps i d within) then)
 
   ring_among : (rings : List RingFile) (i : ℕ) (d : RingFile) → i < length rings → (name : List ℕ)
       → Contains (file_name names (files.Ring (get_or rings i d).member) ∷ []) name → Contains (names_in (map (ring_of_founding names) rings)) name

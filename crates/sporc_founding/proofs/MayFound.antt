@@ -9,9 +9,9 @@ use Rattle.sporc_outside.specs.declared.named_file.NamedFile.{NamedFile}
 use Rattle.sporc_keys.specs.declared.named.Named.{Named}
 use Rattle.sporc_keys.specs.Founding.{CanFound, is_first_admin, number_of, numbers_of}
 use Rattle.sporc_words.specs.declared.found.Found.{Found}
-use Rattle.sporc_words.specs.declared.founding.Founding.{Founding}
-use Rattle.sporc_words.specs.declared.founding.Founding.TheVariants.{Founder, Joiner}
-use Rattle.sporc_words.specs.declared.founding.Participant.{Participant}
+use Rattle.sporc_words.specs.declared.standing.Standing.{Standing}
+use Rattle.sporc_words.specs.declared.standing.Standing.TheVariants.{Founder, Joiner}
+use Rattle.sporc_words.specs.declared.standing.Participant.{Participant}
 use Rattle.sporc_words.specs.Values.{founds_admin, has_twice}
 use Rattle.sporc_files.specs.Names.{FileNames}
 use Rattle.sporc_founding.specs.Founding.{AreNamed, IsNamed, MayFound}
@@ -20,7 +20,7 @@ abbrev pub members_of : List Participant → List ℕ
 members_of ps = map (λ p. p.member) ps
 
 module _ (told : Option (List NamedFile)) (names : FileNames) where
-  one_number : (member : ℕ) (founding : Founding) (n : Named) → IsNamed told names member founding n → number_of n ≡ member
+  one_number : (member : ℕ) (standing : Standing) (n : Named) → IsNamed told names member standing n → number_of n ≡ member
   one_number member (Founder role) n (key, says, is) = ap number_of is
   one_number member Joiner n is = ap number_of is
 
@@ -29,20 +29,20 @@ module _ (told : Option (List NamedFile)) (names : FileNames) where
   same_numbers [] (n ∷ ns) all = absurd all
   same_numbers (p ∷ ps) [] all = absurd all
   same_numbers (p ∷ ps) (n ∷ ns) (one, all) =
-      let head = one_number p.member p.founding n one in
+      let head = one_number p.member p.standing n one in
       let tail = same_numbers ps ns all in
       cc
 
-  one_admin : (member : ℕ) (founding : Founding) (n : Named) → IsNamed told names member founding n → is_first_admin n ≡ founds_admin founding
+  one_admin : (member : ℕ) (standing : Standing) (n : Named) → IsNamed told names member standing n → is_first_admin n ≡ founds_admin standing
   one_admin member (Founder role) n (key, says, is) = ap is_first_admin is
   one_admin member Joiner n is = ap is_first_admin is
 
-  same_admins : (ps : List Participant) (ns : List Named) → AreNamed told names ps ns → list_any is_first_admin ns ≡ list_any (λ p. founds_admin p.founding) ps
+  same_admins : (ps : List Participant) (ns : List Named) → AreNamed told names ps ns → list_any is_first_admin ns ≡ list_any (λ p. founds_admin p.standing) ps
   same_admins [] [] all = refl
   same_admins [] (n ∷ ns) all = absurd all
   same_admins (p ∷ ps) [] all = absurd all
   same_admins (p ∷ ps) (n ∷ ns) (one, all) =
-      let head = one_admin p.member p.founding n one in
+      let head = one_admin p.member p.standing n one in
       let tail = same_admins ps ns all in
       cc
 
@@ -71,8 +71,8 @@ apart (p ∷ ps) none = let parts = or_parts (list_any (λ q. q.member == p.memb
 pub can_found : (told : Option (List NamedFile)) (names : FileNames) (asked : Found) (ns : List Named) → MayFound asked → AreNamed told names asked.participants ns → CanFound ns
 can_found told names asked ns may all =
     let ps = asked.participants in
-    let outer = and_parts (nat_le (length ps) MAX_MEMBERS) (not (has_twice ps) && list_any (λ p. founds_admin p.founding) ps) may.may in
-    let inner = and_parts (not (has_twice ps)) (list_any (λ p. founds_admin p.founding) ps) outer.1 in
+    let outer = and_parts (nat_le (length ps) MAX_MEMBERS) (not (has_twice ps) && list_any (λ p. founds_admin p.standing) ps) may.may in
+    let inner = and_parts (not (has_twice ps)) (list_any (λ p. founds_admin p.standing) ps) outer.1 in
     let numbers = same_numbers told names ps ns all in
     record {
       count = let few = leb-true (length ps) MAX_MEMBERS outer.0 in omega (arith, few, same_length told names ps ns all);

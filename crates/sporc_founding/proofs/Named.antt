@@ -4,8 +4,8 @@ use Rattle.std.proofs.Math.Seq.{drop-cons, take-suc}
 use Rattle.std.proofs.lemmas.List.{take-append-drop}
 use Rattle.sporc_outside.specs.declared.named_file.NamedFile.{NamedFile}
 use Rattle.sporc_keys.specs.declared.named.Named.{Named}
-use Rattle.sporc_words.specs.declared.founding.Founding.TheVariants.{Joiner}
-use Rattle.sporc_words.specs.declared.founding.Participant.{Participant}
+use Rattle.sporc_words.specs.declared.standing.Standing.TheVariants.{Joiner}
+use Rattle.sporc_words.specs.declared.standing.Participant.{Participant}
 use Rattle.sporc_files.specs.declared.fault.Fault.{Fault}
 use Rattle.sporc_files.specs.declared.fault.Fault.TheVariants as faults
 use Rattle.sporc_files.specs.declared.file.File.TheVariants as files
@@ -18,7 +18,7 @@ pub nobody : (told : Option (List NamedFile)) (names : FileNames) (ns : List Nam
 nobody told names ns none = rw none tt
 
 pub one_more : (told : Option (List NamedFile)) (names : FileNames) (ps : List Participant) (ns : List Named) (p : Participant) (n : Named) → AreNamed told names ps ns
-    → IsNamed told names p.member p.founding n → AreNamed told names (ps ++ p ∷ []) (ns ++ n ∷ [])
+    → IsNamed told names p.member p.standing n → AreNamed told names (ps ++ p ∷ []) (ns ++ n ∷ [])
 one_more told names [] [] p n all one = (one, tt)
 one_more told names [] (m ∷ ns) p n all one = absurd all
 one_more told names (q ∷ ps) [] p n all one = absurd all
@@ -46,13 +46,13 @@ first_bad told now low mid high names all i d ns fault within same more read cau
 pub no_memory : (told : Option (List NamedFile)) (low high : ℕ) (names : FileNames) (all : List Participant) (i : ℕ) (ns : List Named) → i < length all
     → AreNamed told names (take i all) ns → FirstBadKey told low high names all faults.Memory
 no_memory told low high names all i ns within read =
-    let d : Participant = record { member = 0; founding = Joiner } in
+    let d : Participant = record { member = 0; standing = Joiner } in
     record { before = take i all; one = get_or all i d; behind = drop (suc i) all; split = around all i d within; named = ns; read = read; cause = tt }
 
 pub named_more : (told now : Option (List NamedFile)) (names : FileNames) (all : List Participant) (i : ℕ) (d : Participant) (ns new : List Named) (n : Named) → i < length all
-    → now ≡ told → new ≡ ns ++ n ∷ [] → AreNamed told names (take i all) ns → IsNamed now names (get_or all i d).member (get_or all i d).founding n
+    → now ≡ told → new ≡ ns ++ n ∷ [] → AreNamed told names (take i all) ns → IsNamed now names (get_or all i d).member (get_or all i d).standing n
     → AreNamed told names (take (i + 1) all) new
 named_more told now names all i d ns new n within same is read one =
-    let here = subst (λ (o : Option (List NamedFile)). IsNamed o names (get_or all i d).member (get_or all i d).founding n) same one in
+    let here = subst (λ (o : Option (List NamedFile)). IsNamed o names (get_or all i d).member (get_or all i d).standing n) same one in
     let both = one_more told names (take i all) ns (get_or all i d) n read here in
     rw (add-one, take-suc all i d within, is) both

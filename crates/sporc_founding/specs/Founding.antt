@@ -13,9 +13,9 @@ use Rattle.sporc_keys.specs.declared.ring_file.RingFile.{RingFile}
 use Rattle.sporc_keys.specs.Founding.{IsFounding, in_order}
 use Rattle.sporc_keys.specs.RingFile.{ring_file_bytes}
 use Rattle.sporc_words.specs.declared.found.Found.{Found}
-use Rattle.sporc_words.specs.declared.founding.Founding.{Founding as Footing}
-use Rattle.sporc_words.specs.declared.founding.Founding.TheVariants as footings
-use Rattle.sporc_words.specs.declared.founding.Participant.{Participant}
+use Rattle.sporc_words.specs.declared.standing.Standing.{Standing}
+use Rattle.sporc_words.specs.declared.standing.Standing.TheVariants as standings
+use Rattle.sporc_words.specs.declared.standing.Participant.{Participant}
 use Rattle.sporc_words.specs.Values.{may_found}
 use Rattle.sporc_files.specs.declared.fault.Fault.{Fault}
 use Rattle.sporc_files.specs.declared.fault.Fault.TheVariants as faults
@@ -35,15 +35,15 @@ pub record MayFound (asked : Found) : Type 0 where
 -- ---- those who are named
 
 -- one who is named: a founder by the key of its key file, a joiner by its number alone
-abbrev pub IsNamed : Option (List NamedFile) → FileNames → ℕ → Footing → Named → Type 0
-IsNamed told names member (footings.Founder role) one =
+abbrev pub IsNamed : Option (List NamedFile) → FileNames → ℕ → Standing → Named → Type 0
+IsNamed told names member (standings.Founder role) one =
     (key : LmsPrivate) × SaysFile (key_file member) told (file_name names (files.Key member)) key × (one ≡ named.Founder member role (lms_public_of key))
-IsNamed told names member footings.Joiner one = one ≡ named.Joiner member
+IsNamed told names member standings.Joiner one = one ≡ named.Joiner member
 
 -- all who are named, in the order of the words
 abbrev pub AreNamed : Option (List NamedFile) → FileNames → List Participant → List Named → Type 0
 AreNamed told names [] [] = Unit {0}
-AreNamed told names (p ∷ ps) (n ∷ ns) = IsNamed told names p.member p.founding n × AreNamed told names ps ns
+AreNamed told names (p ∷ ps) (n ∷ ns) = IsNamed told names p.member p.standing n × AreNamed told names ps ns
 AreNamed told names [] (n ∷ ns) = ⊥
 AreNamed told names (p ∷ ps) [] = ⊥
 
@@ -71,13 +71,13 @@ abbrev pub names_in : List NamedFile → List (List ℕ)
 names_in files = map (λ f. f.name) files
 
 -- the key file that is read of one who is named: a founder's
-abbrev pub key_read : ℕ → Footing → List File
-key_read member (footings.Founder role) = files.Key member ∷ []
-key_read member footings.Joiner = []
+abbrev pub key_read : ℕ → Standing → List File
+key_read member (standings.Founder role) = files.Key member ∷ []
+key_read member standings.Joiner = []
 
 -- the key files that are read, in the order of the words
 abbrev pub keys_read : List Participant → List File
-keys_read participants = flat_map (λ p. key_read p.member p.founding) participants
+keys_read participants = flat_map (λ p. key_read p.member p.standing) participants
 
 -- the rings that are written
 abbrev pub rings_written : List Participant → List File

@@ -18,7 +18,7 @@ use sporc_entry::write_genesis;
 use sporc_files::{Fault, File, Names, read_key_file, write_whole_file};
 use sporc_keys::{DrawFault, Founding, Named, RingFile, write_ring_file};
 use sporc_outside::{Chance, Folder};
-use sporc_words::{Found, Participant};
+use sporc_words::{Found, Participant, Standing};
 use std::alloc::Global;
 
 /// Makes a document of its founders' keys and of words of the chance, and writes its genesis and the ring of each who is named,
@@ -76,18 +76,18 @@ fn read_named<F: Folder>(
     names: &Names<'_>,
     participant: &Participant,
 ) -> Result<Named, Fault>
-    ensures ok { IfOk result (IsNamed (F.files files.old) names.now participant.now.member participant.now.founding) }
+    ensures ok { IfOk result (IsNamed (F.files files.old) names.now participant.now.member participant.now.standing) }
     ensures err { IfErr result (IsFileFault (key_file participant.now.member) (F.files files.old)
         (F.faults files.old) (F.faults files.new) names.now (kinds.Key participant.now.member)) }
-    ensures may_ask { AsksOnly (map (file_name names.now) (key_read participant.now.member participant.now.founding)) (F.asked files.old) (F.asked files.new) }
+    ensures may_ask { AsksOnly (map (file_name names.now) (key_read participant.now.member participant.now.standing)) (F.asked files.old) (F.asked files.new) }
     ensures files { F.files files.new ≡ F.files files.old }
     ensures lent { F.lent files.new ≡ F.lent files.old }
     ensures kept { F.faults files.old ≤ F.faults files.new }
 {
     let member = participant.member;
-    match participant.founding {
-        sporc_words::Founding::Joiner => Ok(Named::Joiner { member }),
-        sporc_words::Founding::Founder(role) => {
+    match participant.standing {
+        Standing::Joiner => Ok(Named::Joiner { member }),
+        Standing::Founder(role) => {
             let tree = read_key_file(alloc, files, names, member)?;
             let key = tree.public();
             Ok(Named::Founder { member, role, key })
