@@ -151,44 +151,44 @@ module _ (g : Genesis) (a b : ServerStand) (bytes : List ℕ) (xs : List Exchang
     goes_answered no_close sent = (bytes, xs ++ x ∷ [], answered no_close sent)
 
     -- so many bytes of it were
-    cut : (n : ℕ) → Appends b.written written (take n (bytes_of answer)) → Broken g a b' bytes (xs ++ x ∷ []) (answers_of g false xs) answer
+    cut : (n : ℕ) → Appends b.written written (take n (bytes_of answer)) → Broken g a b' bytes (xs ++ x ∷ []) (answers_of g false xs) answer n
     cut n sent = record {
       did = did;
       answers = answers;
       none_closes = c.none_closes;
-      sent = (n, Appends-trans a.written b.written written (sent_of (answers_of g false xs)) (take n (bytes_of answer)) c.sent sent);
+      sent = Appends-trans a.written b.written written (sent_of (answers_of g false xs)) (take n (bytes_of answer)) c.sent sent;
     }
 
     -- it is the last one
-    pub goes_cut : (end : SessionEnd) → IsSendEnd answer b.written written b.faults faults end → (answer ≡ Close → Some end ≡ Some Closed) → IsEnd g a b' end
-    goes_cut Closed e close = (
+    pub goes_cut : (end : SessionEnd) → IsSendEnd answer b.written written b.faults faults end → IsEnd g a b' end
+    goes_cut Closed e = (
       (next to_server_of b.unread).after,
       greeted,
       (
         bytes,
         xs ++ x ∷ [],
         answers_of g false xs,
-        subst (λ (z : Answer). Broken g a b' bytes (xs ++ x ∷ []) (answers_of g false xs) z) e.0 (cut 0 e.1),
+        subst (λ (z : Answer). Broken g a b' bytes (xs ++ x ∷ []) (answers_of g false xs) z 0) e.0 (cut 0 e.1),
       ),
     )
-    goes_cut LinkFault e close = (
+    goes_cut LinkFault e = (
       (next to_server_of b.unread).after,
       greeted,
       (
         bytes,
         xs ++ x ∷ [],
-        inr (answers_of g false xs, answer, cut e.0.0 e.0.2, (λ is. let clash = close is in absurd cc)),
+        inr (answers_of g false xs, answer, e.0.0, cut e.0.0 e.0.2, e.0.1),
         rose_before a.faults b.faults faults c.did.faults e.1,
       ),
     )
-    goes_cut Memory e close = (
+    goes_cut Memory e = (
       (next to_server_of b.unread).after,
       greeted,
-      (bytes, xs ++ x ∷ [], inr (answers_of g false xs, answer, cut 0 e, (λ is. let clash = close is in absurd cc))),
+      (bytes, xs ++ x ∷ [], inr (answers_of g false xs, answer, 0, cut 0 e.0, e.1)),
     )
-    goes_cut LinkEnded e close = absurd e
-    goes_cut BadFrame e close = absurd e
-    goes_cut (Worn ticket) e close = absurd e
+    goes_cut LinkEnded e = absurd e
+    goes_cut BadFrame e = absurd e
+    goes_cut (Worn ticket) e = absurd e
 
     -- whatever became of the answer
     pub sent_goes : (left : Option (List ℕ)) (e : Option SessionEnd) → left ≡ b.left → IfNone e (Appends b.written written (bytes_of answer))
@@ -196,4 +196,4 @@ module _ (g : Genesis) (a b : ServerStand) (bytes : List ℕ) (xs : List Exchang
     sent_goes left None same none some close =
         subst (λ (l : Option (List ℕ)). GoesOn g a (record b' { left = l }) None) (sym same) (goes_answered (λ is. let clash = close is in absurd cc) none)
     sent_goes left (Some end) same none some close =
-        subst (λ (l : Option (List ℕ)). GoesOn g a (record b' { left = l }) (Some end)) (sym same) (goes_cut end some close)
+        subst (λ (l : Option (List ℕ)). GoesOn g a (record b' { left = l }) (Some end)) (sym same) (goes_cut end some)

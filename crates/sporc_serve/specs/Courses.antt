@@ -1,5 +1,5 @@
 -- What one session of a server does, as a list of its messages with what the order's log was at each.
-use Rattle.std.specs.Prelude.{◌≡◌, ◌≢◌, ◌⊎◌, ◌≤◌, ℕ, Bool, false, List, [], ◌∷◌, ◌++◌, map, take, Option, Some, None, Ok, Err}
+use Rattle.std.specs.Prelude.{◌≡◌, ◌≢◌, ◌⊎◌, ◌≤◌, ◌<◌, ℕ, Bool, false, List, [], ◌∷◌, ◌++◌, length, map, take, Option, Some, None, Ok, Err}
 use Rattle.std.specs.Io.KnownBytes.{Consumes, Appends, IsAtEnd}
 use Rattle.sporc_outside.specs.Counts.{Rose}
 use Rattle.sporc_turn.specs.declared.known.Known.{Known}
@@ -87,24 +87,24 @@ module _ (genesis : Genesis) where
     pub sent : Appends a.written b.written (sent_of (answers_of false xs))
 
   -- as far as one gets: none before the last answer closes the session, and of the last one the first n bytes were sent
-  pub record Broken (a b : ServerStand) (bytes : List ℕ) (xs : List Exchange) (before : List Answer) (last : Answer) : Type 0 where
+  pub record Broken (a b : ServerStand) (bytes : List ℕ) (xs : List Exchange) (before : List Answer) (last : Answer) (n : ℕ) : Type 0 where
     pub did : Did a b bytes xs
     pub answers : answers_of false xs ≡ before ++ last ∷ []
     pub none_closes : NoneCloses before
-    pub sent : (n : ℕ) × Appends a.written b.written (sent_of before ++ take n (bytes_of last))
+    pub sent : Appends a.written b.written (sent_of before ++ take n (bytes_of last))
 
   -- each whole message of the bytes was answered
   pub record AllAnswered (a b : ServerStand) (bytes : List ℕ) (xs : List Exchange) : Type 0 where
     pub course : ServerCourse a b bytes xs
     pub none_left : (next to_server_of b.unread).answer ≡ Ok None
 
-  -- the last answer was sent in part or not at all, and closes nothing
+  -- of the last answer not all bytes were sent
   abbrev pub IsCut : ServerStand → ServerStand → List ℕ → List Exchange → Type 0
-  IsCut a b bytes xs = (before : List Answer) × (last : Answer) × Broken a b bytes xs before last × (last ≢ Close)
+  IsCut a b bytes xs = (before : List Answer) × (last : Answer) × (n : ℕ) × Broken a b bytes xs before last n × (n < length (bytes_of last))
 
   -- how a session ended; one that closed sent all of its answers, since a Close has no bytes
   abbrev pub EndsAs : ServerStand → ServerStand → SessionEnd → Type 0
-  EndsAs a b Closed = (bytes : List ℕ) × (xs : List Exchange) × (before : List Answer) × Broken a b bytes xs before Close
+  EndsAs a b Closed = (bytes : List ℕ) × (xs : List Exchange) × (before : List Answer) × Broken a b bytes xs before Close 0
   EndsAs a b LinkEnded = (bytes : List ℕ) × (xs : List Exchange) × AllAnswered a b bytes xs × IsAtEnd b.left
   EndsAs a b LinkFault = (bytes : List ℕ) × (xs : List Exchange) × (AllAnswered a b bytes xs ⊎ IsCut a b bytes xs) × Rose a.faults b.faults
   EndsAs a b BadFrame = (bytes : List ℕ) × (xs : List Exchange) × (fault : FrameFault) × ServerCourse a b bytes xs

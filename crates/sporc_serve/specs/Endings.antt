@@ -1,8 +1,7 @@
 -- Why a step of a session is its last.
-use Rattle.std.specs.Prelude.{◌≡◌, ℕ, List, [], Option, Some, None, Result, Ok, Err}
+use Rattle.std.specs.Prelude.{◌≡◌, ◌<◌, ℕ, List, [], length, Option, Some, None, Result, Ok, Err}
 use Rattle.std.specs.Io.KnownBytes.{Consumes, Appends, IsAtEnd}
 use Rattle.sporc_outside.specs.Counts.{Rose}
-use Rattle.sporc_outside.specs.Writing.{AppendsPrefix}
 use Rattle.sporc_wire.specs.declared.fault.FrameFault.{FrameFault}
 use Rattle.sporc_wire.specs.declared.to_server.ToServer.{ToServer}
 use Rattle.sporc_wire.specs.Messages.{Unread, fed, next}
@@ -11,13 +10,13 @@ use Rattle.sporc_order.specs.declared.session.Answer.{Answer}
 use Rattle.sporc_order.specs.declared.session.Answer.TheVariants.{Close}
 use Rattle.sporc_serve.specs.declared.end.SessionEnd.{SessionEnd}
 use Rattle.sporc_serve.specs.declared.end.SessionEnd.TheVariants.{Closed, LinkEnded, LinkFault, BadFrame, Worn, Memory}
-use Rattle.sporc_serve.specs.Sending.{bytes_of}
+use Rattle.sporc_serve.specs.Sending.{bytes_of, AppendsLess}
 
 -- why no answer is to follow, where a link was given these bytes and its count went from `before` to `after`
 abbrev pub IsSendEnd : Answer → Option (List ℕ) → Option (List ℕ) → ℕ → ℕ → SessionEnd → Type 0
 IsSendEnd answer written written' before after Closed = (answer ≡ Close) × Appends written written' []
-IsSendEnd answer written written' before after LinkFault = AppendsPrefix written written' (bytes_of answer) × Rose before after
-IsSendEnd answer written written' before after Memory = Appends written written' []
+IsSendEnd answer written written' before after LinkFault = AppendsLess written written' (bytes_of answer) × Rose before after
+IsSendEnd answer written written' before after Memory = Appends written written' [] × (0 < length (bytes_of answer))
 IsSendEnd answer written written' before after LinkEnded = ⊥
 IsSendEnd answer written written' before after BadFrame = ⊥
 IsSendEnd answer written written' before after (Worn ticket) = ⊥

@@ -3,17 +3,16 @@
 ghost use Rattle.std.specs.Prelude.{◌≡◌, ◌≤◌, Some, IfNone, IfSome};
 ghost use Rattle.std.specs.Io.KnownBytes.{Appends};
 ghost use Rattle.sporc_outside.specs.Counts.{Rose};
-ghost use Rattle.sporc_outside.specs.Writing.{AppendsPrefix};
 ghost use Rattle.sporc_order.specs.declared.session.Answer.{Answer};
 ghost use Rattle.sporc_order.specs.declared.session.Answer.TheVariants as answers;
 ghost use Rattle.sporc_order.specs.Replies.{Says};
 ghost use Rattle.sporc_order.specs.Sessions.{IsSendable};
-ghost use Rattle.sporc_serve.specs.Sending.{bytes_of, CanBeSent};
+ghost use Rattle.sporc_serve.specs.Sending.{bytes_of, AppendsLess, CanBeSent};
 ghost use Rattle.sporc_serve.specs.Endings.{IsSendEnd};
 
 use crate::end::SessionEnd;
 use sporc_order::Reply;
-use sporc_outside::{Gate, Link, write_all};
+use sporc_outside::{Gate, Link};
 use sporc_wire::{ToClient, write_to_client};
 use std::alloc::Global;
 use std::sync::Wait;
@@ -64,12 +63,16 @@ fn write<L: Link>(alloc: Global, link: &mut L, message: &ToClient) -> Option<Ses
 // Writes a frame.
 fn write_frame<L: Link>(link: &mut L, frame: &[u8]) -> Option<SessionEnd>
     ensures none { IfNone result (Appends (L.written link.old) (L.written link.new) frame.now) }
-    ensures some { IfSome result (λ end. (end ≡ SessionEnd.LinkFault) × AppendsPrefix (L.written link.old) (L.written link.new) frame.now × Rose (L.faults link.old) (L.faults link.new)) }
+    ensures some { IfSome result (λ end. (end ≡ SessionEnd.LinkFault) × AppendsLess (L.written link.old) (L.written link.new) frame.now × Rose (L.faults link.old) (L.faults link.new)) }
     ensures left { L.left link.new ≡ L.left link.old }
     ensures kept { L.faults link.old ≤ L.faults link.new }
 {
-    match write_all(link, frame) {
-        Ok(()) => None,
-        Err(_) => Some(SessionEnd::LinkFault),
+    let mut at = 0;
+    while at < frame.len() {
+        let Ok(n) = link.write(&frame[at..]) else {
+            return Some(SessionEnd::LinkFault);
+        };
+        at += n;
     }
+    None
 }
