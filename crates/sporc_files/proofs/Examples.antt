@@ -1,16 +1,18 @@
--- Worked examples of the definitions: names of files, and the rows of the table of statuses in docs/MANUAL.md.
-use Rattle.std.proofs.Common.{◌≡◌, ℕ, List, [], ◌∷◌, codes, refl}
+-- Worked examples of the definitions: names of files, which files stand, and the rows of the table of statuses in docs/MANUAL.md.
+use Rattle.std.proofs.Common.{◌≡◌, ℕ, List, [], ◌∷◌, Some, inl, inr, codes, refl}
 use Rattle.std.specs.Fmt.{digits}
 use Rattle.sporc_client.specs.declared.fault.EditFault.TheVariants as edits
 use Rattle.sporc_epoch.specs.declared.fault.HintFault.TheVariants as hints
 use Rattle.sporc_head.specs.declared.refusal.Refusal.TheVariants as refusals
 use Rattle.sporc_line.specs.declared.fault.LineOpenFault.TheVariants as opens
 use Rattle.sporc_member.specs.declared.change.ChangeFault.TheVariants as changes
+use Rattle.sporc_outside.specs.declared.named_file.NamedFile.{NamedFile}
 use Rattle.sporc_files.specs.declared.fault.Fault.{Fault}
 use Rattle.sporc_files.specs.declared.fault.Fault.TheVariants as faults
 use Rattle.sporc_files.specs.declared.file.File.TheVariants as files
 use Rattle.sporc_files.specs.Faults.{fault_line, status_of}
 use Rattle.sporc_files.specs.Names.{FileNames, file_name}
+use Rattle.sporc_files.specs.Writing.{StoresFirst, file_with}
 
 -- a document, and the scripts of two editors
 abbrev trip : FileNames
@@ -46,6 +48,26 @@ second_script = refl
 
 no_third_script : file_name trip (files.Script 3) ≡ []
 no_third_script = refl
+
+-- ---- files that stand when the first of some were written
+
+-- a file of two bytes, and another of one
+abbrev key : NamedFile
+key = file_with trip (files.Key 7) (1 ∷ 2 ∷ [])
+
+abbrev leaves : NamedFile
+leaves = file_with trip (files.Leaf 7) (0 ∷ [])
+
+neither : StoresFirst (key ∷ leaves ∷ []) (Some []) (Some [])
+neither = inl refl
+
+one_of_two : StoresFirst (key ∷ leaves ∷ []) (Some []) (Some (key ∷ []))
+one_of_two = inr (inl refl)
+
+-- the first byte alone does not stand
+no_part : ¬ (StoresFirst (key ∷ []) (Some []) (Some (file_with trip (files.Key 7) (1 ∷ []) ∷ [])))
+no_part (inl same) = cc
+no_part (inr never) = never
 
 -- ---- statuses and lines
 

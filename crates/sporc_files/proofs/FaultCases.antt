@@ -5,12 +5,14 @@ use Rattle.sporc_outside.specs.Counts.{Rose}
 use Rattle.sporc_outside.specs.Files.{HasFile, HasNoFile, HasSomeFile, IsTooLong}
 use Rattle.sporc_outside.specs.declared.file_fault.TheConstants.{MAX_FILE}
 use Rattle.sporc_outside.specs.declared.named_file.NamedFile.{NamedFile}
+use Rattle.sporc_keys.specs.declared.fault.DrawFault.{DrawFault}
+use Rattle.sporc_keys.specs.declared.fault.DrawFault.TheVariants as drawing
 use Rattle.sporc_files.specs.declared.fault.Fault.{Fault}
 use Rattle.sporc_files.specs.declared.fault.Fault.TheVariants as faults
 use Rattle.sporc_files.specs.declared.file.File.{File}
 use Rattle.sporc_files.specs.Names.{FileNames, file_name}
 use Rattle.sporc_files.specs.Reading.{IsFileFault}
-use Rattle.sporc_files.specs.Faults.{IsOutsideFault}
+use Rattle.sporc_files.specs.Faults.{IsOutsideFault, fault_of_draw}
 use Rattle.sporc_files.specs.Writing.{IsNewFault}
 
 -- ---- a file that is read
@@ -131,3 +133,9 @@ write_case before after faults.FullFile never = absurd never
 write_case before after faults.Worn never = absurd never
 write_case before after (faults.Message at) never = absurd never
 write_case before after (faults.Edit e l f) never = absurd never
+
+-- ---- words that were not drawn
+
+pub draw_fault : (before after : ℕ) (fault : DrawFault) → (fault ≡ drawing.Chance → Rose before after) → IsOutsideFault before after (fault_of_draw fault)
+draw_fault before after drawing.Chance rose = rose refl
+draw_fault before after drawing.Memory rose = tt

@@ -9,6 +9,8 @@ use Rattle.sporc_outside.specs.declared.file_fault.FileFault.{FileFault}
 use Rattle.sporc_outside.specs.declared.file_fault.FileFault.TheVariants as filing
 use Rattle.sporc_epoch.specs.declared.fault.HintFault.{HintFault}
 use Rattle.sporc_epoch.specs.declared.fault.HintFault.TheVariants as hints
+use Rattle.sporc_keys.specs.declared.fault.DrawFault.{DrawFault}
+use Rattle.sporc_keys.specs.declared.fault.DrawFault.TheVariants as drawing
 use Rattle.sporc_line.specs.declared.fault.LineOpenFault.{LineOpenFault}
 use Rattle.sporc_line.specs.declared.fault.LineOpenFault.TheVariants as lines
 use Rattle.sporc_play.specs.declared.fault.PlayFault.{PlayFault}
@@ -133,6 +135,11 @@ fault_of_file file filing.Memory = faults.Memory
 abbrev pub fault_of_words : WordsFault → Fault
 fault_of_words reading.Memory = faults.Memory
 fault_of_words reading.Words = faults.Words
+
+-- why nothing was made of words of the chance
+abbrev pub fault_of_draw : DrawFault → Fault
+fault_of_draw drawing.Chance = faults.Outside
+fault_of_draw drawing.Memory = faults.Memory
 
 abbrev pub fault_of_play : PlayFault → Fault
 fault_of_play playing.Memory = faults.Memory

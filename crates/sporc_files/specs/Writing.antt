@@ -21,6 +21,11 @@ with_files files (f ∷ fs) = with_files (with_one files f) fs
 abbrev pub Stores : List NamedFile → Option (List NamedFile) → Option (List NamedFile) → Type 0
 Stores new before after = after ≡ option_map (λ files. with_files files new) before
 
+-- the first of these were written whole, some or none but not all, and nothing else was written
+abbrev pub StoresFirst : List NamedFile → Option (List NamedFile) → Option (List NamedFile) → Type 0
+StoresFirst [] before after = ⊥
+StoresFirst (f ∷ fs) before after = (after ≡ before) ⊎ StoresFirst fs (option_map (λ files. with_one files f) before) after
+
 -- some of these, from the first on, were written whole, of the next one anything may stand, and nothing else was written
 abbrev pub StoresPrefix : List NamedFile → Option (List NamedFile) → Option (List NamedFile) → Type 0
 StoresPrefix [] before after = after ≡ before

@@ -1,11 +1,12 @@
 // What the faults of the crates below are for the program.
 
 ghost use Rattle.std.specs.Prelude.{◌≡◌};
-ghost use Rattle.sporc_files.specs.Faults.{fault_of_hints, fault_of_line, fault_of_play, fault_of_saving, fault_of_words};
+ghost use Rattle.sporc_files.specs.Faults.{fault_of_draw, fault_of_hints, fault_of_line, fault_of_play, fault_of_saving, fault_of_words};
 ghost use Rattle.sporc_files.specs.declared.fault.Fault.TheVariants as faults;
 
 use crate::fault::Fault;
 use sporc_epoch::HintFault;
+use sporc_keys::DrawFault;
 use sporc_line::LineOpenFault;
 use sporc_outside::Failed;
 use sporc_play::PlayFault;
@@ -34,6 +35,17 @@ impl From<Failed> for Fault {
 
     fn from(_: Failed) -> Fault {
         Fault::Outside
+    }
+}
+
+impl From<DrawFault> for Fault {
+    ghost from_gives = { λ cause fault. fault ≡ fault_of_draw cause };
+
+    fn from(cause: DrawFault) -> Fault {
+        match cause {
+            DrawFault::Chance => Fault::Outside,
+            DrawFault::Memory => Fault::Memory,
+        }
     }
 }
 

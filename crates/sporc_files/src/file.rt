@@ -5,10 +5,9 @@ ghost use Rattle.sporc_files.specs.Arguments.{text_bytes};
 ghost use Rattle.sporc_files.specs.Names.{file_name, suffix_of};
 
 use crate::names::Names;
-use crate::text::Text;
+use crate::text::{Text, push_text};
 use sporc_base::Memory;
 use std::alloc::Global;
-use std::fmt::Write;
 
 /// A file of a command.
 #[derive(Clone, Copy, PartialEq, Eq)]
@@ -35,15 +34,7 @@ impl File {
         ensures ok { IfOk result (λ name. string_bytes name ≡ file_name names.now self) }
     {
         let mut name = String::from_str(alloc, names.stem(self))?;
-        match self {
-            File::Genesis => name.push_str(".genesis")?,
-            File::Key(member) => write!(name, ".{member}.key")?,
-            File::Leaf(member) => write!(name, ".{member}.leaf")?,
-            File::Ring(member) => write!(name, ".{member}.ring")?,
-            File::History(member) => write!(name, ".{member}.history")?,
-            File::Log => name.push_str(".log")?,
-            File::Script(_) => {}
-        }
+        push_text(&mut name, self.suffix())?;
         Ok(name)
     }
 

@@ -40,22 +40,16 @@ impl<'a> Names<'a> {
         }
     }
 
-    /// The name of the document.
-    pub fn document(&self) -> &'a str
-        ensures value { result.now ≡ self.now.document }
-    {
-        self.document
-    }
-
-    /// The name of the script of this editor, counted from 1. There is no name if there is no such script.
-    pub fn script(&self, editor: u32) -> &'a str
-        ensures value { result.now ≡ name_of_script self.now editor }
+    // The name of the script of this editor, counted from 1. There is no name if there is no such script.
+    fn script(&self, editor: u32) -> &'a str
+        ensures { result.now ≡ name_of_script self.now editor }
     {
         match self.scripts.get((editor as usize).saturating_sub(1)) {
             Some(word) => word.as_str(),
             None => "",
         }
     }
+
     /// What the name of a file begins with: the name of the document, unless it is a script.
     pub fn stem(&self, file: File) -> &'a str
         ensures value { result.now ≡ stem_of self.now file }

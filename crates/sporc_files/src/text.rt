@@ -1,6 +1,6 @@
-// Short texts, which are written without memory.
+// Short texts, which are written without memory, or appended to a string.
 
-ghost use Rattle.std.specs.Prelude.{◌≡◌, ◌++◌, Some, None, OnOk, OnErr};
+ghost use Rattle.std.specs.Prelude.{◌≡◌, ◌++◌, Some, None, OnOk, OnErr, string_bytes};
 ghost use Rattle.std.specs.Fmt.{decimal};
 ghost use Rattle.std.specs.Io.KnownBytes.{Appends};
 ghost use Rattle.sporc_outside.specs.Counts.{CountsFaults};
@@ -8,7 +8,9 @@ ghost use Rattle.sporc_outside.specs.Writing.{AppendsPrefix};
 ghost use Rattle.sporc_files.specs.Arguments.{number_bytes, text_bytes};
 
 use itoa::Buffer;
+use sporc_base::Memory;
 use sporc_outside::{Failed, Sink, write_all};
+use std::fmt::Write;
 
 // A text that may have a number in it.
 #[derive(Clone, Copy)]
@@ -39,6 +41,25 @@ impl Text {
             number: Some(number),
             behind,
         }
+    }
+}
+
+// Appends a text.
+pub(crate) fn push_text(string: &mut String, text: Text) -> Result<(), Memory>
+    ensures { OnOk result (string_bytes string.new ≡ string_bytes string.old ++ text_bytes text) }
+{
+    string.push_str(text.before)?;
+    push_number(string, text.number)?;
+    string.push_str(text.behind)
+}
+
+// Appends a number, if there is one.
+fn push_number(string: &mut String, number: Option<u64>) -> Result<(), Memory>
+    ensures { OnOk result (string_bytes string.new ≡ string_bytes string.old ++ number_bytes number) }
+{
+    match number {
+        Some(number) => write!(string, "{number}"),
+        None => Ok(()),
     }
 }
 

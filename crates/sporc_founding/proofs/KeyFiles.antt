@@ -1,23 +1,15 @@
 -- What stands of a key's files.
-use Rattle.std.proofs.Common.{◌≡◌, ℕ, List, [], ◌∷◌, Bool, true, false, Option, Some, None, option_map, Result, Ok, Err, inl, refl, ap, ◌∙◌, subst}
+use Rattle.std.proofs.Common.{◌≡◌, ℕ, List, [], ◌∷◌, Bool, true, false, Option, Some, None, option_map, Result, Ok, Err, refl, ap, ◌∙◌, subst}
 use Rattle.std.specs.Result.{OnOk}
 use Rattle.std.specs.Str.{bytes_eq}
-use Rattle.sporc_outside.specs.Files.{ChangesFile, HasNoFile, file_in, with_file}
+use Rattle.sporc_outside.specs.Files.{HasNoFile, file_in, with_file}
 use Rattle.sporc_outside.specs.declared.named_file.NamedFile.{NamedFile}
 use Rattle.sporc_keys.specs.declared.new_key.NewKey.{NewKey}
 use Rattle.sporc_keys.specs.KeyFile.{key_file_bytes}
-use Rattle.sporc_files.specs.declared.fault.Fault.{Fault}
 use Rattle.sporc_files.specs.declared.file.File.TheVariants as files
 use Rattle.sporc_files.specs.Names.{FileNames, file_name}
-use Rattle.sporc_files.specs.Writing.{IsNewFault, LeavesFile, Stores, file_with, with_files}
-use Rattle.sporc_files.proofs.FaultCases.{NewCase, NewMemory, NewFailed, NewThere, new_case}
-use Rattle.sporc_founding.specs.KeyMaking.{IsFilesFault, StoresKey}
-
--- nothing changed
-pub unchanged : (before after : Option (List NamedFile)) (name : List ℕ) → after ≡ before → ChangesFile before after name
-unchanged None after name same = tt
-unchanged (Some files) None name same = absurd cc
-unchanged (Some files) (Some more) name same = λ other apart. let e : more ≡ files = cc in ap (λ fs. file_in fs other) e
+use Rattle.sporc_files.specs.Writing.{Stores, file_with, with_files}
+use Rattle.sporc_founding.specs.KeyMaking.{StoresKey}
 
 -- a file that is not there after another was written was not there before
 none_before : (fs : List NamedFile) (name bytes other : List ℕ) → file_in (with_file fs name bytes) other ≡ None → file_in fs other ≡ None
@@ -40,20 +32,6 @@ stored_both : (before between after : Option (List NamedFile)) (one other : Name
     → Stores (one ∷ other ∷ []) before after
 stored_both None between after one other stored last = last ∙ ap (λ (o : Option (List NamedFile)). option_map (λ files. with_files files (other ∷ [])) o) stored
 stored_both (Some files) between after one other stored last = last ∙ ap (λ (o : Option (List NamedFile)). option_map (λ fs. with_files fs (other ∷ [])) o) stored
-
-module _ (names : FileNames) (key : NewKey) (before between after : Option (List NamedFile)) (low mid high : ℕ) where
-  abbrev pub key_name : List ℕ
-  key_name = file_name names (files.Key key.file.member)
-
-  -- the key file was not written
-  at_key : (fault : Fault) → NewCase before low high names (files.Key key.file.member) fault → LeavesFile key_name before after fault → IsFilesFault names key before after low high fault
-  at_key fault NewMemory left = inl (unchanged before after key_name left)
-  at_key fault (NewFailed rose) left = (rose, inl left)
-  at_key fault (NewThere there) left = (refl, there, left)
-
-  pub key_fails : (fault : Fault) → IsNewFault before low high names (files.Key key.file.member) fault → LeavesFile key_name before after fault
-      → IsFilesFault names key before after low high fault
-  key_fails fault why left = at_key fault (new_case before low high names (files.Key key.file.member) fault why) left
 
 -- of two facts of one result
 pub on_ok : {T E : Type 0} (r : Result T E) (P Q R : Type 0) → (P → Q → R) → OnOk r P → OnOk r Q → OnOk r R

@@ -4,3 +4,4 @@ pub mod MayFound
 pub mod Asking
 pub mod Named
 pub mod RingLoop
+pub mod StoreFaults

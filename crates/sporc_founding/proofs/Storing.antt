@@ -1,15 +1,9 @@
 -- Files that are written one after another.
-use Rattle.std.proofs.Common.{◌≡◌, ℕ, suc, ◌<◌, List, [], ◌∷◌, ◌++◌, length, map, take, drop, get_or, Option, Some, None, option_map, inl, inr, refl, sym, ap, ◌∙◌, subst}
+use Rattle.std.proofs.Common.{◌≡◌, ℕ, suc, ◌<◌, List, [], ◌∷◌, ◌++◌, length, map, take, drop, get_or, Option, Some, None, option_map, inr, refl, sym, ap, ◌∙◌, subst}
 use Rattle.std.proofs.Math.Seq.{drop-cons, take-suc}
 use Rattle.std.proofs.lemmas.List.{map-append, take-append-drop}
 use Rattle.sporc_outside.specs.declared.named_file.NamedFile.{NamedFile}
-use Rattle.sporc_files.specs.Writing.{Stores, StoresPrefix, with_files, with_one}
-use Rattle.sporc_founding.proofs.KeyFiles.{unchanged}
-
--- nothing was written
-pub none_stored : (new : List NamedFile) (before after : Option (List NamedFile)) → after ≡ before → StoresPrefix new before after
-none_stored [] before after same = same
-none_stored (f ∷ fs) before after same = inl (unchanged before after f.name same)
+use Rattle.sporc_files.specs.Writing.{Stores, StoresFirst, StoresPrefix, with_files, with_one}
 
 pub none_yet : (before : Option (List NamedFile)) → Stores [] before before
 none_yet None = refl
@@ -30,6 +24,13 @@ pub stored_then : (new more : List NamedFile) (before between after : Option (Li
 stored_then [] more before between after stored then = subst (λ (o : Option (List NamedFile)). StoresPrefix more o after) (before_all before between stored) then
 stored_then (f ∷ fs) more before between after stored then =
     inr (stored_then fs more (option_map (λ files. with_one files f) before) between after (behind_first f fs before between stored) then)
+
+-- some, and then the first of others
+pub first_then : (new more : List NamedFile) (before between after : Option (List NamedFile)) → Stores new before between → StoresFirst more between after
+    → StoresFirst (new ++ more) before after
+first_then [] more before between after stored then = subst (λ (o : Option (List NamedFile)). StoresFirst more o after) (before_all before between stored) then
+first_then (f ∷ fs) more before between after stored then =
+    inr (first_then fs more (option_map (λ files. with_one files f) before) between after (behind_first f fs before between stored) then)
 
 -- some, and then others
 with_all : (new more files : List NamedFile) → with_files files (new ++ more) ≡ with_files (with_files files new) more

@@ -24,7 +24,7 @@ use Rattle.sporc_files.specs.declared.file.File.TheVariants as files
 use Rattle.sporc_files.specs.Names.{FileNames, file_name, names_of_document}
 use Rattle.sporc_files.specs.Reading.{IsFileFault, SaysFile, key_file}
 use Rattle.sporc_files.specs.Uses.{ChanceUse, FolderUse}
-use Rattle.sporc_files.specs.Writing.{Stores, StoresPrefix, file_with}
+use Rattle.sporc_files.specs.Writing.{Stores, StoresFirst, StoresPrefix, file_with}
 use Rattle.sporc_files.specs.Faults.{IsOutsideFault}
 
 -- words that may found a document
@@ -87,9 +87,9 @@ rings_written participants = map (λ p. files.Ring p.member) participants
 abbrev pub found_files : List Participant → List File
 found_files participants = keys_read participants ++ (files.Genesis ∷ rings_written participants)
 
--- why not all files were written, and what stands
+-- why not all files were written, and what stands: only if a call failed may anything stand of the file that it was to write
 abbrev pub IsStoreFault : List NamedFile → Option (List NamedFile) → Option (List NamedFile) → ℕ → ℕ → Fault → Type 0
-IsStoreFault new before after low high faults.Memory = StoresPrefix new before after
+IsStoreFault new before after low high faults.Memory = StoresFirst new before after
 IsStoreFault new before after low high faults.Outside = Rose low high × StoresPrefix new before after
 IsStoreFault new before after low high fault = ⊥
 
@@ -105,6 +105,8 @@ pub record Founds (asked : Found) (files : FolderUse) (chance : ChanceUse) : Typ
 
 -- no key file of a founder is bad, and nothing was made of the words of the chance
 pub record FailsAtChance (asked : Found) (files : FolderUse) (chance : ChanceUse) (fault : Fault) : Type 0 where
+  pub named : List Named
+  pub read : AreNamed files.files_before (names_of_document asked.name) asked.participants named
   pub cause : IsOutsideFault chance.faults_before chance.faults_after fault
   pub stand : files.files_after ≡ files.files_before
 

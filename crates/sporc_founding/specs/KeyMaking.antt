@@ -5,7 +5,7 @@ use Rattle.std.specs.Io.KnownBytes.{Appends}
 use Rattle.lms_tree.specs.declared.public_key.LmsPublic.{LmsPublic}
 use Rattle.lms_tree.specs.LmsPublic.{public_key_bytes}
 use Rattle.sporc_outside.specs.Counts.{Rose}
-use Rattle.sporc_outside.specs.Files.{HasNoFile, HasSomeFile}
+use Rattle.sporc_outside.specs.Files.{ChangesFile, HasNoFile, HasSomeFile}
 use Rattle.sporc_outside.specs.Uses.{SinkUse}
 use Rattle.sporc_outside.specs.Writing.{AppendsPrefix}
 use Rattle.sporc_outside.specs.declared.named_file.NamedFile.{NamedFile}
@@ -19,7 +19,7 @@ use Rattle.sporc_files.specs.declared.file.File.TheVariants as files
 use Rattle.sporc_files.specs.Faults.{IsOutsideFault}
 use Rattle.sporc_files.specs.Names.{FileNames, file_name, names_of_document}
 use Rattle.sporc_files.specs.Uses.{ChanceUse, FolderUse}
-use Rattle.sporc_files.specs.Writing.{Stores, StoresPrefix, file_with}
+use Rattle.sporc_files.specs.Writing.{Stores, file_with}
 use Rattle.sporc_words.specs.declared.keygen.Keygen.{Keygen}
 
 -- the names of the files of a key
@@ -44,19 +44,30 @@ pub record StoresKey (names : FileNames) (key : NewKey) (before after : Option (
   pub new_leaves : HasNoFile before (file_name names (files.Leaf key.file.member))
   pub stored : Stores (key_files names key) before after
 
+-- the key file is new, and was written, and nothing else was
+pub record StoresKeyFile (names : FileNames) (key : NewKey) (before after : Option (List NamedFile)) : Type 0 where
+  pub new_key : HasNoFile before (file_name names (files.Key key.file.member))
+  pub stored : Stores (file_with names (files.Key key.file.member) (key_file_bytes key.file) ∷ []) before after
+
 -- there is a key file, and nothing was written; or there is a leaf file, and the key file alone was written
 abbrev pub IsThere : FileNames → NewKey → Option (List NamedFile) → Option (List NamedFile) → File → Type 0
 IsThere names key before after (files.Key member) =
     (member ≡ key.file.member) × HasSomeFile before (file_name names (files.Key member)) × (after ≡ before)
 IsThere names key before after (files.Leaf member) =
-    (member ≡ key.file.member) × HasNoFile before (file_name names (files.Key member)) × HasSomeFile after (file_name names (files.Leaf member))
-    × Stores (file_with names (files.Key member) (key_file_bytes key.file) ∷ []) before after
+    (member ≡ key.file.member) × HasSomeFile after (file_name names (files.Leaf member)) × StoresKeyFile names key before after
 IsThere names key before after other = ⊥
 
--- why not both files were written, where the folder's count of faults went from `low` to `high`, and what stands
+-- anything may stand of the key file, and nothing else changed; or the key file is new, and was written, and anything may stand of the leaf file
+abbrev pub StoresInPart : FileNames → NewKey → Option (List NamedFile) → Option (List NamedFile) → Type 0
+StoresInPart names key before after =
+    ChangesFile before after (file_name names (files.Key key.file.member))
+    ⊎ ((between : Option (List NamedFile)) × StoresKeyFile names key before between × ChangesFile between after (file_name names (files.Leaf key.file.member)))
+
+-- why not both files were written, where the folder's count of faults went from `low` to `high`, and what stands: if memory ran out,
+-- what stood before, or the key file too
 abbrev pub IsFilesFault : FileNames → NewKey → Option (List NamedFile) → Option (List NamedFile) → ℕ → ℕ → Fault → Type 0
-IsFilesFault names key before after low high faults.Memory = StoresPrefix (key_files names key) before after
-IsFilesFault names key before after low high faults.Outside = Rose low high × StoresPrefix (key_files names key) before after
+IsFilesFault names key before after low high faults.Memory = (after ≡ before) ⊎ StoresKeyFile names key before after
+IsFilesFault names key before after low high faults.Outside = Rose low high × StoresInPart names key before after
 IsFilesFault names key before after low high (faults.Exists file) = IsThere names key before after file
 IsFilesFault names key before after low high fault = ⊥
 

@@ -16,7 +16,7 @@ ghost use Rattle.sporc_files.specs.Faults.{IsOutsideFault};
 
 use sporc_entry::write_genesis;
 use sporc_files::{Fault, File, Names, read_key_file, write_whole_file};
-use sporc_keys::{DrawFault, Founding, Named, RingFile, write_ring_file};
+use sporc_keys::{Founding, Named, RingFile, write_ring_file};
 use sporc_outside::{Chance, Folder};
 use sporc_words::{Found, Participant, Standing};
 use std::alloc::Global;
@@ -110,8 +110,7 @@ fn make_founding<C: Chance>(
 {
     match sporc_keys::found(alloc, chance, named) {
         Ok(founding) => Ok(founding),
-        Err(DrawFault::Chance) => Err(Fault::Outside),
-        Err(DrawFault::Memory) => Err(Fault::Memory),
+        Err(fault) => Err(Fault::from(fault)),
     }
 }
 

@@ -14,7 +14,7 @@ ghost use Rattle.sporc_founding.specs.KeyMaking.{IsFilesFault, KeygenOutcome, St
 use lms_tree::LmsPublic;
 use sporc_base::Memory;
 use sporc_files::{Fault, File, Names, write_new_file};
-use sporc_keys::{DrawFault, NewKey, write_key_file};
+use sporc_keys::{NewKey, write_key_file};
 use sporc_outside::{Chance, Folder, Sink, write_all};
 use sporc_words::Keygen;
 use std::alloc::Global;
@@ -61,8 +61,7 @@ fn make_key<C: Chance>(alloc: Global, chance: &mut C, asked: &Keygen) -> Result<
 {
     match sporc_keys::keygen(alloc, chance, asked.member, asked.height, asked.width) {
         Ok(key) => Ok(key),
-        Err(DrawFault::Chance) => Err(Fault::Outside),
-        Err(DrawFault::Memory) => Err(Fault::Memory),
+        Err(fault) => Err(Fault::from(fault)),
     }
 }
 

@@ -1,12 +1,24 @@
 use Rattle.std.proofs.Common.{ap, ◌∙◌}
+use Rattle.std.proofs.lemmas.Result.{err_from_is_err_and}
 use Rattle.sporc_files.specs.Names.{names_of_document}
+use Rattle.sporc_files.specs.Uses.{chance_use, folder_use}
 use Rattle.sporc_founding.proofs.Asking.{found_asks_all, found_asks_keys}
 use Rattle.sporc_founding.proofs.MayFound.{can_found}
+use Rattle.sporc_founding.proofs.StoreFaults.{write_fails}
 use Rattle.sporc_founding.proofs.founding.found.Goals as goal
 
 pub make_founding-requires : goal.make_founding-requires
 make_founding-requires g c =
     rw c.as_slice-2.ensures.value (can_found (g.F.Folder.files c.args.files.now) c.of_document-names.result c.args.asked.now c.in_ok-named.named.items c.requires (rw c.as_slice.ensures.value at c.in_ok-named.ensures.ok))
+
+pub returns-in_err-write_founding-clause-outcome : goal.returns-in_err-write_founding-clause-outcome
+returns-in_err-write_founding-clause-outcome g c =
+    let p = err_from_is_err_and c.from_residual-in_err-write_founding.result c.from_residual-in_err-write_founding.ensures.1 in
+    write_fails c.from_residual-in_err-write_founding.result c.args.asked.now
+    (folder_use g.F.Folder.files g.F.Folder.asked g.F.Folder.lent g.F.Counted.faults c.args.files.now c.write_founding.new.files)
+    (chance_use g.C.Chance.given g.C.Counted.faults c.args.chance.now c.make_founding.new.chance) _ _ p.1 p.2 c.of_document-names.result c.as_slice.result.now _ _ c.in_ok-named.named.items c.in_ok-founding.founding
+    (c.of_document-names.ensures.value ∙ ap names_of_document c.as_str.ensures.value) c.as_slice.ensures.value c.read_founders.ensures.files c.read_founders.ensures.kept
+    c.in_ok-named.ensures.ok (rw c.as_slice-2.ensures.value at c.in_ok-founding.ensures.ok) c.in_err-write_founding.ensures.err
 
 pub returns-in_err-named-clause-may_ask : goal.returns-in_err-named-clause-may_ask
 returns-in_err-named-clause-may_ask g c =

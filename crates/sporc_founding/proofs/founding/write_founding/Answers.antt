@@ -5,7 +5,7 @@ use Rattle.sporc_files.specs.Names.{file_name}
 use Rattle.sporc_files.specs.Writing.{file_with}
 use Rattle.sporc_files.proofs.Asking.{AsksOnly-none, asks_first, asks_then}
 use Rattle.sporc_founding.specs.Founding.{founding_files, names_in, ring_of_founding}
-use Rattle.sporc_founding.proofs.RingLoop.{behind_err}
+use Rattle.sporc_founding.proofs.StoreFaults.{behind_err}
 use Rattle.sporc_founding.proofs.founding.write_founding.Goals as goal
 
 pub returns-clause-err : goal.returns-clause-err

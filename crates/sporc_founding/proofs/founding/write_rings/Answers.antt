@@ -10,7 +10,7 @@ use Rattle.sporc_founding.proofs.founding.write_rings.Goals as goal
 pub returns-in_err-bytes-clause-err : goal.returns-in_err-bytes-clause-err
 returns-in_err-bytes-clause-err g c =
     let p = err_from_is_err_and c.from_residual.result c.from_residual.ensures.1 in
-    if_err _ _ _ _ p.1 p.2 (others_not c.args.names.now c.args.rings.now c.loop-ring.ring-index _ _ c.loop-ring.invariant.stored (g.F.Folder.files c.loop-ring.files) refl)
+    if_err _ _ _ _ p.1 p.2 (others_not c.args.names.now c.args.rings.now c.loop-ring.ring-index _ _ c.loop-ring.invariant.stored c.ring-item.result c.loop-ring-test.true (g.F.Folder.files c.loop-ring.files) refl)
 
 pub returns-in_err-write_whole_file-clause-err : goal.returns-in_err-write_whole_file-clause-err
 returns-in_err-write_whole_file-clause-err g c =

@@ -1,0 +1,82 @@
+-- Why not all files of a document were written, case by case.
+use Rattle.std.proofs.Common.{◌≡◌, ℕ, ◌≤◌, List, [], ◌∷◌, Option, Result, Ok, Err, inr, subst, arith}
+use Rattle.std.specs.Result.{IfErr}
+use Rattle.sporc_outside.specs.Counts.{Rose}
+use Rattle.sporc_outside.specs.declared.named_file.NamedFile.{NamedFile}
+use Rattle.sporc_keys.specs.declared.founding.Founding.{Founding}
+use Rattle.sporc_keys.specs.declared.named.Named.{Named}
+use Rattle.sporc_keys.specs.Founding.{IsFounding, in_order}
+use Rattle.sporc_words.specs.declared.found.Found.{Found}
+use Rattle.sporc_words.specs.declared.founding.Participant.{Participant}
+use Rattle.sporc_files.specs.declared.fault.Fault.{Fault}
+use Rattle.sporc_files.specs.declared.fault.Fault.TheVariants as faults
+use Rattle.sporc_files.specs.Names.{FileNames, names_of_document}
+use Rattle.sporc_files.specs.Uses.{ChanceUse, FolderUse}
+use Rattle.sporc_files.specs.Writing.{Stores, StoresFirst, StoresPrefix}
+use Rattle.sporc_founding.specs.Founding.{AreNamed, FoundOutcome, IsStoreFault, founding_files}
+use Rattle.sporc_founding.proofs.Storing.{first_then, stored_then}
+
+data StoreCase (new : List NamedFile) (before after : Option (List NamedFile)) (low high : ℕ) : Fault → Type 0 where
+  StoreMemory : StoresFirst new before after → StoreCase new before after low high faults.Memory
+  StoreFailed : Rose low high → StoresPrefix new before after → StoreCase new before after low high faults.Outside
+
+module _ (new : List NamedFile) (before after : Option (List NamedFile)) (low high : ℕ) where
+  store_case : (fault : Fault) → IsStoreFault new before after low high fault → StoreCase new before after low high fault
+  store_case faults.Memory left = StoreMemory left
+  store_case faults.Words never = absurd never
+  store_case (faults.Missing f) never = absurd never
+  store_case (faults.Exists f) never = absurd never
+  store_case (faults.TooLong f) never = absurd never
+  store_case (faults.Malformed f at) never = absurd never
+  store_case (faults.Line l) never = absurd never
+  store_case (faults.EditorLine e l) never = absurd never
+  store_case faults.LongScript never = absurd never
+  store_case (faults.Refused p r) never = absurd never
+  store_case (faults.Rejected r) never = absurd never
+  store_case (faults.Hints h) never = absurd never
+  store_case (faults.Opening o) never = absurd never
+  store_case (faults.Unsettled n p) never = absurd never
+  store_case (faults.LinkEnded t) never = absurd never
+  store_case faults.Outside (rose, left) = StoreFailed rose left
+  store_case (faults.Leaf n) never = absurd never
+  store_case faults.FullHistory never = absurd never
+  store_case faults.FullJournal never = absurd never
+  store_case faults.FullFile never = absurd never
+  store_case faults.Worn never = absurd never
+  store_case (faults.Message at) never = absurd never
+  store_case (faults.Edit e l f) never = absurd never
+
+-- behind a file that was written
+module _ (f : NamedFile) (new : List NamedFile) (before between after : Option (List NamedFile)) (low mid high : ℕ) (stored : Stores (f ∷ []) before between) (more : low ≤ mid) where
+  behind : (fault : Fault) → StoreCase new between after mid high fault → IsStoreFault (f ∷ new) before after low high fault
+  behind fault (StoreMemory left) = first_then (f ∷ []) new before between after stored left
+  behind fault (StoreFailed rose left) = (omega (arith, rose, more), stored_then (f ∷ []) new before between after stored left)
+
+  pub behind_err : {T : Type 0} (r : Result T Fault) → IfErr r (IsStoreFault new between after mid high) → IfErr r (IsStoreFault (f ∷ new) before after low high)
+  behind_err (Ok done) failed = tt
+  behind_err (Err fault) failed = behind fault (store_case new between after mid high fault failed)
+
+-- of a folder whose count of faults had risen before
+later : (new : List NamedFile) (before after : Option (List NamedFile)) (low mid high : ℕ) (fault : Fault) → low ≤ mid → StoreCase new before after mid high fault
+    → IsStoreFault new before after low high fault
+later new before after low mid high fault more (StoreMemory left) = left
+later new before after low mid high fault more (StoreFailed rose left) = (omega (arith, rose, more), left)
+
+-- what `found` did if not all files were written
+module _ {T : Type 0} (r : Result T Fault) (asked : Found) (files : FolderUse) (chance : ChanceUse) (y fault : Fault) (is : r ≡ Err y) (same : y ≡ fault) where
+  pub write_fails : (n : FileNames) (qs : List Participant) (between : Option (List NamedFile)) (mid : ℕ) (named : List Named) (founding : Founding) → n ≡ names_of_document asked.name
+      → qs ≡ asked.participants → between ≡ files.files_before → files.faults_before ≤ mid → AreNamed files.files_before n qs named
+      → IsFounding chance.given_before chance.given_after (in_order named) founding
+      → IsStoreFault (founding_files n founding) between files.files_after mid files.faults_after fault → FoundOutcome asked files chance r
+  write_fails n qs between mid named founding said those stand more read made cause =
+      let here = subst (λ (told : Option (List NamedFile)). IsStoreFault (founding_files n founding) told files.files_after mid files.faults_after fault) stand cause in
+      let all = later (founding_files n founding) files.files_before files.files_after files.faults_before mid files.faults_after fault more
+      (store_case (founding_files n founding) files.files_before files.files_after mid files.faults_after fault here) in
+      rw (is, same) (inr (inr (record {
+        named = named;
+        read = subst (λ (m : FileNames). AreNamed files.files_before m asked.participants named) said
+            (subst (λ (ps : List Participant). AreNamed files.files_before n ps named) those read);
+        founding = founding;
+        made = made;
+        cause = subst (λ (m : FileNames). IsStoreFault (founding_files m founding) files.files_before files.files_after files.faults_before files.faults_after fault) said all;
+      })))
