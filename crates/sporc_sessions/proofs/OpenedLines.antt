@@ -18,7 +18,7 @@ use Rattle.sporc_sessions.specs.declared.hinting.HintsFault.TheVariants as hinti
 use Rattle.sporc_sessions.specs.declared.opening.OpenFault.{OpenFault}
 use Rattle.sporc_sessions.specs.declared.opening.OpenFault.TheVariants as faults
 use Rattle.sporc_sessions.specs.Hinting.{hints_by}
-use Rattle.sporc_sessions.specs.Nets.{LinkView, NetTold}
+use Rattle.sporc_sessions.specs.Nets.{LinkView, MakesNoLink, NetTold}
 use Rattle.sporc_sessions.specs.Opening.{Begin, Fetches, HasKeys, IsOpenFault, Opens, joins, no_hints, not_opened, shared_of, unreached}
 
 -- an answer that is a value
@@ -63,12 +63,13 @@ module _ {L : Type 0} (view : LinkView L) (begin : Begin) (old new : NetTold L) 
   pub not_joined : {X : Type 0} (seen : X → Keys) (pairs : Keys) (before after : ℕ) (fault : HintsFault) → begin.ring.epoch_key ≡ None → pairs ≡ shared_of begin
       → (failed X fault ≢ failed X hinting.Unreached → (fetched : Result (List (List ℕ)) SessionFault) × Fetches view begin old new fetched
       × GivesUnless (hinting.Hints hint_faults.Memory) seen (failed X fault) (hints_by begin.member pairs fetched))
-      → (failed X fault ≡ failed X hinting.Unreached → Rose before after) → IsOpenFault view begin old new before after (faults.Hints fault)
-  not_joined seen pairs before after hinting.Unreached none same hints rose = unreached none (rose refl) refl
-  not_joined seen pairs before after (hinting.Link fault) none same hints rose =
+      → (failed X fault ≡ failed X hinting.Unreached → MakesNoLink old new begin.address) → (failed X fault ≡ failed X hinting.Unreached → Rose before after)
+      → IsOpenFault view begin old new before after (faults.Hints fault)
+  not_joined seen pairs before after hinting.Unreached none same hints no_link rose = unreached none (no_link refl) (rose refl) refl
+  not_joined seen pairs before after (hinting.Link fault) none same hints no_link rose =
       let (fetched, fetch, gives) = hints (λ e. subst WasReached e tt) in
       no_hints none fetch refl (λ other. subst (λ (p : Keys). hints_by begin.member p fetched ≡ Err (hinting.Link fault)) same (gives other))
-  not_joined seen pairs before after (hinting.Hints fault) none same hints rose =
+  not_joined seen pairs before after (hinting.Hints fault) none same hints no_link rose =
       let (fetched, fetch, gives) = hints (λ e. subst WasReached e tt) in
       no_hints none fetch refl (λ other. subst (λ (p : Keys). hints_by begin.member p fetched ≡ Err (hinting.Hints fault)) same (gives other))
 

@@ -37,10 +37,13 @@ session_of plan before after first last inbox found left result opened session c
     record { known = last; inbox = inbox; session = s; seen = sym closed; events = t.0; goes_on = t.1; allowed = allowed }
 
 -- a link that was shut tells what it told
+pub told_again : (old new : LinkTold) → new.written ≡ old.written → new.left ≡ old.left → new.faults ≡ old.faults → new ≡ old
+told_again old new written left faults i = record { written = written i; left = left i; faults = faults i }
+
 pub over_same_link : (plan : Plan) (before after : Past) (found : Around) (chance : ChanceTold) (result : Result ⊤ SessionFault)
     (old new : LinkTold) → new.written ≡ old.written → new.left ≡ old.left → new.faults ≡ old.faults
     → IsSessionOf plan before after found (record { link = old; chance = chance }) result
     → IsSessionOf plan before after found (record { link = new; chance = chance }) result
 over_same_link plan before after found chance result old new written left faults session =
     subst (λ (l : LinkTold). IsSessionOf plan before after found (record { link = l; chance = chance }) result)
-    (λ i. record { written = sym written i; left = sym left i; faults = sym faults i }) session
+    (sym (told_again old new written left faults)) session

@@ -14,7 +14,7 @@ use Rattle.sporc_sessions.specs.declared.attending.AttendFault.{AttendFault}
 use Rattle.sporc_sessions.specs.declared.attending.AttendFault.TheVariants as faults
 use Rattle.sporc_sessions.specs.declared.opening.OpenFault.{OpenFault}
 use Rattle.sporc_sessions.specs.declared.resuming.ResumeFault.TheVariants as resuming
-use Rattle.sporc_sessions.specs.Nets.{IsWork, LinkView, NetTold}
+use Rattle.sporc_sessions.specs.Nets.{IsWork, LinkView, MakesNoLink, NetTold, ShutsUnused}
 use Rattle.sporc_sessions.specs.Opening.{Begin, IsOpenFault, Opens}
 use Rattle.sporc_sessions.specs.Resuming.{StopsBefore, loaded_from}
 use Rattle.sporc_sessions.specs.Sessions.{ChanceTold, Plan}
@@ -36,20 +36,31 @@ past_with line signs entries = record {
   log = log_of_entries entries;
 }
 
-module _ {L : Type 0} (view : LinkView L) (begin : Begin) (saved : Option (List ℕ)) (old new : NetTold L) where
-  -- The member's line was opened, all entries of its saved history were loaded, and a session led its client from there to another past
-  pub record IsAttended (plan : Plan) (signs : Signs) (after : Past) (chance chance' : ChanceTold) (result : Result ⊤ SessionFault) : Type 0 where
-    pub between : NetTold L
+module _ {L : Type 0} (view : LinkView L) (begin : Begin) (saved : Option (List ℕ)) (old : NetTold L) where
+  -- the member's line was opened, and all entries of its saved history were loaded
+  pub record IsResumed (between : NetTold L) : Type 0 where
     pub line : LineModel
     pub opens : Opens view begin old between line
     pub entries : List (List ℕ)
     pub loaded : loaded_of line saved ≡ read_to entries End
-    pub work : IsWork view plan begin.address (past_with line signs entries) after between new chance chance' result
 
-  -- why no session began, where the net's count of faults went from `before` to `after`. Memory may run out at any time
-  pub data NotAttended (before after : ℕ) (fault : AttendFault) : Type 0 where
-    not_opened : {cause : OpenFault} → IsOpenFault view begin old new before after cause → fault ≡ faults.Open cause → NotAttended before after fault
-    stopped : {line : LineModel} {stop : Stop} → Opens view begin old new line → StopsBefore (loaded_of line saved).stop (resuming.Stopped stop) → fault ≡ faults.Stopped stop
-        → NotAttended before after fault
-    unreached : Rose before after → fault ≡ faults.Unreached → NotAttended before after fault
-    out_of_memory : fault ≡ faults.Memory → NotAttended before after fault
+  module _ (new : NetTold L) where
+    -- and a session led its client from there to another past
+    pub record IsAttended (plan : Plan) (signs : Signs) (after : Past) (chance chance' : ChanceTold) (result : Result ⊤ SessionFault) : Type 0 where
+      pub between : NetTold L
+      pub resumed : IsResumed between
+      pub work : IsWork view plan begin.address (past_with resumed.line signs resumed.entries) after between new chance chance' result
+
+    -- Why no session began, where the net's count of faults went from `before` to `after`. Memory may run out at any time
+    pub data NotAttended (before after : ℕ) (fault : AttendFault) : Type 0 where
+      -- the member's line was not opened
+      not_opened : {cause : OpenFault} → IsOpenFault view begin old new before after cause → fault ≡ faults.Open cause → NotAttended before after fault
+      -- the loading of its saved history stopped before the end
+      stopped : {line : LineModel} {stop : Stop} → Opens view begin old new line → StopsBefore (loaded_of line saved).stop (resuming.Stopped stop) → fault ≡ faults.Stopped stop
+          → NotAttended before after fault
+      -- memory ran out as it was loaded
+      not_resumed : {line : LineModel} → Opens view begin old new line → fault ≡ faults.Memory → NotAttended before after fault
+      -- no link was made for the session
+      unreached : {between : NetTold L} → IsResumed between → MakesNoLink between new begin.address → Rose before after → fault ≡ faults.Unreached → NotAttended before after fault
+      -- memory ran out once it was made
+      not_begun : {between : NetTold L} → IsResumed between → ShutsUnused view between new begin.address → fault ≡ faults.Memory → NotAttended before after fault

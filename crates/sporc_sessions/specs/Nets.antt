@@ -1,7 +1,8 @@
 -- A link that a net hands out and takes back.
 use Rattle.std.specs.Prelude.{◌≡◌, ◌≤◌, ℕ, List, ◌++◌, replicate, Bool, Option, None, Some, Result, ⊤}
+use Rattle.std.specs.List.{All}
 use Rattle.sporc_outside.specs.Counts.{count_of_both}
-use Rattle.sporc_outside.specs.Told.{AppendsItem, IsTrueIfTold, TakesItem}
+use Rattle.sporc_outside.specs.Told.{AppendsItem, IsTrueIfTold, MayAppend, TakesItem}
 use Rattle.sporc_shared.specs.declared.fault.SessionFault.{SessionFault}
 use Rattle.sporc_shared.specs.Items.{Past}
 use Rattle.sporc_sessions.specs.Sessions.{ChanceTold, IsSessionOf, LinkTold, Plan, link_told}
@@ -23,6 +24,12 @@ AsksAtMost most None after address = Unit {0}
 AsksAtMost most (Some asked) None address = ⊥
 AsksAtMost most (Some asked) (Some more) address = (times : ℕ) × (times ≤ most) × (more ≡ asked ++ replicate times address)
 
+-- told links went behind those that were handed back before, and each of them is shut where it tells that
+abbrev pub AreShutBehind : {L : Type 0} → (L → Option Bool) → Option (List L) → Option (List L) → Type 0
+AreShutBehind is_shut None new = Unit {0}
+AreShutBehind is_shut (Some old) None = ⊥
+AreShutBehind {L} is_shut (Some old) (Some new) = (links : List L) × (new ≡ old ++ links) × All (λ l. IsTrueIfTold (is_shut l)) links
+
 -- what each link tells, and whether it was shut
 pub record LinkView (L : Type 0) : Type 0 where
   pub told : L → LinkTold
@@ -39,6 +46,20 @@ pub record UsesLink {L : Type 0} (view : LinkView L) (old new : NetTold L) (addr
   pub shut : IsTrueIfTold (view.is_shut last)
   pub back : AppendsItem old.returned new.returned last
   pub counted : count_of_both old.link_faults (view.told last).faults ≤ new.link_faults
+
+-- no link to an address was made: it may have been asked for, and all else is as it was
+pub record MakesNoLink {L : Type 0} (old new : NetTold L) (address : List ℕ) : Type 0 where
+  pub may_ask : MayAppend old.asked new.asked address
+  pub coming : new.coming ≡ old.coming
+  pub returned : new.returned ≡ old.returned
+  pub counted : new.link_faults ≡ old.link_faults
+
+-- the net handed out a link to an address and took it back, shut and unused
+pub record ShutsUnused {L : Type 0} (view : LinkView L) (old new : NetTold L) (address : List ℕ) : Type 0 where
+  pub first : L
+  pub last : L
+  pub uses : UsesLink view old new address first last
+  pub unused : view.told last ≡ view.told first
 
 -- a session over a link to an address
 pub record IsWork {L : Type 0} (view : LinkView L) (plan : Plan) (address : List ℕ) (before after : Past) (old new : NetTold L) (chance chance' : ChanceTold)

@@ -19,7 +19,7 @@ use Rattle.sporc_sessions.specs.declared.hinting.HintsFault.TheVariants as hinti
 use Rattle.sporc_sessions.specs.declared.opening.OpenFault.{OpenFault}
 use Rattle.sporc_sessions.specs.declared.opening.OpenFault.TheVariants as faults
 use Rattle.sporc_sessions.specs.Hinting.{IsFetchAt, hints_by}
-use Rattle.sporc_sessions.specs.Nets.{LinkView, NetTold}
+use Rattle.sporc_sessions.specs.Nets.{LinkView, MakesNoLink, NetTold}
 
 -- what a line is opened by: the document, the member, what its ring file says, and where the server is
 pub record Begin : Type 0 where
@@ -59,11 +59,12 @@ module _ {L : Type 0} (view : LinkView L) (begin : Begin) (old new : NetTold L) 
   -- Why it was not, where the net's count of faults went from `before` to `after`. Memory may run out at any time
   pub data IsOpenFault (before after : ℕ) (fault : OpenFault) : Type 0 where
     -- no link was made for a joiner
-    unreached : begin.ring.epoch_key ≡ None → Rose before after → fault ≡ faults.Hints hinting.Unreached → IsOpenFault before after fault
+    unreached : begin.ring.epoch_key ≡ None → MakesNoLink old new begin.address → Rose before after → fault ≡ faults.Hints hinting.Unreached → IsOpenFault before after fault
     -- a joiner has no hints
     no_hints : {fetched : Result (List (List ℕ)) SessionFault} {cause : HintsFault} → begin.ring.epoch_key ≡ None → Fetches fetched → fault ≡ faults.Hints cause
         → (cause ≢ hinting.Hints hint_faults.Memory → hints_by begin.member (shared_of begin) fetched ≡ Err cause) → IsOpenFault before after fault
     -- the keys don't open the document
     not_opened : {keys : Keys} {cause : LineOpenFault} → HasKeys keys → fault ≡ faults.Line cause
         → (cause ≢ line_faults.Memory → first_of (open_checks begin.genesis (get keys 0)) ≡ Some cause) → IsOpenFault before after fault
-    out_of_memory : fault ≡ faults.Memory → IsOpenFault before after fault
+    -- memory ran out before a link was asked for
+    out_of_memory : new ≡ old → fault ≡ faults.Memory → IsOpenFault before after fault

@@ -7,7 +7,7 @@ ghost use Rattle.sporc_script.specs.declared.limits.TheConstants.{MAX_EDITORS};
 ghost use Rattle.sporc_shared.specs.Items.{past_of};
 ghost use Rattle.sporc_sessions.specs.Attending.{IsAttended, NotAttended};
 ghost use Rattle.sporc_sessions.specs.Causes.{RoseIfFailed, counts_around};
-ghost use Rattle.sporc_sessions.specs.Nets.{AsksAtMost, link_view, net_told};
+ghost use Rattle.sporc_sessions.specs.Nets.{AreShutBehind, AsksAtMost, link_view, net_told};
 ghost use Rattle.sporc_sessions.specs.Opening.{links_for_hints};
 ghost use Rattle.sporc_sessions.specs.Sessions.{chance_told};
 
@@ -95,6 +95,7 @@ where
     ensures returned { IfErr result (λ e. e.1 ≡ signer) }
     ensures chance { OnErr result (chance.new ≡ chance.old) }
     ensures chance_kept { C.faults chance.old ≤ C.faults chance.new }
+    ensures shut { AreShutBehind N.Link.is_shut (N.returned net.old) (N.returned net.new) }
     ensures links_out { N.out net.new ≡ N.out net.old }
     ensures may_ask { AsksAtMost (links_for_hints member.ring + 1) (N.asked net.old) (N.asked net.new) address.now }
     ensures net_kept { N.faults net.old ≤ N.faults net.new }

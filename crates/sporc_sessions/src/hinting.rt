@@ -8,7 +8,7 @@ ghost use Rattle.sporc_outside.specs.Counts.{Rose};
 ghost use Rattle.sporc_outside.specs.Told.{MayAppend};
 ghost use Rattle.sporc_shared.specs.declared.fault.SessionFault.{SessionFault as SessionFaults};
 ghost use Rattle.sporc_sessions.specs.Hinting.{IsFetchAt, hints_by};
-ghost use Rattle.sporc_sessions.specs.Nets.{link_view, net_told};
+ghost use Rattle.sporc_sessions.specs.Nets.{AreShutBehind, MakesNoLink, link_view, net_told};
 
 use sporc_epoch::{HintFault, Pairs, Ring, hints_from};
 use sporc_outside::{Dial, Link};
@@ -44,6 +44,10 @@ pub(crate) fn fetch_hints<R: Wait, N: Dial>(
         (net_told (N.asked net.new) (N.coming net.new) (N.returned net.new) (N.link_faults net.new)) fetched
         × GivesUnless (HintsFault.Hints hint_faults.Memory) (λ ring. ring.keys) result (hints_by member (pairs_in pairs.now) fetched) }
     ensures unreached { result ≡ Err HintsFault.Unreached → Rose (N.faults net.old) (N.faults net.new) }
+    ensures no_link { result ≡ Err HintsFault.Unreached → MakesNoLink
+        (net_told (N.asked net.old) (N.coming net.old) (N.returned net.old) (N.link_faults net.old))
+        (net_told (N.asked net.new) (N.coming net.new) (N.returned net.new) (N.link_faults net.new)) address.now }
+    ensures shut { AreShutBehind N.Link.is_shut (N.returned net.old) (N.returned net.new) }
     ensures links_out { N.out net.new ≡ N.out net.old }
     ensures may_ask { MayAppend (N.asked net.old) (N.asked net.new) address.now }
     ensures kept { N.faults net.old ≤ N.faults net.new }

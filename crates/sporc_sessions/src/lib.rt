@@ -15,8 +15,9 @@
 //! client had; what is printed is its journal and its report to the byte, or a prefix of them; the file has exactly its entries;
 //! the leaves of its submissions rise from the first of the opening on, and no crash frees their blocks on the disk that comes
 //! back; a session that the link or the chance ended stands for a count that rose; no address is asked for but the one given,
-//! and that once, or twice by a joiner. Tested, on the program (`sporc_commands_tests`): members who work with a server, each status
-//! that a session ends with, and each call outside failing in turn. Neither: that the server answers.
+//! and that once, or twice by a joiner; each link that is handed back was shut; and where no session began, what had been done
+//! up to there. Tested, on the program (`sporc_commands_tests`): members who work with a server, each status that a session ends
+//! with, and each call outside failing in turn. Neither: that the server answers.
 #![tactic(auto)]
 
 mod attending;

@@ -7,7 +7,7 @@ ghost use Rattle.sporc_entry.specs.Genesis.{IsGenesis};
 ghost use Rattle.sporc_epoch.specs.Keys.{pairs_in};
 ghost use Rattle.sporc_line.specs.Kit.{kit_of};
 ghost use Rattle.sporc_line.specs.Openings.{open_checks};
-ghost use Rattle.sporc_sessions.specs.Nets.{AsksAtMost, link_view, net_told};
+ghost use Rattle.sporc_sessions.specs.Nets.{AreShutBehind, AsksAtMost, link_view, net_told};
 ghost use Rattle.sporc_sessions.specs.Opening.{IsOpenFault, Opens, links_for_hints};
 ghost use Rattle.sporc_sessions.specs.declared.opening.OpenFault.TheVariants as open_faults;
 
@@ -60,6 +60,7 @@ pub(crate) fn open_line<R: Wait, N: Dial>(
         (net_told (N.asked net.old) (N.coming net.old) (N.returned net.old) (N.link_faults net.old))
         (net_told (N.asked net.new) (N.coming net.new) (N.returned net.new) (N.link_faults net.new))
         (N.faults net.old) (N.faults net.new)) }
+    ensures shut { AreShutBehind N.Link.is_shut (N.returned net.old) (N.returned net.new) }
     ensures links_out { N.out net.new ≡ N.out net.old }
     ensures may_ask { AsksAtMost (links_for_hints ring.now) (N.asked net.old) (N.asked net.new) address.now }
     ensures kept { N.faults net.old ≤ N.faults net.new }

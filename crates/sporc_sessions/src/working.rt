@@ -7,7 +7,7 @@ ghost use Rattle.sporc_outside.specs.Told.{MayAppend};
 ghost use Rattle.sporc_script.specs.declared.limits.TheConstants.{MAX_EDITORS};
 ghost use Rattle.sporc_shared.specs.Items.{past_of};
 ghost use Rattle.sporc_sessions.specs.Causes.{RoseIfFailed, counts_around};
-ghost use Rattle.sporc_sessions.specs.Nets.{IsWork, link_view, net_told};
+ghost use Rattle.sporc_sessions.specs.Nets.{AreShutBehind, IsWork, MakesNoLink, ShutsUnused, link_view, net_told};
 ghost use Rattle.sporc_sessions.specs.Sessions.{chance_told};
 
 use crate::session::{Ended, run_session};
@@ -60,9 +60,16 @@ where
     ensures leaves { IfOk result (λ ended. Rise (past_of ended.client).first_leaf ended.client.leaves.next (leaves_of ended.client.log)) }
     ensures causes { IfOk result (λ ended. RoseIfFailed (counts_around N.link_faults net.old net.new C.faults chance.old chance.new) ended.result) }
     ensures unreached { IfErr result (λ e. e.1 ≡ WorkFault.Unreached → Rose (N.faults net.old) (N.faults net.new)) }
+    ensures no_link { IfErr result (λ e. e.1 ≡ WorkFault.Unreached → MakesNoLink
+        (net_told (N.asked net.old) (N.coming net.old) (N.returned net.old) (N.link_faults net.old))
+        (net_told (N.asked net.new) (N.coming net.new) (N.returned net.new) (N.link_faults net.new)) address.now) }
+    ensures memory { IfErr result (λ e. e.1 ≡ WorkFault.Memory → ShutsUnused (link_view N.Link.written N.Link.left N.Link.faults N.Link.is_shut)
+        (net_told (N.asked net.old) (N.coming net.old) (N.returned net.old) (N.link_faults net.old))
+        (net_told (N.asked net.new) (N.coming net.new) (N.returned net.new) (N.link_faults net.new)) address.now) }
     ensures returned { IfErr result (λ e. e.0 ≡ client) }
     ensures chance { OnErr result (chance.new ≡ chance.old) }
     ensures chance_kept { C.faults chance.old ≤ C.faults chance.new }
+    ensures shut { AreShutBehind N.Link.is_shut (N.returned net.old) (N.returned net.new) }
     ensures links_out { N.out net.new ≡ N.out net.old }
     ensures may_ask { MayAppend (N.asked net.old) (N.asked net.new) address.now }
     ensures net_kept { N.faults net.old ≤ N.faults net.new }

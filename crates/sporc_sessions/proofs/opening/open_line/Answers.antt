@@ -3,6 +3,7 @@ use Rattle.sporc_epoch.specs.Keys.{pairs_in}
 use Rattle.sporc_sessions.specs.Opening.{founds}
 use Rattle.sporc_sessions.proofs.Asking.{asks_for_hints, asks_never}
 use Rattle.sporc_sessions.proofs.OpenedLines.{joined_by, not_joined, not_with, opened_with, was_reached}
+use Rattle.sporc_sessions.proofs.Returning.{shut_none}
 use Rattle.sporc_sessions.proofs.opening.open_line.Goals as goal
 
 pub returns-in_ok-keys-in-Some-clause-ok : goal.returns-in_ok-keys-in-Some-clause-ok
@@ -30,7 +31,8 @@ returns-in-Ok-clause-err g c =
 
 pub returns-in-Err-clause-err : goal.returns-in-Err-clause-err
 returns-in-Err-clause-err g c =
-    not_joined _ _ _ _ (λ ring. ring.keys) (pairs_in c.in_ok-pairs.pairs) _ _ c.in-Err.fault c.in-None.is c.in_ok-pairs.ensures.value c.in-Err.ensures.hints c.in-Err.ensures.unreached
+    not_joined _ _ _ _ (λ ring. ring.keys) (pairs_in c.in_ok-pairs.pairs) _ _ c.in-Err.fault c.in-None.is c.in_ok-pairs.ensures.value
+    c.in-Err.ensures.hints c.in-Err.ensures.no_link c.in-Err.ensures.unreached
 
 pub returns-in_err-pairs-clause-may_ask : goal.returns-in_err-pairs-clause-may_ask
 returns-in_err-pairs-clause-may_ask g c = asks_never _ _ c.args.address.now
@@ -46,3 +48,15 @@ returns-in-Ok-clause-may_ask g c = asks_for_hints c.args.ring.now _ _ c.args.add
 
 pub returns-in-Err-clause-may_ask : goal.returns-in-Err-clause-may_ask
 returns-in-Err-clause-may_ask g c = asks_for_hints c.args.ring.now _ _ c.args.address.now c.in-None.is c.fetch_hints.ensures.may_ask
+
+pub returns-in_err-pairs-clause-shut : goal.returns-in_err-pairs-clause-shut
+returns-in_err-pairs-clause-shut g c =
+    shut_none g.N.Link.Link.is_shut (g.N.Links.returned c.args.net.now) (g.N.Links.returned c.args.net.now) refl
+
+pub returns-in_err-keys-in-Some-clause-shut : goal.returns-in_err-keys-in-Some-clause-shut
+returns-in_err-keys-in-Some-clause-shut g c =
+    shut_none g.N.Link.Link.is_shut (g.N.Links.returned c.args.net.now) (g.N.Links.returned c.args.net.now) refl
+
+pub returns-in_ok-keys-in-Some-clause-shut : goal.returns-in_ok-keys-in-Some-clause-shut
+returns-in_ok-keys-in-Some-clause-shut g c =
+    shut_none g.N.Link.Link.is_shut (g.N.Links.returned c.args.net.now) (g.N.Links.returned c.args.net.now) refl
