@@ -2,18 +2,15 @@
 use Rattle.std.proofs.Common.{◌≡◌, ◌≤◌, ℕ, List, Option, Result, Err, length, refl, sym, subst, arith}
 use Rattle.std.specs.Result.{IfErr}
 use Rattle.sporc_outside.specs.Counts.{Rose}
-use Rattle.sporc_outside.specs.Files.{HasFile, HasNoFile, HasSomeFile, IsTooLong}
+use Rattle.sporc_outside.specs.Files.{HasFile, HasNoFile, IsTooLong}
 use Rattle.sporc_outside.specs.declared.file_fault.TheConstants.{MAX_FILE}
 use Rattle.sporc_outside.specs.declared.named_file.NamedFile.{NamedFile}
-use Rattle.sporc_keys.specs.declared.fault.DrawFault.{DrawFault}
-use Rattle.sporc_keys.specs.declared.fault.DrawFault.TheVariants as drawing
 use Rattle.sporc_files.specs.declared.fault.Fault.{Fault}
 use Rattle.sporc_files.specs.declared.fault.Fault.TheVariants as faults
 use Rattle.sporc_files.specs.declared.file.File.{File}
 use Rattle.sporc_files.specs.Names.{FileNames, file_name}
 use Rattle.sporc_files.specs.Reading.{IsFileFault}
-use Rattle.sporc_files.specs.Faults.{IsOutsideFault, fault_of_draw}
-use Rattle.sporc_files.specs.Writing.{IsNewFault}
+use Rattle.sporc_files.specs.Faults.{IsOutsideFault}
 
 -- ---- a file that is read
 
@@ -70,39 +67,6 @@ file_later parse told now low mid high names file fault same more why =
 pub if_err : {T : Type 0} (r : Result T Fault) (P : Fault → Type 0) (y fault : Fault) → r ≡ Err y → y ≡ fault → P fault → IfErr r P
 if_err r P y fault is same held = rw (is, same) held
 
--- ---- a file that is written as a new one
-
-pub data NewCase (files : Option (List NamedFile)) (before after : ℕ) (names : FileNames) (file : File) : Fault → Type 0 where
-  NewMemory : NewCase files before after names file faults.Memory
-  NewFailed : Rose before after → NewCase files before after names file faults.Outside
-  NewThere : HasSomeFile files (file_name names file) → NewCase files before after names file (faults.Exists file)
-
-module _ (files : Option (List NamedFile)) (before after : ℕ) (names : FileNames) (file : File) where
-  pub new_case : (fault : Fault) → IsNewFault files before after names file fault → NewCase files before after names file fault
-  new_case faults.Memory any = NewMemory
-  new_case faults.Words never = absurd never
-  new_case (faults.Missing f) never = absurd never
-  new_case (faults.Exists f) (is, there) = subst (λ (g : File). NewCase files before after names file (faults.Exists g)) (sym is) (NewThere there)
-  new_case (faults.TooLong f) never = absurd never
-  new_case (faults.Malformed f at) never = absurd never
-  new_case (faults.Line l) never = absurd never
-  new_case (faults.EditorLine e l) never = absurd never
-  new_case faults.LongScript never = absurd never
-  new_case (faults.Refused p r) never = absurd never
-  new_case (faults.Rejected r) never = absurd never
-  new_case (faults.Hints h) never = absurd never
-  new_case (faults.Opening o) never = absurd never
-  new_case (faults.Unsettled n p) never = absurd never
-  new_case (faults.LinkEnded t) never = absurd never
-  new_case faults.Outside rose = NewFailed rose
-  new_case (faults.Leaf n) never = absurd never
-  new_case faults.FullHistory never = absurd never
-  new_case faults.FullJournal never = absurd never
-  new_case faults.FullFile never = absurd never
-  new_case faults.Worn never = absurd never
-  new_case (faults.Message at) never = absurd never
-  new_case (faults.Edit e l f) never = absurd never
-
 -- ---- a file that is written
 
 pub data WriteCase (before after : ℕ) : Fault → Type 0 where
@@ -133,9 +97,3 @@ write_case before after faults.FullFile never = absurd never
 write_case before after faults.Worn never = absurd never
 write_case before after (faults.Message at) never = absurd never
 write_case before after (faults.Edit e l f) never = absurd never
-
--- ---- words that were not drawn
-
-pub draw_fault : (before after : ℕ) (fault : DrawFault) → (fault ≡ drawing.Chance → Rose before after) → IsOutsideFault before after (fault_of_draw fault)
-draw_fault before after drawing.Chance rose = rose refl
-draw_fault before after drawing.Memory rose = tt

@@ -7,7 +7,7 @@ use Rattle.sporc_keys.specs.declared.founding.Founding.{Founding}
 use Rattle.sporc_keys.specs.declared.named.Named.{Named}
 use Rattle.sporc_keys.specs.Founding.{IsFounding, in_order}
 use Rattle.sporc_words.specs.declared.found.Found.{Found}
-use Rattle.sporc_words.specs.declared.founding.Participant.{Participant}
+use Rattle.sporc_words.specs.declared.standing.Participant.{Participant}
 use Rattle.sporc_files.specs.declared.fault.Fault.{Fault}
 use Rattle.sporc_files.specs.declared.fault.Fault.TheVariants as faults
 use Rattle.sporc_files.specs.Names.{FileNames, names_of_document}

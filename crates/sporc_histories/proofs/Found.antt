@@ -82,7 +82,7 @@ tells_as view P Q (Err fault) s then told = told
 pub tells_alone : {X Y : Type 0} (view : X → Y) (P : Type 0) (r : Result X Fault) (s : Result Y Fault) → AnswersUnlessOutside view ⊥ r s → AnswersUnlessOutside view P r s
 tells_alone view P r s told = tells_as view ⊥ P r s (λ no. absurd no) told
 
--- want of memory tells nothing
+-- out of memory tells nothing
 pub tells_memory : {X Y : Type 0} (view : X → Y) (P : Type 0) (r : Result X Fault) (s : Result Y Fault) → r ≡ Err faults.Memory → AnswersUnlessOutside view P r s
 tells_memory view P r s is = rw is tt
 
