@@ -168,6 +168,7 @@ pub record LendsDisk {D : Type 0} (disks : DiskView D) (name : List ℕ) (whole 
   pub lent : during.lent_after ≡ option_map (λ lent. name ∷ lent) whole.lent_before
   pub back : TakesBack during.lent_after during.files_after whole.files_after (disks.stored last)
   pub since : whole.faults_before ≤ during.faults_before
+  pub kept : during.faults_before ≤ during.faults_after
   pub counted : count_of_both during.faults_after (disks.faults last) ≤ whole.faults_after
 
 -- a call with another use of its folder

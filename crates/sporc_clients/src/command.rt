@@ -10,7 +10,7 @@ ghost use Rattle.sporc_files.specs.declared.file.File.{File};
 ghost use Rattle.sporc_files.specs.Names.{file_name};
 ghost use Rattle.sporc_files.specs.Reading.{IsFileFault, SaysFileIfThere, any_bytes};
 ghost use Rattle.sporc_files.specs.Uses.{AsksOnly, chance_use, folder_use};
-ghost use Rattle.sporc_sessions.specs.Nets.{AsksAtMost, link_view};
+ghost use Rattle.sporc_sessions.specs.Nets.{AreShutBehind, AsksAtMost, link_view};
 ghost use Rattle.sporc_sessions.specs.Opening.{links_for_hints};
 ghost use Rattle.sporc_clients.specs.Outcome.{ClientOutcome, DiskOutcome, client_files, disk_view, names_of, net_use};
 
@@ -64,6 +64,7 @@ where
     ensures files_kept { F.faults files.old ≤ F.faults files.new }
     ensures net_may_ask { AsksAtMost 2 (N.asked net.old) (N.asked net.new) words.now.address }
     ensures out_kept { O.faults out.old ≤ O.faults out.new }
+    ensures shut { AreShutBehind N.Link.is_shut (N.returned net.old) (N.returned net.new) }
     ensures links_out { N.out net.new ≡ N.out net.old }
     ensures net_kept { N.faults net.old ≤ N.faults net.new }
     ensures links_kept { N.link_faults net.old ≤ N.link_faults net.new }
@@ -123,6 +124,7 @@ where
     ensures files_kept { F.faults files.old ≤ F.faults files.new }
     ensures net_may_ask { AsksAtMost (links_for_hints member.ring + 1) (N.asked net.old) (N.asked net.new) words.now.address }
     ensures out_kept { O.faults out.old ≤ O.faults out.new }
+    ensures shut { AreShutBehind N.Link.is_shut (N.returned net.old) (N.returned net.new) }
     ensures links_out { N.out net.new ≡ N.out net.old }
     ensures net_kept { N.faults net.old ≤ N.faults net.new }
     ensures links_kept { N.link_faults net.old ≤ N.link_faults net.new }

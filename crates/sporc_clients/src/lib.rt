@@ -15,7 +15,7 @@
 //! printed and saved however the session ended, and the session's fault comes first. Where no session began, nothing is
 //! printed, no file has changed, and no word of the chance is taken; the fault names its cause. Whatever came of it, the files
 //! asked for are the member's and its editors' scripts, and no others; links are asked for at the address alone, two at most;
-//! each disk and each link is back; and no count of faults has fallen.
+//! each disk is back, and each link, shut; and no count of faults has fallen.
 //!
 //! Tested, on the program (`sporc_commands_tests`): two members who work with a server, each status that a session ends with, and
 //! each call outside failing in turn.

@@ -5,6 +5,7 @@ use Rattle.sporc_files.specs.Names.{file_name}
 use Rattle.sporc_files.specs.Uses.{AsksOnly}
 use Rattle.sporc_clients.specs.Outcome.{client_files, names_of, no_disk, no_member, over_disk}
 use Rattle.sporc_sessions.proofs.Asking.{asks_less, asks_never, one_for_hints}
+use Rattle.sporc_sessions.proofs.Returning.{shut_none}
 use Rattle.sporc_clients.proofs.Asking.{asks_all, asks_leaf, asks_member, taken_off}
 use Rattle.sporc_clients.proofs.Outcomes.{disk_of, ends_so, lend_fault, lent_at, member_fault, member_says}
 use Rattle.sporc_clients.proofs.command.client.Goals as goal
@@ -49,6 +50,7 @@ returns-clause-outcome g c =
       lent = lent_at _ _ _ _ c.names_of-names.result c.args.words.now c.with_disk-result.ensures.lent c.in_ok-disk.ensures.lent c.read_member.ensures.lent named;
       back = c.take_back.ensures.back;
       since = omega (arith, c.read_member.ensures.kept, c.lend_disk.ensures.kept);
+      kept = c.with_disk-result.ensures.files_kept;
       counted = c.take_back.ensures.count;
     })
     c.with_disk-result.ensures.outcome
@@ -90,3 +92,11 @@ pub returns-clause-net_may_ask : goal.returns-clause-net_may_ask
 returns-clause-net_may_ask g c =
     let once = one_for_hints c.in_ok-member.member.ring in
     asks_less _ 2 _ _ c.args.words.now.address (omega (arith, once)) c.with_disk-result.ensures.net_may_ask
+
+-- ---- links
+
+pub returns-in_err-member-clause-shut : goal.returns-in_err-member-clause-shut
+returns-in_err-member-clause-shut g c = shut_none g.N.Link.Link.is_shut (g.N.Links.returned c.args.net.now) (g.N.Links.returned c.args.net.now) refl
+
+pub returns-in_err-disk-clause-shut : goal.returns-in_err-disk-clause-shut
+returns-in_err-disk-clause-shut g c = shut_none g.N.Link.Link.is_shut (g.N.Links.returned c.args.net.now) (g.N.Links.returned c.args.net.now) refl

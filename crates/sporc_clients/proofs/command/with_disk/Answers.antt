@@ -4,6 +4,7 @@ use Rattle.sporc_files.specs.Names.{file_name}
 use Rattle.sporc_files.specs.declared.file.File.TheVariants.{History}
 use Rattle.sporc_shared.specs.Items.{past_of}
 use Rattle.sporc_sessions.proofs.Asking.{asks_never}
+use Rattle.sporc_sessions.proofs.Returning.{shut_none}
 use Rattle.sporc_sessions.specs.Nets.{AsksAtMost}
 use Rattle.sporc_sessions.specs.Opening.{links_for_hints}
 use Rattle.sporc_clients.proofs.Asking.{asks_history, asks_history_again}
@@ -96,3 +97,11 @@ returns-in-Ok-attend-clause-net_may_ask g c =
 pub returns-clause-net_may_ask : goal.returns-clause-net_may_ask
 returns-clause-net_may_ask g c =
     subst (AsksAtMost (links_for_hints c.args.member.ring + 1) (g.N.Links.asked c.args.net.now) (g.N.Links.asked c.attend.new.net)) c.as_str.ensures.value c.attend.ensures.may_ask
+
+-- ---- links
+
+pub returns-in-Err-clause-shut : goal.returns-in-Err-clause-shut
+returns-in-Err-clause-shut g c = shut_none g.N.Link.Link.is_shut (g.N.Links.returned c.args.net.now) (g.N.Links.returned c.args.net.now) refl
+
+pub returns-in-Err-history_of-clause-shut : goal.returns-in-Err-history_of-clause-shut
+returns-in-Err-history_of-clause-shut g c = shut_none g.N.Link.Link.is_shut (g.N.Links.returned c.args.net.now) (g.N.Links.returned c.args.net.now) refl
