@@ -100,11 +100,13 @@ pub record ServesDocument {L : Type 0} (links : LinkView L) (words : Serve) (fol
   pub net_may_ask : MayAppend net.before.asked net.after.asked words.address
   pub shut : AreShutBehind links.is_shut net.before.returned net.after.returned
 
--- a member worked from its own files and its editors' scripts alone, with the server at the address alone, over at most two links
+-- a member worked from its own files and its editors' scripts alone, with the server at the address alone, over at most two links, each of which
+-- came back shut
 pub record WorksAsMember {L D : Type 0} (links : LinkView L) (disks : DiskView D) (words : Client) (did : ClientUse L) (answer : Result ⊤ Fault) : Type 0 where
   pub outcome : ClientOutcome links disks words did answer
   pub files_may_ask : AsksFor (names_of_client words) (client_files words.member (length words.scripts)) did.folder
   pub net_may_ask : AsksAtMost 2 did.net.before.asked did.net.after.asked words.address
+  pub shut : AreShutBehind links.is_shut did.net.before.returned did.net.after.returned
   pub links_kept : did.net.before.link_faults ≤ did.net.after.link_faults
 
 -- ---- commands
