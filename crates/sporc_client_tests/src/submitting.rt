@@ -71,7 +71,7 @@ fn all_leaves(rt: &impl Abort, alloc: Global, cast: &Cast) {
     leaves_end(rt, alloc, room.client(rt, 2));
 }
 
-// The opening of a leaf file calls the disk twice; the first draw writes and syncs.
+// The opening of a leaf file calls the disk three times; the first draw then writes, which fails here, and would sync.
 fn failing_calls(rt: &impl Abort, alloc: Global) -> Calls {
     let mut failing = Vec::new(alloc);
     failing.push(4).expect(rt, "memory");

@@ -182,8 +182,8 @@ const OBJECTS: [(Object, u64); 4] = [
     (Object::Out, 1),
     // it listens, and takes the link
     (Object::Net, 2),
-    // three messages and their end are read, and two answers are written
-    (Object::Link, 4),
+    // three messages are read in three pieces, then their end, and two answers are written
+    (Object::Link, 6),
 ];
 
 #[test]

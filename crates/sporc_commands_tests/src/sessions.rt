@@ -222,7 +222,7 @@ fn first_unmade<R: Threads + Wait + Sync + Abort>(
 const OBJECTS: [(Object, u64); 6] = [
     // genesis, key, ring, script, leaf disk and history are read, and the history is written
     (Object::Files, 7),
-    // the leaf file is read by three calls, and its next block is written and synced
+    // the leaf file is opened by three calls, and its next block is written and synced
     (Object::Disk, 5),
     // journal and report
     (Object::Out, 2),

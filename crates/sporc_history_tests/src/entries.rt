@@ -439,7 +439,7 @@ const GENESIS_FAULTS: [(usize, u8, GenesisFault); 11] = [
     (120, 5, GenesisFault::BadKey(7)),
 ];
 
-// The length of a front of the genesis, or of the genesis and zeros, and the fault then.
+// The length of a prefix of the genesis, or of the genesis and zeros, and the fault then.
 const GENESIS_LENGTHS: [(usize, GenesisFault); 3] = [
     (170, GenesisFault::Malformed(169)),
     (168, GenesisFault::Malformed(113)),

@@ -194,26 +194,26 @@ fn is_whole_to_client(rt: &impl Abort, frames: &mut Frames, bytes: &[u8]) -> boo
 }
 
 // Whether a message to a server is whole once both parts came, and not before.
-fn needs_both_to_server(rt: &impl Abort, frames: &mut Frames, front: &[u8], rest: &[u8]) -> bool {
-    let early = is_whole_to_server(rt, frames, front);
+fn needs_both_to_server(rt: &impl Abort, frames: &mut Frames, prefix: &[u8], rest: &[u8]) -> bool {
+    let early = is_whole_to_server(rt, frames, prefix);
     let whole = is_whole_to_server(rt, frames, rest);
     whole && !early
 }
 
 // The same of a message to a client.
-fn needs_both_to_client(rt: &impl Abort, frames: &mut Frames, front: &[u8], rest: &[u8]) -> bool {
-    let early = is_whole_to_client(rt, frames, front);
+fn needs_both_to_client(rt: &impl Abort, frames: &mut Frames, prefix: &[u8], rest: &[u8]) -> bool {
+    let early = is_whole_to_client(rt, frames, prefix);
     let whole = is_whole_to_client(rt, frames, rest);
     whole && !early
 }
 
-// Whether nothing is handed out of a front of this length, and a message to a server of the whole.
+// Whether nothing is handed out of a prefix of this length, and a message to a server of the whole.
 fn is_cut_to_server(rt: &impl Abort, alloc: Global, frame: &[u8], len: usize) -> bool
     requires { len ≤ length frame.now }
 {
     let mut frames = Frames::new(alloc);
-    let (front, rest) = frame.split_at(len);
-    needs_both_to_server(rt, &mut frames, front, rest)
+    let (prefix, rest) = frame.split_at(len);
+    needs_both_to_server(rt, &mut frames, prefix, rest)
 }
 
 // The same of a message to a client.
@@ -221,11 +221,11 @@ fn is_cut_to_client(rt: &impl Abort, alloc: Global, frame: &[u8], len: usize) ->
     requires { len ≤ length frame.now }
 {
     let mut frames = Frames::new(alloc);
-    let (front, rest) = frame.split_at(len);
-    needs_both_to_client(rt, &mut frames, front, rest)
+    let (prefix, rest) = frame.split_at(len);
+    needs_both_to_client(rt, &mut frames, prefix, rest)
 }
 
-fn fronts_to_server_give_nothing(rt: &impl Abort, alloc: Global, frame: &[u8]) {
+fn prefixes_to_server_give_nothing(rt: &impl Abort, alloc: Global, frame: &[u8]) {
     for len in 0..frame.len() {
         check_at(
             rt,
@@ -236,7 +236,7 @@ fn fronts_to_server_give_nothing(rt: &impl Abort, alloc: Global, frame: &[u8]) {
     }
 }
 
-fn fronts_to_client_give_nothing(rt: &impl Abort, alloc: Global, frame: &[u8]) {
+fn prefixes_to_client_give_nothing(rt: &impl Abort, alloc: Global, frame: &[u8]) {
     for len in 0..frame.len() {
         check_at(
             rt,
@@ -247,13 +247,13 @@ fn fronts_to_client_give_nothing(rt: &impl Abort, alloc: Global, frame: &[u8]) {
     }
 }
 
-// A front of a frame gives nothing.
-fn fronts_give_nothing(rt: &impl Abort, alloc: Global) {
+// A prefix of a frame gives nothing.
+fn prefixes_give_nothing(rt: &impl Abort, alloc: Global) {
     for frame in &TO_SERVER {
-        fronts_to_server_give_nothing(rt, alloc, *frame);
+        prefixes_to_server_give_nothing(rt, alloc, *frame);
     }
     for frame in &TO_CLIENT {
-        fronts_to_client_give_nothing(rt, alloc, *frame);
+        prefixes_to_client_give_nothing(rt, alloc, *frame);
     }
 }
 
@@ -262,7 +262,7 @@ fn fronts_give_nothing(rt: &impl Abort, alloc: Global) {
 fn frames_are_read(rt: HostRuntime) {
     frames_come_up_to_a_limit(&rt, rt.alloc());
     bad_bodies_are_refused(&rt, rt.alloc());
-    fronts_give_nothing(&rt, rt.alloc());
+    prefixes_give_nothing(&rt, rt.alloc());
 }
 
 fn is_written_to_server(rt: &impl Abort, alloc: Global, message: &ToServer, wanted: &[u8]) {

@@ -2,7 +2,7 @@
 
 use crate::bytes::{push, text_of};
 use crate::checks::check;
-use sporc_script::{EditorLine, LineFault, read_editor, read_play};
+use sporc_script::{EditorCommand, EditorLine, LineFault, read_editor, read_play};
 use std::alloc::Global;
 use std::process::Abort;
 
@@ -76,6 +76,14 @@ const OUTSIDE: &[&str] = &[
     "sign 3 from 1 remove 2 with wrap 5",
 ];
 
+// An editor's lines, one of each kind, of which the last goes on with a key.
+const EDITOR_LINES: &str =
+    "insert 0 \"a\"\n# more\n\nremove 0 1\ndrop 2\nrole 3 admin\nadd 4 editor ";
+
+// The digits of a key.
+const KEY: &str =
+    "0123456789abcdef0123456789abcdef0123456789abcdef0123456789abcdef0123456789abcdef0123456789abcdef0123456789abcdef";
+
 // The number of the first line of a play that is outside, or 0.
 fn first_outside(rt: &impl Abort, alloc: Global, script: &[u8]) -> u32 {
     assert!(rt; script.len() <= 1 << 10);
@@ -96,12 +104,37 @@ fn outside_behind(rt: &impl Abort, alloc: Global, line: &str) -> u32 {
     first_outside(rt, alloc, text.as_bytes())
 }
 
-// Whether these are four lines, the last of which has the number 6.
-fn are_four(lines: &[EditorLine]) -> bool {
-    match lines {
-        [_, _, _, last] => last.number == 6,
+// Whether an editor's line is the first, and inserts at the start of a text.
+fn inserts_at_start(line: &EditorLine) -> bool {
+    match &line.command {
+        EditorCommand::Insert(insertion) => line.number == 1 && insertion.at == 0,
         _ => false,
     }
+}
+
+// Whether an editor's line is the seventh, and adds member 4.
+fn adds_member(line: &EditorLine) -> bool {
+    match &line.command {
+        EditorCommand::Add(founder) => line.number == 7 && founder.member == 4,
+        _ => false,
+    }
+}
+
+// Whether five lines were read, of which the first inserts, and the last adds a member.
+fn are_read(lines: &[EditorLine]) -> bool {
+    match lines {
+        [first, _, _, _, last] => inserts_at_start(first) && adds_member(last),
+        _ => false,
+    }
+}
+
+// Whether the lines of an editor's script are read.
+fn is_read(rt: &impl Abort, alloc: Global, script: &[u8]) -> bool {
+    assert!(rt; script.len() <= 1 << 10);
+    let script = read_editor(alloc, script).expect(rt, "a script");
+    let are_read = are_read(script.lines());
+    drop(script);
+    are_read
 }
 
 // Whether the second line of an editor's script is outside.
@@ -113,13 +146,13 @@ fn is_second_outside(alloc: Global) -> bool {
 }
 
 fn editor_scripts_are_read(rt: &impl Abort, alloc: Global) {
-    let script = read_editor(
-        alloc,
-        b"insert 0 \"a\"\n# more\n\nremove 0 1\ndrop 2\nrole 3 admin",
-    )
-    .expect(rt, "a script");
-    check(rt, "four lines", are_four(script.lines()));
-    drop(script);
+    let mut text = text_of(rt, alloc, EDITOR_LINES);
+    push(rt, &mut text, KEY);
+    check(
+        rt,
+        "lines of an editor",
+        is_read(rt, alloc, text.as_bytes()),
+    );
     check(rt, "second line outside", is_second_outside(alloc));
 }
 

@@ -91,7 +91,7 @@ const WRITES: [(&str, u64, usize, &str); 3] = [
     ("the third call fails", 3, 2, "hell"),
 ];
 
-// Writes the word, or a front of it.
+// Writes the word, or a prefix of it.
 fn writes(rt: &impl Abort, name: &str, sink: &mut MemorySink, written: &str) {
     let done = write_all(sink, b"hello").is_ok();
     check(rt, name, done == (written.len() == 5));
@@ -99,7 +99,7 @@ fn writes(rt: &impl Abort, name: &str, sink: &mut MemorySink, written: &str) {
     check(rt, name, sink.faults() == !done as u64);
 }
 
-fn writes_all_or_a_front(
+fn writes_all_or_a_prefix(
     rt: &impl Abort,
     alloc: Global,
     name: &str,
@@ -113,9 +113,9 @@ fn writes_all_or_a_front(
 }
 
 #[test]
-fn writes_all_in_pieces_or_a_front(rt: HostRuntime) {
+fn writes_all_in_pieces_or_a_prefix(rt: HostRuntime) {
     for &(name, number, piece, written) in &WRITES {
-        writes_all_or_a_front(&rt, rt.alloc(), name, number, piece, written);
+        writes_all_or_a_prefix(&rt, rt.alloc(), name, number, piece, written);
     }
 }
 

@@ -57,7 +57,7 @@ fn ends_so<R: Abort + Threads + Wait + Sync>(
 }
 
 // An object, the first of its calls that a session makes and the first that it doesn't make, and how the session ends if
-// one of those between fails. The leaf file is read by three calls, before the session.
+// one of those between fails. The leaf file is opened by three calls, before the session.
 const CALLS: [(Object, u64, u64, SessionFault); 3] = [
     // a leaf's block is written and synced
     (Object::Disk, 4, 6, SessionFault::Leaf(LeafFault::DiskFault)),
