@@ -1,5 +1,5 @@
 -- Rings that are written, and what stands if one is not.
-use Rattle.std.proofs.Common.{◌≡◌, ℕ, ◌+◌, ◌<◌, ◌≤◌, List, [], ◌∷◌, ◌++◌, length, map, take, get_or, Option, inl, subst, add-one, arith}
+use Rattle.std.proofs.Common.{◌≡◌, ℕ, ◌+◌, ◌<◌, ◌≤◌, List, [], ◌∷◌, length, map, take, get_or, Option, inl, subst, add-one, arith}
 use Rattle.sporc_outside.specs.declared.named_file.NamedFile.{NamedFile}
 use Rattle.sporc_keys.specs.declared.ring_file.RingFile.{RingFile}
 use Rattle.sporc_keys.specs.RingFile.{ring_file_bytes}
