@@ -1,5 +1,5 @@
 -- Words that may found a document name those who can.
-use Rattle.std.proofs.Common.{◌≡◌, ℕ, ◌==◌, nat_eq, nat_le, not, suc, true, false, List, [], ◌∷◌, ◌&&◌, length, map, Option, refl, sym, ap, ◌∙◌, subst, arith}
+use Rattle.std.proofs.Common.{◌≡◌, ℕ, ◌==◌, nat_eq, nat_le, not, suc, false, List, [], ◌∷◌, ◌&&◌, length, map, Option, refl, sym, ap, ◌∙◌, subst, arith}
 use Rattle.std.specs.List.{AllByRecursion, IsDistinct, list_any}
 use Rattle.std.specs.Cmp.{nat_eq_equiv}
 use Rattle.std.proofs.lemmas.Bool.{and_parts, leb-true, not-true, or_parts}
