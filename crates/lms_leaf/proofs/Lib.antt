@@ -2,3 +2,4 @@ pub mod Drawn
 pub mod TraceLemmas
 pub mod StableLemmas
 pub mod TakenBlocks
+mod Examples

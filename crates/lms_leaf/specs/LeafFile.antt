@@ -1,11 +1,7 @@
 -- A leaf file: a byte for each block of leaves, zero as long as the block is not taken.
-use Rattle.std.specs.Prelude.{◌≡◌, ◌⊎◌, ℕ, ◌+◌, ◌/◌, ◌^◌, ◌<◌, ◌≤◌, ◌==◌, ◌&&◌, List, [], ◌∷◌, if◌then◌else◌, refl}
+use Rattle.std.specs.Prelude.{◌≡◌, ◌⊎◌, ℕ, ◌+◌, ◌/◌, ◌^◌, ◌<◌, ◌≤◌, ◌==◌, ◌&&◌, List, [], ◌∷◌, if◌then◌else◌}
 use Rattle.sporc_outside.specs.LeafDisk.{IsStable}
 use Rattle.lms_leaf.specs.declared.leaf_file.TheConstants.{LEAVES_PER_BLOCK}
-
--- the limit's number
-four_leaves_make_a_block : LEAVES_PER_BLOCK ≡ 4
-four_leaves_make_a_block = refl
 
 -- the heights of trees that have such a file
 abbrev pub IsLeafHeight : ℕ → Type 0
@@ -21,10 +17,6 @@ taken_blocks [] = 0
 taken_blocks (byte ∷ bytes) =
     let later = taken_blocks bytes in
     if (later == 0) && (byte == 0) then 0 else later + 1
-
--- the second byte is zero, the third is the last that is not
-three_up_to_the_last : taken_blocks (1 ∷ 0 ∷ 9 ∷ 0 ∷ []) ≡ 3
-three_up_to_the_last = refl
 
 -- no crash leaves the byte of this leaf's block zero
 abbrev pub IsTaken : (List ℕ → Type 0) → ℕ → Type 0

@@ -1,4 +1,4 @@
-// Why no leaf is drawn, and why a leaf file is not opened.
+//! Why no leaf is drawn, and why a leaf file is not opened.
 
 ghost use Rattle.std.specs.Prelude.{◌≡◌};
 ghost use Rattle.lms_leaf.specs.declared.faults.LeafOpenFault.TheVariants as open_faults;

@@ -1,8 +1,15 @@
 //! What holds of leaf numbers over whole traces of a leaf file.
 
+ghost use Rattle.std.specs.Prelude.{◌≡◌};
 ghost use Rattle.lms_leaf.specs.Laws.{NoLeafTwice};
+ghost use Rattle.lms_leaf.specs.declared.leaf_file.TheConstants.{LEAVES_PER_BLOCK};
 
 use sporc_outside::LeafDisk;
+
+/// The limit in numbers.
+pub fn limits()
+    ensures block { LEAVES_PER_BLOCK ≡ 4 }
+{}
 
 /// Over any list of openings, draws, failed calls and crashes at any moment, no number is given
 /// twice. A crash inside a call keeps the call from answering; what is found afterwards is one of

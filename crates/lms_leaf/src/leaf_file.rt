@@ -1,4 +1,4 @@
-// The bytes of a leaf file, and the calls that read and write them.
+//! The bytes of a leaf file, and the calls that read and write them.
 
 ghost use Rattle.std.specs.Prelude.{◌≡◌, ◌≢◌, ◌^◌, ◌<◌, ◌*◌, ◌/◌, ◌%◌, ◌≤◌, length, slice_index, replicate, IfOk, IfSome, OnOk};
 ghost use Rattle.sporc_outside.specs.Counts.{CountsFaults};

@@ -1,4 +1,4 @@
-// The leaves of a key, drawn in order.
+//! The leaves of a key, drawn in order.
 
 ghost use Rattle.std.specs.Prelude.{◌≡◌, ℕ, ◌*◌, ◌^◌, ◌≤◌, false, length, OnOk, IfOk, IfErr, IfSome};
 ghost use Rattle.lms_leaf.specs.LeafFile.{IsLeafHeight, AreTaken, block_count, taken_blocks};

@@ -29,3 +29,4 @@ mod leaves;
 pub use crate::faults::{LeafFault, LeafOpenFault};
 pub use crate::leaf_file::{LEAVES_PER_BLOCK, blank};
 pub use crate::leaves::Leaves;
+pub use sporc_base::Memory;

@@ -1,4 +1,4 @@
-// A string of bytes as a row of small numbers, and their checksum.
+//! A string of bytes as a row of small numbers, and their checksum.
 
 ghost use Rattle.std.specs.Prelude.{◌≡◌, ◌+◌, ◌*◌, ◌^◌, ◌<◌, ◌≤◌, length};
 ghost use Rattle.lms_ots.specs.Coefficients.{IsWidth, checksum_of, coef_of, with_checksum};

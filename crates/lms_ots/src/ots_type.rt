@@ -1,4 +1,4 @@
-// The types of one-time signatures.
+//! The types of one-time signatures.
 
 ghost use Rattle.std.specs.Prelude.{◌≡◌, ◌≢◌, ◌-◌, ◌≤◌, ◌^◌, ◌↔◌, IsNone};
 

@@ -1,4 +1,4 @@
-// Public keys.
+//! Public keys.
 
 ghost use Rattle.std.specs.Prelude.{◌≡◌};
 ghost use Rattle.sha2.specs.Hashers.{Holds256};

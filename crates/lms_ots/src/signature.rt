@@ -1,4 +1,4 @@
-// Signatures, and the public keys to which they lead.
+//! Signatures, and the public keys to which they lead.
 
 ghost use Rattle.std.specs.Prelude.{◌≡◌, ◌≢◌, ◌↔◌, ◌++◌, length, IfOk, IsErrOf};
 ghost use Rattle.lms_ots.specs.OtsType.{ots_code_of, ots_signature_len_of};

@@ -15,9 +15,9 @@
 //! ```
 //!
 //! Proved: a draw gives the next leaf of the file, with the faults of `lms_leaf`; a signature is
-//! RFC 8554's by the ticket's leaf, and verifies under the public key. Tested: one signature is
-//! Bouncy Castle's. A ticket is to be given to the signer that drew it, since another has other keys:
-//! nothing checks this.
+//! RFC 8554's by the ticket's leaf, and verifies under the public key. Only tested: that one
+//! signature is Bouncy Castle's. Neither: that a ticket is given to the signer that drew it, as it has
+//! to be, since another has other keys.
 #![tactic(auto)]
 
 mod signer;
@@ -25,3 +25,4 @@ mod ticket;
 
 pub use crate::signer::Signer;
 pub use crate::ticket::{KeptTicket, Ticket};
+pub use sporc_base::Memory;

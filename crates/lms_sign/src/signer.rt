@@ -1,4 +1,4 @@
-// Signers.
+//! Signers.
 
 ghost use Rattle.std.specs.Prelude.{◌≡◌, ◌^◌, ◌<◌, ◌≤◌, IfOk, IfErr};
 ghost use Rattle.lms_tree.specs.LmsType.{height_of};

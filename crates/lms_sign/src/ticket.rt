@@ -1,4 +1,4 @@
-// Tickets, each of which signs one message.
+//! Tickets, each of which signs one message.
 
 ghost use Rattle.std.specs.Prelude.{◌≡◌, ℕ};
 

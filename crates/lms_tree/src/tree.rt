@@ -77,7 +77,11 @@ fn assembled(
     ensures { IfOk result (λ v. v.items ≡ to_be_bytes w32 q ++ ots_signature.now ++ to_be_bytes w32 code
         ++ concatenated (value_at path.now) (length path.now)) }
 {
-    let mut signature = Vec::new(alloc);
+    let len = ots_signature
+        .len()
+        .saturating_add(path.len().saturating_mul(32))
+        .saturating_add(8);
+    let mut signature = Vec::with_capacity(alloc, len)?;
     signature.extend_from_slice(&q.to_be_bytes())?;
     signature.extend_from_slice(ots_signature)?;
     signature.extend_from_slice(&code.to_be_bytes())?;

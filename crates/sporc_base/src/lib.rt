@@ -2,7 +2,7 @@
 //! that say what
 //! a call answers.
 //!
-//! - [`Memory`]: memory ran out.
+//! - [`Memory`]: out of memory.
 //! - [`Items`]: a `Vec` that contracts see as the list of its items; [`Bytes`] is one of bytes.
 //! - [`is_same`]: whether two byte strings are the same.
 //! - [`put_at`]: a field written into bytes, from a place on.
@@ -29,5 +29,5 @@ pub use bytes::{is_same, put_at, unmarked};
 pub use items::{Bytes, Items};
 use std::alloc::AllocError;
 
-/// No memory was left.
+/// Out of memory.
 pub type Memory = AllocError;

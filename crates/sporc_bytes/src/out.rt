@@ -1,6 +1,6 @@
 //! Writing fields at the end of bytes.
 
-ghost use Rattle.std.specs.Prelude.{◌≡◌, ◌<◌, ◌^◌, ◌++◌, ◌∷◌, [], length, OnOk, OnErr};
+ghost use Rattle.std.specs.Prelude.{◌≡◌, ◌<◌, ◌^◌, ◌++◌, ◌∷◌, [], length, IfOk, OnOk, OnErr};
 ghost use Rattle.std.specs.Int.{w16, w32, w64, to_be_bytes};
 ghost use Rattle.sporc_bytes.specs.Fields.{counted};
 
@@ -30,6 +30,14 @@ impl Out {
         Out {
             bytes: Vec::new(alloc),
         }
+    }
+
+    /// No bytes, with the memory of so many.
+    pub fn with_capacity(alloc: Global, len: usize) -> Result<Out, Memory>
+        ensures ok { IfOk result (λ out. out ≡ []) }
+    {
+        let bytes = Vec::with_capacity(alloc, len)?;
+        Ok(Out { bytes })
     }
 
     /// The bytes written.

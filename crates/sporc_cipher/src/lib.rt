@@ -13,7 +13,7 @@
 //! ```
 //!
 //! Proved: the mask is exactly the exclusive or with that stream, written as a definition from the RFC's text in `specs/`;
-//! a mask put on twice is taken off ([`laws`]). Tested only: that this definition gives the streams that OpenSSL gives.
+//! a mask put on twice is taken off ([`laws`]). Only tested: that this definition gives the streams that OpenSSL gives.
 //! Neither: that nobody can tell a masked text from chance.
 #![tactic(auto)]
 

@@ -1,4 +1,4 @@
-// What an entry that comes does to a client's own part.
+//! What an entry that comes does to a client's own part.
 
 ghost use Rattle.std.specs.Prelude.{◌≡◌, ◌+◌, ◌≤◌, ◌==◌, length, is_some, IfOk};
 ghost use Rattle.sporc_delta.specs.Marks.{base_len, inserted_len};

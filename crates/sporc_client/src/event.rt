@@ -1,3 +1,5 @@
+//! Events of a journal.
+
 use sporc_base::Bytes;
 use sporc_delta::Delta;
 use sporc_member::{Change, ChangeFault};

@@ -1,4 +1,4 @@
-// Why calls of a client are refused.
+//! Why calls of a client are refused.
 
 ghost use Rattle.std.specs.Prelude.{◌≡◌};
 ghost use Rattle.sporc_client.specs.declared.fault.AcceptFault.TheVariants as accepts;
@@ -62,7 +62,7 @@ pub enum SubmitFault {
 /// Why an entry is not accepted.
 #[derive(Clone, Copy, Debug, PartialEq, Eq, Error)]
 pub enum AcceptFault {
-    #[error("the entry is refused: {0:?}")]
+    #[error("the entry is refused: {0}")]
     Refused(Refusal),
     #[error("the journal is full")]
     JournalFull,

@@ -19,8 +19,8 @@
 //!
 //! Proved: each call answers what its definition over the journal answers, unless memory runs out, and the journal grows by
 //! that call's event or stays; the state is the replay of the journal; both texts are the definition's; no two entries carry
-//! one leaf, over all calls, and no crash makes the blocks of the leaves that signed free again; all laws. Tested only
-//! (`sporc_client_tests`): that calls succeed with ample memory. Neither: how long they take.
+//! one leaf, over all calls, and no crash makes the blocks of the leaves that signed free again; all laws. Only tested: that
+//! calls succeed with ample memory (`sporc_client_tests`). Neither: how long they take.
 #![tactic(auto)]
 
 mod client;
@@ -42,4 +42,5 @@ pub use crate::halves::{first_half, second_half};
 pub use crate::limits::{MAX_EDIT_BYTES, MAX_EVENTS, MAX_HEAD_BYTES, MAX_PENDING, MAX_SHOWN_LEN};
 pub use crate::pending::Pending;
 pub use crate::submitted::Submitted;
+pub use sporc_base::Memory;
 pub use sporc_hash::{Verdict, compare};

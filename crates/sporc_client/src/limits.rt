@@ -1,4 +1,4 @@
-// The limits of a client.
+//! The limits of a client.
 
 /// How many edits and changes of a client may wait to be committed.
 pub const MAX_PENDING: usize = 1_024;

@@ -1,3 +1,5 @@
+//! A client's own edits and changes that are not committed yet.
+
 use sporc_delta::Delta;
 use sporc_member::Change;
 

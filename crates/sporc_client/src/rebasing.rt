@@ -1,4 +1,4 @@
-// Another's form and the pending items, passing each other.
+//! Another's form and the pending items, passing each other.
 
 ghost use Rattle.std.specs.Prelude.{◌≡◌, ◌+◌, ◌≤◌, ◌∷◌, [], IfOk};
 ghost use Rattle.sporc_delta.specs.Marks.{base_len, inserted_len, out_len, retains};

@@ -1,3 +1,5 @@
+//! What submissions come to.
+
 use sporc_base::Bytes;
 use sporc_member::ChangeFault;
 

@@ -1,4 +1,4 @@
-// A client's own part.
+//! A client's own part.
 
 ghost use Rattle.std.specs.Prelude.{◌≡◌, ◌+◌, ◌≤◌, ◌<◌, ◌∷◌, ◌++◌, [], drop, take, length, None, Some, option_copied, IfOk, OnOk};
 ghost use Rattle.sporc_delta.specs.Marks.{base_len, inserted_len, retains};

@@ -1,6 +1,7 @@
 //! The command.
 
 ghost use Rattle.std.specs.Prelude.{◌≡◌, ◌+◌, ◌≤◌, [], ◌∷◌, length, map, option_map, string_bytes, IfErr, IfOk};
+ghost use Rattle.sporc_outside.specs.Told.{AreShutBehind};
 ghost use Rattle.sporc_outside.specs.Uses.{sink_use};
 ghost use Rattle.lms_leaf.specs.LeafFile.{IsLeafHeight};
 ghost use Rattle.lms_tree.specs.LmsType.{height_of};
@@ -10,7 +11,7 @@ ghost use Rattle.sporc_files.specs.declared.file.File.{File};
 ghost use Rattle.sporc_files.specs.Names.{file_name};
 ghost use Rattle.sporc_files.specs.Reading.{IsFileFault, SaysFileIfThere, any_bytes};
 ghost use Rattle.sporc_files.specs.Uses.{AsksOnly, chance_use, folder_use};
-ghost use Rattle.sporc_sessions.specs.Nets.{AreShutBehind, AsksAtMost, link_view};
+ghost use Rattle.sporc_sessions.specs.Nets.{AsksAtMost, link_view};
 ghost use Rattle.sporc_sessions.specs.Opening.{links_for_hints};
 ghost use Rattle.sporc_clients.specs.Outcome.{ClientOutcome, DiskOutcome, client_files, disk_view, names_of, net_use};
 

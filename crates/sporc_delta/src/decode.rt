@@ -7,12 +7,9 @@ ghost use Rattle.sporc_delta.specs.Marks.{base_len, out_len};
 ghost use Rattle.sporc_delta.specs.Parts.{owned, part_marks};
 ghost use Rattle.sporc_delta.specs.Reading.{kind_at, count_at, is_kind, head_at, text_at, part_at};
 
-use crate::encode::{INSERT, KEEP, REMOVE};
+use crate::encode::{HEAD_LEN, INSERT, KEEP, REMOVE};
 use crate::{DeltaFault, Kind, MAX_COUNT, Piece, TextSlice};
 use sporc_bytes::Cursor;
-
-// The number of bytes of a kind and a count.
-const HEAD_LEN: usize = 9;
 
 // The kind that a byte stands for.
 fn kind_of_byte(byte: u8) -> Result<Kind, DeltaFault>

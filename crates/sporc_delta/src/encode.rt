@@ -20,14 +20,17 @@ pub(crate) const INSERT: u8 = 2;
 
 pub(crate) const REMOVE: u8 = 3;
 
+// The number of bytes of a kind and a count.
+pub(crate) const HEAD_LEN: usize = 9;
+
 // The number of bytes of a part.
 fn part_len(part: &Part) -> u64
     requires { length (part_bytes part.now) < 2 ^ 64 }
     ensures value { result ≡ length (part_bytes part.now) }
 {
     match part {
-        Part::Keep(_) | Part::Remove(_) => 9,
-        Part::Insert(text) => 9 + text.as_str().len() as u64,
+        Part::Keep(_) | Part::Remove(_) => HEAD_LEN as u64,
+        Part::Insert(text) => HEAD_LEN as u64 + text.as_str().len() as u64,
     }
 }
 
@@ -48,8 +51,7 @@ fn put_head(bytes: &mut Vec<u8>, kind: u8, count: u64) -> Result<(), Memory>
     ensures ok { OnOk result (bytes.new.items ≡ bytes.old.items ++ kind ∷ to_be_bytes w64 count) }
 {
     bytes.push(kind)?;
-    bytes.extend_from_slice(&count.to_be_bytes())?;
-    Ok(())
+    bytes.extend_from_slice(&count.to_be_bytes())
 }
 
 // Writes a part.

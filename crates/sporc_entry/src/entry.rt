@@ -9,6 +9,7 @@ ghost use Rattle.sporc_entry.specs.Entry.{entry_of, entry_bytes, signed_string, 
 
 use crate::fault::EntryFault;
 use crate::header::{Header, put_header};
+use crate::limits::BODY_AT;
 use crate::view::EntryView;
 use sporc_base::{Bytes, Memory};
 use sporc_bytes::Out;
@@ -57,10 +58,12 @@ pub fn write_entry(alloc: Global, entry: &Entry) -> Result<Vec<u8>, Memory>
     requires signature { length entry.now.signature < 2 ^ 32 }
     ensures ok { IfOk result (λ bytes. bytes.items ≡ entry_bytes entry.now) }
 {
-    let mut out = Out::new(alloc);
+    let body = entry.body.as_slice();
+    let signature = entry.signature.as_slice();
+    let mut out = Out::with_capacity(alloc, BODY_AT + body.len() + 4 + signature.len())?;
     put_header(&mut out, &entry.header)?;
-    out.put_counted(entry.body.as_slice())?;
-    out.put_counted(entry.signature.as_slice())?;
+    out.put_counted(body)?;
+    out.put_counted(signature)?;
     Ok(out.into_bytes())
 }
 
@@ -70,9 +73,10 @@ pub fn signed_part(alloc: Global, entry: &Entry) -> Result<Vec<u8>, Memory>
     requires { length entry.now.body < 2 ^ 32 }
     ensures ok { IfOk result (λ bytes. bytes.items ≡ signed_string entry.now) }
 {
-    let mut out = Out::new(alloc);
+    let body = entry.body.as_slice();
+    let mut out = Out::with_capacity(alloc, 1 + BODY_AT + body.len())?;
     out.put_u8(3)?;
     put_header(&mut out, &entry.header)?;
-    out.put_counted(entry.body.as_slice())?;
+    out.put_counted(body)?;
     Ok(out.into_bytes())
 }

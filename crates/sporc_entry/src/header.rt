@@ -8,6 +8,12 @@ use sporc_base::Memory;
 use sporc_bytes::{Cursor, Out, Short};
 use sporc_hash::Digest32;
 
+/// The kind of an edit.
+pub const EDIT: u8 = 1;
+
+/// The kind of a change of the members.
+pub const CHANGE: u8 = 2;
+
 /// What stands before an entry's body.
 #[derive(Clone, Copy, PartialEq, Eq)]
 pub struct Header {
@@ -25,7 +31,7 @@ pub struct Header {
     pub epoch: u32,
     /// The number of the one-time key that signs the entry.
     pub leaf: u32,
-    /// 1 for an edit, 2 for a change.
+    /// [`EDIT`] or [`CHANGE`].
     pub kind: u8,
 }
 
@@ -45,7 +51,7 @@ pub(crate) fn read_header(cursor: &mut Cursor<'_>) -> Result<Header, Short>
     let base_hash = cursor.array()?;
     let epoch = cursor.u32()?;
     let leaf = cursor.u32()?;
-    let kind = cursor.u8_within(1, 2)?;
+    let kind = cursor.u8_within(EDIT, CHANGE)?;
     Ok(Header {
         document,
         author,

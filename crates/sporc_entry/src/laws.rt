@@ -2,6 +2,7 @@
 
 ghost use Rattle.std.specs.Prelude.{◌≡◌, ℕ, ◌+◌, ◌≤◌, List, length, Some, Ok, Err};
 ghost use Rattle.sporc_base.specs.Bytes.{IsBytes};
+ghost use Rattle.sporc_entry.specs.declared.header.TheConstants.{EDIT, CHANGE};
 ghost use Rattle.sporc_entry.specs.declared.limits.TheConstants.{HIGHEST_MEMBER, BODY_AT, MAX_EDIT_BODY, MAX_CHANGE_BODY, MAX_SIGNATURE, MAX_ENTRY};
 ghost use Rattle.sporc_entry.specs.declared.change.ChangeBody.{ChangeBody};
 ghost use Rattle.sporc_entry.specs.declared.entry.Entry.{Entry};
@@ -51,7 +52,7 @@ pub fn place_of_a_fault()
         → at ≤ length bytes }
 {}
 
-/// The limits in numbers.
+/// The limits and the kinds of entries, in numbers.
 pub fn limits()
     ensures member { HIGHEST_MEMBER ≡ 65535 }
     ensures body { BODY_AT ≡ 72 }
@@ -59,4 +60,6 @@ pub fn limits()
     ensures change { MAX_CHANGE_BODY ≡ 65536 }
     ensures signature { MAX_SIGNATURE ≡ 9324 }
     ensures whole { MAX_ENTRY ≡ 1057976 }
+    ensures edit_kind { EDIT ≡ 1 }
+    ensures change_kind { CHANGE ≡ 2 }
 {}

@@ -31,7 +31,7 @@ pub use committed::{CommittedChange, read_committed};
 pub use entry::{Entry, read_entry, signed_part, write_entry};
 pub use fault::{EntryFault, GenesisFault};
 pub use genesis::{Founders, Genesis, read_genesis, write_genesis};
-pub use header::Header;
+pub use header::{CHANGE, EDIT, Header};
 pub use limits::{
     BODY_AT, HIGHEST_MEMBER, MAX_CHANGE_BODY, MAX_EDIT_BODY, MAX_ENTRY, MAX_SIGNATURE,
 };

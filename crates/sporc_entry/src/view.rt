@@ -13,15 +13,12 @@ ghost use Rattle.sporc_entry.specs.EntryView.{parts_entry};
 use crate::change::{ChangeBody, read_body};
 use crate::entry::Entry;
 use crate::fault::EntryFault;
-use crate::header::{Header, read_header};
+use crate::header::{EDIT, Header, read_header};
 use crate::limits::{BODY_AT, MAX_CHANGE_BODY, MAX_EDIT_BODY, MAX_SIGNATURE};
 use sporc_base::{Bytes, Memory};
 use sporc_bytes::Cursor;
 use std::alloc::Global;
 use std::marker::Model;
-
-// The kind of an entry that is an edit.
-const EDIT: u8 = 1;
 
 // What reading found of an entry.
 #[derive(Drop)]

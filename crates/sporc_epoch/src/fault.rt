@@ -9,7 +9,7 @@ pub enum SealFault {
     /// The author has no pairwise key with this member, the least such.
     #[error("no pairwise key with member {0}")]
     NoPairKey(u16),
-    /// No memory was left.
+    /// Out of memory.
     #[error("out of memory")]
     Memory,
 }
@@ -37,7 +37,7 @@ pub enum HintFault {
     /// The key that was opened for this epoch is not the one that the change which started it committed to.
     #[error("the key of epoch {0} is not the one committed to")]
     WrongKey(u32),
-    /// No memory was left.
+    /// Out of memory.
     #[error("out of memory")]
     Memory,
 }

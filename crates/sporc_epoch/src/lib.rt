@@ -18,8 +18,8 @@
 //!
 //! Proved: each call answers what its definition in `specs/` says, over masks by RFC 8439 and SHA-256 by FIPS 180-4, with
 //! the cause of each fault; what is sealed opens, has a spelling, and names the members ([`laws`]); after
-//! [`Ring::reserve`] the next [`Ring::put`] takes no memory. Tested: bytes against OpenSSL and Python's hashlib. Neither:
-//! that a key is secret, and that hints are the keys of a good history, which the checks of an entry find out.
+//! [`Ring::reserve`] the next [`Ring::put`] takes no memory. Only tested: bytes against OpenSSL and Python's hashlib.
+//! Neither: that a key is secret, and that hints are the keys of a good history, which the checks of an entry find out.
 #![tactic(auto)]
 
 mod fault;

@@ -1,4 +1,4 @@
-// The values of a history's chain, and commitments to keys.
+//! The values of a history's chain, and commitments to keys.
 
 ghost use Rattle.std.specs.Prelude.{◌≡◌};
 ghost use Rattle.sporc_hash.specs.Chain.{genesis_value, next_value, commitment_of};

@@ -15,7 +15,7 @@
 //!
 //! Proved: each value is the SHA-256 of exactly the string that `specs/Chain.antt` lists, for all inputs; what `compare`
 //! says of any values; and, if no two different strings hashed for two histories have one digest (`CollisionFree`), that
-//! one value means one history and that `compare` says how the histories stand to each other. Tested only: that these
+//! one value means one history and that `compare` says how the histories stand to each other. Only tested: that these
 //! strings give the digests that Python's `hashlib` gives. Neither: that SHA-256 has no collisions.
 #![tactic(auto)]
 

@@ -1,4 +1,4 @@
-// The comparison of two histories by the values of their chains.
+//! The comparison of two histories by the values of their chains.
 
 ghost use Rattle.std.specs.Prelude.{◌≡◌, ◌≢◌, ◌<◌, ◌↔◌, ◌++◌, ℕ, List, length, IsTrue, slice_get};
 ghost use Rattle.sporc_hash.specs.Chain.{chain};

@@ -1,4 +1,4 @@
-// The checks of an entry against its author.
+//! The checks of an entry against its author.
 
 ghost use Rattle.std.specs.Prelude.{◌≡◌, ◌∷◌, Some};
 ghost use Rattle.lms_tree.specs.LmsPublic.{public_key_in};
@@ -7,7 +7,7 @@ ghost use Rattle.sporc_head.specs.HeadChecks.{author_checks, allows, names_leaf,
 
 use crate::refusal::Refusal;
 use lms_tree::{LmsPublic, verify_parts};
-use sporc_entry::EntryView;
+use sporc_entry::{EDIT, EntryView};
 use sporc_member::{Founder, Role};
 
 // Whether the author may make the entry, and signed it.
@@ -27,13 +27,13 @@ pub(crate) fn check_author(author: &Founder, entry: &EntryView<'_>) -> Result<()
     Ok(())
 }
 
-/// Whether a role allows an entry of this kind, 1 for edits and 2 for changes.
+/// Whether a role allows an entry of this kind: [`sporc_entry::EDIT`] or [`sporc_entry::CHANGE`].
 pub fn allows(role: Role, kind: u8) -> bool
     ensures value { result ≡ allows role kind }
 {
     match role {
         Role::Reader => false,
-        Role::Editor => kind == 1,
+        Role::Editor => kind == EDIT,
         Role::Admin => true,
     }
 }

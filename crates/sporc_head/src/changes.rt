@@ -1,4 +1,4 @@
-// The checks of a change at a roster.
+//! The checks of a change at a roster.
 
 ghost use Rattle.std.specs.Prelude.{◌≡◌, map, IfOk, Some};
 ghost use Rattle.sporc_base.specs.FirstFault.{AnswersUnless, first_of};

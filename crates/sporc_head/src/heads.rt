@@ -90,6 +90,7 @@ impl Heads {
     /// The bytes of the entries, oldest first.
     pub fn entries(&self) -> &[Vec<u8>]
         ensures value { map (λ v. v.items) result.now ≡ self.now.entries }
+        ensures few { length result.now ≤ MAX_ENTRIES }
         ensures within { All (λ bytes. length bytes ≤ MAX_ENTRY) self.now.entries }
     {
         self.entries.as_slice()

@@ -9,8 +9,9 @@
 //! ```
 //!
 //! Proved: a refusal is exactly the first check that fails over the whole list of entries, what is looked up is what that
-//! list says, and an entry that was checked is appended as it is. Tested, with real signatures: each refusal by an entry
-//! that fails its check alone and by one that fails all later checks too. Neither: that signatures can't be forged.
+//! list says, and an entry that was checked is appended as it is. Only tested: each refusal by an entry with a real
+//! signature that fails its check alone, and by one that fails all later checks too. Neither: that signatures can't be
+//! forged.
 #![tactic(auto)]
 
 mod authors;

@@ -1,7 +1,7 @@
-// Limits of histories.
+//! Limits of histories.
 
 /// How many entries a history has at most.
 pub const MAX_ENTRIES: u32 = 16_384;
 
-// How many numbers of members there can be.
+// How long a table by number is: each u16 has its place, also 0, which is no member's.
 pub(crate) const NUMBERS: usize = 65_536;

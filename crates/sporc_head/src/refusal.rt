@@ -21,7 +21,7 @@ pub enum Refusal {
     WrongPosition,
     #[error("the history removes this member")]
     Removed,
-    #[error("the history has 16,384 entries")]
+    #[error("the history is full")]
     HistoryFull,
     #[error("its author is no member")]
     UnknownAuthor,
@@ -55,7 +55,7 @@ pub enum Refusal {
     NoKey,
     #[error("its epoch's key does not meet the commitment")]
     WrongKey,
-    /// No memory was left: nothing is said of the entry.
+    /// Out of memory: nothing is said of the entry.
     #[error("out of memory")]
     Memory,
 }

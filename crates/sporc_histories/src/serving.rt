@@ -1,10 +1,9 @@
 //! `serve NAME ADDRESS --sessions K`.
 
 ghost use Rattle.std.specs.Prelude.{◌≡◌, ◌≤◌, [], ◌∷◌, Err};
-ghost use Rattle.sporc_outside.specs.Told.{MayAppend};
+ghost use Rattle.sporc_outside.specs.Told.{AreShutBehind, MayAppend};
 ghost use Rattle.sporc_outside.specs.Uses.{sink_use};
 ghost use Rattle.sporc_serve.specs.Crowds.{net_of};
-ghost use Rattle.sporc_serve.specs.Returns.{AreShutBehind};
 ghost use Rattle.sporc_serve.specs.declared.limits.TheConstants.{MAX_SESSIONS};
 ghost use Rattle.sporc_files.specs.Names.{file_name};
 ghost use Rattle.sporc_files.specs.Uses.{AsksOnly, folder_use};

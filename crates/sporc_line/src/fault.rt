@@ -12,7 +12,7 @@ pub enum LineOpenFault {
     /// The key of epoch 0 doesn't meet the commitment of the genesis.
     #[error("the key of epoch 0 doesn't meet its commitment")]
     WrongKey,
-    /// Memory ran out.
+    /// Out of memory.
     #[error("out of memory")]
     Memory,
 }

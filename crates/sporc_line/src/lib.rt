@@ -16,9 +16,9 @@
 //!
 //! Proved: `prepare` and `accept` answer exactly the first fault of the definition, unless memory runs out, and leave the
 //! line as it is, or append; every getter is its definition over the list; the history stays good after any calls; both
-//! laws. Nothing is looked up in the list while an entry is checked. Tested, in `sporc_history_tests`:
-//! each refusal by entries with real signatures, and what members, a joiner and a removed member read. Neither: how long a
-//! call takes.
+//! laws. Nothing is looked up in the list while an entry is checked. Only tested: each refusal by
+//! entries with real signatures, and what members, a joiner and a removed member read (`sporc_history_tests`). Neither: how
+//! long a call takes.
 #![tactic(auto)]
 
 mod effect;
@@ -37,3 +37,4 @@ pub use fault::LineOpenFault;
 pub use limits::MAX_COMMITTED_LEN;
 pub use line::Line;
 pub use prepared::Prepared;
+pub use sporc_base::Memory;

@@ -136,7 +136,7 @@ impl Line {
         &self.kit
     }
 
-    /// How many entries there are, at most 16,384.
+    /// How many entries there are, at most [`MAX_ENTRIES`](sporc_head::MAX_ENTRIES).
     pub fn len(&self) -> u32
         ensures value { result ≡ length self.now.entries }
         ensures within { result ≤ MAX_ENTRIES }

@@ -36,7 +36,7 @@ pub enum ChangeFault {
     SameRole,
     #[error("no admin would be left")]
     LastAdmin,
-    #[error("there are 64 members")]
+    #[error("the roster is full")]
     RosterFull,
     #[error("the key is of no known type")]
     BadKey,

@@ -11,8 +11,8 @@
 //! ```
 //!
 //! Proved: a change is refused for exactly its first fault and otherwise makes exactly its change; members stand in the
-//! order of their numbers; what takes memory leaves all as it was if there is none. Tested only: the names of faults
-//! by a table, and that memory suffices if there is some. Neither: nothing else is claimed.
+//! order of their numbers; what takes memory leaves all as it was if there is none. Only tested: the names of faults
+//! by a table, and that memory suffices if there is ample. Neither: nothing else is claimed.
 #![tactic(auto)]
 
 mod change;

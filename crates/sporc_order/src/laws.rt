@@ -12,7 +12,7 @@ pub fn limits()
     ensures bytes { MAX_PULLED_BYTES ≡ 4194298 }
 {}
 
-/// What one answer holds is a prefix of the entries after some, within the limits on their number and on their bytes, and the
+/// What one answer holds is a prefix of the entries after the first `from`, within the limits on their number and on their bytes, and the
 /// longest of those.
 pub fn batches_are_longest()
     ensures prefix { (entries : List (List ℕ)) (from : ℕ) → batch_after entries from ≡ take (length (batch_after entries from)) (drop from entries) }

@@ -11,7 +11,7 @@
 //! ```
 //!
 //! Proved: an entry is appended exactly if no check fails, an answer is the longest batch within its limits, empty exactly
-//! if there are no more entries, and each answer of a session is the order's at its entries. Tested only: that the calls
+//! if there are no more entries, and each answer of a session is the order's at its entries. Only tested: that the calls
 //! succeed with ample memory. Neither: that a client gets an answer.
 #![tactic(auto)]
 

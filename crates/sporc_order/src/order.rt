@@ -67,8 +67,7 @@ impl Order {
         ensures value { map (λ v. v.items) result.now ≡ self.now.entries }
         ensures within { length result.now ≤ MAX_ENTRIES }
     {
-        let len = self.heads.len() as usize;
-        &self.heads.entries()[..len]
+        self.heads.entries()
     }
 
     /// Appends an entry where no check fails that needs no key, and answers its position; else the first check that

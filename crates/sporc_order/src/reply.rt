@@ -19,7 +19,7 @@ pub enum Reply {
     Close,
 }
 
-// The same, as a message.
+// The reply that says an answer.
 pub(crate) fn reply_of(answer: Answer) -> Reply
     ensures { Says answer result }
 {

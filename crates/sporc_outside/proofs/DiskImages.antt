@@ -11,7 +11,7 @@ use Rattle.sporc_outside.specs.declared.disk_call.DiskCall.{DiskCall}
 use Rattle.sporc_outside.specs.declared.disk_call.DiskRequest.{DiskRequest}
 use Rattle.sporc_outside.specs.declared.disk_call.DiskRequest.TheVariants.{Len, Read, Write, Sync}
 use Rattle.sporc_outside.specs.LeafDisk.{overwrite, IsSame, IsSameOutside, CrashStep}
-use Rattle.sporc_outside.specs.MemoryDisk.{DiskState, state_after, MemoryDiskModel, after_call, after_request, IsUnsynced, IsImage, IsWrite, LogsCall, images_of}
+use Rattle.sporc_outside.specs.MemoryDisk.{DiskState, state_after, MemoryDiskModel, after_call, after_request, IsUnsynced, IsImage, IsWrite, LogsCall, bytes_of, images_of}
 use Rattle.sporc_outside.proofs.Overwrites.{length-overwrite, slice_index-overwrite_outside, slice_index-overwrite_inside}
 
 -- what a crash after the first m of these calls may leave
@@ -132,7 +132,7 @@ same_bytes first log new request (Err _) quiet (inr same) = ap (λ (l : List Dis
 
 -- after a sync that succeeded an image is what a read gives
 pub synced_images : {T E : Type 0} (old new : MemoryDiskModel) (r : Result T E) → LogsCall old.log new.log Sync r
-    → OnOk r ((image : List ℕ) → images_of new (length new.log) image → Some (state_after new.first new.log).bytes ≡ Some image)
+    → OnOk r ((image : List ℕ) → images_of new (length new.log) image → Some (bytes_of new) ≡ Some image)
 synced_images old new (Ok _) more = λ image h. synced_log new.first old.log new.log image more h
 synced_images old new (Err _) more = _
 
@@ -193,22 +193,22 @@ steps_write s at bytes false fits image h = before_write s at bytes s.bytes imag
 -- a write in the log
 pub passes_write : (old : MemoryDiskModel) (first : List ℕ) (log new : List DiskCall) (calls : CallsModel) (at : ℕ) (bytes kept : List ℕ)
     (done : Bool) → ◌≡◌ {A = MemoryDiskModel} (record { first = first; log = log; calls = calls }) old → kept ≡ bytes
-    → new ≡ log ++ record { request = Write at kept; done = done } ∷ [] → at + length bytes ≤ length (state_after old.first old.log).bytes
+    → new ≡ log ++ record { request = Write at kept; done = done } ∷ [] → at + length bytes ≤ length (bytes_of old)
     → CrashStep (length old.log) (length new) (images_of old) (images_in first new) (IsSameOutside at (length bytes))
 passes_write old first log new calls at bytes kept done is same more fits =
     let here : at + length bytes ≤ length (state_after first log).bytes =
-    subst (λ (d : MemoryDiskModel). at + length bytes ≤ length (state_after d.first d.log).bytes) (sym is) fits in
+    subst (λ (d : MemoryDiskModel). at + length bytes ≤ length (bytes_of d)) (sym is) fits in
     passes_logged old first log new calls (record { request = Write at bytes; done = done }) (IsSameOutside at (length bytes)) is
     (more ∙ ap (λ (b : List ℕ). log ++ record { request = Write at b; done = done } ∷ []) same)
     (same_outside at (length bytes)) (steps_write (state_after first log) at bytes done here)
 
 pub others_write : (old : MemoryDiskModel) (first : List ℕ) (log new : List DiskCall) (calls : CallsModel) (at : ℕ) (bytes kept : List ℕ)
     → ◌≡◌ {A = MemoryDiskModel} (record { first = first; log = log; calls = calls }) old → kept ≡ bytes
-    → new ≡ log ++ record { request = Write at kept; done = true } ∷ [] → at + length bytes ≤ length (state_after old.first old.log).bytes
-    → IsSameOutside at (length bytes) (state_after old.first old.log).bytes (state_after first new).bytes
+    → new ≡ log ++ record { request = Write at kept; done = true } ∷ [] → at + length bytes ≤ length (bytes_of old)
+    → IsSameOutside at (length bytes) (bytes_of old) (state_after first new).bytes
 others_write old first log new calls at bytes kept is same more fits =
-    let P : MemoryDiskModel → Type 0 = λ d. at + length bytes ≤ length (state_after d.first d.log).bytes
-    → IsSameOutside at (length bytes) (state_after d.first d.log).bytes (state_after first new).bytes in
+    let P : MemoryDiskModel → Type 0 = λ d. at + length bytes ≤ length (bytes_of d)
+    → IsSameOutside at (length bytes) (bytes_of d) (state_after first new).bytes in
     subst P is
     (λ here. rw (
       more ∙ ap (λ (b : List ℕ). log ++ record { request = Write at b; done = true } ∷ []) same,

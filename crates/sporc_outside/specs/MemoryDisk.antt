@@ -48,6 +48,10 @@ LogsCall old new request (Err _) = (new ≡ old ++ record { request = request; d
 abbrev pub state_after : List ℕ → List DiskCall → DiskState
 state_after first log = fold after_call (record { bytes = first; unsynced = [] }) log
 
+-- what a read of the disk gives
+abbrev pub bytes_of : MemoryDiskModel → List ℕ
+bytes_of disk = (state_after disk.first disk.log).bytes
+
 -- the place is in one of the ranges
 abbrev pub IsUnsynced : List (ℕ × ℕ) → ℕ → Type 0
 IsUnsynced [] i = ⊥
@@ -66,7 +70,7 @@ images_of disk m image = IsImage (state_after disk.first (take m disk.log)) imag
 image_itself : (s : DiskState) → IsImage s s.bytes
 image_itself s = record { length = refl; synced = λ i. inr refl }
 
-pub bytes_are_image : (disk : MemoryDiskModel) → images_of disk (length disk.log) (state_after disk.first disk.log).bytes
+pub bytes_are_image : (disk : MemoryDiskModel) → images_of disk (length disk.log) (bytes_of disk)
 bytes_are_image disk =
-    let P : List DiskCall → Type 0 = λ log. IsImage (state_after disk.first log) (state_after disk.first disk.log).bytes in
+    let P : List DiskCall → Type 0 = λ log. IsImage (state_after disk.first log) (bytes_of disk) in
     subst P (sym (take-length disk.log)) (image_itself (state_after disk.first disk.log))

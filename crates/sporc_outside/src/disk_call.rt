@@ -2,7 +2,7 @@
 
 use std::marker::Model;
 
-/// Bytes that were written.
+/// Bytes that a call was given: what was written, or a name.
 #[derive(Drop)]
 pub struct DiskBytes {
     bytes: Vec<u8>,
@@ -19,12 +19,14 @@ impl Model for DiskBytes {
 impl DiskBytes {
     ghost use Rattle.std.specs.Prelude.{◌≡◌};
 
+    /// These bytes.
     pub fn new(bytes: Vec<u8>) -> DiskBytes
         ensures value { result ≡ bytes.items }
     {
         DiskBytes { bytes }
     }
 
+    /// The bytes.
     pub fn as_slice(&self) -> &[u8]
         ensures value { result.now ≡ self.now }
     {

@@ -7,7 +7,7 @@ use crate::counted::Failed;
 use std::alloc::AllocError;
 use thiserror::Error;
 
-/// How many bytes a file has at most that is read or saved.
+/// The most bytes of a file that is read or saved.
 pub const MAX_FILE: u64 = 1_073_741_824;
 
 /// Why a call on a file didn't succeed.

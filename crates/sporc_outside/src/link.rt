@@ -18,7 +18,7 @@ pub trait Link: Source + Sink {
         ensures written { Self.written self.new ≡ Self.written self.old }
         ensures count { Self.faults self.new ≡ Self.faults self.old };
 
-    // What a read leaves are the bytes written, and what a write leaves those that are left to be read.
+    // A read leaves the bytes written as they are, and a write those that are left to be read.
     ghost sent_is: { (l : Self) → Self.sent l ≡ Self.written l };
 
     ghost pending_is: { (l : Self) → Self.pending l ≡ Self.left l };

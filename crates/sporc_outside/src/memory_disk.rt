@@ -36,7 +36,7 @@ impl Model for MemoryDisk {
 }
 
 impl MemoryDisk {
-    ghost use Rattle.sporc_outside.specs.MemoryDisk.{state_after, images_of, IsWrite};
+    ghost use Rattle.sporc_outside.specs.MemoryDisk.{bytes_of, images_of, IsWrite};
 
     /// Holds these bytes, all of them synced. The listed calls fail.
     pub fn new(alloc: Global, bytes: Vec<u8>, calls: Calls) -> Result<MemoryDisk, AllocError>
@@ -55,14 +55,14 @@ impl MemoryDisk {
 
     /// What a read gives.
     pub fn as_slice(&self) -> &[u8]
-        ensures value { result.now ≡ (state_after self.now.first self.now.log).bytes }
+        ensures value { result.now ≡ bytes_of self.now }
     {
         self.bytes.as_slice()
     }
 
     /// Gives up the bytes.
     pub fn into_bytes(self) -> Vec<u8>
-        ensures value { result.items ≡ (state_after self.first self.log).bytes }
+        ensures value { result.items ≡ bytes_of self }
     {
         self.bytes
     }
@@ -78,7 +78,7 @@ impl MemoryDisk {
     fn enter(&mut self, request: DiskRequest) -> Result<(), Failed>
         requires { IsWrite request → ⊥ }
         ensures logged { LogsCall self.old.log self.new.log request result }
-        ensures bytes { (state_after self.new.first self.new.log).bytes ≡ (state_after self.old.first self.old.log).bytes }
+        ensures bytes { bytes_of self.new ≡ bytes_of self.old }
         ensures images { CrashStep (length self.old.log) (length self.new.log) (images_of self.old) (images_of self.new)
             IsSame }
         ensures call { CountsCall self.old.calls self.new.calls result }
@@ -98,9 +98,9 @@ impl Counted for MemoryDisk {
 
 impl LeafDisk for MemoryDisk {
     ghost use Rattle.std.specs.Prelude.{Some, length, refl};
-    ghost use Rattle.sporc_outside.specs.MemoryDisk.{state_after, images_of, bytes_are_image};
+    ghost use Rattle.sporc_outside.specs.MemoryDisk.{bytes_of, images_of, bytes_are_image};
 
-    ghost stored = { λ d. Some (state_after d.first d.log).bytes };
+    ghost stored = { λ d. Some (bytes_of d) };
 
     ghost moment = { λ d. length d.log };
 
@@ -111,8 +111,8 @@ impl LeafDisk for MemoryDisk {
     ghost images_are_told = { λ d image is. refl };
 
     fn len(&mut self) -> Result<u64, Failed>
-        ensures length { IfOk result (λ n. n ≡ length (state_after self.old.first self.old.log).bytes) }
-        ensures stored { Some (state_after self.new.first self.new.log).bytes ≡ Some (state_after self.old.first self.old.log).bytes }
+        ensures length { IfOk result (λ n. n ≡ length (bytes_of self.old)) }
+        ensures stored { Some (bytes_of self.new) ≡ Some (bytes_of self.old) }
         ensures images { CrashStep (length self.old.log) (length self.new.log) (images_of self.old) (images_of self.new)
             IsSame }
         ensures call { CountsCall self.old.calls self.new.calls result }
@@ -123,9 +123,9 @@ impl LeafDisk for MemoryDisk {
     }
 
     fn read(&mut self, at: u64, buf: &mut [u8]) -> Result<(), Failed>
-        requires { at + length buf.old ≤ length (state_after self.old.first self.old.log).bytes }
-        ensures bytes { OnOk result (buf.new ≡ take (length buf.old) (drop at (state_after self.old.first self.old.log).bytes)) }
-        ensures stored { Some (state_after self.new.first self.new.log).bytes ≡ Some (state_after self.old.first self.old.log).bytes }
+        requires { at + length buf.old ≤ length (bytes_of self.old) }
+        ensures bytes { OnOk result (buf.new ≡ take (length buf.old) (drop at (bytes_of self.old))) }
+        ensures stored { Some (bytes_of self.new) ≡ Some (bytes_of self.old) }
         ensures images { CrashStep (length self.old.log) (length self.new.log) (images_of self.old) (images_of self.new)
             IsSame }
         ensures call { CountsCall self.old.calls self.new.calls result }
@@ -139,9 +139,9 @@ impl LeafDisk for MemoryDisk {
     }
 
     fn write_at(&mut self, at: u64, bytes: &[u8]) -> Result<(), Failed>
-        requires { at + length bytes.now ≤ length (state_after self.old.first self.old.log).bytes }
-        ensures written { OnOk result (Some (state_after self.new.first self.new.log).bytes ≡ Some (overwrite (state_after self.old.first self.old.log).bytes at bytes.now)) }
-        ensures others { KeepsOutside at (length bytes.now) (Some (state_after self.old.first self.old.log).bytes) (Some (state_after self.new.first self.new.log).bytes) }
+        requires { at + length bytes.now ≤ length (bytes_of self.old) }
+        ensures written { OnOk result (Some (bytes_of self.new) ≡ Some (overwrite (bytes_of self.old) at bytes.now)) }
+        ensures others { KeepsOutside at (length bytes.now) (Some (bytes_of self.old)) (Some (bytes_of self.new)) }
         ensures images { CrashStep (length self.old.log) (length self.new.log) (images_of self.old) (images_of self.new)
             (IsSameOutside at (length bytes.now)) }
         ensures call { CountsCall self.old.calls self.new.calls result }
@@ -161,8 +161,8 @@ impl LeafDisk for MemoryDisk {
 
     fn sync(&mut self) -> Result<(), Failed>
         ensures durable { OnOk result
-            ((image : List ℕ) → images_of self.new (length self.new.log) image → Some (state_after self.new.first self.new.log).bytes ≡ Some image) }
-        ensures stored { Some (state_after self.new.first self.new.log).bytes ≡ Some (state_after self.old.first self.old.log).bytes }
+            ((image : List ℕ) → images_of self.new (length self.new.log) image → Some (bytes_of self.new) ≡ Some image) }
+        ensures stored { Some (bytes_of self.new) ≡ Some (bytes_of self.old) }
         ensures images { CrashStep (length self.old.log) (length self.new.log) (images_of self.old) (images_of self.new)
             IsSame }
         ensures call { CountsCall self.old.calls self.new.calls result }

@@ -90,7 +90,7 @@ impl Folder for MemoryFolder {
     type Disk = MemoryDisk;
 
     ghost use Rattle.std.specs.Prelude.{Some};
-    ghost use Rattle.sporc_outside.specs.MemoryDisk.{state_after};
+    ghost use Rattle.sporc_outside.specs.MemoryDisk.{bytes_of};
 
     ghost files = { λ f. Some f.files };
 
@@ -129,7 +129,7 @@ impl Folder for MemoryFolder {
     }
 
     fn leaf_disk(&mut self, name: &str) -> Result<MemoryDisk, FileFault>
-        ensures ok { IfOk result (λ disk. IsDiskOf (Some self.old.files) name.now (Some (state_after disk.first disk.log).bytes)) }
+        ensures ok { IfOk result (λ disk. IsDiskOf (Some self.old.files) name.now (Some (bytes_of disk))) }
         ensures fresh { IfOk result (λ disk. disk.calls.faults ≡ 0) }
         ensures err { IfErr result (IsDiskFault (Some self.old.files) name.now self.old.calls.faults self.new.calls.faults) }
         ensures files { Some self.new.files ≡ Some self.old.files }
@@ -244,8 +244,8 @@ fn write(
     ensures err { OnErr result (files.new.items ≡ files.old.items) }
 {
     let bytes = Vec::from_slice(alloc, bytes)?;
-    if place_of(files, name).is_some() {
-        put(files, name, bytes);
+    if let Some(place) = place_of(files, name) {
+        files[place].bytes = DiskBytes::new(bytes);
         return Ok(());
     }
     let name = DiskBytes::new(Vec::from_slice(alloc, name)?);

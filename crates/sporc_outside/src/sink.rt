@@ -3,7 +3,7 @@
 ghost use Rattle.std.specs.Prelude.{◌≡◌, ◌<◌, ◌≤◌, ℕ, List, Option, length, IfOk, OnOk, OnErr};
 ghost use Rattle.std.specs.Io.KnownBytes.{WriteAppends, Appends};
 ghost use Rattle.sporc_outside.specs.Counts.{CountsFaults};
-ghost use Rattle.sporc_outside.specs.Writing.{AppendsPrefix};
+ghost use Rattle.sporc_outside.specs.Writing.{AppendsPrefix, AppendsLess};
 
 use crate::counted::{Counted, Failed};
 
@@ -24,10 +24,11 @@ pub trait Sink: Counted {
         ensures count { CountsFaults (Self.faults self.old) (Self.faults self.new) result };
 }
 
-/// Writes all the bytes, or a prefix of them if the sink fails.
+/// Writes all the bytes, or a prefix of them, which is not all, if the sink fails.
 pub fn write_all<O: Sink>(out: &mut O, bytes: &[u8]) -> Result<(), Failed>
     ensures ok { OnOk result (Appends (O.written out.old) (O.written out.new) bytes.now) }
     ensures err { OnErr result (AppendsPrefix (O.written out.old) (O.written out.new) bytes.now) }
+    ensures less { OnErr result (AppendsLess (O.written out.old) (O.written out.new) bytes.now) }
     ensures pending { O.pending out.new ≡ O.pending out.old }
     ensures count { CountsFaults (O.faults out.old) (O.faults out.new) result }
 {

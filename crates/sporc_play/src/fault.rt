@@ -1,3 +1,5 @@
+//! Why plays are not performed whole.
+
 ghost use Rattle.std.specs.Prelude.{◌≡◌};
 ghost use Rattle.sporc_play.specs.Playing.{line_fault, read_fault};
 ghost use Rattle.sporc_play.specs.declared.fault.PlayFault.TheVariants as faults;

@@ -14,8 +14,8 @@
 //!
 //! Proved: the report, the generated run's line and what is told of a client are those of the definitions, which perform
 //! the commands on plain records of clients and recompute all from the first entry; each answer names its cause, and after
-//! a fault a prefix of the report was written; each play is a run of its members' clients ([`laws`]). Tested only
-//! (`sporc_commands_tests`, `examples/`): that plays succeed with ample memory. Neither: how long a play takes.
+//! a fault a prefix of the report was written; each play is a run of its members' clients ([`laws`]). Only tested:
+//! that plays succeed with ample memory (`sporc_commands_tests`, `examples/`). Neither: how long a play takes.
 #![tactic(auto)]
 
 mod acting;

@@ -16,7 +16,7 @@ pub enum Found {
     Missing(u64),
 }
 
-/// Entry E.
+/// The bytes of the entry with this number, counted from 1, if there is one.
 pub fn entry_at(made: &[Vec<u8>], number: u64) -> Option<&[u8]>
     ensures value { option_copied result ≡ entry_at (map (λ v. v.items) made.now) number }
 {

@@ -1,3 +1,5 @@
+//! Plays: a script is read and performed, and its report is written.
+
 ghost use Rattle.std.specs.Prelude.{◌≡◌, ◌≢◌, ◌+◌, ◌≤◌, List, IfErr, OnOk, OnErr};
 ghost use Rattle.sporc_outside.specs.Uses.{sink_use, source_use};
 ghost use Rattle.sporc_reading.specs.Reading.{ConsumesAtMost};

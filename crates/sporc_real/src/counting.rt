@@ -1,4 +1,4 @@
-// Errors of the system, counted.
+//! Errors of the system, counted.
 
 ghost use Rattle.std.specs.Prelude.{◌≡◌, ◌≤◌, Ok, IfOk, IsErr, OnErr};
 ghost use Rattle.sporc_outside.specs.Counts.{CountsFaults, Rose, next_count};

@@ -1,4 +1,4 @@
-// One read and one write, again where a signal interrupts them.
+//! One read and one write, again where a signal interrupts them.
 
 ghost use Rattle.std.specs.Prelude.{◌<◌, ◌≤◌, length, IfOk};
 ghost use Rattle.std.specs.Io.KnownBytes.{ReadConsumes, WriteAppends};
@@ -6,7 +6,7 @@ ghost use Rattle.std.specs.Io.KnownBytes.{ReadConsumes, WriteAppends};
 use std::io;
 use std::io::{ErrorKind, Read, Write};
 
-// How often a call is made again that signals interrupt.
+// How often a call is made at most, if signals interrupt it.
 const MAX_TRIES: u32 = 1000;
 
 // Moves bytes into the first places of the buffer, and says how many.

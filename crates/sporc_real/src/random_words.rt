@@ -14,6 +14,7 @@ pub struct RandomWords<R: RandomSource + Drop> {
 }
 
 impl<R: RandomSource + Drop> RandomWords<R> {
+    /// Takes words by this runtime.
     pub fn new(rt: R) -> RandomWords<R>
         ensures value { result.faults ≡ 0 }
     {

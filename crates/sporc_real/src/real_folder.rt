@@ -26,6 +26,7 @@ pub struct RealFolder<R: Files<File = File> + AllocGlobal + Drop> {
 }
 
 impl<R: Files<File = File> + AllocGlobal + Drop> RealFolder<R> {
+    /// Files by this runtime, no call of which has failed yet.
     pub fn new(rt: R) -> RealFolder<R>
         ensures value { result.faults ≡ 0 }
     {

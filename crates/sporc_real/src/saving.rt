@@ -1,4 +1,4 @@
-// How files are made and replaced.
+//! How files are made and replaced.
 
 ghost use Rattle.std.specs.Prelude.{◌≡◌, true};
 ghost use Rattle.std.specs.Fs.{asks_create_new, asks_write};

@@ -15,6 +15,7 @@ pub struct StandardInput<R> {
 }
 
 impl<R: Read> StandardInput<R> {
+    /// A source over this reader.
     pub fn new(reader: R) -> StandardInput<R>
         ensures reader { result.reader ≡ reader }
         ensures faults { result.faults ≡ 0 }

@@ -15,6 +15,7 @@ pub struct StandardOutput<W> {
 }
 
 impl<W: Write> StandardOutput<W> {
+    /// A sink over this writer.
     pub fn new(writer: W) -> StandardOutput<W>
         ensures writer { result.writer ≡ writer }
         ensures faults { result.faults ≡ 0 }

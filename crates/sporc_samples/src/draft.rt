@@ -5,12 +5,6 @@ use crate::member::Member;
 use sporc_entry::{Bytes, Entry, Header, signed_part, write_entry};
 use std::alloc::Global;
 
-/// The kind of an edit.
-pub const EDIT: u8 = 1;
-
-/// The kind of a change.
-pub const CHANGE: u8 = 2;
-
 /// An entry to be signed: whatever stands in its header is signed as it stands.
 #[derive(Clone, Copy)]
 pub struct Draft {

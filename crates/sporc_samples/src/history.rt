@@ -4,9 +4,9 @@ ghost use Rattle.sporc_entry.specs.Genesis.{IsGenesis};
 
 use crate::bodies::{change_body, edit_body};
 use crate::cast::{Cast, DOCUMENT};
-use crate::draft::{CHANGE, Draft, EDIT};
+use crate::draft::Draft;
 use crate::fault::SampleFault;
-use sporc_entry::{Genesis, Header, write_genesis};
+use sporc_entry::{CHANGE, EDIT, Genesis, Header, write_genesis};
 use sporc_hash::{Digest32, genesis_hash, next_hash};
 use sporc_member::Change;
 use std::alloc::Global;

@@ -31,9 +31,10 @@ mod member;
 
 pub use bodies::{change_body, edit_body, insertion};
 pub use cast::{Cast, DOCUMENT};
-pub use draft::{CHANGE, Draft, EDIT};
+pub use draft::Draft;
 pub use fault::SampleFault;
 pub use histories::{forked_history, short_history};
 pub use history::History;
 pub use keys::{epoch_key, pair_key};
 pub use member::Member;
+pub use sporc_entry::{CHANGE, EDIT};

@@ -35,28 +35,14 @@ fn read_editor_words(
 ) -> Result<Option<EditorCommand>, Memory>
     ensures { IfOk result (λ found. found ≡ editor_with word words.now) }
 {
-    match word {
-        EditorWord::Insert => match read_insertion(alloc, words)? {
-            Some(insertion) => Ok(Some(EditorCommand::Insert(insertion))),
-            None => Ok(None),
-        },
-        EditorWord::Add => match read_newcomer(alloc, words)? {
-            Some(newcomer) => Ok(Some(EditorCommand::Add(newcomer))),
-            None => Ok(None),
-        },
-        EditorWord::Remove => match read_removal(words) {
-            Some(removal) => Ok(Some(EditorCommand::Remove(removal))),
-            None => Ok(None),
-        },
-        EditorWord::Drop => match parse_member(words) {
-            Some(member) => Ok(Some(EditorCommand::Drop(member))),
-            None => Ok(None),
-        },
-        EditorWord::Role => match read_member_role(words) {
-            Some(role) => Ok(Some(EditorCommand::SetRole(role))),
-            None => Ok(None),
-        },
-    }
+    let command = match word {
+        EditorWord::Insert => read_insertion(alloc, words)?.map(EditorCommand::Insert),
+        EditorWord::Add => read_newcomer(alloc, words)?.map(EditorCommand::Add),
+        EditorWord::Remove => read_removal(words).map(EditorCommand::Remove),
+        EditorWord::Drop => parse_member(words).map(EditorCommand::Drop),
+        EditorWord::Role => read_member_role(words).map(EditorCommand::SetRole),
+    };
+    Ok(command)
 }
 
 // `N ROLE HEX`

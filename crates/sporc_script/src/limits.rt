@@ -1,6 +1,6 @@
-// Limits of what is read, played and edited.
+//! Limits of what is read, played and edited.
 
-/// The most bytes that are read as one script: 1 GiB.
+/// The most bytes of a text that is read as a script: 1 GiB, as many as a file has at most. A play takes fewer.
 pub const MAX_SCRIPT_BYTES: usize = 1 << 30;
 
 /// The most edits of a generated run.

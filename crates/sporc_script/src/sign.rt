@@ -33,6 +33,8 @@ pub enum What {
     Change(RosterChange),
 }
 
+/// What is wrong about an entry that a rogue signs.
+///
 /// The last four stand behind a change of the members alone.
 #[derive(Clone, Copy)]
 pub enum Suffix {

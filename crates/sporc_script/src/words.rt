@@ -103,7 +103,7 @@ pub fn parse_u64(word: &[u8]) -> Option<u64>
     }
 }
 
-/// A position or the like: such a number that fits 32 bits.
+/// The number that the whole word is, as [`parse_u64`] reads it, if it fits 32 bits: a position, or a count of rounds.
 #[tactic(auto, unfolding(crate::specs::Readers::u32_of))]
 pub fn parse_u32(word: &[u8]) -> Option<u32>
     ensures value { result ≡ u32_of word.now }
@@ -115,7 +115,7 @@ pub fn parse_u32(word: &[u8]) -> Option<u32>
     None
 }
 
-/// A member's number: such a number that fits 16 bits and is not 0.
+/// The member's number that the whole word is, as [`parse_u64`] reads it: from 1 to 65,535.
 #[tactic(auto, unfolding(crate::specs::Readers::member_of))]
 pub fn parse_member(word: &[u8]) -> Option<u16>
     ensures value { result ≡ member_of word.now }

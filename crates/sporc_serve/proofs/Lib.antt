@@ -6,5 +6,4 @@ pub mod Framed
 pub mod Sendable
 pub mod Stepping
 pub mod Crowding
-pub mod Returning
 pub mod Serving

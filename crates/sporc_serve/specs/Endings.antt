@@ -2,6 +2,7 @@
 use Rattle.std.specs.Prelude.{◌≡◌, ◌<◌, ℕ, List, [], length, Option, Some, None, Result, Ok, Err}
 use Rattle.std.specs.Io.KnownBytes.{Consumes, Appends, IsAtEnd}
 use Rattle.sporc_outside.specs.Counts.{Rose}
+use Rattle.sporc_outside.specs.Writing.{AppendsLess}
 use Rattle.sporc_wire.specs.declared.fault.FrameFault.{FrameFault}
 use Rattle.sporc_wire.specs.declared.to_server.ToServer.{ToServer}
 use Rattle.sporc_wire.specs.Messages.{Unread, fed, next}
@@ -10,7 +11,7 @@ use Rattle.sporc_order.specs.declared.session.Answer.{Answer}
 use Rattle.sporc_order.specs.declared.session.Answer.TheVariants.{Close}
 use Rattle.sporc_serve.specs.declared.end.SessionEnd.{SessionEnd}
 use Rattle.sporc_serve.specs.declared.end.SessionEnd.TheVariants.{Closed, LinkEnded, LinkFault, BadFrame, Worn, Memory}
-use Rattle.sporc_serve.specs.Sending.{bytes_of, AppendsLess}
+use Rattle.sporc_serve.specs.Sending.{bytes_of}
 
 -- why no answer is to follow, where a link was given these bytes and its count went from `before` to `after`
 abbrev pub IsSendEnd : Answer → Option (List ℕ) → Option (List ℕ) → ℕ → ℕ → SessionEnd → Type 0

@@ -5,5 +5,4 @@ pub mod Endings
 pub mod Courses
 pub mod Visits
 pub mod Crowds
-pub mod Returns
 pub mod Served

@@ -1,6 +1,5 @@
 -- What a server sends.
-use Rattle.std.specs.Prelude.{ℕ, ◌<◌, List, [], ◌∷◌, ◌++◌, length, take, Option}
-use Rattle.std.specs.Io.KnownBytes.{Appends}
+use Rattle.std.specs.Prelude.{ℕ, List, [], ◌∷◌, ◌++◌}
 use Rattle.sporc_wire.specs.Stream.{frame}
 use Rattle.sporc_wire.specs.ToClient.{to_client_bytes}
 use Rattle.sporc_order.specs.declared.session.Answer.{Answer}
@@ -19,10 +18,6 @@ bytes_of Close = []
 abbrev pub sent_of : List Answer → List ℕ
 sent_of [] = []
 sent_of (answer ∷ answers) = bytes_of answer ++ sent_of answers
-
--- a prefix of the bytes was written, and not all of them
-abbrev pub AppendsLess : Option (List ℕ) → Option (List ℕ) → List ℕ → Type 0
-AppendsLess old new bytes = (n : ℕ) × (n < length bytes) × Appends old new (take n bytes)
 
 -- a message that is to be sent is in range, and fits a frame
 abbrev pub CanBeSent : Reply → Type 0

@@ -2,13 +2,12 @@
 
 ghost use Rattle.std.specs.Prelude.{◌≡◌, ◌≢◌, ◌+◌, ◌-◌, ◌^◌, ◌<◌, ◌≤◌, IfSome};
 ghost use Rattle.std.specs.Thread.{IsSync, IsSend};
-ghost use Rattle.sporc_outside.specs.Told.{IsTrueIfTold};
+ghost use Rattle.sporc_outside.specs.Told.{AreShutBehind, IsTrueIfTold};
 ghost use Rattle.sporc_turn.specs.Knowing.{joined_with};
 ghost use Rattle.sporc_turn.specs.Log.{StartsWith, Agrees};
 ghost use Rattle.sporc_turn.specs.Passes.{known_of, IsPassOf};
 ghost use Rattle.sporc_serve.specs.Logs.{by_of, OfDocument};
 ghost use Rattle.sporc_serve.specs.Crowds.{IsCrowd, net_of, IsFirst, IsOther};
-ghost use Rattle.sporc_serve.specs.Returns.{AreShutBehind};
 ghost use Rattle.sporc_serve.specs.Visits.{visit, IsServedSession, with_end};
 
 use crate::desk::Desk;

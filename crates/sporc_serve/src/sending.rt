@@ -3,16 +3,17 @@
 ghost use Rattle.std.specs.Prelude.{◌≡◌, ◌≤◌, Some, IfNone, IfSome};
 ghost use Rattle.std.specs.Io.KnownBytes.{Appends};
 ghost use Rattle.sporc_outside.specs.Counts.{Rose};
+ghost use Rattle.sporc_outside.specs.Writing.{AppendsLess};
 ghost use Rattle.sporc_order.specs.declared.session.Answer.{Answer};
 ghost use Rattle.sporc_order.specs.declared.session.Answer.TheVariants as answers;
 ghost use Rattle.sporc_order.specs.Replies.{Says};
 ghost use Rattle.sporc_order.specs.Sessions.{IsSendable};
-ghost use Rattle.sporc_serve.specs.Sending.{bytes_of, AppendsLess, CanBeSent};
+ghost use Rattle.sporc_serve.specs.Sending.{bytes_of, CanBeSent};
 ghost use Rattle.sporc_serve.specs.Endings.{IsSendEnd};
 
 use crate::end::SessionEnd;
 use sporc_order::Reply;
-use sporc_outside::{Gate, Link};
+use sporc_outside::{Gate, Link, write_all};
 use sporc_wire::{ToClient, write_to_client};
 use std::alloc::Global;
 use std::sync::Wait;
@@ -67,12 +68,8 @@ fn write_frame<L: Link>(link: &mut L, frame: &[u8]) -> Option<SessionEnd>
     ensures left { L.left link.new ≡ L.left link.old }
     ensures kept { L.faults link.old ≤ L.faults link.new }
 {
-    let mut at = 0;
-    while at < frame.len() {
-        let Ok(n) = link.write(&frame[at..]) else {
-            return Some(SessionEnd::LinkFault);
-        };
-        at += n;
+    match write_all(link, frame) {
+        Ok(()) => None,
+        Err(_) => Some(SessionEnd::LinkFault),
     }
-    None
 }

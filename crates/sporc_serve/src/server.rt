@@ -1,10 +1,9 @@
 //! A server of many sessions.
 
 ghost use Rattle.std.specs.Prelude.{◌≡◌, ◌≢◌, ◌≤◌, Err};
-ghost use Rattle.sporc_outside.specs.Told.{AppendsItem, MayAppend};
+ghost use Rattle.sporc_outside.specs.Told.{AppendsItem, AreShutBehind, MayAppend};
 ghost use Rattle.sporc_serve.specs.declared.limits.TheConstants.{MAX_SESSIONS};
 ghost use Rattle.sporc_serve.specs.Crowds.{net_of};
-ghost use Rattle.sporc_serve.specs.Returns.{AreShutBehind};
 ghost use Rattle.sporc_serve.specs.Served.{IsServed};
 
 use crate::crowd::crowd;

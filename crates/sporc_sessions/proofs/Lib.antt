@@ -2,7 +2,6 @@ pub mod Asking
 pub mod Causes
 pub mod Counting
 pub mod OpenedLines
-pub mod Returning
 pub mod Sessioning
 pub mod Widening
 pub mod WorkedFrom

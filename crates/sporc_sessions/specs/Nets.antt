@@ -1,6 +1,5 @@
 -- A link that a net hands out and takes back.
 use Rattle.std.specs.Prelude.{◌≡◌, ◌≤◌, ℕ, List, ◌++◌, replicate, Bool, Option, None, Some, Result, ⊤}
-use Rattle.std.specs.List.{All}
 use Rattle.sporc_outside.specs.Counts.{count_of_both}
 use Rattle.sporc_outside.specs.Told.{AppendsItem, IsTrueIfTold, MayAppend, TakesItem}
 use Rattle.sporc_shared.specs.declared.fault.SessionFault.{SessionFault}
@@ -23,12 +22,6 @@ abbrev pub AsksAtMost : ℕ → Option (List (List ℕ)) → Option (List (List 
 AsksAtMost most None after address = Unit {0}
 AsksAtMost most (Some asked) None address = ⊥
 AsksAtMost most (Some asked) (Some more) address = (times : ℕ) × (times ≤ most) × (more ≡ asked ++ replicate times address)
-
--- told links went behind those that were handed back before, and each of them is shut where it tells that
-abbrev pub AreShutBehind : {L : Type 0} → (L → Option Bool) → Option (List L) → Option (List L) → Type 0
-AreShutBehind is_shut None new = Unit {0}
-AreShutBehind is_shut (Some old) None = ⊥
-AreShutBehind {L} is_shut (Some old) (Some new) = (links : List L) × (new ≡ old ++ links) × All (λ l. IsTrueIfTold (is_shut l)) links
 
 -- what each link tells, and whether it was shut
 pub record LinkView (L : Type 0) : Type 0 where

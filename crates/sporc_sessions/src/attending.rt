@@ -3,11 +3,12 @@
 ghost use Rattle.std.specs.Prelude.{◌≡◌, ◌+◌, ◌≤◌, length, option_map, IfErr, IfOk, OnErr};
 ghost use Rattle.sporc_client.specs.ClientModel.{Rise, leaves_of};
 ghost use Rattle.sporc_entry.specs.Genesis.{IsGenesis};
+ghost use Rattle.sporc_outside.specs.Told.{AreShutBehind};
 ghost use Rattle.sporc_script.specs.declared.limits.TheConstants.{MAX_EDITORS};
 ghost use Rattle.sporc_shared.specs.Items.{past_of};
 ghost use Rattle.sporc_sessions.specs.Attending.{IsAttended, NotAttended};
 ghost use Rattle.sporc_sessions.specs.Causes.{RoseIfFailed, counts_around};
-ghost use Rattle.sporc_sessions.specs.Nets.{AreShutBehind, AsksAtMost, link_view, net_told};
+ghost use Rattle.sporc_sessions.specs.Nets.{AsksAtMost, link_view, net_told};
 ghost use Rattle.sporc_sessions.specs.Opening.{links_for_hints};
 ghost use Rattle.sporc_sessions.specs.Sessions.{chance_told};
 

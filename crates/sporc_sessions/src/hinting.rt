@@ -5,10 +5,10 @@ ghost use Rattle.sporc_base.specs.Outcome.{GivesUnless};
 ghost use Rattle.sporc_epoch.specs.declared.fault.HintFault.TheVariants as hint_faults;
 ghost use Rattle.sporc_epoch.specs.Keys.{pairs_in};
 ghost use Rattle.sporc_outside.specs.Counts.{Rose};
-ghost use Rattle.sporc_outside.specs.Told.{MayAppend};
+ghost use Rattle.sporc_outside.specs.Told.{AreShutBehind, MayAppend};
 ghost use Rattle.sporc_shared.specs.declared.fault.SessionFault.{SessionFault as SessionFaults};
 ghost use Rattle.sporc_sessions.specs.Hinting.{IsFetchAt, hints_by};
-ghost use Rattle.sporc_sessions.specs.Nets.{AreShutBehind, MakesNoLink, link_view, net_told};
+ghost use Rattle.sporc_sessions.specs.Nets.{MakesNoLink, link_view, net_told};
 
 use sporc_epoch::{HintFault, Pairs, Ring, hints_from};
 use sporc_outside::{Dial, Link};

@@ -7,7 +7,8 @@ ghost use Rattle.sporc_entry.specs.Genesis.{IsGenesis};
 ghost use Rattle.sporc_epoch.specs.Keys.{pairs_in};
 ghost use Rattle.sporc_line.specs.Kit.{kit_of};
 ghost use Rattle.sporc_line.specs.Openings.{open_checks};
-ghost use Rattle.sporc_sessions.specs.Nets.{AreShutBehind, AsksAtMost, link_view, net_told};
+ghost use Rattle.sporc_outside.specs.Told.{AreShutBehind};
+ghost use Rattle.sporc_sessions.specs.Nets.{AsksAtMost, link_view, net_told};
 ghost use Rattle.sporc_sessions.specs.Opening.{IsOpenFault, Opens, links_for_hints};
 ghost use Rattle.sporc_sessions.specs.declared.opening.OpenFault.TheVariants as open_faults;
 

@@ -3,11 +3,11 @@
 ghost use Rattle.std.specs.Prelude.{◌≡◌, ◌≤◌, length, IfErr, IfOk, OnErr};
 ghost use Rattle.sporc_client.specs.ClientModel.{Rise, leaves_of};
 ghost use Rattle.sporc_outside.specs.Counts.{Rose};
-ghost use Rattle.sporc_outside.specs.Told.{MayAppend};
+ghost use Rattle.sporc_outside.specs.Told.{AreShutBehind, MayAppend};
 ghost use Rattle.sporc_script.specs.declared.limits.TheConstants.{MAX_EDITORS};
 ghost use Rattle.sporc_shared.specs.Items.{past_of};
 ghost use Rattle.sporc_sessions.specs.Causes.{RoseIfFailed, counts_around};
-ghost use Rattle.sporc_sessions.specs.Nets.{AreShutBehind, IsWork, MakesNoLink, ShutsUnused, link_view, net_told};
+ghost use Rattle.sporc_sessions.specs.Nets.{IsWork, MakesNoLink, ShutsUnused, link_view, net_told};
 ghost use Rattle.sporc_sessions.specs.Sessions.{chance_told};
 
 use crate::session::{Ended, run_session};

@@ -58,7 +58,7 @@ module _ (ready : ℕ → ℕ → Bool) where
   all_sent m m' [] is = append-nil (unsent m) ∙ ap unsent is
   all_sent m m' (act ∷ acts) leads = act_sends leads.1 (all_of submitted_by acts) (all_of sent_by acts) (unsent m') (all_sent leads.0 m' acts leads.2)
 
--- from the begin of a phase on
+-- from the beginning of a phase on
 pub entries_taken : (ready : ℕ → ℕ → Bool) (acts : List Act) (m : Mode) → Leads ready Asking acts m → all_of came_by acts ≡ all_of taken_by acts ++ waiting m
 entries_taken ready acts m leads = all_taken ready Asking m acts leads
 

@@ -64,7 +64,7 @@ drew_none u v same = (refl, ([], omega arith, subst (λ (words : Option (List (L
 pub drew_one : (u v w : Option (List (List ℕ))) (first : List ℕ) → AppendsItem u v first → w ≡ v → DrewFew u w faults.ChanceFault
 drew_one u v w first one same = (refl, (first ∷ [], omega arith, subst (λ (words : Option (List (List ℕ))). AppendsWords u words (first ∷ [])) (sym same) (word_drawn u v first one)))
 
--- an answer that is not for want of memory is the definition's
+-- an answer other than out of memory is the definition's
 given : (answer answer' : Result Submitted SubmitFault) → answer ≢ Err submits.Memory → GivesUnless submits.Memory (λ s. s) answer answer' → answer ≡ answer'
 given (Ok s) answer' other h = sym h
 given (Err fault) answer' other h = sym (h (λ is. other (ap Err is)))

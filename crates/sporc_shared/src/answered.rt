@@ -1,3 +1,5 @@
+//! Answers of a shared client's calls.
+
 use crate::front::Front;
 use crate::item::Pass;
 use sporc_turn::Worn;

@@ -1,3 +1,5 @@
+//! The client under the lock.
+
 use crate::item::Item;
 use crate::journal::count_events;
 use sporc_client::Client;

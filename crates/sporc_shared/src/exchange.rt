@@ -138,8 +138,7 @@ fn entries_of(alloc: Global, from: u32, answer: ToClient) -> Option<Items<Bytes>
                 None
             }
         }
-        ToClient::Ordered { .. } => None,
-        ToClient::Rejected { .. } => None,
+        ToClient::Ordered { .. } | ToClient::Rejected { .. } => None,
     }
 }
 

@@ -1,4 +1,4 @@
-// What calls do to the client while it is out with a pass. Each answers, beside the call's answer, how many events the journal then has.
+//! What calls do to the client while it is out with a pass. Each answers, beside the call's answer, how many events the journal then has.
 
 ghost use Rattle.std.specs.Prelude.{◌≡◌, ◌≤◌, length, IfOk};
 ghost use Rattle.sporc_base.specs.FirstFault.{AnswersUnless};

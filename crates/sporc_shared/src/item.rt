@@ -1,3 +1,5 @@
+//! Items of a shared client's log, and passes of one.
+
 use std::convert::Infallible;
 use std::marker::Model;
 

@@ -1,4 +1,4 @@
-// The journal of a client, counted.
+//! The journal of a client, counted.
 
 ghost use Rattle.std.specs.Prelude.{◌≡◌, ◌≤◌, length, true};
 ghost use Rattle.sporc_client.specs.declared.limits.TheConstants.{MAX_EVENTS};

@@ -35,9 +35,9 @@ pub fn journals_are_a_run()
     ensures run { (s : Setup) (moves : List Move) → ((who : ℕ) → (moves_of who moves ≡ []) ⊎ IsJournal s who (moves_of who moves)) → IsRun s start moves }
 {}
 
-/// The table of a receiver's modes, read as whole rounds. Acts lead from the begin of a phase to the end of its last round just
-/// if they are so many whole rounds, one after the other; in the first phase, the client's document and member and Hello come
-/// before them.
+/// The table of a receiver's modes, read as whole rounds. Acts lead from the beginning of a phase to the end of its last round
+/// exactly if they are so many whole rounds, one after the other; in the first phase, the client's document and member and
+/// Hello come before them.
 pub fn phases_are_whole_rounds()
     ensures rounds { (ready : ℕ → ℕ → Bool) (acts : List Act) (n : ℕ) → Leads ready (Between 0) acts (Between n) ↔ AreRounds ready n acts }
     ensures first_phase { (ready : ℕ → ℕ → Bool) (acts : List Act) (n : ℕ) → Leads ready Asking acts (Between n) ↔ IsFirstPhase ready n acts }

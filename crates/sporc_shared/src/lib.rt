@@ -36,8 +36,8 @@
 //! session, over any link, chance and editors: the messages, random words and events of the receiver, in the order of the
 //! table of its modes (`specs/Protocol.antt`); that each editor's events are its lines, in order, each once; why it ended; that
 //! its events are moves of a run of all clients of the document ([`laws`]). Of a fetch: its messages, that it gives all entries
-//! that came, and why it ended (`specs/Fetches.antt`). Tested, in `sporc_thread_tests`: that calls of two passes, sessions and
-//! fetches succeed with ample memory. Neither: that a turn comes, and whose turn comes first.
+//! that came, and why it ended (`specs/Fetches.antt`). Only tested: that calls of two passes, sessions and fetches succeed
+//! with ample memory (`sporc_thread_tests`). Neither: that a turn comes, and whose turn comes first.
 #![tactic(auto)]
 
 mod answered;

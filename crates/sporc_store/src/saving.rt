@@ -11,6 +11,7 @@ ghost use Rattle.sporc_store.specs.SavedFile.{saved_file};
 use crate::fault::SaveFault;
 use crate::head::{HEAD_LEN, head_of};
 use sporc_base::Memory;
+use sporc_bytes::Out;
 use sporc_outside::MAX_FILE;
 use std::alloc::Global;
 
@@ -25,11 +26,11 @@ pub fn save(alloc: Global, document: &[u8; 16], entries: &[Vec<u8>]) -> Result<V
     if len > MAX_FILE {
         return Err(SaveFault::TooLong(len));
     }
-    let mut file = Vec::with_capacity(alloc, len as usize)?;
-    file.extend_from_slice(&head_of(document))?;
-    file.extend_from_slice(&(entries.len() as u32).to_be_bytes())?;
+    let mut file = Out::with_capacity(alloc, len as usize)?;
+    file.put_bytes(&head_of(document))?;
+    file.put_u32(entries.len() as u32)?;
     put_entries(&mut file, entries)?;
-    Ok(file)
+    Ok(file.into_bytes())
 }
 
 // How many bytes the file of these entries has.
@@ -44,22 +45,12 @@ fn saved_len(entries: &[Vec<u8>]) -> u64
 }
 
 // Appends counted entries.
-fn put_entries(file: &mut Vec<u8>, entries: &[Vec<u8>]) -> Result<(), Memory>
+fn put_entries(file: &mut Out, entries: &[Vec<u8>]) -> Result<(), Memory>
     requires { length (flat_map (λ entry. counted entry.items) entries.now) < 2 ^ 32 }
-    ensures { OnOk result (file.new.items ≡ file.old.items ++ flat_map (λ entry. counted entry.items) entries.now) }
+    ensures { OnOk result (file.new ≡ file.old ++ flat_map (λ entry. counted entry.items) entries.now) }
 {
     for entry in entries {
-        put_counted(file, entry.as_slice())?;
+        file.put_counted(entry.as_slice())?;
     }
-    Ok(())
-}
-
-// Appends a counted entry.
-fn put_counted(file: &mut Vec<u8>, entry: &[u8]) -> Result<(), Memory>
-    requires { length entry.now < 2 ^ 32 }
-    ensures { OnOk result (file.new.items ≡ file.old.items ++ counted entry.now) }
-{
-    file.extend_from_slice(&(entry.len() as u32).to_be_bytes())?;
-    file.extend_from_slice(entry)?;
     Ok(())
 }

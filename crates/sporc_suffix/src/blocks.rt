@@ -1,4 +1,4 @@
-// Forms in their order.
+//! Forms in their order.
 
 ghost use Rattle.std.specs.Prelude.{◌≡◌, ◌+◌, ◌-◌, ◌≤◌, ◌<◌, ◌^◌, ◌∷◌, ◌++◌, ◌==◌, [], drop, take, length, slice_get, Some, IfOk, IfErr, OnOk, OnErr};
 ghost use Rattle.sporc_delta.specs.declared.limits.TheConstants.{MAX_TEXT_LEN};

@@ -21,3 +21,4 @@ mod steps;
 
 pub use crate::blocks::{Blocks, ReadyForm};
 pub use crate::steps::Steps;
+pub use sporc_base::Memory;

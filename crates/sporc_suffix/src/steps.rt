@@ -1,4 +1,4 @@
-// A count of steps that takes no bytes.
+//! A count of steps that takes no bytes.
 
 ghost use Rattle.std.specs.Prelude.{◌≡◌, ◌+◌, ◌<◌};
 

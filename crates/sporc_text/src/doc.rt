@@ -1,4 +1,4 @@
-// The text of a document.
+//! The text of a document.
 
 ghost use Rattle.std.specs.Prelude.{◌≡◌, ◌↔◌, [], length, IsTrue, IfOk, OnOk, OnErr};
 ghost use Rattle.std.specs.String.{string_bytes};

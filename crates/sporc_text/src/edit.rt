@@ -1,4 +1,4 @@
-// The application of parts of a delta to a list of characters.
+//! The application of parts of a delta to a list of characters.
 
 ghost use Rattle.std.specs.Prelude.{◌≡◌, ◌+◌, ◌≤◌, ◌++◌, length, drop, IfOk, OnOk};
 ghost use Rattle.sporc_delta.specs.Marks.{base_len, apply, retains};

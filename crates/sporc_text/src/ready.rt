@@ -1,4 +1,4 @@
-// Texts that were made ready.
+//! Texts that were made ready.
 
 ghost use Rattle.std.specs.Prelude.{◌≡◌, ◌+◌, ◌≤◌, ◌++◌, length, IfOk};
 ghost use Rattle.std.specs.Vec.{vec_len, vec_capacity};

@@ -1,10 +1,9 @@
 -- What `serve` did, as a command.
 use Rattle.std.proofs.Common.{◌≡◌, ℕ, List, [], ◌∷◌, Result, subst}
 use Rattle.std.specs.Bool.{⊤}
-use Rattle.sporc_outside.specs.Told.{MayAppend}
+use Rattle.sporc_outside.specs.Told.{AreShutBehind, MayAppend}
 use Rattle.sporc_outside.specs.Uses.{SinkUse}
 use Rattle.sporc_words.specs.declared.serve.Serve.{Serve}
-use Rattle.sporc_serve.specs.Returns.{AreShutBehind}
 use Rattle.sporc_files.specs.declared.fault.Fault.{Fault}
 use Rattle.sporc_files.specs.declared.file.File.TheVariants as files
 use Rattle.sporc_files.specs.Names.{FileNames, names_of_document}

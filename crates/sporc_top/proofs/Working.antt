@@ -1,23 +1,15 @@
 -- What a command did, by the words that it is.
-use Rattle.std.proofs.Common.{◌≡◌, Bool, List, Option, Some, None, Result, subst, sym}
+use Rattle.std.proofs.Common.{◌≡◌, Result, subst, sym}
 use Rattle.std.specs.Bool.{⊤}
 use Rattle.sporc_words.specs.declared.client.Client.{Client}
 use Rattle.sporc_words.specs.declared.command.Command.{Command}
 use Rattle.sporc_words.specs.declared.command.Command.TheVariants as commands
 use Rattle.sporc_words.specs.declared.serve.Serve.{Serve}
-use Rattle.sporc_serve.specs.Returns.{AreShutBehind}
 use Rattle.sporc_files.specs.declared.fault.Fault.{Fault}
-use Rattle.sporc_sessions.specs.Nets as nets
 use Rattle.sporc_sessions.specs.Nets.{LinkView}
 use Rattle.sporc_clients.specs.Outcome.{DiskView}
 use Rattle.sporc_top.specs.Performing.{Performs, ServesDocument, WorksAsMember}
 use Rattle.sporc_top.specs.Uses.{OutsideUse, client_use}
-
--- the links of a member came back shut as those of a server do
-pub shut_so : {L : Type 0} (is_shut : L → Option Bool) (old new : Option (List L)) → nets.AreShutBehind is_shut old new → AreShutBehind is_shut old new
-shut_so is_shut None new shut = tt
-shut_so is_shut (Some o) None shut = shut
-shut_so is_shut (Some o) (Some n) shut = shut
 
 module _ {L D : Type 0} (links : LinkView L) (disks : DiskView D) (outside : OutsideUse L) where
   pub by_serve : (asked : Command) (words : Serve) (answer : Result ⊤ Fault) → asked ≡ commands.Serve words

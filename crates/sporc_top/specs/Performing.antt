@@ -1,6 +1,6 @@
 -- What each command does.
 use Rattle.std.specs.Prelude.{◌≡◌, ◌≤◌, ℕ, List, [], ◌∷◌, length, map, Result, Ok, Err, ⊤}
-use Rattle.sporc_outside.specs.Told.{MayAppend}
+use Rattle.sporc_outside.specs.Told.{AreShutBehind, MayAppend}
 use Rattle.sporc_outside.specs.Uses.{IsUnwritten, SinkUse, SourceUse}
 use Rattle.sporc_words.specs.declared.client.Client.{Client}
 use Rattle.sporc_words.specs.declared.command.Command.{Command}
@@ -9,7 +9,6 @@ use Rattle.sporc_words.specs.declared.found.Found.{Found}
 use Rattle.sporc_words.specs.declared.keygen.Keygen.{Keygen}
 use Rattle.sporc_words.specs.declared.serve.Serve.{Serve}
 use Rattle.sporc_serve.specs.Crowds.{Net, net_of}
-use Rattle.sporc_serve.specs.Returns.{AreShutBehind}
 use Rattle.sporc_play.specs.declared.fault.PlayFault.{PlayFault}
 use Rattle.sporc_play.specs.Playing.{GeneratedFault, PlayOutcome, PlaysGenerated}
 use Rattle.sporc_files.specs.declared.fault.Fault.{Fault}

@@ -4,3 +4,4 @@ pub mod Views
 pub mod Turns
 pub mod Passes
 pub mod Extending
+mod Examples

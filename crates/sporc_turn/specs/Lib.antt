@@ -5,4 +5,3 @@ pub mod Steps
 pub mod Seats
 pub mod Passes
 pub mod Lending
-pub mod Examples

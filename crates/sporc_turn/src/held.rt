@@ -1,3 +1,5 @@
+//! The value, out with one pass.
+
 ghost use Rattle.std.specs.Prelude.{◌≡◌, true};
 ghost use Rattle.sporc_turn.specs.Seats.{IsOut, Counts, has_room};
 

@@ -1,3 +1,5 @@
+//! Values that stand for a list of items.
+
 ghost use Rattle.std.specs.Prelude.{◌≡◌, ℕ, List, length};
 
 /// A value that stands for a list of items, each with the number of a pass. The list only grows

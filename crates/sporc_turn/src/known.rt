@@ -1,3 +1,5 @@
+//! What passes know, for contracts alone.
+
 use std::collections::LinkedList;
 
 /// The number of a pass that was joined, and its items. No value of it is made.

@@ -1,3 +1,5 @@
+//! The numbers of a pass.
+
 ghost use Rattle.std.specs.Prelude.{◌≡◌, ◌≢◌, ◌≤◌};
 
 /// The number of a pass, how many passes were split from it, and how many of them were joined back.

@@ -1,3 +1,5 @@
+//! Passes of a lock.
+
 ghost use Rattle.std.specs.Prelude.{◌≡◌, ◌≢◌, length, IfNone, IfSome};
 ghost use Rattle.sporc_turn.specs.Seats.{IsIdle, Counts, view_of};
 

@@ -1,4 +1,6 @@
-ghost use Rattle.std.specs.Prelude.{◌≡◌, ◌≢◌, ◌+◌, ◌^◌, ◌<◌, ◌≤◌, IfOk, IfErr, MatchResult, [], length, true};
+//! The lock.
+
+ghost use Rattle.std.specs.Prelude.{◌≡◌, ◌≢◌, ◌+◌, ◌^◌, ◌<◌, ◌≤◌, IfOk, OnOk, IfErr, MatchResult, [], length, true};
 ghost use Rattle.sporc_turn.specs.Log.{StartsWith, Extends, Agrees};
 ghost use Rattle.sporc_turn.specs.Knowing.{first_known, seeing, adding, hearing, splitting, copied, joined_with};
 ghost use Rattle.sporc_turn.specs.Seats.{IsIdle, has_room};
@@ -286,7 +288,7 @@ impl<S: Kept> Turn<S> {
     pub fn close(self, pass: Pass<S::Item>) -> Result<S, (Turn<S>, Pass<S::Item>, Away)>
         requires lock { IsPassOf self pass }
         requires first { (known_of pass).number ≡ 0 }
-        ensures all { IfOk result (λ x. out_of pass ≡ 0) }
+        ensures all { OnOk result (out_of pass ≡ 0) }
         ensures log { IfOk result (λ x. S.log x ≡ (known_of pass).seen) }
         ensures agrees { IfOk result (λ x. Agrees S.by (known_of pass) (S.log x)) }
         ensures away { IfErr result (λ e. (e.2.out ≡ out_of pass) × (e.2.out ≢ 0)) }

@@ -1,4 +1,5 @@
-// The loan of the value. It has a file of its own, since its clause names the row of `Held`, which the file that declares `Held` can't import.
+//! The loan of the value. It has a file of its own, since its clause names the row of `Held`, which the file that declares `Held` can't import.
+
 ghost use Rattle.std.specs.Prelude.{◌≡◌};
 ghost use Rattle.std.specs.Borrow.{sem};
 ghost use Rattle.sporc_turn.specs.Lending.{LendsValue};

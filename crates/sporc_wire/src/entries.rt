@@ -13,6 +13,7 @@ use crate::cutter::MAX_BODY;
 use crate::fault::FrameFault;
 use crate::to_client::ENTRIES;
 use sporc_base::{Bytes, Memory};
+use sporc_bytes::Out;
 use std::alloc::Global;
 
 // An entry, however its bytes are kept.
@@ -54,10 +55,10 @@ pub(crate) fn entries_frame<T: EntryBytes>(
     if len > u64::from(MAX_BODY) {
         return Err(FrameFault::TooLong(len));
     }
-    let mut frame = Vec::with_capacity(alloc, len as usize + 4)?;
-    frame.extend_from_slice(&(len as u32).to_be_bytes())?;
-    put_body(&mut frame, first, entries)?;
-    Ok(frame)
+    let mut out = Out::with_capacity(alloc, len as usize + 4)?;
+    out.put_u32(len as u32)?;
+    put_body(&mut out, first, entries)?;
+    Ok(out.into_bytes())
 }
 
 // How many bytes the body has.
@@ -79,33 +80,24 @@ fn counted_len<T: EntryBytes>(entries: &[T]) -> u64
 }
 
 // Appends the body.
-fn put_body<T: EntryBytes>(frame: &mut Vec<u8>, first: u32, entries: &[T]) -> Result<(), Memory>
+fn put_body<T: EntryBytes>(out: &mut Out, first: u32, entries: &[T]) -> Result<(), Memory>
     requires limit { length entries.now ≤ MAX_PULLED }
     requires small { length (to_client_bytes (ToClient.Entries first (map (λ e. T.bytes e) entries.now))) < 2 ^ 32 }
-    ensures { OnOk result (frame.new.items ≡ frame.old.items ++ to_client_bytes (ToClient.Entries first (map (λ e. T.bytes e) entries.now))) }
+    ensures { OnOk result (out.new ≡ out.old ++ to_client_bytes (ToClient.Entries first (map (λ e. T.bytes e) entries.now))) }
 {
-    frame.extend_from_slice(&[ENTRIES])?;
-    frame.extend_from_slice(&first.to_be_bytes())?;
-    frame.extend_from_slice(&[entries.len() as u8])?;
-    put_list(frame, entries)
+    out.put_u8(ENTRIES)?;
+    out.put_u32(first)?;
+    out.put_u8(entries.len() as u8)?;
+    put_list(out, entries)
 }
 
 // Appends counted entries.
-fn put_list<T: EntryBytes>(frame: &mut Vec<u8>, entries: &[T]) -> Result<(), Memory>
+fn put_list<T: EntryBytes>(out: &mut Out, entries: &[T]) -> Result<(), Memory>
     requires { length (flat_map (λ e. counted (T.bytes e)) entries.now) < 2 ^ 32 }
-    ensures { OnOk result (frame.new.items ≡ frame.old.items ++ flat_map (λ e. counted (T.bytes e)) entries.now) }
+    ensures { OnOk result (out.new ≡ out.old ++ flat_map (λ e. counted (T.bytes e)) entries.now) }
 {
     for entry in entries {
-        put_counted(frame, entry.as_bytes())?;
+        out.put_counted(entry.as_bytes())?;
     }
     Ok(())
-}
-
-// Appends a counted entry.
-fn put_counted(frame: &mut Vec<u8>, entry: &[u8]) -> Result<(), Memory>
-    requires { length entry.now < 2 ^ 32 }
-    ensures { OnOk result (frame.new.items ≡ frame.old.items ++ counted entry.now) }
-{
-    frame.extend_from_slice(&(entry.len() as u32).to_be_bytes())?;
-    frame.extend_from_slice(entry)
 }

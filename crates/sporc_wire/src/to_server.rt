@@ -109,7 +109,7 @@ pub fn write_to_server(alloc: Global, message: &ToServer) -> Result<Vec<u8>, Fra
     if len > u64::from(MAX_BODY) {
         return Err(FrameFault::TooLong(len));
     }
-    let mut out = Out::new(alloc);
+    let mut out = Out::with_capacity(alloc, len as usize + 4)?;
     out.put_u32(len as u32)?;
     put_body(&mut out, message)?;
     Ok(out.into_bytes())

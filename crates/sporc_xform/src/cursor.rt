@@ -1,4 +1,4 @@
-// A walk along the parts of a delta.
+//! A walk along the parts of a delta.
 
 ghost use Rattle.std.specs.Prelude.{◌≡◌, ◌≤◌, ◌<◌, take};
 ghost use Rattle.sporc_delta.specs.declared.limits.TheConstants.{MAX_TEXT_LEN};

@@ -1,4 +1,4 @@
-// The laws of the transforms, over every delta and text.
+//! The laws of the transforms, over every delta and text.
 
 ghost use Rattle.std.specs.Prelude.{◌≡◌, ℕ, List, length};
 ghost use Rattle.sporc_delta.specs.Marks.{Mark, apply, base_len, out_len};

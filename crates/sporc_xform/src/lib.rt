@@ -22,3 +22,4 @@ mod transform;
 
 pub use crate::composition::compose;
 pub use crate::transform::{both, earlier, later};
+pub use sporc_base::Memory;

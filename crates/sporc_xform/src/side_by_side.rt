@@ -1,4 +1,4 @@
-// Two deltas over one text, side by side.
+//! Two deltas over one text, side by side.
 
 ghost use Rattle.std.specs.Prelude.{◌≡◌, ◌++◌, ◌<◌, [], length, IfSome, IfNone};
 ghost use Rattle.sporc_delta.specs.Marks.{base_len};

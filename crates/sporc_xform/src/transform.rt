@@ -1,4 +1,4 @@
-// Each of two deltas over one text, restated behind the other.
+//! Each of two deltas over one text, restated behind the other.
 
 ghost use Rattle.std.specs.Prelude.{◌≡◌, ◌+◌, ◌≤◌, ◌++◌, length, IfOk, OnOk};
 ghost use Rattle.std.specs.List.{flat_map};

@@ -1,4 +1,4 @@
-// Entries that come.
+//! Entries that come.
 
 ghost use Rattle.std.specs.Prelude.{◌≡◌, ◌<◌, ◌≤◌, ◌++◌, ◌==◌, length, is_some, nat_lt, IfOk, OnOk, OnErr};
 ghost use Rattle.sporc_base.specs.FirstFault.{AnswersUnless};

@@ -1,4 +1,4 @@
-// Giving up what is pending.
+//! Giving up what is pending.
 
 ghost use Rattle.std.specs.Prelude.{◌≡◌, ◌++◌, length, nat_lt, IfOk};
 ghost use Rattle.sporc_base.specs.FirstFault.{Answers, AnswersUnless, unless};

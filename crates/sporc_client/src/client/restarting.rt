@@ -1,4 +1,4 @@
-// Clients that begin with a history, and clients that go back.
+//! Clients that begin with a history, and clients that go back.
 
 ghost use Rattle.std.specs.Prelude.{◌≡◌, ◌+◌, ◌≤◌, ◌∷◌, ◌++◌, [], length, take, None, IfOk, IfErr, OnOk, OnErr};
 ghost use Rattle.sporc_base.specs.FirstFault.{AnswersUnless};

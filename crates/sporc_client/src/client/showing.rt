@@ -1,4 +1,4 @@
-// The texts of a client, and the key of the last epoch.
+//! The texts of a client, and the key of the last epoch.
 
 ghost use Rattle.std.specs.Prelude.{◌≡◌, ◌<◌, ◌≤◌, ◌↔◌, length, IsNone, IfSome, IfOk, OnOk, is_none, option_copied};
 ghost use Rattle.std.specs.String.{string_bytes};

@@ -1,4 +1,4 @@
-// Submissions.
+//! Submissions.
 
 ghost use Rattle.std.specs.Prelude.{◌≡◌, ℕ, ◌⊎◌, ◌++◌, true, false, None, Some, Err, IfErr, IfOk};
 ghost use Rattle.sporc_base.specs.Outcome.{GivesUnless};

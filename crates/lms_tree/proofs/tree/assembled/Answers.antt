@@ -10,7 +10,7 @@ levels-init c =
       c.in_ok-extend_from_slice-3.ensures.items,
       c.in_ok-extend_from_slice-2.ensures.items,
       c.in_ok-extend_from_slice.ensures.items,
-      c.new-signature.ensures.items,
+      c.in_ok-signature.ensures.items,
       c.to_be_bytes.ensures,
       c.to_be_bytes-2.ensures,
     ) (concatenated_none _ _)

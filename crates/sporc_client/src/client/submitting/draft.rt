@@ -1,4 +1,4 @@
-// An entry from its draft to its bytes.
+//! An entry from its draft to its bytes.
 
 ghost use Rattle.std.specs.Prelude.{◌≡◌, ◌+◌, ◌≤◌, ◌<◌, ◌^◌, ◌++◌, length, vec_len, vec_capacity, IfOk, IfErr};
 ghost use Rattle.lms_tree.specs.LmsType.{height_of};

@@ -1,4 +1,4 @@
-// What is due at a submission.
+//! What is due at a submission.
 
 ghost use Rattle.std.specs.Prelude.{◌≡◌, length, nat_le};
 ghost use Rattle.lms_tree.specs.LmsPrivate.{LmsPrivate};

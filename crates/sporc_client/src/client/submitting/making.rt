@@ -1,4 +1,4 @@
-// The entry that a submission makes.
+//! The entry that a submission makes.
 
 ghost use Rattle.std.specs.Prelude.{◌≡◌, ℕ, ◌<◌, ◌^◌, ◌∷◌, drop, length, true, None, Some, Ok, IfOk, IfErr, IfSome, IsSomeAnd, is_ok};
 ghost use Rattle.lms_tree.specs.LmsType.{height_of};

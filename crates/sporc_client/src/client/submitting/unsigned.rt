@@ -1,4 +1,4 @@
-// The entry of a pending item, before it is signed.
+//! The entry of a pending item, before it is signed.
 
 ghost use Rattle.std.specs.Prelude.{◌≡◌, ◌+◌, ◌≤◌, [], length, Some, IfOk, OnOk};
 ghost use Rattle.lms_tree.specs.LmsPrivate.{LmsPrivate};

@@ -1,10 +1,10 @@
 use Rattle.std.proofs.Common.{◌+◌, [], ◌∷◌, ap, option_map, refl, subst, ◌∙◌}
+use Rattle.sporc_outside.proofs.Returning.{shut_none}
 use Rattle.sporc_files.proofs.Asking.{AsksOnly-none}
 use Rattle.sporc_files.specs.Names.{file_name}
 use Rattle.sporc_files.specs.declared.file.File.TheVariants.{History}
 use Rattle.sporc_shared.specs.Items.{past_of}
 use Rattle.sporc_sessions.proofs.Asking.{asks_never}
-use Rattle.sporc_sessions.proofs.Returning.{shut_none}
 use Rattle.sporc_sessions.specs.Nets.{AsksAtMost}
 use Rattle.sporc_sessions.specs.Opening.{links_for_hints}
 use Rattle.sporc_clients.proofs.Asking.{asks_history, asks_history_again}

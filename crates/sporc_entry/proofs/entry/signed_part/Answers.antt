@@ -9,7 +9,7 @@ returns c =
         c.in_ok-put_counted.ensures.ok,
         c.in_ok-put_header.ensures,
         c.in_ok-put_u8.ensures.ok,
-        c.new-out.ensures.value,
-        c.as_slice.ensures.value,
+        c.in_ok-out.ensures.ok,
+        c.as_slice-body.ensures.value,
       ) (string_written c.args.entry.now);
     }

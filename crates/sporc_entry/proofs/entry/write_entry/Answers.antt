@@ -9,8 +9,8 @@ returns c =
         c.in_ok-put_counted-2.ensures.ok,
         c.in_ok-put_counted.ensures.ok,
         c.in_ok-put_header.ensures,
-        c.new-out.ensures.value,
-        c.as_slice.ensures.value,
-        c.as_slice-2.ensures.value,
+        c.in_ok-out.ensures.ok,
+        c.as_slice-body.ensures.value,
+        c.as_slice-signature.ensures.value,
       ) (entry_written c.args.entry.now);
     }

@@ -1,12 +1,11 @@
 use Rattle.std.proofs.Common.{◌≡◌, ◌-◌, suc, List, Option, arith, rules, ap, sym, subst, refl}
-use Rattle.sporc_outside.specs.Told.{IsTrueIfTold}
+use Rattle.sporc_outside.specs.Told.{AreShutBehind, IsTrueIfTold}
+use Rattle.sporc_outside.proofs.Returning.{shut_none, shut_more}
 use Rattle.sporc_turn.specs.Passes.{known_of}
 use Rattle.sporc_serve.specs.Logs.{OfDocument}
 use Rattle.sporc_serve.specs.Visits.{visit, IsServedSession}
 use Rattle.sporc_serve.specs.Crowds.{net_of, IsCrowd}
-use Rattle.sporc_serve.specs.Returns.{AreShutBehind}
 use Rattle.sporc_serve.proofs.Crowding.{crowd_none, crowd_failed, crowd_unserved, crowd_joined}
-use Rattle.sporc_serve.proofs.Returning.{shut_none, shut_more}
 use Rattle.sporc_serve.proofs.crowd.+crowd+fn-crowd-join_mut+arg3.Goals as goal
 
 pub returns-then-sessions-eq0-clause-crowd : goal.returns-then-sessions-eq0-clause-crowd

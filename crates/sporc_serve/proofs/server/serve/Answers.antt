@@ -1,9 +1,9 @@
 use Rattle.std.proofs.Common.{◌≡◌, ◌∙◌, ap, refl, Err}
+use Rattle.sporc_outside.proofs.Returning.{shut_none}
 use Rattle.sporc_turn.specs.Passes.{known_of, out_of}
 use Rattle.sporc_serve.specs.declared.desk.Desk.{Desk}
 use Rattle.sporc_serve.specs.declared.fault.ServeFault.TheVariants as faults
 use Rattle.sporc_serve.specs.Crowds.{net_of}
-use Rattle.sporc_serve.proofs.Returning.{shut_none}
 use Rattle.sporc_serve.proofs.Serving.{serves_none, none_out, serves}
 use Rattle.sporc_serve.proofs.server.serve.Goals as goal
 

@@ -1,9 +1,9 @@
 use Rattle.std.proofs.Common.{ap, refl, arith}
+use Rattle.sporc_outside.proofs.Returning.{shut_then}
 use Rattle.sporc_shared.specs.Items.{past_of}
 use Rattle.sporc_sessions.specs.Attending.{not_begun, not_opened, not_resumed, stopped, unreached}
 use Rattle.sporc_sessions.specs.Nets.{net_told}
 use Rattle.sporc_sessions.proofs.Asking.{asks_less, asks_more}
-use Rattle.sporc_sessions.proofs.Returning.{shut_then}
 use Rattle.sporc_sessions.proofs.Widening.{rose_since}
 use Rattle.sporc_sessions.proofs.WorkedFrom.{stops_so, work_from}
 use Rattle.sporc_sessions.proofs.attending.attend.Goals as goal

@@ -1,4 +1,4 @@
-use Rattle.sporc_sessions.proofs.Returning.{shut_none, shut_one}
+use Rattle.sporc_outside.proofs.Returning.{shut_none, shut_one}
 use Rattle.sporc_sessions.proofs.hinting.fetch_hints.Goals as goal
 
 pub returns-in_default-clause-shut : goal.returns-in_default-clause-shut

@@ -1,9 +1,9 @@
 use Rattle.std.proofs.Common.{refl}
+use Rattle.sporc_outside.proofs.Returning.{shut_none}
 use Rattle.sporc_epoch.specs.Keys.{pairs_in}
 use Rattle.sporc_sessions.specs.Opening.{founds}
 use Rattle.sporc_sessions.proofs.Asking.{asks_for_hints, asks_never}
 use Rattle.sporc_sessions.proofs.OpenedLines.{joined_by, not_joined, not_with, opened_with, was_reached}
-use Rattle.sporc_sessions.proofs.Returning.{shut_none}
 use Rattle.sporc_sessions.proofs.opening.open_line.Goals as goal
 
 pub returns-in_ok-keys-in-Some-clause-ok : goal.returns-in_ok-keys-in-Some-clause-ok

@@ -1,9 +1,9 @@
 use Rattle.std.proofs.Common.{◌≤◌, ℕ, sym, subst, ap, ◌∙◌, arith}
 use Rattle.sporc_outside.specs.Counts.{count_of_both}
 use Rattle.sporc_outside.specs.Told.{AppendsItem, TakesItem}
+use Rattle.sporc_outside.proofs.Returning.{shut_none, shut_one}
 use Rattle.sporc_sessions.proofs.Causes.{rose_at_net}
 use Rattle.sporc_sessions.proofs.Counting.{as_many, both_kept}
-use Rattle.sporc_sessions.proofs.Returning.{shut_none, shut_one}
 use Rattle.sporc_sessions.proofs.Sessioning.{over_same_link, told_again}
 use Rattle.sporc_sessions.specs.Sessions.{link_told}
 use Rattle.sporc_sessions.proofs.working.work.Goals as goal

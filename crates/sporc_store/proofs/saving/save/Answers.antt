@@ -10,14 +10,14 @@ returns-then-len-gt-MAX_FILE c = record {
 
 pub returns : goal.returns
 returns c =
-    let written : c.put_entries.new.file.items ≡ saved_bytes c.args.document.now (map items c.args.entries.now) =
+    let written : c.into_bytes.result.items ≡ saved_bytes c.args.document.now (map items c.args.entries.now) =
     rw (
+      c.into_bytes.ensures.value,
       c.in_ok-put_entries.ensures,
-      c.in_ok-extend_from_slice-2.ensures.items,
-      c.in_ok-extend_from_slice.ensures.items,
-      c.in_ok-file.ensures.items,
+      c.in_ok-put_u32.ensures.ok,
+      c.in_ok-put_bytes.ensures.ok,
+      c.in_ok-file.ensures.ok,
       c.head_of.ensures,
-      c.to_be_bytes.ensures,
     ) (is_written c.args.document.now c.args.entries.now) in
     record {
       value = is_whole c.args.document.now c.args.entries.now c.saved_len-len.result c.told-document c.saved_len-len.ensures c.if-len-gt-MAX_FILE.false

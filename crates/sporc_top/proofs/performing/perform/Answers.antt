@@ -1,4 +1,4 @@
-use Rattle.sporc_top.proofs.Working.{by_client, by_serve, shut_so}
+use Rattle.sporc_top.proofs.Working.{by_client, by_serve}
 use Rattle.sporc_top.proofs.performing.perform.Goals as goal
 
 pub returns-in-Serve-clause-outcome : goal.returns-in-Serve-clause-outcome
@@ -10,6 +10,6 @@ returns-in-Client-clause-outcome g c =
       outcome = c.client.ensures.outcome;
       files_may_ask = c.client.ensures.files_may_ask;
       net_may_ask = c.client.ensures.net_may_ask;
-      shut = shut_so g.N.Link.Link.is_shut (g.N.Links.returned c.args.net.now) (g.N.Links.returned c.client.new.net) c.client.ensures.shut;
+      shut = c.client.ensures.shut;
       links_kept = c.client.ensures.links_kept;
     })

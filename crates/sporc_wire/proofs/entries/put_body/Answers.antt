@@ -1,5 +1,4 @@
-use Rattle.std.proofs.Common.{◌≡◌, ◌++◌, arith, rules}
-use Rattle.std.specs.Int.{w32, to_be_bytes}
+use Rattle.std.proofs.Common.{arith}
 use Rattle.sporc_wire.proofs.EntryFrames.{body_length, body_put}
 use Rattle.sporc_wire.proofs.entries.put_body.Goals as goal
 
@@ -8,7 +7,5 @@ put_list-requires g c = omega (arith, body_length g.T.EntryBytes.bytes c.args.fi
 
 pub returns : goal.returns
 returns g c =
-    let place : c.extend_from_slice-2.new.self.items ≡ c.extend_from_slice.new.self.items ++ to_be_bytes w32 c.args.first = search rules in
-    body_put g.T.EntryBytes.bytes c.args.first c.args.entries.now c.put_list.result c.args.frame.now.items c.extend_from_slice.new.self.items
-    c.extend_from_slice-2.new.self.items c.extend_from_slice-3.new.self.items c.put_list.new.frame.items c.in_ok-extend_from_slice.ensures.items place
-    c.in_ok-extend_from_slice-3.ensures.items c.put_list.ensures
+    body_put g.T.EntryBytes.bytes c.args.first c.args.entries.now c.put_list.result c.args.out.now c.put_u8.new.self c.put_u32.new.self
+    c.put_u8-2.new.self c.put_list.new.out c.in_ok-put_u8.ensures.ok c.in_ok-put_u32.ensures.ok c.in_ok-put_u8-2.ensures.ok c.put_list.ensures

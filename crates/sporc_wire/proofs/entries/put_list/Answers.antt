@@ -16,9 +16,9 @@ put_counted-requires g c =
 
 pub loop-entry-preserved : goal.loop-entry-preserved
 loop-entry-preserved g c =
-    put_more g.T.EntryBytes.bytes c.args.entries.now c.loop-entry.entry-index c.entry-item.result c.as_bytes.result.now c.args.frame.now.items
-    c.loop-entry.frame.items c.put_counted.new.frame.items c.loop-entry-test.true c.entry-item.is c.as_bytes.ensures c.loop-entry.invariant c.in_ok-put_counted.ensures
+    put_more g.T.EntryBytes.bytes c.args.entries.now c.loop-entry.entry-index c.entry-item.result c.as_bytes.result.now c.args.out.now
+    c.loop-entry.out c.put_counted.new.self c.loop-entry-test.true c.entry-item.is c.as_bytes.ensures c.loop-entry.invariant c.in_ok-put_counted.ensures.ok
 
 pub returns : goal.returns
 returns g c =
-    put_all g.T.EntryBytes.bytes c.args.entries.now c.loop-entry.entry-index c.args.frame.now.items c.loop-entry.frame.items c.loop-entry-test.false c.loop-entry.invariant
+    put_all g.T.EntryBytes.bytes c.args.entries.now c.loop-entry.entry-index c.args.out.now c.loop-entry.out c.loop-entry-test.false c.loop-entry.invariant

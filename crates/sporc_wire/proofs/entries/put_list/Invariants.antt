@@ -4,4 +4,4 @@ use Rattle.sporc_bytes.specs.Fields.{counted}
 use Rattle.sporc_wire.proofs.entries.put_list.Given as goal
 
 abbrev pub invariant-loop-entry : goal.invariant-loop-entry
-invariant-loop-entry g l = l.frame.items ≡ l.initial.frame.items ++ flat_map (λ e. counted (g.T.EntryBytes.bytes e)) (take l.entry-index l.entries)
+invariant-loop-entry g l = l.out ≡ l.initial.out ++ flat_map (λ e. counted (g.T.EntryBytes.bytes e)) (take l.entry-index l.entries)

@@ -1,12 +1,12 @@
 use Rattle.std.proofs.Common.{ap, sym, ◌∙◌}
-use Rattle.sporc_outside.specs.MemoryDisk.{MemoryDiskModel, state_after}
+use Rattle.sporc_outside.specs.MemoryDisk.{bytes_of}
 use Rattle.sporc_outside.proofs.DiskImages.{same_bytes, same_images}
 use Rattle.sporc_outside.proofs.memory_disk.MemoryDisk.enter.Goals as goal
 
 pub returns-clause-bytes : goal.returns-clause-bytes
 returns-clause-bytes c =
     same_bytes _ _ _ c.args.request c.log_call.result c.requires c.log_call.ensures.logged
-    ∙ ap (λ (d : MemoryDiskModel). (state_after d.first d.log).bytes) c.self.view_is
+    ∙ ap bytes_of c.self.view_is
 
 pub returns-clause-images : goal.returns-clause-images
 returns-clause-images c = same_images c.args.self.now _ _ _ _ c.args.request c.log_call.result c.self.view_is c.requires c.log_call.ensures.logged

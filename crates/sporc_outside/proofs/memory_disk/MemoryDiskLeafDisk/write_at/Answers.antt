@@ -1,6 +1,6 @@
 use Rattle.std.proofs.Common.{ℕ, List, Some, inl, inr, ap, sym, ◌∙◌, length, true, false}
 use Rattle.sporc_outside.specs.LeafDisk.{IsSameOutside, overwrite}
-use Rattle.sporc_outside.specs.MemoryDisk.{MemoryDiskModel, state_after}
+use Rattle.sporc_outside.specs.MemoryDisk.{MemoryDiskModel, bytes_of}
 use Rattle.sporc_outside.proofs.DiskImages.{passes_unlogged, passes_write, others_write, others_unwritten, bytes_written, bytes_unwritten, same_outside}
 use Rattle.sporc_outside.proofs.memory_disk.MemoryDiskLeafDisk.write_at.Goals as goal
 
@@ -38,10 +38,10 @@ pub returns-in_err-log_call-clause-others : goal.returns-in_err-log_call-clause-
 returns-in_err-log_call-clause-others c =
     others_unwritten c.args.at (length c.args.bytes.now) _ _
     (bytes_unwritten c.self.inside.first.items c.self.inside.log.items c.log_call.new.log.items c.args.at c.new.result c.in_err-log_call.ensures.logged
-    ∙ ap (λ (d : MemoryDiskModel). (state_after d.first d.log).bytes) c.self.view_is)
+    ∙ ap bytes_of c.self.view_is)
 
 pub returns-clause-written : goal.returns-clause-written
 returns-clause-written c =
     ap Some (bytes_written c.self.inside.first.items c.self.inside.log.items c.log_call.new.log.items c.args.at c.args.bytes.now _
     (c.new.ensures.value ∙ c.in-Ok.ensures.items) c.in_ok-log_call.ensures.logged
-    ∙ ap (λ (d : MemoryDiskModel). overwrite (state_after d.first d.log).bytes c.args.at c.args.bytes.now) c.self.view_is)
+    ∙ ap (λ (d : MemoryDiskModel). overwrite (bytes_of d) c.args.at c.args.bytes.now) c.self.view_is)

@@ -1,11 +1,7 @@
 -- Worked examples of the definitions, each computed. An item is the number of the pass that added it.
-use Rattle.std.specs.Prelude.{◌≡◌, ◌^◌, ℕ, [], ◌∷◌, refl}
-use Rattle.sporc_turn.specs.declared.limits.TheConstants.{MAX_TICKETS}
+use Rattle.std.proofs.Common.{◌≡◌, ℕ, [], ◌∷◌, refl}
 use Rattle.sporc_turn.specs.Log.{own, longer, shorter}
 use Rattle.sporc_turn.specs.Knowing.{first_known, adding, splitting, copied, joined_with}
-
-tickets : MAX_TICKETS ≡ 2 ^ 62
-tickets = refl
 
 abbrev self : ℕ → ℕ
 self n = n
