@@ -2,7 +2,7 @@
 use Rattle.std.specs.Prelude.{ℕ, List, [], ◌∷◌, ◌++◌, Option, None, Some, codes}
 use Rattle.std.specs.Fmt.{decimal}
 use Rattle.sporc_head.specs.Refusal.{refusal_name}
-use Rattle.sporc_play.specs.Names.{edit_fault_name, hint_fault_name, open_fault_name}
+use Rattle.sporc_report.specs.Names.{edit_fault_name, hint_fault_name, open_fault_name}
 use Rattle.sporc_files.specs.declared.argument.Argument.{Argument}
 use Rattle.sporc_files.specs.declared.argument.Argument.TheVariants.{Nothing, Number, Name, Refusal, Hints, Opening, Edit}
 use Rattle.sporc_files.specs.declared.text.Text.{Text}

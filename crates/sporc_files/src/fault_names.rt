@@ -2,7 +2,7 @@
 
 ghost use Rattle.std.specs.Prelude.{◌≡◌};
 ghost use Rattle.sporc_head.specs.Refusal.{refusal_name};
-ghost use Rattle.sporc_play.specs.Names.{edit_fault_name, hint_fault_name, open_fault_name};
+ghost use Rattle.sporc_report.specs.Names.{edit_fault_name, hint_fault_name, open_fault_name};
 ghost use Rattle.sporc_files.specs.Arguments.{text_bytes};
 
 use crate::text::Text;

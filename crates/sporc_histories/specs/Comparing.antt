@@ -8,7 +8,7 @@ use Rattle.sporc_hash.specs.Chain.{chain}
 use Rattle.sporc_hash.specs.declared.verdict.Verdict.{Verdict}
 use Rattle.sporc_entry.specs.declared.genesis.Genesis.{Genesis}
 use Rattle.sporc_entry.specs.Genesis.{genesis_bytes}
-use Rattle.sporc_play.specs.Report.{Stands, compare_line}
+use Rattle.sporc_report.specs.ClientLines.{Stands, compare_line}
 use Rattle.sporc_files.specs.declared.fault.Fault.{Fault}
 use Rattle.sporc_files.specs.declared.file.File.{File}
 use Rattle.sporc_files.specs.declared.file.File.TheVariants as files

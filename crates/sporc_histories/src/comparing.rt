@@ -12,7 +12,7 @@ use sporc_base::Memory;
 use sporc_files::{Fault, File, Names, read_genesis_file};
 use sporc_hash::{Digest32, compare as compare_chains};
 use sporc_outside::{Folder, Sink, write_all};
-use sporc_play::verdict_text;
+use sporc_report::push_verdict;
 use std::alloc::Global;
 
 /// `compare NAME M N` writes how the saved history of one member of a document stands to that of another: `M N same`,
@@ -76,6 +76,7 @@ fn verdict_line(
     requires { AreOfOneGenesis one.now other.now }
     ensures { IfOk result (λ line. IsVerdictLine first second (record { first = one.now; second = other.now }) (string_bytes line)) }
 {
-    let line = verdict_text(alloc, first, second, compare_chains(one, other))?;
+    let mut line = String::new(alloc);
+    push_verdict(&mut line, first, second, compare_chains(one, other))?;
     Ok(line)
 }

@@ -20,8 +20,9 @@ use Rattle.sporc_script.specs.declared.play_line.PlayLine.{PlayLine}
 use Rattle.sporc_play.specs.declared.seat.Seat.{Seat}
 use Rattle.sporc_play.specs.declared.state.PlayState.{PlayState}
 use Rattle.sporc_play.specs.Cast.{setup_of}
-use Rattle.sporc_play.specs.JournalLines.{journal_lines}
-use Rattle.sporc_play.specs.Report.{Compares, Stands, hashes_of, compare_line, flip_line, flipped_line, line_by, not_open_line}
+use Rattle.sporc_report.specs.JournalLines.{journal_lines}
+use Rattle.sporc_report.specs.ClientLines.{Stands, compare_line}
+use Rattle.sporc_play.specs.Report.{Compares, hashes_of, flip_line, flipped_line, line_by, not_open_line}
 use Rattle.sporc_play.specs.Scene.{Effect, Scene, cuts, entry_at, flip_byte, flipped, flips, performed}
 use Rattle.sporc_play.specs.Seats.{IsSeatAt}
 use Rattle.sporc_play.specs.Stage.{AreOfOneDocument, Becomes, HasSameMembers, Holds, IsClientOf, StandsFor, AppendsLineOf}

@@ -1,6 +1,6 @@
 -- What the calls of a client tell, and what they add.
-use Rattle.std.proofs.Common.{◌≡◌, ℕ, ◌<◌, ◌≤◌, Bool, true, false, cond, ltb, arith, List, [], ◌∷◌, ◌++◌, length, refl, ap, ◌∙◌, append_assoc, Option, None, Some, Result, Ok, Err, IfOk}
-use Rattle.std.specs.Prelude.{◌↔◌, is_ok, if◌then◌else◌}
+use Rattle.std.proofs.Common.{◌≡◌, ℕ, ◌<◌, ◌≤◌, Bool, true, false, cond, ltb, arith, List, [], ◌∷◌, ◌++◌, length, refl, ap, Option, None, Some, Result, Ok, Err, IfOk}
+use Rattle.std.specs.Prelude.{◌↔◌}
 use Rattle.std.specs.Result.{OnOk}
 use Rattle.std.proofs.lemmas.Bool.{lt-ltb, ltb-true}
 use borrow.Author.Tests.{ltb-false}
@@ -23,13 +23,6 @@ pub event_told : {X F : Type 0} (r : Result X F) (old new : List ℕ) (m : ℕ) 
     → AnswersUnless edits.Memory answer fault → IfOk answer (λ n. n ≡ events) → OnOk r (new ≡ old ++ event_line m word events fault)
 event_told (Ok x) old new m word answer events fault line answers count = line events fault answers count
 event_told (Err e) old new m word answer events fault line answers count = tt
-
--- a line in parts
-pub told_in_parts : {X F : Type 0} (r : Result X F) (old first second new m text name end : List ℕ) → first ≡ old ++ (m ++ text) → second ≡ first ++ name → new ≡ (if is_ok r then second ++ end else second) → OnOk r (new ≡ old ++ (m ++ (text ++ (name ++ end))))
-told_in_parts (Ok x) old first second new m text name end a b c =
-    c ∙ ap (λ (t : List ℕ). t ++ end) (b ∙ ap (λ (t : List ℕ). t ++ name) a) ∙ append_assoc (old ++ (m ++ text)) name end ∙ append_assoc old (m ++ text) (name ++ end)
-    ∙ ap (λ (t : List ℕ). old ++ t) (append_assoc m text (name ++ end))
-told_in_parts (Err e) old first second new m text name end a b c = tt
 
 -- ---- entries that are handed out
 

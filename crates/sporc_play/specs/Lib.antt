@@ -4,11 +4,9 @@ pub mod Derived
 pub mod Forged
 pub mod Generated
 pub mod Joined
-pub mod JournalLines
 pub mod Lines
 pub mod Logs
 pub mod Moves
-pub mod Names
 pub mod Opening
 pub mod OwnPlays
 pub mod Playing

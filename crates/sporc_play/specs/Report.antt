@@ -1,9 +1,8 @@
 -- The lines that the commands of a script write.
-use Rattle.std.specs.Prelude.{◌≡◌, ℕ, ◌+◌, nat_lt, Bool, true, false, List, [], ◌∷◌, ◌++◌, length, codes, flat_map, slice_get, take, Option, Some, None, Result, Ok, Err}
+use Rattle.std.specs.Prelude.{◌≡◌, ℕ, ◌+◌, nat_lt, Bool, true, false, List, [], ◌∷◌, ◌++◌, length, codes, slice_get, take, Option, Some, None, Result, Ok, Err}
 use Rattle.std.specs.FinMap.{get}
 use Rattle.std.specs.Fmt.{decimal}
 use Rattle.std.specs.Io.KnownBytes.{Appends}
-use Rattle.hex.specs.Hex.{encode_lower}
 use Rattle.lms_leaf.specs.declared.faults.LeafFault.{LeafFault}
 use Rattle.sporc_base.specs.FirstFault.{first_of}
 use Rattle.sporc_delta.specs.Marks.{Mark}
@@ -13,33 +12,28 @@ use Rattle.sporc_epoch.specs.Keys.{Keys}
 use Rattle.sporc_epoch.specs.declared.fault.HintFault.{HintFault}
 use Rattle.sporc_hash.specs.Chain.{chain}
 use Rattle.sporc_hash.specs.declared.verdict.Verdict.{Verdict}
-use Rattle.sporc_hash.specs.declared.verdict.Verdict.TheVariants.{Same, Prefix, Longer, ForkedAfter}
-use Rattle.sporc_hash.specs.Verdict.{SameTip, TipIsIn, DivergesAfter}
-use Rattle.sporc_head.specs.History.{hash_of, roster_of}
 use Rattle.sporc_line.specs.Openings.{open_checks}
 use Rattle.sporc_line.specs.declared.fault.LineOpenFault.{LineOpenFault}
 use Rattle.sporc_member.specs.ChangeFault.{change_fault_name}
-use Rattle.sporc_member.specs.declared.founder.Founder.{Founder}
 use Rattle.sporc_outside.specs.Writing.{AppendsPrefix}
 use Rattle.sporc_client.specs.declared.fault.AcceptFault.{AcceptFault}
 use Rattle.sporc_client.specs.declared.fault.EditFault.{EditFault}
 use Rattle.sporc_client.specs.declared.fault.SubmitFault.{SubmitFault}
 use Rattle.sporc_client.specs.declared.submitted.Submitted.{Submitted}
 use Rattle.sporc_client.specs.declared.submitted.Submitted.TheVariants as submitted
-use Rattle.sporc_client.specs.Answers.{accept_fault, change_fault, discard_fault, edit_fault, is_out}
+use Rattle.sporc_client.specs.Answers.{accept_fault, change_fault, discard_fault, edit_fault}
 use Rattle.sporc_client.specs.Log.{journal_of}
-use Rattle.sporc_client.specs.PlainClient.{PlainClient, shown_after, shown_of}
+use Rattle.sporc_client.specs.PlainClient.{PlainClient, shown_after}
 use Rattle.sporc_client.specs.Run.{Setup}
-use Rattle.sporc_script.specs.Quoted.{quoted}
 use Rattle.sporc_script.specs.declared.command.Command.{Command}
 use Rattle.sporc_script.specs.declared.command.Command.TheVariants as commands
 use Rattle.sporc_script.specs.declared.command.Edit.{Edit}
 use Rattle.sporc_script.specs.declared.command.Pair.{Pair}
 use Rattle.sporc_script.specs.declared.play_line.PlayLine.{PlayLine}
+use Rattle.sporc_report.specs.ClientLines.{Stands, compare_line, hash_line, members_line, show_line}
+use Rattle.sporc_report.specs.JournalLines.{journal_lines}
+use Rattle.sporc_report.specs.Names.{accept_fault_name, edit_fault_name, hint_fault_name, open_fault_name, submit_fault_name}
 use Rattle.sporc_play.specs.Cast.{setup_of}
-use Rattle.sporc_play.specs.JournalLines.{journal_lines}
-use Rattle.sporc_script.specs.Spelling.{role_name}
-use Rattle.sporc_play.specs.Names.{accept_fault_name, edit_fault_name, hint_fault_name, open_fault_name, submit_fault_name}
 use Rattle.sporc_play.specs.Scene.{Scene, after, delta_by, entries_at, entry_at, leaf_after, opening, seen_by, submission_in}
 
 -- ---- lines that several commands write
@@ -119,43 +113,7 @@ abbrev pub join_line : Setup → ℕ → Result (List (List ℕ)) ℕ → Option
 join_line s m entries (Some c) = decimal m ++ codes " already open\n"
 join_line s m entries None = joined_line s m entries
 
--- ---- what a client shows
-
-abbrev pub if_removed : Bool → List ℕ
-if_removed true = codes " removed"
-if_removed false = []
-
-abbrev pub show_line : ℕ → PlainClient → List ℕ
-show_line m c =
-    decimal m ++ (codes " at " ++ (decimal (length c.entries) ++ (codes " pending " ++ (decimal (length c.pending) ++ (codes " text "
-    ++ (quoted (shown_of c) ++ (if_removed (is_out c) ++ codes "\n")))))))
-
-abbrev pub member_text : Founder → List ℕ
-member_text f = codes " " ++ (decimal f.member ++ (codes "=" ++ role_name f.role))
-
-abbrev pub text_of_member : Option Founder → List ℕ
-text_of_member None = []
-text_of_member (Some f) = member_text f
-
-abbrev pub members_line : ℕ → PlainClient → List ℕ
-members_line m c = decimal m ++ (codes " members" ++ (flat_map member_text (roster_of c.opening.genesis c.entries).members ++ codes "\n"))
-
-abbrev pub hash_line : ℕ → PlainClient → List ℕ
-hash_line m c = decimal m ++ (codes " hash " ++ (encode_lower (hash_of c.opening.genesis c.entries) ++ codes "\n"))
-
 -- ---- how the history of one member stands to another's
-
-abbrev pub Stands : List (List ℕ) → List (List ℕ) → Verdict → Type 0
-Stands a b Same = SameTip a b
-Stands a b Prefix = TipIsIn a b
-Stands a b Longer = TipIsIn b a
-Stands a b (ForkedAfter k) = DivergesAfter a b k
-
-abbrev pub compare_line : Pair → Verdict → List ℕ
-compare_line p Same = decimal p.first ++ (codes " " ++ (decimal p.second ++ codes " same\n"))
-compare_line p Prefix = decimal p.first ++ (codes " " ++ (decimal p.second ++ codes " prefix\n"))
-compare_line p Longer = decimal p.first ++ (codes " " ++ (decimal p.second ++ codes " longer\n"))
-compare_line p (ForkedAfter k) = decimal p.first ++ (codes " " ++ (decimal p.second ++ (codes " forked after " ++ (decimal k ++ codes "\n"))))
 
 abbrev pub hashes_of : PlainClient → List (List ℕ)
 hashes_of c = chain (genesis_bytes c.opening.genesis) c.entries

@@ -17,13 +17,14 @@ ghost use Rattle.sporc_play.specs.Seats.{HasSubmitted, IsReady, IsSubmitted, cli
 ghost use Rattle.sporc_play.specs.Scene.{delta_by, edit_events, edit_size, entries_in, leaf_next, marks_of, seen_by};
 
 use crate::derived::random_of;
-use crate::names::{push_accept_fault, push_edit_fault, push_submit_fault};
 use crate::seat::{PlayClient, Seat};
-use crate::showing::{push_number, push_start};
 use sporc_base::Memory;
 use sporc_client::{EditFault, RestartFault, SubmitFault, Submitted};
 use sporc_delta::Delta;
 use sporc_member::{Change, ChangeFault};
+use sporc_report::{
+    push_accept_fault, push_edit_fault, push_number, push_start, push_submit_fault,
+};
 use sporc_script::{Edit, Give, Restart, TextEdit};
 use std::alloc::{AllocError, Global};
 use std::fmt::Write;

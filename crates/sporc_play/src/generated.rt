@@ -13,13 +13,13 @@ ghost use Rattle.sporc_play.specs.Stage.{Becomes, CanPerform, StandsFor};
 
 use crate::fault::PlayFault;
 use crate::seat::PlayClient;
-use crate::showing::{last_hash, push_digits};
 use crate::state::PlayState;
 use sporc_base::{Memory, is_same as is_same_bytes};
 use sporc_delta::Text;
 use sporc_hash::Digest32;
 use sporc_member::Role;
 use sporc_outside::{Sink, write_all};
+use sporc_report::{last_hash, push_digits};
 use sporc_script::{
     Command, Edit, Give, Height, Insertion, MAX_GENERATED, MemberRole, PlayLine, Removal, TextEdit,
     Tree, Width,

@@ -12,14 +12,13 @@ ghost use Rattle.sporc_play.specs.Scene.{entries_at};
 ghost use Rattle.sporc_play.specs.Stage.{IsCastOf};
 
 use crate::cast::Cast;
-use crate::made::{Found, entries_at};
-use crate::names::{push_hint_fault, push_open_fault};
+use crate::made::{Found, entries_at, push_no_entry};
 use crate::seat::{Seat, open_seat};
-use crate::showing::{push_no_entry, push_start};
 use sporc_base::Memory;
 use sporc_entry::Genesis;
 use sporc_epoch::{HintFault, Ring, hints_from};
 use sporc_line::LineOpenFault;
+use sporc_report::{push_hint_fault, push_open_fault, push_start};
 use sporc_script::Join;
 use std::alloc::Global;
 

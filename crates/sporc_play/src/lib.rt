@@ -12,9 +12,9 @@
 //! show 1                    1 at 1 pending 0 text "abc"
 //! ```
 //!
-//! Proved: the report, the generated run's line and what is told of a client are those of the definitions, which perform
-//! the commands on plain records of clients and recompute all from the first entry; each answer names its cause, and after
-//! a fault a prefix of the report was written; each play is a run of its members' clients ([`laws`]). Only tested:
+//! Proved: the report and the generated run's line are those of the definitions, which perform the commands on plain
+//! records of clients and recompute all from the first entry; each answer names its cause, and after a fault a prefix of
+//! the report was written; each play is a run of its members' clients ([`laws`]). Only tested:
 //! that plays succeed with ample memory (`sporc_commands_tests`, `examples/`). Neither: how long a play takes.
 #![tactic(auto)]
 
@@ -25,20 +25,14 @@ mod fault;
 mod forging;
 mod generated;
 mod joining;
-mod journal;
 pub mod laws;
 mod made;
-mod names;
 mod opening;
 mod playing;
-mod quoted;
 mod seat;
-mod showing;
 mod signing;
 mod state;
-mod telling;
 
 pub use crate::fault::PlayFault;
 pub use crate::generated::play_generated;
 pub use crate::playing::{MAX_SCRIPT, play};
-pub use crate::telling::{hash_text, journal_text, show_text, verdict_text};

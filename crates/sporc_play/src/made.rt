@@ -1,12 +1,14 @@
 //! The entries of a play, by their numbers from 1.
 
-ghost use Rattle.std.specs.Prelude.{◌≡◌, map, IfOk};
+ghost use Rattle.std.specs.Prelude.{◌≡◌, ◌++◌, map, IfOk, OnOk, string_bytes};
 ghost use Rattle.std.specs.Option.{option_copied};
 ghost use Rattle.sporc_play.specs.Joined.{entries_found};
+ghost use Rattle.sporc_play.specs.Report.{no_entry_line};
 ghost use Rattle.sporc_play.specs.Scene.{entries_at, entry_at};
 
 use sporc_base::Memory;
 use std::alloc::Global;
+use std::fmt::Write;
 
 /// The entries with some numbers.
 #[derive(Drop)]
@@ -40,4 +42,11 @@ pub fn entries_at(alloc: Global, made: &[Vec<u8>], numbers: &[u64]) -> Result<Fo
         entries.push(copy)?;
     }
     Ok(Found::Entries(entries))
+}
+
+/// Appends that no entry has a number.
+pub fn push_no_entry(out: &mut String, number: u64) -> Result<(), Memory>
+    ensures ok { OnOk result (string_bytes out.new ≡ string_bytes out.old ++ no_entry_line number) }
+{
+    writeln!(out, "no entry {number}")
 }

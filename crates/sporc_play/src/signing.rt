@@ -13,8 +13,8 @@ use crate::acting::push_not_open;
 use crate::cast::Cast;
 use crate::forging::forge;
 use crate::seat::{PlayClient, Rogue};
-use crate::showing::{push_number, push_start};
 use sporc_base::Memory;
+use sporc_report::{push_number, push_start};
 use sporc_script::Forgery;
 use std::alloc::Global;
 

@@ -12,15 +12,14 @@ ghost use Rattle.sporc_play.specs.Seats.{IsSeatAt, seated};
 ghost use Rattle.sporc_play.specs.Stage.{AreDeclared, AreOfOneDocument, Becomes, CanPerform, HasSameMembers, StandsFor, AppendsLineOf};
 
 use crate::cast::{Cast, tree_of};
-use crate::journal::push_journal;
-use crate::made::entry_at;
+use crate::made::{entry_at, push_no_entry};
 use crate::opening::{declare, open_founder};
 use crate::seat::{PlayClient, Rogue, Seat, client_of, rogue_at, seat_at};
-use crate::showing::{push_hash, push_members, push_no_entry, push_show, push_verdict};
 use crate::{acting, joining, signing};
 use sporc_base::Memory;
 use sporc_entry::Genesis;
 use sporc_hash::compare;
+use sporc_report::{push_hash, push_journal, push_members, push_show, push_verdict};
 use sporc_script::{Command, Edit, Flip, Forgery, Give, Join, Pair, PlayLine, Restart, RosterEdit};
 use std::alloc::Global;
 use std::fmt::Write;

@@ -1,8 +1,8 @@
 -- What is printed of a client.
 use Rattle.std.specs.Prelude.{ℕ, List, ◌++◌}
 use Rattle.sporc_client.specs.Log.{journal_of}
-use Rattle.sporc_play.specs.JournalLines.{journal_lines}
-use Rattle.sporc_play.specs.Report.{hash_line, show_line}
+use Rattle.sporc_report.specs.JournalLines.{journal_lines}
+use Rattle.sporc_report.specs.ClientLines.{hash_line, show_line}
 use Rattle.sporc_shared.specs.Items.{Past, client_of}
 
 -- the lines of its journal, what its member sees, and the last value of its chain

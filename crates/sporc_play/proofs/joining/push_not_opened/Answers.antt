@@ -1,7 +1,7 @@
 use Rattle.std.proofs.Common.{codes, string_bytes}
 use Rattle.std.specs.Fmt.{decimal}
-use Rattle.sporc_play.specs.Names.{open_fault_name}
-use Rattle.sporc_play.proofs.Told.{told_in_parts}
+use Rattle.sporc_report.specs.Names.{open_fault_name}
+use Rattle.sporc_report.proofs.Parts.{told_in_parts}
 use Rattle.sporc_play.proofs.joining.push_not_opened.Goals as goal
 
 pub returns-clause-line : goal.returns-clause-line

@@ -1,6 +1,7 @@
 use Rattle.std.proofs.Common.{◌<◌, ℕ, List, length, ap, ◌∙◌, sym, subst}
 use Rattle.std.specs.Prelude.{slice_get}
-use Rattle.sporc_play.specs.Report.{Stands, hashes_of}
+use Rattle.sporc_report.specs.ClientLines.{Stands}
+use Rattle.sporc_play.specs.Report.{hashes_of}
 use Rattle.sporc_client.specs.ClientModel.{state_of}
 use Rattle.sporc_play.proofs.Becoming.{ok_then}
 use Rattle.sporc_play.proofs.Kept.{begun_chain, chain_is, compare_tells, first_missing, second_missing, found_by, one_beginning, stands}

@@ -2,12 +2,12 @@ use Rattle.std.proofs.Common.{ℕ, List, ◌++◌, flat_map, string_bytes, subst
 use Rattle.std.specs.List.Sorted.{IsStrictlyIncreasing}
 use Rattle.std.proofs.lemmas.List.{take_all}
 use Rattle.sporc_member.specs.Roster.{Roster, member_at}
-use Rattle.sporc_play.specs.Report.{member_text, text_of_member}
-use Rattle.sporc_play.proofs.Rosters.{numbered_texts}
-use Rattle.sporc_play.proofs.showing.push_roster.Goals as goal
+use Rattle.sporc_report.specs.ClientLines.{member_text, text_of_member}
+use Rattle.sporc_report.proofs.Rosters.{numbered_texts}
+use Rattle.sporc_report.proofs.showing.push_roster.Goals as goal
 
 pub returns : goal.returns
-returns c =
+returns g c =
     let roster = c.roster-roster.result.now.roster in
     let numbers = c.members-number-items.ensures in
     let out = string_bytes c.args.out.now in

@@ -1,7 +1,7 @@
 //! The names of faults in a report. A fault of memory has none.
 
 ghost use Rattle.std.specs.Prelude.{◌≡◌, ◌≢◌, ◌++◌, IfSome, OnOk, string_bytes};
-ghost use Rattle.sporc_play.specs.Names.{accept_fault_name, edit_fault_name, hint_fault_name, open_fault_name, submit_fault_name};
+ghost use Rattle.sporc_report.specs.Names.{accept_fault_name, edit_fault_name, hint_fault_name, open_fault_name, submit_fault_name};
 
 use sporc_base::Memory;
 use sporc_client::{AcceptFault, EditFault, SubmitFault};

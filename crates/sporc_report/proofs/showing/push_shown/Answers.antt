@@ -4,7 +4,7 @@ use Rattle.std.proofs.lemmas.Result.{on_ok_weaker}
 use Rattle.sporc_client.specs.ClientModel.{state_of}
 use Rattle.sporc_client.specs.PlainClient.{shown_of}
 use Rattle.sporc_script.specs.Quoted.{quoted}
-use Rattle.sporc_play.proofs.showing.push_shown.Goals as goal
+use Rattle.sporc_report.proofs.showing.push_shown.Goals as goal
 
 pub returns : goal.returns
 returns g c =

@@ -4,7 +4,7 @@ ghost use Rattle.std.specs.Prelude.{◌≡◌, ◌++◌, codes, OnOk, flat_map, 
 ghost use Rattle.std.specs.Fmt.{decimal};
 ghost use Rattle.sporc_client.specs.declared.event.Event.TheVariants as events;
 ghost use Rattle.sporc_script.specs.Spelling.{role_name};
-ghost use Rattle.sporc_play.specs.JournalLines.{change_text, delta_text, event_text, journal_lines, part_text, spaced_part};
+ghost use Rattle.sporc_report.specs.JournalLines.{change_text, delta_text, event_text, journal_lines, part_text, spaced_part};
 
 use crate::quoted::push_quoted;
 use crate::showing::{push_digits, role_name};

@@ -3,7 +3,7 @@ use Rattle.std.proofs.lemmas.Grind.{flat_map-append}
 use Rattle.std.proofs.lemmas.Iterator.{YieldsList-from_chars}
 use Rattle.std.proofs.lemmas.Iterator.Consumers.{YieldsList-end}
 use Rattle.sporc_script.specs.Quoted.{escape}
-use Rattle.sporc_play.proofs.quoted.push_all_escaped.Goals as goal
+use Rattle.sporc_report.proofs.quoted.push_all_escaped.Goals as goal
 
 pub loop-c-preserved : goal.loop-c-preserved
 loop-c-preserved c =

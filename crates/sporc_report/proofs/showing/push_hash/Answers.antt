@@ -5,8 +5,8 @@ use Rattle.sporc_client.specs.ClientModel.{state_of}
 use Rattle.sporc_client.specs.PlainClient.{Opening}
 use Rattle.sporc_client.proofs.Calls.{replay_opening}
 use Rattle.sporc_head.specs.History.{hash_of}
-use Rattle.sporc_play.proofs.Told.{told_in_parts}
-use Rattle.sporc_play.proofs.showing.push_hash.Goals as goal
+use Rattle.sporc_report.proofs.Parts.{told_in_parts}
+use Rattle.sporc_report.proofs.showing.push_hash.Goals as goal
 
 pub returns : goal.returns
 returns g c =

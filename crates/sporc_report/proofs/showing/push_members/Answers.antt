@@ -4,12 +4,12 @@ use Rattle.sporc_client.specs.ClientModel.{state_of}
 use Rattle.sporc_client.specs.PlainClient.{Opening}
 use Rattle.sporc_client.proofs.Calls.{replay_opening}
 use Rattle.sporc_head.specs.History.{roster_of}
-use Rattle.sporc_play.specs.Report.{member_text}
-use Rattle.sporc_play.proofs.Told.{told_in_parts}
-use Rattle.sporc_play.proofs.showing.push_members.Goals as goal
+use Rattle.sporc_report.specs.ClientLines.{member_text}
+use Rattle.sporc_report.proofs.Parts.{told_in_parts}
+use Rattle.sporc_report.proofs.showing.push_members.Goals as goal
 
 pub returns : goal.returns
-returns c =
+returns g c =
     let client = c.args.client.now in
     let old = string_bytes c.args.out.now in
     let me = client.opening.kit.me in

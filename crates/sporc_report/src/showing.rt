@@ -8,11 +8,10 @@ ghost use Rattle.sporc_client.specs.PlainClient.{shown_of};
 ghost use Rattle.sporc_head.specs.History.{hash_of, roster_of};
 ghost use Rattle.sporc_member.specs.Roster.{member_at};
 ghost use Rattle.sporc_script.specs.Spelling.{role_name};
-ghost use Rattle.sporc_play.specs.Report.{compare_line, hash_line, if_removed, member_text, members_line, no_entry_line, show_line, text_of_member};
+ghost use Rattle.sporc_report.specs.ClientLines.{compare_line, hash_line, if_removed, member_text, members_line, show_line, text_of_member};
 ghost use Rattle.sporc_script.specs.Quoted.{quoted};
 
 use crate::quoted::push_quoted;
-use crate::seat::PlayClient;
 use sporc_base::Memory;
 use sporc_client::Client;
 use sporc_hash::{Digest32, Verdict};
@@ -67,15 +66,8 @@ pub fn push_number(out: &mut String, member: u16, words: &str, number: u64) -> R
     writeln!(out, "{member}{words}{number}")
 }
 
-/// Appends that no entry has a number.
-pub fn push_no_entry(out: &mut String, number: u64) -> Result<(), Memory>
-    ensures ok { OnOk result (string_bytes out.new ≡ string_bytes out.old ++ no_entry_line number) }
-{
-    writeln!(out, "no entry {number}")
-}
-
 /// Appends the members, in ascending order of their numbers.
-pub fn push_members(out: &mut String, client: &PlayClient) -> Result<(), Memory>
+pub fn push_members<D: LeafDisk>(out: &mut String, client: &Client<D>) -> Result<(), Memory>
     ensures ok { OnOk result (string_bytes out.new ≡ string_bytes out.old ++ members_line client.now.opening.kit.me (state_of client.now)) }
 {
     push_start(out, client.me(), " members")?;
@@ -84,7 +76,7 @@ pub fn push_members(out: &mut String, client: &PlayClient) -> Result<(), Memory>
 }
 
 // Appends each member with its role.
-fn push_roster(out: &mut String, client: &PlayClient) -> Result<(), Memory>
+fn push_roster<D: LeafDisk>(out: &mut String, client: &Client<D>) -> Result<(), Memory>
     ensures { OnOk result (string_bytes out.new ≡ string_bytes out.old ++ flat_map member_text (roster_of client.now.opening.genesis (state_of client.now).entries).members) }
 {
     let roster = client.roster();

@@ -1,0 +1,46 @@
+-- Worked examples: lines of a journal, and of what a client shows, as docs/FORMATS.md has them.
+use Rattle.std.proofs.Common.{◌≡◌, [], ◌∷◌, codes, refl}
+use Rattle.std.specs.Fmt.{digits}
+use Rattle.hex.specs.Hex.{encode_with}
+use Rattle.sporc_delta.specs.Marks.{Delete, Insert, Retain}
+use Rattle.sporc_hash.specs.declared.verdict.Verdict.TheVariants.{ForkedAfter, Prefix}
+use Rattle.sporc_member.specs.declared.change.Change.TheVariants as changes
+use Rattle.sporc_member.specs.declared.change.ChangeFault.TheVariants as change_faults
+use Rattle.sporc_member.specs.declared.role.Role.TheVariants.{Editor, Reader}
+use Rattle.sporc_client.specs.declared.event.Event.TheVariants as events
+use Rattle.sporc_report.specs.ClientLines.{compare_line, member_text}
+use Rattle.sporc_report.specs.JournalLines.{delta_text, event_text, journal_lines}
+
+-- ---- a journal
+
+-- two characters are kept, one is inserted, and one is removed
+an_edit : event_text (events.Edit 0 12 (Retain ∷ Retain ∷ Insert 34 ∷ Delete ∷ [])) ≡ codes "edit 0 12 k2 i\"\\\"\" r1"
+unfolding digits
+an_edit = refl
+
+no_parts : delta_text [] ≡ codes "-"
+no_parts = refl
+
+two_changes : journal_lines (events.Change 1 (changes.Add 4 Reader (0 ∷ 171 ∷ [])) ∷ events.Change 1 (changes.SetRole 65535 Editor) ∷ [])
+    ≡ codes "change 1 add 4 reader 00ab\nchange 1 role 65535 editor\n"
+unfolding digits encode_with
+two_changes = refl
+
+a_round : journal_lines (events.Submit 2 (1 ∷ 255 ∷ []) ∷ events.Accept 0 10 ∷ events.Discard 2 ∷ events.Dropped 2 change_faults.LastAdmin ∷ [])
+    ≡ codes "submit 2 01ff\naccept 0 10\ndiscard 2\ndropped 2 last-admin\n"
+unfolding digits encode_with
+a_round = refl
+
+-- ---- what a client shows
+
+a_member : member_text (record { member = 2; role = Editor; key = [] }) ≡ codes " 2=editor"
+unfolding digits
+a_member = refl
+
+a_prefix : compare_line (record { first = 1; second = 2 }) Prefix ≡ codes "1 2 prefix\n"
+unfolding digits
+a_prefix = refl
+
+a_fork : compare_line (record { first = 1; second = 2 }) (ForkedAfter 0) ≡ codes "1 2 forked after 0\n"
+unfolding digits
+a_fork = refl

@@ -1,0 +1,3 @@
+pub mod ClientLines
+pub mod JournalLines
+pub mod Names

@@ -1,0 +1,28 @@
+//! The lines that tell of a client: its journal, what it shows, its members, the last value of its chain, how its history
+//! stands to another's, and the names of its faults. Each function appends to a text.
+//!
+//! ```text
+//! push_journal(alloc, &mut out, client.journal())?    // edit 0 0 i"abc"
+//! push_show(&mut out, &client)?;                      // 1 at 1 pending 0 text "abc"
+//! push_members(&mut out, &client)?;                   // 1 members 1=admin 2=editor
+//! push_verdict(&mut out, 1, 2, Verdict::Prefix)?;     // 1 2 prefix
+//! ```
+//!
+//! Proved: what is appended is the line of the definitions, and a fault of memory has no name. Only tested: that the calls
+//! succeed with ample memory (`sporc_commands_tests`). Neither: nothing else is claimed.
+#![tactic(auto)]
+
+mod journal;
+mod names;
+mod quoted;
+mod showing;
+
+pub use crate::journal::push_journal;
+pub use crate::names::{
+    push_accept_fault, push_edit_fault, push_hint_fault, push_open_fault, push_submit_fault,
+};
+pub use crate::showing::{
+    last_hash, push_digits, push_hash, push_members, push_number, push_show, push_start,
+    push_verdict,
+};
+pub use sporc_base::Memory;
