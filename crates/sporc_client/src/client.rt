@@ -40,7 +40,7 @@ use crate::workspace::{Workspace, ready_keep};
 use lms_sign::{KeptTicket, Signer};
 use sporc_base::{Bytes, Memory};
 use sporc_delta::Delta;
-use sporc_entry::Genesis;
+use sporc_entry::{CHANGE, EDIT, Genesis};
 use sporc_epoch::{Pairs, Ring};
 use sporc_hash::Digest32;
 use sporc_head::{Heads, allows};
@@ -266,7 +266,7 @@ fn opened(
     }
 }
 
-// Whether the member has the right to entries of this kind, 1 for edits and 2 for changes.
+// Whether the member has the right to entries of this kind.
 pub(crate) fn has_right(line: &Line, kind: u8) -> bool
     ensures value { result ≡ allows_member kind (member_at (roster_of line.now.genesis line.now.entries) line.now.kit.me) }
 {
@@ -284,7 +284,7 @@ fn check_edit(line: &Line, own: &Workspace, seen: u64, delta: &Delta) -> Result<
     if line.removed() {
         return Err(EditFault::Removed);
     }
-    if !has_right(line, 1) {
+    if !has_right(line, EDIT) {
         return Err(EditFault::NoRight);
     }
     let events = own.journal().len() as u64;
@@ -334,7 +334,7 @@ fn check_change(line: &Line, own: &Workspace) -> Result<(), EditFault>
     if line.removed() {
         return Err(EditFault::Removed);
     }
-    if !has_right(line, 2) {
+    if !has_right(line, CHANGE) {
         return Err(EditFault::NoRight);
     }
     check_room(own)

@@ -27,7 +27,9 @@ use sporc_base::{Bytes, Memory};
 use sporc_cipher::mask;
 use sporc_client::{first_half, second_half};
 use sporc_delta::Delta;
-use sporc_entry::{ChangeBody, Entry, Header, Wrap, Wraps, signed_part, write_change, write_entry};
+use sporc_entry::{
+    CHANGE, ChangeBody, EDIT, Entry, Header, Wrap, Wraps, signed_part, write_change, write_entry,
+};
 use sporc_epoch::{Pairs, SealFault, entry_stream, seal_change};
 use sporc_member::Change;
 use sporc_outside::MemoryDisk;
@@ -195,8 +197,8 @@ fn kind_of(what: &What) -> u8
     ensures { result ≡ kind_of what.now }
 {
     match what {
-        What::Insert(_) | What::Raw(_) => 1,
-        What::Change(_) => 2,
+        What::Insert(_) | What::Raw(_) => EDIT,
+        What::Change(_) => CHANGE,
     }
 }
 

@@ -18,6 +18,7 @@ use crate::limits::{MAX_EVENTS, MAX_HEAD_BYTES};
 use crate::pending::Pending;
 use crate::workspace::Workspace;
 use sporc_delta::Delta;
+use sporc_entry::{CHANGE, EDIT};
 use sporc_epoch::least_unpaired;
 use sporc_head::MAX_ENTRIES;
 use sporc_line::Line;
@@ -83,13 +84,13 @@ fn check_submission(line: &Line, own: &Workspace, item: &Pending) -> Result<(), 
     Ok(())
 }
 
-// The kind of the entry of an item: 1 for an edit, 2 for a change.
+// The kind of the entry of an item.
 pub(crate) fn kind_of(item: &Pending) -> u8
     ensures value { result ≡ kind_of item.now }
 {
     match item {
-        Pending::Edit(_) => 1,
-        Pending::Change(_) => 2,
+        Pending::Edit(_) => EDIT,
+        Pending::Change(_) => CHANGE,
     }
 }
 
