@@ -1,6 +1,6 @@
 -- What holds of lists, and of what is found in them.
 use Rattle.std.proofs.Common.{◌≡◌, Bool, true, false, cond, List, [], ◌∷◌, ◌++◌, Option, None, Some, refl, subst}
-use Rattle.std.specs.Prelude.{find, is_none}
+use Rattle.std.specs.Prelude.{find}
 use Rattle.std.specs.List.{AllByRecursion}
 use Rattle.sporc_base.specs.FirstFault.{first_of}
 
@@ -17,11 +17,6 @@ found_passes {X} p (y ∷ ys) x e = go (p y) refl (found_passes p ys x) e
 pub all_append : {A : Type 0} (P : A → Type 0) (xs ys : List A) → AllByRecursion P xs → AllByRecursion P ys → AllByRecursion P (xs ++ ys)
 all_append P [] ys p q = q
 all_append P (x ∷ xs) ys p q = (p.0, all_append P xs ys p.1 q)
-
--- no value is there
-pub none_of : {X : Type 0} (o : Option X) → is_none o ≡ true → o ≡ None
-none_of None is = refl
-none_of (Some x) is = absurd cc
 
 -- no check of both lists fails
 pub both_pass : {F : Type 0} (xs ys : List (Option F)) → first_of (xs ++ ys) ≡ None → (first_of xs ≡ None) × (first_of ys ≡ None)

@@ -108,10 +108,6 @@ kept_drawn first next end leaf signed order is after more = record {
 pub signed_kept : (first end leaf : ℕ) (signed : List ℕ) → AreInOrder first end (Some leaf) signed → AreInOrder first end None (signed ++ leaf ∷ [])
 signed_kept first end leaf signed order = record { rise = rise_push first leaf end signed order.kept.unsigned order.kept.after order.kept.drawn; kept = tt }
 
--- a ticket that is given up
-pub given_up : (first end : ℕ) (ticket : Option ℕ) (signed : List ℕ) → AreInOrder first end ticket signed → AreInOrder first end None signed
-given_up first end ticket signed order = record { rise = order.rise; kept = tt }
-
 -- ---- after a submission
 
 -- the leaf at hand comes after all that signed

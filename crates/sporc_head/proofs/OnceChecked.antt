@@ -91,14 +91,6 @@ checked_accepted g entries c change k e =
 pub unless_exit : {X : Type 0} (m : Refusal) (r : Result X Refusal) (y e : Refusal) (fault : Option Refusal) → r ≡ Err y → y ≡ e → (e ≢ m → fault ≡ Some e) → AnswersUnless m r fault
 unless_exit {X} m r y e fault p q h = subst (λ (r : Result X Refusal). AnswersUnless m r fault) (sym p) (subst (λ (z : Refusal). z ≢ m → fault ≡ Some z) (sym q) h)
 
-pub none_of : {X : Type 0} (o : Option X) → ((x : X) → o ≡ Some x → ⊥) → o ≡ None
-none_of None h = refl
-none_of (Some x) h = absurd (h x refl)
-
-pub at_place : (g : Genesis) (me : Option ℕ) (entries : List (List ℕ)) (pos : ℕ) (e : Entry) (f : Refusal) → first_of (place_checks g me entries pos e.header) ≡ Some f → first_of (head_checks g me entries pos e) ≡ Some f
-unfolding head_checks
-at_place g me entries pos e f h = first_of-some (place_checks g me entries pos e.header) (history_checks g entries e.header ++ (author_checks (member_at (roster_of g entries) e.header.author) e ++ roster_checks (roster_of g entries) (change_of e))) f h
-
 module _ (g : Genesis) (me : Option ℕ) (entries : List (List ℕ)) (pos : ℕ) (e : Entry) (here : first_of (place_checks g me entries pos e.header) ≡ None) where
   after_place : first_of (head_checks g me entries pos e)
       ≡ first_of (history_checks g entries e.header ++ (author_checks (member_at (roster_of g entries) e.header.author) e ++ roster_checks (roster_of g entries) (change_of e)))

@@ -60,14 +60,6 @@ ends L i room x whole at le none so_far = sym (so_far ∙ step (ltb i MAX_PULLED
         let k : MAX_PULLED - i ≡ 0 = omega arith in
         rw k refl
 
--- behind the last entry nothing is left
-pub is_done : (L : List (List ℕ)) (i room : ℕ) (whole : List (List ℕ)) → length L ≤ i → whole ≡ take i L ++ longest_batch (MAX_PULLED - i) room (drop i L) → take i L ≡ whole
-is_done L i room whole le so_far = sym (so_far ∙ ap (λ (l : List (List ℕ)). take i L ++ longest_batch (MAX_PULLED - i) room l) (drop_all i L le) ∙ ap (λ (l : List (List ℕ)). take i L ++ l) (empty (MAX_PULLED - i)) ∙ append-nil (take i L))
-  where
-    empty : (n : ℕ) → longest_batch n room [] ≡ []
-    empty zero = refl
-    empty (suc n) = refl
-
 -- an entry with room leaves as much as it does not need
 pub has_room : (i room len : ℕ) → (ltb i MAX_PULLED && leb (len + 4) room) ≡ true → (i < MAX_PULLED) × (len + 4 ≤ room)
 has_room i room len h = go (ltb i MAX_PULLED) (leb (len + 4) room) refl refl h

@@ -1,5 +1,5 @@
 -- The entries of one answer fit a frame.
-use Rattle.std.proofs.Common.{◌≡◌, ℕ, zero, suc, ◌+◌, ◌-◌, ◌≤◌, ◌<◌, Bool, true, false, leb, List, [], ◌∷◌, length, map, drop, ap, refl, arith, if◌then◌else◌, flat_map, length-append}
+use Rattle.std.proofs.Common.{◌≡◌, ℕ, zero, suc, ◌+◌, ◌-◌, ◌≤◌, Bool, true, false, leb, List, [], ◌∷◌, length, map, drop, ap, refl, arith, if◌then◌else◌, flat_map, length-append}
 use Rattle.std.specs.Global.{Vec}
 use Rattle.std.specs.Int.{w32, to_be_bytes}
 use Rattle.std.proofs.lemmas.Bool.{leb-true}
@@ -44,8 +44,3 @@ batch_bytes (suc n) room (e ∷ es) = go (leb (length e + 4) room) refl (batch_b
 
 pub entries_fit : (first : ℕ) (es : List (List ℕ)) → length (flat_map counted es) ≤ MAX_PULLED_BYTES → length (to_client_bytes (Entries first es)) ≤ MAX_BODY
 entries_fit first es fits = omega (arith, length-append (to_be_bytes w32 first) (length es ∷ flat_map counted es), fits)
-
--- there are some where there are more
-pub some_left : (n len from : ℕ) → (n ≡ 0 → len ≤ from) → from < len → 1 ≤ n
-some_left zero len from none lt = absurd (omega (arith, none refl, lt))
-some_left (suc n) len from none lt = omega arith

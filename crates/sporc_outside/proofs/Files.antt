@@ -1,5 +1,5 @@
 -- Where the file with a name stands.
-use Rattle.std.proofs.Common.{rules, ◌≡◌, ℕ, zero, suc, ◌<◌, Bool, true, false, List, [], ◌∷◌, ◌++◌, length, take, cond, Option, Some, None, IsSome, Result, Ok, Err, OnOk, OnErr, refl, ap, sym, subst, ◌∙◌, arith, get_or, set, length-append}
+use Rattle.std.proofs.Common.{rules, ◌≡◌, ℕ, zero, suc, ◌<◌, Bool, true, false, List, [], ◌∷◌, ◌++◌, length, take, cond, Option, Some, None, IsSome, Result, Ok, Err, OnOk, OnErr, refl, ap, sym, subst, arith, get_or, length-append}
 use Rattle.std.specs.Str.{bytes_eq}
 use Rattle.std.proofs.Math.ListN.{get_or-append}
 use Rattle.std.proofs.lemmas.List.Elements.{All-append}
@@ -42,16 +42,6 @@ place_from (g ∷ gs) name (suc i) f lt at same none = go (bytes_eq g.name name)
           found = rw e p.found;
           others = λ bytes. rw e (ap (λ (l : List NamedFile). g ∷ l) (p.others bytes));
         }
-
--- the item at the place is the file
-pub found_at : (files : List NamedFile) (name : List ℕ) (place : ℕ) (f : NamedFile) → IsPlaceOf files name place
-    → f ≡ get_or files place f → file_in files name ≡ Some f.bytes
-found_at files name place f p at = p.found ∙ ap (λ (x : NamedFile). Some x.bytes) (sym (at ∙ p.is f))
-
-pub put_at : (files : List NamedFile) (name : List ℕ) (place : ℕ) (f : NamedFile) (bytes : List ℕ) → IsPlaceOf files name place
-    → f ≡ get_or files place f → set files place (record f { bytes = bytes }) ≡ with_file files name bytes
-put_at files name place f bytes p at =
-    ap (λ (x : NamedFile). set files place (record x { bytes = bytes })) (at ∙ p.is f) ∙ sym (p.others bytes)
 
 -- a file that is written anew, or at the end
 pub with_new_file : (files : List NamedFile) (name bytes : List ℕ) → file_in files name ≡ None

@@ -14,7 +14,7 @@ use Rattle.sporc_wire.specs.declared.to_server.ToServer.TheVariants as to_server
 use Rattle.sporc_shared.specs.declared.fault.SessionFault.{SessionFault}
 use Rattle.sporc_shared.specs.declared.fault.SessionFault.TheVariants as faults
 use Rattle.sporc_shared.specs.Acts.{Act, Greet, Pull, all_of, answers_by, handed_out, messages_by}
-use Rattle.sporc_shared.specs.Asking.{AskFails, SilentFor, UnsentFor}
+use Rattle.sporc_shared.specs.Asking.{AskFails}
 use Rattle.sporc_shared.specs.Fetches.{FetchEnds, FetchFails, IsPullDue, Pulled, all_came, loses, pulls_from, stops}
 use Rattle.sporc_shared.specs.Wires.{Exchanged, InboxModel, IsBadFrame, IsCut, IsLastFrom, LinkStand, empty_inbox, link_stand, spelled}
 use Rattle.sporc_shared.proofs.Exchanging.{exchanged_then, spelled_append}
@@ -154,33 +154,3 @@ FetchCause a b faults.JournalFull = ⊥
 FetchCause a b (faults.EditRefused editor line fault) = ⊥
 FetchCause a b (faults.Worn ticket) = ⊥
 FetchCause a b faults.ChanceFault = ⊥
-
-unsent_cause : (a b : LinkStand) (fault : SessionFault) → UnsentFor a b fault → FetchCause a b fault
-unsent_cause a b faults.LinkFault cause = cause
-unsent_cause a b (faults.LinkEnded taken) cause = absurd cause
-unsent_cause a b (faults.BadMessage place) cause = absurd cause
-unsent_cause a b faults.Memory cause = tt
-unsent_cause a b (faults.Refused position refusal) cause = cause
-unsent_cause a b (faults.NotSettled pending at) cause = cause
-unsent_cause a b (faults.Leaf fault) cause = cause
-unsent_cause a b faults.HistoryFull cause = cause
-unsent_cause a b (faults.ServerRejected refusal) cause = cause
-unsent_cause a b faults.JournalFull cause = cause
-unsent_cause a b (faults.EditRefused editor line fault) cause = cause
-unsent_cause a b (faults.Worn ticket) cause = cause
-unsent_cause a b faults.ChanceFault cause = cause
-
-silent_cause : (a b : LinkStand) (fault : SessionFault) → SilentFor a b fault → FetchCause a b fault
-silent_cause a b faults.LinkFault cause = cause
-silent_cause a b (faults.LinkEnded taken) cause = cause
-silent_cause a b (faults.BadMessage place) cause = inl cause
-silent_cause a b faults.Memory cause = tt
-silent_cause a b (faults.Refused position refusal) cause = cause
-silent_cause a b (faults.NotSettled pending at) cause = cause
-silent_cause a b (faults.Leaf fault) cause = cause
-silent_cause a b faults.HistoryFull cause = cause
-silent_cause a b (faults.ServerRejected refusal) cause = cause
-silent_cause a b faults.JournalFull cause = cause
-silent_cause a b (faults.EditRefused editor line fault) cause = cause
-silent_cause a b (faults.Worn ticket) cause = cause
-silent_cause a b faults.ChanceFault cause = cause

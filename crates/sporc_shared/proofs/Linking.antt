@@ -1,8 +1,8 @@
 -- Calls on the link, as exchanges.
-use Rattle.std.proofs.Common.{◌≡◌, ◌≢◌, ℕ, ◌+◌, ◌≤◌, Bool, List, [], ◌∷◌, ◌++◌, length, take, Option, Some, None, Result, Ok, Err, refl, sym, ap, ◌∙◌, subst, append_assoc, arith}
+use Rattle.std.proofs.Common.{◌≡◌, ◌≢◌, ℕ, ◌+◌, ◌≤◌, Bool, List, [], ◌∷◌, ◌++◌, length, take, Option, None, Result, Ok, Err, refl, sym, ap, ◌∙◌, subst, append_assoc, arith}
 use Rattle.std.proofs.lemmas.Bool.{le-ltb}
 use Rattle.std.proofs.lemmas.List.{append-nil, length-append}
-use Rattle.std.specs.Io.KnownBytes.{Appends, Consumes, Keeps}
+use Rattle.std.specs.Io.KnownBytes.{Appends, Consumes}
 use Rattle.sporc_outside.specs.Counts.{Rose}
 use Rattle.sporc_outside.specs.Writing.{AppendsPrefix}
 use Rattle.std.specs.Prelude.{IfErr, IfOk, if◌then◌else◌}
@@ -13,9 +13,8 @@ use Rattle.sporc_wire.specs.declared.to_client.ToClient.{ToClient}
 use Rattle.sporc_wire.specs.declared.to_client.ToClient.TheVariants as to_client
 use Rattle.sporc_wire.specs.declared.to_server.ToServer.{ToServer}
 use Rattle.sporc_wire.specs.declared.to_server.ToServer.TheVariants as to_server
-use Rattle.sporc_wire.specs.Messages.{Unread, counted_to_end, framed, next}
+use Rattle.sporc_wire.specs.Messages.{Unread, counted_to_end, framed}
 use Rattle.sporc_wire.specs.Stream.{frame}
-use Rattle.sporc_wire.specs.ToClient.{to_client_of}
 use Rattle.sporc_wire.specs.ToServer.{to_server_bytes}
 use Rattle.sporc_shared.specs.declared.fault.SessionFault.{SessionFault}
 use Rattle.sporc_shared.specs.declared.fault.SessionFault.TheVariants as faults
@@ -32,11 +31,6 @@ same_appends u v same = subst (λ (w : Option (List ℕ)). Appends u w []) (sym 
 
 same_consumes : (u v : Option (List ℕ)) → v ≡ u → Consumes u v []
 same_consumes u v same = subst (λ (w : Option (List ℕ)). Consumes u w []) (sym same) (consumes_none u)
-
-keeps_consumes : (u v : Option (List ℕ)) → Keeps u v → Consumes u v []
-keeps_consumes None v k = tt
-keeps_consumes (Some xs) None k = absurd k
-keeps_consumes (Some xs) (Some ys) k = sym k
 
 -- bytes were written
 pub wrote : (a b : LinkStand) (bytes : List ℕ) → Appends a.written b.written bytes → b.left ≡ a.left → b.inbox ≡ a.inbox → a.faults ≤ b.faults → Exchanged a b bytes []
@@ -69,14 +63,6 @@ module _ (a b : LinkStand) (message : ToServer) (bytes : List ℕ) (short : leng
 pub sent_nothing : (a : LinkStand) (message : ToServer) → Unsent a a message faults.Memory
 sent_nothing a message = record { n = 0; did = exchanged_none a; cause = tt }
 
--- nothing was, and nothing came
-pub kept : (a b : LinkStand) → b.written ≡ a.written → Keeps a.left b.left → b.inbox ≡ a.inbox → a.faults ≤ b.faults → Exchanged a b [] []
-kept a b written keeps inbox count = record {
-  sent = same_appends a.written b.written written;
-  received = received_nothing a b (keeps_consumes a.left b.left keeps) inbox;
-  count = count;
-}
-
 -- a piece was taken
 pub took_piece : (a b : LinkStand) (piece : List ℕ) → Took a b piece → Exchanged a b [] []
 took_piece a b piece t = record {
@@ -91,10 +77,6 @@ took_piece a b piece t = record {
 }
 
 -- ---- the next message
-
--- where it began
-pub found_from : (place : ℕ) (i j : InboxModel) (m : ToClient) → place ≡ i.at → (next to_client_of (unread_of i)).answer ≡ Ok (Some m) → unread_of j ≡ (next to_client_of (unread_of i)).after → IsLastFrom place m j
-found_from place i j m at answer after = record { before = i; place_is = at; next_is = λ k. record { answer = answer k; after = sym after k } }
 
 -- no whole message is there
 pub waited : (a b c : LinkStand) → Exchanged a b [] [] → c.written ≡ b.written → c.left ≡ b.left → c.faults ≡ b.faults → unread_of c.inbox ≡ unread_of b.inbox → c.inbox.taken ≡ b.inbox.taken → Exchanged a c [] []

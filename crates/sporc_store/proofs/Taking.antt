@@ -8,7 +8,7 @@ use Rattle.sporc_store.specs.declared.head.TheConstants.{HEAD_LEN}
 use Rattle.sporc_store.specs.declared.stop.Stop.{Stop}
 use Rattle.sporc_store.specs.declared.stop.Stop.TheVariants.{Foreign, Cut, Refused}
 use Rattle.sporc_store.specs.SavedFile.{Taken, read_to, first_and, stop_behind, entry_and, entries_at, head_bytes, count_at, opened, listed, saved_in, IsUnchecked}
-use Rattle.sporc_store.specs.Loading.{Checker, fault_behind, appended, accepted_behind, accepted, loaded, nobody}
+use Rattle.sporc_store.specs.Loading.{Checker, fault_behind, appended, accepted_behind, loaded, nobody}
 
 -- what was taken, and what is taken behind it of so many entries that stand next
 abbrev pub taken_from : Checker → List (List ℕ) → ℕ → Reading → Taken
@@ -65,10 +65,6 @@ is_done checker front count i r total le so_far =
     let k : count - i ≡ 0 = omega arith in
     let one : taken_from checker front (count - i) r ≡ read_to (front ++ []) (stop_behind (end_at r)) = rw k refl in
     ap (λ (es : List (List ℕ)). read_to es (stop_behind (end_at r))) (sym (append-nil front)) ∙ sym one ∙ so_far
-
--- nothing was taken yet
-pub at_first : (checker : Checker) (front : List (List ℕ)) (n : ℕ) (r : Reading) → front ≡ [] → taken_from checker front n r ≡ accepted checker (entries_at n r)
-at_first checker front n r none = rw none refl
 
 -- a file with these entries
 pub is_opened : (document bytes : List ℕ) (found : ℕ × Reading) → opened document bytes ≡ Ok found → saved_in document bytes ≡ entries_at found.0 found.1
