@@ -15,9 +15,10 @@
 //! ```
 //!
 //! Proved: keys, signatures and verification are exactly those of the RFC's text, written as definitions in `specs/`, and
-//! every signature by every key verifies ([`laws`]). Tested only: that these definitions give the keys and signatures that
-//! Bouncy Castle makes, for trees of heights 5 and 10, and verify its signatures up to height 25. Neither: that signatures
-//! can't be forged, that the chance from which seeds and randomizers come is good, and that seeds are wiped from memory: they are not.
+//! every signature by every key verifies ([`laws`]). Only tested: that these definitions give the keys and signatures
+//! that Bouncy Castle makes, for trees of heights 5 and 10, and verify its signatures up to height 25. Neither: that
+//! signatures can't be forged, that the chance from which seeds and randomizers come is good, and that seeds are wiped
+//! from memory: they are not.
 #![tactic(auto)]
 
 mod fields;

@@ -17,9 +17,8 @@
 //! asked for are the member's and its editors' scripts, and no others; links are asked for at the address alone, two at most;
 //! each disk is back, and each link, shut; and no count of faults has fallen.
 //!
-//! Tested, on the program (`sporc_commands_tests`): two members who work with a server, each status that a session ends with, and
-//! each call outside failing in turn.
-//! Neither: that the server answers.
+//! Only tested: two members who work with a server, each status that a session ends with, and each call outside failing in
+//! turn (`sporc_commands_tests`). Neither: that the server answers.
 #![tactic(auto)]
 
 mod causes;

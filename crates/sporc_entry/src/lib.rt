@@ -10,8 +10,8 @@
 //! if let Some(change) = view.change() { .. }
 //! ```
 //!
-//! Proved: what is read is spelled so, what is spelled so is read, and which fault it is otherwise ([`laws`]). Tested only:
-//! the layout against bytes that are spelled by hand. Neither: nothing else is claimed.
+//! Proved: what is read is spelled so, what is spelled so is read, and which fault it is otherwise ([`laws`]). Only
+//! tested: the layout against bytes that are spelled by hand. Neither: nothing else is claimed.
 #![tactic(auto)]
 
 mod change;

@@ -13,10 +13,10 @@
 //! fault.status()                                           // 3
 //! ```
 //!
-//! Proved: names, statuses and lines to the byte, which are written as far as the sink takes them and take no memory; what is
-//! read of which file, and which fault is answered; that a call asks for the names of its files alone. Tested, in the tests of the
-//! commands (`sporc_files_tests`, `sporc_commands_tests`): that reading and writing succeed with ample
-//! memory. Neither: that a real folder keeps what is written.
+//! Proved: names, statuses and lines to the byte, which are written as far as the sink takes them and take no memory;
+//! what is read of which file, and which fault is answered; that a call asks for the names of its files alone. Only
+//! tested: that reading and writing succeed with ample memory (`sporc_files_tests`, `sporc_commands_tests`). Neither:
+//! that a real folder keeps what is written.
 #![tactic(auto)]
 
 mod argument;

@@ -9,8 +9,9 @@
 //! ```
 //!
 //! Proved: which files are asked for, which stand after each answer, of which words of the chance they are made, what is
-//! printed, and why a command failed. Tested, in `sporc_files_tests`: the files of a document in memory, the names asked
-//! for, in their order, and each call outside failing in turn.
+//! printed, and why a command failed. Only tested: the files of a document in memory, the names asked for, in their
+//! order, and each call outside failing in turn (`sporc_files_tests`). Neither: that a chance is random, and that a real
+//! folder keeps what is written.
 #![tactic(auto)]
 
 mod founding;

@@ -10,11 +10,11 @@
 //! serve(rt, alloc, files, net, out, &names, "localhost:4000", 8, &OpenGate)    // `log 12`
 //! ```
 //!
-//! Proved: for each command one relation, in `specs/Outcomes.antt`, between its words, the folder, the sink and the net as it
-//! found and left them, and its answer: what the files say is a function of their bytes (`Checking`, `Comparing`, `Serving`),
-//! whose first fault is answered, unless memory runs out or something outside fails. Tested, in `sporc_files_tests`: the
-//! lines of histories with real signatures, and that calls succeed with ample memory. Neither: that a real folder keeps what
-//! is written, and that a client gets an answer.
+//! Proved: for each command one relation, in `specs/Outcomes.antt`, between its words, the folder, the sink and the net
+//! as it found and left them, and its answer: what the files say is a function of their bytes (`Checking`, `Comparing`,
+//! `Serving`), whose first fault is answered, unless memory runs out or something outside fails. Only tested: the lines
+//! of histories with real signatures, and that calls succeed with ample memory (`sporc_files_tests`). Neither: that a
+//! real folder keeps what is written, and that a client gets an answer.
 #![tactic(auto)]
 
 mod chains;

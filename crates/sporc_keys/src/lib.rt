@@ -13,9 +13,9 @@
 //! ```
 //!
 //! Proved: what is read is spelled so, what is spelled so is read, and which place is named otherwise ([`laws`]); what is
-//! made of which words of the chance, and how many a call that failed may have drawn; that each two who are named share one
-//! key, which is in both rings. Tested: the bytes of small files, spelled by hand, and that calls
-//! succeed with ample memory. Neither: that a chance is random, and that keys stay secret.
+//! made of which words of the chance, and how many a call that failed may have drawn; that each two who are named share
+//! one key, which is in both rings. Only tested: the bytes of small files, spelled by hand, and that calls succeed with
+//! ample memory (`sporc_files_tests`). Neither: that a chance is random, and that keys stay secret.
 #![tactic(auto)]
 
 mod draw;

@@ -8,11 +8,11 @@
 //! let (order, answer) = serve(&rt, alloc, &mut net, "localhost:4000", order, 2, &OpenGate);
 //! ```
 //!
-//! Proved, over every way in which the turns of the sessions may follow one another: each session's answers are the order's to
-//! the messages of its link, at lists that begin with one another, and were sent; why it ended; that the order handed back
-//! begins with the one handed in, and each further entry is one session's; that each link comes back, and was shut; that no
-//! other address was asked for. Tested only: that sessions go on beside one another, and that the calls succeed with ample
-//! memory. Neither: that a client gets an answer.
+//! Proved, over every way in which the turns of the sessions may follow one another: each session's answers are the
+//! order's to the messages of its link, at lists that begin with one another, and were sent; why it ended; that the order
+//! handed back begins with the one handed in, and each further entry is one session's; that each link comes back, and was
+//! shut; that no other address was asked for. Only tested: that sessions go on beside one another, and that the calls
+//! succeed with ample memory (`sporc_thread_tests`). Neither: that a client gets an answer.
 #![tactic(auto)]
 
 mod crowd;

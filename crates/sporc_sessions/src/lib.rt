@@ -9,15 +9,16 @@
 //! let Concluded { session, printed, saved, disk } = conclude(alloc, ended, out, files, "plan.4.history");
 //! ```
 //!
-//! Proved: a joiner's keys are the hints of exactly the entries that were fetched; a client goes on with all entries of its
-//! saved history, each an accept by 0, or loading tells where it stopped; what the session did is one of `sporc_shared` on that
-//! client's log (`IsSession`), over the link that the net handed out and took back, shut; the log goes on from the one the
-//! client had; what is printed is its journal and its report to the byte, or a prefix of them; the file has exactly its entries;
-//! the leaves of its submissions rise from the first of the opening on, and no crash frees their blocks on the disk that comes
-//! back; a session that the link or the chance ended stands for a count that rose; no address is asked for but the one given,
-//! and that once, or twice by a joiner; each link that is handed back was shut; and where no session began, what had been done
-//! up to there. Tested, on the program (`sporc_commands_tests`): members who work with a server, each status that a session ends
-//! with, and each call outside failing in turn. Neither: that the server answers.
+//! Proved: a joiner's keys are the hints of exactly the entries that were fetched; a client goes on with all entries of
+//! its saved history, each an accept by 0, or loading tells where it stopped; what the session did is one of
+//! `sporc_shared` on that client's log (`IsSession`), over the link that the net handed out and took back, shut; the log
+//! goes on from the one the client had; what is printed is its journal and its report to the byte, or a prefix of them;
+//! the file has exactly its entries; the leaves of its submissions rise from the first of the opening on, and no crash
+//! frees their blocks on the disk that comes back; a session that the link or the chance ended stands for a count that
+//! rose; no address is asked for but the one given, and that once, or twice by a joiner; each link that is handed back
+//! was shut; and where no session began, what had been done up to there. Only tested: members who work with a server,
+//! each status that a session ends with, and each call outside failing in turn (`sporc_commands_tests`). Neither: that
+//! the server answers.
 #![tactic(auto)]
 
 mod attending;

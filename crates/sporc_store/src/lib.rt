@@ -19,9 +19,10 @@
 //! A file is read in one pass, and each entry is copied once, out of the bytes as they stand there. A number of entries takes
 //! no memory before there are as many.
 //!
-//! Proved: the bytes that `save` gives, and when they are too many; what each call takes of any bytes, and where it stops; that
-//! line and order keep the entries taken if memory runs out; the laws. Tested: loading of entries with
-//! real signatures, files cut at each byte, and that the calls succeed with ample memory. Neither: how long a call takes.
+//! Proved: the bytes that `save` gives, and when they are too many; what each call takes of any bytes, and where it
+//! stops; that line and order keep the entries taken if memory runs out; the laws. Only tested: entries with real
+//! signatures, files cut at each byte, and that the calls succeed with ample memory (`sporc_files_tests`). Neither: how
+//! long a call takes.
 #![tactic(auto)]
 
 mod appending;

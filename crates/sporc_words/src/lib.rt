@@ -12,9 +12,9 @@
 //!
 //! Numbers are decimal, with no sign and no zero in front. ROLE is `reader`, `editor`, `admin` or `joiner`.
 //!
-//! Proved: words ask for exactly one command or for none, which `specs/Commands.antt` defines by `clap`'s own definition of
-//! what a simple command takes, and `read_words` answers which. Tested only (`sporc_files_tests`): that reading does not run
-//! out of memory if there is ample. Neither: whether a document, a file or an address has such a name.
+//! Proved: words ask for exactly one command or for none, which `specs/Commands.antt` defines by `clap`'s own definition
+//! of what a simple command takes, and `read_words` answers which. Only tested: that reading does not run out of memory
+//! if there is ample (`sporc_files_tests`). Neither: whether a document, a file or an address has such a name.
 #![tactic(auto)]
 
 mod arguments;
