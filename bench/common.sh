@@ -21,7 +21,14 @@ micros() { echo "${EPOCHREALTIME/[.,]/}"; }
 seconds() { printf '%d.%03d s' $(($1 / 1000000)) $(($1 / 1000 % 1000)); }
 
 # thousandths N: N thousandths as a number.
-thousandths() { printf '%d.%03d' $(($1 / 1000)) $(($1 % 1000)); }
+thousandths() {
+    local n=$1 sign=
+    if [ "$n" -lt 0 ]; then
+        sign=-
+        n=$((-n))
+    fi
+    printf '%s%d.%03d' "$sign" $((n / 1000)) $((n % 1000))
+}
 
 # took COMMAND..: sets `took` to the microseconds that it takes, whatever its status.
 took() {
