@@ -10,6 +10,7 @@ use sporc_client::EditFault;
 use sporc_epoch::HintFault;
 use sporc_head::Refusal;
 use sporc_line::LineOpenFault;
+use sporc_report::{edit_fault_name, open_fault_name};
 
 // The name of a refusal.
 pub(crate) fn refusal_text(refusal: Refusal) -> Text
@@ -17,31 +18,12 @@ pub(crate) fn refusal_text(refusal: Refusal) -> Text
 {
     match refusal {
         Refusal::Malformed(at) => Text::with_number("malformed ", at as u64, ""),
-        Refusal::WrongDocument => Text::of("wrong-document"),
-        Refusal::WrongPosition => Text::of("wrong-position"),
-        Refusal::Removed => Text::of("removed"),
-        Refusal::HistoryFull => Text::of("history-full"),
-        Refusal::UnknownAuthor => Text::of("unknown-author"),
-        Refusal::BaseAhead => Text::of("base-ahead"),
-        Refusal::BeforeBarrier => Text::of("before-barrier"),
-        Refusal::WrongHistory => Text::of("wrong-history"),
-        Refusal::WrongNumber => Text::of("wrong-number"),
-        Refusal::BehindOwn => Text::of("behind-own"),
-        Refusal::WrongEpoch => Text::of("wrong-epoch"),
-        Refusal::NoRight => Text::of("no-right"),
-        Refusal::LeafMismatch => Text::of("leaf-mismatch"),
-        Refusal::BadSignature => Text::of("bad-signature"),
-        Refusal::BadPayload => Text::of("bad-payload"),
-        Refusal::WrongLength => Text::of("wrong-length"),
         Refusal::BadChange(fault) => Text {
             before: "bad-change ",
             number: None,
             behind: fault.name(),
         },
-        Refusal::WrongWraps => Text::of("wrong-wraps"),
-        Refusal::NoKey => Text::of("no-key"),
-        Refusal::WrongKey => Text::of("wrong-key"),
-        Refusal::Memory => Text::of("memory"),
+        _ => Text::of(refusal.word()),
     }
 }
 
@@ -49,16 +31,7 @@ pub(crate) fn refusal_text(refusal: Refusal) -> Text
 pub(crate) fn edit_fault_text(fault: EditFault) -> Text
     ensures { text_bytes result ≡ edit_fault_name fault }
 {
-    match fault {
-        EditFault::Removed => Text::of("removed"),
-        EditFault::NoRight => Text::of("no-right"),
-        EditFault::SeenAhead(_) => Text::of("seen-ahead"),
-        EditFault::WrongLength => Text::of("wrong-length"),
-        EditFault::TooLong(_) => Text::of("too-long"),
-        EditFault::PendingFull => Text::of("pending-full"),
-        EditFault::JournalFull => Text::of("journal-full"),
-        EditFault::Memory => Text::of(""),
-    }
+    Text::of(edit_fault_name(fault))
 }
 
 // The name of why there are no hints.
@@ -77,9 +50,5 @@ pub(crate) fn hint_fault_text(fault: HintFault) -> Text
 pub(crate) fn open_fault_text(fault: LineOpenFault) -> Text
     ensures { text_bytes result ≡ open_fault_name fault }
 {
-    match fault {
-        LineOpenFault::NoKey => Text::of("no-key"),
-        LineOpenFault::WrongKey => Text::of("wrong-key"),
-        LineOpenFault::Memory => Text::of(""),
-    }
+    Text::of(open_fault_name(fault))
 }

@@ -5,30 +5,36 @@ use Rattle.sporc_member.specs.ChangeFault.{change_fault_name}
 use Rattle.sporc_head.specs.declared.refusal.Refusal.{Refusal}
 use Rattle.sporc_head.specs.declared.refusal.Refusal.TheVariants.{Malformed, WrongDocument, WrongPosition, Removed, HistoryFull, UnknownAuthor, BaseAhead, BeforeBarrier, WrongHistory, WrongNumber, BehindOwn, WrongEpoch, NoRight, LeafMismatch, BadSignature, BadPayload, WrongLength, BadChange, WrongWraps, NoKey, WrongKey, Memory}
 
+-- the first word of its name
+abbrev pub refusal_word : Refusal → List ℕ
+refusal_word (Malformed at) = codes "malformed"
+refusal_word WrongDocument = codes "wrong-document"
+refusal_word WrongPosition = codes "wrong-position"
+refusal_word Removed = codes "removed"
+refusal_word HistoryFull = codes "history-full"
+refusal_word UnknownAuthor = codes "unknown-author"
+refusal_word BaseAhead = codes "base-ahead"
+refusal_word BeforeBarrier = codes "before-barrier"
+refusal_word WrongHistory = codes "wrong-history"
+refusal_word WrongNumber = codes "wrong-number"
+refusal_word BehindOwn = codes "behind-own"
+refusal_word WrongEpoch = codes "wrong-epoch"
+refusal_word NoRight = codes "no-right"
+refusal_word LeafMismatch = codes "leaf-mismatch"
+refusal_word BadSignature = codes "bad-signature"
+refusal_word BadPayload = codes "bad-payload"
+refusal_word WrongLength = codes "wrong-length"
+refusal_word (BadChange fault) = codes "bad-change"
+refusal_word WrongWraps = codes "wrong-wraps"
+refusal_word NoKey = codes "no-key"
+refusal_word WrongKey = codes "wrong-key"
+refusal_word Memory = codes "memory"
+
 -- its name
 abbrev pub refusal_name : Refusal → List ℕ
 refusal_name (Malformed at) = codes "malformed " ++ decimal at
-refusal_name WrongDocument = codes "wrong-document"
-refusal_name WrongPosition = codes "wrong-position"
-refusal_name Removed = codes "removed"
-refusal_name HistoryFull = codes "history-full"
-refusal_name UnknownAuthor = codes "unknown-author"
-refusal_name BaseAhead = codes "base-ahead"
-refusal_name BeforeBarrier = codes "before-barrier"
-refusal_name WrongHistory = codes "wrong-history"
-refusal_name WrongNumber = codes "wrong-number"
-refusal_name BehindOwn = codes "behind-own"
-refusal_name WrongEpoch = codes "wrong-epoch"
-refusal_name NoRight = codes "no-right"
-refusal_name LeafMismatch = codes "leaf-mismatch"
-refusal_name BadSignature = codes "bad-signature"
-refusal_name BadPayload = codes "bad-payload"
-refusal_name WrongLength = codes "wrong-length"
 refusal_name (BadChange fault) = codes "bad-change " ++ change_fault_name fault
-refusal_name WrongWraps = codes "wrong-wraps"
-refusal_name NoKey = codes "no-key"
-refusal_name WrongKey = codes "wrong-key"
-refusal_name Memory = codes "memory"
+refusal_name refusal = refusal_word refusal
 
 -- the number of its check, 0 if memory ran out
 abbrev pub refusal_code_of : Refusal → ℕ

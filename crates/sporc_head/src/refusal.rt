@@ -61,39 +61,51 @@ pub enum Refusal {
 }
 
 impl Refusal {
-    ghost use Rattle.sporc_head.specs.Refusal.{refusal_name, refusal_code_of};
+    ghost use Rattle.sporc_head.specs.Refusal.{refusal_name, refusal_code_of, refusal_word};
+
+    /// The first word of its name. No other follows but a place or the name of a change's fault.
+    pub fn word(self) -> &'static str
+        ensures value { result.now ≡ refusal_word self }
+    {
+        match self {
+            Refusal::Malformed(_) => "malformed",
+            Refusal::WrongDocument => "wrong-document",
+            Refusal::WrongPosition => "wrong-position",
+            Refusal::Removed => "removed",
+            Refusal::HistoryFull => "history-full",
+            Refusal::UnknownAuthor => "unknown-author",
+            Refusal::BaseAhead => "base-ahead",
+            Refusal::BeforeBarrier => "before-barrier",
+            Refusal::WrongHistory => "wrong-history",
+            Refusal::WrongNumber => "wrong-number",
+            Refusal::BehindOwn => "behind-own",
+            Refusal::WrongEpoch => "wrong-epoch",
+            Refusal::NoRight => "no-right",
+            Refusal::LeafMismatch => "leaf-mismatch",
+            Refusal::BadSignature => "bad-signature",
+            Refusal::BadPayload => "bad-payload",
+            Refusal::WrongLength => "wrong-length",
+            Refusal::BadChange(_) => "bad-change",
+            Refusal::WrongWraps => "wrong-wraps",
+            Refusal::NoKey => "no-key",
+            Refusal::WrongKey => "wrong-key",
+            Refusal::Memory => "memory",
+        }
+    }
 
     /// The name that is printed, with its place or the name of its change's fault.
     pub fn name(self, alloc: Global) -> Result<String, Memory>
         ensures ok { IfOk result (λ name. string_bytes name ≡ refusal_name self) }
     {
         let mut name = String::new(alloc);
+        name.push_str(self.word())?;
         match self {
-            Refusal::Malformed(at) => write!(name, "malformed {at}")?,
-            Refusal::WrongDocument => name.push_str("wrong-document")?,
-            Refusal::WrongPosition => name.push_str("wrong-position")?,
-            Refusal::Removed => name.push_str("removed")?,
-            Refusal::HistoryFull => name.push_str("history-full")?,
-            Refusal::UnknownAuthor => name.push_str("unknown-author")?,
-            Refusal::BaseAhead => name.push_str("base-ahead")?,
-            Refusal::BeforeBarrier => name.push_str("before-barrier")?,
-            Refusal::WrongHistory => name.push_str("wrong-history")?,
-            Refusal::WrongNumber => name.push_str("wrong-number")?,
-            Refusal::BehindOwn => name.push_str("behind-own")?,
-            Refusal::WrongEpoch => name.push_str("wrong-epoch")?,
-            Refusal::NoRight => name.push_str("no-right")?,
-            Refusal::LeafMismatch => name.push_str("leaf-mismatch")?,
-            Refusal::BadSignature => name.push_str("bad-signature")?,
-            Refusal::BadPayload => name.push_str("bad-payload")?,
-            Refusal::WrongLength => name.push_str("wrong-length")?,
+            Refusal::Malformed(at) => write!(name, " {at}")?,
             Refusal::BadChange(fault) => {
-                name.push_str("bad-change ")?;
+                name.push_str(" ")?;
                 name.push_str(fault.name())?;
             }
-            Refusal::WrongWraps => name.push_str("wrong-wraps")?,
-            Refusal::NoKey => name.push_str("no-key")?,
-            Refusal::WrongKey => name.push_str("wrong-key")?,
-            Refusal::Memory => name.push_str("memory")?,
+            _ => {}
         }
         Ok(name)
     }

@@ -1,4 +1,4 @@
-//! The names of faults in a report. A fault of memory has none.
+//! The names of faults. A fault of memory has none.
 
 ghost use Rattle.std.specs.Prelude.{◌≡◌, ◌≢◌, ◌++◌, IfSome, OnOk, string_bytes};
 ghost use Rattle.sporc_report.specs.Names.{accept_fault_name, edit_fault_name, hint_fault_name, open_fault_name, submit_fault_name};
@@ -10,20 +10,30 @@ use sporc_line::LineOpenFault;
 use std::alloc::{AllocError, Global};
 use std::fmt::Write;
 
+/// The name of why an edit, a change or a discard is refused: no text for a fault of memory.
+pub fn edit_fault_name(fault: EditFault) -> &'static str
+    ensures name { result.now ≡ edit_fault_name fault }
+{
+    match fault {
+        EditFault::Removed => "removed",
+        EditFault::NoRight => "no-right",
+        EditFault::SeenAhead(_) => "seen-ahead",
+        EditFault::WrongLength => "wrong-length",
+        EditFault::TooLong(_) => "too-long",
+        EditFault::PendingFull => "pending-full",
+        EditFault::JournalFull => "journal-full",
+        EditFault::Memory => "",
+    }
+}
+
 /// Appends the name of why an edit, a change or a discard is refused.
 pub fn push_edit_fault(out: &mut String, fault: EditFault) -> Result<(), Memory>
     ensures name { OnOk result (string_bytes out.new ≡ string_bytes out.old ++ edit_fault_name fault) }
     ensures named { OnOk result (fault ≢ EditFault.Memory) }
 {
     match fault {
-        EditFault::Removed => out.push_str("removed"),
-        EditFault::NoRight => out.push_str("no-right"),
-        EditFault::SeenAhead(_) => out.push_str("seen-ahead"),
-        EditFault::WrongLength => out.push_str("wrong-length"),
-        EditFault::TooLong(_) => out.push_str("too-long"),
-        EditFault::PendingFull => out.push_str("pending-full"),
-        EditFault::JournalFull => out.push_str("journal-full"),
         EditFault::Memory => Err(AllocError),
+        _ => out.push_str(edit_fault_name(fault)),
     }
 }
 
@@ -87,14 +97,24 @@ pub fn push_hint_fault(out: &mut String, fault: HintFault) -> Result<(), Memory>
     }
 }
 
+/// The name of why a client does not open: no text for a fault of memory.
+pub fn open_fault_name(fault: LineOpenFault) -> &'static str
+    ensures name { result.now ≡ open_fault_name fault }
+{
+    match fault {
+        LineOpenFault::NoKey => "no-key",
+        LineOpenFault::WrongKey => "wrong-key",
+        LineOpenFault::Memory => "",
+    }
+}
+
 /// Appends the name of why a client does not open.
 pub fn push_open_fault(out: &mut String, fault: LineOpenFault) -> Result<(), Memory>
     ensures name { OnOk result (string_bytes out.new ≡ string_bytes out.old ++ open_fault_name fault) }
     ensures named { OnOk result (fault ≢ LineOpenFault.Memory) }
 {
     match fault {
-        LineOpenFault::NoKey => out.push_str("no-key"),
-        LineOpenFault::WrongKey => out.push_str("wrong-key"),
         LineOpenFault::Memory => Err(AllocError),
+        _ => out.push_str(open_fault_name(fault)),
     }
 }
