@@ -1,4 +1,4 @@
-//! What holds of leaf numbers over whole traces of a leaf file.
+//! What holds of leaf numbers over whole traces of a leaf file, and the limit in numbers.
 
 ghost use Rattle.std.specs.Prelude.{◌≡◌};
 ghost use Rattle.lms_leaf.specs.Laws.{NoLeafTwice};

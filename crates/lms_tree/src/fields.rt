@@ -1,4 +1,4 @@
-// Numbers among the bytes of keys and signatures.
+//! Numbers among the bytes of keys and signatures.
 
 ghost use Rattle.std.specs.Prelude.{◌≡◌, ◌+◌, ◌≤◌, length};
 ghost use Rattle.lms_tree.specs.Fields.{u32_at};

@@ -1,4 +1,4 @@
-// The types of trees.
+//! The types of trees.
 
 ghost use Rattle.std.specs.Prelude.{◌≡◌, ◌≢◌, ◌≤◌, ◌↔◌, IsNone};
 

@@ -1,4 +1,4 @@
-// The values of nodes.
+//! The values of nodes.
 
 ghost use Rattle.std.specs.Prelude.{◌≡◌, ◌*◌, length};
 ghost use Rattle.lms_tree.specs.Nodes.{ancestor_of, inner_value, leaf_value, parent_value};

@@ -1,4 +1,4 @@
-// Public keys.
+//! Public keys.
 
 ghost use Rattle.std.specs.Prelude.{◌≡◌, ◌↔◌, length, Some, IsSome, IfSome};
 ghost use Rattle.lms_ots.specs.OtsType.{ots_type_with_code};

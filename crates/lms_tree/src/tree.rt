@@ -1,4 +1,4 @@
-// The nodes of a tree, and what it signs.
+//! The nodes of a tree, and what it signs.
 
 ghost use Rattle.std.specs.Prelude.{◌≡◌, ◌+◌, ◌*◌, ◌^◌, ◌<◌, ◌++◌, length, IfOk};
 ghost use Rattle.std.specs.Int.{w32, to_be_bytes};

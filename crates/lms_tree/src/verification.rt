@@ -1,4 +1,4 @@
-// The verification of signatures.
+//! The verification of signatures.
 
 ghost use Rattle.std.specs.Prelude.{◌≡◌, ◌*◌, ◌^◌, ◌<◌, ◌↔◌, ◌++◌, length, IsTrue};
 ghost use Rattle.lms_tree.specs.LmsType.{height_of};

@@ -1,4 +1,4 @@
-// What the faults of the crates below are for the command.
+//! What the faults of the crates below are for the command.
 
 ghost use Rattle.std.specs.Prelude.{◌≡◌};
 ghost use Rattle.sporc_clients.specs.Causes.{fault_of_attending, fault_of_disk, fault_of_joining, fault_of_keeping, fault_of_opening, fault_of_printing, fault_of_session, fault_of_stop, first_fault};

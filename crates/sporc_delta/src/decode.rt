@@ -1,4 +1,4 @@
-// Deltas from their bytes.
+//! Deltas from their bytes.
 
 ghost use Rattle.std.specs.Prelude.{◌≡◌, ◌+◌, ◌≤◌, drop, length, Ok, Err, IfOk, IfErr, OnOk};
 ghost use Rattle.std.specs.Int.{w64, from_be_bytes};

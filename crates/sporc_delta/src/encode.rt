@@ -1,4 +1,4 @@
-// The bytes of deltas.
+//! The bytes of deltas.
 
 ghost use Rattle.std.specs.Prelude.{◌≡◌, ◌<◌, ◌≤◌, ◌^◌, ◌∷◌, ◌++◌, length, IfOk, OnOk};
 ghost use Rattle.std.specs.Int.{w64, to_be_bytes};

@@ -1,4 +1,4 @@
-// Lists of parts that grow at the end, where a part joins the last one of its kind.
+//! Lists of parts that grow at the end, where a part joins the last one of its kind.
 
 ghost use Rattle.std.specs.Prelude.{◌≡◌, true, ◌+◌, ◌<◌, ◌^◌, length, OnOk, OnErr};
 ghost use Rattle.sporc_delta.specs.Marks.{base_len, out_len, retains, deletes, inserts};

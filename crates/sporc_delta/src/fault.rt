@@ -1,4 +1,4 @@
-// What keeps bytes from being a delta.
+//! What keeps bytes from being a delta.
 
 use sporc_bytes::Short;
 use std::alloc::{AllocError, AllocFailed};

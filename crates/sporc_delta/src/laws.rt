@@ -1,4 +1,4 @@
-// What holds of every delta and its bytes.
+//! What holds of every delta and its bytes.
 
 ghost use Rattle.std.specs.Prelude.{◌≡◌, ◌^◌, ℕ, List, Ok};
 ghost use Rattle.sporc_base.specs.Bytes.{IsBytes};

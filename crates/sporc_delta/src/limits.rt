@@ -1,4 +1,4 @@
-// How long deltas and their texts are.
+//! How long deltas and their texts are.
 
 /// The greatest count of a part, and the most characters of a text that an edit is made for: 2^40.
 pub const MAX_COUNT: u64 = 1 << 40;

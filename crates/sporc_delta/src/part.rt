@@ -1,4 +1,4 @@
-// The parts of a delta.
+//! The parts of a delta.
 
 ghost use Rattle.std.specs.Prelude.{◌≡◌, IfOk};
 ghost use Rattle.sporc_delta.specs.Parts.{kind_of, owned};

@@ -1,4 +1,4 @@
-// Texts that count their characters.
+//! Texts that count their characters.
 
 ghost use Rattle.std.specs.Prelude.{◌≡◌, ◌+◌, ◌≤◌, ◌<◌, ◌^◌, ◌++◌, ◌==◌, ◌↔◌, IsTrue, length, take, drop, IfOk, OnOk, OnErr};
 ghost use Rattle.std.specs.Str.{chars, encode_utf8_all};

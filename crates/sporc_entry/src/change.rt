@@ -1,4 +1,4 @@
-// The bodies of changes.
+//! The bodies of changes.
 
 ghost use Rattle.std.specs.Prelude.{◌≡◌, ◌+◌, ◌<◌, ◌^◌, ◌++◌, [], ◌∷◌, length, Ok, IfOk, OnOk};
 ghost use Rattle.std.specs.Int.{w16, to_be_bytes};

@@ -1,4 +1,4 @@
-// Changes with the headers that they stand under.
+//! Changes with the headers that they stand under.
 
 ghost use Rattle.std.specs.Prelude.{◌≡◌, IfOk};
 ghost use Rattle.sporc_entry.specs.Entry.{change_of};

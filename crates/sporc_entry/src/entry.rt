@@ -1,4 +1,4 @@
-// Entries of a history.
+//! Entries of a history.
 
 ghost use Rattle.std.specs.Prelude.{◌≡◌, ◌≤◌, ◌<◌, ◌^◌, length, Ok, IfOk};
 ghost use Rattle.sporc_base.specs.Outcome.{GivesUnless};

@@ -1,4 +1,4 @@
-// Why bytes are no entry and no genesis.
+//! Why bytes are no entry and no genesis.
 
 use sporc_bytes::Short;
 use std::alloc::{AllocError, AllocFailed};

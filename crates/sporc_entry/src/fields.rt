@@ -1,4 +1,4 @@
-// A field of a role.
+//! A field of a role.
 
 ghost use Rattle.std.specs.Prelude.{◌≡◌, OnErr};
 ghost use Rattle.sporc_bytes.specs.Fields.{Reads};

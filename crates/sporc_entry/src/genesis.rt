@@ -1,4 +1,4 @@
-// What a document begins with.
+//! What a document begins with.
 
 ghost use Rattle.std.specs.Prelude.{◌≡◌, ◌++◌, Ok, IfOk, OnOk};
 ghost use Rattle.std.specs.List.{flat_map};

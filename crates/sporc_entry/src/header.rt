@@ -1,4 +1,4 @@
-// What stands before an entry's body.
+//! What stands before an entry's body.
 
 ghost use Rattle.std.specs.Prelude.{◌≡◌, ◌++◌, [], OnOk};
 ghost use Rattle.sporc_bytes.specs.Fields.{Reads};

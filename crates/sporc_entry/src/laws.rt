@@ -1,4 +1,5 @@
-//! Laws of the formats: what is written reads back, what reads is written so, and where faults are.
+//! Laws of the formats: what is written reads back, what reads is written so, and where faults are; the limits and kinds in
+//! numbers.
 
 ghost use Rattle.std.specs.Prelude.{◌≡◌, ℕ, ◌+◌, ◌≤◌, List, length, Some, Ok, Err};
 ghost use Rattle.sporc_base.specs.Bytes.{IsBytes};

@@ -1,4 +1,4 @@
-// Entries read where their bytes stand.
+//! Entries read where their bytes stand.
 
 ghost use Rattle.std.specs.Prelude.{◌≡◌, ◌≤◌, ◌<◌, ◌∷◌, length, Ok, IfOk, None};
 ghost use Rattle.std.specs.Option.{option_copied};

@@ -1,4 +1,4 @@
-// Epoch keys sealed for members.
+//! Epoch keys sealed for members.
 
 use sporc_base::Items;
 

@@ -1,4 +1,4 @@
-// The arguments of a fault's line, which are written without memory.
+//! The arguments of a fault's line, which are written without memory.
 
 ghost use Rattle.std.specs.Prelude.{◌≡◌, OnOk, OnErr};
 ghost use Rattle.std.specs.Io.KnownBytes.{Appends};

@@ -1,4 +1,4 @@
-// What the faults of the crates below are for the program.
+//! What the faults of the crates below are for the program.
 
 ghost use Rattle.std.specs.Prelude.{◌≡◌};
 ghost use Rattle.sporc_files.specs.Faults.{fault_of_draw, fault_of_hints, fault_of_line, fault_of_play, fault_of_saving, fault_of_words};

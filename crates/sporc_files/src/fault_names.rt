@@ -1,4 +1,4 @@
-// The names of faults, as texts.
+//! The names of faults, as texts.
 
 ghost use Rattle.std.specs.Prelude.{◌≡◌};
 ghost use Rattle.sporc_head.specs.Refusal.{refusal_name};

@@ -1,4 +1,4 @@
-// Short texts, which are written without memory, or appended to a string.
+//! Short texts, which are written without memory, or appended to a string.
 
 ghost use Rattle.std.specs.Prelude.{◌≡◌, ◌++◌, Some, None, OnOk, OnErr, string_bytes};
 ghost use Rattle.std.specs.Fmt.{decimal};

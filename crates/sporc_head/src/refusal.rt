@@ -63,7 +63,7 @@ pub enum Refusal {
 impl Refusal {
     ghost use Rattle.sporc_head.specs.Refusal.{refusal_name, refusal_code_of, refusal_word};
 
-    /// The first word of its name. No other follows but a place or the name of a change's fault.
+    /// The first word of its name. Behind it stands nothing, a place, or the name of a change's fault.
     pub fn word(self) -> &'static str
         ensures value { result.now ≡ refusal_word self }
     {

@@ -1,4 +1,4 @@
-// The chains of saved histories.
+//! The chains of saved histories.
 
 ghost use Rattle.std.specs.Prelude.{◌≡◌, ◌≤◌, [], ◌∷◌, IfOk, map};
 ghost use Rattle.sporc_hash.specs.Chain.{chain};

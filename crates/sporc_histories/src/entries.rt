@@ -1,4 +1,4 @@
-// The entries of saved histories, read unchecked.
+//! The entries of saved histories, read unchecked.
 
 ghost use Rattle.std.specs.Prelude.{◌≡◌, ◌≤◌, [], ◌∷◌};
 ghost use Rattle.sporc_base.specs.Outcome.{Gives};

@@ -1,4 +1,4 @@
-// A saved history, examined with the keys of a member.
+//! A saved history, examined with the keys of a member.
 
 ghost use Rattle.sporc_entry.specs.Genesis.{IsGenesis};
 ghost use Rattle.sporc_epoch.specs.Keys.{pairs_in};

@@ -1,4 +1,4 @@
-// The log of a server: loaded before it serves, and saved behind that.
+//! The log of a server: loaded before it serves, and saved behind that.
 
 ghost use Rattle.std.specs.Prelude.{◌≡◌, ◌≤◌, [], ◌∷◌, IfOk, string_bytes};
 ghost use Rattle.sporc_outside.specs.Uses.{sink_use};

@@ -1,4 +1,4 @@
-// The digests are those of Python's hashlib for the strings that the definitions list.
+//! The digests are those of Python's hashlib for the strings that the definitions list.
 
 use crate::checks::check_bytes;
 use sporc_hash::{commit, genesis_hash, next_hash};

@@ -1,4 +1,4 @@
-// The bytes are spelled out by hand, field by field, from the tables of the formats.
+//! The bytes are spelled out by hand, field by field, from the tables of the formats.
 
 ghost use Rattle.std.specs.Prelude.{◌≡◌, length};
 

@@ -1,4 +1,4 @@
-// Words drawn from a chance.
+//! Words drawn from a chance.
 
 ghost use Rattle.std.specs.Prelude.{◌≡◌, ◌<◌, ◌≤◌, [], Err, length, slice_index, take, OnOk, OnErr, IfOk};
 ghost use Rattle.sporc_outside.specs.Counts.{Rose};

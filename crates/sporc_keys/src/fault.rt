@@ -21,7 +21,7 @@ pub enum RingFileFault {
     /// is that of the first of them.
     #[error("malformed at {0}")]
     Malformed(usize),
-    /// No memory was left.
+    /// Out of memory.
     #[error("out of memory")]
     Memory,
 }
@@ -62,7 +62,7 @@ pub enum DrawFault {
     /// The chance failed.
     #[error("the chance failed")]
     Chance,
-    /// No memory was left.
+    /// Out of memory.
     #[error("out of memory")]
     Memory,
 }

@@ -1,4 +1,4 @@
-// The four bytes that name a format.
+//! The four bytes that name a format.
 
 ghost use Rattle.sporc_bytes.specs.Fields.{Reads};
 ghost use Rattle.sporc_keys.specs.Fields.{format_at};

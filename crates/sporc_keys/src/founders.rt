@@ -1,4 +1,4 @@
-// The founders of a document.
+//! The founders of a document.
 
 ghost use Rattle.std.specs.Prelude.{◌≡◌, ◌++◌, [], ◌∷◌, IfOk, OnOk, filter_map};
 ghost use Rattle.std.specs.List.{AllByRecursion};

@@ -1,4 +1,4 @@
-// Keys that two share.
+//! Keys that two share.
 
 ghost use Rattle.std.specs.Prelude.{◌≡◌, IfOk};
 ghost use Rattle.sporc_keys.specs.Founding.{pair_key_of, pair_keys_of};

@@ -1,4 +1,4 @@
-// The rings of those who are named.
+//! The rings of those who are named.
 
 ghost use Rattle.std.specs.Prelude.{◌≡◌, map, IfOk};
 ghost use Rattle.sporc_keys.specs.Founding.{epoch_key_of, ring_of};

@@ -1,4 +1,5 @@
-// The names and addresses that objects in memory are asked for.
+//! The names and addresses that objects in memory are asked for.
+
 ghost use Rattle.std.specs.Prelude.{◌≡◌, ◌++◌, ◌∷◌, [], OnOk, OnErr};
 ghost use Rattle.sporc_outside.specs.CallsModel.{CountsCall};
 ghost use Rattle.sporc_outside.specs.Counts.{CountsFaults};

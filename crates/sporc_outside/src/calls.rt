@@ -1,4 +1,4 @@
-// The calls of objects in memory.
+//! The calls of objects in memory.
 
 ghost use Rattle.std.specs.Prelude.{◌≡◌, ◌≤◌, ◌↔◌, IsErr, OnOk, OnErr, Contains};
 ghost use Rattle.sporc_outside.specs.CallsModel.{CountsCall};

@@ -1,4 +1,4 @@
-// The calls of a disk, as its log has them.
+//! The calls of a disk, as its log has them.
 
 use std::marker::Model;
 

@@ -1,4 +1,4 @@
-// Why calls on files don't succeed.
+//! Why calls on files don't succeed.
 
 ghost use Rattle.std.specs.Prelude.{◌≡◌};
 ghost use Rattle.sporc_outside.specs.declared.file_fault.FileFault.TheVariants as faults;

@@ -1,4 +1,4 @@
-// Disks of leaf files, and what a crash leaves of them.
+//! Disks of leaf files, and what a crash leaves of them.
 
 ghost use Rattle.std.specs.Prelude.{◌≡◌, ◌+◌, ◌≤◌, ℕ, List, Option, Some, length, take, drop, option_map, IfOk, IfSome, IsSome, OnOk};
 ghost use Rattle.sporc_outside.specs.Counts.{CountsFaults};

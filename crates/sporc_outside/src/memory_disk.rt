@@ -1,4 +1,4 @@
-// Disks in memory.
+//! Disks in memory.
 
 ghost use Rattle.std.specs.Prelude.{◌≡◌, ℕ, List, take, drop, ◌+◌, ◌≤◌, [], Some, length, IfOk, OnOk};
 ghost use Rattle.sporc_outside.specs.CallsModel.{CountsCall};

@@ -1,4 +1,4 @@
-// Sinks in memory.
+//! Sinks in memory.
 
 ghost use Rattle.std.specs.Prelude.{◌≡◌, ◌<◌, ◌≤◌, [], length, min, IfOk};
 ghost use Rattle.std.specs.Io.KnownBytes.{WriteAppends};

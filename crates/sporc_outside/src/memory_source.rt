@@ -1,4 +1,4 @@
-// Sources in memory.
+//! Sources in memory.
 
 ghost use Rattle.std.specs.Prelude.{◌≡◌, ◌-◌, ◌<◌, ◌≤◌, ◌↔◌, length, min, IsErr, IfOk, Contains};
 ghost use Rattle.std.specs.Io.KnownBytes.{ReadConsumes};

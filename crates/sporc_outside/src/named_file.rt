@@ -1,4 +1,4 @@
-// Files with their names.
+//! Files with their names.
 
 use crate::disk_call::DiskBytes;
 

@@ -1,4 +1,5 @@
-// One direction of a connection between threads.
+//! One direction of a connection between threads.
+
 ghost use Rattle.std.specs.Prelude.{◌≤◌, length, vec_len};
 
 use std::alloc::{AllocError, Global};

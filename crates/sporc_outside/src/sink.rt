@@ -1,4 +1,4 @@
-// What takes bytes.
+//! What takes bytes.
 
 ghost use Rattle.std.specs.Prelude.{◌≡◌, ◌<◌, ◌≤◌, ℕ, List, Option, length, IfOk, OnOk, OnErr};
 ghost use Rattle.std.specs.Io.KnownBytes.{WriteAppends, Appends};
@@ -24,7 +24,7 @@ pub trait Sink: Counted {
         ensures count { CountsFaults (Self.faults self.old) (Self.faults self.new) result };
 }
 
-/// Writes all the bytes, or a prefix of them, which is not all, if the sink fails.
+/// Writes all the bytes. If the sink fails, a prefix of them was written, and not all.
 pub fn write_all<O: Sink>(out: &mut O, bytes: &[u8]) -> Result<(), Failed>
     ensures ok { OnOk result (Appends (O.written out.old) (O.written out.new) bytes.now) }
     ensures err { OnErr result (AppendsPrefix (O.written out.old) (O.written out.new) bytes.now) }

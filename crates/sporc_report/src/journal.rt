@@ -7,11 +7,12 @@ ghost use Rattle.sporc_script.specs.Spelling.{role_name};
 ghost use Rattle.sporc_report.specs.JournalLines.{change_text, delta_text, event_text, journal_lines, part_text, spaced_part};
 
 use crate::quoted::push_quoted;
-use crate::showing::{push_digits, role_name};
+use crate::showing::push_digits;
 use sporc_base::Memory;
 use sporc_client::Event;
 use sporc_delta::{Delta, Part};
 use sporc_member::{Change, ChangeFault, Role};
+use sporc_script::role_name;
 use std::alloc::Global;
 use std::fmt::Write;
 

@@ -1,15 +1,16 @@
 //! The lines that tell of a client: its journal, what it shows, its members, the last value of its chain, how its history
-//! stands to another's, and the names of its faults. Each function appends to a text.
+//! stands to another's; and the names of faults. What is named `push_` appends to a text.
 //!
 //! ```text
-//! push_journal(alloc, &mut out, client.journal())?    // edit 0 0 i"abc"
+//! push_journal(alloc, &mut out, client.journal())?;   // edit 0 0 i"abc"
 //! push_show(&mut out, &client)?;                      // 1 at 1 pending 0 text "abc"
 //! push_members(&mut out, &client)?;                   // 1 members 1=admin 2=editor
 //! push_verdict(&mut out, 1, 2, Verdict::Prefix)?;     // 1 2 prefix
 //! ```
 //!
-//! Proved: what is appended is the line of the definitions, and a fault of memory has no name. Only tested: that the calls
-//! succeed with ample memory (`sporc_commands_tests`). Neither: nothing else is claimed.
+//! Proved: a call that succeeds appends the line or the name of the definitions in `specs/`, and names no `Memory` of the
+//! faults that it takes. Only tested: that the calls succeed with ample memory (`sporc_commands_tests`). Neither: nothing
+//! else is claimed.
 #![tactic(auto)]
 
 mod journal;

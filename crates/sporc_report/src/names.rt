@@ -37,7 +37,7 @@ pub fn push_edit_fault(out: &mut String, fault: EditFault) -> Result<(), Memory>
     }
 }
 
-/// Appends the name of why a submission is refused. The disk of a play's leaf file fails only if memory runs out.
+/// Appends the name of why a submission is refused. If the disk of the leaf file failed, the answer is as out of memory.
 pub fn push_submit_fault(out: &mut String, fault: SubmitFault) -> Result<(), Memory>
     ensures name { OnOk result (string_bytes out.new ≡ string_bytes out.old ++ submit_fault_name fault) }
     ensures named { OnOk result (fault ≢ SubmitFault.Memory) }

@@ -17,6 +17,7 @@ use sporc_client::Client;
 use sporc_hash::{Digest32, Verdict};
 use sporc_member::{Role, Roster};
 use sporc_outside::LeafDisk;
+use sporc_script::role_name;
 use std::alloc::Global;
 use std::fmt::Write;
 
@@ -101,17 +102,6 @@ fn push_member(out: &mut String, number: u16, role: Role) -> Result<(), Memory>
 {
     let name = role_name(role);
     write!(out, " {number}={name}")
-}
-
-/// The word for a role.
-pub fn role_name(role: Role) -> &'static str
-    ensures value { result.now ≡ role_name role }
-{
-    match role {
-        Role::Reader => "reader",
-        Role::Editor => "editor",
-        Role::Admin => "admin",
-    }
 }
 
 /// Appends the last value of the chain.

@@ -51,7 +51,7 @@ pub use editor_script::{EditorScript, read_editor};
 pub use limits::{MAX_EDITORS, MAX_GENERATED, MAX_SCRIPT_BYTES};
 pub use lines::LineFault;
 pub use member_role::MemberRole;
-pub use names::parse_role;
+pub use names::{parse_role, role_name};
 pub use play_line::PlayLine;
 pub use play_script::{PlayScript, read_play};
 pub use roster_change::RosterChange;

@@ -230,11 +230,18 @@ impl HasName for Role {
     ghost name_of = { role_name };
 
     fn name(&self) -> &'static [u8] {
-        match self {
-            Role::Reader => b"reader",
-            Role::Editor => b"editor",
-            Role::Admin => b"admin",
-        }
+        role_name(*self).as_bytes()
+    }
+}
+
+/// The word for a role.
+pub fn role_name(role: Role) -> &'static str
+    ensures value { result.now ≡ role_name role }
+{
+    match role {
+        Role::Reader => "reader",
+        Role::Editor => "editor",
+        Role::Admin => "admin",
     }
 }
 

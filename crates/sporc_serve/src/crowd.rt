@@ -1,4 +1,4 @@
-// The sessions of a server, each in a thread of its own where one can be made.
+//! The sessions of a server, each in a thread of its own where one can be made.
 
 ghost use Rattle.std.specs.Prelude.{◌≡◌, ◌≢◌, ◌+◌, ◌-◌, ◌^◌, ◌<◌, ◌≤◌, IfSome};
 ghost use Rattle.std.specs.Thread.{IsSync, IsSend};

@@ -1,4 +1,4 @@
-// The order that the sessions share.
+//! The order that the sessions share.
 
 ghost use Rattle.std.specs.Prelude.{◌≡◌, ◌++◌, length, replicate, OnOk, OnErr, IfOk, IfErr};
 ghost use Rattle.sporc_order.specs.Replies.{Says};

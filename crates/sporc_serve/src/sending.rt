@@ -1,4 +1,4 @@
-// Sending an answer.
+//! Sending an answer.
 
 ghost use Rattle.std.specs.Prelude.{◌≡◌, ◌≤◌, Some, IfNone, IfSome};
 ghost use Rattle.std.specs.Io.KnownBytes.{Appends};

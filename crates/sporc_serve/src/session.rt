@@ -1,4 +1,4 @@
-// One session, from its first message to its end.
+//! One session, from its first message to its end.
 
 ghost use Rattle.std.specs.Prelude.{◌≡◌, ◌≢◌, ◌≤◌, Ok, Err, Some, None, IfErr, OnOk};
 ghost use Rattle.sporc_outside.specs.Told.{IsTrueIfTold};

@@ -1,4 +1,4 @@
-// One turn of a session at the order.
+//! One turn of a session at the order.
 
 ghost use Rattle.std.specs.Prelude.{◌≡◌, ◌++◌, Ok, Err, IfOk, OnOk, OnErr};
 ghost use Rattle.sporc_order.specs.Replies.{Says};

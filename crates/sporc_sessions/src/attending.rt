@@ -44,7 +44,7 @@ pub enum AttendFault {
     Stopped(Stop),
     /// No link was made.
     Unreached,
-    /// No memory was left.
+    /// Out of memory.
     Memory,
 }
 

@@ -22,7 +22,7 @@ use std::alloc::{AllocError, Global};
 pub enum PrintFault {
     /// The sink failed, after a prefix of them.
     Sink,
-    /// No memory was left, and nothing was printed.
+    /// Out of memory: nothing was printed.
     Memory,
 }
 
@@ -49,7 +49,7 @@ pub enum KeepFault {
     TooLong,
     /// A call of the folder failed. Anything may stand in the file.
     Folder,
-    /// No memory was left.
+    /// Out of memory.
     Memory,
 }
 

@@ -28,7 +28,7 @@ pub enum OpenFault {
     Hints(HintsFault),
     /// The keys do not open the document.
     Line(LineOpenFault),
-    /// No memory was left.
+    /// Out of memory.
     Memory,
 }
 

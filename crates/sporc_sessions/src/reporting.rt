@@ -1,4 +1,4 @@
-// What is printed of a client.
+//! What is printed of a client.
 
 ghost use Rattle.std.specs.Prelude.{◌≡◌, IfOk, string_bytes};
 ghost use Rattle.sporc_shared.specs.Items.{past_of};

@@ -19,7 +19,7 @@ use std::alloc::Global;
 pub enum ResumeFault {
     /// Its loading stops here, before the end.
     Stopped(Stop),
-    /// No memory was left.
+    /// Out of memory.
     Memory,
 }
 

@@ -1,4 +1,4 @@
-// A session of a client.
+//! A session of a client.
 
 ghost use Rattle.std.specs.Prelude.{◌≡◌, ◌≤◌, length, IfErr, IfOk, OnErr};
 ghost use Rattle.sporc_client.specs.ClientModel.{Rise, leaves_of};

@@ -23,7 +23,7 @@ use std::thread::Threads;
 pub enum WorkFault {
     /// No link was made.
     Unreached,
-    /// No memory was left.
+    /// Out of memory.
     Memory,
 }
 

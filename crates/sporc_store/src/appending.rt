@@ -1,4 +1,4 @@
-// The entries of a saved history, appended one after another.
+//! The entries of a saved history, appended one after another.
 
 ghost use Rattle.std.specs.Prelude.{◌≡◌, [], IfOk, OnErr};
 ghost use Rattle.sporc_store.specs.SavedFile.{entries_at, read_to, IsPrefix};

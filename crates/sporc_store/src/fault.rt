@@ -9,7 +9,7 @@ pub enum SaveFault {
     /// The file would have so many bytes, which is more than 1,073,741,824.
     #[error("the file would have {0} bytes, which is too long")]
     TooLong(u64),
-    /// No memory was left.
+    /// Out of memory.
     #[error("out of memory")]
     Memory,
 }

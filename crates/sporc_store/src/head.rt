@@ -1,4 +1,4 @@
-// The head of the file of a saved history.
+//! The head of the file of a saved history.
 
 ghost use Rattle.std.specs.Prelude.{◌≡◌};
 ghost use Rattle.sporc_store.specs.SavedFile.{head_bytes};

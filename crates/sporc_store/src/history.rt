@@ -1,4 +1,4 @@
-// Histories that entries are appended to, whoever checks them.
+//! Histories that entries are appended to, whoever checks them.
 
 ghost use Rattle.std.specs.Prelude.{◌≡◌, ◌≢◌, ℕ, List, map, Some, IfOk, OnErr};
 ghost use Rattle.sporc_store.specs.Loading.{Checker, nobody, an_order, a_member, fault_behind, appended};

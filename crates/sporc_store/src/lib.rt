@@ -20,9 +20,9 @@
 //! no memory before there are as many.
 //!
 //! Proved: the bytes that `save` gives, and when they are too many; what each call takes of any bytes, and where it
-//! stops; that line and order keep the entries taken if memory runs out; the laws. Only tested: entries with real
-//! signatures, files cut at each byte, and that the calls succeed with ample memory (`sporc_files_tests`). Neither: how
-//! long a call takes.
+//! stops; that line and order keep the entries taken if memory runs out; the laws. Only tested: the loading of entries
+//! with real signatures and of files cut at each byte, and that the calls succeed with ample memory
+//! (`sporc_files_tests`). Neither: how long a call takes.
 #![tactic(auto)]
 
 mod appending;

@@ -1,4 +1,4 @@
-// Saved histories that are read again.
+//! Saved histories that are read again.
 
 ghost use Rattle.std.specs.Prelude.{◌≡◌, [], map, IfOk, IfErr};
 ghost use Rattle.sporc_store.specs.SavedFile.{saved_in, read_to, IsPrefix, IsUnchecked};

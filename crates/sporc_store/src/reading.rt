@@ -1,4 +1,4 @@
-// The head of a saved history that is read.
+//! The head of a saved history that is read.
 
 ghost use Rattle.std.specs.Prelude.{◌≡◌, IfErr};
 ghost use Rattle.sporc_base.specs.Outcome.{Gives};

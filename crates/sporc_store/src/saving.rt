@@ -1,4 +1,4 @@
-// Histories that are saved.
+//! Histories that are saved.
 
 ghost use Rattle.std.specs.Prelude.{◌≡◌, ◌<◌, ◌≤◌, ◌^◌, ◌+◌, ◌++◌, length, map, OnOk};
 ghost use Rattle.std.specs.List.{flat_map};

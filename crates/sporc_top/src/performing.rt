@@ -1,4 +1,4 @@
-// What each command does.
+//! What each command does.
 
 ghost use Rattle.std.specs.Prelude.{◌≡◌, ◌+◌, ◌≤◌, false};
 ghost use Rattle.sporc_outside.specs.Uses.{sink_use, source_use};

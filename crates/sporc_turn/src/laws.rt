@@ -1,4 +1,4 @@
-//! Laws of logs, as the contracts of functions that do nothing.
+//! Laws of logs, and the limit in numbers, as the contracts of functions that do nothing.
 
 ghost use Rattle.std.specs.Prelude.{◌≡◌, ◌^◌};
 ghost use Rattle.sporc_turn.specs.Log.{OnlyFirstAdds};

@@ -1,4 +1,4 @@
-// Cutting a stream of bytes into the bodies of its frames.
+//! Cutting a stream of bytes into the bodies of its frames.
 
 ghost use Rattle.std.specs.Prelude.{◌≡◌, ◌≤◌, ◌++◌, ℕ, length, take, [], None, Some, Err, IfOk, OnOk, OnErr, MatchOption};
 ghost use Rattle.std.specs.Int.{w32, from_be_bytes};

@@ -1,4 +1,4 @@
-// The frames of entries, which copy each entry once.
+//! The frames of entries, which copy each entry once.
 
 ghost use Rattle.std.specs.Prelude.{◌≡◌, ◌≤◌, ◌<◌, ◌^◌, ◌++◌, ℕ, List, length, map, OnOk};
 ghost use Rattle.std.specs.List.{flat_map};

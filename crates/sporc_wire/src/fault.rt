@@ -12,7 +12,7 @@ pub enum FrameFault {
     /// A body of this many bytes is above the limit of 4,194,304.
     #[error("a body of {0} bytes is too long")]
     TooLong(u64),
-    /// No memory was left.
+    /// Out of memory.
     #[error("out of memory")]
     Memory,
 }

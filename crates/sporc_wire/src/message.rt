@@ -1,4 +1,4 @@
-// What both kinds of messages have in common.
+//! What both kinds of messages have in common.
 
 ghost use Rattle.std.specs.Prelude.{◌≡◌, ℕ, List, Result};
 ghost use Rattle.sporc_base.specs.Outcome.{GivesUnless};

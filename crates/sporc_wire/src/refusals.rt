@@ -1,4 +1,4 @@
-// Refusals as two numbers.
+//! Refusals as two numbers.
 
 ghost use Rattle.std.specs.Prelude.{◌≡◌, ◌^◌, ◌<◌, find, ◌==◌};
 ghost use Rattle.sporc_head.specs.Refusal.{refusal_code_of};

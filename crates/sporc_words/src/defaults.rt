@@ -1,4 +1,4 @@
-// What stands where a word of `client` is left out.
+//! What stands where a word of `client` is left out.
 
 /// The rounds of `client`, where none are named.
 pub const DEFAULT_ROUNDS: u32 = 64;
