@@ -68,7 +68,7 @@ marks_grown : (front : List Part) (last more grown : Part) (ps : List Part)
 marks_grown front last more grown ps is joins = rw (is, marks_of-last front grown, marks_of-last front last, joins, append_assoc) refl
 
 -- a part at the end in place of one of its kind, or behind one of another kind
-AreRuns-grown : (front : List Part) (last grown : Part) → ((p : Part) → same_kind p last ≡ same_kind p grown) → 0 < part_len grown
+pub AreRuns-grown : (front : List Part) (last grown : Part) → ((p : Part) → same_kind p last ≡ same_kind p grown) → 0 < part_len grown
     → AreRuns (front ++ last ∷ []) → AreRuns (front ++ grown ∷ [])
 AreRuns-grown [] last grown like some h = (some, tt, tt)
 AreRuns-grown (p ∷ []) last grown like some h = (h.0, sym (like p) ∙ h.1, AreRuns-grown [] last grown like some h.2)
@@ -96,7 +96,7 @@ last_some (p ∷ front) last h = last_some front last h.2
 keeps_joined : (m n : ℕ) → retains (m + n) ≡ retains m ++ retains n
 keeps_joined m n = sym (replicate-append-replicate m n Retain)
 
-same_keep : (m n : ℕ) (p : Part) → same_kind p (Keep m) ≡ same_kind p (Keep n)
+pub same_keep : (m n : ℕ) (p : Part) → same_kind p (Keep m) ≡ same_kind p (Keep n)
 same_keep m n (Keep k) = refl
 same_keep m n (InsertText text) = refl
 same_keep m n (Remove k) = refl

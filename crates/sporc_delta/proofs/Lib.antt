@@ -3,6 +3,7 @@ pub mod Lengths
 pub mod Runs
 pub mod Appended
 pub mod Sound
+pub mod Shifted
 pub mod Spelled
 pub mod Decoding
 pub mod Grammar

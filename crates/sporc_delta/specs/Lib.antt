@@ -3,6 +3,7 @@ pub mod Marks
 pub mod Parts
 pub mod Reading
 pub mod Same
+pub mod Shifts
 pub mod Texts
 pub mod Transforms
 pub mod Typed

@@ -8,14 +8,16 @@ ghost use Rattle.sporc_delta.specs.Format.{delta_bytes};
 ghost use Rattle.sporc_delta.specs.Marks.{base_len, out_len, retains, deletes, inserts, insertion, removal, replacement};
 ghost use Rattle.sporc_delta.specs.Parts.{AreRuns, marks_of, owned, part_marks, runs};
 ghost use Rattle.sporc_delta.specs.Same.{same_delta};
+ghost use Rattle.sporc_delta.specs.Shifts.{CanShift, kept_first, kept_last, shifted};
 ghost use Rattle.sporc_delta.specs.Typed.{IsTypedDelta};
 ghost use Rattle.sporc_delta.specs.Reading.{read_delta};
 
 use crate::decode::read_part;
 use crate::encode::{parts_encoded, parts_len};
-use crate::ends::{append_keep, append_remove, append_text};
+use crate::ends::{append_keep, append_remove, append_text, kept_last};
 use crate::part::{are_same_parts, copies};
-use crate::{DeltaFault, Part, Piece, TextSlice};
+use crate::shift::{kept_first, kept_there, shift_parts};
+use crate::{DeltaFault, Part, Piece, Shift, TextSlice};
 use sporc_base::Memory;
 use sporc_bytes::Cursor;
 use std::alloc::Global;
@@ -147,6 +149,34 @@ impl Delta {
         ensures within { (base_len self.now ≤ MAX_TEXT_LEN) × (out_len self.now ≤ MAX_TEXT_LEN) }
     {
         self.parts.as_slice()
+    }
+
+    /// How many characters it keeps before its first change, all of them if it changes nothing.
+    pub fn kept_first(&self) -> u64
+        ensures value { result ≡ kept_first self.now }
+        ensures within { result ≤ MAX_TEXT_LEN }
+    {
+        kept_first(self.parts.as_slice())
+    }
+
+    /// How many characters it keeps behind its last change, all of them if it changes nothing.
+    pub fn kept_last(&self) -> u64
+        ensures value { result ≡ kept_last self.now }
+        ensures within { result ≤ MAX_TEXT_LEN }
+    {
+        kept_last(self.parts.as_slice())
+    }
+
+    /// Keeps another number of characters at one of its ends, which takes no memory.
+    pub fn shift(&mut self, shift: Shift)
+        requires { CanShift shift self.old }
+        ensures value { self.new ≡ shifted shift self.old }
+    {
+        let kept = kept_there(self.parts.as_slice(), shift);
+        let count = shift.count();
+        shift_parts(&mut self.parts, shift);
+        self.base = self.base - kept + count;
+        self.out = self.out - kept + count;
     }
 
     /// A copy.

@@ -8,7 +8,7 @@ use crate::{Part, Text, TextSlice};
 use sporc_base::Memory;
 
 // The number of characters that a last part keeps.
-fn kept_last(parts: &[Part]) -> u64
+pub(crate) fn kept_last(parts: &[Part]) -> u64
     ensures value { result ≡ kept_at_end parts.now }
 {
     match parts.last() {

@@ -26,10 +26,12 @@ mod fault;
 pub mod laws;
 mod limits;
 mod part;
+mod shift;
 mod text;
 
 pub use crate::delta::Delta;
 pub use crate::fault::DeltaFault;
 pub use crate::limits::{MAX_COUNT, MAX_DELTA_BYTES, MAX_TEXT_LEN};
 pub use crate::part::{Kind, Part, Piece};
+pub use crate::shift::Shift;
 pub use crate::text::{Text, TextSlice};

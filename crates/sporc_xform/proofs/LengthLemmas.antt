@@ -88,6 +88,32 @@ base_len-earlier (Insert c ∷ p) q h = base_len-earlier p q h
 base_len-earlier (Retain ∷ p) q h = earlier_retain p (base_len-earlier p) q h
 base_len-earlier (Delete ∷ p) q h = earlier_delete p (base_len-earlier p) q h
 
+-- ---- and inserts no more than before
+
+kept_inserted_last : (q : List Mark) → inserted_len (flat_map earlier_step (last_steps q)) ≤ 0
+kept_inserted_last [] = omega arith
+kept_inserted_last (Insert c ∷ q) = kept_inserted_last q
+kept_inserted_last (Retain ∷ q) = omega arith
+kept_inserted_last (Delete ∷ q) = omega arith
+
+kept_inserted_retain : (p : List Mark) → ((q : List Mark) → inserted_len (earlier p q) ≤ inserted_len p) → (q : List Mark) → inserted_len (earlier (Retain ∷ p) q) ≤ inserted_len p
+kept_inserted_retain p ih [] = omega arith
+kept_inserted_retain p ih (Insert c ∷ q) = kept_inserted_retain p ih q
+kept_inserted_retain p ih (Retain ∷ q) = ih q
+kept_inserted_retain p ih (Delete ∷ q) = ih q
+
+kept_inserted_delete : (p : List Mark) → ((q : List Mark) → inserted_len (earlier p q) ≤ inserted_len p) → (q : List Mark) → inserted_len (earlier (Delete ∷ p) q) ≤ inserted_len p
+kept_inserted_delete p ih [] = omega arith
+kept_inserted_delete p ih (Insert c ∷ q) = kept_inserted_delete p ih q
+kept_inserted_delete p ih (Retain ∷ q) = ih q
+kept_inserted_delete p ih (Delete ∷ q) = ih q
+
+pub inserted_len-earlier : (p q : List Mark) → inserted_len (earlier p q) ≤ inserted_len p
+inserted_len-earlier [] q = kept_inserted_last q
+inserted_len-earlier (Insert c ∷ p) q = omega (arith, inserted_len-earlier p q)
+inserted_len-earlier (Retain ∷ p) q = kept_inserted_retain p (inserted_len-earlier p) q
+inserted_len-earlier (Delete ∷ p) q = kept_inserted_delete p (inserted_len-earlier p) q
+
 -- no more is inserted than there is in the text after
 pub inserted_len_le : (ms : List Mark) → inserted_len ms ≤ out_len ms
 inserted_len_le [] = omega arith

@@ -1,3 +1,4 @@
+pub mod Apart
 pub mod Composing
 pub mod InTurn
 pub mod LawLemmas

@@ -1,3 +1,4 @@
 pub mod Chunks
 pub mod Left
+pub mod Restating
 pub mod Runs

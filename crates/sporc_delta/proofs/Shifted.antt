@@ -1,0 +1,188 @@
+-- Deltas that keep another count at one of their ends.
+use Rattle.std.proofs.Common.{◌≡◌, ℕ, zero, suc, ◌+◌, ◌-◌, ◌<◌, ◌≤◌, List, [], ◌∷◌, ◌++◌, length, drop, take, set, refl, ap, sym, subst, ◌∙◌, arith}
+use Rattle.std.proofs.lemmas.List.{append-nil, drop_at, length-append, length-replicate, take_at}
+use Rattle.sporc_delta.specs.declared.limits.TheConstants.{MAX_TEXT_LEN}
+use Rattle.sporc_delta.specs.declared.part.Part.{Part}
+use Rattle.sporc_delta.specs.declared.part.Part.TheVariants.{Keep, Insert as InsertText, Remove}
+use Rattle.sporc_delta.specs.declared.shift.Shift.{Shift}
+use Rattle.sporc_delta.specs.declared.shift.Shift.TheVariants.{First, Last}
+use Rattle.sporc_delta.specs.Marks.{Mark, Retain, base_len, out_len, retains}
+use Rattle.sporc_delta.specs.Parts.{AreRuns, DeltaInvariant, kept_at_end, marks_of, runs}
+use Rattle.sporc_delta.specs.Shifts.{CanShift, Shifts, count_of, kept_at_start, kept_first, kept_last, kept_there, shifted}
+use Rattle.sporc_delta.proofs.Appended.{AreRuns-grown, kept_end, marks_of-last, same_keep, set_last}
+use Rattle.sporc_delta.proofs.Lengths.{base_len-append, base_len-retains, out_len-append, out_len-retains}
+use Rattle.sporc_delta.proofs.Runs.{marks_of-runs, runs-marks_of}
+
+-- ---- over marks
+
+-- what stands behind the characters that are kept first
+pub record BeginsWith (ms : List Mark) (k : ℕ) : Type 0 where
+  pub rest : List Mark
+  pub is : ms ≡ retains k ++ rest
+
+first_of_parts : (ms : List Mark) (ps : List Part) → marks_of ps ≡ ms → BeginsWith ms (kept_at_start ps)
+first_of_parts ms [] e = record { rest = ms; is = refl }
+first_of_parts ms (Keep n ∷ ps) e = record { rest = marks_of ps; is = sym e }
+first_of_parts ms (InsertText text ∷ ps) e = record { rest = ms; is = refl }
+first_of_parts ms (Remove n ∷ ps) e = record { rest = ms; is = refl }
+
+pub begins_with : (ms : List Mark) → BeginsWith ms (kept_first ms)
+begins_with ms = first_of_parts ms (runs ms) (marks_of-runs ms)
+
+-- what stands in front of the characters that are kept last
+pub record EndsWith (ms : List Mark) (k : ℕ) : Type 0 where
+  pub front : List Mark
+  pub is : ms ≡ front ++ retains k
+
+last_of_parts : (ms : List Mark) (ps : List Part) (k : ℕ) → marks_of ps ≡ ms → k ≡ kept_at_end ps → EndsWith ms k
+last_of_parts ms ps zero e is = record { front = ms; is = sym (append-nil ms) }
+last_of_parts ms ps (suc k) e is =
+    let end = kept_end ps (suc k) is (omega arith) in
+    record { front = marks_of end.front; is = sym e ∙ ap marks_of end.is ∙ marks_of-last end.front (Keep (suc k)) }
+
+pub ends_with : (ms : List Mark) → EndsWith ms (kept_last ms)
+ends_with ms = last_of_parts ms (runs ms) (kept_last ms) (marks_of-runs ms) refl
+
+-- another count there
+replace_first : (ms rest : List Mark) (k n : ℕ) → ms ≡ retains k ++ rest → retains n ++ drop k ms ≡ retains n ++ rest
+replace_first ms rest k n is = ap (λ (l : List Mark). retains n ++ drop k l) is ∙ ap (λ (l : List Mark). retains n ++ l) (drop_at (retains k) rest k (length-replicate k Retain))
+
+replace_last : (ms front : List Mark) (k n : ℕ) → ms ≡ front ++ retains k → take (length ms - k) ms ++ retains n ≡ front ++ retains n
+replace_last ms front k n is =
+    let len : length front ≡ length ms - k = omega (arith, ap length is, length-append front (retains k), length-replicate k Retain) in
+    ap (λ (l : List Mark). take (length ms - k) l ++ retains n) is ∙ ap (λ (l : List Mark). l ++ retains n) (take_at front (retains k) (length ms - k) len)
+
+pub shifted_first : (ms rest : List Mark) (n : ℕ) → ms ≡ retains (kept_first ms) ++ rest → shifted (First n) ms ≡ retains n ++ rest
+shifted_first ms rest n is = replace_first ms rest (kept_first ms) n is
+
+pub shifted_last : (ms front : List Mark) (n : ℕ) → ms ≡ front ++ retains (kept_last ms) → shifted (Last n) ms ≡ front ++ retains n
+shifted_last ms front n is = replace_last ms front (kept_last ms) n is
+
+-- ---- lengths
+
+pub record ShiftedLengths (shift : Shift) (ms : List Mark) : Type 0 where
+  pub base : base_len (shifted shift ms) + kept_there shift (runs ms) ≡ base_len ms + count_of shift
+  pub out : out_len (shifted shift ms) + kept_there shift (runs ms) ≡ out_len ms + count_of shift
+  pub in_base : kept_there shift (runs ms) ≤ base_len ms
+  pub in_out : kept_there shift (runs ms) ≤ out_len ms
+
+pub shifted_lengths : (shift : Shift) (ms : List Mark) → ShiftedLengths shift ms
+shifted_lengths (First n) ms =
+    let k = kept_first ms in
+    let begin = begins_with ms in
+    let new = shifted_first ms begin.rest n begin.is in
+    let base = ap base_len begin.is ∙ base_len-append (retains k) begin.rest in
+    let out = ap out_len begin.is ∙ out_len-append (retains k) begin.rest in
+    record {
+      base = omega (arith, base, base_len-retains k, ap base_len new, base_len-append (retains n) begin.rest, base_len-retains n);
+      out = omega (arith, out, out_len-retains k, ap out_len new, out_len-append (retains n) begin.rest, out_len-retains n);
+      in_base = omega (arith, base, base_len-retains k);
+      in_out = omega (arith, out, out_len-retains k);
+    }
+shifted_lengths (Last n) ms =
+    let k = kept_last ms in
+    let end = ends_with ms in
+    let new = shifted_last ms end.front n end.is in
+    let base = ap base_len end.is ∙ base_len-append end.front (retains k) in
+    let out = ap out_len end.is ∙ out_len-append end.front (retains k) in
+    record {
+      base = omega (arith, base, base_len-retains k, ap base_len new, base_len-append end.front (retains n), base_len-retains n);
+      out = omega (arith, out, out_len-retains k, ap out_len new, out_len-append end.front (retains n), out_len-retains n);
+      in_base = omega (arith, base, base_len-retains k);
+      in_out = omega (arith, out, out_len-retains k);
+    }
+
+-- ---- over parts
+
+-- the place of the part that keeps there
+abbrev IsPlaceOf : Shift → List Part → ℕ → Type 0
+IsPlaceOf (First n) ps place = place ≡ 0
+IsPlaceOf (Last n) ps place = place ≡ length ps - 1
+
+unlike_keep : (m n : ℕ) (ps : List Part) → AreRuns (Keep m ∷ ps) → 0 < n → AreRuns (Keep n ∷ ps)
+unlike_keep m n [] h some = (some, tt, tt)
+unlike_keep m n (Keep k ∷ ps) h some = absurd cc
+unlike_keep m n (InsertText text ∷ ps) h some = (some, refl, h.2)
+unlike_keep m n (Remove k ∷ ps) h some = (some, refl, h.2)
+
+first_put : (ps : List Part) (n : ℕ) → 0 < n → 0 < kept_at_start ps → Shifts (First n) ps (set ps 0 (Keep n))
+first_put [] n some kept = absurd (omega arith)
+first_put (InsertText text ∷ ps) n some kept = absurd (omega arith)
+first_put (Remove k ∷ ps) n some kept = absurd (omega arith)
+first_put (Keep k ∷ ps) n some kept = record {
+  are_runs = λ h. unlike_keep k n ps h some;
+  marks = λ h.
+      let same : kept_first (marks_of (Keep k ∷ ps)) ≡ k = ap kept_at_start (runs-marks_of (Keep k ∷ ps) h) in
+      sym (shifted_first (marks_of (Keep k ∷ ps)) (marks_of ps) n (ap (λ (m : ℕ). retains m ++ marks_of ps) (sym same)));
+}
+
+last_put : (ps : List Part) (len n : ℕ) → len ≡ length ps → 0 < n → 0 < kept_at_end ps → Shifts (Last n) ps (set ps (len - 1) (Keep n))
+last_put ps len n all some kept =
+    let k = kept_at_end ps in
+    let end = kept_end ps (kept_at_end ps) refl kept in
+    let new : set ps (length ps - 1) (Keep n) ≡ end.front ++ Keep n ∷ [] = set_last end.front (Keep (kept_at_end ps)) (Keep n) ps end.is in
+    let P : List Part → Type 0 = AreRuns in
+    rw (all, new) record {
+      are_runs = λ h. AreRuns-grown end.front (Keep (kept_at_end ps)) (Keep n) (same_keep (kept_at_end ps) n) some (subst P end.is h);
+      marks = λ h.
+          let same : kept_last (marks_of ps) ≡ kept_at_end ps = ap kept_at_end (runs-marks_of ps h) in
+          let is : marks_of ps ≡ marks_of end.front ++ retains (kept_last (marks_of ps)) =
+          ap marks_of end.is ∙ marks_of-last end.front (Keep (kept_at_end ps)) ∙ ap (λ (m : ℕ). marks_of end.front ++ retains m) (sym same) in
+          marks_of-last end.front (Keep n) ∙ sym (shifted_last (marks_of ps) (marks_of end.front) n is);
+    }
+
+pub put_there : (shift kind : Shift) (ps : List Part) (place : ℕ) → shift ≡ kind → IsPlaceOf kind ps place → 0 < count_of shift → 0 < kept_there shift ps → Shifts shift ps (set ps place (Keep (count_of kind)))
+put_there shift kind ps place is here some kept =
+    let P : Shift → Type 0 = λ s. (0 < count_of s) × (0 < kept_there s ps) in
+    let Q : Shift → Type 0 = λ s. Shifts s ps (set ps place (Keep (count_of kind))) in
+    let known = subst P is (some, kept) in
+    subst Q (sym is) (by_kind kind known.0 known.1 here)
+  where
+    by_kind : (kind : Shift) → 0 < count_of kind → 0 < kept_there kind ps → IsPlaceOf kind ps place → Shifts kind ps (set ps place (Keep (count_of kind)))
+    by_kind (First n) some kept here = rw here (first_put ps n some kept)
+    by_kind (Last n) some kept here = rw here (last_put ps (length ps) n refl some kept)
+
+-- ---- a delta
+
+-- its parts are those of the delta that is seen
+pub kept_of_parts : (shift : Shift) (parts : List Part) (seen : List Mark) → AreRuns parts → marks_of parts ≡ seen → kept_there shift (runs seen) ≡ kept_there shift parts
+kept_of_parts shift parts seen h view = ap (λ (ms : List Mark). kept_there shift (runs ms)) (sym view) ∙ ap (kept_there shift) (runs-marks_of parts h)
+
+pub record FitsShift (shift : Shift) (parts : List Part) (base out : ℕ) : Type 0 where
+  pub kept : 0 < kept_there shift parts
+  pub in_base : kept_there shift parts ≤ base
+  pub in_out : kept_there shift parts ≤ out
+  pub base_limit : base - kept_there shift parts + count_of shift ≤ MAX_TEXT_LEN
+  pub out_limit : out - kept_there shift parts + count_of shift ≤ MAX_TEXT_LEN
+
+pub fits_shift : (shift : Shift) (parts : List Part) (base out : ℕ) (seen : List Mark) → DeltaInvariant parts base out → marks_of parts ≡ seen → CanShift shift seen
+    → FitsShift shift parts base out
+fits_shift shift parts base out seen sound view can =
+    let kept = kept_of_parts shift parts seen sound.are_runs view in
+    let lens = shifted_lengths shift seen in
+    let b = sound.base_is ∙ ap base_len view in
+    let o = sound.out_is ∙ ap out_len view in
+    record {
+      kept = omega (arith, can.kept, kept);
+      in_base = omega (arith, kept, b, lens.in_base);
+      in_out = omega (arith, kept, o, lens.in_out);
+      base_limit = omega (arith, kept, b, lens.base, lens.in_base, can.base);
+      out_limit = omega (arith, kept, o, lens.out, lens.in_out, can.out);
+    }
+
+pub DeltaInvariant-shifted : (shift : Shift) (old new : List Part) (base out base' out' : ℕ) (seen : List Mark) → DeltaInvariant old base out → marks_of old ≡ seen → CanShift shift seen
+    → Shifts shift old new → base' ≡ base - kept_there shift old + count_of shift → out' ≡ out - kept_there shift old + count_of shift → DeltaInvariant new base' out'
+DeltaInvariant-shifted shift old new base out base' out' seen sound view can shifts b o =
+    let fits = fits_shift shift old base out seen sound view can in
+    let kept = kept_of_parts shift old seen sound.are_runs view in
+    let lens = shifted_lengths shift seen in
+    let marks : marks_of new ≡ shifted shift seen = shifts.marks sound.are_runs ∙ ap (shifted shift) view in
+    let base_was = sound.base_is ∙ ap base_len view in
+    let out_was = sound.out_is ∙ ap out_len view in
+    record {
+      are_runs = shifts.are_runs sound.are_runs;
+      base_is = omega (arith, b, kept, base_was, lens.base, lens.in_base, ap base_len marks);
+      out_is = omega (arith, o, kept, out_was, lens.out, lens.in_out, ap out_len marks);
+      base_limit = omega (arith, b, fits.base_limit);
+      out_limit = omega (arith, o, fits.out_limit);
+    }
