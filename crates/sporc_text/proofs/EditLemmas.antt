@@ -1,12 +1,13 @@
 -- A delta is applied part by part.
-use Rattle.std.proofs.Common.{◌≡◌, ℕ, zero, suc, ◌+◌, ◌<◌, ◌≤◌, List, [], ◌∷◌, ◌++◌, length, take, drop, get_or, refl, ap, sym, ◌∙◌, append_assoc, add-one, arith, drop-cons, length-drop}
+use Rattle.std.proofs.Common.{◌≡◌, ℕ, zero, suc, ◌+◌, ◌<◌, ◌≤◌, List, [], ◌∷◌, ◌++◌, length, take, drop, get_or, refl, ap, sym, ◌∙◌, append_assoc, append-nil, add-one, arith, drop-cons, length-drop}
 use Rattle.std.proofs.lemmas.List.{drop-drop}
 use Rattle.sporc_delta.specs.declared.part.Part.{Part}
 use Rattle.sporc_delta.specs.declared.part.Part.TheVariants.{Keep, Insert as InsertText, Remove}
-use Rattle.sporc_delta.specs.Marks.{Mark, base_len, apply, retains, deletes, inserts}
+use Rattle.sporc_delta.specs.Marks.{Mark, Retain, Delete, Insert, base_len, out_len, apply, retains, deletes, inserts}
 use Rattle.sporc_delta.specs.Parts.{part_marks, marks_of}
-use Rattle.sporc_delta.proofs.Lengths.{base_len-append, base_len-retains, base_len-deletes, base_len-inserts}
-use Rattle.sporc_text.specs.Edit.{characters_read, characters_written}
+use Rattle.sporc_delta.proofs.Lengths.{base_len-append, base_len-retains, base_len-deletes, base_len-inserts, out_len-append, out_len-retains}
+use Rattle.sporc_text.specs.Edit.{IsBetween, characters_read, characters_written}
+use Rattle.sporc_text.specs.ReadyTextModel.{replaced}
 
 -- a part in front reads so many characters more
 base_len-part : (p : Part) (ms : List Mark) → base_len (part_marks p ++ ms) ≡ characters_read p + base_len ms
@@ -36,20 +37,48 @@ apply-part (Remove n) ms s h = apply-deletes n ms s h
 
 -- what the parts from i on read of a text from a place on, and what they write after those before them
 pub record IsEditedTo (parts : List Part) (i : ℕ) (text : List ℕ) (at : ℕ) (out whole : List ℕ) : Type 0 where
-  pub reads : at + base_len (marks_of (drop i parts)) ≡ length text
+  pub reads : at + base_len (marks_of (drop i parts)) ≤ length text
   pub writes : out ++ apply (marks_of (drop i parts)) (drop at text) ≡ whole
 
-pub edit_begins : (parts : List Part) (text : List ℕ) (at : ℕ) (out : List ℕ) → at + base_len (marks_of parts) ≡ length text → IsEditedTo parts 0 text at out (out ++ apply (marks_of parts) (drop at text))
+pub edit_begins : (parts : List Part) (text : List ℕ) (at : ℕ) (out : List ℕ) → at + base_len (marks_of parts) ≤ length text → IsEditedTo parts 0 text at out (out ++ apply (marks_of parts) (drop at text))
 edit_begins parts text at out fits = record { reads = fits; writes = refl }
 
--- a delta that keeps characters in front reads them, and the others go on behind them
-pub kept_reads : (delta marks others : List Mark) (kept len : ℕ) → marks ≡ delta → marks ≡ retains kept ++ others → base_len delta ≡ len → kept + base_len others ≡ len
-kept_reads delta marks others kept len is split fits = omega (arith, ap base_len (sym is ∙ split), base_len-append (retains kept) others, base_len-retains kept, fits)
+-- the characters behind the last change are kept
+apply-last : (ms : List Mark) (n : ℕ) (s : List ℕ) → base_len ms + n ≡ length s → apply (ms ++ retains n) s ≡ apply ms s ++ drop (base_len ms) s
+apply-last [] zero [] h = refl
+apply-last [] zero (c ∷ s) h = absurd (omega arith)
+apply-last [] (suc n) [] h = absurd (omega arith)
+apply-last [] (suc n) (c ∷ s) h = ap (λ l. c ∷ l) (apply-last [] n s (omega arith))
+apply-last (Insert c ∷ ms) n s h = ap (λ l. c ∷ l) (apply-last ms n s h)
+apply-last (Retain ∷ ms) n [] h = absurd (omega arith)
+apply-last (Retain ∷ ms) n (c ∷ s) h = ap (λ l. c ∷ l) (apply-last ms n s (omega arith))
+apply-last (Delete ∷ ms) n [] h = absurd (omega arith)
+apply-last (Delete ∷ ms) n (c ∷ s) h = apply-last ms n s (omega arith)
 
-pub kept_writes : (delta marks others : List Mark) (kept : ℕ) (text : List ℕ) → marks ≡ delta → marks ≡ retains kept ++ others → base_len delta ≡ length text → take kept text ++ apply others (drop kept text) ≡ apply delta text
-kept_writes delta marks others kept text is split fits =
-    let within : kept ≤ length text = omega (arith, kept_reads delta marks others kept (length text) is split fits) in
-    sym (apply-retains kept others text within) ∙ ap (λ ms. apply ms text) (sym split ∙ is)
+-- the marks of parts and of one behind them
+pub marks_of-keep : (ps : List Part) (n : ℕ) → marks_of (ps ++ Keep n ∷ []) ≡ marks_of ps ++ retains n
+marks_of-keep [] n = append-nil (retains n)
+marks_of-keep (p ∷ ps) n = ap (λ (ms : List Mark). part_marks p ++ ms) (marks_of-keep ps n) ∙ sym (append_assoc (part_marks p) (marks_of ps) (retains n))
+
+pub between : (delta marks others middle : List Mark) (kept left : ℕ) → marks ≡ delta → marks ≡ retains kept ++ others → others ≡ middle ++ retains left → IsBetween delta middle kept left
+between delta marks others middle kept left is front back =
+    let whole : delta ≡ retains kept ++ (middle ++ retains left) = sym is ∙ front ∙ ap (λ (ms : List Mark). retains kept ++ ms) back in
+    record {
+      reads = omega (arith, ap base_len whole, base_len-append (retains kept) (middle ++ retains left), base_len-append middle (retains left), base_len-retains kept, base_len-retains left);
+      writes = omega (arith, ap out_len whole, out_len-append (retains kept) (middle ++ retains left), out_len-append middle (retains left), out_len-retains kept, out_len-retains left);
+      marks_are = whole;
+    }
+
+pub between_writes : (delta middle : List Mark) (kept left removed : ℕ) (text written : List ℕ) → IsBetween delta middle kept left → base_len delta ≡ length text → removed ≡ base_len middle → written ≡ apply middle (drop kept text)
+    → replaced kept removed written text ≡ apply delta text
+between_writes delta middle kept left removed text written h fits gone is =
+    let rest : length (drop kept text) ≡ base_len middle + left = omega (arith, length-drop kept text, h.reads, fits) in
+    let behind : drop (base_len middle) (drop kept text) ≡ drop (kept + removed) text = drop-drop (base_len middle) kept text ∙ ap (λ (k : ℕ). drop (kept + k) text) (sym gone) in
+    sym (ap (λ (ms : List Mark). apply ms text) h.marks_are
+    ∙ apply-retains kept (middle ++ retains left) text (omega (arith, h.reads, fits))
+    ∙ ap (λ (l : List ℕ). take kept text ++ l) (apply-last middle left (drop kept text) (sym rest))
+    ∙ ap (λ (l : List ℕ). take kept text ++ (l ++ drop (base_len middle) (drop kept text))) (sym is)
+    ∙ ap (λ (l : List ℕ). take kept text ++ (written ++ l)) behind)
 
 -- the part at i stands before the others
 part_first : (parts : List Part) (i : ℕ) (p : Part) → i < length parts → p ≡ get_or parts i p → marks_of (drop i parts) ≡ part_marks p ++ marks_of (drop (suc i) parts)
@@ -67,7 +96,7 @@ edit_goes_on parts i p text at next out more whole h l is n e =
     let others = marks_of (drop (suc i) parts) in
     let split = part_first parts i p l is in
     let fits : characters_read p ≤ length (drop at text) = omega (arith, edit_fits parts i p text at out whole h l is, length-drop at text) in
-    let len : next + base_len others ≡ length text = omega (arith, n, h.reads, ap base_len split, base_len-part p others) in
+    let len : next + base_len others ≤ length text = omega (arith, n, h.reads, ap base_len split, base_len-part p others) in
     let rest : drop (characters_read p) (drop at text) ≡ drop next text = drop-drop (characters_read p) at text ∙ ap (λ k. drop k text) (omega (arith, n)) in
     let written : more ++ apply others (drop next text) ≡ whole =
     ap (λ o. o ++ apply others (drop next text)) e

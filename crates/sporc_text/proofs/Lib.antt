@@ -1,2 +1,7 @@
+pub mod ChunkLemmas
+pub mod CutLemmas
 pub mod EditLemmas
+pub mod KeptLemmas
+pub mod MoveLemmas
+pub mod ReadyLemmas
 pub mod Spelled

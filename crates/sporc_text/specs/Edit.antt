@@ -1,5 +1,6 @@
--- What one part of a delta does to the characters that it stands at.
-use Rattle.std.specs.Prelude.{ℕ, List, [], take}
+-- What a delta and one part of it do to the characters that they stand at.
+use Rattle.std.specs.Prelude.{◌≡◌, ℕ, ◌+◌, List, [], ◌++◌, take}
+use Rattle.sporc_delta.specs.Marks.{Mark, base_len, out_len, retains}
 use Rattle.sporc_delta.specs.declared.part.Part.{Part}
 use Rattle.sporc_delta.specs.declared.part.Part.TheVariants.{Keep, Insert, Remove}
 
@@ -14,3 +15,9 @@ abbrev pub characters_written : Part → List ℕ → List ℕ
 characters_written (Keep n) rest = take n rest
 characters_written (Insert text) rest = text
 characters_written (Remove n) rest = []
+
+-- of a delta these marks alone, between two ends that are kept, change anything
+pub record IsBetween (delta middle : List Mark) (kept left : ℕ) : Type 0 where
+  pub reads : base_len delta ≡ kept + base_len middle + left
+  pub writes : out_len delta ≡ kept + out_len middle + left
+  pub marks_are : delta ≡ retains kept ++ (middle ++ retains left)

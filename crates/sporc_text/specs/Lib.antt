@@ -1,2 +1,4 @@
+pub mod Chunks
 pub mod Edit
+pub mod ReadyFields
 pub mod ReadyTextModel

@@ -12,8 +12,11 @@
 //! the text is as before. Only tested: that memory suffices if there is ample. Neither: how long a call takes.
 #![tactic(auto)]
 
+mod chunk;
+mod chunks;
 mod doc;
 mod edit;
+mod limits;
 mod ready;
 
 pub use doc::Doc;

@@ -1,8 +1,9 @@
 use Rattle.std.proofs.Common.{◌++◌, drop}
+use Rattle.std.specs.List.{concat}
 use Rattle.sporc_delta.specs.Marks.{apply}
 use Rattle.sporc_delta.specs.Parts.{marks_of}
 use Rattle.sporc_text.proofs.EditLemmas.{IsEditedTo}
 use Rattle.sporc_text.proofs.edit.edited.Given as goal
 
 abbrev pub invariant-loop-part : goal.invariant-loop-part
-invariant-loop-part l = IsEditedTo l.parts l.part-index l.text l.at l.out.items (l.initial.out.items ++ apply (marks_of l.parts) (drop l.initial.at l.text))
+invariant-loop-part l = IsEditedTo l.parts l.part-index (concat l.chunks) l.at l.out.items (l.initial.out.items ++ apply (marks_of l.parts) (drop l.initial.at (concat l.chunks)))

@@ -1,15 +1,26 @@
-use Rattle.std.proofs.Common.{◌≡◌, ℕ, List, ◌++◌, take, drop, ap, ◌∙◌}
+use Rattle.std.proofs.Common.{ℕ, List, ◌++◌, drop, length, ap, ◌∙◌, arith}
+use Rattle.std.specs.List.{concat}
+use Rattle.std.proofs.lemmas.Grind.{div_ceil_times}
 use Rattle.sporc_delta.specs.Marks.{apply}
 use Rattle.sporc_delta.specs.Parts.{marks_of}
-use Rattle.sporc_text.proofs.EditLemmas.{kept_reads, kept_writes}
+use Rattle.sporc_text.specs.declared.limits.TheConstants.{MAX_CHUNK}
+use Rattle.sporc_text.proofs.ReadyLemmas.{made}
 use Rattle.sporc_text.proofs.ready.ReadyText.new.Goals as goal
 
-pub edited-requires : goal.edited-requires
-edited-requires c = kept_reads _ _ _ c.without_keep-kept.result.0 _ c.parts.ensures.marks c.without_keep-kept.ensures.marks c.requires
+pub invariant_of-result : goal.invariant_of-result
+invariant_of-result c =
+    let read = c.changes-kept.ensures.reads in
+    record {
+      within = omega (arith, read, c.base_len-base.ensures.value);
+      len_is = omega (arith, read, c.base_len-base.ensures.value, c.len.ensures);
+      empty = c.in_ok-list.ensures.items;
+      room = omega (arith, c.in_ok-list.ensures.exact);
+      spare = omega (arith, c.in_ok-spare.ensures, c.div_ceil.ensures, c.len-2.ensures, (div_ceil_times (length c.in_ok-middle.middle.items) MAX_CHUNK (omega arith)).0);
+    }
 
 pub returns : goal.returns
-returns c =
-    let kept = c.without_keep-kept.result.0 in
-    let after = apply (marks_of c.without_keep-kept.result.1.now) (drop kept c.args.text.now) in
-    let rest : c.reserve.new.self.items ≡ after = c.in_ok-reserve.ensures.items ∙ c.in_ok-rest.ensures.ok ∙ ap (λ (before : List ℕ). before ++ after) c.in_ok-room.ensures.items in
-    record { ok = ap (λ (rest : List ℕ). take kept c.args.text.now ++ rest) rest ∙ kept_writes _ _ _ kept c.args.text.now c.parts.ensures.marks c.without_keep-kept.ensures.marks c.requires }
+returns c = record {
+  ok = made _ c.args.delta.now (marks_of c.changes-kept.result.1.now) c.changes-kept.result.2 (concat c.args.chunks.now) c.changes-kept.ensures c.requires c.base_len-base.ensures.value
+      (omega (arith, c.changes-kept.ensures.reads, c.base_len-base.ensures.value))
+      (c.in_ok-middle.ensures.ok ∙ ap (λ (before : List ℕ). before ++ apply (marks_of c.changes-kept.result.1.now) (drop c.changes-kept.result.0 (concat c.args.chunks.now))) c.in_ok-room.ensures.items);
+}
