@@ -56,10 +56,6 @@ pub inserted_len-over : (q : List Mark) (forms : List (List Mark)) → inserted_
 inserted_len-over q [] = omega arith
 inserted_len-over q (f ∷ fs) = omega (arith, inserted_len-over (later q f) fs, inserted_len-later f q)
 
-pub all_inserted-append : (fs gs : List (List Mark)) → all_inserted (fs ++ gs) ≡ all_inserted fs + all_inserted gs
-all_inserted-append [] gs = omega arith
-all_inserted-append (f ∷ fs) gs = omega (arith, all_inserted-append fs gs)
-
 pub reached-le : (base : ℕ) (forms : List (List Mark)) → Follow base forms → reached base forms ≤ base + all_inserted forms
 reached-le base [] h = omega arith
 reached-le base (f ∷ fs) h = omega (arith, reached-le (out_len f) fs h.1, out_len-le f, h.0)

@@ -5,8 +5,10 @@ use Rattle.std.specs.List.{slice_get}
 use Rattle.std.specs.FinMap.{get}
 use Rattle.sporc_hash.specs.Chain.{commitment_of}
 use Rattle.sporc_delta.specs.declared.limits.TheConstants.{MAX_TEXT_LEN}
-use Rattle.sporc_delta.specs.Marks.{Mark, base_len, out_len, inserted_len, apply}
+use Rattle.sporc_delta.specs.Marks.{Mark, base_len, inserted_len, apply}
 use Rattle.sporc_suffix.specs.Forms.{reached, Follow, all_inserted}
+use Rattle.sporc_suffix.specs.Runs.{IsReadyAt, ReadyModel}
+use Rattle.sporc_suffix.proofs.Following.{Follow-at, all_inserted-append, all_inserted-drop}
 use Rattle.sporc_entry.specs.declared.genesis.Genesis.{Genesis}
 use Rattle.sporc_entry.specs.declared.limits.TheConstants.{MAX_EDIT_BODY}
 use Rattle.sporc_head.specs.CheckedModel.{CheckedModel}
@@ -26,7 +28,7 @@ use Rattle.sporc_line.specs.Prepared.{PreparedModel, IsEffect, IsPrepared}
 use Rattle.sporc_line.specs.Good.{Good, Meets}
 use Rattle.sporc_line.proofs.Goods.{good_none, good_take, good_push}
 use Rattle.sporc_line.proofs.MoreForms.{forms_push, text_push}
-use Rattle.sporc_line.proofs.FormLengths.{length-text, all_inserted-append, reached-le, length-forms, forms_take, text_at, forms_follow, edit_follows, next_form_base}
+use Rattle.sporc_line.proofs.FormLengths.{length-text, reached-le, length-forms, forms_take, text_at, forms_follow, edit_follows, next_form_base}
 use Rattle.sporc_line.proofs.Passes.{passed}
 use Rattle.sporc_line.proofs.NextEntry.{keyed_push}
 
@@ -64,11 +66,6 @@ unfolding key_after
 opens_with g kit A k good is = subst (λ k. Meets g 0 k g.commitment) (sym is) good.opens
 
 -- ---- lengths
-
-Follow-at : (base : ℕ) (forms : List (List Mark)) (i : ℕ) (f : List Mark) → Follow base forms → slice_get forms i ≡ Some f → base_len f ≡ reached base (take i forms)
-Follow-at base [] i f h at = absurd cc
-Follow-at base (g ∷ gs) zero f h at = let same : g ≡ f = cc in subst (λ (f : List Mark). base_len f ≡ base) same h.0
-Follow-at base (g ∷ gs) (suc i) f h at = Follow-at (out_len g) gs i f h.1 at
 
 all_inserted-take : (forms : List (List Mark)) (i : ℕ) → all_inserted (take i forms) ≤ all_inserted forms
 all_inserted-take forms zero = omega arith
@@ -109,11 +106,6 @@ module _ {g : Genesis} {kit : Kit} {A : List (List ℕ)} {key : Option (List ℕ
 
 -- ---- what calls on the fields require
 
-all_inserted-drop : (forms : List (List Mark)) (i : ℕ) → all_inserted (drop i forms) ≤ all_inserted forms
-all_inserted-drop forms zero = omega arith
-all_inserted-drop [] (suc i) = omega arith
-all_inserted-drop (f ∷ fs) (suc i) = omega (arith, all_inserted-drop fs i)
-
 -- marks over the text after n entries can pass the forms after these
 pub record CanPass (m : List Mark) (n base : ℕ) (forms : List (List Mark)) : Type 0 where
   pub within : n ≤ length forms
@@ -148,6 +140,11 @@ module _ {g : Genesis} {kit : Kit} {A : List (List ℕ)} {key : Option (List ℕ
 
   pub effect_fits : (c : CheckedModel) (effect : Effect) → first_fault g kit A (length A + 1) c.bytes ≡ None → IsEffect g kit A c effect → CanPut effect.form base forms text
   effect_fits c effect none q = next_over c.bytes effect.form none q.form_is
+
+  -- what was made ready at the forms was made ready at the fields
+  pub ready_here : (r : ReadyModel) → IsReadyAt 0 (forms_of g kit A) r → IsReadyAt base forms r
+  ready_here r h =
+      subst (λ (b : ℕ). IsReadyAt b forms r) (sym k.base_is) (subst (λ (fs : List (List Mark)). IsReadyAt 0 fs r) (sym k.forms_are) h)
 
   pub prepared_fits : (p : PreparedModel) → IsPrepared g kit A p → CanPut p.form base forms text
   prepared_fits p q = next_over p.checked.bytes p.form q.passed q.form_is

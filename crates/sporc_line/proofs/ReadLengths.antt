@@ -16,7 +16,7 @@ use Rattle.sporc_delta.specs.declared.part.Kind.{Kind}
 use Rattle.sporc_delta.specs.declared.part.Kind.TheVariants as kinds
 use Rattle.sporc_delta.specs.declared.part.Part.{Part}
 use Rattle.sporc_delta.specs.declared.part.Part.TheVariants.{Keep, Insert as InsertText, Remove}
-use Rattle.sporc_delta.specs.Marks.{Mark, Insert, inserted_len, retains, deletes, inserts}
+use Rattle.sporc_delta.specs.Marks.{Mark, inserted_len}
 use Rattle.sporc_delta.specs.Parts.{part_marks, marks_of, kind_of}
 use Rattle.sporc_delta.specs.Reading.{head_at, text_at, body_at, part_at, parts_at, read_delta}
 use Rattle.sporc_delta.proofs.Counted.{length-chars}

@@ -11,7 +11,8 @@ use std::marker::Model;
 
 /// An entry that failed no check at a line, with all that its commit needs.
 ///
-/// Contracts see the checked entry, its form, how it rewrites the text, and the key of the last epoch after it.
+/// Contracts see the checked entry, its form with the runs of forms that it ends, how it rewrites the text, and the key of
+/// the last epoch after it.
 #[derive(Drop)]
 pub struct Prepared {
     pub(crate) checked: Checked,

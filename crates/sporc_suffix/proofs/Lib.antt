@@ -1,2 +1,4 @@
+pub mod Composed
 pub mod Following
+pub mod Kept
 pub mod Passing

@@ -6,12 +6,7 @@ use Rattle.sporc_delta.specs.declared.limits.TheConstants.{MAX_TEXT_LEN}
 use Rattle.sporc_delta.specs.Marks.{Mark, base_len, out_len, inserted_len}
 use Rattle.sporc_delta.specs.Transforms.{later}
 use Rattle.sporc_xform.proofs.LengthLemmas.{base_len-later, inserted_len-later, out_len-le}
-use Rattle.sporc_suffix.specs.Forms.{reached, Follow, all_inserted}
-
--- a delta and the forms that it is yet to pass
-pub record Fits (q : List Mark) (forms : List (List Mark)) : Type 0 where
-  pub follow : Follow (base_len q) forms
-  pub limit : base_len q + inserted_len q + all_inserted forms ≤ MAX_TEXT_LEN
+use Rattle.sporc_suffix.specs.Forms.{reached, Follow, Fits}
 
 -- it fits the next form, and then those after it
 pub record Passes (q f : List Mark) (rest : List (List Mark)) : Type 0 where

@@ -1,5 +1,6 @@
 -- Lists of deltas, each over the text after those before it, and a delta restated behind them.
-use Rattle.std.specs.Prelude.{◌≡◌, ℕ, ◌+◌, ◌^◌, ◌<◌, List, [], ◌∷◌, length, ⊤}
+use Rattle.std.specs.Prelude.{◌≡◌, ℕ, ◌+◌, ◌*◌, ◌^◌, ◌<◌, ◌≤◌, List, [], ◌∷◌, ⊤}
+use Rattle.sporc_delta.specs.declared.limits.TheConstants.{MAX_TEXT_LEN}
 use Rattle.sporc_delta.specs.Marks.{Mark, base_len, out_len, inserted_len}
 use Rattle.sporc_delta.specs.Transforms.{later}
 
@@ -29,7 +30,11 @@ abbrev pub later_over : List Mark → List (List Mark) → List Mark
 later_over q [] = q
 later_over q (f ∷ fs) = later_over (later q f) fs
 
--- what holds of blocks at every moment
-pub record BlocksInvariant (base : ℕ) (forms : List (List Mark)) : Type 0 where
-  pub follow : Follow base forms
-  pub few : length forms < 2 ^ 32
+-- q, stated on the text before these forms, can pass them
+pub record Fits (q : List Mark) (forms : List (List Mark)) : Type 0 where
+  pub follow : Follow (base_len q) forms
+  pub limit : base_len q + inserted_len q + all_inserted forms ≤ MAX_TEXT_LEN
+
+-- from so many steps to so many, at most two are taken for each of b binary digits, if n has no more
+abbrev pub TwoADigit : ℕ → ℕ → ℕ → Type 0
+TwoADigit before after n = (b : ℕ) → n < 2 ^ b → after ≤ before + 2 * b

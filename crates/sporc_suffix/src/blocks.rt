@@ -3,58 +3,39 @@
 ghost use Rattle.std.specs.Prelude.{◌≡◌, ◌+◌, ◌-◌, ◌≤◌, ◌<◌, ◌^◌, ◌∷◌, ◌++◌, ◌==◌, [], drop, take, length, slice_get, Some, IfOk, IfErr, OnOk, OnErr};
 ghost use Rattle.sporc_delta.specs.declared.limits.TheConstants.{MAX_TEXT_LEN};
 ghost use Rattle.sporc_delta.specs.Marks.{base_len, inserted_len};
-ghost use Rattle.sporc_suffix.specs.Forms.{Follow, all_inserted, later_over, reached};
+ghost use Rattle.std.specs.Vec.{vec_capacity, vec_len};
+ghost use Rattle.sporc_suffix.specs.Forms.{TwoADigit, all_inserted, later_over, reached};
+ghost use Rattle.sporc_suffix.specs.Runs.{EndWith, IsReadyAt, Joined, KeepRuns, forms_in};
 
 use crate::Steps;
+use crate::ready::ReadyForm;
+use crate::runs::{over_runs, runs_ended};
 use sporc_base::Memory;
 use sporc_delta::Delta;
-use sporc_xform::later;
 use std::alloc::Global;
 use std::marker::Model;
 use std::sync::ledger::Ledger;
 
 /// Forms in their order, each stated on the text after those before it, seen as their list, with the
-/// length of the text before the first and the number of forms that can be put without memory.
+/// length of the text before the first and the number of forms that can be put without memory. Beside each form stand the
+/// compositions of the whole aligned runs of two forms, of four, and so on, that end with it.
 #[derive(Drop)]
 pub struct Blocks {
-    forms: Vec<Delta>,
+    forms: Vec<ReadyForm>,
     base: u64,
 }
 
 impl Model for Blocks {
     ghost use Rattle.std.specs.Prelude.{◌-◌};
     ghost use Rattle.std.specs.Vec.{vec_capacity, vec_len};
-    ghost use Rattle.sporc_suffix.specs.Forms.{BlocksInvariant, BlocksModel};
+    ghost use Rattle.sporc_suffix.specs.Forms.{BlocksModel};
+    ghost use Rattle.sporc_suffix.specs.Runs.{BlocksInvariant, forms_in};
 
     ghost Value = { BlocksModel };
 
-    ghost view = { λ b. record { base = b.base; forms = b.forms.items; spare = vec_capacity b.forms - vec_len b.forms } };
+    ghost view = { λ b. record { base = b.base; forms = forms_in b.forms.items; spare = vec_capacity b.forms - vec_len b.forms } };
 
     ghost invariant = { λ b. BlocksInvariant b.base b.forms.items };
-}
-
-/// A form for which the memory to put it is there, seen as its marks.
-#[derive(Drop)]
-pub struct ReadyForm {
-    form: Delta,
-}
-
-impl Model for ReadyForm {
-    ghost use Rattle.std.specs.Prelude.{List};
-    ghost use Rattle.sporc_delta.specs.Marks.{Mark};
-
-    ghost Value = { List Mark };
-
-    ghost view = { λ r. r.form };
-}
-
-impl ReadyForm {
-    /// The form.
-    pub fn form(&self) -> &Delta
-        ensures value { result.now ≡ self.now }
-    {
-        &self.form
-    }
 }
 
 impl Blocks {
@@ -88,35 +69,36 @@ impl Blocks {
         requires { place < length self.now.forms }
         ensures value { slice_get self.now.forms place ≡ Some result.now }
     {
-        &self.forms[place as usize]
+        self.forms[place as usize].form()
     }
 
-    /// Takes the memory of one more form, which is handed back where there is none.
+    /// Takes the memory of one more form, and composes the runs that become whole with it. The form is handed back where
+    /// there is no memory.
     pub fn ready(&mut self, form: Delta) -> Result<ReadyForm, (Delta, Memory)>
         requires base { base_len form ≡ reached self.old.base self.old.forms }
         requires limit { length self.old.forms < 2 ^ 32 - 1 }
-        ensures ok { IfOk result (λ ready. ready ≡ form) }
+        ensures ok { IfOk result (λ ready. ready.form ≡ form) }
+        ensures made { IfOk result (IsReadyAt self.new.base self.new.forms) }
         ensures spare { OnOk result (0 < self.new.spare) }
         ensures returned { IfErr result (λ e. e.0 ≡ form) }
         ensures unchanged_base { self.new.base ≡ self.old.base }
         ensures unchanged_forms { self.new.forms ≡ self.old.forms }
     {
-        match self.forms.reserve(1) {
-            Ok(()) => Ok(ReadyForm { form }),
+        match room_and_runs(&mut self.forms, &form) {
+            Ok(runs) => Ok(ReadyForm::new(form, runs)),
             Err(e) => Err((form, e)),
         }
     }
 
-    /// Appends a form that was made ready at this list.
+    /// Appends a form that was made ready at this list. It takes no memory.
     pub fn put(&mut self, ready: ReadyForm)
-        requires base { base_len ready ≡ reached self.old.base self.old.forms }
+        requires made { IsReadyAt self.old.base self.old.forms ready }
         requires limit { length self.old.forms < 2 ^ 32 - 1 }
         requires spare { 0 < self.old.spare }
         ensures base { self.new.base ≡ self.old.base }
-        ensures forms { self.new.forms ≡ self.old.forms ++ ready ∷ [] }
+        ensures forms { self.new.forms ≡ self.old.forms ++ ready.form ∷ [] }
     {
-        let ReadyForm { form } = ready;
-        self.forms.push(form).unwrap();
+        self.forms.push_reserved(ready);
     }
 
     /// Appends a form, which is handed back where there is no memory.
@@ -138,7 +120,7 @@ impl Blocks {
     }
 
     /// What `q`, stated on the text after the first `from` forms, becomes behind all forms, where it is
-    /// ordered later than each.
+    /// ordered later than each. It passes whole runs, at most two for each binary digit of the number of forms.
     pub fn later_over<L: Ledger>(
         &self,
         q: &Delta,
@@ -149,54 +131,31 @@ impl Blocks {
         requires base { base_len q.now ≡ reached self.now.base (take from self.now.forms) }
         requires limit { base_len q.now + inserted_len q.now + all_inserted (drop from self.now.forms) ≤ MAX_TEXT_LEN }
         ensures ok { IfOk result (λ d. d ≡ later_over q.now (drop from self.now.forms)) }
-        ensures cost { OnOk result (steps.new ≡ steps.old + (length self.now.forms - from)) }
-        ensures at_most { (steps.old ≤ steps.new) × (steps.new ≤ steps.old + (length self.now.forms - from)) }
+        ensures cost { (steps.old ≤ steps.new) × TwoADigit steps.old steps.new (length self.now.forms - from) }
     {
         let alloc = *self.forms.allocator();
-        over_all(alloc, q, &self.forms[from as usize..], steps)
+        let count = self.forms.len();
+        over_runs(
+            alloc,
+            self.forms.as_slice(),
+            0,
+            q.copy()?,
+            from as usize,
+            count,
+            steps,
+        )
     }
 }
 
-// What `q` becomes behind each of these forms in turn.
-fn over_all<L: Ledger>(
-    alloc: Global,
-    q: &Delta,
-    forms: &[Delta],
-    steps: &mut Steps<L>,
-) -> Result<Delta, Memory>
-    requires follow { Follow (base_len q.now) forms.now }
-    requires limit { base_len q.now + inserted_len q.now + all_inserted forms.now ≤ MAX_TEXT_LEN }
-    ensures ok { IfOk result (λ d. d ≡ later_over q.now forms.now) }
-    ensures cost { OnOk result (steps.new ≡ steps.old + length forms.now) }
-    ensures at_most { (steps.old ≤ steps.new) × (steps.new ≤ steps.old + length forms.now) }
+// Takes the room of one more form, and composes the runs that it ends.
+fn room_and_runs(forms: &mut Vec<ReadyForm>, form: &Delta) -> Result<Vec<Delta>, Memory>
+    requires kept { KeepRuns forms.old.items }
+    requires few { length forms.old.items < 2 ^ 32 }
+    requires joined { Joined (forms_in forms.old.items ++ form.now ∷ []) }
+    ensures ok { IfOk result (λ runs. EndWith (forms_in forms.old.items ++ form.now ∷ []) (length forms.old.items) runs.items) }
+    ensures spare { OnOk result (0 < vec_capacity forms.new - vec_len forms.new) }
+    ensures unchanged { forms.new.items ≡ forms.old.items }
 {
-    match forms {
-        [] => q.copy(),
-        [first, rest @ ..] => {
-            steps.tick();
-            let passed = later(alloc, q, first)?;
-            over_rest(alloc, passed, rest, steps)
-        }
-    }
-}
-
-// The same of a delta that isn't wanted any more.
-fn over_rest<L: Ledger>(
-    alloc: Global,
-    q: Delta,
-    forms: &[Delta],
-    steps: &mut Steps<L>,
-) -> Result<Delta, Memory>
-    requires follow { Follow (base_len q) forms.now }
-    requires limit { base_len q + inserted_len q + all_inserted forms.now ≤ MAX_TEXT_LEN }
-    ensures ok { IfOk result (λ d. d ≡ later_over q forms.now) }
-    ensures cost { OnOk result (steps.new ≡ steps.old + length forms.now) }
-    ensures at_most { (steps.old ≤ steps.new) × (steps.new ≤ steps.old + length forms.now) }
-{
-    let mut passed = q;
-    for form in forms {
-        steps.tick();
-        passed = later(alloc, &passed, form)?;
-    }
-    Ok(passed)
+    forms.reserve(1)?;
+    runs_ended(*forms.allocator(), forms.as_slice(), form)
 }

@@ -2,12 +2,12 @@ use Rattle.std.proofs.Common.{◌≡◌, ◌≤◌, ◌++◌, ◌∷◌, [], ari
 use Rattle.sporc_line.specs.LineModel.{LineModel}
 use Rattle.sporc_line.specs.PreparedFields.{prepared_of}
 use Rattle.sporc_head.proofs.OnceChecked.{ok_of}
-use Rattle.sporc_line.proofs.LineKeeps.{prepared_here, prepared_fits, line_pushed}
+use Rattle.sporc_line.proofs.LineKeeps.{ready_here, prepared_here, prepared_fits, line_pushed}
 use Rattle.sporc_line.proofs.line.Line.commit.Goals as goal
 
-pub put-requires-clause-base : goal.put-requires-clause-base
-put-requires-clause-base c =
-    (prepared_fits c.self.invariant (prepared_of c.prepared.inside) (prepared_here c.self.inside c.prepared.inside c.args.self.now c.args.prepared c.self.view_is c.prepared.view_is c.requires.prepared)).over_forms
+pub put-requires-clause-made : goal.put-requires-clause-made
+put-requires-clause-made c =
+    ready_here c.self.invariant c.prepared.inside.form (prepared_here c.self.inside c.prepared.inside c.args.self.now c.args.prepared c.self.view_is c.prepared.view_is c.requires.prepared).ready
 
 pub put-requires-clause-limit : goal.put-requires-clause-limit
 put-requires-clause-limit c =
