@@ -38,6 +38,21 @@ below-taken_blocks (b ∷ bs) (suc i) other =
     let before = below-taken_blocks bs i other in
     elim (taken_blocks-cons (taken_blocks bs) b) [ inl e ↦ rw e (omega arith) | inr e ↦ absurd (omega (arith, e.0, before)) ]
 
+-- the last of them is not zero
+pub last_taken : (bytes : List ℕ) (n : ℕ) → taken_blocks bytes ≡ n + 1 → slice_index bytes n ≢ 0
+last_taken [] n is = absurd (omega (arith, is))
+last_taken (b ∷ bs) n is = go (taken_blocks bs) b refl refl is (λ m more. last_taken bs m more)
+  where
+    go : (later byte : ℕ) → taken_blocks bs ≡ later → b ≡ byte → (if (later == 0) && (byte == 0) then 0 else later + 1) ≡ n + 1
+        → ((m : ℕ) → taken_blocks bs ≡ m + 1 → slice_index bs m ≢ 0) → slice_index (b ∷ bs) n ≢ 0
+    go zero zero more here is rest = absurd (omega (arith, is))
+    go zero (suc k) more here is rest =
+        let first : n ≡ 0 = omega (arith, rw (eqb-suc-zero k) at is) in
+        rw first (λ none. absurd (omega (arith, here, none)))
+    go (suc m) byte more here is rest =
+        let next : n ≡ suc m = omega (arith, rw (eqb-suc-zero m) at is) in
+        rw next (rest m (omega (arith, more)))
+
 -- and behind them are zeros
 pub zero-from-taken_blocks : (bytes : List ℕ) (i : ℕ) → taken_blocks bytes ≤ i → slice_index bytes i ≡ 0
 zero-from-taken_blocks [] i h = refl

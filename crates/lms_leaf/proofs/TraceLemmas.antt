@@ -1,16 +1,17 @@
--- No number is given twice in a trace of a leaf file.
-use Rattle.std.proofs.Common.{◌≡◌, ◌≢◌, ℕ, ◌*◌, ◌/◌, ◌<◌, List, [], ◌∷◌, Option, Some, None, IsSome, IfSome, Ok, Err, All, AllPairs, refl, arith}
-use Rattle.std.proofs.lemmas.List.Elements.{All-cons, All-nil}
+-- In a trace of a leaf file the numbers rise, and each is passed at its end.
+use Rattle.std.proofs.Common.{◌≡◌, ℕ, ◌*◌, ◌/◌, ◌<◌, List, [], ◌∷◌, Option, Some, None, IsSome, IfSome, Ok, Err, All, AllPairs, refl, arith}
+use Rattle.std.proofs.lemmas.List.Elements.{All-cons, All-nil, All-weaker}
 use Rattle.std.proofs.lemmas.List.Kept.{AllPairs-cons}
 use Rattle.sporc_outside.specs.LeafDisk.{IsStable, KeepsOutside, IsFound}
-use Rattle.lms_leaf.specs.LeafFile.{taken_blocks}
+use Rattle.lms_leaf.specs.LeafFile.{IsPassed, taken_blocks}
+use Rattle.lms_leaf.specs.Leaves.{KeepsStable}
 use Rattle.lms_leaf.specs.declared.leaf_file.TheConstants.{LEAVES_PER_BLOCK}
-use Rattle.lms_leaf.specs.Traces.{LeafMove, Open, OpenCut, Draw, DrawCut, Close, Crash, FileState, AtRest, InUse, disk_of, IsTrace, drawn}
-use Rattle.lms_leaf.specs.Laws.{NoLeafTwice}
+use Rattle.lms_leaf.specs.Traces.{LeafMove, Open, OpenCut, Draw, DrawCut, Close, Crash, FileState, AtRest, InUse, disk_of, IsTrace, drawn, state_after}
+use Rattle.lms_leaf.specs.Laws.{NoLeafTwice, TracesAreLives}
 use Rattle.lms_leaf.proofs.TakenBlocks.{below-taken_blocks}
 
 -- an opening goes on above each leaf whose byte is stable
-above_stable : (stored : Option (List ℕ)) (images : List ℕ → Type 0) (next leaf : ℕ) → IsSome stored → IfSome stored images
+pub above_stable : (stored : Option (List ℕ)) (images : List ℕ → Type 0) (next leaf : ℕ) → IsSome stored → IfSome stored images
     → IfSome stored (λ bytes. next ≡ LEAVES_PER_BLOCK * taken_blocks bytes) → IsStable images (leaf / LEAVES_PER_BLOCK) → leaf < next
 above_stable None images next leaf told is from stable = absurd cc
 above_stable (Some bytes) images next leaf told is from stable =
@@ -41,10 +42,10 @@ module _ {D : Type 0} (stored : D → Option (List ℕ)) (moment : D → ℕ) (i
   told_found : (disk found : D) (at : ℕ) → IsFound stored moment images disk at found → IsSome (stored found)
   told_found disk found at finds = rw finds.reads.2 refl
 
-  -- no number that was given before is given again
+  -- each number that is given is above one that was given before
   never_again : (state : FileState D) (moves : List (LeafMove D)) (leaf : ℕ) → IsSome (stored (disk_of state)) → IsTrace stored moment images state moves
-      → IsUsed state leaf → All (λ other. leaf ≢ other) (drawn moves)
-  never_again state [] leaf told trace used = All-nil (λ other. leaf ≢ other)
+      → IsUsed state leaf → All (λ other. leaf < other) (drawn moves)
+  never_again state [] leaf told trace used = All-nil (λ other. leaf < other)
   never_again state (Crash found ∷ moves) leaf told trace used =
       never_again (AtRest found) moves leaf (told_found _ found _ trace.0) trace.1 (stable_found _ found _ leaf trace.0 (stable_of state leaf used))
   never_again (AtRest disk) (Open (Ok leaves) ∷ moves) leaf told trace used =
@@ -64,8 +65,7 @@ module _ {D : Type 0} (stored : D → Option (List ℕ)) (moment : D → ℕ) (i
   never_again (InUse leaves) (OpenCut result at found ∷ moves) leaf told trace used = absurd trace
   never_again (InUse leaves) (Draw (Ok other) after ∷ moves) leaf told trace used =
       let stable = trace.0.stable.each (leaf / LEAVES_PER_BLOCK) used.0 (moment after.disk) trace.0.stable.later (omega arith) in
-      let differs : leaf ≢ other = λ same. absurd (omega (arith, trace.0.given, used.1)) in
-      All-cons (λ x. leaf ≢ x) other (drawn moves) differs
+      All-cons (λ x. leaf < x) other (drawn moves) (omega (arith, trace.0.given, used.1))
       (never_again (InUse after) moves leaf (told_after _ 1 _ _ trace.0.others told) trace.1 (stable, omega (arith, trace.0.next, used.1)))
   never_again (InUse leaves) (Draw (Err fault) after ∷ moves) leaf told trace used =
       let stable = trace.0.stable.each (leaf / LEAVES_PER_BLOCK) used.0 (moment after.disk) trace.0.stable.later (omega arith) in
@@ -75,28 +75,92 @@ module _ {D : Type 0} (stored : D → Option (List ℕ)) (moment : D → ℕ) (i
       (stable_found _ found at leaf trace.2 (trace.0.stable.each (leaf / LEAVES_PER_BLOCK) used.0 at trace.1.0 trace.1.1))
   never_again (InUse leaves) (Close ∷ moves) leaf told trace used = never_again (AtRest leaves.disk) moves leaf told trace used.0
 
-  -- so all given numbers differ
-  distinct : (state : FileState D) (moves : List (LeafMove D)) → IsSome (stored (disk_of state)) → IsTrace stored moment images state moves
-      → AllPairs (λ leaf other. leaf ≢ other) (drawn moves)
-  distinct state [] told trace = λ i j d below h. absurd (omega arith)
-  distinct state (Crash found ∷ moves) told trace = distinct (AtRest found) moves (told_found _ found _ trace.0) trace.1
-  distinct (AtRest disk) (Open (Ok leaves) ∷ moves) told trace = distinct (InUse leaves) moves (rw trace.0.unwritten told) trace.1
-  distinct (AtRest disk) (Open (Err fault) ∷ moves) told trace = distinct (AtRest fault.1) moves (rw trace.0.unwritten told) trace.1
-  distinct (AtRest disk) (OpenCut result at found ∷ moves) told trace = distinct (AtRest found) moves (told_found _ found at trace.2) trace.3
-  distinct (AtRest disk) (Draw result after ∷ moves) told trace = absurd trace
-  distinct (AtRest disk) (DrawCut result after at found ∷ moves) told trace = absurd trace
-  distinct (AtRest disk) (Close ∷ moves) told trace = absurd trace
-  distinct (InUse leaves) (Open result ∷ moves) told trace = absurd trace
-  distinct (InUse leaves) (OpenCut result at found ∷ moves) told trace = absurd trace
-  distinct (InUse leaves) (Draw (Ok leaf) after ∷ moves) told trace =
+  -- so the given numbers rise
+  pub rising : (state : FileState D) (moves : List (LeafMove D)) → IsSome (stored (disk_of state)) → IsTrace stored moment images state moves
+      → AllPairs (λ leaf other. leaf < other) (drawn moves)
+  rising state [] told trace = λ i j d below h. absurd (omega arith)
+  rising state (Crash found ∷ moves) told trace = rising (AtRest found) moves (told_found _ found _ trace.0) trace.1
+  rising (AtRest disk) (Open (Ok leaves) ∷ moves) told trace = rising (InUse leaves) moves (rw trace.0.unwritten told) trace.1
+  rising (AtRest disk) (Open (Err fault) ∷ moves) told trace = rising (AtRest fault.1) moves (rw trace.0.unwritten told) trace.1
+  rising (AtRest disk) (OpenCut result at found ∷ moves) told trace = rising (AtRest found) moves (told_found _ found at trace.2) trace.3
+  rising (AtRest disk) (Draw result after ∷ moves) told trace = absurd trace
+  rising (AtRest disk) (DrawCut result after at found ∷ moves) told trace = absurd trace
+  rising (AtRest disk) (Close ∷ moves) told trace = absurd trace
+  rising (InUse leaves) (Open result ∷ moves) told trace = absurd trace
+  rising (InUse leaves) (OpenCut result at found ∷ moves) told trace = absurd trace
+  rising (InUse leaves) (Draw (Ok leaf) after ∷ moves) told trace =
       let told' = told_after _ 1 _ _ trace.0.others told in
-      AllPairs-cons (λ x y. x ≢ y) leaf (drawn moves)
+      AllPairs-cons (λ x y. x < y) leaf (drawn moves)
       (never_again (InUse after) moves leaf told' trace.1 (trace.0.taken, omega (arith, trace.0.given, trace.0.next)))
-      (distinct (InUse after) moves told' trace.1)
-  distinct (InUse leaves) (Draw (Err fault) after ∷ moves) told trace =
-      distinct (InUse after) moves (told_after _ 1 _ _ trace.0.others told) trace.1
-  distinct (InUse leaves) (DrawCut result after at found ∷ moves) told trace = distinct (AtRest found) moves (told_found _ found at trace.2) trace.3
-  distinct (InUse leaves) (Close ∷ moves) told trace = distinct (AtRest leaves.disk) moves told trace
+      (rising (InUse after) moves told' trace.1)
+  rising (InUse leaves) (Draw (Err fault) after ∷ moves) told trace =
+      rising (InUse after) moves (told_after _ 1 _ _ trace.0.others told) trace.1
+  rising (InUse leaves) (DrawCut result after at found ∷ moves) told trace = rising (AtRest found) moves (told_found _ found at trace.2) trace.3
+  rising (InUse leaves) (Close ∷ moves) told trace = rising (AtRest leaves.disk) moves told trace
 
   pub no_leaf_twice : NoLeafTwice stored moment images
-  no_leaf_twice disk moves told trace = distinct (AtRest disk) moves told trace
+  no_leaf_twice disk moves told trace = λ i j d below within. let up = rising (AtRest disk) moves told trace i j d below within in λ same. absurd (omega (arith, up, same))
+
+  -- ---- what is passed at the end
+
+  -- the byte is stable
+  abbrev IsKept : FileState D → ℕ → Type 0
+  IsKept state byte = IsStable (images (disk_of state) (moment (disk_of state))) byte
+
+  kept_found : (disk found : D) (at byte : ℕ) → IsFound stored moment images disk at found → IsStable (images disk at) byte → IsKept (AtRest found) byte
+  kept_found disk found at byte finds stable = λ image is. stable image (finds.among image is)
+
+  kept_over : (old new : D) (byte : ℕ) → KeepsStable moment images old new → IsStable (images old (moment old)) byte → IsStable (images new (moment new)) byte
+  kept_over old new byte keeps stable = keeps.each byte stable (moment new) keeps.later (omega arith)
+
+  -- a byte that is stable stays so
+  pub kept_along : (state : FileState D) (moves : List (LeafMove D)) (byte : ℕ) → IsTrace stored moment images state moves → IsKept state byte
+      → IsKept (state_after state moves) byte
+  kept_along state [] byte trace kept = kept
+  kept_along state (Crash found ∷ moves) byte trace kept = kept_along (AtRest found) moves byte trace.1 (kept_found _ found _ byte trace.0 kept)
+  kept_along (AtRest disk) (Open (Ok leaves) ∷ moves) byte trace kept = kept_along (InUse leaves) moves byte trace.1 (kept_over disk leaves.disk byte trace.0.stable kept)
+  kept_along (AtRest disk) (Open (Err fault) ∷ moves) byte trace kept = kept_along (AtRest fault.1) moves byte trace.1 (kept_over disk fault.1 byte trace.0.stable kept)
+  kept_along (AtRest disk) (OpenCut result at found ∷ moves) byte trace kept =
+      kept_along (AtRest found) moves byte trace.3 (kept_found _ found at byte trace.2 (trace.0.stable.each byte kept at trace.1.0 trace.1.1))
+  kept_along (AtRest disk) (Draw result after ∷ moves) byte trace kept = absurd trace
+  kept_along (AtRest disk) (DrawCut result after at found ∷ moves) byte trace kept = absurd trace
+  kept_along (AtRest disk) (Close ∷ moves) byte trace kept = absurd trace
+  kept_along (InUse leaves) (Open result ∷ moves) byte trace kept = absurd trace
+  kept_along (InUse leaves) (OpenCut result at found ∷ moves) byte trace kept = absurd trace
+  kept_along (InUse leaves) (Draw result after ∷ moves) byte trace kept = kept_along (InUse after) moves byte trace.1 (kept_over leaves.disk after.disk byte trace.0.stable kept)
+  kept_along (InUse leaves) (DrawCut result after at found ∷ moves) byte trace kept =
+      kept_along (AtRest found) moves byte trace.3 (kept_found _ found at byte trace.2 (trace.0.stable.each byte kept at trace.1.0 trace.1.1))
+  kept_along (InUse leaves) (Close ∷ moves) byte trace kept = kept_along (AtRest leaves.disk) moves byte trace kept
+
+  -- so each number that was given is passed at the end
+  abbrev PassedAfter : FileState D → List (LeafMove D) → ℕ → Type 0
+  PassedAfter state moves = IsPassed (images (disk_of (state_after state moves)) (moment (disk_of (state_after state moves))))
+
+  pub passed_after : (state : FileState D) (moves : List (LeafMove D)) → IsTrace stored moment images state moves → All (PassedAfter state moves) (drawn moves)
+  passed_after state [] trace = All-nil (PassedAfter state [])
+  passed_after state (Crash found ∷ moves) trace = passed_after (AtRest found) moves trace.1
+  passed_after (AtRest disk) (Open (Ok leaves) ∷ moves) trace = passed_after (InUse leaves) moves trace.1
+  passed_after (AtRest disk) (Open (Err fault) ∷ moves) trace = passed_after (AtRest fault.1) moves trace.1
+  passed_after (AtRest disk) (OpenCut result at found ∷ moves) trace = passed_after (AtRest found) moves trace.3
+  passed_after (AtRest disk) (Draw result after ∷ moves) trace = absurd trace
+  passed_after (AtRest disk) (DrawCut result after at found ∷ moves) trace = absurd trace
+  passed_after (AtRest disk) (Close ∷ moves) trace = absurd trace
+  passed_after (InUse leaves) (Open result ∷ moves) trace = absurd trace
+  passed_after (InUse leaves) (OpenCut result at found ∷ moves) trace = absurd trace
+  passed_after (InUse leaves) (Draw (Ok leaf) after ∷ moves) trace =
+      All-cons (PassedAfter (InUse after) moves) leaf (drawn moves) (leaf, omega arith, kept_along (InUse after) moves (leaf / LEAVES_PER_BLOCK) trace.1 trace.0.taken)
+      (passed_after (InUse after) moves trace.1)
+  passed_after (InUse leaves) (Draw (Err fault) after ∷ moves) trace = passed_after (InUse after) moves trace.1
+  passed_after (InUse leaves) (DrawCut result after at found ∷ moves) trace = passed_after (AtRest found) moves trace.3
+  passed_after (InUse leaves) (Close ∷ moves) trace = passed_after (AtRest leaves.disk) moves trace
+
+  -- a trace that begins with the disk at rest is a life of it
+  pub trace_is_life : TracesAreLives stored moment images
+  trace_is_life disk moves told trace = record {
+    rise = rising (AtRest disk) moves told trace;
+    above = λ leaf passed.
+        let below : (x : ℕ) → passed.0 < x → leaf < x = λ x lt. omega (arith, lt, passed.1) in
+        All-weaker (λ x. passed.0 < x) (λ x. leaf < x) below (drawn moves) (never_again (AtRest disk) moves passed.0 told trace passed.2);
+    passed = passed_after (AtRest disk) moves trace;
+    kept = λ leaf passed. (passed.0, passed.1, kept_along (AtRest disk) moves (passed.0 / LEAVES_PER_BLOCK) trace passed.2);
+  }

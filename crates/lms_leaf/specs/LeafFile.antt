@@ -25,3 +25,11 @@ IsTaken images leaf = IsStable images (leaf / LEAVES_PER_BLOCK)
 -- nor that of any leaf from one up to another
 abbrev pub AreTaken : (List ℕ → Type 0) → ℕ → ℕ → Type 0
 AreTaken images first end = (leaf : ℕ) → first ≤ leaf → leaf < end → IsTaken images leaf
+
+-- the block of this leaf or of a later one is taken: whatever a crash leaves, an opening goes on above the leaf
+abbrev pub IsPassed : (List ℕ → Type 0) → ℕ → Type 0
+IsPassed images leaf = (other : ℕ) × (leaf ≤ other) × IsTaken images other
+
+-- so of each leaf up to another
+abbrev pub ArePassed : (List ℕ → Type 0) → ℕ → Type 0
+ArePassed images end = (leaf : ℕ) → leaf < end → IsPassed images leaf

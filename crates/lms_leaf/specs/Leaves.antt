@@ -63,6 +63,14 @@ pub record DrawFaults {D : Type 0} (faults : D → ℕ)
 abbrev pub IsSynced : Option (List ℕ) → (List ℕ → Type 0) → Type 0
 IsSynced stored images = (image : List ℕ) → images image → stored ≡ Some image
 
+-- at a moment with two calls more to come, the length and the read, a crash left what a read gives
+pub record IsSyncedFirst {D : Type 0} (stored : D → Option (List ℕ)) (moment : D → ℕ) (images : D → ℕ → List ℕ → Type 0)
+    (old new : D) : Type 0 where
+  pub at : ℕ
+  pub after : moment old ≤ at
+  pub before : at + 2 ≤ moment new
+  pub synced : IsSynced (stored old) (images new at)
+
 -- the disk that an opening gives, in the leaves or back
 abbrev pub disk_after : {D : Type 0} → Result (LeavesModel D) (LeafOpenFault × D) → D
 disk_after (Ok leaves) = leaves.disk
@@ -75,6 +83,8 @@ pub record Opens {D : Type 0} (stored : D → Option (List ℕ)) (moment : D →
   pub next : IfOk result (λ leaves. IfSome (stored disk) (λ bytes. leaves.next ≡ LEAVES_PER_BLOCK * taken_blocks bytes))
   pub stable : KeepsStable moment images disk (disk_after result)
   pub synced : IfOk result (λ leaves. IsSynced (stored leaves.disk) (images leaves.disk (moment leaves.disk)))
+  -- the sync stands before all that is read
+  pub synced_first : IfOk result (λ leaves. IfSome (stored disk) (λ bytes. IsSyncedFirst stored moment images disk leaves.disk))
   pub unwritten : stored (disk_after result) ≡ stored disk
 
 -- why a disk that should have so many blocks was not opened, and what came back: `DiskFault` only where the disk's

@@ -1,5 +1,5 @@
 -- What holds of the fields of every value that numbers leaves.
-use Rattle.std.specs.Prelude.{◌≡◌, ℕ, ◌*◌, ◌%◌, ◌<◌, ◌≤◌, false, List, length, slice_index, Option, IfSome, IsTrue}
+use Rattle.std.specs.Prelude.{◌≡◌, ℕ, ◌-◌, ◌*◌, ◌%◌, ◌<◌, ◌≤◌, false, List, length, slice_index, Option, IfSome, IsTrue}
 use Rattle.sporc_outside.specs.Counts.{Rose}
 use Rattle.lms_leaf.specs.LeafFile.{AreTaken}
 use Rattle.lms_leaf.specs.declared.leaf_file.TheConstants.{LEAVES_PER_BLOCK}
@@ -13,8 +13,8 @@ pub record LeavesInvariant {D : Type 0} (stored : D → Option (List ℕ)) (mome
   pub within : l.next ≤ l.leaf_count
   pub whole : l.leaf_count % LEAVES_PER_BLOCK ≡ 0
   pub file : IfSome (stored l.disk) (λ bytes. LEAVES_PER_BLOCK * length bytes ≡ l.leaf_count)
-  -- the blocks of all leaves drawn since the opening are taken
-  pub taken : AreTaken (images l.disk (moment l.disk)) l.next_at_open l.next
+  -- the blocks of all leaves drawn since the opening are taken, and so is the last one that was taken before it
+  pub taken : AreTaken (images l.disk (moment l.disk)) (l.next_at_open - 1) l.next
   -- and no block behind them is
   pub free : l.faulty ≡ false
       → IfSome (stored l.disk) (λ bytes. (block : ℕ) → l.next ≤ LEAVES_PER_BLOCK * block → slice_index bytes block ≡ 0)

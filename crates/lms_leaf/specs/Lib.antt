@@ -1,5 +1,6 @@
 pub mod Laws
 pub mod LeafFile
 pub mod Leaves
+pub mod Lives
 pub mod Traces
 pub mod LeavesInvariant

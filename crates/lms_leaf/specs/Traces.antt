@@ -29,6 +29,16 @@ abbrev pub state_opened : {D : Type 0} → Result (LeavesModel D) (LeafOpenFault
 state_opened (Ok leaves) = InUse leaves
 state_opened (Err fault) = AtRest fault.1
 
+-- the state after these moves
+abbrev pub state_after : {D : Type 0} → FileState D → List (LeafMove D) → FileState D
+state_after state [] = state
+state_after state (Open result ∷ moves) = state_after (state_opened result) moves
+state_after state (OpenCut result at found ∷ moves) = state_after (AtRest found) moves
+state_after state (Draw result after ∷ moves) = state_after (InUse after) moves
+state_after state (DrawCut result after at found ∷ moves) = state_after (AtRest found) moves
+state_after state (Close ∷ moves) = state_after (AtRest (disk_of state)) moves
+state_after state (Crash found ∷ moves) = state_after (AtRest found) moves
+
 -- a moment of a call
 abbrev pub IsDuring : {D : Type 0} → (D → ℕ) → D → D → ℕ → Type 0
 IsDuring moment old new at = (moment old ≤ at) × (at ≤ moment new)

@@ -1,7 +1,7 @@
-//! What holds of leaf numbers over whole traces of a leaf file, and the limit in numbers.
+//! What holds of leaf numbers over whole traces of a leaf file and over its lives, and the limit in numbers.
 
 ghost use Rattle.std.specs.Prelude.{◌≡◌};
-ghost use Rattle.lms_leaf.specs.Laws.{NoLeafTwice};
+ghost use Rattle.lms_leaf.specs.Laws.{LeavesRise, NoLeafTwice, TracesAreLives};
 ghost use Rattle.lms_leaf.specs.declared.leaf_file.TheConstants.{LEAVES_PER_BLOCK};
 
 use sporc_outside::LeafDisk;
@@ -19,4 +19,17 @@ pub fn limits()
 /// none, as a real file, this says nothing.
 pub fn no_leaf_is_drawn_twice<D: LeafDisk>()
     ensures distinct { NoLeafTwice D.stored D.moment D.images }
+{}
+
+/// Such a list is a life of the disk: it gives leaves that rise, from above all that were passed
+/// before, and whatever a crash leaves behind it, an opening goes on above all of them.
+pub fn traces_are_lives<D: LeafDisk>()
+    ensures lives { TracesAreLives D.stored D.moment D.images }
+{}
+
+/// Over lives one behind another the leaves rise, so none is given twice. A life is that of a disk
+/// from where it is handed out to where it comes back, as in a run of a program, or to a crash; the
+/// next one begins with what a read gives then, or with what a crash leaves.
+pub fn leaves_rise_over_lives<D: LeafDisk>()
+    ensures rise { LeavesRise D.stored D.moment D.images }
 {}

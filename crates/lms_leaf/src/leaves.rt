@@ -1,8 +1,8 @@
 //! The leaves of a key, drawn in order.
 
 ghost use Rattle.std.specs.Prelude.{◌≡◌, ℕ, ◌*◌, ◌^◌, ◌≤◌, false, length, OnOk, IfOk, IfErr, IfSome};
-ghost use Rattle.lms_leaf.specs.LeafFile.{IsLeafHeight, AreTaken, block_count, taken_blocks};
-ghost use Rattle.lms_leaf.specs.Leaves.{KeepsStable, IsSynced, Draws, DrawFaults, Opens, OpenFaults, disk_after};
+ghost use Rattle.lms_leaf.specs.LeafFile.{IsLeafHeight, ArePassed, AreTaken, block_count, taken_blocks};
+ghost use Rattle.lms_leaf.specs.Leaves.{KeepsStable, IsSynced, IsSyncedFirst, Draws, DrawFaults, Opens, OpenFaults, disk_after};
 ghost use Rattle.lms_leaf.specs.declared.leaf_file.TheConstants.{LEAVES_PER_BLOCK};
 
 use crate::faults::{LeafFault, LeafOpenFault};
@@ -96,20 +96,24 @@ impl<D: LeafDisk> Leaves<D> {
     }
 
     /// The number that the next draw gives, or the count of leaves if all are drawn. No crash makes
-    /// the blocks of the leaves drawn since the opening free again.
+    /// the blocks of the leaves drawn since the opening free again, and whatever a crash leaves, a
+    /// later opening goes on at this number or above it.
     pub fn next(&self) -> u32
         ensures value { result ≡ self.now.next }
         ensures forward { self.now.next_at_open ≤ result }
         ensures within { result ≤ self.now.leaf_count }
         ensures taken { AreTaken (D.images self.now.disk (D.moment self.now.disk)) self.now.next_at_open result }
+        ensures passed { ArePassed (D.images self.now.disk (D.moment self.now.disk)) result }
     {
         self.next
     }
 
-    /// Gives the disk back, on which the blocks of the leaves drawn since the opening are taken.
+    /// Gives the disk back, on which the blocks of the leaves drawn since the opening are taken. A
+    /// later opening goes on at the next number or above it.
     pub fn close(self) -> D
         ensures value { result ≡ self.disk }
         ensures taken { AreTaken (D.images result (D.moment result)) self.next_at_open self.next }
+        ensures passed { ArePassed (D.images result (D.moment result)) self.next }
     {
         self.disk
     }
@@ -129,6 +133,8 @@ fn find_next<D: LeafDisk>(alloc: Global, disk: &mut D, height: u32) -> Result<u3
     ensures stable { KeepsStable D.moment D.images disk.old disk.new }
     ensures synced { OnOk result
         (IsSynced (D.stored disk.new) (D.images disk.new (D.moment disk.new))) }
+    ensures synced_first { OnOk result (IfSome (D.stored disk.old) (λ bytes.
+        IsSyncedFirst D.stored D.moment D.images disk.old disk.new)) }
     ensures stored { D.stored disk.new ≡ D.stored disk.old }
     ensures count { D.faults disk.old ≤ D.faults disk.new }
 {

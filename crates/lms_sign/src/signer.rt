@@ -5,7 +5,7 @@ ghost use Rattle.lms_tree.specs.LmsType.{height_of};
 ghost use Rattle.lms_tree.specs.LmsPrivate.{lms_public_of};
 ghost use Rattle.lms_tree.specs.Signatures.{lms_signature_of};
 ghost use Rattle.lms_tree.specs.Verification.{Verifies};
-ghost use Rattle.lms_leaf.specs.LeafFile.{AreTaken};
+ghost use Rattle.lms_leaf.specs.LeafFile.{ArePassed, AreTaken};
 ghost use Rattle.lms_leaf.specs.Leaves.{Draws, DrawFaults};
 
 use crate::ticket::Ticket;
@@ -90,23 +90,27 @@ impl<D: LeafDisk> Signer<D> {
     }
 
     /// The leaf that the next draw gives, or the count of leaves if all are drawn. No crash makes the
-    /// blocks of the leaves drawn since the opening of the leaf file free again.
+    /// blocks of the leaves drawn since the opening of the leaf file free again, and whatever a crash
+    /// leaves, a later opening goes on at this leaf or above it.
     pub fn next_leaf(&self) -> u32
         ensures value { result ≡ self.now.leaves.next }
+        ensures forward { self.now.leaves.next_at_open ≤ result }
         ensures within { result ≤ self.now.leaves.leaf_count }
         ensures all { self.now.leaves.leaf_count ≡ 2 ^ height_of self.now.key.lms }
         ensures taken { AreTaken (D.images self.now.leaves.disk (D.moment self.now.leaves.disk))
             self.now.leaves.next_at_open result }
+        ensures passed { ArePassed (D.images self.now.leaves.disk (D.moment self.now.leaves.disk)) result }
     {
         self.leaves.next()
     }
 
     /// Gives the disk of the leaf file back. No crash makes the blocks of the leaves drawn since its
-    /// opening free again.
+    /// opening free again, and a later opening goes on at the next leaf or above it.
     pub fn close(self) -> D
         ensures value { result ≡ self.leaves.disk }
         ensures taken { AreTaken (D.images result (D.moment result))
             self.leaves.next_at_open self.leaves.next }
+        ensures passed { ArePassed (D.images result (D.moment result)) self.leaves.next }
     {
         self.leaves.close()
     }

@@ -4,7 +4,7 @@ use Rattle.std.specs.Prelude.{reverse}
 use Rattle.std.proofs.Math.ListN.{get_or-append}
 use Rattle.std.proofs.Math.Seq.{take-suc, drop-cons}
 use Rattle.std.proofs.lemmas.List.{reverse-append}
-use Rattle.sporc_outside.specs.MemoryNetModel.{AreFresh}
+use Rattle.sporc_outside.specs.MemoryNetModel.{AreFresh, IsFresh}
 use Rattle.sporc_outside.specs.declared.memory_link.MemoryLink.{MemoryLink}
 
 -- one more was given, and it was the first of those that were left
@@ -24,4 +24,4 @@ last_first links rest link is = ap reverse is ∙ reverse-append rest (link ∷ 
 pub fresh_before : (links rest : List MemoryLink) (link : MemoryLink) → links ≡ rest ++ link ∷ [] → AreFresh links → AreFresh rest
 fresh_before links rest link is fresh = λ k d lt.
     let all : AreFresh (rest ++ link ∷ []) = subst AreFresh is fresh in
-    subst (λ (l : MemoryLink). l.calls.faults ≡ 0) (get_or-append rest (link ∷ []) d k lt) (all k d (omega (arith, lt, length-append rest (link ∷ []))))
+    subst IsFresh (get_or-append rest (link ∷ []) d k lt) (all k d (omega (arith, lt, length-append rest (link ∷ []))))

@@ -34,6 +34,11 @@ pub record CrashStep (before after : ℕ) (past images : ℕ → List ℕ → Ty
   pub during : (m : ℕ) (image : List ℕ) → before ≤ m → m ≤ after → images m image
       → (old : List ℕ) × past before old × step old image
 
+-- of a disk that tells its bytes: a call ended later than it began
+abbrev pub TakesTime : Option (List ℕ) → ℕ → ℕ → Type 0
+TakesTime None before after = Unit {0}
+TakesTime (Some bytes) before after = before < after
+
 -- what is found after a crash of that disk at that moment reads as one of the images, and its images are among them
 pub record IsFound {D : Type 0} (stored : D → Option (List ℕ)) (moment : D → ℕ) (images : D → ℕ → List ℕ → Type 0)
     (disk : D) (at : ℕ) (found : D) : Type 0 where

@@ -62,6 +62,17 @@ pub record IsImage (s : DiskState) (image : List ℕ) : Type 0 where
   pub length : length image ≡ length s.bytes
   pub synced : (i : ℕ) → IsUnsynced s.unsynced i ⊎ (slice_index image i ≡ slice_index s.bytes i)
 
+-- what a read gives, with this byte at each place in the unsynced ranges
+pub record IsSpoilt (s : DiskState) (byte : ℕ) (image : List ℕ) : Type 0 where
+  pub as_long : length image ≡ length s.bytes
+  pub spoilt : (i : ℕ) → i < length s.bytes → IsUnsynced s.unsynced i → slice_index image i ≡ byte
+  pub others : (i : ℕ) → (IsUnsynced s.unsynced i → ⊥) → slice_index image i ≡ slice_index s.bytes i
+
+-- four of the images: what a read gives, and that with the unsynced bytes as 0, as 1 and as 255
+abbrev pub AreListed : DiskState → List (List ℕ) → Type 0
+AreListed s (same ∷ zeros ∷ ones ∷ highest ∷ []) = (same ≡ s.bytes) × IsSpoilt s 0 zeros × IsSpoilt s 1 ones × IsSpoilt s 255 highest
+AreListed s others = ⊥
+
 -- what a crash after the first m calls may leave
 abbrev pub images_of : MemoryDiskModel → ℕ → List ℕ → Type 0
 images_of disk m image = IsImage (state_after disk.first (take m disk.log)) image

@@ -1,5 +1,5 @@
 -- What contracts see of a net in memory.
-use Rattle.std.specs.Prelude.{◌≡◌, ℕ, List}
+use Rattle.std.specs.Prelude.{◌≡◌, ℕ, false, List}
 use Rattle.std.specs.List.{All}
 use Rattle.sporc_outside.specs.CallsModel.{CallsModel}
 use Rattle.sporc_outside.specs.declared.memory_link.MemoryLink.{MemoryLink}
@@ -14,6 +14,9 @@ pub record MemoryNetModel : Type 0 where
   pub calls : CallsModel
   pub link_faults : ℕ
 
--- no call of the links failed
+-- no call of a link failed, and it was not shut
+abbrev pub IsFresh : MemoryLink → Type 0
+IsFresh link = (link.calls.faults ≡ 0) × (link.is_shut ≡ false)
+
 abbrev pub AreFresh : List MemoryLink → Type 0
-AreFresh links = All (λ (l : MemoryLink). l.calls.faults ≡ 0) links
+AreFresh links = All IsFresh links

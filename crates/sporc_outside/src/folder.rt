@@ -1,6 +1,6 @@
 //! Files by name.
 
-ghost use Rattle.std.specs.Prelude.{◌≡◌, ◌≤◌, ◌∷◌, ℕ, List, Option, length, drop, option_map, IfOk, IfErr, OnOk, OnErr};
+ghost use Rattle.std.specs.Prelude.{◌≡◌, ◌≢◌, ◌≤◌, ◌∷◌, ℕ, List, Option, length, drop, option_map, IfOk, IfErr, OnOk, OnErr};
 ghost use Rattle.sporc_outside.specs.Counts.{CountsFaults, count_of_both};
 ghost use Rattle.sporc_outside.specs.Files.{HasFile, HasNoFile, with_file, ChangesFile, IsReadFault, IsDiskFault, IsNewFault, IsDiskOf, IsLent, TakesBack};
 ghost use Rattle.sporc_outside.specs.Told.{AppendsItem, MayAppend};
@@ -35,6 +35,8 @@ pub trait Folder: Counted {
         ensures files { files self.new ≡ files self.old }
         ensures lent { lent self.new ≡ lent self.old }
         ensures asked { OnOk result (AppendsItem (asked self.old) (asked self.new) name.now) }
+        ensures answered { IfErr result (λ fault. fault ≢ FileFault.Failed
+            → AppendsItem (asked self.old) (asked self.new) name.now) }
         ensures may_ask { MayAppend (asked self.old) (asked self.new) name.now }
         ensures count { Self.faults self.old ≤ Self.faults self.new };
 
@@ -57,6 +59,8 @@ pub trait Folder: Counted {
         ensures exists { result ≡ Err FileFault.Exists → files self.new ≡ files self.old }
         ensures lent { lent self.new ≡ lent self.old }
         ensures asked { OnOk result (AppendsItem (asked self.old) (asked self.new) name.now) }
+        ensures answered { IfErr result (λ fault. fault ≢ FileFault.Failed
+            → AppendsItem (asked self.old) (asked self.new) name.now) }
         ensures may_ask { MayAppend (asked self.old) (asked self.new) name.now }
         ensures count { Self.faults self.old ≤ Self.faults self.new };
 
@@ -69,6 +73,8 @@ pub trait Folder: Counted {
         ensures lent { OnOk result (lent self.new ≡ option_map (λ names. name.now ∷ names) (lent self.old)) }
         ensures not_lent { OnErr result (lent self.new ≡ lent self.old) }
         ensures asked { OnOk result (AppendsItem (asked self.old) (asked self.new) name.now) }
+        ensures answered { IfErr result (λ fault. fault ≢ FileFault.Failed
+            → AppendsItem (asked self.old) (asked self.new) name.now) }
         ensures may_ask { MayAppend (asked self.old) (asked self.new) name.now }
         ensures count { Self.faults self.old ≤ Self.faults self.new };
 

@@ -2,7 +2,7 @@
 
 ghost use Rattle.std.specs.Prelude.{◌≡◌, ◌+◌, ◌≤◌, ℕ, List, Option, Some, length, take, drop, option_map, IfOk, IfSome, IsSome, OnOk};
 ghost use Rattle.sporc_outside.specs.Counts.{CountsFaults};
-ghost use Rattle.sporc_outside.specs.LeafDisk.{overwrite, IsSame, IsSameOutside, KeepsOutside, CrashStep};
+ghost use Rattle.sporc_outside.specs.LeafDisk.{overwrite, IsSame, IsSameOutside, KeepsOutside, CrashStep, TakesTime};
 
 use crate::counted::{Counted, Failed};
 
@@ -11,7 +11,8 @@ use crate::counted::{Counted, Failed};
 /// after a crash; all others stay.
 ///
 /// A disk may tell contracts its bytes, or not tell them, as a real file does. Time goes by in
-/// moments, of which a call has one or more, so that contracts can speak of a crash inside a call.
+/// moments, of which a call has one or more, so that contracts can speak of a crash inside a call. A call that succeeds ends
+/// at a later moment than it began, so that contracts can say which of two calls came first.
 pub trait LeafDisk: Counted {
     // The bytes that a read gives, where it tells them.
     ghost stored: { Self → Option (List ℕ) };
@@ -27,6 +28,7 @@ pub trait LeafDisk: Counted {
         ensures length { IfOk result (λ n. IfSome (stored self.old) (λ bytes. n ≡ length bytes)) }
         ensures stored { stored self.new ≡ stored self.old }
         ensures images { CrashStep (moment self.old) (moment self.new) (images self.old) (images self.new) IsSame }
+        ensures time { OnOk result (TakesTime (stored self.old) (moment self.old) (moment self.new)) }
         ensures count { CountsFaults (Self.faults self.old) (Self.faults self.new) result };
 
     /// Fills the buffer with the bytes from `at` on.
@@ -36,6 +38,7 @@ pub trait LeafDisk: Counted {
             buf.new ≡ take (length buf.old) (drop at bytes))) }
         ensures stored { stored self.new ≡ stored self.old }
         ensures images { CrashStep (moment self.old) (moment self.new) (images self.old) (images self.new) IsSame }
+        ensures time { OnOk result (TakesTime (stored self.old) (moment self.old) (moment self.new)) }
         ensures count { CountsFaults (Self.faults self.old) (Self.faults self.new) result };
 
     /// Writes the bytes over those from `at` on. After a write that failed a read may give anything
@@ -47,6 +50,7 @@ pub trait LeafDisk: Counted {
         ensures others { KeepsOutside at (length bytes.now) (stored self.old) (stored self.new) }
         ensures images { CrashStep (moment self.old) (moment self.new) (images self.old) (images self.new)
             (IsSameOutside at (length bytes.now)) }
+        ensures time { OnOk result (TakesTime (stored self.old) (moment self.old) (moment self.new)) }
         ensures count { CountsFaults (Self.faults self.old) (Self.faults self.new) result };
 
     /// Brings what was written to where no crash takes it away.
@@ -55,6 +59,7 @@ pub trait LeafDisk: Counted {
             ((image : List ℕ) → images self.new (moment self.new) image → stored self.new ≡ Some image) }
         ensures stored { stored self.new ≡ stored self.old }
         ensures images { CrashStep (moment self.old) (moment self.new) (images self.old) (images self.new) IsSame }
+        ensures time { OnOk result (TakesTime (stored self.old) (moment self.old) (moment self.new)) }
         ensures count { CountsFaults (Self.faults self.old) (Self.faults self.new) result };
 
     // What a read gives is one of the images.

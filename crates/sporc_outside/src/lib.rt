@@ -45,6 +45,7 @@ mod pipe_link;
 mod pipe_net;
 mod sink;
 mod source;
+mod stream;
 
 pub use crate::calls::Calls;
 pub use crate::chance::Chance;
@@ -68,3 +69,4 @@ pub use crate::pipe_link::PipeLink;
 pub use crate::pipe_net::PipeNet;
 pub use crate::sink::{Sink, write_all};
 pub use crate::source::Source;
+pub use crate::stream::Stream;

@@ -1,6 +1,6 @@
 //! Connections.
 
-ghost use Rattle.std.specs.Prelude.{◌≡◌, Bool, Option, None};
+ghost use Rattle.std.specs.Prelude.{◌≡◌};
 ghost use Rattle.sporc_outside.specs.Told.{IsTrueIfTold};
 
 use crate::sink::Sink;
@@ -8,12 +8,9 @@ use crate::source::Source;
 
 /// Both directions of one connection, with one count of faults for both. After [`Link::shut`] it is only handed back.
 pub trait Link: Source + Sink {
-    // Whether it was shut, where it tells that.
-    ghost is_shut: { Self → Option Bool } = { λ _. None };
-
     /// Shuts both directions.
     fn shut(&mut self)
-        ensures shut { IsTrueIfTold (is_shut self.new) }
+        ensures shut { IsTrueIfTold (Self.is_shut self.new) }
         ensures left { Self.left self.new ≡ Self.left self.old }
         ensures written { Self.written self.new ≡ Self.written self.old }
         ensures count { Self.faults self.new ≡ Self.faults self.old };

@@ -2,7 +2,7 @@
 
 ghost use Rattle.std.specs.Prelude.{◌≡◌, ◌≤◌, ◌+◌, ℕ, List, Option, option_map, IfOk, OnOk, OnErr};
 ghost use Rattle.sporc_outside.specs.Counts.{CountsFaults, count_of_both};
-ghost use Rattle.sporc_outside.specs.Told.{AppendsItem, MayAppend, TakesItem, IsPositive};
+ghost use Rattle.sporc_outside.specs.Told.{AppendsItem, MayAppend, TakesItem, IsPositive, IsFalseIfTold};
 
 use crate::counted::{Counted, Failed};
 use crate::link::Link;
@@ -46,6 +46,7 @@ pub trait Dial: Links {
     /// A new link to the address.
     fn connect<R: Wait>(&mut self, rt: &R, address: &str) -> Result<Self::Link, Failed>
         ensures fresh { IfOk result (λ link. Self.Link.faults link ≡ 0) }
+        ensures open { IfOk result (λ link. IsFalseIfTold (Self.Link.is_shut link)) }
         ensures next { IfOk result (λ link. TakesItem (Self.coming self.old) (Self.coming self.new) link) }
         ensures same { OnErr result (Self.coming self.new ≡ Self.coming self.old) }
         ensures out { OnOk result (Self.out self.new ≡ option_map (λ n. n + 1) (Self.out self.old)) }
@@ -72,6 +73,7 @@ pub trait Listen: Links {
     /// Waits for the next link.
     fn accept<R: Wait>(&mut self, rt: &R) -> Result<Self::Link, Failed>
         ensures fresh { IfOk result (λ link. Self.Link.faults link ≡ 0) }
+        ensures open { IfOk result (λ link. IsFalseIfTold (Self.Link.is_shut link)) }
         ensures next { IfOk result (λ link. TakesItem (Self.coming self.old) (Self.coming self.new) link) }
         ensures same { OnErr result (Self.coming self.new ≡ Self.coming self.old) }
         ensures out { OnOk result (Self.out self.new ≡ option_map (λ n. n + 1) (Self.out self.old)) }

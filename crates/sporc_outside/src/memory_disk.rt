@@ -1,10 +1,10 @@
 //! Disks in memory.
 
-ghost use Rattle.std.specs.Prelude.{◌≡◌, ℕ, List, take, drop, ◌+◌, ◌≤◌, [], Some, length, IfOk, OnOk};
+ghost use Rattle.std.specs.Prelude.{◌≡◌, ℕ, List, take, drop, ◌+◌, ◌≤◌, [], Some, length, IfOk, OnOk, IsTrue, ◌↔◌, ◌<◌};
 ghost use Rattle.sporc_outside.specs.CallsModel.{CountsCall};
 ghost use Rattle.sporc_outside.specs.LeafDisk.{overwrite, IsSame, IsSameOutside, KeepsOutside, CrashStep};
 ghost use Rattle.sporc_outside.specs.Counts.{CountsFaults, Rose, next_count};
-ghost use Rattle.sporc_outside.specs.MemoryDisk.{LogsCall};
+ghost use Rattle.sporc_outside.specs.MemoryDisk.{DiskState, IsSpoilt, IsUnsynced, LogsCall, after_call, state_after};
 
 use crate::calls::Calls;
 use crate::counted::{Counted, Failed};
@@ -36,7 +36,8 @@ impl Model for MemoryDisk {
 }
 
 impl MemoryDisk {
-    ghost use Rattle.sporc_outside.specs.MemoryDisk.{bytes_of, images_of, IsWrite};
+    ghost use Rattle.std.specs.Prelude.{map};
+    ghost use Rattle.sporc_outside.specs.MemoryDisk.{bytes_of, images_of, state_after, AreListed, IsSpoilt, IsWrite};
 
     /// Holds these bytes, all of them synced. The listed calls fail.
     pub fn new(alloc: Global, bytes: Vec<u8>, calls: Calls) -> Result<MemoryDisk, AllocError>
@@ -74,6 +75,29 @@ impl MemoryDisk {
         self.log.as_slice()
     }
 
+    /// Four of what a crash may leave now: what a read gives, and that with all bytes that were written since the last sync
+    /// that succeeded as 0, as 1, and as 255. A write that failed is one, too.
+    pub fn images(&self) -> Result<Vec<Vec<u8>>, AllocError>
+        ensures ok { IfOk result (λ images.
+            AreListed (state_after self.now.first self.now.log) (map (λ image. image.items) images.items)) }
+    {
+        let mut images = Vec::new(self.alloc);
+        images.push(Vec::from_slice(self.alloc, &self.bytes)?)?;
+        images.push(self.spoilt(0)?)?;
+        images.push(self.spoilt(1)?)?;
+        images.push(self.spoilt(255)?)?;
+        Ok(images)
+    }
+
+    // What a read gives, with this byte in place of each that was written since the last sync that succeeded.
+    fn spoilt(&self, byte: u8) -> Result<Vec<u8>, AllocError>
+        ensures { IfOk result (λ image. IsSpoilt (state_after self.now.first self.now.log) byte image.items) }
+    {
+        let mut image = Vec::from_slice(self.alloc, &self.bytes)?;
+        spoil(&mut image, &self.log, byte);
+        Ok(image)
+    }
+
     // Counts and logs a call that writes nothing.
     fn enter(&mut self, request: DiskRequest) -> Result<(), Failed>
         requires { IsWrite request → ⊥ }
@@ -81,6 +105,7 @@ impl MemoryDisk {
         ensures bytes { bytes_of self.new ≡ bytes_of self.old }
         ensures images { CrashStep (length self.old.log) (length self.new.log) (images_of self.old) (images_of self.new)
             IsSame }
+        ensures time { OnOk result (length self.old.log < length self.new.log) }
         ensures call { CountsCall self.old.calls self.new.calls result }
         ensures count { CountsFaults self.old.calls.faults self.new.calls.faults result }
     {
@@ -115,6 +140,8 @@ impl LeafDisk for MemoryDisk {
         ensures stored { Some (bytes_of self.new) ≡ Some (bytes_of self.old) }
         ensures images { CrashStep (length self.old.log) (length self.new.log) (images_of self.old) (images_of self.new)
             IsSame }
+        ensures logged { LogsCall self.old.log self.new.log DiskRequest.Len result }
+        ensures time { OnOk result (length self.old.log < length self.new.log) }
         ensures call { CountsCall self.old.calls self.new.calls result }
         ensures count { CountsFaults self.old.calls.faults self.new.calls.faults result }
     {
@@ -128,6 +155,8 @@ impl LeafDisk for MemoryDisk {
         ensures stored { Some (bytes_of self.new) ≡ Some (bytes_of self.old) }
         ensures images { CrashStep (length self.old.log) (length self.new.log) (images_of self.old) (images_of self.new)
             IsSame }
+        ensures logged { LogsCall self.old.log self.new.log (DiskRequest.Read at (length buf.old)) result }
+        ensures time { OnOk result (length self.old.log < length self.new.log) }
         ensures call { CountsCall self.old.calls self.new.calls result }
         ensures count { CountsFaults self.old.calls.faults self.new.calls.faults result }
     {
@@ -144,6 +173,8 @@ impl LeafDisk for MemoryDisk {
         ensures others { KeepsOutside at (length bytes.now) (Some (bytes_of self.old)) (Some (bytes_of self.new)) }
         ensures images { CrashStep (length self.old.log) (length self.new.log) (images_of self.old) (images_of self.new)
             (IsSameOutside at (length bytes.now)) }
+        ensures logged { LogsCall self.old.log self.new.log (DiskRequest.Write at bytes.now) result }
+        ensures time { OnOk result (length self.old.log < length self.new.log) }
         ensures call { CountsCall self.old.calls self.new.calls result }
         ensures count { CountsFaults self.old.calls.faults self.new.calls.faults result }
     {
@@ -165,11 +196,55 @@ impl LeafDisk for MemoryDisk {
         ensures stored { Some (bytes_of self.new) ≡ Some (bytes_of self.old) }
         ensures images { CrashStep (length self.old.log) (length self.new.log) (images_of self.old) (images_of self.new)
             IsSame }
+        ensures logged { LogsCall self.old.log self.new.log DiskRequest.Sync result }
+        ensures time { OnOk result (length self.old.log < length self.new.log) }
         ensures call { CountsCall self.old.calls self.new.calls result }
         ensures count { CountsFaults self.old.calls.faults self.new.calls.faults result }
     {
         self.enter(DiskRequest::Sync)
     }
+}
+
+// Puts this byte in place of each that one of the calls wrote and none synced.
+fn spoil(image: &mut [u8], log: &[DiskCall], byte: u8)
+    ensures { (first : List ℕ) → IsSpoilt (record { bytes = image.old; unsynced = (state_after first log.now).unsynced }) byte image.new }
+{
+    for at in 0..image.len() {
+        if is_unsynced(log, at) {
+            image[at] = byte;
+        }
+    }
+}
+
+// Whether one of the calls wrote the byte at a place, and none synced it.
+fn is_unsynced(log: &[DiskCall], at: usize) -> bool
+    ensures { (first : List ℕ) → IsTrue result ↔ IsUnsynced (state_after first log.now).unsynced at }
+{
+    let mut is_unsynced = false;
+    for call in log {
+        is_unsynced = is_unsynced_after(is_unsynced, call, at);
+    }
+    is_unsynced
+}
+
+// The same after one call more.
+fn is_unsynced_after(is_unsynced: bool, call: &DiskCall, at: usize) -> bool
+    ensures { (s : DiskState) → IsTrue is_unsynced ↔ IsUnsynced s.unsynced at
+        → IsTrue result ↔ IsUnsynced (after_call s call.now).unsynced at }
+{
+    match &call.request {
+        DiskRequest::Write { at: from, bytes } => is_unsynced || is_in(*from, bytes.as_slice(), at),
+        DiskRequest::Sync if call.done => false,
+        _ => is_unsynced,
+    }
+}
+
+// Whether a place is one of those that these bytes take from there on.
+fn is_in(from: u64, bytes: &[u8], at: usize) -> bool
+    ensures { IsTrue result ↔ (from ≤ at × at < from + length bytes.now) }
+{
+    let at = at as u64;
+    from <= at && at - from < bytes.len() as u64
 }
 
 // Writes these bytes over those from a place on.

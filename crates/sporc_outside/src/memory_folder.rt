@@ -1,9 +1,10 @@
 //! Folders in memory.
 
-ghost use Rattle.std.specs.Prelude.{◌≡◌, ◌≤◌, ◌++◌, ◌∷◌, [], length, Some, None, IsSome, IfOk, IfErr, IfSome, IfNone, OnOk, OnErr};
+ghost use Rattle.std.specs.Prelude.{◌≡◌, ◌≢◌, ◌≤◌, ◌++◌, ◌∷◌, [], length, Some, None, IsSome, IfOk, IfErr, IfSome, IfNone, OnOk, OnErr};
 ghost use Rattle.std.specs.Str.{bytes_eq};
-ghost use Rattle.sporc_outside.specs.Counts.{Rose};
-ghost use Rattle.sporc_outside.specs.Files.{file_in, with_file, IsPlaceOf, IsAbsence, IsDiskFault, IsDiskOf};
+ghost use Rattle.sporc_outside.specs.CallsModel.{CountsCall};
+ghost use Rattle.sporc_outside.specs.Counts.{CountsFaults, Rose};
+ghost use Rattle.sporc_outside.specs.Files.{file_in, with_file, ChangesFile, HasNoFile, IsPlaceOf, IsAbsence, IsDiskFault, IsDiskOf, IsNewFault, IsReadFault};
 ghost use Rattle.sporc_outside.specs.Told.{AppendsItem, MayAppend};
 ghost use Rattle.sporc_outside.specs.declared.file_fault.FileFault.TheVariants as faults;
 ghost use Rattle.sporc_outside.specs.declared.file_fault.TheConstants.{MAX_FILE};
@@ -98,7 +99,19 @@ impl Folder for MemoryFolder {
 
     ghost lent = { λ f. Some f.lent };
 
-    fn read_file(&mut self, alloc: Global, name: &str) -> Result<Vec<u8>, FileFault> {
+    fn read_file(&mut self, alloc: Global, name: &str) -> Result<Vec<u8>, FileFault>
+        ensures ok { IfOk result (λ bytes. file_in self.old.files name.now ≡ Some bytes.items) }
+        ensures within { IfOk result (λ bytes. length bytes.items ≤ MAX_FILE) }
+        ensures err { IfErr result (IsReadFault (Some self.old.files) name.now self.old.calls.faults self.new.calls.faults) }
+        ensures files { Some self.new.files ≡ Some self.old.files }
+        ensures lent { Some self.new.lent ≡ Some self.old.lent }
+        ensures asked { OnOk result (self.new.asked ≡ self.old.asked ++ name.now ∷ []) }
+        ensures answered { IfErr result (λ fault. fault ≢ faults.Failed
+            → self.new.asked ≡ self.old.asked ++ name.now ∷ []) }
+        ensures may_ask { MayAppend (Some self.old.asked) (Some self.new.asked) name.now }
+        ensures count { self.old.calls.faults ≤ self.new.calls.faults }
+        ensures call { CountsCall self.old.calls self.new.calls result }
+    {
         let bytes = look_up(
             self.alloc,
             &mut self.calls,
@@ -109,7 +122,15 @@ impl Folder for MemoryFolder {
         Ok(Vec::from_slice(alloc, bytes)?)
     }
 
-    fn write_file(&mut self, name: &str, bytes: &[u8]) -> Result<(), Failed> {
+    fn write_file(&mut self, name: &str, bytes: &[u8]) -> Result<(), Failed>
+        ensures ok { OnOk result (Some self.new.files ≡ Some (with_file self.old.files name.now bytes.now)) }
+        ensures err { OnErr result (ChangesFile (Some self.old.files) (Some self.new.files) name.now) }
+        ensures lent { Some self.new.lent ≡ Some self.old.lent }
+        ensures asked { OnOk result (self.new.asked ≡ self.old.asked ++ name.now ∷ []) }
+        ensures may_ask { MayAppend (Some self.old.asked) (Some self.new.asked) name.now }
+        ensures count { CountsFaults self.old.calls.faults self.new.calls.faults result }
+        ensures call { CountsCall self.old.calls self.new.calls result }
+    {
         ask(self.alloc, &mut self.calls, &mut self.asked, name)?;
         match write(self.alloc, &mut self.files, name.as_bytes(), bytes) {
             Ok(()) => Ok(()),
@@ -117,7 +138,20 @@ impl Folder for MemoryFolder {
         }
     }
 
-    fn write_new(&mut self, name: &str, bytes: &[u8]) -> Result<(), FileFault> {
+    fn write_new(&mut self, name: &str, bytes: &[u8]) -> Result<(), FileFault>
+        ensures was_new { OnOk result (HasNoFile (Some self.old.files) name.now) }
+        ensures ok { OnOk result (Some self.new.files ≡ Some (with_file self.old.files name.now bytes.now)) }
+        ensures err { IfErr result (IsNewFault (Some self.old.files) name.now self.old.calls.faults self.new.calls.faults) }
+        ensures changes { OnErr result (ChangesFile (Some self.old.files) (Some self.new.files) name.now) }
+        ensures exists { result ≡ Err faults.Exists → Some self.new.files ≡ Some self.old.files }
+        ensures lent { Some self.new.lent ≡ Some self.old.lent }
+        ensures asked { OnOk result (self.new.asked ≡ self.old.asked ++ name.now ∷ []) }
+        ensures answered { IfErr result (λ fault. fault ≢ faults.Failed
+            → self.new.asked ≡ self.old.asked ++ name.now ∷ []) }
+        ensures may_ask { MayAppend (Some self.old.asked) (Some self.new.asked) name.now }
+        ensures count { self.old.calls.faults ≤ self.new.calls.faults }
+        ensures call { CountsCall self.old.calls self.new.calls result }
+    {
         ask(self.alloc, &mut self.calls, &mut self.asked, name)?;
         if place_of(&self.files, name.as_bytes()).is_some() {
             return Err(FileFault::Exists);
@@ -137,7 +171,10 @@ impl Folder for MemoryFolder {
         ensures not_lent { OnErr result (Some self.new.lent ≡ Some self.old.lent) }
         ensures asked { OnOk result (AppendsItem (Some self.old.asked) (Some self.new.asked) name.now) }
         ensures may_ask { MayAppend (Some self.old.asked) (Some self.new.asked) name.now }
+        ensures answered { IfErr result (λ fault. fault ≢ faults.Failed
+            → self.new.asked ≡ self.old.asked ++ name.now ∷ []) }
         ensures count { self.old.calls.faults ≤ self.new.calls.faults }
+        ensures call { CountsCall self.old.calls self.new.calls result }
         ensures failing { IfOk result (λ disk. disk.calls.failing ≡ self.old.disk_calls) }
         ensures taken { OnOk result (self.new.disk_calls ≡ []) }
     {
@@ -198,8 +235,11 @@ fn look_up<'a>(
     ensures ok { IfOk result (λ bytes. IsDiskOf (Some files.now) name.now (Some bytes.now)) }
     ensures err { IfErr result (IsDiskFault (Some files.now) name.now calls.old.faults calls.new.faults) }
     ensures asked { OnOk result (asked.new.items ≡ asked.old.items ++ name.now ∷ []) }
+    ensures answered { IfErr result (λ fault. fault ≢ faults.Failed
+        → asked.new.items ≡ asked.old.items ++ name.now ∷ []) }
     ensures may_ask { MayAppend (Some asked.old.items) (Some asked.new.items) name.now }
     ensures count { calls.old.faults ≤ calls.new.faults }
+    ensures call { CountsCall calls.old calls.new result }
 {
     ask(alloc, calls, asked, name)?;
     found(files, name.as_bytes())
@@ -267,6 +307,7 @@ fn lend(
     ensures lent { OnOk result (lent.new.items ≡ lent.old.items ++ name.now ∷ []) }
     ensures err { OnErr result (lent.new.items ≡ lent.old.items) }
     ensures failed { IfErr result (λ fault. (fault ≡ faults.Failed) × Rose calls.old.faults calls.new.faults) }
+    ensures calls { calls.new ≡ record calls.old { faults = calls.new.faults } }
     ensures count { calls.old.faults ≤ calls.new.faults }
 {
     match open(alloc, lent, name, bytes, failing) {

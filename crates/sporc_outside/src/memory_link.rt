@@ -10,6 +10,7 @@ use crate::counted::{Counted, Failed};
 use crate::link::Link;
 use crate::sink::Sink;
 use crate::source::Source;
+use crate::stream::Stream;
 use std::alloc::Global;
 use std::marker::Model;
 
@@ -75,6 +76,10 @@ impl Counted for MemoryLink {
     }
 }
 
+impl Stream for MemoryLink {
+    ghost is_shut = { λ l. Some l.is_shut };
+}
+
 impl Source for MemoryLink {
     ghost left = { λ l. Some l.left };
 
@@ -84,6 +89,7 @@ impl Source for MemoryLink {
         ensures bound { IfOk result (λ n. n ≤ length buf.new) }
         ensures bytes { ReadConsumes (Some self.old.left) (Some self.new.left) result buf.new }
         ensures sent { Some self.new.written ≡ Some self.old.written }
+        ensures shut { Some self.new.is_shut ≡ Some self.old.is_shut }
         ensures count { CountsFaults self.old.calls.faults self.new.calls.faults result }
         ensures listed { IsErr result ↔ Contains self.old.calls.failing (next_count self.old.calls.made) }
         ensures call { CountsCall self.old.calls self.new.calls result }
@@ -107,6 +113,7 @@ impl Sink for MemoryLink {
         ensures some { IfOk result (λ n. 0 < length bytes.now → 0 < n) }
         ensures bytes { WriteAppends (Some self.old.written) (Some self.new.written) result bytes.now }
         ensures pending { Some self.new.left ≡ Some self.old.left }
+        ensures shut { Some self.new.is_shut ≡ Some self.old.is_shut }
         ensures count { CountsFaults self.old.calls.faults self.new.calls.faults result }
         ensures call { CountsCall self.old.calls self.new.calls result }
         ensures piece { IfOk result (λ n. n ≡ min (length bytes.now) self.old.piece) }
@@ -121,8 +128,6 @@ impl Sink for MemoryLink {
 }
 
 impl Link for MemoryLink {
-    ghost is_shut = { λ l. Some l.is_shut };
-
     ghost sent_is = { λ _. refl };
 
     ghost pending_is = { λ _. refl };

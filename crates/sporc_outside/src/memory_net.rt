@@ -1,8 +1,10 @@
 //! Nets over listed links.
 
-ghost use Rattle.std.specs.Prelude.{◌≡◌, ◌≤◌, ◌+◌, ◌∷◌, [], reverse, IfOk, OnOk, OnErr, Some};
+ghost use Rattle.std.specs.Prelude.{◌≡◌, ◌≤◌, ◌+◌, ◌∷◌, ◌++◌, [], reverse, IfOk, OnOk, OnErr, Some, false};
+ghost use Rattle.sporc_outside.specs.CallsModel.{CountsCall};
 ghost use Rattle.sporc_outside.specs.Counts.{CountsFaults};
-ghost use Rattle.sporc_outside.specs.MemoryNetModel.{AreFresh};
+ghost use Rattle.sporc_outside.specs.MemoryNetModel.{AreFresh, IsFresh};
+ghost use Rattle.sporc_outside.specs.Told.{MayAppend};
 
 use crate::asked::ask;
 use crate::calls::Calls;
@@ -69,16 +71,17 @@ impl MemoryNet {
         self.returned.as_slice()
     }
 
-    // The next link, with room for its return. It counts no call.
+    // The next link, with room for its return. It counts no call, but a fault of the one that is under way.
     fn hand_out(&mut self) -> Result<MemoryLink, Failed>
         ensures ok { IfOk result (λ link. self.old.coming ≡ link ∷ self.new.coming) }
-        ensures fresh { IfOk result (λ link. link.calls.faults ≡ 0) }
+        ensures fresh { IfOk result IsFresh }
         ensures err { OnErr result (self.new.coming ≡ self.old.coming) }
         ensures out { OnOk result (self.new.out ≡ self.old.out + 1) }
         ensures not_out { OnErr result (self.new.out ≡ self.old.out) }
         ensures asked { self.new.asked ≡ self.old.asked }
         ensures returned { self.new.returned ≡ self.old.returned }
         ensures links { self.new.link_faults ≡ self.old.link_faults }
+        ensures calls { self.new.calls ≡ record self.old.calls { faults = self.new.calls.faults } }
         ensures count { CountsFaults self.old.calls.faults self.new.calls.faults result }
     {
         let room = self.out.saturating_add(1);
@@ -128,18 +131,52 @@ impl Links for MemoryNet {
 }
 
 impl Dial for MemoryNet {
-    fn connect<R: Wait>(&mut self, _rt: &R, address: &str) -> Result<MemoryLink, Failed> {
+    fn connect<R: Wait>(&mut self, _rt: &R, address: &str) -> Result<MemoryLink, Failed>
+        ensures fresh { IfOk result (λ link. link.calls.faults ≡ 0) }
+        ensures open { IfOk result (λ link. link.is_shut ≡ false) }
+        ensures next { IfOk result (λ link. self.old.coming ≡ link ∷ self.new.coming) }
+        ensures same { OnErr result (Some self.new.coming ≡ Some self.old.coming) }
+        ensures out { OnOk result (Some self.new.out ≡ Some (self.old.out + 1)) }
+        ensures not_out { OnErr result (Some self.new.out ≡ Some self.old.out) }
+        ensures asked { OnOk result (self.new.asked ≡ self.old.asked ++ address.now ∷ []) }
+        ensures may_ask { MayAppend (Some self.old.asked) (Some self.new.asked) address.now }
+        ensures returned { Some self.new.returned ≡ Some self.old.returned }
+        ensures links { self.new.link_faults ≡ self.old.link_faults }
+        ensures count { CountsFaults self.old.calls.faults self.new.calls.faults result }
+        ensures call { CountsCall self.old.calls self.new.calls result }
+    {
         ask(self.alloc, &mut self.calls, &mut self.asked, address)?;
         self.hand_out()
     }
 }
 
 impl Listen for MemoryNet {
-    fn listen(&mut self, address: &str) -> Result<(), Failed> {
+    fn listen(&mut self, address: &str) -> Result<(), Failed>
+        ensures asked { OnOk result (self.new.asked ≡ self.old.asked ++ address.now ∷ []) }
+        ensures may_ask { MayAppend (Some self.old.asked) (Some self.new.asked) address.now }
+        ensures coming { Some self.new.coming ≡ Some self.old.coming }
+        ensures out { Some self.new.out ≡ Some self.old.out }
+        ensures returned { Some self.new.returned ≡ Some self.old.returned }
+        ensures links { self.new.link_faults ≡ self.old.link_faults }
+        ensures count { CountsFaults self.old.calls.faults self.new.calls.faults result }
+        ensures call { CountsCall self.old.calls self.new.calls result }
+    {
         ask(self.alloc, &mut self.calls, &mut self.asked, address)
     }
 
-    fn accept<R: Wait>(&mut self, _rt: &R) -> Result<MemoryLink, Failed> {
+    fn accept<R: Wait>(&mut self, _rt: &R) -> Result<MemoryLink, Failed>
+        ensures fresh { IfOk result (λ link. link.calls.faults ≡ 0) }
+        ensures open { IfOk result (λ link. link.is_shut ≡ false) }
+        ensures next { IfOk result (λ link. self.old.coming ≡ link ∷ self.new.coming) }
+        ensures same { OnErr result (Some self.new.coming ≡ Some self.old.coming) }
+        ensures out { OnOk result (Some self.new.out ≡ Some (self.old.out + 1)) }
+        ensures not_out { OnErr result (Some self.new.out ≡ Some self.old.out) }
+        ensures asked { Some self.new.asked ≡ Some self.old.asked }
+        ensures returned { Some self.new.returned ≡ Some self.old.returned }
+        ensures links { self.new.link_faults ≡ self.old.link_faults }
+        ensures count { CountsFaults self.old.calls.faults self.new.calls.faults result }
+        ensures call { CountsCall self.old.calls self.new.calls result }
+    {
         self.calls.begin()?;
         self.hand_out()
     }

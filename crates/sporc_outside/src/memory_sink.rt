@@ -8,6 +8,7 @@ ghost use Rattle.sporc_outside.specs.Counts.{CountsFaults};
 use crate::calls::Calls;
 use crate::counted::{Counted, Failed};
 use crate::sink::Sink;
+use crate::stream::Stream;
 use std::alloc::Global;
 use std::marker::Model;
 
@@ -58,6 +59,8 @@ impl Counted for MemorySink {
         self.calls.faults()
     }
 }
+
+impl Stream for MemorySink {}
 
 impl Sink for MemorySink {
     ghost use Rattle.std.specs.Prelude.{Some, None};

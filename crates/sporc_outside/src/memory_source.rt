@@ -8,6 +8,7 @@ ghost use Rattle.sporc_outside.specs.Counts.{CountsFaults, next_count};
 use crate::calls::Calls;
 use crate::counted::{Counted, Failed};
 use crate::source::Source;
+use crate::stream::Stream;
 use std::marker::Model;
 
 /// A source of listed bytes, which it tells.
@@ -52,6 +53,8 @@ impl Counted for MemorySource {
         self.calls.faults()
     }
 }
+
+impl Stream for MemorySource {}
 
 impl Source for MemorySource {
     ghost use Rattle.std.specs.Prelude.{Some, None};

@@ -7,6 +7,7 @@ use crate::link::Link;
 use crate::pipe::Pipe;
 use crate::sink::Sink;
 use crate::source::Source;
+use crate::stream::Stream;
 use std::sync::{Arc, Wait};
 
 /// An end of a connection between threads. A read waits until bytes have come or either end was shut. A write fails only
@@ -39,6 +40,8 @@ impl<R: Wait + Copy + Drop> Counted for PipeLink<R> {
         self.faults
     }
 }
+
+impl<R: Wait + Copy + Drop> Stream for PipeLink<R> {}
 
 impl<R: Wait + Copy + Drop> Source for PipeLink<R> {
     ghost left = { λ _. None };

@@ -4,10 +4,11 @@ ghost use Rattle.std.specs.Prelude.{◌≡◌, ◌≤◌, ℕ, List, Option, len
 ghost use Rattle.std.specs.Io.KnownBytes.{ReadConsumes};
 ghost use Rattle.sporc_outside.specs.Counts.{CountsFaults};
 
-use crate::counted::{Counted, Failed};
+use crate::counted::Failed;
+use crate::stream::Stream;
 
 /// Gives bytes, in pieces of its own choice.
-pub trait Source: Counted {
+pub trait Source: Stream {
     // The bytes that are left, where it tells them.
     ghost left: { Self → Option (List ℕ) };
 
@@ -20,5 +21,6 @@ pub trait Source: Counted {
         ensures bound { IfOk result (λ n. n ≤ length buf.new) }
         ensures bytes { ReadConsumes (left self.old) (left self.new) result buf.new }
         ensures sent { sent self.new ≡ sent self.old }
+        ensures shut { Self.is_shut self.new ≡ Self.is_shut self.old }
         ensures count { CountsFaults (Self.faults self.old) (Self.faults self.new) result };
 }

@@ -4,7 +4,7 @@ ghost use Rattle.std.specs.Prelude.{◌≡◌, None};
 
 use crate::counting::counted;
 use crate::pieces::read_piece;
-use sporc_outside::{Counted, Failed, Source};
+use sporc_outside::{Counted, Failed, Source, Stream};
 use std::io::Read;
 
 /// A reader as a source of the bytes that it has left, if it tells them.
@@ -31,6 +31,8 @@ impl<R: Read> Counted for StandardInput<R> {
         self.faults
     }
 }
+
+impl<R: Read> Stream for StandardInput<R> {}
 
 impl<R: Read> Source for StandardInput<R> {
     ghost left = { λ s. R.remaining s.reader };

@@ -4,7 +4,7 @@ ghost use Rattle.std.specs.Prelude.{◌≡◌, None};
 
 use crate::counting::counted;
 use crate::pieces::write_piece;
-use sporc_outside::{Counted, Failed, Sink};
+use sporc_outside::{Counted, Failed, Sink, Stream};
 use std::io::Write;
 
 /// A writer as a sink that holds what the writer does, if it tells that.
@@ -31,6 +31,8 @@ impl<W: Write> Counted for StandardOutput<W> {
         self.faults
     }
 }
+
+impl<W: Write> Stream for StandardOutput<W> {}
 
 impl<W: Write> Sink for StandardOutput<W> {
     ghost written = { λ s. W.contents s.writer };

@@ -4,7 +4,7 @@ ghost use Rattle.std.specs.Prelude.{◌≡◌, None};
 
 use crate::counting::counted;
 use crate::pieces::{read_piece, write_piece};
-use sporc_outside::{Counted, Failed, Link, Sink, Source};
+use sporc_outside::{Counted, Failed, Link, Sink, Source, Stream};
 use std::net::{Shutdown, TcpStream};
 
 /// A connection over TCP, whose two directions have one count. A read or a write may wait for the peer.
@@ -29,6 +29,8 @@ impl Counted for TcpLink {
         self.faults
     }
 }
+
+impl Stream for TcpLink {}
 
 impl Source for TcpLink {
     ghost left = { λ _. None };

@@ -7,6 +7,7 @@ invariant-loop-at g l = record {
   within : l.at ≤ length l.bytes;
   written : Appends (g.O.Sink.written l.initial.out) (g.O.Sink.written l.out) (take l.at l.bytes);
   pending : g.O.Sink.pending l.out ≡ g.O.Sink.pending l.initial.out;
+  shut : g.O.Stream.is_shut l.out ≡ g.O.Stream.is_shut l.initial.out;
   kept : g.O.Counted.faults l.initial.out ≤ g.O.Counted.faults l.out;
 }
 

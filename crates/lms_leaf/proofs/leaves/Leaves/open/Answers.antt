@@ -1,6 +1,7 @@
 use Rattle.std.proofs.Common.{◌≡◌, ℕ, ◌*◌, ◌≤◌, List, slice_index, Option, Some, None, IfSome, arith}
 use Rattle.lms_leaf.specs.LeafFile.{taken_blocks}
 use Rattle.lms_leaf.specs.declared.leaf_file.TheConstants.{LEAVES_PER_BLOCK}
+use Rattle.lms_leaf.proofs.Opened.{taken_at_open}
 use Rattle.lms_leaf.proofs.TakenBlocks.{zero-from-taken_blocks}
 use Rattle.lms_leaf.proofs.leaves.Leaves.open.Goals as goal
 
@@ -23,7 +24,9 @@ invariant_of-result g c =
       within = omega (arith, first.1, first.2, leaves.value);
       whole = omega arith;
       file = rw found.stored (if_some (g.D.LeafDisk.stored c.args.disk) (λ bytes is. omega (arith, is, leaves.value)) found.right_length);
-      taken = λ leaf from below. absurd (omega arith);
+      taken =
+          taken_at_open (g.D.LeafDisk.stored c.find_next.new.disk) (g.D.LeafDisk.images c.find_next.new.disk (g.D.LeafDisk.moment c.find_next.new.disk)) c.in-Ok.next
+          (rw found.stored found.next) found.synced;
       free = λ sound. rw found.stored (if_some (g.D.LeafDisk.stored c.args.disk) (λ bytes is. free c.in-Ok.next bytes is) found.next);
       counted = omega (arith, c.faults-faults_at_open.ensures.value);
       fault = λ faulty. cc;
