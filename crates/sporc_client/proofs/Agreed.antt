@@ -1,6 +1,6 @@
 -- Every run keeps the headline.
 use Rattle.std.proofs.Common.{◌≡◌, ℕ, ◌+◌, ◌≤◌, Bool, true, false, cond, List, ◌++◌, length, take, refl, ap, sym, ◌∙◌, subst, arith, Option, None, Some}
-use Rattle.std.specs.Prelude.{fold, is_some, ◌==◌}
+use Rattle.std.specs.Prelude.{fold, is_some, slice_get, ◌==◌}
 use Rattle.std.proofs.lemmas.Bool.{eqb-true}
 use Rattle.std.proofs.lemmas.List.{take_all}
 use Rattle.sporc_hash.specs.Strings.{CollisionFree}
@@ -11,8 +11,9 @@ use Rattle.sporc_entry.specs.declared.genesis.Genesis.{Genesis}
 use Rattle.sporc_entry.specs.Entry.{signed_string}
 use Rattle.sporc_head.specs.declared.refusal.Refusal.{Refusal}
 use Rattle.sporc_head.specs.HeadChecks.{allows_member, verifies_member}
-use Rattle.sporc_head.specs.History.{changes, count_of, hash_of, roster_of}
+use Rattle.sporc_head.specs.History.{changes, count_of, epoch_of, hash_of, roster_of}
 use Rattle.sporc_line.specs.Keys.{key_of}
+use Rattle.sporc_line.specs.LineChecks.{first_fault}
 use Rattle.sporc_line.specs.LineStrings.{line_strings}
 use Rattle.sporc_line.specs.Operations.{operations}
 use Rattle.sporc_line.specs.Commitments.{commitment_at}
@@ -23,14 +24,15 @@ use Rattle.sporc_line.proofs.Goods.{good_entry}
 use Rattle.sporc_line.proofs.SameKeys.{has_left, has_right, keys_meet, one_reading, one_text, same_key}
 use Rattle.sporc_client.specs.declared.fault.AcceptFault.TheVariants.{Refused}
 use Rattle.sporc_client.specs.PlainClient.{PlainClient, after_pending, committed_of}
-use Rattle.sporc_client.specs.Answers.{accept_fault, journal_has_room, or_full, refusal_of}
-use Rattle.sporc_client.specs.Run.{Setup, World, Move, start, after_all, IsRun, given, gives_to, with_client}
-use Rattle.sporc_client.specs.Agree.{Agree, AuthorsBase, BySigner, HistoriesCollisionFree, InOrder, IsRightful, IsSameWorld, OnceEach, OneBase, OneHistory, OneKey, Refuses, RefusesFor, SameHistoryAndText}
+use Rattle.sporc_client.specs.Answers.{accept_fault, is_out, journal_has_room, or_full, refusal_of}
+use Rattle.sporc_client.specs.Run.{Setup, World, Signing, Move, start, IsRun, given, gives_to, with_client, world_at}
+use Rattle.sporc_client.specs.Genuine.{IsSignedUnder, IsUnderRunKey}
+use Rattle.sporc_client.specs.Agree.{Agree, HistoriesCollisionFree, IsClient, IsRightful, IsSameWorld, RefusesFor, SameHistoryAndText, StandsBehind, key_at}
 use Rattle.sporc_client.specs.Reached.{IsReached}
 use Rattle.sporc_client.specs.WellFormed.{IsWellFormed}
 use Rattle.sporc_client.proofs.InHistories.{named_prefix, one_hash, one_place, one_prefix, same_base}
 use Rattle.sporc_client.proofs.Reached.{reached_at, run_front}
-use Rattle.sporc_client.proofs.SignedEntries.{signing_at}
+use Rattle.sporc_client.proofs.SignedEntries.{AllSignings, IsSigning, signing_at}
 use Rattle.sporc_client.proofs.Sourced.{all_genuine, genuine_front}
 
 -- ---- what a client of a run knows, over the genesis of the run
@@ -86,16 +88,12 @@ same_history s i j c d one two free h =
       shown = λ p q. ap (fold after_pending (committed_of c)) p ∙ text ∙ sym (ap (fold after_pending (committed_of d)) q);
     }
 
-one_history : (s : Setup) (moves : List Move) → IsRun s start moves → OneHistory s moves
-one_history s moves run m n i j c d at at' free h = same_history s i j c d (reached_at s moves m i c run at) (reached_at s moves n j d run at') free h
-
 -- ---- one key
 
-one_key : (s : Setup) (moves : List Move) → IsRun s start moves → OneKey s moves
-one_key s moves run m n i j epoch c d at at' free there there' le le' same =
+one_key : (s : Setup) (i j : ℕ) (c d : PlainClient) (epoch : ℕ) → IsReached s i c → IsReached s j d → HistoriesCollisionFree c d → is_out c ≡ false → is_out d ≡ false
+    → epoch ≤ epoch_of c.entries → epoch ≤ epoch_of d.entries → commitment_at s.genesis (changes c.entries) epoch ≡ commitment_at s.genesis (changes d.entries) epoch → key_at c epoch ≡ key_at d epoch
+one_key s i j c d epoch one two free there there' le le' same =
     let g = s.genesis in
-    let one = reached_at s moves m i c run at in
-    let two = reached_at s moves n j d run at' in
     let mine = line_strings g c.opening.kit c.entries in
     let yours = line_strings g d.opening.kit d.entries in
     let its = keys_meet g c.opening.kit c.entries (good_of s i c one) there epoch le in
@@ -110,23 +108,18 @@ one_key s moves run m n i j epoch c d at at' free there there' le le' same =
 
 -- ---- one base
 
-one_base : (s : Setup) (moves : List Move) → IsRun s start moves → OneBase s moves
-one_base s moves run m n i j x y c d bytes e at at' in_c in_d is free =
-    let one = reached_at s moves m i c run at in
-    let two = reached_at s moves n j d run at' in
-    same_base s.genesis c.opening.kit d.opening.kit c.entries d.entries x y bytes e (good_of s i c one) (good_of s j d two) (free_of s i j c d one two free) in_c in_d is
-
-authors_base : (s : Setup) (moves : List Move) → IsWellFormed s → IsRun s start moves → AuthorsBase s moves
-authors_base s moves well run m n i x c bytes e signing at in_c is signed same free =
+-- an entry that a client of the run signed
+authors_base : (s : Setup) (i x : ℕ) (c : PlainClient) (signing : Signing) (e : Entry) → IsReached s i c → IsSigning s signing → HistoriesCollisionFree c signing.client
+    → StandsBehind x c.entries signing.entry e → signing.client.entries ≡ take e.header.base c.entries
+authors_base s i x c signing e one told free stands =
     let g = s.genesis in
     let d = signing.client in
-    let one = reached_at s moves m i c run at in
-    let told = signing_at s moves n signing well run signed in
     let read = told.reads in
+    let is = stands.reads in
     let entry : told.entry ≡ e = cc in
     let base : e.header.base ≡ length d.entries = ap (λ (e : Entry). e.header.base) (sym entry) ∙ told.base in
     let history : e.header.base_hash ≡ hash_of g d.entries = ap (λ (e : Entry). e.header.base_hash) (sym entry) ∙ told.history in
-    let named = named_prefix g c.opening.kit c.entries x bytes e (good_of s i c one) in_c is in
+    let named = named_prefix g c.opening.kit c.entries x signing.entry e (good_of s i c one) stands.at is in
     let l : length d.entries ≤ e.header.base = omega (arith, base) in
     let whole : take e.header.base d.entries ≡ d.entries = take_all e.header.base d.entries l in
     sym whole
@@ -136,31 +129,29 @@ authors_base s moves well run m n i x c bytes e signing at in_c is signed same f
 
 rightful_by : (s : Setup) (entries : List (List ℕ)) (x : ℕ) (e : Entry) (o : Option Founder) → member_at (roster_of s.genesis (take x entries)) e.header.author ≡ o
     → is_some o ≡ true → allows_member e.header.kind o ≡ true → verifies_member (signed_string e) e.signature o ≡ true
-    → e.header.number ≡ count_of e.header.author (take x entries) + 1 → IsRightful s entries x e
+    → e.header.number ≡ count_of e.header.author (take x entries) + 1 → IsRightful s x entries e
 rightful_by s entries x e None is some right verifies number = absurd cc
 rightful_by s entries x e (Some member) is some right verifies number = record { member = member; is_member = is; role = right; signature = verifies; number = number }
 
-in_order : (s : Setup) (moves : List Move) → IsRun s start moves → InOrder s moves
-in_order s moves run n i x c bytes at in_c =
+in_order : (s : Setup) (i x : ℕ) (c : PlainClient) (bytes : List ℕ) → IsReached s i c → slice_get c.entries x ≡ Some bytes → (e : Entry) × StandsBehind x c.entries bytes e × IsRightful s x c.entries e
+in_order s i x c bytes reached at =
     let g = s.genesis in
-    let p = good_entry g c.opening.kit c.entries x bytes (good_of s i c (reached_at s moves n i c run at)) in_c in
+    let p = good_entry g c.opening.kit c.entries x bytes (good_of s i c reached) at in
     let q : Passes g c.opening.kit (take x c.entries) (x + 1) p.0 = p.2 in
-    (p.0, p.1, rightful_by s c.entries x p.0 (member_at (roster_of g (take x c.entries)) p.0.header.author) refl q.member q.right q.signature q.number)
+    (p.0, record { at = at; reads = p.1 }, rightful_by s c.entries x p.0 (member_at (roster_of g (take x c.entries)) p.0.header.author) refl q.member q.right q.signature q.number)
 
-once_each : (s : Setup) (moves : List Move) → IsRun s start moves → OnceEach s moves
-once_each s moves run n i x y c b b' e e' at in_x in_y is is' author number =
-    one_place s.genesis c.opening.kit c.entries x y b b' e e' (good_of s i c (reached_at s moves n i c run at)) in_x in_y is is' author number
+-- ---- by its author
 
-by_signer : (s : Setup) (moves : List Move) → IsWellFormed s → IsRun s start moves → BySigner s moves
-by_signer s moves well run genuine n i x who c bytes e member at in_c is is_member among key =
-    let r = all_genuine s (take n moves) (run_front s start moves n run) (genuine_front s start moves n genuine) i c at x bytes in_c e member who is is_member among key in
-    let signed = r.2 in
-    let told = signing_at s moves n signed.0 well run signed.1 in
+-- who signed an entry of clients of the run is its author
+by_author : (s : Setup) (w : World) (entries : List (List ℕ)) (bytes : List ℕ) → AllSignings s w → (under : IsUnderRunKey s entries bytes) → IsSignedUnder s w under.author.key bytes
+    → (by : IsSignedUnder s w under.author.key bytes) × (under.entry.header.author ≡ by.signing.who)
+by_author s w entries bytes all under by =
+    let told = all by.signing by.signed in
     let read = told.reads in
-    let same_bytes = signed.3 in
-    let entry : told.entry ≡ e = cc in
-    let author : e.header.author ≡ r.0 = ap (λ (e : Entry). e.header.author) (sym entry) ∙ told.author ∙ signed.2 in
-    (r.0, r.1, r.2, author)
+    let same = by.bytes_are in
+    let is = under.reads in
+    let entry : told.entry ≡ under.entry = cc in
+    (by, ap (λ (e : Entry). e.header.author) (sym entry) ∙ told.author)
 
 -- ---- refusals
 
@@ -177,13 +168,19 @@ put_back clients i c other at = go (other == i) refl
     go true is = sym (ap clients (eqb-true other i is) ∙ at)
     go false is = refl
 
-refuses_at : (s : Setup) (w : World) (i position : ℕ) (c : PlainClient) (bytes : List ℕ) (refusal : Refusal) → w.clients i ≡ Some c → RefusesFor s w i position c bytes refusal
+refuses_at : (s : Setup) (w : World) (i position : ℕ) (c : PlainClient) (bytes : List ℕ) (refusal : Refusal) → IsReached s i c → w.clients i ≡ Some c → RefusesFor s w i position c bytes refusal
 unfolding accept_fault
-refuses_at s w i position c bytes refusal at = record {
-  first = (refused_only (journal_has_room c) (refusal_of c position bytes) refusal, λ is. ap (or_full (journal_has_room c)) is);
-  unchanged = unchanged;
+refuses_at s w i position c bytes refusal reached at = record {
+  first = (
+    λ answer. sym here ∙ refused_only (journal_has_room c) (refusal_of c position bytes) refusal answer,
+    λ fails. ap (or_full (journal_has_room c)) (here ∙ fails),
+  );
+  unchanged = λ answer. unchanged (refused_only (journal_has_room c) (refusal_of c position bytes) refusal answer);
 }
   where
+    here : refusal_of c position bytes ≡ first_fault s.genesis c.opening.kit c.entries position bytes
+    here = ap (λ (g : Genesis). first_fault g c.opening.kit c.entries position bytes) (genesis_of s i c reached)
+
     stays : refusal_of c position bytes ≡ Some refusal → given c bytes (refusal_of c position bytes) ≡ c
     stays is = ap (given c bytes) is
 
@@ -193,19 +190,25 @@ refuses_at s w i position c bytes refusal at = record {
       signed = refl;
     })
 
-refuses : (s : Setup) (moves : List Move) → Refuses s moves
-refuses s moves n i position c bytes refusal at = refuses_at s (after_all s start (take n moves)) i position c bytes refusal at
-
 -- ---- the headline
 
 pub agree : (s : Setup) (moves : List Move) → IsWellFormed s → IsRun s start moves → Agree s moves
 agree s moves well run = record {
-  one_history = one_history s moves run;
-  one_key = one_key s moves run;
-  one_base = one_base s moves run;
-  authors_base = authors_base s moves well run;
-  in_order = in_order s moves run;
-  once_each = once_each s moves run;
-  by_signer = by_signer s moves well run;
-  refuses = refuses s moves;
+  one_history = λ c d mine yours free h. same_history s mine.1 yours.1 c d (reached c mine) (reached d yours) free h;
+  one_key = λ c d epoch mine yours. one_key s mine.1 yours.1 c d epoch (reached c mine) (reached d yours);
+  one_base = λ c d x y bytes e mine yours free here there.
+      let one = reached c mine in
+      let two = reached d yours in
+      same_base s.genesis c.opening.kit d.opening.kit c.entries d.entries x y bytes e (good_of s mine.1 c one) (good_of s yours.1 d two) (free_of s mine.1 yours.1 c d one two free) here.at there.at here.reads;
+  authors_base = λ c x n signing e mine signed. authors_base s mine.1 x c signing e (reached c mine) (signing_at s moves n signing well run signed);
+  in_order = λ c x bytes mine. in_order s mine.1 x c bytes (reached c mine);
+  once_each = λ c x y b b' e e' mine here there.
+      one_place s.genesis c.opening.kit c.entries x y b b' e e' (good_of s mine.1 c (reached c mine)) here.at there.at here.reads there.reads;
+  by_signer = λ genuine n who x c bytes at in_c under.
+      by_author s (world_at s moves n) (take x c.entries) bytes (λ signing. signing_at s moves n signing well run) under
+      (all_genuine s (take n moves) (run_front s start moves n run) (genuine_front s start moves n genuine) who c at x bytes in_c under);
+  refuses = λ n who position c bytes refusal at. refuses_at s (world_at s moves n) who position c bytes refusal (reached_at s moves n who c run at) at;
 }
+  where
+    reached : (c : PlainClient) → (mine : IsClient s moves c) → IsReached s mine.1 c
+    reached c mine = reached_at s moves mine.0 mine.1 c run mine.2

@@ -25,7 +25,8 @@ use Rattle.sporc_client.specs.Log as events
 use Rattle.sporc_client.specs.PlainClient.{PlainClient, opened}
 use Rattle.sporc_client.specs.Reached.{IsReached}
 use Rattle.sporc_client.specs.Rebasing.{rebased}
-use Rattle.sporc_client.specs.Run.{Setup, World, Signing, Move, Open, Happen, Give, Restart, Adds, Genuine, IsGenuine, IsRun, May, after, given, gives_to, happens_to, key_of_member, opening_of, restarted, restarts, signings, start, with_client}
+use Rattle.sporc_client.specs.Run.{Setup, World, Signing, Move, Open, Happen, Give, Restart, IsRun, May, after, given, gives_to, happens_to, key_of_member, opening_of, restarted, restarts, signings, start, with_client}
+use Rattle.sporc_client.specs.Genuine.{Adds, Genuine, IsGenuine}
 use Rattle.sporc_client.specs.Soundness.{IsOfFirst}
 use Rattle.sporc_client.specs.Step.{accepted, change_comes, edit_comes, form_coming, is_flight, log_of_entries, own_comes, replay, replay_from, restated, step}
 use Rattle.sporc_client.specs.Typed.{IsTypedEvent, IsTypedMove, IsTypedRun}
@@ -141,9 +142,7 @@ unfolding replay
 restarted_own s c k own = accepts_own s (opened c.opening) (take k c.entries) (record { items = tt; entries = tt }) (own_take s k c.entries own.entries)
 
 signed_own : (s : Setup) (w : World) (bytes : List ℕ) → AllOwn s w → IsSigned w bytes → OwnEntry s bytes
-signed_own s w bytes all signed =
-    let by = signed.1 in
-    subst (OwnEntry s) by.3 (all.signed by.0 by.1)
+signed_own s w bytes all signed = subst (OwnEntry s) signed.2 (all.signed signed.0 signed.1)
 
 step_own : (s : Setup) (w : World) (who : ℕ) (c : PlainClient) (event : Logged) → AllOwn s w → IsClosedMove s w (Happen who event) → IsOwn s c → IsOwn s (step c event)
 step_own s w who c (events.Edit by seen marks) all closed own = record { items = own_edit s c.pending (items.Edit (restated c seen marks)) own.items tt; entries = own.entries }
@@ -225,17 +224,18 @@ own_after s w (Restart who k) well reached sound typed may closed all = go (w.cl
 
 is_genuine : (s : Setup) (w : World) (who : ℕ) (c : PlainClient) (bytes : List ℕ) → AllByRecursion (HasItsKey s) s.genesis.founders → AllSignings s w → AllOwn s w → w.clients who ≡ Some c → IsSigned w bytes
     → IsGenuine s w c.entries bytes
-is_genuine s w who c bytes founders signings all at signed e member m reads is_member among key =
-    let by = signed.1 in
-    let told : IsSigning s by.0 = signings by.0 by.1 in
+is_genuine s w who c bytes founders signings all at signed under =
+    let told : IsSigning s signed.0 = signings signed.0 signed.1 in
     let read = told.reads in
-    let same_bytes = by.3 in
-    let entry : told.entry ≡ e = cc in
-    let author : e.header.author ≡ by.0.who = ap (λ (e : Entry). e.header.author) (sym entry) ∙ told.author in
-    let its : member.key ≡ key_of_member s e.header.author =
-    own_found s e.header.author (roster_of s.genesis c.entries).members member (own_roster s c.entries founders (all.clients who c at).entries) is_member
+    let is = under.reads in
+    let same_bytes = signed.2 in
+    let entry : told.entry ≡ under.entry = cc in
+    let number = under.entry.header.author in
+    let author : number ≡ signed.0.who = ap (λ (e : Entry). e.header.author) (sym entry) ∙ told.author in
+    let its : under.author.key ≡ key_of_member s number =
+    own_found s number (roster_of s.genesis c.entries).members under.author (own_roster s c.entries founders (all.clients who c at).entries) under.is_author
     (subst (Contains s.members) (sym author) told.signer.is_member) in
-    (signed.0, sym (its ∙ ap (key_of_member s) (author ∙ by.2)), signed.1)
+    record { signing = signed.0; signed = signed.1; bytes_are = same_bytes; key_is = sym (its ∙ ap (key_of_member s) author) }
 
 adds_genuine : (s : Setup) (w : World) (move : Move) → AllByRecursion (HasItsKey s) s.genesis.founders → AllSignings s w → AllOwn s w → IsClosedMove s w move
     → (who : ℕ) (c : PlainClient) (bytes : List ℕ) → Adds w move who c bytes → IsGenuine s w c.entries bytes

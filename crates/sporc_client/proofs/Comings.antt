@@ -27,7 +27,7 @@ use Rattle.sporc_client.specs.declared.pending.Pending.TheVariants as items
 use Rattle.sporc_client.specs.Answers.{accept_fault, added, journal_has_room, or_full, refusal_of}
 use Rattle.sporc_client.specs.ClientInvariant.{ClientInvariant, client_model, plain_of}
 use Rattle.sporc_client.specs.ClientModel.{ClientModel}
-use Rattle.sporc_client.specs.Coming.{coming_of, flight_after, pending_after, shown_form}
+use Rattle.sporc_client.specs.Coming.{Effect, coming_of, effect, flight_after, pending_after, shown_form}
 use Rattle.sporc_client.specs.Log.{Logged, Accept, log_of}
 use Rattle.sporc_client.specs.PlainClient.{Opening, PlainClient, committed_of, me_of, shown_of}
 use Rattle.sporc_client.specs.Rebasing.{AreOver, AreStated, beyond, rebased}
@@ -43,7 +43,7 @@ use Rattle.sporc_client.proofs.Soundness.{comes}
 -- ---- by the kinds of an entry
 
 -- a client after an entry that does this, with this shown delta
-abbrev pub after_coming : PlainClient → List ℕ → Coming → List Mark → PlainClient
+abbrev pub after_coming : PlainClient → List ℕ → Effect → List Mark → PlainClient
 after_coming c bytes coming form = record c {
   entries = c.entries ++ bytes ∷ [];
   pending = pending_after coming c.pending;
@@ -240,9 +240,13 @@ room_left false (Some refusal) h = absurd cc
 pub accept_room : (events : ℕ) (refusal : Option Refusal) → or_full (nat_lt events MAX_EVENTS) refusal ≡ None → events < MAX_EVENTS
 accept_room events refusal h = ltb-true events MAX_EVENTS (room_left (nat_lt events MAX_EVENTS) refusal h)
 
+-- fields that are the same lead to one entry on its way
+pub same_flight : (coming : Coming) (ps qs : List Pending) (f g : Option (List ℕ)) → ps ≡ qs → f ≡ g → flight_after (effect coming ps) f ≡ flight_after (effect coming qs) g
+same_flight coming ps qs f g one other = ap (λ (l : List Pending). flight_after (effect coming l) f) one ∙ ap (flight_after (effect coming qs)) other
+
 -- what the code settles on is what the definition does
 pub coming_there : (line : LineModel) (own : WorkspaceModel) (p : PreparedModel) (bytes : List ℕ) (me : ℕ) (coming : Coming) → p.checked.bytes ≡ bytes → me ≡ line.kit.me
-    → coming ≡ coming_of (is_same_as own.flight bytes) (is_some (change_of p.checked.entry)) (p.checked.entry.header.author == me) p.form own.pending → coming ≡ coming_at line own p
+    → effect coming own.pending ≡ coming_of (is_same_as own.flight bytes) (is_some (change_of p.checked.entry)) (p.checked.entry.header.author == me) p.form own.pending → effect coming own.pending ≡ coming_at line own p
 coming_there line own p bytes me coming is me_is settled =
     settled
     ∙ ap (λ (b : List ℕ). coming_of (is_same_as own.flight b) (is_some (change_of p.checked.entry)) (p.checked.entry.header.author == me) p.form own.pending) (sym is)

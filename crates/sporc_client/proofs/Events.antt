@@ -9,11 +9,11 @@ use Rattle.sporc_delta.specs.declared.limits.TheConstants.{MAX_TEXT_LEN}
 use Rattle.sporc_delta.specs.Marks.{Mark, base_len, inserted_len, replacement, retains}
 use Rattle.sporc_delta.proofs.Lengths.{base_len-retains}
 use Rattle.sporc_suffix.specs.Forms.{all_inserted, later_over, reached}
-use Rattle.sporc_suffix.proofs.Following.{Follow-take}
+use Rattle.sporc_suffix.proofs.Following.{all_inserted-append, Follow-take}
 use Rattle.sporc_member.specs.declared.change.Change.{Change as MemberChange}
 use Rattle.sporc_line.specs.Document.{text_after}
 use Rattle.sporc_line.specs.LineModel.{LineModel}
-use Rattle.sporc_line.proofs.FormLengths.{all_inserted-append, length-text, reached-le}
+use Rattle.sporc_line.proofs.FormLengths.{length-text, reached-le}
 use Rattle.sporc_client.specs.declared.event.Event.TheVariants as events
 use Rattle.sporc_client.specs.declared.limits.TheConstants.{MAX_EVENTS, MAX_SHOWN_LEN}
 use Rattle.sporc_client.specs.declared.pending.Pending.TheVariants as items

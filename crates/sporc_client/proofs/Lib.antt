@@ -1,3 +1,4 @@
+pub mod Passings
 pub mod Rebased
 pub mod Shown
 pub mod Soundness
@@ -33,6 +34,7 @@ pub mod RosterFacts
 pub mod ClosedRuns
 pub mod Leaves
 pub mod SubmitLeaves
+pub mod FirstLeaf
 pub mod SubmitSignatures
 pub mod SubmitMembers
 pub mod SubmitEntries
@@ -43,3 +45,4 @@ pub mod SubmitMade
 pub mod Makings
 pub mod SubmitEvents
 pub mod SubmitFaults
+pub mod Examples

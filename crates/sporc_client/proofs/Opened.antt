@@ -1,5 +1,5 @@
 -- What holds of a client that was just opened.
-use Rattle.std.proofs.Common.{◌≡◌, ℕ, true, List, [], length, None, refl, ap, sym, ◌∙◌, subst, arith}
+use Rattle.std.proofs.Common.{◌≡◌, ℕ, true, List, [], length, ◌≤◌, None, refl, ap, sym, ◌∙◌, subst, arith}
 use Rattle.lms_sign.specs.Signer.{SignerModel}
 use Rattle.sporc_entry.specs.declared.genesis.Genesis.{Genesis}
 use Rattle.sporc_line.specs.Document.{forms_from, text_of}
@@ -13,6 +13,7 @@ use Rattle.sporc_client.specs.Small.{IsSmall}
 use Rattle.sporc_client.specs.Soundness.{IsSound}
 use Rattle.sporc_client.specs.Step.{replay}
 use Rattle.sporc_client.specs.Workspace.{WorkspaceModel}
+use Rattle.sporc_client.proofs.SubmitLeaves.{order_begun}
 
 no_text : (genesis : Genesis) (kit : Kit) → text_of genesis kit [] ≡ []
 unfolding forms_from
@@ -40,8 +41,8 @@ opened_small o = record {
 }
 
 pub opened_invariant : {D : Type 0} (line : LineModel) (signer : SignerModel D) (own : WorkspaceModel) → Good line.genesis line.kit line.entries → line.entries ≡ [] → own.pending ≡ [] → own.flight ≡ None → own.shown ≡ [] → own.journal ≡ []
-    → ClientInvariant line signer None own
-opened_invariant line signer own good entries pending flight shown journal =
+    → signer.leaves.next_at_open ≤ signer.leaves.next → ClientInvariant line signer None own
+opened_invariant line signer own good entries pending flight shown journal forward =
     let o : Opening = record { genesis = line.genesis; kit = line.kit; key = signer.key } in
     let plain : plain_of signer.key line own ≡ opened o = rw (entries, pending, flight, shown) refl in
     let P : PlainClient → Type 0 = λ c. IsSound c in
@@ -54,5 +55,5 @@ opened_invariant line signer own good entries pending flight shown journal =
       sound = subst P (sym plain) (opened_sound o (subst G entries good));
       small = subst Q (sym plain) (opened_small o);
       unspent = tt;
-      leaves = rw (entries, journal) (record { rise = tt; kept = tt });
+      leaves = rw (entries, journal) (order_begun signer.leaves.next_at_open signer.leaves.next forward);
     }

@@ -6,7 +6,7 @@ use Rattle.sporc_delta.specs.declared.limits.TheConstants.{MAX_TEXT_LEN}
 use Rattle.sporc_delta.specs.Marks.{Mark, Retain, Delete, Insert, apply, base_len, inserted_len}
 use Rattle.sporc_delta.specs.Transforms.{earlier, earlier_step, last_steps, later}
 use Rattle.sporc_xform.proofs.LawLemmas.{later_merges, earlier_merges}
-use Rattle.sporc_xform.proofs.LengthLemmas.{base_len-later, base_len-earlier, out_len-le}
+use Rattle.sporc_xform.proofs.LengthLemmas.{base_len-later, base_len-earlier, inserted_len-earlier, out_len-le}
 use Rattle.sporc_line.proofs.FormLengths.{length-apply}
 use Rattle.sporc_client.specs.declared.pending.Pending.{Pending}
 use Rattle.sporc_client.specs.declared.pending.Pending.TheVariants.{Edit, Change}
@@ -45,31 +45,6 @@ passes form text (Edit marks ∷ items) base stated =
     }
 
 -- ---- lengths
-
-inserted_last : (q : List Mark) → inserted_len (flat_map earlier_step (last_steps q)) ≤ 0
-inserted_last [] = omega arith
-inserted_last (Insert c ∷ q) = inserted_last q
-inserted_last (Retain ∷ q) = omega arith
-inserted_last (Delete ∷ q) = omega arith
-
-inserted_retain : (p : List Mark) → ((q : List Mark) → inserted_len (earlier p q) ≤ inserted_len p) → (q : List Mark) → inserted_len (earlier (Retain ∷ p) q) ≤ inserted_len p
-inserted_retain p ih [] = omega arith
-inserted_retain p ih (Insert c ∷ q) = inserted_retain p ih q
-inserted_retain p ih (Retain ∷ q) = ih q
-inserted_retain p ih (Delete ∷ q) = ih q
-
-inserted_delete : (p : List Mark) → ((q : List Mark) → inserted_len (earlier p q) ≤ inserted_len p) → (q : List Mark) → inserted_len (earlier (Delete ∷ p) q) ≤ inserted_len p
-inserted_delete p ih [] = omega arith
-inserted_delete p ih (Insert c ∷ q) = inserted_delete p ih q
-inserted_delete p ih (Retain ∷ q) = ih q
-inserted_delete p ih (Delete ∷ q) = ih q
-
--- a delta restated behind a later one inserts no more than before
-pub inserted_len-earlier : (p q : List Mark) → inserted_len (earlier p q) ≤ inserted_len p
-inserted_len-earlier [] q = inserted_last q
-inserted_len-earlier (Insert c ∷ p) q = omega (arith, inserted_len-earlier p q)
-inserted_len-earlier (Retain ∷ p) q = inserted_retain p (inserted_len-earlier p) q
-inserted_len-earlier (Delete ∷ p) q = inserted_delete p (inserted_len-earlier p) q
 
 -- a form can pass these items
 pub record Fits (form : List Mark) (items : List Pending) : Type 0 where

@@ -41,6 +41,7 @@ use Rattle.sporc_client.specs.Workspace.{WorkspaceModel}
 use Rattle.sporc_client.proofs.Accepting.{allowed_accept}
 use Rattle.sporc_client.proofs.Comings.{accepted_is, follow_last}
 use Rattle.sporc_client.proofs.Logs.{is_allowed_more, log_again, replay_more}
+use Rattle.sporc_client.proofs.SubmitLeaves.{order_begun}
 use Rattle.sporc_client.proofs.TextLengths.{few_inserted, length-text_of}
 
 abbrev pub of_history : Opening → List (List ℕ) → PlainClient
@@ -190,10 +191,16 @@ resumed_small o entries good few =
       shown = omega (arith, count, few_inserted o.genesis o.kit entries good);
     }
 
--- with nothing signed the order stays
+-- with nothing signed the order begins anew
 pub order_anew : (first end : ℕ) (ticket : Option ℕ) (signed : List ℕ) → AreInOrder first end ticket signed → AreInOrder first end ticket []
-order_anew first end None signed order = record { rise = tt; kept = tt }
-order_anew first end (Some leaf) signed order = record { rise = tt; kept = record { after = order.kept.after; drawn = order.kept.drawn; unsigned = tt } }
+order_anew first end None signed order = order_begun first end (omega (arith, order.opened, order.all))
+order_anew first end (Some leaf) signed order = record {
+  base = leaf;
+  opened = omega (arith, order.opened, order.kept.after);
+  all = omega (arith, order.kept.last);
+  rise = tt;
+  kept = record { after = omega arith; last = order.kept.last; unsigned = tt };
+}
 
 pub resumed_invariant : {D : Type 0} (line : LineModel) (signer : SignerModel D) (ticket : Option ℕ) (own : WorkspaceModel) → Good line.genesis line.kit line.entries → length line.entries ≤ MAX_ENTRIES
     → own.pending ≡ [] → own.flight ≡ None → own.shown ≡ forms_of line.genesis line.kit line.entries → own.journal ≡ journal_of (log_of_entries line.entries)

@@ -12,11 +12,12 @@ use Rattle.sporc_delta.specs.Marks.{Mark, apply, deletes, inserted_len, inserts,
 use Rattle.sporc_delta.specs.Parts.{marks_of, part_marks, runs}
 use Rattle.sporc_delta.specs.Transforms.{earlier}
 use Rattle.sporc_delta.proofs.Runs.{marks_of-runs}
-use Rattle.sporc_xform.proofs.LengthLemmas.{inserted_len-later, out_len-le}
+use Rattle.sporc_xform.proofs.LengthLemmas.{inserted_len-earlier, inserted_len-later, out_len-le}
 use Rattle.sporc_suffix.specs.Forms.{all_inserted}
+use Rattle.sporc_suffix.proofs.Following.{all_inserted-append}
 use Rattle.sporc_head.specs.declared.limits.TheConstants.{MAX_ENTRIES}
 use Rattle.sporc_delta.proofs.Lengths.{inserted_len-retains, inserted_len-append, inserted_len-deletes, inserted_len-inserts}
-use Rattle.sporc_line.proofs.FormLengths.{all_inserted-append, inserted_len-over, length-apply}
+use Rattle.sporc_line.proofs.FormLengths.{inserted_len-over, length-apply}
 use Rattle.sporc_member.specs.declared.change.Change.{Change as MemberChange}
 use Rattle.sporc_client.specs.declared.limits.TheConstants.{MAX_EDIT_BYTES, MAX_EVENTS, MAX_HEAD_BYTES, MAX_PENDING, MAX_SHOWN_LEN}
 use Rattle.sporc_client.specs.declared.pending.Pending.{Pending}
@@ -26,7 +27,6 @@ use Rattle.sporc_client.specs.PlainClient.{PlainClient, after_pending, committed
 use Rattle.sporc_client.specs.Rebasing.{AreStated, beyond, inserted_by, rebased}
 use Rattle.sporc_client.specs.Small.{AreShort, IsSmall}
 use Rattle.sporc_client.specs.Step.{restated, step}
-use Rattle.sporc_client.proofs.Rebased.{inserted_len-earlier}
 
 -- ---- a delta inserts no more characters than it has bytes
 

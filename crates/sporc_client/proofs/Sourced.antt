@@ -9,7 +9,8 @@ use Rattle.sporc_client.specs.Log.{Logged, Edit, Change, Submit, Dropped, Accept
 use Rattle.sporc_client.specs.PlainClient.{PlainClient, opened}
 use Rattle.sporc_client.specs.Answers.{journal_has_room, refusal_of}
 use Rattle.sporc_client.specs.Step.{accepted, step}
-use Rattle.sporc_client.specs.Run.{Setup, World, Signing, Move, Open, Happen, Give, Restart, start, after, after_all, Adds, Genuine, IsGenuine, IsRun, given, gives_to, happens_to, opening_of, restarted, restarts, signings, with_client}
+use Rattle.sporc_client.specs.Run.{Setup, World, Signing, Move, Open, Happen, Give, Restart, start, after, after_all, IsRun, given, gives_to, happens_to, opening_of, restarted, restarts, signings, with_client}
+use Rattle.sporc_client.specs.Genuine.{Adds, Genuine, IsGenuine}
 use Rattle.sporc_client.proofs.AcceptedHistories.{accepted_as, accepts_all}
 use Rattle.sporc_client.proofs.Reached.{AllReached, reached_after, reached_start, with_client_cases}
 use Rattle.sporc_line.proofs.Goods.{good_take}
@@ -26,10 +27,9 @@ abbrev StaySigned : World → World → Type 0
 StaySigned v w = (x : Signing) → Contains v.signed x → Contains w.signed x
 
 genuine_more : (s : Setup) (v w : World) (entries : List (List ℕ)) (bytes : List ℕ) → StaySigned v w → IsGenuine s v entries bytes → IsGenuine s w entries bytes
-genuine_more s v w entries bytes more genuine e member who is at among key =
-    let r = genuine e member who is at among key in
-    let signed = r.2 in
-    (r.0, r.1, (signed.0, more signed.0 signed.1, signed.2, signed.3))
+genuine_more s v w entries bytes more genuine under =
+    let by = genuine under in
+    record { signing = by.signing; signed = more by.signing by.signed; bytes_are = by.bytes_are; key_is = by.key_is }
 
 all_more : (s : Setup) (v w : World) (entries : List (List ℕ)) → StaySigned v w → AreGenuine s v entries → AreGenuine s w entries
 all_more s v w entries more genuine x bytes at = genuine_more s v w (take x entries) bytes more (genuine x bytes at)

@@ -1,5 +1,5 @@
 -- The leaf that a draw gave, and the order of leaves.
-use Rattle.std.proofs.Common.{◌≡◌, ℕ, ◌+◌, ◌^◌, ◌<◌, ◌≤◌, Bool, true, false, cond, List, [], ◌∷◌, ◌++◌, refl, ap, sym, ◌∙◌, subst, arith, Option, None, Some, Result, Ok, Err}
+use Rattle.std.proofs.Common.{◌≡◌, ℕ, ◌+◌, ◌^◌, ◌<◌, ◌≤◌, Bool, true, false, cond, List, [], ◌∷◌, ◌++◌, refl, ap, sym, ◌∙◌, subst, arith, length-append, Option, None, Some, Result, Ok, Err}
 use Rattle.std.specs.Prelude.{IfSome, IsSomeAnd, ◌==◌}
 use Rattle.std.specs.Result.{result_ok}
 use Rattle.std.proofs.lemmas.Bool.{eq-eqb, eqb-false, eqb-true}
@@ -100,13 +100,30 @@ rise_push first leaf end (n ∷ ns) rise after within = (rise.0, omega (arith, r
 -- a leaf that was just drawn comes after all that signed
 pub kept_drawn : (first next end leaf : ℕ) (signed : List ℕ) → AreInOrder first next None signed → leaf ≡ next → first ≤ leaf → end ≡ next + 1 → AreInOrder first end (Some leaf) signed
 kept_drawn first next end leaf signed order is after more = record {
-  rise = rise_end first next end signed order.rise (omega (arith, more));
-  kept = record { after = after; drawn = omega (arith, is, more); unsigned = rise_end first next leaf signed order.rise (omega (arith, is)) };
+  base = order.base;
+  opened = order.opened;
+  all = omega (arith, order.all, more);
+  rise = rise_end order.base next end signed order.rise (omega (arith, more));
+  kept = record {
+    after = omega (arith, order.all, is);
+    last = omega (arith, is, more);
+    unsigned = rise_end order.base next leaf signed order.rise (omega (arith, is));
+  };
 }
 
 -- a kept leaf that signed
 pub signed_kept : (first end leaf : ℕ) (signed : List ℕ) → AreInOrder first end (Some leaf) signed → AreInOrder first end None (signed ++ leaf ∷ [])
-signed_kept first end leaf signed order = record { rise = rise_push first leaf end signed order.kept.unsigned order.kept.after order.kept.drawn; kept = tt }
+signed_kept first end leaf signed order = record {
+  base = order.base;
+  opened = order.opened;
+  all = omega (arith, order.all, length-append signed (leaf ∷ []));
+  rise = rise_push order.base leaf end signed order.kept.unsigned order.kept.after (omega (arith, order.kept.last));
+  kept = tt;
+}
+
+-- a new client has signed nothing
+pub order_begun : (first end : ℕ) → first ≤ end → AreInOrder first end None []
+order_begun first end forward = record { base = end; opened = forward; all = omega arith; rise = tt; kept = tt }
 
 -- ---- after a submission
 

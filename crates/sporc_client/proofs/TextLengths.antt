@@ -2,6 +2,7 @@
 use Rattle.std.proofs.Common.{◌≡◌, ℕ, ◌+◌, ◌*◌, ◌≤◌, List, [], ◌∷◌, ◌++◌, length, drop, refl, ap, arith, Option, None, Some, Ok, length-append}
 use Rattle.sporc_delta.specs.Marks.{Mark, inserted_len}
 use Rattle.sporc_suffix.specs.Forms.{all_inserted, later_over}
+use Rattle.sporc_suffix.proofs.Following.{all_inserted-append}
 use Rattle.sporc_hash.proofs.Lists.{from_end}
 use Rattle.sporc_entry.specs.declared.change.ChangeBody.{ChangeBody}
 use Rattle.sporc_entry.specs.declared.entry.Entry.{Entry}
@@ -17,7 +18,7 @@ use Rattle.sporc_line.proofs.Passes.{Passes}
 use Rattle.sporc_line.proofs.Goods.{good_front, last_passes}
 use Rattle.sporc_line.proofs.MoreForms.{forms_push}
 use Rattle.sporc_delta.proofs.Lengths.{inserted_len-retains}
-use Rattle.sporc_line.proofs.FormLengths.{all_inserted-append, change_form, edit_form, edit_over, forms_follow, inserted_len-over, length-text, reached-le}
+use Rattle.sporc_line.proofs.FormLengths.{change_form, edit_form, edit_over, forms_follow, inserted_len-over, length-text, reached-le}
 use Rattle.sporc_line.proofs.ReadLengths.{body_within, marks_within}
 
 -- the marks of an edit insert no more than the longest body has bytes

@@ -1,5 +1,5 @@
 -- What contracts see of a client, and of its leaves.
-use Rattle.std.specs.Prelude.{ℕ, ◌+◌, ◌<◌, ◌≤◌, List, [], ◌∷◌, Option, None, IfSome, ⊤}
+use Rattle.std.specs.Prelude.{◌≡◌, ℕ, ◌+◌, ◌-◌, ◌<◌, ◌≤◌, List, [], ◌∷◌, length, Option, None, Some, IfSome, ⊤}
 use Rattle.std.specs.List.{filter_map}
 use Rattle.std.specs.Option.{option_map}
 use Rattle.std.specs.Result.{result_ok}
@@ -34,13 +34,26 @@ abbrev pub Rise : ℕ → ℕ → List ℕ → Type 0
 Rise first end [] = ⊤
 Rise first end (n ∷ ns) = (first ≤ n) × (n < end) × Rise (n + 1) end ns
 
--- the leaf of a ticket that is kept: it was drawn after all leaves that signed
+-- how many leaves a ticket keeps
+abbrev pub kept_count : Option ℕ → ℕ
+kept_count None = 0
+kept_count (Some leaf) = 1
+
+-- The leaf that was next as the log began. So each leaf that was drawn since signed one of its submissions, or is kept.
+abbrev pub first_leaf_of : {D : Type 0} → ClientModel D → ℕ
+first_leaf_of c = c.leaves.next - (length (leaves_of c.log) + kept_count c.ticket)
+
+-- the leaf of a ticket that is kept: it was drawn last, after all leaves that signed
 pub record IsKept (first end : ℕ) (signed : List ℕ) (leaf : ℕ) : Type 0 where
   pub after : first ≤ leaf
-  pub drawn : leaf < end
+  pub last : leaf + 1 ≡ end
   pub unsigned : Rise first leaf signed
 
--- the leaves that signed rise, from the first on and below the end, and that of a kept ticket comes after them
+-- the leaves that signed rise, from a base on that is not below the first, and below the end; that of a kept ticket comes
+-- after them; and no other one was drawn from the base on
 pub record AreInOrder (first end : ℕ) (ticket : Option ℕ) (signed : List ℕ) : Type 0 where
-  pub rise : Rise first end signed
-  pub kept : IfSome ticket (IsKept first end signed)
+  pub base : ℕ
+  pub opened : first ≤ base
+  pub all : end ≡ base + (length signed + kept_count ticket)
+  pub rise : Rise base end signed
+  pub kept : IfSome ticket (IsKept base end signed)

@@ -5,7 +5,7 @@ use Rattle.sporc_member.specs.declared.change.Change.{Change as MemberChange}
 use Rattle.sporc_member.specs.declared.change.Change.TheVariants.{Add, Remove, SetRole}
 use Rattle.sporc_member.specs.declared.founder.Founder.{Founder}
 use Rattle.sporc_client.specs.Log.{Change, Accept}
-use Rattle.sporc_client.specs.Run.{Setup, World, Move, Open, Happen, Give, Restart, IsSignedBy, after, key_of_member, start}
+use Rattle.sporc_client.specs.Run.{Setup, Signing, World, Move, Open, Happen, Give, Restart, after, key_of_member, start}
 
 -- a founder has its own key, if it is a member of the run
 abbrev pub HasItsKey : Setup → Founder → Type 0
@@ -19,7 +19,7 @@ AddsItsKey s (SetRole member role) = ⊤
 
 -- a client of the run signed the bytes
 abbrev pub IsSigned : World → List ℕ → Type 0
-IsSigned w bytes = (signer : ℕ) × IsSignedBy w signer bytes
+IsSigned w bytes = (signing : Signing) × Contains w.signed signing × (signing.entry ≡ bytes)
 
 -- what comes in was signed by a client of the run, and a change that a client makes adds a member under its own key
 abbrev pub IsClosedMove : Setup → World → Move → Type 0

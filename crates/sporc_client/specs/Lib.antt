@@ -1,5 +1,6 @@
 pub mod PlainClient
 pub mod Log
+pub mod Passing
 pub mod Rebasing
 pub mod Workspace
 pub mod Step
@@ -11,6 +12,7 @@ pub mod Answers
 pub mod Submissions
 pub mod Allowed
 pub mod Run
+pub mod Genuine
 pub mod Agree
 pub mod Small
 pub mod ClientModel

@@ -1,5 +1,5 @@
 -- The log of a client: its journal, with the bytes of each entry that was accepted.
-use Rattle.std.specs.Prelude.{◌≡◌, ℕ, ◌+◌, ◌-◌, ◌==◌, List, [], ◌∷◌, ◌++◌, length, map, filter, slice_index_or, refl}
+use Rattle.std.specs.Prelude.{ℕ, ◌+◌, ◌-◌, ◌==◌, List, [], ◌∷◌, ◌++◌, length, map, filter, slice_index_or}
 use Rattle.sporc_delta.specs.Marks.{Mark}
 use Rattle.sporc_member.specs.declared.change.Change.{Change as MemberChange}
 use Rattle.sporc_member.specs.declared.change.ChangeFault.{ChangeFault}
@@ -75,7 +75,3 @@ filled_event entries (events.Discard by) = Discard by
 -- the log of a journal and the history that it led to
 abbrev pub log_of : List (List ℕ) → List Event → List Logged
 log_of entries journal = map (filled_event entries) journal
-
--- a journal names accepted entries by their places
-places_count_on : journal_of (Accept 0 (7 ∷ []) ∷ Discard 1 ∷ Accept 2 (8 ∷ []) ∷ []) ≡ events.Accept 0 1 ∷ events.Discard 1 ∷ events.Accept 2 2 ∷ []
-places_count_on = refl

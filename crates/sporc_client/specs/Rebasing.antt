@@ -1,6 +1,6 @@
 -- Another's form and the pending items pass each other: the other is ordered earlier.
-use Rattle.std.specs.Prelude.{◌≡◌, ℕ, ◌+◌, List, [], ◌∷◌, length, refl, ⊤}
-use Rattle.sporc_delta.specs.Marks.{Mark, Retain, Delete, Insert, apply, base_len, inserted_len, out_len}
+use Rattle.std.specs.Prelude.{◌≡◌, ℕ, ◌+◌, List, [], ◌∷◌, length, ⊤}
+use Rattle.sporc_delta.specs.Marks.{Mark, apply, base_len, inserted_len, out_len}
 use Rattle.sporc_delta.specs.Transforms.{compose, earlier, later}
 use Rattle.sporc_client.specs.declared.pending.Pending.{Pending}
 use Rattle.sporc_client.specs.declared.pending.Pending.TheVariants.{Edit, Change}
@@ -40,20 +40,3 @@ abbrev pub in_one : List Mark → List Pending → List Mark
 in_one start [] = start
 in_one start (Edit marks ∷ items) = in_one (compose start marks) items
 in_one start (Change change ∷ items) = in_one start items
-
--- at one place the other's text comes first: over "x", another's "a" before it, and two of its own, "b" before it and "c" between
-ties_go_to_the_earlier :
-    rebased (Insert 97 ∷ Retain ∷ []) (Edit (Insert 98 ∷ Retain ∷ []) ∷ Edit (Retain ∷ Insert 99 ∷ Retain ∷ []) ∷ [])
-    ≡ Edit (Retain ∷ Insert 98 ∷ Retain ∷ []) ∷ Edit (Retain ∷ Retain ∷ Insert 99 ∷ Retain ∷ []) ∷ []
-ties_go_to_the_earlier = refl
-
--- and to the shown text the other adds its "a" in front
-ties_beyond :
-    beyond (Insert 97 ∷ Retain ∷ []) (Edit (Insert 98 ∷ Retain ∷ []) ∷ Edit (Retain ∷ Insert 99 ∷ Retain ∷ []) ∷ [])
-    ≡ Insert 97 ∷ Retain ∷ Retain ∷ Retain ∷ []
-ties_beyond = refl
-
--- an insertion inside what the other removes stays, and stands alone
-insertions_survive_removals :
-    rebased (Delete ∷ Delete ∷ []) (Edit (Retain ∷ Insert 98 ∷ Retain ∷ []) ∷ []) ≡ Edit (Insert 98 ∷ []) ∷ []
-insertions_survive_removals = refl

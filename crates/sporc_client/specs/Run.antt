@@ -1,18 +1,13 @@
 -- Clients of one document, under a server that hands any bytes to anyone.
-use Rattle.std.specs.Prelude.{◌≡◌, ℕ, ◌≤◌, ◌==◌, true, List, [], ◌∷◌, ◌++◌, length, take, Option, None, Some, if◌then◌else◌, IsSomeAnd, Contains, Ok, refl, ⊤}
+use Rattle.std.specs.Prelude.{◌≡◌, ℕ, ◌≤◌, ◌==◌, true, List, [], ◌∷◌, ◌++◌, length, take, Option, None, Some, if◌then◌else◌, IsSomeAnd, Contains, ⊤}
 use Rattle.std.specs.FinMap.{get}
 use Rattle.lms_tree.specs.LmsPrivate.{LmsPrivate, lms_public_of}
 use Rattle.lms_tree.specs.LmsPublic.{public_key_bytes}
-use Rattle.sporc_member.specs.declared.founder.Founder.{Founder}
-use Rattle.sporc_member.specs.Roster.{member_at}
-use Rattle.sporc_entry.specs.declared.entry.Entry.{Entry}
 use Rattle.sporc_entry.specs.declared.genesis.Genesis.{Genesis}
-use Rattle.sporc_entry.specs.Entry.{entry_of}
 use Rattle.sporc_epoch.specs.Keys.{Keys}
 use Rattle.sporc_head.specs.declared.refusal.Refusal.{Refusal}
-use Rattle.sporc_head.specs.History.{roster_of}
 use Rattle.sporc_line.specs.Good.{Meets}
-use Rattle.sporc_client.specs.Log.{Logged, Submit, Accept}
+use Rattle.sporc_client.specs.Log.{Logged, Submit}
 use Rattle.sporc_client.specs.PlainClient.{Opening, PlainClient, opened}
 use Rattle.sporc_client.specs.Step.{accepted, log_of_entries, replay, step}
 use Rattle.sporc_client.specs.Answers.{journal_has_room, refusal_of}
@@ -58,13 +53,6 @@ pub data Move : Type 0 where
   Give : (who position : ℕ) → List ℕ → Move
   -- it goes back to its first k entries
   Restart : (who k : ℕ) → Move
-
--- whose client a move is of
-abbrev pub mover_of : Move → ℕ
-mover_of (Open who ring) = who
-mover_of (Happen who event) = who
-mover_of (Give who position bytes) = who
-mover_of (Restart who k) = who
 
 -- the clients with this one in its place
 abbrev pub with_client : (ℕ → Option PlainClient) → ℕ → PlainClient → ℕ → Option PlainClient
@@ -123,49 +111,10 @@ abbrev pub IsRun : Setup → World → List Move → Type 0
 IsRun s w [] = ⊤
 IsRun s w (move ∷ moves) = May s w move × IsRun s (after s w move) moves
 
--- the member's client after the first n moves
+-- the world after the first n moves
+abbrev pub world_at : Setup → List Move → ℕ → World
+world_at s moves n = after_all s start (take n moves)
+
+-- the member's client then
 abbrev pub IsAt : Setup → List Move → ℕ → ℕ → PlainClient → Type 0
-IsAt s moves n who c = (after_all s start (take n moves)).clients who ≡ Some c
-
--- ---- worked examples: member 1 opens a client and signs the entry 7
-
-abbrev signs : Keys → List Move
-signs ring = Open 1 ring ∷ Happen 1 (Submit 0 (7 ∷ [])) ∷ []
-
--- what the client was is kept with what it signed, also if it goes back
-its_client_is_kept : (s : Setup) (ring : Keys) → (after_all s start (signs ring)).signed ≡ record { who = 1; entry = 7 ∷ []; client = opened (opening_of s 1 ring) } ∷ []
-its_client_is_kept s ring = refl
-
-signed_for_good : (s : Setup) (ring : Keys) → (after_all s start (signs ring ++ Restart 1 0 ∷ [])).signed ≡ (after_all s start (signs ring)).signed
-signed_for_good s ring = refl
-
--- nobody else has a client then, and what is handed to one who has none changes nothing
-no_one_else : (s : Setup) (ring : Keys) → (after_all s start (signs ring ++ Give 2 1 (7 ∷ []) ∷ [])).clients 2 ≡ None
-no_one_else s ring = refl
-
--- ---- no one forges
-
--- a member's client signed the entry
-abbrev pub IsSignedBy : World → ℕ → List ℕ → Type 0
-IsSignedBy w who bytes = (x : Signing) × Contains w.signed x × (x.who ≡ who) × (x.entry ≡ bytes)
-
--- if the author's key in the history is that of clients of the run, one of them with that key signed the entry
-abbrev pub IsGenuine : Setup → World → List (List ℕ) → List ℕ → Type 0
-IsGenuine s w entries bytes =
-    (e : Entry) (member : Founder) (who : ℕ) → entry_of bytes ≡ Ok e → member_at (roster_of s.genesis entries) e.header.author ≡ Some member
-    → Contains s.members who → member.key ≡ key_of_member s who
-    → (signer : ℕ) × (key_of_member s signer ≡ member.key) × IsSignedBy w signer bytes
-
--- the entry that a move adds to a client's history
-abbrev pub Adds : World → Move → ℕ → PlainClient → List ℕ → Type 0
-Adds w (Happen who (Accept by entry)) other c bytes = (who ≡ other) × (w.clients who ≡ Some c) × (entry ≡ bytes)
-Adds w (Give who position entry) other c bytes =
-    (who ≡ other) × (w.clients who ≡ Some c) × (entry ≡ bytes) × (refusal_of c position entry ≡ None) × (journal_has_room c ≡ true)
-Adds w move other c bytes = ⊥
-
--- each entry that is accepted is genuine there
-abbrev pub Genuine : Setup → World → List Move → Type 0
-Genuine s w [] = ⊤
-Genuine s w (move ∷ moves) =
-    ((who : ℕ) (c : PlainClient) (bytes : List ℕ) → Adds w move who c bytes → IsGenuine s w c.entries bytes)
-    × Genuine s (after s w move) moves
+IsAt s moves n who c = (world_at s moves n).clients who ≡ Some c

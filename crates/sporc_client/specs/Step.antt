@@ -1,8 +1,8 @@
 -- What each event does to a client, and the replay of a log.
-use Rattle.std.specs.Prelude.{◌≡◌, ℕ, ◌++◌, List, [], ◌∷◌, length, drop, map, fold, Bool, false, Option, None, Some, if◌then◌else◌, refl}
+use Rattle.std.specs.Prelude.{ℕ, ◌++◌, List, [], ◌∷◌, length, drop, map, fold, Bool, false, Option, None, Some, if◌then◌else◌}
 use Rattle.std.specs.Str.{bytes_eq}
 use Rattle.std.specs.Option.{is_some}
-use Rattle.sporc_delta.specs.Marks.{Mark, Retain, Insert, replacement, retains}
+use Rattle.sporc_delta.specs.Marks.{Mark, replacement, retains}
 use Rattle.sporc_suffix.specs.Forms.{later_over}
 use Rattle.sporc_head.specs.History.{change_in, is_by}
 use Rattle.sporc_line.specs.Document.{next_form}
@@ -91,20 +91,3 @@ replay opening log = replay_from (opened opening) log
 -- the log of a client that has these entries and nothing of its own, as one that was restarted or resumed
 abbrev pub log_of_entries : List (List ℕ) → List Logged
 log_of_entries entries = map (Accept 0) entries
-
--- ---- worked examples: "a" is written on the empty text, and then "b" by one who had not seen it
-
-abbrev two_edits : Opening → PlainClient
-two_edits o = replay_from (opened o) (Edit 0 0 (Insert 97 ∷ []) ∷ Edit 1 0 (Insert 98 ∷ []) ∷ [])
-
--- the second is restated behind the first
-second_is_restated : (o : Opening) → (two_edits o).pending ≡ items.Edit (Insert 97 ∷ []) ∷ items.Edit (Retain ∷ Insert 98 ∷ []) ∷ []
-second_is_restated o = refl
-
--- the entry of the first comes back: the second stays as it was, stated on the text that is committed now
-own_entry_comes : (o : Opening) → (replay_from (two_edits o) (Submit 0 (7 ∷ []) ∷ Accept 0 (7 ∷ []) ∷ [])).pending ≡ items.Edit (Retain ∷ Insert 98 ∷ []) ∷ []
-own_entry_comes o = refl
-
--- what is given up takes the entry on its way with it
-nothing_is_left : (o : Opening) → (replay_from (two_edits o) (Submit 0 (7 ∷ []) ∷ Discard 0 ∷ [])).flight ≡ None
-nothing_is_left o = refl

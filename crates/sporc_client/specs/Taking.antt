@@ -8,16 +8,15 @@ use Rattle.sporc_entry.specs.Entry.{change_of}
 use Rattle.sporc_line.specs.Document.{text_after}
 use Rattle.sporc_line.specs.LineModel.{LineModel}
 use Rattle.sporc_line.specs.Prepared.{PreparedModel}
-use Rattle.sporc_client.specs.declared.coming.Coming.{Coming}
 use Rattle.sporc_client.specs.declared.event.Event.TheVariants as events
 use Rattle.sporc_client.specs.declared.limits.TheConstants.{MAX_EVENTS}
-use Rattle.sporc_client.specs.Coming.{coming_of, flight_after, pending_after, shown_form}
+use Rattle.sporc_client.specs.Coming.{Effect, coming_of, flight_after, pending_after, shown_form}
 use Rattle.sporc_client.specs.Rebasing.{AreOver, inserted_by}
 use Rattle.sporc_client.specs.Step.{is_same_as}
 use Rattle.sporc_client.specs.Workspace.{WorkspaceModel}
 
 -- what it does to the pending items and to the entry on its way
-abbrev pub coming_at : LineModel → WorkspaceModel → PreparedModel → Coming
+abbrev pub coming_at : LineModel → WorkspaceModel → PreparedModel → Effect
 coming_at line own p = coming_of (is_same_as own.flight p.checked.bytes) (is_some (change_of p.checked.entry)) (p.checked.entry.header.author == line.kit.me) p.form own.pending
 
 -- its shown delta

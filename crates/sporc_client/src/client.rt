@@ -17,13 +17,13 @@ ghost use Rattle.sporc_head.specs.History.{roster_of};
 ghost use Rattle.sporc_member.specs.Roster.{member_at};
 ghost use Rattle.sporc_client.specs.ClientInvariant.{plain_of};
 ghost use Rattle.lms_tree.specs.LmsPrivate.{LmsPrivate};
-ghost use Rattle.lms_leaf.specs.LeafFile.{AreTaken};
+ghost use Rattle.lms_leaf.specs.LeafFile.{ArePassed, AreTaken};
 ghost use Rattle.sporc_delta.specs.Marks.{base_len, inserted_len};
 ghost use Rattle.sporc_delta.specs.declared.limits.TheConstants.{MAX_TEXT_LEN};
 ghost use Rattle.sporc_suffix.specs.Forms.{Follow, all_inserted, later_over, reached};
 ghost use Rattle.sporc_client.specs.Allowed.{is_allowed};
 ghost use Rattle.sporc_client.specs.Soundness.{IsSound};
-ghost use Rattle.sporc_client.specs.ClientModel.{Rise, leaves_of, state_of};
+ghost use Rattle.sporc_client.specs.ClientModel.{Rise, first_leaf_of, leaves_of, state_of};
 ghost use Rattle.sporc_client.specs.Workspace.{SameOwn};
 
 mod accepting;
@@ -101,6 +101,8 @@ impl<D: LeafDisk> Client<D> {
           ticket = None;
         }) }
     {
+        // No draw: what the signer says here of its leaves is what the order of the client's leaves rests on.
+        let _next = signer.next_leaf();
         match opened(alloc, genesis, me, ring, pairs) {
             Ok((line, own)) => Ok(Client {
                 alloc,
@@ -115,13 +117,17 @@ impl<D: LeafDisk> Client<D> {
 
     /// The journal. Each of its events is one that the client's own calls make there; and what it shows is the committed
     /// text with the pending edits. Each of its submissions has a leaf of its own, of those drawn since the opening of the
-    /// leaf file, and no crash makes the blocks of these free again.
+    /// leaf file, and no crash makes the blocks of these free again. From the leaf that was next as the journal began, each
+    /// one that was drawn signed one of its submissions, or is kept.
     pub fn journal(&self) -> &[Event]
         ensures value { result.now ≡ journal_of self.now.log }
         ensures allowed { is_allowed self.now.opening self.now.log ≡ true }
         ensures sound { IsSound (state_of self.now) }
         ensures leaves { Rise self.now.leaves.next_at_open self.now.leaves.next (leaves_of self.now.log) }
+        ensures drawn { Rise (first_leaf_of self.now) self.now.leaves.next (leaves_of self.now.log) }
+        ensures since_open { self.now.leaves.next_at_open ≤ first_leaf_of self.now }
         ensures taken { AreTaken (D.images self.now.leaves.disk (D.moment self.now.leaves.disk)) self.now.leaves.next_at_open self.now.leaves.next }
+        ensures passed { ArePassed (D.images self.now.leaves.disk (D.moment self.now.leaves.disk)) self.now.leaves.next }
         ensures few { length result.now ≤ MAX_EVENTS }
     {
         let _taken = self.signer.next_leaf();
@@ -193,12 +199,16 @@ impl<D: LeafDisk> Client<D> {
         self.own.flight()
     }
 
-    /// Gives the signer back. A ticket that is kept is given up. On the signer's disk the blocks of all leaves drawn since its
-    /// opening are taken, and so those of the leaves of all submissions, each of which has one of its own.
+    /// Gives the signer back, with its disk. A ticket that is kept is given up. On that disk the blocks of all leaves drawn
+    /// since its opening are taken, and so those of the leaves of all submissions, each of which has one of its own. Whatever
+    /// a crash leaves of it, a later opening goes on at the next leaf or above it.
     pub fn close(self) -> Signer<D>
         ensures value { result ≡ record { key = self.opening.key; leaves = self.leaves } }
         ensures leaves { Rise result.leaves.next_at_open result.leaves.next (leaves_of self.log) }
+        ensures drawn { Rise (first_leaf_of self) result.leaves.next (leaves_of self.log) }
+        ensures since_open { result.leaves.next_at_open ≤ first_leaf_of self }
         ensures taken { AreTaken (D.images result.leaves.disk (D.moment result.leaves.disk)) result.leaves.next_at_open result.leaves.next }
+        ensures passed { ArePassed (D.images result.leaves.disk (D.moment result.leaves.disk)) result.leaves.next }
     {
         let _taken = self.signer.next_leaf();
         let Client {

@@ -6,16 +6,16 @@ ghost use Rattle.sporc_delta.specs.declared.limits.TheConstants.{MAX_COUNT, MAX_
 ghost use Rattle.sporc_suffix.specs.Forms.{Follow};
 ghost use Rattle.sporc_entry.specs.Entry.{change_of};
 ghost use Rattle.sporc_line.specs.Document.{text_after};
-ghost use Rattle.sporc_client.specs.Coming.{coming_of, shown_form};
+ghost use Rattle.sporc_client.specs.Coming.{CanCome, coming_of, effect, shown_form};
 ghost use Rattle.sporc_client.specs.Rebasing.{AreOver, inserted_by};
 ghost use Rattle.sporc_client.specs.Step.{is_same_as};
 
-use crate::pending::Pending;
-use crate::rebasing::pass;
+use crate::rebasing::pass_items;
 use crate::workspace::Workspace;
 use sporc_base::{Items, Memory};
 use sporc_delta::Delta;
 use sporc_line::Prepared;
+use sporc_xform::Passed;
 use std::alloc::Global;
 
 /// What an entry that comes does to the pending items and to the entry on its way.
@@ -25,9 +25,9 @@ pub(crate) enum Coming {
     Own,
     /// It is another change: the entry on its way has come too late.
     Change,
-    /// It is another edit: these are the pending items behind it. One of the member's own takes the number of the entry
-    /// on its way.
-    Edit(Items<Pending>, bool),
+    /// It is another edit: this is what the pending items become behind it. One of the member's own takes the number of
+    /// the entry on its way.
+    Edit(Items<Option<Passed>>, bool),
 }
 
 /// What a prepared entry, of these bytes, does to a client's own part, and its shown delta.
@@ -42,7 +42,8 @@ pub(crate) fn settle(
     requires short { length (text_after own.now.shown) ≤ MAX_COUNT }
     requires over { AreOver (base_len prepared.now.form) own.now.pending }
     requires limit { base_len prepared.now.form + inserted_len prepared.now.form + inserted_by own.now.pending ≤ MAX_TEXT_LEN }
-    ensures coming { IfOk result (λ both. both.0 ≡ coming_of (is_same_as own.now.flight bytes.now) (is_some (change_of prepared.now.checked.entry)) (prepared.now.checked.entry.header.author == me) prepared.now.form own.now.pending) }
+    ensures coming { IfOk result (λ both. effect both.0 own.now.pending ≡ coming_of (is_same_as own.now.flight bytes.now) (is_some (change_of prepared.now.checked.entry)) (prepared.now.checked.entry.header.author == me) prepared.now.form own.now.pending) }
+    ensures fits { IfOk result (λ both. CanCome both.0 own.now.pending) }
     ensures form { IfOk result (λ both. both.1 ≡ shown_form (is_same_as own.now.flight bytes.now) (is_some (change_of prepared.now.checked.entry)) (length (text_after own.now.shown)) prepared.now.form own.now.pending) }
 {
     if own.is_on_its_way(bytes) {
@@ -53,7 +54,10 @@ pub(crate) fn settle(
         let keeps = Delta::keep_all(alloc, own.shown_len())?;
         return Ok((Coming::Change, keeps));
     }
-    let passed = pass(alloc, prepared.form(), own.pending())?;
+    let passage = pass_items(alloc, prepared.form(), own.pending())?;
     let by_me = prepared.author() == me;
-    Ok((Coming::Edit(Items::new(passed.items), by_me), passed.form))
+    Ok((
+        Coming::Edit(Items::new(passage.passed), by_me),
+        passage.form,
+    ))
 }

@@ -1,41 +1,85 @@
 //! Another's form and the pending items, passing each other.
 
-ghost use Rattle.std.specs.Prelude.{◌≡◌, ◌+◌, ◌≤◌, ◌∷◌, [], IfOk};
+ghost use Rattle.std.specs.Prelude.{◌≡◌, ◌+◌, ◌≤◌, ◌∷◌, [], IfOk, OnOk};
 ghost use Rattle.sporc_delta.specs.Marks.{base_len, inserted_len, out_len, retains};
 ghost use Rattle.sporc_delta.specs.declared.limits.TheConstants.{MAX_COUNT, MAX_TEXT_LEN};
+ghost use Rattle.sporc_client.specs.Passing.{CanAllBecome, ItemCanBecome, all_became, item_became};
 ghost use Rattle.sporc_client.specs.Rebasing.{AreOver, beyond, in_one, inserted_by, rebased};
 
 use crate::pending::Pending;
 use sporc_base::Memory;
 use sporc_delta::Delta;
-use sporc_xform::{both, compose};
+use sporc_xform::{Passed, compose, pass};
 use std::alloc::Global;
 
-/// The pending items after another's form, and the form after them.
+/// What each pending item becomes behind another's form, None if it stays, and the form behind them.
 #[derive(Drop)]
-pub(crate) struct Passed {
-    pub(crate) items: Vec<Pending>,
+pub(crate) struct Passage {
+    pub(crate) passed: Vec<Option<Passed>>,
     pub(crate) form: Delta,
 }
 
-// Passes a form and the pending items by each other; the form is ordered earlier.
-pub(crate) fn pass(alloc: Global, form: &Delta, items: &[Pending]) -> Result<Passed, Memory>
+// Passes a form and the pending items by each other, all but the change of the items; the form is ordered earlier.
+pub(crate) fn pass_items(alloc: Global, form: &Delta, items: &[Pending]) -> Result<Passage, Memory>
     requires over { AreOver (base_len form.now) items.now }
     requires limit { base_len form.now + inserted_len form.now + inserted_by items.now ≤ MAX_TEXT_LEN }
-    ensures items { IfOk result (λ passed. passed.items.items ≡ rebased form.now items.now) }
-    ensures form { IfOk result (λ passed. passed.form ≡ beyond form.now items.now) }
+    ensures items { IfOk result (λ passage. all_became passage.passed.items items.now ≡ rebased form.now items.now) }
+    ensures fits { IfOk result (λ passage. CanAllBecome passage.passed.items items.now) }
+    ensures form { IfOk result (λ passage. passage.form ≡ beyond form.now items.now) }
 {
     let mut after = form.copy()?;
     let mut passed = Vec::with_capacity(alloc, items.len())?;
     for item in items {
-        let (one, next) = pass_one(alloc, after, item)?;
+        let one = pass_one(alloc, &mut after, item)?;
         passed.push_reserved(one);
-        after = next;
     }
-    Ok(Passed {
-        items: passed,
+    Ok(Passage {
+        passed,
         form: after,
     })
+}
+
+// Passes a form and one item by each other, all but the change of the item.
+fn pass_one(alloc: Global, form: &mut Delta, item: &Pending) -> Result<Option<Passed>, Memory>
+    requires over { AreOver (base_len form.old) (item.now ∷ []) }
+    requires limit { base_len form.old + inserted_len form.old + inserted_by (item.now ∷ []) ≤ MAX_TEXT_LEN }
+    ensures item { IfOk result (λ one. item_became one item.now ∷ [] ≡ rebased form.old (item.now ∷ [])) }
+    ensures fits { IfOk result (λ one. ItemCanBecome one item.now) }
+    ensures form { OnOk result (form.new ≡ beyond form.old (item.now ∷ [])) }
+{
+    match item {
+        Pending::Edit(delta) => {
+            let one = pass(alloc, form, delta)?;
+            Ok(Some(one))
+        }
+        Pending::Change(_) => Ok(None),
+    }
+}
+
+/// Makes of each pending item what it becomes.
+pub(crate) fn put_all(passed: Vec<Option<Passed>>, items: &mut Vec<Pending>)
+    requires { CanAllBecome passed.items items.old.items }
+    ensures value { items.new.items ≡ all_became passed.items items.old.items }
+{
+    let mut left = passed;
+    'items: while let Some(one) = left.pop() {
+        let place = left.len();
+        put_one(one, &mut items[place]);
+    }
+}
+
+// Makes of one item what it becomes.
+fn put_one(passed: Option<Passed>, item: &mut Pending)
+    requires { ItemCanBecome passed item.old }
+    ensures value { item.new ≡ item_became passed item.old }
+{
+    let Some(passed) = passed else {
+        return;
+    };
+    match item {
+        Pending::Edit(delta) => passed.put(delta),
+        Pending::Change(_) => drop(passed),
+    }
 }
 
 /// The pending edits in one delta, over a text of `len` characters.
@@ -59,21 +103,5 @@ fn one_more(alloc: Global, all: Delta, item: &Pending) -> Result<Delta, Memory>
     match item {
         Pending::Edit(delta) => compose(alloc, &all, delta),
         Pending::Change(_) => Ok(all),
-    }
-}
-
-// Passes a form and one item by each other: the item, and the form.
-fn pass_one(alloc: Global, form: Delta, item: &Pending) -> Result<(Pending, Delta), Memory>
-    requires over { AreOver (base_len form) (item.now ∷ []) }
-    requires limit { base_len form + inserted_len form + inserted_by (item.now ∷ []) ≤ MAX_TEXT_LEN }
-    ensures item { IfOk result (λ one. one.0 ∷ [] ≡ rebased form (item.now ∷ [])) }
-    ensures form { IfOk result (λ one. one.1 ≡ beyond form (item.now ∷ [])) }
-{
-    match item {
-        Pending::Edit(delta) => {
-            let (after, restated) = both(alloc, &form, delta)?;
-            Ok((Pending::Edit(restated), after))
-        }
-        Pending::Change(change) => Ok((Pending::Change(*change), form)),
     }
 }

@@ -4,15 +4,17 @@ ghost use Rattle.std.specs.Prelude.{◌≡◌, ◌+◌, ◌≤◌, ◌<◌, ◌�
 ghost use Rattle.sporc_delta.specs.Marks.{base_len, inserted_len, retains};
 ghost use Rattle.sporc_delta.specs.declared.limits.TheConstants.{MAX_COUNT, MAX_TEXT_LEN};
 ghost use Rattle.sporc_suffix.specs.Forms.{Follow, all_inserted, later_over, reached};
+ghost use Rattle.sporc_suffix.specs.Runs.{IsReadyAt};
 ghost use Rattle.sporc_line.specs.Document.{text_after};
 ghost use Rattle.sporc_client.specs.declared.limits.TheConstants.{MAX_EVENTS};
-ghost use Rattle.sporc_client.specs.Coming.{flight_after, pending_after};
+ghost use Rattle.sporc_client.specs.Coming.{CanCome, effect, flight_after, pending_after};
 ghost use Rattle.sporc_client.specs.Step.{is_same_as};
 ghost use Rattle.sporc_client.specs.Workspace.{SameOwn};
 
 use crate::coming::Coming;
 use crate::event::Event;
 use crate::pending::Pending;
+use crate::rebasing::put_all;
 use sporc_base::{Bytes, Memory, is_same};
 use sporc_delta::Delta;
 use sporc_suffix::{Blocks, ReadyForm, Steps};
@@ -130,7 +132,8 @@ impl Workspace {
     /// Takes the memory of one more event, with this shown delta, and of one more pending item.
     pub(crate) fn ready(&mut self, form: Delta) -> Result<ReadyForm, Memory>
         requires base { base_len form ≡ reached 0 self.old.shown }
-        ensures ok { IfOk result (λ ready. ready ≡ form) }
+        ensures ok { IfOk result (λ ready. ready.form ≡ form) }
+        ensures made { IfOk result (IsReadyAt 0 self.new.shown) }
         ensures spare { OnOk result (0 < self.new.spare) }
         ensures pending { self.new.pending ≡ self.old.pending }
         ensures flight { self.new.flight ≡ self.old.flight }
@@ -147,12 +150,12 @@ impl Workspace {
 
     /// Appends an event with the shown delta that was made ready.
     pub(crate) fn record_event(&mut self, event: Event, ready: ReadyForm)
-        requires base { base_len ready ≡ reached 0 self.old.shown }
+        requires made { IsReadyAt 0 self.old.shown ready }
         requires room { length self.old.shown < MAX_EVENTS }
         requires spare { 0 < self.old.spare }
         ensures pending { self.new.pending ≡ self.old.pending }
         ensures flight { self.new.flight ≡ self.old.flight }
-        ensures shown { self.new.shown ≡ self.old.shown ++ ready ∷ [] }
+        ensures shown { self.new.shown ≡ self.old.shown ++ ready.form ∷ [] }
         ensures journal { self.new.journal ≡ self.old.journal ++ event ∷ [] }
     {
         self.journal.push_reserved(event);
@@ -161,12 +164,12 @@ impl Workspace {
 
     /// Appends an event with the shown delta that was made ready, and an item.
     pub(crate) fn record_item(&mut self, event: Event, ready: ReadyForm, item: Pending)
-        requires base { base_len ready ≡ reached 0 self.old.shown }
+        requires made { IsReadyAt 0 self.old.shown ready }
         requires room { length self.old.shown < MAX_EVENTS }
         requires spare { 0 < self.old.spare }
         ensures pending { self.new.pending ≡ self.old.pending ++ item ∷ [] }
         ensures flight { self.new.flight ≡ self.old.flight }
-        ensures shown { self.new.shown ≡ self.old.shown ++ ready ∷ [] }
+        ensures shown { self.new.shown ≡ self.old.shown ++ ready.form ∷ [] }
         ensures journal { self.new.journal ≡ self.old.journal ++ event ∷ [] }
     {
         self.pending.push_reserved(item);
@@ -176,12 +179,13 @@ impl Workspace {
 
     /// Does what an entry that comes does, and appends its event with the shown delta that was made ready.
     pub(crate) fn record_coming(&mut self, event: Event, ready: ReadyForm, coming: Coming)
-        requires base { base_len ready ≡ reached 0 self.old.shown }
+        requires made { IsReadyAt 0 self.old.shown ready }
         requires room { length self.old.shown < MAX_EVENTS }
         requires spare { 0 < self.old.spare }
-        ensures pending { self.new.pending ≡ pending_after coming self.old.pending }
-        ensures flight { self.new.flight ≡ flight_after coming self.old.flight }
-        ensures shown { self.new.shown ≡ self.old.shown ++ ready ∷ [] }
+        requires fits { CanCome coming self.old.pending }
+        ensures pending { self.new.pending ≡ pending_after (effect coming self.old.pending) self.old.pending }
+        ensures flight { self.new.flight ≡ flight_after (effect coming self.old.pending) self.old.flight }
+        ensures shown { self.new.shown ≡ self.old.shown ++ ready.form ∷ [] }
         ensures journal { self.new.journal ≡ self.old.journal ++ event ∷ [] }
     {
         self.record_event(event, ready);
@@ -191,8 +195,8 @@ impl Workspace {
                 self.flight = None;
             }
             Coming::Change => self.flight = None,
-            Coming::Edit(items, by_me) => {
-                self.pending = items.into_vec();
+            Coming::Edit(passed, by_me) => {
+                put_all(passed.into_vec(), &mut self.pending);
                 if by_me {
                     self.flight = None;
                 }
@@ -214,12 +218,12 @@ impl Workspace {
 
     /// Appends an event with the shown delta that was made ready, and puts an entry on its way.
     pub(crate) fn record_submission(&mut self, event: Event, ready: ReadyForm, entry: Bytes)
-        requires base { base_len ready ≡ reached 0 self.old.shown }
+        requires made { IsReadyAt 0 self.old.shown ready }
         requires room { length self.old.shown < MAX_EVENTS }
         requires spare { 0 < self.old.spare }
         ensures pending { self.new.pending ≡ self.old.pending }
         ensures flight { self.new.flight ≡ Some entry }
-        ensures shown { self.new.shown ≡ self.old.shown ++ ready ∷ [] }
+        ensures shown { self.new.shown ≡ self.old.shown ++ ready.form ∷ [] }
         ensures journal { self.new.journal ≡ self.old.journal ++ event ∷ [] }
     {
         self.record_event(event, ready);
@@ -228,12 +232,12 @@ impl Workspace {
 
     /// Appends an event with the shown delta that was made ready, and takes the first item off, if there is one.
     pub(crate) fn record_drop(&mut self, event: Event, ready: ReadyForm)
-        requires base { base_len ready ≡ reached 0 self.old.shown }
+        requires made { IsReadyAt 0 self.old.shown ready }
         requires room { length self.old.shown < MAX_EVENTS }
         requires spare { 0 < self.old.spare }
         ensures pending { self.new.pending ≡ drop 1 self.old.pending }
         ensures flight { self.new.flight ≡ self.old.flight }
-        ensures shown { self.new.shown ≡ self.old.shown ++ ready ∷ [] }
+        ensures shown { self.new.shown ≡ self.old.shown ++ ready.form ∷ [] }
         ensures journal { self.new.journal ≡ self.old.journal ++ event ∷ [] }
     {
         self.record_event(event, ready);
@@ -242,12 +246,12 @@ impl Workspace {
 
     /// Gives all of it up, and appends the event of that with the shown delta that was made ready.
     pub(crate) fn record_discard(&mut self, event: Event, ready: ReadyForm)
-        requires base { base_len ready ≡ reached 0 self.old.shown }
+        requires made { IsReadyAt 0 self.old.shown ready }
         requires room { length self.old.shown < MAX_EVENTS }
         requires spare { 0 < self.old.spare }
         ensures pending { self.new.pending ≡ [] }
         ensures flight { self.new.flight ≡ None }
-        ensures shown { self.new.shown ≡ self.old.shown ++ ready ∷ [] }
+        ensures shown { self.new.shown ≡ self.old.shown ++ ready.form ∷ [] }
         ensures journal { self.new.journal ≡ self.old.journal ++ event ∷ [] }
     {
         self.record_event(event, ready);
@@ -260,8 +264,8 @@ impl Workspace {
 pub(crate) fn ready_keep(alloc: Global, own: &mut Workspace) -> Result<ReadyForm, Memory>
     requires follow { Follow 0 own.old.shown }
     requires short { length (text_after own.old.shown) ≤ MAX_COUNT }
-    ensures ok { IfOk result (λ ready. ready ≡ retains (length (text_after own.old.shown))) }
-    ensures base { IfOk result (λ ready. base_len ready ≡ reached 0 own.old.shown) }
+    ensures ok { IfOk result (λ ready. ready.form ≡ retains (length (text_after own.old.shown))) }
+    ensures made { IfOk result (IsReadyAt 0 own.new.shown) }
     ensures spare { OnOk result (0 < own.new.spare) }
     ensures unchanged { SameOwn own.old own.new }
 {

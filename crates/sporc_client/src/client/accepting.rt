@@ -2,6 +2,7 @@
 
 ghost use Rattle.std.specs.Prelude.{◌≡◌, ◌<◌, ◌≤◌, ◌++◌, ◌==◌, length, is_some, nat_lt, IfOk, OnOk, OnErr};
 ghost use Rattle.sporc_base.specs.FirstFault.{AnswersUnless};
+ghost use Rattle.sporc_suffix.specs.Runs.{IsReadyAt};
 ghost use Rattle.sporc_entry.specs.Entry.{change_of};
 ghost use Rattle.sporc_line.specs.LineChecks.{first_fault};
 ghost use Rattle.sporc_line.specs.Prepared.{IsPrepared};
@@ -9,7 +10,7 @@ ghost use Rattle.sporc_client.specs.declared.limits.TheConstants.{MAX_EVENTS};
 ghost use Rattle.sporc_client.specs.Answers.{accept_fault, added, or_full};
 ghost use Rattle.sporc_client.specs.ClientModel.{state_of};
 ghost use Rattle.sporc_client.specs.Log.{Accept as Accepted};
-ghost use Rattle.sporc_client.specs.Coming.{coming_of};
+ghost use Rattle.sporc_client.specs.Coming.{CanCome, coming_of, effect};
 ghost use Rattle.sporc_client.specs.Step.{is_same_as};
 ghost use Rattle.sporc_client.specs.Taking.{CanSettle, Takes, form_at};
 ghost use Rattle.sporc_client.specs.Workspace.{SameOwn};
@@ -91,8 +92,10 @@ fn ready_coming(
 ) -> Result<(Coming, ReadyForm), Memory>
     requires bytes { prepared.now.checked.bytes ≡ bytes.now }
     requires settles { CanSettle own.old prepared.now }
-    ensures coming { IfOk result (λ both. both.0 ≡ coming_of (is_same_as own.old.flight bytes.now) (is_some (change_of prepared.now.checked.entry)) (prepared.now.checked.entry.header.author == me) prepared.now.form own.old.pending) }
-    ensures ready { IfOk result (λ both. both.1 ≡ form_at own.old prepared.now) }
+    ensures coming { IfOk result (λ both. effect both.0 own.old.pending ≡ coming_of (is_same_as own.old.flight bytes.now) (is_some (change_of prepared.now.checked.entry)) (prepared.now.checked.entry.header.author == me) prepared.now.form own.old.pending) }
+    ensures fits { IfOk result (λ both. CanCome both.0 own.old.pending) }
+    ensures ready { IfOk result (λ both. both.1.form ≡ form_at own.old prepared.now) }
+    ensures made { IfOk result (λ both. IsReadyAt 0 own.new.shown both.1) }
     ensures spare { OnOk result (0 < own.new.spare) }
     ensures unchanged { SameOwn own.old own.new }
 {

@@ -39,6 +39,8 @@ impl<D: LeafDisk> Client<D> {
         }) }
         ensures returned { IfErr result (λ e. (e.0 ≡ line) × (e.1 ≡ signer)) }
     {
+        // No draw: as in `open`.
+        let _next = signer.next_leaf();
         match accepted_before(alloc, &line) {
             Ok(own) => Ok(Client {
                 alloc,

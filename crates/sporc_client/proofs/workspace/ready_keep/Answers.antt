@@ -12,7 +12,3 @@ ready-requires c = record { base = rw c.in_ok-keep.ensures.ok (base_len-retains 
 
 pub returns-clause-ok : goal.returns-clause-ok
 returns-clause-ok c = c.in_ok-ready.ensures.ok ∙ c.in_ok-keep.ensures.ok ∙ ap retains c.shown_len.ensures.value
-
-pub returns-clause-base : goal.returns-clause-base
-returns-clause-base c =
-    rw (c.in_ok-ready.ensures.ok, c.in_ok-keep.ensures.ok) (base_len-retains c.shown_len.result ∙ c.shown_len.ensures.value ∙ length-text c.args.own.now.shown c.requires.follow)

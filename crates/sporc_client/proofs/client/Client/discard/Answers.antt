@@ -64,12 +64,6 @@ returns-in_err-ready-clause-log g c =
     (record { pending = ready.pending; flight = ready.flight; shown = ready.shown; journal = ready.journal }) in
     no_more c.from_residual-in_err-ready.result (Discard c.args.by) c.args.self.now _ c.from_residual-in_err-ready.ensures.0 (same ∙ c.self.view_is)
 
-pub record_discard-requires-clause-base : goal.record_discard-requires-clause-base
-record_discard-requires-clause-base g c =
-    let inside = c.self.inside in
-    rw (c.in_ok-ready.ensures.ok, c.in_ok-ready.ensures.shown)
-    (replaced_base inside.line inside.signer inside.ticket inside.own c.self.invariant c.in_ok-form.form c.shown_len.result _ c.in_ok-form.ensures.ok c.shown_len.ensures.value)
-
 pub record_discard-requires-clause-room : goal.record_discard-requires-clause-room
 record_discard-requires-clause-room g c = rw c.in_ok-ready.ensures.shown (events_left (length c.self.inside.own.shown) c.in_ok-check_events.ensures.fault)
 
@@ -84,7 +78,7 @@ invariant_of-self-2 g c =
     let did = c.record_discard.ensures in
     let ready = c.in_ok-ready.ensures in
     let text : chars c.as_str.result.now ≡ committed_of plain = ap chars c.as_str.ensures.value ∙ c.in_ok-text.ensures.chars in
-    let form : c.in_ok-ready.ready ≡ replacement (length (shown_of plain)) (committed_of plain) =
+    let form : c.in_ok-ready.ready.form ≡ replacement (length (shown_of plain)) (committed_of plain) =
     ready.ok
     ∙ c.in_ok-form.ensures.ok
     ∙ ap (λ (n : ℕ). replacement n (chars c.as_str.result.now)) (c.shown_len.ensures.value ∙ length_of_shown line signer inside.ticket own known)
@@ -92,7 +86,7 @@ invariant_of-self-2 g c =
     let records = discard_records line signer inside.ticket own known c.record_discard.new.self c.args.by (events_left (length own.shown) c.in_ok-check_events.ensures.fault)
     did.pending
     did.flight
-    (did.shown ∙ ap (λ (fs : List (List Mark)). fs ++ c.in_ok-ready.ready ∷ []) ready.shown ∙ ap (λ (f : List Mark). own.shown ++ f ∷ []) form)
+    (did.shown ∙ ap (λ (fs : List (List Mark)). fs ++ c.in_ok-ready.ready.form ∷ []) ready.shown ∙ ap (λ (f : List Mark). own.shown ++ f ∷ []) form)
     (did.journal ∙ ap (λ (es : List Event). es ++ events.Discard c.args.by ∷ []) ready.journal) in
     (recorded line line signer signer inside.ticket inside.ticket own c.record_discard.new.self (Discard c.args.by) known records).invariant
 

@@ -1,6 +1,5 @@
-use Rattle.std.proofs.Common.{◌≡◌, List, [], ◌∷◌, ◌++◌, ap, sym, ◌∙◌, arith}
+use Rattle.std.proofs.Common.{◌≡◌, List, [], ◌∷◌, ◌++◌, ap, ◌∙◌, arith}
 use Rattle.sporc_delta.specs.Marks.{Mark, retains}
-use Rattle.sporc_suffix.specs.Forms.{reached}
 use Rattle.sporc_client.specs.declared.event.Event.{Event}
 use Rattle.sporc_client.specs.declared.event.Event.TheVariants as stored
 use Rattle.sporc_client.specs.declared.pending.Pending.{Pending}
@@ -26,9 +25,6 @@ invariant_of-self g c =
     let inside = c.self.inside in
     same_fields inside.line inside.signer inside.ticket inside.own c.self.invariant inside.line c.ready_keep.new.own same_line c.in_err-ready.ensures.unchanged
 
-pub record_drop-requires-clause-base : goal.record_drop-requires-clause-base
-record_drop-requires-clause-base g c = c.in_ok-ready.ensures.base ∙ ap (reached 0) (sym c.in_ok-ready.ensures.unchanged.shown)
-
 pub record_drop-requires-clause-room : goal.record_drop-requires-clause-room
 record_drop-requires-clause-room g c =
     let inside = c.self.inside in
@@ -49,10 +45,10 @@ invariant_of-self-2 g c =
     let is : due plain ≡ Drop c.args.fault = ap due state ∙ c.requires in
     let did = c.record_drop.ensures in
     let ready = c.in_ok-ready.ensures.unchanged in
-    let form : c.in_ok-ready.ready ≡ keeps plain = c.in_ok-ready.ensures.ok ∙ ap retains (length_of_shown line signer inside.ticket own known) in
+    let form : c.in_ok-ready.ready.form ≡ keeps plain = c.in_ok-ready.ensures.ok ∙ ap retains (length_of_shown line signer inside.ticket own known) in
     let records = drop_records line signer inside.ticket own known c.record_drop.new.self c.args.by c.args.fault is
     (did.pending ∙ ap (λ (ps : List Pending). drop 1 ps) ready.pending)
     (did.flight ∙ ready.flight)
-    (did.shown ∙ ap (λ (fs : List (List Mark)). fs ++ c.in_ok-ready.ready ∷ []) ready.shown ∙ ap (λ (f : List Mark). own.shown ++ f ∷ []) form)
+    (did.shown ∙ ap (λ (fs : List (List Mark)). fs ++ c.in_ok-ready.ready.form ∷ []) ready.shown ∙ ap (λ (f : List Mark). own.shown ++ f ∷ []) form)
     (did.journal ∙ ap (λ (es : List Event). es ++ stored.Dropped c.args.by c.args.fault ∷ []) ready.journal) in
     (recorded line line signer signer inside.ticket inside.ticket own c.record_drop.new.self (Dropped c.args.by c.args.fault) known records).invariant

@@ -1,6 +1,5 @@
 use Rattle.std.proofs.Common.{◌≡◌, ℕ, List, [], ◌∷◌, ◌++◌, Option, None, Some, refl, ap, sym, subst, ◌∙◌, true, arith}
 use Rattle.sporc_delta.specs.Marks.{Mark, retains}
-use Rattle.sporc_suffix.specs.Forms.{reached}
 use Rattle.sporc_client.specs.declared.event.Event.{Event}
 use Rattle.sporc_client.specs.declared.event.Event.TheVariants as stored
 use Rattle.sporc_client.specs.ClientInvariant.{ClientInvariant, plain_of}
@@ -27,9 +26,6 @@ pub invariant_of-self : goal.invariant_of-self
 invariant_of-self g c =
     let inside = c.self.inside in
     same_fields inside.line inside.signer inside.ticket inside.own c.self.invariant inside.line c.ready_keep.new.own same_line c.in_err-ready.ensures.unchanged
-
-pub record_submission-requires-clause-base : goal.record_submission-requires-clause-base
-record_submission-requires-clause-base g c = c.in_ok-ready.ensures.base ∙ ap (reached 0) (sym c.in_ok-ready.ensures.unchanged.shown)
 
 pub record_submission-requires-clause-room : goal.record_submission-requires-clause-room
 record_submission-requires-clause-room g c =
@@ -80,11 +76,11 @@ invariant_of-self-2 g c =
     let order = order_at_hand g.D.LeafDisk.stored g.D.LeafDisk.moment g.D.LeafDisk.images g.D.Counted.faults signer.leaves signer'.leaves signed inside.ticket known.leaves
     (λ leaf h. ap (λ s. s.leaves) (made.undrawn leaf h)) made.drawn in
     let kept : AreInOrder signer'.leaves.next_at_open signer'.leaves.next (Some leaf.0) signed = subst (λ (t : Option ℕ). AreInOrder signer'.leaves.next_at_open signer'.leaves.next t signed) leaf.1 order in
-    let form : c.in_ok-ready.ready ≡ keeps plain = c.in_ok-ready.ensures.ok ∙ ap retains (length_of_shown line signer inside.ticket own known) in
+    let form : c.in_ok-ready.ready.form ≡ keeps plain = c.in_ok-ready.ensures.ok ∙ ap retains (length_of_shown line signer inside.ticket own known) in
     let records = submit_records line signer inside.ticket own known signer' c.record_submission.new.self c.args.by leaf.0 bytes made.key (subst (λ (p : PlainClient). IsSubmission p leaf.0 bytes) same leaf.2) (signs_event (due plain) is) kept
     (did.pending ∙ ready.pending)
     (did.flight ∙ ap Some made.made.flight)
-    (did.shown ∙ ap (λ (fs : List (List Mark)). fs ++ c.in_ok-ready.ready ∷ []) ready.shown ∙ ap (λ (f : List Mark). own.shown ++ f ∷ []) form)
+    (did.shown ∙ ap (λ (fs : List (List Mark)). fs ++ c.in_ok-ready.ready.form ∷ []) ready.shown ∙ ap (λ (f : List Mark). own.shown ++ f ∷ []) form)
     (did.journal ∙ ap (λ (es : List Event). es ++ stored.Submit c.args.by c.in_ok-made.made.event ∷ []) ready.journal
     ∙ ap (λ (b : List ℕ). own.journal ++ stored.Submit c.args.by b ∷ []) made.made.event) in
     let with_none = (recorded line line signer signer' inside.ticket None own c.record_submission.new.self (Submit c.args.by bytes) known records).invariant in

@@ -1,20 +1,21 @@
-use Rattle.std.proofs.Common.{◌≡◌, ℕ, ◌+◌, ◌++◌, ◌∷◌, [], List, length, length-append, ap, ◌∙◌, arith}
+use Rattle.std.proofs.Common.{◌≡◌, ℕ, ◌+◌, ◌++◌, ◌∷◌, [], List, length, length-append, ap, sym, subst, ◌∙◌, arith}
 use Rattle.sporc_delta.specs.Marks.{Mark}
-use Rattle.sporc_client.specs.declared.coming.Coming.{Coming}
 use Rattle.sporc_client.specs.declared.event.Event.{Event}
 use Rattle.sporc_client.specs.declared.event.Event.TheVariants as events
-use Rattle.sporc_client.specs.Coming.{flight_after, pending_after}
+use Rattle.sporc_client.specs.declared.pending.Pending.{Pending}
+use Rattle.sporc_client.specs.Coming.{CanCome, Effect, effect, flight_after, pending_after}
 use Rattle.sporc_client.specs.Taking.{coming_at}
-use Rattle.sporc_client.proofs.Comings.{coming_there}
+use Rattle.sporc_client.proofs.Comings.{coming_there, same_flight}
 use Rattle.sporc_client.proofs.client.accepting.take_entry.Goals as goal
 
 pub record_coming-requires : goal.record_coming-requires
 record_coming-requires c =
     let did = c.in-Ok.ensures in
     record {
-      base = rw (did.ready, did.unchanged.shown) c.requires.settles.base;
+      made = did.made;
       room = rw did.unchanged.shown c.requires.settles.room;
       spare = did.spare;
+      fits = subst (CanCome c.in-Ok.coming) (sym did.unchanged.pending) did.fits;
     }
 
 pub returns-in-Ok-clause-ok : goal.returns-in-Ok-clause-ok
@@ -25,14 +26,14 @@ returns-in-Ok-clause-ok c =
     let found = c.in-Ok.ensures in
     let same = found.unchanged in
     let did = c.record_coming.ensures in
-    let coming : c.in-Ok.coming ≡ coming_at line own p = coming_there line own p c.args.bytes.now c.me.result c.in-Ok.coming c.requires.bytes c.me.ensures.value found.coming in
+    let coming : effect c.in-Ok.coming own.pending ≡ coming_at line own p = coming_there line own p c.args.bytes.now c.me.result c.in-Ok.coming c.requires.bytes c.me.ensures.value found.coming in
     let place : c.len-place.result ≡ length line.entries + 1 = omega (arith, c.len-place.ensures.value, ap length c.commit.ensures.entries, length-append line.entries (p.checked.bytes ∷ [])) in
     record {
       genesis = c.commit.ensures.genesis;
       kit = c.commit.ensures.kit;
       entries = c.commit.ensures.entries;
-      pending = did.pending ∙ ap (pending_after c.in-Ok.coming) same.pending ∙ ap (λ (k : Coming). pending_after k own.pending) coming;
-      flight = did.flight ∙ ap (flight_after c.in-Ok.coming) same.flight ∙ ap (λ (k : Coming). flight_after k own.flight) coming;
-      shown = did.shown ∙ ap (λ (fs : List (List Mark)). fs ++ c.in-Ok.ready ∷ []) same.shown ∙ ap (λ (f : List Mark). own.shown ++ f ∷ []) found.ready;
+      pending = did.pending ∙ ap (λ (ps : List Pending). pending_after (effect c.in-Ok.coming ps) ps) same.pending ∙ ap (λ (e : Effect). pending_after e own.pending) coming;
+      flight = did.flight ∙ same_flight c.in-Ok.coming _ own.pending _ own.flight same.pending same.flight ∙ ap (λ (e : Effect). flight_after e own.flight) coming;
+      shown = did.shown ∙ ap (λ (fs : List (List Mark)). fs ++ c.in-Ok.ready.form ∷ []) same.shown ∙ ap (λ (f : List Mark). own.shown ++ f ∷ []) found.ready;
       journal = did.journal ∙ ap (λ (es : List Event). es ++ events.Accept c.args.by c.len-place.result ∷ []) same.journal ∙ ap (λ (n : ℕ). own.journal ++ events.Accept c.args.by n ∷ []) place;
     }

@@ -14,12 +14,6 @@ ready-requires c =
     let next = next_form_at line.genesis line.kit line.entries c.loop-i.i c.form.result.now c.len-len.ensures.good c.form.ensures.value in
     record { base = rw (c.in_ok-form.ensures.ok, c.loop-i.invariant.shown) next.base }
 
-pub record_event-requires-clause-base : goal.record_event-requires-clause-base
-record_event-requires-clause-base c =
-    let line = c.args.line.now in
-    let next = next_form_at line.genesis line.kit line.entries c.loop-i.i c.form.result.now c.len-len.ensures.good c.form.ensures.value in
-    rw (c.in_ok-ready.ensures.ok, c.in_ok-form.ensures.ok, c.in_ok-ready.ensures.shown, c.loop-i.invariant.shown) next.base
-
 pub loop-i-preserved : goal.loop-i-preserved
 loop-i-preserved c =
     let line = c.args.line.now in
@@ -34,7 +28,7 @@ loop-i-preserved c =
       flight = did.flight ∙ ready.flight ∙ before.flight;
       shown =
           did.shown
-          ∙ ap (λ (fs : List (List Mark)). fs ++ c.in_ok-ready.ready ∷ []) (ready.shown ∙ before.shown)
+          ∙ ap (λ (fs : List (List Mark)). fs ++ c.in_ok-ready.ready.form ∷ []) (ready.shown ∙ before.shown)
           ∙ ap (λ (f : List Mark). take i (forms_of line.genesis line.kit line.entries) ++ f ∷ []) (ready.ok ∙ c.in_ok-form.ensures.ok)
           ∙ sym next.more;
       journal =

@@ -1,0 +1,74 @@
+-- Worked examples: logs, pending edits that another's edit passes, what events do to a client, and what a run keeps.
+use Rattle.std.proofs.Common.{◌≡◌, List, [], ◌∷◌, ◌++◌, None, refl}
+use Rattle.sporc_delta.specs.Marks.{Retain, Delete, Insert}
+use Rattle.sporc_epoch.specs.Keys.{Keys}
+use Rattle.sporc_client.specs.declared.event.Event.TheVariants as stored
+use Rattle.sporc_client.specs.declared.pending.Pending.TheVariants as items
+use Rattle.sporc_client.specs.Log.{journal_of}
+use Rattle.sporc_client.specs.Log as events
+use Rattle.sporc_client.specs.PlainClient.{Opening, PlainClient, opened}
+use Rattle.sporc_client.specs.Rebasing.{beyond, rebased}
+use Rattle.sporc_client.specs.Run.{Setup, Move, Open, Happen, Give, Restart, after_all, opening_of, start}
+use Rattle.sporc_client.specs.Step.{replay_from}
+
+-- a journal names accepted entries by their places
+places_count_on :
+    journal_of (events.Accept 0 (7 ∷ []) ∷ events.Discard 1 ∷ events.Accept 2 (8 ∷ []) ∷ [])
+    ≡ stored.Accept 0 1 ∷ stored.Discard 1 ∷ stored.Accept 2 2 ∷ []
+places_count_on = refl
+
+-- ---- another's edit
+
+-- at one place the other's text comes first: over "x", another's "a" before it, and two of its own, "b" before it and "c"
+-- between
+ties_go_to_the_earlier :
+    rebased (Insert 97 ∷ Retain ∷ []) (items.Edit (Insert 98 ∷ Retain ∷ []) ∷ items.Edit (Retain ∷ Insert 99 ∷ Retain ∷ []) ∷ [])
+    ≡ items.Edit (Retain ∷ Insert 98 ∷ Retain ∷ []) ∷ items.Edit (Retain ∷ Retain ∷ Insert 99 ∷ Retain ∷ []) ∷ []
+ties_go_to_the_earlier = refl
+
+-- and to the shown text the other adds its "a" in front
+ties_beyond :
+    beyond (Insert 97 ∷ Retain ∷ []) (items.Edit (Insert 98 ∷ Retain ∷ []) ∷ items.Edit (Retain ∷ Insert 99 ∷ Retain ∷ []) ∷ [])
+    ≡ Insert 97 ∷ Retain ∷ Retain ∷ Retain ∷ []
+ties_beyond = refl
+
+-- an insertion inside what the other removes stays, and stands alone
+insertions_survive_removals :
+    rebased (Delete ∷ Delete ∷ []) (items.Edit (Retain ∷ Insert 98 ∷ Retain ∷ []) ∷ []) ≡ items.Edit (Insert 98 ∷ []) ∷ []
+insertions_survive_removals = refl
+
+-- ---- events: "a" is written on the empty text, and then "b" by one who had not seen it
+
+abbrev two_edits : Opening → PlainClient
+two_edits o = replay_from (opened o) (events.Edit 0 0 (Insert 97 ∷ []) ∷ events.Edit 1 0 (Insert 98 ∷ []) ∷ [])
+
+-- the second is restated behind the first
+second_is_restated : (o : Opening) → (two_edits o).pending ≡ items.Edit (Insert 97 ∷ []) ∷ items.Edit (Retain ∷ Insert 98 ∷ []) ∷ []
+second_is_restated o = refl
+
+-- the entry of the first comes back: the second stays as it was, stated on the text that is committed now
+own_entry_comes : (o : Opening)
+    → (replay_from (two_edits o) (events.Submit 0 (7 ∷ []) ∷ events.Accept 0 (7 ∷ []) ∷ [])).pending ≡ items.Edit (Retain ∷ Insert 98 ∷ []) ∷ []
+own_entry_comes o = refl
+
+-- what is given up takes the entry on its way with it
+nothing_is_left : (o : Opening) → (replay_from (two_edits o) (events.Submit 0 (7 ∷ []) ∷ events.Discard 0 ∷ [])).flight ≡ None
+nothing_is_left o = refl
+
+-- ---- runs: member 1 opens a client and signs the entry 7
+
+abbrev signs : Keys → List Move
+signs ring = Open 1 ring ∷ Happen 1 (events.Submit 0 (7 ∷ [])) ∷ []
+
+-- what the client was is kept with what it signed, also if it goes back
+its_client_is_kept : (s : Setup) (ring : Keys)
+    → (after_all s start (signs ring)).signed ≡ record { who = 1; entry = 7 ∷ []; client = opened (opening_of s 1 ring) } ∷ []
+its_client_is_kept s ring = refl
+
+signed_for_good : (s : Setup) (ring : Keys)
+    → (after_all s start (signs ring ++ Restart 1 0 ∷ [])).signed ≡ (after_all s start (signs ring)).signed
+signed_for_good s ring = refl
+
+-- nobody else has a client then, and what is handed to one who has none changes nothing
+no_one_else : (s : Setup) (ring : Keys) → (after_all s start (signs ring ++ Give 2 1 (7 ∷ []) ∷ [])).clients 2 ≡ None
+no_one_else s ring = refl
