@@ -1,5 +1,5 @@
 -- What each command did: what it read, what it wrote and saved, and why it did not do all its work.
-use Rattle.std.specs.Prelude.{◌≡◌, ◌⊎◌, ℕ, List, [], ◌∷◌, ◌++◌, codes, length, Option, option_map, Result, Ok, Err}
+use Rattle.std.specs.Prelude.{◌≡◌, ◌⊎◌, ℕ, Bool, List, [], ◌∷◌, ◌++◌, codes, length, Option, option_map, Result, Ok, Err}
 use Rattle.std.specs.Fmt.{decimal}
 use Rattle.std.specs.Io.KnownBytes.{Appends}
 use Rattle.sporc_outside.specs.Counts.{Rose}
@@ -71,7 +71,8 @@ FailsToBegin before after found (Err faults.Memory) = Unit {0}
 FailsToBegin before after found (Err faults.Outside) = Rose before after
 FailsToBegin before after found (Err fault) = found ≡ Err fault
 
-module _ {L : Type 0} (left written : L → Option (List ℕ)) (faults : L → ℕ) (names : FileNames) (sessions : ℕ) (folder : FolderUse) (out : SinkUse) (old new : Net L) where
+module _ {L : Type 0} (left written : L → Option (List ℕ)) (faults : L → ℕ) (is_shut : L → Option Bool) (names : FileNames) (sessions : ℕ)
+    (folder : FolderUse) (out : SinkUse) (old new : Net L) where
   -- nothing was served: a file failed, memory ran out, or the folder failed
   pub record NotServed {T : Type 0} (answer : Result T Fault) : Type 0 where
     pub content : ServedFiles
@@ -89,7 +90,7 @@ module _ {L : Type 0} (left written : L → Option (List ℕ)) (faults : L → �
     pub after : OrderModel
     pub begins : order_in content ≡ Ok before
     pub served : Result (Unit {0}) ServeFault
-    pub serves : IsServed left written faults before after old new sessions served
+    pub serves : IsServed left written faults is_shut before after old new sessions served
     pub kept : Result (Unit {0}) Fault
     pub keeps : KeepsLog names folder out after kept
     pub answer_is : answer ≡ ended served kept

@@ -62,7 +62,8 @@ serve_fault serving.ListenFault = faults.Outside
 serve_fault (serving.Worn ticket) = faults.Worn
 serve_fault serving.Memory = faults.Memory
 
--- a server's fault goes before one of saving its log
+-- a server's fault goes before one of saving its log, unless memory ran out at that: this is told, so that no log is lost unseen
 abbrev pub ended : Result (Unit {0}) ServeFault → Result (Unit {0}) Fault → Result (Unit {0}) Fault
 ended (Ok done) kept = kept
+ended (Err fault) (Err faults.Memory) = Err faults.Memory
 ended (Err fault) kept = Err (serve_fault fault)

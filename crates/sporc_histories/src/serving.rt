@@ -7,7 +7,7 @@ ghost use Rattle.sporc_serve.specs.Crowds.{net_of};
 ghost use Rattle.sporc_serve.specs.declared.limits.TheConstants.{MAX_SESSIONS};
 ghost use Rattle.sporc_files.specs.Names.{file_name};
 ghost use Rattle.sporc_files.specs.Uses.{AsksOnly, folder_use};
-ghost use Rattle.sporc_histories.specs.Serving.{ended};
+ghost use Rattle.sporc_histories.specs.Serving.{ended, serve_fault};
 ghost use Rattle.sporc_histories.specs.Outcomes.{ServeOutcome};
 
 use crate::log::{keep_log, read_order};
@@ -20,7 +20,7 @@ use std::thread::Threads;
 
 /// `serve NAME ADDRESS --sessions K` serves so many sessions from the log of a document, or from an empty one if there is
 /// none, saves the log and writes `log LEN`, how many entries it then has, whatever came of the sessions. A fault of the
-/// server goes before one of saving.
+/// server goes before one of saving, but out of memory at the saving before it.
 pub fn serve<R: Threads + Wait + Sync, F: Folder, N: Listen, O: Sink, G: Gate + Sync>(
     rt: &R,
     alloc: Global,
@@ -36,7 +36,7 @@ where
     N::Link: Send,
     requires some { 1 ≤ sessions }
     requires limit { sessions ≤ MAX_SESSIONS }
-    ensures outcome { ServeOutcome N.Link.left N.Link.written N.Link.faults names.now sessions
+    ensures outcome { ServeOutcome N.Link.left N.Link.written N.Link.faults N.Link.is_shut names.now sessions
         (folder_use F.files F.asked F.lent F.faults files.old files.new)
         (sink_use O.written O.faults out.old out.new)
         (net_of (N.coming net.old) (N.returned net.old) (N.faults net.old)) (net_of (N.coming net.new) (N.returned net.new) (N.faults net.new))
@@ -56,14 +56,26 @@ where
     end(served, kept)
 }
 
-// A server's fault goes before one of saving its log.
+// A server's fault goes before one of saving its log, but for out of memory at that.
 fn end(served: Result<(), ServeFault>, kept: Result<(), Fault>) -> Result<(), Fault>
     ensures value { result ≡ ended served kept }
 {
-    match served {
-        Ok(()) => kept,
-        Err(ServeFault::ListenFault) => Err(Fault::Outside),
-        Err(ServeFault::Worn(_)) => Err(Fault::Worn),
-        Err(ServeFault::Memory) => Err(Fault::Memory),
+    let Err(fault) = served else {
+        return kept;
+    };
+    match kept {
+        Err(Fault::Memory) => kept,
+        Ok(()) | Err(_) => Err(fault_of(fault)),
+    }
+}
+
+// The fault of the program that a server's is.
+fn fault_of(fault: ServeFault) -> Fault
+    ensures value { result ≡ serve_fault fault }
+{
+    match fault {
+        ServeFault::ListenFault => Fault::Outside,
+        ServeFault::Worn(_) => Fault::Worn,
+        ServeFault::Memory => Fault::Memory,
     }
 }

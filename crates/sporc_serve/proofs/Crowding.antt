@@ -1,7 +1,7 @@
 -- Sessions beside one another.
-use Rattle.std.proofs.Common.{◌≡◌, ℕ, false, suc, ◌≤◌, List, [], ◌∷◌, ◌++◌, Option, Some, None, Result, Ok, Err, refl, ap, sym, subst, ◌∙◌, append_assoc, append-nil, inl, inr}
+use Rattle.std.proofs.Common.{◌≡◌, ℕ, max, Bool, false, suc, ◌≤◌, List, [], ◌∷◌, ◌++◌, Option, Some, None, Result, Ok, Err, refl, ap, sym, subst, ◌∙◌, append_assoc, append-nil, arith, inl, inr, ⊎_elim}
 use Rattle.sporc_outside.specs.Counts.{Rose}
-use Rattle.sporc_outside.specs.Told.{AppendsItem, TakesItem}
+use Rattle.sporc_outside.specs.Told.{AppendsItem, TakesItem, IsFalseIfTold}
 use Rattle.sporc_entry.specs.declared.genesis.Genesis.{Genesis}
 use Rattle.sporc_turn.specs.declared.known.Known.{Known}
 use Rattle.sporc_turn.specs.declared.limits.TheConstants.{MAX_TICKETS}
@@ -15,7 +15,8 @@ use Rattle.sporc_serve.specs.declared.fault.ServeFault.TheVariants as faults
 use Rattle.sporc_serve.specs.declared.item.Item.{Item}
 use Rattle.sporc_serve.specs.Logs.{by_of, IsLogOf, OfDocument}
 use Rattle.sporc_serve.specs.Courses.{ServerStand, stand, IsEnd}
-use Rattle.sporc_serve.specs.Visits.{Visit, visit, IsServedSession, came, went, AreFrom, AreBehind, TellsOf, with_end}
+use Rattle.sporc_serve.specs.Turns.{HasReadLast}
+use Rattle.sporc_serve.specs.Visits.{Visit, visit, Shuts, IsServedSession, came, went, AreFrom, AreBehind, TellsOf, with_end}
 use Rattle.sporc_serve.specs.Crowds.{Net, IsCrowd}
 use Rattle.sporc_serve.proofs.Going.{rose_before}
 
@@ -74,55 +75,60 @@ module _ {L : Type 0} where
   behind_none None = tt
   behind_none (Some ls) = sym (append-nil ls)
 
-  module _ (left written : L → Option (List ℕ)) (faults' : L → ℕ) (g : Genesis) where
+  module _ (left written : L → Option (List ℕ)) (faults' : L → ℕ) (is_shut : L → Option Bool) (g : Genesis) where
     -- no session
-    pub crowd_none : (k : Known Item) (old : Net L) (n : ℕ) → n ≡ 0 → IsCrowd left written faults' g k k old old n (Ok tt)
-    crowd_none k old n none =
-        ([], record { visits_are = refl; coming = from_none old.coming; returned = behind_none old.returned; result_is = (sym none, tt) })
+    pub crowd_none : (k : Known Item) (read : ℕ) (old : Net L) (n : ℕ) → n ≡ 0 → IsCrowd left written faults' is_shut g k k read old old n (Ok tt)
+    crowd_none k read old n none =
+        ([], record { visits_are = refl; came_open = tt; coming = from_none old.coming; returned = behind_none old.returned; result_is = (sym none, tt); worn = λ ticket h. absurd h })
 
     -- no link came
-    pub crowd_failed : (k : Known Item) (old new : Net L) (n : ℕ) → new.coming ≡ old.coming → new.returned ≡ old.returned → Rose old.faults new.faults
-        → IsCrowd left written faults' g k k old new n (Err faults.ListenFault)
-    crowd_failed k old new n coming returned rose = (
+    pub crowd_failed : (k : Known Item) (read : ℕ) (old new : Net L) (n : ℕ) → new.coming ≡ old.coming → new.returned ≡ old.returned → Rose old.faults new.faults
+        → IsCrowd left written faults' is_shut g k k read old new n (Err faults.ListenFault)
+    crowd_failed k read old new n coming returned rose = (
       [],
       record {
         visits_are = refl;
+        came_open = tt;
         coming = subst (λ (c : Option (List L)). AreFrom old.coming c []) (sym coming) (from_none old.coming);
         returned = subst (λ (c : Option (List L)). AreBehind old.returned c []) (sym returned) (behind_none old.returned);
         result_is = rose;
+        worn = λ ticket h. absurd h;
       },
     )
 
     -- a link came, and no pass could be split for it
-    pub crowd_unserved : (k k' : Known Item) (old mid new : Net L) (n : ℕ) (b a : L) → k' ≡ k → TakesItem old.coming mid.coming b → new.coming ≡ mid.coming
-        → mid.returned ≡ old.returned → AppendsItem mid.returned new.returned a → left a ≡ left b → written a ≡ written b → faults' a ≡ faults' b
-        → IsCrowd left written faults' g k k' old new n (Err faults.Memory)
-    crowd_unserved k k' old mid new n b a same took coming returned back is_left is_written is_faults =
+    pub crowd_unserved : (k k' : Known Item) (read : ℕ) (old mid new : Net L) (n : ℕ) (b a : L) → k' ≡ k → TakesItem old.coming mid.coming b → new.coming ≡ mid.coming
+        → mid.returned ≡ old.returned → AppendsItem mid.returned new.returned a → IsFalseIfTold (is_shut b) → Shuts left written faults' is_shut b a
+        → IsCrowd left written faults' is_shut g k k' read old new n (Err faults.Memory)
+    crowd_unserved k k' read old mid new n b a same took coming returned back is_open shuts =
         let first : AreBehind old.returned mid.returned [] = subst (λ (c : Option (List L)). AreBehind old.returned c []) (sym returned) (behind_none old.returned) in
         let rest : AreFrom mid.coming new.coming [] = subst (λ (c : Option (List L)). AreFrom mid.coming c []) (sym coming) (from_none mid.coming) in (
           record { before = b; after = a; end = Memory } ∷ [],
           record {
-            visits_are = inl (record { end_is = refl; left_is = is_left; written_is = is_written; faults_are = is_faults }, refl, same);
+            visits_are = inl (record { end_is = refl; shuts = shuts }, refl, same);
+            came_open = (is_open, tt);
             coming = from_more old.coming mid.coming new.coming b [] took rest;
             returned = behind_more old.returned mid.returned new.returned a [] first back;
             result_is = tt;
+            worn = λ ticket h. absurd (⊎_elim (λ e. absurd cc) (λ e. e) h);
           },
         )
 
     -- a link came and was served beside the others
-    pub crowd_more : (k rest last k' : Known Item) (old mid low new : Net L) (n m : ℕ) (b a : L) (end : SessionEnd) (result : Result (Unit {0}) ServeFault)
-        → IsServedSession left written faults' g (copied k) last (record { before = b; after = a; end = end })
-        → IsCrowd left written faults' g (splitting k) rest mid low n result → last.number ≡ (copied k).number → k' ≡ joined_with rest last
+    pub crowd_more : (k rest last k' : Known Item) (r0 r1 r2 : ℕ) (old mid low new : Net L) (n m : ℕ) (b a : L) (end : SessionEnd) (result : Result (Unit {0}) ServeFault)
+        → IsServedSession left written faults' is_shut g (copied k) last (record { before = b; after = a; end = end })
+        → IsCrowd left written faults' is_shut g (splitting k) rest r1 mid low n result → HasReadLast r2 end → r0 ≡ max r1 r2 → last.number ≡ (copied k).number → k' ≡ joined_with rest last
         → StartsWith k'.seen rest.seen → StartsWith k'.seen last.seen → Agrees by_of k' k'.seen
-        → TakesItem old.coming mid.coming b → mid.returned ≡ old.returned → old.faults ≤ mid.faults → new.coming ≡ low.coming
+        → TakesItem old.coming mid.coming b → IsFalseIfTold (is_shut b) → mid.returned ≡ old.returned → old.faults ≤ mid.faults → new.coming ≡ low.coming
         → AppendsItem low.returned new.returned a → new.faults ≡ low.faults → m ≡ suc n
-        → IsCrowd left written faults' g k k' old new m (with_end result end)
-    crowd_more k rest last k' old mid low new n m b a end result session crowd number joined seen seen' agrees took back le coming returned count size =
+        → IsCrowd left written faults' is_shut g k k' r0 old new m (with_end result end)
+    crowd_more k rest last k' r0 r1 r2 old mid low new n m b a end result session crowd here both number joined seen seen' agrees took is_open back le coming returned count size =
         let vs = crowd.0 in
         let c = crowd.1 in (
           record { before = b; after = a; end = end } ∷ vs,
           record {
             visits_are = inr (rest, last, session, c.visits_are, number, joined, seen, seen', agrees);
+            came_open = (is_open, c.came_open);
             coming = from_more old.coming mid.coming new.coming b (came vs) took
                 (subst (λ (x : Option (List L)). AreFrom mid.coming x (came vs)) (sym coming) c.coming);
             returned = behind_more old.returned low.returned new.returned a (went vs)
@@ -130,25 +136,26 @@ module _ {L : Type 0} where
             result_is = subst (λ (z : ℕ × ℕ). TellsOf z.0 old.faults z.1 (record { before = b; after = a; end = end } ∷ vs) (with_end result end))
                 (λ i. (sym size i, sym count i))
                 (tells_more n old.faults mid.faults low.faults b a end vs result le c.result_is (last_ticket g (stand (copied k) (left b) (written b) (faults' b) (stream_of []) false)
-                (stand last (left a) (written a) (faults' a) (stream_of []) false) end session));
+                (stand last (left session.0) (written session.0) (faults' session.0) (stream_of []) false) end session.1.ends));
+            worn = λ ticket h. ⊎_elim (λ e. (let w = subst (HasReadLast r2) e here in omega (arith, w, both))) (λ later. (let w = c.worn ticket later in omega (arith, w, both))) h;
           },
         )
 
     -- and so it goes with the passes that were split for both
-    pub crowd_joined : (k k0 k1 rest last k' : Known Item) (old mid low new : Net L) (n m : ℕ) (b a : L) (end : SessionEnd)
+    pub crowd_joined : (k k0 k1 rest last k' : Known Item) (r0 r1 r2 : ℕ) (old mid low new : Net L) (n m : ℕ) (b a : L) (end : SessionEnd)
         (result result' : Result (Unit {0}) ServeFault) → IsLogOf g k.seen → k0 ≡ splitting k → k1 ≡ copied k
-        → OfDocument k1.seen (λ h. IsServedSession left written faults' h k1 last (visit b a end))
-        → OfDocument k0.seen (λ h. IsCrowd left written faults' h k0 rest mid low n result) → last.number ≡ k1.number → k' ≡ joined_with rest last
+        → OfDocument k1.seen (λ h. IsServedSession left written faults' is_shut h k1 last (visit b a end))
+        → OfDocument k0.seen (λ h. IsCrowd left written faults' is_shut h k0 rest r1 mid low n result) → HasReadLast r2 end → r0 ≡ max r1 r2 → last.number ≡ k1.number → k' ≡ joined_with rest last
         → StartsWith k'.seen rest.seen → StartsWith k'.seen last.seen → Agrees by_of k' k'.seen
-        → TakesItem old.coming mid.coming b → mid.returned ≡ old.returned → old.faults ≤ mid.faults → new.coming ≡ low.coming
+        → TakesItem old.coming mid.coming b → IsFalseIfTold (is_shut b) → mid.returned ≡ old.returned → old.faults ≤ mid.faults → new.coming ≡ low.coming
         → AppendsItem low.returned new.returned a → new.faults ≡ low.faults → m ≡ suc n → result' ≡ with_end result end
-        → IsCrowd left written faults' g k k' old new m result'
-    crowd_joined k k0 k1 rest last k' old mid low new n m b a end result result' log is0 is1 session crowd number joined seen seen' agrees took back le coming
+        → IsCrowd left written faults' is_shut g k k' r0 old new m result'
+    crowd_joined k k0 k1 rest last k' r0 r1 r2 old mid low new n m b a end result result' log is0 is1 session crowd here both number joined seen seen' agrees took is_open back le coming
         returned count size ended =
-        let session' : IsServedSession left written faults' g (copied k) last (visit b a end) =
-        subst (λ (x : Known Item). OfDocument x.seen (λ h. IsServedSession left written faults' h x last (visit b a end))) is1 session g log in
-        let crowd' : IsCrowd left written faults' g (splitting k) rest mid low n result =
-        subst (λ (x : Known Item). OfDocument x.seen (λ h. IsCrowd left written faults' h x rest mid low n result)) is0 crowd g log in
-        subst (λ (r : Result (Unit {0}) ServeFault). IsCrowd left written faults' g k k' old new m r) (sym ended)
-        (crowd_more k rest last k' old mid low new n m b a end result session' crowd' (number ∙ ap (λ (x : Known Item). x.number) is1) joined seen seen'
-        agrees took back le coming returned count size)
+        let session' : IsServedSession left written faults' is_shut g (copied k) last (visit b a end) =
+        subst (λ (x : Known Item). OfDocument x.seen (λ h. IsServedSession left written faults' is_shut h x last (visit b a end))) is1 session g log in
+        let crowd' : IsCrowd left written faults' is_shut g (splitting k) rest r1 mid low n result =
+        subst (λ (x : Known Item). OfDocument x.seen (λ h. IsCrowd left written faults' is_shut h x rest r1 mid low n result)) is0 crowd g log in
+        subst (λ (r : Result (Unit {0}) ServeFault). IsCrowd left written faults' is_shut g k k' r0 old new m r) (sym ended)
+        (crowd_more k rest last k' r0 r1 r2 old mid low new n m b a end result session' crowd' here both (number ∙ ap (λ (x : Known Item). x.number) is1) joined seen seen'
+        agrees took is_open back le coming returned count size)

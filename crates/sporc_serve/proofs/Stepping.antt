@@ -1,5 +1,5 @@
 -- A step of a session: a message that is answered, or a piece more of its stream.
-use Rattle.std.proofs.Common.{◌≡◌, ◌≢◌, ◌∙◌, ℕ, ◌≤◌, Bool, false, List, [], Option, Some, None, Result, Ok, Err, IfOk, OnErr, IfNone, IfSome, refl, sym, subst}
+use Rattle.std.proofs.Common.{◌≡◌, ◌≢◌, ◌∙◌, ℕ, ◌≤◌, Bool, false, List, [], Option, Some, None, Result, Ok, Err, IfOk, OnErr, IfNone, IfSome, MatchOption, IsOkUnless, refl, sym, subst}
 use Rattle.std.specs.Io.KnownBytes.{Consumes, Appends}
 use Rattle.std.proofs.KnownBytes.{Consumes-nil}
 use Rattle.sporc_entry.specs.declared.genesis.Genesis.{Genesis}
@@ -8,7 +8,7 @@ use Rattle.sporc_base.specs.Outcome.{GivesUnless}
 use Rattle.sporc_wire.specs.declared.fault.FrameFault.{FrameFault}
 use Rattle.sporc_wire.specs.declared.fault.FrameFault.TheVariants as faults
 use Rattle.sporc_wire.specs.declared.to_server.ToServer.{ToServer}
-use Rattle.sporc_wire.specs.Messages.{Unread, stream_of, next}
+use Rattle.sporc_wire.specs.Messages.{Unread, stream_of, next, next_unless}
 use Rattle.sporc_wire.specs.ToServer.{to_server_of}
 use Rattle.sporc_order.specs.declared.session.Answer.{Answer}
 use Rattle.sporc_order.specs.declared.session.Answer.TheVariants as answers
@@ -17,14 +17,14 @@ use Rattle.sporc_order.specs.declared.reply.Reply.TheVariants.{Message, Frame, S
 use Rattle.sporc_order.specs.Replies.{Says}
 use Rattle.sporc_order.specs.Sessions.{IsFramed}
 use Rattle.sporc_serve.specs.declared.end.SessionEnd.{SessionEnd}
-use Rattle.sporc_serve.specs.declared.end.SessionEnd.TheVariants.{Closed, Memory}
+use Rattle.sporc_serve.specs.declared.end.SessionEnd.TheVariants.{Closed, LinkEnded, LinkFault, BadFrame, Worn, Memory}
 use Rattle.sporc_serve.specs.declared.item.Item.{Item}
 use Rattle.sporc_serve.specs.Logs.{IsLogOf, OfDocument}
 use Rattle.sporc_serve.specs.Sending.{bytes_of, CanBeSent}
-use Rattle.sporc_serve.specs.Turns.{TakesTurn}
-use Rattle.sporc_serve.specs.Endings.{IsSendEnd, Inlet, inlet, TakesMessage, IsNext}
+use Rattle.sporc_serve.specs.Turns.{HasReadLast, TakesTurn}
+use Rattle.sporc_serve.specs.Endings.{IsSendEnd, Inlet, inlet, TakesMessage, IsNextEnd, IsNext}
 use Rattle.sporc_serve.specs.Courses.{ServerStand, stand, GoesOn, Carries}
-use Rattle.sporc_serve.specs.Visits.{visit, IsServedSession}
+use Rattle.sporc_serve.specs.Visits.{visit, Shuts, IsServedSession}
 use Rattle.sporc_serve.proofs.Turning.{starts_log}
 use Rattle.sporc_serve.proofs.Coursing.{grows_starts, course_begins}
 use Rattle.sporc_serve.proofs.Framed.{next_framed}
@@ -37,6 +37,20 @@ pub turn_sendable : {E : Type 0} (r : Result Reply E) (result : Result Reply Ses
     → OnErr r (result ≡ Err Memory) → IfOk result CanBeSent
 turn_sendable (Ok a) result sendable ok err = subst (λ (x : Result Reply SessionEnd). IfOk x CanBeSent) (sym ok) sendable
 turn_sendable (Err e) result sendable ok err = subst (λ (x : Result Reply SessionEnd). IfOk x CanBeSent) (sym err) tt
+
+-- ---- ends that no ticket's want is
+
+-- no message is to follow
+next_unworn : (a b : Inlet) (end : SessionEnd) (read : ℕ) → IsNextEnd a b end → HasReadLast read end
+next_unworn a b (Worn ticket) read h = absurd h
+next_unworn a b Closed read h = tt
+next_unworn a b LinkEnded read h = tt
+next_unworn a b LinkFault read h = tt
+next_unworn a b BadFrame read h = tt
+next_unworn a b Memory read h = tt
+
+pub found_unworn : (a b : Inlet) (r : Result (Option ToServer) SessionEnd) (end : SessionEnd) (read : ℕ) → r ≡ Err end → IsNext a b r → HasReadLast read end
+found_unworn a b r end read is found = next_unworn a b end read (subst (λ (x : Result (Option ToServer) SessionEnd). IsNext a b x) is found)
 
 -- ---- an answer
 
@@ -69,6 +83,16 @@ module _ (known known' : Known Item) (left left' written written' : Option (List
       (subst (λ (x : Result Reply SessionEnd). TakesTurn g known known' s s' m x) is (turn g log))
 
 -- ---- the next message
+
+-- a stream that waits for more has no fault, so that only memory is wanting for a piece more
+pub fed_unless : (s : Unread) (r : Result (Unit {0}) FrameFault) → (next to_server_of s).answer ≡ Ok None
+    → MatchOption s.fault (IsOkUnless r faults.Memory) (λ fault. r ≡ Err fault) → IsOkUnless r faults.Memory
+unfolding next
+fed_unless s r waits is = by s.fault waits is
+  where
+    by : (f : Option FrameFault) → (next_unless to_server_of s f).answer ≡ Ok None → MatchOption f (IsOkUnless r faults.Memory) (λ fault. r ≡ Err fault) → IsOkUnless r faults.Memory
+    by None waits is = is
+    by (Some fault) waits is = absurd cc
 
 -- no whole frame was left, and the stream stays
 pub next_none : (s s' : Unread) (r : Result (Option ToServer) FrameFault) → r ≡ Ok None → GivesUnless faults.Memory (λ found. found) r (next to_server_of s).answer
@@ -131,15 +155,9 @@ carried g a b b' e log went carries =
     carries g a went.0 went.1 (starts_log g b.known.seen a.known.seen
     (grows_starts g a.known.number a.known.seen false went.1 b.known.seen went.2.did.grows) log) went.2
 
-module _ {L : Type 0} (left written : L → Option (List ℕ)) (faults : L → ℕ) where
+module _ {L : Type 0} (left written : L → Option (List ℕ)) (faults : L → ℕ) (is_shut : L → Option Bool) where
   -- a link was shut as its session ended
   pub session_ended : (g : Genesis) (first last : Known Item) (before mid after : L) (unread : Unread) (s : Bool) (end : SessionEnd)
       → GoesOn g (stand first (left before) (written before) (faults before) (stream_of []) false) (stand last (left mid) (written mid) (faults mid) unread s) (Some end)
-      → left after ≡ left mid → written after ≡ written mid → faults after ≡ faults mid → IsServedSession left written faults g first last (visit before after end)
-  session_ended g first last before mid after unread s end h is_left is_written is_faults =
-      subst (λ (n : ℕ). GoesOn g (stand first (left before) (written before) (faults before) (stream_of []) false) (stand last (left after) (written after) n unread s) (Some end))
-      (sym is_faults)
-      (subst (λ (w : Option (List ℕ)). GoesOn g (stand first (left before) (written before) (faults before) (stream_of []) false) (stand last (left after) w (faults mid) unread s) (Some end))
-      (sym is_written)
-      (subst (λ (l : Option (List ℕ)). GoesOn g (stand first (left before) (written before) (faults before) (stream_of []) false) (stand last l (written mid) (faults mid) unread s) (Some end))
-      (sym is_left) h))
+      → is_shut mid ≡ is_shut before → Shuts left written faults is_shut mid after → IsServedSession left written faults is_shut g first last (visit before after end)
+  session_ended g first last before mid after unread s end h same shuts = (mid, record { ends = h; as_shut = same; shuts = shuts })

@@ -1,28 +1,30 @@
 -- What a server did, whole.
-use Rattle.std.specs.Prelude.{◌≡◌, ◌⊎◌, ◌+◌, ◌≤◌, ◌<◌, ℕ, List, [], ◌∷◌, length, drop, replicate, Option, Result}
+use Rattle.std.specs.Prelude.{◌≡◌, ◌⊎◌, ◌+◌, ◌≤◌, ◌<◌, ℕ, Bool, List, [], ◌∷◌, length, drop, replicate, Option, Result}
 use Rattle.std.specs.List.{All}
 use Rattle.sporc_turn.specs.declared.known.Known.{Known}
+use Rattle.sporc_turn.specs.declared.pass.Pass.{Pass}
 use Rattle.sporc_turn.specs.Log.{StartsWith, own}
+use Rattle.sporc_turn.specs.Passes.{known_of, IsWorn}
 use Rattle.sporc_entry.specs.declared.genesis.Genesis.{Genesis}
 use Rattle.sporc_order.specs.OrderModel.{OrderModel}
 use Rattle.sporc_serve.specs.declared.item.Item.{Item}
 use Rattle.sporc_serve.specs.Logs.{by_of, log_of, order_at}
 use Rattle.sporc_serve.specs.declared.fault.ServeFault.{ServeFault}
-use Rattle.sporc_serve.specs.Visits.{Visit, IsServedSession, IsUnserved, came, went, AreFrom, AreBehind, TellsOf}
+use Rattle.sporc_serve.specs.Visits.{Visit, IsServedSession, IsUnserved, CameOpen, came, went, AreFrom, AreBehind, SomeWorn, TellsOf}
 use Rattle.sporc_serve.specs.Crowds.{Net}
 
 -- the log of an order that is handed in
 abbrev pub log_at_first : OrderModel → List Item
 log_at_first order = log_of order (replicate (length order.entries) 0)
 
-module _ {L : Type 0} (left written : L → Option (List ℕ)) (faults : L → ℕ) (genesis : Genesis) (start log : List Item) where
+module _ {L : Type 0} (left written : L → Option (List ℕ)) (faults : L → ℕ) (is_shut : L → Option Bool) (genesis : Genesis) (start log : List Item) where
   -- a session by the pass with this number: what it knew first begins with the log at first, and the log at last with all that
   -- it knew; the log's entries with its number are those that it added
   pub record Attends (number : ℕ) (first last : Known Item) (v : Visit L) : Type 0 where
     pub number_is : first.number ≡ number
     pub none : first.mine ≡ []
     pub begins : StartsWith first.seen start
-    pub session : IsServedSession left written faults genesis first last v
+    pub session : IsServedSession left written faults is_shut genesis first last v
     pub known : StartsWith log last.seen
     pub own_are : own by_of number (length start) log ≡ last.mine
 
@@ -31,28 +33,35 @@ module _ {L : Type 0} (left written : L → Option (List ℕ)) (faults : L → �
   abbrev pub Attended : ℕ → List (Visit L) → ℕ → Type 0
   Attended number [] next = next ≡ number
   Attended number (v ∷ vs) next =
-      (IsUnserved left written faults genesis v × (vs ≡ []) × (next ≡ number))
+      (IsUnserved left written faults is_shut v × (vs ≡ []) × (next ≡ number))
       ⊎ ((first : Known Item) × (last : Known Item) × Attends number first last v × Attended (number + 1) vs next)
 
 -- The order that is handed back is that of a log which begins with the order that was handed in. Each further entry was added
 -- by one of the sessions: it has the number of a session's pass. `next` is the number after those.
-pub record Served {L : Type 0} (left written : L → Option (List ℕ)) (faults : L → ℕ) (before after : OrderModel) (visits : List (Visit L)) (log : List Item)
-    : Type 0 where
+pub record Served {L : Type 0} (left written : L → Option (List ℕ)) (faults : L → ℕ) (is_shut : L → Option Bool) (before after : OrderModel)
+    (visits : List (Visit L)) (log : List Item) : Type 0 where
   pub order_is : after ≡ order_at before.genesis log
   pub begins : StartsWith log (log_at_first before)
   pub next : ℕ
-  pub sessions : Attended left written faults before.genesis (log_at_first before) log 1 visits next
+  pub sessions : Attended left written faults is_shut before.genesis (log_at_first before) log 1 visits next
   pub numbered : All (λ e. (1 ≤ by_of e) × (by_of e < next)) (drop (length (log_at_first before)) log)
 
--- so many sessions at a net, of which this is answered
-pub record ServesAt {L : Type 0} (left written : L → Option (List ℕ)) (faults : L → ℕ) (before after : OrderModel) (old new : Net L) (sessions : ℕ)
-    (result : Result (Unit {0}) ServeFault) (visits : List (Visit L)) (log : List Item) : Type 0 where
-  pub served : Served left written faults before after visits log
+-- a pass that has seen this log has read that every ticket was drawn
+abbrev pub IsWornAt : List Item → Type 0
+IsWornAt log = (pass : Pass Item) × ((known_of pass).seen ≡ log) × IsWorn pass
+
+-- so many sessions at a net, of which this is answered; if one of them ended at the lock's last ticket, the pass that the lock was
+-- closed with has read it
+pub record ServesAt {L : Type 0} (left written : L → Option (List ℕ)) (faults : L → ℕ) (is_shut : L → Option Bool) (before after : OrderModel)
+    (old new : Net L) (sessions : ℕ) (result : Result (Unit {0}) ServeFault) (visits : List (Visit L)) (log : List Item) : Type 0 where
+  pub served : Served left written faults is_shut before after visits log
+  pub came_open : CameOpen is_shut visits
   pub coming : AreFrom old.coming new.coming (came visits)
   pub returned : AreBehind old.returned new.returned (went visits)
   pub result_is : TellsOf sessions old.faults new.faults visits result
+  pub worn : (ticket : ℕ) → SomeWorn ticket visits → IsWornAt log
 
-abbrev pub IsServed : {L : Type 0} → (L → Option (List ℕ)) → (L → Option (List ℕ)) → (L → ℕ) → OrderModel → OrderModel → Net L → Net L → ℕ
-    → Result (Unit {0}) ServeFault → Type 0
-IsServed {L} left written faults before after old new sessions result =
-    (visits : List (Visit L)) × (log : List Item) × ServesAt left written faults before after old new sessions result visits log
+abbrev pub IsServed : {L : Type 0} → (L → Option (List ℕ)) → (L → Option (List ℕ)) → (L → ℕ) → (L → Option Bool) → OrderModel → OrderModel
+    → Net L → Net L → ℕ → Result (Unit {0}) ServeFault → Type 0
+IsServed {L} left written faults is_shut before after old new sessions result =
+    (visits : List (Visit L)) × (log : List Item) × ServesAt left written faults is_shut before after old new sessions result visits log

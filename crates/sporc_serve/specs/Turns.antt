@@ -1,5 +1,5 @@
 -- What a session does in one turn at the order.
-use Rattle.std.specs.Prelude.{◌≡◌, Bool, List, [], ◌++◌, Result, Ok, Err}
+use Rattle.std.specs.Prelude.{◌≡◌, ◌≤◌, ℕ, Bool, List, [], ◌++◌, Result, Ok, Err}
 use Rattle.sporc_turn.specs.declared.known.Known.{Known}
 use Rattle.sporc_turn.specs.declared.limits.TheConstants.{MAX_TICKETS}
 use Rattle.sporc_turn.specs.Log.{StartsWith}
@@ -42,6 +42,15 @@ IsTurnEnd LinkFault = ⊥
 IsTurnEnd BadFrame = ⊥
 IsTurnEnd (Worn ticket) = ticket ≡ MAX_TICKETS
 IsTurnEnd Memory = Unit {0}
+
+-- a session that ended for want of a ticket has read that every ticket was drawn, where its pass read this as the next one
+abbrev pub HasReadLast : ℕ → SessionEnd → Type 0
+HasReadLast read (Worn ticket) = MAX_TICKETS ≤ read
+HasReadLast read Closed = Unit {0}
+HasReadLast read LinkEnded = Unit {0}
+HasReadLast read LinkFault = Unit {0}
+HasReadLast read BadFrame = Unit {0}
+HasReadLast read Memory = Unit {0}
 
 -- one turn of a session, from what its pass knew before to what it knows after
 abbrev pub TakesTurn : Genesis → Known Item → Known Item → Bool → Bool → ToServer → Result Reply SessionEnd → Type 0

@@ -1,6 +1,7 @@
 -- The sessions of a server, and what they did to the log together.
-use Rattle.std.specs.Prelude.{◌≡◌, ◌⊎◌, ℕ, false, List, [], ◌∷◌, ◌++◌, length, Option, Some, None, Result, Ok, Err}
+use Rattle.std.specs.Prelude.{◌≡◌, ◌⊎◌, ℕ, Bool, false, List, [], ◌∷◌, ◌++◌, length, Option, Some, None, Result, Ok, Err}
 use Rattle.sporc_outside.specs.Counts.{Rose}
+use Rattle.sporc_outside.specs.Told.{IsTrueIfTold, IsFalseIfTold}
 use Rattle.sporc_turn.specs.declared.known.Known.{Known}
 use Rattle.sporc_turn.specs.declared.limits.TheConstants.{MAX_TICKETS}
 use Rattle.sporc_turn.specs.Log.{StartsWith, Agrees}
@@ -24,28 +25,44 @@ pub record Visit (L : Type 0) : Type 0 where
 abbrev pub visit : {L : Type 0} → L → L → SessionEnd → Visit L
 visit before after end = record { before = before; after = after; end = end }
 
-module _ {L : Type 0} (left written : L → Option (List ℕ)) (faults : L → ℕ) (genesis : Genesis) where
-  -- a session over a link by a pass that knew this at first and that at last
-  abbrev pub IsServedSession : Known Item → Known Item → Visit L → Type 0
-  IsServedSession first last v =
-      IsEnd genesis (stand first (left v.before) (written v.before) (faults v.before) (stream_of []) false)
-      (stand last (left v.after) (written v.after) (faults v.after) (stream_of []) false) v.end
+module _ {L : Type 0} (left written : L → Option (List ℕ)) (faults : L → ℕ) (is_shut : L → Option Bool) where
+  -- a link was shut, and nothing else became of it
+  pub record Shuts (before after : L) : Type 0 where
+    pub shut : IsTrueIfTold (is_shut after)
+    pub left_is : left after ≡ left before
+    pub written_is : written after ≡ written before
+    pub faults_are : faults after ≡ faults before
 
   -- a link whose session ended before its first message, out of memory
   pub record IsUnserved (v : Visit L) : Type 0 where
     pub end_is : v.end ≡ Memory
-    pub left_is : left v.after ≡ left v.before
-    pub written_is : written v.after ≡ written v.before
-    pub faults_are : faults v.after ≡ faults v.before
+    pub shuts : Shuts v.before v.after
+
+module _ {L : Type 0} (left written : L → Option (List ℕ)) (faults : L → ℕ) (is_shut : L → Option Bool) (genesis : Genesis) where
+  -- a session over a link by a pass that knew this at first and that at last: the link, as the session came to its end, was
+  -- as shut as it came, and then it was shut
+  pub record ServesSession (first last : Known Item) (v : Visit L) (link : L) : Type 0 where
+    pub ends : IsEnd genesis (stand first (left v.before) (written v.before) (faults v.before) (stream_of []) false)
+        (stand last (left link) (written link) (faults link) (stream_of []) false) v.end
+    pub as_shut : is_shut link ≡ is_shut v.before
+    pub shuts : Shuts left written faults is_shut link v.after
+
+  abbrev pub IsServedSession : Known Item → Known Item → Visit L → Type 0
+  IsServedSession first last v = (link : L) × ServesSession first last v link
 
   -- number 0 knew this before, and split a pass for each session and joined it back
   abbrev pub Visits : Known Item → Known Item → List (Visit L) → Type 0
   Visits before after [] = after ≡ before
   Visits before after (v ∷ vs) =
-      (IsUnserved v × (vs ≡ []) × (after ≡ before))
+      (IsUnserved left written faults is_shut v × (vs ≡ []) × (after ≡ before))
       ⊎ ((rest : Known Item) × (last : Known Item) × IsServedSession (copied before) last v × Visits (splitting before) rest vs
       × (last.number ≡ (copied before).number) × (after ≡ joined_with rest last) × StartsWith after.seen rest.seen × StartsWith after.seen last.seen
       × Agrees by_of after after.seen)
+
+-- no link was shut as it came
+abbrev pub CameOpen : {L : Type 0} → (L → Option Bool) → List (Visit L) → Type 0
+CameOpen is_shut [] = Unit {0}
+CameOpen is_shut (v ∷ vs) = IsFalseIfTold (is_shut v.before) × CameOpen is_shut vs
 
 -- links in the order in which they came, and in which they were handed back
 abbrev pub came : {L : Type 0} → List (Visit L) → List L

@@ -1,13 +1,14 @@
 //! The sessions of a server, each in a thread of its own where one can be made.
 
-ghost use Rattle.std.specs.Prelude.{◌≡◌, ◌≢◌, ◌+◌, ◌-◌, ◌^◌, ◌<◌, ◌≤◌, IfSome};
+ghost use Rattle.std.specs.Prelude.{◌≡◌, ◌≢◌, ◌+◌, ◌-◌, ◌^◌, ◌<◌, ◌≤◌, max, IfSome};
 ghost use Rattle.std.specs.Thread.{IsSync, IsSend};
 ghost use Rattle.sporc_outside.specs.Told.{AreShutBehind, IsTrueIfTold};
 ghost use Rattle.sporc_turn.specs.Knowing.{joined_with};
 ghost use Rattle.sporc_turn.specs.Log.{StartsWith, Agrees};
-ghost use Rattle.sporc_turn.specs.Passes.{known_of, IsPassOf};
+ghost use Rattle.sporc_turn.specs.Passes.{known_of, read_of, IsPassOf};
 ghost use Rattle.sporc_serve.specs.Logs.{by_of, OfDocument};
 ghost use Rattle.sporc_serve.specs.Crowds.{IsCrowd, net_of, IsFirst, IsOther};
+ghost use Rattle.sporc_serve.specs.Turns.{HasReadLast};
 ghost use Rattle.sporc_serve.specs.Visits.{visit, IsServedSession, with_end};
 
 use crate::desk::Desk;
@@ -59,6 +60,7 @@ fn joined(
     requires other { (known_of session.1).number ≢ 0 }
     ensures answer { result.0 ≡ with_end rest.0 session.0 }
     ensures known { known_of result.1 ≡ joined_with (known_of rest.1) (known_of session.1) }
+    ensures read { read_of result.1 ≡ max (read_of rest.1) (read_of session.1) }
     ensures lock { IsPassOf turn.now result.1 }
     ensures begins { StartsWith (known_of result.1).seen (known_of rest.1).seen × StartsWith (known_of result.1).seen (known_of session.1).seen }
     ensures agrees { Agrees by_of (known_of result.1) (known_of result.1).seen }
@@ -86,7 +88,7 @@ where
     ensures lock { IsPassOf turn.now result.1 }
     ensures first { (known_of result.1).number ≡ 0 }
     ensures crowd { OfDocument (known_of first).seen
-        (λ genesis. IsCrowd N.Link.left N.Link.written N.Link.faults genesis (known_of first) (known_of result.1)
+        (λ genesis. IsCrowd N.Link.left N.Link.written N.Link.faults N.Link.is_shut genesis (known_of first) (known_of result.1) (read_of result.1)
         (net_of (N.coming net.old) (N.returned net.old) (N.faults net.old)) (net_of (N.coming net.new) (N.returned net.new) (N.faults net.new)) sessions result.0) }
     ensures shut { AreShutBehind N.Link.is_shut (N.returned net.old) (N.returned net.new) }
     ensures asked { N.asked net.new ≡ N.asked net.old }
@@ -116,14 +118,14 @@ where
             requires { IsSync R.row × IsSync G.row × IsOther turn.now second }
             ensures { IfSome second.entry (λ p. IsPassOf turn.entry.now result.1 × ((known_of result.1).number ≡ (known_of p).number)
                 × OfDocument (known_of p).seen
-                (λ genesis. IsServedSession N.Link.left N.Link.written N.Link.faults genesis (known_of p) (known_of result.1) (visit link.entry link.exit result.0))
-                × IsTrueIfTold (N.Link.is_shut link.exit)) }
+                (λ genesis. IsServedSession N.Link.left N.Link.written N.Link.faults N.Link.is_shut genesis (known_of p) (known_of result.1) (visit link.entry link.exit result.0))
+                × IsTrueIfTold (N.Link.is_shut link.exit) × HasReadLast (read_of result.1) result.0) }
         { serve_link(rt, alloc, turn, gate, &mut link, second.take().unwrap()) },
         &mut || -> (Result<(), ServeFault>, Pass<Item>)
             requires { IsSync R.row × IsSync G.row × IsSend N.Link.row × IsFirst turn.now first others }
             ensures { IfSome first.entry (λ p. IsPassOf turn.entry.now result.1 × ((known_of result.1).number ≡ 0)
                 × OfDocument (known_of p).seen
-                (λ genesis. IsCrowd N.Link.left N.Link.written N.Link.faults genesis (known_of p) (known_of result.1)
+                (λ genesis. IsCrowd N.Link.left N.Link.written N.Link.faults N.Link.is_shut genesis (known_of p) (known_of result.1) (read_of result.1)
                 (net_of (N.coming net.entry.now) (N.returned net.entry.now) (N.faults net.entry.now)) (net_of (N.coming net.exit.now) (N.returned net.exit.now) (N.faults net.exit.now)) others result.0)
                 × AreShutBehind N.Link.is_shut (N.returned net.entry.now) (N.returned net.exit.now) × (N.asked net.exit.now ≡ N.asked net.entry.now)
                 × (N.out net.exit.now ≡ N.out net.entry.now) × (N.faults net.entry.now ≤ N.faults net.exit.now)) }

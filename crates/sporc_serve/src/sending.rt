@@ -1,6 +1,6 @@
 //! Sending an answer.
 
-ghost use Rattle.std.specs.Prelude.{◌≡◌, ◌≤◌, Some, IfNone, IfSome};
+ghost use Rattle.std.specs.Prelude.{◌≡◌, ◌≤◌, ℕ, Some, IfNone, IfSome};
 ghost use Rattle.std.specs.Io.KnownBytes.{Appends};
 ghost use Rattle.sporc_outside.specs.Counts.{Rose};
 ghost use Rattle.sporc_outside.specs.Writing.{AppendsLess};
@@ -10,11 +10,12 @@ ghost use Rattle.sporc_order.specs.Replies.{Says};
 ghost use Rattle.sporc_order.specs.Sessions.{IsSendable};
 ghost use Rattle.sporc_serve.specs.Sending.{bytes_of, CanBeSent};
 ghost use Rattle.sporc_serve.specs.Endings.{IsSendEnd};
+ghost use Rattle.sporc_serve.specs.Turns.{HasReadLast};
 
 use crate::end::SessionEnd;
 use sporc_order::Reply;
 use sporc_outside::{Gate, Link, write_all};
-use sporc_wire::{ToClient, write_to_client};
+use sporc_wire::{FrameFault, ToClient, write_to_client};
 use std::alloc::Global;
 use std::sync::Wait;
 
@@ -30,8 +31,10 @@ pub(crate) fn send<R: Wait, L: Link, G: Gate>(
     ensures none { (answer : Answer) → Says answer reply.now → IfNone result (Appends (L.written link.old) (L.written link.new) (bytes_of answer)) }
     ensures some { (answer : Answer) → Says answer reply.now
         → IfSome result (IsSendEnd answer (L.written link.old) (L.written link.new) (L.faults link.old) (L.faults link.new)) }
+    ensures worn { (read : ℕ) → IfSome result (HasReadLast read) }
     ensures close { reply.now ≡ Reply.Close → result ≡ Some SessionEnd.Closed }
     ensures left { L.left link.new ≡ L.left link.old }
+    ensures as_shut { L.is_shut link.new ≡ L.is_shut link.old }
     ensures kept { L.faults link.old ≤ L.faults link.new }
 {
     match reply {
@@ -53,11 +56,13 @@ fn write<L: Link>(alloc: Global, link: &mut L, message: &ToClient) -> Option<Ses
     ensures none { IfNone result (Appends (L.written link.old) (L.written link.new) (bytes_of (answers.Send message.now))) }
     ensures some { IfSome result (IsSendEnd (answers.Send message.now) (L.written link.old) (L.written link.new) (L.faults link.old) (L.faults link.new)) }
     ensures left { L.left link.new ≡ L.left link.old }
+    ensures as_shut { L.is_shut link.new ≡ L.is_shut link.old }
     ensures kept { L.faults link.old ≤ L.faults link.new }
 {
     match write_to_client(alloc, message) {
         Ok(frame) => write_frame(link, &frame),
-        Err(_) => Some(SessionEnd::Memory),
+        Err(FrameFault::Memory) => Some(SessionEnd::Memory),
+        Err(FrameFault::BadMessage(_) | FrameFault::TooLong(_)) => unreachable!(),
     }
 }
 
@@ -66,6 +71,7 @@ fn write_frame<L: Link>(link: &mut L, frame: &[u8]) -> Option<SessionEnd>
     ensures none { IfNone result (Appends (L.written link.old) (L.written link.new) frame.now) }
     ensures some { IfSome result (λ end. (end ≡ SessionEnd.LinkFault) × AppendsLess (L.written link.old) (L.written link.new) frame.now × Rose (L.faults link.old) (L.faults link.new)) }
     ensures left { L.left link.new ≡ L.left link.old }
+    ensures as_shut { L.is_shut link.new ≡ L.is_shut link.old }
     ensures kept { L.faults link.old ≤ L.faults link.new }
 {
     match write_all(link, frame) {

@@ -33,7 +33,7 @@ where
     N::Link: Send,
     requires some { 1 ≤ sessions }
     requires limit { sessions ≤ MAX_SESSIONS }
-    ensures served { IsServed N.Link.left N.Link.written N.Link.faults order result.0
+    ensures served { IsServed N.Link.left N.Link.written N.Link.faults N.Link.is_shut order result.0
         (net_of (N.coming net.old) (N.returned net.old) (N.faults net.old)) (net_of (N.coming net.new) (N.returned net.new) (N.faults net.new)) sessions result.1 }
     ensures asked { result.1 ≢ Err ServeFault.ListenFault → AppendsItem (N.asked net.old) (N.asked net.new) address.now }
     ensures may_ask { MayAppend (N.asked net.old) (N.asked net.new) address.now }

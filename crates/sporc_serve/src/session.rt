@@ -1,14 +1,15 @@
 //! One session, from its first message to its end.
 
-ghost use Rattle.std.specs.Prelude.{◌≡◌, ◌≢◌, ◌≤◌, Ok, Err, Some, None, IfErr, OnOk};
+ghost use Rattle.std.specs.Prelude.{◌≡◌, ◌≢◌, ◌≤◌, Ok, Err, Some, None, IfErr, IfSome, OnOk};
 ghost use Rattle.sporc_outside.specs.Told.{IsTrueIfTold};
-ghost use Rattle.sporc_turn.specs.Passes.{known_of, IsPassOf};
+ghost use Rattle.sporc_turn.specs.Passes.{known_of, read_of, IsPassOf};
 ghost use Rattle.sporc_wire.specs.Messages.{Unread, next};
 ghost use Rattle.sporc_wire.specs.ToServer.{to_server_of};
 ghost use Rattle.sporc_order.specs.Sessions.{IsFramed};
 ghost use Rattle.sporc_serve.specs.Logs.{OfDocument};
 ghost use Rattle.sporc_serve.specs.Courses.{stand, Carries};
 ghost use Rattle.sporc_serve.specs.Endings.{inlet, IsNext};
+ghost use Rattle.sporc_serve.specs.Turns.{HasReadLast};
 ghost use Rattle.sporc_serve.specs.Visits.{visit, IsServedSession};
 
 use crate::desk::Desk;
@@ -32,6 +33,7 @@ fn take_piece<L: Link>(link: &mut L, frames: &mut Frames) -> Result<(), SessionE
     ensures ok { OnOk result (IsNext (inlet (L.left link.old) (L.faults link.old) frames.old) (inlet (L.left link.new) (L.faults link.new) frames.new) (Ok None)) }
     ensures err { IfErr result (λ end. IsNext (inlet (L.left link.old) (L.faults link.old) frames.old) (inlet (L.left link.new) (L.faults link.new) frames.new) (Err end)) }
     ensures written { L.written link.new ≡ L.written link.old }
+    ensures as_shut { L.is_shut link.new ≡ L.is_shut link.old }
     ensures kept { L.faults link.old ≤ L.faults link.new }
 {
     let mut buffer = [0u8; PIECE];
@@ -43,7 +45,9 @@ fn take_piece<L: Link>(link: &mut L, frames: &mut Frames) -> Result<(), SessionE
     }
     match frames.feed(&buffer[..n]) {
         Ok(()) => Ok(()),
-        Err(_) => Err(SessionEnd::Memory),
+        Err(FrameFault::Memory) => Err(SessionEnd::Memory),
+        Err(FrameFault::BadMessage(_)) => unreachable!(),
+        Err(FrameFault::TooLong(_)) => unreachable!(),
     }
 }
 
@@ -62,6 +66,7 @@ fn end_of(fault: FrameFault) -> SessionEnd
 fn next_message<L: Link>(link: &mut L, frames: &mut Frames) -> Result<Option<ToServer>, SessionEnd>
     ensures next { IsNext (inlet (L.left link.old) (L.faults link.old) frames.old) (inlet (L.left link.new) (L.faults link.new) frames.new) result }
     ensures written { L.written link.new ≡ L.written link.old }
+    ensures as_shut { L.is_shut link.new ≡ L.is_shut link.old }
     ensures kept { L.faults link.old ≤ L.faults link.new }
 {
     let found = match frames.next_to_server() {
@@ -90,6 +95,8 @@ fn answer<R: Wait, L: Link, G: Gate>(
     requires framed { IsFramed message.now }
     ensures lock { IsPassOf turn.now result.1 }
     ensures number { (known_of result.1).number ≡ (known_of pass).number }
+    ensures as_shut { L.is_shut link.new ≡ L.is_shut link.old }
+    ensures worn { IfSome result.0 (HasReadLast (read_of result.1)) }
     ensures goes { (unread : Unread) → (next to_server_of unread).answer ≡ Ok (Some message.now)
         → Carries (stand (known_of pass) (L.left link.old) (L.written link.old) (L.faults link.old) unread session.old)
         (stand (known_of result.1) (L.left link.new) (L.written link.new) (L.faults link.new) (next to_server_of unread).after session.new) result.0 }
@@ -115,6 +122,8 @@ fn step<R: Wait, L: Link, G: Gate>(
     requires lock { IsPassOf turn.now pass }
     ensures lock { IsPassOf turn.now result.1 }
     ensures number { (known_of result.1).number ≡ (known_of pass).number }
+    ensures as_shut { L.is_shut link.new ≡ L.is_shut link.old }
+    ensures worn { IfSome result.0 (HasReadLast (read_of result.1)) }
     ensures goes { Carries (stand (known_of pass) (L.left link.old) (L.written link.old) (L.faults link.old) frames.old session.old)
         (stand (known_of result.1) (L.left link.new) (L.written link.new) (L.faults link.new) frames.new session.new) result.0 }
 {
@@ -141,7 +150,8 @@ pub(crate) fn serve_link<R: Wait, L: Link, G: Gate>(
     ensures lock { IsPassOf turn.now result.1 }
     ensures number { (known_of result.1).number ≡ (known_of pass).number }
     ensures session { OfDocument (known_of pass).seen
-        (λ genesis. IsServedSession L.left L.written L.faults genesis (known_of pass) (known_of result.1) (visit link.old link.new result.0)) }
+        (λ genesis. IsServedSession L.left L.written L.faults L.is_shut genesis (known_of pass) (known_of result.1) (visit link.old link.new result.0)) }
+    ensures worn { HasReadLast (read_of result.1) result.0 }
     ensures shut { IsTrueIfTold (L.is_shut link.new) }
 {
     let mut frames = Frames::new(alloc);

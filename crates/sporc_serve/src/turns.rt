@@ -1,12 +1,12 @@
 //! One turn of a session at the order.
 
-ghost use Rattle.std.specs.Prelude.{◌≡◌, ◌++◌, Ok, Err, IfOk, OnOk, OnErr};
+ghost use Rattle.std.specs.Prelude.{◌≡◌, ◌++◌, Ok, Err, IfOk, IfErr, OnOk, OnErr};
 ghost use Rattle.sporc_order.specs.Replies.{Says};
 ghost use Rattle.sporc_order.specs.Sessions.{step_of, IsFramed};
-ghost use Rattle.sporc_turn.specs.Passes.{known_of, value_of, IsPassOf, IsSameTurn};
+ghost use Rattle.sporc_turn.specs.Passes.{known_of, read_of, value_of, IsPassOf, IsSameTurn};
 ghost use Rattle.sporc_serve.specs.Logs.{log_of, added_of, placed_by, if_answered, OfDocument};
 ghost use Rattle.sporc_serve.specs.Sending.{CanBeSent};
-ghost use Rattle.sporc_serve.specs.Turns.{TakesTurn};
+ghost use Rattle.sporc_serve.specs.Turns.{HasReadLast, TakesTurn};
 
 use crate::desk::Desk;
 use crate::end::SessionEnd;
@@ -53,6 +53,7 @@ pub(crate) fn take_turn<R: Wait>(
     ensures lock { IsPassOf turn.now result.1 }
     ensures sendable { IfOk result.0 CanBeSent }
     ensures number { (known_of result.1).number ≡ (known_of pass).number }
+    ensures worn { IfErr result.0 (HasReadLast (read_of result.1)) }
     ensures turn { OfDocument (known_of pass).seen
         (λ genesis. TakesTurn genesis (known_of pass) (known_of result.1) session.old session.new message.now result.0) }
 {

@@ -109,3 +109,39 @@ saved_unchecked document bytes = by (starts_with eqb bytes (head_bytes document)
     by true (Ok found) = entries_unchecked found.0 found.1
     by true (Err at) = tt
     by false count = tt
+
+-- ---- where reading stops, whoever checks the entries
+
+-- one entry more was read
+pub stops_later : (count i : ℕ) (r after : Reading) (e : List ℕ) (stop : Stop) → i < count → counted_at (2 ^ 32 - 1) r ≡ Ok (e, after)
+    → (entries_at (count - i) r).stop ≡ stop → (entries_at (count - (i + 1)) after).stop ≡ stop
+unfolding entries_at
+stops_later count i r after e stop lt read so_far =
+    let left : count - i ≡ suc (count - (i + 1)) = omega arith in
+    let one : (entries_at (count - i) r).stop ≡ (entries_at (count - (i + 1)) after).stop = rw (left, read) refl in
+    sym one ∙ so_far
+
+-- one was cut short
+pub stops_cut : (count i : ℕ) (r : Reading) (at : ℕ) (stop : Stop) → i < count → counted_at (2 ^ 32 - 1) r ≡ Err at → (entries_at (count - i) r).stop ≡ stop → Cut at ≡ stop
+unfolding entries_at
+stops_cut count i r at stop lt read so_far =
+    let left : count - i ≡ suc (count - (i + 1)) = omega arith in
+    let one : (entries_at (count - i) r).stop ≡ Cut at = rw (left, read) refl in
+    sym one ∙ so_far
+
+-- none is left
+pub stops_behind : (count i : ℕ) (r : Reading) (stop : Stop) → count ≤ i → (entries_at (count - i) r).stop ≡ stop → stop_behind (end_at r) ≡ stop
+unfolding entries_at
+stops_behind count i r stop le so_far =
+    let left : count - i ≡ 0 = omega arith in
+    let one : (entries_at (count - i) r).stop ≡ stop_behind (end_at r) = rw left refl in
+    sym one ∙ so_far
+
+-- what a file says begins with its number of entries, or it is none
+pub stop_opened : (document bytes : List ℕ) (count : ℕ) (r : Reading) → opened document bytes ≡ Ok (count, r) → (saved_in document bytes).stop ≡ (entries_at count r).stop
+unfolding saved_in
+stop_opened document bytes count r is = rw is refl
+
+pub stop_unopened : (document bytes : List ℕ) (stop : Stop) → opened document bytes ≡ Err stop → (saved_in document bytes).stop ≡ stop
+unfolding saved_in
+stop_unopened document bytes stop is = rw is refl

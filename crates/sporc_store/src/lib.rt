@@ -5,6 +5,7 @@
 //!
 //! - [`save`]: the file of entries.
 //! - [`read_saved`]: the entries of a file, unchecked, as far as it is whole, and where it stops.
+//! - [`saved_stop`]: where it stops, alone, without memory.
 //! - [`load`], [`load_order`]: the longest prefix of a file's entries that a member's line, or an order, accepts.
 //! - [`Stop`]: where reading stops: at the end, at another document's file, at a place that is cut short or forbidden, or
 //!   before an entry that a check refuses.
@@ -36,7 +37,7 @@ mod saving;
 mod stop;
 
 pub use fault::SaveFault;
-pub use loading::{load, load_order, read_saved};
+pub use loading::{load, load_order, read_saved, saved_stop};
 pub use saving::save;
 pub use sporc_base::Memory;
 pub use stop::Stop;

@@ -5,6 +5,7 @@ ghost use Rattle.sporc_store.specs.SavedFile.{saved_in, read_to, IsPrefix, IsUnc
 ghost use Rattle.sporc_store.specs.Loading.{a_member, an_order, loaded, NamesCheck};
 
 use crate::appending::append_saved;
+use crate::reading::{open, stop_of_entries};
 use crate::stop::Stop;
 use sporc_base::Memory;
 use sporc_line::Line;
@@ -24,6 +25,18 @@ pub fn read_saved(
     let mut entries = Vec::new(alloc);
     let stop = append_saved(alloc, &mut entries, document, bytes)?;
     Ok((entries, stop))
+}
+
+/// Where the reading of a document's saved history stops, whoever checks its entries: at its end, or at the first place that is
+/// cut short or forbidden.
+pub fn saved_stop(document: &[u8; 16], bytes: &[u8]) -> Stop
+    ensures value { result ≡ (saved_in document.now bytes.now).stop }
+    ensures unchecked { IsUnchecked result }
+{
+    match open(document, bytes) {
+        Ok((count, mut cursor)) => stop_of_entries(&mut cursor, count),
+        Err(stop) => stop,
+    }
 }
 
 /// Appends the entries of a saved history to the empty line of its document, up to the first that is cut short or that

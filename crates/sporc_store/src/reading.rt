@@ -3,7 +3,7 @@
 ghost use Rattle.std.specs.Prelude.{◌≡◌, IfErr};
 ghost use Rattle.sporc_base.specs.Outcome.{Gives};
 ghost use Rattle.sporc_bytes.specs.Fields.{Reads, end_at};
-ghost use Rattle.sporc_store.specs.SavedFile.{count_at, opened, stop_behind};
+ghost use Rattle.sporc_store.specs.SavedFile.{IsUnchecked, count_at, entries_at, opened, stop_behind};
 ghost use Rattle.sporc_store.specs.Loading.{NamesCheck};
 
 use crate::head::{HEAD_LEN, head_of};
@@ -40,9 +40,24 @@ fn read_count(cursor: &mut Cursor<'_>) -> Result<u32, Short>
     Ok(count)
 }
 
+// Where reading stops behind so many counted entries, which stand next.
+pub(crate) fn stop_of_entries(cursor: &mut Cursor<'_>, count: u32) -> Stop
+    ensures value { result ≡ (entries_at count cursor.old).stop }
+    ensures unchecked { IsUnchecked result }
+{
+    for _ in 0..count {
+        match cursor.counted(u32::MAX) {
+            Ok(_) => {}
+            Err(Short(at)) => return Stop::Cut(at),
+        }
+    }
+    stop_at_end(cursor)
+}
+
 // Where reading stops behind the last entry.
 pub(crate) fn stop_at_end(cursor: &Cursor<'_>) -> Stop
     ensures value { result ≡ stop_behind (end_at cursor.now) }
+    ensures unchecked { IsUnchecked result }
     ensures named { NamesCheck result }
 {
     if cursor.end() {

@@ -40,7 +40,7 @@ module _ {S E : Type 0} (logs : S → List E) (by : E → ℕ) (start : ℕ) whe
         bounded = o.bounded;
         each = λ j u e. ⊎_elim
             (λ old. each_set P P s.views id w o.each (λ j' u' ne e' h. h) (record { read = q.read; waiting = q.waiting; turning = q.turning; still = q.still }) j u old)
-            (λ (x : (j ≡ length vs) × (c ≡ u)). subst (P j) x.1 (record { read = omega arith; waiting = λ t. no_both false refl t; turning = λ t. no_both false refl t; still = λ _. (refl, refl) }))
+            (λ (x : (j ≡ length vs) × (c ≡ u)). subst (P j) x.1 (record { read = q.read; waiting = λ t. no_both false refl t; turning = λ t. no_both false refl t; still = λ _. (refl, refl) }))
             (at_end vs c u j e);
         drawn = λ n from below. longer_there (HasTicket n) (o.owner n) (holds_at_set (HasTicket n) (HasTicket n) s.views id (o.owner n) v w at (o.drawn n from below) (λ u _ h. h) (λ _ h. h));
         holder = λ b. longer_there T (o.owner o.serving) (holds_at_set T T s.views id (o.owner o.serving) v w at (o.holder b) (λ u _ h. h) (λ _ h. h));
@@ -66,7 +66,7 @@ module _ {S E : Type 0} (logs : S → List E) (by : E → ℕ) (start : ℕ) whe
         words = o.words;
         in_order = o.in_order;
         bounded = o.bounded;
-        each = each_set P P vs other spent_view (each_set P P s.views id w o.each (λ j x ne e h. h) (record { read = q.read; waiting = q.waiting; turning = q.turning; still = q.still })) (λ j x ne e h. h)
+        each = each_set P P vs other spent_view (each_set P P s.views id w o.each (λ j x ne e h. h) (record { read = omega (arith, q.read, (o.each other u there').read); waiting = q.waiting; turning = q.turning; still = q.still })) (λ j x ne e h. h)
             (record { read = omega arith; waiting = λ t. no_both false refl t; turning = λ t. no_both false refl t; still = λ _. (refl, refl) });
         drawn = λ n from below. holds_at_set (HasTicket n) (HasTicket n) vs other (o.owner n) u spent_view there
             (holds_at_set (HasTicket n) (HasTicket n) s.views id (o.owner n) v w at (o.drawn n from below) (λ x _ h. h) (λ _ h. h)) (λ x _ h. h)

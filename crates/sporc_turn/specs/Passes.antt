@@ -1,10 +1,11 @@
 -- What contracts say of a lock, its passes and its held values.
-use Rattle.std.specs.Prelude.{◌≡◌, ℕ, ◌-◌, length}
+use Rattle.std.specs.Prelude.{◌≡◌, ℕ, ◌-◌, ◌≤◌, length}
 use Rattle.sporc_turn.specs.declared.kept.Kept.{Ghosts}
 use Rattle.sporc_turn.specs.declared.held.Held.{Held}
 use Rattle.sporc_turn.specs.declared.pass.Pass.{Pass}
 use Rattle.sporc_turn.specs.declared.turn.Turn.{Turn}
 use Rattle.sporc_turn.specs.declared.known.Known.{Known}
+use Rattle.sporc_turn.specs.declared.limits.TheConstants.{MAX_TICKETS}
 use Rattle.sporc_turn.specs.Seats.{view_of}
 
 -- what a pass knows
@@ -14,6 +15,10 @@ known_of p = (view_of p.badge).known
 -- the next ticket, as the pass last read it
 abbrev pub read_of : {E : Type 0} → Pass E → ℕ
 read_of p = (view_of p.badge).read
+
+-- the pass has read that every ticket was drawn
+abbrev pub IsWorn : {E : Type 0} → Pass E → Type 0
+IsWorn p = MAX_TICKETS ≤ read_of p
 
 -- how many passes were split from it and not joined back
 abbrev pub out_of : {E : Type 0} → Pass E → ℕ

@@ -1,5 +1,5 @@
 -- What a view becomes at each kind of step, and what the step tells its caller. `m` is the view with the slots that its seat has, before the step, `n` after it, and `r` the number that the step found.
-use Rattle.std.specs.Prelude.{◌≡◌, ◌≢◌, ℕ, ◌≤◌, true, false, List, [], ◌∷◌, length, Some}
+use Rattle.std.specs.Prelude.{◌≡◌, ◌≢◌, ℕ, ◌≤◌, max, true, false, List, [], ◌∷◌, length, Some}
 use Rattle.std.specs.Prelude as std
 use Rattle.atomic_table.specs.Table.{Me}
 use Rattle.sporc_turn.specs.declared.limits.TheConstants.{MAX_TICKETS}
@@ -37,11 +37,11 @@ module _ {E : Type 0} where
   left_of_split v = record v { known = splitting v.known }
 
   abbrev pub right_of_split : View E → View E
-  right_of_split v = record { waits = false; turns = false; ticket = 0; read = 0; known = copied v.known }
+  right_of_split v = record { waits = false; turns = false; ticket = 0; read = v.read; known = copied v.known }
 
   -- a join: the view of both, and the spent one
   abbrev pub of_both : View E → View E → View E
-  of_both v w = record v { known = joining v.known w.known }
+  of_both v w = record v { read = max v.read w.read; known = joining v.known w.known }
 
   abbrev pub spent_view : View E
   spent_view = record { waits = false; turns = false; ticket = 0; read = 0; known = nothing_known }

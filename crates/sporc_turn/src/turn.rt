@@ -1,6 +1,6 @@
 //! The lock.
 
-ghost use Rattle.std.specs.Prelude.{◌≡◌, ◌≢◌, ◌+◌, ◌^◌, ◌<◌, ◌≤◌, IfOk, OnOk, IfErr, MatchResult, [], length, true};
+ghost use Rattle.std.specs.Prelude.{◌≡◌, ◌≢◌, ◌+◌, ◌^◌, ◌<◌, ◌≤◌, max, IfOk, OnOk, IfErr, MatchResult, [], length, true};
 ghost use Rattle.sporc_turn.specs.Log.{StartsWith, Extends, Agrees};
 ghost use Rattle.sporc_turn.specs.Knowing.{first_known, seeing, adding, hearing, splitting, copied, joined_with};
 ghost use Rattle.sporc_turn.specs.Seats.{IsIdle, has_room};
@@ -169,6 +169,7 @@ impl<S: Kept> Turn<S> {
         requires log { Extends S.by (known_held held) (S.log (value_of held)) }
         ensures lock { IsPassOf self.now result }
         ensures known { known_of result ≡ adding (known_held held) (S.log (value_of held)) }
+        ensures read { read_of result ≡ read_held held }
         ensures agrees { Agrees S.by (known_of result) (S.log (value_of held)) }
     {
         let Held { holder, value } = held;
@@ -202,6 +203,7 @@ impl<S: Kept> Turn<S> {
         ensures seen { length (known_of pass).seen ≤ result.0 }
         ensures again { (known_of pass).news ≤ result.0 }
         ensures known { known_of result.1 ≡ hearing (known_of pass) result.0 }
+        ensures read { read_of result.1 ≡ read_of pass }
     {
         let Pass { badge, numbers } = pass;
         let mut seat = badge.into_seat();
@@ -225,6 +227,7 @@ impl<S: Kept> Turn<S> {
         ensures lock { IfOk result (λ r. IsPassOf self.now r.0 × IsPassOf self.now r.1) }
         ensures old { IfOk result (λ r. known_of r.0 ≡ splitting (known_of pass)) }
         ensures new { IfOk result (λ r. known_of r.1 ≡ copied (known_of pass)) }
+        ensures read { IfOk result (λ r. (read_of r.0 ≡ read_of pass) × (read_of r.1 ≡ read_of pass)) }
         ensures returned { IfErr result (λ e. e.0 ≡ pass) }
     {
         let Pass { badge, numbers } = pass;
@@ -252,13 +255,14 @@ impl<S: Kept> Turn<S> {
     }
 
     /// Joins a pass back to number 0, which keeps its items. It has seen the longer of both lists,
-    /// and each of them is a prefix of that one.
+    /// and each of them is a prefix of that one. Of the next tickets that both read it keeps the larger.
     pub fn join(&self, a: Pass<S::Item>, b: Pass<S::Item>) -> Pass<S::Item>
         requires lock { IsPassOf self.now a × IsPassOf self.now b }
         requires first { (known_of a).number ≡ 0 }
         requires other { (known_of b).number ≢ 0 }
         ensures lock { IsPassOf self.now result }
         ensures known { known_of result ≡ joined_with (known_of a) (known_of b) }
+        ensures read { read_of result ≡ max (read_of a) (read_of b) }
         ensures first { StartsWith (known_of result).seen (known_of a).seen }
         ensures other { StartsWith (known_of result).seen (known_of b).seen }
         ensures agrees { Agrees S.by (known_of result) (known_of result).seen }

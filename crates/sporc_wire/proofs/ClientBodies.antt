@@ -1,5 +1,5 @@
 -- A message to a client that is read is spelled so, and one that is spelled so is read again.
-use Rattle.std.proofs.Common.{◌≡◌, ℕ, zero, suc, ◌+◌, ◌^◌, ◌<◌, ◌≤◌, Bool, true, false, cond, eqb, List, [], ◌∷◌, ◌++◌, length, Option, Some, None, Result, Ok, Err, refl, sym, ap, ◌∙◌, subst, arith, append_assoc, length-append}
+use Rattle.std.proofs.Common.{◌≡◌, ℕ, zero, suc, ◌+◌, ◌-◌, ◌^◌, ◌<◌, ◌≤◌, Bool, true, false, cond, eqb, List, [], ◌∷◌, ◌++◌, length, Option, Some, None, Result, Ok, Err, refl, sym, ap, ◌∙◌, subst, arith, append_assoc, length-append}
 use Rattle.std.proofs.lemmas.Bool.{eqb-true}
 use Rattle.std.proofs.lemmas.List.{append-nil}
 use Rattle.std.proofs.lemmas.List.Concat.{flat_map-cons}
@@ -65,15 +65,15 @@ rejected_takes r m h e =
 
 -- ---- counted entries
 
-list_takes : (n : ℕ) (r : Reading) (x : List (List ℕ) × Reading) → IsBytes r.rest → values_at (counted_at MAX_BODY) n r ≡ Ok x → Takes r (flat_map counted x.0) x.1 × (length x.0 ≡ n)
+list_takes : (n : ℕ) (r : Reading) (x : List (List ℕ) × Reading) → IsBytes r.rest → values_at (counted_at (2 ^ 32 - 1)) n r ≡ Ok x → Takes r (flat_map counted x.0) x.1 × (length x.0 ≡ n)
 unfolding values_at
 list_takes zero r x h e =
     let P : List (List ℕ) × Reading → Type 0 = λ y. Takes r (flat_map counted y.0) y.1 × (length y.0 ≡ 0) in
     subst P (ok_is ([], r) x e) (Takes-nothing r h, refl)
 list_takes (suc n) r x h e =
-    let a = bind_ok (counted_at MAX_BODY r) (λ first. values_at (counted_at MAX_BODY) n first.1 >>= λ others. Ok (first.0 ∷ others.0, others.1)) x e in
-    let b = bind_ok (values_at (counted_at MAX_BODY) n a.0.1) (λ others. Ok (a.0.0 ∷ others.0, others.1)) x a.2 in
-    let first = counted_takes MAX_BODY r a.0 h a.1 in
+    let a = bind_ok (counted_at (2 ^ 32 - 1) r) (λ first. values_at (counted_at (2 ^ 32 - 1)) n first.1 >>= λ others. Ok (first.0 ∷ others.0, others.1)) x e in
+    let b = bind_ok (values_at (counted_at (2 ^ 32 - 1)) n a.0.1) (λ others. Ok (a.0.0 ∷ others.0, others.1)) x a.2 in
+    let first = counted_takes (2 ^ 32 - 1) r a.0 h a.1 in
     let second = list_takes n a.0.1 b.0 first.0.bytes b.1 in
     let both : Takes r (counted a.0.0 ++ flat_map counted b.0.0) b.0.1 = Takes-then r (counted a.0.0) a.0.1 (flat_map counted b.0.0) b.0.1 first.0 second.0 in
     let made : List (List ℕ) × Reading = (a.0.0 ∷ b.0.0, b.0.1) in
@@ -85,7 +85,7 @@ abbrev ReadsTo : {A : Type 0} → Result (A × Reading) ℕ → A → List ℕ �
 ReadsTo r x rest = (at : ℕ) × (r ≡ Ok (x, record { rest = rest; at = at }))
 
 list_again : (es : List (List ℕ)) (at : ℕ) (rest : List ℕ) → length (flat_map counted es) ≤ MAX_BODY
-    → ReadsTo (values_at (counted_at MAX_BODY) (length es) (record { rest = flat_map counted es ++ rest; at = at })) es rest
+    → ReadsTo (values_at (counted_at (2 ^ 32 - 1)) (length es) (record { rest = flat_map counted es ++ rest; at = at })) es rest
 unfolding values_at
 list_again [] at rest small = (at, refl)
 list_again (e ∷ es) at rest small =
@@ -96,10 +96,10 @@ list_again (e ∷ es) at rest small =
     let others = list_again es (at + 4 + length e) rest (omega (arith, small, len, sum)) in
     let regrouped : flat_map counted (e ∷ es) ++ rest ≡ counted e ++ (flat_map counted es ++ rest) =
     ap (λ (bs : List ℕ). bs ++ rest) parts ∙ append_assoc (counted e) (flat_map counted es) rest in
-    let fits : length e ≤ MAX_BODY = omega (arith, small, len, sum, one) in (
+    let fits : length e ≤ 2 ^ 32 - 1 = omega (arith, small, len, sum, one) in (
       others.0,
-      ap (λ (bs : List ℕ). values_at (counted_at MAX_BODY) (suc (length es)) (record { rest = bs; at = at })) regrouped
-          ∙ rw (counted_again MAX_BODY at e (flat_map counted es ++ rest) (omega (arith, fits)) fits, others.1) refl,
+      ap (λ (bs : List ℕ). values_at (counted_at (2 ^ 32 - 1)) (suc (length es)) (record { rest = bs; at = at })) regrouped
+          ∙ rw (counted_again (2 ^ 32 - 1) at e (flat_map counted es ++ rest) (omega (arith, fits)) fits, others.1) refl,
     )
 
 entries_takes : (r : Reading) (m : ToClient) → IsBytes r.rest → entries_at r ≡ Ok m → IsSpelled ENTRIES r.rest m
@@ -162,8 +162,8 @@ to_client_again (Entries first entries) is small =
     let list : List ℕ = flat_map counted entries in
     let len = length-append (to_be_bytes w32 first) (length entries ∷ flat_map counted entries) in
     let again = list_again entries 6 [] (omega (arith, small, len)) in
-    let last : values_at (counted_at MAX_BODY) (length entries) (record { rest = flat_map counted entries; at = 6 }) ≡ Ok (entries, record { rest = []; at = again.0 }) =
-    ap (λ (bs : List ℕ). values_at (counted_at MAX_BODY) (length entries) (record { rest = bs; at = 6 })) (sym (append-nil (flat_map counted entries))) ∙ again.1 in
+    let last : values_at (counted_at (2 ^ 32 - 1)) (length entries) (record { rest = flat_map counted entries; at = 6 }) ≡ Ok (entries, record { rest = []; at = again.0 }) =
+    ap (λ (bs : List ℕ). values_at (counted_at (2 ^ 32 - 1)) (length entries) (record { rest = bs; at = 6 })) (sym (append-nil (flat_map counted entries))) ∙ again.1 in
     rw (
       u8_again ENTRIES 0 (to_be_bytes w32 first ++ (length entries ∷ flat_map counted entries)) (omega arith),
       u32_again first 1 (length entries ∷ flat_map counted entries) is.0,

@@ -3,9 +3,9 @@
 -- | Message | Body |
 -- | Ordered | the byte 1, the position as u32 |
 -- | Rejected | the byte 2, the number of the refusal's check as u8, its detail as u32 |
--- | Entries | the byte 3, the position of the first as u32, how many as u8 (1 to 16), and each entry counted |
+-- | Entries | the byte 3, the position of the first as u32, how many as u8 (1 to 16), and each entry counted, of any length |
 -- | Empty | the byte 4 |
-use Rattle.std.specs.Prelude.{◌≢◌, ℕ, ◌<◌, ◌≤◌, ◌^◌, ◌==◌, List, [], ◌∷◌, ◌++◌, length, Result, Ok, Err, if◌then◌else◌}
+use Rattle.std.specs.Prelude.{◌≢◌, ℕ, ◌-◌, ◌<◌, ◌≤◌, ◌^◌, ◌==◌, List, [], ◌∷◌, ◌++◌, length, Result, Ok, Err, if◌then◌else◌}
 use Rattle.std.specs.List.{flat_map}
 use Rattle.std.specs.Int.{w8, w32, to_be_bytes}
 use Rattle.sporc_bytes.specs.Fields.{Reading, ◌>>=◌, number_at, counted_at, counted, end_at, present, values_at, number_within}
@@ -38,7 +38,7 @@ unfoldable pub entries_at : Reading → Result ToClient ℕ
 entries_at r = do
   first ← number_at w32 r
   count ← number_within 1 MAX_PULLED w8 first.1
-  entries ← values_at (counted_at MAX_BODY) count.0 count.1
+  entries ← values_at (counted_at (2 ^ 32 - 1)) count.0 count.1
   end ← end_at entries.1
   Ok (Entries first.0 entries.0)
 

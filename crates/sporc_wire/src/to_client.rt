@@ -1,6 +1,6 @@
 //! Messages to a client.
 
-ghost use Rattle.std.specs.Prelude.{◌≡◌, ◌≤◌, length, map, IfOk};
+ghost use Rattle.std.specs.Prelude.{◌≡◌, ◌-◌, ◌≤◌, ◌^◌, length, map, IfOk};
 ghost use Rattle.sporc_base.specs.Outcome.{GivesUnless};
 ghost use Rattle.sporc_bytes.specs.Fields.{Reads, counted_at, fault_as, values_at};
 ghost use Rattle.sporc_wire.specs.declared.to_client.ToClient.{ToClient};
@@ -9,7 +9,6 @@ ghost use Rattle.sporc_wire.specs.Messages.{framed};
 ghost use Rattle.sporc_wire.specs.Stream.{frame};
 ghost use Rattle.sporc_wire.specs.ToClient.{ordered_at, rejected_at, entries_at, empty_at, to_client_bytes, IsToClient};
 
-use crate::cutter::MAX_BODY;
 use crate::entries::entries_frame;
 use crate::fault::FrameFault;
 use crate::message::{BodyFault, Message};
@@ -115,11 +114,11 @@ fn read_empty(cursor: &mut Cursor<'_>) -> Result<ToClient, Short>
 // The counted entries that stand next.
 fn read_list(alloc: Global, cursor: &mut Cursor<'_>, count: u8) -> Result<Vec<Bytes>, BodyFault>
     ensures { GivesUnless BodyFault.Memory (λ entries. (entries.items, cursor.new)) result
-        (fault_as BodyFault.Bad (values_at (counted_at MAX_BODY) count cursor.old)) }
+        (fault_as BodyFault.Bad (values_at (counted_at (2 ^ 32 - 1)) count cursor.old)) }
 {
     let mut entries = Vec::with_capacity(alloc, usize::from(count))?;
     for _ in 0..count {
-        let entry = cursor.counted(MAX_BODY)?;
+        let entry = cursor.counted(u32::MAX)?;
         let copy = Bytes::copy_of(alloc, entry)?;
         entries.push(copy)?;
     }

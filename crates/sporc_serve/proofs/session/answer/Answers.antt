@@ -1,4 +1,4 @@
-use Rattle.sporc_turn.specs.Passes.{known_of}
+use Rattle.sporc_turn.specs.Passes.{known_of, read_of}
 use Rattle.sporc_serve.proofs.Stepping.{answer_goes, answer_ends}
 use Rattle.sporc_serve.proofs.session.answer.Goals as goal
 
@@ -15,3 +15,6 @@ returns-in-Err-clause-goes g c unread here =
     (g.L.Sink.written c.args.link.now) (g.L.Sink.written c.args.link.now) (g.L.Counted.faults c.args.link.now) (g.L.Counted.faults c.args.link.now)
     unread c.args.session.now c.take_turn-reply.new.session c.args.message.now c.take_turn-reply.result.0 c.take_turn-reply.ensures.turn here
     c.in-Err.end c.in-Err.is
+
+pub returns-in-Ok-clause-worn : goal.returns-in-Ok-clause-worn
+returns-in-Ok-clause-worn g c = c.send.ensures.worn (read_of c.take_turn-reply.result.1)

@@ -10,6 +10,7 @@ pub loop-init : goal.loop-init
 loop-init g c = record {
   lock = c.requires.lock;
   number = refl;
+  as_shut = refl;
   course = λ genesis log.
       begun genesis (known_of c.args.pass) (g.L.Source.left c.args.link.now) (g.L.Sink.written c.args.link.now) (g.L.Counted.faults c.args.link.now)
       c.new-frames.result c.new-session.result c.new-frames.ensures.value c.new-session.ensures.value;
@@ -27,6 +28,7 @@ loop-preserved g c =
     record {
       lock = c.step-end.ensures.lock;
       number = c.step-end.ensures.number ∙ c.loop.invariant.number;
+      as_shut = c.step-end.ensures.as_shut ∙ c.loop.invariant.as_shut;
       course = λ genesis log.
           carried genesis a b b' None log (c.loop.invariant.course genesis log) (subst (λ (e : Option SessionEnd). Carries b b' e) c.in_default.is c.step-end.ensures.goes);
     }
@@ -40,8 +42,9 @@ returns-in-Some-end-clause-session g c genesis log =
     let b' : ServerStand =
     stand (known_of c.step-end.result.1) (g.L.Source.left c.step-end.new.link) (g.L.Sink.written c.step-end.new.link) (g.L.Counted.faults c.step-end.new.link)
     c.step-end.new.frames c.step-end.new.session in
-    session_ended g.L.Source.left g.L.Sink.written g.L.Counted.faults genesis (known_of c.args.pass) (known_of c.step-end.result.1) c.args.link.now
+    session_ended g.L.Source.left g.L.Sink.written g.L.Counted.faults g.L.Stream.is_shut genesis (known_of c.args.pass) (known_of c.step-end.result.1) c.args.link.now
     c.step-end.new.link c.shut.new.self c.step-end.new.frames c.step-end.new.session c.in-Some-end.end
     (carried genesis a b b' (Some c.in-Some-end.end) log (c.loop.invariant.course genesis log)
     (subst (λ (e : Option SessionEnd). Carries b b' e) c.in-Some-end.is c.step-end.ensures.goes))
-    c.shut.ensures.left c.shut.ensures.written c.shut.ensures.count
+    (c.step-end.ensures.as_shut ∙ c.loop.invariant.as_shut)
+    (record { shut = c.shut.ensures.shut; left_is = c.shut.ensures.left; written_is = c.shut.ensures.written; faults_are = c.shut.ensures.count })

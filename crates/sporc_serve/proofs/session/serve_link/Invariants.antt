@@ -9,6 +9,7 @@ abbrev pub invariant-loop : goal.invariant-loop
 invariant-loop g l = record {
   lock : IsPassOf l.turn l.pass;
   number : (known_of l.pass).number ≡ (known_of l.initial.pass).number;
+  as_shut : g.L.Stream.is_shut l.link ≡ g.L.Stream.is_shut l.initial.link;
   course : OfDocument (known_of l.initial.pass).seen
       (λ genesis. GoesOn genesis
       (stand (known_of l.initial.pass) (g.L.Source.left l.initial.link) (g.L.Sink.written l.initial.link) (g.L.Counted.faults l.initial.link) (stream_of []) false)

@@ -1,7 +1,7 @@
 use Rattle.std.proofs.Common.{Ok, ap, ◌∙◌}
-use Rattle.sporc_turn.specs.Passes.{known_of}
+use Rattle.sporc_turn.specs.Passes.{known_of, read_of}
 use Rattle.sporc_serve.specs.Endings.{inlet}
-use Rattle.sporc_serve.proofs.Stepping.{found_framed, step_ends, step_waits, step_answers}
+use Rattle.sporc_serve.proofs.Stepping.{found_framed, found_unworn, step_ends, step_waits, step_answers}
 use Rattle.sporc_serve.proofs.session.step.Goals as goal
 
 pub returns-in-Err-clause-goes : goal.returns-in-Err-clause-goes
@@ -31,3 +31,9 @@ returns-clause-goes g c =
     c.next_message.new.frames c.args.session.now c.next_message.result c.next_message.ensures.next c.next_message.ensures.written c.next_message.ensures.kept
     c.in-Some.message (known_of c.answer.result.1) (g.L.Source.left c.answer.new.link) (g.L.Sink.written c.answer.new.link) (g.L.Counted.faults c.answer.new.link)
     c.answer.new.session c.answer.result.0 (c.in-Ok.is ∙ ap Ok c.in-Some.is) c.answer.ensures.goes
+
+pub returns-in-Err-clause-worn : goal.returns-in-Err-clause-worn
+returns-in-Err-clause-worn g c =
+    found_unworn (inlet (g.L.Source.left c.args.link.now) (g.L.Counted.faults c.args.link.now) c.args.frames.now)
+    (inlet (g.L.Source.left c.next_message.new.link) (g.L.Counted.faults c.next_message.new.link) c.next_message.new.frames) c.next_message.result
+    c.in-Err.end (read_of c.args.pass) c.in-Err.is c.next_message.ensures.next
