@@ -1,6 +1,6 @@
 -- A member's line, from what its parts answered.
 use Rattle.std.proofs.Common.{◌≡◌, ◌≢◌, ℕ, List, Some, None, refl, sym, ap, ◌∙◌, subst}
-use Rattle.std.specs.Prelude.{Result, Ok, Err, IfErr, IfOk, ⊤, []}
+use Rattle.std.specs.Prelude.{Result, Ok, Err, IfErr, IfOk, OnOk, ⊤, []}
 use Rattle.std.specs.FinMap.{get}
 use Rattle.sporc_base.specs.FirstFault.{first_of}
 use Rattle.sporc_base.specs.Outcome.{GivesUnless}
@@ -39,11 +39,11 @@ failed X fault = Err fault
 module _ {L : Type 0} (view : LinkView L) (begin : Begin) (old new : NetTold L) where
   -- the line was opened with keys
   pub opened_with : (keys pairs : Keys) → HasKeys view begin old new keys → pairs ≡ shared_of begin → (result : Result LineModel OpenFault)
-      → IfOk result (λ line. line.genesis ≡ begin.genesis) → IfOk result (λ line. line.kit ≡ kit_of begin.member keys pairs) → IfOk result (λ line. line.entries ≡ [])
+      → OnOk result (first_of (open_checks begin.genesis (get keys 0)) ≡ None) → IfOk result (λ line. line.genesis ≡ begin.genesis) → IfOk result (λ line. line.kit ≡ kit_of begin.member keys pairs) → IfOk result (λ line. line.entries ≡ [])
       → IfOk result (Opens view begin old new)
-  opened_with keys pairs has same (Ok line) genesis kit empty =
-      record { keys = keys; has = has; genesis = genesis; kit = kit ∙ ap (kit_of begin.member keys) same; empty = empty }
-  opened_with keys pairs has same (Err fault) genesis kit empty = tt
+  opened_with keys pairs has same (Ok line) meets genesis kit empty =
+      record { keys = keys; has = has; meets = meets; genesis = genesis; kit = kit ∙ ap (kit_of begin.member keys) same; empty = empty }
+  opened_with keys pairs has same (Err fault) meets genesis kit empty = tt
 
   -- or it was not
   pub not_with : (keys : Keys) → HasKeys view begin old new keys → (before after : ℕ) (result : Result LineModel OpenFault)

@@ -1,5 +1,5 @@
 -- A member's session, whole.
-use Rattle.std.specs.Prelude.{◌≡◌, ℕ, List, Option, Result, ⊤}
+use Rattle.std.specs.Prelude.{◌≡◌, ℕ, List, Option, None, Some, Result, ⊤}
 use Rattle.lms_tree.specs.LmsPrivate.{LmsPrivate}
 use Rattle.sporc_client.specs.Step.{log_of_entries}
 use Rattle.sporc_line.specs.LineModel.{LineModel}
@@ -16,7 +16,7 @@ use Rattle.sporc_sessions.specs.declared.opening.OpenFault.{OpenFault}
 use Rattle.sporc_sessions.specs.declared.resuming.ResumeFault.TheVariants as resuming
 use Rattle.sporc_sessions.specs.Nets.{IsWork, LinkView, MakesNoLink, NetTold, ShutsUnused}
 use Rattle.sporc_sessions.specs.Opening.{Begin, IsOpenFault, Opens}
-use Rattle.sporc_sessions.specs.Resuming.{StopsBefore, loaded_from}
+use Rattle.sporc_sessions.specs.Resuming.{StopsBefore, broken_for, loaded_from}
 use Rattle.sporc_sessions.specs.Sessions.{ChanceTold, Plan}
 
 -- how a member signs: by its private key, from this leaf on
@@ -37,8 +37,13 @@ past_with line signs entries = record {
 }
 
 module _ {L : Type 0} (view : LinkView L) (begin : Begin) (saved : Option (List ℕ)) (old : NetTold L) where
+  -- where its saved history is not whole, as far as that is seen before its line is opened
+  abbrev pub first_stop : Option Stop
+  first_stop = broken_for begin.ring.epoch_key begin.genesis.document saved
+
   -- the member's line was opened, and all entries of its saved history were loaded
   pub record IsResumed (between : NetTold L) : Type 0 where
+    pub whole : first_stop ≡ None
     pub line : LineModel
     pub opens : Opens view begin old between line
     pub entries : List (List ℕ)
@@ -53,13 +58,15 @@ module _ {L : Type 0} (view : LinkView L) (begin : Begin) (saved : Option (List 
 
     -- Why no session began, where the net's count of faults went from `before` to `after`. Memory may run out at any time
     pub data NotAttended (before after : ℕ) (fault : AttendFault) : Type 0 where
+      -- its saved history is not whole, and no link was asked for
+      not_whole : {stop : Stop} → first_stop ≡ Some stop → new ≡ old → fault ≡ faults.Stopped stop → NotAttended before after fault
       -- the member's line was not opened
-      not_opened : {cause : OpenFault} → IsOpenFault view begin old new before after cause → fault ≡ faults.Open cause → NotAttended before after fault
+      not_opened : {cause : OpenFault} → first_stop ≡ None → IsOpenFault view begin old new before after cause → fault ≡ faults.Open cause → NotAttended before after fault
       -- the loading of its saved history stopped before the end
-      stopped : {line : LineModel} {stop : Stop} → Opens view begin old new line → StopsBefore (loaded_of line saved).stop (resuming.Stopped stop) → fault ≡ faults.Stopped stop
+      stopped : {line : LineModel} {stop : Stop} → first_stop ≡ None → Opens view begin old new line → StopsBefore (loaded_of line saved).stop (resuming.Stopped stop) → fault ≡ faults.Stopped stop
           → NotAttended before after fault
-      -- memory ran out as it was loaded
-      not_resumed : {line : LineModel} → Opens view begin old new line → fault ≡ faults.Memory → NotAttended before after fault
+      -- memory ran out as it was loaded: no stop of it is told then, and the net stands as the opening of the line left it
+      not_resumed : {line : LineModel} → first_stop ≡ None → Opens view begin old new line → fault ≡ faults.Memory → NotAttended before after fault
       -- no link was made for the session
       unreached : {between : NetTold L} → IsResumed between → MakesNoLink between new begin.address → Rose before after → fault ≡ faults.Unreached → NotAttended before after fault
       -- memory ran out once it was made

@@ -1,7 +1,7 @@
 -- What is printed and saved once a session has ended, and what stands of the leaf file.
 use Rattle.std.specs.Prelude.{◌≡◌, ◌<◌, ℕ, List, length, Option, option_map, Result, Ok, Err, ⊤}
 use Rattle.std.specs.Io.KnownBytes.{Appends}
-use Rattle.lms_leaf.specs.LeafFile.{AreTaken}
+use Rattle.lms_leaf.specs.LeafFile.{ArePassed, AreTaken}
 use Rattle.sporc_client.specs.ClientModel.{Rise, leaves_of}
 use Rattle.sporc_outside.specs.Counts.{Rose}
 use Rattle.sporc_outside.specs.Files.{ChangesFile, with_file}
@@ -17,7 +17,8 @@ use Rattle.sporc_sessions.specs.declared.concluding.PrintFault.{PrintFault}
 use Rattle.sporc_sessions.specs.declared.concluding.PrintFault.TheVariants as printing
 use Rattle.sporc_sessions.specs.Report.{report_of}
 
--- what was printed of a client: journal and report, and nothing else; or a prefix of them, if the sink failed; or nothing
+-- What was printed of a client, whatever its session came to: journal and report, and nothing else. Or a call of the sink failed behind a prefix
+-- of them; or memory ran out as they were made, before any call of the sink
 abbrev pub PrintOutcome : Past → SinkUse → Result ⊤ PrintFault → Type 0
 PrintOutcome past out (Ok done) = Appends out.written_before out.written_after (report_of past)
 PrintOutcome past out (Err printing.Sink) = Rose out.faults_before out.faults_after × AppendsPrefix out.written_before out.written_after (report_of past)
@@ -37,16 +38,19 @@ files_use files faults old new = record { before = files old; after = files new;
 abbrev pub history_bytes : Past → List ℕ
 history_bytes past = saved_bytes past.opening.genesis.document (client_of past).entries
 
--- what was saved of a client: all its entries, as the file with this name, and nothing else; or anything may stand there, if the folder failed;
--- or nothing was written, as the file would be too long, or memory ran out
+-- What was saved of a client, whatever its session and its printing came to: all its entries, as the file with this name, and nothing else. Or a
+-- call of the folder failed, and anything may stand there; or nothing was written, since the file would be too long, or since memory ran out as its
+-- bytes were made
 abbrev pub SaveOutcome : Past → List ℕ → FilesUse → Result ⊤ KeepFault → Type 0
 SaveOutcome past name files (Ok done) = files.after ≡ option_map (λ old. with_file old name (history_bytes past)) files.before
 SaveOutcome past name files (Err keeping.Folder) = Rose files.faults_before files.faults_after × ChangesFile files.before files.after name
 SaveOutcome past name files (Err keeping.TooLong) = (MAX_FILE < length (history_bytes past)) × (files.after ≡ files.before)
 SaveOutcome past name files (Err keeping.Memory) = files.after ≡ files.before
 
--- the leaves of a log's submissions rise from the first on, each once, and no crash makes their blocks of the leaf file free again
+-- the leaves of a log's submissions rise from the first on, each once, and no crash makes their blocks of the leaf file free again; whatever a
+-- crash leaves, a later opening goes on at the next leaf or above it
 pub record LeavesAreTaken (images : List ℕ → Type 0) (past : Past) : Type 0 where
   pub next : ℕ
   pub rise : Rise past.first_leaf next (leaves_of past.log)
   pub taken : AreTaken images past.first_leaf next
+  pub passed : ArePassed images next

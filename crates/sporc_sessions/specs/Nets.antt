@@ -1,7 +1,7 @@
 -- A link that a net hands out and takes back.
 use Rattle.std.specs.Prelude.{◌≡◌, ◌≤◌, ℕ, List, ◌++◌, replicate, Bool, Option, None, Some, Result, ⊤}
 use Rattle.sporc_outside.specs.Counts.{count_of_both}
-use Rattle.sporc_outside.specs.Told.{AppendsItem, IsTrueIfTold, MayAppend, TakesItem}
+use Rattle.sporc_outside.specs.Told.{AppendsItem, IsFalseIfTold, IsTrueIfTold, MayAppend, TakesItem}
 use Rattle.sporc_shared.specs.declared.fault.SessionFault.{SessionFault}
 use Rattle.sporc_shared.specs.Items.{Past}
 use Rattle.sporc_sessions.specs.Sessions.{ChanceTold, IsSessionOf, LinkTold, Plan, link_told}
@@ -31,11 +31,16 @@ pub record LinkView (L : Type 0) : Type 0 where
 abbrev pub link_view : {L : Type 0} → (L → Option (List ℕ)) → (L → Option (List ℕ)) → (L → ℕ) → (L → Option Bool) → LinkView L
 link_view written left faults is_shut = record { told = link_told written left faults; is_shut = is_shut }
 
--- the net handed out a link to an address, without faults, and took it back, shut
+-- The net handed out a link to an address, without faults and not shut. It was not shut before what was done over it had ended; then it was, and
+-- the net took it back
 pub record UsesLink {L : Type 0} (view : LinkView L) (old new : NetTold L) (address : List ℕ) (first last : L) : Type 0 where
   pub asked : AppendsItem old.asked new.asked address
   pub came : TakesItem old.coming new.coming first
   pub fresh : (view.told first).faults ≡ 0
+  pub is_open : IsFalseIfTold (view.is_shut first)
+  pub ended : L
+  pub still_open : view.is_shut ended ≡ view.is_shut first
+  pub told_then : view.told last ≡ view.told ended
   pub shut : IsTrueIfTold (view.is_shut last)
   pub back : AppendsItem old.returned new.returned last
   pub counted : count_of_both old.link_faults (view.told last).faults ≤ new.link_faults

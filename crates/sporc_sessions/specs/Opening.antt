@@ -48,10 +48,11 @@ module _ {L : Type 0} (view : LinkView L) (begin : Begin) (old new : NetTold L) 
     joins : {entries : List (List ℕ)} → begin.ring.epoch_key ≡ None → Fetches (Ok entries) → hints_by begin.member (shared_of begin) (Ok entries) ≡ Ok keys
         → HasKeys keys
 
-  -- the empty line of the member was opened with them
+  -- the empty line of the member was opened with them: that of epoch 0 is the one that the genesis commits to
   pub record Opens (line : LineModel) : Type 0 where
     pub keys : Keys
     pub has : HasKeys keys
+    pub meets : first_of (open_checks begin.genesis (get keys 0)) ≡ None
     pub genesis : line.genesis ≡ begin.genesis
     pub kit : line.kit ≡ kit_of begin.member keys (shared_of begin)
     pub empty : line.entries ≡ []

@@ -1,12 +1,15 @@
 -- What a session did to a client.
-use Rattle.std.specs.Prelude.{◌≡◌, ℕ, List, Option, Result, ⊤}
+use Rattle.std.specs.Prelude.{◌≡◌, ℕ, List, Option, IfErr, Result, ⊤}
 use Rattle.sporc_script.specs.declared.editor_line.EditorLine.{EditorLine}
 use Rattle.sporc_turn.specs.declared.known.Known.{Known}
+use Rattle.sporc_turn.specs.declared.pass.Pass.{Pass}
 use Rattle.sporc_turn.specs.Knowing.{first_known}
+use Rattle.sporc_turn.specs.Passes.{known_of}
 use Rattle.sporc_client.specs.Log.{Logged}
 use Rattle.sporc_shared.specs.declared.fault.SessionFault.{SessionFault}
 use Rattle.sporc_shared.specs.Courses.{Stand, stand}
 use Rattle.sporc_shared.specs.Items.{IsAllowed, Item, Past, items_of, with_events}
+use Rattle.sporc_shared.specs.Passes.{IsWornFor}
 use Rattle.sporc_shared.specs.Sessions.{IsSession}
 use Rattle.sporc_shared.specs.Wires.{InboxModel, empty_inbox, link_stand}
 
@@ -43,13 +46,15 @@ pub record Around : Type 0 where
   pub link : LinkTold
   pub chance : ChanceTold
 
--- A session led a client from one past to another: it added events to its log
+-- A session led a client from one past to another, with this pass at its end: it added events to its log. If it ended since the lock's tickets
+-- ran out, the pass has read that
 pub record IsSessionOf (plan : Plan) (before after : Past) (found left : Around) (result : Result ⊤ SessionFault) : Type 0 where
-  pub known : Known Item
+  pub pass : Pass Item
   pub inbox : InboxModel
-  pub session : IsSession (stand_at (first_known (items_of before)) empty_inbox found.link found.chance) (stand_at known inbox left.link left.chance)
+  pub session : IsSession (stand_at (first_known (items_of before)) empty_inbox found.link found.chance) (stand_at (known_of pass) inbox left.link left.chance)
       plan.rounds plan.until plan.editors result
-  pub seen : known.seen ≡ items_of after
+  pub worn : IfErr result (IsWornFor pass)
+  pub seen : (known_of pass).seen ≡ items_of after
   pub events : List Logged
   pub goes_on : after ≡ with_events before events
   pub allowed : IsAllowed after

@@ -13,7 +13,7 @@ ghost use Rattle.sporc_sessions.specs.Opening.{links_for_hints};
 ghost use Rattle.sporc_sessions.specs.Sessions.{chance_told};
 
 use crate::opening::{OpenFault, open_line};
-use crate::resuming::{ResumeFault, resume};
+use crate::resuming::{ResumeFault, broken_for, resume};
 use crate::session::Ended;
 use crate::working::{WorkFault, work};
 use lms_sign::Signer;
@@ -40,7 +40,7 @@ pub struct Member {
 pub enum AttendFault {
     /// The member's line does not open.
     Open(OpenFault),
-    /// The loading of its saved history stops here, before the end.
+    /// The reading or the loading of its saved history stops here, before the end.
     Stopped(Stop),
     /// No link was made.
     Unreached,
@@ -49,7 +49,7 @@ pub enum AttendFault {
 }
 
 /// Opens a member's line, loads the history that it saved, if it did, and has its client work with the server at an address. A
-/// joiner's hints are fetched over a link of their own before.
+/// joiner's hints are fetched over a link of their own before, unless its saved history is not whole.
 pub fn attend<
     R: Threads + Wait + Sync,
     D: LeafDisk + Send,
@@ -107,6 +107,9 @@ where
         number,
         ring,
     } = member;
+    if let Some(stop) = broken_for(&ring, &genesis.document, &saved) {
+        return Err((AttendFault::Stopped(stop), signer));
+    }
     let line = match open_line(rt, alloc, net, address, genesis, number, &ring) {
         Ok(line) => line,
         Err(fault) => return Err((AttendFault::Open(fault), signer)),

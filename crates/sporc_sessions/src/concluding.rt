@@ -83,6 +83,7 @@ pub fn conclude<D: LeafDisk, O: Sink, F: Folder>(
     ensures saved { SaveOutcome (past_of ended.client) name.now
         (files_use F.files F.faults files.old files.new)
         result.saved }
+    ensures disk { result.disk ≡ ended.client.leaves.disk }
     ensures taken { LeavesAreTaken (D.images result.disk (D.moment result.disk)) (past_of ended.client) }
     ensures lent { F.lent files.new ≡ F.lent files.old }
     ensures may_ask { MayAppend (F.asked files.old) (F.asked files.new) name.now }

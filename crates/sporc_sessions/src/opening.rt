@@ -1,6 +1,6 @@
 //! The line of a member, opened.
 
-ghost use Rattle.std.specs.Prelude.{◌≡◌, ◌≢◌, ◌≤◌, [], Some, IfErr, IfOk};
+ghost use Rattle.std.specs.Prelude.{◌≡◌, ◌≢◌, ◌≤◌, [], None, Some, IfErr, IfOk, OnOk};
 ghost use Rattle.std.specs.FinMap as map;
 ghost use Rattle.sporc_base.specs.FirstFault.{first_of};
 ghost use Rattle.sporc_entry.specs.Genesis.{IsGenesis};
@@ -89,6 +89,7 @@ fn open_with(
     pairs: Pairs,
 ) -> Result<Line, OpenFault>
     requires genesis { IsGenesis genesis }
+    ensures meets { OnOk result (first_of (open_checks genesis (map.get keys.keys 0)) ≡ None) }
     ensures genesis { IfOk result (λ line. line.genesis ≡ genesis) }
     ensures kit { IfOk result (λ line. line.kit ≡ kit_of member keys.keys (pairs_in pairs)) }
     ensures empty { IfOk result (λ line. line.entries ≡ []) }

@@ -4,14 +4,15 @@ ghost use Rattle.std.specs.Prelude.{◌≡◌, ◌≢◌, ℕ, List, [], None, o
 ghost use Rattle.sporc_client.specs.Step.{log_of_entries};
 ghost use Rattle.sporc_store.specs.Loading.{a_member};
 ghost use Rattle.sporc_store.specs.SavedFile.{read_to};
-ghost use Rattle.sporc_sessions.specs.Resuming.{loaded_from, StopsBefore};
+ghost use Rattle.sporc_sessions.specs.Resuming.{StopsBefore, before_end, broken, broken_for, loaded_from};
 
 use lms_sign::Signer;
 use sporc_base::Memory;
 use sporc_client::Client;
+use sporc_keys::RingFile;
 use sporc_line::Line;
 use sporc_outside::LeafDisk;
-use sporc_store::{Stop, load};
+use sporc_store::{Stop, load, saved_stop};
 use std::alloc::Global;
 
 /// Why a saved history is not gone on with.
@@ -21,6 +22,42 @@ pub enum ResumeFault {
     Stopped(Stop),
     /// Out of memory.
     Memory,
+}
+
+/// Where the saved history of a joiner, which has no key of epoch 0, is not whole.
+pub(crate) fn broken_for(
+    ring: &RingFile,
+    document: &[u8; 16],
+    saved: &Option<Vec<u8>>,
+) -> Option<Stop>
+    ensures value { result ≡ broken_for ring.now.epoch_key document.now (option_map (λ bytes. bytes.items) saved.now) }
+{
+    match ring.epoch_key {
+        Some(_) => None,
+        None => broken(document, saved),
+    }
+}
+
+// Where a saved history is not whole, if there is one.
+fn broken(document: &[u8; 16], saved: &Option<Vec<u8>>) -> Option<Stop>
+    ensures value { result ≡ broken document.now (option_map (λ bytes. bytes.items) saved.now) }
+{
+    match saved {
+        Some(bytes) => before_end(saved_stop(document, bytes.as_slice())),
+        None => None,
+    }
+}
+
+// Where reading stops, if it is before the end.
+fn before_end(stop: Stop) -> Option<Stop>
+    ensures value { result ≡ before_end stop }
+{
+    match stop {
+        Stop::End => None,
+        Stop::Foreign => Some(Stop::Foreign),
+        Stop::Cut(at) => Some(Stop::Cut(at)),
+        Stop::Refused(position, refusal) => Some(Stop::Refused(position, refusal)),
+    }
 }
 
 /// The client of a member that goes on with the entries of its saved history, each of them an accept by 0, or with none if

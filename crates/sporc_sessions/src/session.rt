@@ -56,6 +56,7 @@ pub(crate) fn run_session<
     ensures leaves { IfOk result (λ ended. Rise (past_of ended.client).first_leaf ended.client.leaves.next (leaves_of ended.client.log)) }
     ensures causes { IfOk result (λ ended. RoseIfFailed (counts_around L.faults link.old link.new C.faults chance.old chance.new) ended.result) }
     ensures chance_kept { C.faults chance.old ≤ C.faults chance.new }
+    ensures shut { L.is_shut link.new ≡ L.is_shut link.old }
     ensures returned { IfErr result (λ e. e.0 ≡ client) }
     ensures link { OnErr result (link.new ≡ link.old) }
     ensures chance { OnErr result (chance.new ≡ chance.old) }

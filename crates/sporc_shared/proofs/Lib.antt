@@ -28,3 +28,4 @@ pub mod LastLeaves
 pub mod Settling
 pub mod Making
 pub mod Examples
+pub mod Wearing

@@ -6,7 +6,7 @@ ghost use Rattle.sporc_turn.specs.Passes.{known_of};
 ghost use Rattle.sporc_shared.specs.Courses.{CountsSame, stand_at};
 ghost use Rattle.sporc_shared.specs.Crowds.{IsCrowd, IsFirst, IsOther, either_fault};
 ghost use Rattle.sporc_shared.specs.Editing.{LinesDid};
-ghost use Rattle.sporc_shared.specs.Passes.{IsPassOf};
+ghost use Rattle.sporc_shared.specs.Passes.{IsPassOf, IsWornFor};
 
 use crate::editor::do_lines;
 use crate::fault::SessionFault;
@@ -55,6 +55,8 @@ pub(crate) fn crowd<
         (stand_at L.written L.left L.faults C.given C.faults (known_of first) link.old inbox.old chance.old)
         (stand_at L.written L.left L.faults C.given C.faults (known_of result.1) link.new inbox.new chance.new)
         rounds scripts.now result.0.receiver result.0.editors }
+    ensures shut { L.is_shut link.new ≡ L.is_shut link.old }
+    ensures worn { IfSome result.0.receiver (IsWornFor result.1) × IfSome result.0.editors (IsWornFor result.1) }
 {
     let Some((script, others)) = scripts.split_first() else {
         let (receiver, first) = first_phase(
@@ -86,7 +88,9 @@ pub(crate) fn crowd<
                 × IsCrowd
                 (stand_at L.written L.left L.faults C.given C.faults (known_of p) link.entry.now inbox.entry.now chance.entry.now)
                 (stand_at L.written L.left L.faults C.given C.faults (known_of result.1) link.exit.now inbox.exit.now chance.exit.now)
-                rounds others.entry.now result.0.receiver result.0.editors) }
+                rounds others.entry.now result.0.receiver result.0.editors
+                × (L.is_shut link.exit.now ≡ L.is_shut link.entry.now)
+                × IfSome result.0.receiver (IsWornFor result.1) × IfSome result.0.editors (IsWornFor result.1)) }
         {
             crowd(
                 rt,
@@ -103,7 +107,8 @@ pub(crate) fn crowd<
         },
         &mut || -> (Option<SessionFault>, Pass)
             requires { IsOther shared.now second }
-            ensures { IfSome second.entry (λ p. IsPassOf shared.entry.now result.1 × CountsSame (known_of p) (known_of result.1) × LinesDid (known_of p) (known_of result.1) script.entry.now result.0) }
+            ensures { IfSome second.entry (λ p. IsPassOf shared.entry.now result.1 × CountsSame (known_of p) (known_of result.1) × LinesDid (known_of p) (known_of result.1) script.entry.now result.0
+                × IfSome result.0 (IsWornFor result.1)) }
         {
             do_lines(
                 rt,

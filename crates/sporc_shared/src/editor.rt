@@ -1,13 +1,13 @@
 //! An editor's lines.
 
-ghost use Rattle.std.specs.Prelude.{◌≡◌, ◌-◌, ◌≤◌, ◌^◌, min, [], IfErr, IfOk};
+ghost use Rattle.std.specs.Prelude.{◌≡◌, ◌-◌, ◌≤◌, ◌^◌, min, [], IfErr, IfOk, IfSome};
 ghost use Rattle.sporc_script.specs.declared.editor_line.EditorCommand.TheVariants as commands;
 ghost use Rattle.sporc_turn.specs.Passes.{known_of};
 ghost use Rattle.sporc_delta.specs.Marks.{base_len, insertion, removal};
 ghost use Rattle.sporc_shared.specs.Courses.{CountsSame, KnowsMore};
 ghost use Rattle.sporc_shared.specs.Editing.{AskedDid, IsAtFront, IsWornFault, LineDid, LinesDid, StatedDid, seen_of};
 ghost use Rattle.sporc_shared.specs.Lines.{Changes, asked_by};
-ghost use Rattle.sporc_shared.specs.Passes.{IsPassOf};
+ghost use Rattle.sporc_shared.specs.Passes.{IsPassOf, IsWornFor};
 ghost use Rattle.sporc_shared.specs.Replies.{edited_of};
 
 use crate::answered::{Answered, Reply};
@@ -78,6 +78,7 @@ fn see<R: Wait, D: LeafDisk>(rt: &R, shared: &SharedClient<D>, pass: Pass) -> We
     ensures knows { KnowsMore (known_of pass) (known_of result.1) [] }
     ensures ok { IfOk result.0 (λ seen. IsAtFront (known_of result.1) seen.front.events seen.len) }
     ensures err { IfErr result.0 IsWornFault }
+    ensures worn { IfErr result.0 (IsWornFor result.1) }
 {
     let (found, pass) = looked(shared.look(rt, pass));
     (worn(found), pass)
@@ -98,6 +99,7 @@ fn edit_at<R: Wait, D: LeafDisk>(
     ensures lock { IsPassOf shared.now result.1 }
     ensures counts { CountsSame (known_of pass) (known_of result.1) }
     ensures did { StatedDid (known_of pass) (known_of result.1) line seen.front.events delta.now result.0 }
+    ensures worn { IfErr result.0 (IsWornFor result.1) }
 {
     let number = pass.number();
     let (answer, pass) = plain(shared.edit(rt, pass, seen.front, delta));
@@ -142,6 +144,7 @@ fn insert<R: Wait, D: LeafDisk>(
     ensures lock { IsPassOf shared.now result.1 }
     ensures counts { CountsSame (known_of pass) (known_of result.1) }
     ensures did { AskedDid (known_of pass) (known_of result.1) line (asked_by (commands.Insert asked.now)) result.0 }
+    ensures worn { IfErr result.0 (IsWornFor result.1) }
 {
     let (found, pass) = see(rt, shared, pass);
     let seen = match found {
@@ -167,6 +170,7 @@ fn remove<R: Wait, D: LeafDisk>(
     ensures lock { IsPassOf shared.now result.1 }
     ensures counts { CountsSame (known_of pass) (known_of result.1) }
     ensures did { AskedDid (known_of pass) (known_of result.1) line (asked_by (commands.Remove asked.now)) result.0 }
+    ensures worn { IfErr result.0 (IsWornFor result.1) }
 {
     let (found, pass) = see(rt, shared, pass);
     let seen = match found {
@@ -191,6 +195,7 @@ fn change<R: Wait, D: LeafDisk>(
     ensures lock { IsPassOf shared.now result.1 }
     ensures counts { CountsSame (known_of pass) (known_of result.1) }
     ensures did { AskedDid (known_of pass) (known_of result.1) line (Changes change) result.0 }
+    ensures worn { IfErr result.0 (IsWornFor result.1) }
 {
     let number = pass.number();
     let (answer, pass) = plain(shared.change(rt, pass, change));
@@ -210,6 +215,7 @@ fn do_line<R: Wait, D: LeafDisk, G: Gate>(
     ensures lock { IsPassOf shared.now result.1 }
     ensures counts { CountsSame (known_of pass) (known_of result.1) }
     ensures did { LineDid (known_of pass) (known_of result.1) line.now result.0 }
+    ensures worn { IfErr result.0 (IsWornFor result.1) }
 {
     let number = line.number;
     gate.before_line(rt, pass.number(), number);
@@ -251,6 +257,7 @@ pub(crate) fn do_lines<R: Wait, D: LeafDisk, G: Gate>(
     ensures lock { IsPassOf shared.now result.1 }
     ensures counts { CountsSame (known_of pass) (known_of result.1) }
     ensures did { LinesDid (known_of pass) (known_of result.1) lines.now result.0 }
+    ensures worn { IfSome result.0 (IsWornFor result.1) }
 {
     let mut mine = pass;
     for line in lines {

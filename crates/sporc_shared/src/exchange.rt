@@ -35,6 +35,7 @@ pub(crate) fn send<L: Link>(
         (link_at L.written L.left L.faults link.old inbox.now)
         (link_at L.written L.left L.faults link.new inbox.now)
         message.now) }
+    ensures shut { L.is_shut link.new ≡ L.is_shut link.old }
 {
     match write_to_server(alloc, message) {
         Ok(bytes) => match write_all(link, bytes.as_slice()) {
@@ -58,6 +59,7 @@ fn read_piece<L: Link>(link: &mut L, inbox: &mut Inbox) -> Result<(), SessionFau
         (link_at L.written L.left L.faults link.old inbox.old)
         (link_at L.written L.left L.faults link.new inbox.new)
         ) }
+    ensures shut { L.is_shut link.new ≡ L.is_shut link.old }
 {
     let mut buf = [0u8; PIECE];
     let Ok(n) = link.read(&mut buf) else {
@@ -91,6 +93,7 @@ fn receive<L: Link>(link: &mut L, inbox: &mut Inbox) -> Result<ToClient, Session
         (link_at L.written L.left L.faults link.old inbox.old)
         (link_at L.written L.left L.faults link.new inbox.new)
         ) }
+    ensures shut { L.is_shut link.new ≡ L.is_shut link.old }
 {
     loop {
         match inbox.next() {
@@ -118,6 +121,7 @@ fn ask<L: Link>(
         (link_at L.written L.left L.faults link.old inbox.old)
         (link_at L.written L.left L.faults link.new inbox.new)
         message.now) }
+    ensures shut { L.is_shut link.new ≡ L.is_shut link.old }
 {
     send(alloc, link, inbox, message)?;
     receive(link, inbox)
@@ -158,6 +162,7 @@ pub(crate) fn pull<L: Link>(
         (link_at L.written L.left L.faults link.old inbox.old)
         (link_at L.written L.left L.faults link.new inbox.new)
         (to_server.Pull from)) }
+    ensures shut { L.is_shut link.new ≡ L.is_shut link.old }
 {
     let place = inbox.at();
     let answer = ask(alloc, link, inbox, &ToServer::Pull { from })?;
@@ -184,6 +189,7 @@ pub(crate) fn send_entry<L: Link>(
         (link_at L.written L.left L.faults link.old inbox.old)
         (link_at L.written L.left L.faults link.new inbox.new)
         (to_server.Submit entry)) }
+    ensures shut { L.is_shut link.new ≡ L.is_shut link.old }
 {
     let place = inbox.at();
     let message = ToServer::Submit { entry };

@@ -1,5 +1,6 @@
 //! All entries that a server has.
 
+ghost use Rattle.std.specs.Prelude.{◌≡◌};
 ghost use Rattle.sporc_shared.specs.Fetches.{IsFetch};
 ghost use Rattle.sporc_shared.specs.Wires.{InboxModel, empty_inbox, link_at};
 
@@ -26,6 +27,7 @@ pub fn fetch<L: Link>(
 ) -> Result<Entries, SessionFault>
     ensures fetch { (inbox : InboxModel)
         × IsFetch (link_at L.written L.left L.faults link.old empty_inbox) (link_at L.written L.left L.faults link.new inbox) document.now member result }
+    ensures shut { L.is_shut link.new ≡ L.is_shut link.old }
 {
     let mut inbox = Inbox::new(alloc);
     send(alloc, link, &inbox, &hello_of(document, member))?;

@@ -1,10 +1,10 @@
 //! The receiver's two phases.
 
-ghost use Rattle.std.specs.Prelude.{◌≡◌, ◌+◌, ℕ, List, Option, Some};
+ghost use Rattle.std.specs.Prelude.{◌≡◌, ◌+◌, ℕ, List, Option, Some, IfErr, IfSome};
 ghost use Rattle.sporc_turn.specs.Passes.{known_of};
 ghost use Rattle.sporc_shared.specs.Courses.{CountsSame, stand, stand_at};
 ghost use Rattle.sporc_shared.specs.Outcomes.{DidOrStopped};
-ghost use Rattle.sporc_shared.specs.Passes.{IsPassOf};
+ghost use Rattle.sporc_shared.specs.Passes.{IsPassOf, IsWornFor};
 ghost use Rattle.sporc_shared.specs.Protocol.{Asking, Between, always, is_unsettled};
 ghost use Rattle.sporc_shared.specs.Sessions.{FirstPhase, SecondPhase};
 ghost use Rattle.sporc_shared.specs.Wires.{link_at};
@@ -39,6 +39,8 @@ fn greet<R: Wait, D: LeafDisk, L: Link>(
         (stand (known_of pass) (link_at L.written L.left L.faults link.old inbox.now) words count)
         (stand (known_of result.1) (link_at L.written L.left L.faults link.new inbox.now) words count)
         Asking (Between 0) result.0 }
+    ensures shut { L.is_shut link.new ≡ L.is_shut link.old }
+    ensures worn { IfErr result.0 (IsWornFor result.1) }
 {
     let (answer, pass) = plain(shared.hello(rt, pass));
     match worn(answer) {
@@ -67,6 +69,8 @@ fn look_and_round<R: Wait, D: LeafDisk, L: Link, C: Chance, G: Gate>(
         (stand_at L.written L.left L.faults C.given C.faults (known_of pass) link.old inbox.old chance.old)
         (stand_at L.written L.left L.faults C.given C.faults (known_of result.1) link.new inbox.new chance.new)
         (Between n) (Between (n + 1)) result.0 }
+    ensures shut { L.is_shut link.new ≡ L.is_shut link.old }
+    ensures worn { IfErr result.0 (IsWornFor result.1) }
 {
     let (answer, pass) = plain(shared.look(rt, pass));
     match worn(answer) {
@@ -95,6 +99,8 @@ fn rounds_of<R: Wait, D: LeafDisk, L: Link, C: Chance, G: Gate>(
         (stand_at L.written L.left L.faults C.given C.faults (known_of pass) link.old inbox.old chance.old)
         (stand_at L.written L.left L.faults C.given C.faults (known_of result.1) link.new inbox.new chance.new)
         (Between 0) (Between rounds) result.0 }
+    ensures shut { L.is_shut link.new ≡ L.is_shut link.old }
+    ensures worn { IfErr result.0 (IsWornFor result.1) }
 {
     let mut mine = pass;
     let mut done = 0;
@@ -129,6 +135,8 @@ pub(crate) fn first_phase<R: Wait, D: LeafDisk, L: Link, C: Chance, G: Gate>(
         (stand_at L.written L.left L.faults C.given C.faults (known_of pass) link.old inbox.old chance.old)
         (stand_at L.written L.left L.faults C.given C.faults (known_of result.1) link.new inbox.new chance.new)
         rounds result.0 }
+    ensures shut { L.is_shut link.new ≡ L.is_shut link.old }
+    ensures worn { IfSome result.0 (IsWornFor result.1) }
 {
     let (greeted, pass) = greet(rt, alloc, shared, link, inbox, pass);
     match greeted {
@@ -168,6 +176,8 @@ pub(crate) fn second_phase<R: Wait, D: LeafDisk, L: Link, C: Chance, G: Gate>(
         (stand_at L.written L.left L.faults C.given C.faults (known_of pass) link.old inbox.old chance.old)
         (stand_at L.written L.left L.faults C.given C.faults (known_of result.1) link.new inbox.new chance.new)
         rounds until result.0 }
+    ensures shut { L.is_shut link.new ≡ L.is_shut link.old }
+    ensures worn { IfErr result.0 (IsWornFor result.1) }
 {
     let mut mine = pass;
     let mut done = 0;

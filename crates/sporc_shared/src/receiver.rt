@@ -7,7 +7,7 @@ ghost use Rattle.sporc_head.specs.declared.limits.TheConstants.{MAX_ENTRIES};
 ghost use Rattle.sporc_turn.specs.Passes.{known_of};
 ghost use Rattle.sporc_shared.specs.Courses.{CountsSame};
 ghost use Rattle.sporc_shared.specs.Outcomes.{Drew, DrewFew, SubmittedOne, TookAll, TookOne};
-ghost use Rattle.sporc_shared.specs.Passes.{IsPassOf};
+ghost use Rattle.sporc_shared.specs.Passes.{IsPassOf, IsWornFor};
 ghost use Rattle.sporc_shared.specs.Replies.{made_of, plain_of, taken_of, worn_of};
 
 use crate::answered::{Answered, Reply};
@@ -102,6 +102,7 @@ fn take_one<R: Wait, D: LeafDisk, G: Gate>(
     ensures lock { IsPassOf shared.now result.1 }
     ensures counts { CountsSame (known_of pass) (known_of result.1) }
     ensures took { TookOne (known_of pass) (known_of result.1) at entry.now result.0 }
+    ensures worn { IfErr result.0 (IsWornFor result.1) }
 {
     let position = at + 1;
     let (answer, pass) = plain(shared.accept(rt, pass, position, entry));
@@ -127,6 +128,7 @@ pub(crate) fn take_all<R: Wait, D: LeafDisk, G: Gate>(
     ensures lock { IsPassOf shared.now result.1 }
     ensures counts { CountsSame (known_of pass) (known_of result.1) }
     ensures took { TookAll (known_of pass) (known_of result.1) at entries.now result.0 }
+    ensures worn { IfErr result.0 (IsWornFor result.1) }
 {
     let Some((entry, rest)) = entries.split_first() else {
         return (Ok(()), pass);
@@ -177,6 +179,7 @@ pub(crate) fn submit<R: Wait, D: LeafDisk, C: Chance>(
     ensures kept { C.faults chance.old ≤ C.faults chance.new }
     ensures submitted { SubmittedOne (known_of pass) (known_of result.1) (C.given chance.old) (C.given chance.new) (C.faults chance.old) (C.faults chance.new) result.0 }
     ensures short { IfOk result.0 (λ made. IfSome made (λ entry. length entry < MAX_BODY)) }
+    ensures worn { IfErr result.0 (IsWornFor result.1) }
 {
     match draw(chance) {
         Ok(random) => {

@@ -1,13 +1,13 @@
 //! One round of the receiver.
 
-ghost use Rattle.std.specs.Prelude.{◌≡◌, ◌+◌, ◌<◌, ◌≤◌, ℕ, Bool, List, [], Option, length};
+ghost use Rattle.std.specs.Prelude.{◌≡◌, ◌+◌, ◌<◌, ◌≤◌, ℕ, Bool, List, [], Option, length, IfErr};
 ghost use Rattle.sporc_head.specs.declared.refusal.Refusal.{Refusal};
 ghost use Rattle.sporc_head.specs.declared.limits.TheConstants.{MAX_ENTRIES};
 ghost use Rattle.sporc_turn.specs.Passes.{known_of};
 ghost use Rattle.sporc_wire.specs.declared.cutter.TheConstants.{MAX_BODY};
 ghost use Rattle.sporc_shared.specs.Courses.{CountsSame, stand, stand_at};
 ghost use Rattle.sporc_shared.specs.Outcomes.{DidOrStopped, GatheredAll};
-ghost use Rattle.sporc_shared.specs.Passes.{IsPassOf};
+ghost use Rattle.sporc_shared.specs.Passes.{IsPassOf, IsWornFor};
 ghost use Rattle.sporc_shared.specs.Protocol.{Between, Pulling, Taking, Sending, Checking, Submits, Drains};
 ghost use Rattle.sporc_shared.specs.Replies.{checked_of};
 ghost use Rattle.sporc_shared.specs.Wires.{LinkStand, link_at};
@@ -44,6 +44,8 @@ fn gather<R: Wait, D: LeafDisk, L: Link, G: Gate>(
         (link_at L.written L.left L.faults link.old inbox.old)
         (link_at L.written L.left L.faults link.new inbox.new)
         at result.0 }
+    ensures shut { L.is_shut link.new ≡ L.is_shut link.old }
+    ensures worn { IfErr result.0 (IsWornFor result.1) }
 {
     match pull(alloc, link, inbox, at) {
         Ok(entries) => {
@@ -79,6 +81,8 @@ fn drain<R: Wait, D: LeafDisk, L: Link, G: Gate>(
         (stand (known_of pass) (link_at L.written L.left L.faults link.old inbox.old) words count)
         (stand (known_of result.1) (link_at L.written L.left L.faults link.new inbox.new) words count)
         (Taking n at [] (Drains entry refusal)) (Checking n entry refusal) result.0 }
+    ensures shut { L.is_shut link.new ≡ L.is_shut link.old }
+    ensures worn { IfErr result.0 (IsWornFor result.1) }
 {
     let mut mine = pass;
     let mut now = at;
@@ -125,6 +129,7 @@ fn check<R: Wait, D: LeafDisk>(
         (stand (known_of pass) link words count)
         (stand (known_of result.1) link words count)
         (Checking n entry.now refusal) (Between (n + 1)) result.0 }
+    ensures worn { IfErr result.0 (IsWornFor result.1) }
 {
     let (answer, pass) = plain(shared.is_flight(rt, pass, entry));
     (checked(refusal, answer), pass)
@@ -153,6 +158,8 @@ fn settle<R: Wait, D: LeafDisk, L: Link, G: Gate>(
         (stand (known_of pass) (link_at L.written L.left L.faults link.old inbox.old) words count)
         (stand (known_of result.1) (link_at L.written L.left L.faults link.new inbox.new) words count)
         (Taking n at [] (Drains entry.now refusal)) (Between (n + 1)) result.0 }
+    ensures shut { L.is_shut link.new ≡ L.is_shut link.old }
+    ensures worn { IfErr result.0 (IsWornFor result.1) }
 {
     let (drained, pass) = drain(rt, alloc, shared, gate, link, inbox, pass, at);
     match drained {
@@ -184,6 +191,8 @@ fn offer<R: Wait, D: LeafDisk, L: Link, G: Gate>(
         (stand (known_of pass) (link_at L.written L.left L.faults link.old inbox.old) words count)
         (stand (known_of result.1) (link_at L.written L.left L.faults link.new inbox.new) words count)
         (Sending n at entry) (Between (n + 1)) result.0 }
+    ensures shut { L.is_shut link.new ≡ L.is_shut link.old }
+    ensures worn { IfErr result.0 (IsWornFor result.1) }
 {
     let (answer, entry) = send_entry(alloc, link, inbox, entry);
     match answer {
@@ -228,6 +237,8 @@ fn give<R: Wait, D: LeafDisk, L: Link, C: Chance, G: Gate>(
         (stand_at L.written L.left L.faults C.given C.faults (known_of pass) link.old inbox.old chance.old)
         (stand_at L.written L.left L.faults C.given C.faults (known_of result.1) link.new inbox.new chance.new)
         (Taking n at [] Submits) (Between (n + 1)) result.0 }
+    ensures shut { L.is_shut link.new ≡ L.is_shut link.old }
+    ensures worn { IfErr result.0 (IsWornFor result.1) }
 {
     let (made, pass) = submit(rt, shared, chance, pass);
     match made {
@@ -261,6 +272,8 @@ pub(crate) fn round<R: Wait, D: LeafDisk, L: Link, C: Chance, G: Gate>(
         (stand_at L.written L.left L.faults C.given C.faults (known_of pass) link.old inbox.old chance.old)
         (stand_at L.written L.left L.faults C.given C.faults (known_of result.1) link.new inbox.new chance.new)
         (Pulling n at) (Between (n + 1)) result.0 }
+    ensures shut { L.is_shut link.new ≡ L.is_shut link.old }
+    ensures worn { IfErr result.0 (IsWornFor result.1) }
 {
     let (gathered, pass) = gather(rt, alloc, shared, gate, link, inbox, pass, at);
     match gathered {

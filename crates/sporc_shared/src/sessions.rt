@@ -1,12 +1,12 @@
 //! A session.
 
-ghost use Rattle.std.specs.Prelude.{◌≡◌, ◌≤◌, [], length};
+ghost use Rattle.std.specs.Prelude.{◌≡◌, ◌≤◌, [], length, IfErr};
 ghost use Rattle.sporc_script.specs.declared.limits.TheConstants.{MAX_EDITORS};
 ghost use Rattle.sporc_turn.specs.Passes.{known_of, out_of};
 ghost use Rattle.sporc_turn.specs.Log.{Agrees};
 ghost use Rattle.sporc_shared.specs.Courses.{IsAllowedLog, stand_at};
 ghost use Rattle.sporc_shared.specs.Items.{by_of};
-ghost use Rattle.sporc_shared.specs.Passes.{IsPassOf};
+ghost use Rattle.sporc_shared.specs.Passes.{IsPassOf, IsWornFor};
 ghost use Rattle.sporc_shared.specs.Sessions.{IsSession};
 ghost use Rattle.sporc_shared.specs.Wires.{InboxModel, empty_inbox};
 
@@ -67,6 +67,8 @@ pub fn session<
         (stand_at L.written L.left L.faults C.given C.faults (known_of pass) link.old empty_inbox chance.old)
         (stand_at L.written L.left L.faults C.given C.faults (known_of result.1) link.new inbox chance.new)
         rounds until editors.now result.0 }
+    ensures shut { L.is_shut link.new ≡ L.is_shut link.old }
+    ensures worn { IfErr result.0 (IsWornFor result.1) }
 {
     let mut inbox = Inbox::new(alloc);
     let (faults, pass) = crowd(

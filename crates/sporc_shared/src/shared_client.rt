@@ -1,6 +1,6 @@
 //! Clients that threads share.
 
-ghost use Rattle.std.specs.Prelude.{◌≡◌, ◌≢◌, ◌+◌, ◌<◌, ◌≤◌, ◌^◌, [], length, IfErr, IfOk};
+ghost use Rattle.std.specs.Prelude.{◌≡◌, ◌≢◌, ◌+◌, ◌<◌, ◌≤◌, ◌^◌, max, [], length, IfErr, IfOk};
 ghost use Rattle.sporc_base.specs.FirstFault.{AnswersUnless};
 ghost use Rattle.sporc_client.specs.Answers.{accept_fault, added, change_fault, edit_fault};
 ghost use Rattle.sporc_client.specs.ClientModel.{Rise, leaves_of};
@@ -9,7 +9,7 @@ ghost use Rattle.sporc_client.specs.Step.{is_flight};
 ghost use Rattle.sporc_client.specs.Submissions.{submission_added};
 ghost use Rattle.sporc_turn.specs.Knowing.{adding, copied, first_known, joined_with, splitting};
 ghost use Rattle.sporc_turn.specs.Log.{Agrees, Extends, StartsWith};
-ghost use Rattle.sporc_turn.specs.Passes.{known_held, known_of, out_of, value_of, IsHeldOf};
+ghost use Rattle.sporc_turn.specs.Passes.{known_held, known_of, out_of, read_of, value_of, IsHeldOf};
 ghost use Rattle.sporc_wire.specs.declared.cutter.TheConstants.{MAX_BODY};
 ghost use Rattle.sporc_wire.specs.ToServer.{to_server_bytes};
 ghost use Rattle.sporc_shared.specs.Calls.{IsCall, SubmitsAt};
@@ -234,13 +234,14 @@ impl<D: LeafDisk> SharedClient<D> {
     }
 
     /// Joins a pass back to number 0, which keeps its items. It has seen the longer of both logs, and each of them is a prefix
-    /// of that one.
+    /// of that one. Of the next tickets that both read it keeps the larger.
     pub fn join(&self, a: Pass, b: Pass) -> Pass
         requires lock { IsPassOf self.now a × IsPassOf self.now b }
         requires first { (known_of a).number ≡ 0 }
         requires other { (known_of b).number ≢ 0 }
         ensures lock { IsPassOf self.now result }
         ensures known { known_of result ≡ joined_with (known_of a) (known_of b) }
+        ensures read { read_of result ≡ max (read_of a) (read_of b) }
         ensures first { StartsWith (known_of result).seen (known_of a).seen }
         ensures other { StartsWith (known_of result).seen (known_of b).seen }
         ensures agrees { Agrees by_of (known_of result) (known_of result).seen }

@@ -96,7 +96,7 @@ returns-clause-net_may_ask g c =
 -- ---- links
 
 pub returns-in_err-member-clause-shut : goal.returns-in_err-member-clause-shut
-returns-in_err-member-clause-shut g c = shut_none g.N.Link.Link.is_shut (g.N.Links.returned c.args.net.now) (g.N.Links.returned c.args.net.now) refl
+returns-in_err-member-clause-shut g c = shut_none g.N.Link.Stream.is_shut (g.N.Links.returned c.args.net.now) (g.N.Links.returned c.args.net.now) refl
 
 pub returns-in_err-disk-clause-shut : goal.returns-in_err-disk-clause-shut
-returns-in_err-disk-clause-shut g c = shut_none g.N.Link.Link.is_shut (g.N.Links.returned c.args.net.now) (g.N.Links.returned c.args.net.now) refl
+returns-in_err-disk-clause-shut g c = shut_none g.N.Link.Stream.is_shut (g.N.Links.returned c.args.net.now) (g.N.Links.returned c.args.net.now) refl

@@ -101,7 +101,7 @@ returns-clause-net_may_ask g c =
 -- ---- links
 
 pub returns-in-Err-clause-shut : goal.returns-in-Err-clause-shut
-returns-in-Err-clause-shut g c = shut_none g.N.Link.Link.is_shut (g.N.Links.returned c.args.net.now) (g.N.Links.returned c.args.net.now) refl
+returns-in-Err-clause-shut g c = shut_none g.N.Link.Stream.is_shut (g.N.Links.returned c.args.net.now) (g.N.Links.returned c.args.net.now) refl
 
 pub returns-in-Err-history_of-clause-shut : goal.returns-in-Err-history_of-clause-shut
-returns-in-Err-history_of-clause-shut g c = shut_none g.N.Link.Link.is_shut (g.N.Links.returned c.args.net.now) (g.N.Links.returned c.args.net.now) refl
+returns-in-Err-history_of-clause-shut g c = shut_none g.N.Link.Stream.is_shut (g.N.Links.returned c.args.net.now) (g.N.Links.returned c.args.net.now) refl

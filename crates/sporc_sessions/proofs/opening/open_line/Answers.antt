@@ -9,7 +9,7 @@ use Rattle.sporc_sessions.proofs.opening.open_line.Goals as goal
 pub returns-in_ok-keys-in-Some-clause-ok : goal.returns-in_ok-keys-in-Some-clause-ok
 returns-in_ok-keys-in-Some-clause-ok g c =
     opened_with _ _ _ _ c.in_ok-keys-in-Some.keys.keys (pairs_in c.in_ok-pairs.pairs) (founds c.in-Some.is refl c.in_ok-keys-in-Some.ensures.value)
-    c.in_ok-pairs.ensures.value c.open_with.result c.open_with.ensures.genesis c.open_with.ensures.kit c.open_with.ensures.empty
+    c.in_ok-pairs.ensures.value c.open_with.result c.open_with.ensures.meets c.open_with.ensures.genesis c.open_with.ensures.kit c.open_with.ensures.empty
 
 pub returns-in_ok-keys-in-Some-clause-err : goal.returns-in_ok-keys-in-Some-clause-err
 returns-in_ok-keys-in-Some-clause-err g c =
@@ -20,7 +20,7 @@ returns-in-Ok-clause-ok g c =
     let (fetched, fetch, gives) = c.in-Ok.ensures.hints (was_reached c.in-Ok.keys) in
     opened_with _ _ _ _ c.in-Ok.keys.keys (pairs_in c.in_ok-pairs.pairs)
     (joined_by _ _ _ _ fetched c.in-Ok.keys.keys (pairs_in c.in_ok-pairs.pairs) c.in-None.is c.in_ok-pairs.ensures.value fetch gives)
-    c.in_ok-pairs.ensures.value c.open_with-in-Ok.result c.open_with-in-Ok.ensures.genesis c.open_with-in-Ok.ensures.kit c.open_with-in-Ok.ensures.empty
+    c.in_ok-pairs.ensures.value c.open_with-in-Ok.result c.open_with-in-Ok.ensures.meets c.open_with-in-Ok.ensures.genesis c.open_with-in-Ok.ensures.kit c.open_with-in-Ok.ensures.empty
 
 pub returns-in-Ok-clause-err : goal.returns-in-Ok-clause-err
 returns-in-Ok-clause-err g c =
@@ -51,12 +51,12 @@ returns-in-Err-clause-may_ask g c = asks_for_hints c.args.ring.now _ _ c.args.ad
 
 pub returns-in_err-pairs-clause-shut : goal.returns-in_err-pairs-clause-shut
 returns-in_err-pairs-clause-shut g c =
-    shut_none g.N.Link.Link.is_shut (g.N.Links.returned c.args.net.now) (g.N.Links.returned c.args.net.now) refl
+    shut_none g.N.Link.Stream.is_shut (g.N.Links.returned c.args.net.now) (g.N.Links.returned c.args.net.now) refl
 
 pub returns-in_err-keys-in-Some-clause-shut : goal.returns-in_err-keys-in-Some-clause-shut
 returns-in_err-keys-in-Some-clause-shut g c =
-    shut_none g.N.Link.Link.is_shut (g.N.Links.returned c.args.net.now) (g.N.Links.returned c.args.net.now) refl
+    shut_none g.N.Link.Stream.is_shut (g.N.Links.returned c.args.net.now) (g.N.Links.returned c.args.net.now) refl
 
 pub returns-in_ok-keys-in-Some-clause-shut : goal.returns-in_ok-keys-in-Some-clause-shut
 returns-in_ok-keys-in-Some-clause-shut g c =
-    shut_none g.N.Link.Link.is_shut (g.N.Links.returned c.args.net.now) (g.N.Links.returned c.args.net.now) refl
+    shut_none g.N.Link.Stream.is_shut (g.N.Links.returned c.args.net.now) (g.N.Links.returned c.args.net.now) refl

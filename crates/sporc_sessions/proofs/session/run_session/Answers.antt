@@ -10,8 +10,8 @@ session-result-requires-clause-allowed g c κs within =
 
 pub returns-in-Ok-close-clause-session : goal.returns-in-Ok-close-clause-session
 returns-in-Ok-close-clause-session g c =
-    session_of _ _ _ (known_of c.in-Ok.first) (known_of c.session-result.result.1) c.session-result.ensures.session.0 _ _ _
-    c.in-Ok.ensures.first c.session-result.ensures.session.1 c.in-Ok-close.ensures.log c.in-Ok-close.ensures.allowed
+    session_of _ _ _ (known_of c.in-Ok.first) c.session-result.result.1 c.session-result.ensures.session.0 _ _ _
+    c.in-Ok.ensures.first c.session-result.ensures.session.1 c.session-result.ensures.worn c.in-Ok-close.ensures.log c.in-Ok-close.ensures.allowed
 
 pub returns-in-Ok-close-clause-causes : goal.returns-in-Ok-close-clause-causes
 returns-in-Ok-close-clause-causes g c = session_rose _ _ c.args.rounds c.args.until c.args.editors.now c.session-result.result.0 c.session-result.ensures.session.1

@@ -16,6 +16,11 @@ returns-in-Ok-ended-clause-work g c = record {
     asked = subst (λ asked. AppendsItem (g.N.Links.asked c.args.net.now) asked c.args.address.now) (sym c.take_back.ensures.asked) c.in-Ok.ensures.asked;
     came = subst (λ coming. TakesItem (g.N.Links.coming c.args.net.now) coming c.in-Ok.link) (sym c.take_back.ensures.coming) c.in-Ok.ensures.next;
     fresh = c.in-Ok.ensures.fresh;
+    is_open = c.in-Ok.ensures.open;
+    ended = c.run_session-ended.new.link;
+    still_open = c.run_session-ended.ensures.shut;
+    told_then = told_again (link_told g.N.Link.Sink.written g.N.Link.Source.left g.N.Link.Counted.faults c.run_session-ended.new.link)
+        (link_told g.N.Link.Sink.written g.N.Link.Source.left g.N.Link.Counted.faults c.shut.new.self) c.shut.ensures.written c.shut.ensures.left c.shut.ensures.count;
     shut = c.shut.ensures.shut;
     back = subst (λ returned. AppendsItem returned (g.N.Links.returned c.take_back.new.self) c.shut.new.self) c.connect.ensures.returned c.take_back.ensures.returned;
     counted = subst (λ (n : ℕ). count_of_both n (g.N.Link.Counted.faults c.shut.new.self) ≤ g.N.Links.link_faults c.take_back.new.self) c.connect.ensures.links c.take_back.ensures.links;
@@ -31,6 +36,11 @@ returns-in-Err-clause-memory g c memory = record {
     asked = subst (λ asked. AppendsItem (g.N.Links.asked c.args.net.now) asked c.args.address.now) (sym c.take_back.ensures.asked) c.in-Ok.ensures.asked;
     came = subst (λ coming. TakesItem (g.N.Links.coming c.args.net.now) coming c.in-Ok.link) (sym c.take_back.ensures.coming) c.in-Ok.ensures.next;
     fresh = c.in-Ok.ensures.fresh;
+    is_open = c.in-Ok.ensures.open;
+    ended = c.run_session-ended.new.link;
+    still_open = c.run_session-ended.ensures.shut;
+    told_then = told_again (link_told g.N.Link.Sink.written g.N.Link.Source.left g.N.Link.Counted.faults c.run_session-ended.new.link)
+        (link_told g.N.Link.Sink.written g.N.Link.Source.left g.N.Link.Counted.faults c.shut.new.self) c.shut.ensures.written c.shut.ensures.left c.shut.ensures.count;
     shut = c.shut.ensures.shut;
     back = subst (λ returned. AppendsItem returned (g.N.Links.returned c.take_back.new.self) c.shut.new.self) c.connect.ensures.returned c.take_back.ensures.returned;
     counted = subst (λ (n : ℕ). count_of_both n (g.N.Link.Counted.faults c.shut.new.self) ≤ g.N.Links.link_faults c.take_back.new.self) c.connect.ensures.links c.take_back.ensures.links;
@@ -63,14 +73,14 @@ returns-in-Ok-ended-clause-causes g c =
 
 pub returns-in_default-clause-shut : goal.returns-in_default-clause-shut
 returns-in_default-clause-shut g c =
-    shut_none g.N.Link.Link.is_shut (g.N.Links.returned c.args.net.now) (g.N.Links.returned c.connect.new.self) c.connect.ensures.returned
+    shut_none g.N.Link.Stream.is_shut (g.N.Links.returned c.args.net.now) (g.N.Links.returned c.connect.new.self) c.connect.ensures.returned
 
 pub returns-in-Ok-ended-clause-shut : goal.returns-in-Ok-ended-clause-shut
 returns-in-Ok-ended-clause-shut g c =
-    shut_one g.N.Link.Link.is_shut (g.N.Links.returned c.args.net.now) (g.N.Links.returned c.connect.new.self) (g.N.Links.returned c.take_back.new.self) c.shut.new.self
+    shut_one g.N.Link.Stream.is_shut (g.N.Links.returned c.args.net.now) (g.N.Links.returned c.connect.new.self) (g.N.Links.returned c.take_back.new.self) c.shut.new.self
     c.connect.ensures.returned c.take_back.ensures.returned c.shut.ensures.shut
 
 pub returns-in-Err-clause-shut : goal.returns-in-Err-clause-shut
 returns-in-Err-clause-shut g c =
-    shut_one g.N.Link.Link.is_shut (g.N.Links.returned c.args.net.now) (g.N.Links.returned c.connect.new.self) (g.N.Links.returned c.take_back.new.self) c.shut.new.self
+    shut_one g.N.Link.Stream.is_shut (g.N.Links.returned c.args.net.now) (g.N.Links.returned c.connect.new.self) (g.N.Links.returned c.take_back.new.self) c.shut.new.self
     c.connect.ensures.returned c.take_back.ensures.returned c.shut.ensures.shut

@@ -3,6 +3,7 @@ use Rattle.sporc_turn.specs.Passes.{known_of}
 use Rattle.sporc_shared.specs.Editing.{LinesDid}
 use Rattle.sporc_shared.specs.Wires.{link_stand}
 use Rattle.sporc_shared.proofs.Crowding.{crowd_failed, crowd_last, crowd_step}
+use Rattle.sporc_shared.proofs.Wearing.{worn_join}
 use Rattle.sporc_shared.proofs.crowd.+crowd+fn-crowd-join_mut+arg2.Goals as goal
 
 pub returns-in_default-clause-crowd : goal.returns-in_default-clause-crowd
@@ -23,3 +24,12 @@ returns-clause-crowd g c' c =
     (known_of c.in-Ok.both.0) (known_of c.in-Ok.both.1) c.args.rounds c.args.scripts.now c.in-Some.script.now c.in-Some.others.now
     r.0.0.receiver c.with_editor.result.receiver r.1.0 r.0.0.editors c.with_editor.result.editors
     c.in-Some.ensures.cases.0 c.with_editor.ensures.receiver c.with_editor.ensures.editors c.in-Ok.ensures.old c.in-Ok.ensures.new editor (search rules)
+
+pub returns-clause-worn : goal.returns-clause-worn
+returns-clause-worn g c' c =
+    let r = c.join_mut-first.result in
+    worn_join r.0.1 r.1.1 c.join.result c.join.ensures.read r.0.0.receiver c.with_editor.result.receiver r.1.0 r.0.0.editors c.with_editor.result.editors
+    c.with_editor.ensures.receiver c.with_editor.ensures.editors (search rules) (search rules)
+
+pub returns-clause-shut : goal.returns-clause-shut
+returns-clause-shut g c' c = search rules

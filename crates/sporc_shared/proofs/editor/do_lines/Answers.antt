@@ -6,6 +6,7 @@ use Rattle.sporc_turn.specs.Passes.{known_of}
 use Rattle.sporc_shared.specs.Editing.{LinesDone}
 use Rattle.sporc_shared.proofs.Knowing.{counts_then}
 use Rattle.sporc_shared.proofs.Lining.{did_all, did_err, done_none, done_push}
+use Rattle.sporc_shared.proofs.Wearing.{worn_at}
 use Rattle.sporc_shared.proofs.editor.do_lines.Goals as goal
 
 pub loop-line-init : goal.loop-line-init
@@ -40,3 +41,7 @@ returns-in-Err-clause-did g c =
 pub returns-clause-did : goal.returns-clause-did
 returns-clause-did g c =
     did_all (known_of c.args.pass) (known_of c.loop-line.mine) c.args.lines.now c.loop-line.line-index c.loop-line.invariant.done.0 (drop_all c.loop-line.line-index c.args.lines.now c.loop-line-test.false) c.loop-line.invariant.done.1
+
+pub returns-in-Err-clause-worn : goal.returns-in-Err-clause-worn
+returns-in-Err-clause-worn g c =
+    worn_at c.do_line-one.result.1 c.do_line-one.result.0 c.in-Err.fault c.in-Err.is c.do_line-one.ensures.worn

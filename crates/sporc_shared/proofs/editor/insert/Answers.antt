@@ -8,6 +8,7 @@ use Rattle.sporc_shared.specs.declared.fault.SessionFault.{SessionFault}
 use Rattle.sporc_shared.specs.Editing.{IsAtFront, IsWornFault}
 use Rattle.sporc_shared.specs.Lines.{asked_by}
 use Rattle.sporc_shared.proofs.Stating.{asked_edit, asked_worn, inserted_len}
+use Rattle.sporc_shared.proofs.Wearing.{worn_at}
 use Rattle.sporc_shared.proofs.editor.insert.Goals as goal
 
 pub edit_at-requires-clause-stated : goal.edit_at-requires-clause-stated
@@ -20,3 +21,7 @@ returns-clause-did g c =
 
 pub returns-in-Err-clause-did : goal.returns-in-Err-clause-did
 returns-in-Err-clause-did g c = asked_worn (known_of c.args.pass) (known_of c.see-found.result.1) c.args.line (asked_by (commands.Insert c.args.asked.now)) c.in-Err.fault c.see-found.ensures.knows (subst (λ (r : Result Seen SessionFault). IfErr r IsWornFault) c.in-Err.is c.see-found.ensures.err)
+
+pub returns-in-Err-clause-worn : goal.returns-in-Err-clause-worn
+returns-in-Err-clause-worn g c =
+    worn_at c.see-found.result.1 c.see-found.result.0 c.in-Err.fault c.in-Err.is c.see-found.ensures.worn

@@ -1,5 +1,6 @@
 use Rattle.sporc_turn.specs.Passes.{known_of}
 use Rattle.sporc_shared.proofs.Stating.{saw}
+use Rattle.sporc_shared.proofs.Wearing.{seen_worn}
 use Rattle.sporc_shared.proofs.editor.see.Goals as goal
 
 pub returns-clause-knows : goal.returns-clause-knows
@@ -10,3 +11,7 @@ returns-clause-ok g c = (saw (known_of c.args.pass) c.look.result c.looked-found
 
 pub returns-clause-err : goal.returns-clause-err
 returns-clause-err g c = (saw (known_of c.args.pass) c.look.result c.looked-found.result c.worn.result c.looked-found.ensures c.worn.ensures c.look.ensures.call c.look.ensures.front c.look.ensures.worn).err
+
+pub returns-clause-worn : goal.returns-clause-worn
+returns-clause-worn g c =
+    seen_worn c.args.pass c.look.result c.looked-found.result c.worn.result c.looked-found.ensures c.worn.ensures c.look.ensures.worn

@@ -31,4 +31,5 @@ loop-message-preserved g c =
     record {
       did = one_more (link_stand (g.L.Sink.written c.args.link.now) (g.L.Source.left c.args.link.now) (g.L.Counted.faults c.args.link.now) c.args.inbox.now) (link_stand (g.L.Sink.written c.loop-message.link) (g.L.Source.left c.loop-message.link) (g.L.Counted.faults c.loop-message.link) c.next.new.self) (link_stand (g.L.Sink.written c.read_piece.new.link) (g.L.Source.left c.read_piece.new.link) (g.L.Counted.faults c.read_piece.new.link) c.read_piece.new.inbox) took.0 waits took.2;
       at = more_at c.loop-message.inbox c.next.new.self c.read_piece.new.inbox took.0 w.0 took.2.inbox ∙ c.loop-message.invariant.at;
+      shut = c.read_piece.ensures.shut ∙ c.loop-message.invariant.shut;
     }

@@ -7,6 +7,7 @@ abbrev pub invariant-loop-message : goal.invariant-loop-message
 invariant-loop-message g l = record {
   did : Exchanged (link_stand (g.L.Sink.written l.initial.link) (g.L.Source.left l.initial.link) (g.L.Counted.faults l.initial.link) l.initial.inbox) (link_stand (g.L.Sink.written l.link) (g.L.Source.left l.link) (g.L.Counted.faults l.link) l.inbox) [] [];
   at : l.inbox.at ≡ l.initial.inbox.at;
+  shut : g.L.Stream.is_shut l.link ≡ g.L.Stream.is_shut l.initial.link;
 }
 
 abbrev pub decreases-loop-message : goal.decreases-loop-message

@@ -4,6 +4,7 @@ use Rattle.sporc_shared.specs.Protocol.{always}
 use Rattle.sporc_shared.proofs.Coursing.{and_then, stopped_within}
 use Rattle.sporc_shared.proofs.Phasing.{look_small, round_begins}
 use Rattle.sporc_shared.proofs.Telling.{told, was_told, worn_stopped}
+use Rattle.sporc_shared.proofs.Wearing.{told_worn, worn_at}
 use Rattle.sporc_shared.proofs.phase.look_and_round.Goals as goal
 
 pub round-requires-clause-small : goal.round-requires-clause-small
@@ -16,3 +17,7 @@ returns-in-Ok-clause-did g c n =
 
 pub returns-in-Err-clause-did : goal.returns-in-Err-clause-did
 returns-in-Err-clause-did g c n = record { ends = stopped_within n (n + 1) (omega arith) (worn_stopped c.in-Err.is (told IsLookAt c.look.result c.plain-answer.ensures c.worn.ensures c.look.ensures.call c.look.ensures.worn)) }
+
+pub returns-in-Err-clause-worn : goal.returns-in-Err-clause-worn
+returns-in-Err-clause-worn g c =
+    worn_at c.plain-answer.result.1 c.worn.result c.in-Err.fault c.in-Err.is (told_worn c.args.pass c.look.result c.plain-answer.result c.worn.result c.plain-answer.ensures c.worn.ensures c.look.ensures.worn)

@@ -7,6 +7,7 @@ use Rattle.sporc_shared.proofs.Coursing.{and_then, did_none, did_stopped, did_th
 use Rattle.sporc_shared.proofs.Knowing.{counts_then}
 use Rattle.sporc_shared.proofs.Phasing.{look_small, round_begins, second_settles, second_spent, second_worn}
 use Rattle.sporc_shared.proofs.Telling.{told, told_counts, was_told, worn_counts}
+use Rattle.sporc_shared.proofs.Wearing.{told_worn, worn_at}
 use Rattle.sporc_shared.proofs.phase.second_phase.Goals as goal
 
 pub loop-look-init : goal.loop-look-init
@@ -14,6 +15,7 @@ loop-look-init g c = record {
   lock = c.requires.lock;
   counts = record { number = refl; splits = refl; joined = refl };
   low = omega arith;
+  shut = refl;
   did = did_none;
 }
 
@@ -25,6 +27,7 @@ loop-look-preserved g c =
       counts = counts_then (known_of c.args.pass) (known_of c.loop-look.mine) (known_of c.round-one.result.1) c.loop-look.invariant.counts
           (counts_then (known_of c.loop-look.mine) (known_of c.plain-answer.result.1) (known_of c.round-one.result.1) (told_counts t) c.round-one.ensures.counts);
       low = omega (arith, c.if-done-rounds.false);
+      shut = c.round-one.ensures.shut ∙ c.loop-look.invariant.shut;
       did = did_then c.loop-look.invariant.did
           (was_done c.in_default.is
           (and_then (round_begins (c.loop-look.invariant.counts.number ∙ c.requires.first) t (sym c.unsettled.ensures ∙ c.if-not-unsettled.false)) (c.round-one.ensures.did (is_unsettled c.args.until) c.loop-look.done)));
@@ -70,3 +73,11 @@ returns-in-Err-one-clause-counts g c =
     let looked = told_counts (was_told c.in-Ok.is (told IsLookAt c.look.result c.plain-answer.ensures c.worn.ensures c.look.ensures.call c.look.ensures.worn)) in
     counts_then (known_of c.args.pass) (known_of c.loop-look.mine) (known_of c.round-one.result.1) c.loop-look.invariant.counts
     (counts_then (known_of c.loop-look.mine) (known_of c.plain-answer.result.1) (known_of c.round-one.result.1) looked c.round-one.ensures.counts)
+
+pub returns-in-Err-clause-worn : goal.returns-in-Err-clause-worn
+returns-in-Err-clause-worn g c =
+    worn_at c.plain-answer.result.1 c.worn.result c.in-Err.fault c.in-Err.is (told_worn c.loop-look.mine c.look.result c.plain-answer.result c.worn.result c.plain-answer.ensures c.worn.ensures c.look.ensures.worn)
+
+pub returns-in-Err-one-clause-worn : goal.returns-in-Err-one-clause-worn
+returns-in-Err-one-clause-worn g c =
+    worn_at c.round-one.result.1 c.round-one.result.0 c.in-Err-one.fault c.in-Err-one.is c.round-one.ensures.worn

@@ -1,6 +1,7 @@
 use Rattle.std.proofs.Common.{ℕ, List, ◌∷◌, ap, sym, ◌∙◌}
 use Rattle.sporc_turn.specs.Passes.{known_of}
 use Rattle.sporc_shared.proofs.Taking.{took_first, took_rest}
+use Rattle.sporc_shared.proofs.Wearing.{worn_at}
 use Rattle.sporc_shared.proofs.receiver.+take_all.Goals as goal
 
 pub returns-in-Ok-clause-took : goal.returns-in-Ok-clause-took
@@ -12,3 +13,7 @@ pub returns-in-Err-clause-took : goal.returns-in-Err-clause-took
 returns-in-Err-clause-took g c' c =
     took_first (known_of c.args.pass) (known_of c.take_one-one.result.1) c.args.at c.args.entries.now c.as_slice.result.now c.in-Some.rest.now c.in-Err.fault c.take_one-one.result.0
     c.in-Err.is (c.in-Some.ensures.cases.0 ∙ ap (λ (e : List ℕ). e ∷ c.in-Some.rest.now) (sym c.as_slice.ensures.value)) c.take_one-one.ensures.took
+
+pub returns-in-Err-clause-worn : goal.returns-in-Err-clause-worn
+returns-in-Err-clause-worn g c' c =
+    worn_at c.take_one-one.result.1 c.take_one-one.result.0 c.in-Err.fault c.in-Err.is c.take_one-one.ensures.worn

@@ -1,5 +1,6 @@
 use Rattle.sporc_turn.specs.Passes.{known_of}
 use Rattle.sporc_shared.proofs.Submitting.{not_drawn, submitted_counts, submitted_one, submitted_short}
+use Rattle.sporc_shared.proofs.Wearing.{made_worn, undrawn_unworn}
 use Rattle.sporc_shared.proofs.receiver.submit.Goals as goal
 
 pub returns-in-Ok-clause-submitted : goal.returns-in-Ok-clause-submitted
@@ -18,3 +19,11 @@ pub returns-in-Err-clause-submitted : goal.returns-in-Err-clause-submitted
 returns-in-Err-clause-submitted g c =
     not_drawn (known_of c.args.pass) (g.C.Chance.given c.args.chance.now) (g.C.Chance.given c.draw.new.chance) (g.C.Counted.faults c.args.chance.now) (g.C.Counted.faults c.draw.new.chance) c.in-Err.fault c.in-Err.ensures.err
     c.in-Err.ensures.count.failed
+
+pub returns-in-Ok-clause-worn : goal.returns-in-Ok-clause-worn
+returns-in-Ok-clause-worn g c =
+    made_worn c.args.pass c.submit.result c.plain-answer.result c.made.result c.plain-answer.ensures c.made.ensures c.submit.ensures.worn
+
+pub returns-in-Err-clause-worn : goal.returns-in-Err-clause-worn
+returns-in-Err-clause-worn g c =
+    undrawn_unworn c.args.pass c.in-Err.fault c.in-Err.ensures.err.0

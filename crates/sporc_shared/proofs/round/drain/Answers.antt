@@ -1,8 +1,9 @@
-use Rattle.std.proofs.Common.{refl}
+use Rattle.std.proofs.Common.{refl, ◌∙◌}
 use Rattle.sporc_turn.specs.Passes.{known_of}
 use Rattle.sporc_shared.proofs.Coursing.{did_none}
 use Rattle.sporc_shared.proofs.Knowing.{counts_then}
 use Rattle.sporc_shared.proofs.Rounding.{drain_done, drain_fails, drain_more, now_small}
+use Rattle.sporc_shared.proofs.Wearing.{worn_at}
 use Rattle.sporc_shared.proofs.round.drain.Goals as goal
 
 pub loop-more-init : goal.loop-more-init
@@ -10,6 +11,7 @@ loop-more-init g c = record {
   lock = c.requires.lock;
   counts = record { number = refl; splits = refl; joined = refl };
   small = c.requires.small;
+  shut = refl;
   did = λ ready n words count entry refusal. did_none;
 }
 
@@ -18,6 +20,7 @@ loop-more-preserved g c = record {
   lock = c.gather-gathered.ensures.lock;
   counts = counts_then (known_of c.args.pass) (known_of c.loop-more.mine) (known_of c.gather-gathered.result.1) c.loop-more.invariant.counts c.gather-gathered.ensures.counts;
   small = (now_small c.in-Ok.is c.gather-gathered.ensures.gathered).1;
+  shut = c.gather-gathered.ensures.shut ∙ c.loop-more.invariant.shut;
   did = λ ready n words count entry refusal. drain_more n entry refusal c.loop-more-test.true (c.loop-more.invariant.did ready n words count entry refusal) c.in-Ok.is c.gather-gathered.ensures.gathered;
 }
 
@@ -28,3 +31,7 @@ returns-in-Err-clause-did g c ready n words count entry refusal =
 pub returns-clause-did : goal.returns-clause-did
 returns-clause-did g c ready n words count entry refusal =
     record { ends = drain_done n c.loop-more.now entry refusal c.loop-more-test.false (c.loop-more.invariant.did ready n words count entry refusal) }
+
+pub returns-in-Err-clause-worn : goal.returns-in-Err-clause-worn
+returns-in-Err-clause-worn g c =
+    worn_at c.gather-gathered.result.1 c.gather-gathered.result.0 c.in-Err.fault c.in-Err.is c.gather-gathered.ensures.worn

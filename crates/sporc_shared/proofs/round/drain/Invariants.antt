@@ -1,4 +1,4 @@
-use Rattle.std.proofs.Common.{◌-◌, ◌+◌, ◌*◌, ◌≤◌, ℕ, Bool, List, [], Option}
+use Rattle.std.proofs.Common.{◌≡◌, ◌-◌, ◌+◌, ◌*◌, ◌≤◌, ℕ, Bool, List, [], Option}
 use Rattle.sporc_turn.specs.Passes.{known_of}
 use Rattle.sporc_shared.specs.Passes.{IsPassOf}
 use Rattle.sporc_turn.specs.Rule.{one_if}
@@ -16,6 +16,7 @@ invariant-loop-more g l = record {
   lock : IsPassOf l.shared l.mine;
   counts : CountsSame (known_of l.initial.mine) (known_of l.mine);
   small : l.now ≤ MAX_ENTRIES;
+  shut : g.L.Stream.is_shut l.link ≡ g.L.Stream.is_shut l.initial.link;
   did : (ready : ℕ → ℕ → Bool) (n : ℕ) (words : Option (List (List ℕ))) (count : ℕ) (entry : List ℕ) (refusal : Refusal) → Did ready
       (stand (known_of l.initial.mine) (link_stand (g.L.Sink.written l.initial.link) (g.L.Source.left l.initial.link) (g.L.Counted.faults l.initial.link) l.initial.inbox) words count)
       (stand (known_of l.mine) (link_stand (g.L.Sink.written l.link) (g.L.Source.left l.link) (g.L.Counted.faults l.link) l.inbox) words count)

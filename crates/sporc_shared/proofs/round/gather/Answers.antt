@@ -2,6 +2,7 @@ use Rattle.std.proofs.Common.{ℕ, ◌+◌, List, ap, length, subst}
 use Rattle.sporc_turn.specs.Passes.{known_of}
 use Rattle.sporc_shared.specs.Outcomes.{TookAll}
 use Rattle.sporc_shared.proofs.Rounding.{gather_err, gather_ok}
+use Rattle.sporc_shared.proofs.Wearing.{asked_unworn, worn_at}
 use Rattle.sporc_shared.proofs.round.gather.Goals as goal
 
 pub returns-in-Ok-took-clause-gathered : goal.returns-in-Ok-took-clause-gathered
@@ -13,3 +14,11 @@ pub returns-in-Ok-clause-gathered : goal.returns-in-Ok-clause-gathered
 returns-in-Ok-clause-gathered g c =
     gather_err c.in-Ok.entries c.in-Err-took.is c.in-Ok.ensures.ok
     (subst (λ es. TookAll (known_of c.args.pass) (known_of c.take_all-took.result.1) c.args.at es c.take_all-took.result.0) c.as_slice-came.ensures.value c.take_all-took.ensures.took)
+
+pub returns-in-Ok-clause-worn : goal.returns-in-Ok-clause-worn
+returns-in-Ok-clause-worn g c =
+    worn_at c.take_all-took.result.1 c.take_all-took.result.0 c.in-Err-took.fault c.in-Err-took.is c.take_all-took.ensures.worn
+
+pub returns-clause-worn : goal.returns-clause-worn
+returns-clause-worn g c =
+    asked_unworn c.args.pass _ _ _ c.in-Err.fault c.in-Err.ensures.err

@@ -1,6 +1,7 @@
 use Rattle.std.proofs.Common.{ap, ◌∙◌, Ok}
 use Rattle.sporc_shared.proofs.Coursing.{and_then}
 use Rattle.sporc_shared.proofs.Rounding.{made_entry, made_none, made_stopped}
+use Rattle.sporc_shared.proofs.Wearing.{worn_at}
 use Rattle.sporc_shared.proofs.round.give.Goals as goal
 
 pub returns-in-None-clause-did : goal.returns-in-None-clause-did
@@ -12,3 +13,7 @@ returns-in-Some-clause-did g c ready n =
 
 pub returns-in-Err-clause-did : goal.returns-in-Err-clause-did
 returns-in-Err-clause-did g c ready n = record { ends = made_stopped c.submit-made.ensures.kept c.in-Err.is c.submit-made.ensures.submitted }
+
+pub returns-in-Err-clause-worn : goal.returns-in-Err-clause-worn
+returns-in-Err-clause-worn g c =
+    worn_at c.submit-made.result.1 c.submit-made.result.0 c.in-Err.fault c.in-Err.is c.submit-made.ensures.worn

@@ -1,6 +1,9 @@
 use Rattle.std.proofs.Common.{ap, ◌∙◌, Ok}
+use Rattle.sporc_wire.specs.declared.to_server.ToServer.TheVariants as to_server
+use Rattle.sporc_shared.specs.Wires.{link_stand}
 use Rattle.sporc_shared.proofs.Coursing.{and_then}
 use Rattle.sporc_shared.proofs.Rounding.{sent_ordered, sent_rejected, sent_stopped}
+use Rattle.sporc_shared.proofs.Wearing.{asked_worn}
 use Rattle.sporc_shared.proofs.round.offer.Goals as goal
 
 pub returns-in-None-clause-did : goal.returns-in-None-clause-did
@@ -12,3 +15,9 @@ returns-in-Ok-clause-did g c ready n words count =
 
 pub returns-clause-did : goal.returns-clause-did
 returns-clause-did g c ready n words count = record { ends = sent_stopped c.in-Err.is c.send_entry-answer.ensures.err }
+
+pub returns-clause-worn : goal.returns-clause-worn
+returns-clause-worn g c =
+    asked_worn c.args.pass (link_stand (g.L.Sink.written c.args.link.now) (g.L.Source.left c.args.link.now) (g.L.Counted.faults c.args.link.now) c.args.inbox.now)
+    (link_stand (g.L.Sink.written c.send_entry-answer.new.link) (g.L.Source.left c.send_entry-answer.new.link) (g.L.Counted.faults c.send_entry-answer.new.link) c.send_entry-answer.new.inbox)
+    (to_server.Submit c.args.entry) c.send_entry-answer.result.0 c.in-Err.fault c.in-Err.is c.send_entry-answer.ensures.err

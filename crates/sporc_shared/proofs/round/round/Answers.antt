@@ -1,5 +1,6 @@
 use Rattle.sporc_shared.proofs.Coursing.{and_then}
 use Rattle.sporc_shared.proofs.Rounding.{pull_did, pull_stopped}
+use Rattle.sporc_shared.proofs.Wearing.{worn_at}
 use Rattle.sporc_shared.proofs.round.round.Goals as goal
 
 pub returns-in-Ok-clause-did : goal.returns-in-Ok-clause-did
@@ -7,3 +8,7 @@ returns-in-Ok-clause-did g c ready n = and_then (pull_did c.in-Ok.is c.gather-ga
 
 pub returns-in-Err-clause-did : goal.returns-in-Err-clause-did
 returns-in-Err-clause-did g c ready n = record { ends = pull_stopped c.in-Err.is c.gather-gathered.ensures.gathered }
+
+pub returns-in-Err-clause-worn : goal.returns-in-Err-clause-worn
+returns-in-Err-clause-worn g c =
+    worn_at c.gather-gathered.result.1 c.gather-gathered.result.0 c.in-Err.fault c.in-Err.is c.gather-gathered.ensures.worn

@@ -1,4 +1,5 @@
 use Rattle.sporc_shared.proofs.Coursing.{and_then, was_done, was_stopped}
+use Rattle.sporc_shared.proofs.Wearing.{worn_at}
 use Rattle.sporc_shared.proofs.round.settle.Goals as goal
 
 pub returns-in-Ok-clause-did : goal.returns-in-Ok-clause-did
@@ -8,3 +9,7 @@ returns-in-Ok-clause-did g c ready n words count =
 pub returns-in-Err-clause-did : goal.returns-in-Err-clause-did
 returns-in-Err-clause-did g c ready n words count =
     record { ends = was_stopped c.in-Err.is (c.drain-drained.ensures.did ready n words count c.args.entry.now c.args.refusal) }
+
+pub returns-in-Err-clause-worn : goal.returns-in-Err-clause-worn
+returns-in-Err-clause-worn g c =
+    worn_at c.drain-drained.result.1 c.drain-drained.result.0 c.in-Err.fault c.in-Err.is c.drain-drained.ensures.worn

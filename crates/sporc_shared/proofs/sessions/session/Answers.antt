@@ -4,6 +4,7 @@ use Rattle.sporc_turn.specs.Passes.{known_of}
 use Rattle.sporc_shared.specs.Courses.{stand}
 use Rattle.sporc_shared.specs.Wires.{empty_inbox, link_stand}
 use Rattle.sporc_shared.proofs.Sessioning.{Begins, crowd_from, session_settled, session_stopped}
+use Rattle.sporc_shared.proofs.Wearing.{worn_in}
 use Rattle.sporc_shared.proofs.sessions.session.Goals as goal
 
 pub returns-in-Some-clause-session : goal.returns-in-Some-clause-session
@@ -26,3 +27,11 @@ returns-clause-session g c =
     let begins : Begins (known_of c.args.pass) = record { number = c.requires.first; splits = c.requires.alone.0; joined = c.requires.alone.1; allowed = c.requires.allowed; agrees = c.requires.agrees } in
     let crowd = crowd_from (known_of c.args.pass) (g.L.Sink.written c.args.link.now) (g.L.Source.left c.args.link.now) (g.L.Counted.faults c.args.link.now) (g.C.Chance.given c.args.chance.now) (g.C.Counted.faults c.args.chance.now) c.new-inbox.result _ _ _ _ _ c.new-inbox.ensures.value first.ensures.crowd in
     (c.second_phase.new.inbox, session_settled (stand (known_of c.args.pass) (link_stand (g.L.Sink.written c.args.link.now) (g.L.Source.left c.args.link.now) (g.L.Counted.faults c.args.link.now) empty_inbox) (g.C.Chance.given c.args.chance.now) (g.C.Counted.faults c.args.chance.now)) (stand (known_of first.result.1) (link_stand (g.L.Sink.written first.new.link) (g.L.Source.left first.new.link) (g.L.Counted.faults first.new.link) first.new.inbox) (g.C.Chance.given first.new.chance) (g.C.Counted.faults first.new.chance)) c.args.rounds c.args.until c.args.editors.now first.result.0.receiver first.result.0.editors begins crowd (stand (known_of c.second_phase.result.1) (link_stand (g.L.Sink.written c.second_phase.new.link) (g.L.Source.left c.second_phase.new.link) (g.L.Counted.faults c.second_phase.new.link) c.second_phase.new.inbox) (g.C.Chance.given c.second_phase.new.chance) (g.C.Counted.faults c.second_phase.new.chance)) c.second_phase.result.0 c.in_default.is c.in_default-editors.is c.second_phase.ensures.counts c.second_phase.ensures.phase)
+
+pub returns-in-Some-clause-worn : goal.returns-in-Some-clause-worn
+returns-in-Some-clause-worn g c =
+    worn_in c.crowd-pass.result.1 c.crowd-pass.result.0.receiver c.in-Some.fault c.in-Some.is c.crowd-pass.ensures.worn.0
+
+pub returns-in-Some-editors-clause-worn : goal.returns-in-Some-editors-clause-worn
+returns-in-Some-editors-clause-worn g c =
+    worn_in c.crowd-pass.result.1 c.crowd-pass.result.0.editors c.in-Some-editors.fault c.in-Some-editors.is c.crowd-pass.ensures.worn.1
