@@ -19,7 +19,9 @@ use Rattle.sporc_client.specs.Answers.{change_fault, discard_fault, edit_fault}
 use Rattle.sporc_client.specs.Closed.{AreClosed, HasItsKey, IsClosedMove, IsSigned}
 use Rattle.sporc_client.specs.Log.{Logged, Change, Discard, Edit, Submit}
 use Rattle.sporc_client.specs.PlainClient.{PlainClient}
-use Rattle.sporc_client.specs.Run.{Setup, Signing, World, Move, Genuine, Give, Happen, Open, Restart, after, after_all, gives_to, happens_to, restarts as restarts_in, signings, start}
+use Rattle.sporc_client.specs.Genuine.{Genuine}
+use Rattle.sporc_client.specs.Typed.{IsTypedRun}
+use Rattle.sporc_client.specs.Run.{Setup, Signing, World, Move, Give, Happen, Open, Restart, after, after_all, gives_to, happens_to, restarts as restarts_in, signings, start}
 use Rattle.sporc_client.proofs.ClosedRuns.{closed_runs_are_genuine}
 use Rattle.sporc_client.proofs.RosterFacts.{all_added}
 use Rattle.sporc_delta.specs.Marks.{Mark}
@@ -33,18 +35,18 @@ use Rattle.sporc_script.specs.declared.roster_change.RosterChange.{RosterChange}
 use Rattle.sporc_script.specs.declared.roster_change.RosterChange.TheVariants as changes
 use Rattle.sporc_play.specs.Cast.{first_ring, founder_of, has_admin, member_change, openers_by, public_of, setup_of, tree_of}
 use Rattle.sporc_play.specs.Logs.{change_events, discard_events, edit_logged, logged_unless}
-use Rattle.sporc_play.specs.Moves.{IsOneRun, moves_from, moves_of}
+use Rattle.sporc_play.specs.Moves.{moves_from, moves_of}
 use Rattle.sporc_play.specs.OwnPlays.{AreByClients, IsByClients}
 use Rattle.sporc_play.specs.Scene.{Effect, Scene, effect_of, adds, commands_of, delta_by, edit_events, entries_at, entry_at, gives, if_open, joins, nothing, opening, opening_moves, openings, opens_unless, opens_with, restarts, seen_by, submission_in, submits}
 use Rattle.sporc_play.specs.Scene as scenes
 use Rattle.sporc_play.proofs.Founders.{founders, inserted}
-use Rattle.sporc_play.proofs.OneRun.{one_run}
+use Rattle.sporc_play.proofs.OneRun.{typed_run}
 use Rattle.sporc_play.proofs.Places.{at_place}
 
 -- ---- what was signed stays signed
 
 more_signed : (w v : World) (bytes : List ℕ) → ((x : Signing) → Contains w.signed x → Contains v.signed x) → IsSigned w bytes → IsSigned v bytes
-more_signed w v bytes keeps (signer, (x, there, who, entry)) = (signer, (x, keeps x there, who, entry))
+more_signed w v bytes keeps (x, there, entry) = (x, keeps x there, entry)
 
 stays_signed : (s : Setup) (w : World) (move : Move) (bytes : List ℕ) → IsSigned w bytes → IsSigned (after s w move) bytes
 stays_signed s w (Open who ring) bytes is = is
@@ -103,7 +105,7 @@ own_change s scene m (changes.SetRole r) = tt
 
 signed_now : (s : Setup) (w : World) (m : ℕ) (c : PlainClient) (bytes : List ℕ) → w.clients m ≡ Some c → IsSigned (after s w (Happen m (Submit 0 bytes))) bytes
 signed_now s w m c bytes at = subst (λ (o : Option PlainClient). IsSigned (happens_to w m (Submit 0 bytes) o) bytes) (sym at)
-    (m, (record { who = m; entry = bytes; client = c }, Contains-append_right w.signed (record { who = m; entry = bytes; client = c } ∷ []) (record { who = m; entry = bytes; client = c }) (0, omega arith, refl), refl, refl))
+    (record { who = m; entry = bytes; client = c }, Contains-append_right w.signed (record { who = m; entry = bytes; client = c } ∷ []) (record { who = m; entry = bytes; client = c }) (0, omega arith, refl), refl)
 
 own_submission : (s : Setup) (scene : Scene) (m : ℕ) (c : PlainClient) (r : Result Submitted SubmitFault) → scene.world.clients m ≡ Some c → IsOwn s scene (submits m r)
 own_submission s scene m c (Ok (submitted.Entry bytes)) at = record { closed = (tt, tt); made = (signed_now s scene.world m c bytes at, tt) }
@@ -211,13 +213,13 @@ unfolding setup_of
 founders_keys script = keys_own script (inserted (tree_of script) [] (founders script)) (founders_own (tree_of script) [] (founders script) tt)
 
 -- no one forges in a run of commands that make no entry but by a client's submission
-pub own_commands : (script : List PlayLine) (asked : List (Scene → Command)) → IsOneRun script asked → AllByRecursion AlwaysByClients asked → Genuine (setup_of script) start (moves_of script asked)
+pub own_commands : (script : List PlayLine) (asked : List (Scene → Command)) → IsTypedRun (setup_of script) (moves_of script asked) → AllByRecursion AlwaysByClients asked → Genuine (setup_of script) start (moves_of script asked)
 own_commands script asked run by =
     let s = setup_of script in
-    closed_runs_are_genuine s (moves_of script asked) run.run (record {
+    closed_runs_are_genuine s (moves_of script asked) run (record {
       founders = founders_keys script;
       closed = closed_append s start (opening_moves script) (moves_from s (opening script) asked) (first_closed s script) (closed_from s (opening script) asked by tt);
     })
 
 pub own_play : (text : List ℕ) (script : List PlayLine) → IsPlayScript text script → has_admin script ≡ true → AreByClients script → Genuine (setup_of script) start (moves_of script (commands_of script))
-own_play text script is founded by = own_commands script (commands_of script) (one_run text script is founded) (lines_by_clients script by)
+own_play text script is founded by = own_commands script (commands_of script) (typed_run text script is founded) (lines_by_clients script by)

@@ -15,13 +15,13 @@ use Rattle.sporc_script.specs.declared.command.Command.TheVariants as commands
 use Rattle.sporc_script.specs.declared.limits.TheConstants.{MAX_GENERATED}
 use Rattle.sporc_play.specs.Cast.{setup_of}
 use Rattle.sporc_play.specs.Generated.{batch, batches, edits, generated_cast, generated_commands, generated_edit, gives, inserts, removes, seen_len, submits, up_to}
-use Rattle.sporc_play.specs.Moves.{IsOneRun}
+use Rattle.sporc_play.specs.Moves.{IsOneRun, moves_of}
 use Rattle.sporc_play.specs.Scene.{Scene, opening_moves}
 use Rattle.sporc_play.proofs.Acts.{edit_acts, give_acts}
 use Rattle.sporc_play.proofs.FirstMoves.{among_members, commits, openings_run, openings_typed}
 use Rattle.sporc_play.proofs.Generating.{generated_genesis}
 use Rattle.sporc_play.proofs.OwnKeys.{half_len}
-use Rattle.sporc_play.proofs.Runs.{MayBe, play_runs}
+use Rattle.sporc_play.proofs.Runs.{MayBe, one_run_of, typed_play}
 use Rattle.sporc_play.proofs.SubmitActs.{submit_acts}
 
 -- ---- its founders open their clients
@@ -117,12 +117,15 @@ batches_may submit (suc n) low =
     all_append (MayBe (setup_of generated_cast)) (batches n) (batch (3 * n) 3) (batches_may submit n (omega (arith, low))) (batch_may submit (3 * n) 3 (omega (arith, low)) (omega arith))
 
 -- where its members may submit what they wrote
-pub generated_is_one : Submits → (n : ℕ) → n ≤ MAX_GENERATED → IsOneRun generated_cast (generated_commands n)
-generated_is_one submit n low =
-    play_runs generated_cast (generated_commands n) first
+generated_moves : Submits → (n : ℕ) → n ≤ MAX_GENERATED → IsTypedRun (setup_of generated_cast) (moves_of generated_cast (generated_commands n))
+generated_moves submit n low =
+    typed_play generated_cast (generated_commands n) first
     (all_append (MayBe (setup_of generated_cast)) (batches (n / 3)) (batch (3 * (n / 3)) (n % 3))
     (batches_may submit (n / 3) (omega (arith, low)))
     (batch_may submit (3 * (n / 3)) (n % 3) (omega (arith, low)) (omega (arith, mod_below n 3 (omega arith)))))
 
+pub generated_typed : (n : ℕ) → n ≤ MAX_GENERATED → IsTypedRun (setup_of generated_cast) (moves_of generated_cast (generated_commands n))
+generated_typed = generated_moves (submit_acts generated_cast)
+
 pub generated_one : (n : ℕ) → n ≤ MAX_GENERATED → IsOneRun generated_cast (generated_commands n)
-generated_one = generated_is_one (submit_acts generated_cast)
+generated_one n low = one_run_of generated_cast (generated_commands n) (generated_typed n low)

@@ -3,6 +3,7 @@ use Rattle.std.proofs.Common.{◌≡◌, List, ℕ, true, [], ◌∷◌, ◌++�
 use Rattle.std.specs.Prelude.{Contains}
 use Rattle.std.specs.List.{AllByRecursion}
 use Rattle.std.proofs.lemmas.Bool.{and_parts}
+use Rattle.sporc_client.specs.Typed.{IsTypedRun}
 use Rattle.sporc_script.specs.Commands.{InRange}
 use Rattle.sporc_script.specs.Declarations.{declared_by as declarations, may_follow, names_performers}
 use Rattle.sporc_script.specs.declared.command.Join.{Join}
@@ -11,11 +12,11 @@ use Rattle.sporc_script.specs.declared.command.Command.{Command}
 use Rattle.sporc_script.specs.declared.command.Command.TheVariants as commands
 use Rattle.sporc_script.specs.declared.play_line.PlayLine.{PlayLine}
 use Rattle.sporc_play.specs.Cast.{has_admin, setup_of}
-use Rattle.sporc_play.specs.Moves.{IsOneRun}
+use Rattle.sporc_play.specs.Moves.{IsOneRun, moves_of}
 use Rattle.sporc_play.specs.Scene.{commands_of}
 use Rattle.sporc_play.proofs.Acts.{change_acts, cut_acts, discard_acts, edit_acts, flip_acts, give_acts, no_act, restart_acts}
 use Rattle.sporc_play.proofs.FirstMoves.{first_run}
-use Rattle.sporc_play.proofs.Runs.{MayBe, play_runs}
+use Rattle.sporc_play.proofs.Runs.{MayBe, one_run_of, typed_play}
 use Rattle.sporc_play.proofs.SignActs.{sign_acts}
 use Rattle.sporc_play.proofs.SubmitActs.{submit_acts}
 use Rattle.sporc_play.proofs.JoinActs.{join_acts}
@@ -50,6 +51,9 @@ all_act script before (l ∷ ls) whole all = (
   all_act script (before ++ l ∷ []) ls (append_assoc before (l ∷ []) ls ∙ whole) all.2,
 )
 
+pub typed_run : (text : List ℕ) (script : List PlayLine) → IsPlayScript text script → has_admin script ≡ true → IsTypedRun (setup_of script) (moves_of script (commands_of script))
+typed_run text script is founded =
+    typed_play script (commands_of script) (first_run text script is founded) (all_act script [] script refl (script_follows text script is))
+
 pub one_run : (text : List ℕ) (script : List PlayLine) → IsPlayScript text script → has_admin script ≡ true → IsOneRun script (commands_of script)
-one_run text script is founded =
-    play_runs script (commands_of script) (first_run text script is founded) (all_act script [] script refl (script_follows text script is))
+one_run text script is founded = one_run_of script (commands_of script) (typed_run text script is founded)

@@ -6,7 +6,7 @@ use Rattle.std.proofs.lemmas.List.Elements.{filter_map-append}
 use Rattle.sporc_outside.specs.MemoryDisk.{MemoryDiskModel}
 use Rattle.sporc_client.specs.ClientModel.{ClientModel, state_of}
 use Rattle.sporc_client.specs.Log.{Logged}
-use Rattle.sporc_client.specs.Run.{Setup, World, Move, Open, after, after_all, mover_of, start}
+use Rattle.sporc_client.specs.Run.{Setup, World, Move, Open, after, after_all, start}
 use Rattle.sporc_client.proofs.Calls.{after_append}
 use Rattle.sporc_script.specs.declared.command.Command.{Command}
 use Rattle.sporc_script.specs.declared.command.Command.TheVariants as commands
@@ -17,7 +17,7 @@ use Rattle.sporc_play.specs.declared.state.PlayState.{PlayState}
 use Rattle.sporc_play.proofs.Distinct.{AreDistinct, IsNotIn, are_distinct}
 use Rattle.sporc_play.specs.Cast.{first_ring, member_by, opener_by, openers_by, setup_of}
 use Rattle.sporc_play.specs.Joined.{seat_open}
-use Rattle.sporc_play.specs.Logs.{log_after, logs_after}
+use Rattle.sporc_play.specs.Logs.{log_after, logs_after, mover_of}
 use Rattle.sporc_play.specs.Scene.{Scene, openings, scene_moved, scene_opened}
 use Rattle.sporc_play.specs.Seats.{IsSeatAt}
 use Rattle.sporc_play.specs.Stage.{IsSeatOf, StandsFor}

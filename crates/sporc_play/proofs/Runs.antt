@@ -54,7 +54,7 @@ pub one_run_of : (cast : List PlayLine) (commands : List (Scene → Command)) �
 one_run_of cast commands run =
     let s = setup_of cast in
     record {
-      run = run;
+      run = run.run;
       world = λ n.
           moves_world s (opening cast) (take n commands)
           ∙ sym (after_append s start (opening_moves cast) (moves_from s (opening cast) (take n commands)))
@@ -125,7 +125,7 @@ first_bytes cast = go (has_admin cast)
     go false = tt
 
 -- a play whose founders' moves are a run, and whose commands may be
-pub play_runs : (cast : List PlayLine) (commands : List (Scene → Command)) → IsTypedRun (setup_of cast) (opening_moves cast) → AllByRecursion (MayBe (setup_of cast)) commands → IsOneRun cast commands
-play_runs cast commands first all =
-    one_run_of cast commands (runs_on (setup_of cast) (opening_moves cast) (opening cast) commands
-    (record { run = first; world = refl; made = tt; clients = moves_bytes (setup_of cast) start (opening_moves cast) (first_bytes cast) (λ who c at. absurd cc) }) all)
+pub typed_play : (cast : List PlayLine) (commands : List (Scene → Command)) → IsTypedRun (setup_of cast) (opening_moves cast) → AllByRecursion (MayBe (setup_of cast)) commands → IsTypedRun (setup_of cast) (moves_of cast commands)
+typed_play cast commands first all =
+    runs_on (setup_of cast) (opening_moves cast) (opening cast) commands
+    (record { run = first; world = refl; made = tt; clients = moves_bytes (setup_of cast) start (opening_moves cast) (first_bytes cast) (λ who c at. absurd cc) }) all

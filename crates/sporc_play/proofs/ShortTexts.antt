@@ -11,6 +11,7 @@ use Rattle.sporc_delta.specs.declared.limits.TheConstants.{MAX_COUNT}
 use Rattle.sporc_delta.specs.Marks.{Mark, apply, base_len, deletes, inserted_len, inserts, out_len, replacement, retains}
 use Rattle.sporc_delta.proofs.Lengths.{inserted_len-retains, out_len-append, out_len-deletes, out_len-inserts}
 use Rattle.sporc_suffix.specs.Forms.{Follow, all_inserted}
+use Rattle.sporc_suffix.proofs.Following.{all_inserted-append}
 use Rattle.sporc_xform.proofs.LengthLemmas.{out_len-le}
 use Rattle.sporc_entry.specs.declared.genesis.Genesis.{Genesis}
 use Rattle.sporc_head.specs.declared.limits.TheConstants.{MAX_ENTRIES}
@@ -19,7 +20,7 @@ use Rattle.sporc_line.specs.Document.{forms_of, next_form, text_after}
 use Rattle.sporc_line.specs.Good.{Good, Meets}
 use Rattle.sporc_line.specs.Keys.{key_of}
 use Rattle.sporc_line.specs.Kit.{Kit}
-use Rattle.sporc_line.proofs.FormLengths.{all_inserted-append, inserted_len-over, length-apply, length-text}
+use Rattle.sporc_line.proofs.FormLengths.{inserted_len-over, length-apply, length-text}
 use Rattle.sporc_line.proofs.Goods.{first_key, good_none, good_push, last_passes}
 use Rattle.sporc_line.proofs.MoreForms.{forms_push}
 use Rattle.sporc_client.specs.declared.limits.TheConstants.{MAX_EDIT_BYTES, MAX_EVENTS}

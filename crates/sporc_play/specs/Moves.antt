@@ -1,8 +1,7 @@
 -- A play as a run of its clients.
 use Rattle.std.specs.Prelude.{◌≡◌, ℕ, List, [], ◌∷◌, ◌++◌, length, take}
 use Rattle.sporc_client.specs.Agree.{Agree}
-use Rattle.sporc_client.specs.Run.{Move, Setup, after_all, start}
-use Rattle.sporc_client.specs.Typed.{IsTypedRun}
+use Rattle.sporc_client.specs.Run.{IsRun, Move, Setup, start, world_at}
 use Rattle.sporc_script.specs.declared.command.Command.{Command}
 use Rattle.sporc_script.specs.declared.play_line.PlayLine.{PlayLine}
 use Rattle.sporc_play.specs.Cast.{setup_of}
@@ -21,9 +20,10 @@ moves_of cast commands = opening_moves cast ++ moves_from (setup_of cast) (openi
 abbrev pub moment : List PlayLine → List (Scene → Command) → ℕ → ℕ
 moment cast commands n = length (moves_of cast (take n commands))
 
--- after any number of commands the clients of the play are those of the run of its moves, and all clients of this run agree
+-- the moves of a play are a run: after any number of commands the clients of the play are those of this run, and all its
+-- clients agree
 pub record IsOneRun (cast : List PlayLine) (commands : List (Scene → Command)) : Type 0 where
-  pub run : IsTypedRun (setup_of cast) (moves_of cast commands)
+  pub run : IsRun (setup_of cast) start (moves_of cast commands)
   pub world : (n : ℕ) → (after_each (setup_of cast) (opening cast) (take n commands)).world
-      ≡ after_all (setup_of cast) start (take (moment cast commands n) (moves_of cast commands))
+      ≡ world_at (setup_of cast) (moves_of cast commands) (moment cast commands n)
   pub agree : Agree (setup_of cast) (moves_of cast commands)

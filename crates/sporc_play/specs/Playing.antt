@@ -14,7 +14,8 @@ use Rattle.sporc_script.specs.declared.lines.LineFault.{LineFault}
 use Rattle.sporc_script.specs.declared.lines.LineFault.TheVariants as lines
 use Rattle.sporc_script.specs.declared.play_line.PlayLine.{PlayLine}
 use Rattle.sporc_script.specs.Grammar.{IsPlayFault, IsPlayScript}
-use Rattle.sporc_client.specs.Run.{Genuine, start}
+use Rattle.sporc_client.specs.Genuine.{Genuine}
+use Rattle.sporc_client.specs.Run.{start}
 use Rattle.sporc_play.specs.Cast.{has_admin, setup_of}
 use Rattle.sporc_play.specs.Generated.{Summarizes, generated_cast, generated_commands, generated_scene}
 use Rattle.sporc_play.specs.Moves.{IsOneRun, moves_of}

@@ -289,11 +289,21 @@ fn push_dropped(out: &mut String, member: u16, fault: ChangeFault) -> Result<(),
     writeln!(out, "{member} submit dropped {name}")
 }
 
-// The line of a submission that is refused.
+// The line of a submission that is refused. A disk in memory fails only if it finds no memory, which is then the answer.
 fn push_unsubmitted(out: &mut String, member: u16, fault: SubmitFault) -> Result<(), Memory>
     ensures line { OnOk result (string_bytes out.new ≡ string_bytes out.old ++ submit_line member 0 0 (Err fault)) }
     ensures named { OnOk result (fault ≢ SubmitFault.Memory) }
     ensures no_disk { OnOk result (fault ≢ SubmitFault.LeafFault) }
+{
+    match fault {
+        SubmitFault::LeafFault => Err(AllocError),
+        _ => push_refused(out, member, fault),
+    }
+}
+
+fn push_refused(out: &mut String, member: u16, fault: SubmitFault) -> Result<(), Memory>
+    ensures line { OnOk result (string_bytes out.new ≡ string_bytes out.old ++ submit_line member 0 0 (Err fault)) }
+    ensures named { OnOk result (fault ≢ SubmitFault.Memory) }
 {
     push_start(out, member, " submit refused ")?;
     push_submit_fault(out, fault)?;

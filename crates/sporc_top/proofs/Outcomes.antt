@@ -1,5 +1,5 @@
 -- What a source that tells its bytes calls for.
-use Rattle.std.proofs.Common.{◌≡◌, ℕ, ◌+◌, ◌<◌, ◌≤◌, ◌⊎◌, List, ◌++◌, length, Option, Some, None, Result, Ok, Err, refl, sym, ap, ◌∙◌, subst, inl, inr, arith, append-nil, length-append}
+use Rattle.std.proofs.Common.{◌≡◌, ℕ, ◌+◌, ◌<◌, ◌≤◌, ◌⊎◌, true, List, ◌++◌, length, Option, Some, None, Result, Ok, Err, refl, sym, ap, ◌∙◌, subst, inl, inr, arith, append-nil, length-append}
 use Rattle.std.specs.Bool.{⊤}
 use Rattle.std.specs.Io.KnownBytes.{Consumes, IsAtEnd}
 use Rattle.sporc_outside.specs.Uses.{IsUnwritten, SinkUse, SourceUse}
@@ -13,8 +13,14 @@ use Rattle.sporc_script.proofs.ScriptLines.{not_both, one_fault, one_reading}
 use Rattle.sporc_play.specs.declared.fault.PlayFault.{PlayFault}
 use Rattle.sporc_play.specs.declared.fault.PlayFault.TheVariants as playing
 use Rattle.sporc_play.specs.declared.playing.TheConstants.{MAX_SCRIPT}
+use Rattle.sporc_client.specs.Genuine.{Genuine}
+use Rattle.sporc_client.specs.Run.{start}
+use Rattle.sporc_play.specs.Cast.{has_admin, setup_of}
+use Rattle.sporc_play.specs.Moves.{IsOneRun, moves_of}
+use Rattle.sporc_play.specs.OwnPlays.{AreByClients}
 use Rattle.sporc_play.specs.Playing.{GeneratedFault, HasFaultLine, PlayOutcome, Plays, PlaysGenerated, ReadsWhole}
 use Rattle.sporc_play.specs.Report.{Reports}
+use Rattle.sporc_play.specs.Scene.{commands_of}
 use Rattle.sporc_words.specs.declared.command.Command.{Command}
 use Rattle.sporc_words.specs.declared.command.Command.TheVariants as commands
 use Rattle.sporc_words.specs.Commands.{command_of}
@@ -65,6 +71,20 @@ by_cause source out fault Q (Err cause) same outcome then =
     let is : fault ≡ fault_of_play cause = cc in
     subst Q (sym is) (then cause outcome)
 
+not_done : (cause : PlayFault) → ¬ (status_of (fault_of_play cause) ≡ 0)
+not_done playing.Memory none = absurd cc
+not_done playing.ReadFault none = absurd cc
+not_done playing.WriteFault none = absurd cc
+not_done (playing.LineFault k) none = absurd cc
+not_done playing.TooLong none = absurd cc
+
+-- a text is a script, whose report was written, and whose play is one run
+abbrev IsAgreed : List ℕ → SinkUse → Type 0
+IsAgreed text out =
+    (script : List PlayLine) × IsPlayScript text script × Reports script out.written_before out.written_after
+    × (has_admin script ≡ true → IsOneRun script (commands_of script))
+    × (has_admin script ≡ true → AreByClients script → Genuine (setup_of script) start (moves_of script (commands_of script)))
+
 -- a source that tells its bytes, read for a script
 module _ (source : SourceUse) (text : List ℕ) (tells : source.left_before ≡ Some text) where
   -- it was read as a script, if it is one
@@ -73,6 +93,10 @@ module _ (source : SourceUse) (text : List ℕ) (tells : source.left_before ≡ 
       let same = whole_of source text reads.text tells reads.whole in
       let one = one_reading PlayCommand PlayLine play_line IsNext one_next next_not_skipped (lines_of text) _ 1 own script (subst (λ (t : List ℕ). IsPlayScript t own) same reads.reads) is in
       subst (λ (s : List PlayLine). Reports s out.written_before out.written_after) one written
+
+  agreed_script : (out : SinkUse) → Plays source out → IsAgreed text out
+  agreed_script out (own, reads, written) =
+      (own, subst (λ (t : List ℕ). IsPlayScript t own) (whole_of source text reads.text tells reads.whole) reads.reads, written, reads.one_run, reads.genuine)
 
   no_fault : (script : List PlayLine) (k : ℕ) → IsPlayScript text script → ¬ (HasFaultLine source k)
   no_fault script k is (read, whole, outside) =
@@ -99,6 +123,10 @@ module _ (source : SourceUse) (text : List ℕ) (tells : source.left_before ≡ 
       → Reports script out.written_before out.written_after
   done_script out script (Ok x) is plays same = as_script out script is plays
   done_script out script (Err fault) is plays same = absurd cc
+
+  done_agreed : (out : SinkUse) (played : Result ⊤ PlayFault) → PlayOutcome source out played → Ok tt ≡ as_program played → IsAgreed text out
+  done_agreed out (Ok x) plays same = agreed_script out plays
+  done_agreed out (Err fault) plays same = absurd cc
 
   done_fault : (out : SinkUse) (k : ℕ) (played : Result ⊤ PlayFault) → IsPlayFault text k → PlayOutcome source out played → ¬ (Ok tt ≡ as_program played)
   done_fault out k (Ok x) outside plays same = no_script out k outside plays
@@ -143,6 +171,11 @@ module _ (source : SourceUse) (text : List ℕ) (tells : source.left_before ≡ 
   ended_script out script status within is (stopped {fault} {written} {count} did since line till) =
       by_cause source (until written count out) fault (λ f. UnlessCutOff (status_of f) ((status_of f ≡ 0) × Reports script out.written_before out.written_after)) did.played did.answer_is did.outcome
       (λ cause outcome. stopped_script (until written count out) script cause ((status_of (fault_of_play cause) ≡ 0) × Reports script out.written_before out.written_after) within is outcome)
+
+  ended_agreed : (out : SinkUse) (status : ℕ) → status ≡ 0 → Ends (PlaysSource source) no_files out status → IsAgreed text out
+  ended_agreed out status zero (done did) = done_agreed out did.played did.outcome did.answer_is
+  ended_agreed out status zero (stopped {fault} {written} {count} did since line till) =
+      absurd (by_cause source (until written count out) fault (λ f. ¬ (status_of f ≡ 0)) did.played did.answer_is did.outcome (λ cause outcome. not_done cause) zero)
 
   ended_fault : (out : SinkUse) (k status : ℕ) → length text ≤ MAX_SCRIPT → IsPlayFault text k → Ends (PlaysSource source) no_files out status
       → UnlessCutOff status ((status ≡ 3) × WritesFaultLine out no_files (faults.Line k))
@@ -213,6 +246,12 @@ unless_unread (inr ends) ended = ended ends
 
 module _ {L D : Type 0} (links : LinkView L) (disks : DiskView D) (words : List (List ℕ)) (outside : OutsideUse L) (status : ℕ) (outcome : RunOutcome links disks words outside status) where
   module _ (text : List ℕ) (play : command_of words ≡ Some commands.Play) (tells : outside.source.left_before ≡ Some text) where
+    pub on_done : status ≡ 0 → IsAgreed text outside.out
+    on_done zero = elim (by_command links disks words outside status commands.Play outcome play) [
+      | inl one ↦ absurd (omega (arith, zero, one))
+      | inr ends ↦ ended_agreed outside.source text tells outside.out status zero ends
+    ]
+
     pub on_script : (script : List PlayLine) → length text ≤ MAX_SCRIPT → IsPlayScript text script
         → UnlessCutOff status ((status ≡ 0) × Reports script outside.out.written_before outside.out.written_after)
     on_script script within is =

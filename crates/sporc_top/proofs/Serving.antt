@@ -16,11 +16,11 @@ use Rattle.sporc_top.specs.Performing.{AsksFor, ServesDocument, net_after, net_b
 -- by the names and the address that the words give
 pub served : {L : Type 0} (links : LinkView L) (words : Serve) (folder : FolderUse) (out : SinkUse) (net : NetUse L) (names : FileNames) (address : List ℕ) (answer : Result ⊤ Fault)
     → names ≡ names_of_document words.name → address ≡ words.address
-    → ServeOutcome (λ l. (links.told l).left) (λ l. (links.told l).written) (λ l. (links.told l).faults) names words.sessions folder out (net_before net) (net_after net) answer
+    → ServeOutcome (λ l. (links.told l).left) (λ l. (links.told l).written) (λ l. (links.told l).faults) links.is_shut names words.sessions folder out (net_before net) (net_after net) answer
     → AsksFor names (files.Genesis ∷ files.Log ∷ []) folder → MayAppend net.before.asked net.after.asked address
     → AreShutBehind links.is_shut net.before.returned net.after.returned → ServesDocument links words folder out net answer
 served links words folder out net names address answer same at outcome asked called shut = record {
-  outcome = subst (λ (n : FileNames). ServeOutcome (λ l. (links.told l).left) (λ l. (links.told l).written) (λ l. (links.told l).faults) n words.sessions folder out
+  outcome = subst (λ (n : FileNames). ServeOutcome (λ l. (links.told l).left) (λ l. (links.told l).written) (λ l. (links.told l).faults) links.is_shut n words.sessions folder out
       (net_before net) (net_after net) answer) same outcome;
   files_may_ask = subst (λ (n : FileNames). AsksFor n (files.Genesis ∷ files.Log ∷ []) folder) same asked;
   net_may_ask = subst (MayAppend net.before.asked net.after.asked) at called;

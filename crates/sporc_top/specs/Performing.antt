@@ -93,8 +93,8 @@ net_after net = net_of net.after.coming net.after.returned net.faults_after
 
 -- sessions were served at the address alone, from two files alone, and each link that came back is shut
 pub record ServesDocument {L : Type 0} (links : LinkView L) (words : Serve) (folder : FolderUse) (out : SinkUse) (net : NetUse L) (answer : Result ⊤ Fault) : Type 0 where
-  pub outcome : ServeOutcome (λ l. (links.told l).left) (λ l. (links.told l).written) (λ l. (links.told l).faults) (names_of_document words.name) words.sessions folder out
-      (net_before net) (net_after net) answer
+  pub outcome : ServeOutcome (λ l. (links.told l).left) (λ l. (links.told l).written) (λ l. (links.told l).faults) links.is_shut (names_of_document words.name) words.sessions
+      folder out (net_before net) (net_after net) answer
   pub files_may_ask : AsksFor (names_of_document words.name) (files.Genesis ∷ files.Log ∷ []) folder
   pub net_may_ask : MayAppend net.before.asked net.after.asked words.address
   pub shut : AreShutBehind links.is_shut net.before.returned net.after.returned

@@ -1,8 +1,14 @@
 //! Laws over what a run did, whatever its links and disks tell. Their functions do nothing.
 
-ghost use Rattle.std.specs.Prelude.{◌≡◌, ◌<◌, ◌≤◌, ℕ, List, Some, length};
+ghost use Rattle.std.specs.Prelude.{◌≡◌, ◌<◌, ◌≤◌, ℕ, true, List, Some, length};
 ghost use Rattle.sporc_script.specs.Grammar.{IsPlayFault, IsPlayScript};
 ghost use Rattle.sporc_script.specs.declared.play_line.PlayLine.{PlayLine};
+ghost use Rattle.sporc_client.specs.Genuine.{Genuine};
+ghost use Rattle.sporc_client.specs.Run.{start};
+ghost use Rattle.sporc_play.specs.Cast.{has_admin, setup_of};
+ghost use Rattle.sporc_play.specs.Moves.{IsOneRun, moves_of};
+ghost use Rattle.sporc_play.specs.OwnPlays.{AreByClients};
+ghost use Rattle.sporc_play.specs.Scene.{commands_of};
 ghost use Rattle.sporc_play.specs.declared.playing.TheConstants.{MAX_SCRIPT};
 ghost use Rattle.sporc_play.specs.Playing.{PlaysGenerated};
 ghost use Rattle.sporc_play.specs.Report.{Reports};
@@ -17,6 +23,21 @@ ghost use Rattle.sporc_top.specs.Performing.{no_files};
 ghost use Rattle.sporc_top.specs.Uses.{OutsideUse};
 
 use sporc_outside::{LeafDisk, Link};
+
+/// If `play` answers 0 for a text that the source tells, the text is a script, its report was written, nothing else, and its
+/// play is one run of its members' clients, who agree at any two moments. No one forges in that of a script without `sign`,
+/// `flip` and `cut`. A script without an admin has no command. docs/HEADLINE.md has what this says, file by file.
+pub fn plays_agree<L: Link, D: LeafDisk>()
+    ensures { (words : List (List ℕ)) (outside : OutsideUse L) (text : List ℕ)
+        → RunOutcome (link_view L.written L.left L.faults L.is_shut)
+        (disk_view D.stored D.images D.moment D.faults) words outside 0
+        → command_of words ≡ Some commands.Play → outside.source.left_before ≡ Some text
+        → (script : List PlayLine) × IsPlayScript text script
+        × Reports script outside.out.written_before outside.out.written_after
+        × (has_admin script ≡ true → IsOneRun script (commands_of script))
+        × (has_admin script ≡ true → AreByClients script
+        → Genuine (setup_of script) start (moves_of script (commands_of script))) }
+{}
 
 /// Of a source that tells a script, `play` writes the report, unless memory runs out or the source or the sink fails.
 pub fn scripts_are_played<L: Link, D: LeafDisk>()

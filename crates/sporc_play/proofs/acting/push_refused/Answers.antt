@@ -2,7 +2,7 @@ use Rattle.std.proofs.Common.{codes}
 use Rattle.std.specs.Fmt.{decimal}
 use Rattle.sporc_report.specs.Names.{submit_fault_name}
 use Rattle.sporc_report.proofs.Parts.{told_in_parts}
-use Rattle.sporc_play.proofs.acting.push_unsubmitted.Goals as goal
+use Rattle.sporc_play.proofs.acting.push_refused.Goals as goal
 
 pub returns-clause-line : goal.returns-clause-line
 returns-clause-line c =
