@@ -88,12 +88,40 @@ fn is_limited(rt: &impl Abort, alloc: Global, client: &mut MemoryClient) {
     number_is_limited(rt, alloc, client);
 }
 
+// Another inserted at the same place, and comes first: the edits above stand behind it.
+const PASSED: &str = "
+1 insert 0 c -> event 1
+1 submit -> entry
+2 give 1 1 -> event 1025
+";
+
+// The character at a place of what is then shown.
+fn passed_at(place: usize) -> u8 {
+    match place {
+        0 => b'c',
+        1..1_024 => b'b',
+        _ => b'a',
+    }
+}
+
+// Whether that is the text.
+fn is_passed(text: &[u8]) -> bool {
+    text.len() == 66_551 && text.iter().enumerate().all(|(i, c)| *c == passed_at(i))
+}
+
+fn shows_all(rt: &impl Abort, client: &MemoryClient) {
+    let shown = client.shown().expect(rt, "memory");
+    check(rt, "behind another", is_passed(shown.as_bytes()));
+}
+
 fn pending_is_limited(rt: &impl Abort, alloc: Global, cast: &Cast) {
     let mut room = Room::new(rt, alloc, cast, 2);
     is_limited(rt, alloc, room.client(rt, 2));
+    room.tries(rt, alloc, PASSED);
+    shows_all(rt, room.client(rt, 2));
 }
 
-// Edits are of the text that was shown, and only few and short ones may be pending.
+// Edits are of the text that was shown, only few and short ones may be pending, and all of them pass what another made.
 #[test]
 fn edits_are_pending(rt: HostRuntime) {
     let cast = Cast::new(rt.alloc()).expect(&rt, "a cast");

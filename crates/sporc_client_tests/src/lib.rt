@@ -11,6 +11,8 @@ mod checks;
 #[cfg(test)]
 mod editing;
 #[cfg(test)]
+mod filling;
+#[cfg(test)]
 mod meeting;
 #[cfg(test)]
 mod restarting;

@@ -6,7 +6,7 @@ use crate::bytes::bytes_of;
 use crate::place::{Answer, Failing, Place, calls, calls_of};
 use sporc_outside::{
     Calls, Counted, Dial, Failed, Link, Links, Listen, MemoryLink, MemoryNet, PipeLink, PipeNet,
-    Sink, Source,
+    Sink, Source, Stream,
 };
 use std::alloc::Global;
 use std::process::Abort;
@@ -139,6 +139,8 @@ impl<R: Wait + Copy + Drop> Counted for FaultyLink<R> {
         self.calls.faults()
     }
 }
+
+impl<R: Wait + Copy + Drop> Stream for FaultyLink<R> {}
 
 impl<R: Wait + Copy + Drop> Source for FaultyLink<R> {
     ghost left = { λ _. None };

@@ -122,7 +122,7 @@ const BAD_TO_SERVER: [(&[u8], u64); 8] = [
 ];
 
 // Bodies to a client that are no messages, and the place of the field in the body.
-const BAD_TO_CLIENT: [(&[u8], u64); 17] = [
+const BAD_TO_CLIENT: [(&[u8], u64); 18] = [
     (&[], 0),
     (&[5], 0),
     (&[1, 0, 0, 0], 1),
@@ -139,6 +139,7 @@ const BAD_TO_CLIENT: [(&[u8], u64); 17] = [
     (&[3, 0, 0, 0, 1, 17], 5),
     (&[3, 0, 0, 0, 1, 1, 0, 0, 0], 6),
     (&[3, 0, 0, 0, 1, 1, 0, 0, 0, 2, 8], 10),
+    (&[3, 0, 0, 0, 1, 1, 0, 0x40, 0, 1, 8], 10),
     (&[4, 0], 1),
 ];
 

@@ -1,5 +1,6 @@
 //! Texts and their deltas.
 
+mod chunks;
 mod deltas;
 mod documents;
 mod fields;

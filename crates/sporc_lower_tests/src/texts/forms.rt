@@ -1,9 +1,12 @@
-ghost use Rattle.std.specs.Prelude.{◌≡◌, ◌≤◌, ◌<◌, ◌∷◌, [], IsTrue};
+ghost use Rattle.std.specs.Prelude.{◌≡◌, ◌+◌, ◌*◌, ◌≤◌, ◌<◌, ◌∷◌, ◌++◌, [], length, IsTrue};
 ghost use Rattle.sporc_delta.specs.Marks.{base_len, inserted_len, out_len};
+ghost use Rattle.sporc_suffix.specs.Forms.{Follow, all_inserted, reached};
 
+use crate::checks::check;
 use crate::texts::deltas::is_shown;
 use sporc_delta::Delta;
 use sporc_suffix::{Blocks, Steps};
+use sporc_xform::later;
 use std::alloc::Global;
 use std::marker::Brand;
 use std::process::Abort;
@@ -29,10 +32,10 @@ fn two_forms(rt: &impl Abort, alloc: Global, first: Delta, second: Delta) -> Blo
 // Whether the texts before and after it are short.
 #[tactic(auto, using(sporc_xform::proofs::LengthLemmas::inserted_len_le))]
 fn is_short(delta: &Delta) -> bool
-    ensures base { IsTrue result → base_len delta.now ≤ 100 }
-    ensures inserted { IsTrue result → inserted_len delta.now ≤ 100 }
+    ensures base { IsTrue result → base_len delta.now ≤ 10000 }
+    ensures inserted { IsTrue result → inserted_len delta.now ≤ 10000 }
 {
-    delta.base_len() <= 100 && delta.out_len() <= 100
+    delta.base_len() <= 10_000 && delta.out_len() <= 10_000
 }
 
 // What `q` becomes behind both forms, and behind the second alone what
@@ -52,12 +55,12 @@ fn behind<L: Ledger>(
     requires base { base_len q.now ≡ base_len first }
     requires next { base_len second ≡ out_len first }
     requires late_base { base_len late.now ≡ out_len first }
-    requires late_short { base_len late.now ≤ 100 }
-    requires late_few { inserted_len late.now ≤ 100 }
-    requires short { base_len q.now ≤ 100 }
-    requires few { inserted_len q.now ≤ 100 }
-    requires first_few { inserted_len first ≤ 100 }
-    requires second_few { inserted_len second ≤ 100 }
+    requires late_short { base_len late.now ≤ 10000 }
+    requires late_few { inserted_len late.now ≤ 10000 }
+    requires short { base_len q.now ≤ 10000 }
+    requires few { inserted_len q.now ≤ 10000 }
+    requires first_few { inserted_len first ≤ 10000 }
+    requires second_few { inserted_len second ≤ 10000 }
 {
     let blocks = two_forms(rt, alloc, first, second);
     let mut steps: Steps<L> = Steps::new(blank);
@@ -97,4 +100,153 @@ fn a_delta_passes_the_forms_in_their_order(rt: HostRuntime) {
     let (delta, last) = by_four_authors(&rt, alloc);
     is_shown(&rt, alloc, &delta, "K2 I\"Y\" K1 ");
     is_shown(&rt, alloc, &last, "K3 I\"Z\" ");
+}
+
+// A delta of a text of `len` characters that changes one of them, by its number in a list of forms.
+fn numbered(rt: &impl Abort, alloc: Global, number: u32, len: u64) -> Delta
+    ensures base { base_len result ≡ len }
+    ensures short { len ≤ 10000 }
+    ensures few { inserted_len result ≤ 10000 }
+{
+    assert!(rt; 0 < len && len <= 9_999);
+    let made = match number % 4 {
+        0 => Delta::insert_at(alloc, len, 0, "a"),
+        1 => Delta::insert_at(alloc, len, len, "b"),
+        2 => Delta::remove_at(alloc, len, len / 2, 1),
+        _ => Delta::insert_at(alloc, len, len / 2, "c"),
+    };
+    let delta = made.expect(rt, "memory");
+    assert!(rt; delta.base_len() == len && is_short(&delta));
+    delta
+}
+
+// Appends a form. One for which there was no memory leaves the forms as they were, and is appended then.
+fn push_anyway(rt: &impl Abort, blocks: &mut Blocks, form: Delta)
+    requires base { base_len form ≡ reached blocks.old.base blocks.old.forms }
+    requires limit { length blocks.old.forms ≤ 10000 }
+    ensures base { blocks.new.base ≡ blocks.old.base }
+    ensures forms { blocks.new.forms ≡ blocks.old.forms ++ form ∷ [] }
+{
+    let len = blocks.len();
+    match blocks.push(form) {
+        Ok(()) => {}
+        Err((form, _)) => {
+            check(rt, "forms after no memory", blocks.len() == len);
+            let Ok(()) = blocks.push(form) else {
+                panic!(rt; "memory");
+            };
+        }
+    }
+}
+
+// The same of short forms that follow one another.
+fn append(rt: &impl Abort, blocks: &mut Blocks, form: Delta)
+    requires base { base_len form ≡ reached blocks.old.base blocks.old.forms }
+    requires limit { length blocks.old.forms ≤ 10000 }
+    requires follow { Follow blocks.old.base blocks.old.forms }
+    requires few { inserted_len form ≤ 10000 }
+    requires inserted { all_inserted blocks.old.forms ≤ 10000 * length blocks.old.forms }
+    ensures len { length blocks.new.forms ≡ length blocks.old.forms + 1 }
+    ensures follow { Follow blocks.new.base blocks.new.forms }
+    ensures reached { reached blocks.new.base blocks.new.forms ≡ out_len form }
+    ensures inserted { all_inserted blocks.new.forms ≤ 10000 * length blocks.new.forms }
+{
+    push_anyway(rt, blocks, form);
+}
+
+// So many forms over `xyz`: each inserts a letter at 0, or each is the one of its number.
+fn forms(rt: &impl Abort, alloc: Global, count: u32, at_front: bool) -> Blocks
+    ensures len { length result.forms ≡ count }
+    ensures limit { length result.forms ≤ 10000 }
+    ensures follow { Follow result.base result.forms }
+    ensures inserted { all_inserted result.forms ≤ 10000 * length result.forms }
+{
+    assert!(rt; count <= 10_000);
+    let mut blocks = Blocks::new(alloc, 3).expect(rt, "memory");
+    let mut len = 3;
+    for i in 0..count {
+        let form = numbered(rt, alloc, if at_front { 0 } else { i }, len);
+        len = form.out_len();
+        append(rt, &mut blocks, form);
+    }
+    blocks
+}
+
+// The delta of a number, stated on the text after the first `from` forms, behind all of them.
+fn behind_all<L: Ledger>(
+    rt: &impl Abort,
+    alloc: Global,
+    blocks: &Blocks,
+    number: u32,
+    from: u32,
+    steps: &mut Steps<L>,
+) -> Delta
+    requires within { from < length blocks.now.forms }
+    requires limit { length blocks.now.forms ≤ 10000 }
+    requires follow { Follow blocks.now.base blocks.now.forms }
+    requires inserted { all_inserted blocks.now.forms ≤ 10000 * length blocks.now.forms }
+    // With 4,096 forms it passes from the second on in at most 24 steps.
+    ensures steps { length blocks.now.forms ≡ 4096 → from ≡ 1 → steps.new ≤ steps.old + 24 }
+{
+    let delta = numbered(rt, alloc, number, blocks.form(from).base_len());
+    blocks.later_over(&delta, from, steps).expect(rt, "memory")
+}
+
+// The same, form by form.
+fn walked(rt: &impl Abort, alloc: Global, blocks: &Blocks, number: u32, from: u32) -> Delta
+    requires { from < length blocks.now.forms }
+{
+    let mut delta = numbered(rt, alloc, number, blocks.form(from).base_len());
+    for place in from..blocks.len() {
+        delta = passed(rt, alloc, &delta, blocks.form(place));
+    }
+    delta
+}
+
+fn passed(rt: &impl Abort, alloc: Global, delta: &Delta, form: &Delta) -> Delta {
+    assert!(rt; delta.base_len() == form.base_len() && is_short(delta) && is_short(form));
+    later(alloc, delta, form).expect(rt, "memory")
+}
+
+// From a place on, all forms are passed as they are one by one.
+fn passes_as_walked<L: Ledger>(
+    rt: &impl Abort,
+    blank: Blank,
+    alloc: Global,
+    blocks: &Blocks,
+    from: u32,
+)
+    requires name { blank.name ≡ L.name }
+    requires parts { blank.parts ≡ L.parts }
+    requires some { 0 < blank.parts }
+    requires within { from < length blocks.now.forms }
+    requires limit { length blocks.now.forms ≤ 10000 }
+    requires follow { Follow blocks.now.base blocks.now.forms }
+    requires inserted { all_inserted blocks.now.forms ≤ 10000 * length blocks.now.forms }
+{
+    let mut steps: Steps<L> = Steps::new(blank);
+    let found = behind_all(rt, alloc, blocks, from + 3, from, &mut steps);
+    let plain = walked(rt, alloc, blocks, from + 3, from);
+    check(rt, "forms one by one", found.is_same(&plain));
+}
+
+// Numbers of forms around the powers of two, from each place on.
+const COUNTS: [u32; 9] = [1, 2, 3, 4, 7, 8, 21, 64, 101];
+
+#[test]
+fn runs_are_passed_as_their_forms_are(rt: HostRuntime) {
+    let alloc = rt.alloc();
+    for count in &COUNTS {
+        let blocks = forms(&rt, alloc, *count, false);
+        for from in 0..blocks.len() {
+            passes_as_walked::<Brand>(&rt, Blank::new(1), alloc, &blocks, from);
+        }
+    }
+}
+
+#[test]
+fn letters_at_the_front_are_passed_in_few_steps(rt: HostRuntime) {
+    let alloc = rt.alloc();
+    let blocks = forms(&rt, alloc, 4096, true);
+    passes_as_walked::<Brand>(&rt, Blank::new(1), alloc, &blocks, 1);
 }

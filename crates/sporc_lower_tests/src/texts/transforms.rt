@@ -1,7 +1,11 @@
+ghost use Rattle.std.specs.Prelude.{◌≡◌, ◌+◌, ◌≤◌};
+ghost use Rattle.sporc_delta.specs.Marks.{base_len, inserted_len};
+ghost use Rattle.sporc_delta.specs.declared.limits.TheConstants.{MAX_TEXT_LEN};
+
 use crate::checks::check;
 use sporc_base::Memory;
 use sporc_delta::{Delta, Part, TextSlice};
-use sporc_xform::{both, compose, earlier, later};
+use sporc_xform::{both, compose, earlier, later, pass, restate_later};
 use std::alloc::Global;
 use std::process::Abort;
 
@@ -178,6 +182,36 @@ fn are_of(
     is_of(rt, alloc, Ok(one), first) && is_of(rt, alloc, Ok(other), second)
 }
 
+// Whether a delta that is restated in place has these marks.
+fn is_restated(rt: &impl Abort, alloc: Global, q: &Delta, p: &Delta, marks: &[char]) -> bool
+    requires base { base_len q.now ≡ base_len p.now }
+    requires limit { base_len p.now + inserted_len p.now + inserted_len q.now ≤ MAX_TEXT_LEN }
+{
+    let mut delta = q.copy().expect(rt, "memory");
+    restate_later(alloc, &mut delta, p).expect(rt, "memory");
+    marks_of(rt, alloc, &delta).as_slice() == marks
+}
+
+// Whether two deltas that pass each other in place have these marks.
+fn are_passed(
+    rt: &impl Abort,
+    alloc: Global,
+    p: &Delta,
+    q: &Delta,
+    first: &[char],
+    second: &[char],
+) -> bool
+    requires base { base_len p.now ≡ base_len q.now }
+    requires limit { base_len p.now + inserted_len p.now + inserted_len q.now ≤ MAX_TEXT_LEN }
+{
+    let mut one = p.copy().expect(rt, "memory");
+    let mut other = q.copy().expect(rt, "memory");
+    pass(alloc, &mut one, q)
+        .expect(rt, "memory")
+        .put(&mut other);
+    is_of(rt, alloc, Ok(one), first) && is_of(rt, alloc, Ok(other), second)
+}
+
 // Whether each transform of two short deltas over one text gives these marks.
 #[tactic(auto, using(sporc_xform::proofs::LengthLemmas::inserted_len_le))]
 fn transforms_give(
@@ -194,6 +228,8 @@ fn transforms_give(
     is_of(rt, alloc, earlier(alloc, p, q), first)
         && is_of(rt, alloc, later(alloc, q, p), second)
         && are_of(rt, alloc, both(alloc, p, q), first, second)
+        && is_restated(rt, alloc, q, p, second)
+        && are_passed(rt, alloc, p, q, first, second)
 }
 
 // Whether the composition of two deltas that follow one another has these marks.
@@ -205,7 +241,7 @@ fn composition_gives(rt: &impl Abort, alloc: Global, p: &Delta, q: &Delta, marks
 }
 
 // Two deltas, the first ordered earlier, and what each becomes behind the other.
-const TRANSFORMS: [(&str, &str, &str, &str); 7] = [
+const TRANSFORMS: [(&str, &str, &str, &str); 23] = [
     // An insertion inside a removal.
     ("KRR", "KKZK", "KRKR", "KZ"),
     // Two insertions at one place: that of the first stands left.
@@ -218,6 +254,26 @@ const TRANSFORMS: [(&str, &str, &str, &str); 7] = [
     ("KRK", "KYKK", "KKRK", "KYK"),
     ("KRK", "KKXK", "KRKK", "KXK"),
     ("KXK", "KYK", "KXKK", "KKYK"),
+    // Neighbours. Two insertions, a character apart, the first or the second in front; at one place; at both ends.
+    ("KaKKK", "KKbKK", "KaKKKK", "KKKbKK"),
+    ("KKaKK", "KbKKK", "KKKaKK", "KbKKKK"),
+    ("aKK", "bKK", "aKKK", "KbKK"),
+    ("KKa", "KKb", "KKaK", "KKKb"),
+    // An insertion at the front of a removal, at its end, and a character before it and behind it.
+    ("KRRK", "KbKKK", "KKRRK", "KbK"),
+    ("KRRK", "KKKbK", "KRRKK", "KbK"),
+    ("KKRRK", "KbKKKK", "KKKRRK", "KbKK"),
+    ("KRRKK", "KKKKbK", "KRRKKK", "KKbK"),
+    ("KaKKK", "KRRK", "KaK", "KKRRK"),
+    ("KKKaK", "KRRK", "KaK", "KRRKK"),
+    // Removals side by side, and a character apart.
+    ("KRKK", "KKRK", "KRK", "KRK"),
+    ("KKRK", "KRKK", "KRK", "KRK"),
+    ("RKK", "KRK", "RK", "RK"),
+    ("RKKK", "KKRK", "RKK", "KRK"),
+    // One of them changes nothing, or there is no text.
+    ("KK", "KbK", "KKK", "KbK"),
+    ("", "b", "K", "b"),
 ];
 
 fn transforms_as(rt: &impl Abort, alloc: Global, row: (&str, &str, &str, &str)) -> bool {

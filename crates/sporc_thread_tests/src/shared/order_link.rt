@@ -3,7 +3,7 @@
 ghost use Rattle.std.specs.Prelude.{◌≤◌, ◌<◌, None, refl, length};
 
 use sporc_order::{Order, Reply, Session};
-use sporc_outside::{Calls, Counted, Failed, Link, Sink, Source};
+use sporc_outside::{Calls, Counted, Failed, Link, Sink, Source, Stream};
 use sporc_wire::{Frames, ToClient, ToServer};
 use std::alloc::Global;
 
@@ -117,6 +117,8 @@ impl Counted for OrderLink {
         self.calls.faults()
     }
 }
+
+impl Stream for OrderLink {}
 
 impl Source for OrderLink {
     ghost left = { λ _. None };
