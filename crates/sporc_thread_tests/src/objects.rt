@@ -1,6 +1,6 @@
 //! What the sessions of clients and of servers are made of.
 
-ghost use Rattle.std.specs.Prelude.{◌≡◌, ◌<◌};
+ghost use Rattle.std.specs.Prelude.{◌≡◌, ◌<◌, false};
 
 use sporc_order::Order;
 use sporc_outside::{Calls, MemoryLink};
@@ -53,6 +53,7 @@ pub fn listed_link(
 ) -> MemoryLink
     requires limit { 0 < piece }
     ensures fresh { result.calls.faults ≡ 0 }
+    ensures not_shut { result.is_shut ≡ false }
 {
     let calls = calls(rt, alloc, failing);
     let sent = Vec::from_slice(alloc, sent).expect(rt, "memory");
