@@ -1,10 +1,9 @@
 -- Another's form and the pending items pass each other: both ways lead to one text.
 use Rattle.std.proofs.Common.{◌≡◌, ℕ, suc, ◌+◌, ◌<◌, ◌≤◌, List, [], ◌∷◌, ◌++◌, length, drop, fold, get_or, refl, sym, ap, ◌∙◌, add-one, append_assoc, arith}
 use Rattle.std.proofs.Math.Seq.{drop-cons}
-use Rattle.std.specs.List.{flat_map}
 use Rattle.sporc_delta.specs.declared.limits.TheConstants.{MAX_TEXT_LEN}
-use Rattle.sporc_delta.specs.Marks.{Mark, Retain, Delete, Insert, apply, base_len, inserted_len}
-use Rattle.sporc_delta.specs.Transforms.{earlier, earlier_step, last_steps, later}
+use Rattle.sporc_delta.specs.Marks.{Mark, apply, base_len, inserted_len}
+use Rattle.sporc_delta.specs.Transforms.{earlier, later}
 use Rattle.sporc_xform.proofs.LawLemmas.{later_merges, earlier_merges}
 use Rattle.sporc_xform.proofs.LengthLemmas.{base_len-later, base_len-earlier, inserted_len-earlier, out_len-le}
 use Rattle.sporc_line.proofs.FormLengths.{length-apply}

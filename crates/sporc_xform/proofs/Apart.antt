@@ -9,7 +9,7 @@ use Rattle.sporc_delta.specs.declared.shift.Shift.{Shift}
 use Rattle.sporc_delta.specs.declared.shift.Shift.TheVariants.{First, Last}
 use Rattle.sporc_delta.specs.Marks.{Mark, Retain, Delete, Insert, base_len, inserted_len, out_len, retains}
 use Rattle.sporc_delta.specs.Parts.{runs}
-use Rattle.sporc_delta.specs.Shifts.{CanShift, count_of, kept_first, kept_last, kept_there, shifted}
+use Rattle.sporc_delta.specs.Shifts.{count_of, kept_first, kept_last, kept_there, shifted}
 use Rattle.sporc_delta.specs.Transforms.{Later, earlier, earlier_step, later, later_step, steps}
 use Rattle.sporc_delta.proofs.Lengths.{base_len-append, base_len-retains, out_len-append, out_len-retains}
 use Rattle.sporc_delta.proofs.Shifted.{begins_with, ends_with, shifted_first, shifted_last}

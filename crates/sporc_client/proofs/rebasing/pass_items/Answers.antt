@@ -1,4 +1,4 @@
-use Rattle.std.proofs.Common.{◌+◌, arith}
+use Rattle.std.proofs.Common.{arith}
 use Rattle.sporc_client.proofs.Passings.{passed_one}
 use Rattle.sporc_client.proofs.rebasing.pass_items.Goals as goal
 

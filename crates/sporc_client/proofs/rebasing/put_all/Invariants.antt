@@ -1,4 +1,4 @@
-use Rattle.std.proofs.Common.{◌≡◌, length, vec_len}
+use Rattle.std.proofs.Common.{◌≡◌, vec_len}
 use Rattle.sporc_client.specs.Passing.{CanAllBecome, all_became}
 use Rattle.sporc_client.proofs.rebasing.put_all.Given as goal
 
