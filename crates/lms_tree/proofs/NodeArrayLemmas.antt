@@ -1,9 +1,9 @@
 -- The array of a tree's nodes, from its leaves up.
-use Rattle.std.proofs.Common.{◌≡◌, ℕ, zero, suc, ◌+◌, ◌-◌, ◌*◌, ◌/◌, ◌%◌, ◌^◌, ◌<◌, ◌≤◌, List, [], length, set, slice_index_or, get_or-set_same, get_or-set_other, length-set, refl, ap, ◌∙◌, arith, inl, inr}
+use Rattle.std.proofs.Common.{◌≡◌, ℕ, zero, suc, ◌+◌, ◌-◌, ◌*◌, ◌/◌, ◌%◌, ◌^◌, ◌<◌, ◌≤◌, List, [], length, take, ◌++◌, set, slice_index_or, get_or-set_same, get_or-set_other, get_or-take, get_or-append-add, length-set, length-append, length-take-le, refl, ap, ◌∙◌, arith, inl, inr}
 use Rattle.std.proofs.Math.Nat.{pow-le-pow_right, pow-suc, mod-lt}
 use Rattle.std.proofs.lemmas.Nat.{shr-shr, shr_split, pow_pos, one_shl}
 use Rattle.std.proofs.lemmas.Bool.{cases_eq}
-use Rattle.std.proofs.lemmas.List.{get_or_default}
+use Rattle.std.proofs.lemmas.List.{get_or_default, get_or_append_left}
 use Rattle.lms_ots.specs.Signatures.{ots_public_of}
 use Rattle.lms_tree.specs.LmsType.{height_of}
 use Rattle.lms_tree.specs.Nodes.{node_of, leaf_value, inner_value}
@@ -59,6 +59,27 @@ leaves_are key nodes leaves n all filled whole = record {
         let two : 0 < 2 = omega arith in
         let more : 2 ^ suc j ≤ 2 ^ height_of key.lms = pow-le-pow_right two deeper in
         absurd (omega (arith, high, more, pow-suc 2 j))
+
+-- an array whose back half is the leaves, as a borrow of that half leaves it
+pub leaves_behind : (key : LmsPrivate) (front leaves rest : List (List ℕ)) (count size : ℕ) → count ≡ 2 ^ height_of key.lms → size ≡ 2 * count
+    → length front ≡ count → length leaves ≡ count
+    → ((q : ℕ) → q < count → slice_index_or leaves q [] ≡ leaf_value key.id (count + q) (ots_public_of key.ots key.id q key.seed))
+    → HasNodes key (take size (front ++ leaves ++ rest)) (2 ^ height_of key.lms)
+leaves_behind key front leaves rest count size all twice front_size leaves_size each =
+    leaves_are key (take size (front ++ leaves ++ rest)) count count all (long, at) (omega arith)
+  where
+    both : length (front ++ leaves) ≡ size
+    both = omega (arith, length-append front leaves)
+
+    long : length (take size (front ++ leaves ++ rest)) ≡ 2 * count
+    long = length-take-le size (front ++ leaves ++ rest) (omega (arith, both, length-append (front ++ leaves) rest)) ∙ twice
+
+    at : (q : ℕ) → q < count → slice_index_or (take size (front ++ leaves ++ rest)) (count + q) [] ≡ leaf_value key.id (count + q) (ots_public_of key.ots key.id q key.seed)
+    at q low =
+        get_or-take size (front ++ leaves ++ rest) (count + q) [] (omega arith)
+        ∙ get_or_append_left (front ++ leaves) rest [] (count + q) (omega (arith, both))
+        ∙ rw front_size at (get_or-append-add front leaves q [])
+        ∙ each q low
 
 -- one more inner node
 pub node_more : (key : LmsPrivate) (nodes : List (List ℕ)) (r : ℕ) (value : List ℕ) → 0 < r → r < 2 ^ height_of key.lms

@@ -1,12 +1,13 @@
 //! The nodes of a tree, and what it signs.
 
-ghost use Rattle.std.specs.Prelude.{◌≡◌, ◌+◌, ◌*◌, ◌^◌, ◌<◌, ◌++◌, length, IfOk};
+ghost use Rattle.std.specs.Prelude.{◌≡◌, ℕ, ◌+◌, ◌*◌, ◌^◌, ◌<◌, ◌≤◌, [], ◌++◌, length, slice_index_or, IfOk};
 ghost use Rattle.std.specs.Int.{w32, to_be_bytes};
 ghost use Rattle.lms_ots.specs.Chains.{concatenated};
+ghost use Rattle.lms_ots.specs.Signatures.{ots_public_of};
 ghost use Rattle.lms_tree.specs.LmsType.{height_of};
 ghost use Rattle.lms_tree.specs.LmsPrivate.{LmsPrivate, lms_public_of, path_of, value_at};
 ghost use Rattle.lms_tree.specs.NodeArray.{HasNodes};
-ghost use Rattle.lms_tree.specs.Nodes.{sibling};
+ghost use Rattle.lms_tree.specs.Nodes.{leaf_value, sibling};
 ghost use Rattle.lms_tree.specs.Signatures.{lms_signature_of};
 ghost use Rattle.lms_tree.specs.Verification.{Verifies};
 
@@ -17,6 +18,7 @@ use lms_ots::{OtsType, ots_public, ots_sign};
 use sporc_base::Memory;
 use std::alloc::Global;
 use std::marker::Model;
+use std::thread::{Threads, for_each_mut};
 
 /// A private key with all nodes of its tree. It is seen as the private key: the types, the
 /// identifier and the seed from which RFC 8554, Appendix A, derives all one-time keys.
@@ -38,6 +40,15 @@ impl Model for Tree {
     ghost invariant = { λ t. HasNodes (record { lms = t.lms; ots = t.ots; id = t.id; seed = t.seed }) t.nodes.items 1 };
 }
 
+// The value of leaf `q`, which is node `leaves + q`.
+fn leaf_at(seed: &[u8; 32], id: &[u8; 16], ots: OtsType, leaves: usize, q: usize) -> [u8; 32]
+    requires { leaves + q < 2 ^ 32 }
+    ensures { result ≡ leaf_value id.now (leaves + q) (ots_public_of ots id.now q seed.now) }
+{
+    let key = ots_public(ots, id, q as u32, seed);
+    leaf_value(id, (leaves + q) as u32, &key)
+}
+
 // The array of nodes with its leaves alone.
 fn leaves_of(
     alloc: Global,
@@ -52,9 +63,52 @@ fn leaves_of(
     let leaves = 1usize << lms.height();
     let mut nodes = vec![in alloc; [0u8; 32]; 2 * leaves]?;
     'leaves: for q in 0..leaves {
-        let key = ots_public(ots, id, q as u32, seed);
-        nodes[leaves + q] = leaf_value(id, (leaves + q) as u32, &key);
+        nodes[leaves + q] = leaf_at(seed, id, ots, leaves, q);
     }
+    Ok(nodes)
+}
+
+// Computes all leaves, a part of them in each of so many threads.
+fn fill_leaves<R: Threads + Sync>(
+    rt: &R,
+    seed: &[u8; 32],
+    id: &[u8; 16],
+    ots: OtsType,
+    leaves: &mut [[u8; 32]],
+    workers: u32,
+)
+    requires room { 2 * length leaves.old ≤ 2 ^ 32 }
+    requires workers { 0 < workers }
+    ensures { (q : ℕ) → q < length leaves.old → slice_index_or leaves.new q []
+        ≡ leaf_value id.now (length leaves.old + q) (ots_public_of ots id.now q seed.now) }
+{
+    let count = leaves.len();
+    for_each_mut(
+        rt,
+        leaves,
+        workers as usize,
+        &|q, leaf| *leaf = leaf_at(seed, id, ots, count, q),
+    );
+}
+
+// As `leaves_of`, with so many threads.
+fn leaves_by<R: Threads + Sync>(
+    rt: &R,
+    alloc: Global,
+    seed: &[u8; 32],
+    id: &[u8; 16],
+    lms: LmsType,
+    ots: OtsType,
+    workers: u32,
+) -> Result<Vec<[u8; 32]>, Memory>
+    requires { 0 < workers }
+    ensures { IfOk result (λ nodes.
+        HasNodes (record { lms = lms; ots = ots; id = id.now; seed = seed.now }) nodes.items (2 ^ height_of lms)) }
+{
+    let count = 1usize << lms.height();
+    let mut nodes = vec![in alloc; [0u8; 32]; 2 * count]?;
+    let (_, leaves) = nodes.split_at_mut(count);
+    fill_leaves(rt, seed, id, ots, leaves, workers);
     Ok(nodes)
 }
 
@@ -103,20 +157,52 @@ impl Tree {
     ) -> Result<Tree, Memory>
         ensures ok { IfOk result (λ tree. tree ≡ record { lms = lms; ots = ots; id = id.now; seed = seed.now }) }
     {
+        let nodes = leaves_of(alloc, seed, id, lms, ots)?;
+        Ok(Tree::above(seed, id, lms, ots, nodes))
+    }
+
+    /// The tree that [`Tree::build`] builds. Its leaves are shared out among so many threads, in parts of equal length;
+    /// where no thread can be made for a part, the thread that was to start it computes the part itself.
+    pub fn build_by_workers<R: Threads + Sync>(
+        rt: &R,
+        alloc: Global,
+        seed: &[u8; 32],
+        id: &[u8; 16],
+        lms: LmsType,
+        ots: OtsType,
+        workers: u32,
+    ) -> Result<Tree, Memory>
+        requires workers { 1 ≤ workers × workers ≤ 64 }
+        ensures ok { IfOk result (λ tree. tree ≡ record { lms = lms; ots = ots; id = id.now; seed = seed.now }) }
+    {
+        let nodes = leaves_by(rt, alloc, seed, id, lms, ots, workers)?;
+        Ok(Tree::above(seed, id, lms, ots, nodes))
+    }
+
+    // The tree above these leaves.
+    fn above(
+        seed: &[u8; 32],
+        id: &[u8; 16],
+        lms: LmsType,
+        ots: OtsType,
+        mut nodes: Vec<[u8; 32]>,
+    ) -> Tree
+        requires { HasNodes (record { lms = lms; ots = ots; id = id.now; seed = seed.now }) nodes.items (2 ^ height_of lms) }
+        ensures { result ≡ record { lms = lms; ots = ots; id = id.now; seed = seed.now } }
+    {
         let leaves = 1usize << lms.height();
-        let mut nodes = leaves_of(alloc, seed, id, lms, ots)?;
         'inner: for i in 1..leaves {
             let r = leaves - i;
             let value = inner_value(id, r as u32, &nodes[2 * r], &nodes[2 * r + 1]);
             nodes[r] = value;
         }
-        Ok(Tree {
+        Tree {
             lms,
             ots,
             id: *id,
             seed: *seed,
             nodes,
-        })
+        }
     }
 
     /// The public key.

@@ -1,6 +1,6 @@
 use Rattle.std.proofs.Common.{arith}
 use Rattle.lms_tree.proofs.NodeArrayLemmas.{node_stored, leaves_is}
-use Rattle.lms_tree.proofs.tree.Tree.build.Goals as goal
+use Rattle.lms_tree.proofs.tree.Tree.above.Goals as goal
 
 pub inner-preserved : goal.inner-preserved
 inner-preserved c =
