@@ -12,6 +12,7 @@ ghost use Rattle.sporc_base.specs.FirstFault.{Answers, AnswersUnless, first_of};
 ghost use Rattle.sporc_client.specs.declared.limits.TheConstants.{MAX_EVENTS, MAX_PENDING};
 ghost use Rattle.sporc_client.specs.Log.{Edit as Edited, Change as Changed, journal_of};
 ghost use Rattle.sporc_client.specs.Answers.{added, change_checks, change_fault, edit_checks, edit_fault, is_out, room_checks};
+ghost use Rattle.sporc_head.specs.Examined.{key_for};
 ghost use Rattle.sporc_head.specs.HeadChecks.{allows_member};
 ghost use Rattle.sporc_head.specs.History.{roster_of};
 ghost use Rattle.sporc_member.specs.Roster.{member_at};
@@ -161,6 +162,14 @@ impl<D: LeafDisk> Client<D> {
         ensures value { result.now.roster ≡ roster_of self.now.opening.genesis (state_of self.now).entries }
     {
         self.line.heads().roster()
+    }
+
+    /// The key under which the check of an entry's signature verifies it at this history: its author's. None exactly if
+    /// the bytes are no entry, or its author is no member. It takes no memory and makes no event.
+    pub fn key_for(&self, entry: &[u8]) -> Option<[u8; 56]>
+        ensures value { result ≡ key_for (roster_of self.now.opening.genesis (state_of self.now).entries) entry.now }
+    {
+        self.line.key_for(entry)
     }
 
     /// Whether a change removed the member.

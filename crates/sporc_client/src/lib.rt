@@ -3,7 +3,8 @@
 //!
 //! - [`Client`]: opened with a document's genesis and what the member was given, or resumed with a history. `edit` and
 //!   `change` append pending items; `submit` signs an entry of the first; `accept` takes an entry, and the pending edits and
-//!   another's edit pass each other; `discard` gives up what is pending; `restart` goes back to an earlier history.
+//!   another's edit pass each other; `accept_examined` does the same with an entry whose signature was examined before, under
+//!   the key that `key_for` tells; `discard` gives up what is pending; `restart` goes back to an earlier history.
 //! - [`Event`]: what the journal has, one for each call that did something.
 //! - [`EditFault`], [`SubmitFault`], [`AcceptFault`], [`RestartFault`]: why a call is refused, in the order of the checks.
 //! - `specs/`: a client as a plain record (`PlainClient`), its log (`Log`), what each event does (`Step`), what each call

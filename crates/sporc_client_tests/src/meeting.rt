@@ -115,14 +115,30 @@ const FORK: &str = "
 2 show -> [abce] [abce]
 ";
 
+// Entries examined under their author's key, and under that of another.
+const EXAMINED: &str = "
+1 insert 1 X -> event 4
+2 insert 1 Y -> event 2
+1 submit -> entry
+2 submit -> entry
+1 examined 2 2 2 -> good event 6
+2 examined 2 2 3 -> bad event 4
+1 examined 2 3 3 -> good Refused(WrongPosition)
+1 examined 3 3 2 -> bad event 7
+2 examined 3 3 3 -> good event 5
+1 show -> [aXYbc] [aXYbc]
+2 show -> [aXYbc] [aXYbc]
+";
+
 // What the clients of two members do.
-const ROWS: [&str; 6] = [
+const ROWS: [&str; 7] = [
     TIE,
     INSERTION_IN_REMOVAL,
     REMOVED_TWICE,
     PASSED_BY,
     REPEATED,
     FORK,
+    EXAMINED,
 ];
 
 #[test]

@@ -8,6 +8,7 @@
 //! | `M edits N`, `M reads N`, `M drops N` | changes the role of member N, or removes it: `event K` |
 //! | `M submit` | `entry`, `waiting`, `nothing` or `dropped FAULT`. Entries are counted from 1 |
 //! | `M give POSITION ENTRY` | accepts an entry at a position: `event N` |
+//! | `M examined POSITION ENTRY OTHER` | accepts an entry, examined under the key for another: `good event N`, `bad event N` |
 //! | `M discard` | `event N` |
 //! | `M restart K` | `back` |
 //! | `M show` | the committed and the shown text: `[TEXT] [TEXT]` |
@@ -19,6 +20,7 @@ use crate::scene::{MemoryClient, RANDOM, insertion, joined, opened, removal, res
 use sporc_base::Bytes;
 use sporc_client::{EditFault, Submitted};
 use sporc_delta::Delta;
+use sporc_head::Examined;
 use sporc_line::Line;
 use sporc_member::{Change, Role};
 use sporc_outside::Calls;
@@ -114,6 +116,7 @@ impl Room {
         match word(rt, words) {
             "submit" => self.submit(rt, alloc, member),
             "give" => self.give(rt, alloc, member, words),
+            "examined" => self.give_examined(rt, alloc, member, words),
             act => answer_to(rt, alloc, self.client(rt, member), act, words),
         }
     }
@@ -145,6 +148,31 @@ impl Room {
         let client = client_of(rt, self.clients.as_mut_slice(), member);
         told(rt, alloc, client.accept(1, position, entry))
     }
+
+    fn give_examined(
+        &mut self,
+        rt: &impl Abort,
+        alloc: Global,
+        member: u32,
+        words: &mut SplitWhitespace<'_>,
+    ) -> String {
+        let position = number(rt, words);
+        let entry = entry_at(rt, self.entries.as_slice(), number(rt, words));
+        let key_of = entry_at(rt, self.entries.as_slice(), number(rt, words));
+        let client = client_of(rt, self.clients.as_mut_slice(), member);
+        let key = client.key_for(key_of).expect(rt, "a key");
+        let examined = examined(rt, alloc, &key, entry);
+        let found = told(rt, alloc, client.accept_examined(1, position, &examined));
+        let verdict = if examined.verdict() { "good" } else { "bad" };
+        format!(in alloc; "{verdict} {found}").expect(rt, "memory")
+    }
+}
+
+// The bytes of an entry, examined under a key.
+fn examined(rt: &impl Abort, alloc: Global, key: &[u8; 56], entry: &[u8]) -> Box<Examined> {
+    let bytes = Vec::from_slice(alloc, entry).expect(rt, "memory");
+    let examined = Examined::of(key, bytes).ok().expect(rt, "memory");
+    Box::new(alloc, examined).expect(rt, "memory")
 }
 
 // The client at this place, from 1 on.

@@ -4,3 +4,5 @@ pub mod ChecksPass
 mod Keeping
 pub mod OnceChecked
 mod Copied
+mod Skimmed
+mod Examination

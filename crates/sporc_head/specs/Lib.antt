@@ -6,3 +6,6 @@ pub mod TablesMatch
 pub mod CheckedModel
 pub mod IsChecked
 pub mod HeadsModel
+pub mod Examined
+pub mod ExaminedModel
+pub mod Skimming

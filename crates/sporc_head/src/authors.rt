@@ -1,17 +1,25 @@
 //! The checks of an entry against its author.
 
-ghost use Rattle.std.specs.Prelude.{◌≡◌, ◌∷◌, Some};
+ghost use Rattle.std.specs.Prelude.{◌≡◌, ◌∷◌, Some, IfSome};
 ghost use Rattle.lms_tree.specs.LmsPublic.{public_key_in};
 ghost use Rattle.sporc_base.specs.FirstFault.{Answers, first_of};
+ghost use Rattle.sporc_head.specs.Examined.{IsExactOf, is_signed_under};
 ghost use Rattle.sporc_head.specs.HeadChecks.{author_checks, allows, names_leaf, verifies_under};
 
+use crate::examined::Verdict;
 use crate::refusal::Refusal;
 use lms_tree::{LmsPublic, verify_parts};
+use sporc_base::is_same;
 use sporc_entry::{EDIT, EntryView};
 use sporc_member::{Founder, Role};
 
 // Whether the author may make the entry, and signed it.
-pub(crate) fn check_author(author: &Founder, entry: &EntryView<'_>) -> Result<(), Refusal>
+pub(crate) fn check_author(
+    author: &Founder,
+    entry: &EntryView<'_>,
+    known: Option<&Verdict>,
+) -> Result<(), Refusal>
+    requires exact { IfSome known (λ v. IsExactOf v.now entry.now.entry) }
     ensures { Answers result (first_of (author_checks (Some author.now) entry.now.entry)) }
 {
     let header = entry.header();
@@ -21,10 +29,21 @@ pub(crate) fn check_author(author: &Founder, entry: &EntryView<'_>) -> Result<()
     if !names_leaf(header.leaf, entry.signature()) {
         return Err(Refusal::LeafMismatch);
     }
-    if !verifies_under(entry.signed(), entry.signature(), &author.key) {
+    if !is_signed(entry, &author.key, known) {
         return Err(Refusal::BadSignature);
     }
     Ok(())
+}
+
+// Whether the signature of an entry verifies under the bytes of a key: what is known of that key is not found anew.
+fn is_signed(entry: &EntryView<'_>, key: &[u8; 56], known: Option<&Verdict>) -> bool
+    requires exact { IfSome known (λ v. IsExactOf v.now entry.now.entry) }
+    ensures { result ≡ is_signed_under key.now entry.now.entry }
+{
+    match known {
+        Some(verdict) if is_same(&verdict.key, key) => verdict.good,
+        _ => verifies_under(entry.signed(), entry.signature(), key),
+    }
 }
 
 /// Whether a role allows an entry of this kind: [`sporc_entry::EDIT`] or [`sporc_entry::CHANGE`].
@@ -48,7 +67,7 @@ fn names_leaf(leaf: u32, signature: &[u8]) -> bool
 
 // Whether a signature of a string verifies under the bytes of a key: of byte 3 and the part of an entry's bytes that its
 // author signs.
-fn verifies_under(signed: &[u8], signature: &[u8], key: &[u8; 56]) -> bool
+pub(crate) fn verifies_under(signed: &[u8], signature: &[u8], key: &[u8; 56]) -> bool
     ensures { result ≡ verifies_under (3 ∷ signed.now) signature.now (public_key_in key.now) }
 {
     match LmsPublic::from_bytes(key) {

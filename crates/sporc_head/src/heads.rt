@@ -1,6 +1,6 @@
 //! A history, with what its checks look up.
 
-ghost use Rattle.std.specs.Prelude.{◌≡◌, ◌+◌, ◌<◌, ◌≤◌, ◌∷◌, ◌++◌, [], length, take, map, Option, None, Some, IfOk, IfErr, OnOk, OnErr, IsOk};
+ghost use Rattle.std.specs.Prelude.{◌≡◌, ◌+◌, ◌<◌, ◌≤◌, ◌∷◌, ◌++◌, [], length, take, map, Option, option_map, None, Some, IfOk, IfErr, IfSome, OnOk, OnErr, IsOk};
 ghost use Rattle.std.specs.List.{All};
 ghost use Rattle.sporc_base.specs.FirstFault.{Answers, AnswersUnless, first_of};
 ghost use Rattle.sporc_hash.specs.Chain.{chain};
@@ -9,14 +9,17 @@ ghost use Rattle.sporc_entry.specs.declared.limits.TheConstants.{MAX_ENTRY};
 ghost use Rattle.sporc_member.specs.Roster.{member_at};
 ghost use Rattle.sporc_head.specs.History.{member_change_of, roster_of, barrier_of, epoch_of, count_of, last_of, hash_of, is_removed};
 ghost use Rattle.sporc_head.specs.HeadChecks.{place_checks, history_checks, head_checks, head_fault, is_not_removed};
+ghost use Rattle.sporc_head.specs.Examined.{IsExact, IsExactOf, key_for};
 ghost use Rattle.sporc_head.specs.declared.limits.TheConstants.{MAX_ENTRIES};
 ghost use Rattle.sporc_head.specs.IsChecked.{IsChecked};
 
 use crate::authors::check_author;
 use crate::changes::check_change;
 use crate::checked::Checked;
+use crate::examined::{Examined, Verdict};
 use crate::limits::MAX_ENTRIES;
 use crate::refusal::Refusal;
+use crate::skimming::read_author;
 use crate::tables::{Tables, record_entry, record_removal};
 use sporc_base::{Memory, is_same};
 use sporc_entry::{EntryView, Genesis, Header, write_genesis};
@@ -228,17 +231,67 @@ impl Heads {
         self.entries.push_reserved(checked.into_bytes().into_vec());
     }
 
+    /// The key under which the check of an entry's signature verifies it at this history: its author's. None exactly if
+    /// the bytes are no entry, or its author is no member. It takes no memory.
+    #[tactic(auto, unfolding(crate::specs::Examined::key_for))]
+    pub fn key_for(&self, entry: &[u8]) -> Option<[u8; 56]>
+        ensures value { result ≡ key_for (roster_of self.now.genesis self.now.entries) entry.now }
+    {
+        match read_author(entry) {
+            Ok(number) => self.key_of(number),
+            Err(_) => None,
+        }
+    }
+
+    // The key of the member with this number.
+    fn key_of(&self, number: u16) -> Option<[u8; 56]>
+        ensures { result ≡ option_map (λ m. m.key) (member_at (roster_of self.now.genesis self.now.entries) number) }
+    {
+        let member = self.roster().member(number)?;
+        Some(member.key)
+    }
+
     /// The checks of an entry that is to stand at a position. Without `me` it isn't asked whether the history removes a
     /// member.
-    #[tactic(auto, unfolding(crate::specs::HeadChecks::head_fault))]
     pub fn check(&self, me: Option<u16>, pos: u32, bytes: &[u8]) -> Result<Checked, Refusal>
+        ensures fault { AnswersUnless Refusal.Memory result (head_fault self.now.genesis me self.now.entries pos bytes.now) }
+        ensures checked { IfOk result (IsChecked self.now.genesis self.now.entries) }
+        ensures bytes { IfOk result (λ checked. checked.bytes ≡ bytes.now) }
+    {
+        self.check_known(me, pos, bytes, None)
+    }
+
+    /// The same of an entry whose signature was examined. It is verified anew if the key isn't its author's at this history.
+    pub fn check_examined(
+        &self,
+        me: Option<u16>,
+        pos: u32,
+        examined: &Examined,
+    ) -> Result<Checked, Refusal>
+        ensures fault { AnswersUnless Refusal.Memory result (head_fault self.now.genesis me self.now.entries pos examined.now.entry) }
+        ensures checked { IfOk result (IsChecked self.now.genesis self.now.entries) }
+        ensures bytes { IfOk result (λ checked. checked.bytes ≡ examined.now.entry) }
+    {
+        self.check_known(me, pos, examined.entry(), Some(examined.known()))
+    }
+
+    /// The same of bytes of which a verdict may be known.
+    #[tactic(auto, unfolding(crate::specs::HeadChecks::head_fault))]
+    pub fn check_known(
+        &self,
+        me: Option<u16>,
+        pos: u32,
+        bytes: &[u8],
+        known: Option<&Verdict>,
+    ) -> Result<Checked, Refusal>
+        requires exact { IfSome known (λ v. IsExact v.now bytes.now) }
         ensures fault { AnswersUnless Refusal.Memory result (head_fault self.now.genesis me self.now.entries pos bytes.now) }
         ensures checked { IfOk result (IsChecked self.now.genesis self.now.entries) }
         ensures bytes { IfOk result (λ checked. checked.bytes ≡ bytes.now) }
     {
         let alloc = *self.hashes.allocator();
         let view = EntryView::read(alloc, bytes)?;
-        self.check_entry(alloc, me, pos, &view)?;
+        self.check_entry(alloc, me, pos, &view, known)?;
         let before = self.hash_at(self.len());
         let checked = Checked::copied(alloc, view, &before)?;
         Ok(checked)
@@ -252,12 +305,14 @@ impl Heads {
         me: Option<u16>,
         pos: u32,
         view: &EntryView<'_>,
+        known: Option<&Verdict>,
     ) -> Result<(), Refusal>
+        requires exact { IfSome known (λ v. IsExactOf v.now view.now.entry) }
         ensures { AnswersUnless Refusal.Memory result (first_of (head_checks self.now.genesis me self.now.entries pos view.now.entry)) }
     {
         self.check_place(me, pos, view.header())?;
         let author = self.check_history(view.header())?;
-        check_author(author, view)?;
+        check_author(author, view, known)?;
         if let Some(body) = view.change() {
             check_change(alloc, self.roster(), body)?;
         }

@@ -8,23 +8,35 @@
 //! heads.push(checked)                                         // takes no memory after `reserve`
 //! ```
 //!
+//! The costly check, of the signature, can be done before an entry's turn:
+//!
+//! ```text
+//! let key = heads.key_for(entry.as_slice());           // the author's key here; takes no memory
+//! let examined = Examined::of(&key, entry)?;           // needs no history
+//! let checked = heads.check_examined(None, heads.len() + 1, &examined)?;   // verifies anew only under another key
+//! ```
+//!
 //! Proved: a refusal is exactly the first check that fails over the whole list of entries, what is looked up is what that
-//! list says, and an entry that was checked is appended as it is. Only tested: each refusal by an entry with a real
-//! signature that fails its check alone, and by one that fails all later checks too. Neither: that signatures can't be
-//! forged.
+//! list says, and an entry that was checked is appended as it is; a verdict is exact, and the answer is the same whatever
+//! key an entry was examined under. Only tested: each refusal by an entry with a real signature that fails its check
+//! alone, and by one that fails all later checks too. Neither: that signatures can't be forged, and that a signature
+//! which was examined isn't verified again.
 #![tactic(auto)]
 
 mod authors;
 mod changes;
 mod checked;
+mod examined;
 mod heads;
 pub mod laws;
 mod limits;
 mod refusal;
+mod skimming;
 mod tables;
 
 pub use authors::allows;
 pub use checked::Checked;
+pub use examined::{Examined, Verdict};
 pub use heads::Heads;
 pub use limits::MAX_ENTRIES;
 pub use refusal::Refusal;

@@ -11,7 +11,8 @@ ghost use Rattle.sporc_entry.specs.declared.limits.TheConstants.{MAX_ENTRY};
 ghost use Rattle.sporc_entry.specs.Genesis.{genesis_bytes, IsGenesis};
 ghost use Rattle.sporc_epoch.specs.Keys.{pairs_in};
 ghost use Rattle.sporc_head.specs.declared.limits.TheConstants.{MAX_ENTRIES};
-ghost use Rattle.sporc_head.specs.History.{epoch_of, hash_of, is_removed};
+ghost use Rattle.sporc_head.specs.Examined.{key_for};
+ghost use Rattle.sporc_head.specs.History.{epoch_of, hash_of, is_removed, roster_of};
 ghost use Rattle.sporc_line.specs.Kit.{kit_of};
 ghost use Rattle.sporc_line.specs.Keys.{key_of};
 ghost use Rattle.sporc_line.specs.Document.{forms_of, text_of};
@@ -203,6 +204,14 @@ impl Line {
         ensures entries { result.now.entries ≡ self.now.entries }
     {
         &self.heads
+    }
+
+    /// The key under which the check of an entry's signature verifies it at this line: its author's. None exactly if the
+    /// bytes are no entry, or its author is no member. It takes no memory.
+    pub fn key_for(&self, entry: &[u8]) -> Option<[u8; 56]>
+        ensures value { result ≡ key_for (roster_of self.now.genesis self.now.entries) entry.now }
+    {
+        self.heads.key_for(entry)
     }
 
     /// The member's number.

@@ -1,9 +1,10 @@
 //! Entries that come.
 
-ghost use Rattle.std.specs.Prelude.{◌≡◌, ◌<◌, ◌≤◌, ◌++◌, ◌==◌, length, is_some, nat_lt, IfOk, OnOk, OnErr};
+ghost use Rattle.std.specs.Prelude.{◌≡◌, ◌<◌, ◌≤◌, ◌++◌, ◌==◌, length, is_some, nat_lt, IfOk, IfSome, OnOk, OnErr};
 ghost use Rattle.sporc_base.specs.FirstFault.{AnswersUnless};
 ghost use Rattle.sporc_suffix.specs.Runs.{IsReadyAt};
 ghost use Rattle.sporc_entry.specs.Entry.{change_of};
+ghost use Rattle.sporc_head.specs.Examined.{IsExact};
 ghost use Rattle.sporc_line.specs.LineChecks.{first_fault};
 ghost use Rattle.sporc_line.specs.Prepared.{IsPrepared};
 ghost use Rattle.sporc_client.specs.declared.limits.TheConstants.{MAX_EVENTS};
@@ -22,7 +23,7 @@ use crate::fault::AcceptFault;
 use crate::limits::MAX_EVENTS;
 use crate::workspace::Workspace;
 use sporc_base::Memory;
-use sporc_head::Refusal;
+use sporc_head::{Examined, Refusal, Verdict};
 use sporc_line::{Line, Prepared};
 use sporc_outside::LeafDisk;
 use sporc_suffix::ReadyForm;
@@ -38,7 +39,37 @@ impl<D: LeafDisk> Client<D> {
         ensures ok { IfOk result (λ n. n ≡ length self.new.log) }
         ensures log { self.new ≡ record self.old { log = self.old.log ++ added result (Accepted by bytes.now) } }
     {
-        let prepared = check_entry(&mut self.line, &self.own, pos, bytes)?;
+        self.accept_known(by, pos, bytes, None)
+    }
+
+    /// The same of an entry whose signature was examined. It is verified anew if the key isn't its author's at this history.
+    pub fn accept_examined(
+        &mut self,
+        by: u32,
+        pos: u32,
+        examined: &Examined,
+    ) -> Result<u64, AcceptFault>
+        ensures fault { AnswersUnless AcceptFault.Memory result (accept_fault (state_of self.old) pos examined.now.entry) }
+        ensures ok { IfOk result (λ n. n ≡ length self.new.log) }
+        ensures log { self.new ≡ record self.old { log = self.old.log ++ added result (Accepted by examined.now.entry) } }
+    {
+        self.accept_known(by, pos, examined.entry(), Some(examined.known()))
+    }
+
+    // The same of bytes of which a verdict may be known.
+    fn accept_known(
+        &mut self,
+        by: u32,
+        pos: u32,
+        bytes: &[u8],
+        known: Option<&Verdict>,
+    ) -> Result<u64, AcceptFault>
+        requires exact { IfSome known (λ v. IsExact v.now bytes.now) }
+        ensures fault { AnswersUnless AcceptFault.Memory result (accept_fault (state_of self.old) pos bytes.now) }
+        ensures ok { IfOk result (λ n. n ≡ length self.new.log) }
+        ensures log { self.new ≡ record self.old { log = self.old.log ++ added result (Accepted by bytes.now) } }
+    {
+        let prepared = check_entry(&mut self.line, &self.own, pos, bytes, known)?;
         take_entry(
             self.alloc,
             &mut self.line,
@@ -115,7 +146,9 @@ fn check_entry(
     own: &Workspace,
     pos: u32,
     bytes: &[u8],
+    known: Option<&Verdict>,
 ) -> Result<Prepared, AcceptFault>
+    requires exact { IfSome known (λ v. IsExact v.now bytes.now) }
     ensures fault { AnswersUnless AcceptFault.Memory result (or_full (nat_lt (length own.now.shown) MAX_EVENTS) (first_fault line.old.genesis line.old.kit line.old.entries pos bytes.now)) }
     ensures prepared { IfOk result (IsPrepared line.old.genesis line.old.kit line.old.entries) }
     ensures bytes { IfOk result (λ prepared. prepared.checked.bytes ≡ bytes.now) }
@@ -124,7 +157,7 @@ fn check_entry(
     ensures kit { line.new.kit ≡ line.old.kit }
     ensures entries { line.new.entries ≡ line.old.entries }
 {
-    let prepared = match line.prepare(pos, bytes) {
+    let prepared = match line.prepare_known(pos, bytes, known) {
         Ok(prepared) => prepared,
         Err(Refusal::Memory) => return Err(AcceptFault::Memory),
         Err(refusal) => return Err(AcceptFault::Refused(refusal)),

@@ -1,11 +1,12 @@
 //! Entries checked, prepared and committed.
 
-ghost use Rattle.std.specs.Prelude.{◌≡◌, ◌+◌, ◌≤◌, ◌∷◌, ◌++◌, [], length, take, drop, Some, None, IfOk, OnOk, OnErr};
+ghost use Rattle.std.specs.Prelude.{◌≡◌, ◌+◌, ◌≤◌, ◌∷◌, ◌++◌, [], length, take, drop, Some, None, IfOk, IfSome, OnOk, OnErr};
 ghost use Rattle.sporc_base.specs.FirstFault.{AnswersUnless, first_of};
 ghost use Rattle.sporc_delta.specs.Marks.{base_len, inserted_len};
 ghost use Rattle.sporc_suffix.specs.Forms.{later_over};
 ghost use Rattle.sporc_entry.specs.declared.limits.TheConstants.{MAX_EDIT_BODY};
 ghost use Rattle.sporc_entry.specs.Entry.{change_of};
+ghost use Rattle.sporc_head.specs.Examined.{IsExact};
 ghost use Rattle.sporc_head.specs.IsChecked.{IsChecked};
 ghost use Rattle.sporc_line.specs.Document.{forms_of, text_of};
 ghost use Rattle.sporc_line.specs.LineChecks.{key_checks, first_fault};
@@ -20,7 +21,7 @@ use crate::prepared::Prepared;
 use sporc_base::Memory;
 use sporc_delta::Delta;
 use sporc_entry::ChangeBody;
-use sporc_head::{Checked, Refusal};
+use sporc_head::{Checked, Examined, Refusal, Verdict};
 
 impl Line {
     /// Checks an entry that is to stand at a position, and takes all the memory that its commit needs. The line stays as
@@ -34,7 +35,41 @@ impl Line {
         ensures kit { self.new.kit ≡ self.old.kit }
         ensures entries { self.new.entries ≡ self.old.entries }
     {
-        let checked = self.heads.check(Some(self.kit.me()), pos, bytes)?;
+        self.prepare_known(pos, bytes, None)
+    }
+
+    /// The same of an entry whose signature was examined. It is verified anew if the key isn't its author's at this line.
+    pub fn prepare_examined(&mut self, pos: u32, examined: &Examined) -> Result<Prepared, Refusal>
+        ensures fault { AnswersUnless Refusal.Memory result (first_fault self.old.genesis self.old.kit self.old.entries pos examined.now.entry) }
+        ensures prepared { IfOk result (IsPrepared self.old.genesis self.old.kit self.old.entries) }
+        ensures bytes { IfOk result (λ prepared. prepared.checked.bytes ≡ examined.now.entry) }
+        ensures ready { OnOk result (1 ≤ self.new.spare) }
+        ensures genesis { self.new.genesis ≡ self.old.genesis }
+        ensures kit { self.new.kit ≡ self.old.kit }
+        ensures entries { self.new.entries ≡ self.old.entries }
+    {
+        self.prepare_known(pos, examined.entry(), Some(examined.known()))
+    }
+
+    /// The same of bytes of which a verdict may be known.
+    pub fn prepare_known(
+        &mut self,
+        pos: u32,
+        bytes: &[u8],
+        known: Option<&Verdict>,
+    ) -> Result<Prepared, Refusal>
+        requires exact { IfSome known (λ v. IsExact v.now bytes.now) }
+        ensures fault { AnswersUnless Refusal.Memory result (first_fault self.old.genesis self.old.kit self.old.entries pos bytes.now) }
+        ensures prepared { IfOk result (IsPrepared self.old.genesis self.old.kit self.old.entries) }
+        ensures bytes { IfOk result (λ prepared. prepared.checked.bytes ≡ bytes.now) }
+        ensures ready { OnOk result (1 ≤ self.new.spare) }
+        ensures genesis { self.new.genesis ≡ self.old.genesis }
+        ensures kit { self.new.kit ≡ self.old.kit }
+        ensures entries { self.new.entries ≡ self.old.entries }
+    {
+        let checked = self
+            .heads
+            .check_known(Some(self.kit.me()), pos, bytes, known)?;
         let effect = self.effect_of(&checked)?;
         let prepared = self.ready(checked, effect)?;
         Ok(prepared)
@@ -69,7 +104,35 @@ impl Line {
         ensures ok { OnOk result (self.new.entries ≡ self.old.entries ++ bytes.now ∷ []) }
         ensures unchanged { OnErr result (self.new.entries ≡ self.old.entries) }
     {
-        let prepared = self.prepare(pos, bytes)?;
+        self.accept_known(pos, bytes, None)
+    }
+
+    /// The same of an entry whose signature was examined. It is verified anew if the key isn't its author's at this line.
+    pub fn accept_examined(&mut self, pos: u32, examined: &Examined) -> Result<(), Refusal>
+        ensures fault { AnswersUnless Refusal.Memory result (first_fault self.old.genesis self.old.kit self.old.entries pos examined.now.entry) }
+        ensures genesis { self.new.genesis ≡ self.old.genesis }
+        ensures kit { self.new.kit ≡ self.old.kit }
+        ensures ok { OnOk result (self.new.entries ≡ self.old.entries ++ examined.now.entry ∷ []) }
+        ensures unchanged { OnErr result (self.new.entries ≡ self.old.entries) }
+    {
+        self.accept_known(pos, examined.entry(), Some(examined.known()))
+    }
+
+    /// The same of bytes of which a verdict may be known.
+    pub fn accept_known(
+        &mut self,
+        pos: u32,
+        bytes: &[u8],
+        known: Option<&Verdict>,
+    ) -> Result<(), Refusal>
+        requires exact { IfSome known (λ v. IsExact v.now bytes.now) }
+        ensures fault { AnswersUnless Refusal.Memory result (first_fault self.old.genesis self.old.kit self.old.entries pos bytes.now) }
+        ensures genesis { self.new.genesis ≡ self.old.genesis }
+        ensures kit { self.new.kit ≡ self.old.kit }
+        ensures ok { OnOk result (self.new.entries ≡ self.old.entries ++ bytes.now ∷ []) }
+        ensures unchanged { OnErr result (self.new.entries ≡ self.old.entries) }
+    {
+        let prepared = self.prepare_known(pos, bytes, known)?;
         self.commit(prepared);
         Ok(())
     }

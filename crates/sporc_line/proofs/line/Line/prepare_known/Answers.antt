@@ -8,7 +8,7 @@ use Rattle.sporc_line.specs.LineModel.{LineModel}
 use Rattle.sporc_line.proofs.NextEntry.{fault_at_head, at_next}
 use Rattle.sporc_head.proofs.OnceChecked.{unless_exit}
 use Rattle.sporc_line.proofs.Effects.{checked_faults}
-use Rattle.sporc_line.proofs.line.Line.prepare.Goals as goal
+use Rattle.sporc_line.proofs.line.Line.prepare_known.Goals as goal
 
 pub returns-in_err-checked-clause-fault : goal.returns-in_err-checked-clause-fault
 returns-in_err-checked-clause-fault c =

@@ -8,8 +8,14 @@ use Rattle.sporc_entry.specs.declared.fault.EntryFault.TheVariants.{Malformed}
 use Rattle.sporc_entry.proofs.FieldLaws.{fault_as_ok}
 use Rattle.sporc_head.specs.History.{hash_of}
 use Rattle.sporc_head.proofs.ChecksPass.{fault_for_nobody}
+use Rattle.sporc_head.proofs.Examination.{exact_of, if_some}
 use Rattle.sporc_head.proofs.OnceChecked.{passed_of}
-use Rattle.sporc_head.proofs.heads.Heads.check.Goals as goal
+use Rattle.sporc_head.proofs.heads.Heads.check_known.Goals as goal
+
+pub check_entry-requires : goal.check_entry-requires
+check_entry-requires c =
+    let found : entry_of c.args.bytes.now ≡ Ok c.in_ok-view.view.entry = fault_as_ok Malformed (entry_of c.args.bytes.now) c.in_ok-view.view.entry c.in_ok-view.ensures.exact in
+    record { exact = if_some c.args.known _ _ c.requires.exact (λ v h. exact_of v.now c.args.bytes.now c.in_ok-view.view.entry found h) }
 
 pub returns-clause-checked : goal.returns-clause-checked
 returns-clause-checked c =

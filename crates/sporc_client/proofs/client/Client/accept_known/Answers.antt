@@ -8,7 +8,7 @@ use Rattle.sporc_client.specs.ClientModel.{ClientModel, state_of}
 use Rattle.sporc_client.specs.Log.{Accept}
 use Rattle.sporc_client.proofs.Comings.{SameLine, accept_fault_is, accept_model, accept_recorded, accept_room, can_settle, more_with, no_more, prepared_there, same_fields, same_model}
 use Rattle.sporc_client.proofs.Logs.{events_logged}
-use Rattle.sporc_client.proofs.client.Client.accept.Goals as goal
+use Rattle.sporc_client.proofs.client.Client.accept_known.Goals as goal
 
 pub returns-in_err-prepared-clause-fault : goal.returns-in_err-prepared-clause-fault
 returns-in_err-prepared-clause-fault g c =

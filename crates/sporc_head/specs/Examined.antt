@@ -1,0 +1,43 @@
+-- What examining an entry's signature finds, and the key that the check of a signature uses.
+use Rattle.std.specs.Prelude.{◌≡◌, ℕ, Bool, false, List, Option, None, Result, Ok, Err, option_map}
+use Rattle.lms_tree.specs.LmsPublic.{public_key_in}
+use Rattle.sporc_member.specs.Roster.{Roster, member_at}
+use Rattle.sporc_entry.specs.declared.entry.Entry.{Entry}
+use Rattle.sporc_entry.specs.Entry.{entry_of, signed_string}
+use Rattle.sporc_head.specs.declared.examined.Verdict.{Verdict}
+use Rattle.sporc_head.specs.HeadChecks.{verifies_under}
+
+-- whether an entry's signature verifies under the key that these bytes spell
+abbrev pub is_signed_under : List ℕ → Entry → Bool
+is_signed_under key e = verifies_under (signed_string e) e.signature (public_key_in key)
+
+-- whether reading found an entry whose signature does
+abbrev pub is_signed_read : List ℕ → Result Entry ℕ → Bool
+is_signed_read key (Ok e) = is_signed_under key e
+is_signed_read key (Err at) = false
+
+-- whether bytes are an entry whose signature verifies under the key that other bytes spell
+unfoldable pub is_verified : List ℕ → List ℕ → Bool
+is_verified key bytes = is_signed_read key (entry_of bytes)
+
+-- a verdict tells exactly that of these bytes
+abbrev pub IsExact : Verdict → List ℕ → Type 0
+IsExact v bytes = v.good ≡ is_verified v.key bytes
+
+-- a verdict tells exactly that of an entry
+abbrev pub IsExactOf : Verdict → Entry → Type 0
+IsExactOf v e = v.good ≡ is_signed_under v.key e
+
+-- the number of the author of an entry, or what reading it met
+abbrev pub author_read : Result Entry ℕ → Result ℕ ℕ
+author_read (Ok e) = Ok e.header.author
+author_read (Err at) = Err at
+
+-- the key of the member with a number, if reading found one
+abbrev pub key_of_author : Roster → Result ℕ ℕ → Option (List ℕ)
+key_of_author roster (Ok author) = option_map (λ m. m.key) (member_at roster author)
+key_of_author roster (Err at) = None
+
+-- the key that the check of an entry's signature uses: None if the bytes are no entry, or its author is no member
+unfoldable pub key_for : Roster → List ℕ → Option (List ℕ)
+key_for roster bytes = key_of_author roster (author_read (entry_of bytes))
