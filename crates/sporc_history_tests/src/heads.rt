@@ -2,7 +2,7 @@ use crate::checks::{check, check_at, is_refusal};
 use crate::samples::short_sample;
 use sporc_base::is_same;
 use sporc_entry::Header;
-use sporc_head::{Heads, MAX_ENTRIES, Refusal};
+use sporc_head::{Examined, Heads, MAX_ENTRIES, Refusal};
 use sporc_member::{Change, ChangeFault};
 use sporc_samples::{CHANGE, Cast, DOCUMENT, Draft, EDIT, change_body};
 use std::alloc::Global;
@@ -167,8 +167,22 @@ fn has_grown(heads: &Heads) -> bool {
         && heads.is_removed(4)
 }
 
-fn refusal_of(heads: &Heads, attempt: &Attempt, bytes: &[u8]) -> Option<Refusal> {
-    heads.check(attempt.me, attempt.pos, bytes).err()
+// Why heads refuse an attempt, if they do: the same where its signature was examined before, under the key for it or,
+// if there is none, under no key.
+fn refusal_of(
+    rt: &impl Abort,
+    heads: &Heads,
+    attempt: &Attempt,
+    bytes: Vec<u8>,
+) -> Option<Refusal> {
+    let found = heads.check(attempt.me, attempt.pos, bytes.as_slice()).err();
+    let key = heads.key_for(bytes.as_slice()).unwrap_or([0; 56]);
+    let examined = Examined::of(&key, bytes).ok().expect(rt, "memory");
+    let again = heads
+        .check_examined(attempt.me, attempt.pos, &examined)
+        .err();
+    check(rt, "examined", again == found);
+    found
 }
 
 fn is_refused(
@@ -180,7 +194,7 @@ fn is_refused(
     refusal: Refusal,
 ) -> bool {
     let bytes = attempt.bytes(rt, alloc, heads, cast);
-    is_refusal(refusal_of(heads, attempt, bytes.as_slice()), refusal)
+    is_refusal(refusal_of(rt, heads, attempt, bytes), refusal)
 }
 
 // The refusals of a history that is not full, by the last check and those before it. A base that is ahead is neither
@@ -235,7 +249,7 @@ fn is_malformed(rt: &impl Abort, alloc: Global, heads: &Heads, cast: &Cast, wors
     let mut bytes = worse.bytes(rt, alloc, heads, cast);
     let len = bytes.len();
     bytes.push(0).expect(rt, "memory");
-    let found = refusal_of(heads, worse, bytes.as_slice());
+    let found = refusal_of(rt, heads, worse, bytes);
     check(rt, "malformed", is_refusal(found, Refusal::Malformed(len)));
 }
 

@@ -1,5 +1,6 @@
 //! Lines of members.
 
+mod examined;
 mod reading;
 mod refusals;
 mod scene;

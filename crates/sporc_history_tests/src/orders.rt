@@ -1,7 +1,7 @@
 use crate::checks::{check, check_at};
 use crate::samples::empty_sample;
 use sporc_base::{Bytes, is_same};
-use sporc_head::Refusal;
+use sporc_head::{Examined, Refusal};
 use sporc_order::{Answer, Order, Session};
 use sporc_samples::{Cast, DOCUMENT, History};
 use sporc_wire::{ToClient, ToServer};
@@ -161,10 +161,39 @@ fn session_orders_once(rt: &impl Abort, alloc: Global, cast: &Cast) {
     is_submitted(rt, alloc, cast, &mut order, &mut sample);
 }
 
-// A session is greeted and orders an entry once, and sixteen entries are pulled at once.
+// Examines an entry under a key.
+fn examined(rt: &impl Abort, alloc: Global, key: &[u8; 56], entry: &[u8]) -> Examined {
+    let entry = Vec::from_slice(alloc, entry).expect(rt, "memory");
+    Examined::of(key, entry).ok().expect(rt, "memory")
+}
+
+// An entry that was examined under its author's key, and one that was examined under the key of another's author.
+fn orders_examined(rt: &impl Abort, alloc: Global, order: &mut Order, entries: &[Vec<u8>]) {
+    let first = entries.first().expect(rt, "an entry").as_slice();
+    let second = entries.last().expect(rt, "an entry").as_slice();
+    let key = order.key_for(first).expect(rt, "a key");
+    let good = examined(rt, alloc, &key, first);
+    let other = examined(rt, alloc, &key, second);
+    check(rt, "verdicts", good.verdict() && !other.verdict());
+    check(rt, "no key", order.key_for(b"").is_none());
+    check(rt, "the first", order.submit_examined(&good) == Ok(1));
+    check(rt, "the second", order.submit_examined(&other) == Ok(2));
+}
+
+fn examined_are_ordered(rt: &impl Abort, alloc: Global, cast: &Cast) {
+    let mut order = opened(rt, alloc, cast);
+    let mut sample = empty_sample(rt, alloc, cast);
+    sample.edit(alloc, cast, 2, b"").expect(rt, "an edit");
+    sample.edit(alloc, cast, 1, b"").expect(rt, "an edit");
+    orders_examined(rt, alloc, &mut order, sample.entries());
+}
+
+// A session is greeted and orders an entry once, entries that were examined are ordered, and sixteen entries are pulled at
+// once.
 #[test]
 fn entries_are_ordered_and_pulled(rt: HostRuntime) {
     let cast = Cast::new(rt.alloc()).expect(&rt, "a cast");
     session_orders_once(&rt, rt.alloc(), &cast);
+    examined_are_ordered(&rt, rt.alloc(), &cast);
     sixteen_are_pulled(&rt, rt.alloc(), &cast);
 }

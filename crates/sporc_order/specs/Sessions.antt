@@ -2,6 +2,8 @@
 use Rattle.std.specs.Prelude.{ℕ, ◌+◌, ◌≤◌, Bool, true, false, List, [], ◌∷◌, ◌++◌, length, Option, None, Some, if◌then◌else◌}
 use Rattle.std.specs.Str.{bytes_eq}
 use Rattle.sporc_head.specs.declared.refusal.Refusal.{Refusal}
+use Rattle.sporc_head.specs.declared.examined.Verdict.{Verdict}
+use Rattle.sporc_head.specs.Examined.{IsExact}
 use Rattle.sporc_head.specs.HeadChecks.{head_fault}
 use Rattle.sporc_wire.specs.declared.cutter.TheConstants.{MAX_BODY}
 use Rattle.sporc_wire.specs.declared.to_server.ToServer.{ToServer}
@@ -59,3 +61,16 @@ abbrev pub IsFramed : ToServer → Type 0
 IsFramed (Hello document member) = Unit {0}
 IsFramed (Submit entry) = length entry ≤ MAX_BODY
 IsFramed (Pull from) = Unit {0}
+
+-- the entry whose signature the answer to a message asks for: what a greeted client submits
+abbrev pub entry_in : Bool → ToServer → Option (List ℕ)
+entry_in true (Submit entry) = Some entry
+entry_in true (Hello document member) = None
+entry_in true (Pull from) = None
+entry_in false message = None
+
+-- a verdict tells exactly that of the entry of a message, if it has one
+abbrev pub IsExactFor : Verdict → ToServer → Type 0
+IsExactFor verdict (Submit entry) = IsExact verdict entry
+IsExactFor verdict (Hello document member) = Unit {0}
+IsExactFor verdict (Pull from) = Unit {0}

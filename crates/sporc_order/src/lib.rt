@@ -6,13 +6,16 @@
 //!
 //! ```text
 //! let position = order.submit(entry)?;      // the first check that fails is the refusal
+//! order.key_for(entry)                      // under which key its signature may be examined before
+//! order.submit_examined(&examined)?;        // answers as submit does
 //! order.pull(0)                             // the longest batch from the first entry on that its limits allow
 //! session.step(&mut order, &message)        // what is sent, nothing, or that the session ends
 //! ```
 //!
-//! Proved: an entry is appended exactly if no check fails, an answer is the longest batch within its limits, empty exactly
-//! if there are no more entries, and each answer of a session is the order's at its entries. Only tested: that the calls
-//! succeed with ample memory. Neither: that a client gets an answer.
+//! Proved: an entry is appended exactly if no check fails, whatever is known of its signature; an answer is the longest batch
+//! within its limits, empty exactly if there are no more entries; and each answer of a session is the order's at its
+//! entries. Only tested: that the calls succeed with ample memory. Neither: that a client gets an answer, and that a
+//! signature whose verdict is known is not verified again.
 #![tactic(auto)]
 
 pub mod laws;

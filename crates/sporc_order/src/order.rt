@@ -1,17 +1,19 @@
 //! An order of entries.
 
-ghost use Rattle.std.specs.Prelude.{◌≡◌, ◌+◌, ◌∷◌, ◌++◌, [], ◌≤◌, ◌<◌, ◌↔◌, length, take, map, None, nat_lt, nat_le, ◌&&◌, IfOk, OnOk, OnErr};
+ghost use Rattle.std.specs.Prelude.{◌≡◌, ◌+◌, ◌∷◌, ◌++◌, [], ◌≤◌, ◌<◌, ◌↔◌, length, take, map, None, nat_lt, nat_le, ◌&&◌, IfOk, IfSome, OnOk, OnErr};
 ghost use Rattle.sporc_base.specs.FirstFault.{AnswersUnless};
 ghost use Rattle.sporc_entry.specs.Genesis.{IsGenesis};
 ghost use Rattle.sporc_head.specs.declared.limits.TheConstants.{MAX_ENTRIES};
+ghost use Rattle.sporc_head.specs.Examined.{IsExact, key_for};
 ghost use Rattle.sporc_head.specs.HeadChecks.{head_fault};
+ghost use Rattle.sporc_head.specs.History.{roster_of};
 ghost use Rattle.sporc_wire.specs.declared.to_client.TheConstants.{MAX_PULLED};
 ghost use Rattle.sporc_order.specs.declared.order.TheConstants.{MAX_PULLED_BYTES};
 ghost use Rattle.sporc_order.specs.Batches.{batch_after, longest_batch};
 
 use sporc_base::Memory;
 use sporc_entry::Genesis;
-use sporc_head::{Heads, Refusal};
+use sporc_head::{Examined, Heads, Refusal, Verdict};
 use sporc_wire::{MAX_BODY, MAX_PULLED};
 use std::alloc::Global;
 use std::marker::Model;
@@ -47,6 +49,14 @@ impl Order {
         Ok(Order { heads })
     }
 
+    /// What the document begins with.
+    pub fn genesis(&self) -> &Genesis
+        ensures value { result.now ≡ self.now.genesis }
+        ensures is_genesis { IsGenesis result.now }
+    {
+        self.heads.genesis()
+    }
+
     /// The document whose entries it orders.
     pub fn document(&self) -> &[u8; 16]
         ensures value { result.now ≡ self.now.genesis.document }
@@ -79,12 +89,43 @@ impl Order {
         ensures ok { OnOk result (self.new.entries ≡ self.old.entries ++ bytes.now ∷ []) }
         ensures unchanged { OnErr result (self.new.entries ≡ self.old.entries) }
     {
+        self.submit_known(bytes, None)
+    }
+
+    /// The same of an entry whose signature was examined. It is verified anew if the key isn't its author's here.
+    pub fn submit_examined(&mut self, examined: &Examined) -> Result<u32, Refusal>
+        ensures genesis { self.new.genesis ≡ self.old.genesis }
+        ensures fault { AnswersUnless Refusal.Memory result (head_fault self.old.genesis None self.old.entries (length self.old.entries + 1) examined.now.entry) }
+        ensures position { IfOk result (λ position. position ≡ length self.old.entries + 1) }
+        ensures ok { OnOk result (self.new.entries ≡ self.old.entries ++ examined.now.entry ∷ []) }
+        ensures unchanged { OnErr result (self.new.entries ≡ self.old.entries) }
+    {
+        self.submit_known(examined.entry(), Some(examined.known()))
+    }
+
+    /// The same of bytes of which a verdict may be known.
+    pub fn submit_known(&mut self, entry: &[u8], known: Option<&Verdict>) -> Result<u32, Refusal>
+        requires exact { IfSome known (λ v. IsExact v.now entry.now) }
+        ensures genesis { self.new.genesis ≡ self.old.genesis }
+        ensures fault { AnswersUnless Refusal.Memory result (head_fault self.old.genesis None self.old.entries (length self.old.entries + 1) entry.now) }
+        ensures position { IfOk result (λ position. position ≡ length self.old.entries + 1) }
+        ensures ok { OnOk result (self.new.entries ≡ self.old.entries ++ entry.now ∷ []) }
+        ensures unchanged { OnErr result (self.new.entries ≡ self.old.entries) }
+    {
         let position = self.heads.len() + 1;
-        let checked = self.heads.check(None, position, bytes)?;
+        let checked = self.heads.check_known(None, position, entry, known)?;
         match self.heads.push(checked) {
             Ok(()) => Ok(position),
             Err(_) => Err(Refusal::Memory),
         }
+    }
+
+    /// The key under which the check of an entry's signature verifies it here: its author's. None exactly if the bytes are
+    /// no entry, or its author is no member. It takes no memory.
+    pub fn key_for(&self, entry: &[u8]) -> Option<[u8; 56]>
+        ensures value { result ≡ key_for (roster_of self.now.genesis self.now.entries) entry.now }
+    {
+        self.heads.key_for(entry)
     }
 
     /// The entries after the first `from`: as many of them as one answer holds, up to

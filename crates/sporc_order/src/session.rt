@@ -1,16 +1,18 @@
 //! Sessions of one client with an order.
 
-ghost use Rattle.std.specs.Prelude.{◌≡◌, ◌+◌, true, false, map, length, None, IfOk, OnOk, OnErr};
+ghost use Rattle.std.specs.Prelude.{◌≡◌, ◌+◌, true, false, map, length, None, IfOk, IfSome, OnOk, OnErr};
+ghost use Rattle.std.specs.Option.{option_copied};
 ghost use Rattle.sporc_wire.specs.declared.to_client.ToClient.{ToClient};
 ghost use Rattle.sporc_order.specs.Batches.{batch_after};
 ghost use Rattle.sporc_order.specs.Replies.{Says};
-ghost use Rattle.sporc_order.specs.Sessions.{step_of, greeted, submitted, entries_after};
+ghost use Rattle.sporc_order.specs.Sessions.{step_of, greeted, submitted, entries_after, entry_in, IsExactFor};
+ghost use Rattle.sporc_head.specs.Examined.{IsExact};
 ghost use Rattle.sporc_head.specs.HeadChecks.{head_fault};
 
 use crate::order::Order;
 use crate::reply::{Reply, reply_of};
 use sporc_base::{Bytes, Items, Memory, is_same};
-use sporc_head::Refusal;
+use sporc_head::{Refusal, Verdict};
 use sporc_wire::{FrameFault, ToClient, ToServer, write_entries};
 use std::alloc::{AllocError, Global};
 use std::marker::Model;
@@ -64,13 +66,31 @@ impl Session {
         ensures memory { OnErr result (order.new ≡ order.old) }
         ensures unchanged { OnErr result (self.new ≡ self.old) }
     {
+        self.step_known(alloc, order, message, None)
+    }
+
+    // Answers a message as `step` does, where a verdict of its entry may be known.
+    fn step_known(
+        &mut self,
+        alloc: Global,
+        order: &mut Order,
+        message: &ToServer,
+        known: Option<&Verdict>,
+    ) -> Result<Answer, Memory>
+        requires exact { IfSome known (λ v. IsExactFor v.now message.now) }
+        ensures answer { IfOk result (λ answer. answer ≡ (step_of order.old self.old message.now).answer) }
+        ensures order { OnOk result (order.new ≡ (step_of order.old self.old message.now).order) }
+        ensures greeted { OnOk result (self.new ≡ (step_of order.old self.old message.now).is_greeted) }
+        ensures memory { OnErr result (order.new ≡ order.old) }
+        ensures unchanged { OnErr result (self.new ≡ self.old) }
+    {
         match message {
             ToServer::Hello { document, .. } => Ok(self.greet(order, document)),
             ToServer::Submit { entry } => {
                 if !self.is_greeted {
                     return Ok(Answer::Close);
                 }
-                submit(order, entry.as_slice())
+                submit(order, entry.as_slice(), known)
             }
             ToServer::Pull { from } => {
                 if !self.is_greeted {
@@ -94,6 +114,24 @@ impl Session {
         ensures memory { OnErr result (order.new ≡ order.old) }
         ensures unchanged { OnErr result (self.new ≡ self.old) }
     {
+        self.reply_known(alloc, order, message, None)
+    }
+
+    /// Answers a message as [`Session::reply`] does, where a verdict of its entry may be known.
+    pub fn reply_known(
+        &mut self,
+        alloc: Global,
+        order: &mut Order,
+        message: &ToServer,
+        known: Option<&Verdict>,
+    ) -> Result<Reply, Memory>
+        requires exact { IfSome known (λ v. IsExactFor v.now message.now) }
+        ensures reply { IfOk result (Says (step_of order.old self.old message.now).answer) }
+        ensures order { OnOk result (order.new ≡ (step_of order.old self.old message.now).order) }
+        ensures greeted { OnOk result (self.new ≡ (step_of order.old self.old message.now).is_greeted) }
+        ensures memory { OnErr result (order.new ≡ order.old) }
+        ensures unchanged { OnErr result (self.new ≡ self.old) }
+    {
         match message {
             ToServer::Pull { from } => {
                 if !self.is_greeted {
@@ -102,9 +140,19 @@ impl Session {
                 pull_framed(alloc, order, *from)
             }
             ToServer::Hello { .. } | ToServer::Submit { .. } => {
-                let answer = self.step(alloc, order, message)?;
+                let answer = self.step_known(alloc, order, message, known)?;
                 Ok(reply_of(answer))
             }
+        }
+    }
+
+    /// The entry of a message whose answer depends on its signature: what a greeted client submits.
+    pub fn entry_in<'a>(&self, message: &'a ToServer) -> Option<&'a [u8]>
+        ensures value { option_copied result ≡ entry_in self.now message.now }
+    {
+        match message {
+            ToServer::Submit { entry } if self.is_greeted => Some(entry.as_slice()),
+            _ => None,
         }
     }
 
@@ -123,15 +171,16 @@ impl Session {
     }
 }
 
-// Answers a Submit.
-fn submit(order: &mut Order, entry: &[u8]) -> Result<Answer, Memory>
+// Answers a Submit of an entry of which a verdict may be known.
+fn submit(order: &mut Order, entry: &[u8], known: Option<&Verdict>) -> Result<Answer, Memory>
+    requires exact { IfSome known (λ v. IsExact v.now entry.now) }
     ensures answer { IfOk result (λ answer. answer ≡ (submitted order.old entry.now
         (head_fault order.old.genesis None order.old.entries (length order.old.entries + 1) entry.now)).answer) }
     ensures order { OnOk result (order.new ≡ (submitted order.old entry.now
         (head_fault order.old.genesis None order.old.entries (length order.old.entries + 1) entry.now)).order) }
     ensures memory { OnErr result (order.new ≡ order.old) }
 {
-    match order.submit(entry) {
+    match order.submit_known(entry, known) {
         Ok(pos) => Ok(Answer::Send(ToClient::Ordered { pos })),
         Err(Refusal::Memory) => Err(AllocError),
         Err(refusal) => Ok(Answer::Send(ToClient::Rejected { refusal })),

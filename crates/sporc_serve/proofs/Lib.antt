@@ -1,6 +1,7 @@
 pub mod Logs
 pub mod Turning
 pub mod Coursing
+pub mod Looking
 pub mod Going
 pub mod Framed
 pub mod Sendable

@@ -69,22 +69,19 @@ pub turn_unanswered : (g : Genesis) (k k' : Known Item) (s s' : Bool) (m : ToSer
 turn_unanswered g k k' s s' m found log agrees same more is =
     (found, record { greeted_is = same; adds = adds_items k k' found log [] agrees.begins (more ∙ sym (append-nil found)) is }, tt)
 
+-- no turn was taken
+pub adds_none : (k k' : Known Item) → k' ≡ k → SeesAndAdds k k' k.seen []
+adds_none k k' is = record {
+  begins = ([], sym (append-nil k.seen));
+  seen = ap (λ (x : Known Item). x.seen) is ∙ sym (append-nil k.seen);
+  mine = ap (λ (x : Known Item). x.mine) is ∙ sym (append-nil k.mine);
+  number = ap (λ (x : Known Item). x.number) is;
+  start = ap (λ (x : Known Item). x.start) is;
+}
+
 pub turn_worn : (g : Genesis) (k k' : Known Item) (s : Bool) (m : ToServer) (ticket : ℕ) → ticket ≡ MAX_TICKETS → k' ≡ k
     → TakesTurn g k k' s s m (Err (Worn ticket))
-turn_worn g k k' s m ticket last is = (
-  k.seen,
-  record {
-    greeted_is = refl;
-    adds = record {
-      begins = ([], sym (append-nil k.seen));
-      seen = ap (λ (x : Known Item). x.seen) is ∙ sym (append-nil k.seen);
-      mine = ap (λ (x : Known Item). x.mine) is ∙ sym (append-nil k.mine);
-      number = ap (λ (x : Known Item). x.number) is;
-      start = ap (λ (x : Known Item). x.start) is;
-    };
-  },
-  last,
-)
+turn_worn g k k' s m ticket last is = (k.seen, record { greeted_is = refl; adds = adds_none k k' is }, last)
 
 -- what is given back after a turn goes on with items of the pass
 pub extends_after : (k kh : Known Item) (found log : List Item) (n : ℕ) (es : List (List ℕ)) → kh ≡ seeing k found → n ≡ k.number

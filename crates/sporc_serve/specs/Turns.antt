@@ -1,5 +1,5 @@
 -- What a session does in one turn at the order.
-use Rattle.std.specs.Prelude.{◌≡◌, ◌≤◌, ℕ, Bool, List, [], ◌++◌, Result, Ok, Err}
+use Rattle.std.specs.Prelude.{◌≡◌, ◌≤◌, ℕ, Bool, List, [], ◌++◌, Result, Ok, Err, IfErr}
 use Rattle.sporc_turn.specs.declared.known.Known.{Known}
 use Rattle.sporc_turn.specs.declared.limits.TheConstants.{MAX_TICKETS}
 use Rattle.sporc_turn.specs.Log.{StartsWith}
@@ -51,6 +51,10 @@ HasReadLast read LinkEnded = Unit {0}
 HasReadLast read LinkFault = Unit {0}
 HasReadLast read BadFrame = Unit {0}
 HasReadLast read Memory = Unit {0}
+
+-- a turn that was taken to look at the log, or was not taken, and changed nothing
+abbrev pub Looks : {A : Type 0} → Known Item → Known Item → Result A SessionEnd → Type 0
+Looks before after result = (found : List Item) × SeesAndAdds before after found [] × IfErr result IsTurnEnd
 
 -- one turn of a session, from what its pass knew before to what it knows after
 abbrev pub TakesTurn : Genesis → Known Item → Known Item → Bool → Bool → ToServer → Result Reply SessionEnd → Type 0

@@ -1,13 +1,16 @@
 //! The order that the sessions share.
 
-ghost use Rattle.std.specs.Prelude.{◌≡◌, ◌++◌, length, replicate, OnOk, OnErr, IfOk, IfErr};
+ghost use Rattle.std.specs.Prelude.{◌≡◌, ◌+◌, ◌++◌, length, replicate, OnOk, OnErr, IfOk, IfErr, IfSome};
+ghost use Rattle.sporc_head.specs.Examined.{key_for};
+ghost use Rattle.sporc_head.specs.History.{roster_of};
 ghost use Rattle.sporc_order.specs.Replies.{Says};
-ghost use Rattle.sporc_order.specs.Sessions.{step_of, IsFramed};
+ghost use Rattle.sporc_order.specs.Sessions.{step_of, IsExactFor, IsFramed};
 ghost use Rattle.sporc_serve.specs.Logs.{log_of, added_of, placed_by};
 ghost use Rattle.sporc_serve.specs.Sending.{CanBeSent};
 
 use crate::item::Item;
 use sporc_base::Memory;
+use sporc_head::Verdict;
 use sporc_order::{Order, Reply, Session};
 use sporc_turn::Kept;
 use sporc_wire::ToServer;
@@ -19,6 +22,14 @@ pub(crate) struct Desk {
     order: Order,
     numbers: Vec<u32>,
     ghost matched: { length numbers.items ≡ length order.entries },
+}
+
+// What the examination of an entry asks of the order: the key of its author, if there is one, and the position that the
+// entry would have.
+#[derive(Clone, Copy)]
+pub(crate) struct Sought {
+    pub(crate) key: Option<[u8; 56]>,
+    pub(crate) position: u32,
 }
 
 impl Kept for Desk {
@@ -49,14 +60,27 @@ impl Desk {
         }
     }
 
-    // Answers a message of the session that has the pass with this number.
+    // The key of an entry's author, and the position that the entry would have.
+    pub(crate) fn seek(&self, entry: &[u8]) -> Sought
+        ensures key { result.key ≡ key_for (roster_of self.now.order.genesis self.now.order.entries) entry.now }
+        ensures position { result.position ≡ length self.now.order.entries + 1 }
+    {
+        Sought {
+            key: self.order.key_for(entry),
+            position: self.order.len() + 1,
+        }
+    }
+
+    // Answers a message of the session that has the pass with this number, where a verdict of its entry may be known.
     pub(crate) fn step(
         &mut self,
         alloc: Global,
         number: u32,
         session: &mut Session,
         message: &ToServer,
+        known: Option<&Verdict>,
     ) -> Result<Reply, Memory>
+        requires exact { IfSome known (λ v. IsExactFor v.now message.now) }
         ensures sendable { IsFramed message.now → IfOk result CanBeSent }
         ensures reply { IfOk result (Says (step_of self.old.order session.old message.now).answer) }
         ensures greeted { OnOk result (session.new ≡ (step_of self.old.order session.old message.now).is_greeted) }
@@ -67,7 +91,7 @@ impl Desk {
     {
         self.numbers.reserve(1)?;
         let before = self.order.len();
-        let reply = session.reply(alloc, &mut self.order, message)?;
+        let reply = session.reply_known(alloc, &mut self.order, message, known)?;
         if self.order.len() > before {
             self.numbers.push_reserved(number);
         }

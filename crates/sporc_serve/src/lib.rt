@@ -2,7 +2,9 @@
 //!
 //! [`serve`] listens, takes so many links, and runs a session over each, in a thread of its own where one can be made. The
 //! order lies under a ticket lock, with the number of the pass that submitted each entry. A session takes a turn for each
-//! message, and holds none while it reads, sends, or calls the gate.
+//! message, and holds none while it reads, sends, or calls the gate. Of a submitted entry it asks the order for its author's
+//! key, in a turn of its own, and examines the signature under that key before it takes the turn that orders the entry: so
+//! sessions verify side by side.
 //!
 //! ```text
 //! let (order, answer) = serve(&rt, alloc, &mut net, "localhost:4000", order, 2, &OpenGate);
@@ -11,8 +13,9 @@
 //! Proved, over every way in which the turns of the sessions may follow one another: each session's answers are the
 //! order's to the messages of its link, at lists that begin with one another, and were sent; why it ended; that the order
 //! handed back begins with the one handed in, and each further entry is one session's; that each link comes back, and was
-//! shut; that no other address was asked for. Only tested: that sessions go on beside one another, and that the calls
-//! succeed with ample memory (`sporc_thread_tests`). Neither: that a client gets an answer.
+//! shut; that no other address was asked for. Only tested: that sessions go on beside one another, that a signature is
+//! examined while no turn is held, and that the calls succeed with ample memory (`sporc_thread_tests`). Neither: that a
+//! client gets an answer.
 #![tactic(auto)]
 
 mod crowd;
@@ -22,6 +25,7 @@ mod fault;
 mod item;
 pub mod laws;
 mod limits;
+mod replying;
 mod sending;
 mod server;
 mod session;

@@ -20,6 +20,10 @@ use std::thread::Threads;
 /// thread of its own where one can be made. Each link is shut as its session ends, and handed back to the net.
 ///
 /// A fault of a link or of its frames ends that session alone, and so does running out of memory in it.
+///
+/// The gate is called after each entry that is ordered, and before the turn in which a submitted entry is answered, once it
+/// was examined: there `before_line` is told the session's number, from 1 on, and the position at which the entry was then
+/// to stand. The caller of the gate holds no turn.
 pub fn serve<R: Threads + Wait + Sync, N: Listen, G: Gate + Sync>(
     rt: &R,
     alloc: Global,

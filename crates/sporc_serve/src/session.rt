@@ -15,8 +15,8 @@ ghost use Rattle.sporc_serve.specs.Visits.{visit, IsServedSession};
 use crate::desk::Desk;
 use crate::end::SessionEnd;
 use crate::item::Item;
+use crate::replying::reply_to;
 use crate::sending::send;
-use crate::turns::take_turn;
 use sporc_order::Session;
 use sporc_outside::{Gate, Link};
 use sporc_turn::{Pass, Turn};
@@ -101,7 +101,7 @@ fn answer<R: Wait, L: Link, G: Gate>(
         → Carries (stand (known_of pass) (L.left link.old) (L.written link.old) (L.faults link.old) unread session.old)
         (stand (known_of result.1) (L.left link.new) (L.written link.new) (L.faults link.new) (next to_server_of unread).after session.new) result.0 }
 {
-    let (reply, pass) = take_turn(rt, alloc, turn, pass, session, message);
+    let (reply, pass) = reply_to(rt, alloc, turn, gate, pass, session, message);
     match reply {
         Ok(reply) => (send(rt, alloc, gate, link, &reply), pass),
         Err(end) => (Some(end), pass),

@@ -1,31 +1,34 @@
 //! One turn of a session at the order.
 
-ghost use Rattle.std.specs.Prelude.{◌≡◌, ◌++◌, Ok, Err, IfOk, IfErr, OnOk, OnErr};
+ghost use Rattle.std.specs.Prelude.{◌≡◌, ◌++◌, Ok, Err, IfOk, IfErr, IfSome, OnOk, OnErr};
 ghost use Rattle.sporc_order.specs.Replies.{Says};
-ghost use Rattle.sporc_order.specs.Sessions.{step_of, IsFramed};
+ghost use Rattle.sporc_order.specs.Sessions.{step_of, IsExactFor, IsFramed};
 ghost use Rattle.sporc_turn.specs.Passes.{known_of, read_of, value_of, IsPassOf, IsSameTurn};
 ghost use Rattle.sporc_serve.specs.Logs.{log_of, added_of, placed_by, if_answered, OfDocument};
 ghost use Rattle.sporc_serve.specs.Sending.{CanBeSent};
-ghost use Rattle.sporc_serve.specs.Turns.{HasReadLast, TakesTurn};
+ghost use Rattle.sporc_serve.specs.Turns.{HasReadLast, Looks, TakesTurn};
 
-use crate::desk::Desk;
+use crate::desk::{Desk, Sought};
 use crate::end::SessionEnd;
 use crate::item::Item;
 use sporc_base::Memory;
+use sporc_head::Verdict;
 use sporc_order::{Reply, Session};
 use sporc_turn::{Held, Pass, Turn};
 use sporc_wire::ToServer;
 use std::alloc::Global;
 use std::sync::Wait;
 
-// Answers a message at the order that is held.
+// Answers a message at the order that is held, where a verdict of its entry may be known.
 fn step_held(
     held: &mut Held<Desk>,
     alloc: Global,
     number: u32,
     session: &mut Session,
     message: &ToServer,
+    known: Option<&Verdict>,
 ) -> Result<Reply, Memory>
+    requires exact { IfSome known (λ v. IsExactFor v.now message.now) }
     ensures turn { IsSameTurn held.old held.new }
     ensures sendable { IsFramed message.now → IfOk result CanBeSent }
     ensures reply { IfOk result (Says (step_of (value_of held.old).order session.old message.now).answer) }
@@ -36,10 +39,42 @@ fn step_held(
     ensures unchanged { OnErr result (session.new ≡ session.old) }
 {
     let desk = held.value();
-    desk.step(alloc, number, session, message)
+    desk.step(alloc, number, session, message, known)
 }
 
-// Takes a turn, and answers a message in it.
+// What the examination of an entry asks of the order that is held.
+fn seek_held(held: &mut Held<Desk>, entry: &[u8]) -> Sought
+    ensures turn { IsSameTurn held.old held.new }
+    ensures log { log_of (value_of held.new).order (value_of held.new).numbers.items
+        ≡ log_of (value_of held.old).order (value_of held.old).numbers.items }
+{
+    let desk = held.value();
+    desk.seek(entry)
+}
+
+// Takes a turn, and finds in it what the examination of an entry asks.
+pub(crate) fn take_look<R: Wait>(
+    rt: &R,
+    turn: &Turn<Desk>,
+    pass: Pass<Item>,
+    entry: &[u8],
+) -> (Result<Sought, SessionEnd>, Pass<Item>)
+    requires lock { IsPassOf turn.now pass }
+    ensures lock { IsPassOf turn.now result.1 }
+    ensures number { (known_of result.1).number ≡ (known_of pass).number }
+    ensures worn { IfErr result.0 (HasReadLast (read_of result.1)) }
+    ensures looks { Looks (known_of pass) (known_of result.1) result.0 }
+{
+    match turn.take(rt, pass) {
+        Ok(mut held) => {
+            let sought = seek_held(&mut held, entry);
+            (Ok(sought), turn.give(held))
+        }
+        Err((pass, worn)) => (Err(SessionEnd::Worn(worn.0)), pass),
+    }
+}
+
+// Takes a turn, and answers a message in it, where a verdict of its entry may be known.
 pub(crate) fn take_turn<R: Wait>(
     rt: &R,
     alloc: Global,
@@ -47,8 +82,10 @@ pub(crate) fn take_turn<R: Wait>(
     pass: Pass<Item>,
     session: &mut Session,
     message: &ToServer,
+    known: Option<&Verdict>,
 ) -> (Result<Reply, SessionEnd>, Pass<Item>)
     requires lock { IsPassOf turn.now pass }
+    requires exact { IfSome known (λ v. IsExactFor v.now message.now) }
     requires framed { IsFramed message.now }
     ensures lock { IsPassOf turn.now result.1 }
     ensures sendable { IfOk result.0 CanBeSent }
@@ -60,7 +97,7 @@ pub(crate) fn take_turn<R: Wait>(
     let number = pass.number();
     match turn.take(rt, pass) {
         Ok(mut held) => {
-            let reply = step_held(&mut held, alloc, number, session, message);
+            let reply = step_held(&mut held, alloc, number, session, message, known);
             (answered(reply), turn.give(held))
         }
         Err((pass, worn)) => (Err(SessionEnd::Worn(worn.0)), pass),

@@ -2,7 +2,7 @@
 
 use crate::checks::{check, check_at, is_refusal};
 use crate::lines::refusals::{spoilt, tried};
-use crate::lines::scene::{founded, insert, opened, paired, take, unpaired};
+use crate::lines::scene::{addition, change, founded, insert, opened, paired, take, unpaired};
 use crate::samples::{empty_sample, short_sample};
 use sporc_base::is_same;
 use sporc_epoch::hints_from;
@@ -83,33 +83,6 @@ fn members_read_a_history_alike_unless_removed(rt: HostRuntime) {
     removed_twice(&rt, rt.alloc(), &cast, &sample);
 }
 
-// Appends a change by the admin, with the next key sealed for these members.
-fn change(
-    rt: &impl Abort,
-    alloc: Global,
-    cast: &Cast,
-    sample: &mut History,
-    change: Change,
-    members: &[u16],
-) {
-    sample
-        .change(alloc, cast, 1, change, members)
-        .expect(rt, "an entry");
-}
-
-// The change that adds member 6.
-fn addition(rt: &impl Abort, alloc: Global) -> Change {
-    let founder = Member::new(alloc, 6, Role::Editor)
-        .expect(rt, "memory")
-        .founder();
-    let key = founder.key;
-    Change::Add {
-        member: founder.member,
-        role: founder.role,
-        key,
-    }
-}
-
 const READER: Change = Change::SetRole {
     member: 5,
     role: Role::Reader,
@@ -129,7 +102,7 @@ fn grow_three_epochs(rt: &impl Abort, alloc: Global, cast: &Cast, sample: &mut H
         alloc,
         cast,
         sample,
-        addition(rt, alloc),
+        addition(&Member::new(alloc, 6, Role::Editor).expect(rt, "memory")),
         &[1, 2, 3, 5, 6],
     );
 }

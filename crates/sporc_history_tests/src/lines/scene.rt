@@ -4,7 +4,8 @@ use crate::checks::check;
 use sporc_epoch::{Pairs, Ring};
 use sporc_head::Refusal;
 use sporc_line::Line;
-use sporc_samples::{Cast, History, epoch_key, insertion, pair_key};
+use sporc_member::Change;
+use sporc_samples::{Cast, History, Member, epoch_key, insertion, pair_key};
 use std::alloc::Global;
 use std::process::Abort;
 
@@ -64,6 +65,31 @@ pub(crate) fn insert(
     sample
         .edit(alloc, cast, author, delta.as_slice())
         .expect(rt, "an entry");
+}
+
+/// Appends a change by the admin, with the next key sealed for these members.
+pub(crate) fn change(
+    rt: &impl Abort,
+    alloc: Global,
+    cast: &Cast,
+    sample: &mut History,
+    change: Change,
+    members: &[u16],
+) {
+    sample
+        .change(alloc, cast, 1, change, members)
+        .expect(rt, "an entry");
+}
+
+/// The change that adds a member.
+pub(crate) fn addition(joiner: &Member) -> Change {
+    let founder = joiner.founder();
+    let key = founder.key;
+    Change::Add {
+        member: founder.member,
+        role: founder.role,
+        key,
+    }
 }
 
 /// Gives a line an entry: why it refuses it, if it does.

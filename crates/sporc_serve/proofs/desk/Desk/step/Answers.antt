@@ -18,17 +18,17 @@ returns-clause-log c =
     elim c.if-len-before.branch [
       | then-len-before w ↦
           subst (λ (d : Desk). log_of d.order d.numbers.items ≡ log_of o ns ++ placed_by n (added_of o s m)) (sym w.self-is)
-          (log_adds o c.reply.new.order s m ns w.push_reserved.new.self.items n c.in_ok-reply.ensures.order c.args.self.now.matched
+          (log_adds o c.reply_known.new.order s m ns w.push_reserved.new.self.items n c.in_ok-reply.ensures.order c.args.self.now.matched
           (inl (omega (arith, w.if-len-before.true), w.push_reserved.ensures.items ∙ ap (λ (l : List ℕ). l ++ n ∷ []) c.reserve.ensures.items)))
       | else-len-before w ↦
           subst (λ (d : Desk). log_of d.order d.numbers.items ≡ log_of o ns ++ placed_by n (added_of o s m)) (sym w.self-is)
-          (log_adds o c.reply.new.order s m ns c.reserve.new.self.items n c.in_ok-reply.ensures.order c.args.self.now.matched
+          (log_adds o c.reply_known.new.order s m ns c.reserve.new.self.items n c.in_ok-reply.ensures.order c.args.self.now.matched
           (inr (omega (arith, w.if-len-before.false), c.reserve.ensures.items)))
     ]
 
 pub returns-clause-sendable : goal.returns-clause-sendable
 returns-clause-sendable c framed =
-    let low : length c.reply.new.order.entries < 2 ^ 32 = omega arith in
+    let low : length c.reply_known.new.order.entries < 2 ^ 32 = omega arith in
     reply_sendable (step_of c.args.self.now.order c.args.session.now c.args.message.now).answer c.in_ok-reply.reply c.in_ok-reply.ensures.reply
     (answer_sendable c.args.self.now.order c.args.session.now c.args.message.now
     (subst (λ (x : OrderModel). length x.entries < 2 ^ 32) c.in_ok-reply.ensures.order low) framed)
