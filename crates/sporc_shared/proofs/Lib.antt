@@ -1,3 +1,4 @@
+pub mod Afters
 pub mod Journals
 pub mod Lengths
 pub mod Calling

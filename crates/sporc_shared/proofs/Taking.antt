@@ -97,11 +97,12 @@ plain_counts {A} k reply plain is ok err = subst (λ (p : Result A ℕ × Pass I
 
 -- ---- one entry
 
-abbrev AcceptCall : Known Item → ℕ → List ℕ → Known Item → Result ℕ AcceptFault → Type 0
-AcceptCall k at entry k' answer =
-    (before : Past) × IsCall k k' before (added answer (Accept k.number entry)) × AnswersUnless accepts.Memory answer (accept_fault (client_of before) (at + 1) entry)
+-- what a call told that was to accept an entry at a position
+abbrev pub AcceptCall : Known Item → ℕ → List ℕ → Known Item → Result ℕ AcceptFault → Type 0
+AcceptCall k position entry k' answer =
+    (before : Past) × IsCall k k' before (added answer (Accept k.number entry)) × AnswersUnless accepts.Memory answer (accept_fault (client_of before) position entry)
 
-took_by : (k : Known Item) (at : ℕ) (entry : List ℕ) → k.number ≡ 0 → (answer : Result ℕ AcceptFault) (k' : Known Item) → AcceptCall k at entry k' answer → TookOne k k' at entry (taken_of (at + 1) (Ok answer))
+took_by : (k : Known Item) (at : ℕ) (entry : List ℕ) → k.number ≡ 0 → (answer : Result ℕ AcceptFault) (k' : Known Item) → AcceptCall k (at + 1) entry k' answer → TookOne k k' at entry (taken_of (at + 1) (Ok answer))
 took_by k at entry zero' (Ok n) k' h =
     (subst (λ (m : ℕ). KnowsMore k k' (Happened (Accept m entry) ∷ [])) zero' (call_knows k k' h.0 (Accept k.number entry ∷ []) h.1), accept_position (client_of h.0) (at + 1) entry h.2)
 took_by k at entry zero' (Err (accepts.Refused refusal)) k' h =
@@ -111,21 +112,21 @@ took_by k at entry zero' (Err accepts.Memory) k' h = (call_knows k k' h.0 [] h.1
 
 pub took_one : (k : Known Item) (at : ℕ) (entry : List ℕ) (reply : Result (Answered (Result ℕ AcceptFault)) (Pass Item × Worn)) (plain : Result (Result ℕ AcceptFault) ℕ × Pass Item) (result : Result ⊤ SessionFault) → k.number ≡ 0
     → plain ≡ plain_of reply → result ≡ taken_of (at + 1) plain.0
-    → IfOk reply (λ r. AcceptCall k at entry (known_of r.pass) r.answer) → WornAs k reply → TookOne k (known_of plain.1) at entry result
+    → IfOk reply (λ r. AcceptCall k (at + 1) entry (known_of r.pass) r.answer) → WornAs k reply → TookOne k (known_of plain.1) at entry result
 took_one k at entry reply plain result zero' is is' ok err =
     subst (TookOne k (known_of plain.1) at entry) (sym is') (plain_case reply plain is (λ a k'. TookOne k k' at entry (taken_of (at + 1) a)) here worn)
   where
     here : (r : Answered (Result ℕ AcceptFault)) → reply ≡ Ok r → TookOne k (known_of r.pass) at entry (taken_of (at + 1) (Ok r.answer))
-    here r e = took_by k at entry zero' r.answer (known_of r.pass) (subst (λ x. IfOk x (λ r. AcceptCall k at entry (known_of r.pass) r.answer)) e ok)
+    here r e = took_by k at entry zero' r.answer (known_of r.pass) (subst (λ x. IfOk x (λ r. AcceptCall k (at + 1) entry (known_of r.pass) r.answer)) e ok)
 
     worn : (e : Pass Item × Worn) → reply ≡ Err e → TookOne k (known_of e.0) at entry (taken_of (at + 1) (Err e.1.0))
     worn e x = let h = subst (WornAs k) x err in (subst (λ (z : Known Item). KnowsMore k z []) (sym h.2) (knows_none k), h.0)
 
 pub took_counts : (k : Known Item) (at : ℕ) (entry : List ℕ) (reply : Result (Answered (Result ℕ AcceptFault)) (Pass Item × Worn)) (plain : Result (Result ℕ AcceptFault) ℕ × Pass Item)
-    → plain ≡ plain_of reply → IfOk reply (λ r. AcceptCall k at entry (known_of r.pass) r.answer) → WornAs k reply → CountsSame k (known_of plain.1)
+    → plain ≡ plain_of reply → IfOk reply (λ r. AcceptCall k (at + 1) entry (known_of r.pass) r.answer) → WornAs k reply → CountsSame k (known_of plain.1)
 took_counts k at entry reply plain is ok err =
     plain_counts k reply plain is
-    (IfOk-weaker reply (λ r. AcceptCall k at entry (known_of r.pass) r.answer) (λ r. CountsSame k (known_of r.pass)) (λ r h. call_counts k (known_of r.pass) h.0 (added r.answer (Accept k.number entry)) h.1) ok) err
+    (IfOk-weaker reply (λ r. AcceptCall k (at + 1) entry (known_of r.pass) r.answer) (λ r. CountsSame k (known_of r.pass)) (λ r h. call_counts k (known_of r.pass) h.0 (added r.answer (Accept k.number entry)) h.1) ok) err
 
 -- ---- the first entry, and then the others
 

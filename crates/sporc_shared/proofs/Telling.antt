@@ -16,7 +16,7 @@ use Rattle.sporc_shared.specs.Items.{Item, Past}
 use Rattle.sporc_shared.specs.Protocol.{Mode, rounds_begun}
 use Rattle.sporc_shared.specs.Replies.{plain_of, worn_of}
 use Rattle.sporc_shared.specs.Wires.{LinkStand}
-use Rattle.sporc_shared.proofs.Knowing.{call_counts, knows_none}
+use Rattle.sporc_shared.proofs.Knowing.{call_counts, call_knows, knows_none}
 use Rattle.sporc_shared.proofs.Stepping.{known_stopped}
 use Rattle.sporc_shared.proofs.Taking.{WornAs}
 
@@ -62,6 +62,10 @@ worn_stopped {link} {words} {g} {ready} {m} {P = P} {k = k} {k' = k'} is h =
     let t = (subst (TellsOr P k k') is h).ends in
     subst (Stopped ready (stand k link words g) (stand k' link words g) m (rounds_begun m)) (sym t.1.1)
     (known_stopped (subst (λ (y : Known Item). KnowsMore k y []) (sym t.0) (knows_none k)) t.1.2)
+
+-- the pass may have seen more
+pub told_knows : {A : Type 0} {P : Past → A → Type 0} {k k' : Known Item} {answer : A} → Tells P k k' answer → KnowsMore k k' []
+told_knows {k = k} {k' = k'} t = call_knows k k' t.before [] t.call
 
 -- the pass splits and joins nothing
 pub told_counts : {A : Type 0} {P : Past → A → Type 0} {k k' : Known Item} {answer : A} → Tells P k k' answer → CountsSame k k'

@@ -4,7 +4,7 @@ use Rattle.std.specs.Coded.{Coded, code_by, coded×, coded⊎, coded_ℕ}
 use Rattle.std.proofs.Common.{inl, inr}
 use Rattle.std.specs.declared.convert.Infallible.{Infallible}
 use Rattle.sporc_client.specs.Allowed.{is_allowed}
-use Rattle.sporc_client.specs.ClientModel.{ClientModel}
+use Rattle.sporc_client.specs.ClientModel.{ClientModel, first_leaf_of}
 use Rattle.sporc_client.specs.Codes.{logged_code, opening_code}
 use Rattle.sporc_client.specs.Log.{Logged, by_of as maker_of}
 use Rattle.sporc_client.specs.PlainClient.{Opening, PlainClient}
@@ -28,7 +28,7 @@ pub record Past : Type 0 where
   pub log : List Logged
 
 abbrev pub past_of : {D : Type 0} → ClientModel D → Past
-past_of c = record { opening = c.opening; first_leaf = c.leaves.next_at_open; log = c.log }
+past_of c = record { opening = c.opening; first_leaf = first_leaf_of c; log = c.log }
 
 -- its log
 abbrev pub items_of : Past → List Item

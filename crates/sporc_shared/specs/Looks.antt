@@ -1,7 +1,8 @@
--- A client at a glance.
-use Rattle.std.specs.Prelude.{◌≡◌, ◌≤◌, ◌^◌, length}
+-- A client at a glance, and the key for an entry.
+use Rattle.std.specs.Prelude.{◌≡◌, ◌≤◌, ◌^◌, ℕ, List, Option, length}
 use Rattle.sporc_head.specs.declared.limits.TheConstants.{MAX_ENTRIES}
-use Rattle.sporc_head.specs.History.{hash_of}
+use Rattle.sporc_head.specs.Examined.{key_for}
+use Rattle.sporc_head.specs.History.{hash_of, roster_of}
 use Rattle.sporc_client.specs.Answers.{is_out}
 use Rattle.sporc_client.specs.PlainClient.{shown_after, shown_of}
 use Rattle.sporc_shared.specs.declared.look.Look.{Look}
@@ -18,3 +19,7 @@ pub record IsLookAt (past : Past) (look : Look) : Type 0 where
   pub short : look.len ≤ 2 ^ 36
   pub hash : look.hash ≡ hash_of past.opening.genesis (client_of past).entries
   pub removed : look.removed ≡ is_out (client_of past)
+
+-- the key that the check of an entry's signature uses at a client with this past
+abbrev pub key_at : Past → List ℕ → Option (List ℕ)
+key_at past entry = key_for (roster_of past.opening.genesis (client_of past).entries) entry

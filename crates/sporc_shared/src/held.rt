@@ -11,7 +11,7 @@ ghost use Rattle.sporc_wire.specs.declared.cutter.TheConstants.{MAX_BODY};
 ghost use Rattle.sporc_wire.specs.ToServer.{to_server_bytes};
 ghost use Rattle.sporc_shared.specs.Calls.{SubmitsAt};
 ghost use Rattle.sporc_shared.specs.Items.{IsAllowed, client_of, past_of, with_events};
-ghost use Rattle.sporc_shared.specs.Looks.{IsLookAt};
+ghost use Rattle.sporc_shared.specs.Looks.{IsLookAt, key_at};
 
 use crate::desk::Desk;
 use crate::journal::count_events;
@@ -19,12 +19,14 @@ use crate::look::{Look, look_at};
 use sporc_base::is_same;
 use sporc_client::{AcceptFault, Client, EditFault, SubmitFault, Submitted};
 use sporc_delta::Delta;
+use sporc_head::Examined;
 use sporc_member::Change;
 use sporc_outside::LeafDisk;
 use sporc_turn::Held;
 use sporc_wire::ToServer;
 
 // An edit of the text that was shown after so many events.
+#[tactic(auto, using(crate::proofs::Afters::past_added))]
 pub(crate) fn edit<D: LeafDisk>(
     held: &mut Held<Desk<D>>,
     by: u32,
@@ -45,6 +47,7 @@ pub(crate) fn edit<D: LeafDisk>(
 }
 
 // A change of the members.
+#[tactic(auto, using(crate::proofs::Afters::past_added))]
 pub(crate) fn change<D: LeafDisk>(
     held: &mut Held<Desk<D>>,
     by: u32,
@@ -64,6 +67,7 @@ pub(crate) fn change<D: LeafDisk>(
 }
 
 // A submission by 64 random bytes.
+#[tactic(auto, using(crate::proofs::Afters::past_submitted))]
 pub(crate) fn submit<D: LeafDisk>(
     held: &mut Held<Desk<D>>,
     by: u32,
@@ -82,6 +86,7 @@ pub(crate) fn submit<D: LeafDisk>(
 }
 
 // An entry that is to stand at a position.
+#[tactic(auto, using(crate::proofs::Afters::past_added))]
 pub(crate) fn accept<D: LeafDisk>(
     held: &mut Held<Desk<D>>,
     by: u32,
@@ -101,6 +106,27 @@ pub(crate) fn accept<D: LeafDisk>(
     (answer, events)
 }
 
+// An examined entry that is to stand at a position.
+#[tactic(auto, using(crate::proofs::Afters::past_added))]
+pub(crate) fn accept_examined<D: LeafDisk>(
+    held: &mut Held<Desk<D>>,
+    by: u32,
+    pos: u32,
+    examined: &Examined,
+) -> (Result<u64, AcceptFault>, u64)
+    ensures turn { IsSameTurn held.old held.new }
+    ensures fault { AnswersUnless AcceptFault.Memory result.0 (accept_fault (client_of (past_of (value_of held.old).client.value)) pos examined.now.entry) }
+    ensures ok { IfOk result.0 (λ n. n ≡ result.1) }
+    ensures past { past_of (value_of held.new).client.value ≡ with_events (past_of (value_of held.old).client.value) (added result.0 (Accepted by examined.now.entry)) }
+    ensures allowed { IsAllowed (past_of (value_of held.new).client.value) }
+    ensures events { result.1 ≡ length (past_of (value_of held.new).client.value).log }
+{
+    let desk = held.value();
+    let answer = desk.client.accept_examined(by, pos, examined);
+    let events = count_events(&desk.client);
+    (answer, events)
+}
+
 // The client at a glance.
 pub(crate) fn look<D: LeafDisk>(held: &mut Held<Desk<D>>) -> (Look, u64)
     ensures unchanged { held.new ≡ held.old }
@@ -112,6 +138,22 @@ pub(crate) fn look<D: LeafDisk>(held: &mut Held<Desk<D>>) -> (Look, u64)
     let look = look_at(&desk.client);
     let events = count_events(&desk.client);
     (look, events)
+}
+
+// The key under which the signature of an entry is checked.
+pub(crate) fn key_for<D: LeafDisk>(
+    held: &mut Held<Desk<D>>,
+    entry: &[u8],
+) -> (Option<[u8; 56]>, u64)
+    ensures unchanged { held.new ≡ held.old }
+    ensures key { result.0 ≡ key_at (past_of (value_of held.old).client.value) entry.now }
+    ensures allowed { IsAllowed (past_of (value_of held.old).client.value) }
+    ensures events { result.1 ≡ length (past_of (value_of held.old).client.value).log }
+{
+    let desk = held.value();
+    let key = desk.client.key_for(entry);
+    let events = count_events(&desk.client);
+    (key, events)
 }
 
 // Whether an entry is the one on its way.

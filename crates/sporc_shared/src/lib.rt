@@ -14,6 +14,15 @@
 //! let client = shared.close(first)?;
 //! ```
 //!
+//! Verifying an entry's signature is what accepting it takes longest for, and it can be done before the turn, under the key
+//! that the author has then:
+//!
+//! ```text
+//! let Answered { answer: key, pass, .. } = shared.key_for(&rt, pass, &entry)?;
+//! let examined = Examined::of(&key?, entry)?;                   // no turn is held
+//! let Answered { answer, front, pass } = shared.accept_examined(&rt, pass, 1, &examined)?;
+//! ```
+//!
 //! [`session`] has the client work with a server over a link: up to eight editors, each in a thread of its own, do the lines of
 //! their scripts, while a receiver pulls, accepts and submits in rounds; then the receiver goes on alone until nothing is
 //! pending and the history is long enough.

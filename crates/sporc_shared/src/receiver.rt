@@ -1,13 +1,19 @@
 //! The steps of the receiver of a session.
 
 ghost use Rattle.std.specs.Prelude.{◌≡◌, ◌≤◌, ◌<◌, ◌++◌, length, IfErr, IfOk, IfSome};
+ghost use Rattle.std.specs.Vec.Iter.{into_iter_items};
+ghost use Rattle.sporc_base.specs.FirstFault.{AnswersUnless};
 ghost use Rattle.sporc_outside.specs.Counts.{CountsFaults};
+ghost use Rattle.sporc_client.specs.Answers.{accept_fault, added};
+ghost use Rattle.sporc_client.specs.Log.{Accept as Accepted};
 ghost use Rattle.sporc_wire.specs.declared.cutter.TheConstants.{MAX_BODY};
 ghost use Rattle.sporc_head.specs.declared.limits.TheConstants.{MAX_ENTRIES};
 ghost use Rattle.sporc_turn.specs.Passes.{known_of};
+ghost use Rattle.sporc_shared.specs.Calls.{IsCall};
 ghost use Rattle.sporc_shared.specs.Courses.{CountsSame};
+ghost use Rattle.sporc_shared.specs.Items.{Past, client_of};
 ghost use Rattle.sporc_shared.specs.Outcomes.{Drew, DrewFew, SubmittedOne, TookAll, TookOne};
-ghost use Rattle.sporc_shared.specs.Passes.{IsPassOf, IsWornFor};
+ghost use Rattle.sporc_shared.specs.Passes.{IsPassOf, IsReplyOf, IsWornFor, IsWornOnErr};
 ghost use Rattle.sporc_shared.specs.Replies.{made_of, plain_of, taken_of, worn_of};
 
 use crate::answered::{Answered, Reply};
@@ -17,9 +23,11 @@ use crate::shared_client::SharedClient;
 use lms_leaf::LeafFault;
 use sporc_base::{Bytes, put_at};
 use sporc_client::{AcceptFault, SubmitFault, Submitted};
+use sporc_head::Examined;
 use sporc_outside::{Chance, Gate, LeafDisk};
 use sporc_turn::Worn;
 use std::sync::Wait;
+use std::vec::IntoIter;
 
 // A step's answer or the fault of the session, and the pass.
 pub(crate) type Went<T> = (Result<T, SessionFault>, Pass);
@@ -87,30 +95,82 @@ fn made(answer: Result<Result<Submitted, SubmitFault>, u64>) -> Result<Option<By
     }
 }
 
-// Accepts an entry after so many others.
-fn take_one<R: Wait, D: LeafDisk, G: Gate>(
+// Accepts an entry that is to stand at a position. If a key for it is known, its signature is examined under that one before
+// the turn. If there is no memory for that, it is accepted as it came.
+fn accept_under<R: Wait, D: LeafDisk>(
+    rt: &R,
+    shared: &SharedClient<D>,
+    pass: Pass,
+    pos: u32,
+    entry: Bytes,
+    key: Option<[u8; 56]>,
+) -> Reply<Result<u64, AcceptFault>>
+    requires lock { IsPassOf shared.now pass }
+    ensures lock { IsReplyOf shared.now result }
+    ensures call { IfOk result (λ r. (before : Past)
+        × IsCall (known_of pass) (known_of r.pass) before (added r.answer (Accepted (known_of pass).number entry))
+        × AnswersUnless AcceptFault.Memory r.answer (accept_fault (client_of before) pos entry)) }
+    ensures worn { IsWornOnErr pass result }
+{
+    let Some(key) = key else {
+        return shared.accept(rt, pass, pos, entry.as_slice());
+    };
+    match Examined::of(&key, entry.into_vec()) {
+        Ok(examined) => shared.accept_examined(rt, pass, pos, &examined),
+        Err((entry, _)) => shared.accept(rt, pass, pos, entry.as_slice()),
+    }
+}
+
+// Accepts an entry after so many others, with the key that is known for it.
+fn take_under<R: Wait, D: LeafDisk, G: Gate>(
     rt: &R,
     shared: &SharedClient<D>,
     gate: &G,
     pass: Pass,
     at: u32,
-    entry: &[u8],
+    entry: Bytes,
+    key: Option<[u8; 56]>,
 ) -> Went<()>
     requires lock { IsPassOf shared.now pass }
     requires first { (known_of pass).number ≡ 0 }
     requires small { at ≤ MAX_ENTRIES }
     ensures lock { IsPassOf shared.now result.1 }
     ensures counts { CountsSame (known_of pass) (known_of result.1) }
-    ensures took { TookOne (known_of pass) (known_of result.1) at entry.now result.0 }
+    ensures took { TookOne (known_of pass) (known_of result.1) at entry result.0 }
     ensures worn { IfErr result.0 (IsWornFor result.1) }
 {
     let position = at + 1;
-    let (answer, pass) = plain(shared.accept(rt, pass, position, entry));
+    let (answer, pass) = plain(accept_under(rt, shared, pass, position, entry, key));
     let took = taken(position, answer);
     if took.is_ok() {
         gate.after_accept(rt, position);
     }
     (took, pass)
+}
+
+// Accepts an entry after so many others: asks for its key in one turn, and accepts it in another one. Its signature is
+// examined between the two.
+fn take_one<R: Wait, D: LeafDisk, G: Gate>(
+    rt: &R,
+    shared: &SharedClient<D>,
+    gate: &G,
+    pass: Pass,
+    at: u32,
+    entry: Bytes,
+) -> Went<()>
+    requires lock { IsPassOf shared.now pass }
+    requires first { (known_of pass).number ≡ 0 }
+    requires small { at ≤ MAX_ENTRIES }
+    ensures lock { IsPassOf shared.now result.1 }
+    ensures counts { CountsSame (known_of pass) (known_of result.1) }
+    ensures took { TookOne (known_of pass) (known_of result.1) at entry result.0 }
+    ensures worn { IfErr result.0 (IsWornFor result.1) }
+{
+    let (answer, pass) = plain(shared.key_for(rt, pass, entry.as_slice()));
+    match worn(answer) {
+        Ok(key) => take_under(rt, shared, gate, pass, at, entry, key),
+        Err(fault) => (Err(fault), pass),
+    }
 }
 
 // Accepts entries after so many others.
@@ -120,22 +180,22 @@ pub(crate) fn take_all<R: Wait, D: LeafDisk, G: Gate>(
     gate: &G,
     pass: Pass,
     at: u32,
-    entries: &[Bytes],
+    mut entries: IntoIter<Bytes>,
 ) -> Went<()>
     requires lock { IsPassOf shared.now pass }
     requires first { (known_of pass).number ≡ 0 }
     requires small { at ≤ MAX_ENTRIES }
     ensures lock { IsPassOf shared.now result.1 }
     ensures counts { CountsSame (known_of pass) (known_of result.1) }
-    ensures took { TookAll (known_of pass) (known_of result.1) at entries.now result.0 }
+    ensures took { TookAll (known_of pass) (known_of result.1) at (into_iter_items entries) result.0 }
     ensures worn { IfErr result.0 (IsWornFor result.1) }
 {
-    let Some((entry, rest)) = entries.split_first() else {
+    let Some(entry) = entries.next() else {
         return (Ok(()), pass);
     };
-    let (one, pass) = take_one(rt, shared, gate, pass, at, entry.as_slice());
+    let (one, pass) = take_one(rt, shared, gate, pass, at, entry);
     match one {
-        Ok(()) => take_all(rt, shared, gate, pass, at + 1, rest),
+        Ok(()) => take_all(rt, shared, gate, pass, at + 1, entries),
         Err(fault) => (Err(fault), pass),
     }
 }

@@ -49,10 +49,11 @@ fn gather<R: Wait, D: LeafDisk, L: Link, G: Gate>(
 {
     match pull(alloc, link, inbox, at) {
         Ok(entries) => {
-            let came = entries.as_slice();
+            let count = entries.as_slice().len();
+            let came = entries.into_vec().into_iter();
             let (took, pass) = take_all(rt, shared, gate, pass, at, came);
             match took {
-                Ok(()) => (Ok(at + came.len() as u32), pass),
+                Ok(()) => (Ok(at + count as u32), pass),
                 Err(fault) => (Err(fault), pass),
             }
         }

@@ -14,7 +14,7 @@ ghost use Rattle.sporc_wire.specs.declared.cutter.TheConstants.{MAX_BODY};
 ghost use Rattle.sporc_wire.specs.ToServer.{to_server_bytes};
 ghost use Rattle.sporc_shared.specs.Calls.{IsCall, SubmitsAt};
 ghost use Rattle.sporc_shared.specs.Items.{IsAllowed, Past, by_of, client_of, items_of, past_of};
-ghost use Rattle.sporc_shared.specs.Looks.{IsLookAt};
+ghost use Rattle.sporc_shared.specs.Looks.{IsLookAt, key_at};
 ghost use Rattle.sporc_shared.specs.Passes.{HasFront, IsPassOf, IsReplyOf, IsWornOnErr};
 
 use crate::answered::{Answered, Reply};
@@ -27,6 +27,7 @@ use crate::look::Look;
 use sporc_base::Memory;
 use sporc_client::{AcceptFault, Client, EditFault, SubmitFault, Submitted};
 use sporc_delta::Delta;
+use sporc_head::Examined;
 use sporc_member::Change;
 use sporc_outside::LeafDisk;
 use sporc_turn::{Away, Held, Turn};
@@ -156,6 +157,47 @@ impl<D: LeafDisk> SharedClient<D> {
         let mut held = self.turn.take(rt, pass)?;
         let (answer, events) = held::accept(&mut held, by, pos, bytes);
         Ok(self.give(answer, events, held))
+    }
+
+    /// Accepts an entry that was examined before the turn. It answers what [`SharedClient::accept`] answers on its bytes,
+    /// and the signature is verified in the turn only if the author's key is by then another one than that under which it
+    /// was examined.
+    pub fn accept_examined<R: Wait>(
+        &self,
+        rt: &R,
+        pass: Pass,
+        pos: u32,
+        examined: &Examined,
+    ) -> Reply<Result<u64, AcceptFault>>
+        requires lock { IsPassOf self.now pass }
+        ensures lock { IsReplyOf self.now result }
+        ensures call { IfOk result (λ r. (before : Past)
+            × IsCall (known_of pass) (known_of r.pass) before (added r.answer (Accepted (known_of pass).number examined.now.entry))
+            × AnswersUnless AcceptFault.Memory r.answer (accept_fault (client_of before) pos examined.now.entry)) }
+        ensures ok { IfOk result (λ r. IfOk r.answer (λ n. n ≡ r.front.events)) }
+        ensures front { HasFront result }
+        ensures worn { IsWornOnErr pass result }
+    {
+        let by = pass.number();
+        let mut held = self.turn.take(rt, pass)?;
+        let (answer, events) = held::accept_examined(&mut held, by, pos, examined);
+        Ok(self.give(answer, events, held))
+    }
+
+    /// The key under which the signature of an entry is checked: its author's. None exactly if the bytes are no entry, or
+    /// its author is no member. It takes no memory.
+    pub fn key_for<R: Wait>(&self, rt: &R, pass: Pass, entry: &[u8]) -> Reply<Option<[u8; 56]>>
+        requires lock { IsPassOf self.now pass }
+        ensures lock { IsReplyOf self.now result }
+        ensures call { IfOk result (λ r. (before : Past)
+            × IsCall (known_of pass) (known_of r.pass) before []
+            × (r.answer ≡ key_at before entry.now)) }
+        ensures front { HasFront result }
+        ensures worn { IsWornOnErr pass result }
+    {
+        let mut held = self.turn.take(rt, pass)?;
+        let (key, events) = held::key_for(&mut held, entry);
+        Ok(self.give(key, events, held))
     }
 
     /// The client at a glance.

@@ -10,28 +10,69 @@ use std::sync::Wait;
 use std::sync::atomic::{AtomicU64, Ordering};
 use std::thread::yield_now;
 
-// How often a session that is held looks whether the other one was answered.
+// How often a session that is held looks whether the other one has come as far.
 const TURNS: u32 = 100_000_000;
 
-// Holds a session whose entry was accepted until two were.
+// Of the first entry and of the second it was told once: a byte counts each number.
+const BOTH: u64 = 0x01_01_00;
+
+// Holds a session whose entry was examined until two were, and one whose entry was accepted until both were.
 #[derive(Drop)]
 struct Pairing {
-    accepted: AtomicU64,
+    examined: AtomicU64,
+    // The sum of the positions at which the entries were to stand as they were examined.
+    positions: AtomicU64,
+    told: AtomicU64,
     given_up: AtomicU64,
 }
 
-impl Gate for Pairing {
-    fn before_line<R: Wait>(&self, _rt: &R, _editor: u32, _line: u32) {}
+impl Pairing {
+    fn new() -> Pairing {
+        Pairing {
+            examined: AtomicU64::new(0),
+            positions: AtomicU64::new(0),
+            told: AtomicU64::new(0),
+            given_up: AtomicU64::new(0),
+        }
+    }
 
-    fn after_accept<R: Wait>(&self, _rt: &R, _entries: u32) {
-        self.accepted.fetch_add(1, Ordering::SeqCst);
+    // Counts a number of entries.
+    fn tell(&self, entries: u32) {
+        let one = 1u64.checked_shl(entries.saturating_mul(8)).unwrap_or(0);
+        self.told.fetch_add(one, Ordering::SeqCst);
+    }
+
+    // Holds a session until a count has come so far.
+    fn hold(&self, count: &AtomicU64, least: u64) {
         for _ in 0..TURNS {
-            if self.accepted.load(Ordering::SeqCst) >= 2 {
+            if count.load(Ordering::SeqCst) >= least {
                 return;
             }
             yield_now();
         }
         self.given_up.fetch_add(1, Ordering::SeqCst);
+    }
+
+    // Whether both sessions examined their entries before either of these was ordered, it was told of each entry once, and
+    // nobody waited in vain.
+    fn went_well(&self) -> bool {
+        self.positions.load(Ordering::SeqCst) == 2
+            && self.told.load(Ordering::SeqCst) == BOTH
+            && self.given_up.load(Ordering::SeqCst) == 0
+    }
+}
+
+impl Gate for Pairing {
+    fn before_line<R: Wait>(&self, _rt: &R, _session: u32, position: u32) {
+        self.positions
+            .fetch_add(u64::from(position), Ordering::SeqCst);
+        self.examined.fetch_add(1, Ordering::SeqCst);
+        self.hold(&self.examined, 2);
+    }
+
+    fn after_accept<R: Wait>(&self, _rt: &R, entries: u32) {
+        self.tell(entries);
+        self.hold(&self.told, BOTH);
     }
 }
 
@@ -61,13 +102,9 @@ fn are_answered(rt: &impl Abort, alloc: Global, outcome: &Outcome) {
 #[test]
 fn a_session_goes_on_while_another_is_held(rt: HostRuntime) {
     let cast = Cast::new(rt.alloc()).expect(&rt, "the cast");
-    let gate = Pairing {
-        accepted: AtomicU64::new(0),
-        given_up: AtomicU64::new(0),
-    };
+    let gate = Pairing::new();
     let peers = peers(&rt, rt.alloc(), &cast);
     let outcome = served(&rt, rt.alloc(), &cast, peers, 2, &gate);
-    let given_up = gate.given_up.load(Ordering::SeqCst);
-    check(&rt, "nobody gave up", given_up == 0);
+    check(&rt, "the gate", gate.went_well());
     are_answered(&rt, rt.alloc(), &outcome);
 }

@@ -47,9 +47,11 @@ impl Meeting {
         self.given_up.fetch_add(1, Ordering::SeqCst);
     }
 
-    // Whether nobody waited in vain.
+    // Whether it was told of both lines and of all four entries, and nobody waited in vain.
     fn went_well(&self) -> bool {
-        self.given_up.load(Ordering::SeqCst) == 0
+        self.begun.load(Ordering::SeqCst) == 2
+            && self.accepted.load(Ordering::SeqCst) == 4
+            && self.given_up.load(Ordering::SeqCst) == 0
     }
 }
 
@@ -104,7 +106,7 @@ fn goes_well<R: Abort + Threads + Wait + Sync>(rt: &R, alloc: Global, cast: &Cas
     let gate = Meeting::new();
     let outcome = met(rt, alloc, cast, &gate);
     check(rt, "the answer", outcome.answer.is_ok());
-    check(rt, "nobody gave up", gate.went_well());
+    check(rt, "the gate", gate.went_well());
     check_text(rt, outcome.text.as_str(), "yxabc");
 }
 

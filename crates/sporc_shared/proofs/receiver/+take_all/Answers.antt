@@ -1,4 +1,4 @@
-use Rattle.std.proofs.Common.{ℕ, List, ◌∷◌, ap, sym, ◌∙◌}
+use Rattle.std.specs.Vec.Iter.{into_iter_items}
 use Rattle.sporc_turn.specs.Passes.{known_of}
 use Rattle.sporc_shared.proofs.Taking.{took_first, took_rest}
 use Rattle.sporc_shared.proofs.Wearing.{worn_at}
@@ -6,13 +6,13 @@ use Rattle.sporc_shared.proofs.receiver.+take_all.Goals as goal
 
 pub returns-in-Ok-clause-took : goal.returns-in-Ok-clause-took
 returns-in-Ok-clause-took g c' c =
-    took_rest (known_of c.args.pass) (known_of c.take_one-one.result.1) (known_of c.take_all.result.1) c.args.at c.args.entries.now c.as_slice.result.now c.in-Some.rest.now c.in-Ok.field-0 c.take_one-one.result.0 c.take_all.result.0
-    c.in-Ok.is (c.in-Some.ensures.cases.0 ∙ ap (λ (e : List ℕ). e ∷ c.in-Some.rest.now) (sym c.as_slice.ensures.value)) c.take_one-one.ensures.took c.take_all.ensures.took
+    took_rest (known_of c.args.pass) (known_of c.take_one-one.result.1) (known_of c.take_all.result.1) c.args.at (into_iter_items c.args.entries) c.in-Some.entry (into_iter_items c.next.new.self) c.in-Ok.field-0 c.take_one-one.result.0 c.take_all.result.0
+    c.in-Ok.is c.in-Some.ensures.items c.take_one-one.ensures.took c.take_all.ensures.took
 
 pub returns-in-Err-clause-took : goal.returns-in-Err-clause-took
 returns-in-Err-clause-took g c' c =
-    took_first (known_of c.args.pass) (known_of c.take_one-one.result.1) c.args.at c.args.entries.now c.as_slice.result.now c.in-Some.rest.now c.in-Err.fault c.take_one-one.result.0
-    c.in-Err.is (c.in-Some.ensures.cases.0 ∙ ap (λ (e : List ℕ). e ∷ c.in-Some.rest.now) (sym c.as_slice.ensures.value)) c.take_one-one.ensures.took
+    took_first (known_of c.args.pass) (known_of c.take_one-one.result.1) c.args.at (into_iter_items c.args.entries) c.in-Some.entry (into_iter_items c.next.new.self) c.in-Err.fault c.take_one-one.result.0
+    c.in-Err.is c.in-Some.ensures.items c.take_one-one.ensures.took
 
 pub returns-in-Err-clause-worn : goal.returns-in-Err-clause-worn
 returns-in-Err-clause-worn g c' c =

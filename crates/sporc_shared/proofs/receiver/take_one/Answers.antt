@@ -1,17 +1,43 @@
-use Rattle.std.proofs.Common.{◌+◌}
+use Rattle.std.proofs.Common.{◌≡◌, ◌+◌, ℕ, List, [], ◌∷◌, Option, Ok, Err, sym, subst}
+use Rattle.std.specs.Prelude.{Result, ⊤}
+use Rattle.sporc_turn.specs.declared.known.Known.{Known}
 use Rattle.sporc_turn.specs.Passes.{known_of}
-use Rattle.sporc_shared.proofs.Taking.{took_counts, took_one}
-use Rattle.sporc_shared.proofs.Wearing.{taken_worn}
+use Rattle.sporc_client.specs.Log.{Accept}
+use Rattle.sporc_shared.specs.declared.fault.SessionFault.{SessionFault}
+use Rattle.sporc_shared.specs.Courses.{KnowsMore}
+use Rattle.sporc_shared.specs.Endings.{TakeCause}
+use Rattle.sporc_shared.specs.Items.{Item, Happened, Past}
+use Rattle.sporc_shared.specs.Looks.{key_at}
+use Rattle.sporc_shared.specs.Outcomes.{TookOne}
+use Rattle.sporc_shared.proofs.Knowing.{knows_none, knows_then}
+use Rattle.sporc_shared.proofs.Telling.{TellsOr, told, told_knows, was_told}
+use Rattle.sporc_shared.proofs.Wearing.{told_worn, worn_at}
 use Rattle.sporc_shared.proofs.receiver.take_one.Goals as goal
 
-pub returns-clause-took : goal.returns-clause-took
-returns-clause-took g c =
-    took_one (known_of c.args.pass) c.args.at c.args.entry.now c.accept.result c.plain-answer.result c.taken-took.result c.requires.first c.plain-answer.ensures c.taken-took.ensures c.accept.ensures.call c.accept.ensures.worn
+-- the key was asked for, and then the entry was taken
+took_then : (k k1 k' : Known Item) (at : ℕ) (entry : List ℕ) (result : Result ⊤ SessionFault) → KnowsMore k k1 [] → TookOne k1 k' at entry result → TookOne k k' at entry result
+took_then k k1 k' at entry (Ok x) knows t = (knows_then k k1 k' [] (Happened (Accept 0 entry) ∷ []) knows t.0, t.1)
+took_then k k1 k' at entry (Err fault) knows t = (knows_then k k1 k' [] [] knows t.0, t.1)
 
-pub returns-clause-counts : goal.returns-clause-counts
-returns-clause-counts g c =
-    took_counts (known_of c.args.pass) c.args.at c.args.entry.now c.accept.result c.plain-answer.result c.plain-answer.ensures c.accept.ensures.call c.accept.ensures.worn
+-- no ticket was left
+took_none : (P : Past → Option (List ℕ) → Type 0) (k k' : Known Item) (at : ℕ) (entry : List ℕ) (fault : SessionFault) (key : Result (Option (List ℕ)) SessionFault)
+    → key ≡ Err fault → TellsOr P k k' key → TookOne k k' at entry (Err fault)
+took_none P k k' at entry fault key is h =
+    let t = (subst (TellsOr P k k') is h).ends in
+    (subst (λ (y : Known Item). KnowsMore k y []) (sym t.0) (knows_none k), subst (TakeCause k' (at + 1) entry) (sym t.1.1) t.1.2)
 
-pub returns-clause-worn : goal.returns-clause-worn
-returns-clause-worn g c =
-    taken_worn c.args.pass (c.args.at + 1) c.accept.result c.plain-answer.result c.taken-took.result c.plain-answer.ensures c.taken-took.ensures c.accept.ensures.worn
+pub returns-in-Ok-clause-took : goal.returns-in-Ok-clause-took
+returns-in-Ok-clause-took g c =
+    let P : Past → Option (List ℕ) → Type 0 = λ before key. key ≡ key_at before c.as_slice.result.now in
+    let key : TellsOr P (known_of c.args.pass) (known_of c.plain-answer.result.1) c.worn.result = told P c.key_for.result c.plain-answer.ensures c.worn.ensures c.key_for.ensures.call c.key_for.ensures.worn in
+    took_then (known_of c.args.pass) (known_of c.plain-answer.result.1) (known_of c.take_under.result.1) c.args.at c.args.entry c.take_under.result.0 (told_knows (was_told c.in-Ok.is key)) c.take_under.ensures.took
+
+pub returns-in-Err-clause-took : goal.returns-in-Err-clause-took
+returns-in-Err-clause-took g c =
+    let P : Past → Option (List ℕ) → Type 0 = λ before key. key ≡ key_at before c.as_slice.result.now in
+    took_none P (known_of c.args.pass) (known_of c.plain-answer.result.1) c.args.at c.args.entry c.in-Err.fault c.worn.result c.in-Err.is
+    (told P c.key_for.result c.plain-answer.ensures c.worn.ensures c.key_for.ensures.call c.key_for.ensures.worn)
+
+pub returns-in-Err-clause-worn : goal.returns-in-Err-clause-worn
+returns-in-Err-clause-worn g c =
+    worn_at c.plain-answer.result.1 c.worn.result c.in-Err.fault c.in-Err.is (told_worn c.args.pass c.key_for.result c.plain-answer.result c.worn.result c.plain-answer.ensures c.worn.ensures c.key_for.ensures.worn)

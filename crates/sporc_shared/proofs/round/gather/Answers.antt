@@ -1,4 +1,5 @@
-use Rattle.std.proofs.Common.{ℕ, ◌+◌, List, ap, length, subst}
+use Rattle.std.proofs.Common.{◌≡◌, ℕ, ◌+◌, List, ap, length, subst, ◌∙◌}
+use Rattle.std.specs.Vec.Iter.{into_iter_items}
 use Rattle.sporc_turn.specs.Passes.{known_of}
 use Rattle.sporc_shared.specs.Outcomes.{TookAll}
 use Rattle.sporc_shared.proofs.Rounding.{gather_err, gather_ok}
@@ -7,18 +8,18 @@ use Rattle.sporc_shared.proofs.round.gather.Goals as goal
 
 pub returns-in-Ok-took-clause-gathered : goal.returns-in-Ok-took-clause-gathered
 returns-in-Ok-took-clause-gathered g c =
-    gather_ok c.in-Ok.entries c.in-Ok-took.is (ap (λ (l : List (List ℕ)). c.args.at + length l) c.as_slice-came.ensures.value) c.in-Ok.ensures.ok
-    (subst (λ es. TookAll (known_of c.args.pass) (known_of c.take_all-took.result.1) c.args.at es c.take_all-took.result.0) c.as_slice-came.ensures.value c.take_all-took.ensures.took)
+    gather_ok c.in-Ok.entries c.in-Ok-took.is (ap (λ (l : List (List ℕ)). c.args.at + length l) c.as_slice-count.ensures.value) c.in-Ok.ensures.ok
+    (subst (λ es. TookAll (known_of c.args.pass) (known_of c.take_all-took.result.1) c.args.at es c.take_all-took.result.0) (c.into_iter-came.ensures.rest ∙ c.into_vec.ensures.value) c.take_all-took.ensures.took)
 
-pub returns-in-Ok-clause-gathered : goal.returns-in-Ok-clause-gathered
-returns-in-Ok-clause-gathered g c =
+pub returns-in-Err-took-clause-gathered : goal.returns-in-Err-took-clause-gathered
+returns-in-Err-took-clause-gathered g c =
     gather_err c.in-Ok.entries c.in-Err-took.is c.in-Ok.ensures.ok
-    (subst (λ es. TookAll (known_of c.args.pass) (known_of c.take_all-took.result.1) c.args.at es c.take_all-took.result.0) c.as_slice-came.ensures.value c.take_all-took.ensures.took)
+    (subst (λ es. TookAll (known_of c.args.pass) (known_of c.take_all-took.result.1) c.args.at es c.take_all-took.result.0) (c.into_iter-came.ensures.rest ∙ c.into_vec.ensures.value) c.take_all-took.ensures.took)
 
-pub returns-in-Ok-clause-worn : goal.returns-in-Ok-clause-worn
-returns-in-Ok-clause-worn g c =
+pub returns-in-Err-took-clause-worn : goal.returns-in-Err-took-clause-worn
+returns-in-Err-took-clause-worn g c =
     worn_at c.take_all-took.result.1 c.take_all-took.result.0 c.in-Err-took.fault c.in-Err-took.is c.take_all-took.ensures.worn
 
-pub returns-clause-worn : goal.returns-clause-worn
-returns-clause-worn g c =
+pub returns-in-Err-clause-worn : goal.returns-in-Err-clause-worn
+returns-in-Err-clause-worn g c =
     asked_unworn c.args.pass _ _ _ c.in-Err.fault c.in-Err.ensures.err
