@@ -2,3 +2,5 @@ pub mod Asking
 pub mod Scripts
 pub mod Members
 pub mod Outcomes
+pub mod LeafFiles
+pub mod Lives

@@ -1,7 +1,7 @@
 -- The leaf file of a member, as its disk is lent and opened.
 use Rattle.std.specs.Prelude.{◌≡◌, ◌≢◌, ℕ, ◌*◌, List, length, Option, IfSome}
 use Rattle.lms_leaf.specs.declared.leaf_file.TheConstants.{LEAVES_PER_BLOCK}
-use Rattle.lms_leaf.specs.LeafFile.{block_count, taken_blocks}
+use Rattle.lms_leaf.specs.LeafFile.{IsPassed, block_count, taken_blocks}
 use Rattle.lms_leaf.specs.Leaves.{LeavesModel}
 use Rattle.sporc_outside.specs.Counts.{Rose}
 use Rattle.sporc_outside.specs.Files.{HasNoFile, IsTooLong}
@@ -32,3 +32,7 @@ IsLeafFileFault stored before after member height faults.Outside = Rose before a
 IsLeafFileFault stored before after member height (faults.Malformed file len) =
     (file ≡ Leaf member) × (len ≢ block_count height) × IfSome stored (λ bytes. len ≡ length bytes)
 IsLeafFileFault stored before after member height fault = ⊥
+
+-- by what a crash may leave before and after: each leaf that was passed still is
+abbrev pub KeepsPassed : (List ℕ → Type 0) → (List ℕ → Type 0) → Type 0
+KeepsPassed old new = (leaf : ℕ) → IsPassed old leaf → IsPassed new leaf

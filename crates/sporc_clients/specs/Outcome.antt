@@ -25,7 +25,7 @@ use Rattle.sporc_sessions.specs.Opening.{Begin}
 use Rattle.sporc_sessions.specs.Sessions.{ChanceTold, Plan}
 use Rattle.sporc_clients.specs.declared.member_files.MemberFiles.{MemberFiles}
 use Rattle.sporc_clients.specs.Causes.{fault_of_attending, first_fault}
-use Rattle.sporc_clients.specs.LeafFile.{IsLendFault, IsLeafFileFault, IsOpened}
+use Rattle.sporc_clients.specs.LeafFile.{IsLeafFileFault, IsLendFault, IsOpened, KeepsPassed}
 use Rattle.sporc_clients.specs.MemberFiles.{IsMemberFault, SayMember, own_files}
 
 -- ---- what a call found and left
@@ -115,7 +115,7 @@ plan_of words m = record { rounds = words.rounds; until = words.until; editors =
 
 -- how the member signs, over its leaves
 abbrev pub signs_with : {D : Type 0} → MemberFiles → LeavesModel D → Signs
-signs_with m leaves = record { key = m.tree; first_leaf = leaves.next_at_open }
+signs_with m leaves = record { key = m.tree; first_leaf = leaves.next }
 
 -- ---- a session over the disk of the leaf file
 
@@ -143,11 +143,13 @@ module _ {L D : Type 0} (view : LinkView L) (disks : DiskView D) (words : Words)
     pub taken : LeavesAreTaken (disks.images last) past
     pub answers : answer ≡ first_fault (disks.faults last) session printed saved
 
-  -- why no session began: the leaf file is none of the key's, the saved history was not read, or the client could not go on with it
+  -- why no session began: the leaf file is none of the key's; behind its opening, the saved history was not read; or the client could not go on
+  -- with it
   pub data NotWorked (first last : D) (fault : Fault) : Type 0 where
     no_leaves : IsLeafFileFault (disks.stored first) (disks.faults first) (disks.faults last) words.member (height_of m.tree.lms) fault
         → did.net.after ≡ did.net.before → NotWorked first last fault
-    no_history : IsFileFault any_bytes did.folder.files_before did.folder.faults_before did.folder.faults_after (names_of words) (History words.member) fault
+    no_history : {leaves : LeavesModel D} → IsOpened (disks.stored first) (disks.stored leaves.disk) leaves
+        → IsFileFault any_bytes did.folder.files_before did.folder.faults_before did.folder.faults_after (names_of words) (History words.member) fault
         → did.net.after ≡ did.net.before → NotWorked first last fault
     no_session : {leaves : LeavesModel D} {history : Option (List ℕ)} {cause : AttendFault} → IsReady first leaves history
         → NotAttended view (begin_of words m) history did.net.before did.net.after did.net.faults_before did.net.faults_after cause
@@ -156,7 +158,8 @@ module _ {L D : Type 0} (view : LinkView L) (disks : DiskView D) (words : Words)
   -- by the answer
   pub data DiskOutcome (first last : D) : Result ⊤ Fault → Type 0 where
     worked : {answer : Result ⊤ Fault} → Worked first last answer → DiskOutcome first last answer
-    not_worked : {fault : Fault} → NotWorked first last fault → IsUntouched did → disks.stored last ≡ disks.stored first → DiskOutcome first last (Err fault)
+    not_worked : {fault : Fault} → NotWorked first last fault → IsUntouched did → disks.stored last ≡ disks.stored first
+        → KeepsPassed (disks.images first) (disks.images last) → DiskOutcome first last (Err fault)
 
 -- ---- the whole command
 

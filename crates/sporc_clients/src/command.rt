@@ -73,7 +73,7 @@ where
 {
     let names = names_of(words);
     let editors = words.scripts.as_slice().len() as u32;
-    let member = read_member(alloc, files, &names, words.member, editors)?;
+    let member = read_member(rt, alloc, files, &names, words.member, editors)?;
     let disk = lend_disk(alloc, files, &names, words.member)?;
     let (result, disk) = with_disk(
         rt, alloc, words, member, disk, out, files, net, chance, gate,

@@ -7,7 +7,7 @@ ghost use Rattle.sporc_outside.specs.Files.{IsDiskOf};
 ghost use Rattle.sporc_files.specs.declared.file.File.{File};
 ghost use Rattle.sporc_files.specs.Names.{file_name};
 ghost use Rattle.sporc_files.specs.Uses.{AsksOnly};
-ghost use Rattle.sporc_clients.specs.LeafFile.{IsLendFault, IsOpened, IsLeafFileFault};
+ghost use Rattle.sporc_clients.specs.LeafFile.{IsLeafFileFault, IsLendFault, IsOpened, KeepsPassed};
 
 use lms_leaf::{LeafOpenFault, Leaves};
 use lms_sign::Signer;
@@ -44,6 +44,7 @@ pub(crate) fn lend_disk<F: Folder>(
 }
 
 /// The signer of a member over the disk of its leaf file. A disk of another length is malformed at its length.
+#[tactic(auto, using(crate::proofs::LeafFiles::keeps_passed, crate::proofs::LeafFiles::kept_to))]
 pub(crate) fn open_signer<D: LeafDisk>(
     alloc: Global,
     disk: D,
@@ -53,8 +54,10 @@ pub(crate) fn open_signer<D: LeafDisk>(
     requires height { IsLeafHeight (height_of tree.lms) }
     ensures ok { IfOk result (λ signer. IsOpened (D.stored disk) (D.stored signer.leaves.disk) signer.leaves) }
     ensures key { IfOk result (λ signer. signer.key ≡ tree) }
+    ensures kept { IfOk result (λ signer. KeepsPassed (D.images disk (D.moment disk)) (D.images signer.leaves.disk (D.moment signer.leaves.disk))) }
     ensures err { IfErr result (λ e. IsLeafFileFault (D.stored disk) (D.faults disk) (D.faults e.1) member (height_of tree.lms) e.0) }
     ensures unwritten { IfErr result (λ e. D.stored e.1 ≡ D.stored disk) }
+    ensures kept_back { IfErr result (λ e. KeepsPassed (D.images disk (D.moment disk)) (D.images e.1 (D.moment e.1))) }
 {
     let height = tree.public().lms.height();
     match Leaves::open(alloc, disk, height) {

@@ -15,7 +15,8 @@
 //! printed and saved however the session ended, and the session's fault comes first. Where no session began, nothing is
 //! printed, no file has changed, and no word of the chance is taken; the fault names its cause. Whatever came of it, the files
 //! asked for are the member's and its editors' scripts, and no others; links are asked for at the address alone, two at most;
-//! each disk is back, and each link, shut; and no count of faults has fallen.
+//! each disk is back, and each link, shut; and no count of faults has fallen. Over runs one behind another no leaf signs twice
+//! ([`laws`]).
 //!
 //! Only tested: two members who work with a server, each status that a session ends with, and each call outside failing in
 //! turn (`sporc_commands_tests`). Neither: that the server answers.
@@ -23,6 +24,7 @@
 
 mod causes;
 mod command;
+pub mod laws;
 mod leaf_file;
 mod member_files;
 

@@ -19,6 +19,7 @@ use sporc_keys::RingFile;
 use sporc_outside::Folder;
 use sporc_script::{EditorScript, LineFault, read_editor};
 use std::alloc::Global;
+use std::thread::Threads;
 
 /// What the files of a member say, and its editors' scripts.
 #[derive(Drop)]
@@ -32,7 +33,8 @@ pub struct MemberFiles {
 
 /// Reads the files of a member and the scripts of so many editors: the genesis, the key, the ring, and then the scripts. The
 /// first that fails decides.
-pub fn read_member<F: Folder>(
+pub fn read_member<R: Threads + Sync, F: Folder>(
+    rt: &R,
     alloc: Global,
     files: &mut F,
     names: &Names<'_>,
@@ -49,7 +51,7 @@ pub fn read_member<F: Folder>(
     ensures kept { F.faults files.old ≤ F.faults files.new }
 {
     let genesis = read_genesis_file(alloc, files, names)?;
-    let tree = read_own_key(alloc, files, names, member, &genesis)?;
+    let tree = read_own_key(rt, alloc, files, names, member, &genesis)?;
     let ring = read_ring_file(alloc, files, names, member)?;
     let editors = read_scripts(alloc, files, names, editors)?;
     Ok(MemberFiles {

@@ -22,6 +22,7 @@ use sporc_keys::{Malformed, RingFile, RingFileFault, key_of_member, ring_of_memb
 use sporc_member::Founder;
 use sporc_outside::{FileFault, Folder};
 use std::alloc::Global;
+use std::thread::Threads;
 
 // What a fault of a folder's call on this file is.
 pub(crate) fn fault_of_file(file: File, fault: FileFault) -> Fault
@@ -106,7 +107,8 @@ pub fn read_genesis_file<F: Folder>(
 
 /// The private key of a member, with its tree, which takes as long as building it. The file of another member is malformed
 /// at 4.
-pub fn read_key_file<F: Folder>(
+pub fn read_key_file<R: Threads + Sync, F: Folder>(
+    rt: &R,
     alloc: Global,
     files: &mut F,
     names: &Names<'_>,
@@ -124,7 +126,7 @@ pub fn read_key_file<F: Folder>(
     let bytes = read_bytes(alloc, files, names, File::Key(member))?;
     match key_of_member(bytes.as_slice(), member) {
         Ok(file) => {
-            let tree = file.tree(alloc)?;
+            let tree = file.tree(rt, alloc)?;
             Ok(tree)
         }
         Err(Malformed(at)) => Err(Fault::Malformed(File::Key(member), at as u64)),
@@ -133,7 +135,8 @@ pub fn read_key_file<F: Folder>(
 
 /// The private key of a member of a document, with its tree. The file of another member, or with another key than the member
 /// founded the document with, is malformed at 4.
-pub fn read_own_key<F: Folder>(
+pub fn read_own_key<R: Threads + Sync, F: Folder>(
+    rt: &R,
     alloc: Global,
     files: &mut F,
     names: &Names<'_>,
@@ -149,7 +152,7 @@ pub fn read_own_key<F: Folder>(
     ensures may_ask { AsksOnly (file_name names.now (File.Key member) ∷ []) (F.asked files.old) (F.asked files.new) }
     ensures kept { F.faults files.old ≤ F.faults files.new }
 {
-    let tree = read_key_file(alloc, files, names, member)?;
+    let tree = read_key_file(rt, alloc, files, names, member)?;
     let founder = founder_with(genesis.founders.as_slice(), member);
     if !is_key_of(founder, &tree.public()) {
         return Err(Fault::Malformed(File::Key(member), 4));

@@ -3,6 +3,7 @@
 use compares::histories_are_compared;
 use examines::histories_are_examined;
 use loads::histories_are_loaded;
+use many::histories_are_loaded_by_many;
 use serves::logs_are_saved;
 use sporc_samples::{Cast, History, short_history};
 use std::alloc::Global;
@@ -15,10 +16,12 @@ mod examines;
 mod files;
 mod folder;
 mod loads;
+mod many;
 mod serves;
 
 fn is_used<R: Threads + Wait + Sync + Abort>(rt: &R, alloc: Global, cast: &Cast, sample: &History) {
     histories_are_loaded(rt, alloc, cast, sample);
+    histories_are_loaded_by_many(rt, alloc, cast, sample);
     histories_are_examined(rt, alloc, cast, sample);
     histories_are_compared(rt, alloc, cast, sample);
     logs_are_saved(rt, alloc, cast, sample);

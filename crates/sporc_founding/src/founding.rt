@@ -20,11 +20,13 @@ use sporc_keys::{Founding, Named, RingFile, write_ring_file};
 use sporc_outside::{Chance, Folder};
 use sporc_words::{Found, Participant, Standing};
 use std::alloc::Global;
+use std::thread::Threads;
 
 /// Makes a document of its founders' keys and of words of the chance, and writes its genesis and the ring of each who is named,
 /// in ascending order of their numbers, in place of files with these names. The founders' key files are read in the order of
 /// the words; those of joiners are not.
-pub fn found<F: Folder, C: Chance>(
+pub fn found<R: Threads + Sync, F: Folder, C: Chance>(
+    rt: &R,
     alloc: Global,
     files: &mut F,
     chance: &mut C,
@@ -41,14 +43,15 @@ pub fn found<F: Folder, C: Chance>(
     ensures chance_kept { C.faults chance.old ≤ C.faults chance.new }
 {
     let names = Names::of_document(asked.name.as_str());
-    let named = read_founders(alloc, files, &names, asked.participants.as_slice())?;
+    let named = read_founders(rt, alloc, files, &names, asked.participants.as_slice())?;
     let founding = make_founding(alloc, chance, named.as_slice())?;
     write_founding(alloc, files, &names, &founding)?;
     Ok(())
 }
 
 // Those who are named, the founders by their key files.
-fn read_founders<F: Folder>(
+fn read_founders<R: Threads + Sync, F: Folder>(
+    rt: &R,
     alloc: Global,
     files: &mut F,
     names: &Names<'_>,
@@ -63,14 +66,15 @@ fn read_founders<F: Folder>(
 {
     let mut named = Vec::new(alloc);
     for participant in participants {
-        let one = read_named(alloc, files, names, participant)?;
+        let one = read_named(rt, alloc, files, names, participant)?;
         named.push(one)?;
     }
     Ok(named)
 }
 
 // One who is named.
-fn read_named<F: Folder>(
+fn read_named<R: Threads + Sync, F: Folder>(
+    rt: &R,
     alloc: Global,
     files: &mut F,
     names: &Names<'_>,
@@ -88,7 +92,7 @@ fn read_named<F: Folder>(
     match participant.standing {
         Standing::Joiner => Ok(Named::Joiner { member }),
         Standing::Founder(role) => {
-            let tree = read_key_file(alloc, files, names, member)?;
+            let tree = read_key_file(rt, alloc, files, names, member)?;
             let key = tree.public();
             Ok(Named::Founder { member, role, key })
         }

@@ -18,10 +18,12 @@ use sporc_keys::{NewKey, write_key_file};
 use sporc_outside::{Chance, Folder, Sink, write_all};
 use sporc_words::Keygen;
 use std::alloc::Global;
+use std::thread::Threads;
 
 /// Makes a member's key of two words of the chance, writes its files, and prints its public key. No file is overwritten:
 /// if there is a key file, nothing is written, and if there is a leaf file alone, the key file is.
-pub fn keygen<F: Folder, C: Chance, O: Sink>(
+pub fn keygen<R: Threads + Sync, F: Folder, C: Chance, O: Sink>(
+    rt: &R,
     alloc: Global,
     files: &mut F,
     chance: &mut C,
@@ -41,7 +43,7 @@ pub fn keygen<F: Folder, C: Chance, O: Sink>(
     ensures chance_kept { C.faults chance.old ≤ C.faults chance.new }
     ensures out_kept { O.faults out.old ≤ O.faults out.new }
 {
-    let key = make_key(alloc, chance, asked)?;
+    let key = make_key(rt, alloc, chance, asked)?;
     let line = key_line(alloc, &key.public)?;
     let names = Names::of_document(asked.name.as_str());
     write_files(alloc, files, &names, &key)?;
@@ -50,7 +52,12 @@ pub fn keygen<F: Folder, C: Chance, O: Sink>(
 }
 
 // The key, before anything is written.
-fn make_key<C: Chance>(alloc: Global, chance: &mut C, asked: &Keygen) -> Result<NewKey, Fault>
+fn make_key<R: Threads + Sync, C: Chance>(
+    rt: &R,
+    alloc: Global,
+    chance: &mut C,
+    asked: &Keygen,
+) -> Result<NewKey, Fault>
     requires height { IsLeafHeight (height_of asked.now.height) }
     requires width { IsKeyWidth asked.now.width }
     ensures ok { IfOk result (λ key. IsKeygen (C.given chance.old) (C.given chance.new)
@@ -59,7 +66,7 @@ fn make_key<C: Chance>(alloc: Global, chance: &mut C, asked: &Keygen) -> Result<
     ensures err { IfErr result (IsOutsideFault (C.faults chance.old) (C.faults chance.new)) }
     ensures kept { C.faults chance.old ≤ C.faults chance.new }
 {
-    match sporc_keys::keygen(alloc, chance, asked.member, asked.height, asked.width) {
+    match sporc_keys::keygen(rt, alloc, chance, asked.member, asked.height, asked.width) {
         Ok(key) => Ok(key),
         Err(fault) => Err(Fault::from(fault)),
     }

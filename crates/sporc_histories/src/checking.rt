@@ -12,18 +12,23 @@ use sporc_base::Memory;
 use sporc_files::{
     Fault, File, Names, read_bytes, read_genesis_file, read_own_key, read_ring_file,
 };
-use sporc_outside::{Folder, Sink, write_all};
+use sporc_outside::{Folder, Gate, Sink, write_all};
 use std::alloc::Global;
 use std::fmt::Write;
+use std::sync::Wait;
+use std::thread::Threads;
 
 /// `check NAME M` examines the saved history of a member of a document, entry by entry, with the member's own keys, and
-/// writes `checked LEN`, how many entries it has. Who is no founder takes the keys of earlier epochs from the history.
-pub fn check<F: Folder, O: Sink>(
+/// writes `checked LEN`, how many entries it has. Who is no founder takes the keys of earlier epochs from the history. The
+/// signatures are examined by [`LOADERS`](sporc_store::LOADERS) workers.
+pub fn check<R: Threads + Wait + Sync, F: Folder, O: Sink, G: Gate + Sync>(
+    rt: &R,
     alloc: Global,
     files: &mut F,
     out: &mut O,
     names: &Names<'_>,
     member: u16,
+    gate: &G,
 ) -> Result<(), Fault>
     ensures outcome { CheckOutcome names.now member
         (folder_use F.files F.asked F.lent F.faults files.old files.new)
@@ -31,18 +36,20 @@ pub fn check<F: Folder, O: Sink>(
         result }
     ensures out_kept { O.faults out.old ≤ O.faults out.new }
 {
-    let len = read_checked(alloc, files, names, member)?;
+    let len = read_checked(rt, alloc, files, names, member, gate)?;
     let line = checked_line(alloc, len)?;
     write_all(out, line.as_bytes())?;
     Ok(())
 }
 
 // How many entries the saved history of a member has, all of which it accepts.
-fn read_checked<F: Folder>(
+fn read_checked<R: Threads + Wait + Sync, F: Folder, G: Gate + Sync>(
+    rt: &R,
     alloc: Global,
     files: &mut F,
     names: &Names<'_>,
     member: u16,
+    gate: &G,
 ) -> Result<u32, Fault>
     ensures found { FindsChecked (F.files files.old) names.now member (F.faults files.old) (F.faults files.new) result }
     ensures files { F.files files.new ≡ F.files files.old }
@@ -54,10 +61,10 @@ fn read_checked<F: Folder>(
     ensures kept { F.faults files.old ≤ F.faults files.new }
 {
     let genesis = read_genesis_file(alloc, files, names)?;
-    read_own_key(alloc, files, names, member, &genesis)?;
+    read_own_key(rt, alloc, files, names, member, &genesis)?;
     let ring = read_ring_file(alloc, files, names, member)?;
     let history = read_bytes(alloc, files, names, File::History(member))?;
-    examine(alloc, genesis, member, &ring, history.as_slice())
+    examine(rt, alloc, genesis, member, &ring, history.as_slice(), gate)
 }
 
 // The line that says how many entries there are.

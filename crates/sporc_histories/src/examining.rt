@@ -12,23 +12,28 @@ use sporc_epoch::{Pairs, Ring, hints_from};
 use sporc_files::{Fault, File};
 use sporc_keys::RingFile;
 use sporc_line::Line;
-use sporc_store::{Stop, load};
+use sporc_outside::Gate;
+use sporc_store::{LOADERS, Stop, load_many};
 use std::alloc::Global;
+use std::sync::Wait;
+use std::thread::Threads;
 
 // How many entries a saved history has, if a member with this ring opens it and accepts all of it.
-pub(crate) fn examine(
+pub(crate) fn examine<R: Threads + Wait + Sync, G: Gate + Sync>(
+    rt: &R,
     alloc: Global,
     genesis: Genesis,
     member: u16,
     ring: &RingFile,
     history: &[u8],
+    gate: &G,
 ) -> Result<u32, Fault>
     requires { IsGenesis genesis }
     ensures value { AnswersUnlessOutside (λ len. len) ⊥ result (examined genesis member ring.now history.now) }
 {
     let pairs = ring.pairs(alloc)?;
     let keys = keys_of(alloc, member, ring, &pairs, &genesis.document, history)?;
-    accept(alloc, genesis, member, keys, pairs, history)
+    accept(rt, alloc, genesis, member, keys, pairs, history, gate)
 }
 
 // The keys of epochs that a member begins with: a founder's key of epoch 0, or a joiner's hints.
@@ -69,13 +74,15 @@ fn hints_of(
 }
 
 // How many entries a saved history has, if a member with these keys opens it and accepts all of it.
-fn accept(
+fn accept<R: Threads + Wait + Sync, G: Gate + Sync>(
+    rt: &R,
     alloc: Global,
     genesis: Genesis,
     member: u16,
     keys: Ring,
     pairs: Pairs,
     history: &[u8],
+    gate: &G,
 ) -> Result<u32, Fault>
     requires { IsGenesis genesis }
     ensures value { AnswersUnlessOutside (λ len. len) ⊥ result (accepted_in genesis member (pairs_in pairs) history.now keys.keys) }
@@ -84,7 +91,7 @@ fn accept(
         Ok(line) => line,
         Err(fault) => return Err(Fault::from(fault)),
     };
-    match load(alloc, history, line) {
+    match load_many(rt, alloc, history, line, LOADERS, gate) {
         Ok((line, stop)) => whole_len(member, &line, stop),
         Err(_) => Err(Fault::Memory),
     }

@@ -5,7 +5,7 @@
 //! - [`serve`]: serves sessions from the log of a document, and saves the log.
 //!
 //! ```text
-//! check(alloc, files, out, &names, 2)              // `checked 3`, or Fault::Refused(2, Refusal::BadSignature)
+//! check(rt, alloc, files, out, &names, 2, &OpenGate)    // `checked 3`, or Fault::Refused(2, Refusal::BadSignature)
 //! compare(alloc, files, out, &names, 1, 2)         // `1 2 forked after 3`
 //! serve(rt, alloc, files, net, out, &names, "localhost:4000", 8, &OpenGate)    // `log 12`
 //! ```

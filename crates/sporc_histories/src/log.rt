@@ -15,16 +15,20 @@ use sporc_base::Memory;
 use sporc_entry::Genesis;
 use sporc_files::{Fault, File, Names, read_genesis_file, read_if_there, write_whole_file};
 use sporc_order::Order;
-use sporc_outside::{Folder, Sink, write_all};
-use sporc_store::{Stop, load_order, save};
+use sporc_outside::{Folder, Gate, Sink, write_all};
+use sporc_store::{LOADERS, Stop, load_order_many, save};
 use std::alloc::Global;
 use std::fmt::Write;
+use std::sync::Wait;
+use std::thread::Threads;
 
 // The order in the log of a document, or an empty one if there is no log.
-pub(crate) fn read_order<F: Folder>(
+pub(crate) fn read_order<R: Threads + Wait + Sync, F: Folder, G: Gate + Sync>(
+    rt: &R,
     alloc: Global,
     files: &mut F,
     names: &Names<'_>,
+    gate: &G,
 ) -> Result<Order, Fault>
     ensures found { FindsOrder (F.files files.old) names.now (F.faults files.old) (F.faults files.new) result }
     ensures files { F.files files.new ≡ F.files files.old }
@@ -35,7 +39,7 @@ pub(crate) fn read_order<F: Folder>(
     let genesis = read_genesis_file(alloc, files, names)?;
     let log = read_if_there(alloc, files, names, File::Log)?;
     match log {
-        Some(bytes) => order_of(alloc, genesis, bytes.as_slice()),
+        Some(bytes) => order_of(rt, alloc, genesis, bytes.as_slice(), gate),
         None => {
             let order = Order::open(alloc, genesis)?;
             Ok(order)
@@ -44,12 +48,18 @@ pub(crate) fn read_order<F: Folder>(
 }
 
 // The order that a log holds, if it is whole and each entry is accepted.
-fn order_of(alloc: Global, genesis: Genesis, bytes: &[u8]) -> Result<Order, Fault>
+fn order_of<R: Threads + Wait + Sync, G: Gate + Sync>(
+    rt: &R,
+    alloc: Global,
+    genesis: Genesis,
+    bytes: &[u8],
+    gate: &G,
+) -> Result<Order, Fault>
     requires { IsGenesis genesis }
     ensures value { AnswersUnlessOutside (λ order. order) ⊥ result (logged_in genesis bytes.now) }
 {
     let empty = Order::open(alloc, genesis)?;
-    match load_order(alloc, bytes, empty) {
+    match load_order_many(rt, alloc, bytes, empty, LOADERS, gate) {
         Ok((order, stop)) => whole_order(order, stop),
         Err(_) => Err(Fault::Memory),
     }

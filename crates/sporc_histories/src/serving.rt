@@ -50,7 +50,7 @@ where
     ensures net_kept { N.faults net.old ≤ N.faults net.new }
     ensures out_kept { O.faults out.old ≤ O.faults out.new }
 {
-    let order = read_order(alloc, files, names)?;
+    let order = read_order(rt, alloc, files, names, gate)?;
     let (order, served) = serve_sessions(rt, alloc, net, address, order, sessions, gate);
     let kept = keep_log(alloc, files, out, names, &order);
     end(served, kept)

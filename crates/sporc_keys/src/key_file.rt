@@ -17,6 +17,10 @@ use sporc_base::Memory;
 use sporc_bytes::{Cursor, Out, Short};
 use sporc_entry::HIGHEST_MEMBER;
 use std::alloc::Global;
+use std::thread::Threads;
+
+// How many workers build a tree.
+const BUILDERS: u32 = 4;
 
 /// A member's key: the two types, the identifier `I` and the seed of its tree (RFC 8554, section 5.2 and Appendix A). In
 /// a file the tree has height 5, 10 or 15, and the one-time keys W4 or W8.
@@ -30,11 +34,13 @@ pub struct KeyFile {
 }
 
 impl KeyFile {
-    /// The tree of the key, which costs as much as [`Tree::build`].
-    pub fn tree(&self, alloc: Global) -> Result<Tree, Memory>
+    /// The tree of the key, which four workers build.
+    pub fn tree<R: Threads + Sync>(&self, rt: &R, alloc: Global) -> Result<Tree, Memory>
         ensures value { IfOk result (λ tree. tree ≡ private_in self.now) }
     {
-        Tree::build(alloc, &self.seed, &self.id, self.lms, self.ots)
+        Tree::build_by_workers(
+            rt, alloc, &self.seed, &self.id, self.lms, self.ots, BUILDERS,
+        )
     }
 }
 

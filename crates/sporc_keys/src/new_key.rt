@@ -17,6 +17,7 @@ use lms_tree::{LmsPublic, LmsType};
 use sporc_base::{Bytes, Memory};
 use sporc_outside::Chance;
 use std::alloc::Global;
+use std::thread::Threads;
 
 /// A key that is new: its file, its public key, and the bytes of its leaf file, of which no leaf is taken.
 #[derive(Drop)]
@@ -26,9 +27,10 @@ pub struct NewKey {
     pub leaves: Bytes,
 }
 
-/// A new key of a member, made of two words of the chance: `I` is the first 16 bytes of the one, `SEED` the other. It
-/// builds the tree, as [`lms_tree::Tree::build`] does.
-pub fn keygen<C: Chance>(
+/// A new key of a member, made of two words of the chance: `I` is the first 16 bytes of the one, `SEED` the other. Its
+/// tree is built, as [`KeyFile::tree`] builds it.
+pub fn keygen<R: Threads + Sync, C: Chance>(
+    rt: &R,
     alloc: Global,
     chance: &mut C,
     member: u16,
@@ -52,17 +54,17 @@ pub fn keygen<C: Chance>(
         id: prefix_of(&first),
         seed,
     };
-    let key = key_of(alloc, file)?;
+    let key = key_of(rt, alloc, file)?;
     Ok(key)
 }
 
 // The key of a key file that is new.
-fn key_of(alloc: Global, file: KeyFile) -> Result<NewKey, Memory>
+fn key_of<R: Threads + Sync>(rt: &R, alloc: Global, file: KeyFile) -> Result<NewKey, Memory>
     requires { IsLeafHeight (height_of file.lms) }
     ensures { IfOk result (λ key. key ≡ made_of file) }
 {
     let leaves = blank(alloc, file.lms.height())?;
-    let tree = file.tree(alloc)?;
+    let tree = file.tree(rt, alloc)?;
     Ok(NewKey {
         file,
         public: tree.public(),

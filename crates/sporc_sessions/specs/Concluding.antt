@@ -1,5 +1,5 @@
 -- What is printed and saved once a session has ended, and what stands of the leaf file.
-use Rattle.std.specs.Prelude.{◌≡◌, ◌<◌, ℕ, List, length, Option, option_map, Result, Ok, Err, ⊤}
+use Rattle.std.specs.Prelude.{◌≡◌, ◌+◌, ◌<◌, ◌≤◌, ℕ, List, length, Option, option_map, Result, Ok, Err, ⊤}
 use Rattle.std.specs.Io.KnownBytes.{Appends}
 use Rattle.lms_leaf.specs.LeafFile.{ArePassed, AreTaken}
 use Rattle.sporc_client.specs.ClientModel.{Rise, leaves_of}
@@ -47,10 +47,12 @@ SaveOutcome past name files (Err keeping.Folder) = Rose files.faults_before file
 SaveOutcome past name files (Err keeping.TooLong) = (MAX_FILE < length (history_bytes past)) × (files.after ≡ files.before)
 SaveOutcome past name files (Err keeping.Memory) = files.after ≡ files.before
 
--- the leaves of a log's submissions rise from the first on, each once, and no crash makes their blocks of the leaf file free again; whatever a
--- crash leaves, a later opening goes on at the next leaf or above it
+-- the leaves of a log's submissions rise from the first on, each once, and one more at most was drawn; no crash makes the blocks of any of them free
+-- again; whatever a crash leaves, a later opening goes on at the next leaf or above it
 pub record LeavesAreTaken (images : List ℕ → Type 0) (past : Past) : Type 0 where
   pub next : ℕ
+  pub forward : past.first_leaf ≤ next
+  pub few : next ≤ past.first_leaf + length (leaves_of past.log) + 1
   pub rise : Rise past.first_leaf next (leaves_of past.log)
   pub taken : AreTaken images past.first_leaf next
   pub passed : ArePassed images next

@@ -80,7 +80,7 @@ where
         (net_told (N.asked net.old) (N.coming net.old) (N.returned net.old) (N.link_faults net.old))
         (net_told (N.asked net.new) (N.coming net.new) (N.returned net.new) (N.link_faults net.new))
         (record { rounds = rounds; until = until; editors = editors.now })
-        (record { key = signer.key; first_leaf = signer.leaves.next_at_open })
+        (record { key = signer.key; first_leaf = signer.leaves.next })
         (past_of ended.client)
         (chance_told C.given C.faults chance.old)
         (chance_told C.given C.faults chance.new)
@@ -114,7 +114,7 @@ where
         Ok(line) => line,
         Err(fault) => return Err((AttendFault::Open(fault), signer)),
     };
-    let client = match resume(alloc, line, saved, signer) {
+    let client = match resume(rt, alloc, line, saved, signer, gate) {
         Ok(client) => client,
         Err((ResumeFault::Stopped(stop), signer)) => {
             return Err((AttendFault::Stopped(stop), signer));

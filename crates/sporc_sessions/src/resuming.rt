@@ -11,9 +11,11 @@ use sporc_base::Memory;
 use sporc_client::Client;
 use sporc_keys::RingFile;
 use sporc_line::Line;
-use sporc_outside::LeafDisk;
-use sporc_store::{Stop, load, saved_stop};
+use sporc_outside::{Gate, LeafDisk};
+use sporc_store::{LOADERS, Stop, load_many, saved_stop};
 use std::alloc::Global;
+use std::sync::Wait;
+use std::thread::Threads;
 
 /// Why a saved history is not gone on with.
 #[derive(Clone, Copy)]
@@ -62,11 +64,13 @@ fn before_end(stop: Stop) -> Option<Stop>
 
 /// The client of a member that goes on with the entries of its saved history, each of them an accept by 0, or with none if
 /// there is no such file.
-pub(crate) fn resume<D: LeafDisk>(
+pub(crate) fn resume<R: Threads + Wait + Sync, D: LeafDisk, G: Gate + Sync>(
+    rt: &R,
     alloc: Global,
     line: Line,
     saved: Option<Vec<u8>>,
     signer: Signer<D>,
+    gate: &G,
 ) -> Result<Client<D>, (ResumeFault, Signer<D>)>
     requires empty { line.entries ≡ [] }
     ensures loaded { IfOk result (λ client. (entries : List (List ℕ))
@@ -81,7 +85,7 @@ pub(crate) fn resume<D: LeafDisk>(
         → StopsBefore (loaded_from (a_member line.genesis line.kit) line.genesis.document (option_map (λ bytes. bytes.items) saved)).stop e.0) }
     ensures returned { IfErr result (λ e. e.1 ≡ signer) }
 {
-    match loaded(alloc, line, saved) {
+    match loaded(rt, alloc, line, saved, gate) {
         Ok(line) => match Client::resume(alloc, line, signer) {
             Ok(client) => Ok(client),
             Err((line, signer, _)) => {
@@ -94,7 +98,13 @@ pub(crate) fn resume<D: LeafDisk>(
 }
 
 // The line with the entries of a saved history, if there is one.
-fn loaded(alloc: Global, line: Line, saved: Option<Vec<u8>>) -> Result<Line, ResumeFault>
+fn loaded<R: Threads + Wait + Sync, G: Gate + Sync>(
+    rt: &R,
+    alloc: Global,
+    line: Line,
+    saved: Option<Vec<u8>>,
+    gate: &G,
+) -> Result<Line, ResumeFault>
     requires empty { line.entries ≡ [] }
     ensures loaded { IfOk result (λ full. loaded_from (a_member line.genesis line.kit) line.genesis.document (option_map (λ bytes. bytes.items) saved)
         ≡ read_to full.entries Stop.End) }
@@ -106,7 +116,7 @@ fn loaded(alloc: Global, line: Line, saved: Option<Vec<u8>>) -> Result<Line, Res
     let Some(bytes) = saved else {
         return Ok(line);
     };
-    match load(alloc, bytes.as_slice(), line) {
+    match load_many(rt, alloc, bytes.as_slice(), line, LOADERS, gate) {
         Ok((line, stop)) => match stop {
             Stop::End => Ok(line),
             stop => {

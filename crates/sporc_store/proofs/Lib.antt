@@ -1,3 +1,4 @@
+pub mod Exactly
 pub mod Examples
 pub mod Loads
 pub mod Prefixes

@@ -1,2 +1,3 @@
 pub mod SavedFile
 pub mod Loading
+pub mod Verdicts

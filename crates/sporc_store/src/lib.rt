@@ -7,6 +7,7 @@
 //! - [`read_saved`]: the entries of a file, unchecked, as far as it is whole, and where it stops.
 //! - [`saved_stop`]: where it stops, alone, without memory.
 //! - [`load`], [`load_order`]: the longest prefix of a file's entries that a member's line, or an order, accepts.
+//! - [`load_many`], [`load_order_many`]: the same, with the signatures examined by several workers before.
 //! - [`Stop`]: where reading stops: at the end, at another document's file, at a place that is cut short or forbidden, or
 //!   before an entry that a check refuses.
 //! - [`laws`]: what was saved is read and loaded again, whole, and what is loaded is the longest prefix that is accepted.
@@ -17,27 +18,34 @@
 //! let (line, stop) = load(alloc, file.as_slice(), empty_line)?;   // Stop::Refused(2, Refusal::BadSignature)
 //! ```
 //!
-//! A file is read in one pass, and each entry is copied once, out of the bytes as they stand there. A number of entries takes
-//! no memory before there are as many.
+//! Each entry is copied once, out of the bytes as they stand there, as it is appended. A number of entries takes no memory
+//! before there are as many. Workers examine the signatures under keys that are foretold of the file's changes, which nobody
+//! has checked then; where the author has another key, the check verifies the signature anew.
 //!
 //! Proved: the bytes that `save` gives, and when they are too many; what each call takes of any bytes, and where it
 //! stops; that line and order keep the entries taken if memory runs out; the laws. Only tested: the loading of entries
 //! with real signatures and of files cut at each byte, and that the calls succeed with ample memory
-//! (`sporc_files_tests`). Neither: how long a call takes.
+//! (`sporc_files_tests`), and that workers examine at the same time. Neither: how long a call takes, and that no signature
+//! is verified twice.
 #![tactic(auto)]
 
 mod appending;
 mod fault;
+mod foretelling;
 mod head;
 mod history;
 pub mod laws;
+mod limits;
 mod loading;
 mod reading;
+mod saved_entry;
 mod saving;
 mod stop;
+mod workers;
 
 pub use fault::SaveFault;
-pub use loading::{load, load_order, read_saved, saved_stop};
+pub use limits::{LOADERS, MAX_WORKERS};
+pub use loading::{load, load_many, load_order, load_order_many, read_saved, saved_stop};
 pub use saving::save;
 pub use sporc_base::Memory;
 pub use stop::Stop;

@@ -92,11 +92,13 @@ where
 }
 
 // Examines the history of a member.
-fn check_history<O: Sink, F: Folder>(
+fn check_history<R: Threads + Wait + Sync, O: Sink, F: Folder, G: Gate + Sync>(
+    rt: &R,
     alloc: Global,
     words: &Check,
     out: &mut O,
     files: &mut F,
+    gate: &G,
 ) -> Result<(), Fault>
     ensures outcome { CheckOutcome (names_of_document words.now.name) words.now.member
         (folder_use F.files F.asked F.lent F.faults files.old files.new)
@@ -107,7 +109,7 @@ fn check_history<O: Sink, F: Folder>(
     ensures out_kept { O.faults out.old ≤ O.faults out.new }
 {
     let names = Names::of_document(words.name.as_str());
-    check(alloc, files, out, &names, words.member)
+    check(rt, alloc, files, out, &names, words.member, gate)
 }
 
 // Compares the histories of two members.
@@ -179,11 +181,11 @@ where
     match command {
         Command::Play => play_source(alloc, source, out),
         Command::Generate(edits) => play_edits(alloc, *edits, out),
-        Command::Keygen(words) => keygen(alloc, files, chance, out, words),
-        Command::Found(words) => found(alloc, files, chance, words),
+        Command::Keygen(words) => keygen(rt, alloc, files, chance, out, words),
+        Command::Found(words) => found(rt, alloc, files, chance, words),
         Command::Serve(words) => serve_document(rt, alloc, words, out, files, net, gate),
         Command::Client(words) => client(rt, alloc, words, out, files, net, chance, gate),
-        Command::Check(words) => check_history(alloc, words, out, files),
+        Command::Check(words) => check_history(rt, alloc, words, out, files, gate),
         Command::Compare(words) => compare_histories(alloc, words, out, files),
     }
 }

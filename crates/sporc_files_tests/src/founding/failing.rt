@@ -9,6 +9,7 @@ use sporc_files::Fault;
 use sporc_outside::NamedFile;
 use std::alloc::Global;
 use std::process::Abort;
+use std::thread::Threads;
 
 // The files that `found` reads.
 const KEY_FILES: [(&str, &str); 2] = [("D.1.key", FIRST_KEY), ("D.2.key", SECOND_KEY)];
@@ -21,20 +22,30 @@ fn key_files(rt: &impl Abort, alloc: Global) -> Vec<NamedFile> {
     files
 }
 
-fn keygen_answers(rt: &impl Abort, alloc: Global, failing: Failing, answer: Result<(), Fault>) {
+fn keygen_answers<R: Abort + Threads + Sync>(
+    rt: &R,
+    alloc: Global,
+    failing: Failing,
+    answer: Result<(), Fault>,
+) {
     let mut room = Room::new(rt, alloc, Vec::new(alloc), failing);
     let found = room.make_key(rt, alloc, 1);
     check_answer(rt, "keygen", found, answer);
 }
 
-fn found_answers(rt: &impl Abort, alloc: Global, failing: Failing, answer: Result<(), Fault>) {
+fn found_answers<R: Abort + Threads + Sync>(
+    rt: &R,
+    alloc: Global,
+    failing: Failing,
+    answer: Result<(), Fault>,
+) {
     let mut room = Room::new(rt, alloc, key_files(rt, alloc), failing);
     let found = room.make_document(rt, alloc);
     check_answer(rt, "found", found, answer);
 }
 
 // It writes two files, takes two words, and writes its line in two pieces.
-fn each_call_of_keygen_fails(rt: &impl Abort, alloc: Global) {
+fn each_call_of_keygen_fails<R: Abort + Threads + Sync>(rt: &R, alloc: Global) {
     for call in 1..=2 {
         keygen_answers(rt, alloc, [call, 0, 0], Err(Fault::Outside));
         keygen_answers(rt, alloc, [0, call, 0], Err(Fault::Outside));
@@ -43,7 +54,7 @@ fn each_call_of_keygen_fails(rt: &impl Abort, alloc: Global) {
 }
 
 // It reads two files and writes four, and takes a word for the document, one for the key, and one for each of six pairs.
-fn each_call_of_found_fails(rt: &impl Abort, alloc: Global) {
+fn each_call_of_found_fails<R: Abort + Threads + Sync>(rt: &R, alloc: Global) {
     for call in 1..=6 {
         found_answers(rt, alloc, [call, 0, 0], Err(Fault::Outside));
     }
@@ -53,7 +64,7 @@ fn each_call_of_found_fails(rt: &impl Abort, alloc: Global) {
 }
 
 // The calls behind these are not made, and `found` writes no line.
-fn no_further_call_is_made(rt: &impl Abort, alloc: Global) {
+fn no_further_call_is_made<R: Abort + Threads + Sync>(rt: &R, alloc: Global) {
     keygen_answers(rt, alloc, [3, 3, 3], Ok(()));
     found_answers(rt, alloc, [7, 9, 1], Ok(()));
 }

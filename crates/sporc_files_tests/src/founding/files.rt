@@ -8,6 +8,7 @@ use sporc_files::{Fault, File, Names};
 use sporc_outside::{DiskBytes, NamedFile};
 use std::alloc::Global;
 use std::process::Abort;
+use std::thread::Threads;
 
 /// The key file of member 1.
 pub const FIRST_KEY: &str =
@@ -87,7 +88,7 @@ fn is_told(rt: &impl Abort, alloc: Global, fault: Fault, line: &[u8]) {
     check_same(rt, "a fault's line", sink.as_slice(), line);
 }
 
-fn all_are_made(rt: &impl Abort, alloc: Global) {
+fn all_are_made<R: Abort + Threads + Sync>(rt: &R, alloc: Global) {
     let mut room = Room::new(rt, alloc, Vec::new(alloc), NONE);
     let found = room.make_all(rt, alloc);
     check_answer(rt, "all", found, Ok(()));
@@ -97,12 +98,17 @@ fn all_are_made(rt: &impl Abort, alloc: Global) {
 }
 
 // It is asked for the key of member 1, and answers so.
-fn key_is_made(rt: &impl Abort, alloc: Global, room: &mut Room, answer: Result<(), Fault>) {
+fn key_is_made<R: Abort + Threads + Sync>(
+    rt: &R,
+    alloc: Global,
+    room: &mut Room,
+    answer: Result<(), Fault>,
+) {
     let found = room.make_key(rt, alloc, 1);
     check_answer(rt, "key 1", found, answer);
 }
 
-fn key_is_made_once(rt: &impl Abort, alloc: Global) {
+fn key_is_made_once<R: Abort + Threads + Sync>(rt: &R, alloc: Global) {
     let mut room = Room::new(rt, alloc, Vec::new(alloc), NONE);
     key_is_made(rt, alloc, &mut room, Ok(()));
     let exists = Fault::Exists(File::Key(1));

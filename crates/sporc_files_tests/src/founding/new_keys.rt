@@ -9,6 +9,7 @@ use sporc_keys::{NewKey, keygen};
 use sporc_outside::ListedChance;
 use std::alloc::Global;
 use std::process::Abort;
+use std::thread::Threads;
 
 // An identifier and a seed, and the public key that Bouncy Castle 1.72 made of them.
 const ID: &str = "05a7ca4e14a784c0e0daa5e6dd970959";
@@ -34,20 +35,20 @@ fn is_the_key(rt: &impl Abort, key: &NewKey) {
     check_same(rt, "leaves", key.leaves.as_slice(), &[0; 8]);
 }
 
-fn two_words_give_the_key(rt: &impl Abort, alloc: Global) {
+fn two_words_give_the_key<R: Abort + Threads + Sync>(rt: &R, alloc: Global) {
     let mut chance = two_words(rt, alloc, 0);
-    let key = keygen(alloc, &mut *chance, 3, LmsType::H5, OtsType::W4).expect(rt, "a key");
+    let key = keygen(rt, alloc, &mut *chance, 3, LmsType::H5, OtsType::W4).expect(rt, "a key");
     is_the_key(rt, &key);
 }
 
 // Whether there is no new key, since this call fails.
-fn is_refused(rt: &impl Abort, alloc: Global, call: u64) -> bool {
+fn is_refused<R: Abort + Threads + Sync>(rt: &R, alloc: Global, call: u64) -> bool {
     let mut chance = two_words(rt, alloc, call);
-    is_chance(keygen(alloc, &mut *chance, 3, LmsType::H5, OtsType::W4).err())
+    is_chance(keygen(rt, alloc, &mut *chance, 3, LmsType::H5, OtsType::W4).err())
 }
 
 /// Two words give a key, unless a call of the chance fails.
-pub fn a_key_of_two_words(rt: &impl Abort, alloc: Global) {
+pub fn a_key_of_two_words<R: Abort + Threads + Sync>(rt: &R, alloc: Global) {
     two_words_give_the_key(rt, alloc);
     for call in 1..3 {
         check_at(rt, "call", call, is_refused(rt, alloc, call));

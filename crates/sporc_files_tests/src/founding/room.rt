@@ -15,6 +15,7 @@ use sporc_outside::{ListedChance, MemoryFolder, MemorySink, NamedFile};
 use sporc_words::{Found, Keygen, Participant, Standing, Word};
 use std::alloc::Global;
 use std::process::Abort;
+use std::thread::Threads;
 
 // Identifiers and seeds of two keys.
 const KEYS: [(&str, &str); 2] = [
@@ -75,7 +76,12 @@ impl Room {
     }
 
     /// `keygen D M 5 4`.
-    pub fn make_key(&mut self, rt: &impl Abort, alloc: Global, member: u16) -> Result<(), Fault> {
+    pub fn make_key<R: Abort + Threads + Sync>(
+        &mut self,
+        rt: &R,
+        alloc: Global,
+        member: u16,
+    ) -> Result<(), Fault> {
         let asked = Keygen {
             name: Word::new(alloc, "D").expect(rt, "memory"),
             member,
@@ -83,6 +89,7 @@ impl Room {
             width: OtsType::W4,
         };
         keygen(
+            rt,
             alloc,
             &mut *self.folder,
             &mut *self.chance,
@@ -92,13 +99,21 @@ impl Room {
     }
 
     /// `found D 2:editor 3:joiner 1:admin`.
-    pub fn make_document(&mut self, rt: &impl Abort, alloc: Global) -> Result<(), Fault> {
+    pub fn make_document<R: Abort + Threads + Sync>(
+        &mut self,
+        rt: &R,
+        alloc: Global,
+    ) -> Result<(), Fault> {
         let asked = founding(alloc).expect(rt, "memory");
-        found(alloc, &mut *self.folder, &mut *self.chance, &asked)
+        found(rt, alloc, &mut *self.folder, &mut *self.chance, &asked)
     }
 
     /// The keys of members 1 and 2, and then the document.
-    pub fn make_all(&mut self, rt: &impl Abort, alloc: Global) -> Result<(), Fault> {
+    pub fn make_all<R: Abort + Threads + Sync>(
+        &mut self,
+        rt: &R,
+        alloc: Global,
+    ) -> Result<(), Fault> {
         self.make_key(rt, alloc, 1)?;
         self.make_key(rt, alloc, 2)?;
         self.make_document(rt, alloc)

@@ -6,27 +6,38 @@ use crate::checks::{check_answer, check_same};
 use sporc_files::{Fault, File, Names};
 use sporc_head::Refusal;
 use sporc_histories::check;
+use sporc_outside::OpenGate;
 use sporc_samples::{Cast, History};
 use std::alloc::Global;
 use std::process::Abort;
+use std::sync::Wait;
+use std::thread::Threads;
 
 // Member 2 examines its history.
-fn examines(
-    rt: &impl Abort,
+fn examines<R: Threads + Wait + Sync + Abort>(
+    rt: &R,
     alloc: Global,
     room: &mut Room,
     answer: Result<(), Fault>,
     line: &[u8],
 ) {
     let names = Names::of_document("D");
-    let found = check(alloc, &mut *room.folder, &mut *room.out, &names, 2);
+    let found = check(
+        rt,
+        alloc,
+        &mut *room.folder,
+        &mut *room.out,
+        &names,
+        2,
+        &OpenGate,
+    );
     check_answer(rt, "check", found, answer);
     check_same(rt, "line of check", room.out.as_slice(), line);
 }
 
 // It examines this file.
-fn examined(
-    rt: &impl Abort,
+fn examined<R: Threads + Wait + Sync + Abort>(
+    rt: &R,
     alloc: Global,
     cast: &Cast,
     history: &[u8],
@@ -40,7 +51,13 @@ fn examined(
 }
 
 // The first three entries, whole and without the last byte. The last one stands at this place.
-fn three_entries(rt: &impl Abort, alloc: Global, cast: &Cast, three: &[Vec<u8>], last: usize) {
+fn three_entries<R: Threads + Wait + Sync + Abort>(
+    rt: &R,
+    alloc: Global,
+    cast: &Cast,
+    three: &[Vec<u8>],
+    last: usize,
+) {
     let mut file = history_file(rt, alloc, three);
     examined(rt, alloc, cast, file.as_slice(), Ok(()), b"checked 3\n");
     file.pop();
@@ -49,8 +66,8 @@ fn three_entries(rt: &impl Abort, alloc: Global, cast: &Cast, three: &[Vec<u8>],
 }
 
 // This byte of the file of these entries has another bit.
-fn spoilt(
-    rt: &impl Abort,
+fn spoilt<R: Threads + Wait + Sync + Abort>(
+    rt: &R,
     alloc: Global,
     cast: &Cast,
     three: &[Vec<u8>],
@@ -63,7 +80,13 @@ fn spoilt(
 }
 
 // With a bit of the second signature turned, and of another document.
-fn spoilt_entries(rt: &impl Abort, alloc: Global, cast: &Cast, three: &[Vec<u8>], last: usize) {
+fn spoilt_entries<R: Threads + Wait + Sync + Abort>(
+    rt: &R,
+    alloc: Global,
+    cast: &Cast,
+    three: &[Vec<u8>],
+    last: usize,
+) {
     let refused = Fault::Refused(2, Refusal::BadSignature);
     spoilt(rt, alloc, cast, three, last.saturating_sub(1), refused);
     let foreign = Fault::Malformed(File::History(2), 0);
@@ -71,13 +94,19 @@ fn spoilt_entries(rt: &impl Abort, alloc: Global, cast: &Cast, three: &[Vec<u8>]
 }
 
 // There is no history, and this call of the folder fails.
-fn failing(rt: &impl Abort, alloc: Global, cast: &Cast, call: u64, fault: Fault) {
+fn failing<R: Threads + Wait + Sync + Abort>(
+    rt: &R,
+    alloc: Global,
+    cast: &Cast,
+    call: u64,
+    fault: Fault,
+) {
     let mut room = Files::of_member(rt, alloc, cast).room(rt, alloc, call);
     examines(rt, alloc, &mut room, Err(fault), b"");
 }
 
 // The fourth call looks for the history, and there is no fifth.
-fn each_failing_call_is_told(rt: &impl Abort, alloc: Global, cast: &Cast) {
+fn each_failing_call_is_told<R: Threads + Wait + Sync + Abort>(rt: &R, alloc: Global, cast: &Cast) {
     for call in 1..=4 {
         failing(rt, alloc, cast, call, Fault::Outside);
     }
@@ -85,7 +114,12 @@ fn each_failing_call_is_told(rt: &impl Abort, alloc: Global, cast: &Cast) {
 }
 
 /// A history is examined, and a folder's failing call is told.
-pub fn histories_are_examined(rt: &impl Abort, alloc: Global, cast: &Cast, sample: &History) {
+pub fn histories_are_examined<R: Threads + Wait + Sync + Abort>(
+    rt: &R,
+    alloc: Global,
+    cast: &Cast,
+    sample: &History,
+) {
     let three = sample.entries().get(..3).expect(rt, "three entries");
     let two = three.get(..2).expect(rt, "two entries");
     let last = place_behind(two);

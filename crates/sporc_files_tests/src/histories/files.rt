@@ -1,4 +1,4 @@
-//! The file of two entries, worked by hand, and what is read of it whole, cut and changed.
+//! The file of three entries, worked by hand, and what is read of it whole, cut and changed.
 
 use super::folder::history_file;
 use crate::bytes::{bytes_of, first_of, put, spelled};
@@ -9,57 +9,65 @@ use sporc_store::{Stop, read_saved};
 use std::alloc::Global;
 use std::process::Abort;
 
-// The file of the entries "ab" and "c": the format, the document, the number of entries, and each entry behind its length.
-const FILE: &str = "5350483107070707070707070707070707070707000000020000000261620000000163";
+// The entries of the file below.
+const ENTRIES: [&[u8]; 3] = [b"ab", b"c", b"def"];
+
+// The file: the format, the document, the number of entries, and each entry behind its length.
+const FILE: &str =
+    "535048310707070707070707070707070707070700000003000000026162000000016300000003646566";
 
 // Bytes that are changed: the place of one, and what it is then; how many entries are taken, and where reading stops.
 type Change = (usize, u8, usize, Stop);
 
-const CHANGES: [Change; 6] = [
+const CHANGES: [Change; 7] = [
     (0, 0x52, 0, Stop::Foreign),
     (3, 0x32, 0, Stop::Foreign),
     (4, 8, 0, Stop::Foreign),
     (19, 8, 0, Stop::Foreign),
     (24, 1, 0, Stop::Cut(28)),
-    (33, 2, 1, Stop::Cut(34)),
+    (33, 12, 1, Stop::Cut(34)),
+    (38, 4, 2, Stop::Cut(39)),
 ];
 
 // So many bytes of the file, from one number up to another; how many entries are taken of them, and where reading stops.
 type Cut = (usize, usize, usize, Stop);
 
-const CUTS: [Cut; 7] = [
+const CUTS: [Cut; 9] = [
     (0, 20, 0, Stop::Foreign),
     (20, 24, 0, Stop::Cut(20)),
     (24, 28, 0, Stop::Cut(24)),
     (28, 30, 0, Stop::Cut(28)),
     (30, 34, 1, Stop::Cut(30)),
     (34, 35, 1, Stop::Cut(34)),
-    (35, 36, 2, Stop::End),
+    (35, 39, 2, Stop::Cut(35)),
+    (39, 42, 2, Stop::Cut(39)),
+    (42, 43, 3, Stop::End),
 ];
 
 // Numbers of entries that the file states; how many are taken, and where reading stops.
 type Count = (u32, usize, Stop);
 
-const COUNTS: [Count; 6] = [
+const COUNTS: [Count; 7] = [
     (0, 0, Stop::Cut(24)),
     (1, 1, Stop::Cut(30)),
-    (3, 2, Stop::Cut(35)),
-    (16_384, 2, Stop::Cut(35)),
+    (2, 2, Stop::Cut(35)),
+    (4, 3, Stop::Cut(42)),
+    (16_384, 3, Stop::Cut(42)),
     (16_385, 0, Stop::Cut(20)),
     (u32::MAX, 0, Stop::Cut(20)),
 ];
 
-// Whether the entries are the first of the two.
+// Whether the entries are the first of the three.
 fn are_first(entries: &[Vec<u8>]) -> bool {
-    match entries {
-        [] => true,
-        [first] => is_same(first.as_slice(), b"ab"),
-        [first, second] => is_same(first.as_slice(), b"ab") && is_same(second.as_slice(), b"c"),
-        _ => false,
+    for (entry, wanted) in entries.iter().zip(&ENTRIES) {
+        if !is_same(entry.as_slice(), wanted) {
+            return false;
+        }
     }
+    entries.len() <= ENTRIES.len()
 }
 
-// What is read of a file with this number: so many of the two entries, and where reading stops.
+// What is read of a file with this number: so many of the three entries, and where reading stops.
 fn reads(rt: &impl Abort, alloc: Global, number: u64, file: &[u8], len: usize, stop: Stop) {
     let (entries, found) = read_saved(alloc, &DOCUMENT, file).expect(rt, "memory");
     check_stop(rt, "stop", number, found, stop);
@@ -67,10 +75,11 @@ fn reads(rt: &impl Abort, alloc: Global, number: u64, file: &[u8], len: usize, s
     check_at(rt, "entries", number, are_first(entries.as_slice()));
 }
 
-fn two_entries(rt: &impl Abort, alloc: Global) -> Vec<Vec<u8>> {
+fn three_entries(rt: &impl Abort, alloc: Global) -> Vec<Vec<u8>> {
     let mut entries = Vec::new(alloc);
-    push_entry(rt, alloc, &mut entries, b"ab");
-    push_entry(rt, alloc, &mut entries, b"c");
+    for entry in &ENTRIES {
+        push_entry(rt, alloc, &mut entries, entry);
+    }
     entries
 }
 
@@ -85,8 +94,8 @@ fn is_saved(rt: &impl Abort, alloc: Global, entries: &[Vec<u8>], file: &[u8]) {
     check_same(rt, "saved", saved.as_slice(), file);
 }
 
-fn two_are_saved(rt: &impl Abort, alloc: Global, file: &[u8]) {
-    let entries = two_entries(rt, alloc);
+fn three_are_saved(rt: &impl Abort, alloc: Global, file: &[u8]) {
+    let entries = three_entries(rt, alloc);
     is_saved(rt, alloc, entries.as_slice(), file);
 }
 
@@ -104,7 +113,7 @@ fn has_another_length(rt: &impl Abort, alloc: Global, file: &mut Vec<u8>) {
         is_cut(rt, alloc, file.as_slice(), row);
     }
     file.push(0).expect(rt, "memory");
-    reads(rt, alloc, 36, file.as_slice(), 2, Stop::Cut(35));
+    reads(rt, alloc, 43, file.as_slice(), 3, Stop::Cut(42));
 }
 
 // A byte is changed.
@@ -141,6 +150,6 @@ fn has_changed_fields(rt: &impl Abort, alloc: Global) {
 fn a_file_is_saved_and_read(rt: HostRuntime) {
     has_changed_fields(&rt, rt.alloc());
     let mut file = spelled(&rt, rt.alloc(), FILE);
-    two_are_saved(&rt, rt.alloc(), file.as_slice());
+    three_are_saved(&rt, rt.alloc(), file.as_slice());
     has_another_length(&rt, rt.alloc(), &mut file);
 }

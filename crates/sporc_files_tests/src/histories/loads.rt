@@ -22,7 +22,7 @@ fn founder_ring(rt: &impl Abort, alloc: Global) -> Ring {
 }
 
 // The empty line of a founder who shares a key with the admin, in a box: a function that owns a line itself is slow to prove.
-fn founded(rt: &impl Abort, alloc: Global, cast: &Cast, me: u16) -> Box<Line>
+pub(super) fn founded(rt: &impl Abort, alloc: Global, cast: &Cast, me: u16) -> Box<Line>
     ensures { result.value.entries ≡ [] }
 {
     let ring = founder_ring(rt, alloc);

@@ -9,19 +9,21 @@ use Rattle.sporc_sessions.specs.Nets.{AsksAtMost}
 use Rattle.sporc_sessions.specs.Opening.{links_for_hints}
 use Rattle.sporc_clients.proofs.Asking.{asks_history, asks_history_again}
 use Rattle.sporc_clients.specs.Outcome.{names_of, no_history, no_leaves, no_session, not_worked, worked}
+use Rattle.sporc_clients.proofs.LeafFiles.{kept_to}
 use Rattle.sporc_clients.proofs.Outcomes.{answers_so, attended_at, history_fault, history_says, not_attended_at, saved_as}
 use Rattle.sporc_clients.proofs.command.with_disk.Goals as goal
 
 pub returns-in-Err-clause-outcome : goal.returns-in-Err-clause-outcome
 returns-in-Err-clause-outcome g c =
-    not_worked (no_leaves c.in-Err.ensures.err refl) (record { out = record { written = refl; faults = refl }; files = refl; words = refl }) c.in-Err.ensures.unwritten
+    not_worked (no_leaves c.in-Err.ensures.err refl) (record { out = record { written = refl; faults = refl }; files = refl; words = refl }) c.in-Err.ensures.unwritten c.in-Err.ensures.kept_back
 
 pub returns-in-Err-history_of-clause-outcome : goal.returns-in-Err-history_of-clause-outcome
 returns-in-Err-history_of-clause-outcome g c =
     not_worked
-    (no_history (history_fault _ c.names_of.result c.args.words.now c.names_of.ensures.value _ _ c.in-Err-history_of.fault c.in-Err-history_of.ensures.err) refl)
+    (no_history c.in-Ok.ensures.ok (history_fault _ c.names_of.result c.args.words.now c.names_of.ensures.value _ _ c.in-Err-history_of.fault c.in-Err-history_of.ensures.err) refl)
     (record { out = record { written = refl; faults = refl }; files = c.history_of.ensures.files; words = refl })
     (ap g.D.LeafDisk.stored c.close.ensures.value ∙ c.in-Ok.ensures.ok.unwritten)
+    (kept_to _ g.D.LeafDisk.images g.D.LeafDisk.moment _ _ c.close.ensures.value c.in-Ok.ensures.kept)
 
 pub returns-in-Ok-attend-clause-outcome : goal.returns-in-Ok-attend-clause-outcome
 returns-in-Ok-attend-clause-outcome g c =
@@ -65,6 +67,7 @@ returns-clause-outcome g c =
     c.attend_fault.ensures.value)
     (record { out = record { written = refl; faults = refl }; files = c.history_of.ensures.files; words = ap g.C.Chance.given c.in-Err-attend.ensures.chance })
     (ap g.D.LeafDisk.stored c.close-in-Err-attend.ensures.value ∙ ap (λ s. g.D.LeafDisk.stored s.leaves.disk) c.in-Err-attend.ensures.returned ∙ c.in-Ok.ensures.ok.unwritten)
+    (kept_to _ g.D.LeafDisk.images g.D.LeafDisk.moment _ _ (c.close-in-Err-attend.ensures.value ∙ ap (λ s. s.leaves.disk) c.in-Err-attend.ensures.returned) c.in-Ok.ensures.kept)
 
 -- ---- files
 

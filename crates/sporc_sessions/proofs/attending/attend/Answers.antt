@@ -1,11 +1,10 @@
-use Rattle.std.proofs.Common.{ap, refl, sym, arith, ◌∙◌}
+use Rattle.std.proofs.Common.{refl, sym, arith, ◌∙◌}
 use Rattle.sporc_outside.proofs.Returning.{shut_then}
-use Rattle.sporc_shared.specs.Items.{past_of}
 use Rattle.sporc_sessions.specs.Attending.{not_begun, not_opened, not_resumed, not_whole, stopped, unreached}
 use Rattle.sporc_sessions.specs.Nets.{net_told}
 use Rattle.sporc_sessions.proofs.Asking.{asks_less, asks_more, asks_never}
 use Rattle.sporc_sessions.proofs.Widening.{rose_since}
-use Rattle.sporc_sessions.proofs.WorkedFrom.{stops_so, work_from}
+use Rattle.sporc_sessions.proofs.WorkedFrom.{past_resumed, stops_so, work_from}
 use Rattle.sporc_sessions.proofs.attending.attend.Goals as goal
 
 pub returns-in-Some-clause-err : goal.returns-in-Some-clause-err
@@ -42,7 +41,7 @@ returns-in-Ok-work-clause-attended g c =
     record {
       between = net_told (g.N.Links.asked c.open_line.new.net) (g.N.Links.coming c.open_line.new.net) (g.N.Links.returned c.open_line.new.net) (g.N.Links.link_faults c.open_line.new.net);
       resumed = record { whole = sym c.broken_for.ensures.value ∙ c.in_default.is; line = c.in-Ok.line; opens = c.in-Ok.ensures.ok; entries = entries; loaded = loaded };
-      work = work_from _ _ _ _ _ _ _ _ _ _ _ (ap past_of is) c.in-Ok-work.ensures.work;
+      work = work_from _ _ _ _ _ _ _ _ _ _ _ (past_resumed _ _ entries _ is) c.in-Ok-work.ensures.work;
     }
 
 pub returns-in-Ok-work-clause-causes : goal.returns-in-Ok-work-clause-causes

@@ -1,0 +1,28 @@
+-- What stands of the leaf file of a client that was closed.
+use Rattle.std.proofs.Common.{◌≡◌, ℕ, ◌+◌, ◌-◌, ◌≤◌, List, Option, None, Some, length, ap, arith, sym, subst}
+use Rattle.lms_leaf.specs.LeafFile.{ArePassed, AreTaken}
+use Rattle.lms_leaf.specs.Leaves.{LeavesModel}
+use Rattle.sporc_client.specs.ClientModel.{ClientModel, Rise, first_leaf_of, kept_count, leaves_of}
+use Rattle.sporc_shared.specs.Items.{past_of}
+use Rattle.sporc_sessions.specs.Concluding.{LeavesAreTaken}
+
+-- it keeps one leaf at most
+kept_one : (ticket : Option ℕ) → kept_count ticket ≤ 1
+kept_one None = omega arith
+kept_one (Some leaf) = omega arith
+
+pub leaves_are_taken : {D : Type 0} (moment : D → ℕ) (images : D → ℕ → List ℕ → Type 0) (c : ClientModel D) (leaves : LeavesModel D) (disk : D) → leaves ≡ c.leaves → disk ≡ leaves.disk
+    → Rise (first_leaf_of c) leaves.next (leaves_of c.log) → leaves.next_at_open ≤ first_leaf_of c
+    → AreTaken (images leaves.disk (moment leaves.disk)) leaves.next_at_open leaves.next → ArePassed (images leaves.disk (moment leaves.disk)) leaves.next
+    → LeavesAreTaken (images disk (moment disk)) (past_of c)
+leaves_are_taken {D} moment images c leaves disk same back rise since_open taken passed =
+    let next : leaves.next ≡ c.leaves.next = ap (λ (l : LeavesModel D). l.next) same in
+    subst (λ (d : D). LeavesAreTaken (images d (moment d)) (past_of c)) (sym back)
+    (record {
+      next = leaves.next;
+      forward = omega (arith, next);
+      few = let one = kept_one c.ticket in omega (arith, one, next);
+      rise = rise;
+      taken = λ leaf from below. taken leaf (omega (arith, since_open, from)) below;
+      passed = passed;
+    })

@@ -1,0 +1,86 @@
+//! The signatures of a file's entries, examined by several workers.
+
+ghost use Rattle.std.specs.Prelude.{◌≡◌, ◌+◌, ◌≤◌, ◌<◌, ◌^◌, length, IfOk};
+ghost use Rattle.std.specs.Thread.{IsSync};
+ghost use Rattle.sporc_store.specs.Verdicts.{AreExact};
+
+use crate::saved_entry::SavedEntry;
+use sporc_base::Memory;
+use sporc_head::Verdict;
+use sporc_outside::Gate;
+use std::alloc::Global;
+use std::sync::Wait;
+use std::thread::{Threads, join_mut};
+
+// Examines the signatures of entries, the first of which stands behind so many others, by so many workers, numbered from
+// `worker` on. Each takes entries that stand together, in a thread of its own where one can be made.
+pub(crate) fn examine_by<R: Threads + Wait + Sync, G: Gate + Sync>(
+    rt: &R,
+    alloc: Global,
+    gate: &G,
+    worker: u32,
+    workers: u32,
+    before: u32,
+    entries: &[SavedEntry<'_>],
+) -> Result<Vec<Option<Verdict>>, Memory>
+    requires some { 1 ≤ workers }
+    requires few { worker + workers < 2 ^ 32 }
+    requires room { before + length entries.now < 2 ^ 32 }
+    ensures { IfOk result (λ verdicts. AreExact verdicts.items entries.now) }
+{
+    if workers == 1 {
+        return examine_part(rt, alloc, gate, worker, before, entries);
+    }
+    let next = worker + 1;
+    let others = workers - 1;
+    let count = entries.len() / workers as usize;
+    let behind = before + count as u32;
+    let (part, rest) = entries.split_at(count);
+    let (first, second) = join_mut(
+        rt,
+        &mut || -> Result<Vec<Option<Verdict>>, Memory>
+            requires { IsSync R.row × IsSync G.row × (before + length part.now < 2 ^ 32) }
+            ensures { IfOk result (λ verdicts. AreExact verdicts.items part.entry.now) }
+        { examine_part(rt, alloc, gate, worker, before, part) },
+        &mut || -> Result<Vec<Option<Verdict>>, Memory>
+            requires { IsSync R.row × IsSync G.row × (1 ≤ others) × (next + others < 2 ^ 32) × (behind + length rest.now < 2 ^ 32) }
+            ensures { IfOk result (λ verdicts. AreExact verdicts.items rest.entry.now) }
+        { examine_by(rt, alloc, gate, next, others, behind, rest) },
+    );
+    let mut verdicts = first?;
+    let mut further = second?;
+    verdicts.append(&mut further)?;
+    Ok(verdicts)
+}
+
+// The same by one worker.
+fn examine_part<R: Wait, G: Gate>(
+    rt: &R,
+    alloc: Global,
+    gate: &G,
+    worker: u32,
+    before: u32,
+    entries: &[SavedEntry<'_>],
+) -> Result<Vec<Option<Verdict>>, Memory>
+    requires { before + length entries.now < 2 ^ 32 }
+    ensures { IfOk result (λ verdicts. AreExact verdicts.items entries.now) }
+{
+    let mut verdicts = Vec::new(alloc);
+    for (i, entry) in entries.iter().enumerate() {
+        gate.before_line(rt, worker, before + i as u32 + 1);
+        let verdict = entry.examine(alloc)?;
+        verdicts.push(verdict)?;
+    }
+    Ok(verdicts)
+}
+
+// Tells each entry what its examination found.
+#[tactic(auto, using(crate::proofs::Exactly::exact_at, crate::proofs::Exactly::exact_len))]
+pub(crate) fn tell(entries: &mut [SavedEntry<'_>], verdicts: &[Option<Verdict>])
+    requires { AreExact verdicts.now entries.old }
+    ensures { entries.new ≡ entries.old }
+{
+    for i in 0..entries.len() {
+        entries[i].learn(verdicts[i]);
+    }
+}
