@@ -1,5 +1,6 @@
 //! The lines that tell of a client: its journal, what it shows, its members, the last value of its chain, how its history
-//! stands to another's; and the names of faults. What is named `push_` appends to a text.
+//! stands to another's; and the names of faults. What is named `push_` appends to a text. If it runs out of memory, the text
+//! is to be let go: nothing is said of what it then holds, since `write!` says nothing of it.
 //!
 //! ```text
 //! push_journal(alloc, &mut out, client.journal())?;   // edit 0 0 i"abc"
@@ -9,8 +10,8 @@
 //! ```
 //!
 //! Proved: a call that succeeds appends the line or the name of the definitions in `specs/`, and names no `Memory` of the
-//! faults that it takes. Only tested: that the calls succeed with ample memory (`sporc_commands_tests`). Neither: nothing
-//! else is claimed.
+//! faults that it takes. Only tested: that the calls succeed with ample memory (`sporc_commands_tests`). Neither: what a
+//! text holds after out of memory.
 #![tactic(auto)]
 
 mod journal;

@@ -37,11 +37,10 @@ pub fn push_edit_fault(out: &mut String, fault: EditFault) -> Result<(), Memory>
     }
 }
 
-/// Appends the name of why a submission is refused. If the disk of the leaf file failed, the answer is as out of memory.
+/// Appends the name of why a submission is refused.
 pub fn push_submit_fault(out: &mut String, fault: SubmitFault) -> Result<(), Memory>
     ensures name { OnOk result (string_bytes out.new ≡ string_bytes out.old ++ submit_fault_name fault) }
     ensures named { OnOk result (fault ≢ SubmitFault.Memory) }
-    ensures no_disk { OnOk result (fault ≢ SubmitFault.LeafFault) }
 {
     if let Some(name) = submit_fault_name(fault) {
         return out.push_str(name);
@@ -57,7 +56,6 @@ pub fn push_submit_fault(out: &mut String, fault: SubmitFault) -> Result<(), Mem
 fn submit_fault_name(fault: SubmitFault) -> Option<&'static str>
     ensures name { IfSome result (λ name. name.now ≡ submit_fault_name fault) }
     ensures named { IfSome result (λ _. fault ≢ SubmitFault.Memory) }
-    ensures no_disk { IfSome result (λ _. fault ≢ SubmitFault.LeafFault) }
 {
     match fault {
         SubmitFault::Removed => Some("removed"),
@@ -65,6 +63,7 @@ fn submit_fault_name(fault: SubmitFault) -> Option<&'static str>
         SubmitFault::HistoryFull => Some("history-full"),
         SubmitFault::JournalFull => Some("journal-full"),
         SubmitFault::Exhausted(_) => Some("exhausted"),
+        SubmitFault::LeafFault => Some("leaf-fault"),
         _ => None,
     }
 }
