@@ -10,13 +10,17 @@ use std::env;
 use std::fs::File;
 use std::io::ErrorKind;
 use std::process::ExitCode;
+use std::time::Duration;
+
+// How long a peer may say nothing, or take nothing, before its connection is given up, in seconds.
+const PEER_LIMIT: u64 = 60;
 
 fn main(rt: HostRuntime) -> ExitCode {
     let _held = hold_streams(&rt);
     let mut source = StandardInput::new(rt.stdin());
     let mut out = StandardOutput::new(rt.stdout());
     let mut files = RealFolder::new(&rt);
-    let mut net = TcpNet::new(&rt);
+    let mut net = TcpNet::with_limit(&rt, Duration::from_secs(PEER_LIMIT));
     let mut chance = RandomWords::new(&rt);
     match words(&rt) {
         Ok(words) => ExitCode::from(run(

@@ -1,8 +1,11 @@
 //! The outside of this machine.
 
 mod files;
+mod keeping;
 mod leaves;
+mod locks;
 mod nets;
+mod patience;
 mod pieces;
 mod scratch;
 mod words;

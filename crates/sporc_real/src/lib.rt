@@ -1,8 +1,9 @@
 //! The outside of `sporc_outside` as the system gives it: standard input and output, files, TCP, and random words.
 //!
 //! - [`StandardInput`] and [`StandardOutput`] are a source and a sink over a reader and a writer of the system.
-//! - [`RealFolder`] keeps files; a name is a path from the current directory. Its [`RealDisk`]s are leaf files.
-//! - [`TcpNet`] dials and listens; its links are [`TcpLink`]s.
+//! - [`RealFolder`] keeps files; a name is a path from the current directory. Its [`RealDisk`]s are leaf files, each of which
+//!   has the system's lock on its file.
+//! - [`TcpNet`] dials and listens, and gives up peers that say nothing for too long; its links are [`TcpLink`]s.
 //! - [`RandomWords`] takes words from the system's random bytes.
 //!
 //! ```text
@@ -11,11 +12,12 @@
 //! ```
 //!
 //! Each error of the system is counted, and then the call answers that it failed. A write that takes none of some bytes is
-//! an error. A call that a signal interrupts is made again.
+//! an error. A call that a signal interrupts is made again, and so is one that takes no connection, for two minutes.
 //!
 //! Proved: that each adapter meets its trait; as none tells its content, that is what its count does and which answers come
-//! with it. Only tested: that bytes written are read again, that a file with keys is its owner's alone, and that links
-//! connect. Neither: what the system does with the bytes, above all if it stops.
+//! with it. Only tested: that bytes written are read again, that a file with keys or leaves is its owner's alone, that a save
+//! keeps modes, links and the old file, that locks keep programs apart, that links connect, and that silent peers are given
+//! up. Neither: what the system does with the bytes, above all if it stops.
 #![tactic(auto)]
 
 mod counting;

@@ -18,7 +18,14 @@ use std::rt::Files;
 ///
 /// A file that is written is on the disk when the call returns. A stop in the middle of [`Folder::write_file`] leaves the old
 /// file or the new one, and maybe a part of the new one beside it, under its name and `.new`; two programs must not write one
-/// file at once. A file whose name ends with `.key` or `.ring` is made readable by its owner alone.
+/// file at once. The file that was replaced is kept under its name and `.old` until the next is, where the system has hard
+/// links, and the new one has its mode. Of a symbolic link the file that it leads to is written.
+///
+/// A stop in the middle of [`Folder::write_new`] leaves no file of this name or the whole one, where the system has hard
+/// links, and maybe one beside it, under its name, a number and `.new`. A file whose name ends with `.key`, `.ring` or
+/// `.leaf` is made readable by its owner alone.
+///
+/// A disk has the system's lock on its leaf file until it is dropped: one that another program has taken is a call that fails.
 #[derive(Drop)]
 pub struct RealFolder<R: Files<File = File> + AllocGlobal + Drop> {
     rt: R,
@@ -68,6 +75,11 @@ fn open_file<R: Files<File = File>>(
         Err(error) if error.kind() == ErrorKind::NotFound => Err(FileFault::Missing),
         Err(_) => Err(fail(faults).into()),
     }
+}
+
+// Takes the system's lock on a file, unless it is taken. It is given back where the file is dropped, or the program ends.
+fn lock(file: &File) -> io::Result<()> {
+    Ok(file.try_lock()?)
 }
 
 // All bytes of a file, or the first ones above the limit.
@@ -134,6 +146,8 @@ impl<R: Files<File = File> + AllocGlobal + Drop> Folder for RealFolder<R> {
             OpenOptions::new().read(true).write(true),
             name,
         )?;
+        let answer = lock(&opened.file);
+        counted(&mut self.faults, answer)?;
         Ok(RealDisk::new(opened.file, opened.len))
     }
 

@@ -5,12 +5,15 @@ ghost use Rattle.std.specs.Prelude.{◌≡◌, None};
 use crate::counting::counted;
 use crate::pieces::{read_piece, write_piece};
 use sporc_outside::{Counted, Failed, Link, Sink, Source, Stream};
+use std::io;
+use std::io::ErrorKind;
 use std::net::{Shutdown, TcpStream};
 
-/// A connection over TCP, whose two directions have one count. A read or a write may wait for the peer.
+/// A connection over TCP, whose two directions have one count. A read or a write may wait for the peer, as long as the net
+/// that made it says. [`Link::shut`] gives the connection back to the system at once.
 #[derive(Drop)]
 pub struct TcpLink {
-    stream: TcpStream,
+    stream: Option<TcpStream>,
     faults: u64,
 }
 
@@ -18,8 +21,16 @@ impl TcpLink {
     pub(crate) fn new(stream: TcpStream) -> TcpLink
         ensures { result.faults ≡ 0 }
     {
-        TcpLink { stream, faults: 0 }
+        TcpLink {
+            stream: Some(stream),
+            faults: 0,
+        }
     }
+}
+
+// What a call on a link that was shut answers.
+fn shut_already() -> io::Error {
+    io::Error::from(ErrorKind::NotConnected)
 }
 
 impl Counted for TcpLink {
@@ -38,7 +49,10 @@ impl Source for TcpLink {
     ghost sent = { λ _. None };
 
     fn read(&mut self, buf: &mut [u8]) -> Result<usize, Failed> {
-        let answer = read_piece(&mut self.stream, buf);
+        let answer = match &mut self.stream {
+            Some(stream) => read_piece(stream, buf),
+            None => Err(shut_already()),
+        };
         counted(&mut self.faults, answer)
     }
 }
@@ -49,7 +63,10 @@ impl Sink for TcpLink {
     ghost pending = { λ _. None };
 
     fn write(&mut self, bytes: &[u8]) -> Result<usize, Failed> {
-        let answer = write_piece(&mut self.stream, bytes);
+        let answer = match &mut self.stream {
+            Some(stream) => write_piece(stream, bytes),
+            None => Err(shut_already()),
+        };
         counted(&mut self.faults, answer)
     }
 }
@@ -63,6 +80,8 @@ impl Link for TcpLink {
 
     /// Of a connection that the peer has shut already this does nothing.
     fn shut(&mut self) {
-        let _ = self.stream.shutdown(Shutdown::Both);
+        if let Some(stream) = self.stream.take() {
+            let _ = stream.shutdown(Shutdown::Both);
+        }
     }
 }

@@ -6,27 +6,57 @@ use crate::counting::{counted, fail};
 use crate::tcp_link::TcpLink;
 use sporc_outside::{Counted, Dial, Failed, Links, Listen};
 use std::io;
-use std::net::{Net, TcpListener, TcpStream};
+use std::io::ErrorKind;
+use std::net::{Net, TcpListener, TcpStream, ToSocketAddrs};
+use std::rt::Clock;
 use std::sync::Wait;
+use std::thread::sleep;
+use std::time::Duration;
+
+// How often a call that could not be taken is tried for again, and how long is waited before each time: two minutes
+// together, in which descriptors come free that silent peers hold.
+const MAX_TRIES: u32 = 1_200;
+
+const PAUSE_MILLIS: u64 = 100;
 
 /// Dials and listens at addresses such as `localhost:4000`: a name or a number of a host, and a port. Small messages go out
 /// at once (`TCP_NODELAY`).
+///
+/// A call of another end that can't be taken, since no descriptor is free or it was taken back, is no fault of the net: it is
+/// tried for again for two minutes, and only what lasts so long fails.
 #[derive(Drop)]
-pub struct TcpNet<R: Net<Stream = TcpStream, Listener = TcpListener> + Drop> {
+pub struct TcpNet<R: Net<Stream = TcpStream, Listener = TcpListener> + Clock + Drop> {
     rt: R,
+    limit: Option<Duration>,
     listener: Option<TcpListener>,
     faults: u64,
     link_faults: u64,
 }
 
-impl<R: Net<Stream = TcpStream, Listener = TcpListener> + Drop> TcpNet<R> {
-    /// Listens nowhere yet.
+impl<R: Net<Stream = TcpStream, Listener = TcpListener> + Clock + Drop> TcpNet<R> {
+    /// Listens nowhere yet, and waits for peers without a limit.
     pub fn new(rt: R) -> TcpNet<R>
         ensures faults { result.faults ≡ 0 }
         ensures link_faults { result.link_faults ≡ 0 }
     {
         TcpNet {
             rt,
+            limit: None,
+            listener: None,
+            faults: 0,
+            link_faults: 0,
+        }
+    }
+
+    /// Listens nowhere yet. A read or a write of a link that waits longer than this for the peer fails, and so does a link
+    /// that isn't made in this time, at each address of the host. With a limit of 0 no link is made.
+    pub fn with_limit(rt: R, limit: Duration) -> TcpNet<R>
+        ensures faults { result.faults ≡ 0 }
+        ensures link_faults { result.link_faults ≡ 0 }
+    {
+        TcpNet {
+            rt,
+            limit: Some(limit),
             listener: None,
             faults: 0,
             link_faults: 0,
@@ -35,29 +65,71 @@ impl<R: Net<Stream = TcpStream, Listener = TcpListener> + Drop> TcpNet<R> {
 }
 
 // A link over a new connection, whose messages go out at once.
-fn link_over(stream: TcpStream) -> io::Result<TcpLink>
+fn link_over(stream: TcpStream, limit: Option<Duration>) -> io::Result<TcpLink>
     ensures { IfOk result (λ link. link.faults ≡ 0) }
 {
     stream.set_nodelay(true)?;
+    stream.set_read_timeout(limit)?;
+    stream.set_write_timeout(limit)?;
     Ok(TcpLink::new(stream))
 }
 
-fn dial<R: Net<Stream = TcpStream>>(rt: &R, address: &str) -> io::Result<TcpLink>
+// Connects to the first of a host's addresses that answers in time.
+fn connect_within<R: Net<Stream = TcpStream>>(
+    rt: &R,
+    address: &str,
+    limit: Duration,
+) -> io::Result<TcpStream> {
+    let mut last = io::Error::from(ErrorKind::InvalidInput);
+    for each in address.to_socket_addrs(rt)? {
+        match TcpStream::connect_timeout(rt, &each, limit) {
+            Ok(stream) => return Ok(stream),
+            Err(error) => last = error,
+        }
+    }
+    Err(last)
+}
+
+fn dial<R: Net<Stream = TcpStream>>(
+    rt: &R,
+    address: &str,
+    limit: Option<Duration>,
+) -> io::Result<TcpLink>
     ensures { IfOk result (λ link. link.faults ≡ 0) }
 {
-    let link = link_over(TcpStream::connect(rt, address)?)?;
+    let stream = match limit {
+        Some(limit) => connect_within(rt, address, limit)?,
+        None => TcpStream::connect(rt, address)?,
+    };
+    let link = link_over(stream, limit)?;
     Ok(link)
 }
 
-fn accept_at(listener: &TcpListener) -> io::Result<TcpLink>
+fn accept_once(listener: &TcpListener, limit: Option<Duration>) -> io::Result<TcpLink>
     ensures { IfOk result (λ link. link.faults ≡ 0) }
 {
     let (stream, _) = listener.accept()?;
-    let link = link_over(stream)?;
+    let link = link_over(stream, limit)?;
     Ok(link)
 }
 
-impl<R: Net<Stream = TcpStream, Listener = TcpListener> + Drop> Counted for TcpNet<R> {
+fn accept_at<R: Clock>(
+    rt: &R,
+    listener: &TcpListener,
+    limit: Option<Duration>,
+) -> io::Result<TcpLink>
+    ensures { IfOk result (λ link. link.faults ≡ 0) }
+{
+    for _ in 0..MAX_TRIES {
+        match accept_once(listener, limit) {
+            Ok(link) => return Ok(link),
+            Err(_) => sleep(rt, Duration::from_millis(PAUSE_MILLIS)),
+        }
+    }
+    accept_once(listener, limit)
+}
+
+impl<R: Net<Stream = TcpStream, Listener = TcpListener> + Clock + Drop> Counted for TcpNet<R> {
     ghost faults = { λ n. n.faults };
 
     fn faults(&self) -> u64 {
@@ -65,7 +137,7 @@ impl<R: Net<Stream = TcpStream, Listener = TcpListener> + Drop> Counted for TcpN
     }
 }
 
-impl<R: Net<Stream = TcpStream, Listener = TcpListener> + Drop> Links for TcpNet<R> {
+impl<R: Net<Stream = TcpStream, Listener = TcpListener> + Clock + Drop> Links for TcpNet<R> {
     type Link = TcpLink;
 
     ghost link_faults = { λ n. n.link_faults };
@@ -87,14 +159,14 @@ impl<R: Net<Stream = TcpStream, Listener = TcpListener> + Drop> Links for TcpNet
     }
 }
 
-impl<R: Net<Stream = TcpStream, Listener = TcpListener> + Drop> Dial for TcpNet<R> {
+impl<R: Net<Stream = TcpStream, Listener = TcpListener> + Clock + Drop> Dial for TcpNet<R> {
     fn connect<T: Wait>(&mut self, _rt: &T, address: &str) -> Result<TcpLink, Failed> {
-        let answer = dial(&self.rt, address);
+        let answer = dial(&self.rt, address, self.limit);
         counted(&mut self.faults, answer)
     }
 }
 
-impl<R: Net<Stream = TcpStream, Listener = TcpListener> + Drop> Listen for TcpNet<R> {
+impl<R: Net<Stream = TcpStream, Listener = TcpListener> + Clock + Drop> Listen for TcpNet<R> {
     fn listen(&mut self, address: &str) -> Result<(), Failed> {
         let answer = TcpListener::bind(&self.rt, address);
         let listener = counted(&mut self.faults, answer)?;
@@ -105,7 +177,7 @@ impl<R: Net<Stream = TcpStream, Listener = TcpListener> + Drop> Listen for TcpNe
     fn accept<T: Wait>(&mut self, _rt: &T) -> Result<TcpLink, Failed> {
         match &self.listener {
             Some(listener) => {
-                let answer = accept_at(listener);
+                let answer = accept_at(&self.rt, listener, self.limit);
                 counted(&mut self.faults, answer)
             }
             None => Err(fail(&mut self.faults)),

@@ -3,7 +3,8 @@ use crate::real::scratch::make_folder;
 use sporc_base::is_same;
 use sporc_outside::{Counted, FileFault, Folder};
 use sporc_real::RealFolder;
-use std::os::unix::fs::MetadataExt;
+use std::fs::File;
+use std::os::unix::fs::{MetadataExt, symlink};
 use std::process::Abort;
 use std::rt::Files;
 use std::{fs, process};
@@ -51,12 +52,35 @@ fn makes_new<F: Folder>(rt: &(impl Abort + AllocGlobal), folder: &mut F, name: &
     has(rt, folder, name, b"secret");
 }
 
-// A folder is no file.
-fn fails<F: Folder>(rt: &(impl Abort + AllocGlobal), folder: &mut F, path: &str) {
+// Each call of a folder fails for a path that is there and is no file that can be read.
+fn fails<F: Folder>(rt: &(impl Abort + AllocGlobal), folder: &mut F, path: &str)
+where
+    F::Disk: Drop,
+{
     let fault = folder.read_file(rt.alloc(), path).err();
     check(rt, "a read", fault == Some(FileFault::Failed));
-    check(rt, "a write", folder.write_file(path, b"x").is_err());
+    let fault = folder.leaf_disk(path).err();
+    check(rt, "a disk", fault == Some(FileFault::Failed));
     check(rt, "the faults", folder.faults() == 2);
+}
+
+// A folder is no file, and neither is a link that leads to itself; what lies behind a file is not missing either.
+fn fails_for_each<R: Abort + Files<File = File> + AllocGlobal + Drop>(rt: &R, path: &str) {
+    let name = format!(in rt.alloc(); "{path}/a").expect(rt, "memory");
+    fs::create_dir(rt, name.as_str()).expect(rt, "a folder");
+    fails(rt, &mut RealFolder::new(rt), name.as_str());
+    let written = RealFolder::new(rt).write_file(name.as_str(), b"x");
+    check(rt, "a write", written.is_err());
+    check(
+        rt,
+        "nothing beside the file",
+        !has_beside(rt, name.as_str()),
+    );
+    let link = format!(in rt.alloc(); "{path}/b").expect(rt, "memory");
+    symlink(rt, link.as_str(), link.as_str()).expect(rt, "a link");
+    fails(rt, &mut RealFolder::new(rt), link.as_str());
+    let made = RealFolder::new(rt).write_new(link.as_str(), b"x").err();
+    check(rt, "no new file", made == Some(FileFault::Exists));
 }
 
 #[test]
@@ -82,10 +106,6 @@ fn a_file_with_keys_is_made_once_for_its_owner_alone(rt: HostRuntime) {
 #[test]
 fn errors_of_files_are_counted_and_leave_nothing(rt: HostRuntime) {
     let path = make_folder(&rt, process::id(rt.process()), "errors");
-    let name = format!(in rt.alloc(); "{path}/a").expect(&rt, "memory");
-    fs::create_dir(&rt, name.as_str()).expect(&rt, "a folder");
-    fails(&rt, &mut RealFolder::new(&rt), name.as_str());
-    let beside = has_beside(&rt, name.as_str());
+    fails_for_each(&rt, path.as_str());
     fs::remove_dir_all(&rt, path.as_str()).expect(&rt, "a folder");
-    check(&rt, "nothing beside the file", !beside);
 }

@@ -11,13 +11,14 @@ use std::{fs, process};
 fn writes(rt: &impl Abort, disk: &mut RealDisk) {
     check(rt, "the length", disk.len() == Ok(4));
     disk.write_at(1, b"oo").expect(rt, "a leaf file");
+    disk.write_at(0, b"r").expect(rt, "a leaf file");
     disk.sync().expect(rt, "a leaf file");
 }
 
 fn reads(rt: &impl Abort, disk: &mut RealDisk) {
     let mut bytes = [0u8; 3];
     disk.read(0, &mut bytes).expect(rt, "a leaf file");
-    check(rt, "what is read", is_same(&bytes, b"loo"));
+    check(rt, "what is read", is_same(&bytes, b"roo"));
 }
 
 fn is_bounded(rt: &impl Abort, disk: &mut RealDisk) {

@@ -3,10 +3,11 @@ use sporc_outside::{Counted, Dial, Link, Links, Listen, write_all};
 use sporc_real::TcpNet;
 use std::net::{Net, OpenListener, TcpListener};
 use std::process::Abort;
+use std::sync::Wait;
 use std::thread::join;
 
 // An address of this machine where nobody listens.
-fn free_address<R: Abort + Net + AllocGlobal>(rt: &R) -> String {
+pub(crate) fn free_address<R: Abort + Net + AllocGlobal>(rt: &R) -> String {
     let listener = TcpListener::bind(rt, "127.0.0.1:0").expect(rt, "a listener");
     let address = listener.local_addr().expect(rt, "an address");
     format!(in rt.alloc(); "{address}").expect(rt, "memory")
@@ -40,6 +41,42 @@ fn a_connection_carries_bytes_both_ways(rt: HostRuntime) {
     net.take_back(caller);
     net.take_back(called);
     check(&rt, "the faults of the links", net.link_faults() == 0);
+}
+
+// Another address of this machine, with the same port.
+fn elsewhere(rt: &(impl Abort + AllocGlobal), address: &str) -> String {
+    let port = address.strip_prefix("127.0.0.1").expect(rt, "a port");
+    format!(in rt.alloc(); "127.0.0.2{port}").expect(rt, "memory")
+}
+
+// Whether somebody is heard at the other address of one that a net listens at.
+fn is_heard_elsewhere<N: Dial + Listen>(
+    rt: &(impl Abort + Wait + AllocGlobal),
+    net: &mut N,
+    address: &str,
+    other: &str,
+) -> bool {
+    net.listen(address).expect(rt, "a listener");
+    match net.connect(rt, other) {
+        Ok(link) => {
+            net.take_back(link);
+            true
+        }
+        Err(_) => false,
+    }
+}
+
+// A net listens at its address alone, and at all of the machine if that is 0.0.0.0.
+#[test]
+fn a_net_listens_at_its_address(rt: HostRuntime) {
+    let address = free_address(&rt);
+    let other = elsewhere(&rt, address.as_str());
+    let is_heard = is_heard_elsewhere(&rt, &mut TcpNet::new(&rt), &address, &other);
+    check(&rt, "at its address alone", !is_heard);
+    let port = other.strip_prefix("127.0.0.2").expect(&rt, "a port");
+    let all = format!(in rt.alloc(); "0.0.0.0{port}").expect(&rt, "memory");
+    let is_heard = is_heard_elsewhere(&rt, &mut TcpNet::new(&rt), &all, &other);
+    check(&rt, "at each address", is_heard);
 }
 
 #[test]

@@ -3,9 +3,9 @@ ghost use Rattle.lms_leaf.specs.LeafFile.{IsLeafHeight};
 
 use crate::calls::{failing, has_calls};
 use crate::checks::check;
-use lms_leaf::{Leaves, blank, laws};
+use lms_leaf::{LeafFault, Leaves, blank, laws};
 use sporc_base::is_same;
-use sporc_outside::MemoryDisk;
+use sporc_outside::{Counted, MemoryDisk};
 use std::alloc::Global;
 use std::process::Abort;
 
@@ -71,4 +71,91 @@ fn a_file_is_blank_at_first_and_is_drawn_by_blocks(rt: HostRuntime) {
     );
     has_calls(&rt, disk.log(), &CALLS);
     laws::no_leaf_is_drawn_twice::<MemoryDisk>();
+}
+
+// ---- crashes
+
+// A call of the disk that fails, and the leaves that a life on a blank file draws until it is stopped there, one bit each.
+// The opening makes three calls, and each block of four leaves two.
+const STOPS: [(u64, u32); 10] = [
+    (1, 0),
+    (2, 0),
+    (3, 0),
+    (4, 0),
+    (5, 0),
+    (6, 0xf),
+    (7, 0xf),
+    (8, 0xff),
+    (9, 0xff),
+    (10, 0xfff),
+];
+
+// Marks a leaf as drawn, which it was not before.
+fn mark(rt: &impl Abort, drawn: &mut u32, leaf: u32) {
+    let bit = 1u32.checked_shl(leaf).expect(rt, "a leaf");
+    check(rt, "a leaf that was not drawn", *drawn & bit == 0);
+    *drawn |= bit;
+}
+
+// Draws so many leaves, or as many as there are until a draw fails, and marks them.
+fn draw(rt: &impl Abort, leaves: &mut Leaves<MemoryDisk>, most: u32, drawn: &mut u32) {
+    for _ in 0..most {
+        match leaves.draw() {
+            Ok(leaf) => mark(rt, drawn, leaf),
+            Err(_) => return,
+        }
+    }
+}
+
+// A life on a blank file: it is opened and draws twelve leaves, but is stopped at this call. The disk that it leaves, and the
+// leaves that it drew.
+fn stopped(rt: &impl Abort, alloc: Global, call: u64) -> (MemoryDisk, u32) {
+    let file = blank(alloc, 5).expect(rt, "memory");
+    let disk = MemoryDisk::new(alloc, file, failing(rt, alloc, &[call])).expect(rt, "memory");
+    let mut drawn = 0;
+    match Leaves::open(alloc, disk, 5) {
+        Ok(mut leaves) => {
+            draw(rt, &mut leaves, 12, &mut drawn);
+            (leaves.close(), drawn)
+        }
+        Err((_, disk)) => (disk, drawn),
+    }
+}
+
+// Draws to the end, and no leaf a second time.
+fn draws_the_rest(rt: &impl Abort, leaves: &mut Leaves<MemoryDisk>, drawn: &mut u32) {
+    draw(rt, leaves, 32, drawn);
+    check(
+        rt,
+        "the end",
+        leaves.draw() == Err(LeafFault::Exhausted(32)),
+    );
+    check(rt, "the last leaf", drawn.leading_zeros() == 0);
+}
+
+// A life on what a crash left, behind one that drew these.
+fn goes_on(rt: &impl Abort, alloc: Global, image: &[u8], drawn: u32) {
+    let mut leaves = Box::new(alloc, leaves_of(rt, alloc, image)).expect(rt, "memory");
+    let mut drawn = drawn;
+    draws_the_rest(rt, &mut leaves, &mut drawn);
+}
+
+// The same on each image of what is left if a life is stopped at this call.
+fn goes_on_after(rt: &impl Abort, alloc: Global, call: u64, wanted: u32) {
+    let (disk, drawn) = stopped(rt, alloc, call);
+    check(rt, "stopped", disk.faults() == u64::from(call < 10));
+    let images = disk.images().expect(rt, "memory");
+    drop(disk);
+    check(rt, "the leaves before the crash", drawn == wanted);
+    check(rt, "the images", images.len() == 4);
+    for image in &images {
+        goes_on(rt, alloc, image.as_slice(), drawn);
+    }
+}
+
+#[test]
+fn no_leaf_is_drawn_twice_whatever_a_crash_leaves(rt: HostRuntime) {
+    for (call, drawn) in &STOPS {
+        goes_on_after(&rt, rt.alloc(), *call, *drawn);
+    }
 }
