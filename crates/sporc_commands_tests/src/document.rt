@@ -27,27 +27,41 @@ fn ring_file(rt: &impl Abort, alloc: Global) -> Vec<u8> {
     bytes
 }
 
-// Adds an entry of member 2, which inserts a character behind so many.
-fn add_entry(rt: &impl Abort, alloc: Global, sample: &mut History, cast: &Cast, place: u32) {
+// Adds an entry of a member, which inserts a character behind so many.
+fn add_entry(
+    rt: &impl Abort,
+    alloc: Global,
+    sample: &mut History,
+    cast: &Cast,
+    author: u16,
+    place: u32,
+) {
     let delta = insertion(alloc, u64::from(place), b"a").expect(rt, "memory");
     sample
-        .edit(alloc, cast, 2, delta.as_slice())
+        .edit(alloc, cast, author, delta.as_slice())
         .expect(rt, "an entry");
 }
 
-// Adds so many entries of member 2, each of which inserts a character behind those before it.
-fn add_entries(rt: &impl Abort, alloc: Global, sample: &mut History, cast: &Cast, count: u32) {
+// Adds so many entries of a member, each of which inserts a character behind those before it.
+fn add_entries(
+    rt: &impl Abort,
+    alloc: Global,
+    sample: &mut History,
+    cast: &Cast,
+    author: u16,
+    count: u32,
+) {
     for entry in 0..count {
-        add_entry(rt, alloc, sample, cast, entry);
+        add_entry(rt, alloc, sample, cast, author, entry);
     }
 }
 
-/// The history of these entries.
-pub fn entries(rt: &impl Abort, alloc: Global, cast: &Cast, count: u32) -> History {
+/// The history of these entries of a member.
+pub fn entries(rt: &impl Abort, alloc: Global, cast: &Cast, author: u16, count: u32) -> History {
     let genesis = cast.genesis(alloc).expect(rt, "a genesis");
     let mut sample = History::new(alloc, &genesis).expect(rt, "a history");
     drop(genesis);
-    add_entries(rt, alloc, &mut sample, cast, count);
+    add_entries(rt, alloc, &mut sample, cast, author, count);
     sample
 }
 
@@ -123,7 +137,7 @@ fn of_author(
     leaf: &[u8],
     count: u32,
 ) -> Vec<NamedFile> {
-    let sample = entries(rt, alloc, cast, count);
+    let sample = entries(rt, alloc, cast, 2, count);
     let history = history_file(rt, alloc, sample.entries());
     drop(sample);
     of_member(rt, alloc, cast, leaf, history.as_slice())

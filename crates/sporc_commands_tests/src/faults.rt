@@ -1,7 +1,9 @@
 //! The lines of faults of plays, and what is told if a read or a write fails.
 
 use crate::answers::{answer, answers};
-use crate::checks::{check, check_answer, check_at};
+use crate::checks::{check_answer, check_at};
+use crate::failing::Command;
+use crate::place::{Failing, Object};
 use sporc_base::is_same;
 use std::alloc::Global;
 use std::process::Abort;
@@ -116,13 +118,6 @@ fn plays_have_lines_for_their_faults(rt: HostRuntime) {
     keeps(&rt, rt.alloc(), "play", b"x", 3);
 }
 
-// Which calls of a play fail.
-#[derive(Clone, Copy)]
-enum Side {
-    Read,
-    Write,
-}
-
 // Whether this is how a play ends none of whose calls failed.
 fn is_well(status: u8, written: &[u8]) -> bool {
     status == 0 && is_same(written, THIN_REPORT.as_bytes())
@@ -130,51 +125,34 @@ fn is_well(status: u8, written: &[u8]) -> bool {
 
 // Whether this is how a play ends one of whose calls failed: the fault alone if it was a read, and else the fault after a
 // prefix of the report.
-fn is_told(side: Side, status: u8, written: &[u8]) -> bool {
+fn is_told(object: Object, status: u8, written: &[u8]) -> bool {
     let Some(prefix) = written.strip_suffix(b"fault outside\n".as_slice()) else {
         return false;
     };
-    let is_prefix = match side {
-        Side::Read => prefix.is_empty(),
-        Side::Write => THIN_REPORT.as_bytes().starts_with(prefix),
+    let is_prefix = match object {
+        Object::Out => THIN_REPORT.as_bytes().starts_with(prefix),
+        _ => prefix.is_empty(),
     };
     is_prefix && status == 6
 }
 
-// Whether a play that moves seven bytes a call ends well, since no such call is left that fails. Else the fault is told.
-fn ends_without<R: Threads + Wait + Sync + Abort>(
-    rt: &R,
-    alloc: Global,
-    side: Side,
-    call: u64,
-) -> bool {
-    let (read, write) = match side {
-        Side::Read => (call, 0),
-        Side::Write => (0, call),
-    };
-    let (status, written) = answer(rt, alloc, "play", THIN.as_bytes(), 7, read, write);
-    let is_well = is_well(status, written.as_slice());
-    let is_told = is_told(side, status, written.as_slice());
-    check_at(rt, "call", call, is_well || is_told);
-    is_well
-}
+/// A short play that moves seven bytes a call.
+#[derive(Drop)]
+pub struct Play;
 
-// The first such call that a play does not make.
-fn first_unmade<R: Threads + Wait + Sync + Abort>(rt: &R, alloc: Global, side: Side) -> u64 {
-    for call in 1..100 {
-        if ends_without(rt, alloc, side, call) {
-            return call;
-        }
+impl Command for Play {
+    fn ends_without<R: Threads + Wait + Sync + Abort>(
+        &self,
+        rt: &R,
+        alloc: Global,
+        object: Object,
+        call: u64,
+    ) -> bool {
+        let Failing { source, out, .. } = Failing::at(object, call);
+        let (status, written) = answer(rt, alloc, "play", THIN.as_bytes(), 7, source, out);
+        let is_well = is_well(status, written.as_slice());
+        let is_told = is_told(object, status, written.as_slice());
+        check_at(rt, "told of call", call, is_well || is_told);
+        is_well
     }
-    panic!(rt; "no end")
-}
-
-#[test]
-fn each_read_and_write_that_fails_is_told(rt: HostRuntime) {
-    // As many reads of 7 bytes as the script takes, and one that finds its end.
-    let reads = first_unmade(&rt, rt.alloc(), Side::Read);
-    check(&rt, "reads", reads == THIN.len().div_ceil(7) as u64 + 2);
-    // Lines of 15, 17, 14 and 28 bytes.
-    let writes = first_unmade(&rt, rt.alloc(), Side::Write);
-    check(&rt, "writes", writes == 3 + 3 + 2 + 4 + 1);
 }

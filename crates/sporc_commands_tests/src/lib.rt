@@ -2,10 +2,11 @@
 //! chance and nets in memory. They stand in a crate of their own, since a crate with tests is proved twice. No program stands on
 //! it.
 //!
-//! [`faults`] compares the lines of faults of plays, and what is told if a read or a write fails, and [`plays`] has the longest
-//! script and the generated run. Worked plays are scripts of `examples/`. [`commands`] runs commands one after the other,
-//! [`statuses`] shows the statuses that a session ends with, [`sessions`] and [`servers`] let each object that `client` and
-//! `serve` are handed fail at each of its calls in turn.
+//! [`failing`] lets each object that `play`, `serve` and `client` are handed fail at each of its calls in turn: the command's
+//! scene stands in [`faults`], [`servers`] and [`sessions`]. [`lies`] has a member beside servers that lie, a row for each lie, and
+//! [`histories`] one whose files are wrong. [`faults`] compares the lines of faults of plays too, and [`plays`] has the longest script
+//! and the generated run. Worked plays are scripts of `examples/`. [`commands`] runs commands one after the other, [`gates`] a member
+//! and a server with gates that hold them, and [`statuses`] shows the statuses that a session ends with.
 #![tactic(auto)]
 
 #[cfg(test)]
@@ -19,7 +20,15 @@ mod commands;
 #[cfg(test)]
 mod document;
 #[cfg(test)]
+mod failing;
+#[cfg(test)]
 mod faults;
+#[cfg(test)]
+mod gates;
+#[cfg(test)]
+mod histories;
+#[cfg(test)]
+mod lies;
 #[cfg(test)]
 mod nets;
 #[cfg(test)]

@@ -5,7 +5,7 @@ ghost use Rattle.std.specs.Prelude.{◌≡◌, ◌<◌, IfOk};
 use crate::bytes::bytes_of;
 use sporc_base::is_same;
 use sporc_outside::{
-    Calls, Dial, DiskBytes, ListedChance, Listen, MemoryFolder, MemorySink, MemorySource,
+    Calls, Dial, DiskBytes, Gate, ListedChance, Listen, MemoryFolder, MemorySink, MemorySource,
     NamedFile, OpenGate, PipeNet,
 };
 use sporc_top::run;
@@ -20,6 +20,7 @@ const PIECE: usize = 1_000;
 /// What a command is handed, beside the words.
 #[derive(Clone, Copy)]
 pub enum Object {
+    Source,
     Files,
     /// A disk that the folder hands out.
     Disk,
@@ -33,6 +34,7 @@ pub enum Object {
 /// Of each object the number of the call that fails, or 0.
 #[derive(Clone, Copy)]
 pub struct Failing {
+    pub source: u64,
     pub files: u64,
     pub disk: u64,
     pub out: u64,
@@ -43,6 +45,7 @@ pub struct Failing {
 
 /// No call fails.
 pub const NONE: Failing = Failing {
+    source: 0,
     files: 0,
     disk: 0,
     out: 0,
@@ -55,6 +58,10 @@ impl Failing {
     /// This call of an object fails.
     pub fn at(object: Object, call: u64) -> Failing {
         match object {
+            Object::Source => Failing {
+                source: call,
+                ..NONE
+            },
             Object::Files => Failing {
                 files: call,
                 ..NONE
@@ -92,12 +99,12 @@ pub struct Streams {
     pub out: Box<MemorySink>,
 }
 
-/// A folder, 400 words for a chance, of which a session takes two in each of its rounds, and which call of `out` fails.
+/// A folder, 400 words for a chance, of which a session takes two in each of its rounds, and which calls fail.
 #[derive(Drop)]
 pub struct Place {
     pub files: Box<MemoryFolder>,
     pub chance: Box<ListedChance>,
-    pub out: u64,
+    failing: Failing,
 }
 
 /// The status of a run, and what it writes.
@@ -120,6 +127,23 @@ pub fn copied(rt: &impl Abort, alloc: Global, files: &[NamedFile]) -> Vec<NamedF
     for file in files {
         let copy = copy_of(rt, alloc, file.name.as_slice(), file.bytes.as_slice());
         copies.push(copy).expect(rt, "memory");
+    }
+    copies
+}
+
+/// The same files but the one with this name.
+pub fn copied_without(
+    rt: &impl Abort,
+    alloc: Global,
+    files: &[NamedFile],
+    name: &str,
+) -> Vec<NamedFile> {
+    let mut copies = Vec::new(alloc);
+    for file in files {
+        if !is_same(file.name.as_slice(), name.as_bytes()) {
+            let copy = copy_of(rt, alloc, file.name.as_slice(), file.bytes.as_slice());
+            copies.push(copy).expect(rt, "memory");
+        }
     }
     copies
 }
@@ -241,18 +265,19 @@ impl Place {
         Place {
             files,
             chance,
-            out: failing.out,
+            failing,
         }
     }
 
     // The status of a run over these.
-    fn status<R: Threads + Wait + Sync, N: Dial + Listen>(
+    fn status<R: Threads + Wait + Sync, N: Dial + Listen, G: Gate + Sync>(
         &mut self,
         rt: &R,
         alloc: Global,
         net: &mut N,
         words: &[String],
         streams: &mut Streams,
+        gate: &G,
     ) -> u8
     where
         N::Link: Send,
@@ -266,7 +291,7 @@ impl Place {
             &mut *self.files,
             net,
             &mut *self.chance,
-            &OpenGate,
+            gate,
         )
     }
 
@@ -281,9 +306,25 @@ impl Place {
     where
         N::Link: Send,
     {
+        self.run_held(rt, alloc, net, words, &OpenGate)
+    }
+
+    /// The same with this gate.
+    pub fn run_held<R: Threads + Wait + Sync + Abort, N: Dial + Listen, G: Gate + Sync>(
+        &mut self,
+        rt: &R,
+        alloc: Global,
+        net: &mut N,
+        words: &str,
+        gate: &G,
+    ) -> Answer
+    where
+        N::Link: Send,
+    {
         let words = few_words(rt, alloc, words);
-        let mut streams = Streams::new(rt, alloc, b"", PIECE, 0, self.out);
-        let status = self.status(rt, alloc, net, words.as_slice(), &mut streams);
+        let Failing { source, out, .. } = self.failing;
+        let mut streams = Streams::new(rt, alloc, b"", PIECE, source, out);
+        let status = self.status(rt, alloc, net, words.as_slice(), &mut streams, gate);
         drop(words);
         let written = streams.written(rt, alloc);
         drop(streams);

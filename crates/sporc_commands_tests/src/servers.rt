@@ -1,10 +1,11 @@
-//! Sessions that are served, where each object that `serve` is handed fails at each of its calls in turn.
+//! Sessions that are served, where a call of an object that `serve` is handed fails.
 
 use crate::bytes::{append, bytes_of};
-use crate::checks::check_at;
+use crate::checks::{check, check_answer, check_at};
 use crate::document::{entries, history_file, of_server};
+use crate::failing::Command;
 use crate::nets::run_listed;
-use crate::place::{Failing, NONE, Object, Place, copied};
+use crate::place::{Answer, Failing, NONE, Object, Place, copied};
 use sporc_base::is_same;
 use sporc_outside::NamedFile;
 use sporc_samples::Cast;
@@ -13,10 +14,10 @@ use std::process::Abort;
 use std::sync::Wait;
 use std::thread::Threads;
 
-// The server's files before a session, the log of one entry that it has before, that of two that it has at the end, and what
-// a client sends that submits the second one.
+/// The server's files before a session, the log of one entry that it has before, that of two that it has at the end, and what
+/// a client sends that submits the second one.
 #[derive(Drop)]
-struct Scene {
+pub struct Scene {
     files: Vec<NamedFile>,
     old: Vec<u8>,
     new: Vec<u8>,
@@ -53,9 +54,10 @@ impl Scene {
         }
     }
 
-    fn new(rt: &impl Abort, alloc: Global) -> Scene {
+    /// Makes them.
+    pub fn new(rt: &impl Abort, alloc: Global) -> Scene {
         let cast = Cast::new(alloc).expect(rt, "a cast");
-        let sample = entries(rt, alloc, &cast, 2);
+        let sample = entries(rt, alloc, &cast, 2, 2);
         let scene = Scene::of(rt, alloc, &cast, sample.entries());
         drop(sample);
         drop(cast);
@@ -116,13 +118,16 @@ fn is_well(ended: &Ended) -> bool {
     ended.status == 0 && ended.is_quiet
 }
 
-// Whether this is how a server ends one of whose calls failed. A link that fails ends its session alone.
+// Whether this is how a server ends one of whose calls failed. A link that fails ends its session alone; and whatever came of
+// the sessions, the log is saved, and told before the fault.
 fn is_told(object: Object, ended: &Ended) -> bool {
     let written = ended.written.as_slice();
     match object {
-        Object::Link => ended.status == 0
-            && (is_same(written, b"log 1\n") || is_same(written, b"log 2\n")),
-        _ => ended.status == 6 && written.ends_with(b"fault outside\n"),
+        Object::Link => {
+            ended.status == 0 && (is_same(written, b"log 1\n") || is_same(written, b"log 2\n"))
+        }
+        Object::Net => ended.status == 6 && is_same(written, b"log 1\nfault outside\n"),
+        _ => ended.status == 6 && is_same(written, b"fault outside\n"),
     }
 }
 
@@ -160,37 +165,48 @@ fn ends_without<R: Threads + Wait + Sync + Abort>(
     ends
 }
 
-// The first call of an object that a server does not make.
-fn first_unmade<R: Threads + Wait + Sync + Abort>(
+impl Command for Scene {
+    fn ends_without<R: Threads + Wait + Sync + Abort>(
+        &self,
+        rt: &R,
+        alloc: Global,
+        object: Object,
+        call: u64,
+    ) -> bool {
+        ends_without(rt, alloc, self, object, call)
+    }
+}
+
+// A server of two sessions is left by the first and has no other link to take.
+fn is_left<R: Threads + Wait + Sync + Abort>(
     rt: &R,
     alloc: Global,
     scene: &Scene,
-    object: Object,
-) -> u64 {
-    for call in 1..100 {
-        if ends_without(rt, alloc, scene, object, call) {
-            return call;
-        }
-    }
-    panic!(rt; "no end")
+    place: &mut Place,
+) -> Answer {
+    let words = "serve D a --sessions 2";
+    let (answer, _) = run_listed(rt, alloc, place, words, scene.stream.as_slice(), NONE);
+    answer
 }
 
-// Each object, and how many calls of it a server of one session makes at least.
-const OBJECTS: [(Object, u64); 4] = [
-    // genesis and log are read, and the log is written
-    (Object::Files, 3),
-    (Object::Out, 1),
-    // it listens, and takes the link
-    (Object::Net, 2),
-    // three messages are read in three pieces, then their end, and two answers are written
-    (Object::Link, 6),
-];
+// What the first session brought is saved and told, and then the fault.
+fn is_saved_and_told<R: Threads + Wait + Sync + Abort>(
+    rt: &R,
+    alloc: Global,
+    scene: &Scene,
+    place: &mut Place,
+) {
+    let (status, written) = is_left(rt, alloc, scene, place);
+    let told = b"log 2\nfault outside\n";
+    check_answer(rt, "an accept", (status, written.as_slice()), 6, told);
+    let is_new = place.file("D.log") == Some(scene.new.as_slice());
+    check(rt, "the log", is_new);
+}
 
 #[test]
-fn each_call_that_fails_is_told(rt: HostRuntime) {
+fn a_server_whose_accept_fails_saves_what_came(rt: HostRuntime) {
     let scene = Scene::new(&rt, rt.alloc());
-    for (object, calls) in &OBJECTS {
-        let unmade = first_unmade(&rt, rt.alloc(), &scene, *object);
-        check_at(&rt, "calls", *calls, unmade > *calls);
-    }
+    let files = copied(&rt, rt.alloc(), scene.files.as_slice());
+    let mut place = Place::new(&rt, rt.alloc(), files);
+    is_saved_and_told(&rt, rt.alloc(), &scene, &mut place);
 }

@@ -1,7 +1,8 @@
-//! Sessions of a member beside an honest server, where each object that `client` is handed fails at each of its calls in turn.
+//! Sessions of a member beside an honest server, where a call of an object that `client` is handed fails.
 
 use crate::checks::{check, check_at};
 use crate::document::{entries, history_file, of_member, of_server};
+use crate::failing::Command;
 use crate::nets::FaultyNet;
 use crate::place::{Failing, NONE, Object, Place, copied, file_in};
 use sporc_base::is_same;
@@ -13,9 +14,9 @@ use std::process::Abort;
 use std::sync::Wait;
 use std::thread::{Threads, join};
 
-// The member's and the server's files before a session: both have one entry, and the block of its leaf is taken.
+/// The member's and the server's files before a session: both have one entry, and the block of its leaf is taken.
 #[derive(Drop)]
-struct Scene {
+pub struct Scene {
     member: Vec<NamedFile>,
     server: Vec<NamedFile>,
 }
@@ -30,9 +31,10 @@ impl Scene {
         Scene { member, server }
     }
 
-    fn new(rt: &impl Abort, alloc: Global) -> Scene {
+    /// Makes them.
+    pub fn new(rt: &impl Abort, alloc: Global) -> Scene {
         let cast = Cast::new(alloc).expect(rt, "a cast");
-        let sample = entries(rt, alloc, &cast, 1);
+        let sample = entries(rt, alloc, &cast, 2, 1);
         let scene = Scene::of(rt, alloc, &cast, sample.entries());
         drop(sample);
         drop(cast);
@@ -92,11 +94,17 @@ fn stay_taken(before: &[u8], after: &[u8]) -> bool {
     before.len() == after.len() && before.iter().zip(after).all(|(b, a)| *b == 0 || b == a)
 }
 
-// Whether the member's history is whole, with one entry or two.
-fn is_whole<R: Threads + Wait + Sync + Abort>(rt: &R, alloc: Global, member: &mut Place) -> bool {
+// Whether the member's history is whole, with one entry or two, and with two if it was the printing that failed.
+fn is_whole<R: Threads + Wait + Sync + Abort>(
+    rt: &R,
+    alloc: Global,
+    member: &mut Place,
+    object: Object,
+) -> bool {
     let (status, written) = member.run_alone(rt, alloc, "check D 2");
-    let line = written.as_slice();
-    status == 0 && (is_same(line, b"checked 1\n") || is_same(line, b"checked 2\n"))
+    let is_new = is_same(written.as_slice(), b"checked 2\n");
+    let is_old = is_same(written.as_slice(), b"checked 1\n");
+    status == 0 && (is_new || is_old && !matches!(object, Object::Out))
 }
 
 // The number of the leaf that signed an entry.
@@ -134,8 +142,9 @@ fn works_on<R: Threads + Wait + Sync + Abort>(
     alloc: Global,
     member: &mut Place,
     server: &mut Place,
+    object: Object,
 ) -> bool {
-    if !is_whole(rt, alloc, member) {
+    if !is_whole(rt, alloc, member, object) {
         return false;
     }
     let (status, _) = session(rt, alloc, member, server, NONE);
@@ -150,6 +159,7 @@ fn goes_on<R: Threads + Wait + Sync + Abort>(
     scene: &Scene,
     left: &[NamedFile],
     server: &mut Place,
+    object: Object,
 ) -> bool {
     let before = file_in(scene.member.as_slice(), "D.2.leaf").expect(rt, "a leaf file");
     let after = file_in(left, "D.2.leaf").expect(rt, "a leaf file");
@@ -157,7 +167,7 @@ fn goes_on<R: Threads + Wait + Sync + Abort>(
         return false;
     }
     let mut member = Place::new(rt, alloc, copied(rt, alloc, left));
-    let works = works_on(rt, alloc, &mut member, server);
+    let works = works_on(rt, alloc, &mut member, server, object);
     drop(member);
     works
 }
@@ -174,7 +184,7 @@ fn ends_well<R: Threads + Wait + Sync + Abort>(
 ) -> bool {
     let failing = Failing::at(object, call);
     let (status, is_told) = session(rt, alloc, member, server, failing);
-    let goes_on = goes_on(rt, alloc, scene, member.files.files(), server);
+    let goes_on = goes_on(rt, alloc, scene, member.files.files(), server, object);
     check_at(rt, "on after call", call, goes_on);
     let is_well = status == 0;
     check_at(
@@ -203,41 +213,14 @@ fn ends_without<R: Threads + Wait + Sync + Abort>(
     ends
 }
 
-// The first call of an object that a session does not make.
-fn first_unmade<R: Threads + Wait + Sync + Abort>(
-    rt: &R,
-    alloc: Global,
-    scene: &Scene,
-    object: Object,
-) -> u64 {
-    for call in 1..100 {
-        if ends_without(rt, alloc, scene, object, call) {
-            return call;
-        }
-    }
-    panic!(rt; "no end")
-}
-
-// Each object, and how many calls of it a session makes at least.
-const OBJECTS: [(Object, u64); 6] = [
-    // genesis, key, ring, script, leaf disk and history are read, and the history is written
-    (Object::Files, 7),
-    // the leaf file is opened by three calls, and its next block is written and synced
-    (Object::Disk, 5),
-    // journal and report
-    (Object::Out, 2),
-    // each of three submissions draws two words
-    (Object::Chance, 6),
-    (Object::Net, 1),
-    // Hello, four messages and their answers
-    (Object::Link, 9),
-];
-
-#[test]
-fn each_call_that_fails_ends_a_session(rt: HostRuntime) {
-    let scene = Scene::new(&rt, rt.alloc());
-    for (object, calls) in &OBJECTS {
-        let unmade = first_unmade(&rt, rt.alloc(), &scene, *object);
-        check_at(&rt, "calls", *calls, unmade > *calls);
+impl Command for Scene {
+    fn ends_without<R: Threads + Wait + Sync + Abort>(
+        &self,
+        rt: &R,
+        alloc: Global,
+        object: Object,
+        call: u64,
+    ) -> bool {
+        ends_without(rt, alloc, self, object, call)
     }
 }

@@ -1,0 +1,106 @@
+//! Each object that a command is handed fails at each of its calls in turn.
+
+use crate::checks::check_at;
+use crate::faults::Play;
+use crate::place::Object;
+use crate::{servers, sessions};
+use std::alloc::Global;
+use std::process::Abort;
+use std::sync::Wait;
+use std::thread::Threads;
+
+/// A command over objects that are made anew for each run.
+pub trait Command {
+    /// Whether a run ends well where this call of an object is to fail, since it makes no such call. Else the fault is told, and
+    /// what the run leaves is whole.
+    fn ends_without<R: Threads + Wait + Sync + Abort>(
+        &self,
+        rt: &R,
+        alloc: Global,
+        object: Object,
+        call: u64,
+    ) -> bool;
+}
+
+// How many calls of an object a command makes: each of them was let fail.
+fn calls_of<R: Threads + Wait + Sync + Abort, C: Command>(
+    rt: &R,
+    alloc: Global,
+    command: &C,
+    object: Object,
+) -> u64 {
+    for made in 0..100u64 {
+        if command.ends_without(rt, alloc, object, made + 1) {
+            return made;
+        }
+    }
+    panic!(rt; "no end")
+}
+
+// An object, and how many calls of it a command makes at least and at most.
+type Row = (Object, u64, u64);
+
+// Lets each call of each of these objects fail.
+fn tells_each<R: Threads + Wait + Sync + Abort, C: Command>(
+    rt: &R,
+    alloc: Global,
+    command: &C,
+    rows: &[Row],
+) {
+    for (object, least, most) in rows {
+        let made = calls_of(rt, alloc, command, *object);
+        check_at(rt, "calls", made, *least <= made && made <= *most);
+    }
+}
+
+const PLAY: [Row; 2] = [
+    // ten reads of at most seven bytes bring the script's 64, and one finds its end
+    (Object::Source, 11, 11),
+    // lines of 15, 17, 14 and 28 bytes
+    (Object::Out, 12, 12),
+];
+
+const SERVE: [Row; 7] = [
+    // genesis and log are read, and the log is written
+    (Object::Files, 3, 3),
+    (Object::Out, 1, 1),
+    // it listens, and takes the link
+    (Object::Net, 2, 2),
+    // three messages are read in three pieces, then their end, and two answers are written
+    (Object::Link, 6, 9),
+    (Object::Source, 0, 0),
+    (Object::Disk, 0, 0),
+    (Object::Chance, 0, 0),
+];
+
+const CLIENT: [Row; 7] = [
+    // genesis, key, ring, script, leaf disk and history are read, and the history is written
+    (Object::Files, 7, 7),
+    // the leaf file is opened by three calls, and its next block is written and synced
+    (Object::Disk, 5, 5),
+    // journal and report
+    (Object::Out, 2, 20),
+    // each submission draws two words, and each phase has at most three
+    (Object::Chance, 6, 24),
+    (Object::Net, 1, 1),
+    // Hello, four messages and their answers, which come in pieces
+    (Object::Link, 9, 99),
+    (Object::Source, 0, 0),
+];
+
+#[test]
+fn each_call_of_a_play_that_fails_is_told(rt: HostRuntime) {
+    tells_each(&rt, rt.alloc(), &Play, &PLAY);
+}
+
+#[test]
+fn each_call_of_a_server_that_fails_is_told(rt: HostRuntime) {
+    let server = servers::Scene::new(&rt, rt.alloc());
+    tells_each(&rt, rt.alloc(), &server, &SERVE);
+}
+
+#[test]
+fn each_call_of_a_client_that_fails_is_told(rt: HostRuntime) {
+    let member = sessions::Scene::new(&rt, rt.alloc());
+    tells_each(&rt, rt.alloc(), &member, &CLIENT);
+}
