@@ -1,36 +1,46 @@
 //! Each object that a command is handed fails at each of its calls in turn.
 
 use crate::checks::check_at;
-use crate::faults::Play;
 use crate::place::Object;
-use crate::{servers, sessions};
+use crate::{faults, servers, sessions};
 use std::alloc::Global;
 use std::process::Abort;
 use std::sync::Wait;
 use std::thread::Threads;
 
-/// A command over objects that are made anew for each run.
-pub trait Command {
-    /// Whether a run ends well where this call of an object is to fail, since it makes no such call. Else the fault is told, and
-    /// what the run leaves is whole.
-    fn ends_without<R: Threads + Wait + Sync + Abort>(
-        &self,
-        rt: &R,
-        alloc: Global,
-        object: Object,
-        call: u64,
-    ) -> bool;
+// A command over objects that are made anew for each run.
+#[derive(Drop)]
+enum Command {
+    Play,
+    Serve(servers::Scene),
+    Client(sessions::Scene),
+}
+
+// Whether a run ends well where this call of an object is to fail, since it makes no such call. Else the fault is told, and what
+// the run leaves is whole.
+fn ends_without<R: Threads + Wait + Sync + Abort>(
+    rt: &R,
+    alloc: Global,
+    command: &Command,
+    object: Object,
+    call: u64,
+) -> bool {
+    match command {
+        Command::Play => faults::ends_without(rt, alloc, object, call),
+        Command::Serve(scene) => servers::ends_without(rt, alloc, scene, object, call),
+        Command::Client(scene) => sessions::ends_without(rt, alloc, scene, object, call),
+    }
 }
 
 // How many calls of an object a command makes: each of them was let fail.
-fn calls_of<R: Threads + Wait + Sync + Abort, C: Command>(
+fn calls_of<R: Threads + Wait + Sync + Abort>(
     rt: &R,
     alloc: Global,
-    command: &C,
+    command: &Command,
     object: Object,
 ) -> u64 {
     for made in 0..100u64 {
-        if command.ends_without(rt, alloc, object, made + 1) {
+        if ends_without(rt, alloc, command, object, made + 1) {
             return made;
         }
     }
@@ -41,10 +51,10 @@ fn calls_of<R: Threads + Wait + Sync + Abort, C: Command>(
 type Row = (Object, u64, u64);
 
 // Lets each call of each of these objects fail.
-fn tells_each<R: Threads + Wait + Sync + Abort, C: Command>(
+fn tells_each<R: Threads + Wait + Sync + Abort>(
     rt: &R,
     alloc: Global,
-    command: &C,
+    command: &Command,
     rows: &[Row],
 ) {
     for (object, least, most) in rows {
@@ -90,17 +100,17 @@ const CLIENT: [Row; 7] = [
 
 #[test]
 fn each_call_of_a_play_that_fails_is_told(rt: HostRuntime) {
-    tells_each(&rt, rt.alloc(), &Play, &PLAY);
+    tells_each(&rt, rt.alloc(), &Command::Play, &PLAY);
 }
 
 #[test]
 fn each_call_of_a_server_that_fails_is_told(rt: HostRuntime) {
-    let server = servers::Scene::new(&rt, rt.alloc());
+    let server = Command::Serve(servers::Scene::new(&rt, rt.alloc()));
     tells_each(&rt, rt.alloc(), &server, &SERVE);
 }
 
 #[test]
 fn each_call_of_a_client_that_fails_is_told(rt: HostRuntime) {
-    let member = sessions::Scene::new(&rt, rt.alloc());
+    let member = Command::Client(sessions::Scene::new(&rt, rt.alloc()));
     tells_each(&rt, rt.alloc(), &member, &CLIENT);
 }

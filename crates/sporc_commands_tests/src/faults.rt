@@ -2,7 +2,6 @@
 
 use crate::answers::{answer, answers};
 use crate::checks::{check_answer, check_at};
-use crate::failing::Command;
 use crate::place::{Failing, Object};
 use sporc_base::is_same;
 use std::alloc::Global;
@@ -136,23 +135,18 @@ fn is_told(object: Object, status: u8, written: &[u8]) -> bool {
     is_prefix && status == 6
 }
 
-/// A short play that moves seven bytes a call.
-#[derive(Drop)]
-pub struct Play;
-
-impl Command for Play {
-    fn ends_without<R: Threads + Wait + Sync + Abort>(
-        &self,
-        rt: &R,
-        alloc: Global,
-        object: Object,
-        call: u64,
-    ) -> bool {
-        let Failing { source, out, .. } = Failing::at(object, call);
-        let (status, written) = answer(rt, alloc, "play", THIN.as_bytes(), 7, source, out);
-        let is_well = is_well(status, written.as_slice());
-        let is_told = is_told(object, status, written.as_slice());
-        check_at(rt, "told of call", call, is_well || is_told);
-        is_well
-    }
+/// Whether a short play, which moves seven bytes a call, ends well, since the object has no call left that fails. Else the
+/// fault is told.
+pub fn ends_without<R: Threads + Wait + Sync + Abort>(
+    rt: &R,
+    alloc: Global,
+    object: Object,
+    call: u64,
+) -> bool {
+    let Failing { source, out, .. } = Failing::at(object, call);
+    let (status, written) = answer(rt, alloc, "play", THIN.as_bytes(), 7, source, out);
+    let is_well = is_well(status, written.as_slice());
+    let is_told = is_told(object, status, written.as_slice());
+    check_at(rt, "told of call", call, is_well || is_told);
+    is_well
 }

@@ -3,7 +3,6 @@
 use crate::bytes::{append, bytes_of};
 use crate::checks::{check, check_answer, check_at};
 use crate::document::{entries, history_file, of_server};
-use crate::failing::Command;
 use crate::nets::run_listed;
 use crate::place::{Answer, Failing, NONE, Object, Place, copied};
 use sporc_base::is_same;
@@ -150,8 +149,8 @@ fn ends_well<R: Threads + Wait + Sync + Abort>(
     is_well
 }
 
-// The same, over the scene's files.
-fn ends_without<R: Threads + Wait + Sync + Abort>(
+/// The same, over the scene's files.
+pub fn ends_without<R: Threads + Wait + Sync + Abort>(
     rt: &R,
     alloc: Global,
     scene: &Scene,
@@ -163,18 +162,6 @@ fn ends_without<R: Threads + Wait + Sync + Abort>(
     let ends = ends_well(rt, alloc, scene, &mut place, object, call);
     drop(place);
     ends
-}
-
-impl Command for Scene {
-    fn ends_without<R: Threads + Wait + Sync + Abort>(
-        &self,
-        rt: &R,
-        alloc: Global,
-        object: Object,
-        call: u64,
-    ) -> bool {
-        ends_without(rt, alloc, self, object, call)
-    }
 }
 
 // A server of two sessions is left by the first and has no other link to take.

@@ -2,7 +2,6 @@
 
 use crate::checks::{check, check_at};
 use crate::document::{entries, history_file, of_member, of_server};
-use crate::failing::Command;
 use crate::nets::FaultyNet;
 use crate::place::{Failing, NONE, Object, Place, copied, file_in};
 use sporc_base::is_same;
@@ -196,8 +195,8 @@ fn ends_well<R: Threads + Wait + Sync + Abort>(
     is_well
 }
 
-// The same, over the scene's files.
-fn ends_without<R: Threads + Wait + Sync + Abort>(
+/// The same, over the scene's files.
+pub fn ends_without<R: Threads + Wait + Sync + Abort>(
     rt: &R,
     alloc: Global,
     scene: &Scene,
@@ -211,16 +210,4 @@ fn ends_without<R: Threads + Wait + Sync + Abort>(
     drop(member);
     drop(server);
     ends
-}
-
-impl Command for Scene {
-    fn ends_without<R: Threads + Wait + Sync + Abort>(
-        &self,
-        rt: &R,
-        alloc: Global,
-        object: Object,
-        call: u64,
-    ) -> bool {
-        ends_without(rt, alloc, self, object, call)
-    }
 }
