@@ -143,7 +143,7 @@ saved_as past name shown told now new low mid high result called same more is =
     (subst (λ (o : Option (List NamedFile)). SaveOutcome past shown (record { before = o; after = new; faults_before = mid; faults_after = high }) result) same is))
 
 -- the answer, with other words for the disk's count and for the session's fault
-pub answers_so : (answer : Result ⊤ Fault) (n count : ℕ) (ended session : Result ⊤ SessionFault) (printed : Result ⊤ PrintFault) (saved : Result ⊤ KeepFault) → n ≡ count → ended ≡ session
-    → answer ≡ first_fault n ended printed saved → answer ≡ first_fault count session printed saved
-answers_so answer n count ended session printed saved counted same is =
-    is ∙ ap (λ (k : ℕ). first_fault k ended printed saved) counted ∙ ap (λ (s : Result ⊤ SessionFault). first_fault count s printed saved) same
+pub answers_so : (answer : Result ⊤ Fault) (n count : ℕ) (ended session : Result ⊤ SessionFault) (saved : Result ⊤ KeepFault) (printed : Result ⊤ PrintFault) → n ≡ count → ended ≡ session
+    → answer ≡ first_fault n ended saved printed → answer ≡ first_fault count session saved printed
+answers_so answer n count ended session saved printed counted same is =
+    is ∙ ap (λ (k : ℕ). first_fault k ended saved printed) counted ∙ ap (λ (s : Result ⊤ SessionFault). first_fault count s saved printed) same

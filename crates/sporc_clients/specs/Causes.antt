@@ -67,20 +67,20 @@ fault_of_attending member (attending.Stopped stop) = fault_of_stop member stop
 fault_of_attending member attending.Unreached = faults.Outside
 fault_of_attending member attending.Memory = faults.Memory
 
--- why journal and report were not printed
-abbrev pub fault_of_printing : PrintFault → Fault
-fault_of_printing printing.Sink = faults.Outside
-fault_of_printing printing.Memory = faults.Memory
-
 -- why the history was not saved
 abbrev pub fault_of_keeping : KeepFault → Fault
 fault_of_keeping keeping.TooLong = faults.FullFile
 fault_of_keeping keeping.Folder = faults.Outside
 fault_of_keeping keeping.Memory = faults.Memory
 
--- the first fault: that of the session, of printing, or of saving
-abbrev pub first_fault : ℕ → Result ⊤ SessionFault → Result ⊤ PrintFault → Result ⊤ KeepFault → Result ⊤ Fault
-first_fault disk_faults (Err fault) printed saved = Err (fault_of_session disk_faults fault)
-first_fault disk_faults (Ok done) (Err fault) saved = Err (fault_of_printing fault)
-first_fault disk_faults (Ok done) (Ok printed) (Err fault) = Err (fault_of_keeping fault)
-first_fault disk_faults (Ok done) (Ok printed) (Ok saved) = Ok tt
+-- why journal and report were not printed
+abbrev pub fault_of_printing : PrintFault → Fault
+fault_of_printing printing.Sink = faults.Outside
+fault_of_printing printing.Memory = faults.Memory
+
+-- the first fault: that of the session, of saving, or of printing
+abbrev pub first_fault : ℕ → Result ⊤ SessionFault → Result ⊤ KeepFault → Result ⊤ PrintFault → Result ⊤ Fault
+first_fault disk_faults (Err fault) saved printed = Err (fault_of_session disk_faults fault)
+first_fault disk_faults (Ok done) (Err fault) printed = Err (fault_of_keeping fault)
+first_fault disk_faults (Ok done) (Ok saved) (Err fault) = Err (fault_of_printing fault)
+first_fault disk_faults (Ok done) (Ok saved) (Ok printed) = Ok tt

@@ -125,8 +125,8 @@ module _ {L D : Type 0} (view : LinkView L) (disks : DiskView D) (words : Words)
     pub opened : IsOpened (disks.stored first) (disks.stored leaves.disk) leaves
     pub says : SaysFileIfThere any_bytes did.folder.files_before (file_name (names_of words) (History words.member)) history
 
-  -- A session led the member's client from its saved history to a last past. However it ended, journal and report of that past were printed, and
-  -- its history was saved, and then the answer is the first fault: that of the session, of printing, or of saving
+  -- A session led the member's client from its saved history to a last past. However it ended, the history of that past was saved, and its journal
+  -- and report were printed, and then the answer is the first fault: that of the session, of saving, or of printing
   pub record Worked (first last : D) (answer : Result ⊤ Fault) : Type 0 where
     pub leaves : LeavesModel D
     pub history : Option (List ℕ)
@@ -136,12 +136,12 @@ module _ {L D : Type 0} (view : LinkView L) (disks : DiskView D) (words : Words)
     pub attended : IsAttended view (begin_of words m) history did.net.before did.net.after (plan_of words m) (signs_with m leaves) past
         (chance_before did) (chance_after did) session
     pub causes : RoseIfFailed (counts_of did) session
-    pub printed : Result ⊤ PrintFault
-    pub prints : PrintOutcome past did.out printed
     pub saved : Result ⊤ KeepFault
     pub saves : SaveOutcome past (file_name (names_of words) (History words.member)) (files_of did) saved
+    pub printed : Result ⊤ PrintFault
+    pub prints : PrintOutcome past did.out printed
     pub taken : LeavesAreTaken (disks.images last) past
-    pub answers : answer ≡ first_fault (disks.faults last) session printed saved
+    pub answers : answer ≡ first_fault (disks.faults last) session saved printed
 
   -- why no session began: the leaf file is none of the key's; behind its opening, the saved history was not read; or the client could not go on
   -- with it

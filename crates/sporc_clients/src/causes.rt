@@ -87,15 +87,6 @@ pub(crate) fn attend_fault(member: u16, fault: AttendFault) -> Fault
     }
 }
 
-fn print_fault(fault: PrintFault) -> Fault
-    ensures value { result ≡ fault_of_printing fault }
-{
-    match fault {
-        PrintFault::Sink => Fault::Outside,
-        PrintFault::Memory => Fault::Memory,
-    }
-}
-
 fn keep_fault(fault: KeepFault) -> Fault
     ensures value { result ≡ fault_of_keeping fault }
 {
@@ -106,19 +97,28 @@ fn keep_fault(fault: KeepFault) -> Fault
     }
 }
 
-// The first fault: that of a session, of printing, or of saving.
+fn print_fault(fault: PrintFault) -> Fault
+    ensures value { result ≡ fault_of_printing fault }
+{
+    match fault {
+        PrintFault::Sink => Fault::Outside,
+        PrintFault::Memory => Fault::Memory,
+    }
+}
+
+// The first fault: that of a session, of saving, or of printing.
 pub(crate) fn first_fault(
     disk_faults: u64,
     session: Result<(), SessionFault>,
-    printed: Result<(), PrintFault>,
     saved: Result<(), KeepFault>,
+    printed: Result<(), PrintFault>,
 ) -> Result<(), Fault>
-    ensures value { result ≡ first_fault disk_faults session printed saved }
+    ensures value { result ≡ first_fault disk_faults session saved printed }
 {
-    match (session, printed, saved) {
+    match (session, saved, printed) {
         (Err(fault), _, _) => Err(session_fault(fault, disk_faults)),
-        (Ok(()), Err(fault), _) => Err(print_fault(fault)),
-        (Ok(()), Ok(()), Err(fault)) => Err(keep_fault(fault)),
+        (Ok(()), Err(fault), _) => Err(keep_fault(fault)),
+        (Ok(()), Ok(()), Err(fault)) => Err(print_fault(fault)),
         (Ok(()), Ok(()), Ok(())) => Ok(()),
     }
 }

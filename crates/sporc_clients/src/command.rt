@@ -27,8 +27,8 @@ use std::alloc::Global;
 use std::sync::Wait;
 use std::thread::Threads;
 
-/// Has a member work with the server at an address, beside its editors, then prints its journal and report, and saves its
-/// history.
+/// Has a member work with the server at an address, beside its editors, then saves its history, and prints its journal and
+/// report.
 pub fn client<
     R: Threads + Wait + Sync,
     O: Sink,
@@ -168,11 +168,11 @@ where
         Ok(ended) => {
             let Concluded {
                 session,
-                printed,
                 saved,
+                printed,
                 disk,
             } = conclude(alloc, ended, out, files, name.as_str());
-            (first_fault(disk.faults(), session, printed, saved), disk)
+            (first_fault(disk.faults(), session, saved, printed), disk)
         }
         Err((fault, signer)) => (Err(attend_fault(number, fault)), signer.close()),
     }

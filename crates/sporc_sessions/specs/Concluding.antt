@@ -1,4 +1,4 @@
--- What is printed and saved once a session has ended, and what stands of the leaf file.
+-- What is saved and printed once a session has ended, and what stands of the leaf file.
 use Rattle.std.specs.Prelude.{◌≡◌, ◌+◌, ◌<◌, ◌≤◌, ℕ, List, length, Option, option_map, Result, Ok, Err, ⊤}
 use Rattle.std.specs.Io.KnownBytes.{Appends}
 use Rattle.lms_leaf.specs.LeafFile.{ArePassed, AreTaken}
@@ -17,13 +17,6 @@ use Rattle.sporc_sessions.specs.declared.concluding.PrintFault.{PrintFault}
 use Rattle.sporc_sessions.specs.declared.concluding.PrintFault.TheVariants as printing
 use Rattle.sporc_sessions.specs.Report.{report_of}
 
--- What was printed of a client, whatever its session came to: journal and report, and nothing else. Or a call of the sink failed behind a prefix
--- of them; or memory ran out as they were made, before any call of the sink
-abbrev pub PrintOutcome : Past → SinkUse → Result ⊤ PrintFault → Type 0
-PrintOutcome past out (Ok done) = Appends out.written_before out.written_after (report_of past)
-PrintOutcome past out (Err printing.Sink) = Rose out.faults_before out.faults_after × AppendsPrefix out.written_before out.written_after (report_of past)
-PrintOutcome past out (Err printing.Memory) = IsUnwritten out
-
 -- a folder's files, where it tells them, and its count of faults, before and after
 pub record FilesUse : Type 0 where
   pub before : Option (List NamedFile)
@@ -38,14 +31,21 @@ files_use files faults old new = record { before = files old; after = files new;
 abbrev pub history_bytes : Past → List ℕ
 history_bytes past = saved_bytes past.opening.genesis.document (client_of past).entries
 
--- What was saved of a client, whatever its session and its printing came to: all its entries, as the file with this name, and nothing else. Or a
--- call of the folder failed, and anything may stand there; or nothing was written, since the file would be too long, or since memory ran out as its
+-- What was saved of a client, whatever its session came to: all its entries, as the file with this name, and nothing else. Or a call of the
+-- folder failed, and anything may stand there; or nothing was written, since the file would be too long, or since memory ran out as its
 -- bytes were made
 abbrev pub SaveOutcome : Past → List ℕ → FilesUse → Result ⊤ KeepFault → Type 0
 SaveOutcome past name files (Ok done) = files.after ≡ option_map (λ old. with_file old name (history_bytes past)) files.before
 SaveOutcome past name files (Err keeping.Folder) = Rose files.faults_before files.faults_after × ChangesFile files.before files.after name
 SaveOutcome past name files (Err keeping.TooLong) = (MAX_FILE < length (history_bytes past)) × (files.after ≡ files.before)
 SaveOutcome past name files (Err keeping.Memory) = files.after ≡ files.before
+
+-- What was printed of a client, whatever its session and its saving came to: journal and report, and nothing else. Or a call of the sink failed
+-- behind a prefix of them; or memory ran out as they were made, before any call of the sink
+abbrev pub PrintOutcome : Past → SinkUse → Result ⊤ PrintFault → Type 0
+PrintOutcome past out (Ok done) = Appends out.written_before out.written_after (report_of past)
+PrintOutcome past out (Err printing.Sink) = Rose out.faults_before out.faults_after × AppendsPrefix out.written_before out.written_after (report_of past)
+PrintOutcome past out (Err printing.Memory) = IsUnwritten out
 
 -- the leaves of a log's submissions rise from the first on, each once, and one more at most was drawn; no crash makes the blocks of any of them free
 -- again; whatever a crash leaves, a later opening goes on at the next leaf or above it

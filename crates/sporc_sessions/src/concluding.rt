@@ -17,6 +17,17 @@ use sporc_shared::SessionFault;
 use sporc_store::{SaveFault, save};
 use std::alloc::{AllocError, Global};
 
+/// Why a history was not saved.
+#[derive(Clone, Copy)]
+pub enum KeepFault {
+    /// Its file would be longer than a file may be.
+    TooLong,
+    /// A call of the folder failed. Anything may stand in the file.
+    Folder,
+    /// Out of memory.
+    Memory,
+}
+
 /// Why journal and report were not printed whole.
 #[derive(Clone, Copy)]
 pub enum PrintFault {
@@ -42,32 +53,22 @@ impl From<Failed> for PrintFault {
     }
 }
 
-/// Why a history was not saved.
-#[derive(Clone, Copy)]
-pub enum KeepFault {
-    /// Its file would be longer than a file may be.
-    TooLong,
-    /// A call of the folder failed. Anything may stand in the file.
-    Folder,
-    /// Out of memory.
-    Memory,
-}
-
 /// What a session came to.
 #[derive(Drop)]
 pub struct Concluded<D: LeafDisk> {
     /// How it ended.
     pub session: Result<(), SessionFault>,
-    /// Whether journal and report were printed.
-    pub printed: Result<(), PrintFault>,
     /// Whether the history was saved.
     pub saved: Result<(), KeepFault>,
+    /// Whether journal and report were printed.
+    pub printed: Result<(), PrintFault>,
     /// The disk of the leaf file.
     pub disk: D,
 }
 
-/// Prints journal and report of a client and saves its history as the file with a name, whatever fault ended its session or
-/// comes in between, and closes the client.
+/// Saves the history of a client as the file with a name, then prints its journal and report, whatever fault ended its session
+/// or comes in between, and closes the client. So what was printed is saved already, if it could be, however long the sink
+/// takes.
 pub fn conclude<D: LeafDisk, O: Sink, F: Folder>(
     alloc: Global,
     ended: Ended<D>,
@@ -77,12 +78,12 @@ pub fn conclude<D: LeafDisk, O: Sink, F: Folder>(
 ) -> Concluded<D>
     requires leaves { Rise (past_of ended.client).first_leaf ended.client.leaves.next (leaves_of ended.client.log) }
     ensures session { result.session ≡ ended.result }
-    ensures printed { PrintOutcome (past_of ended.client)
-        (sink_use O.written O.faults out.old out.new)
-        result.printed }
     ensures saved { SaveOutcome (past_of ended.client) name.now
         (files_use F.files F.faults files.old files.new)
         result.saved }
+    ensures printed { PrintOutcome (past_of ended.client)
+        (sink_use O.written O.faults out.old out.new)
+        result.printed }
     ensures disk { result.disk ≡ ended.client.leaves.disk }
     ensures taken { LeavesAreTaken (D.images result.disk (D.moment result.disk)) (past_of ended.client) }
     ensures lent { F.lent files.new ≡ F.lent files.old }
@@ -91,31 +92,15 @@ pub fn conclude<D: LeafDisk, O: Sink, F: Folder>(
     ensures files_kept { F.faults files.old ≤ F.faults files.new }
 {
     let Ended { client, result } = ended;
-    let printed = print(alloc, &client, out);
     let saved = save_history(alloc, &client, files, name);
+    let printed = print(alloc, &client, out);
     let disk = client.close().close();
     Concluded {
         session: result,
-        printed,
         saved,
+        printed,
         disk,
     }
-}
-
-// Prints journal and report of a client.
-fn print<D: LeafDisk, O: Sink>(
-    alloc: Global,
-    client: &Client<D>,
-    out: &mut O,
-) -> Result<(), PrintFault>
-    ensures printed { PrintOutcome (past_of client.now)
-        (sink_use O.written O.faults out.old out.new)
-        result }
-    ensures kept { O.faults out.old ≤ O.faults out.new }
-{
-    let text = report(alloc, client)?;
-    write_all(out, text.as_bytes())?;
-    Ok(())
 }
 
 // Saves the history of a client as the file with a name.
@@ -142,4 +127,20 @@ fn save_history<D: LeafDisk, F: Folder>(
         Err(SaveFault::TooLong(_)) => Err(KeepFault::TooLong),
         Err(SaveFault::Memory) => Err(KeepFault::Memory),
     }
+}
+
+// Prints journal and report of a client.
+fn print<D: LeafDisk, O: Sink>(
+    alloc: Global,
+    client: &Client<D>,
+    out: &mut O,
+) -> Result<(), PrintFault>
+    ensures printed { PrintOutcome (past_of client.now)
+        (sink_use O.written O.faults out.old out.new)
+        result }
+    ensures kept { O.faults out.old ≤ O.faults out.new }
+{
+    let text = report(alloc, client)?;
+    write_all(out, text.as_bytes())?;
+    Ok(())
 }

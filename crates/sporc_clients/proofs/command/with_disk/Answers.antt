@@ -42,14 +42,14 @@ returns-in-Ok-attend-clause-outcome g c =
           c.args.words.now.rounds c.args.words.now.until m.editors c.as_slice.result.now m.tree c.in-Ok.signer.key _ past _ _ c.in-Ok-attend.ended.result
           c.as_slice.ensures.value c.in-Ok.ensures.key c.in-Ok-attend.ensures.attended;
       causes = c.in-Ok-attend.ensures.causes;
-      printed = c.conclude-session.result.printed;
-      prints = c.conclude-session.ensures.printed;
       saved = c.conclude-session.result.saved;
       saves = saved_as past _ c.as_str-in-Ok-attend.result.now _ _ _ _ _ _ c.conclude-session.result.saved
           (c.as_str-in-Ok-attend.ensures.value ∙ c.in-Ok-history_of.ensures.name ∙ ap (λ n. file_name n (History c.args.words.now.member)) c.names_of.ensures.value)
           c.history_of.ensures.files c.history_of.ensures.kept c.conclude-session.ensures.saved;
+      printed = c.conclude-session.result.printed;
+      prints = c.conclude-session.ensures.printed;
       taken = c.conclude-session.ensures.taken;
-      answers = answers_so _ c.faults.result _ c.conclude-session.result.session c.in-Ok-attend.ended.result c.conclude-session.result.printed c.conclude-session.result.saved
+      answers = answers_so _ c.faults.result _ c.conclude-session.result.session c.in-Ok-attend.ended.result c.conclude-session.result.saved c.conclude-session.result.printed
           c.faults.ensures.value c.conclude-session.ensures.session c.first_fault.ensures.value;
     })
 
