@@ -3,3 +3,6 @@ pub mod Outcomes
 pub mod Runs
 pub mod Serving
 pub mod Working
+pub mod LeafFiles
+pub mod LeafCommands
+pub mod LeafRuns

@@ -3,3 +3,4 @@ pub mod Ranges
 pub mod Needs
 pub mod Performing
 pub mod Outcome
+pub mod LeafFiles

@@ -1,6 +1,6 @@
 //! Laws over what a run did, whatever its links and disks tell. Their functions do nothing.
 
-ghost use Rattle.std.specs.Prelude.{◌≡◌, ◌<◌, ◌≤◌, ℕ, true, List, Some, length};
+ghost use Rattle.std.specs.Prelude.{◌≡◌, ◌<◌, ◌≤◌, ℕ, true, List, IsSome, None, Some, length};
 ghost use Rattle.sporc_script.specs.Grammar.{IsPlayFault, IsPlayScript};
 ghost use Rattle.sporc_script.specs.declared.play_line.PlayLine.{PlayLine};
 ghost use Rattle.sporc_client.specs.Genuine.{Genuine};
@@ -18,6 +18,7 @@ ghost use Rattle.sporc_files.specs.declared.fault.Fault.TheVariants as faults;
 ghost use Rattle.sporc_files.specs.Faults.{WritesFaultLine};
 ghost use Rattle.sporc_sessions.specs.Nets.{link_view};
 ghost use Rattle.sporc_clients.specs.Outcome.{disk_view};
+ghost use Rattle.sporc_top.specs.LeafFiles.{LeavesLeafFile, ProgramRun, SignOnceOverRuns, leaf_name, over_leaf_file};
 ghost use Rattle.sporc_top.specs.Outcome.{RunOutcome, UnlessCutOff};
 ghost use Rattle.sporc_top.specs.Performing.{no_files};
 ghost use Rattle.sporc_top.specs.Uses.{OutsideUse};
@@ -72,4 +73,27 @@ pub fn generated_runs_are_played<L: Link, D: LeafDisk>()
         → RunOutcome (link_view L.written L.left L.faults L.is_shut)
         (disk_view D.stored D.images D.moment D.faults) words outside status
         → command_of words ≡ Some (commands.Generate n) → UnlessCutOff status ((status ≡ 0) × PlaysGenerated n outside.out) }
+{}
+
+/// Behind a run of the program that did not have the disk of a member's leaf file handed out, whatever its words and its end, that
+/// file stands as before. Or the run is a `keygen` that makes it, where there was none, or where something outside failed.
+///
+/// This speaks of a folder that tells its files.
+pub fn leaf_files_stay<L: Link, D: LeafDisk>()
+    ensures { (document : List ℕ) (member : ℕ)
+        (run : ProgramRun (link_view L.written L.left L.faults L.is_shut) (disk_view D.stored D.images D.moment D.faults))
+        → IsSome run.outside.folder.files_before → IsSome run.outside.folder.lent_before
+        → over_leaf_file (link_view L.written L.left L.faults L.is_shut) (disk_view D.stored D.images D.moment D.faults) (leaf_name document member) run ≡ None
+        → LeavesLeafFile (link_view L.written L.left L.faults L.is_shut) (disk_view D.stored D.images D.moment D.faults) (leaf_name document member) run }
+{}
+
+/// Over runs of the program one behind another, whatever their words and their ends, the leaves that sign over one member's leaf
+/// file rise, so none signs twice. Between two runs that file stays as it was, or a crash leaves of it what it may leave of its
+/// disk; as long as it is there no `keygen` that makes it meets a call outside that fails. A run that a crash cuts off answers
+/// nothing, and is none of these.
+///
+/// This speaks of a folder that tells its files, and of disks that tell their bytes and behave as [`LeafDisk`] says.
+pub fn no_leaf_signs_twice_over_runs<L: Link, D: LeafDisk>()
+    ensures rise { (document : List ℕ) (member : ℕ)
+        → SignOnceOverRuns (link_view L.written L.left L.faults L.is_shut) D.stored D.moment D.images D.faults (leaf_name document member) }
 {}

@@ -6,7 +6,7 @@
 //! ```
 //!
 //! Proved: what each run did, by its status ([`run`], in `specs/Outcome.antt`), which objects outside it left as they
-//! were, and what a source that tells its bytes calls for ([`laws`]). Only tested: the reports of worked scripts;
+//! were, what a source that tells its bytes calls for, and that over runs no leaf signs twice ([`laws`]). Only tested: the reports of worked scripts;
 //! commands one after the other, members who work with a server in another thread, and each call outside failing in turn;
 //! that a run does not run out of memory if there is ample (`sporc_commands_tests`, `examples/`). Neither: that a real
 //! file, port or terminal gives and keeps the bytes.

@@ -1,0 +1,352 @@
+-- What each command of the program leaves of a leaf file.
+use Rattle.std.proofs.Common.{◌≡◌, ◌⊎◌, inl, inr, ℕ, List, [], ◌∷◌, Bool, true, false, Option, Some, None, IsSome, option_map, Result, Ok, Err, refl, ap, sym, subst, ◌∙◌}
+use Rattle.std.specs.Bool.{⊤}
+use Rattle.std.specs.List.{AllByRecursion}
+use Rattle.std.specs.Str.{bytes_eq}
+use Rattle.std.proofs.lemmas.Slice.Eq.{bytes_eq-Decides}
+use Rattle.sporc_outside.specs.Files.{ChangesFile, HasNoFile, IsDiskOf, with_file}
+use Rattle.sporc_outside.specs.Uses.{SinkUse}
+use Rattle.sporc_outside.specs.declared.named_file.NamedFile.{NamedFile}
+use Rattle.sporc_keys.specs.declared.founding.Founding.{Founding}
+use Rattle.sporc_keys.specs.declared.new_key.NewKey.{NewKey}
+use Rattle.sporc_keys.specs.KeyFile.{key_file_bytes}
+use Rattle.sporc_order.specs.OrderModel.{OrderModel}
+use Rattle.sporc_serve.specs.Crowds.{Net}
+use Rattle.sporc_shared.specs.Items.{Past}
+use Rattle.sporc_words.specs.declared.client.Client.{Client}
+use Rattle.sporc_words.specs.declared.command.Command.{Command}
+use Rattle.sporc_words.specs.declared.command.Command.TheVariants as commands
+use Rattle.sporc_words.specs.declared.found.Found.{Found}
+use Rattle.sporc_words.specs.declared.keygen.Keygen.{Keygen}
+use Rattle.sporc_files.specs.declared.fault.Fault.{Fault}
+use Rattle.sporc_files.specs.declared.fault.Fault.TheVariants as faults
+use Rattle.sporc_files.specs.declared.file.File.{File}
+use Rattle.sporc_files.specs.declared.file.File.TheVariants as files
+use Rattle.sporc_files.specs.Names.{FileNames, file_name, names_of_document}
+use Rattle.sporc_files.specs.Uses.{ChanceUse, FolderUse}
+use Rattle.sporc_files.specs.Writing.{StoresFirst, StoresPrefix, file_with}
+use Rattle.sporc_founding.specs.Founding.{FoundOutcome, IsStoreFault, founding_files}
+use Rattle.sporc_founding.specs.KeyMaking.{IsFilesFault, IsThere, KeygenOutcome, Makes, StoresKey, StoresKeyFile, key_files}
+use Rattle.sporc_histories.specs.Outcomes.{KeepsLog, ServeOutcome}
+use Rattle.sporc_sessions.specs.declared.concluding.KeepFault.{KeepFault}
+use Rattle.sporc_sessions.specs.declared.concluding.KeepFault.TheVariants as keeping
+use Rattle.sporc_sessions.specs.Concluding.{FilesUse, SaveOutcome}
+use Rattle.sporc_sessions.specs.Nets.{LinkView}
+use Rattle.sporc_clients.specs.declared.member_files.MemberFiles.{MemberFiles}
+use Rattle.sporc_clients.specs.Lives.{ClientRun}
+use Rattle.sporc_clients.specs.Outcome.{ClientOutcome, ClientUse, DiskOutcome, DiskView, files_of, names_of, no_disk, no_member, not_worked, over_disk, with_folder, worked}
+use Rattle.sporc_top.specs.LeafFiles.{by_command, file_at, if_over, leaf_name, over_its_disk}
+use Rattle.sporc_top.specs.Needs.{needs_of}
+use Rattle.sporc_top.specs.Performing.{Performs}
+use Rattle.sporc_top.specs.Uses.{OutsideUse, client_use}
+use Rattle.sporc_top.proofs.LeafFiles.{Keeps, kept_back, kept_changes, kept_first, kept_prefix, kept_stores, kept_with, not_genesis, not_history, not_key, not_log, own_back, own_is, own_tells, rings_others}
+
+-- ---- told files stay told
+
+told_with : (before after : Option (List NamedFile)) (name bytes : List ℕ) → IsSome before → after ≡ option_map (λ old. with_file old name bytes) before → IsSome after
+told_with None after name bytes told is = absurd cc
+told_with (Some fs) after name bytes told is = rw is refl
+
+told_changes : (before after : Option (List NamedFile)) (name : List ℕ) → IsSome before → ChangesFile before after name → IsSome after
+told_changes None after name told changes = absurd cc
+told_changes (Some fs) None name told changes = absurd changes
+told_changes (Some fs) (Some more) name told changes = refl
+
+told_same : (before after : Option (List NamedFile)) → IsSome before → after ≡ before → IsSome after
+told_same before after told is = subst (λ (o : Option (List NamedFile)). IsSome o) (sym is) told
+
+one_lent : (lent : Option (List (List ℕ))) → IsSome lent → (rest : List (List ℕ)) × (lent ≡ Some rest)
+one_lent None told = absurd cc
+one_lent (Some rest) told = (rest, refl)
+
+module _ (document : List ℕ) (member : ℕ) where
+  abbrev name : List ℕ
+  name = leaf_name document member
+
+  -- ---- keygen
+
+  -- what stood before, or the leaf file is made by this key, and there was none, or something outside failed
+  abbrev pub KeysLeave : Keygen → Option (List NamedFile) → Option (List NamedFile) → Result ⊤ Fault → Type 0
+  KeysLeave words before after answer =
+      Keeps name before after ⊎ ((leaf_name words.name words.member ≡ name) × (HasNoFile before name ⊎ (answer ≡ Err faults.Outside)))
+
+  key_file_kept : (names : FileNames) (key : NewKey) (before after : Option (List NamedFile)) → StoresKeyFile names key before after → Keeps name before after
+  key_file_kept names key before after stores = kept_stores name before after (file_with names (files.Key key.file.member) (key_file_bytes key.file) ∷ []) (not_key names document member key.file.member, tt) stores.stored
+
+  -- by a name that is that of the key's leaf file, or not
+  module _ (words : Keygen) (key : NewKey) (before after : Option (List NamedFile)) (answer : Result ⊤ Fault) (same : key.file.member ≡ words.member) where
+    abbrev leaf_of_key : List ℕ
+    leaf_of_key = file_name (names_of_document words.name) (files.Leaf key.file.member)
+
+    named : bytes_eq leaf_of_key name ≡ true → leaf_name words.name words.member ≡ name
+    named e = ap (λ (m : ℕ). leaf_name words.name m) (sym same) ∙ (bytes_eq-Decides leaf_of_key name).0 e
+
+    keys_stored : StoresKey (names_of_document words.name) key before after → KeysLeave words before after answer
+    keys_stored stores = go (bytes_eq leaf_of_key name) refl
+      where
+        go : (b : Bool) → bytes_eq leaf_of_key name ≡ b → KeysLeave words before after answer
+        go true e = inr (named e, inl (subst (λ (n : List ℕ). HasNoFile before n) ((bytes_eq-Decides leaf_of_key name).0 e) stores.new_leaves))
+        go false e = inl (kept_stores name before after (key_files (names_of_document words.name) key) (not_key (names_of_document words.name) document member key.file.member, (e, tt)) stores.stored)
+
+    keys_failed : (between : Option (List NamedFile)) → IsSome before → answer ≡ Err faults.Outside → StoresKeyFile (names_of_document words.name) key before between
+        → ChangesFile between after leaf_of_key → KeysLeave words before after answer
+    keys_failed between told outside stores changes = go (bytes_eq leaf_of_key name) refl
+      where
+        go : (b : Bool) → bytes_eq leaf_of_key name ≡ b → KeysLeave words before after answer
+        go true e = inr (named e, inr outside)
+        go false e =
+            inl (kept_changes name between after leaf_of_key (told_with before between _ _ told stores.stored) e changes
+            ∙ key_file_kept (names_of_document words.name) key before between stores)
+
+  there_kept : (names : FileNames) (key : NewKey) (before after : Option (List NamedFile)) (file : File) → IsThere names key before after file → Keeps name before after
+  there_kept names key before after (files.Key m) there = ap (file_at name) there.2
+  there_kept names key before after (files.Leaf m) there = key_file_kept names key before after there.2
+  there_kept names key before after files.Genesis never = absurd never
+  there_kept names key before after (files.Ring m) never = absurd never
+  there_kept names key before after (files.History m) never = absurd never
+  there_kept names key before after files.Log never = absurd never
+  there_kept names key before after (files.Script m) never = absurd never
+
+  keys_by_fault : (words : Keygen) (key : NewKey) (before after : Option (List NamedFile)) (low high : ℕ) → key.file.member ≡ words.member → IsSome before
+      → (fault : Fault) → IsFilesFault (names_of_document words.name) key before after low high fault → KeysLeave words before after (Err fault)
+  keys_by_fault words key before after low high same told faults.Memory (inl is) = inl (ap (file_at name) is)
+  keys_by_fault words key before after low high same told faults.Memory (inr stores) = inl (key_file_kept (names_of_document words.name) key before after stores)
+  keys_by_fault words key before after low high same told faults.Outside (rose, inl changes) =
+      inl (kept_changes name before after _ told (not_key (names_of_document words.name) document member key.file.member) changes)
+  keys_by_fault words key before after low high same told faults.Outside (rose, inr (between, stores, changes)) =
+      keys_failed words key before after (Err faults.Outside) same between told refl stores changes
+  keys_by_fault words key before after low high same told (faults.Exists f) there = inl (there_kept (names_of_document words.name) key before after f there)
+  keys_by_fault words key before after low high same told faults.Words never = absurd never
+  keys_by_fault words key before after low high same told (faults.Missing f) never = absurd never
+  keys_by_fault words key before after low high same told (faults.TooLong f) never = absurd never
+  keys_by_fault words key before after low high same told (faults.Malformed f at) never = absurd never
+  keys_by_fault words key before after low high same told (faults.Line l) never = absurd never
+  keys_by_fault words key before after low high same told (faults.EditorLine e l) never = absurd never
+  keys_by_fault words key before after low high same told faults.LongScript never = absurd never
+  keys_by_fault words key before after low high same told (faults.Refused p r) never = absurd never
+  keys_by_fault words key before after low high same told (faults.Rejected r) never = absurd never
+  keys_by_fault words key before after low high same told (faults.Hints h) never = absurd never
+  keys_by_fault words key before after low high same told (faults.Opening o) never = absurd never
+  keys_by_fault words key before after low high same told (faults.Unsettled n p) never = absurd never
+  keys_by_fault words key before after low high same told (faults.LinkEnded t) never = absurd never
+  keys_by_fault words key before after low high same told (faults.Leaf n) never = absurd never
+  keys_by_fault words key before after low high same told faults.FullHistory never = absurd never
+  keys_by_fault words key before after low high same told faults.FullJournal never = absurd never
+  keys_by_fault words key before after low high same told faults.FullFile never = absurd never
+  keys_by_fault words key before after low high same told faults.Worn never = absurd never
+  keys_by_fault words key before after low high same told (faults.Message at) never = absurd never
+  keys_by_fault words key before after low high same told (faults.Edit e l f) never = absurd never
+
+  same_member : (words : Keygen) (chance : ChanceUse) (key : NewKey) → Makes words chance key → key.file.member ≡ words.member
+  same_member words chance key (first, second, draws, is) = ap (λ (k : NewKey). k.file.member) is
+
+  keygen_leaves : (words : Keygen) (folder : FolderUse) (chance : ChanceUse) (out : SinkUse) (answer : Result ⊤ Fault) → IsSome folder.files_before
+      → KeygenOutcome words folder chance out answer → KeysLeave words folder.files_before folder.files_after answer
+  keygen_leaves words folder chance out (Ok done) told made =
+      keys_stored words made.key folder.files_before folder.files_after (Ok done) (same_member words chance made.key made.makes) made.stores
+  keygen_leaves words folder chance out (Err fault) told (inl fails) = inl (ap (file_at name) fails.untouched.stand)
+  keygen_leaves words folder chance out (Err fault) told (inr (inl fails)) =
+      keys_by_fault words fails.key folder.files_before folder.files_after _ _ (same_member words chance fails.key fails.makes) told fault fails.cause
+  keygen_leaves words folder chance out (Err fault) told (inr (inr fails)) =
+      keys_stored words fails.key folder.files_before folder.files_after (Err fault) (same_member words chance fails.key fails.makes) fails.stores
+
+  -- ---- found
+
+  stores_kept : (new : List NamedFile) (before after : Option (List NamedFile)) (low high : ℕ) → IsSome before
+      → (StoresFirst new before after → Keeps name before after) → (StoresPrefix new before after → Keeps name before after)
+      → (fault : Fault) → IsStoreFault new before after low high fault → Keeps name before after
+  stores_kept new before after low high told first prefix faults.Memory stores = first stores
+  stores_kept new before after low high told first prefix faults.Outside (rose, stores) = prefix stores
+  stores_kept new before after low high told first prefix faults.Words never = absurd never
+  stores_kept new before after low high told first prefix (faults.Missing f) never = absurd never
+  stores_kept new before after low high told first prefix (faults.Exists f) never = absurd never
+  stores_kept new before after low high told first prefix (faults.TooLong f) never = absurd never
+  stores_kept new before after low high told first prefix (faults.Malformed f at) never = absurd never
+  stores_kept new before after low high told first prefix (faults.Line l) never = absurd never
+  stores_kept new before after low high told first prefix (faults.EditorLine e l) never = absurd never
+  stores_kept new before after low high told first prefix faults.LongScript never = absurd never
+  stores_kept new before after low high told first prefix (faults.Refused p r) never = absurd never
+  stores_kept new before after low high told first prefix (faults.Rejected r) never = absurd never
+  stores_kept new before after low high told first prefix (faults.Hints h) never = absurd never
+  stores_kept new before after low high told first prefix (faults.Opening o) never = absurd never
+  stores_kept new before after low high told first prefix (faults.Unsettled n p) never = absurd never
+  stores_kept new before after low high told first prefix (faults.LinkEnded t) never = absurd never
+  stores_kept new before after low high told first prefix (faults.Leaf n) never = absurd never
+  stores_kept new before after low high told first prefix faults.FullHistory never = absurd never
+  stores_kept new before after low high told first prefix faults.FullJournal never = absurd never
+  stores_kept new before after low high told first prefix faults.FullFile never = absurd never
+  stores_kept new before after low high told first prefix faults.Worn never = absurd never
+  stores_kept new before after low high told first prefix (faults.Message at) never = absurd never
+  stores_kept new before after low high told first prefix (faults.Edit e l f) never = absurd never
+
+  founding_others : (names : FileNames) (founding : Founding) → AllByRecursion (λ f. bytes_eq f.name name ≡ false) (founding_files names founding)
+  founding_others names founding = (not_genesis names document member, rings_others names document member founding.rings)
+
+  found_keeps : (words : Found) (folder : FolderUse) (chance : ChanceUse) (answer : Result ⊤ Fault) → IsSome folder.files_before → FoundOutcome words folder chance answer
+      → Keeps name folder.files_before folder.files_after
+  found_keeps words folder chance (Ok done) told founds =
+      let names = names_of_document words.name in
+      kept_stores name folder.files_before folder.files_after (founding_files names founds.founding) (founding_others names founds.founding) founds.stores
+  found_keeps words folder chance (Err fault) told (inl fails) = ap (file_at name) fails.stand
+  found_keeps words folder chance (Err fault) told (inr (inl fails)) = ap (file_at name) fails.stand
+  found_keeps words folder chance (Err fault) told (inr (inr fails)) =
+      let names = names_of_document words.name in
+      let others = founding_others names fails.founding in
+      stores_kept (founding_files names fails.founding) folder.files_before folder.files_after _ _ told
+      (kept_first name folder.files_before folder.files_after (founding_files names fails.founding) others)
+      (kept_prefix name folder.files_before folder.files_after (founding_files names fails.founding) told others) fault fails.cause
+
+  -- ---- serve
+
+  log_kept : (names : FileNames) (folder : FolderUse) (out : SinkUse) (order : OrderModel) → IsSome folder.files_before
+      → (fault : Fault) → KeepsLog names folder out order {T = ⊤} (Err fault) → Keeps name folder.files_before folder.files_after
+  log_kept names folder out order told faults.Memory kept = ap (file_at name) kept.0
+  log_kept names folder out order told faults.FullFile (full, same, none) = ap (file_at name) same
+  log_kept names folder out order told faults.Outside (inl (rose, changes, none)) =
+      kept_changes name folder.files_before folder.files_after _ told (not_log names document member) changes
+  log_kept names folder out order told faults.Outside (inr (saves, rose, line)) = kept_with name folder.files_before folder.files_after _ _ (not_log names document member) saves.files
+  log_kept names folder out order told faults.Words never = absurd never
+  log_kept names folder out order told (faults.Missing f) never = absurd never
+  log_kept names folder out order told (faults.Exists f) never = absurd never
+  log_kept names folder out order told (faults.TooLong f) never = absurd never
+  log_kept names folder out order told (faults.Malformed f at) never = absurd never
+  log_kept names folder out order told (faults.Line l) never = absurd never
+  log_kept names folder out order told (faults.EditorLine e l) never = absurd never
+  log_kept names folder out order told faults.LongScript never = absurd never
+  log_kept names folder out order told (faults.Refused p r) never = absurd never
+  log_kept names folder out order told (faults.Rejected r) never = absurd never
+  log_kept names folder out order told (faults.Hints h) never = absurd never
+  log_kept names folder out order told (faults.Opening o) never = absurd never
+  log_kept names folder out order told (faults.Unsettled n p) never = absurd never
+  log_kept names folder out order told (faults.LinkEnded t) never = absurd never
+  log_kept names folder out order told (faults.Leaf n) never = absurd never
+  log_kept names folder out order told faults.FullHistory never = absurd never
+  log_kept names folder out order told faults.FullJournal never = absurd never
+  log_kept names folder out order told faults.Worn never = absurd never
+  log_kept names folder out order told (faults.Message at) never = absurd never
+  log_kept names folder out order told (faults.Edit e l f) never = absurd never
+
+  log_keeps : (names : FileNames) (folder : FolderUse) (out : SinkUse) (order : OrderModel) (kept : Result ⊤ Fault) → IsSome folder.files_before
+      → KeepsLog names folder out order kept → Keeps name folder.files_before folder.files_after
+  log_keeps names folder out order (Ok done) told (saves, line) = kept_with name folder.files_before folder.files_after _ _ (not_log names document member) saves.files
+  log_keeps names folder out order (Err fault) told keeps = log_kept names folder out order told fault keeps
+
+  serve_keeps : {L : Type 0} (left written : L → Option (List ℕ)) (counts : L → ℕ) (is_shut : L → Option Bool) (names : FileNames) (sessions : ℕ) (folder : FolderUse) (out : SinkUse)
+      (old new : Net L) (answer : Result ⊤ Fault) → IsSome folder.files_before → ServeOutcome left written counts is_shut names sessions folder out old new answer
+      → Keeps name folder.files_before folder.files_after
+  serve_keeps left written counts is_shut names sessions folder out old new answer told (inl none) = ap (file_at name) none.reads.unchanged
+  serve_keeps left written counts is_shut names sessions folder out old new answer told (inr served) = log_keeps names folder out served.after served.kept told served.keeps
+
+  -- ---- client
+
+  -- its history is saved, and nothing else changes while the disk is out
+  abbrev Stays : Option (List NamedFile) → Option (List NamedFile) → Type 0
+  Stays before after = IsSome after × Keeps name before after
+
+  saved_stays : (past : Past) (other : List ℕ) (u : FilesUse) (saved : Result ⊤ KeepFault) → IsSome u.before → bytes_eq other name ≡ false → SaveOutcome past other u saved
+      → Stays u.before u.after
+  saved_stays past other u (Ok done) told differs is = (told_with u.before u.after other _ told is, kept_with name u.before u.after other _ differs is)
+  saved_stays past other u (Err keeping.Folder) told differs (rose, changes) = (told_changes u.before u.after other told changes, kept_changes name u.before u.after other told differs changes)
+  saved_stays past other u (Err keeping.TooLong) told differs (long, same) = (told_same u.before u.after told same, ap (file_at name) same)
+  saved_stays past other u (Err keeping.Memory) told differs same = (told_same u.before u.after told same, ap (file_at name) same)
+
+  module _ {L D : Type 0} (links : LinkView L) (disks : DiskView D) where
+    over_stays : (words : Client) (m : MemberFiles) (did : ClientUse L) (first last : D) (answer : Result ⊤ Fault) → IsSome did.folder.files_before
+        → DiskOutcome links disks words m did first last answer → Stays did.folder.files_before did.folder.files_after
+    over_stays words m did first last answer told (worked w) =
+        saved_stays w.past (file_name (names_of words) (files.History words.member)) (files_of did) w.saved told (not_history (names_of words) document member words.member) w.saves
+    over_stays words m did first last answer told (not_worked why untouched same kept) =
+        (told_same did.folder.files_before did.folder.files_after told untouched.files, ap (file_at name) untouched.files)
+
+    -- over another leaf file, or over none
+    client_keeps : (words : Client) (did : ClientUse L) (answer : Result ⊤ Fault) (outcome : ClientOutcome links disks words did answer)
+        → IsSome did.folder.files_before → IsSome did.folder.lent_before → if_over links disks name (over_its_disk links disks words did answer outcome) ≡ None
+        → Keeps name did.folder.files_before did.folder.files_after
+    client_keeps words did answer (no_member why same untouched) told lent none = ap (file_at name) untouched.files
+    client_keeps words did answer (no_disk m say why same untouched) told lent none = ap (file_at name) untouched.files
+    client_keeps words did answer (over_disk m first last during say lends over) told lent none = go (bytes_eq (leaf_name words.name words.member) name) refl
+      where
+        go : (b : Bool) → bytes_eq (leaf_name words.name words.member) name ≡ b → Keeps name did.folder.files_before did.folder.files_after
+        go true e = let clash = rw e at none in absurd cc
+        go false e =
+            let (rest, is) = one_lent did.folder.lent_before lent in
+            let told_then = subst (λ (o : Option (List NamedFile)). IsSome o) (sym lends.unchanged) told in
+            let stays = over_stays words m (with_folder did during) first last answer told_then over in
+            kept_back name during.lent_after during.files_after did.folder.files_after (disks.stored last) (leaf_name words.name words.member) rest
+            (lends.lent ∙ ap (option_map (λ names. leaf_name words.name words.member ∷ names)) is) stays.0 e lends.back ∙ stays.1 ∙ ap (file_at name) lends.unchanged
+
+    -- over this one: the disk that was handed out had the file's bytes, and the file those of the one that came back
+    pub record HasBeenOver (before after : Option (List NamedFile)) (run : ClientRun links disks) : Type 0 where
+      pub tells : IsSome (disks.stored run.first)
+      pub first : disks.stored run.first ≡ file_at name before
+      pub last : IsSome (disks.stored run.last) → file_at name after ≡ disks.stored run.last
+
+    client_has : (words : Client) (did : ClientUse L) (answer : Result ⊤ Fault) (outcome : ClientOutcome links disks words did answer) (run : ClientRun links disks)
+        → IsSome did.folder.files_before → IsSome did.folder.lent_before → if_over links disks name (over_its_disk links disks words did answer outcome) ≡ Some run
+        → HasBeenOver did.folder.files_before did.folder.files_after run
+    client_has words did answer (no_member why same untouched) run told lent some = absurd cc
+    client_has words did answer (no_disk m say why same untouched) run told lent some = absurd cc
+    client_has words did answer (over_disk m first last during say lends over) run told lent some = go (bytes_eq (leaf_name words.name words.member) name) refl
+      where
+        own : ClientRun links disks
+        own = record { words = words; member = m; did = with_folder did during; first = first; last = last; answer = answer; outcome = over }
+
+        has : leaf_name words.name words.member ≡ name → HasBeenOver did.folder.files_before did.folder.files_after own
+        has called =
+            let (rest, is) = one_lent did.folder.lent_before lent in
+            let told_then = subst (λ (o : Option (List NamedFile)). IsSome o) (sym lends.unchanged) told in
+            let stays = over_stays words m (with_folder did during) first last answer told_then over in
+            let is_disk = subst (λ (n : List ℕ). IsDiskOf did.folder.files_before n (disks.stored first)) called lends.is in
+            record {
+              tells = own_tells name did.folder.files_before (disks.stored first) told is_disk;
+              first = own_is name did.folder.files_before (disks.stored first) told is_disk;
+              last = λ tells. own_back name during.lent_after during.files_after did.folder.files_after (disks.stored last) rest
+                  (lends.lent ∙ ap (option_map (λ names. leaf_name words.name words.member ∷ names)) is ∙ ap (λ (n : List ℕ). Some (n ∷ rest)) called) stays.0 tells lends.back;
+            }
+
+        go : (b : Bool) → bytes_eq (leaf_name words.name words.member) name ≡ b → HasBeenOver did.folder.files_before did.folder.files_after run
+        go true e =
+            let both = rw e at some in
+            let same : own ≡ run = cc in
+            subst (HasBeenOver did.folder.files_before did.folder.files_after) same (has ((bytes_eq-Decides (leaf_name words.name words.member) name).0 e))
+        go false e = let clash = rw e at some in absurd cc
+
+    -- ---- commands
+
+    -- what stands of the leaf file behind a command that did not have its disk handed out
+    abbrev pub CommandLeaves : Command → Option (List NamedFile) → Option (List NamedFile) → Result ⊤ Fault → Type 0
+    CommandLeaves asked before after answer =
+        Keeps name before after
+        ⊎ ((words : Keygen) × (asked ≡ commands.Keygen words) × (leaf_name words.name words.member ≡ name) × (HasNoFile before name ⊎ (answer ≡ Err faults.Outside)))
+
+    by_key : (words : Keygen) (before after : Option (List NamedFile)) (answer : Result ⊤ Fault) → KeysLeave words before after answer
+        → CommandLeaves (commands.Keygen words) before after answer
+    by_key words before after answer (inl kept) = inl kept
+    by_key words before after answer (inr (called, new)) = inr (words, refl, called, new)
+
+    pub command_leaves : (asked : Command) (outside : OutsideUse L) (answer : Result ⊤ Fault) (did : Performs links disks asked outside answer)
+        → ((needs_of asked).files ≡ false → outside.folder.files_after ≡ outside.folder.files_before)
+        → IsSome outside.folder.files_before → IsSome outside.folder.lent_before → if_over links disks name (by_command links disks asked outside answer did) ≡ None
+        → CommandLeaves asked outside.folder.files_before outside.folder.files_after answer
+    command_leaves commands.Play outside answer did unused told lent none = inl (ap (file_at name) (unused refl))
+    command_leaves (commands.Generate edits) outside answer did unused told lent none = inl (ap (file_at name) (unused refl))
+    command_leaves (commands.Keygen words) outside answer did unused told lent none =
+        by_key words outside.folder.files_before outside.folder.files_after answer (keygen_leaves words outside.folder outside.chance outside.out answer told did.outcome)
+    command_leaves (commands.Found words) outside answer did unused told lent none = inl (found_keeps words outside.folder outside.chance answer told did.outcome)
+    command_leaves (commands.Serve words) outside answer did unused told lent none =
+        inl (serve_keeps _ _ _ _ (names_of_document words.name) words.sessions outside.folder outside.out _ _ answer told did.outcome)
+    command_leaves (commands.Client words) outside answer did unused told lent none = inl (client_keeps words (client_use outside) answer did.outcome told lent none)
+    command_leaves (commands.Check words) outside answer did unused told lent none = inl (ap (file_at name) did.reads.unchanged)
+    command_leaves (commands.Compare words) outside answer did unused told lent none = inl (ap (file_at name) did.reads.unchanged)
+
+    pub command_has : (asked : Command) (outside : OutsideUse L) (answer : Result ⊤ Fault) (did : Performs links disks asked outside answer) (run : ClientRun links disks)
+        → IsSome outside.folder.files_before → IsSome outside.folder.lent_before → if_over links disks name (by_command links disks asked outside answer did) ≡ Some run
+        → HasBeenOver outside.folder.files_before outside.folder.files_after run
+    command_has commands.Play outside answer did run told lent some = absurd cc
+    command_has (commands.Generate edits) outside answer did run told lent some = absurd cc
+    command_has (commands.Keygen words) outside answer did run told lent some = absurd cc
+    command_has (commands.Found words) outside answer did run told lent some = absurd cc
+    command_has (commands.Serve words) outside answer did run told lent some = absurd cc
+    command_has (commands.Client words) outside answer did run told lent some = client_has words (client_use outside) answer did.outcome run told lent some
+    command_has (commands.Check words) outside answer did run told lent some = absurd cc
+    command_has (commands.Compare words) outside answer did run told lent some = absurd cc

@@ -1,0 +1,147 @@
+-- What commands leave of a leaf file.
+use Rattle.std.proofs.Common.{◌≡◌, ◌≢◌, inl, inr, ℕ, List, [], ◌∷◌, ◌++◌, Bool, true, false, map, Option, Some, None, IsSome, option_map, refl, ap, sym, subst, ◌∙◌, arith, codes}
+use Rattle.std.specs.Fmt.{decimal}
+use Rattle.std.specs.List.{AllByRecursion}
+use Rattle.std.specs.Str.{bytes_eq}
+use Rattle.std.proofs.lemmas.Slice.Eq.{bytes_eq-Decides}
+use Rattle.sporc_outside.specs.Files.{ChangesFile, IsDiskOf, TakesBack, file_in, with_file}
+use Rattle.sporc_outside.specs.declared.named_file.NamedFile.{NamedFile}
+use Rattle.sporc_outside.proofs.Files.{file_in-other}
+use Rattle.sporc_keys.specs.declared.ring_file.RingFile.{RingFile}
+use Rattle.sporc_files.specs.declared.file.File.TheVariants as files
+use Rattle.sporc_files.specs.Names.{FileNames, file_name}
+use Rattle.sporc_files.specs.Writing.{Stores, StoresFirst, StoresPrefix, with_files, with_one}
+use Rattle.sporc_founding.specs.Founding.{ring_of_founding}
+use Rattle.sporc_top.specs.LeafFiles.{file_at, leaf_name}
+
+-- ---- names that end otherwise
+
+abbrev last_of : List ℕ → ℕ
+last_of [] = 0
+last_of (x ∷ []) = x
+last_of (x ∷ y ∷ ys) = last_of (y ∷ ys)
+
+last_more : (xs : List ℕ) (y : ℕ) (ys : List ℕ) → last_of (xs ++ y ∷ ys) ≡ last_of (y ∷ ys)
+last_more [] y ys = refl
+last_more (x ∷ []) y ys = refl
+last_more (x ∷ z ∷ zs) y ys = last_more (z ∷ zs) y ys
+
+-- what stands between two dots
+last_dotted : (stem : List ℕ) (member : ℕ) (y : ℕ) (ys : List ℕ) → last_of (stem ++ (codes "." ++ (decimal member ++ y ∷ ys))) ≡ last_of (y ∷ ys)
+last_dotted stem member y ys = last_more stem 46 (decimal member ++ y ∷ ys) ∙ last_more (46 ∷ decimal member) y ys
+
+-- a leaf file's name ends with `f`
+leaf_ends : (document : List ℕ) (member : ℕ) → last_of (leaf_name document member) ≡ 102
+leaf_ends document member = last_dotted document member 46 (codes "leaf")
+
+apart : (other document : List ℕ) (member n : ℕ) → last_of other ≡ n → n ≢ 102 → bytes_eq other (leaf_name document member) ≡ false
+apart other document member n ends differs = go (bytes_eq other (leaf_name document member)) refl
+  where
+    go : (b : Bool) → bytes_eq other (leaf_name document member) ≡ b → bytes_eq other (leaf_name document member) ≡ false
+    go true same = absurd (differs (sym ends ∙ ap last_of ((bytes_eq-Decides other (leaf_name document member)).0 same) ∙ leaf_ends document member))
+    go false is = is
+
+module _ (names : FileNames) (document : List ℕ) (member : ℕ) where
+  pub not_genesis : bytes_eq (file_name names files.Genesis) (leaf_name document member) ≡ false
+  not_genesis = apart _ document member 115 (last_more names.document 46 (codes "genesis")) (λ e. omega (arith, e))
+
+  pub not_log : bytes_eq (file_name names files.Log) (leaf_name document member) ≡ false
+  not_log = apart _ document member 103 (last_more names.document 46 (codes "log")) (λ e. omega (arith, e))
+
+  pub not_key : (m : ℕ) → bytes_eq (file_name names (files.Key m)) (leaf_name document member) ≡ false
+  not_key m = apart _ document member 121 (last_dotted names.document m 46 (codes "key")) (λ e. omega (arith, e))
+
+  pub not_ring : (m : ℕ) → bytes_eq (file_name names (files.Ring m)) (leaf_name document member) ≡ false
+  not_ring m = apart _ document member 103 (last_dotted names.document m 46 (codes "ring")) (λ e. omega (arith, e))
+
+  pub not_history : (m : ℕ) → bytes_eq (file_name names (files.History m)) (leaf_name document member) ≡ false
+  not_history m = apart _ document member 121 (last_dotted names.document m 46 (codes "history")) (λ e. omega (arith, e))
+
+-- ---- what stands at a name
+
+module _ (name : List ℕ) where
+  -- the same
+  abbrev pub Keeps : Option (List NamedFile) → Option (List NamedFile) → Type 0
+  Keeps before after = file_at name after ≡ file_at name before
+
+  pub kept_with : (before after : Option (List NamedFile)) (other bytes : List ℕ) → bytes_eq other name ≡ false → after ≡ option_map (λ old. with_file old other bytes) before → Keeps before after
+  kept_with None after other bytes differs is = ap (file_at name) is
+  kept_with (Some fs) after other bytes differs is = ap (file_at name) is ∙ file_in-other fs other bytes name differs
+
+  pub kept_changes : (before after : Option (List NamedFile)) (other : List ℕ) → IsSome before → bytes_eq other name ≡ false → ChangesFile before after other → Keeps before after
+  kept_changes None after other told differs changes = absurd cc
+  kept_changes (Some fs) None other told differs changes = absurd changes
+  kept_changes (Some fs) (Some more) other told differs changes = changes name differs
+
+  abbrev AreOthers : List NamedFile → Type 0
+  AreOthers new = AllByRecursion (λ f. bytes_eq f.name name ≡ false) new
+
+  kept_files : (fs new : List NamedFile) → AreOthers new → file_in (with_files fs new) name ≡ file_in fs name
+  kept_files fs [] others = refl
+  kept_files fs (f ∷ new) others = kept_files (with_one fs f) new others.1 ∙ file_in-other fs f.name f.bytes name others.0
+
+  pub kept_stores : (before after : Option (List NamedFile)) (new : List NamedFile) → AreOthers new → Stores new before after → Keeps before after
+  kept_stores None after new others is = ap (file_at name) is
+  kept_stores (Some fs) after new others is = ap (file_at name) is ∙ kept_files fs new others
+
+  kept_one : (before : Option (List NamedFile)) (f : NamedFile) → bytes_eq f.name name ≡ false → Keeps before (option_map (λ files. with_one files f) before)
+  kept_one before f differs = kept_with before (option_map (λ files. with_one files f) before) f.name f.bytes differs refl
+
+  pub kept_first : (before after : Option (List NamedFile)) (new : List NamedFile) → AreOthers new → StoresFirst new before after → Keeps before after
+  kept_first before after [] others stores = absurd stores
+  kept_first before after (f ∷ new) others (inl same) = ap (file_at name) same
+  kept_first before after (f ∷ new) others (inr more) = kept_first (option_map (λ files. with_one files f) before) after new others.1 more ∙ kept_one before f others.0
+
+  told_one : (before : Option (List NamedFile)) (f : NamedFile) → IsSome before → IsSome (option_map (λ files. with_one files f) before)
+  told_one None f told = absurd cc
+  told_one (Some fs) f told = refl
+
+  pub kept_prefix : (before after : Option (List NamedFile)) (new : List NamedFile) → IsSome before → AreOthers new → StoresPrefix new before after → Keeps before after
+  kept_prefix before after [] told others same = ap (file_at name) same
+  kept_prefix before after (f ∷ new) told others (inl changes) = kept_changes before after f.name told others.0 changes
+  kept_prefix before after (f ∷ new) told others (inr more) =
+      kept_prefix (option_map (λ files. with_one files f) before) after new (told_one before f told) others.1 more ∙ kept_one before f others.0
+
+  -- ---- the disk of a file
+
+  -- that of another one is taken back
+  pub kept_back : (lent : Option (List (List ℕ))) (before after : Option (List NamedFile)) (stored : Option (List ℕ)) (other : List ℕ) (rest : List (List ℕ))
+      → lent ≡ Some (other ∷ rest) → IsSome before → bytes_eq other name ≡ false → TakesBack lent before after stored → Keeps before after
+  kept_back lent None after stored other rest is told differs back = absurd cc
+  kept_back lent (Some fs) after None other rest is told differs back =
+      ap (file_at name) (subst (λ (l : Option (List (List ℕ))). TakesBack l (Some fs) after None) is back)
+  kept_back lent (Some fs) after (Some bytes) other rest is told differs back =
+      ap (file_at name) (subst (λ (l : Option (List (List ℕ))). TakesBack l (Some fs) after (Some bytes)) is back) ∙ file_in-other fs other bytes name differs
+
+  file_in-own : (fs : List NamedFile) (bytes : List ℕ) → file_in (with_file fs name bytes) name ≡ Some bytes
+  file_in-own [] bytes = rw (bytes_eq-Decides name name).1 refl
+  file_in-own (f ∷ fs) bytes = go (bytes_eq f.name name) refl (file_in-own fs bytes)
+    where
+      go : (b : Bool) → bytes_eq f.name name ≡ b → file_in (with_file fs name bytes) name ≡ Some bytes → file_in (with_file (f ∷ fs) name bytes) name ≡ Some bytes
+      go true e more = rw (e, e) refl
+      go false e more = rw (e, e) more
+
+  -- its own has the file's bytes
+  pub own_is : (before : Option (List NamedFile)) (stored : Option (List ℕ)) → IsSome before → IsDiskOf before name stored → stored ≡ file_at name before
+  own_is None stored told is = absurd cc
+  own_is (Some fs) None told is = absurd is
+  own_is (Some fs) (Some bytes) told is = sym is.0
+
+  pub own_tells : (before : Option (List NamedFile)) (stored : Option (List ℕ)) → IsSome before → IsDiskOf before name stored → IsSome stored
+  own_tells None stored told is = absurd cc
+  own_tells (Some fs) None told is = absurd is
+  own_tells (Some fs) (Some bytes) told is = refl
+
+  -- and the file its bytes
+  pub own_back : (lent : Option (List (List ℕ))) (before after : Option (List NamedFile)) (stored : Option (List ℕ)) (rest : List (List ℕ))
+      → lent ≡ Some (name ∷ rest) → IsSome before → IsSome stored → TakesBack lent before after stored → file_at name after ≡ stored
+  own_back lent None after stored rest is told tells back = absurd cc
+  own_back lent (Some fs) after None rest is told tells back = absurd cc
+  own_back lent (Some fs) after (Some bytes) rest is told tells back =
+      ap (file_at name) (subst (λ (l : Option (List (List ℕ))). TakesBack l (Some fs) after (Some bytes)) is back) ∙ file_in-own fs bytes
+
+-- the rings of a founding are no leaf file
+pub rings_others : (names : FileNames) (document : List ℕ) (member : ℕ) (rings : List RingFile)
+    → AllByRecursion (λ f. bytes_eq f.name (leaf_name document member) ≡ false) (map (ring_of_founding names) rings)
+rings_others names document member [] = tt
+rings_others names document member (r ∷ rs) = (not_ring names document member r.member, rings_others names document member rs)

@@ -1,0 +1,146 @@
+-- Which leaves sign in runs of the program, over the leaf file of a member, and what else is done to that file.
+use Rattle.std.specs.Prelude.{◌≡◌, ◌≢◌, ◌⊎◌, ◌<◌, ℕ, List, [], ◌∷◌, ◌++◌, false, Option, None, Some, IsSome, AllPairs, Result, Ok, Err, ⊤, bytes_eq, if◌then◌else◌}
+use Rattle.sporc_outside.specs.Files.{HasNoFile, file_in}
+use Rattle.sporc_outside.specs.declared.named_file.NamedFile.{NamedFile}
+use Rattle.sporc_words.specs.declared.client.Client.{Client}
+use Rattle.sporc_words.specs.declared.command.Command.{Command}
+use Rattle.sporc_words.specs.declared.command.Command.TheVariants as commands
+use Rattle.sporc_words.specs.declared.keygen.Keygen.{Keygen}
+use Rattle.sporc_words.specs.Commands.{command_of}
+use Rattle.sporc_files.specs.declared.fault.Fault.{Fault}
+use Rattle.sporc_files.specs.declared.file.File.TheVariants.{Leaf}
+use Rattle.sporc_files.specs.Names.{file_name, names_of_document}
+use Rattle.sporc_sessions.specs.Nets.{LinkView}
+use Rattle.sporc_clients.specs.Lives.{ClientRun, signed_in}
+use Rattle.sporc_clients.specs.Outcome.{ClientOutcome, ClientUse, DiskView, disk_view, no_disk, no_member, over_disk, with_folder}
+use Rattle.sporc_top.specs.Needs.{needs_by}
+use Rattle.sporc_top.specs.Outcome.{Ends, RunOutcome, command, done, no_command, stopped, unread}
+use Rattle.sporc_top.specs.Performing.{Performs, names_of}
+use Rattle.sporc_top.specs.Uses.{OutsideUse, client_use}
+
+-- the name of the leaf file of a member of a document
+abbrev pub leaf_name : List ℕ → ℕ → List ℕ
+leaf_name document member = file_name (names_of_document document) (Leaf member)
+
+-- what told files have at a name
+abbrev pub file_at : List ℕ → Option (List NamedFile) → Option (List ℕ)
+file_at name None = None
+file_at name (Some files) = file_in files name
+
+-- ---- runs of the program
+
+module _ {L D : Type 0} (links : LinkView L) (disks : DiskView D) where
+  -- what `run` promises of a run by its clauses `outcome` and `files`
+  pub record ProgramRun : Type 0 where
+    pub words : List (List ℕ)
+    pub outside : OutsideUse L
+    pub status : ℕ
+    pub outcome : RunOutcome links disks words outside status
+    pub files : (needs_by (command_of words)).files ≡ false → outside.folder.files_after ≡ outside.folder.files_before
+
+  -- what `client` did over the disk of its leaf file, if that was handed out
+  abbrev pub over_its_disk : (words : Client) (did : ClientUse L) (answer : Result ⊤ Fault) → ClientOutcome links disks words did answer → Option (ClientRun links disks)
+  over_its_disk words did answer (no_member why same untouched) = None
+  over_its_disk words did answer (no_disk m say why same untouched) = None
+  over_its_disk words did answer (over_disk m first last during say lends over) =
+      Some (record { words = words; member = m; did = with_folder did during; first = first; last = last; answer = answer; outcome = over })
+
+  -- no command but `client` has a disk handed out
+  abbrev pub by_command : (asked : Command) (outside : OutsideUse L) (answer : Result ⊤ Fault) → Performs links disks asked outside answer → Option (ClientRun links disks)
+  by_command commands.Play outside answer did = None
+  by_command (commands.Generate edits) outside answer did = None
+  by_command (commands.Keygen words) outside answer did = None
+  by_command (commands.Found words) outside answer did = None
+  by_command (commands.Serve words) outside answer did = None
+  by_command (commands.Client words) outside answer did = over_its_disk words (client_use outside) answer did.outcome
+  by_command (commands.Check words) outside answer did = None
+  by_command (commands.Compare words) outside answer did = None
+
+  abbrev pub by_end : (asked : Command) (outside : OutsideUse L) (status : ℕ)
+      → Ends (λ out. Performs links disks asked (record outside { out = out })) (names_of asked) outside.out status → Option (ClientRun links disks)
+  by_end asked outside status (done did) = by_command asked outside (Ok tt) did
+  by_end asked outside status (stopped {fault} {written} {count} did since line till) = by_command asked _ (Err fault) did
+
+  abbrev pub by_outcome : (words : List (List ℕ)) (outside : OutsideUse L) (status : ℕ) → RunOutcome links disks words outside status → Option (ClientRun links disks)
+  by_outcome words outside status (no_command asks unused line) = None
+  by_outcome words outside status (unread unused line) = None
+  by_outcome words outside status (command {asked} asks ends) = by_end asked outside status ends
+
+  -- those over the leaf file with this name
+  abbrev pub if_over : List ℕ → Option (ClientRun links disks) → Option (ClientRun links disks)
+  if_over name None = None
+  if_over name (Some run) = if bytes_eq (leaf_name run.words.name run.words.member) name then Some run else None
+
+  -- what a run of the program did over the disk of the leaf file with a name, if it had it handed out: then it is one of `client`
+  abbrev pub over_leaf_file : List ℕ → ProgramRun → Option (ClientRun links disks)
+  over_leaf_file name run = if_over name (by_outcome run.words run.outside run.status run.outcome)
+
+  -- the leaves that signed in that
+  abbrev pub signed_over : Option (ClientRun links disks) → List ℕ
+  signed_over None = []
+  signed_over (Some run) = signed_in links disks run.words run.member run.did run.outcome
+
+  -- and in several runs of the program, in their order
+  abbrev pub all_signed_over : List ℕ → List ProgramRun → List ℕ
+  all_signed_over name [] = []
+  all_signed_over name (run ∷ runs) = signed_over (over_leaf_file name run) ++ all_signed_over name runs
+
+  -- it is a `keygen` that makes this file
+  pub record MakesLeafFile (name : List ℕ) (run : ProgramRun) : Type 0 where
+    pub words : Keygen
+    pub asks : command_of run.words ≡ Some (commands.Keygen words)
+    pub named : leaf_name words.name words.member ≡ name
+
+  -- What stands of a leaf file behind a run that did not have its disk handed out: what stood before. Or it is a `keygen` that makes this file, and there
+  -- was none, or something outside failed, and then anything may stand there
+  abbrev pub LeavesLeafFile : List ℕ → ProgramRun → Type 0
+  LeavesLeafFile name run =
+      (file_at name run.outside.folder.files_after ≡ file_at name run.outside.folder.files_before)
+      ⊎ (MakesLeafFile name run × (HasNoFile run.outside.folder.files_before name ⊎ (run.status ≡ 6)))
+
+  -- a folder that tells its files, and which disks are out
+  pub record IsTold (run : ProgramRun) : Type 0 where
+    pub files : IsSome run.outside.folder.files_before
+    pub lent : IsSome run.outside.folder.lent_before
+
+-- ---- one behind another, over disks that tell their bytes
+
+module _ {L D : Type 0} (links : LinkView L) (stored : D → Option (List ℕ)) (moment : D → ℕ) (images : D → ℕ → List ℕ → Type 0) (faults : D → ℕ) (name : List ℕ) where
+  -- a run of the program
+  abbrev pub Run : Type 0
+  Run = ProgramRun links (disk_view stored images moment faults)
+
+  -- what it did over the leaf file
+  abbrev pub life_of : Run → Option (ClientRun links (disk_view stored images moment faults))
+  life_of run = over_leaf_file links (disk_view stored images moment faults) name run
+
+  -- The leaf file as the next run finds it: the one before left it so, or a crash did, of the disk that was behind the file last. Before the first disk
+  -- was handed out nothing is asked
+  abbrev pub FindsLeafFile : Option D → Option (List NamedFile) → Option (List NamedFile) → Type 0
+  FindsLeafFile None left found = Unit {0}
+  FindsLeafFile (Some last) left found =
+      (file_at name found ≡ file_at name left) ⊎ ((image : List ℕ) × images last (moment last) image × (file_at name found ≡ Some image))
+
+  -- a disk that is handed out tells its bytes to its end, and no crash leaves of it what it could not leave of the one before it
+  abbrev pub GoesOnOver : Option D → Option (ClientRun links (disk_view stored images moment faults)) → Type 0
+  GoesOnOver behind None = Unit {0}
+  GoesOnOver None (Some run) = IsSome (stored run.last)
+  GoesOnOver (Some last) (Some run) = IsSome (stored run.last) × ((image : List ℕ) → images run.first (moment run.first) image → images last (moment last) image)
+
+  -- the disk that was behind the file last
+  abbrev pub behind_then : Option D → Option (ClientRun links (disk_view stored images moment faults)) → Option D
+  behind_then behind None = behind
+  behind_then behind (Some run) = Some run.last
+
+  -- Runs whatever their words and their ends. Once a disk was behind the file, none of them is a `keygen` that makes it at which something outside failed
+  abbrev pub AreProgramRuns : Option D → Option (List NamedFile) → List Run → Type 0
+  AreProgramRuns behind left [] = Unit {0}
+  AreProgramRuns behind left (run ∷ runs) =
+      IsTold links (disk_view stored images moment faults) run × FindsLeafFile behind left run.outside.folder.files_before
+      × (IsSome behind → MakesLeafFile links (disk_view stored images moment faults) name run → run.status ≢ 6)
+      × GoesOnOver behind (life_of run) × AreProgramRuns (behind_then behind (life_of run)) run.outside.folder.files_after runs
+
+  -- no leaf signs twice over them
+  abbrev pub SignOnceOverRuns : Type 0
+  SignOnceOverRuns = (runs : List Run) → AreProgramRuns None None runs
+      → AllPairs (λ leaf later. leaf < later) (all_signed_over links (disk_view stored images moment faults) name runs)
