@@ -1,5 +1,5 @@
 -- What the faults of the crates below are for the command.
-use Rattle.std.specs.Prelude.{ℕ, ◌==◌, Result, Ok, Err, ⊤, if◌then◌else◌}
+use Rattle.std.specs.Prelude.{ℕ, ◌==◌, Bool, true, false, ◌||◌, Result, Ok, Err, ⊤, if◌then◌else◌}
 use Rattle.lms_leaf.specs.declared.faults.LeafFault.TheVariants as leaves
 use Rattle.sporc_store.specs.declared.stop.Stop.{Stop}
 use Rattle.sporc_store.specs.declared.stop.Stop.TheVariants as stops
@@ -78,9 +78,28 @@ abbrev pub fault_of_printing : PrintFault → Fault
 fault_of_printing printing.Sink = faults.Outside
 fault_of_printing printing.Memory = faults.Memory
 
--- the first fault: that of the session, of saving, or of printing
+-- memory ran out as the history was saved
+abbrev pub saving_ran_out : Result ⊤ KeepFault → Bool
+saving_ran_out (Ok done) = false
+saving_ran_out (Err keeping.TooLong) = false
+saving_ran_out (Err keeping.Folder) = false
+saving_ran_out (Err keeping.Memory) = true
+
+-- or as journal and report were made
+abbrev pub printing_ran_out : Result ⊤ PrintFault → Bool
+printing_ran_out (Ok done) = false
+printing_ran_out (Err printing.Sink) = false
+printing_ran_out (Err printing.Memory) = true
+
+-- that of the session, of saving, or of printing
+abbrev pub first_told : ℕ → Result ⊤ SessionFault → Result ⊤ KeepFault → Result ⊤ PrintFault → Result ⊤ Fault
+first_told disk_faults (Err fault) saved printed = Err (fault_of_session disk_faults fault)
+first_told disk_faults (Ok done) (Err fault) printed = Err (fault_of_keeping fault)
+first_told disk_faults (Ok done) (Ok saved) (Err fault) = Err (fault_of_printing fault)
+first_told disk_faults (Ok done) (Ok saved) (Ok printed) = Ok tt
+
+-- The first fault. Out of memory at saving or printing comes before all others: so if another fault is told, the history was saved, or its file would
+-- be too long, or a call of the folder failed, and journal and report were printed, or a call of the sink failed
 abbrev pub first_fault : ℕ → Result ⊤ SessionFault → Result ⊤ KeepFault → Result ⊤ PrintFault → Result ⊤ Fault
-first_fault disk_faults (Err fault) saved printed = Err (fault_of_session disk_faults fault)
-first_fault disk_faults (Ok done) (Err fault) printed = Err (fault_of_keeping fault)
-first_fault disk_faults (Ok done) (Ok saved) (Err fault) = Err (fault_of_printing fault)
-first_fault disk_faults (Ok done) (Ok saved) (Ok printed) = Ok tt
+first_fault disk_faults session saved printed =
+    if saving_ran_out saved || printing_ran_out printed then Err faults.Memory else first_told disk_faults session saved printed

@@ -126,7 +126,7 @@ module _ {L D : Type 0} (view : LinkView L) (disks : DiskView D) (words : Words)
     pub says : SaysFileIfThere any_bytes did.folder.files_before (file_name (names_of words) (History words.member)) history
 
   -- A session led the member's client from its saved history to a last past. However it ended, the history of that past was saved, and its journal
-  -- and report were printed, and then the answer is the first fault: that of the session, of saving, or of printing
+  -- and report were printed, and then the answer is the first fault: out of memory at one of these two, that of the session, of saving, or of printing
   pub record Worked (first last : D) (answer : Result ⊤ Fault) : Type 0 where
     pub leaves : LeavesModel D
     pub history : Option (List ℕ)

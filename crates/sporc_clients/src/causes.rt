@@ -1,7 +1,7 @@
 //! What the faults of the crates below are for the command.
 
 ghost use Rattle.std.specs.Prelude.{◌≡◌};
-ghost use Rattle.sporc_clients.specs.Causes.{fault_of_attending, fault_of_disk, fault_of_joining, fault_of_keeping, fault_of_opening, fault_of_printing, fault_of_session, fault_of_stop, first_fault};
+ghost use Rattle.sporc_clients.specs.Causes.{fault_of_attending, fault_of_disk, fault_of_joining, fault_of_keeping, fault_of_opening, fault_of_printing, fault_of_session, fault_of_stop, first_fault, printing_ran_out, saving_ran_out};
 
 use lms_leaf::LeafFault;
 use sporc_files::{Fault, File};
@@ -106,7 +106,26 @@ fn print_fault(fault: PrintFault) -> Fault
     }
 }
 
-// The first fault: that of a session, of saving, or of printing.
+fn saving_ran_out(saved: Result<(), KeepFault>) -> bool
+    ensures value { result ≡ saving_ran_out saved }
+{
+    match saved {
+        Err(KeepFault::Memory) => true,
+        Err(KeepFault::TooLong | KeepFault::Folder) | Ok(()) => false,
+    }
+}
+
+fn printing_ran_out(printed: Result<(), PrintFault>) -> bool
+    ensures value { result ≡ printing_ran_out printed }
+{
+    match printed {
+        Err(PrintFault::Memory) => true,
+        Err(PrintFault::Sink) | Ok(()) => false,
+    }
+}
+
+// The first fault: that of a session, of saving, or of printing. But out of memory at saving or printing comes before all of them, so
+// that neither is left out unseen behind another fault.
 pub(crate) fn first_fault(
     disk_faults: u64,
     session: Result<(), SessionFault>,
@@ -115,6 +134,9 @@ pub(crate) fn first_fault(
 ) -> Result<(), Fault>
     ensures value { result ≡ first_fault disk_faults session saved printed }
 {
+    if saving_ran_out(saved) || printing_ran_out(printed) {
+        return Err(Fault::Memory);
+    }
     match (session, saved, printed) {
         (Err(fault), _, _) => Err(session_fault(fault, disk_faults)),
         (Ok(()), Err(fault), _) => Err(keep_fault(fault)),

@@ -12,11 +12,11 @@
 //! Proved: [`client`] does what `ClientOutcome` says, by its answer. The genesis, key, ring and scripts are what the member's
 //! files say; its client goes on with its saved history, over the leaves behind the last block that is taken in its leaf file;
 //! its session is one of `sporc_shared` over a link of its own; journal, report and history are those of the client behind it,
-//! saved and printed however the session ended, and the session's fault comes first. Where no session began, nothing is
-//! printed, no file has changed, and no word of the chance is taken; the fault names its cause. Whatever came of it, the files
-//! asked for are the member's and its editors' scripts, and no others; links are asked for at the address alone, two at most;
-//! each disk is back, and each link, shut; and no count of faults has fallen. Over runs one behind another no leaf signs twice
-//! ([`laws`]).
+//! saved and printed however the session ended, and the session's fault comes first, unless memory ran out at one of these.
+//! Where no session began, nothing is printed, no file has changed, and no word of the chance is taken; the fault names its
+//! cause. Whatever came of it, the files asked for are the member's and its editors' scripts, and no others; links are asked
+//! for at the address alone, two at most; each disk is back, and each link, shut; and no count of faults has fallen. Over runs
+//! one behind another no leaf signs twice ([`laws`]).
 //!
 //! Only tested: two members who work with a server, each status that a session ends with, and each call outside failing in
 //! turn (`sporc_commands_tests`). Neither: that the server answers.
