@@ -1,8 +1,10 @@
-//! Each object that a command is handed fails at each of its calls in turn.
+//! Each object that a command is handed fails at each of its calls in turn. The tables of a session, which is handed links and
+//! disks themselves, are those of `sporc_thread_tests/src/shared/session_faults.rt`, over the same loop.
 
 use crate::checks::check_at;
 use crate::place::Object;
 use crate::{faults, servers, sessions};
+use sporc_samples::count_calls;
 use std::alloc::Global;
 use std::process::Abort;
 use std::sync::Wait;
@@ -39,12 +41,7 @@ fn calls_of<R: Threads + Wait + Sync + Abort>(
     command: &Command,
     object: Object,
 ) -> u64 {
-    for made in 0..100u64 {
-        if ends_without(rt, alloc, command, object, made + 1) {
-            return made;
-        }
-    }
-    panic!(rt; "no end")
+    count_calls(|call| ends_without(rt, alloc, command, object, call)).expect(rt, "an end")
 }
 
 // An object, and how many calls of it a command makes at least and at most.

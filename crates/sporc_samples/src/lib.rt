@@ -1,10 +1,11 @@
-//! Samples for tests: members with keys, a document that they founded, and signed histories of it. No program stands on
-//! this crate.
+//! Samples for tests: members with keys, a document that they founded, and signed histories of it; and the loop of all tables of
+//! calls that fail. No program stands on this crate.
 //!
 //! - [`Cast`]: five members with their one-time keys, and the genesis of the document that they founded.
 //! - [`Draft`]: an entry to be signed, each field of whose header can be spoilt first.
 //! - [`History`]: a history that grows by signed edits and changes; [`short_history`] and [`forked_history`] part after three.
 //! - [`epoch_key`], [`pair_key`]: the keys that its edits are masked with and its changes seal.
+//! - [`count_calls`]: lets each call of an object fail in turn, in a run anew for each.
 //!
 //! ```text
 //! let cast = Cast::new(alloc)?;
@@ -21,6 +22,7 @@
 #![tactic(auto)]
 
 mod bodies;
+mod calls;
 mod cast;
 mod draft;
 mod fault;
@@ -30,6 +32,7 @@ mod keys;
 mod member;
 
 pub use bodies::{change_body, edit_body, insertion};
+pub use calls::count_calls;
 pub use cast::{Cast, DOCUMENT};
 pub use draft::Draft;
 pub use fault::SampleFault;

@@ -1,12 +1,13 @@
-//! Each fault of a session.
+//! Each fault of a session. Its objects are handed to it one by one, and how it ends if a call of one fails is known exactly; what
+//! commands do with theirs stands in the tables of `sporc_commands_tests/src/failing.rt`.
 
-use crate::checks::check_end;
+use crate::checks::{check_at, check_end};
 use crate::shared::scene::{LeafFile, Past};
 use crate::shared::staging::{EDITED, FRESH, Start, TWO_ROUNDS, heard, written};
 use lms_leaf::LeafFault;
 use sporc_client::EditFault;
 use sporc_head::Refusal;
-use sporc_samples::Cast;
+use sporc_samples::{Cast, count_calls};
 use sporc_shared::SessionFault;
 use std::alloc::Global;
 use std::process::Abort;
@@ -56,43 +57,41 @@ fn ends_so<R: Abort + Threads + Wait + Sync>(
     check_end(rt, outcome.answer.err(), fault);
 }
 
-// An object, the first of its calls that a session makes and the first that it doesn't make, and how the session ends if
-// one of those between fails. The leaf file is opened by three calls, before the session.
-const CALLS: [(Object, u64, u64, SessionFault); 3] = [
-    // a leaf's block is written and synced
-    (Object::Disk, 4, 6, SessionFault::Leaf(LeafFault::DiskFault)),
+// An object, how many of its calls come before the session, how many the session makes, and how it ends if one of these fails.
+type Row = (Object, u64, u64, SessionFault);
+
+const CALLS: [Row; 3] = [
+    // the leaf file is opened by three calls; a leaf's block is written and synced
+    (Object::Disk, 3, 2, SessionFault::Leaf(LeafFault::DiskFault)),
     // Hello, two pulls and a submission are written, and three answers are read
-    (Object::Link, 1, 8, SessionFault::LinkFault),
+    (Object::Link, 0, 7, SessionFault::LinkFault),
     // each of two submissions draws two words
-    (Object::Chance, 1, 5, SessionFault::ChanceFault),
+    (Object::Chance, 0, 4, SessionFault::ChanceFault),
 ];
 
-// Each of an object's calls ends a session if it fails.
-fn each_call_ends<R: Abort + Threads + Wait + Sync>(
+// Whether a session ends well where this call of an object is to fail, since it makes no such call. Else it ends as its row says.
+fn ends_without<R: Abort + Threads + Wait + Sync>(
     rt: &R,
     alloc: Global,
     cast: &Cast,
-    row: (Object, u64, u64, SessionFault),
-) {
-    let (object, first, end, fault) = row;
-    for call in first..end {
-        one_call_fails(rt, alloc, cast, object, call, Some(fault));
-    }
-    one_call_fails(rt, alloc, cast, object, end, None);
+    row: Row,
+    call: u64,
+) -> bool {
+    let (object, before, _, fault) = row;
+    let calls = [before.saturating_add(call)];
+    let start = failing(object, &calls);
+    let outcome = written(rt, alloc, cast, start, 0, "", TWO_ROUNDS);
+    let end = outcome.answer.err();
+    let is_well = end.is_none();
+    check_at(rt, "call", call, is_well || end == Some(fault));
+    is_well
 }
 
-// A session ends so, where this call of an object fails.
-fn one_call_fails<R: Abort + Threads + Wait + Sync>(
-    rt: &R,
-    alloc: Global,
-    cast: &Cast,
-    object: Object,
-    call: u64,
-    fault: Option<SessionFault>,
-) {
-    let calls = [call];
-    let start = failing(object, &calls);
-    ends_so(rt, alloc, cast, start, 0, "", fault);
+// Each of an object's calls ends a session if it fails.
+fn each_call_ends<R: Abort + Threads + Wait + Sync>(rt: &R, alloc: Global, cast: &Cast, row: Row) {
+    let (_, _, calls, _) = row;
+    let made = count_calls(|call| ends_without(rt, alloc, cast, row, call)).expect(rt, "an end");
+    check_at(rt, "calls", made, made == calls);
 }
 
 // No entries come.
