@@ -1,7 +1,7 @@
 -- Verdicts on entries, one after another.
 use Rattle.std.proofs.Common.{◌≡◌, ℕ, zero, suc, ◌+◌, ◌<◌, ◌≤◌, List, [], ◌∷◌, ◌++◌, length, take, get_or, Option, refl, sym, ap, ◌∙◌, subst, arith}
 use Rattle.std.specs.Prelude.{IfSome}
-use Rattle.std.proofs.lemmas.List.{take_all, take_more}
+use Rattle.std.proofs.lemmas.List.{get_or-take, length-take-le, take_all, take_more}
 use Rattle.sporc_head.specs.declared.examined.Verdict.{Verdict}
 use Rattle.sporc_head.specs.Examined.{IsExact}
 use Rattle.sporc_store.specs.Verdicts.{AreExact}
@@ -38,3 +38,13 @@ exact_at [] (f ∷ es) i v e exact lt = absurd exact
 exact_at (w ∷ vs) [] i v e exact lt = absurd exact
 exact_at (w ∷ vs) (f ∷ es) zero v e exact lt = exact.0
 exact_at (w ∷ vs) (f ∷ es) (suc i) v e exact lt = exact_at vs es i v e exact.1 (omega arith)
+
+-- those on the first few of some entries
+pub exact_first : (vs : List (Option Verdict)) (es : List (List ℕ)) (n i : ℕ) (v : Option Verdict) (e : List ℕ) → AreExact vs (take n es) → n ≤ length es → i < n
+    → IfSome (get_or vs i v) (λ verdict. IsExact verdict (get_or es i e))
+exact_first vs es n i v e exact le lt =
+    let within : i < length (take n es) = omega (arith, length-take-le n es le, lt) in
+    subst (λ (x : List ℕ). IfSome (get_or vs i v) (λ verdict. IsExact verdict x)) (get_or-take n es i e lt) (exact_at vs (take n es) i v e exact within)
+
+pub exact_count : (vs : List (Option Verdict)) (es : List (List ℕ)) (n : ℕ) → AreExact vs (take n es) → n ≤ length es → length vs ≡ n
+exact_count vs es n exact le = exact_len vs (take n es) exact ∙ length-take-le n es le

@@ -1,14 +1,16 @@
 -- Entries of a saved history, taken one after another as a loop does.
-use Rattle.std.proofs.Common.{◌≡◌, ℕ, zero, suc, ◌+◌, ◌-◌, ◌^◌, ◌<◌, ◌≤◌, List, [], ◌∷◌, ◌++◌, length, drop, get_or, Bool, true, false, cond, eqb, Option, None, Some, Result, Ok, Err, refl, sym, ap, ◌∙◌, append_assoc, length-append, arith}
-use Rattle.std.proofs.lemmas.List.{append-nil, drop_all, drop_more}
+use Rattle.std.proofs.Common.{◌≡◌, ◌≢◌, ℕ, zero, suc, ◌+◌, ◌-◌, ◌^◌, ◌<◌, ◌≤◌, List, [], ◌∷◌, ◌++◌, length, take, drop, get_or, Bool, true, false, cond, eqb, Option, None, Some, Result, Ok, Err, refl, sym, ap, ◌∙◌, subst, append_assoc, length-append, arith}
+use Rattle.std.proofs.lemmas.List.{append-nil, drop_all, drop_more, take_at}
+use Rattle.std.specs.Prelude.{IfOk, OnErr}
 use Rattle.std.specs.List.{starts_with}
 use Rattle.sporc_bytes.specs.Fields.{Reading, fault_as, counted_at, end_at}
 use Rattle.sporc_head.specs.declared.refusal.Refusal.{Refusal}
+use Rattle.sporc_head.specs.declared.refusal.Refusal.TheVariants.{Memory}
 use Rattle.sporc_store.specs.declared.head.TheConstants.{HEAD_LEN}
 use Rattle.sporc_store.specs.declared.stop.Stop.{Stop}
 use Rattle.sporc_store.specs.declared.stop.Stop.TheVariants.{Foreign, Cut, Refused}
-use Rattle.sporc_store.specs.SavedFile.{Taken, read_to, first_and, stop_behind, entry_and, entries_at, head_bytes, count_at, opened, listed, saved_in, IsUnchecked}
-use Rattle.sporc_store.specs.Loading.{Checker, fault_behind, appended, accepted_behind, loaded, nobody}
+use Rattle.sporc_store.specs.SavedFile.{Taken, read_to, first_and, stop_behind, entry_and, entries_at, head_bytes, count_at, opened, listed, saved_in, IsPrefix, IsUnchecked}
+use Rattle.sporc_store.specs.Loading.{Checker, fault_behind, appended, accepted, accepted_behind, accepted_from, loaded, nobody, taken_on, AppendsPart, AppendsSome}
 
 -- ---- entries that are read
 
@@ -46,50 +48,126 @@ reads_behind front count i r total le so_far =
 
 -- ---- entries that are appended
 
--- entries that were accepted, and what is accepted of those that follow
-abbrev pub accepted_from : Checker → List (List ℕ) → List (List ℕ) → Stop → Taken
-accepted_from checker front es stop =
-    let behind = accepted_behind checker front es stop in
-    read_to (front ++ behind.entries) behind.stop
+-- what is taken in all, whatever follows a part of the entries, where so much of the part was taken
+abbrev pub TakesOn : Checker → List (List ℕ) → List (List ℕ) → List (List ℕ) → ℕ → Type 0
+TakesOn checker first front es i = (rest : List (List ℕ)) (stop : Stop) → accepted_from checker first (es ++ rest) stop ≡ accepted_from checker front (drop i es ++ rest) stop
 
 -- an entry that a checker like this one answered with no fault
-pub goes_on : (checker k : Checker) (front more es : List (List ℕ)) (stop : Stop) (i : ℕ) (e : List ℕ) (fault : Option Refusal) (total : Taken) → k ≡ checker → i < length es → e ≡ get_or es i e
-    → fault ≡ fault_behind k front e → more ≡ appended fault e front → fault ≡ None → accepted_from checker front (drop i es) stop ≡ total → accepted_from checker more (drop (i + 1) es) stop ≡ total
+one_on : (checker : Checker) (front es : List (List ℕ)) (stop : Stop) (e : List ℕ) → fault_behind checker front e ≡ None
+    → accepted_from checker front (e ∷ es) stop ≡ accepted_from checker (front ++ e ∷ []) es stop
 unfolding accepted_behind
-goes_on checker k front more es stop i e fault total same lt at is grown none so_far =
+one_on checker front es stop e pass =
+    let behind : Taken = accepted_behind checker (front ++ e ∷ []) es stop in
+    let one : accepted_from checker front (e ∷ es) stop ≡ read_to (front ++ (e ∷ behind.entries)) behind.stop = rw pass refl in
+    one ∙ ap (λ (l : List (List ℕ)). read_to l behind.stop) (sym (append_assoc front (e ∷ []) behind.entries))
+
+pub goes_on : (checker k : Checker) (first front more es : List (List ℕ)) (i : ℕ) (e : List ℕ) (fault : Option Refusal) → k ≡ checker → i < length es → e ≡ get_or es i e
+    → fault ≡ fault_behind k front e → more ≡ appended fault e front → fault ≡ None → TakesOn checker first front es i → TakesOn checker first more es (i + 1)
+goes_on checker k first front more es i e fault same lt at is grown none so_far rest stop =
     let next : drop i es ≡ e ∷ drop (i + 1) es = drop_more es i e lt ∙ ap (λ (x : List ℕ). x ∷ drop (i + 1) es) (sym at) in
     let pass : fault_behind checker front e ≡ None = ap (λ (k : Checker). fault_behind k front e) (sym same) ∙ sym is ∙ none in
     let longer : more ≡ front ++ e ∷ [] = grown ∙ ap (λ (f : Option Refusal). appended f e front) none in
-    let behind : Taken = accepted_behind checker (front ++ e ∷ []) (drop (i + 1) es) stop in
-    let one : accepted_from checker front (drop i es) stop ≡ read_to (front ++ (e ∷ behind.entries)) behind.stop = rw (next, pass) refl in
-    ap (λ (l : List (List ℕ)). accepted_from checker l (drop (i + 1) es) stop) longer
-    ∙ ap (λ (l : List (List ℕ)). read_to l behind.stop) (append_assoc front (e ∷ []) behind.entries) ∙ sym one ∙ so_far
+    so_far rest stop ∙ ap (λ (l : List (List ℕ)). accepted_from checker front (l ++ rest) stop) next
+    ∙ one_on checker front (drop (i + 1) es ++ rest) stop e pass
+    ∙ ap (λ (l : List (List ℕ)). accepted_from checker l (drop (i + 1) es ++ rest) stop) (sym longer)
 
-pub one_more : (front more : List (List ℕ)) (i : ℕ) (e : List ℕ) (fault : Option Refusal) → more ≡ appended fault e front → fault ≡ None → length front ≡ i → length more ≡ i + 1
-one_more front more i e fault grown none len =
-    ap length (grown ∙ ap (λ (f : Option Refusal). appended f e front) none) ∙ length-append front (e ∷ []) ∙ ap (λ (n : ℕ). n + 1) len
+pub one_more : (front more : List (List ℕ)) (before i : ℕ) (e : List ℕ) (fault : Option Refusal) → more ≡ appended fault e front → fault ≡ None → length front ≡ before + i → length more ≡ before + (i + 1)
+one_more front more before i e fault grown none len =
+    let longer : length more ≡ length front + 1 = ap length (grown ∙ ap (λ (f : Option Refusal). appended f e front) none) ∙ length-append front (e ∷ []) in
+    omega (arith, longer, len)
 
 -- an entry that a checker like this one refused
-pub is_refused : (checker k : Checker) (front more es : List (List ℕ)) (stop : Stop) (i : ℕ) (e : List ℕ) (fault : Option Refusal) (refusal : Refusal) (total : Taken) → k ≡ checker → length front ≡ i
-    → i < length es → e ≡ get_or es i e → fault ≡ fault_behind k front e → more ≡ appended fault e front → fault ≡ Some refusal → accepted_from checker front (drop i es) stop ≡ total
-    → read_to more (Refused (i + 1) refusal) ≡ total
+pub is_refused : (checker k : Checker) (first front more es : List (List ℕ)) (before i : ℕ) (e : List ℕ) (fault : Option Refusal) (refusal : Refusal) → k ≡ checker → length front ≡ before + i
+    → i < length es → e ≡ get_or es i e → fault ≡ fault_behind k front e → more ≡ appended fault e front → fault ≢ Some Memory → fault ≡ Some refusal → TakesOn checker first front es i
+    → AppendsPart checker first es (Some (Refused (before + i + 1) refusal)) more
 unfolding accepted_behind
-is_refused checker k front more es stop i e fault refusal total same len lt at is grown refused so_far =
-    let next : drop i es ≡ e ∷ drop (i + 1) es = drop_more es i e lt ∙ ap (λ (x : List ℕ). x ∷ drop (i + 1) es) (sym at) in
-    let fail : fault_behind checker front e ≡ Some refusal = ap (λ (k : Checker). fault_behind k front e) (sym same) ∙ sym is ∙ refused in
-    let as_before : more ≡ front = grown ∙ ap (λ (f : Option Refusal). appended f e front) refused in
-    let one : accepted_from checker front (drop i es) stop ≡ read_to (front ++ []) (Refused (length front + 1) refusal) = rw (next, fail) refl in
-    ap (λ (l : List (List ℕ)). read_to l (Refused (i + 1) refusal)) as_before
-    ∙ ap (λ (n : ℕ). read_to front (Refused (n + 1) refusal)) (sym len)
-    ∙ ap (λ (l : List (List ℕ)). read_to l (Refused (length front + 1) refusal)) (sym (append-nil front)) ∙ sym one ∙ so_far
+is_refused checker k first front more es before i e fault refusal same len lt at is grown named refused so_far = record {
+  taken = λ rest stop. so_far rest stop ∙ ap (λ (l : List (List ℕ)). accepted_from checker front (l ++ rest) stop) next ∙ ends rest stop
+      ∙ ap (λ (n : ℕ). read_to front (Refused (n + 1) refusal)) len ∙ ap (λ (l : List (List ℕ)). read_to l (Refused (before + i + 1) refusal)) (sym as_before);
+  count = tt;
+  named = λ memory. named (refused ∙ ap Some memory);
+}
+  where
+    next : drop i es ≡ e ∷ drop (i + 1) es
+    next = drop_more es i e lt ∙ ap (λ (x : List ℕ). x ∷ drop (i + 1) es) (sym at)
 
--- behind the last entry
-pub is_done : (checker : Checker) (front es : List (List ℕ)) (stop : Stop) (i : ℕ) (total : Taken) → length es ≤ i → accepted_from checker front (drop i es) stop ≡ total → read_to front stop ≡ total
+    fail : fault_behind checker front e ≡ Some refusal
+    fail = ap (λ (k : Checker). fault_behind k front e) (sym same) ∙ sym is ∙ refused
+
+    as_before : more ≡ front
+    as_before = grown ∙ ap (λ (f : Option Refusal). appended f e front) refused
+
+    ends : (rest : List (List ℕ)) (stop : Stop) → accepted_from checker front (e ∷ (drop (i + 1) es ++ rest)) stop ≡ read_to front (Refused (length front + 1) refusal)
+    ends rest stop =
+        let one : accepted_from checker front (e ∷ (drop (i + 1) es ++ rest)) stop ≡ read_to (front ++ []) (Refused (length front + 1) refusal) = rw fail refl in
+        one ∙ ap (λ (l : List (List ℕ)). read_to l (Refused (length front + 1) refusal)) (append-nil front)
+
+-- behind the last entry of a part
+pub is_done : (checker : Checker) (first front es : List (List ℕ)) (before i : ℕ) → length first ≡ before → length front ≡ before + i → i ≤ length es → length es ≤ i → TakesOn checker first front es i
+    → AppendsPart checker first es None front
+is_done checker first front es before i old len within le so_far = record {
+  taken = λ rest stop. so_far rest stop ∙ ap (λ (l : List (List ℕ)). accepted_from checker front (l ++ rest) stop) (drop_all i es le);
+  count = omega (arith, old, len, within, le);
+  named = tt;
+}
+
+-- what was taken so far is a prefix of what is taken in all
+pub stays_some : (checker : Checker) (first front es : List (List ℕ)) (i : ℕ) → TakesOn checker first front es i → AppendsSome checker first es front
+stays_some checker first front es i so_far rest stop =
+    let behind : Taken = accepted_behind checker front (drop i es ++ rest) stop in
+    let is : (accepted_from checker first (es ++ rest) stop).entries ≡ front ++ behind.entries = ap (λ (taken : Taken). taken.entries) (so_far rest stop) in
+    sym (ap (take (length front)) is ∙ take_at front behind.entries (length front) refl)
+
+-- ---- parts of the entries, one behind another
+
+-- a part and what is behind it are all of them
+joined : (checker : Checker) (old part rest all : List (List ℕ)) (stop : Stop) (refused : Option Stop) (mid : List (List ℕ)) → part ++ rest ≡ all → AppendsPart checker old part refused mid
+    → accepted_from checker old all stop ≡ taken_on refused checker mid rest stop
+joined checker old part rest all stop refused mid whole done = ap (λ (l : List (List ℕ)). accepted_from checker old l stop) (sym whole) ∙ done.taken rest stop
+
+-- one of the part was refused
+pub ends_refused : (checker : Checker) (old part rest all : List (List ℕ)) (stop end : Stop) (refused : Option Stop) (mid : List (List ℕ)) → part ++ rest ≡ all → refused ≡ Some end
+    → AppendsPart checker old part refused mid → read_to mid end ≡ accepted_from checker old all stop
+ends_refused checker old part rest all stop end refused mid whole is done =
+    sym (joined checker old part rest all stop refused mid whole done ∙ ap (λ (r : Option Stop). taken_on r checker mid rest stop) is)
+
+-- none of it was
+pub goes_behind : (checker k : Checker) (old part rest all : List (List ℕ)) (stop : Stop) (refused : Option Stop) (mid : List (List ℕ)) → part ++ rest ≡ all → refused ≡ None → k ≡ checker
+    → AppendsPart checker old part refused mid → accepted_from k mid rest stop ≡ accepted_from checker old all stop
+goes_behind checker k old part rest all stop refused mid whole is same done =
+    ap (λ (k : Checker). accepted_from k mid rest stop) same
+    ∙ sym (joined checker old part rest all stop refused mid whole done ∙ ap (λ (r : Option Stop). taken_on r checker mid rest stop) is)
+
+-- and none is behind it
+pub ends_whole : (checker : Checker) (old part rest all : List (List ℕ)) (stop : Stop) (refused : Option Stop) (mid : List (List ℕ)) → part ++ rest ≡ all → rest ≡ [] → refused ≡ None
+    → AppendsPart checker old part refused mid → read_to mid stop ≡ accepted_from checker old all stop
 unfolding accepted_behind
-is_done checker front es stop i total le so_far =
-    let none : drop i es ≡ [] = drop_all i es le in
-    let one : accepted_from checker front (drop i es) stop ≡ read_to (front ++ []) stop = rw none refl in
-    ap (λ (l : List (List ℕ)). read_to l stop) (sym (append-nil front)) ∙ sym one ∙ so_far
+ends_whole checker old part rest all stop refused mid whole empty is done =
+    ap (λ (l : List (List ℕ)). read_to l stop) (sym (append-nil mid)) ∙ ap (λ (l : List (List ℕ)). accepted_from checker mid l stop) (sym empty)
+    ∙ goes_behind checker checker old part rest all stop refused mid whole is refl done
+
+-- none is left
+pub ends_empty : (checker : Checker) (old all : List (List ℕ)) (stop : Stop) → all ≡ [] → read_to old stop ≡ accepted_from checker old all stop
+unfolding accepted_behind
+ends_empty checker old all stop none =
+    ap (λ (l : List (List ℕ)). read_to l stop) (sym (append-nil old)) ∙ ap (λ (l : List (List ℕ)). accepted_from checker old l stop) (sym none)
+
+-- memory ran out in the part, or where those next to it were examined
+pub some_of : (checker : Checker) (old part rest all mid : List (List ℕ)) (stop : Stop) → part ++ rest ≡ all → AppendsSome checker old part mid → IsPrefix mid (accepted_from checker old all stop).entries
+some_of checker old part rest all mid stop whole some = subst (λ (l : List (List ℕ)). IsPrefix mid (accepted_from checker old l stop).entries) whole (some rest stop)
+
+-- behind none, what is accepted is all
+pub from_none : (checker : Checker) (first es : List (List ℕ)) (stop : Stop) → first ≡ [] → accepted_from checker first es stop ≡ accepted checker (read_to es stop)
+from_none checker first es stop none = ap (λ (l : List (List ℕ)). accepted_from checker l es stop) none
+
+-- an answer that is told of what is taken in all, where that is the same
+pub if_ok_to : {E : Type 0} (r : Result Stop E) (new : List (List ℕ)) {a b : Taken} → a ≡ b → IfOk r (λ end. read_to new end ≡ a) → IfOk r (λ end. read_to new end ≡ b)
+if_ok_to (Ok end) new same is = is ∙ same
+if_ok_to (Err e) new same is = tt
+
+pub on_err_to : {E : Type 0} (r : Result Stop E) (new : List (List ℕ)) {a b : Taken} → a ≡ b → OnErr r (IsPrefix new a.entries) → OnErr r (IsPrefix new b.entries)
+on_err_to (Ok end) new same is = tt
+on_err_to (Err e) new same is = subst (λ (taken : Taken). IsPrefix new taken.entries) same is
 
 -- ---- files
 

@@ -1,5 +1,5 @@
 -- What is loaded of a saved history: its entries, one after another, until one is refused.
-use Rattle.std.specs.Prelude.{◌≢◌, ℕ, ◌+◌, List, [], ◌∷◌, ◌++◌, length, Option, None, Some}
+use Rattle.std.specs.Prelude.{◌≡◌, ◌≢◌, ℕ, ◌+◌, List, [], ◌∷◌, ◌++◌, length, Option, None, Some, IfNone, IfSome}
 use Rattle.sporc_entry.specs.declared.genesis.Genesis.{Genesis}
 use Rattle.sporc_head.specs.declared.refusal.Refusal.{Refusal}
 use Rattle.sporc_head.specs.declared.refusal.Refusal.TheVariants.{Memory}
@@ -8,7 +8,7 @@ use Rattle.sporc_line.specs.Kit.{Kit}
 use Rattle.sporc_line.specs.LineChecks.{first_fault}
 use Rattle.sporc_store.specs.declared.stop.Stop.{Stop}
 use Rattle.sporc_store.specs.declared.stop.Stop.TheVariants.{End, Foreign, Cut, Refused}
-use Rattle.sporc_store.specs.SavedFile.{Taken, read_to, first_and, saved_in}
+use Rattle.sporc_store.specs.SavedFile.{Taken, read_to, first_and, saved_in, IsPrefix}
 
 -- who checks entries: nobody, the order of a document, or a member by what it was given
 pub data Checker : Type 0 where
@@ -38,6 +38,12 @@ accepted_behind checker before [] stop = read_to [] stop
 accepted_behind checker before (e ∷ es) stop =
     unless_refused (fault_behind checker before e) (length before + 1) (first_and e (accepted_behind checker (before ++ e ∷ []) es stop))
 
+-- entries that were taken, and those that are accepted of the ones that follow, up to a stop
+abbrev pub accepted_from : Checker → List (List ℕ) → List (List ℕ) → Stop → Taken
+accepted_from checker taken es stop =
+    let behind = accepted_behind checker taken es stop in
+    read_to (taken ++ behind.entries) behind.stop
+
 -- of entries that were read, the longest prefix that is accepted
 abbrev pub accepted : Checker → Taken → Taken
 accepted checker read = accepted_behind checker [] read.entries read.stop
@@ -52,3 +58,18 @@ NamesCheck End = Unit {0}
 NamesCheck Foreign = Unit {0}
 NamesCheck (Cut at) = Unit {0}
 NamesCheck (Refused position refusal) = refusal ≢ Memory
+
+-- what is taken in all once a part of the entries was appended: those behind it go on, unless one of the part was refused
+abbrev pub taken_on : Option Stop → Checker → List (List ℕ) → List (List ℕ) → Stop → Taken
+taken_on None checker taken rest stop = accepted_from checker taken rest stop
+taken_on (Some refused) checker taken rest stop = read_to taken refused
+
+-- a part of the entries of a file was appended to these, up to the first that is refused, whatever follows the part
+pub record AppendsPart (checker : Checker) (before part : List (List ℕ)) (refused : Option Stop) (after : List (List ℕ)) : Type 0 where
+  pub taken : (rest : List (List ℕ)) (stop : Stop) → accepted_from checker before (part ++ rest) stop ≡ taken_on refused checker after rest stop
+  pub count : IfNone refused (length after ≡ length before + length part)
+  pub named : IfSome refused NamesCheck
+
+-- the first few of them were, whatever follows
+abbrev pub AppendsSome : Checker → List (List ℕ) → List (List ℕ) → List (List ℕ) → Type 0
+AppendsSome checker before part after = (rest : List (List ℕ)) (stop : Stop) → IsPrefix after (accepted_from checker before (part ++ rest) stop).entries

@@ -1,24 +1,28 @@
 //! The entries of a saved history, appended one after another.
 
-ghost use Rattle.std.specs.Prelude.{◌≡◌, ◌≤◌, ◌<◌, ◌^◌, [], length, vec_len, IfOk, OnErr};
+ghost use Rattle.std.specs.Prelude.{◌≡◌, ◌+◌, ◌≤◌, ◌<◌, ◌^◌, [], length, vec_len, IfOk, OnErr};
+ghost use Rattle.std.specs.Thread.{IsSync};
 ghost use Rattle.sporc_entry.specs.Genesis.{IsGenesis};
 ghost use Rattle.sporc_store.specs.declared.limits.TheConstants.{MAX_WORKERS};
 ghost use Rattle.sporc_store.specs.SavedFile.{read_to, saved_in, IsPrefix};
-ghost use Rattle.sporc_store.specs.Loading.{accepted, loaded, NamesCheck};
+ghost use Rattle.sporc_store.specs.Loading.{accepted, accepted_from, loaded, AppendsPart, AppendsSome, NamesCheck};
+ghost use Rattle.sporc_store.specs.Verdicts.{AreExact};
 
 use crate::foretelling::foretell;
 use crate::history::{DocumentHistory, History};
+use crate::limits::BLOCK;
 use crate::reading::saved_entries;
 use crate::saved_entry::SavedEntry;
 use crate::stop::Stop;
 use crate::workers::{examine_by, tell};
 use sporc_base::Memory;
 use sporc_entry::Genesis;
+use sporc_head::Verdict;
 use sporc_member::Roster;
 use sporc_outside::Gate;
 use std::alloc::Global;
 use std::sync::Wait;
-use std::thread::Threads;
+use std::thread::{Threads, join_mut};
 
 // Appends the entries of a document's saved history to an empty one, up to the first that is cut short or refused.
 pub(crate) fn append_saved<H: History>(
@@ -37,7 +41,8 @@ pub(crate) fn append_saved<H: History>(
     append_entries(alloc, history, entries.as_slice(), stop)
 }
 
-// The same, with the signatures of the file's entries examined by so many workers before one is appended.
+// The same, with the signatures of the file's entries examined by so many workers: while entries are appended, they examine
+// those behind.
 pub(crate) fn append_examined<R: Threads + Wait + Sync, G: Gate + Sync, H: DocumentHistory>(
     rt: &R,
     alloc: Global,
@@ -54,23 +59,27 @@ pub(crate) fn append_examined<R: Threads + Wait + Sync, G: Gate + Sync, H: Docum
     ensures memory { OnErr result (IsPrefix (H.entries history.new) (loaded (H.checker history.old) (H.genesis history.old).document bytes.now).entries) }
     ensures checker { H.checker history.new ≡ H.checker history.old }
 {
-    let genesis = history.genesis();
-    let (entries, stop) = examined_entries(rt, alloc, genesis, bytes, workers, gate)?;
-    append_entries(alloc, history, entries.as_slice(), stop)
+    let (mut entries, stop) = foretold_entries(alloc, history.genesis(), bytes)?;
+    append_blocks(
+        rt,
+        alloc,
+        history,
+        0,
+        entries.as_mut_slice(),
+        0,
+        stop,
+        workers,
+        gate,
+    )
 }
 
-// The entries of a saved history, where they stand, each examined under the key that its author is foretold to have.
-fn examined_entries<'a, R: Threads + Wait + Sync, G: Gate + Sync>(
-    rt: &R,
+// The entries of a saved history, where they stand, each with the key that its author is foretold to have.
+fn foretold_entries<'a>(
     alloc: Global,
     genesis: &Genesis,
     bytes: &'a [u8],
-    workers: u32,
-    gate: &G,
 ) -> Result<(Vec<SavedEntry<'a>>, Stop), Memory>
     requires is_genesis { IsGenesis genesis.now }
-    requires some { 1 ≤ workers }
-    requires limit { workers ≤ MAX_WORKERS }
     ensures ok { IfOk result (λ read. read_to read.0.items read.1 ≡ saved_in genesis.now.document bytes.entry.now) }
     ensures room { IfOk result (λ read. vec_len read.0 < 2 ^ 32) }
     ensures named { IfOk result (λ read. NamesCheck read.1) }
@@ -78,9 +87,94 @@ fn examined_entries<'a, R: Threads + Wait + Sync, G: Gate + Sync>(
     let roster = Roster::found(alloc, genesis.founders.as_slice())?;
     let (mut entries, stop) = saved_entries(alloc, &genesis.document, bytes)?;
     foretell(alloc, roster, entries.as_mut_slice())?;
-    let verdicts = examine_by(rt, alloc, gate, 1, workers, 0, entries.as_slice())?;
-    tell(entries.as_mut_slice(), verdicts.as_slice());
     Ok((entries, stop))
+}
+
+// Appends entries behind so many others, up to the first that is refused, or where their reading stopped. The first `known`
+// of them were examined. While they are appended, the workers examine the next block, and so on.
+fn append_blocks<R: Threads + Wait + Sync, G: Gate + Sync, H: History>(
+    rt: &R,
+    alloc: Global,
+    history: &mut H,
+    before: usize,
+    entries: &mut [SavedEntry<'_>],
+    known: usize,
+    stop: Stop,
+    workers: u32,
+    gate: &G,
+) -> Result<Stop, Memory>
+    requires count { length (H.entries history.old) ≡ before }
+    requires room { before + length entries.old < 2 ^ 32 }
+    requires known { known ≤ length entries.old }
+    requires some { 1 ≤ workers }
+    requires limit { workers ≤ MAX_WORKERS }
+    requires named { NamesCheck stop }
+    ensures ok { IfOk result (λ end. read_to (H.entries history.new) end ≡ accepted_from (H.checker history.old) (H.entries history.old) entries.old stop) }
+    ensures named { IfOk result NamesCheck }
+    ensures memory { OnErr result (IsPrefix (H.entries history.new) (accepted_from (H.checker history.old) (H.entries history.old) entries.old stop).entries) }
+    ensures checker { H.checker history.new ≡ H.checker history.old }
+{
+    if entries.is_empty() {
+        return Ok(stop);
+    }
+    let (block, rest) = entries.split_at_mut(known);
+    let count = rest.len().min(BLOCK);
+    let behind = before + known;
+    match append_beside(
+        rt, alloc, history, before, block, rest, count, workers, gate,
+    ) {
+        Ok(Some(refused)) => Ok(refused),
+        Ok(None) => append_blocks(rt, alloc, history, behind, rest, count, stop, workers, gate),
+        Err(memory) => Err(memory),
+    }
+}
+
+// Appends examined entries behind so many others, up to the first that is refused, while the workers examine the first few of
+// the rest.
+fn append_beside<R: Threads + Wait + Sync, G: Gate + Sync, H: History>(
+    rt: &R,
+    alloc: Global,
+    history: &mut H,
+    before: usize,
+    block: &[SavedEntry<'_>],
+    rest: &mut [SavedEntry<'_>],
+    count: usize,
+    workers: u32,
+    gate: &G,
+) -> Result<Option<Stop>, Memory>
+    requires taken { length (H.entries history.old) ≡ before }
+    requires room { before + length block.now + length rest.old < 2 ^ 32 }
+    requires within { count ≤ length rest.old }
+    requires some { 1 ≤ workers }
+    requires limit { workers ≤ MAX_WORKERS }
+    ensures ok { IfOk result (λ refused. AppendsPart (H.checker history.old) (H.entries history.old) block.now refused (H.entries history.new)) }
+    ensures memory { OnErr result (AppendsSome (H.checker history.old) (H.entries history.old) block.now (H.entries history.new)) }
+    ensures checker { H.checker history.new ≡ H.checker history.old }
+    ensures rest { rest.new ≡ rest.old }
+{
+    let behind = (before + block.len()) as u32;
+    let next = &rest[..count];
+    let (found, refused) = join_mut(
+        rt,
+        &mut || -> Result<Vec<Option<Verdict>>, Memory>
+            requires { IsSync R.row × IsSync G.row × (1 ≤ workers) × (workers ≤ MAX_WORKERS) × (behind + length next.now < 2 ^ 32) }
+            ensures { IfOk result (λ verdicts. AreExact verdicts.items next.entry.now) }
+        { examine_by(rt, alloc, gate, 1, workers, behind, next) },
+        &mut || -> Result<Option<Stop>, Memory>
+            requires { (length (H.entries history.now) ≡ before) × (before + length block.now < 2 ^ 32) }
+            ensures ok { IfOk result (λ refused. AppendsPart (H.checker history.entry.now) (H.entries history.entry.now) block.entry.now refused (H.entries history.exit.now)) }
+            ensures memory { OnErr result (AppendsSome (H.checker history.entry.now) (H.entries history.entry.now) block.entry.now (H.entries history.exit.now)) }
+            ensures checker { H.checker history.exit.now ≡ H.checker history.entry.now }
+        { append_part(alloc, history, before, block) },
+    );
+    match refused? {
+        Some(refused) => Ok(Some(refused)),
+        None => {
+            let verdicts = found?;
+            tell(rest, count, verdicts.as_slice());
+            Ok(None)
+        }
+    }
 }
 
 // Appends entries to an empty history, up to the first that is refused, or where their reading stopped.
@@ -98,10 +192,30 @@ fn append_entries<H: History>(
     ensures memory { OnErr result (IsPrefix (H.entries history.new) (accepted (H.checker history.old) (read_to entries.now stop)).entries) }
     ensures checker { H.checker history.new ≡ H.checker history.old }
 {
+    match append_part(alloc, history, 0, entries) {
+        Ok(Some(refused)) => Ok(refused),
+        Ok(None) => Ok(stop),
+        Err(memory) => Err(memory),
+    }
+}
+
+// Appends entries behind so many others, up to the first that is refused.
+fn append_part<H: History>(
+    alloc: Global,
+    history: &mut H,
+    before: usize,
+    entries: &[SavedEntry<'_>],
+) -> Result<Option<Stop>, Memory>
+    requires count { length (H.entries history.old) ≡ before }
+    requires room { before + length entries.now < 2 ^ 32 }
+    ensures ok { IfOk result (λ refused. AppendsPart (H.checker history.old) (H.entries history.old) entries.now refused (H.entries history.new)) }
+    ensures memory { OnErr result (AppendsSome (H.checker history.old) (H.entries history.old) entries.now (H.entries history.new)) }
+    ensures checker { H.checker history.new ≡ H.checker history.old }
+{
     for (taken, entry) in entries.iter().enumerate() {
         if let Some(refusal) = history.append(alloc, entry)? {
-            return Ok(Stop::Refused(taken as u32 + 1, refusal));
+            return Ok(Some(Stop::Refused((before + taken) as u32 + 1, refusal)));
         }
     }
-    Ok(stop)
+    Ok(None)
 }

@@ -7,7 +7,8 @@
 //! - [`read_saved`]: the entries of a file, unchecked, as far as it is whole, and where it stops.
 //! - [`saved_stop`]: where it stops, alone, without memory.
 //! - [`load`], [`load_order`]: the longest prefix of a file's entries that a member's line, or an order, accepts.
-//! - [`load_many`], [`load_order_many`]: the same, with the signatures examined by several workers before.
+//! - [`load_many`], [`load_order_many`]: the same, with the signatures examined by several workers, block by block: those of
+//!   one block while the entries of the block before are taken.
 //! - [`Stop`]: where reading stops: at the end, at another document's file, at a place that is cut short or forbidden, or
 //!   before an entry that a check refuses.
 //! - [`laws`]: what was saved is read and loaded again, whole, and what is loaded is the longest prefix that is accepted.
@@ -25,8 +26,8 @@
 //! Proved: the bytes that `save` gives, and when they are too many; what each call takes of any bytes, and where it
 //! stops; that line and order keep the entries taken if memory runs out; the laws. Only tested: the loading of entries
 //! with real signatures and of files cut at each byte, and that the calls succeed with ample memory
-//! (`sporc_files_tests`), and that workers examine at the same time. Neither: how long a call takes, and that no signature
-//! is verified twice.
+//! (`sporc_files_tests`), and that workers examine at the same time. Neither: how long a call takes, that no signature is
+//! verified twice, and that a block is examined while another is taken.
 #![tactic(auto)]
 
 mod appending;

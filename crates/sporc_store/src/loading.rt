@@ -64,8 +64,9 @@ pub fn load(alloc: Global, bytes: &[u8], line: Line) -> Result<(Line, Stop), (Li
     }
 }
 
-/// [`load`], with the signatures of the file's entries examined by so many workers before the line takes one. Each calls
-/// the gate's `before_line` with its number, from 1, and an entry's position before it examines that entry.
+/// [`load`], with the signatures of the file's entries examined by so many workers: those of a block while the line takes
+/// the entries of the block before. Each worker calls the gate's `before_line` with its number, from 1, and an entry's
+/// position before it examines that entry.
 pub fn load_many<R: Threads + Wait + Sync, G: Gate + Sync>(
     rt: &R,
     alloc: Global,

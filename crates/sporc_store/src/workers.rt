@@ -1,6 +1,6 @@
 //! The signatures of a file's entries, examined by several workers.
 
-ghost use Rattle.std.specs.Prelude.{◌≡◌, ◌+◌, ◌≤◌, ◌<◌, ◌^◌, length, IfOk};
+ghost use Rattle.std.specs.Prelude.{◌≡◌, ◌+◌, ◌≤◌, ◌<◌, ◌^◌, length, take, IfOk};
 ghost use Rattle.std.specs.Thread.{IsSync};
 ghost use Rattle.sporc_store.specs.Verdicts.{AreExact};
 
@@ -74,13 +74,14 @@ fn examine_part<R: Wait, G: Gate>(
     Ok(verdicts)
 }
 
-// Tells each entry what its examination found.
-#[tactic(auto, using(crate::proofs::Exactly::exact_at, crate::proofs::Exactly::exact_len))]
-pub(crate) fn tell(entries: &mut [SavedEntry<'_>], verdicts: &[Option<Verdict>])
-    requires { AreExact verdicts.now entries.old }
+// Tells each of the first few entries what its examination found.
+#[tactic(auto, using(crate::proofs::Exactly::exact_count))]
+pub(crate) fn tell(entries: &mut [SavedEntry<'_>], count: usize, verdicts: &[Option<Verdict>])
+    requires within { count ≤ length entries.old }
+    requires exact { AreExact verdicts.now (take count entries.old) }
     ensures { entries.new ≡ entries.old }
 {
-    for i in 0..entries.len() {
+    for i in 0..count {
         entries[i].learn(verdicts[i]);
     }
 }
