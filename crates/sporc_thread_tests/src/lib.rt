@@ -1,5 +1,5 @@
-//! The tests of the lock, the shared client and its session, and of the server: of `sporc_turn`, `sporc_shared` and
-//! `sporc_serve`. They stand in a crate of their own, since a crate with tests is proved twice. No program stands on it.
+//! The tests of the lock, the shared client and its session, and of the server: of `sporc_turn`, `sporc_shared`,
+//! `sporc_serve` and `sporc_docs`. They stand in a crate of their own, since a crate with tests is proved twice. No program stands on it.
 //!
 //! - `lock/turns`: threads that take turns get to their ends, a lock isn't closed while a pass is away, and news wait for
 //!   nobody.
@@ -9,6 +9,7 @@
 //! - `shared/fetching`: entries that are fetched over a link in memory.
 //! - `shared/session_faults`: each fault that ends a session but `Worn`, which takes 2^62 calls, and `Memory`; with each call
 //!   of the leaf file, the link and the chance that may fail.
+//! - `docs`: as many documents as a server may hold.
 //! - `serve`: what a server answers over links in memory. Answers are compared with bytes that are spelled out by hand.
 //!
 //! Those of the lock are built of `lock/tally` (a value under the lock) and `lock/work` (a turn, rounds of turns, and a crowd
@@ -20,6 +21,8 @@
 
 #[cfg(test)]
 mod checks;
+#[cfg(test)]
+mod docs;
 #[cfg(test)]
 mod lock;
 #[cfg(test)]

@@ -1,0 +1,29 @@
+//! Why a document is not taken.
+
+use std::alloc::AllocError;
+use thiserror::Error;
+
+/// Why an order is not added.
+#[derive(Clone, Copy, Debug, PartialEq, Eq, Error)]
+pub enum DocsFault {
+    /// An order of that document is held.
+    #[error("the document is held already")]
+    Exists,
+    /// As many are held as may be.
+    #[error("as many documents are held as may be")]
+    Full,
+    /// Out of memory.
+    #[error("out of memory")]
+    Memory,
+}
+
+impl From<AllocError> for DocsFault {
+    ghost use Rattle.std.specs.Prelude.{◌≡◌};
+    ghost use Rattle.sporc_docs.specs.declared.fault.DocsFault.TheVariants as faults;
+
+    ghost from_gives = { λ _ e. e ≡ faults.Memory };
+
+    fn from(_: AllocError) -> DocsFault {
+        DocsFault::Memory
+    }
+}
