@@ -55,6 +55,7 @@ lend_later told low mid high names member faults.FullFile more never = never
 lend_later told low mid high names member faults.Worn more never = never
 lend_later told low mid high names member (faults.Message at) more never = never
 lend_later told low mid high names member (faults.Edit e l f) more never = never
+lend_later told low mid high names member (faults.Ahead len) more never = never
 
 -- with other words for its names, its files, and the count of the member's editors
 module _ (told now : Option (List NamedFile)) (names : FileNames) (words : Words) (same : now ≡ told) (named : names ≡ names_of words) where

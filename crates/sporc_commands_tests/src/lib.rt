@@ -6,7 +6,8 @@
 //! scene stands in [`faults`], [`servers`] and [`sessions`]. [`lies`] has a member beside servers that lie, a row for each lie, and
 //! [`histories`] one whose files are wrong. [`faults`] compares the lines of faults of plays too, and [`plays`] has the longest script
 //! and the generated run. Worked plays are scripts of `examples/`. [`commands`] runs commands one after the other, [`gates`] a member
-//! and a server with gates that hold them, and [`statuses`] shows the statuses that a session ends with.
+//! and a server with gates that hold them, [`statuses`] shows the statuses that a session ends with, and [`help`] each page of the
+//! help, and a public key that is shown again.
 #![tactic(auto)]
 
 #[cfg(test)]
@@ -25,6 +26,8 @@ mod failing;
 mod faults;
 #[cfg(test)]
 mod gates;
+#[cfg(test)]
+mod help;
 #[cfg(test)]
 mod histories;
 #[cfg(test)]

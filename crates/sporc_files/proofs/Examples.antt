@@ -147,3 +147,8 @@ no_message = refl
 an_edit_without_a_right : told (faults.Edit 1 4 edits.NoRight) ≡ (10, codes "fault edit 1 4 no-right\n")
 unfolding digits
 an_edit_without_a_right = refl
+
+-- `text --at` above the end of a history of 17 entries
+no_such_position : told (faults.Ahead 17) ≡ (3, codes "fault ahead 17\n")
+unfolding digits
+no_such_position = refl

@@ -47,6 +47,7 @@ module _ {A : Type 0} (parse : List ℕ → Result A ℕ) (files : Option (List 
   read_case faults.Worn never = absurd never
   read_case (faults.Message at) never = absurd never
   read_case (faults.Edit e l f) never = absurd never
+  read_case (faults.Ahead len) never = absurd never
 
 -- of a folder whose count of faults had risen before
 later : {A : Type 0} (parse : List ℕ → Result A ℕ) (told : Option (List NamedFile)) (low mid high : ℕ) (names : FileNames) (file : File) (fault : Fault) → low ≤ mid
@@ -97,3 +98,4 @@ write_case before after faults.FullFile never = absurd never
 write_case before after faults.Worn never = absurd never
 write_case before after (faults.Message at) never = absurd never
 write_case before after (faults.Edit e l f) never = absurd never
+write_case before after (faults.Ahead len) never = absurd never

@@ -52,6 +52,7 @@ status_of faults.FullFile = 8
 status_of faults.Worn = 8
 status_of (faults.Message at) = 9
 status_of (faults.Edit editor line fault) = 10
+status_of (faults.Ahead len) = 3
 
 -- ---- lines
 
@@ -80,6 +81,7 @@ fault_words faults.FullFile = codes "full file"
 fault_words faults.Worn = codes "worn"
 fault_words (faults.Message at) = codes "message"
 fault_words (faults.Edit editor line fault) = codes "edit"
+fault_words (faults.Ahead len) = codes "ahead"
 
 -- and what stands behind these words
 abbrev pub fault_arguments : Fault → List Argument
@@ -106,6 +108,7 @@ fault_arguments faults.FullFile = none
 fault_arguments faults.Worn = none
 fault_arguments (faults.Message at) = one (Number at)
 fault_arguments (faults.Edit editor line fault) = three (Number editor) (Number line) (Edit fault)
+fault_arguments (faults.Ahead len) = one (Number len)
 
 -- the line of a fault: `fault`, its words, and its arguments, each behind a space
 abbrev pub fault_line : FileNames → Fault → List ℕ

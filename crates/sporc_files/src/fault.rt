@@ -23,7 +23,7 @@ use sporc_outside::{Failed, Sink, write_all};
 /// |---|---|---|
 /// | 1 | `Memory` | memory ran out |
 /// | 2 | `Words` | the words ask for nothing |
-/// | 3 | `Missing` to `LongScript` | a file is missing, is there already or is too long, or a file or a script is outside its grammar |
+/// | 3 | `Missing` to `LongScript`, `Ahead` | a file is missing, is there already or is too long, a file or a script is outside its grammar, or a position is above the history's length |
 /// | 4 | `Refused` to `Opening` | an entry failed a check, or a member's keys do not open the history |
 /// | 5 | `Unsettled` | the rounds of a session were not enough |
 /// | 6 | `LinkEnded`, `Outside` | a link ended within an answer, or something outside failed |
@@ -79,6 +79,8 @@ pub enum Fault {
     Message(u64),
     /// Of the script of this editor, this line was refused.
     Edit(u32, u32, EditFault),
+    /// The history has so many entries, fewer than the words ask for.
+    Ahead(u32),
 }
 
 impl Fault {
@@ -95,7 +97,8 @@ impl Fault {
             | Fault::Malformed(_, _)
             | Fault::Line(_)
             | Fault::EditorLine(_, _)
-            | Fault::LongScript => 3,
+            | Fault::LongScript
+            | Fault::Ahead(_) => 3,
             Fault::Refused(_, _) | Fault::Rejected(_) | Fault::Hints(_) | Fault::Opening(_) => 4,
             Fault::Unsettled(_, _) => 5,
             Fault::LinkEnded(_) | Fault::Outside => 6,
@@ -154,6 +157,7 @@ impl Fault {
             Fault::Worn => "worn",
             Fault::Message(_) => "message",
             Fault::Edit(_, _, _) => "edit",
+            Fault::Ahead(_) => "ahead",
         }
     }
 
@@ -191,6 +195,7 @@ impl Fault {
             Fault::Edit(editor, line, fault) => {
                 [number(editor), number(line), Argument::Edit(fault)]
             }
+            Fault::Ahead(len) => one(number(len)),
         }
     }
 }

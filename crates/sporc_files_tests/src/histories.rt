@@ -18,6 +18,7 @@ mod folder;
 mod loads;
 mod many;
 mod serves;
+mod tells;
 
 fn is_used<R: Threads + Wait + Sync + Abort>(rt: &R, alloc: Global, cast: &Cast, sample: &History) {
     histories_are_loaded(rt, alloc, cast, sample);

@@ -5,3 +5,4 @@ pub mod Asking
 pub mod Named
 pub mod RingLoop
 pub mod StoreFaults
+pub mod Showing

@@ -45,6 +45,7 @@ module _ (new : List NamedFile) (before after : Option (List NamedFile)) (low hi
   store_case faults.Worn never = absurd never
   store_case (faults.Message at) never = absurd never
   store_case (faults.Edit e l f) never = absurd never
+  store_case (faults.Ahead len) never = absurd never
 
 -- behind a file that was written
 module _ (f : NamedFile) (new : List NamedFile) (before between after : Option (List NamedFile)) (low mid high : ℕ) (stored : Stores (f ∷ []) before between) (more : low ≤ mid) where

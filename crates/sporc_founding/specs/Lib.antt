@@ -1,2 +1,3 @@
 pub mod KeyMaking
 pub mod Founding
+pub mod KeyShowing

@@ -73,7 +73,7 @@ fn make_key<R: Threads + Sync, C: Chance>(
 }
 
 // The line that is printed of a key.
-fn key_line(alloc: Global, public: &LmsPublic) -> Result<String, Memory>
+pub(crate) fn key_line(alloc: Global, public: &LmsPublic) -> Result<String, Memory>
     ensures { IfOk result (λ line. string_bytes line ≡ key_line public.now) }
 {
     let digits = hex::encode(alloc, &public.to_bytes())?;

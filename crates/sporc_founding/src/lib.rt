@@ -1,10 +1,12 @@
 //! The commands that make keys and documents.
 //!
 //! - [`keygen`] makes a member's key: `NAME.M.key`, then `NAME.M.leaf`, and prints the public key.
+//! - [`public`] prints that line again, of a key file that is there.
 //! - [`found`] makes a document: `NAME.genesis`, then `NAME.M.ring` of each who is named, by the founders' key files.
 //!
 //! ```text
 //! keygen(alloc, &mut files, &mut chance, &mut out, &asked)?;     // plan.1.key, plan.1.leaf, and `key` with 112 digits
+//! public(&rt, alloc, &mut files, &mut out, &asked)?;             // the same line of `plan.1.key`
 //! found(alloc, &mut files, &mut chance, &asked)?;                // plan.genesis, plan.1.ring, plan.2.ring
 //! ```
 //!
@@ -16,6 +18,9 @@
 
 mod founding;
 mod key_making;
+mod key_showing;
+pub mod laws;
 
 pub use founding::found;
 pub use key_making::keygen;
+pub use key_showing::public;

@@ -10,7 +10,10 @@ use Rattle.sporc_store.specs.SavedFile.{read_to}
 use Rattle.sporc_store.specs.declared.stop.Stop.TheVariants.{Cut, End, Foreign, Refused}
 use Rattle.sporc_files.specs.declared.fault.Fault.TheVariants as faults
 use Rattle.sporc_files.specs.declared.file.File.TheVariants as files
-use Rattle.sporc_histories.specs.Checking.{IsCheckedLine, checked_in, len_of_whole}
+use Rattle.sporc_line.specs.Document.{forms_from}
+use Rattle.sporc_line.specs.Kit.{Kit}
+use Rattle.sporc_histories.specs.Checking.{IsCheckedLine, checked_in, line_of_whole}
+use Rattle.sporc_histories.specs.Telling.{text_at, text_in}
 use Rattle.sporc_histories.specs.Comparing.{Chains, IsVerdictLine, chains_in}
 use Rattle.sporc_histories.specs.Serving.{ended, logged, order_of_whole, order_with}
 use Rattle.sporc_histories.specs.Outcomes.{log_line}
@@ -22,21 +25,34 @@ unfolding digits
 seventeen_entries = refl
 
 -- both entries of member 2's history were accepted, and it ends behind them
-two_entries : (a b : List ℕ) → len_of_whole 2 (read_to (a ∷ b ∷ []) End) ≡ Ok 2
-two_entries a b = refl
+two_entries : (g : Genesis) (kit : Kit) (a b : List ℕ) → line_of_whole 2 g kit (read_to (a ∷ b ∷ []) End) ≡ Ok (record { genesis = g; kit = kit; entries = a ∷ b ∷ [] })
+two_entries g kit a b = refl
 
-third_is_forged : (a b : List ℕ) → len_of_whole 2 (read_to (a ∷ b ∷ []) (Refused 3 BadSignature)) ≡ Err (faults.Refused 3 BadSignature)
-third_is_forged a b = refl
+third_is_forged : (g : Genesis) (kit : Kit) (a b : List ℕ) → line_of_whole 2 g kit (read_to (a ∷ b ∷ []) (Refused 3 BadSignature)) ≡ Err (faults.Refused 3 BadSignature)
+third_is_forged g kit a b = refl
 
-second_is_cut : (a : List ℕ) → len_of_whole 2 (read_to (a ∷ []) (Cut 34)) ≡ Err (faults.Malformed (files.History 2) 34)
-second_is_cut a = refl
+second_is_cut : (g : Genesis) (kit : Kit) (a : List ℕ) → line_of_whole 2 g kit (read_to (a ∷ []) (Cut 34)) ≡ Err (faults.Malformed (files.History 2) 34)
+second_is_cut g kit a = refl
 
-of_another_document : len_of_whole 2 (read_to [] Foreign) ≡ Err (faults.Malformed (files.History 2) 0)
-of_another_document = refl
+of_another_document : (g : Genesis) (kit : Kit) → line_of_whole 2 g kit (read_to [] Foreign) ≡ Err (faults.Malformed (files.History 2) 0)
+of_another_document g kit = refl
 
 -- no file is there: the genesis is read first
 no_files : checked_in 2 (record { genesis = None; key = None; ring = None; history = None }) ≡ Err (faults.Missing files.Genesis)
 no_files = refl
+
+-- ---- text and entries
+
+-- after nothing the text is empty, and after the second of one entry there is none
+no_text_yet : (g : Genesis) (kit : Kit) (a : List ℕ) → text_at (Some 0) (record { genesis = g; kit = kit; entries = a ∷ [] }) ≡ Ok []
+unfolding forms_from
+no_text_yet g kit a = refl
+
+one_of_two : (g : Genesis) (kit : Kit) (a : List ℕ) → text_at (Some 2) (record { genesis = g; kit = kit; entries = a ∷ [] }) ≡ Err (faults.Ahead 1)
+one_of_two g kit a = refl
+
+no_genesis_no_text : text_in 2 None (record { genesis = None; key = None; ring = None; history = None }) ≡ Err (faults.Missing files.Genesis)
+no_genesis_no_text = refl
 
 -- ---- compare
 

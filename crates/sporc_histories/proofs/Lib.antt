@@ -1,7 +1,8 @@
-pub mod Compared
 mod Examples
+pub mod Compared
 pub mod Examined
 pub mod Found
 pub mod Lines
 pub mod Logs
+pub mod Prefixes
 pub mod Taken

@@ -1,6 +1,7 @@
--- How a command writes its line.
-use Rattle.std.proofs.Common.{◌≡◌, ℕ, List, Result, Ok, Err, inl, inr}
+-- How a command writes its line, or all its lines.
+use Rattle.std.proofs.Common.{◌≡◌, ◌∙◌, ℕ, List, Result, Ok, Err, inl, inr, ap}
 use Rattle.std.specs.Io.KnownBytes.{Appends}
+use Rattle.sporc_bytes.specs.Fields.{◌>>=◌}
 use Rattle.sporc_outside.specs.Counts.{Rose}
 use Rattle.sporc_outside.specs.Uses.{IsUnwritten, SinkUse}
 use Rattle.sporc_outside.specs.Writing.{AppendsPrefix}
@@ -8,7 +9,10 @@ use Rattle.sporc_files.specs.declared.fault.Fault.{Fault}
 use Rattle.sporc_files.specs.declared.fault.Fault.TheVariants as faults
 use Rattle.sporc_files.specs.Uses.{FolderUse}
 use Rattle.sporc_histories.specs.Contents.{AnswersUnlessOutside}
+use Rattle.sporc_line.specs.LineModel.{LineModel}
+use Rattle.sporc_histories.specs.Checking.{CheckedLine, checked_line}
 use Rattle.sporc_histories.specs.Uses.{WritesLine}
+use Rattle.sporc_histories.proofs.Found.{fails_first, tells_alone, tells_behind}
 
 module _ {Y : Type 0} (Says : Y → List ℕ → Type 0) (folder : FolderUse) (out : SinkUse) (found : Result Y Fault) where
   -- nothing was found
@@ -32,3 +36,26 @@ module _ {Y : Type 0} (Says : Y → List ℕ → Type 0) (folder : FolderUse) (o
   pub line_cut : (y : Y) (line : List ℕ) (r : Result (Unit {0}) Fault) → r ≡ Err faults.Outside → found ≡ Ok y → Says y line → AppendsPrefix out.written_before out.written_after line
       → Rose out.faults_before out.faults_after → WritesLine Says folder out found r
   line_cut y line r r_is is says written rose = rw r_is (inr (rose, record { value = y; line = line; found_is = is; says = says; written = written }))
+
+-- ---- what is made of a history that was examined
+
+pub is_made : {Y : Type 0} (found : Result CheckedLine Fault) (made : CheckedLine → Result Y Fault) (line : LineModel) → found ≡ Ok (checked_line line) → (y : Y) → made (checked_line line) ≡ Ok y
+    → (found >>= made) ≡ Ok y
+is_made found made line is y made_is = ap (λ (r : Result CheckedLine Fault). r >>= made) is ∙ made_is
+
+module _ {Y : Type 0} (Says : Y → List ℕ → Type 0) (folder : FolderUse) (out : SinkUse) (found : Result CheckedLine Fault) (made : CheckedLine → Result Y Fault) where
+  -- it was not found
+  pub no_line : (fault : Fault) (r : Result (Unit {0}) Fault) → r ≡ Err fault → AnswersUnlessOutside checked_line (Rose folder.faults_before folder.faults_after) (Err fault) found → IsUnwritten out
+      → WritesLine Says folder out (found >>= made) r
+  no_line fault r is told none =
+      not_found Says folder out (found >>= made) (λ (y : Y). y) fault r is
+      (fails_first checked_line (λ (y : Y). y) (Rose folder.faults_before folder.faults_after) fault found made told) none
+
+  module _ (line : LineModel) (is : found ≡ Ok (checked_line line)) where
+    -- nothing was made of it
+    pub not_made : {X : Type 0} (view : X → Y) (fault : Fault) (r : Result (Unit {0}) Fault) → r ≡ Err fault → AnswersUnlessOutside view ⊥ (Err fault) (made (checked_line line)) → IsUnwritten out
+        → WritesLine Says folder out (found >>= made) r
+    not_made view fault r r_is told none =
+        let Failed = Rose folder.faults_before folder.faults_after in
+        not_found Says folder out (found >>= made) view fault r r_is
+        (tells_behind view Failed (Err fault) found (checked_line line) made is (tells_alone view Failed (Err fault) (made (checked_line line)) told)) none

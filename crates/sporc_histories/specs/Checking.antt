@@ -11,7 +11,8 @@ use Rattle.sporc_epoch.specs.Hints.{hints_of}
 use Rattle.sporc_epoch.specs.Keys.{Keys}
 use Rattle.sporc_keys.specs.RingFile.{epoch_keys, pair_keys, ring_file_of_member}
 use Rattle.sporc_keys.specs.declared.ring_file.RingFile.{RingFile}
-use Rattle.sporc_line.specs.Kit.{kit_of}
+use Rattle.sporc_line.specs.Kit.{Kit, kit_of}
+use Rattle.sporc_line.specs.LineModel.{LineModel}
 use Rattle.sporc_line.specs.Openings.{open_checks}
 use Rattle.sporc_line.specs.declared.fault.LineOpenFault.{LineOpenFault}
 use Rattle.sporc_store.specs.Loading.{a_member, loaded}
@@ -57,24 +58,33 @@ unless_closed (Some fault) x = Err (fault_of_line fault)
 
 -- ---- the history
 
--- how many entries were taken of a member's history, if they are all of it
-abbrev pub len_of_whole : ℕ → Taken → Result ℕ Fault
-len_of_whole member taken = whole (files.History member) taken >>= λ entries. Ok (length entries)
+-- a history that a member accepted: its document, what the member was given, and the entries
+pub record CheckedLine : Type 0 where
+  pub genesis : Genesis
+  pub kit : Kit
+  pub entries : List (List ℕ)
 
--- how many entries a history has, if a member with these keys opens it and accepts all of it
-abbrev pub accepted_in : Genesis → ℕ → Keys → List ℕ → Keys → Result ℕ Fault
+abbrev pub checked_line : LineModel → CheckedLine
+checked_line line = record { genesis = line.genesis; kit = line.kit; entries = line.entries }
+
+-- the entries that were taken of a member's history, if they are all of it
+abbrev pub line_of_whole : ℕ → Genesis → Kit → Taken → Result CheckedLine Fault
+line_of_whole member genesis kit taken = whole (files.History member) taken >>= λ entries. Ok (record { genesis = genesis; kit = kit; entries = entries })
+
+-- a history, if a member with these keys opens it and accepts all of it
+abbrev pub accepted_in : Genesis → ℕ → Keys → List ℕ → Keys → Result CheckedLine Fault
 accepted_in genesis member pairs history keys = do
   opened ← unless_closed (first_of (open_checks genesis (get keys 0))) keys
-  len_of_whole member (loaded (a_member genesis (kit_of member opened pairs)) genesis.document history)
+  line_of_whole member genesis (kit_of member opened pairs) (loaded (a_member genesis (kit_of member opened pairs)) genesis.document history)
 
 -- the same, for a member with this ring
-abbrev pub examined : Genesis → ℕ → RingFile → List ℕ → Result ℕ Fault
+abbrev pub examined : Genesis → ℕ → RingFile → List ℕ → Result CheckedLine Fault
 examined genesis member ring history =
     keys_in member ring.epoch_key (pair_keys ring.pairs) genesis.document history >>= accepted_in genesis member (pair_keys ring.pairs) history
 
 -- the same, of the history in a member's files
-abbrev pub checked_in : ℕ → CheckedFiles → Result ℕ Fault
-checked_in member content = do
+abbrev pub line_in : ℕ → CheckedFiles → Result CheckedLine Fault
+line_in member content = do
   genesis ← genesis_in content.genesis
   key ← said (own_key_file genesis.founders member) (files.Key member) content.key
   ring ← said (ring_file_of_member member) (files.Ring member) content.ring
@@ -82,9 +92,15 @@ checked_in member content = do
   examined genesis member ring history
 
 -- it was found in the files of a folder whose count of faults went from `before` to `after`
-abbrev pub FindsChecked : Option (List NamedFile) → FileNames → ℕ → ℕ → ℕ → Result ℕ Fault → Type 0
-FindsChecked told names member before after result =
-    (content : CheckedFiles) × AreCheckedFiles told names member content × AnswersUnlessOutside (λ (len : ℕ). len) (Rose before after) result (checked_in member content)
+abbrev pub FindsLine : Option (List NamedFile) → FileNames → ℕ → ℕ → ℕ → Result LineModel Fault → Type 0
+FindsLine told names member before after result =
+    (content : CheckedFiles) × AreCheckedFiles told names member content × AnswersUnlessOutside checked_line (Rose before after) result (line_in member content)
+
+-- ---- `check`
+
+-- how many entries it has
+abbrev pub checked_in : ℕ → CheckedFiles → Result ℕ Fault
+checked_in member content = line_in member content >>= λ line. Ok (length line.entries)
 
 -- the line that says how many entries there are
 abbrev pub IsCheckedLine : ℕ → List ℕ → Type 0

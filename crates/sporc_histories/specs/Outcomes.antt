@@ -17,6 +17,7 @@ use Rattle.sporc_files.specs.Uses.{FolderUse}
 use Rattle.sporc_files.specs.Names.{FileNames, file_name}
 use Rattle.sporc_histories.specs.Checking.{AreCheckedFiles, CheckedFiles, IsCheckedLine, checked_in}
 use Rattle.sporc_histories.specs.Comparing.{AreComparedFiles, ComparedFiles, IsVerdictLine, chains_in}
+use Rattle.sporc_histories.specs.Telling.{IsJust, lines_in, text_in}
 use Rattle.sporc_histories.specs.Serving.{AreServedFiles, ServedFiles, ended, order_in, saved_log}
 use Rattle.sporc_histories.specs.Uses.{OnlyReads, WritesLine}
 
@@ -29,6 +30,23 @@ pub record CheckOutcome {T : Type 0} (names : FileNames) (member : ℕ) (folder 
   pub are : AreCheckedFiles folder.files_before names member content
   pub reads : OnlyReads names (files.Genesis ∷ files.Key member ∷ files.Ring member ∷ files.History member ∷ []) folder
   pub writes : WritesLine IsCheckedLine folder out (checked_in member content) answer
+
+-- ---- text and entries
+
+-- `text NAME M --at POS`: the same files are read, the history is examined, and the committed text is written, after so many of its entries or
+-- after all
+pub record TextOutcome {T : Type 0} (names : FileNames) (member : ℕ) (at : Option ℕ) (folder : FolderUse) (out : SinkUse) (answer : Result T Fault) : Type 0 where
+  pub content : CheckedFiles
+  pub are : AreCheckedFiles folder.files_before names member content
+  pub reads : OnlyReads names (files.Genesis ∷ files.Key member ∷ files.Ring member ∷ files.History member ∷ []) folder
+  pub writes : WritesLine IsJust folder out (text_in member at content) answer
+
+-- `entries NAME M --from POS`: the same, and the lines of the entries from that position on are written
+pub record EntriesOutcome {T : Type 0} (names : FileNames) (member from : ℕ) (folder : FolderUse) (out : SinkUse) (answer : Result T Fault) : Type 0 where
+  pub content : CheckedFiles
+  pub are : AreCheckedFiles folder.files_before names member content
+  pub reads : OnlyReads names (files.Genesis ∷ files.Key member ∷ files.Ring member ∷ files.History member ∷ []) folder
+  pub writes : WritesLine IsJust folder out (lines_in member from content) answer
 
 -- ---- compare
 

@@ -4,7 +4,7 @@ ghost use Rattle.sporc_entry.specs.Genesis.{IsGenesis};
 ghost use Rattle.sporc_epoch.specs.Keys.{pairs_in};
 ghost use Rattle.sporc_store.specs.SavedFile.{read_to};
 ghost use Rattle.sporc_histories.specs.Contents.{AnswersUnlessOutside};
-ghost use Rattle.sporc_histories.specs.Checking.{accepted_in, examined, hints_in, keys_in, len_of_whole};
+ghost use Rattle.sporc_histories.specs.Checking.{accepted_in, checked_line, examined, hints_in, keys_in, line_of_whole};
 
 use crate::entries::{stopped, whole_entries};
 use sporc_entry::Genesis;
@@ -18,7 +18,7 @@ use std::alloc::Global;
 use std::sync::Wait;
 use std::thread::Threads;
 
-// How many entries a saved history has, if a member with this ring opens it and accepts all of it.
+// A saved history, if a member with this ring opens it and accepts all of it.
 pub(crate) fn examine<R: Threads + Wait + Sync, G: Gate + Sync>(
     rt: &R,
     alloc: Global,
@@ -27,9 +27,9 @@ pub(crate) fn examine<R: Threads + Wait + Sync, G: Gate + Sync>(
     ring: &RingFile,
     history: &[u8],
     gate: &G,
-) -> Result<u32, Fault>
+) -> Result<Line, Fault>
     requires { IsGenesis genesis }
-    ensures value { AnswersUnlessOutside (λ len. len) ⊥ result (examined genesis member ring.now history.now) }
+    ensures value { AnswersUnlessOutside checked_line ⊥ result (examined genesis member ring.now history.now) }
 {
     let pairs = ring.pairs(alloc)?;
     let keys = keys_of(alloc, member, ring, &pairs, &genesis.document, history)?;
@@ -73,7 +73,7 @@ fn hints_of(
     }
 }
 
-// How many entries a saved history has, if a member with these keys opens it and accepts all of it.
+// A saved history, if a member with these keys opens it and accepts all of it.
 fn accept<R: Threads + Wait + Sync, G: Gate + Sync>(
     rt: &R,
     alloc: Global,
@@ -83,24 +83,24 @@ fn accept<R: Threads + Wait + Sync, G: Gate + Sync>(
     pairs: Pairs,
     history: &[u8],
     gate: &G,
-) -> Result<u32, Fault>
+) -> Result<Line, Fault>
     requires { IsGenesis genesis }
-    ensures value { AnswersUnlessOutside (λ len. len) ⊥ result (accepted_in genesis member (pairs_in pairs) history.now keys.keys) }
+    ensures value { AnswersUnlessOutside checked_line ⊥ result (accepted_in genesis member (pairs_in pairs) history.now keys.keys) }
 {
     let line = match Line::open(alloc, genesis, member, keys, pairs) {
         Ok(line) => line,
         Err(fault) => return Err(Fault::from(fault)),
     };
     match load_many(rt, alloc, history, line, LOADERS, gate) {
-        Ok((line, stop)) => whole_len(member, &line, stop),
+        Ok((line, stop)) => whole_line(member, line, stop),
         Err(_) => Err(Fault::Memory),
     }
 }
 
-// How many entries a saved history has, if it was loaded to its end.
-fn whole_len(member: u16, line: &Line, stop: Stop) -> Result<u32, Fault>
-    ensures value { AnswersUnlessOutside (λ len. len) ⊥ result (len_of_whole member (read_to line.now.entries stop)) }
+// A history, if it was loaded to its end.
+fn whole_line(member: u16, line: Line, stop: Stop) -> Result<Line, Fault>
+    ensures value { AnswersUnlessOutside checked_line ⊥ result (line_of_whole member line.genesis line.kit (read_to line.entries stop)) }
 {
     stopped(File::History(member), stop)?;
-    Ok(line.len())
+    Ok(line)
 }

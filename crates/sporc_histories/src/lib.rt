@@ -1,18 +1,22 @@
 //! The commands on saved histories, over a folder, a sink and a net.
 //!
 //! - [`check`]: examines a member's saved history with its own keys, entry by entry.
+//! - [`text`]: the committed text of a member's saved history, examined so, after all entries or the first of them.
+//! - [`list_entries`]: a line for each of its entries.
 //! - [`compare`]: how the saved history of one member stands to that of another.
 //! - [`serve`]: serves sessions from the log of a document, and saves the log.
 //!
 //! ```text
 //! check(rt, alloc, files, out, &names, 2, &OpenGate)    // `checked 3`, or Fault::Refused(2, Refusal::BadSignature)
+//! text(rt, alloc, files, out, &names, 2, Some(1), &OpenGate)      // `Buy bread.`, or Fault::Ahead(0)
+//! list_entries(rt, alloc, files, out, &names, 2, 1, &OpenGate)    // `1 1 1 0 edit i"Buy bread."`
 //! compare(alloc, files, out, &names, 1, 2)         // `1 2 forked after 3`
 //! serve(rt, alloc, files, net, out, &names, "localhost:4000", 8, &OpenGate)    // `log 12`
 //! ```
 //!
 //! Proved: for each command one relation, in `specs/Outcomes.antt`, between its words, the folder, the sink and the net
-//! as it found and left them, and its answer: what the files say is a function of their bytes (`Checking`, `Comparing`,
-//! `Serving`), whose first fault is answered, unless memory runs out or something outside fails. Only tested: the lines
+//! as it found and left them, and its answer: what the files say is a function of their bytes (`Checking`, `Telling`,
+//! `Comparing`, `Serving`), whose first fault is answered, unless memory runs out or something outside fails. Only tested: the lines
 //! of histories with real signatures, and that calls succeed with ample memory (`sporc_files_tests`). Neither: that a
 //! real folder keeps what is written, and that a client gets an answer.
 #![tactic(auto)]
@@ -22,9 +26,14 @@ mod checking;
 mod comparing;
 mod entries;
 mod examining;
+mod listing;
 mod log;
+mod reading;
 mod serving;
+mod texts;
 
 pub use checking::check;
 pub use comparing::compare;
+pub use listing::list_entries;
 pub use serving::serve;
+pub use texts::text;

@@ -1,3 +1,4 @@
+pub mod Committed
 mod Examples
 pub mod Parts
 pub mod Rosters

@@ -1,3 +1,4 @@
 pub mod ClientLines
 pub mod JournalLines
 pub mod Names
+pub mod EntryLines

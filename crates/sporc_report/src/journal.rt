@@ -74,7 +74,7 @@ fn push_accepted(out: &mut String, by: u32, place: u32) -> Result<(), Memory>
     write!(out, "accept {by} {place}")
 }
 
-fn push_change(alloc: Global, out: &mut String, change: &Change) -> Result<(), Memory>
+pub(crate) fn push_change(alloc: Global, out: &mut String, change: &Change) -> Result<(), Memory>
     ensures { OnOk result (string_bytes out.new ≡ string_bytes out.old ++ change_text change.now) }
 {
     match change {
@@ -97,7 +97,7 @@ fn push_role(out: &mut String, word: &str, member: u16, role: Role) -> Result<()
 }
 
 // The parts of a delta, with a space between them, or `-` if there is none.
-fn push_delta(out: &mut String, delta: &Delta) -> Result<(), Memory>
+pub(crate) fn push_delta(out: &mut String, delta: &Delta) -> Result<(), Memory>
     ensures { OnOk result (string_bytes out.new ≡ string_bytes out.old ++ delta_text delta.now) }
 {
     let parts = delta.parts();

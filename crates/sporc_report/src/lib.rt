@@ -1,5 +1,5 @@
 //! The lines that tell of a client: its journal, what it shows, its members, the last value of its chain, how its history
-//! stands to another's; and the names of faults. What is named `push_` appends to a text. If it runs out of memory, the text
+//! stands to another's; those of a history's entries; and the names of faults. What is named `push_` appends to a text. If it runs out of memory, the text
 //! is to be let go: nothing is said of what it then holds, since `write!` says nothing of it.
 //!
 //! ```text
@@ -7,18 +7,22 @@
 //! push_show(&mut out, &client)?;                      // 1 at 1 pending 0 text "abc"
 //! push_members(&mut out, &client)?;                   // 1 members 1=admin 2=editor
 //! push_verdict(&mut out, 1, 2, Verdict::Prefix)?;     // 1 2 prefix
+//! push_entries(alloc, &mut out, &line, 1)?;           // 1 1 1 0 edit i"abc"
 //! ```
 //!
 //! Proved: a call that succeeds appends the line or the name of the definitions in `specs/`, and names no `Memory` of the
-//! faults that it takes. Only tested: that the calls succeed with ample memory (`sporc_commands_tests`). Neither: what a
+//! faults that it takes; that the text of a history can be followed by the lines of its entries ([`laws`]). Only tested: that the calls succeed with ample memory (`sporc_commands_tests`). Neither: what a
 //! text holds after out of memory.
 #![tactic(auto)]
 
+mod entries;
 mod journal;
+pub mod laws;
 mod names;
 mod quoted;
 mod showing;
 
+pub use crate::entries::push_entries;
 pub use crate::journal::push_journal;
 pub use crate::names::{
     edit_fault_name, open_fault_name, push_accept_fault, push_edit_fault, push_hint_fault,

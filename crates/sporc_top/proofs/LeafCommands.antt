@@ -136,6 +136,7 @@ module _ (document : List ℕ) (member : ℕ) where
   keys_by_fault words key before after low high same told faults.Worn never = absurd never
   keys_by_fault words key before after low high same told (faults.Message at) never = absurd never
   keys_by_fault words key before after low high same told (faults.Edit e l f) never = absurd never
+  keys_by_fault words key before after low high same told (faults.Ahead l) never = absurd never
 
   same_member : (words : Keygen) (chance : ChanceUse) (key : NewKey) → Makes words chance key → key.file.member ≡ words.member
   same_member words chance key (first, second, draws, is) = ap (λ (k : NewKey). k.file.member) is
@@ -178,6 +179,7 @@ module _ (document : List ℕ) (member : ℕ) where
   stores_kept new before after low high told first prefix faults.Worn never = absurd never
   stores_kept new before after low high told first prefix (faults.Message at) never = absurd never
   stores_kept new before after low high told first prefix (faults.Edit e l f) never = absurd never
+  stores_kept new before after low high told first prefix (faults.Ahead l) never = absurd never
 
   founding_others : (names : FileNames) (founding : Founding) → AllByRecursion (λ f. bytes_eq f.name name ≡ false) (founding_files names founding)
   founding_others names founding = (not_genesis names document member, rings_others names document member founding.rings)
@@ -225,6 +227,7 @@ module _ (document : List ℕ) (member : ℕ) where
   log_kept names folder out order told faults.Worn never = absurd never
   log_kept names folder out order told (faults.Message at) never = absurd never
   log_kept names folder out order told (faults.Edit e l f) never = absurd never
+  log_kept names folder out order told (faults.Ahead l) never = absurd never
 
   log_keeps : (names : FileNames) (folder : FolderUse) (out : SinkUse) (order : OrderModel) (kept : Result ⊤ Fault) → IsSome folder.files_before
       → KeepsLog names folder out order kept → Keeps name folder.files_before folder.files_after
@@ -338,6 +341,11 @@ module _ (document : List ℕ) (member : ℕ) where
     command_leaves (commands.Client words) outside answer did unused told lent none = inl (client_keeps words (client_use outside) answer did.outcome told lent none)
     command_leaves (commands.Check words) outside answer did unused told lent none = inl (ap (file_at name) did.reads.unchanged)
     command_leaves (commands.Compare words) outside answer did unused told lent none = inl (ap (file_at name) did.reads.unchanged)
+    command_leaves (commands.Help page) outside answer did unused told lent none = inl (ap (file_at name) (unused refl))
+    command_leaves commands.Version outside answer did unused told lent none = inl (ap (file_at name) (unused refl))
+    command_leaves (commands.Public words) outside answer did unused told lent none = inl (ap (file_at name) did.unchanged)
+    command_leaves (commands.Text words) outside answer did unused told lent none = inl (ap (file_at name) did.reads.unchanged)
+    command_leaves (commands.Entries words) outside answer did unused told lent none = inl (ap (file_at name) did.reads.unchanged)
 
     pub command_has : (asked : Command) (outside : OutsideUse L) (answer : Result ⊤ Fault) (did : Performs links disks asked outside answer) (run : ClientRun links disks)
         → IsSome outside.folder.files_before → IsSome outside.folder.lent_before → if_over links disks name (by_command links disks asked outside answer did) ≡ Some run
@@ -350,3 +358,8 @@ module _ (document : List ℕ) (member : ℕ) where
     command_has (commands.Client words) outside answer did run told lent some = client_has words (client_use outside) answer did.outcome run told lent some
     command_has (commands.Check words) outside answer did run told lent some = absurd cc
     command_has (commands.Compare words) outside answer did run told lent some = absurd cc
+    command_has (commands.Help page) outside answer did run told lent some = absurd cc
+    command_has commands.Version outside answer did run told lent some = absurd cc
+    command_has (commands.Public words) outside answer did run told lent some = absurd cc
+    command_has (commands.Text words) outside answer did run told lent some = absurd cc
+    command_has (commands.Entries words) outside answer did run told lent some = absurd cc

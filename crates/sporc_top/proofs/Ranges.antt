@@ -1,5 +1,5 @@
 -- The values of a command are in their ranges.
-use Rattle.std.proofs.Common.{◌≡◌, ◌≤◌, ◌==◌, ℕ, Bool, true, false, nat_le, nat_lt, ◌^◌, List, [], ◌∷◌, length, Option, Some, None, find, option_map, ap, subst, inl, inr, if◌then◌else◌, codes, slice_get}
+use Rattle.std.proofs.Common.{◌≡◌, ◌≤◌, ◌==◌, ℕ, Bool, true, false, nat_le, nat_lt, ◌^◌, List, [], ◌∷◌, length, Option, Some, None, find, option_map, refl, sym, ap, ◌∙◌, subst, inl, inr, if◌then◌else◌, codes, slice_get}
 use Rattle.std.specs.List.{AllByRecursion, after_first, before_first}
 use Rattle.std.proofs.lemmas.Bool.{and_parts, leb-true, ltb-true}
 use Rattle.std.proofs.lemmas.Option.{cond_some, same_Some}
@@ -28,8 +28,11 @@ use Rattle.sporc_words.specs.declared.standing.Participant.{Participant}
 use Rattle.sporc_words.specs.declared.keygen.Keygen.{Keygen}
 use Rattle.sporc_words.specs.declared.serve.Serve.{Serve}
 use Rattle.sporc_words.specs.declared.defaults.TheConstants.{DEFAULT_ROUNDS, DEFAULT_UNTIL}
-use Rattle.sporc_words.specs.Arguments.{client_app, found_app, keygen_app, play_app, serve_app, taken, check_app, compare_app}
-use Rattle.sporc_words.specs.Commands.{client_in, command_by, command_of, found_in, keygen_in, play_by, play_in, scripts_of, serve_in, verb_of, check_in, compare_in}
+use Rattle.sporc_words.specs.Arguments.{check_app, client_app, compare_app, entries_app, found_app, keygen_app, play_app, public_app, serve_app, taken, text_app}
+use Rattle.sporc_words.specs.Commands.{check_in, client_in, command_by, command_of, compare_in, entries_in, found_in, found_or, keygen_in, play_by, play_in, public_in, scripts_of, serve_in, text_in, work_in}
+use Rattle.sporc_words.specs.Help.{help_in}
+use Rattle.sporc_words.specs.Verbs.{verb_of}
+use Rattle.sporc_words.proofs.HelpLines.{told_by_help}
 use Rattle.sporc_words.specs.Values.{all_participants, is_between, is_colon, may_found, number_between, participant_by, participant_of, participants_of, standing_of, tree_of, value_of, value_or, values_of, width_named}
 use Rattle.sporc_founding.specs.Founding.{MayFound}
 use Rattle.sporc_top.specs.Ranges.{IsInRange}
@@ -190,10 +193,28 @@ verb_ranges verbs.Serve words c is = read_ranges serve_in commands.Serve serve_r
 verb_ranges verbs.Client words c is = read_ranges client_in commands.Client client_ranges (taken client_app words) c (unfold command_by in is)
 verb_ranges verbs.Check words c is = read_ranges check_in commands.Check (λ rows asked read. tt) (taken check_app words) c (unfold command_by in is)
 verb_ranges verbs.Compare words c is = read_ranges compare_in commands.Compare (λ rows asked read. tt) (taken compare_app words) c (unfold command_by in is)
+verb_ranges verbs.Public words c is = read_ranges public_in commands.Public (λ rows asked read. tt) (taken public_app words) c (unfold command_by in is)
+verb_ranges verbs.Text words c is = read_ranges text_in commands.Text (λ rows asked read. tt) (taken text_app words) c (unfold command_by in is)
+verb_ranges verbs.Entries words c is = read_ranges entries_in commands.Entries (λ rows asked read. tt) (taken entries_app words) c (unfold command_by in is)
+
+-- the command that the first word names
+work_ranges : (words : List Text) (c : Command) → work_in words ≡ Some c → IsInRange c
+work_ranges words c is =
+    let first = then_some (slice_get words 0) (λ first. then_read (verb_of first) (λ verb. command_by verb words)) c (unfold work_in in is) in
+    let verb = then_some (verb_of first.0) (λ verb. command_by verb words) c first.2 in
+    verb_ranges verb.0 words c verb.2
+
+-- a page, or the version
+help_ranges : (words : List Text) (c : Command) → help_in words ≡ Some c → IsInRange c
+help_ranges words c is = elim (told_by_help words c is) [
+  | inl (page, same) ↦ subst IsInRange (sym same) tt
+  | inr same ↦ subst IsInRange (sym same) tt
+]
+
+either_ranges : (words : List Text) (help work : Option Command) (c : Command) → help_in words ≡ help → work_in words ≡ work → found_or help work ≡ Some c → IsInRange c
+either_ranges words None work c by_help by_work is = work_ranges words c (by_work ∙ is)
+either_ranges words (Some told) work c by_help by_work is = help_ranges words c (by_help ∙ is)
 
 -- the values of a command that words ask for are in their ranges
 pub in_range : (words : List Text) (c : Command) → command_of words ≡ Some c → IsInRange c
-in_range words c is =
-    let first = then_some (slice_get words 0) (λ first. then_read (verb_of first) (λ verb. command_by verb words)) c (unfold command_of in is) in
-    let verb = then_some (verb_of first.0) (λ verb. command_by verb words) c first.2 in
-    verb_ranges verb.0 words c verb.2
+in_range words c is = either_ranges words (help_in words) (work_in words) c refl refl (unfold command_of in is)

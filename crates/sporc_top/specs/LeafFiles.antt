@@ -55,6 +55,11 @@ module _ {L D : Type 0} (links : LinkView L) (disks : DiskView D) where
   by_command (commands.Client words) outside answer did = over_its_disk words (client_use outside) answer did.outcome
   by_command (commands.Check words) outside answer did = None
   by_command (commands.Compare words) outside answer did = None
+  by_command (commands.Help page) outside answer did = None
+  by_command commands.Version outside answer did = None
+  by_command (commands.Public words) outside answer did = None
+  by_command (commands.Text words) outside answer did = None
+  by_command (commands.Entries words) outside answer did = None
 
   abbrev pub by_end : (asked : Command) (outside : OutsideUse L) (status : ℕ)
       → Ends (λ out. Performs links disks asked (record outside { out = out })) (names_of asked) outside.out status → Option (ClientRun links disks)

@@ -22,6 +22,11 @@ needs_of (commands.Serve words) = needs false true true false
 needs_of (commands.Client words) = needs false true true true
 needs_of (commands.Check words) = needs false true false false
 needs_of (commands.Compare words) = needs false true false false
+needs_of (commands.Help page) = needs false false false false
+needs_of commands.Version = needs false false false false
+needs_of (commands.Public words) = needs false true false false
+needs_of (commands.Text words) = needs false true false false
+needs_of (commands.Entries words) = needs false true false false
 
 -- words that ask for no command need nothing
 abbrev pub needs_by : Option Command → Needs

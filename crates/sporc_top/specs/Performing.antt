@@ -7,6 +7,7 @@ use Rattle.sporc_words.specs.declared.command.Command.{Command}
 use Rattle.sporc_words.specs.declared.command.Command.TheVariants as commands
 use Rattle.sporc_words.specs.declared.found.Found.{Found}
 use Rattle.sporc_words.specs.declared.keygen.Keygen.{Keygen}
+use Rattle.sporc_words.specs.declared.public.Public.{Public}
 use Rattle.sporc_words.specs.declared.serve.Serve.{Serve}
 use Rattle.sporc_serve.specs.Crowds.{Net, net_of}
 use Rattle.sporc_play.specs.declared.fault.PlayFault.{PlayFault}
@@ -19,7 +20,10 @@ use Rattle.sporc_files.specs.Names.{FileNames, file_name, names_of_document}
 use Rattle.sporc_files.specs.Uses.{AsksOnly, ChanceUse, FolderUse}
 use Rattle.sporc_founding.specs.Founding.{FoundOutcome, found_files}
 use Rattle.sporc_founding.specs.KeyMaking.{KeygenOutcome}
-use Rattle.sporc_histories.specs.Outcomes.{CheckOutcome, CompareOutcome, ServeOutcome}
+use Rattle.sporc_founding.specs.KeyShowing.{PublicOutcome}
+use Rattle.sporc_help.specs.Pages.{page_text, version_text}
+use Rattle.sporc_help.specs.Telling.{TellsText}
+use Rattle.sporc_histories.specs.Outcomes.{CheckOutcome, CompareOutcome, EntriesOutcome, ServeOutcome, TextOutcome}
 use Rattle.sporc_sessions.specs.Nets.{AsksAtMost, LinkView}
 use Rattle.sporc_clients.specs.Outcome.{ClientOutcome, ClientUse, DiskView, NetUse, client_files, names_of as names_of_client}
 use Rattle.sporc_top.specs.Uses.{OutsideUse, client_use}
@@ -40,6 +44,11 @@ names_of (commands.Serve words) = names_of_document words.name
 names_of (commands.Client words) = names_of_client words
 names_of (commands.Check words) = names_of_document words.name
 names_of (commands.Compare words) = names_of_document words.name
+names_of (commands.Help page) = no_files
+names_of commands.Version = no_files
+names_of (commands.Public words) = names_of_document words.name
+names_of (commands.Text words) = names_of_document words.name
+names_of (commands.Entries words) = names_of_document words.name
 
 -- of all files, the names of these alone were asked for
 abbrev pub AsksFor : FileNames → List File → FolderUse → Type 0
@@ -75,6 +84,12 @@ pub record PlaysEdits (edits : ℕ) (out : SinkUse) (answer : Result ⊤ Fault) 
 pub record MakesKey (words : Keygen) (folder : FolderUse) (chance : ChanceUse) (out : SinkUse) (answer : Result ⊤ Fault) : Type 0 where
   pub outcome : KeygenOutcome words folder chance out answer
   pub may_ask : AsksFor (names_of_document words.name) (files.Key words.member ∷ files.Leaf words.member ∷ []) folder
+
+-- the public key of a key that is there was printed, of one file alone, and none was changed
+pub record ShowsKey (words : Public) (folder : FolderUse) (out : SinkUse) (answer : Result ⊤ Fault) : Type 0 where
+  pub outcome : PublicOutcome words folder out answer
+  pub unchanged : folder.files_after ≡ folder.files_before
+  pub may_ask : AsksFor (names_of_document words.name) (files.Key words.member ∷ []) folder
 
 -- a document was founded, of the files alone that its words name, and nothing was written of that
 pub record FoundsDocument (words : Found) (folder : FolderUse) (chance : ChanceUse) (out : SinkUse) (answer : Result ⊤ Fault) : Type 0 where
@@ -121,3 +136,8 @@ module _ {L D : Type 0} (links : LinkView L) (disks : DiskView D) where
   Performs (commands.Client words) outside answer = WorksAsMember links disks words (client_use outside) answer
   Performs (commands.Check words) outside answer = CheckOutcome (names_of_document words.name) words.member outside.folder outside.out answer
   Performs (commands.Compare words) outside answer = CompareOutcome (names_of_document words.name) words.first words.second outside.folder outside.out answer
+  Performs (commands.Help page) outside answer = TellsText (page_text page) outside.out answer
+  Performs commands.Version outside answer = TellsText version_text outside.out answer
+  Performs (commands.Public words) outside answer = ShowsKey words outside.folder outside.out answer
+  Performs (commands.Text words) outside answer = TextOutcome (names_of_document words.name) words.member words.at outside.folder outside.out answer
+  Performs (commands.Entries words) outside answer = EntriesOutcome (names_of_document words.name) words.member words.from outside.folder outside.out answer

@@ -8,7 +8,7 @@ ghost use Rattle.sporc_serve.specs.declared.limits.TheConstants.{MAX_SESSIONS};
 ghost use Rattle.sporc_play.specs.declared.playing.TheConstants.{MAX_SCRIPT};
 ghost use Rattle.sporc_files.specs.Names.{names_of_document};
 ghost use Rattle.sporc_files.specs.Uses.{chance_use, folder_use};
-ghost use Rattle.sporc_histories.specs.Outcomes.{CheckOutcome, CompareOutcome};
+ghost use Rattle.sporc_histories.specs.Outcomes.{CheckOutcome, CompareOutcome, EntriesOutcome, TextOutcome};
 ghost use Rattle.sporc_sessions.specs.Nets.{link_view};
 ghost use Rattle.sporc_clients.specs.Outcome.{disk_view, net_use};
 ghost use Rattle.sporc_top.specs.Needs.{needs_of};
@@ -17,11 +17,12 @@ ghost use Rattle.sporc_top.specs.Ranges.{IsInRange};
 
 use sporc_clients::client;
 use sporc_files::{Fault, Names};
-use sporc_founding::{found, keygen};
-use sporc_histories::{check, compare, serve};
+use sporc_founding::{found, keygen, public};
+use sporc_help::{help, version};
+use sporc_histories::{check, compare, list_entries, serve, text};
 use sporc_outside::{Chance, Dial, Folder, Gate, Listen, Sink, Source};
 use sporc_play::{play, play_generated};
-use sporc_words::{Check, Command, Compare, Serve};
+use sporc_words::{Check, Command, Compare, EntriesFrom, Serve, TextAt};
 use std::alloc::Global;
 use std::sync::Wait;
 use std::thread::Threads;
@@ -38,6 +39,10 @@ pub(crate) fn names_of(command: &Command) -> Names<'_>
         Command::Client(words) => Names::new(words.name.as_str(), words.scripts.as_slice()),
         Command::Check(words) => Names::of_document(words.name.as_str()),
         Command::Compare(words) => Names::of_document(words.name.as_str()),
+        Command::Help(_) | Command::Version => Names::of_document(""),
+        Command::Public(words) => Names::of_document(words.name.as_str()),
+        Command::Text(words) => Names::of_document(words.name.as_str()),
+        Command::Entries(words) => Names::of_document(words.name.as_str()),
     }
 }
 
@@ -131,6 +136,57 @@ fn compare_histories<O: Sink, F: Folder>(
     compare(alloc, files, out, &names, words.first, words.second)
 }
 
+// Tells the committed text of a member's history.
+fn tell_text<R: Threads + Wait + Sync, O: Sink, F: Folder, G: Gate + Sync>(
+    rt: &R,
+    alloc: Global,
+    words: &TextAt,
+    out: &mut O,
+    files: &mut F,
+    gate: &G,
+) -> Result<(), Fault>
+    ensures outcome { TextOutcome (names_of_document words.now.name) words.now.member words.now.at
+        (folder_use F.files F.asked F.lent F.faults files.old files.new)
+        (sink_use O.written O.faults out.old out.new)
+        result }
+    ensures lent { F.lent files.new ≡ F.lent files.old }
+    ensures files_kept { F.faults files.old ≤ F.faults files.new }
+    ensures out_kept { O.faults out.old ≤ O.faults out.new }
+{
+    let names = Names::of_document(words.name.as_str());
+    text(rt, alloc, files, out, &names, words.member, words.at, gate)
+}
+
+// Lists the entries of a member's history.
+fn list_history<R: Threads + Wait + Sync, O: Sink, F: Folder, G: Gate + Sync>(
+    rt: &R,
+    alloc: Global,
+    words: &EntriesFrom,
+    out: &mut O,
+    files: &mut F,
+    gate: &G,
+) -> Result<(), Fault>
+    ensures outcome { EntriesOutcome (names_of_document words.now.name) words.now.member words.now.from
+        (folder_use F.files F.asked F.lent F.faults files.old files.new)
+        (sink_use O.written O.faults out.old out.new)
+        result }
+    ensures lent { F.lent files.new ≡ F.lent files.old }
+    ensures files_kept { F.faults files.old ≤ F.faults files.new }
+    ensures out_kept { O.faults out.old ≤ O.faults out.new }
+{
+    let names = Names::of_document(words.name.as_str());
+    list_entries(
+        rt,
+        alloc,
+        files,
+        out,
+        &names,
+        words.member,
+        words.from,
+        gate,
+    )
+}
+
 // Does what a command asks for, and tells no fault.
 pub(crate) fn perform<
     R: Threads + Wait + Sync,
@@ -187,5 +243,10 @@ where
         Command::Client(words) => client(rt, alloc, words, out, files, net, chance, gate),
         Command::Check(words) => check_history(rt, alloc, words, out, files, gate),
         Command::Compare(words) => compare_histories(alloc, words, out, files),
+        Command::Help(page) => help(out, *page),
+        Command::Version => version(out),
+        Command::Public(words) => public(rt, alloc, files, out, words),
+        Command::Text(words) => tell_text(rt, alloc, words, out, files, gate),
+        Command::Entries(words) => list_history(rt, alloc, words, out, files, gate),
     }
 }

@@ -30,7 +30,10 @@ use std::thread::Threads;
 /// | `keygen`, `found` | `files` and `chance` |
 /// | `serve` | `files`, `net` and `gate` |
 /// | `client` | `files`, `net`, `chance` and `gate` |
-/// | `check`, `compare` | `files` |
+/// | `check`, `text`, `entries` | `files` and `gate` |
+/// | `compare` | `files` |
+/// | `help`, `version` | nothing |
+/// | `public` | `files` |
 ///
 /// A fault's line is written as far as `out` takes it, and nothing goes anywhere else.
 ///
@@ -39,7 +42,7 @@ use std::thread::Threads;
 /// | 0 | none: the command did all its work |
 /// | 1 | memory ran out |
 /// | 2 | the words ask for nothing |
-/// | 3 | a file is missing, there already, too long or malformed, or a script has a line that is not valid, or is too long |
+/// | 3 | a file is missing, there already, too long or malformed, a script has a line that is not valid, or is too long, or a history has fewer entries than the words ask for |
 /// | 4 | an entry was refused by a check or rejected by the server, or a member's keys do not open the document |
 /// | 5 | the rounds of a session are over, and edits wait or the history is shorter than was asked for |
 /// | 6 | something outside failed, or the link ended before an answer |

@@ -3,7 +3,9 @@ use Rattle.std.proofs.Common.{◌≡◌, [], ◌∷◌, None, Some, codes, refl}
 use Rattle.lms_ots.specs.declared.ots_type.OtsType.TheVariants.{W4}
 use Rattle.lms_tree.specs.declared.lms_type.LmsType.TheVariants.{H10}
 use Rattle.sporc_member.specs.declared.role.Role.TheVariants.{Admin, Editor}
-use Rattle.sporc_words.specs.declared.command.Command.TheVariants.{Check, Client, Compare, Found, Generate, Keygen, Play, Serve}
+use Rattle.sporc_words.specs.declared.command.Command.TheVariants.{Check, Client, Compare, Entries, Found, Generate, Help, Keygen, Play, Public, Serve, Text, Version}
+use Rattle.sporc_words.specs.declared.command.Verb.TheVariants as verbs
+use Rattle.sporc_words.specs.declared.page.Page.TheVariants as pages
 use Rattle.sporc_words.specs.declared.standing.Standing.TheVariants.{Founder, Joiner}
 use Rattle.sporc_words.specs.Commands.{command_of}
 use Rattle.sporc_words.proofs.Literals.{words_on_literals}
@@ -84,10 +86,90 @@ no_command : command_of (codes "paly" ∷ []) ≡ None
 unfolding words_on_literals
 no_command = refl
 
-help : command_of (codes "check" ∷ codes "--help" ∷ []) ≡ None
+-- `public plan 7`
+a_public_key : command_of (codes "public" ∷ codes "plan" ∷ codes "7" ∷ []) ≡ Some (Public (record { name = codes "plan"; member = 7 }))
 unfolding words_on_literals
-help = refl
+a_public_key = refl
+
+-- `help`, `--help`, `-h`
+overview : command_of (codes "help" ∷ []) ≡ Some (Help pages.Overview)
+unfolding words_on_literals
+overview = refl
+
+overview_by_option : command_of (codes "--help" ∷ []) ≡ Some (Help pages.Overview)
+unfolding words_on_literals
+overview_by_option = refl
+
+overview_by_letter : command_of (codes "-h" ∷ []) ≡ Some (Help pages.Overview)
+unfolding words_on_literals
+overview_by_letter = refl
+
+-- `help check`, `check --help`
+a_page : command_of (codes "help" ∷ codes "check" ∷ []) ≡ Some (Help (pages.Of verbs.Check))
+unfolding words_on_literals
+a_page = refl
+
+a_page_by_option : command_of (codes "check" ∷ codes "--help" ∷ []) ≡ Some (Help (pages.Of verbs.Check))
+unfolding words_on_literals
+a_page_by_option = refl
+
+help_of_help : command_of (codes "help" ∷ codes "--help" ∷ []) ≡ Some (Help pages.Help)
+unfolding words_on_literals
+help_of_help = refl
+
+-- `version`, `--version`
+version : command_of (codes "version" ∷ []) ≡ Some Version
+unfolding words_on_literals
+version = refl
+
+version_by_option : command_of (codes "--version" ∷ []) ≡ Some Version
+unfolding words_on_literals
+version_by_option = refl
+
+-- words more than these are no command
+no_page : command_of (codes "help" ∷ codes "nothing" ∷ []) ≡ None
+unfolding words_on_literals
+no_page = refl
+
+a_word_too_many : command_of (codes "help" ∷ codes "play" ∷ codes "more" ∷ []) ≡ None
+unfolding words_on_literals
+a_word_too_many = refl
+
+a_word_behind_it : command_of (codes "play" ∷ codes "--help" ∷ codes "more" ∷ []) ≡ None
+unfolding words_on_literals
+a_word_behind_it = refl
+
+-- what stands for a name is one
+named_help : command_of (codes "check" ∷ codes "help" ∷ codes "7" ∷ []) ≡ Some (Check (record { name = codes "help"; member = 7 }))
+unfolding words_on_literals
+named_help = refl
 
 no_words : command_of [] ≡ None
 unfolding words_on_literals
 no_words = refl
+
+-- `text plan 7`
+a_text : command_of (codes "text" ∷ codes "plan" ∷ codes "7" ∷ []) ≡ Some (Text (record { name = codes "plan"; member = 7; at = None }))
+unfolding words_on_literals
+a_text = refl
+
+-- `text plan 7 --at 0`
+no_text : command_of (codes "text" ∷ codes "plan" ∷ codes "7" ∷ codes "--at" ∷ codes "0" ∷ [])
+    ≡ Some (Text (record { name = codes "plan"; member = 7; at = Some 0 }))
+unfolding words_on_literals
+no_text = refl
+
+at_no_number : command_of (codes "text" ∷ codes "plan" ∷ codes "7" ∷ codes "--at" ∷ codes "07" ∷ []) ≡ None
+unfolding words_on_literals
+at_no_number = refl
+
+-- `entries plan 7`
+all_entries : command_of (codes "entries" ∷ codes "plan" ∷ codes "7" ∷ []) ≡ Some (Entries (record { name = codes "plan"; member = 7; from = 1 }))
+unfolding words_on_literals
+all_entries = refl
+
+-- `entries plan 7 --from=18`
+some_entries : command_of (codes "entries" ∷ codes "plan" ∷ codes "7" ∷ codes "--from=18" ∷ [])
+    ≡ Some (Entries (record { name = codes "plan"; member = 7; from = 18 }))
+unfolding words_on_literals
+some_entries = refl

@@ -2,6 +2,7 @@ pub mod Added
 pub mod ByVerb
 pub mod Chained
 pub mod Examples
+pub mod HelpLines
 pub mod Literals
 pub mod NamedLemmas
 pub mod Simple

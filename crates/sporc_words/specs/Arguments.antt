@@ -86,6 +86,18 @@ check_app = with_all (named (codes "check")) (positional (codes "NAME") ∷ posi
 unfoldable pub compare_app : App
 compare_app = with_all (named (codes "compare")) (positional (codes "NAME") ∷ positional (codes "M") ∷ positional (codes "N") ∷ [])
 
+-- `public NAME M`
+unfoldable pub public_app : App
+public_app = with_all (named (codes "public")) (positional (codes "NAME") ∷ positional (codes "M") ∷ [])
+
+-- `text NAME M --at POS`
+unfoldable pub text_app : App
+text_app = with_all (named (codes "text")) (positional (codes "NAME") ∷ positional (codes "M") ∷ optional (codes "at") ∷ [])
+
+-- `entries NAME M --from POS`
+unfoldable pub entries_app : App
+entries_app = with_all (named (codes "entries")) (positional (codes "NAME") ∷ positional (codes "M") ∷ optional (codes "from") ∷ [])
+
 -- ---- words
 
 -- clap's definition of such a command takes the words, or finds no fault in them

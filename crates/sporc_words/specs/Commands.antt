@@ -1,9 +1,9 @@
 -- What a command line asks for.
-use Rattle.std.specs.Prelude.{nat_le, List, [], ◌∷◌, length, codes, Option, None, Some, option_map, slice_get, if◌then◌else◌}
+use Rattle.std.specs.Prelude.{nat_le, List, length, codes, Option, None, Some, option_map, slice_get, if◌then◌else◌}
 use Rattle.clap.specs.Simple.{App}
 use Rattle.clap.specs.Walk.{Row, Text, first_of}
 use Rattle.sporc_script.specs.declared.limits.TheConstants.{MAX_EDITORS, MAX_GENERATED}
-use Rattle.sporc_script.specs.Readers.{member_of, named_of, then_read, u32_of}
+use Rattle.sporc_script.specs.Readers.{member_of, then_read, u32_of}
 use Rattle.sporc_serve.specs.declared.limits.TheConstants.{MAX_SESSIONS}
 use Rattle.sporc_words.specs.declared.check.Check.{Check}
 use Rattle.sporc_words.specs.declared.client.Client.{Client}
@@ -12,12 +12,17 @@ use Rattle.sporc_words.specs.declared.command.Command.TheVariants as commands
 use Rattle.sporc_words.specs.declared.command.Verb.{Verb}
 use Rattle.sporc_words.specs.declared.command.Verb.TheVariants as verbs
 use Rattle.sporc_words.specs.declared.compare.Compare.{Compare}
-use Rattle.sporc_words.specs.declared.defaults.TheConstants.{DEFAULT_ROUNDS, DEFAULT_UNTIL}
+use Rattle.sporc_words.specs.declared.defaults.TheConstants.{DEFAULT_FROM, DEFAULT_ROUNDS, DEFAULT_UNTIL}
+use Rattle.sporc_words.specs.declared.entries.EntriesFrom.{EntriesFrom}
 use Rattle.sporc_words.specs.declared.found.Found.{Found}
 use Rattle.sporc_words.specs.declared.keygen.Keygen.{Keygen}
+use Rattle.sporc_words.specs.declared.public.Public.{Public}
 use Rattle.sporc_words.specs.declared.serve.Serve.{Serve}
-use Rattle.sporc_words.specs.Arguments.{check_app, client_app, compare_app, found_app, keygen_app, play_app, serve_app, taken}
-use Rattle.sporc_words.specs.Values.{number_between, participants_of, tree_of, value_of, value_or, values_of, width_named}
+use Rattle.sporc_words.specs.Arguments.{check_app, client_app, compare_app, entries_app, found_app, keygen_app, play_app, public_app, serve_app, taken, text_app}
+use Rattle.sporc_words.specs.Help.{help_in}
+use Rattle.sporc_words.specs.Values.{number_between, number_if, participants_of, tree_of, value_of, value_or, values_of, width_named}
+use Rattle.sporc_words.specs.Verbs.{verb_of}
+use Rattle.sporc_words.specs.declared.text.TextAt.{TextAt}
 
 -- ---- each command, by the values of its arguments
 
@@ -62,26 +67,28 @@ check_in rows =
     then_read (first_of (codes "NAME") rows) (λ name. then_read (value_of (codes "M") member_of rows) (λ member.
     Some (record { name = name; member = member })))
 
+abbrev pub public_in : List Row → Option Public
+public_in rows =
+    then_read (first_of (codes "NAME") rows) (λ name. then_read (value_of (codes "M") member_of rows) (λ member.
+    Some (record { name = name; member = member })))
+
 abbrev pub compare_in : List Row → Option Compare
 compare_in rows =
     then_read (first_of (codes "NAME") rows) (λ name. then_read (value_of (codes "M") member_of rows) (λ first.
     then_read (value_of (codes "N") member_of rows) (λ second.
     Some (record { name = name; first = first; second = second }))))
 
+abbrev pub text_in : List Row → Option TextAt
+text_in rows =
+    then_read (first_of (codes "NAME") rows) (λ name. then_read (value_of (codes "M") member_of rows) (λ member.
+    then_read (number_if (codes "at") rows) (λ at. Some (record { name = name; member = member; at = at }))))
+
+abbrev pub entries_in : List Row → Option EntriesFrom
+entries_in rows =
+    then_read (first_of (codes "NAME") rows) (λ name. then_read (value_of (codes "M") member_of rows) (λ member.
+    then_read (value_or (codes "from") DEFAULT_FROM u32_of rows) (λ from. Some (record { name = name; member = member; from = from }))))
+
 -- ---- the first word
-
-abbrev pub verb_name : Verb → Text
-verb_name verbs.Play = codes "play"
-verb_name verbs.Keygen = codes "keygen"
-verb_name verbs.Found = codes "found"
-verb_name verbs.Serve = codes "serve"
-verb_name verbs.Client = codes "client"
-verb_name verbs.Check = codes "check"
-verb_name verbs.Compare = codes "compare"
-
-unfoldable pub verb_of : Text → Option Verb
-verb_of word =
-    named_of verb_name (verbs.Play ∷ verbs.Keygen ∷ verbs.Found ∷ verbs.Serve ∷ verbs.Client ∷ verbs.Check ∷ verbs.Compare ∷ []) word
 
 -- the arguments of its command
 abbrev pub app_for : Verb → App
@@ -92,6 +99,9 @@ app_for verbs.Serve = serve_app
 app_for verbs.Client = client_app
 app_for verbs.Check = check_app
 app_for verbs.Compare = compare_app
+app_for verbs.Public = public_app
+app_for verbs.Text = text_app
+app_for verbs.Entries = entries_app
 
 -- its command, by the values of the arguments
 abbrev pub command_in : Verb → List Row → Option Command
@@ -102,6 +112,9 @@ command_in verbs.Serve rows = option_map commands.Serve (serve_in rows)
 command_in verbs.Client rows = option_map commands.Client (client_in rows)
 command_in verbs.Check rows = option_map commands.Check (check_in rows)
 command_in verbs.Compare rows = option_map commands.Compare (compare_in rows)
+command_in verbs.Public rows = option_map commands.Public (public_in rows)
+command_in verbs.Text rows = option_map commands.Text (text_in rows)
+command_in verbs.Entries rows = option_map commands.Entries (entries_in rows)
 
 -- ---- all words
 
@@ -114,7 +127,19 @@ command_by verbs.Serve words = option_map commands.Serve (then_read (taken serve
 command_by verbs.Client words = option_map commands.Client (then_read (taken client_app words) client_in)
 command_by verbs.Check words = option_map commands.Check (then_read (taken check_app words) check_in)
 command_by verbs.Compare words = option_map commands.Compare (then_read (taken compare_app words) compare_in)
+command_by verbs.Public words = option_map commands.Public (then_read (taken public_app words) public_in)
+command_by verbs.Text words = option_map commands.Text (then_read (taken text_app words) text_in)
+command_by verbs.Entries words = option_map commands.Entries (then_read (taken entries_app words) entries_in)
+
+-- what they ask for, by the command that the first names
+unfoldable pub work_in : List Text → Option Command
+work_in words = then_read (slice_get words 0) (λ first. then_read (verb_of first) (λ verb. command_by verb words))
+
+-- the first of two that was found
+abbrev pub found_or : Option Command → Option Command → Option Command
+found_or None other = other
+found_or (Some command) other = Some command
 
 -- what a command line asks for, if it is one
 unfoldable pub command_of : List Text → Option Command
-command_of words = then_read (slice_get words 0) (λ first. then_read (verb_of first) (λ verb. command_by verb words))
+command_of words = found_or (help_in words) (work_in words)

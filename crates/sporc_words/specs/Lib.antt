@@ -1,3 +1,5 @@
 pub mod Arguments
 pub mod Commands
+pub mod Help
 pub mod Values
+pub mod Verbs

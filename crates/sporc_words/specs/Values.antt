@@ -12,7 +12,7 @@ use Rattle.lms_tree.specs.LmsType.{height_of}
 use Rattle.sporc_member.specs.declared.limits.TheConstants.{MAX_MEMBERS}
 use Rattle.sporc_member.specs.Role.{is_admin}
 use Rattle.sporc_script.specs.Plain.{role_of}
-use Rattle.sporc_script.specs.Readers.{member_of, passing, then_read}
+use Rattle.sporc_script.specs.Readers.{member_of, passing, then_read, u32_of}
 use Rattle.sporc_script.specs.Words.{number_of}
 use Rattle.sporc_words.specs.declared.standing.Standing.{Standing}
 use Rattle.sporc_words.specs.declared.standing.Standing.TheVariants.{Founder, Joiner}
@@ -32,6 +32,10 @@ read_or default read (Some word) = read word
 -- the value of an argument that may be left out
 abbrev pub value_or : {A : Type 0} → Text → A → (Text → Option A) → List Row → Option A
 value_or id default read rows = read_or default read (first_of id rows)
+
+-- a number that is the value of an argument that may be left out
+abbrev pub number_if : Text → List Row → Option (Option ℕ)
+number_if id rows = value_or id None (λ word. option_map Some (u32_of word)) rows
 
 -- the values of an argument that may come any number of times
 abbrev pub values_of : Text → List Row → List Text

@@ -3,9 +3,13 @@
 use crate::check::Check;
 use crate::client::Client;
 use crate::compare::Compare;
+use crate::entries::EntriesFrom;
 use crate::found::Found;
 use crate::keygen::Keygen;
+use crate::page::Page;
+use crate::public::Public;
 use crate::serve::Serve;
+use crate::text::TextAt;
 
 /// What a command line asks for.
 #[derive(Drop)]
@@ -26,9 +30,19 @@ pub enum Command {
     Check(Check),
     /// `compare NAME M N` compares the histories of two members.
     Compare(Compare),
+    /// `help`, `help COMMAND` or `COMMAND --help` shows a page of the help.
+    Help(Page),
+    /// `version` tells the version.
+    Version,
+    /// `public NAME M` prints the public key of a key that is there.
+    Public(Public),
+    /// `text NAME M --at POS` writes the committed text of a member's history.
+    Text(TextAt),
+    /// `entries NAME M --from POS` lists the entries of a member's history.
+    Entries(EntriesFrom),
 }
 
-/// The first word of a command line.
+/// The first word of a command line, but for `help` and `version`.
 #[derive(Clone, Copy)]
 pub enum Verb {
     Play,
@@ -38,4 +52,7 @@ pub enum Verb {
     Client,
     Check,
     Compare,
+    Public,
+    Text,
+    Entries,
 }

@@ -1,13 +1,17 @@
 //! What a command line asks for.
 //!
 //! [`read_words`] reads the words after the program's name, by `clap` with one simple command for each first word, and then
-//! the numbers, members and roles among the values:
+//! the numbers, members and roles among the values. The lines of the last two rows are read word for word:
 //!
 //! ```text
 //! play                                               play --generate N
 //! keygen NAME M HEIGHT W                             found NAME M:ROLE ..
 //! serve NAME ADDRESS --sessions K                    client NAME M ADDRESS --rounds R --until P SCRIPT ..
 //! check NAME M                                       compare NAME M N
+//! public NAME M
+//! help, --help, -h                                   version, --version
+//! help COMMAND                                       COMMAND --help
+//! text NAME M --at POS                               entries NAME M --from POS
 //! ```
 //!
 //! Numbers are decimal, with no sign and no zero in front. ROLE is `reader`, `editor`, `admin` or `joiner`.
@@ -23,28 +27,37 @@ mod client;
 mod command;
 mod compare;
 mod defaults;
+mod entries;
 mod fault;
 mod found;
+mod help;
 mod keygen;
 pub mod laws;
 mod matches;
+mod page;
 mod participants;
 mod play;
+mod public;
 mod serve;
 mod standing;
+mod text;
 mod values;
 mod word;
 mod words;
 
 pub use check::Check;
 pub use client::Client;
-pub use command::Command;
+pub use command::{Command, Verb};
 pub use compare::Compare;
-pub use defaults::{DEFAULT_ROUNDS, DEFAULT_UNTIL};
+pub use defaults::{DEFAULT_FROM, DEFAULT_ROUNDS, DEFAULT_UNTIL};
+pub use entries::EntriesFrom;
 pub use fault::WordsFault;
 pub use found::Found;
 pub use keygen::Keygen;
+pub use page::Page;
+pub use public::Public;
 pub use serve::Serve;
 pub use standing::{Participant, Standing};
+pub use text::TextAt;
 pub use word::Word;
 pub use words::read_words;

@@ -5,7 +5,7 @@ ghost use Rattle.clap.specs.Walk.{texts};
 ghost use Rattle.clap.specs.Words.{found_of, rows_of};
 ghost use Rattle.sporc_script.specs.Readers.{member_of, u32_of};
 ghost use Rattle.sporc_words.specs.Commands.{scripts_of};
-ghost use Rattle.sporc_words.specs.Values.{number_between, tree_of, value_of, value_or, values_of, width_named};
+ghost use Rattle.sporc_words.specs.Values.{number_between, number_if, tree_of, value_of, value_or, values_of, width_named};
 
 use crate::matches::{value, values};
 use crate::word::Word;
@@ -40,6 +40,17 @@ pub fn value_or(matches: &ArgMatches<'_>, id: &str, default: u32) -> Option<u32>
         Some(word) => parse_u32(word.as_bytes()),
         None => Some(default),
     }
+}
+
+/// The number that is the value of an argument, or none where it has no value. `None` if the value is no number.
+pub fn number_if(matches: &ArgMatches<'_>, id: &str) -> Option<Option<u32>>
+    ensures value { result ≡ number_if id.now (rows_of (found_of matches.now)) }
+{
+    let Some(word) = value(matches, id) else {
+        return Some(None);
+    };
+    let number = parse_u32(word.as_bytes())?;
+    Some(Some(number))
 }
 
 /// The type of the tree whose height is the value of an argument.

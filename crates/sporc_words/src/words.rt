@@ -6,18 +6,23 @@ ghost use Rattle.sporc_script.specs.Readers.{then_read};
 ghost use Rattle.sporc_words.specs.declared.command.Verb.{Verb};
 ghost use Rattle.sporc_words.specs.declared.fault.WordsFault.{WordsFault};
 ghost use Rattle.sporc_words.specs.Arguments.{grammar_of, taken};
-ghost use Rattle.sporc_words.specs.Commands.{app_for, command_by, command_in, command_of, verb_name, verb_of};
+ghost use Rattle.sporc_words.specs.Commands.{app_for, command_by, command_in, command_of, work_in};
+ghost use Rattle.sporc_words.specs.Verbs.{verb_name, verb_of};
 
 use crate::check::{check_command, check_from};
 use crate::client::{client_command, client_from};
 use crate::command::{Command, Verb};
 use crate::compare::{compare_command, compare_from};
+use crate::entries::{entries_command, entries_from};
 use crate::fault::WordsFault;
 use crate::found::{found_command, found_from};
+use crate::help::read_help;
 use crate::keygen::{keygen_command, keygen_from};
 use crate::matches::read_matches;
 use crate::play::{play_command, play_from};
+use crate::public::{public_command, public_from};
 use crate::serve::{serve_command, serve_from};
+use crate::text::{text_command, text_from};
 use clap::ArgMatches;
 use sporc_base::Memory;
 use std::alloc::Global;
@@ -37,6 +42,17 @@ pub fn read_words(alloc: Global, words: &[String]) -> Result<Command, WordsFault
 #[tactic(auto, unfolding(crate::specs::Commands::command_of))]
 fn find_command(alloc: Global, words: &[String]) -> Result<Option<Command>, Memory>
     ensures ok { IfOk result (λ found. found ≡ command_of (map (λ w. string_bytes w) words.now)) }
+{
+    match read_help(words) {
+        Some(command) => Ok(Some(command)),
+        None => find_work(alloc, words),
+    }
+}
+
+// What they ask for, by the command that the first names.
+#[tactic(auto, unfolding(crate::specs::Commands::work_in))]
+fn find_work(alloc: Global, words: &[String]) -> Result<Option<Command>, Memory>
+    ensures ok { IfOk result (λ found. found ≡ work_in (map (λ w. string_bytes w) words.now)) }
 {
     let Some(first) = words.first() else {
         return Ok(None);
@@ -78,6 +94,9 @@ fn command_for<'a>(alloc: Global, verb: Verb) -> Result<clap::Command<'a>, Memor
         Verb::Client => client_command(alloc),
         Verb::Check => check_command(alloc),
         Verb::Compare => compare_command(alloc),
+        Verb::Public => public_command(alloc),
+        Verb::Text => text_command(alloc),
+        Verb::Entries => entries_command(alloc),
     }
 }
 
@@ -97,10 +116,14 @@ fn command_from(
         Verb::Client => Ok(client_from(alloc, matches)?.map(Command::Client)),
         Verb::Check => Ok(check_from(alloc, matches)?.map(Command::Check)),
         Verb::Compare => Ok(compare_from(alloc, matches)?.map(Command::Compare)),
+        Verb::Public => Ok(public_from(alloc, matches)?.map(Command::Public)),
+        Verb::Text => Ok(text_from(alloc, matches)?.map(Command::Text)),
+        Verb::Entries => Ok(entries_from(alloc, matches)?.map(Command::Entries)),
     }
 }
 
-fn parse_verb(word: &str) -> Option<Verb>
+// The command that a word names.
+pub(crate) fn parse_verb(word: &str) -> Option<Verb>
     ensures value { result ≡ verb_of word.now }
 {
     verb_named(word)
@@ -117,6 +140,9 @@ fn verb_named(word: &str) -> Option<Verb>
         "client" => Some(Verb::Client),
         "check" => Some(Verb::Check),
         "compare" => Some(Verb::Compare),
+        "public" => Some(Verb::Public),
+        "text" => Some(Verb::Text),
+        "entries" => Some(Verb::Entries),
         _ => None,
     }
 }

@@ -4,14 +4,15 @@ use crate::bytes::{push, text_of};
 use crate::checks::check;
 use sporc_member::Role;
 use sporc_words::{
-    Check, Client, Command, Compare, Found, Keygen, Serve, Standing, Word, WordsFault, read_words,
+    Check, Client, Command, Compare, EntriesFrom, Found, Keygen, Page, Public, Serve, Standing,
+    TextAt, Verb, Word, WordsFault, read_words,
 };
 use std::alloc::Global;
 use std::fmt::Write;
 use std::process::Abort;
 
 // Command lines, with one space between two words, and what they ask for in one line.
-const ROWS: [(&str, &str); 25] = [
+const ROWS: [(&str, &str); 35] = [
     ("play", "play"),
     ("play --generate 1", "generate 1"),
     ("play --generate=3000", "generate 3000"),
@@ -55,16 +56,34 @@ const ROWS: [(&str, &str); 25] = [
     ),
     ("serve doc a --sessions=64", "serve doc a 64"),
     ("found doc 65535:admin", "found doc 65535 admin"),
+    ("text doc 7", "text doc 7"),
+    ("text --at=0 doc 7", "text doc 7 0"),
+    ("entries doc 7", "entries doc 7 1"),
+    (
+        "entries doc 7 --from 4294967295",
+        "entries doc 7 4294967295",
+    ),
+    ("help", "help"),
+    ("play --help", "help play"),
+    ("help public", "help public"),
+    ("help --help", "help help"),
+    ("--version", "version"),
+    ("public doc 7", "public doc 7"),
 ];
 
 // Command lines that ask for nothing.
-const OTHERS: [&str; 48] = [
+const OTHERS: [&str; 54] = [
+    "text doc",
+    "text doc 7 --at -1",
+    "text doc 7 --from 1",
+    "entries doc 7 --from 4294967296",
     "",
     "paly",
     "Play",
-    "--help",
-    "help",
-    "play --help",
+    "--help play",
+    "help nothing",
+    "help play more",
+    "play --help more",
     "play -h",
     "play --version",
     "play --x",
@@ -107,6 +126,7 @@ const OTHERS: [&str; 48] = [
     "check doc 7 8",
     "compare doc 1",
     "compare doc 1 2x",
+    "public doc",
 ];
 
 #[test]
@@ -187,6 +207,11 @@ fn show(rt: &impl Abort, line: &mut String, command: &Command) {
         Command::Client(client) => show_client(rt, line, client),
         Command::Check(check) => show_check(rt, line, check),
         Command::Compare(compare) => show_compare(rt, line, compare),
+        Command::Text(text) => show_text(rt, line, text),
+        Command::Entries(entries) => show_entries(rt, line, entries),
+        Command::Help(page) => show_help(rt, line, *page),
+        Command::Version => push(rt, line, "version"),
+        Command::Public(public) => show_public(rt, line, public),
     }
 }
 
@@ -245,6 +270,50 @@ fn show_compare(rt: &impl Abort, line: &mut String, compare: &Compare) {
     push_named(rt, line, "compare", &compare.name);
     push_number(rt, line, u32::from(compare.first));
     push_number(rt, line, u32::from(compare.second));
+}
+
+fn show_text(rt: &impl Abort, line: &mut String, text: &TextAt) {
+    push_named(rt, line, "text", &text.name);
+    push_number(rt, line, u32::from(text.member));
+    if let Some(at) = text.at {
+        push_number(rt, line, at);
+    }
+}
+
+fn show_entries(rt: &impl Abort, line: &mut String, entries: &EntriesFrom) {
+    push_named(rt, line, "entries", &entries.name);
+    push_number(rt, line, u32::from(entries.member));
+    push_number(rt, line, entries.from);
+}
+
+fn show_help(rt: &impl Abort, line: &mut String, page: Page) {
+    push(rt, line, "help");
+    match page {
+        Page::Overview => {}
+        Page::Of(verb) => push_word(rt, line, verb_name(verb)),
+        Page::Help => push_word(rt, line, "help"),
+        Page::Version => push_word(rt, line, "version"),
+    }
+}
+
+fn verb_name(verb: Verb) -> &'static str {
+    match verb {
+        Verb::Play => "play",
+        Verb::Keygen => "keygen",
+        Verb::Found => "found",
+        Verb::Serve => "serve",
+        Verb::Client => "client",
+        Verb::Check => "check",
+        Verb::Compare => "compare",
+        Verb::Public => "public",
+        Verb::Text => "text",
+        Verb::Entries => "entries",
+    }
+}
+
+fn show_public(rt: &impl Abort, line: &mut String, public: &Public) {
+    push_named(rt, line, "public", &public.name);
+    push_number(rt, line, u32::from(public.member));
 }
 
 // Appends a verb, and the document's name.

@@ -6,10 +6,10 @@ use Rattle.sporc_files.specs.declared.file.File.TheVariants as files
 use Rattle.sporc_files.specs.Names.{file_name}
 use Rattle.sporc_files.specs.Reading.{IsFileFault, SaysFile, any_bytes, own_key_file}
 use Rattle.sporc_histories.specs.Contents.{AnswersUnlessOutside}
-use Rattle.sporc_histories.specs.Checking.{examined}
+use Rattle.sporc_histories.specs.Checking.{checked_line, examined}
 use Rattle.sporc_files.proofs.Asking.{asks_first, asks_then}
 use Rattle.sporc_histories.proofs.Examined.{all_read, genesis_fails, history_fails, key_fails, ring_fails}
-use Rattle.sporc_histories.proofs.checking.read_checked.Goals as goal
+use Rattle.sporc_histories.proofs.reading.read_line.Goals as goal
 
 pub returns-in_err-genesis-clause-may_ask : goal.returns-in_err-genesis-clause-may_ask
 returns-in_err-genesis-clause-may_ask g c =
@@ -66,4 +66,4 @@ returns-clause-found g c =
     (subst (λ (t : Option (List NamedFile)). SaysFile (own_key_file c.in_ok-genesis.genesis.founders c.args.member) t (file_name c.args.names.now (files.Key c.args.member)) c.in_ok-read_own_key.field-0) c.in_ok-genesis.ensures.files c.in_ok-read_own_key.ensures.ok)
     (subst (λ (t : Option (List NamedFile)). SaysFile (ring_file_of_member c.args.member) t (file_name c.args.names.now (files.Ring c.args.member)) c.in_ok-ring.ring) (c.in_ok-read_own_key.ensures.files ∙ c.in_ok-genesis.ensures.files) c.in_ok-ring.ensures.ok)
     (subst (λ (t : Option (List NamedFile)). SaysFile any_bytes t (file_name c.args.names.now (files.History c.args.member)) c.in_ok-history.history.items) (c.in_ok-ring.ensures.files ∙ c.in_ok-read_own_key.ensures.files ∙ c.in_ok-genesis.ensures.files) c.in_ok-history.ensures.ok)
-    (subst (λ (b : List ℕ). AnswersUnlessOutside (λ (len : ℕ). len) ⊥ c.examine.result (examined c.in_ok-genesis.genesis c.args.member c.in_ok-ring.ring b)) c.as_slice.ensures.value c.examine.ensures.value)
+    (subst (λ (b : List ℕ). AnswersUnlessOutside checked_line ⊥ c.examine.result (examined c.in_ok-genesis.genesis c.args.member c.in_ok-ring.ring b)) c.as_slice.ensures.value c.examine.ensures.value)

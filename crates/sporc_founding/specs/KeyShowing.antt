@@ -1,0 +1,44 @@
+-- What `public` does: it prints the line of a key that is there, as `keygen` printed it.
+use Rattle.std.specs.Prelude.{◌≡◌, ◌⊎◌, ℕ, List, Option, Result, Ok, Err}
+use Rattle.std.specs.Io.KnownBytes.{Appends}
+use Rattle.lms_tree.specs.LmsPrivate.{LmsPrivate, lms_public_of}
+use Rattle.sporc_outside.specs.Counts.{Rose}
+use Rattle.sporc_outside.specs.Uses.{IsUnwritten, SinkUse}
+use Rattle.sporc_outside.specs.Writing.{AppendsPrefix}
+use Rattle.sporc_outside.specs.declared.named_file.NamedFile.{NamedFile}
+use Rattle.sporc_words.specs.declared.public.Public.{Public}
+use Rattle.sporc_files.specs.declared.fault.Fault.{Fault}
+use Rattle.sporc_files.specs.declared.fault.Fault.TheVariants as faults
+use Rattle.sporc_files.specs.declared.file.File.TheVariants as files
+use Rattle.sporc_files.specs.Names.{file_name, names_of_document}
+use Rattle.sporc_files.specs.Reading.{IsFileFault, SaysFile, key_file}
+use Rattle.sporc_files.specs.Uses.{FolderUse}
+use Rattle.sporc_founding.specs.KeyMaking.{key_line}
+
+-- the line of `keygen` for the key that a member's key file says
+pub record IsLineOf (asked : Public) (told : Option (List NamedFile)) (line : List ℕ) : Type 0 where
+  pub key : LmsPrivate
+  pub says : SaysFile (key_file asked.member) told (file_name (names_of_document asked.name) (files.Key asked.member)) key
+  pub line_is : line ≡ key_line (lms_public_of key)
+
+-- it was written as this says
+pub record ShowsLine (asked : Public) (told : Option (List NamedFile)) (Written : List ℕ → Type 0) : Type 0 where
+  pub line : List ℕ
+  pub of : IsLineOf asked told line
+  pub written : Written line
+
+-- the key file says nothing, or memory ran out, and nothing was printed
+pub record FailsAtKey (asked : Public) (folder : FolderUse) (out : SinkUse) (fault : Fault) : Type 0 where
+  pub cause : IsFileFault (key_file asked.member) folder.files_before folder.faults_before folder.faults_after (names_of_document asked.name) (files.Key asked.member) fault
+  pub unwritten : IsUnwritten out
+
+-- the sink failed, and a prefix of the line was printed
+pub record FailsAtPrint (asked : Public) (folder : FolderUse) (out : SinkUse) (fault : Fault) : Type 0 where
+  pub outside : fault ≡ faults.Outside
+  pub rose : Rose out.faults_before out.faults_after
+  pub shows : ShowsLine asked folder.files_before (AppendsPrefix out.written_before out.written_after)
+
+-- what `public` did, by its answer
+abbrev pub PublicOutcome : {T : Type 0} → Public → FolderUse → SinkUse → Result T Fault → Type 0
+PublicOutcome asked folder out (Ok done) = ShowsLine asked folder.files_before (Appends out.written_before out.written_after)
+PublicOutcome asked folder out (Err fault) = FailsAtKey asked folder out fault ⊎ FailsAtPrint asked folder out fault

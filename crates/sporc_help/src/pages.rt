@@ -1,0 +1,370 @@
+//! The texts: an overview of at most 24 lines of 80 columns, pages of 75 columns.
+//!
+//! A page begins with its command's words, up to the first empty line, which docs/MANUAL.md has as a heading. The manual page,
+//! docs/sporc.1, is made of all pages by `examples/manual-page`. `examples/documents` holds both against what stands here.
+
+/// All commands, on one screen.
+pub const OVERVIEW: &str = "\
+sporc: one text, edited by a group through a server that nobody has to trust
+
+Commands, each behind the word sporc:
+
+  keygen NAME M HEIGHT W                                    makes a member's key
+  found NAME M:ROLE ..                                      founds a document
+  serve NAME ADDRESS --sessions K                           serves a document
+  client NAME M ADDRESS [--rounds R] [--until P] SCRIPT ..  edits as a member
+  check NAME M                                              checks a history
+  text NAME M [--at POS]                                    prints a text
+  entries NAME M [--from POS]                               lists who wrote what
+  compare NAME M N                                          compares histories
+  public NAME M                                             shows a public key
+  play                                                      plays a script
+  play --generate EDITS                                     plays so many edits
+  help [COMMAND]                                            shows a page of help
+  version                                                   tells the version
+
+sporc help COMMAND says what a command's words are, which files it reads and
+writes, and what its status means; sporc COMMAND --help says the same. Status 0
+is for a command that did all its work. Otherwise the last line begins with the
+word fault, and says why.
+";
+
+/// `keygen`.
+pub const KEYGEN: &str = "\
+sporc keygen NAME M HEIGHT W
+
+Makes a new key for a member of a document, and prints its public key,
+which an admin needs to add the member later. No file is replaced.
+
+  NAME    the document's name: the path that its files' names begin with
+  M       the member's number, 1 to 65535
+  HEIGHT  the height of the key's tree, 5, 10 or 15: the key signs at most
+          2^HEIGHT entries
+  W       the Winternitz width, 4 or 8: with 8 a signature is about half as
+          long, and takes about eight times as long to make
+
+Files: makes NAME.M.key, which is secret, and NAME.M.leaf, which tells what
+of the key is used: never copy it back from a backup, nor have it in two
+places.
+
+Example:
+
+  sporc keygen trip 2 10 4
+
+Statuses:
+
+  0  the key is made
+  1  memory ran out
+  2  the words are not these, or one is out of its range
+  3  there is such a file already
+  6  a file, standard output or the system's random bytes failed
+";
+
+/// `found`.
+pub const FOUND: &str = "\
+sporc found NAME M:ROLE ..
+
+Makes a document of its founders and of those who may be added later. Files
+of these names are replaced: found over a document in use makes another.
+
+  NAME  the document's name: the path that its files' names begin with
+  M     a member's number, 1 to 65535; each once, and at most 64
+  ROLE  reader, editor, admin or joiner; at least one is an admin. A joiner
+        has no right before an admin adds it, and needs no key yet
+
+Files: reads NAME.M.key of each founder; makes NAME.genesis, which everyone
+needs, and NAME.M.ring, a secret of M, for each number that is named.
+
+Example:
+
+  sporc found trip 1:admin 2:editor 3:reader 4:joiner
+
+Statuses:
+
+  0  the document is made
+  1  memory ran out
+  2  the words are not these, or one is out of its range
+  3  a founder's key file is missing, too long or malformed
+  6  a file or the system's random bytes failed
+";
+
+/// `serve`.
+pub const SERVE: &str = "\
+sporc serve NAME ADDRESS --sessions K
+
+Serves K sessions of a document, all at once as they come, and ends as the
+last of them has. Then it saves the log, and prints how many entries that
+has.
+
+  NAME     the document's name: the path that its files' names begin with
+  ADDRESS  where it listens: a host and a port, as 127.0.0.1:4000
+  K        how many sessions, 1 to 1024
+
+Files: reads NAME.genesis and, if it is there, NAME.log; writes NAME.log.
+
+Example:
+
+  sporc serve trip 127.0.0.1:4000 --sessions 8
+
+Statuses:
+
+  0  all sessions have ended, and the log is saved
+  1  memory ran out
+  2  the words are not these, or one is out of its range
+  3  a file is missing, too long or malformed
+  4  an entry of the log fails a check
+  6  a file, standard output or the net failed
+  8  the log is too long for a file, or a lock is worn
+";
+
+/// `client`.
+pub const CLIENT: &str = "\
+sporc client NAME M ADDRESS [--rounds R] [--until P] SCRIPT ..
+
+Runs one session of a member with a server, beside an editor for each
+script. When the session has ended it prints the journal, the text and the
+last hash, and the history is saved, also after a fault. Run one client of
+a member at a time.
+
+  NAME     the document's name: the path that its files' names begin with
+  M        the member's number, 1 to 65535
+  ADDRESS  the server's host and port, as 127.0.0.1:4000
+  R        rounds beside the editors, and at most so many after them; 64 if
+           it is left out
+  P        how many entries the history is to have; 0 if it is left out
+  SCRIPT   the path of an editor script, at most eight. Its lines are
+           insert AT TEXT, remove AT COUNT, add M ROLE HEX, drop M and
+           role M ROLE
+
+Files: reads NAME.genesis, NAME.M.key, NAME.M.ring, the scripts and, if it
+is there, NAME.M.history; marks NAME.M.leaf; writes NAME.M.history.
+
+Example:
+
+  sporc client trip 2 127.0.0.1:4000 --until 5 morning.txt
+
+Statuses:
+
+  0  all was done
+  1  memory ran out
+  2  the words are not these, or one is out of its range
+  3  a file is missing, too long or malformed, or a script has a line that
+     is not valid
+  4  an entry was refused or rejected, or the keys do not open the document
+  5  the rounds are over, and edits wait or the history is shorter than P
+  6  a file, standard output, the system's random bytes or the connection
+     failed, or another client has the leaf file
+  7  the key has signed all that it can
+  8  the history, the journal or a file is full, or a lock is worn
+  9  what the server sent is no message
+ 10  an edit of a script can not be done
+";
+
+/// `check`.
+pub const CHECK: &str = "\
+sporc check NAME M
+
+Checks every entry of a member's saved history, signatures and keys too, as
+the member's client does, and prints how many entries there are.
+
+  NAME  the document's name: the path that its files' names begin with
+  M     the member's number, 1 to 65535
+
+Files: reads NAME.genesis, NAME.M.key, NAME.M.ring and NAME.M.history.
+
+Example:
+
+  sporc check trip 2
+
+Statuses:
+
+  0  every entry is right
+  1  memory ran out
+  2  the words are not these, or one is out of its range
+  3  a file is missing, too long or malformed
+  4  an entry fails a check, or the keys do not open the document
+  6  a file or standard output failed
+";
+
+/// `text`.
+pub const TEXT: &str = "\
+sporc text NAME M [--at POS]
+
+Checks every entry of a member's saved history, as check does, and prints
+the text after all entries or after the first POS, as UTF-8, with nothing
+before or behind it. After a fault nothing of the text was printed, unless
+standard output failed.
+
+  NAME  the document's name: the path that its files' names begin with
+  M     the member's number, 1 to 65535
+  POS   after how many entries; after all if it is left out
+
+Files: reads NAME.genesis, NAME.M.key, NAME.M.ring and NAME.M.history.
+
+Example:
+
+  sporc text trip 2 --at 17 > trip.txt
+
+Statuses:
+
+  0  the text is printed
+  1  memory ran out
+  2  the words are not these, or one is out of its range
+  3  a file is missing, too long or malformed, or POS is above the
+     history's length
+  4  an entry fails a check, or the keys do not open the document
+  6  a file or standard output failed
+";
+
+/// `entries`.
+pub const ENTRIES: &str = "\
+sporc entries NAME M [--from POS]
+
+Checks every entry of a member's saved history, as check does, and prints a
+line for each, from the one at POS on: its position, its author, its number
+among the author's entries, how many entries the author had seen, and what
+it did, an edit as it came into the text.
+
+  NAME  the document's name: the path that its files' names begin with
+  M     the member's number, 1 to 65535
+  POS   the position of the first line that is printed; 1 if left out
+
+Files: reads NAME.genesis, NAME.M.key, NAME.M.ring and NAME.M.history.
+
+Example:
+
+  sporc entries trip 2 --from 18
+
+Statuses:
+
+  0  the lines are printed
+  1  memory ran out
+  2  the words are not these, or one is out of its range
+  3  a file is missing, too long or malformed
+  4  an entry fails a check, or the keys do not open the document
+  6  a file or standard output failed
+";
+
+/// `compare`.
+pub const COMPARE: &str = "\
+sporc compare NAME M N
+
+Prints how the saved history of M stands to that of N, without checking
+their entries: same, prefix, longer, or forked after so many entries, if a
+server told the two members two stories.
+
+  NAME  the document's name: the path that its files' names begin with
+  M, N  the members' numbers, 1 to 65535
+
+Files: reads NAME.genesis, NAME.M.history and NAME.N.history.
+
+Example:
+
+  sporc compare trip 1 2
+
+Statuses:
+
+  0  the line is printed
+  1  memory ran out
+  2  the words are not these, or one is out of its range
+  3  a file is missing, too long or malformed
+  6  a file or standard output failed
+";
+
+/// `public`.
+pub const PUBLIC: &str = "\
+sporc public NAME M
+
+Prints the public key of a key that is there, as keygen printed it. No file
+is changed.
+
+  NAME  the document's name: the path that its files' names begin with
+  M     the member's number, 1 to 65535
+
+Files: reads NAME.M.key.
+
+Example:
+
+  sporc public trip 2
+
+Statuses:
+
+  0  the public key is printed
+  1  memory ran out
+  2  the words are not these, or one is out of its range
+  3  the key file is missing, too long or malformed
+  6  the key file or standard output failed
+";
+
+/// `play`.
+pub const PLAY: &str = "\
+sporc play
+sporc play --generate EDITS
+
+Plays a script of many members and a server, which may lie, from standard
+input, and prints its report; or plays a run of so many edits of three
+members, and prints one line.
+
+  EDITS  how many edits, 1 to 3000
+
+Files: none.
+
+Examples:
+
+  sporc play < examples/first-edit.play
+  sporc play --generate 1000
+
+Statuses:
+
+  0  the play is over
+  1  memory ran out
+  2  the words are not these, or one is out of its range
+  3  the script has a line that is not valid, or is too long
+  6  standard input or standard output failed
+";
+
+/// `help`.
+pub const HELP: &str = "\
+sporc help [COMMAND]
+
+Shows all commands, or the page of one. sporc --help and sporc -h show all
+of them too, and sporc COMMAND --help the page of one.
+
+  COMMAND  the first word of a command, as keygen
+
+Files: none.
+
+Example:
+
+  sporc help client
+
+Statuses:
+
+  0  the page is shown
+  1  memory ran out
+  2  there is no such command
+  6  standard output failed
+";
+
+/// `version`.
+pub const VERSION_PAGE: &str = "\
+sporc version
+
+Prints the program's name and its version. sporc --version does the same.
+
+Files: none.
+
+Example:
+
+  sporc version
+
+Statuses:
+
+  0  the version is printed
+  1  memory ran out
+  2  the words are not these
+  6  standard output failed
+";
+
+/// What `version` prints.
+pub const VERSION: &str = "sporc 0.9\n";

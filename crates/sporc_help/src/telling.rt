@@ -1,0 +1,78 @@
+//! `help`, `help COMMAND` and `version`.
+
+ghost use Rattle.std.specs.Prelude.{◌≡◌, ◌≤◌};
+ghost use Rattle.sporc_outside.specs.Uses.{sink_use};
+ghost use Rattle.sporc_help.specs.Pages.{command_text, page_text, version_text};
+ghost use Rattle.sporc_help.specs.Telling.{TellsText};
+
+use crate::pages::{
+    CHECK, CLIENT, COMPARE, ENTRIES, FOUND, HELP, KEYGEN, OVERVIEW, PLAY, PUBLIC, SERVE, TEXT,
+    VERSION, VERSION_PAGE,
+};
+use sporc_files::Fault;
+use sporc_outside::{Sink, write_all};
+use sporc_words::{Page, Verb};
+
+/// Prints a page.
+pub fn help<O: Sink>(out: &mut O, page: Page) -> Result<(), Fault>
+    ensures outcome { TellsText (page_text page) (sink_use O.written O.faults out.old out.new) result }
+    ensures kept { O.faults out.old ≤ O.faults out.new }
+{
+    tell(out, text_of(page))
+}
+
+/// Prints the program's name and its version.
+pub fn version<O: Sink>(out: &mut O) -> Result<(), Fault>
+    ensures outcome { TellsText version_text (sink_use O.written O.faults out.old out.new) result }
+    ensures kept { O.faults out.old ≤ O.faults out.new }
+{
+    tell(out, version_of())
+}
+
+/// The text of a page.
+#[tactic(auto, unfolding(crate::specs::Pages::page_text))]
+pub fn text_of(page: Page) -> &'static str
+    ensures value { result.now ≡ page_text page }
+{
+    match page {
+        Page::Overview => OVERVIEW,
+        Page::Of(verb) => text_of_command(verb),
+        Page::Help => HELP,
+        Page::Version => VERSION_PAGE,
+    }
+}
+
+// The same, of a command by its first word.
+#[tactic(auto, unfolding(crate::specs::Pages::command_text))]
+fn text_of_command(verb: Verb) -> &'static str
+    ensures { result.now ≡ command_text verb }
+{
+    match verb {
+        Verb::Play => PLAY,
+        Verb::Keygen => KEYGEN,
+        Verb::Found => FOUND,
+        Verb::Serve => SERVE,
+        Verb::Client => CLIENT,
+        Verb::Check => CHECK,
+        Verb::Compare => COMPARE,
+        Verb::Public => PUBLIC,
+        Verb::Text => TEXT,
+        Verb::Entries => ENTRIES,
+    }
+}
+
+#[tactic(auto, unfolding(crate::specs::Pages::version_text))]
+fn version_of() -> &'static str
+    ensures { result.now ≡ version_text }
+{
+    VERSION
+}
+
+// Writes a text.
+fn tell<O: Sink>(out: &mut O, text: &str) -> Result<(), Fault>
+    ensures outcome { TellsText text.now (sink_use O.written O.faults out.old out.new) result }
+    ensures kept { O.faults out.old ≤ O.faults out.new }
+{
+    write_all(out, text.as_bytes())?;
+    Ok(())
+}
