@@ -4,6 +4,7 @@ use crate::checks::{check, check_answer, check_at};
 use crate::place::{Failing, Object, Place};
 use sporc_base::is_same;
 use sporc_help::text_of;
+use sporc_samples::count_calls;
 use sporc_words::{Page, Verb};
 use std::alloc::Global;
 use std::process::Abort;
@@ -125,11 +126,8 @@ fn tells_each<R: Threads + Wait + Sync + Abort>(
     text: &[u8],
     calls: u64,
 ) {
-    for call in 1..calls + 1 {
-        check_at(rt, words, call, fails_at(rt, alloc, words, text, call));
-    }
-    let ended = !fails_at(rt, alloc, words, text, calls + 1);
-    check(rt, words, ended);
+    let made = count_calls(|call| !fails_at(rt, alloc, words, text, call)).expect(rt, words);
+    check_at(rt, words, made, made == calls);
 }
 
 #[test]
