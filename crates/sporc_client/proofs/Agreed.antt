@@ -1,16 +1,19 @@
 -- Every run keeps the headline.
 use Rattle.std.proofs.Common.{◌≡◌, ℕ, ◌+◌, ◌≤◌, Bool, true, false, cond, List, ◌++◌, length, take, refl, ap, sym, ◌∙◌, subst, arith, Option, None, Some}
-use Rattle.std.specs.Prelude.{fold, is_some, slice_get, ◌==◌}
-use Rattle.std.proofs.lemmas.Bool.{eqb-true}
+use Rattle.std.specs.Prelude.{fold, is_some, slice_get}
+use Rattle.sporc_member.specs.Device.{same_device}
+use Rattle.sporc_member.proofs.SameDevice.{same_one}
 use Rattle.std.proofs.lemmas.List.{take_all}
 use Rattle.sporc_hash.specs.Strings.{CollisionFree}
-use Rattle.sporc_member.specs.declared.founder.Founder.{Founder}
-use Rattle.sporc_member.specs.Roster.{member_at}
+use Rattle.sporc_member.specs.declared.device.Device.{Device}
+use Rattle.sporc_member.specs.declared.member.Member.{Member}
+use Rattle.sporc_member.specs.Roster.{key_of as key_of_device, member_at}
 use Rattle.sporc_entry.specs.declared.entry.Entry.{Entry}
 use Rattle.sporc_entry.specs.declared.genesis.Genesis.{Genesis}
-use Rattle.sporc_entry.specs.Entry.{signed_string}
+use Rattle.sporc_entry.specs.Entry.{author_device, signed_string}
+use Rattle.sporc_entry.specs.Version.{version_of}
 use Rattle.sporc_head.specs.declared.refusal.Refusal.{Refusal}
-use Rattle.sporc_head.specs.HeadChecks.{allows_member, verifies_member}
+use Rattle.sporc_head.specs.HeadChecks.{allows_member, verifies_device}
 use Rattle.sporc_head.specs.History.{changes, count_of, epoch_of, hash_of, roster_of}
 use Rattle.sporc_line.specs.Keys.{key_of}
 use Rattle.sporc_line.specs.LineChecks.{first_fault}
@@ -37,16 +40,16 @@ use Rattle.sporc_client.proofs.Sourced.{all_genuine, genuine_front}
 
 -- ---- what a client of a run knows, over the genesis of the run
 
-genesis_of : (s : Setup) (who : ℕ) (c : PlainClient) → IsReached s who c → c.opening.genesis ≡ s.genesis
+genesis_of : (s : Setup) (who : Device) (c : PlainClient) → IsReached s who c → c.opening.genesis ≡ s.genesis
 genesis_of s who c reached = rw (reached.opening) refl
 
-good_of : (s : Setup) (who : ℕ) (c : PlainClient) → IsReached s who c → Good s.genesis c.opening.kit c.entries
+good_of : (s : Setup) (who : Device) (c : PlainClient) → IsReached s who c → Good s.genesis c.opening.kit c.entries
 good_of s who c reached = subst (λ (g : Genesis). Good g c.opening.kit c.entries) (genesis_of s who c reached) reached.good
 
 abbrev Free : Genesis → PlainClient → PlainClient → Type 0
 Free g c d = CollisionFree (line_strings g c.opening.kit c.entries ++ line_strings g d.opening.kit d.entries)
 
-free_of : (s : Setup) (i j : ℕ) (c d : PlainClient) → IsReached s i c → IsReached s j d → HistoriesCollisionFree c d → Free s.genesis c d
+free_of : (s : Setup) (i j : Device) (c d : PlainClient) → IsReached s i c → IsReached s j d → HistoriesCollisionFree c d → Free s.genesis c d
 free_of s i j c d one two free =
     let P : Genesis → Type 0 = λ g. CollisionFree (line_strings g c.opening.kit c.entries ++ line_strings d.opening.genesis d.opening.kit d.entries) in
     let Q : Genesis → Type 0 = λ g. CollisionFree (line_strings s.genesis c.opening.kit c.entries ++ line_strings g d.opening.kit d.entries) in
@@ -72,7 +75,7 @@ alike g c d good good' free h =
       text = one_text g c.opening.kit d.opening.kit c.entries good good'' free' ∙ ap (text_of g d.opening.kit) entries;
     }
 
-same_history : (s : Setup) (i j : ℕ) (c d : PlainClient) → IsReached s i c → IsReached s j d → HistoriesCollisionFree c d → hash_of s.genesis c.entries ≡ hash_of s.genesis d.entries → SameHistoryAndText c d
+same_history : (s : Setup) (i j : Device) (c d : PlainClient) → IsReached s i c → IsReached s j d → HistoriesCollisionFree c d → hash_of s.genesis c.entries ≡ hash_of s.genesis d.entries → SameHistoryAndText c d
 same_history s i j c d one two free h =
     let g = s.genesis in
     let gc = genesis_of s i c one in
@@ -90,7 +93,7 @@ same_history s i j c d one two free h =
 
 -- ---- one key
 
-one_key : (s : Setup) (i j : ℕ) (c d : PlainClient) (epoch : ℕ) → IsReached s i c → IsReached s j d → HistoriesCollisionFree c d → is_out c ≡ false → is_out d ≡ false
+one_key : (s : Setup) (i j : Device) (c d : PlainClient) (epoch : ℕ) → IsReached s i c → IsReached s j d → HistoriesCollisionFree c d → is_out c ≡ false → is_out d ≡ false
     → epoch ≤ epoch_of c.entries → epoch ≤ epoch_of d.entries → commitment_at s.genesis (changes c.entries) epoch ≡ commitment_at s.genesis (changes d.entries) epoch → key_at c epoch ≡ key_at d epoch
 one_key s i j c d epoch one two free there there' le le' same =
     let g = s.genesis in
@@ -109,7 +112,7 @@ one_key s i j c d epoch one two free there there' le le' same =
 -- ---- one base
 
 -- an entry that a client of the run signed
-authors_base : (s : Setup) (i x : ℕ) (c : PlainClient) (signing : Signing) (e : Entry) → IsReached s i c → IsSigning s signing → HistoriesCollisionFree c signing.client
+authors_base : (s : Setup) (i : Device) (x : ℕ) (c : PlainClient) (signing : Signing) (e : Entry) → IsReached s i c → IsSigning s signing → HistoriesCollisionFree c signing.client
     → StandsBehind x c.entries signing.entry e → signing.client.entries ≡ take e.header.base c.entries
 authors_base s i x c signing e one told free stands =
     let g = s.genesis in
@@ -127,31 +130,46 @@ authors_base s i x c signing e one told free stands =
 
 -- ---- in order
 
-rightful_by : (s : Setup) (entries : List (List ℕ)) (x : ℕ) (e : Entry) (o : Option Founder) → member_at (roster_of s.genesis (take x entries)) e.header.author ≡ o
-    → is_some o ≡ true → allows_member e.header.kind o ≡ true → verifies_member (signed_string e) e.signature o ≡ true
-    → e.header.number ≡ count_of e.header.author (take x entries) + 1 → IsRightful s x entries e
-rightful_by s entries x e None is some right verifies number = absurd cc
-rightful_by s entries x e (Some member) is some right verifies number = record { member = member; is_member = is; role = right; signature = verifies; number = number }
+rightful_by : (s : Setup) (entries : List (List ℕ)) (x : ℕ) (e : Entry) (o : Option Member) (k : Option (List ℕ)) → member_at (roster_of s.genesis (take x entries)) e.header.author ≡ o
+    → key_of_device (roster_of s.genesis (take x entries)) (author_device e.header) ≡ k → e.header.version ≡ version_of (roster_of s.genesis (take x entries)).upgraded
+    → is_some o ≡ true → is_some k ≡ true → allows_member e.header.kind o ≡ true → verifies_device (signed_string e) e.signature k ≡ true
+    → e.header.number ≡ count_of (author_device e.header) (take x entries) + 1 → IsRightful s x entries e
+rightful_by s entries x e None k is its version some live right verifies number = absurd cc
+rightful_by s entries x e (Some member) None is its version some live right verifies number = absurd cc
+rightful_by s entries x e (Some member) (Some key) is its version some live right verifies number = record {
+  version = version;
+  member = member;
+  is_member = is;
+  role = right;
+  key = key;
+  is_key = its;
+  signature = verifies;
+  number = number;
+}
 
-in_order : (s : Setup) (i x : ℕ) (c : PlainClient) (bytes : List ℕ) → IsReached s i c → slice_get c.entries x ≡ Some bytes → (e : Entry) × StandsBehind x c.entries bytes e × IsRightful s x c.entries e
+in_order : (s : Setup) (i : Device) (x : ℕ) (c : PlainClient) (bytes : List ℕ) → IsReached s i c → slice_get c.entries x ≡ Some bytes → (e : Entry) × StandsBehind x c.entries bytes e × IsRightful s x c.entries e
 in_order s i x c bytes reached at =
     let g = s.genesis in
     let p = good_entry g c.opening.kit c.entries x bytes (good_of s i c reached) at in
-    let q : Passes g c.opening.kit (take x c.entries) (x + 1) p.0 = p.2 in
-    (p.0, record { at = at; reads = p.1 }, rightful_by s c.entries x p.0 (member_at (roster_of g (take x c.entries)) p.0.header.author) refl q.member q.right q.signature q.number)
+    let q : Passes g c.opening.kit (take x c.entries) (x + 1) p.0 = p.2 in (
+      p.0,
+      record { at = at; reads = p.1 },
+      rightful_by s c.entries x p.0 (member_at (roster_of g (take x c.entries)) p.0.header.author) (key_of_device (roster_of g (take x c.entries)) (author_device p.0.header))
+          refl refl q.version q.member q.device q.right q.signature q.number,
+    )
 
 -- ---- by its author
 
 -- who signed an entry of clients of the run is its author
-by_author : (s : Setup) (w : World) (entries : List (List ℕ)) (bytes : List ℕ) → AllSignings s w → (under : IsUnderRunKey s entries bytes) → IsSignedUnder s w under.author.key bytes
-    → (by : IsSignedUnder s w under.author.key bytes) × (under.entry.header.author ≡ by.signing.who)
+by_author : (s : Setup) (w : World) (entries : List (List ℕ)) (bytes : List ℕ) → AllSignings s w → (under : IsUnderRunKey s entries bytes) → IsSignedUnder s w under.key bytes
+    → (by : IsSignedUnder s w under.key bytes) × (author_device under.entry.header ≡ by.signing.who)
 by_author s w entries bytes all under by =
     let told = all by.signing by.signed in
     let read = told.reads in
     let same = by.bytes_are in
     let is = under.reads in
     let entry : told.entry ≡ under.entry = cc in
-    (by, ap (λ (e : Entry). e.header.author) (sym entry) ∙ told.author)
+    (by, ap (λ (e : Entry). author_device e.header) (sym entry) ∙ told.author)
 
 -- ---- refusals
 
@@ -161,14 +179,14 @@ refused_only true None refusal h = absurd cc
 refused_only false None refusal h = absurd cc
 
 -- the clients with one in the place that it has
-put_back : (clients : ℕ → Option PlainClient) (i : ℕ) (c : PlainClient) (other : ℕ) → clients i ≡ Some c → with_client clients i c other ≡ clients other
-put_back clients i c other at = go (other == i) refl
+put_back : (clients : Device → Option PlainClient) (i : Device) (c : PlainClient) (other : Device) → clients i ≡ Some c → with_client clients i c other ≡ clients other
+put_back clients i c other at = go (same_device other i) refl
   where
-    go : (same : Bool) → (other == i) ≡ same → cond same (Some c) (clients other) ≡ clients other
-    go true is = sym (ap clients (eqb-true other i is) ∙ at)
+    go : (same : Bool) → same_device other i ≡ same → cond same (Some c) (clients other) ≡ clients other
+    go true is = sym (ap clients (same_one other i is) ∙ at)
     go false is = refl
 
-refuses_at : (s : Setup) (w : World) (i position : ℕ) (c : PlainClient) (bytes : List ℕ) (refusal : Refusal) → IsReached s i c → w.clients i ≡ Some c → RefusesFor s w i position c bytes refusal
+refuses_at : (s : Setup) (w : World) (i : Device) (position : ℕ) (c : PlainClient) (bytes : List ℕ) (refusal : Refusal) → IsReached s i c → w.clients i ≡ Some c → RefusesFor s w i position c bytes refusal
 unfolding accept_fault
 refuses_at s w i position c bytes refusal reached at = record {
   first = (
@@ -204,10 +222,10 @@ agree s moves well run = record {
   in_order = λ c x bytes mine. in_order s mine.1 x c bytes (reached c mine);
   once_each = λ c x y b b' e e' mine here there.
       one_place s.genesis c.opening.kit c.entries x y b b' e e' (good_of s mine.1 c (reached c mine)) here.at there.at here.reads there.reads;
-  by_signer = λ genuine n who x c bytes at in_c under.
+  by_signer = λ genuine n x who c bytes at in_c under.
       by_author s (world_at s moves n) (take x c.entries) bytes (λ signing. signing_at s moves n signing well run) under
       (all_genuine s (take n moves) (run_front s start moves n run) (genuine_front s start moves n genuine) who c at x bytes in_c under);
-  refuses = λ n who position c bytes refusal at. refuses_at s (world_at s moves n) who position c bytes refusal (reached_at s moves n who c run at) at;
+  refuses = λ n position who c bytes refusal at. refuses_at s (world_at s moves n) who position c bytes refusal (reached_at s moves n who c run at) at;
 }
   where
     reached : (c : PlainClient) → (mine : IsClient s moves c) → IsReached s mine.1 c

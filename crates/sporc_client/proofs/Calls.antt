@@ -1,9 +1,12 @@
 -- Every call of a client is moves of it, or changes nothing.
 use Rattle.std.proofs.Common.{◌≡◌, ℕ, ◌≤◌, Bool, true, false, cond, List, [], ◌∷◌, ◌++◌, length, take, refl, ap, sym, ◌∙◌, subst, Option, Some}
-use Rattle.std.specs.Prelude.{◌≢◌, ◌==◌, Contains, IsSomeAnd}
+use Rattle.std.specs.Prelude.{◌≢◌, Contains, IsSomeAnd}
 use Rattle.std.specs.FinMap.{get}
-use Rattle.std.proofs.lemmas.Bool.{and_parts, eqb-true}
+use Rattle.std.proofs.lemmas.Bool.{and_parts}
 use Rattle.std.proofs.lemmas.List.Sums.{fold-append}
+use Rattle.sporc_member.specs.declared.device.Device.{Device}
+use Rattle.sporc_member.specs.Device.{same_device}
+use Rattle.sporc_member.proofs.SameDevice.{same_one}
 use Rattle.sporc_epoch.specs.Keys.{Keys}
 use Rattle.sporc_line.specs.Good.{Meets}
 use Rattle.sporc_client.specs.Allowed.{allows, allows_all, is_allowed}
@@ -27,15 +30,15 @@ run_append s w (move ∷ xs) ys first second = (first.0, run_append s (after s w
 
 -- ---- one client's moves
 
-pub put_other : (clients : ℕ → Option PlainClient) (who : ℕ) (c : PlainClient) (other : ℕ) → other ≢ who → with_client clients who c other ≡ clients other
-put_other clients who c other differs = go (other == who) refl
+pub put_other : (clients : Device → Option PlainClient) (who : Device) (c : PlainClient) (other : Device) → other ≢ who → with_client clients who c other ≡ clients other
+put_other clients who c other differs = go (same_device other who) refl
   where
-    go : (same : Bool) → (other == who) ≡ same → cond same (Some c) (clients other) ≡ clients other
-    go true is = absurd (differs (eqb-true other who is))
+    go : (same : Bool) → same_device other who ≡ same → cond same (Some c) (clients other) ≡ clients other
+    go true is = absurd (differs (same_one other who is))
     go false is = refl
 
 -- events that a client allows, one after another
-events_lead : (s : Setup) (w : World) (who : ℕ) (c : PlainClient) (added : List Logged) → w.clients who ≡ Some c → allows_all c added ≡ true → LeadTo s w (events_of who added) who (replay_from c added)
+events_lead : (s : Setup) (w : World) (who : Device) (c : PlainClient) (added : List Logged) → w.clients who ≡ Some c → allows_all c added ≡ true → LeadTo s w (events_of who added) who (replay_from c added)
 events_lead s w who c [] at may = record { run = tt; client = at; others = λ other differs. refl }
 events_lead s w who c (event ∷ added) at may =
     let p = and_parts (allows c event) (allows_all (step c event) added) may in
@@ -69,7 +72,7 @@ replay_opening o log = replay_from_opening (opened o) log
 -- ---- calls
 
 -- a call that adds to the log
-pub added_lead : (s : Setup) (w : World) (who : ℕ) (o : Opening) (log added : List Logged) → w.clients who ≡ Some (replay o log) → is_allowed o (log ++ added) ≡ true
+pub added_lead : (s : Setup) (w : World) (who : Device) (o : Opening) (log added : List Logged) → w.clients who ≡ Some (replay o log) → is_allowed o (log ++ added) ≡ true
     → LeadTo s w (events_of who added) who (replay o (log ++ added))
 unfolding replay is_allowed
 added_lead s w who o log added at may =
@@ -77,7 +80,7 @@ added_lead s w who o log added at may =
     (events_lead s w who (replay o log) added at (allowed_rest (opened o) log added may))
 
 -- a call that goes back to the first k entries
-pub restart_leads : (s : Setup) (w : World) (who k : ℕ) (o : Opening) (log : List Logged) → w.clients who ≡ Some (replay o log) → k ≤ length (replay o log).entries
+pub restart_leads : (s : Setup) (w : World) (who : Device) (k : ℕ) (o : Opening) (log : List Logged) → w.clients who ≡ Some (replay o log) → k ≤ length (replay o log).entries
     → LeadTo s w (Restart who k ∷ []) who (replay o (log_of_entries (take k (replay o log).entries)))
 restart_leads s w who k o log at within =
     let c = replay o log in
@@ -89,7 +92,7 @@ restart_leads s w who k o log at within =
     }
 
 -- a call that opens a client, with the entries of a history or with none
-pub opening_leads : (s : Setup) (w : World) (who : ℕ) (ring : Keys) (log : List Logged) → Contains s.members who → Meets s.genesis 0 (get ring 0) s.genesis.commitment
+pub opening_leads : (s : Setup) (w : World) (who : Device) (ring : Keys) (log : List Logged) → Contains s.devices who → Meets s.genesis 0 (get ring 0) s.genesis.commitment
     → is_allowed (opening_of s who ring) log ≡ true → LeadTo s w (Open who ring ∷ events_of who log) who (replay (opening_of s who ring) log)
 unfolding replay is_allowed
 opening_leads s w who ring log is meets may =

@@ -1,17 +1,20 @@
 -- No one forges in a run in which a server hands out only what clients of the run signed.
 use Rattle.std.proofs.Common.{◌≡◌, ℕ, zero, suc, Bool, true, false, cond, List, [], ◌∷◌, ◌++◌, map, take, drop, refl, ap, sym, ◌∙◌, subst, arith, Option, None, Some, IfSome, Ok, inl, inr}
-use Rattle.std.specs.Prelude.{Contains, IsSomeAnd, find, fold, is_some, not, ⊤, ◌==◌}
+use Rattle.std.specs.Prelude.{Contains, IsSomeAnd, find, fold, is_some, not, option_map, ⊤, ◌==◌}
 use Rattle.std.specs.List.{AllByRecursion, cons_option}
-use Rattle.std.proofs.lemmas.Bool.{eqb-true}
 use Rattle.std.proofs.lemmas.List.Elements.{Contains-append_cases}
 use Rattle.sporc_delta.specs.Marks.{Mark}
 use Rattle.sporc_delta.specs.Transforms.{earlier}
 use Rattle.sporc_member.specs.declared.change.Change.{Change as MemberChange}
-use Rattle.sporc_member.specs.declared.change.Change.TheVariants.{Add, Remove, SetRole}
+use Rattle.sporc_member.specs.declared.change.Change.TheVariants.{Add, Remove, SetRole, AddDevice, DropDevice, Upgrade}
+use Rattle.sporc_member.specs.declared.device.Device.{Device}
+use Rattle.sporc_member.specs.declared.device.LiveDevice.{LiveDevice}
 use Rattle.sporc_member.specs.declared.founder.Founder.{Founder}
-use Rattle.sporc_member.specs.Roster.{Roster, after_change, founded}
+use Rattle.sporc_member.specs.Device.{device_place, first_device, same_device}
+use Rattle.sporc_member.specs.Roster.{Roster, after_change, device_by, founded}
+use Rattle.sporc_member.proofs.SameDevice.{same_one}
 use Rattle.sporc_entry.specs.declared.entry.Entry.{Entry}
-use Rattle.sporc_entry.specs.Entry.{entry_of}
+use Rattle.sporc_entry.specs.Entry.{author_device, entry_of}
 use Rattle.sporc_head.proofs.Grows.{change_in_read}
 use Rattle.sporc_head.specs.declared.refusal.Refusal.{Refusal}
 use Rattle.sporc_head.specs.History.{CommittedChange, change_in, changes, roster_of}
@@ -19,13 +22,13 @@ use Rattle.sporc_client.specs.declared.pending.Pending.{Pending}
 use Rattle.sporc_client.specs.declared.pending.Pending.TheVariants as items
 use Rattle.sporc_client.specs.Allowed.{allows}
 use Rattle.sporc_client.specs.Answers.{journal_has_room, refusal_of}
-use Rattle.sporc_client.specs.Closed.{AddsItsKey, AreClosed, HasItsKey, IsClosed, IsClosedMove, IsSigned}
+use Rattle.sporc_client.specs.Closed.{AddsItsKey, AreClosed, HasItsKey, IsClosed, IsClosedMove, IsItsKey, IsSigned}
 use Rattle.sporc_client.specs.Log.{Logged}
 use Rattle.sporc_client.specs.Log as events
 use Rattle.sporc_client.specs.PlainClient.{PlainClient, opened}
 use Rattle.sporc_client.specs.Reached.{IsReached}
 use Rattle.sporc_client.specs.Rebasing.{rebased}
-use Rattle.sporc_client.specs.Run.{Setup, World, Signing, Move, Open, Happen, Give, Restart, IsRun, May, after, given, gives_to, happens_to, key_of_member, opening_of, restarted, restarts, signings, start, with_client}
+use Rattle.sporc_client.specs.Run.{Setup, World, Signing, Move, Open, Happen, Give, Restart, IsRun, May, after, given, gives_to, happens_to, key_of_device, opening_of, restarted, restarts, signings, start, with_client}
 use Rattle.sporc_client.specs.Genuine.{Adds, Genuine, IsGenuine}
 use Rattle.sporc_client.specs.Soundness.{IsOfFirst}
 use Rattle.sporc_client.specs.Step.{accepted, change_comes, edit_comes, form_coming, is_flight, log_of_entries, own_comes, replay, replay_from, restated, step}
@@ -33,13 +36,13 @@ use Rattle.sporc_client.specs.Typed.{IsTypedEvent, IsTypedMove, IsTypedRun}
 use Rattle.sporc_client.specs.WellFormed.{IsWellFormed}
 use Rattle.sporc_client.proofs.AcceptedHistories.{accepted_as}
 use Rattle.sporc_client.proofs.Reached.{AllReached, reached_after, reached_start, with_client_cases}
-use Rattle.sporc_client.proofs.RosterFacts.{all_added, all_filter, all_roles}
+use Rattle.sporc_client.proofs.RosterFacts.{all_filter, all_inserted}
 use Rattle.sporc_client.proofs.SignedEntries.{AllSignings, IsSigning, none_signed, signings_after}
 use Rattle.sporc_client.proofs.SoundClients.{IsSoundAndTyped, made_in_flight}
 use Rattle.sporc_client.proofs.SoundRuns.{AllSound, sound_after}
 use Rattle.sporc_client.proofs.Submitting.{made_by_submission}
 
--- ---- pending items and histories whose changes add members under their own keys
+-- ---- pending items and histories whose changes add devices under their own keys
 
 abbrev OwnItems : Setup → List Pending → Type 0
 OwnItems s [] = ⊤
@@ -86,30 +89,45 @@ own_changes s (bytes ∷ entries) all = go (change_in bytes) all.0 (own_changes 
     go None here rest = rest
     go (Some c) here rest = (here, rest)
 
-own_change : (s : Setup) (roster : Roster) (change : MemberChange) → AddsItsKey s change → AllByRecursion (HasItsKey s) roster.members → AllByRecursion (HasItsKey s) (after_change roster change).members
-own_change s roster (Add member role key) own all = all_added (HasItsKey s) (record { member = member; role = role; key = key }) roster.members own all
-own_change s roster (Remove member) own all = all_filter (HasItsKey s) (λ m. not (m.member == member)) roster.members all
-own_change s roster (SetRole member role) own all = all_roles (HasItsKey s) (λ m role h. h) member role roster.members all
+-- a live device has its own key, if it is one of the run
+abbrev OwnDevice : Setup → LiveDevice → Type 0
+OwnDevice s d = IsItsKey s d.device d.key
 
-own_members : (s : Setup) (roster : Roster) (cs : List CommittedChange) → AllByRecursion (OwnCommitted s) cs → AllByRecursion (HasItsKey s) roster.members
-    → AllByRecursion (HasItsKey s) (fold after_change roster (map (λ (c : CommittedChange). c.body.change) cs)).members
-own_members s roster [] own all = all
-own_members s roster (c ∷ cs) own all = own_members s (after_change roster c.body.change) cs own.1 (own_change s roster c.body.change own.0 all)
+own_change : (s : Setup) (roster : Roster) (change : MemberChange) → AddsItsKey s change → AllByRecursion (OwnDevice s) roster.devices → AllByRecursion (OwnDevice s) (after_change roster change).devices
+own_change s roster (Add member role key) own all =
+    let live : LiveDevice = record { device = first_device member; key = key } in
+    all_inserted (OwnDevice s) live roster.devices (device_place live.device roster.devices) own all
+own_change s roster (Remove member) own all = all_filter (OwnDevice s) (λ d. not (d.device.member == member)) roster.devices all
+own_change s roster (SetRole member role) own all = all
+own_change s roster (AddDevice member device key) own all =
+    let live : LiveDevice = record { device = record { member = member; number = device }; key = key } in
+    all_inserted (OwnDevice s) live roster.devices (device_place live.device roster.devices) own all
+own_change s roster (DropDevice member device) own all = all_filter (OwnDevice s) (λ d. not (same_device d.device (record { member = member; number = device }))) roster.devices all
+own_change s roster Upgrade own all = all
 
-own_roster : (s : Setup) (entries : List (List ℕ)) → AllByRecursion (HasItsKey s) s.genesis.founders → AllByRecursion (OwnEntry s) entries → AllByRecursion (HasItsKey s) (roster_of s.genesis entries).members
-own_roster s entries founders own = own_members s (founded s.genesis.founders) (changes entries) (own_changes s entries own) founders
+own_devices : (s : Setup) (roster : Roster) (cs : List CommittedChange) → AllByRecursion (OwnCommitted s) cs → AllByRecursion (OwnDevice s) roster.devices
+    → AllByRecursion (OwnDevice s) (fold after_change roster (map (λ (c : CommittedChange). c.body.change) cs)).devices
+own_devices s roster [] own all = all
+own_devices s roster (c ∷ cs) own all = own_devices s (after_change roster c.body.change) cs own.1 (own_change s roster c.body.change own.0 all)
 
-own_found : (s : Setup) (number : ℕ) (members : List Founder) (member : Founder) → AllByRecursion (HasItsKey s) members → find (λ (m : Founder). m.member == number) members ≡ Some member
-    → Contains s.members number → member.key ≡ key_of_member s number
-own_found s number [] member all found among = absurd cc
-own_found s number (m ∷ members) member all found among = go (m.member == number) refl found (own_found s number members member all.1)
+founders_own : (s : Setup) (founders : List Founder) → AllByRecursion (HasItsKey s) founders → AllByRecursion (OwnDevice s) (map device_by founders)
+founders_own s [] all = tt
+founders_own s (f ∷ founders) all = (all.0, founders_own s founders all.1)
+
+own_roster : (s : Setup) (entries : List (List ℕ)) → AllByRecursion (HasItsKey s) s.genesis.founders → AllByRecursion (OwnEntry s) entries → AllByRecursion (OwnDevice s) (roster_of s.genesis entries).devices
+own_roster s entries founders own = own_devices s (founded s.genesis.founders) (changes entries) (own_changes s entries own) (founders_own s s.genesis.founders founders)
+
+own_found : (s : Setup) (device : Device) (devices : List LiveDevice) (key : List ℕ) → AllByRecursion (OwnDevice s) devices
+    → option_map (λ (d : LiveDevice). d.key) (find (λ (d : LiveDevice). same_device d.device device) devices) ≡ Some key → Contains s.devices device → key ≡ key_of_device s device
+own_found s device [] key all found among = absurd cc
+own_found s device (d ∷ devices) key all found among = go (same_device d.device device) refl found (own_found s device devices key all.1)
   where
-    go : (here : Bool) → (m.member == number) ≡ here → cond here (Some m) (find (λ (m : Founder). m.member == number) members) ≡ Some member
-        → (find (λ (m : Founder). m.member == number) members ≡ Some member → Contains s.members number → member.key ≡ key_of_member s number) → member.key ≡ key_of_member s number
+    go : (here : Bool) → same_device d.device device ≡ here → option_map (λ (d : LiveDevice). d.key) (cond here (Some d) (find (λ (d : LiveDevice). same_device d.device device) devices)) ≡ Some key
+        → (option_map (λ (d : LiveDevice). d.key) (find (λ (d : LiveDevice). same_device d.device device) devices) ≡ Some key → Contains s.devices device → key ≡ key_of_device s device) → key ≡ key_of_device s device
     go true is found rest =
-        let same : m ≡ member = cc in
-        let its : m.member ≡ number = eqb-true m.member number is in
-        ap (λ (m : Founder). m.key) (sym same) ∙ all.0 (subst (Contains s.members) (sym its) among) ∙ ap (key_of_member s) its
+        let same : d.key ≡ key = cc in
+        let its : d.device ≡ device = same_one d.device device is in
+        sym same ∙ all.0 (subst (Contains s.devices) (sym its) among) ∙ ap (key_of_device s) its
     go false is found rest = rest found among
 
 -- ---- each move keeps clients and signed entries so
@@ -119,7 +137,7 @@ record IsOwn (s : Setup) (c : PlainClient) : Type 0 where
   entries : AllByRecursion (OwnEntry s) c.entries
 
 record AllOwn (s : Setup) (w : World) : Type 0 where
-  clients : (who : ℕ) (c : PlainClient) → w.clients who ≡ Some c → IsOwn s c
+  clients : (who : Device) (c : PlainClient) → w.clients who ≡ Some c → IsOwn s c
   signed : (x : Signing) → Contains w.signed x → OwnEntry s x.entry
 
 accept_own : (s : Setup) (c : PlainClient) (bytes : List ℕ) → IsOwn s c → OwnEntry s bytes → IsOwn s (accepted c bytes)
@@ -144,7 +162,7 @@ restarted_own s c k own = accepts_own s (opened c.opening) (take k c.entries) (r
 signed_own : (s : Setup) (w : World) (bytes : List ℕ) → AllOwn s w → IsSigned w bytes → OwnEntry s bytes
 signed_own s w bytes all signed = subst (OwnEntry s) signed.2 (all.signed signed.0 signed.1)
 
-step_own : (s : Setup) (w : World) (who : ℕ) (c : PlainClient) (event : Logged) → AllOwn s w → IsClosedMove s w (Happen who event) → IsOwn s c → IsOwn s (step c event)
+step_own : (s : Setup) (w : World) (who : Device) (c : PlainClient) (event : Logged) → AllOwn s w → IsClosedMove s w (Happen who event) → IsOwn s c → IsOwn s (step c event)
 step_own s w who c (events.Edit by seen marks) all closed own = record { items = own_edit s c.pending (items.Edit (restated c seen marks)) own.items tt; entries = own.entries }
 step_own s w who c (events.Change by change) all closed own = record { items = own_edit s c.pending (items.Change change) own.items (closed, tt); entries = own.entries }
 step_own s w who c (events.Submit by bytes) all closed own = record { items = own.items; entries = own.entries }
@@ -163,7 +181,7 @@ entry_own s c bytes e (items.Change change ∷ pending) reads first own =
 none_own : (s : Setup) (x : Signing) → Contains [] x → OwnEntry s x.entry
 none_own s x (place, within, at) = absurd (omega (arith, within))
 
-signings_own : (s : Setup) (who : ℕ) (c : PlainClient) (event : Logged) → IsWellFormed s → IsReached s who c → IsSoundAndTyped c → IsTypedEvent event → allows c event ≡ true → IsOwn s c
+signings_own : (s : Setup) (who : Device) (c : PlainClient) (event : Logged) → IsWellFormed s → IsReached s who c → IsSoundAndTyped c → IsTypedEvent event → allows c event ≡ true → IsOwn s c
     → (x : Signing) → Contains (signings who c event) x → OwnEntry s x.entry
 signings_own s who c (events.Edit by seen marks) well reached known typed may own x at = none_own s x at
 signings_own s who c (events.Change by change) well reached known typed may own x at = none_own s x at
@@ -181,7 +199,7 @@ signings_own s who c (events.Dropped by fault) well reached known typed may own 
 signings_own s who c (events.Accept by bytes) well reached known typed may own x at = none_own s x at
 signings_own s who c (events.Discard by) well reached known typed may own x at = none_own s x at
 
-own_with : (s : Setup) (w : World) (i : ℕ) (c : PlainClient) (signed : List Signing) → AllOwn s w → IsOwn s c → ((x : Signing) → Contains signed x → OwnEntry s x.entry)
+own_with : (s : Setup) (w : World) (i : Device) (c : PlainClient) (signed : List Signing) → AllOwn s w → IsOwn s c → ((x : Signing) → Contains signed x → OwnEntry s x.entry)
     → AllOwn s (record { clients = with_client w.clients i c; signed = signed })
 own_with s w i c signed all own entries = record {
   clients = λ j d at. elim (with_client_cases w.clients i j c d at) [
@@ -222,7 +240,7 @@ own_after s w (Restart who k) well reached sound typed may closed all = go (w.cl
 
 -- ---- no one forges
 
-is_genuine : (s : Setup) (w : World) (who : ℕ) (c : PlainClient) (bytes : List ℕ) → AllByRecursion (HasItsKey s) s.genesis.founders → AllSignings s w → AllOwn s w → w.clients who ≡ Some c → IsSigned w bytes
+is_genuine : (s : Setup) (w : World) (who : Device) (c : PlainClient) (bytes : List ℕ) → AllByRecursion (HasItsKey s) s.genesis.founders → AllSignings s w → AllOwn s w → w.clients who ≡ Some c → IsSigned w bytes
     → IsGenuine s w c.entries bytes
 is_genuine s w who c bytes founders signings all at signed under =
     let told : IsSigning s signed.0 = signings signed.0 signed.1 in
@@ -230,15 +248,15 @@ is_genuine s w who c bytes founders signings all at signed under =
     let is = under.reads in
     let same_bytes = signed.2 in
     let entry : told.entry ≡ under.entry = cc in
-    let number = under.entry.header.author in
-    let author : number ≡ signed.0.who = ap (λ (e : Entry). e.header.author) (sym entry) ∙ told.author in
-    let its : under.author.key ≡ key_of_member s number =
-    own_found s number (roster_of s.genesis c.entries).members under.author (own_roster s c.entries founders (all.clients who c at).entries) under.is_author
-    (subst (Contains s.members) (sym author) told.signer.is_member) in
-    record { signing = signed.0; signed = signed.1; bytes_are = same_bytes; key_is = sym (its ∙ ap (key_of_member s) author) }
+    let device = author_device under.entry.header in
+    let author : device ≡ signed.0.who = ap (λ (e : Entry). author_device e.header) (sym entry) ∙ told.author in
+    let its : under.key ≡ key_of_device s device =
+    own_found s device (roster_of s.genesis c.entries).devices under.key (own_roster s c.entries founders (all.clients who c at).entries) under.is_key
+    (subst (Contains s.devices) (sym author) told.signer.is_device) in
+    record { signing = signed.0; signed = signed.1; bytes_are = same_bytes; key_is = sym (its ∙ ap (key_of_device s) author) }
 
 adds_genuine : (s : Setup) (w : World) (move : Move) → AllByRecursion (HasItsKey s) s.genesis.founders → AllSignings s w → AllOwn s w → IsClosedMove s w move
-    → (who : ℕ) (c : PlainClient) (bytes : List ℕ) → Adds w move who c bytes → IsGenuine s w c.entries bytes
+    → (who : Device) (c : PlainClient) (bytes : List ℕ) → Adds w move who c bytes → IsGenuine s w c.entries bytes
 adds_genuine s w (Open i ring) founders signings all closed who c bytes adds = absurd adds
 adds_genuine s w (Happen i (events.Edit by seen marks)) founders signings all closed who c bytes adds = absurd adds
 adds_genuine s w (Happen i (events.Change by change)) founders signings all closed who c bytes adds = absurd adds

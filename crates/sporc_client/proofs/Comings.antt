@@ -1,6 +1,5 @@
 -- What an entry that comes does, by its kinds, with what the fields become.
 use Rattle.std.proofs.Common.{◌≡◌, ℕ, ◌<◌, Bool, true, false, if◌then◌else◌, List, [], ◌∷◌, ◌++◌, length, Option, None, Some, Ok, refl, ap, sym, ◌∙◌, subst, arith}
-use Rattle.std.specs.Prelude.{◌==◌}
 use Rattle.std.specs.Option.{is_some}
 use Rattle.std.specs.Prelude.{IsErr, nat_lt, Result, Err}
 use Rattle.std.proofs.lemmas.Bool.{ltb-true}
@@ -8,10 +7,12 @@ use Rattle.std.proofs.lemmas.List.{append-nil as append_nil}
 use Rattle.lms_sign.specs.Signer.{SignerModel}
 use Rattle.sporc_delta.specs.Marks.{Mark, apply, base_len, inserted_len, out_len}
 use Rattle.sporc_suffix.specs.Forms.{Follow, reached}
+use Rattle.sporc_member.specs.declared.device.Device.{Device}
+use Rattle.sporc_member.specs.Device.{same_device}
 use Rattle.sporc_entry.specs.declared.change.ChangeBody.{ChangeBody}
 use Rattle.sporc_entry.specs.declared.entry.Entry.{Entry}
 use Rattle.sporc_entry.specs.declared.genesis.Genesis.{Genesis}
-use Rattle.sporc_entry.specs.Entry.{change_of, entry_of}
+use Rattle.sporc_entry.specs.Entry.{author_device, change_of, entry_of}
 use Rattle.sporc_head.specs.declared.refusal.Refusal.{Refusal}
 use Rattle.sporc_head.specs.History.{change_in, committed_by, is_by, is_read_by}
 use Rattle.sporc_line.specs.Document.{text_after}
@@ -76,19 +77,19 @@ some_same : (e : Entry) (o : Option ChangeBody) → is_some (committed_by e o) �
 some_same e None = refl
 some_same e (Some body) = refl
 
-by_author : (me : ℕ) (bytes : List ℕ) (e : Entry) → entry_of bytes ≡ Ok e → is_by me bytes ≡ (e.header.author == me)
+by_author : (me : Device) (bytes : List ℕ) (e : Entry) → entry_of bytes ≡ Ok e → is_by me bytes ≡ same_device (author_device e.header) me
 unfolding is_by
 by_author me bytes e reads = ap (is_read_by me) reads
 
 pub accepted_is : (c : PlainClient) (bytes : List ℕ) (e : Entry) → entry_of bytes ≡ Ok e
     → accepted c bytes
-    ≡ after_coming c bytes (coming_of (is_flight c bytes) (is_some (change_of e)) (e.header.author == me_of c) (form_coming c bytes) c.pending) (shown_form (is_flight c bytes) (is_some (change_of e)) (length (shown_of c)) (form_coming c bytes) c.pending)
+    ≡ after_coming c bytes (coming_of (is_flight c bytes) (is_some (change_of e)) (same_device (author_device e.header) (me_of c)) (form_coming c bytes) c.pending) (shown_form (is_flight c bytes) (is_some (change_of e)) (length (shown_of c)) (form_coming c bytes) c.pending)
 accepted_is c bytes e reads =
     let change : is_some (change_in bytes) ≡ is_some (change_of e) = ap is_some (change_in_is bytes e reads) ∙ some_same e (change_of e) in
-    let own : is_by (me_of c) bytes ≡ (e.header.author == me_of c) = by_author (me_of c) bytes e reads in
+    let own : is_by (me_of c) bytes ≡ same_device (author_device e.header) (me_of c) = by_author (me_of c) bytes e reads in
     ap (λ (b : Bool). comes_by c bytes (is_flight c bytes) b (is_by (me_of c) bytes)) change
     ∙ ap (λ (b : Bool). comes_by c bytes (is_flight c bytes) (is_some (change_of e)) b) own
-    ∙ by_kinds c bytes (is_flight c bytes) (is_some (change_of e)) (e.header.author == me_of c)
+    ∙ by_kinds c bytes (is_flight c bytes) (is_some (change_of e)) (same_device (author_device e.header) (me_of c))
 
 -- ---- lengths
 
@@ -113,7 +114,7 @@ module _ {D : Type 0} (line : LineModel) (signer : SignerModel D) (ticket : Opti
       let bytes = p.checked.bytes in
       let e = p.checked.entry in
       let became : List Mark → ℕ → PlainClient =
-      λ form len. after_coming c bytes (coming_of (is_flight c bytes) (is_some (change_of e)) (e.header.author == me_of c) form c.pending) (shown_form (is_flight c bytes) (is_some (change_of e)) len form c.pending) in
+      λ form len. after_coming c bytes (coming_of (is_flight c bytes) (is_some (change_of e)) (same_device (author_device e.header) (me_of c)) form c.pending) (shown_form (is_flight c bytes) (is_some (change_of e)) len form c.pending) in
       accepted_is c bytes e prepared.checked.read
       ∙ ap (λ (form : List Mark). became form (length (shown_of c))) (sym prepared.form_is)
       ∙ ap (λ (len : ℕ). became p.form len) (sym (length_of_shown line signer ticket own known))
@@ -245,12 +246,12 @@ pub same_flight : (coming : Coming) (ps qs : List Pending) (f g : Option (List �
 same_flight coming ps qs f g one other = ap (λ (l : List Pending). flight_after (effect coming l) f) one ∙ ap (flight_after (effect coming qs)) other
 
 -- what the code settles on is what the definition does
-pub coming_there : (line : LineModel) (own : WorkspaceModel) (p : PreparedModel) (bytes : List ℕ) (me : ℕ) (coming : Coming) → p.checked.bytes ≡ bytes → me ≡ line.kit.me
-    → effect coming own.pending ≡ coming_of (is_same_as own.flight bytes) (is_some (change_of p.checked.entry)) (p.checked.entry.header.author == me) p.form own.pending → effect coming own.pending ≡ coming_at line own p
+pub coming_there : (line : LineModel) (own : WorkspaceModel) (p : PreparedModel) (bytes : List ℕ) (me : Device) (coming : Coming) → p.checked.bytes ≡ bytes → me ≡ line.kit.me
+    → effect coming own.pending ≡ coming_of (is_same_as own.flight bytes) (is_some (change_of p.checked.entry)) (same_device (author_device p.checked.entry.header) me) p.form own.pending → effect coming own.pending ≡ coming_at line own p
 coming_there line own p bytes me coming is me_is settled =
     settled
-    ∙ ap (λ (b : List ℕ). coming_of (is_same_as own.flight b) (is_some (change_of p.checked.entry)) (p.checked.entry.header.author == me) p.form own.pending) (sym is)
-    ∙ ap (λ (n : ℕ). coming_of (is_same_as own.flight p.checked.bytes) (is_some (change_of p.checked.entry)) (p.checked.entry.header.author == n) p.form own.pending) me_is
+    ∙ ap (λ (b : List ℕ). coming_of (is_same_as own.flight b) (is_some (change_of p.checked.entry)) (same_device (author_device p.checked.entry.header) me) p.form own.pending) (sym is)
+    ∙ ap (λ (me : Device). coming_of (is_same_as own.flight p.checked.bytes) (is_some (change_of p.checked.entry)) (same_device (author_device p.checked.entry.header) me) p.form own.pending) me_is
 
 pub form_there : (own : WorkspaceModel) (p : PreparedModel) (bytes : List ℕ) (form : List Mark) → p.checked.bytes ≡ bytes
     → form ≡ shown_form (is_same_as own.flight bytes) (is_some (change_of p.checked.entry)) (length (text_after own.shown)) p.form own.pending → form ≡ form_at own p

@@ -1,6 +1,8 @@
 -- Worked examples: logs, pending edits that another's edit passes, what events do to a client, and what a run keeps.
 use Rattle.std.proofs.Common.{◌≡◌, List, [], ◌∷◌, ◌++◌, None, refl}
 use Rattle.sporc_delta.specs.Marks.{Retain, Delete, Insert}
+use Rattle.sporc_member.specs.declared.device.Device.{Device}
+use Rattle.sporc_member.specs.Device.{first_device}
 use Rattle.sporc_epoch.specs.Keys.{Keys}
 use Rattle.sporc_client.specs.declared.event.Event.TheVariants as stored
 use Rattle.sporc_client.specs.declared.pending.Pending.TheVariants as items
@@ -55,20 +57,27 @@ own_entry_comes o = refl
 nothing_is_left : (o : Opening) → (replay_from (two_edits o) (events.Submit 0 (7 ∷ []) ∷ events.Discard 0 ∷ [])).flight ≡ None
 nothing_is_left o = refl
 
--- ---- runs: member 1 opens a client and signs the entry 7
+-- ---- runs: the first device of member 1 opens a client and signs the entry 7
+
+abbrev one : Device
+one = first_device 1
+
+-- a further device of it
+abbrev further : Device
+further = record { member = 1; number = 1 }
 
 abbrev signs : Keys → List Move
-signs ring = Open 1 ring ∷ Happen 1 (events.Submit 0 (7 ∷ [])) ∷ []
+signs ring = Open one ring ∷ Happen one (events.Submit 0 (7 ∷ [])) ∷ []
 
 -- what the client was is kept with what it signed, also if it goes back
 its_client_is_kept : (s : Setup) (ring : Keys)
-    → (after_all s start (signs ring)).signed ≡ record { who = 1; entry = 7 ∷ []; client = opened (opening_of s 1 ring) } ∷ []
+    → (after_all s start (signs ring)).signed ≡ record { who = one; entry = 7 ∷ []; client = opened (opening_of s one ring) } ∷ []
 its_client_is_kept s ring = refl
 
 signed_for_good : (s : Setup) (ring : Keys)
-    → (after_all s start (signs ring ++ Restart 1 0 ∷ [])).signed ≡ (after_all s start (signs ring)).signed
+    → (after_all s start (signs ring ++ Restart one 0 ∷ [])).signed ≡ (after_all s start (signs ring)).signed
 signed_for_good s ring = refl
 
--- nobody else has a client then, and what is handed to one who has none changes nothing
-no_one_else : (s : Setup) (ring : Keys) → (after_all s start (signs ring ++ Give 2 1 (7 ∷ []) ∷ [])).clients 2 ≡ None
+-- no other device has a client then, and what is handed to one that has none changes nothing
+no_one_else : (s : Setup) (ring : Keys) → (after_all s start (signs ring ++ Give further 1 (7 ∷ []) ∷ [])).clients further ≡ None
 no_one_else s ring = refl

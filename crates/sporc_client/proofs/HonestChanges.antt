@@ -15,14 +15,15 @@ use Rattle.sporc_cipher.specs.Mask.{mask_of}
 use Rattle.sporc_cipher.proofs.Stream.{length-mask_from}
 use Rattle.sporc_member.specs.declared.change.Change.{Change as MemberChange}
 use Rattle.sporc_member.specs.declared.change.ChangeFault.{ChangeFault}
-use Rattle.sporc_member.specs.declared.founder.Founder.{Founder}
+use Rattle.sporc_member.specs.declared.device.Device.{Device}
+use Rattle.sporc_member.specs.declared.member.Member.{Member}
 use Rattle.sporc_member.specs.Roster.{Roster, after_change, change_fault_of, member_at, numbers_of, removes}
 use Rattle.sporc_entry.specs.declared.change.ChangeBody.{ChangeBody}
 use Rattle.sporc_entry.specs.declared.wrap.Wrap.{Wrap}
 use Rattle.sporc_entry.specs.ChangeBody.{IsChangeBody, IsWrap, change_body_bytes, wrap_bytes}
 use Rattle.sporc_epoch.specs.Keys.{Keys}
 use Rattle.sporc_epoch.specs.Sealing.{Sealing, body_sealed, body_unless, change_sealed, least_unpaired, wraps_sealed}
-use Rattle.sporc_epoch.specs.Streams.{entry_stream, previous_stream}
+use Rattle.sporc_epoch.specs.Streams.{previous_stream}
 use Rattle.sporc_epoch.specs.Wraps.{wrap_opened}
 use Rattle.sporc_epoch.proofs.SealedKeys.{new_opens, previous_opens, wraps_name}
 use Rattle.sporc_head.specs.HeadChecks.{bad_change, names, roster_checks}
@@ -58,9 +59,9 @@ wraps_same (w ∷ ws) (v ∷ vs) all all' same =
         ap (λ (n : ℕ). let x : Wrap = record { member = n; sealed = w.sealed } in x) member.0
         ∙ ap (λ (s : List ℕ). let x : Wrap = record { member = v.member; sealed = s } in x) member.1
 
-pub bodies_same : (b d : ChangeBody) → IsChangeBody b → IsTypedChange d.change → length d.commitment ≡ 32 → length d.previous ≡ 32 → AllByRecursion IsWrap d.wraps → change_body_bytes b ≡ change_body_bytes d → b ≡ d
+pub bodies_same : (version : ℕ) (b d : ChangeBody) → IsChangeBody version b → IsTypedChange d.change → length d.commitment ≡ 32 → length d.previous ≡ 32 → AllByRecursion IsWrap d.wraps → change_body_bytes b ≡ change_body_bytes d → b ≡ d
 unfolding change_body_bytes
-bodies_same b d is typed commitment previous wraps same =
+bodies_same version b d is typed commitment previous wraps same =
     let first = change_same b.change d.change _ _ (typed_of b.change is.change) typed same in
     let second = pieces_same b.commitment d.commitment _ _ (is.commitment ∙ sym commitment) first.1 in
     let third = pieces_same b.previous d.previous _ _ (is.previous ∙ sym previous) second.1 in
@@ -76,7 +77,7 @@ bodies_same b d is typed commitment previous wraps same =
 abbrev pub IsSmall : ℕ → Type 0
 IsSmall n = n < 2 ^ 16
 
-pub numbers_small : (members : List Founder) → AllByRecursion IsSmallMember members → AllByRecursion IsSmall (numbers_of members)
+pub numbers_small : (members : List Member) → AllByRecursion IsSmallMember members → AllByRecursion IsSmall (numbers_of members)
 numbers_small [] all = tt
 numbers_small (m ∷ members) all = (all.0, numbers_small members all.1)
 
@@ -90,20 +91,20 @@ sealed_wraps stream key pairs (m ∷ members) size all = go (get pairs m) (seale
     go (Some pair) rest = (record { member = all.0; sealed = length-mask_from pair stream 0 key ∙ size }, rest)
 
 -- the sealed body, once its bytes were read
-pub read_as_sealed : (b : ChangeBody) (s : Sealing) (pairs : Keys) (members : List Founder) → IsChangeBody b → IsTypedChange s.change → length s.old ≡ 32 → length s.new ≡ 32
+pub read_as_sealed : (version : ℕ) (b : ChangeBody) (s : Sealing) (pairs : Keys) (members : List Member) → IsChangeBody version b → IsTypedChange s.change → length s.old ≡ 32 → length s.new ≡ 32
     → s.members ≡ numbers_of members → AllByRecursion IsSmallMember members → change_body_bytes b ≡ change_body_bytes (body_sealed s pairs) → b ≡ body_sealed s pairs
 unfolding body_sealed
-read_as_sealed b s pairs members is typed old new named small same =
-    bodies_same b (body_sealed s pairs) is typed
+read_as_sealed version b s pairs members is typed old new named small same =
+    bodies_same version b (body_sealed s pairs) is typed
     (length-sha256 (commitment_string s.document (s.epoch + 1) s.new))
     (length-mask_from s.new (previous_stream (s.epoch + 1)) 0 s.old ∙ old)
-    (sealed_wraps (entry_stream s.author s.leaf) s.new pairs s.members new (subst (AllByRecursion IsSmall) (sym named) (numbers_small members small)))
+    (sealed_wraps s.stream s.new pairs s.members new (subst (AllByRecursion IsSmall) (sym named) (numbers_small members small)))
     same
 
 -- the new key that an entry shows
-pub new_key_size : (pairs : Keys) (stream : ℕ) (o : Option ChangeBody) → IfSome o IsChangeBody → length (new_key_of pairs stream o) ≡ 32
-new_key_size pairs stream None is = refl
-new_key_size pairs stream (Some body) is = of_wraps body.wraps is.wraps
+pub new_key_size : (version : ℕ) (pairs : Keys) (stream : ℕ) (o : Option ChangeBody) → IfSome o (IsChangeBody version) → length (new_key_of pairs stream o) ≡ 32
+new_key_size version pairs stream None is = refl
+new_key_size version pairs stream (Some body) is = of_wraps body.wraps is.wraps
   where
     of_wraps : (ws : List Wrap) → AllByRecursion IsWrap ws → length (first_sealed pairs stream ws) ≡ 32
     of_wraps [] all = refl
@@ -119,28 +120,28 @@ pub roster_fine : (roster : Roster) (s : Sealing) (pairs : Keys) → change_faul
     → first_of (roster_checks roster (Some (body_sealed s pairs))) ≡ None
 unfolding body_sealed
 roster_fine roster s pairs none named paired =
-    let ws = wraps_sealed (entry_stream s.author s.leaf) s.new pairs s.members in
+    let ws = wraps_sealed s.stream s.new pairs s.members in
     let numbers = numbers_of (after_change roster s.change).members in
-    let same : names ws numbers ≡ true = (bytes_eq-Decides (map (λ w. w.member) ws) numbers).1 (wraps_name (entry_stream s.author s.leaf) s.new pairs s.members paired ∙ named) in
+    let same : names ws numbers ≡ true = (bytes_eq-Decides (map (λ w. w.member) ws) numbers).1 (wraps_name s.stream s.new pairs s.members paired ∙ named) in
     ap (λ (o : Option ChangeFault). first_of (bad_change o ∷ unless (names ws numbers) WrongWraps ∷ [])) none
     ∙ ap (λ (t : Bool). first_of (unless t WrongWraps ∷ [])) same
 
-in_front : (me : ℕ) (m : Founder) (members : List Founder) → (is_some (find (λ (m : Founder). m.member == me) members) ≡ true → Contains (numbers_of members) me)
-    → (here : Bool) → (m.member == me) ≡ here → is_some (cond here (Some m) (find (λ (m : Founder). m.member == me) members)) ≡ true → Contains (m.member ∷ numbers_of members) me
+in_front : (me : ℕ) (m : Member) (members : List Member) → (is_some (find (λ (m : Member). m.member == me) members) ≡ true → Contains (numbers_of members) me)
+    → (here : Bool) → (m.member == me) ≡ here → is_some (cond here (Some m) (find (λ (m : Member). m.member == me) members)) ≡ true → Contains (m.member ∷ numbers_of members) me
 in_front me m members rest true is h = subst (λ (n : ℕ). Contains (m.member ∷ numbers_of members) n) (eqb-true m.member me is) (Contains-first m.member (numbers_of members))
 in_front me m members rest false is h = Contains-rest m.member me (numbers_of members) (rest h)
 
-member_in : (me : ℕ) (members : List Founder) → is_some (find (λ (m : Founder). m.member == me) members) ≡ true → Contains (numbers_of members) me
+member_in : (me : ℕ) (members : List Member) → is_some (find (λ (m : Member). m.member == me) members) ≡ true → Contains (numbers_of members) me
 member_in me [] h = absurd cc
 member_in me (m ∷ members) h = in_front me m members (member_in me members) (m.member == me) refl h
 
 -- where the wraps name the members after a change, a member is one that has a wrap
-found_any : (me : ℕ) (members : List Founder) → is_some (find (λ (m : Founder). m.member == me) members) ≡ list_any (λ (n : ℕ). n == me) (numbers_of members)
+found_any : (me : ℕ) (members : List Member) → is_some (find (λ (m : Member). m.member == me) members) ≡ list_any (λ (n : ℕ). n == me) (numbers_of members)
 found_any me [] = refl
 found_any me (m ∷ members) = go (m.member == me) (found_any me members)
   where
-    go : (here : Bool) → is_some (find (λ (m : Founder). m.member == me) members) ≡ list_any (λ (n : ℕ). n == me) (numbers_of members)
-        → is_some (cond here (Some m) (find (λ (m : Founder). m.member == me) members)) ≡ (here || list_any (λ (n : ℕ). n == me) (numbers_of members))
+    go : (here : Bool) → is_some (find (λ (m : Member). m.member == me) members) ≡ list_any (λ (n : ℕ). n == me) (numbers_of members)
+        → is_some (cond here (Some m) (find (λ (m : Member). m.member == me) members)) ≡ (here || list_any (λ (n : ℕ). n == me) (numbers_of members))
     go true h = refl
     go false h = h
 
@@ -152,14 +153,14 @@ pub sealed_for : (roster : Roster) (s : Sealing) (pairs : Keys) (me : ℕ) → s
     → is_some (member_at (after_change roster s.change) me) ≡ list_any (λ (w : Wrap). w.member == me) (body_sealed s pairs).wraps
 unfolding body_sealed
 sealed_for roster s pairs me named none =
-    let ws = wraps_sealed (entry_stream s.author s.leaf) s.new pairs s.members in
+    let ws = wraps_sealed s.stream s.new pairs s.members in
     found_any me (after_change roster s.change).members
-    ∙ ap (list_any (λ (n : ℕ). n == me)) (sym named ∙ sym (wraps_name (entry_stream s.author s.leaf) s.new pairs s.members none))
+    ∙ ap (list_any (λ (n : ℕ). n == me)) (sym named ∙ sym (wraps_name s.stream s.new pairs s.members none))
     ∙ sym (wraps_any me ws)
 
 -- a member opens the new key
 pub member_opens : (roster : Roster) (s : Sealing) (pairs mine : Keys) (me : ℕ) → s.members ≡ numbers_of (after_change roster s.change).members → least_unpaired pairs s.members ≡ None
-    → is_some (member_at (after_change roster s.change) me) ≡ true → get mine s.author ≡ get pairs me → wrap_opened (body_sealed s pairs) s.author s.leaf me mine ≡ Some s.new
+    → is_some (member_at (after_change roster s.change) me) ≡ true → get mine s.author ≡ get pairs me → wrap_opened (body_sealed s pairs) s.author s.stream me mine ≡ Some s.new
 member_opens roster s pairs mine me named none there pair =
     let at : Contains s.members me = subst (λ (ns : List ℕ). Contains ns me) (sym named) (member_in me (after_change roster s.change).members there) in
     new_opens s pairs mine (body_sealed s pairs) me (sealed_change_of s pairs none) at pair
@@ -173,8 +174,8 @@ pub key_is_new : (s : Sealing) (pairs : Keys) → least_unpaired pairs s.members
 key_is_new s pairs none =
     and_from _ _ ((bytes_eq-Decides _ _).1 (commits s pairs)) ((bytes_eq-Decides _ _).1 (previous_opens s pairs (body_sealed s pairs) (sealed_change_of s pairs none)))
 
--- so the checks of the key hold for a member that the change removes, and for one that finds the new key
-pub keys_fine : (document : List ℕ) (me epoch : ℕ) (c : ChangeBody) (old key : Option (List ℕ)) → (removes me c.change ≡ false → (is_some key ≡ true) × (is_new_key document epoch c old key ≡ true))
+-- so the checks of the key hold for a device that the change removes, and for one that finds the new key
+pub keys_fine : (document : List ℕ) (me : Device) (epoch : ℕ) (c : ChangeBody) (old key : Option (List ℕ)) → (removes me c.change ≡ false → (is_some key ≡ true) × (is_new_key document epoch c old key ≡ true))
     → first_of (new_key_checks document me epoch c old key) ≡ None
 keys_fine document me epoch c old key found = go (removes me c.change) refl
   where

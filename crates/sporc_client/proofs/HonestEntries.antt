@@ -7,12 +7,14 @@ use Rattle.std.proofs.lemmas.List.{drop_at, length-drop, length-take-le, take_at
 use Rattle.sporc_base.specs.Bytes.{IsBytes}
 use Rattle.sporc_base.specs.FirstFault.{first_of}
 use Rattle.sporc_hash.specs.Strings.{CollisionFree, key_string}
+use Rattle.lms_tree.specs.LmsPrivate.{lms_public_of}
+use Rattle.lms_tree.specs.LmsPublic.{public_key_bytes}
 use Rattle.lms_tree.specs.Signatures.{lms_signature_of}
 use Rattle.sporc_delta.specs.Format.{Spells, delta_bytes}
 use Rattle.sporc_delta.specs.Marks.{Mark, base_len}
-use Rattle.sporc_member.specs.declared.founder.Founder.{Founder}
+use Rattle.sporc_member.specs.declared.device.Device.{Device}
 use Rattle.sporc_member.specs.declared.change.Change.{Change as MemberChange}
-use Rattle.sporc_member.specs.Roster.{Roster, after_change, member_at, removes, roster_after}
+use Rattle.sporc_member.specs.Roster.{Roster, after_change, key_of as key_of_device, member_at, removes, roster_after}
 use Rattle.sporc_entry.specs.declared.change.ChangeBody.{ChangeBody}
 use Rattle.sporc_entry.specs.declared.entry.Entry.{Entry}
 use Rattle.sporc_entry.specs.declared.genesis.Genesis.{Genesis}
@@ -20,13 +22,14 @@ use Rattle.sporc_entry.specs.declared.header.Header.{Header}
 use Rattle.sporc_entry.specs.declared.wrap.Wrap.{Wrap}
 use Rattle.sporc_entry.specs.ChangeBody.{IsChange, IsChangeBody, change_body_bytes}
 use Rattle.sporc_entry.specs.Genesis.{IsFounder}
-use Rattle.sporc_entry.specs.Entry.{IsEntry, change_of, entry_of, signed_string}
+use Rattle.sporc_entry.specs.Entry.{IsEntry, author_device, change_of, entry_of, signed_string}
+use Rattle.sporc_entry.specs.Version.{version_of}
 use Rattle.sporc_epoch.specs.Keys.{Keys}
 use Rattle.sporc_epoch.specs.Sealing.{Sealing, body_sealed}
-use Rattle.sporc_epoch.specs.Streams.{entry_stream}
+use Rattle.sporc_epoch.specs.Streams.{stream_of}
 use Rattle.sporc_epoch.specs.Wraps.{wrap_opened}
 use Rattle.sporc_head.specs.declared.limits.TheConstants.{MAX_ENTRIES}
-use Rattle.sporc_head.specs.HeadChecks.{allows_member, names_leaf, roster_checks, verifies_member}
+use Rattle.sporc_head.specs.HeadChecks.{allows_member, names_leaf, roster_checks, verifies_device}
 use Rattle.sporc_head.specs.History.{CommittedChange, change_in, changes, count_of, epoch_of, hash_of, is_removed, roster_of}
 use Rattle.sporc_head.proofs.Grows.{change_in_read}
 use Rattle.sporc_line.specs.Kit.{Kit}
@@ -45,7 +48,7 @@ use Rattle.sporc_client.specs.declared.pending.Pending.{Pending}
 use Rattle.sporc_client.specs.declared.pending.Pending.TheVariants as items
 use Rattle.sporc_client.specs.Allowed.{new_key_in, new_key_of, randomizer_in}
 use Rattle.sporc_client.specs.Answers.{refusal_of}
-use Rattle.sporc_client.specs.Entries.{Chosen, current_key, entry_made, kind_of, sealing_of}
+use Rattle.sporc_client.specs.Entries.{Chosen, current_key, entry_made, kind_of, next_header, sealing_of}
 use Rattle.sporc_client.specs.HonestEntries.{CanLearnKey, CanReceive, HasOwnKey, IsOthersEdit, SubmitsUnderOwnKey}
 use Rattle.sporc_client.specs.PlainClient.{Opening, PlainClient, committed_of, me_of}
 use Rattle.sporc_client.specs.Reached.{IsReached}
@@ -62,7 +65,7 @@ use Rattle.sporc_client.proofs.SignedEntries.{header_made, leaf_small}
 use Rattle.sporc_client.proofs.SoundClients.{HasKey, IsSoundAndTyped, body_of_change, edit_spelled, entry_read, header_of_made, key_there, no_change, reads_edit, sealed_change}
 use Rattle.sporc_client.proofs.SoundRuns.{sound_and_typed_at}
 use Rattle.sporc_client.proofs.Spellings.{AreTypedItems}
-use Rattle.sporc_client.proofs.Submitting.{IsDue, IsMadeBy, chosen_in, made_by_submission}
+use Rattle.sporc_client.proofs.Submitting.{IsDue, IsMadeBy, chosen_in, is_there, made_by_submission}
 use Rattle.sporc_client.proofs.TypedHistories.{IsSmallMember, changes_typed, key_size, small_change, small_roster}
 
 -- ---- the signature of an entry that a client made
@@ -103,32 +106,33 @@ pub record IsMadeOn (g : Genesis) (entries : List (List ℕ)) (e : Entry) : Type
   pub document : e.header.document ≡ g.document
   pub base : e.header.base ≡ length entries
   pub history : e.header.base_hash ≡ hash_of g entries
-  pub number : e.header.number ≡ count_of e.header.author entries + 1
+  pub version : e.header.version ≡ version_of (roster_of g entries).upgraded
+  pub number : e.header.number ≡ count_of (author_device e.header) entries + 1
   pub epoch : e.header.epoch ≡ epoch_of entries
   pub right : allows_member e.header.kind (member_at (roster_of g entries) e.header.author) ≡ true
   pub leaf : names_leaf e.header.leaf e.signature ≡ true
-  pub signature : verifies_member (signed_string e) e.signature (member_at (roster_of g entries) e.header.author) ≡ true
-
-is_there : (kind : ℕ) (o : Option Founder) → allows_member kind o ≡ true → is_some o ≡ true
-is_there kind None h = absurd cc
-is_there kind (Some member) h = refl
+  pub key : List ℕ
+  pub is_key : key_of_device (roster_of g entries) (author_device e.header) ≡ Some key
+  pub signature : verifies_device (signed_string e) e.signature (Some key) ≡ true
 
 pub honest_passes : (g : Genesis) (kit : Kit) (entries edits : List (List ℕ)) (bytes : List ℕ) (e : Entry) → entry_of bytes ≡ Ok e → IsMadeOn g entries e
-    → AllByRecursion (IsOthersEdit e.header.author) edits → is_removed kit.me (entries ++ edits) ≡ false → length (entries ++ edits) < MAX_ENTRIES
+    → AllByRecursion (IsOthersEdit (author_device e.header)) edits → is_removed kit.me (entries ++ edits) ≡ false → length (entries ++ edits) < MAX_ENTRIES
     → first_of (roster_checks (roster_of g (entries ++ edits)) (change_of e)) ≡ None → first_of (key_checks g kit (entries ++ edits) e) ≡ None
     → first_fault g kit (entries ++ edits) (length (entries ++ edits) + 1) bytes ≡ None
 honest_passes g kit entries edits bytes e is m others kept room roster keys =
-    let author = e.header.author in
+    let author = author_device e.header in
     let same : changes (entries ++ edits) ≡ changes entries = changes_stay author entries edits others in
     let members : roster_of g entries ≡ roster_of g (entries ++ edits) = ap (λ (cs : List CommittedChange). roster_after g.founders (map (λ c. c.body.change) cs)) (sym same) in
-    let right : allows_member e.header.kind (member_at (roster_of g (entries ++ edits)) author) ≡ true = ap (λ r. allows_member e.header.kind (member_at r author)) (sym members) ∙ m.right in
+    let right : allows_member e.header.kind (member_at (roster_of g (entries ++ edits)) e.header.author) ≡ true = ap (λ r. allows_member e.header.kind (member_at r e.header.author)) (sym members) ∙ m.right in
     let front : take e.header.base (entries ++ edits) ≡ entries = take_at entries edits e.header.base (sym m.base) in
     no_fault g kit (entries ++ edits) (length (entries ++ edits) + 1) bytes e is (record {
       document = m.document;
       position = refl;
       not_removed = kept;
       room = room;
-      member = is_there e.header.kind (member_at (roster_of g (entries ++ edits)) author) right;
+      version = m.version ∙ ap (λ r. version_of r.upgraded) members;
+      member = is_there e.header.kind (member_at (roster_of g (entries ++ edits)) e.header.author) right;
+      device = ap (λ r. is_some (key_of_device r author)) (sym members) ∙ ap is_some m.is_key;
       base = omega (arith, m.base, length-append entries edits);
       barrier = omega (arith, barrier_before author entries edits others, m.base);
       history = m.history ∙ sym (ap (hash_of g) front);
@@ -137,46 +141,48 @@ honest_passes g kit entries edits bytes e is m others kept room roster keys =
       epoch = m.epoch ∙ ap length (sym same);
       right = right;
       leaf = m.leaf;
-      signature = ap (λ r. verifies_member (signed_string e) e.signature (member_at r author)) (sym members) ∙ m.signature;
+      signature = ap (λ r. verifies_device (signed_string e) e.signature (key_of_device r author)) (sym members) ∙ ap (verifies_device (signed_string e) e.signature) m.is_key ∙ m.signature;
       roster = roster;
       keys = keys;
     })
 
 -- what a client made
-pub made_on : (s : Setup) (who : ℕ) (c : PlainClient) (bytes : List ℕ) → IsWellFormed s → IsReached s who c → IsBytes bytes → length c.opening.key.id ≡ 16 → HasOwnKey c → (makes : IsMadeBy c bytes)
+pub made_on : (s : Setup) (who : Device) (c : PlainClient) (bytes : List ℕ) → IsWellFormed s → IsReached s who c → IsBytes bytes → length c.opening.key.id ≡ 16 → HasOwnKey c → (makes : IsMadeBy c bytes)
     → IsMadeOn c.opening.genesis c.entries makes.entry
 made_on s who c bytes well reached typed id own makes =
     let e = makes.entry in
     let chosen = chosen_in c e in
     let header = header_made s who c bytes well reached makes in
     let same = (entry_read s who c bytes well reached typed makes).1 in
-    let author : e.header.author ≡ me_of c = ap (λ (h : Header). h.author) header in
+    let author : author_device e.header ≡ me_of c = ap author_device header in
     let kind : e.header.kind ≡ kind_of makes.item = ap (λ (h : Header). h.kind) header in
     let message = signed_string (entry_made c chosen makes.item) in
     let signature : e.signature ≡ lms_signature_of c.opening.key e.header.leaf chosen.randomizer message = ap (λ (e : Entry). e.signature) same ∙ signature_of c chosen makes.item in
     let signed : signed_string e ≡ message = ap signed_string same in
     let size = randomizer_size c bytes makes same in
     let roster = roster_of c.opening.genesis c.entries in
+    let key = public_key_bytes (lms_public_of c.opening.key) in
     record {
       document = ap (λ (h : Header). h.document) header;
       base = ap (λ (h : Header). h.base) header;
       history = ap (λ (h : Header). h.base_hash) header;
-      number = ap (λ (h : Header). h.number) header ∙ ap (λ (a : ℕ). count_of a c.entries + 1) (sym author);
+      version = ap (λ (h : Header). h.version) header;
+      number = ap (λ (h : Header). h.number) header ∙ ap (λ (d : Device). count_of d c.entries + 1) (sym author);
       epoch = ap (λ (h : Header). h.epoch) header;
-      right = ap (λ (k : ℕ). allows_member k (member_at roster e.header.author)) kind ∙ ap (λ (a : ℕ). allows_member (kind_of makes.item) (member_at roster a)) author ∙ makes.due.right;
+      right = ap (λ (k : ℕ). allows_member k (member_at roster e.header.author)) kind ∙ ap (λ (h : Header). allows_member (kind_of makes.item) (member_at roster h.author)) header ∙ makes.due.right;
       leaf = ap (names_leaf e.header.leaf) signature ∙ names_own_leaf c.opening.key e.header.leaf chosen.randomizer message (leaf_small c.opening.key.lms e.header.leaf makes.leaf);
+      key = key;
+      is_key = ap (key_of_device roster) author ∙ own;
       signature =
-          ap (λ (a : ℕ). verifies_member (signed_string e) e.signature (member_at roster a)) author
-          ∙ ap (verifies_member (signed_string e) e.signature) own.is_member
-          ∙ ap (λ (m : List ℕ). verifies_member m e.signature (Some own.member)) signed
-          ∙ ap (λ (sig : List ℕ). verifies_member message sig (Some own.member)) signature
-          ∙ verifies_own c.opening.key e.header.leaf chosen.randomizer message own.member id size makes.leaf own.own;
+          ap (λ (m : List ℕ). verifies_device m e.signature (Some key)) signed
+          ∙ ap (λ (sig : List ℕ). verifies_device message sig (Some key)) signature
+          ∙ verifies_own c.opening.key e.header.leaf chosen.randomizer message id size makes.leaf;
     }
 
 -- ---- two members read one history alike
 
 -- over the same genesis, where the second's history goes on with edits alone
-module _ (g : Genesis) (mine yours : Kit) (entries edits : List (List ℕ)) (author : ℕ) (others : AllByRecursion (IsOthersEdit author) edits)
+module _ (g : Genesis) (mine yours : Kit) (entries edits : List (List ℕ)) (author : Device) (others : AllByRecursion (IsOthersEdit author) edits)
     (good : Good g mine entries) (good' : Good g yours (entries ++ edits)) (free : CollisionFree (line_strings g mine entries ++ line_strings g yours (entries ++ edits))) where
   abbrev all_strings : List (List ℕ)
   all_strings = line_strings g mine entries ++ line_strings g yours (entries ++ edits)
@@ -235,7 +241,7 @@ edit_reads c chosen marks e same has spells = (
 )
 
 -- who sends and who receives, over one genesis
-pub record IsSent (s : Setup) (i j : ℕ) (c d : PlainClient) (bytes : List ℕ) : Type 0 where
+pub record IsSent (s : Setup) (i j : Device) (c d : PlainClient) (bytes : List ℕ) : Type 0 where
   pub well : IsWellFormed s
   pub sender : IsReached s i c
   pub receiver : IsReached s j d
@@ -246,10 +252,10 @@ pub record IsSent (s : Setup) (i j : ℕ) (c d : PlainClient) (bytes : List ℕ)
   pub makes : IsMadeBy c bytes
   pub can : CanReceive c d bytes
 
-one_genesis : (s : Setup) (i j : ℕ) (c d : PlainClient) → IsReached s i c → IsReached s j d → d.opening.genesis ≡ c.opening.genesis
+one_genesis : (s : Setup) (i j : Device) (c d : PlainClient) → IsReached s i c → IsReached s j d → d.opening.genesis ≡ c.opening.genesis
 one_genesis s i j c d one two = ap (λ (o : Opening). o.genesis) two.opening ∙ sym (ap (λ (o : Opening). o.genesis) one.opening)
 
-module _ (s : Setup) (i j : ℕ) (c d : PlainClient) (bytes : List ℕ) (sent : IsSent s i j c d bytes) where
+module _ (s : Setup) (i j : Device) (c d : PlainClient) (bytes : List ℕ) (sent : IsSent s i j c d bytes) where
   abbrev g : Genesis
   g = c.opening.genesis
 
@@ -279,17 +285,17 @@ module _ (s : Setup) (i j : ℕ) (c d : PlainClient) (bytes : List ℕ) (sent : 
   facts : IsMadeOn g c.entries e
   facts = made_on s i c bytes sent.well sent.sender sent.typed sent.id sent.own sent.makes
 
-  author : e.header.author ≡ me_of c
-  author = ap (λ (h : Header). h.author) (header_made s i c bytes sent.well sent.sender sent.makes)
+  author : author_device e.header ≡ me_of c
+  author = ap author_device (header_made s i c bytes sent.well sent.sender sent.makes)
 
-  its_others : AllByRecursion (IsOthersEdit e.header.author) edits
-  its_others = subst (λ (a : ℕ). AllByRecursion (IsOthersEdit a) edits) (sym author) sent.can.others
+  its_others : AllByRecursion (IsOthersEdit (author_device e.header)) edits
+  its_others = subst (λ (d : Device). AllByRecursion (IsOthersEdit d) edits) (sym author) sent.can.others
 
   -- both read the key of the epoch
   current_keys : key_of g c.opening.kit c.entries (epoch_of c.entries) ≡ key_of g d.opening.kit (c.entries ++ edits) (epoch_of c.entries)
   current_keys =
       let l : epoch_of c.entries ≤ epoch_of c.entries = omega arith in
-      one_key g c.opening.kit d.opening.kit c.entries edits e.header.author its_others sent.sender.good its_good its_free (epoch_of c.entries) l sent.makes.due.not_removed its_place
+      one_key g c.opening.kit d.opening.kit c.entries edits (author_device e.header) its_others sent.sender.good its_good its_free (epoch_of c.entries) l sent.makes.due.not_removed its_place
 
   -- the checks that are left
   passes_with : first_of (roster_checks (roster_of g (c.entries ++ edits)) (change_of e)) ≡ None → first_of (key_checks g d.opening.kit (c.entries ++ edits) e) ≡ None
@@ -311,7 +317,7 @@ module _ (s : Setup) (i j : ℕ) (c d : PlainClient) (bytes : List ℕ) (sent : 
       ap (λ (n : ℕ). edit_marks (key_of g d.opening.kit (c.entries ++ edits) n) e) facts.epoch
       ∙ ap (λ (key : Option (List ℕ)). edit_marks key e) (sym current_keys) ∙ read.1 in
       let text : text_of g d.opening.kit c.entries ≡ committed_of c =
-      sym (one_text g c.opening.kit d.opening.kit c.entries edits e.header.author its_others sent.sender.good its_good its_free) in
+      sym (one_text g c.opening.kit d.opening.kit c.entries edits (author_device e.header) its_others sent.sender.good its_good its_free) in
       passes_with (no_roster_checks g (c.entries ++ edits) e read.0) (edit_keys g d.opening.kit c.entries edits e marks (committed_of c) read.0 facts.base marks_there text base)
 
 -- ---- a change
@@ -322,7 +328,7 @@ keys_of_change : (g : Genesis) (kit : Kit) (entries : List (List ℕ)) (e : Entr
 unfolding key_checks
 keys_of_change g kit entries e body is h = ap (λ (o : Option ChangeBody). first_of (key_checks_of g kit entries e o)) is ∙ h
 
-module _ (s : Setup) (i j : ℕ) (c d : PlainClient) (bytes : List ℕ) (sent : IsSent s i j c d bytes) (change : MemberChange)
+module _ (s : Setup) (i j : Device) (c d : PlainClient) (bytes : List ℕ) (sent : IsSent s i j c d bytes) (change : MemberChange)
     (same : sent.makes.entry ≡ entry_made c (chosen_in c sent.makes.entry) (items.Change change)) (due : IsDue c (items.Change change)) where
   abbrev chosen : Chosen
   chosen = chosen_in c sent.makes.entry
@@ -360,8 +366,9 @@ module _ (s : Setup) (i j : ℕ) (c d : PlainClient) (bytes : List ℕ) (sent : 
 
   new_size : length chosen.new_key ≡ 32
   new_size =
-      let body : IfSome (change_of sent.makes.entry) IsChangeBody = subst (λ (o : Option ChangeBody). IfSome o IsChangeBody) (sym read.read) read.is in
-      ap length shown_new ∙ new_key_size pairs (entry_stream sent.makes.entry.header.author sent.makes.entry.header.leaf) (change_of sent.makes.entry) body
+      let version = sent.makes.entry.header.version in
+      let body : IfSome (change_of sent.makes.entry) (IsChangeBody version) = subst (λ (o : Option ChangeBody). IfSome o (IsChangeBody version)) (sym read.read) read.is in
+      ap length shown_new ∙ new_key_size version pairs (stream_of sent.makes.entry.header) (change_of sent.makes.entry) body
 
   has : HasKey c
   has = key_there c sent.sender.good due.not_removed
@@ -388,7 +395,7 @@ module _ (s : Setup) (i j : ℕ) (c d : PlainClient) (bytes : List ℕ) (sent : 
   body_is : read.body ≡ sealed
   body_is =
       let of : change_body_bytes read.body ≡ change_body_bytes sealed = sym read.bytes ∙ ap (λ (e : Entry). e.body) same ∙ body_of_change c chosen change in
-      read_as_sealed read.body sealing pairs (after_change roster change).members read.is typed old_size new_size refl members_small of
+      read_as_sealed sent.makes.entry.header.version read.body sealing pairs (after_change roster change).members read.is typed old_size new_size refl members_small of
 
   change_is : change_of sent.makes.entry ≡ Some sealed
   change_is = read.read ∙ ap Some body_is
@@ -409,8 +416,9 @@ module _ (s : Setup) (i j : ℕ) (c d : PlainClient) (bytes : List ℕ) (sent : 
   committed_is : change_in bytes ≡ Some (committed sent.makes.entry sealed)
   committed_is = change_in_read bytes sent.makes.entry (Some sealed) sent.makes.reads (sym change_is)
 
-  can_learn : CanLearnKey c d (committed sent.makes.entry sealed)
-  can_learn = subst (λ (o : Option CommittedChange). IfSome o (CanLearnKey c d)) committed_is sent.can.key
+  can_learn : removes (me_of d) sealed.change ≡ false → CanLearnKey c d (committed sent.makes.entry sealed)
+  can_learn =
+      subst (λ (o : Option CommittedChange). IfSome o (λ (change : CommittedChange). removes (me_of d) change.body.change ≡ false → CanLearnKey c d change)) committed_is sent.can.key
 
   epoch_there : epoch_of (c.entries ++ sent.can.edits) ≡ epoch_of c.entries
   epoch_there = ap length its_stay
@@ -420,32 +428,31 @@ module _ (s : Setup) (i j : ℕ) (c d : PlainClient) (bytes : List ℕ) (sent : 
   found stays =
       let e = sent.makes.entry in
       let header = header_made s i c bytes sent.well sent.sender sent.makes in
-      let author : e.header.author ≡ me_of c = ap (λ (h : Header). h.author) header in
       let by_wraps = started_by_wraps c.opening.genesis d.opening.kit (c.entries ++ sent.can.edits) bytes e sealed sent.makes.reads change_is roster_there in
-      by_wraps ∙ ap (λ (t : Bool). cond t None (cond (list_any (λ (w : Wrap). w.member == me_of d) sealed.wraps) (wrap_opened sealed e.header.author e.header.leaf (me_of d) d.opening.kit.pairs) (get d.opening.kit.ring (epoch_of (c.entries ++ sent.can.edits) + 1)))) stays
-      ∙ go e.header.author author (is_some (member_at (after_change roster change) (me_of d))) refl
+      by_wraps ∙ ap (λ (t : Bool). cond t None (cond (list_any (λ (w : Wrap). w.member == (me_of d).member) sealed.wraps) (wrap_opened sealed e.header.author (stream_of e.header) (me_of d).member d.opening.kit.pairs) (get d.opening.kit.ring (epoch_of (c.entries ++ sent.can.edits) + 1)))) stays
+      ∙ go e.header header (is_some (member_at (after_change roster change) (me_of d).member)) refl
     where
-      wrap_there : is_some (member_at (after_change roster change) (me_of d)) ≡ list_any (λ (w : Wrap). w.member == me_of d) sealed.wraps
-      wrap_there = sealed_for roster sealing pairs (me_of d) refl due.fits.1
+      wrap_there : is_some (member_at (after_change roster change) (me_of d).member) ≡ list_any (λ (w : Wrap). w.member == (me_of d).member) sealed.wraps
+      wrap_there = sealed_for roster sealing pairs (me_of d).member refl due.fits.1
 
       its_change : sealed.change ≡ change
       its_change = sealed_change sealing pairs
 
-      go : (author : ℕ) → author ≡ me_of c → (there : Bool) → is_some (member_at (after_change roster change) (me_of d)) ≡ there
-          → cond (list_any (λ (w : Wrap). w.member == me_of d) sealed.wraps) (wrap_opened sealed author sent.makes.entry.header.leaf (me_of d) d.opening.kit.pairs) (get d.opening.kit.ring (epoch_of (c.entries ++ sent.can.edits) + 1)) ≡ Some sealing.new
-      go author by true is =
-          let after : is_some (member_at (after_change roster sealed.change) (me_of d)) ≡ true = ap (λ (x : MemberChange). is_some (member_at (after_change roster x) (me_of d))) its_change ∙ is in
-          let wrap : list_any (λ (w : Wrap). w.member == me_of d) sealed.wraps ≡ true = sym wrap_there ∙ is in
-          ap (λ (t : Bool). cond t (wrap_opened sealed author sent.makes.entry.header.leaf (me_of d) d.opening.kit.pairs) (get d.opening.kit.ring (epoch_of (c.entries ++ sent.can.edits) + 1))) wrap
-          ∙ ap (λ (a : ℕ). wrap_opened sealed a sent.makes.entry.header.leaf (me_of d) d.opening.kit.pairs) by
-          ∙ member_opens roster sealing pairs d.opening.kit.pairs (me_of d) refl due.fits.1 is (can_learn.paired after)
-      go author by false is =
-          let after : is_some (member_at (after_change roster sealed.change) (me_of d)) ≡ false = ap (λ (x : MemberChange). is_some (member_at (after_change roster x) (me_of d))) its_change ∙ is in
-          let wrap : list_any (λ (w : Wrap). w.member == me_of d) sealed.wraps ≡ false = sym wrap_there ∙ is in
-          ap (λ (t : Bool). cond t (wrap_opened sealed author sent.makes.entry.header.leaf (me_of d) d.opening.kit.pairs) (get d.opening.kit.ring (epoch_of (c.entries ++ sent.can.edits) + 1))) wrap
+      go : (h : Header) → h ≡ next_header c sent.makes.entry.header.leaf sent.makes.item → (there : Bool) → is_some (member_at (after_change roster change) (me_of d).member) ≡ there
+          → cond (list_any (λ (w : Wrap). w.member == (me_of d).member) sealed.wraps) (wrap_opened sealed h.author (stream_of h) (me_of d).member d.opening.kit.pairs) (get d.opening.kit.ring (epoch_of (c.entries ++ sent.can.edits) + 1)) ≡ Some sealing.new
+      go h by true is =
+          let after : is_some (member_at (after_change roster sealed.change) (me_of d).member) ≡ true = ap (λ (x : MemberChange). is_some (member_at (after_change roster x) (me_of d).member)) its_change ∙ is in
+          let wrap : list_any (λ (w : Wrap). w.member == (me_of d).member) sealed.wraps ≡ true = sym wrap_there ∙ is in
+          ap (λ (t : Bool). cond t (wrap_opened sealed h.author (stream_of h) (me_of d).member d.opening.kit.pairs) (get d.opening.kit.ring (epoch_of (c.entries ++ sent.can.edits) + 1))) wrap
+          ∙ ap (λ (h : Header). wrap_opened sealed h.author (stream_of h) (me_of d).member d.opening.kit.pairs) by
+          ∙ member_opens roster sealing pairs d.opening.kit.pairs (me_of d).member refl due.fits.1 is ((can_learn stays).paired after)
+      go h by false is =
+          let after : is_some (member_at (after_change roster sealed.change) (me_of d).member) ≡ false = ap (λ (x : MemberChange). is_some (member_at (after_change roster x) (me_of d).member)) its_change ∙ is in
+          let wrap : list_any (λ (w : Wrap). w.member == (me_of d).member) sealed.wraps ≡ false = sym wrap_there ∙ is in
+          ap (λ (t : Bool). cond t (wrap_opened sealed h.author (stream_of h) (me_of d).member d.opening.kit.pairs) (get d.opening.kit.ring (epoch_of (c.entries ++ sent.can.edits) + 1))) wrap
           ∙ ap (λ (n : ℕ). get d.opening.kit.ring (n + 1)) epoch_there
-          ∙ can_learn.hinted after stays
-          ∙ ap Some (ap (new_key_of pairs (entry_stream sent.makes.entry.header.author sent.makes.entry.header.leaf)) (sym change_is) ∙ sym shown_new)
+          ∙ (can_learn stays).hinted after
+          ∙ ap Some (ap (new_key_of pairs (stream_of sent.makes.entry.header)) (sym change_is) ∙ sym shown_new)
 
   old_there : key_of c.opening.genesis d.opening.kit (c.entries ++ sent.can.edits) (epoch_of (c.entries ++ sent.can.edits)) ≡ Some sealing.old
   old_there =
@@ -474,7 +481,7 @@ module _ (s : Setup) (i j : ℕ) (c d : PlainClient) (bytes : List ℕ) (sent : 
 
 -- ---- both
 
-pub sent_passes : (s : Setup) (i j : ℕ) (c d : PlainClient) (bytes : List ℕ) → IsSent s i j c d bytes → refusal_of d (length d.entries + 1) bytes ≡ None
+pub sent_passes : (s : Setup) (i j : Device) (c d : PlainClient) (bytes : List ℕ) → IsSent s i j c d bytes → refusal_of d (length d.entries + 1) bytes ≡ None
 sent_passes s i j c d bytes sent = go sent.makes.item refl
   where
     made : sent.makes.entry ≡ entry_made c (chosen_in c sent.makes.entry) sent.makes.item
@@ -485,9 +492,9 @@ sent_passes s i j c d bytes sent = go sent.makes.item refl
     go (items.Change change) is = change_passes_there s i j c d bytes sent change (made ∙ ap (entry_made c (chosen_in c sent.makes.entry)) is) (subst (IsDue c) is sent.makes.due)
 
 -- in a run of typed moves
-pub honest_entries_pass : (s : Setup) (moves : List Move) (m n i j by : ℕ) (c d : PlainClient) (bytes : List ℕ) → IsTypedRun s moves → IsAt s moves m i c → SubmitsUnderOwnKey c by bytes
+pub honest_entries_pass : (s : Setup) (moves : List Move) (m n by : ℕ) (i j : Device) (c d : PlainClient) (bytes : List ℕ) → IsTypedRun s moves → IsAt s moves m i c → SubmitsUnderOwnKey c by bytes
     → IsAt s moves n j d → CanReceive c d bytes → refusal_of d (length d.entries + 1) bytes ≡ None
-honest_entries_pass s moves m n i j by c d bytes run at submits at' can =
+honest_entries_pass s moves m n by i j c d bytes run at submits at' can =
     let sender = reached_at s moves m i c run.run at in
     sent_passes s i j c d bytes (record {
       well = run.setup;
@@ -495,7 +502,7 @@ honest_entries_pass s moves m n i j by c d bytes run at submits at' can =
       receiver = reached_at s moves n j d run.run at';
       known = sound_and_typed_at s moves m i c run at;
       typed = submits.typed;
-      id = ap (λ (o : Opening). length o.key.id) sender.opening ∙ run.setup.identifiers i sender.is_member;
+      id = ap (λ (o : Opening). length o.key.id) sender.opening ∙ run.setup.identifiers i sender.is_device;
       own = submits.key;
       makes = made_by_submission c by bytes submits.allowed;
       can = can;

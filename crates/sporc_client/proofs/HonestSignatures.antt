@@ -1,4 +1,4 @@
--- What a client signs verifies under its member's key in its history.
+-- What a client signs verifies under its device's key in its history.
 use Rattle.std.proofs.Common.{◌≡◌, ℕ, zero, suc, ◌^◌, ◌<◌, ◌≤◌, true, List, ◌++◌, length, refl, ap, ◌∙◌, arith, Some, length-append}
 use Rattle.std.specs.Prelude.{IsTrue}
 use Rattle.std.specs.Int.{w32, from_be_bytes, to_be_bytes}
@@ -22,8 +22,7 @@ use Rattle.lms_tree.specs.Verification.{leaf_in, verifies}
 use Rattle.lms_tree.proofs.PublicKeyLemmas.{public_key_read_back}
 use Rattle.lms_tree.proofs.SignatureLemmas.{field_one, signatures_verify}
 use Rattle.lms_tree.proofs.VerificationLemmas.{verifies_decides}
-use Rattle.sporc_member.specs.declared.founder.Founder.{Founder}
-use Rattle.sporc_head.specs.HeadChecks.{names_leaf, verifies_member, verifies_under}
+use Rattle.sporc_head.specs.HeadChecks.{names_leaf, verifies_device, verifies_under}
 
 -- ---- how long a signature is at least
 
@@ -80,10 +79,10 @@ unfolding node_of
 root_len key zero r = length-sha256 _
 root_len key (suc k) r = length-sha256 _
 
-pub verifies_own : (key : LmsPrivate) (q : ℕ) (c message : List ℕ) (member : Founder) → length key.id ≡ 16 → length c ≡ 32 → q < 2 ^ height_of key.lms
-    → member.key ≡ public_key_bytes (lms_public_of key) → verifies_member message (lms_signature_of key q c message) (Some member) ≡ true
-verifies_own key q c message member id size fits own =
-    let read : public_key_in member.key ≡ Some (lms_public_of key) = ap public_key_in own ∙ public_key_read_back (lms_public_of key) id (root_len key (height_of key.lms) 1) in
+pub verifies_own : (key : LmsPrivate) (q : ℕ) (c message : List ℕ) → length key.id ≡ 16 → length c ≡ 32 → q < 2 ^ height_of key.lms
+    → verifies_device message (lms_signature_of key q c message) (Some (public_key_bytes (lms_public_of key))) ≡ true
+verifies_own key q c message id size fits =
+    let read : public_key_in (public_key_bytes (lms_public_of key)) ≡ Some (lms_public_of key) = public_key_read_back (lms_public_of key) id (root_len key (height_of key.lms) 1) in
     let computes : IsTrue (verifies (lms_public_of key) message (lms_signature_of key q c message)) =
     (verifies_decides (lms_public_of key) message (lms_signature_of key q c message)).1 (signatures_verify key q c message size fits) in
     ap (verifies_under message (lms_signature_of key q c message)) read ∙ computes

@@ -1,18 +1,20 @@
--- What an entry of a good history says of the history before it, and of its author's entries.
-use Rattle.std.proofs.Common.{◌≡◌, ℕ, suc, ◌+◌, ◌<◌, ◌≤◌, Bool, true, List, [], ◌∷◌, ◌++◌, length, take, drop, refl, ap, sym, ◌∙◌, subst, arith, Some, Ok, inl, inr}
+-- What an entry of a good history says of the history before it, and of the entries of its author's device.
+use Rattle.std.proofs.Common.{◌≡◌, ℕ, suc, ◌+◌, ◌<◌, ◌≤◌, Bool, true, List, [], ◌∷◌, ◌++◌, length, take, drop, ap, sym, ◌∙◌, subst, arith, Some, Ok, inl, inr}
 use Rattle.std.specs.Prelude.{cond}
 use Rattle.std.specs.List.{Contains, slice_get, count_by}
 use Rattle.std.proofs.lemmas.List.{take-append-drop, take-take, length-take-le}
 use Rattle.std.proofs.lemmas.List.Sums.{sum_by-append}
 use Rattle.std.proofs.lemmas.List.Elements.{Contains-append_left, Contains-append_right, Contains-append_cases}
 use Rattle.std.proofs.lemmas.Option.{slice_get_within}
-use Rattle.std.proofs.lemmas.Bool.{eq-eqb, cases_order}
+use Rattle.std.proofs.lemmas.Bool.{cases_order}
+use Rattle.sporc_member.specs.declared.device.Device.{Device}
+use Rattle.sporc_member.proofs.SameDevice.{one_same}
 use Rattle.sporc_hash.specs.Strings.{CollisionFree, chain_strings, key_strings}
 use Rattle.sporc_hash.proofs.SameHistory.{one_value_one_history}
 use Rattle.sporc_hash.proofs.Prefixes.{one_value_one_prefix}
 use Rattle.sporc_entry.specs.declared.entry.Entry.{Entry}
 use Rattle.sporc_entry.specs.declared.genesis.Genesis.{Genesis}
-use Rattle.sporc_entry.specs.Entry.{entry_of}
+use Rattle.sporc_entry.specs.Entry.{author_device, entry_of}
 use Rattle.sporc_entry.specs.Genesis.{genesis_bytes}
 use Rattle.sporc_head.specs.History.{count_of, epoch_of, hash_of, is_by, is_read_by}
 use Rattle.sporc_line.specs.Kit.{Kit}
@@ -80,29 +82,29 @@ count-take-le p A m n h =
     let c : count_by p (take n A) ≡ count_by p (take m A) + count_by p (drop m (take n A)) = ap (count_by p) (sym e) ∙ sum_by-append (λ x. cond (p x) 1 0) (take m A) (drop m (take n A)) in
     omega (arith, c)
 
--- an entry adds one to its author's count
+-- an entry adds one to the count of its author's device
 count_own : (A : List (List ℕ)) (x : ℕ) (b : List ℕ) (e : Entry) → slice_get A x ≡ Some b → entry_of b ≡ Ok e
-    → count_of e.header.author (take (suc x) A) ≡ count_of e.header.author (take x A) + 1
+    → count_of (author_device e.header) (take (suc x) A) ≡ count_of (author_device e.header) (take x A) + 1
 unfolding is_by
 count_own A x b e at is =
-    let author : is_by e.header.author b ≡ true = ap (is_read_by e.header.author) is ∙ eq-eqb e.header.author e.header.author refl in
+    let author : is_by (author_device e.header) b ≡ true = ap (is_read_by (author_device e.header)) is ∙ one_same (author_device e.header) in
     let t : take (suc x) A ≡ take x A ++ b ∷ [] = take_slice_get_more A x b at in
-    ap (count_of e.header.author) t ∙ sum_by-append (λ c. cond (is_by e.header.author c) 1 0) (take x A) (b ∷ []) ∙ ap (λ (t : Bool). count_of e.header.author (take x A) + (0 + cond t 1 0)) author
+    ap (count_of (author_device e.header)) t ∙ sum_by-append (λ c. cond (is_by (author_device e.header) c) 1 0) (take x A) (b ∷ []) ∙ ap (λ (t : Bool). count_of (author_device e.header) (take x A) + (0 + cond t 1 0)) author
 
--- of two entries by one author the later one has the greater number
+-- of two entries by one device the later one has the greater number
 numbers_grow : (g : Genesis) (kit : Kit) (A : List (List ℕ)) (x y : ℕ) (b c : List ℕ) (e f : Entry) → Good g kit A → slice_get A x ≡ Some b → slice_get A y ≡ Some c
-    → entry_of b ≡ Ok e → entry_of c ≡ Ok f → e.header.author ≡ f.header.author → x < y → e.header.number < f.header.number
+    → entry_of b ≡ Ok e → entry_of c ≡ Ok f → author_device e.header ≡ author_device f.header → x < y → e.header.number < f.header.number
 numbers_grow g kit A x y b c e f good at at' is is' same h =
     let m = (passes_at g kit A x b e good at is).number in
     let n = (passes_at g kit A y c f good at' is').number in
     let own = count_own A x b e at is in
-    let more = count-take-le (is_by e.header.author) A (suc x) y h in
-    let k : count_of f.header.author (take y A) ≡ count_of e.header.author (take y A) = ap (λ (a : ℕ). count_of a (take y A)) (sym same) in
+    let more = count-take-le (is_by (author_device e.header)) A (suc x) y h in
+    let k : count_of (author_device f.header) (take y A) ≡ count_of (author_device e.header) (take y A) = ap (λ (d : Device). count_of d (take y A)) (sym same) in
     omega (arith, m, n, own, more, k)
 
--- no two places have one author and number
+-- no two places have one device and number
 pub one_place : (g : Genesis) (kit : Kit) (A : List (List ℕ)) (x y : ℕ) (b c : List ℕ) (e f : Entry) → Good g kit A → slice_get A x ≡ Some b → slice_get A y ≡ Some c
-    → entry_of b ≡ Ok e → entry_of c ≡ Ok f → e.header.author ≡ f.header.author → e.header.number ≡ f.header.number → x ≡ y
+    → entry_of b ≡ Ok e → entry_of c ≡ Ok f → author_device e.header ≡ author_device f.header → e.header.number ≡ f.header.number → x ≡ y
 one_place g kit A x y b c e f good at at' is is' same number = elim (cases_order x y) [
   | inl h ↦ h
   | inr (inl h) ↦ absurd (omega (arith, numbers_grow g kit A x y b c e f good at at' is is' same h, number))

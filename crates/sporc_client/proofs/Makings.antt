@@ -12,12 +12,14 @@ use Rattle.sporc_delta.specs.declared.part.Part.TheVariants.{Keep, Insert, Remov
 use Rattle.sporc_delta.specs.Format.{HaveSpellings}
 use Rattle.sporc_delta.specs.Parts.{runs}
 use Rattle.sporc_delta.specs.Typed.{IsTypedPart}
-use Rattle.sporc_member.specs.declared.founder.Founder.{Founder}
+use Rattle.sporc_member.specs.declared.device.Device.{Device}
+use Rattle.sporc_member.specs.declared.member.Member.{Member}
 use Rattle.sporc_member.specs.Roster.{after_change, numbers_of}
 use Rattle.sporc_entry.specs.Entry.{change_of, entry_of}
+use Rattle.sporc_entry.specs.Version.{version_of}
 use Rattle.sporc_entry.specs.Genesis.{IsGenesis}
 use Rattle.sporc_epoch.specs.Sealing.{body_sealed}
-use Rattle.sporc_epoch.specs.Streams.{entry_stream}
+use Rattle.sporc_epoch.specs.Streams.{stream_of}
 use Rattle.sporc_epoch.proofs.SpelledBodies.{body_spelled}
 use Rattle.sporc_head.specs.History.{roster_of}
 use Rattle.sporc_client.specs.declared.fault.SubmitFault.{SubmitFault}
@@ -44,7 +46,7 @@ use Rattle.sporc_client.proofs.SoundClients.{IsSoundAndTyped, edit_spelled, entr
 use Rattle.sporc_client.proofs.SoundRuns.{sound_and_typed_at}
 use Rattle.sporc_client.proofs.Spellings.{AreTypedItems}
 use Rattle.sporc_client.proofs.SubmitEntries.{chosen_by, made_is_made}
-use Rattle.sporc_client.proofs.SubmitRosters.{change_written, few_after, few_members}
+use Rattle.sporc_client.proofs.SubmitRosters.{change_written, few_after, few_members, kind_written}
 use Rattle.sporc_client.proofs.Submitting.{IsDue, is_due, made_by_submission}
 use Rattle.sporc_client.proofs.TypedHistories.{body_typed, small_change, small_roster}
 use Rattle.sporc_client.proofs.HonestChanges.{new_key_size}
@@ -58,9 +60,9 @@ answer_is entry (Ok submitted.Nothing) h = absurd cc
 answer_is entry (Ok (submitted.Dropped fault)) h = absurd cc
 answer_is entry (Err fault) h = absurd cc
 
-pub can_make : (s : Setup) (moves : List Move) (n who by : ℕ) (c : PlainClient) (entry : List ℕ) → IsTypedRun s moves → IsAt s moves n who c → IsBytes entry → allows c (Submit by entry) ≡ true → CanMake c entry
+pub can_make : (s : Setup) (moves : List Move) (n by : ℕ) (who : Device) (c : PlainClient) (entry : List ℕ) → IsTypedRun s moves → IsAt s moves n who c → IsBytes entry → allows c (Submit by entry) ≡ true → CanMake c entry
 unfolding allows
-can_make s moves n who by c entry run at typed may =
+can_make s moves n by who c entry run at typed may =
     let reached = reached_at s moves n who c run.run at in
     let makes = made_by_submission c by entry may in
     let read = entry_read s who c entry run.setup reached typed makes in
@@ -69,7 +71,7 @@ can_make s moves n who by c entry run at typed may =
     let made : is_made c entry (Ok e) ≡ true = ap (is_made c entry) (sym makes.reads) ∙ may in
     let parts = and_parts (nat_lt e.header.leaf (2 ^ height_of c.opening.key.lms)) (is_entry entry (submission c shown (Ok e.header.leaf))) made in
     let first = shown_size c entry makes read.1 in
-    let second = new_key_size c.opening.kit.pairs (entry_stream e.header.author e.header.leaf) (change_of e) (body_typed e read.0) in
+    let second = new_key_size e.header.version c.opening.kit.pairs (stream_of e.header) (change_of e) (body_typed e read.0) in
     record {
       leaf = e.header.leaf;
       within = makes.leaf;
@@ -109,7 +111,7 @@ all_of (m ∷ numbers) all zero d within = all.0
 all_of (m ∷ numbers) all (suc k) d within = all_of numbers all.1 k d (omega (arith, within))
 
 -- what the entry of a due item holds is spelled as its format has it
-due_spelled : (s : Setup) (who : ℕ) (c : PlainClient) (random : List ℕ) (leaf : ℕ) (item : Pending) → IsWellFormed s → IsReached s who c → IsSoundAndTyped c → length random ≡ 64 → IsDue c item
+due_spelled : (s : Setup) (who : Device) (c : PlainClient) (random : List ℕ) (leaf : ℕ) (item : Pending) → IsWellFormed s → IsReached s who c → IsSoundAndTyped c → length random ≡ 64 → IsDue c item
     → IsSpelled c (chosen_by random leaf) item
 due_spelled s who c random leaf (items.Edit marks) well reached known size due = parts_typed (runs marks) (edit_spelled c marks known.sound known.typed due).in_range
 due_spelled s who c random leaf (items.Change change) well reached known size due =
@@ -123,13 +125,13 @@ due_spelled s who c random leaf (items.Change change) well reached known size du
     let members = (after_change roster change).members in
     let small = numbers_small members (small_change roster change written (small_roster g c.entries is.founders known.bytes)) in
     let new : length (drop 32 random) ≡ 32 = omega (arith, length-drop 32 random, size) in
-    body_spelled sealing c.opening.kit.pairs (body_sealed sealing c.opening.kit.pairs) (sealed_change_of sealing c.opening.kit.pairs due.fits.1) written
+    body_spelled (version_of roster.upgraded) sealing c.opening.kit.pairs (body_sealed sealing c.opening.kit.pairs) (sealed_change_of sealing c.opening.kit.pairs due.fits.1) (kind_written roster change due.fits.0) written
     (current_size c known (key_there c reached.good due.not_removed)) new (all_of (numbers_of members) small)
-    (omega (arith, length-map members (λ (m : Founder). m.member), (few_after roster change few due.fits.0).few))
+    (omega (arith, length-map members (λ (m : Member). m.member), (few_after roster change few due.fits.0).few))
 
-pub made_allowed : (s : Setup) (moves : List Move) (n who by : ℕ) (c : PlainClient) (entry : List ℕ) → IsTypedRun s moves → IsAt s moves n who c → CanMake c entry → allows c (Submit by entry) ≡ true
+pub made_allowed : (s : Setup) (moves : List Move) (n by : ℕ) (who : Device) (c : PlainClient) (entry : List ℕ) → IsTypedRun s moves → IsAt s moves n who c → CanMake c entry → allows c (Submit by entry) ≡ true
 unfolding allows
-made_allowed s moves n who by c entry run at can =
+made_allowed s moves n by who c entry run at can =
     let reached = reached_at s moves n who c run.run at in
     let known = sound_and_typed_at s moves n who c run at in
     let sign = signs c can.random can.leaf entry can.answer in
@@ -139,7 +141,7 @@ made_allowed s moves n who by c entry run at can =
       sound = known.sound;
       size = can.size;
       within = can.within;
-      header = next_is_header s who c can.leaf sign.item run.setup reached due.room can.within;
+      header = next_is_header s who c can.leaf sign.item run.setup reached due.room can.within due.live;
       spelled = due_spelled s who c can.random can.leaf sign.item run.setup reached known can.size due;
     }) in
     subst (λ (bytes : List ℕ). is_made c bytes (entry_of bytes) ≡ true) sign.made made

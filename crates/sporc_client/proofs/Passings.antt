@@ -1,5 +1,5 @@
 -- Pending items that become, one by one, what is said of them.
-use Rattle.std.proofs.Common.{◌≡◌, ℕ, suc, ◌+◌, ◌<◌, List, [], ◌∷◌, ◌++◌, length, take, set, drop, get_or, refl, ap, sym, ◌∙◌, arith, add-one, subst, Option}
+use Rattle.std.proofs.Common.{◌≡◌, ℕ, ◌+◌, ◌<◌, List, [], ◌∷◌, ◌++◌, length, take, set, drop, get_or, refl, ap, sym, ◌∙◌, arith, add-one, subst, Option}
 use Rattle.std.proofs.Math.Seq.{take-suc}
 use Rattle.std.proofs.lemmas.List.{length-append, length-take-le}
 use Rattle.sporc_xform.specs.declared.restating.Passed.{Passed}

@@ -1,8 +1,10 @@
 -- Each move of a run keeps what holds of every client.
 use Rattle.std.proofs.Common.{◌≡◌, ℕ, zero, suc, ◌+◌, Bool, true, false, cond, List, [], ◌∷◌, ◌++◌, length, take, refl, ap, sym, ◌∙◌, subst, Option, None, Some, ◌⊎◌, inl, inr}
-use Rattle.std.specs.Prelude.{IsSomeAnd, Contains, ◌==◌}
+use Rattle.std.specs.Prelude.{IsSomeAnd, Contains}
 use Rattle.std.specs.FinMap.{get}
-use Rattle.std.proofs.lemmas.Bool.{eq-eqb, eqb-true}
+use Rattle.sporc_member.specs.declared.device.Device.{Device}
+use Rattle.sporc_member.specs.Device.{same_device}
+use Rattle.sporc_member.proofs.SameDevice.{one_same, same_one}
 use Rattle.sporc_epoch.specs.Keys.{Keys}
 use Rattle.sporc_head.specs.declared.refusal.Refusal.{Refusal}
 use Rattle.sporc_line.specs.Keys.{key_after}
@@ -20,10 +22,10 @@ use Rattle.sporc_client.proofs.AcceptedHistories.{accept_allowed, accepted_as, a
 
 -- ---- one client
 
-reached_opened : (s : Setup) (who : ℕ) (ring : Keys) → Contains s.members who → Meets s.genesis 0 (get ring 0) s.genesis.commitment → IsReached s who (opened (opening_of s who ring))
+reached_opened : (s : Setup) (who : Device) (ring : Keys) → Contains s.devices who → Meets s.genesis 0 (get ring 0) s.genesis.commitment → IsReached s who (opened (opening_of s who ring))
 unfolding key_after replay is_allowed
 reached_opened s who ring is opens = record {
-  is_member = is;
+  is_device = is;
   ring = ring;
   opening = refl;
   good = good_none s.genesis (opening_of s who ring).kit opens;
@@ -55,13 +57,13 @@ step_leaves c (Accept by bytes) good may = accepted_leaves c bytes good (accept_
 step_leaves c (Discard by) good may = record { opening = refl; good = good }
 
 -- an event that a client allows
-pub reached_step : (s : Setup) (who : ℕ) (c : PlainClient) (event : Logged) → IsReached s who c → allows c event ≡ true → IsReached s who (step c event)
+pub reached_step : (s : Setup) (who : Device) (c : PlainClient) (event : Logged) → IsReached s who c → allows c event ≡ true → IsReached s who (step c event)
 reached_step s who c event reached may =
     let next = step_leaves c event reached.good may in
     let here : allows (replay c.opening reached.log) event ≡ true = ap (λ (d : PlainClient). allows d event) (sym reached.state) ∙ may in
     let log = reached.log ++ event ∷ [] in
     record {
-      is_member = reached.is_member;
+      is_device = reached.is_device;
       ring = reached.ring;
       opening = next.opening ∙ reached.opening;
       good = next.good;
@@ -71,7 +73,7 @@ reached_step s who c event reached may =
     }
 
 -- bytes that are handed to it
-reached_given : (s : Setup) (who position : ℕ) (c : PlainClient) (bytes : List ℕ) → IsReached s who c → IsReached s who (given c bytes (refusal_of c position bytes))
+reached_given : (s : Setup) (who : Device) (position : ℕ) (c : PlainClient) (bytes : List ℕ) → IsReached s who c → IsReached s who (given c bytes (refusal_of c position bytes))
 reached_given s who position c bytes reached = go (refusal_of c position bytes) refl
   where
     room : (has : Bool) → journal_has_room c ≡ has → refusal_of c position bytes ≡ None → IsReached s who (cond has (accepted c bytes) c)
@@ -83,14 +85,14 @@ reached_given s who position c bytes reached = go (refusal_of c position bytes) 
     go None is = room (journal_has_room c) refl is
 
 -- its history up to some entry, as one that was accepted anew
-reached_restarted : (s : Setup) (who k : ℕ) (c : PlainClient) → IsReached s who c → IsReached s who (restarted c k)
+reached_restarted : (s : Setup) (who : Device) (k : ℕ) (c : PlainClient) → IsReached s who c → IsReached s who (restarted c k)
 reached_restarted s who k c reached =
     let o = c.opening in
     let good = good_take o.genesis o.kit c.entries k reached.good in
     let all = accepts_all o (take k c.entries) good in
     let P : Opening → Type 0 = λ o'. Good o'.genesis o'.kit (restarted c k).entries in
     record {
-      is_member = reached.is_member;
+      is_device = reached.is_device;
       ring = reached.ring;
       opening = all.opening ∙ reached.opening;
       good = subst P (sym all.opening) (subst (Good o.genesis o.kit) (sym all.entries_are) good);
@@ -102,22 +104,22 @@ reached_restarted s who k c reached =
 -- ---- the world
 
 -- the clients of a world with one in its place
-pub with_client_cases : (clients : ℕ → Option PlainClient) (i j : ℕ) (c d : PlainClient) → with_client clients i c j ≡ Some d → ((j ≡ i) × (c ≡ d)) ⊎ (clients j ≡ Some d)
-with_client_cases clients i j c d = go (j == i) refl
+pub with_client_cases : (clients : Device → Option PlainClient) (i j : Device) (c d : PlainClient) → with_client clients i c j ≡ Some d → ((j ≡ i) × (c ≡ d)) ⊎ (clients j ≡ Some d)
+with_client_cases clients i j c d = go (same_device j i) refl
   where
-    go : (same : Bool) → (j == i) ≡ same → cond same (Some c) (clients j) ≡ Some d → ((j ≡ i) × (c ≡ d)) ⊎ (clients j ≡ Some d)
-    go true is h = inl (eqb-true j i is, cc)
+    go : (same : Bool) → same_device j i ≡ same → cond same (Some c) (clients j) ≡ Some d → ((j ≡ i) × (c ≡ d)) ⊎ (clients j ≡ Some d)
+    go true is h = inl (same_one j i is, cc)
     go false is h = inr h
 
-pub put_same : (clients : ℕ → Option PlainClient) (i : ℕ) (c : PlainClient) → with_client clients i c i ≡ Some c
-put_same clients i c = ap (λ (same : Bool). cond same (Some c) (clients i)) (eq-eqb i i refl)
+pub put_same : (clients : Device → Option PlainClient) (i : Device) (c : PlainClient) → with_client clients i c i ≡ Some c
+put_same clients i c = ap (λ (same : Bool). cond same (Some c) (clients i)) (one_same i)
 
 abbrev pub AllReached : Setup → World → Type 0
-AllReached s w = (who : ℕ) (c : PlainClient) → w.clients who ≡ Some c → IsReached s who c
+AllReached s w = (who : Device) (c : PlainClient) → w.clients who ≡ Some c → IsReached s who c
 
-reached_with : (s : Setup) (w : World) (i : ℕ) (c : PlainClient) (signed : List Signing) → AllReached s w → IsReached s i c → AllReached s (record { clients = with_client w.clients i c; signed = signed })
+reached_with : (s : Setup) (w : World) (i : Device) (c : PlainClient) (signed : List Signing) → AllReached s w → IsReached s i c → AllReached s (record { clients = with_client w.clients i c; signed = signed })
 reached_with s w i c signed all reached j d at = elim (with_client_cases w.clients i j c d at) [
-  | inl p ↦ subst (λ (j : ℕ). IsReached s j d) (sym p.0) (subst (IsReached s i) p.1 reached)
+  | inl p ↦ subst (λ (j : Device). IsReached s j d) (sym p.0) (subst (IsReached s i) p.1 reached)
   | inr p ↦ all j d p
 ]
 
@@ -152,5 +154,5 @@ run_front s w moves zero run = tt
 run_front s w [] (suc n) run = tt
 run_front s w (move ∷ moves) (suc n) run = (run.0, run_front s (after s w move) moves n run.1)
 
-pub reached_at : (s : Setup) (moves : List Move) (n who : ℕ) (c : PlainClient) → IsRun s start moves → IsAt s moves n who c → IsReached s who c
+pub reached_at : (s : Setup) (moves : List Move) (n : ℕ) (who : Device) (c : PlainClient) → IsRun s start moves → IsAt s moves n who c → IsReached s who c
 reached_at s moves n who c run at = reached_all s start (take n moves) (reached_start s) (run_front s start moves n run) who c at

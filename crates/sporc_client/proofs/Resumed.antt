@@ -1,6 +1,5 @@
 -- A client that accepted a good history and has nothing of its own.
 use Rattle.std.proofs.Common.{◌≡◌, ℕ, zero, suc, ◌+◌, ◌-◌, ◌^◌, ◌<◌, ◌≤◌, Bool, true, false, List, [], ◌∷◌, ◌++◌, length, take, map, Option, None, Some, IfSome, refl, ap, sym, ◌∙◌, subst, arith, add-one, get_or}
-use Rattle.std.specs.Prelude.{◌==◌}
 use Rattle.std.specs.Option.{is_some}
 use Rattle.std.proofs.lemmas.List.{map-append}
 use Rattle.lms_tree.specs.LmsType.{height_of}
@@ -11,9 +10,10 @@ use Rattle.sporc_delta.specs.Marks.{Mark, base_len}
 use Rattle.sporc_suffix.specs.Forms.{Follow, reached}
 use Rattle.sporc_suffix.proofs.Following.{Follow-take}
 use Rattle.sporc_entry.specs.declared.change.ChangeBody.{ChangeBody}
+use Rattle.sporc_member.specs.Device.{same_device}
 use Rattle.sporc_entry.specs.declared.entry.Entry.{Entry}
 use Rattle.sporc_entry.specs.declared.genesis.Genesis.{Genesis}
-use Rattle.sporc_entry.specs.Entry.{change_of}
+use Rattle.sporc_entry.specs.Entry.{author_device, change_of}
 use Rattle.sporc_head.specs.declared.limits.TheConstants.{MAX_ENTRIES}
 use Rattle.sporc_line.specs.Document.{forms_from, forms_of, next_form, text_of}
 use Rattle.sporc_line.specs.Good.{Good}
@@ -70,7 +70,7 @@ one_more o A b good =
     let e : Entry = p.0 in
     let form : List Mark = next_form g kit A b in
     let change : Bool = is_some (change_of e) in
-    let own : Bool = e.header.author == me_of c in
+    let own : Bool = same_device (author_device e.header) (me_of c) in
     let pending : List Pending = pending_after (coming_of false change own form []) [] in
     let flight : Option (List ℕ) = flight_after (coming_of false change own form []) None in
     let shown : List Mark = shown_form false change (length (text_of g kit A)) form [] in

@@ -7,7 +7,7 @@ use Rattle.std.specs.Int.{w16, w32, to_be_bytes}
 use Rattle.sporc_bytes.specs.Fields.{Reading, number_at}
 use Rattle.sporc_bytes.proofs.Fields.{ok_is, u16_again, u32_again}
 use Rattle.sporc_member.specs.declared.change.Change.{Change as MemberChange}
-use Rattle.sporc_member.specs.declared.change.Change.TheVariants.{Add, Remove, SetRole}
+use Rattle.sporc_member.specs.declared.change.Change.TheVariants.{Add, Remove, SetRole, AddDevice, DropDevice, Upgrade}
 use Rattle.sporc_member.specs.declared.role.Role.{Role}
 use Rattle.sporc_member.specs.Role.{role_code_of}
 use Rattle.sporc_entry.specs.declared.change.ChangeBody.{ChangeBody}
@@ -15,6 +15,7 @@ use Rattle.sporc_entry.specs.declared.entry.Entry.{Entry}
 use Rattle.sporc_entry.specs.declared.header.Header.{Header}
 use Rattle.sporc_entry.specs.ChangeBody.{IsChange, IsChangeBody, change_body_bytes, change_body_from, change_bytes}
 use Rattle.sporc_entry.specs.Entry.{IsEntry, IsHeader, change_of, counted_bytes, entry_bytes, header_at, header_bytes}
+use Rattle.sporc_entry.specs.Version.{header_len}
 use Rattle.sporc_entry.proofs.ChangeLaws.{change_body_again}
 use Rattle.sporc_entry.proofs.EntryLaws.{entry_size, header_again, length-counted_bytes, length-header_bytes}
 use Rattle.sporc_line.specs.Codes.{role_again, role_of_code}
@@ -58,8 +59,8 @@ counted_same xs ys r t p q same =
 
 headers_same : (h : Header) (r t : List ℕ) → IsHeader h → header_bytes h r ≡ header_bytes h t → r ≡ t
 headers_same h r t is same =
-    let one : Header × Reading = (h, record { rest = r; at = 68 }) in
-    let two : Header × Reading = (h, record { rest = t; at = 68 }) in
+    let one : Header × Reading = (h, record { rest = r; at = header_len h.version }) in
+    let two : Header × Reading = (h, record { rest = t; at = header_len h.version }) in
     let read = ap (λ (rest : List ℕ). header_at (record { rest = rest; at = 0 })) same in
     ap rest_of (ok_is one two (sym (header_again h r is) ∙ read ∙ header_again h t is))
 
@@ -75,7 +76,7 @@ entry_same e m is header same =
     let same_header : header_bytes h rest_e ≡ header_bytes h rest_m = same ∙ ap (λ (h : Header). header_bytes h rest_m) header in
     let rests : rest_e ≡ rest_m = headers_same h rest_e rest_m is.header same_header in
     let size = entry_size e is in
-    let long : length (header_bytes h rest_e) ≡ 68 + length rest_e = length-header_bytes h rest_e is.header in
+    let long : length (header_bytes h rest_e) ≡ header_len h.version + length rest_e = length-header_bytes h rest_e is.header in
     let body_e = length-counted_bytes e.body (counted_bytes e.signature []) in
     let body_m = length-counted_bytes m.body (counted_bytes m.signature []) in
     let sig_m = length-counted_bytes m.signature [] in
@@ -120,23 +121,64 @@ change_same (SetRole m a) (SetRole n b) r t p q same =
     let code = first_same (role_code_of a) (role_code_of b) r t members.1 in
     let rest = rest_same (role_code_of a) (role_code_of b) r t members.1 in
     (ap (λ (n : ℕ). SetRole n a) members.0 ∙ ap (SetRole n) (role_same a b code), rest)
+change_same (AddDevice m d k) (AddDevice n e l) r t p q same =
+    let tail = rest_same 4 4 (to_be_bytes w16 m ++ (d ∷ k ++ r)) (to_be_bytes w16 n ++ (e ∷ l ++ t)) same in
+    let members = members_same m n (d ∷ k ++ r) (e ∷ l ++ t) p.0 q.0 tail in
+    let device = first_same d e (k ++ r) (l ++ t) members.1 in
+    let keys = rest_same d e (k ++ r) (l ++ t) members.1 in
+    let pieces = pieces_same k l r t (p.2 ∙ sym q.2) keys in
+    (ap (λ (n : ℕ). AddDevice n d k) members.0 ∙ ap (λ (d : ℕ). AddDevice n d k) device ∙ ap (AddDevice n e) pieces.0, pieces.1)
+change_same (DropDevice m d) (DropDevice n e) r t p q same =
+    let tail = rest_same 5 5 (to_be_bytes w16 m ++ (d ∷ r)) (to_be_bytes w16 n ++ (e ∷ t)) same in
+    let members = members_same m n (d ∷ r) (e ∷ t) p.0 q.0 tail in
+    let device = first_same d e r t members.1 in
+    let rest = rest_same d e r t members.1 in
+    (ap (λ (n : ℕ). DropDevice n d) members.0 ∙ ap (DropDevice n) device, rest)
+change_same Upgrade Upgrade r t p q same = (refl, rest_same 6 6 r t same)
 change_same (Add m a k) (Remove n) r t p q same = absurd (apart 1 2 _ _ same refl)
 change_same (Add m a k) (SetRole n b) r t p q same = absurd (apart 1 3 _ _ same refl)
+change_same (Add m a k) (AddDevice n e l) r t p q same = absurd (apart 1 4 _ _ same refl)
+change_same (Add m a k) (DropDevice n e) r t p q same = absurd (apart 1 5 _ _ same refl)
+change_same (Add m a k) Upgrade r t p q same = absurd (apart 1 6 _ _ same refl)
 change_same (Remove m) (Add n b l) r t p q same = absurd (apart 2 1 _ _ same refl)
 change_same (Remove m) (SetRole n b) r t p q same = absurd (apart 2 3 _ _ same refl)
+change_same (Remove m) (AddDevice n e l) r t p q same = absurd (apart 2 4 _ _ same refl)
+change_same (Remove m) (DropDevice n e) r t p q same = absurd (apart 2 5 _ _ same refl)
+change_same (Remove m) Upgrade r t p q same = absurd (apart 2 6 _ _ same refl)
 change_same (SetRole m a) (Add n b l) r t p q same = absurd (apart 3 1 _ _ same refl)
 change_same (SetRole m a) (Remove n) r t p q same = absurd (apart 3 2 _ _ same refl)
+change_same (SetRole m a) (AddDevice n e l) r t p q same = absurd (apart 3 4 _ _ same refl)
+change_same (SetRole m a) (DropDevice n e) r t p q same = absurd (apart 3 5 _ _ same refl)
+change_same (SetRole m a) Upgrade r t p q same = absurd (apart 3 6 _ _ same refl)
+change_same (AddDevice m d k) (Add n b l) r t p q same = absurd (apart 4 1 _ _ same refl)
+change_same (AddDevice m d k) (Remove n) r t p q same = absurd (apart 4 2 _ _ same refl)
+change_same (AddDevice m d k) (SetRole n b) r t p q same = absurd (apart 4 3 _ _ same refl)
+change_same (AddDevice m d k) (DropDevice n e) r t p q same = absurd (apart 4 5 _ _ same refl)
+change_same (AddDevice m d k) Upgrade r t p q same = absurd (apart 4 6 _ _ same refl)
+change_same (DropDevice m d) (Add n b l) r t p q same = absurd (apart 5 1 _ _ same refl)
+change_same (DropDevice m d) (Remove n) r t p q same = absurd (apart 5 2 _ _ same refl)
+change_same (DropDevice m d) (SetRole n b) r t p q same = absurd (apart 5 3 _ _ same refl)
+change_same (DropDevice m d) (AddDevice n e l) r t p q same = absurd (apart 5 4 _ _ same refl)
+change_same (DropDevice m d) Upgrade r t p q same = absurd (apart 5 6 _ _ same refl)
+change_same Upgrade (Add n b l) r t p q same = absurd (apart 6 1 _ _ same refl)
+change_same Upgrade (Remove n) r t p q same = absurd (apart 6 2 _ _ same refl)
+change_same Upgrade (SetRole n b) r t p q same = absurd (apart 6 3 _ _ same refl)
+change_same Upgrade (AddDevice n e l) r t p q same = absurd (apart 6 4 _ _ same refl)
+change_same Upgrade (DropDevice n e) r t p q same = absurd (apart 6 5 _ _ same refl)
 
 -- a change that was read is typed
 pub typed_of : (c : MemberChange) → IsChange c → IsTypedChange c
 typed_of (Add member role key) is = (is.0.small, is.1)
 typed_of (Remove member) is = is.small
 typed_of (SetRole member role) is = is.small
+typed_of (AddDevice member device key) is = (is.0.small, is.1, is.2)
+typed_of (DropDevice member device) is = (is.0.small, is.1)
+typed_of Upgrade is = tt
 
 -- the body of an entry that is a change
 pub record ChangeRead (e : Entry) : Type 0 where
   pub body : ChangeBody
-  pub is : IsChangeBody body
+  pub is : IsChangeBody e.header.version body
   pub read : change_of e ≡ Some body
   pub bytes : e.body ≡ change_body_bytes body
 
@@ -144,7 +186,7 @@ pub change_read_of : (e : Entry) → IsEntry e → e.header.kind ≡ 2 → Chang
 unfolding change_of
 change_read_of e is two =
     let c = is.change two in
-    let read : change_body_from 0 e.body ≡ Ok c.0 = ap (change_body_from 0) c.2 ∙ change_body_again 0 c.0 c.1 in
+    let read : change_body_from e.header.version 0 e.body ≡ Ok c.0 = ap (change_body_from e.header.version 0) c.2 ∙ change_body_again e.header.version 0 c.0 c.1 in
     record { body = c.0; is = c.1; read = rw (two, read) refl; bytes = c.2 }
 
 -- a body with the spelling of another makes its change

@@ -1,6 +1,6 @@
 -- What each entry that a client of a run signed says: who signed it, and on which history.
 use Rattle.std.proofs.Common.{◌≡◌, ℕ, zero, suc, ◌^◌, ◌<◌, ◌≤◌, true, List, [], ◌∷◌, length, take, refl, ap, sym, ◌∙◌, subst, arith, Option, None, Some, Result, Ok, inl, inr}
-use Rattle.std.specs.Prelude.{Contains, IsSomeAnd}
+use Rattle.std.specs.Prelude.{Contains, IsSomeAnd, is_some}
 use Rattle.std.proofs.lemmas.List.Elements.{Contains-append_cases}
 use Rattle.std.proofs.lemmas.List.Sums.{count_by-le-length}
 use Rattle.sha2.proofs.Facts256.{length-sha256}
@@ -8,17 +8,20 @@ use Rattle.lms_tree.specs.declared.lms_type.LmsType.{LmsType}
 use Rattle.lms_tree.specs.declared.lms_type.LmsType.TheVariants.{H5, H10, H15, H20, H25}
 use Rattle.lms_tree.specs.LmsType.{height_of}
 use Rattle.sporc_hash.specs.Chain.{genesis_string, genesis_value, link_string, next_value, value_after}
+use Rattle.sporc_member.specs.declared.device.Device.{Device}
+use Rattle.sporc_member.specs.Roster.{key_of}
 use Rattle.sporc_bytes.specs.Fields.{Reading, ◌>>=◌, counted_at, end_at}
 use Rattle.sporc_bytes.proofs.Fields.{bind_ok, ok_is}
 use Rattle.sporc_entry.specs.declared.entry.Entry.{Entry}
 use Rattle.sporc_entry.specs.declared.genesis.Genesis.{Genesis}
 use Rattle.sporc_entry.specs.declared.header.Header.{Header}
 use Rattle.sporc_entry.specs.declared.limits.TheConstants.{MAX_SIGNATURE}
-use Rattle.sporc_entry.specs.Entry.{IsHeader, body_limit, body_read, counted_bytes, entry_bytes, entry_of, header_bytes}
-use Rattle.sporc_entry.specs.Genesis.{genesis_bytes}
+use Rattle.sporc_entry.specs.Version.{header_len}
+use Rattle.sporc_entry.specs.Entry.{IsHeader, author_device, body_limit, body_read, counted_bytes, entry_bytes, entry_of, header_bytes}
+use Rattle.sporc_entry.specs.Genesis.{IsGenesis, genesis_bytes}
 use Rattle.sporc_entry.proofs.EntryLaws.{header_again}
 use Rattle.sporc_head.specs.declared.limits.TheConstants.{MAX_ENTRIES}
-use Rattle.sporc_head.specs.History.{hash_of, is_by}
+use Rattle.sporc_head.specs.History.{hash_of, is_by, roster_of}
 use Rattle.sporc_head.proofs.Grows.{epoch_le}
 use Rattle.sporc_client.specs.declared.pending.Pending.{Pending}
 use Rattle.sporc_client.specs.declared.pending.Pending.TheVariants.{Edit, Change}
@@ -31,6 +34,7 @@ use Rattle.sporc_client.specs.Run.{Setup, World, Signing, Move, Open, Happen, Gi
 use Rattle.sporc_client.specs.Reached.{IsReached}
 use Rattle.sporc_client.specs.WellFormed.{IsWellFormed}
 use Rattle.sporc_client.proofs.Reached.{AllReached, reached_after, reached_start, run_front}
+use Rattle.sporc_client.proofs.SubmitRosters.{few_members, live_fits}
 use Rattle.sporc_client.proofs.Submitting.{IsMadeBy, chosen_in, made_by_submission}
 
 -- ---- an entry is read with the header that it was made with
@@ -46,7 +50,7 @@ abbrev after_kind : Header → List ℕ × Reading → Unit {0} → Result Entry
 after_kind h body read = counted_at MAX_SIGNATURE body.1 >>= after_body h body.0
 
 abbrev after_header : Header → List ℕ × Reading → Result Entry ℕ
-after_header h body = body_read h.kind 72 body.0 >>= after_kind h body
+after_header h body = body_read h body.0 >>= after_kind h body
 
 abbrev behind : Header × Reading → Result Entry ℕ
 behind x = counted_at (body_limit x.0.kind) x.1 >>= after_header x.0
@@ -54,7 +58,7 @@ behind x = counted_at (body_limit x.0.kind) x.1 >>= after_header x.0
 header_stays : (x : Header × Reading) (e : Entry) → behind x ≡ Ok e → e.header ≡ x.0
 header_stays x e read =
     let b = bind_ok (counted_at (body_limit x.0.kind) x.1) (after_header x.0) e read in
-    let u = bind_ok (body_read x.0.kind 72 b.0.0) (after_kind x.0 b.0) e b.2 in
+    let u = bind_ok (body_read x.0 b.0.0) (after_kind x.0 b.0) e b.2 in
     let s = bind_ok (counted_at MAX_SIGNATURE b.0.1) (after_body x.0 b.0.0) e u.2 in
     let n = bind_ok (end_at s.0.1) (all_read x.0 b.0.0 s.0.0) e s.2 in
     let made : Entry = record { header = x.0; body = b.0.0; signature = s.0.0 } in
@@ -63,7 +67,7 @@ header_stays x e read =
 pub header_read : (h : Header) (rest : List ℕ) (e : Entry) → IsHeader h → entry_of (header_bytes h rest) ≡ Ok e → e.header ≡ h
 unfolding entry_of
 header_read h rest e is read =
-    let header : Header × Reading = (h, record { rest = rest; at = 68 }) in
+    let header : Header × Reading = (h, record { rest = rest; at = header_len h.version }) in
     header_stays header e (ap (λ (r : Result (Header × Reading) ℕ). r >>= behind) (sym (header_again h rest is)) ∙ read)
 
 -- ---- the header of a client's next entry has a spelling
@@ -88,16 +92,20 @@ kind_small (Edit marks) = (omega arith, omega arith)
 kind_small (Change change) = (omega arith, omega arith)
 
 -- that of any item, by any leaf, while the history has room
-pub next_is_header : (s : Setup) (who : ℕ) (c : PlainClient) (leaf : ℕ) (item : Pending) → IsWellFormed s → IsReached s who c → length c.entries < MAX_ENTRIES → leaf < 2 ^ height_of c.opening.key.lms
-    → IsHeader (next_header c leaf item)
-next_is_header s who c leaf item well reached room within =
+pub next_is_header : (s : Setup) (who : Device) (c : PlainClient) (leaf : ℕ) (item : Pending) → IsWellFormed s → IsReached s who c → length c.entries < MAX_ENTRIES → leaf < 2 ^ height_of c.opening.key.lms
+    → is_some (key_of (roster_of c.opening.genesis c.entries) (me_of c)) ≡ true → IsHeader (next_header c leaf item)
+next_is_header s who c leaf item well reached room within live =
     let count = count_by-le-length (is_by (me_of c)) c.entries in
     let epoch = epoch_le c.entries in
     let document : length c.opening.genesis.document ≡ 16 = rw (reached.opening) well.genesis.document in
-    let author : me_of c < 2 ^ 16 = rw (reached.opening) (well.members who reached.is_member) in
+    let genesis : IsGenesis c.opening.genesis = rw (reached.opening) well.genesis in
+    let sizes : ((me_of c).member < 2 ^ 16) × ((me_of c).number < 2 ^ 8) = rw (reached.opening) (well.devices who reached.is_device) in
+    let few = few_members c.opening.genesis c.opening.kit c.entries genesis reached.good in
     record {
+      version = live_fits (roster_of c.opening.genesis c.entries) (me_of c) few live;
+      device = sizes.1;
       document = document;
-      author = author;
+      author = sizes.0;
       number = omega (arith, count, room);
       base = omega (arith, room);
       base_hash = length-hash_of c.opening.genesis c.entries;
@@ -106,8 +114,8 @@ next_is_header s who c leaf item well reached room within =
       kind = kind_small item;
     }
 
-pub made_header : (s : Setup) (who : ℕ) (c : PlainClient) (bytes : List ℕ) → IsWellFormed s → IsReached s who c → (makes : IsMadeBy c bytes) → IsHeader (next_header c makes.entry.header.leaf makes.item)
-made_header s who c bytes well reached makes = next_is_header s who c makes.entry.header.leaf makes.item well reached makes.due.room makes.leaf
+pub made_header : (s : Setup) (who : Device) (c : PlainClient) (bytes : List ℕ) → IsWellFormed s → IsReached s who c → (makes : IsMadeBy c bytes) → IsHeader (next_header c makes.entry.header.leaf makes.item)
+made_header s who c bytes well reached makes = next_is_header s who c makes.entry.header.leaf makes.item well reached makes.due.room makes.leaf makes.due.live
 
 -- the bytes that are made begin with the header
 made_bytes : (c : PlainClient) (chosen : Chosen) (item : Pending) → (rest : List ℕ) × (entry_bytes (entry_made c chosen item) ≡ header_bytes (next_header c chosen.leaf item) rest)
@@ -115,7 +123,7 @@ unfolding entry_bytes entry_made
 made_bytes c chosen item = (counted_bytes (entry_made c chosen item).body (counted_bytes (entry_made c chosen item).signature []), refl)
 
 -- and so an entry that was made has the header that its client gave it
-pub header_made : (s : Setup) (who : ℕ) (c : PlainClient) (bytes : List ℕ) → IsWellFormed s → IsReached s who c → (makes : IsMadeBy c bytes) → makes.entry.header ≡ next_header c makes.entry.header.leaf makes.item
+pub header_made : (s : Setup) (who : Device) (c : PlainClient) (bytes : List ℕ) → IsWellFormed s → IsReached s who c → (makes : IsMadeBy c bytes) → makes.entry.header ≡ next_header c makes.entry.header.leaf makes.item
 header_made s who c bytes well reached makes =
     let made = made_bytes c (chosen_in c makes.entry) makes.item in
     let spelled : bytes ≡ header_bytes (next_header c makes.entry.header.leaf makes.item) made.0 = sym makes.made ∙ made.1 in
@@ -123,16 +131,16 @@ header_made s who c bytes well reached makes =
 
 -- ---- all that was signed
 
--- the author of an entry that a client signed, and the history that it was signed on
+-- the device that signed an entry of a client, and the history that it was signed on
 pub record IsSigning (s : Setup) (x : Signing) : Type 0 where
   pub signer : IsReached s x.who x.client
   pub entry : Entry
   pub reads : entry_of x.entry ≡ Ok entry
-  pub author : entry.header.author ≡ x.who
+  pub author : author_device entry.header ≡ x.who
   pub base : entry.header.base ≡ length x.client.entries
   pub history : entry.header.base_hash ≡ hash_of s.genesis x.client.entries
 
-signing_made : (s : Setup) (who : ℕ) (c : PlainClient) (bytes : List ℕ) → IsWellFormed s → IsReached s who c → IsMadeBy c bytes → IsSigning s (record { who = who; entry = bytes; client = c })
+signing_made : (s : Setup) (who : Device) (c : PlainClient) (bytes : List ℕ) → IsWellFormed s → IsReached s who c → IsMadeBy c bytes → IsSigning s (record { who = who; entry = bytes; client = c })
 signing_made s who c bytes well reached makes =
     let header = header_made s who c bytes well reached makes in
     let author : me_of c ≡ who = rw (reached.opening) refl in
@@ -141,7 +149,7 @@ signing_made s who c bytes well reached makes =
       signer = reached;
       entry = makes.entry;
       reads = makes.reads;
-      author = ap (λ (h : Header). h.author) header ∙ author;
+      author = ap author_device header ∙ author;
       base = ap (λ (h : Header). h.base) header;
       history = ap (λ (h : Header). h.base_hash) header ∙ history;
     }
@@ -152,7 +160,7 @@ AllSignings s w = (x : Signing) → Contains w.signed x → IsSigning s x
 pub none_signed : (s : Setup) (x : Signing) → Contains [] x → IsSigning s x
 none_signed s x (place, within, at) = absurd (omega (arith, within))
 
-event_signings : (s : Setup) (who : ℕ) (c : PlainClient) (event : Logged) → IsWellFormed s → IsReached s who c → allows c event ≡ true → (x : Signing) → Contains (signings who c event) x → IsSigning s x
+event_signings : (s : Setup) (who : Device) (c : PlainClient) (event : Logged) → IsWellFormed s → IsReached s who c → allows c event ≡ true → (x : Signing) → Contains (signings who c event) x → IsSigning s x
 event_signings s who c (events.Edit by seen marks) well reached may x at = none_signed s x at
 event_signings s who c (events.Change by change) well reached may x at = none_signed s x at
 event_signings s who c (events.Submit by bytes) well reached may x at = one x at

@@ -5,6 +5,7 @@ use Rattle.std.specs.List.{AllByRecursion}
 use Rattle.std.specs.Result.{result_ok}
 use Rattle.std.proofs.lemmas.Bool.{and_parts, eqb-true}
 use Rattle.std.proofs.lemmas.List.{drop_all}
+use Rattle.sporc_member.specs.declared.device.Device.{Device}
 use Rattle.sporc_base.specs.Bytes.{IsBytes}
 use Rattle.sporc_base.specs.FirstFault.{first_of, unless}
 use Rattle.sporc_cipher.specs.Mask.{mask_of}
@@ -69,7 +70,7 @@ pub header_of_made : (c : PlainClient) (chosen : Chosen) (item : Pending) → (e
 unfolding entry_made
 header_of_made c chosen item = refl
 
-pub entry_read : (s : Setup) (who : ℕ) (c : PlainClient) (bytes : List ℕ) → IsWellFormed s → IsReached s who c → IsBytes bytes → (makes : IsMadeBy c bytes)
+pub entry_read : (s : Setup) (who : Device) (c : PlainClient) (bytes : List ℕ) → IsWellFormed s → IsReached s who c → IsBytes bytes → (makes : IsMadeBy c bytes)
     → IsEntry makes.entry × (makes.entry ≡ entry_made c (chosen_in c makes.entry) makes.item)
 entry_read s who c bytes well reached typed makes =
     let made = entry_made c (chosen_in c makes.entry) makes.item in
@@ -166,7 +167,7 @@ entry_of_item c chosen (items.Change change) e is same sound typed due has =
     change_made c chosen change e is same (subst AreTypedItems due.first typed).0
 
 -- the entry on its way
-pub made_in_flight : (s : Setup) (who : ℕ) (c : PlainClient) (bytes : List ℕ) → IsWellFormed s → IsReached s who c → IsSound c → AreTypedItems c.pending → IsBytes bytes → IsMadeBy c bytes → IsInFlight c bytes
+pub made_in_flight : (s : Setup) (who : Device) (c : PlainClient) (bytes : List ℕ) → IsWellFormed s → IsReached s who c → IsSound c → AreTypedItems c.pending → IsBytes bytes → IsMadeBy c bytes → IsInFlight c bytes
 made_in_flight s who c bytes well reached sound typed are_bytes makes =
     let read = entry_read s who c bytes well reached are_bytes makes in
     let header = header_made s who c bytes well reached makes in
@@ -257,7 +258,7 @@ accept_keeps c bytes are_bytes known none =
       bytes = subst (AllByRecursion IsBytes) (sym longer.entries) (bytes_more c.entries bytes known.bytes are_bytes);
     }
 
-pub event_keeps : (s : Setup) (who : ℕ) (c : PlainClient) (event : Logged) → IsWellFormed s → IsReached s who c → IsTypedEvent event → allows c event ≡ true → IsSoundAndTyped c → IsSoundAndTyped (step c event)
+pub event_keeps : (s : Setup) (who : Device) (c : PlainClient) (event : Logged) → IsWellFormed s → IsReached s who c → IsTypedEvent event → allows c event ≡ true → IsSoundAndTyped c → IsSoundAndTyped (step c event)
 event_keeps s who c (events.Edit by seen marks) well reached typed may known = record {
   sound = edit_sound c by seen marks known.sound (edit_base c by seen marks may);
   typed = typed_edit c.pending (restated c seen marks) known.typed (over_scalars marks (drop seen c.shown) (scalars_of marks typed));

@@ -2,6 +2,7 @@
 use Rattle.std.proofs.Common.{◌≡◌, ℕ, zero, suc, Bool, true, false, cond, List, [], ◌∷◌, ◌++◌, take, refl, subst, Option, None, Some, inl, inr}
 use Rattle.std.specs.Prelude.{IsSomeAnd}
 use Rattle.std.specs.List.{AllByRecursion}
+use Rattle.sporc_member.specs.declared.device.Device.{Device}
 use Rattle.sporc_base.specs.Bytes.{IsBytes}
 use Rattle.sporc_head.specs.declared.refusal.Refusal.{Refusal}
 use Rattle.sporc_line.proofs.NextEntry.{at_next}
@@ -17,9 +18,9 @@ use Rattle.sporc_client.proofs.Reached.{AllReached, put_same, reached_after, rea
 use Rattle.sporc_client.proofs.SoundClients.{IsSoundAndTyped, accept_keeps, event_keeps, opened_keeps, restarted_keeps}
 
 abbrev pub AllSound : World → Type 0
-AllSound w = (who : ℕ) (c : PlainClient) → w.clients who ≡ Some c → IsSoundAndTyped c
+AllSound w = (who : Device) (c : PlainClient) → w.clients who ≡ Some c → IsSoundAndTyped c
 
-sound_with : (w : World) (i : ℕ) (c : PlainClient) (signed : List Signing) → AllSound w → IsSoundAndTyped c → AllSound (record { clients = with_client w.clients i c; signed = signed })
+sound_with : (w : World) (i : Device) (c : PlainClient) (signed : List Signing) → AllSound w → IsSoundAndTyped c → AllSound (record { clients = with_client w.clients i c; signed = signed })
 sound_with w i c signed all known j d at = elim (with_client_cases w.clients i j c d at) [
   | inl p ↦ subst IsSoundAndTyped p.1 known
   | inr p ↦ all j d p
@@ -67,9 +68,9 @@ typed_front moves zero typed = tt
 typed_front [] (suc n) typed = tt
 typed_front (move ∷ moves) (suc n) typed = (typed.0, typed_front moves n typed.1)
 
-pub sound_and_typed_at : (s : Setup) (moves : List Move) (n who : ℕ) (c : PlainClient) → IsTypedRun s moves → IsAt s moves n who c → IsSoundAndTyped c
+pub sound_and_typed_at : (s : Setup) (moves : List Move) (n : ℕ) (who : Device) (c : PlainClient) → IsTypedRun s moves → IsAt s moves n who c → IsSoundAndTyped c
 sound_and_typed_at s moves n who c run at =
     sound_all s start (take n moves) run.setup (reached_start s) (λ who c at. absurd cc) (typed_front moves n run.typed) (run_front s start moves n run.run) who c at
 
-pub sound_at : (s : Setup) (moves : List Move) (n who : ℕ) (c : PlainClient) → IsTypedRun s moves → IsAt s moves n who c → IsSound c
+pub sound_at : (s : Setup) (moves : List Move) (n : ℕ) (who : Device) (c : PlainClient) → IsTypedRun s moves → IsAt s moves n who c → IsSound c
 sound_at s moves n who c run at = (sound_and_typed_at s moves n who c run at).sound

@@ -3,6 +3,7 @@ use Rattle.std.proofs.Common.{◌≡◌, ℕ, zero, suc, ◌<◌, ◌≤◌, Boo
 use Rattle.std.specs.Prelude.{Contains, slice_get}
 use Rattle.std.proofs.lemmas.List.{take-take, take-append-le}
 use Rattle.std.proofs.lemmas.List.Elements.{Contains-append_left}
+use Rattle.sporc_member.specs.declared.device.Device.{Device}
 use Rattle.sporc_head.specs.declared.refusal.Refusal.{Refusal}
 use Rattle.sporc_line.proofs.Lists.{slice_get_push, slice_get-take, take_front}
 use Rattle.sporc_client.specs.Log.{Logged, Edit, Change, Submit, Dropped, Accept, Discard}
@@ -20,7 +21,7 @@ abbrev pub AreGenuine : Setup → World → List (List ℕ) → Type 0
 AreGenuine s w entries = (x : ℕ) (bytes : List ℕ) → slice_get entries x ≡ Some bytes → IsGenuine s w (take x entries) bytes
 
 abbrev pub AllGenuine : Setup → World → Type 0
-AllGenuine s w = (who : ℕ) (c : PlainClient) → w.clients who ≡ Some c → AreGenuine s w c.entries
+AllGenuine s w = (who : Device) (c : PlainClient) → w.clients who ≡ Some c → AreGenuine s w c.entries
 
 -- what was signed stays signed
 abbrev StaySigned : World → World → Type 0
@@ -49,7 +50,7 @@ genuine_push s w entries bytes genuine last x b at = go (slice_get_push entries 
         subst (λ (x : ℕ). IsGenuine s w (take x (entries ++ bytes ∷ [])) b) (sym p.0)
         (rw (take_front entries bytes) (subst (IsGenuine s w entries) p.1 last))
 
-genuine_with : (s : Setup) (w : World) (i : ℕ) (c : PlainClient) (signed : List Signing) → AllGenuine s w → ((x : Signing) → Contains w.signed x → Contains signed x)
+genuine_with : (s : Setup) (w : World) (i : Device) (c : PlainClient) (signed : List Signing) → AllGenuine s w → ((x : Signing) → Contains w.signed x → Contains signed x)
     → AreGenuine s (record { clients = with_client w.clients i c; signed = signed }) c.entries → AllGenuine s (record { clients = with_client w.clients i c; signed = signed })
 genuine_with s w i c signed all more genuine j d at = elim (with_client_cases w.clients i j c d at) [
   | inl p ↦ subst (λ (d : PlainClient). AreGenuine s (record { clients = with_client w.clients i c; signed = signed }) d.entries) p.1 genuine
@@ -58,14 +59,14 @@ genuine_with s w i c signed all more genuine j d at = elim (with_client_cases w.
 
 -- what the premise says of a move
 abbrev AddsGenuine : Setup → World → Move → Type 0
-AddsGenuine s w move = (who : ℕ) (c : PlainClient) (bytes : List ℕ) → Adds w move who c bytes → IsGenuine s w c.entries bytes
+AddsGenuine s w move = (who : Device) (c : PlainClient) (bytes : List ℕ) → Adds w move who c bytes → IsGenuine s w c.entries bytes
 
 -- an accepted entry
 accepted_genuine : (s : Setup) (w v : World) (c : PlainClient) (bytes : List ℕ) → StaySigned w v → IsGenuine s w c.entries bytes → AreGenuine s w c.entries → AreGenuine s v (accepted c bytes).entries
 accepted_genuine s w v c bytes more last genuine =
     subst (AreGenuine s v) (sym (accepted_as c bytes).entries) (genuine_push s v c.entries bytes (all_more s w v c.entries more genuine) (genuine_more s w v c.entries bytes more last))
 
-step_genuine : (s : Setup) (w v : World) (who : ℕ) (c : PlainClient) (event : Logged) → w.clients who ≡ Some c → StaySigned w v → AddsGenuine s w (Happen who event) → AreGenuine s w c.entries
+step_genuine : (s : Setup) (w v : World) (who : Device) (c : PlainClient) (event : Logged) → w.clients who ≡ Some c → StaySigned w v → AddsGenuine s w (Happen who event) → AreGenuine s w c.entries
     → AreGenuine s v (step c event).entries
 step_genuine s w v who c (Edit by seen marks) is more adds genuine = all_more s w v c.entries more genuine
 step_genuine s w v who c (Change by change) is more adds genuine = all_more s w v c.entries more genuine
@@ -74,7 +75,7 @@ step_genuine s w v who c (Dropped by fault) is more adds genuine = all_more s w 
 step_genuine s w v who c (Accept by bytes) is more adds genuine = accepted_genuine s w v c bytes more (adds who c bytes (refl, is, refl)) genuine
 step_genuine s w v who c (Discard by) is more adds genuine = all_more s w v c.entries more genuine
 
-given_genuine : (s : Setup) (w v : World) (who position : ℕ) (c : PlainClient) (bytes : List ℕ) → w.clients who ≡ Some c → StaySigned w v → AddsGenuine s w (Give who position bytes) → AreGenuine s w c.entries
+given_genuine : (s : Setup) (w v : World) (who : Device) (position : ℕ) (c : PlainClient) (bytes : List ℕ) → w.clients who ≡ Some c → StaySigned w v → AddsGenuine s w (Give who position bytes) → AreGenuine s w c.entries
     → AreGenuine s v (given c bytes (refusal_of c position bytes)).entries
 given_genuine s w v who position c bytes is more adds genuine = go (refusal_of c position bytes) refl
   where

@@ -17,8 +17,9 @@ use Rattle.sporc_delta.specs.Format.{delta_bytes}
 use Rattle.sporc_delta.specs.Marks.{Mark}
 use Rattle.sporc_delta.specs.Typed.{IsTypedDelta}
 use Rattle.sporc_member.specs.declared.change.Change.{Change as MemberChange}
-use Rattle.sporc_member.specs.declared.change.Change.TheVariants.{Add, Remove, SetRole}
+use Rattle.sporc_member.specs.declared.change.Change.TheVariants.{Add, Remove, SetRole, AddDevice, DropDevice, Upgrade}
 use Rattle.sporc_member.specs.Role.{role_code_of}
+use Rattle.sporc_member.specs.Roster.{member_at}
 use Rattle.sporc_entry.specs.declared.change.ChangeBody.{ChangeBody}
 use Rattle.sporc_entry.specs.declared.entry.Entry.{Entry}
 use Rattle.sporc_entry.specs.declared.header.Header.{Header}
@@ -26,18 +27,19 @@ use Rattle.sporc_entry.specs.declared.limits.TheConstants.{MAX_CHANGE_BODY}
 use Rattle.sporc_entry.specs.declared.wrap.Wrap.{Wrap}
 use Rattle.sporc_entry.specs.ChangeBody.{IsChange, IsChangeBody, IsWrap, SpellsChange, change_body_bytes, change_bytes, wrap_bytes}
 use Rattle.sporc_entry.specs.Entry.{IsEntry, IsHeader, body_limit, change_of, entry_of, signed_string}
+use Rattle.sporc_entry.specs.Version.{version_of}
 use Rattle.sporc_entry.proofs.ChangeLaws.{change_body_again}
 use Rattle.sporc_entry.proofs.EntryLaws.{entry_again}
 use Rattle.sporc_epoch.specs.Keys.{Keys}
 use Rattle.sporc_epoch.specs.Sealing.{Sealing, body_sealed, least_unpaired, wraps_sealed}
-use Rattle.sporc_epoch.specs.Streams.{entry_stream}
+use Rattle.sporc_epoch.specs.Streams.{entry_stream, stream_of}
 use Rattle.sporc_head.specs.History.{epoch_of, roster_of}
 use Rattle.sporc_client.specs.declared.pending.Pending.{Pending}
 use Rattle.sporc_client.specs.declared.pending.Pending.TheVariants as items
 use Rattle.sporc_client.specs.declared.submitted.Submitted.TheVariants as submitted
 use Rattle.sporc_client.specs.Allowed.{first_sealed, is_entry, is_made, new_key_in, new_key_of, randomizer_in}
 use Rattle.sporc_client.specs.Contents.{IsSpelled, IsSubmission}
-use Rattle.sporc_client.specs.Entries.{Chosen, bytes_made, current_key, entry_made, next_header, sealing_of, unsigned_entry}
+use Rattle.sporc_client.specs.Entries.{Chosen, bytes_made, current_key, entry_made, kind_of, next_header, sealing_of, unsigned_entry}
 use Rattle.sporc_client.specs.PlainClient.{PlainClient, me_of}
 use Rattle.sporc_client.specs.Soundness.{IsEditOf, IsEntryOf, IsInFlight, IsOfFirst, IsSound}
 use Rattle.sporc_client.specs.Submissions.{Sign, answered, due, submission}
@@ -45,7 +47,7 @@ use Rattle.sporc_client.proofs.SoundClients.{edit_made, header_of_made, key_ther
 use Rattle.sporc_client.proofs.Spellings.{scalars_of}
 use Rattle.sporc_client.proofs.SubmitMembers.{paired_first, some_member}
 use Rattle.sporc_client.proofs.SubmitSignatures.{shown_randomizer, signature_size}
-use Rattle.sporc_client.proofs.Submitting.{IsDue, is_due}
+use Rattle.sporc_client.proofs.Submitting.{IsDue, is_due, is_there}
 
 -- a leaf and 64 random bytes
 abbrev pub chosen_by : List ℕ → ℕ → Chosen
@@ -70,6 +72,9 @@ length-change : (c : MemberChange) (rest : List ℕ) → IsChange c → length (
 length-change (Add member role key) rest is = omega (arith, is.1, length-append (to_be_bytes w16 member) (role_code_of role ∷ key ++ rest), length-append key rest)
 length-change (Remove member) rest is = omega (arith, length-append (to_be_bytes w16 member) rest)
 length-change (SetRole member role) rest is = omega (arith, length-append (to_be_bytes w16 member) (role_code_of role ∷ rest))
+length-change (AddDevice member device key) rest is = omega (arith, is.2, length-append (to_be_bytes w16 member) (device ∷ key ++ rest), length-append key rest)
+length-change (DropDevice member device) rest is = omega (arith, length-append (to_be_bytes w16 member) (device ∷ rest))
+length-change Upgrade rest is = omega arith
 
 length-wraps : (ws : List Wrap) → AllByRecursion IsWrap ws → length (flat_map wrap_bytes ws) ≡ 34 * length ws
 length-wraps [] all = refl
@@ -83,9 +88,9 @@ length-wraps (w ∷ ws) all =
       length-wraps ws all.1,
     )
 
-pub change_body_size : (b : ChangeBody) → IsChangeBody b → length (change_body_bytes b) ≤ MAX_CHANGE_BODY
+pub change_body_size : (version : ℕ) (b : ChangeBody) → IsChangeBody version b → length (change_body_bytes b) ≤ MAX_CHANGE_BODY
 unfolding change_body_bytes
-change_body_size b is =
+change_body_size version b is =
     let counted = to_be_bytes w16 (length b.wraps) ++ flat_map wrap_bytes b.wraps in
     omega (
       arith,
@@ -108,16 +113,16 @@ edit_limit : (c : PlainClient) (chosen : Chosen) (marks : List Mark) → length 
 unfolding entry_made
 edit_limit c chosen marks few = omega (arith, few, length-mask_from (current_key c) (entry_stream (me_of c) chosen.leaf) 0 (delta_bytes marks))
 
-change_limit : (c : PlainClient) (chosen : Chosen) (change : MemberChange) → IsChangeBody (body_sealed (sealing_of c chosen change) c.opening.kit.pairs)
+change_limit : (c : PlainClient) (chosen : Chosen) (change : MemberChange) → IsChangeBody (version_of (roster_of c.opening.genesis c.entries).upgraded) (body_sealed (sealing_of c chosen change) c.opening.kit.pairs)
     → length (entry_made c chosen (items.Change change)).body ≤ body_limit (entry_made c chosen (items.Change change)).header.kind
 unfolding entry_made
-change_limit c chosen change is = change_body_size (body_sealed (sealing_of c chosen change) c.opening.kit.pairs) is
+change_limit c chosen change is = change_body_size (version_of (roster_of c.opening.genesis c.entries).upgraded) (body_sealed (sealing_of c chosen change) c.opening.kit.pairs) is
 
-edit_no_change : (c : PlainClient) (chosen : Chosen) (marks : List Mark) → (entry_made c chosen (items.Edit marks)).header.kind ≡ 2 → SpellsChange (entry_made c chosen (items.Edit marks)).body
+edit_no_change : (c : PlainClient) (chosen : Chosen) (marks : List Mark) → (entry_made c chosen (items.Edit marks)).header.kind ≡ 2 → SpellsChange (entry_made c chosen (items.Edit marks)).header.version (entry_made c chosen (items.Edit marks)).body
 unfolding entry_made
 edit_no_change c chosen marks two = absurd (omega (arith, two))
 
-change_spelled : (c : PlainClient) (chosen : Chosen) (change : MemberChange) → IsChangeBody (body_sealed (sealing_of c chosen change) c.opening.kit.pairs) → SpellsChange (entry_made c chosen (items.Change change)).body
+change_spelled : (c : PlainClient) (chosen : Chosen) (change : MemberChange) → IsChangeBody (version_of (roster_of c.opening.genesis c.entries).upgraded) (body_sealed (sealing_of c chosen change) c.opening.kit.pairs) → SpellsChange (entry_made c chosen (items.Change change)).header.version (entry_made c chosen (items.Change change)).body
 unfolding entry_made
 change_spelled c chosen change is = (body_sealed (sealing_of c chosen change) c.opening.kit.pairs, is, refl)
 
@@ -137,7 +142,7 @@ made_is_entry c random leaf item m =
     limit (items.Edit marks) is s = edit_limit c (chosen_by random leaf) marks (is_due c (items.Edit marks) is).fits
     limit (items.Change change) is s = change_limit c (chosen_by random leaf) change s
 
-    changes : (item : Pending) → IsSpelled c (chosen_by random leaf) item → (entry_made c (chosen_by random leaf) item).header.kind ≡ 2 → SpellsChange (entry_made c (chosen_by random leaf) item).body
+    changes : (item : Pending) → IsSpelled c (chosen_by random leaf) item → (entry_made c (chosen_by random leaf) item).header.kind ≡ 2 → SpellsChange (entry_made c (chosen_by random leaf) item).header.version (entry_made c (chosen_by random leaf) item).body
     changes (items.Edit marks) s two = edit_no_change c (chosen_by random leaf) marks two
     changes (items.Change change) s two = change_spelled c (chosen_by random leaf) change s
 
@@ -150,16 +155,16 @@ shown_first c random leaf item size =
     ∙ shown_randomizer c.opening.key leaf (take 32 random) (signed_string (unsigned_entry c chosen item)) (first_size random size)
 
 -- a change that was made is read as it was sealed
-pub change_made_is : (c : PlainClient) (chosen : Chosen) (change : MemberChange) → IsChangeBody (body_sealed (sealing_of c chosen change) c.opening.kit.pairs)
+pub change_made_is : (c : PlainClient) (chosen : Chosen) (change : MemberChange) → IsChangeBody (version_of (roster_of c.opening.genesis c.entries).upgraded) (body_sealed (sealing_of c chosen change) c.opening.kit.pairs)
     → change_of (entry_made c chosen (items.Change change)) ≡ Some (body_sealed (sealing_of c chosen change) c.opening.kit.pairs)
 unfolding entry_made change_of
-change_made_is c chosen change is = ap result_ok (change_body_again 0 (body_sealed (sealing_of c chosen change) c.opening.kit.pairs) is)
+change_made_is c chosen change is = ap result_ok (change_body_again (version_of (roster_of c.opening.genesis c.entries).upgraded) 0 (body_sealed (sealing_of c chosen change) c.opening.kit.pairs) is)
 
 -- the first wrap opens under the author's key with that member
-first_opens : (s : Sealing) (pairs : Keys) (m : ℕ) (ms pair : List ℕ) → s.members ≡ m ∷ ms → get pairs m ≡ Some pair → first_sealed pairs (entry_stream s.author s.leaf) (body_sealed s pairs).wraps ≡ s.new
+first_opens : (s : Sealing) (pairs : Keys) (m : ℕ) (ms pair : List ℕ) → s.members ≡ m ∷ ms → get pairs m ≡ Some pair → first_sealed pairs s.stream (body_sealed s pairs).wraps ≡ s.new
 unfolding body_sealed
 first_opens s pairs m ms pair are is =
-    let stream = entry_stream s.author s.leaf in
+    let stream = s.stream in
     let wrap : Wrap = record { member = m; sealed = mask_of pair stream s.new } in
     let front : wraps_sealed stream s.new pairs (m ∷ ms) ≡ wrap ∷ wraps_sealed stream s.new pairs ms =
     ap (λ (o : Option (List ℕ)). cons_option (option_map (λ (pair : List ℕ). let w : Wrap = record { member = m; sealed = mask_of pair stream s.new } in w) o) (wraps_sealed stream s.new pairs ms)) is in
@@ -168,15 +173,15 @@ first_opens s pairs m ms pair are is =
     ∙ ap (λ (o : Option (List ℕ)). mask_of (unwrap_or o []) stream (mask_of pair stream s.new)) is
     ∙ mask_from-mask_from pair stream 0 s.new
 
-shown_key : (c : PlainClient) (chosen : Chosen) (change : MemberChange) → IsChangeBody (body_sealed (sealing_of c chosen change) c.opening.kit.pairs) → IsDue c (items.Change change)
+shown_key : (c : PlainClient) (chosen : Chosen) (change : MemberChange) → IsChangeBody (version_of (roster_of c.opening.genesis c.entries).upgraded) (body_sealed (sealing_of c chosen change) c.opening.kit.pairs) → IsDue c (items.Change change)
     → new_key_in c.opening.kit.pairs (entry_made c chosen (items.Change change)) ≡ chosen.new_key
 shown_key c chosen change is is_due =
     let pairs = c.opening.kit.pairs in
     let s = sealing_of c chosen change in
     let e = entry_made c chosen (items.Change change) in
-    let some = some_member (roster_of c.opening.genesis c.entries) change is_due.fits.0 in
+    let some = some_member (roster_of c.opening.genesis c.entries) change (me_of c).member (is_there (kind_of (items.Change change)) (member_at (roster_of c.opening.genesis c.entries) (me_of c).member) is_due.right) is_due.fits.0 in
     let pair = paired_first pairs some.first some.others (subst (λ (ns : List ℕ). least_unpaired pairs ns ≡ None) some.are is_due.fits.1) in
-    ap (λ (h : Header). new_key_of pairs (entry_stream h.author h.leaf) (change_of e)) (header_of_made c chosen (items.Change change))
+    ap (λ (h : Header). new_key_of pairs (stream_of h) (change_of e)) (header_of_made c chosen (items.Change change))
     ∙ ap (new_key_of pairs (entry_stream (me_of c) chosen.leaf)) (change_made_is c chosen change is)
     ∙ first_opens s pairs some.first some.others pair.0 some.are pair.1
 

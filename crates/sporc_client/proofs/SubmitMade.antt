@@ -10,9 +10,12 @@ use Rattle.sporc_delta.specs.Format.{delta_bytes}
 use Rattle.sporc_entry.specs.declared.entry.Entry.{Entry}
 use Rattle.sporc_entry.specs.declared.limits.TheConstants.{MAX_EDIT_BODY, MAX_ENTRY}
 use Rattle.sporc_entry.specs.Entry.{IsHeader, counted_bytes, entry_bytes, signed_string}
+use Rattle.sporc_entry.specs.Version.{version_of}
+use Rattle.sporc_entry.proofs.VersionLaws.{header_len-le}
 use Rattle.sporc_entry.proofs.EntryLaws.{length-counted_bytes, length-header_bytes}
 use Rattle.sporc_epoch.specs.Sealing.{body_sealed}
 use Rattle.sporc_epoch.specs.Streams.{entry_stream}
+use Rattle.sporc_head.specs.History.{roster_of}
 use Rattle.sporc_line.specs.LineModel.{LineModel}
 use Rattle.sporc_client.specs.declared.pending.Pending.{Pending}
 use Rattle.sporc_client.specs.declared.pending.Pending.TheVariants as items
@@ -68,7 +71,7 @@ due_some c h =
 pub can_take : (key : LmsPrivate) (line : LineModel) (own : WorkspaceModel) (item : Pending) → due (plain_of key line own) ≡ Sign item → IsSound (plain_of key line own) → CanTake line item
 can_take key line own item h sound =
     let d = is_due (plain_of key line own) item h in
-    record { good = sound.good; room = omega (arith, d.room); not_removed = d.not_removed; fits = fits item d.fits }
+    record { good = sound.good; room = omega (arith, d.room); not_removed = d.not_removed; live = d.live; fits = fits item d.fits }
   where
     fits : (item : Pending) → submitting.Fits (plain_of key line own) item → Fits line item
     fits (items.Edit marks) f = f
@@ -144,15 +147,15 @@ signed_is c random randomizer leaf item e (Ok made) m is first copies =
 
 body_small : (c : PlainClient) (chosen : Chosen) (item : Pending) → submitting.Fits c item → IsSpelled c chosen item → length (body_of c chosen item) ≤ MAX_EDIT_BODY
 body_small c chosen (items.Edit marks) fits spelled = omega (arith, fits, length-mask_from (current_key c) (entry_stream (me_of c) chosen.leaf) 0 (delta_bytes marks))
-body_small c chosen (items.Change change) fits spelled = omega (arith, change_body_size (body_sealed (sealing_of c chosen change) c.opening.kit.pairs) spelled)
+body_small c chosen (items.Change change) fits spelled = omega (arith, change_body_size (version_of (roster_of c.opening.genesis c.entries).upgraded) (body_sealed (sealing_of c chosen change) c.opening.kit.pairs) spelled)
 
 pub record IsShortEntry (e : Entry) : Type 0 where
   pub body : length e.body < 2 ^ 32
   pub string : length (signed_string e) ≤ MAX_ENTRY
 
-string_size : (e : Entry) → IsHeader e.header → length (signed_string e) ≡ 73 + length e.body
+string_size : (e : Entry) → IsHeader e.header → length (signed_string e) ≤ 74 + length e.body
 unfolding signed_string
-string_size e header = omega (arith, length-header_bytes e.header (counted_bytes e.body []) header, length-counted_bytes e.body [])
+string_size e header = omega (arith, length-header_bytes e.header (counted_bytes e.body []) header, header_len-le e.header.version, length-counted_bytes e.body [])
 
 pub short_entry : (c : PlainClient) (random : List ℕ) (leaf : ℕ) (item : Pending) (e : Entry) → due c ≡ Sign item → IsUnsigned c random leaf item e → IsShortEntry e
 short_entry c random leaf item e due is =

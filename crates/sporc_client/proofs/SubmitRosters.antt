@@ -1,28 +1,37 @@
 -- The members of a good history: not too many, each with a number above 0. So a change that they accept can be written.
-use Rattle.std.proofs.Common.{◌≡◌, ℕ, suc, ◌<◌, ◌≤◌, Bool, true, false, cond, List, [], ◌∷◌, ◌++◌, length, refl, ap, sym, ◌∙◌, subst, arith, Option, None, Some, Ok, Err}
+use Rattle.std.proofs.Common.{◌≡◌, ℕ, suc, ◌<◌, ◌≤◌, Bool, true, false, cond, List, [], ◌∷◌, ◌++◌, length, map, refl, ap, sym, ◌∙◌, subst, arith, Option, None, Some, Ok, Err}
 use Rattle.std.specs.Prelude.{filter, find, is_some, nat_lt, not, unwrap_or, ◌==◌, ◌&&◌}
 use Rattle.std.specs.List.{AllByRecursion}
-use Rattle.std.proofs.lemmas.Bool.{and_parts, eqb-false, eqb-true, ltb-true}
+use Rattle.std.proofs.lemmas.Bool.{and_parts, eqb-false, eqb-true, ltb-true, not-true}
 use Rattle.sporc_base.specs.FirstFault.{first_of}
 use Rattle.std.proofs.lemmas.List.{length-map}
 use Rattle.sporc_hash.proofs.Lists.{from_end}
 use Rattle.sporc_member.specs.declared.change.Change.{Change as MemberChange}
-use Rattle.sporc_member.specs.declared.change.Change.TheVariants.{Add, Remove, SetRole}
+use Rattle.sporc_member.specs.declared.change.Change.TheVariants.{Add, Remove, SetRole, AddDevice, DropDevice, Upgrade}
 use Rattle.sporc_member.specs.declared.change.ChangeFault.{ChangeFault}
 use Rattle.sporc_member.specs.declared.change.ChangeFault.TheVariants as faults
+use Rattle.sporc_member.specs.declared.device.Device.{Device}
 use Rattle.sporc_member.specs.declared.founder.Founder.{Founder}
+use Rattle.sporc_member.specs.declared.member.Member.{Member}
 use Rattle.sporc_member.specs.declared.limits.TheConstants.{MAX_MEMBERS}
-use Rattle.sporc_member.specs.Roster.{Roster, after_change, change_fault_of, insert_sorted, is_used, member_at, numbers_of, with_role}
+use Rattle.sporc_member.specs.Roster.{Roster, after_change, change_fault_of, device_by, insert_sorted, key_of as key_of_device, member_by, is_used, member_at, numbers_of, with_role}
+use Rattle.sporc_member.specs.Device.{first_device, same_device}
+use Rattle.sporc_member.specs.RosterModel.{LiveInvariant}
+use Rattle.sporc_member.proofs.Belonging.{device_passes, founds_live, live_add, live_device, live_drop, live_first, live_remove, live_upgrade}
 use Rattle.sporc_member.proofs.Checks.{passes}
+use Rattle.sporc_member.proofs.Keeping.{numbers_of-founders}
+use Rattle.sporc_member.proofs.Places.{numbers_of-filter, numbers_of-insert_sorted, numbers_of-with_role}
 use Rattle.sporc_entry.specs.declared.change.ChangeBody.{ChangeBody}
 use Rattle.sporc_entry.specs.declared.entry.Entry.{Entry}
 use Rattle.sporc_entry.specs.declared.genesis.Genesis.{Genesis}
-use Rattle.sporc_entry.specs.ChangeBody.{IsChange}
+use Rattle.sporc_entry.specs.ChangeBody.{IsChange, kind_of}
 use Rattle.sporc_entry.specs.Entry.{change_of, entry_of}
+use Rattle.sporc_entry.specs.Version.{fits_version, has_kind, version_of}
 use Rattle.sporc_entry.specs.Genesis.{IsFounder, IsGenesis}
 use Rattle.sporc_epoch.specs.declared.fault.SealFault.TheVariants.{NoPairKey}
 use Rattle.sporc_epoch.specs.Keys.{Keys}
 use Rattle.sporc_epoch.specs.Sealing.{Sealing, body_sealed, body_unless, change_sealed, least_unpaired}
+use Rattle.sporc_epoch.specs.Streams.{entry_stream}
 use Rattle.sporc_epoch.proofs.SealedKeys.{sealed}
 use Rattle.sporc_head.specs.HeadChecks.{bad_change, roster_checks}
 use Rattle.sporc_head.specs.declared.refusal.Refusal.{Refusal}
@@ -40,16 +49,17 @@ use Rattle.sporc_client.specs.PlainClient.{PlainClient, me_of}
 use Rattle.sporc_client.specs.Typed.{IsTypedChange}
 use Rattle.sporc_client.proofs.RosterFacts.{all_added, all_filter, all_roles}
 
-abbrev IsPositive : Founder → Type 0
+abbrev IsPositive : Member → Type 0
 IsPositive m = 0 < m.member
 
 pub record IsFew (roster : Roster) : Type 0 where
   pub positive : AllByRecursion IsPositive roster.members
   pub few : length roster.members ≤ MAX_MEMBERS
+  pub live : LiveInvariant (numbers_of roster.members) roster.devices roster.upgraded
 
 -- ---- after a change that they accept
 
-length-inserted : (m : Founder) (members : List Founder) → length (insert_sorted m members) ≡ suc (length members)
+length-inserted : (m : Member) (members : List Member) → length (insert_sorted m members) ≡ suc (length members)
 length-inserted m [] = refl
 length-inserted m (n ∷ members) = go (nat_lt m.member n.member) (length-inserted m members)
   where
@@ -57,7 +67,7 @@ length-inserted m (n ∷ members) = go (nat_lt m.member n.member) (length-insert
     go true h = refl
     go false h = ap suc h
 
-length-filter : (p : Founder → Bool) (members : List Founder) → length (filter p members) ≤ length members
+length-filter : (p : Member → Bool) (members : List Member) → length (filter p members) ≤ length members
 length-filter p [] = omega arith
 length-filter p (m ∷ members) = go (p m) (length-filter p members)
   where
@@ -80,18 +90,38 @@ pub few_after : (roster : Roster) (change : MemberChange) → IsFew roster → c
 few_after roster (Add member role key) is none =
     let a = passes (not (member == 0) && not (is_used roster member)) faults.NumberUsed _ none in
     let b = passes (nat_lt (length roster.members) MAX_MEMBERS) faults.RosterFull _ a.1 in
-    let new : Founder = record { member = member; role = role; key = key } in
+    let new : Member = record { member = member; role = role } in
     record {
       positive = all_added IsPositive new roster.members (positive_new roster member a.0) is.positive;
       few = omega (arith, length-inserted new roster.members, ltb-true (length roster.members) MAX_MEMBERS b.0);
+      live = live_add (numbers_of roster.members) roster.devices roster.upgraded member (record { device = first_device member; key = key }) _ _ is.live refl (numbers_of-insert_sorted new roster.members) refl;
     }
 few_after roster (Remove member) is none = record {
   positive = all_filter IsPositive (λ m. not (m.member == member)) roster.members is.positive;
   few = omega (arith, length-filter (λ m. not (m.member == member)) roster.members, is.few);
+  live = live_remove (numbers_of roster.members) roster.devices roster.upgraded member _ _ is.live (numbers_of-filter member roster.members) refl;
 }
 few_after roster (SetRole member role) is none = record {
   positive = all_roles IsPositive (λ m role h. h) member role roster.members is.positive;
   few = omega (arith, length-map roster.members (with_role member role), is.few);
+  live = subst (λ (ns : List ℕ). LiveInvariant ns roster.devices roster.upgraded) (sym (numbers_of-with_role member role roster.members)) is.live;
+}
+few_after roster (AddDevice member device key) is none =
+    let passed = device_passes roster member device key none in
+    record {
+      positive = is.positive;
+      few = is.few;
+      live = live_device roster.members (numbers_of roster.members) roster.devices roster.upgraded (record { device = record { member = member; number = device }; key = key }) _ is.live refl passed.0 passed.1 refl;
+    }
+few_after roster (DropDevice member device) is none = record {
+  positive = is.positive;
+  few = is.few;
+  live = live_drop (numbers_of roster.members) roster.devices roster.upgraded (λ d. not (same_device d.device (record { member = member; number = device }))) _ is.live refl;
+}
+few_after roster Upgrade is none = record {
+  positive = is.positive;
+  few = is.few;
+  live = live_upgrade (numbers_of roster.members) roster.devices roster.upgraded is.live;
 }
 
 -- ---- and so in a good history
@@ -99,7 +129,7 @@ few_after roster (SetRole member role) is none = record {
 abbrev FewIf : Genesis → Kit → List (List ℕ) → Type 0
 FewIf g kit entries = Good g kit entries → IsFew (roster_of g entries)
 
-founders_positive : (founders : List Founder) → AllByRecursion IsFounder founders → AllByRecursion IsPositive founders
+founders_positive : (founders : List Founder) → AllByRecursion IsFounder founders → AllByRecursion IsPositive (map member_by founders)
 founders_positive [] all = tt
 founders_positive (m ∷ founders) all = (all.0.member.positive, founders_positive founders all.1)
 
@@ -126,17 +156,35 @@ few_more g kit entries bytes before good =
         subst IsFew (sym (roster_change g entries bytes committed its)) (few_after (roster_of g entries) body.change is fault)
 
 pub few_members : (g : Genesis) (kit : Kit) (entries : List (List ℕ)) → IsGenesis g → Good g kit entries → IsFew (roster_of g entries)
-few_members g kit entries is = from_end (FewIf g kit) (λ good. record { positive = founders_positive g.founders is.founders; few = is.count.1 }) (few_more g kit) entries
+few_members g kit entries is = from_end (FewIf g kit) (λ good. record {
+  positive = founders_positive g.founders is.founders;
+  few = omega (arith, length-map g.founders member_by, is.count.1);
+  live = founds_live g.founders (numbers_of (map member_by g.founders)) (map device_by g.founders) (numbers_of-founders g.founders) refl;
+}) (few_more g kit) entries
+
+-- an entry of the version at a roster can be by a device that is the first one up to the Upgrade
+pub fits_by : (upgraded : Bool) (number : ℕ) → (upgraded ≡ false → number ≡ 0) → fits_version (version_of upgraded) number ≡ true
+fits_by true number first = refl
+fits_by false number first = ap (fits_version 1) (first refl)
+
+-- as a live one is
+pub live_fits : (roster : Roster) (d : Device) → IsFew roster → is_some (key_of_device roster d) ≡ true → fits_version (version_of roster.upgraded) d.number ≡ true
+live_fits roster d is live = fits_by roster.upgraded d.number (live_first (numbers_of roster.members) roster.devices roster.upgraded d is.live live)
 
 -- ---- such a change can be written
 
-positive_if : (b : Bool) (m n : ℕ) (rest : Option Founder) (o : Founder) → (m == n) ≡ b → 0 < m → (is_some rest ≡ true → 0 < n) → is_some (cond b (Some o) rest) ≡ true → 0 < n
+positive_if : (b : Bool) (m n : ℕ) (rest : Option Member) (o : Member) → (m == n) ≡ b → 0 < m → (is_some rest ≡ true → 0 < n) → is_some (cond b (Some o) rest) ≡ true → 0 < n
 positive_if true m n rest o is here later h = omega (arith, eqb-true m n is, here)
 positive_if false m n rest o is here later h = later h
 
-found_positive : (n : ℕ) (members : List Founder) → AllByRecursion IsPositive members → is_some (find (λ (m : Founder). m.member == n) members) ≡ true → 0 < n
+found_positive : (n : ℕ) (members : List Member) → AllByRecursion IsPositive members → is_some (find (λ (m : Member). m.member == n) members) ≡ true → 0 < n
 found_positive n [] all h = absurd cc
-found_positive n (m ∷ members) all h = positive_if (m.member == n) m.member n (find (λ (m : Founder). m.member == n) members) m refl all.0 (found_positive n members all.1) h
+found_positive n (m ∷ members) all h = positive_if (m.member == n) m.member n (find (λ (m : Member). m.member == n) members) m refl all.0 (found_positive n members all.1) h
+
+-- what holds of both versions holds
+either : (test : Bool → Bool) → test true ≡ true → test false ≡ true → (b : Bool) → test b ≡ true
+either test new old true = new
+either test new old false = old
 
 pub change_written : (roster : Roster) (change : MemberChange) → IsFew roster → change_fault_of roster change ≡ None → IsTypedChange change → IsChange change
 change_written roster (Add member role key) is none typed =
@@ -148,9 +196,30 @@ change_written roster (Remove member) is none typed =
 change_written roster (SetRole member role) is none typed =
     let a = passes (is_some (member_at roster member)) faults.NotMember _ none in
     record { positive = found_positive member roster.members is.positive a.0; small = typed }
+change_written roster (AddDevice member device key) is none typed =
+    let a = passes roster.upgraded faults.NotUpgraded _ none in
+    let b = passes (is_some (member_at roster member)) faults.NotMember _ a.1 in
+    (record { positive = found_positive member roster.members is.positive b.0; small = typed.0 }, typed.1, typed.2)
+change_written roster (DropDevice member device) is none typed =
+    let a = passes roster.upgraded faults.NotUpgraded _ none in
+    let b = passes (is_some (member_at roster member)) faults.NotMember _ a.1 in
+    (record { positive = found_positive member roster.members is.positive b.0; small = typed.0 }, typed.1)
+change_written roster Upgrade is none typed = tt
+
+-- and an entry of the version at this roster may be of its kind
+pub kind_written : (roster : Roster) (change : MemberChange) → change_fault_of roster change ≡ None → has_kind (version_of roster.upgraded) (kind_of change) ≡ true
+kind_written roster (Add member role key) none = either (λ u. has_kind (version_of u) 1) refl refl roster.upgraded
+kind_written roster (Remove member) none = either (λ u. has_kind (version_of u) 2) refl refl roster.upgraded
+kind_written roster (SetRole member role) none = either (λ u. has_kind (version_of u) 3) refl refl roster.upgraded
+kind_written roster (AddDevice member device key) none =
+    ap (λ (u : Bool). has_kind (version_of u) (kind_of (AddDevice member device key))) (passes roster.upgraded faults.NotUpgraded _ none).0
+kind_written roster (DropDevice member device) none =
+    ap (λ (u : Bool). has_kind (version_of u) (kind_of (DropDevice member device))) (passes roster.upgraded faults.NotUpgraded _ none).0
+kind_written roster Upgrade none =
+    ap (λ (u : Bool). has_kind (version_of u) (kind_of Upgrade)) (not-true roster.upgraded (passes (not roster.upgraded) faults.AlreadyUpgraded [] none).0)
 
 pub few_numbers : (roster : Roster) → IsFew roster → length (numbers_of roster.members) ≤ MAX_MEMBERS
-few_numbers roster is = omega (arith, length-map roster.members (λ (m : Founder). m.member), is.few)
+few_numbers roster is = omega (arith, length-map roster.members (λ (m : Member). m.member), is.few)
 
 -- ---- what sealing a change asks
 
@@ -169,13 +238,13 @@ can_seal line change members may genesis typed are =
     }
 
 -- what is sealed, as its parts are found
-pub sealing_same : (c : PlainClient) (chosen : Chosen) (change : MemberChange) (members document : List ℕ) (author epoch : ℕ) (old : List ℕ)
-    → members ≡ numbers_of (after_change (roster_of c.opening.genesis c.entries) change).members → document ≡ c.opening.genesis.document → author ≡ me_of c → epoch ≡ epoch_of c.entries
+pub sealing_same : (c : PlainClient) (chosen : Chosen) (change : MemberChange) (members document : List ℕ) (author stream epoch : ℕ) (old : List ℕ)
+    → members ≡ numbers_of (after_change (roster_of c.opening.genesis c.entries) change).members → document ≡ c.opening.genesis.document → author ≡ (me_of c).member → stream ≡ entry_stream (me_of c) chosen.leaf → epoch ≡ epoch_of c.entries
     → key_of c.opening.genesis c.opening.kit c.entries (epoch_of c.entries) ≡ Some old
-    → let s : Sealing = record { change = change; members = members; document = document; author = author; leaf = chosen.leaf; epoch = epoch; old = old; new = chosen.new_key } in s ≡ sealing_of c chosen change
-sealing_same c chosen change members document author epoch old m d a e k =
+    → let s : Sealing = record { change = change; members = members; document = document; author = author; stream = stream; epoch = epoch; old = old; new = chosen.new_key } in s ≡ sealing_of c chosen change
+sealing_same c chosen change members document author stream epoch old m d a s e k =
     let key : old ≡ current_key c = sym (ap (λ (key : Option (List ℕ)). unwrap_or key []) k) in
-    rw (m, d, a, e, key) refl
+    rw (m, d, a, s, e, key) refl
 
 pub sealed_same : (s t : Sealing) (pairs kit : Keys) (body : ChangeBody) → change_sealed s pairs ≡ Ok body → s ≡ t → pairs ≡ kit → body ≡ body_sealed t kit
 sealed_same s t pairs kit body h same keys = (sealed s pairs body h).0 ∙ ap (λ (s : Sealing). body_sealed s pairs) same ∙ ap (body_sealed t) keys

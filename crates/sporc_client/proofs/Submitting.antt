@@ -1,6 +1,6 @@
 -- What a client submits when its log allows it: the one entry of its first pending item.
 use Rattle.std.proofs.Common.{◌≡◌, ℕ, ◌^◌, ◌<◌, ◌≤◌, Bool, true, false, List, [], ◌∷◌, ◌++◌, length, take, drop, refl, subst, Option, None, Some, Result, Ok, Err}
-use Rattle.std.specs.Prelude.{nat_le, nat_lt, not}
+use Rattle.std.specs.Prelude.{is_some, nat_le, nat_lt, not}
 use Rattle.std.proofs.lemmas.Bool.{and_parts, leb-true, ltb-true, not-true}
 use Rattle.std.proofs.lemmas.Slice.Eq.{bytes_eq-Decides}
 use Rattle.sporc_base.specs.FirstFault.{unless, first_of}
@@ -8,12 +8,14 @@ use Rattle.lms_tree.specs.LmsType.{height_of}
 use Rattle.sporc_delta.specs.Format.{delta_bytes}
 use Rattle.sporc_member.specs.declared.change.Change.{Change as MemberChange}
 use Rattle.sporc_member.specs.declared.change.ChangeFault.{ChangeFault}
-use Rattle.sporc_member.specs.Roster.{after_change, change_fault_of, numbers_of}
+use Rattle.sporc_member.specs.declared.member.Member.{Member}
+use Rattle.sporc_member.specs.Roster.{after_change, change_fault_of, key_of, member_at, numbers_of}
 use Rattle.sporc_member.proofs.Checks.{passes}
 use Rattle.sporc_entry.specs.declared.entry.Entry.{Entry}
 use Rattle.sporc_entry.specs.Entry.{entry_of}
 use Rattle.sporc_epoch.specs.Sealing.{least_unpaired}
 use Rattle.sporc_head.specs.declared.limits.TheConstants.{MAX_ENTRIES}
+use Rattle.sporc_head.specs.HeadChecks.{allows_member}
 use Rattle.sporc_head.specs.History.{roster_of}
 use Rattle.sporc_client.specs.declared.limits.TheConstants.{MAX_HEAD_BYTES}
 use Rattle.sporc_client.specs.declared.fault.SubmitFault.{SubmitFault}
@@ -22,7 +24,7 @@ use Rattle.sporc_client.specs.declared.pending.Pending.{Pending}
 use Rattle.sporc_client.specs.declared.pending.Pending.TheVariants.{Edit, Change}
 use Rattle.sporc_client.specs.Answers.{has_right, is_out}
 use Rattle.sporc_client.specs.Entries.{Chosen, bytes_made, kind_of}
-use Rattle.sporc_client.specs.PlainClient.{PlainClient}
+use Rattle.sporc_client.specs.PlainClient.{PlainClient, me_of}
 use Rattle.sporc_client.specs.Submissions.{Due, Waiting, Nothing, Drop, Refuse, Sign, answered, change_due, due, due_behind, first_due, item_due, no_pair_key, or_due, submission, submit_checks}
 use Rattle.sporc_client.specs.Allowed.{allows, is_entry, is_made, new_key_in, randomizer_in}
 use Rattle.sporc_client.specs.Log.{Submit}
@@ -41,9 +43,15 @@ pub record IsDue (c : PlainClient) (item : Pending) : Type 0 where
   pub others : List Pending
   pub first : c.pending ≡ item ∷ others
   pub not_removed : is_out c ≡ false
-  pub right : has_right c (kind_of item) ≡ true
+  pub right : allows_member (kind_of item) (member_at (roster_of c.opening.genesis c.entries) (me_of c).member) ≡ true
+  pub live : is_some (key_of (roster_of c.opening.genesis c.entries) (me_of c)) ≡ true
   pub room : length c.entries < MAX_ENTRIES
   pub fits : Fits c item
+
+-- who has a right is a member
+pub is_there : (kind : ℕ) (o : Option Member) → allows_member kind o ≡ true → is_some o ≡ true
+is_there kind None h = absurd cc
+is_there kind (Some m) h = refl
 
 or_signs : (fault : Option SubmitFault) (rest : Due) (item : Pending) → or_due fault rest ≡ Sign item → (fault ≡ None) × (rest ≡ Sign item)
 or_signs None rest item h = (refl, h)
@@ -84,13 +92,15 @@ is_due c item h = behind c.flight refl h
         let fit = item_fits c head item p.1 in
         let a = passes (not (is_out c)) Removed _ p.0 in
         let b = passes (has_right c (kind_of head)) NoRight _ a.1 in
+        let may = and_parts (allows_member (kind_of head) (member_at (roster_of c.opening.genesis c.entries) (me_of c).member)) (is_some (key_of (roster_of c.opening.genesis c.entries) (me_of c))) b.0 in
         let d = passes (nat_lt (length c.entries) MAX_ENTRIES) HistoryFull _ b.1 in
         let made : IsDue c head = record {
           none_on_its_way = none;
           others = others;
           first = first;
           not_removed = not-true (is_out c) a.0;
-          right = b.0;
+          right = may.0;
+          live = may.1;
           room = ltb-true (length c.entries) MAX_ENTRIES d.0;
           fits = fit.1;
         } in

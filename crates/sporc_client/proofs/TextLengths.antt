@@ -12,6 +12,7 @@ use Rattle.sporc_entry.specs.Entry.{change_of, entry_of}
 use Rattle.sporc_line.specs.Kit.{Kit}
 use Rattle.sporc_line.specs.Keys.{key_of}
 use Rattle.sporc_line.specs.Operations.{edit_marks}
+use Rattle.sporc_epoch.specs.Streams.{stream_of}
 use Rattle.sporc_line.specs.Document.{forms_from, forms_of, next_form, text_of}
 use Rattle.sporc_line.specs.Good.{Good}
 use Rattle.sporc_line.proofs.Passes.{Passes}
@@ -24,7 +25,7 @@ use Rattle.sporc_line.proofs.ReadLengths.{body_within, marks_within}
 -- the marks of an edit insert no more than the longest body has bytes
 edit_within : (key : Option (List ℕ)) (bytes : List ℕ) (e : Entry) (marks : List Mark) → entry_of bytes ≡ Ok e → edit_marks key e ≡ Some marks → inserted_len marks ≤ MAX_EDIT_BODY
 edit_within None bytes e marks is has = absurd cc
-edit_within (Some key) bytes e marks is has = omega (arith, marks_within key e.header.author e.header.leaf e.body marks has, body_within bytes e is)
+edit_within (Some key) bytes e marks is has = omega (arith, marks_within key (stream_of e.header) e.body marks has, body_within bytes e is)
 
 -- the form of an entry that passes
 next_within : (g : Genesis) (kit : Kit) (A : List (List ℕ)) (b : List ℕ) (e : Entry) → entry_of b ≡ Ok e → Passes g kit A (length A + 1) e → inserted_len (next_form g kit A b) ≤ MAX_EDIT_BODY

@@ -7,9 +7,10 @@ use Rattle.std.proofs.lemmas.Bool.{eqb-true}
 use Rattle.sporc_base.specs.Bytes.{IsBytes}
 use Rattle.sporc_cipher.proofs.Stream.{length-mask_from}
 use Rattle.sporc_member.specs.declared.change.Change.{Change as MemberChange}
-use Rattle.sporc_member.specs.declared.change.Change.TheVariants.{Add, Remove, SetRole}
+use Rattle.sporc_member.specs.declared.change.Change.TheVariants.{Add, Remove, SetRole, AddDevice, DropDevice, Upgrade}
 use Rattle.sporc_member.specs.declared.founder.Founder.{Founder}
-use Rattle.sporc_member.specs.Roster.{Roster, after_change, founded, member_at, removes, roster_after}
+use Rattle.sporc_member.specs.declared.member.Member.{Member}
+use Rattle.sporc_member.specs.Roster.{Roster, after_change, founded, member_at, member_by, removes, roster_after}
 use Rattle.sporc_entry.specs.declared.change.ChangeBody.{ChangeBody}
 use Rattle.sporc_entry.specs.declared.entry.Entry.{Entry}
 use Rattle.sporc_entry.specs.declared.genesis.Genesis.{Genesis}
@@ -19,7 +20,7 @@ use Rattle.sporc_entry.specs.Entry.{IsEntry, change_of, entry_of}
 use Rattle.sporc_entry.specs.Genesis.{IsFounder}
 use Rattle.sporc_entry.proofs.EntryLaws.{entry_takes}
 use Rattle.sporc_epoch.specs.Keys.{Keys}
-use Rattle.sporc_epoch.specs.Streams.{entry_stream}
+use Rattle.sporc_epoch.specs.Streams.{stream_of}
 use Rattle.sporc_epoch.specs.Wraps.{opened_under, wrap_for, wrap_opened}
 use Rattle.sporc_head.specs.History.{CommittedChange, change_in, change_read, changes, committed_by, roster_of}
 use Rattle.sporc_line.specs.Kit.{Kit}
@@ -31,23 +32,23 @@ use Rattle.sporc_client.proofs.SameSpelling.{change_read_of}
 -- ---- changes
 
 abbrev pub IsTypedCommitted : CommittedChange → Type 0
-IsTypedCommitted c = IsChangeBody c.body
+IsTypedCommitted c = IsChangeBody c.header.version c.body
 
-pub body_typed : (e : Entry) → IsEntry e → IfSome (change_of e) IsChangeBody
+pub body_typed : (e : Entry) → IsEntry e → IfSome (change_of e) (IsChangeBody e.header.version)
 unfolding change_of
 body_typed e is = go (e.header.kind == 2) refl
   where
-    go : (two : Bool) → (e.header.kind == 2) ≡ two → IfSome (change_of e) IsChangeBody
+    go : (two : Bool) → (e.header.kind == 2) ≡ two → IfSome (change_of e) (IsChangeBody e.header.version)
     go true k =
         let read = change_read_of e is (eqb-true e.header.kind 2 k) in
-        subst (λ (o : Option ChangeBody). IfSome o IsChangeBody) (sym read.read) read.is
+        subst (λ (o : Option ChangeBody). IfSome o (IsChangeBody e.header.version)) (sym read.read) read.is
     go false k = rw k tt
 
 change_typed : (bytes : List ℕ) → IsBytes bytes → IfSome (change_in bytes) IsTypedCommitted
 unfolding change_in
 change_typed bytes typed = go (entry_of bytes) refl
   where
-    of_body : (e : Entry) (o : Option ChangeBody) → IfSome o IsChangeBody → IfSome (committed_by e o) IsTypedCommitted
+    of_body : (e : Entry) (o : Option ChangeBody) → IfSome o (IsChangeBody e.header.version) → IfSome (committed_by e o) IsTypedCommitted
     of_body e None h = tt
     of_body e (Some body) h = h
 
@@ -65,20 +66,23 @@ changes_typed (bytes ∷ entries) all = go (change_in bytes) (change_typed bytes
 
 -- ---- members have numbers of two bytes
 
-abbrev pub IsSmallMember : Founder → Type 0
+abbrev pub IsSmallMember : Member → Type 0
 IsSmallMember m = m.member < 2 ^ 16
 
 pub small_change : (roster : Roster) (change : MemberChange) → IsChange change → AllByRecursion IsSmallMember roster.members → AllByRecursion IsSmallMember (after_change roster change).members
-small_change roster (Add member role key) is all = all_added IsSmallMember (record { member = member; role = role; key = key }) roster.members is.0.small all
+small_change roster (Add member role key) is all = all_added IsSmallMember (record { member = member; role = role }) roster.members is.0.small all
 small_change roster (Remove member) is all = all_filter IsSmallMember (λ m. not (m.member == member)) roster.members all
 small_change roster (SetRole member role) is all = all_roles IsSmallMember (λ m role h. h) member role roster.members all
+small_change roster (AddDevice member device key) is all = all
+small_change roster (DropDevice member device) is all = all
+small_change roster Upgrade is all = all
 
 small_changes : (roster : Roster) (cs : List CommittedChange) → AllByRecursion IsTypedCommitted cs → AllByRecursion IsSmallMember roster.members
     → AllByRecursion IsSmallMember (fold after_change roster (map (λ (c : CommittedChange). c.body.change) cs)).members
 small_changes roster [] typed all = all
 small_changes roster (c ∷ cs) typed all = small_changes (after_change roster c.body.change) cs typed.1 (small_change roster c.body.change typed.0.change all)
 
-founders_small : (founders : List Founder) → AllByRecursion IsFounder founders → AllByRecursion IsSmallMember founders
+founders_small : (founders : List Founder) → AllByRecursion IsFounder founders → AllByRecursion IsSmallMember (map member_by founders)
 founders_small [] all = tt
 founders_small (m ∷ founders) all = (all.0.member.small, founders_small founders all.1)
 
@@ -103,15 +107,15 @@ typed_at P [] i all = tt
 typed_at P (x ∷ xs) zero all = all.0
 typed_at P (x ∷ xs) (suc i) all = typed_at P xs i all.1
 
-wrap_size : (body : ChangeBody) (author leaf me : ℕ) (pairs : Keys) → IsChangeBody body → IfSome (wrap_opened body author leaf me pairs) Is32
+wrap_size : (version : ℕ) (body : ChangeBody) (author stream me : ℕ) (pairs : Keys) → IsChangeBody version body → IfSome (wrap_opened body author stream me pairs) Is32
 unfolding wrap_opened
-wrap_size body author leaf me pairs is = go (wrap_for me body.wraps) (found_typed IsWrap (λ (w : Wrap). w.member == me) body.wraps is.wraps)
+wrap_size version body author stream me pairs is = go (wrap_for me body.wraps) (found_typed IsWrap (λ (w : Wrap). w.member == me) body.wraps is.wraps)
   where
-    under : (pair : Option (List ℕ)) (w : Wrap) → IsWrap w → IfSome (opened_under (entry_stream author leaf) pair w) Is32
+    under : (pair : Option (List ℕ)) (w : Wrap) → IsWrap w → IfSome (opened_under stream pair w) Is32
     under None w wrap = tt
-    under (Some pair) w wrap = length-mask_from pair (entry_stream author leaf) 0 w.sealed ∙ wrap.sealed
+    under (Some pair) w wrap = length-mask_from pair stream 0 w.sealed ∙ wrap.sealed
 
-    go : (o : Option Wrap) → IfSome o IsWrap → IfSome (option_and_then (opened_under (entry_stream author leaf) (get pairs author)) o) Is32
+    go : (o : Option Wrap) → IfSome o IsWrap → IfSome (option_and_then (opened_under stream (get pairs author)) o) Is32
     go None wrap = tt
     go (Some w) wrap = under (get pairs author) w wrap
 
@@ -120,11 +124,11 @@ unfolding key_after key_started
 key_size g kit cs zero ring typed = ring 0
 key_size g kit cs (suc e) ring typed = go (slice_get cs e) (typed_at IsTypedCommitted cs e typed)
   where
-    tests : (c : CommittedChange) (removed member : Bool) → IsTypedCommitted c → IfSome (cond removed None (cond member (wrap_opened c.body c.header.author c.header.leaf kit.me kit.pairs) (get kit.ring (suc e)))) Is32
+    tests : (c : CommittedChange) (removed member : Bool) → IsTypedCommitted c → IfSome (cond removed None (cond member (wrap_opened c.body c.header.author (stream_of c.header) kit.me.member kit.pairs) (get kit.ring (suc e)))) Is32
     tests c true member typed = tt
-    tests c false true typed = wrap_size c.body c.header.author c.header.leaf kit.me kit.pairs typed
+    tests c false true typed = wrap_size c.header.version c.body c.header.author (stream_of c.header) kit.me.member kit.pairs typed
     tests c false false typed = ring (suc e)
 
     go : (o : Option CommittedChange) → IfSome o IsTypedCommitted → IfSome (key_started g kit (take (suc e) cs) (suc e) o) Is32
     go None typed = tt
-    go (Some c) typed = tests c (removes kit.me c.body.change) (is_some (member_at (roster_after g.founders (map (λ c. c.body.change) (take (suc e) cs))) kit.me)) typed
+    go (Some c) typed = tests c (removes kit.me c.body.change) (is_some (member_at (roster_after g.founders (map (λ c. c.body.change) (take (suc e) cs))) kit.me.member)) typed

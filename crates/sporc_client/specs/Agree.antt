@@ -1,12 +1,14 @@
 -- What all clients of a run agree on: the headline.
 use Rattle.std.specs.Prelude.{◌≡◌, ◌↔◌, ℕ, ◌+◌, ◌≤◌, true, false, List, [], ◌++◌, take, Option, Some, Contains, Ok, slice_get}
 use Rattle.sporc_hash.specs.Strings.{CollisionFree}
-use Rattle.sporc_member.specs.declared.founder.Founder.{Founder}
-use Rattle.sporc_member.specs.Roster.{member_at}
+use Rattle.sporc_member.specs.declared.device.Device.{Device}
+use Rattle.sporc_member.specs.declared.member.Member.{Member}
+use Rattle.sporc_member.specs.Roster.{key_of as key_of_device, member_at}
 use Rattle.sporc_entry.specs.declared.entry.Entry.{Entry}
-use Rattle.sporc_entry.specs.Entry.{entry_of, signed_string}
+use Rattle.sporc_entry.specs.Entry.{author_device, entry_of, signed_string}
+use Rattle.sporc_entry.specs.Version.{version_of}
 use Rattle.sporc_head.specs.declared.refusal.Refusal.{Refusal}
-use Rattle.sporc_head.specs.HeadChecks.{allows as role_allows, verifies_member}
+use Rattle.sporc_head.specs.HeadChecks.{allows as role_allows, verifies_device}
 use Rattle.sporc_head.specs.History.{changes, count_of, epoch_of, hash_of, roster_of}
 use Rattle.sporc_line.specs.Commitments.{commitment_at}
 use Rattle.sporc_line.specs.Keys.{key_of}
@@ -44,30 +46,33 @@ pub record StandsBehind (x : ℕ) (entries : List (List ℕ)) (bytes : List ℕ)
   pub at : slice_get entries x ≡ Some bytes
   pub reads : entry_of bytes ≡ Ok e
 
--- what holds of an entry behind the first x of a history: its author is a member there, whose role allows it and under
--- whose key it verifies, and has so many entries before it
+-- what holds of an entry behind the first x of a history: it is of the version there, its author is a member there, whose
+-- role allows it, with a live device under whose key it verifies and that has so many entries before it
 pub record IsRightful (s : Setup) (x : ℕ) (entries : List (List ℕ)) (e : Entry) : Type 0 where
-  pub member : Founder
+  pub version : e.header.version ≡ version_of (roster_of s.genesis (take x entries)).upgraded
+  pub member : Member
   pub is_member : member_at (roster_of s.genesis (take x entries)) e.header.author ≡ Some member
   pub role : role_allows member.role e.header.kind ≡ true
-  pub signature : verifies_member (signed_string e) e.signature (Some member) ≡ true
-  pub number : e.header.number ≡ count_of e.header.author (take x entries) + 1
+  pub key : List ℕ
+  pub is_key : key_of_device (roster_of s.genesis (take x entries)) (author_device e.header) ≡ Some key
+  pub signature : verifies_device (signed_string e) e.signature (Some key) ≡ true
+  pub number : e.header.number ≡ count_of (author_device e.header) (take x entries) + 1
 
 -- a world that is as it was
 pub record IsSameWorld (before after : World) : Type 0 where
-  pub clients : (who : ℕ) → after.clients who ≡ before.clients who
+  pub clients : (who : Device) → after.clients who ≡ before.clients who
   pub signed : after.signed ≡ before.signed
 
 -- a client refuses bytes, by the answer of `accept`, exactly for the first check that they fail, and then nothing changes
-pub record RefusesFor (s : Setup) (w : World) (who position : ℕ) (c : PlainClient) (bytes : List ℕ) (refusal : Refusal) : Type 0 where
+pub record RefusesFor (s : Setup) (w : World) (who : Device) (position : ℕ) (c : PlainClient) (bytes : List ℕ) (refusal : Refusal) : Type 0 where
   pub first : (accept_fault c position bytes ≡ Some (Refused refusal))
       ↔ (first_fault s.genesis c.opening.kit c.entries position bytes ≡ Some refusal)
   pub unchanged : accept_fault c position bytes ≡ Some (Refused refusal) → IsSameWorld w (after s w (Give who position bytes))
 
 module _ (s : Setup) (moves : List Move) where
-  -- a client that a member of the run had at some moment
+  -- a client that a device of the run had at some moment
   abbrev pub IsClient : PlainClient → Type 0
-  IsClient c = (n : ℕ) × (who : ℕ) × IsAt s moves n who c
+  IsClient c = (n : ℕ) × (who : Device) × IsAt s moves n who c
 
   pub record Agree : Type 0 where
     -- clients with one history hash hold the same
@@ -91,11 +96,11 @@ module _ (s : Setup) (moves : List Move) where
     -- once per history
     pub once_each : (c : PlainClient) (x y : ℕ) (b b' : List ℕ) (e e' : Entry) → IsClient c
         → StandsBehind x c.entries b e → StandsBehind y c.entries b' e'
-        → e.header.author ≡ e'.header.author → e.header.number ≡ e'.header.number → x ≡ y
-    -- if no one forges, an entry under the key of members of the run was signed by then by one of them, who is its author
-    pub by_signer : Genuine s start moves → (n who x : ℕ) (c : PlainClient) (bytes : List ℕ) → IsAt s moves n who c
+        → author_device e.header ≡ author_device e'.header → e.header.number ≡ e'.header.number → x ≡ y
+    -- if no one forges, an entry under the key of devices of the run was signed by then by one of them, which is its author
+    pub by_signer : Genuine s start moves → (n x : ℕ) (who : Device) (c : PlainClient) (bytes : List ℕ) → IsAt s moves n who c
         → slice_get c.entries x ≡ Some bytes → (under : IsUnderRunKey s (take x c.entries) bytes)
-        → (by : IsSignedUnder s (world_at s moves n) under.author.key bytes) × (under.entry.header.author ≡ by.signing.who)
+        → (by : IsSignedUnder s (world_at s moves n) under.key bytes) × (author_device under.entry.header ≡ by.signing.who)
     -- at each moment a refusal is the first check that fails
-    pub refuses : (n who position : ℕ) (c : PlainClient) (bytes : List ℕ) (refusal : Refusal) → IsAt s moves n who c
+    pub refuses : (n position : ℕ) (who : Device) (c : PlainClient) (bytes : List ℕ) (refusal : Refusal) → IsAt s moves n who c
         → RefusesFor s (world_at s moves n) who position c bytes refusal

@@ -9,7 +9,7 @@ use Rattle.sporc_entry.specs.declared.change.ChangeBody.{ChangeBody}
 use Rattle.sporc_entry.specs.declared.wrap.Wrap.{Wrap}
 use Rattle.sporc_entry.specs.Entry.{entry_of, change_of}
 use Rattle.sporc_epoch.specs.Keys.{Keys}
-use Rattle.sporc_epoch.specs.Streams.{entry_stream}
+use Rattle.sporc_epoch.specs.Streams.{stream_of}
 use Rattle.sporc_member.specs.declared.change.ChangeFault.{ChangeFault}
 use Rattle.sporc_member.specs.ChangeFault.{change_fault_code_of}
 use Rattle.sporc_client.specs.declared.fault.SubmitFault.{SubmitFault}
@@ -38,7 +38,7 @@ new_key_of pairs stream (Some body) = first_sealed pairs stream body.wraps
 
 -- the key of the next epoch, if it is a change by a member with these pairwise keys
 abbrev pub new_key_in : Keys → Entry → List ℕ
-new_key_in pairs e = new_key_of pairs (entry_stream e.header.author e.header.leaf) (change_of e)
+new_key_in pairs e = new_key_of pairs (stream_of e.header) (change_of e)
 
 -- ---- which events a client's calls make
 

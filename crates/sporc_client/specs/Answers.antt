@@ -1,12 +1,12 @@
 -- What the calls of a client answer: edits, changes, entries that come, and going back.
-use Rattle.std.specs.Prelude.{ℕ, ◌==◌, nat_le, nat_lt, Bool, not, List, [], ◌∷◌, length, Option, None, Some, Result, Ok, Err}
+use Rattle.std.specs.Prelude.{ℕ, ◌==◌, nat_le, nat_lt, Bool, not, ◌&&◌, is_some, List, [], ◌∷◌, length, Option, None, Some, Result, Ok, Err}
 use Rattle.sporc_base.specs.FirstFault.{unless, first_of}
 use Rattle.sporc_delta.specs.Format.{delta_bytes}
 use Rattle.sporc_delta.specs.Marks.{Mark, base_len}
 use Rattle.sporc_head.specs.declared.refusal.Refusal.{Refusal}
 use Rattle.sporc_head.specs.HeadChecks.{allows_member}
 use Rattle.sporc_head.specs.History.{is_removed, roster_of}
-use Rattle.sporc_member.specs.Roster.{member_at}
+use Rattle.sporc_member.specs.Roster.{key_of, member_at}
 use Rattle.sporc_line.specs.LineChecks.{first_fault}
 use Rattle.sporc_client.specs.declared.limits.TheConstants.{MAX_EDIT_BYTES, MAX_EVENTS, MAX_PENDING}
 use Rattle.sporc_client.specs.declared.fault.AcceptFault.{AcceptFault}
@@ -18,13 +18,15 @@ use Rattle.sporc_client.specs.declared.fault.RestartFault.TheVariants as restart
 use Rattle.sporc_client.specs.Log.{Logged}
 use Rattle.sporc_client.specs.PlainClient.{PlainClient, me_of, shown_after}
 
--- whether the history removes the client's member
+-- whether the history removes the client's member, or drops its device
 abbrev pub is_out : PlainClient → Bool
 is_out c = is_removed (me_of c) c.entries
 
--- whether the client's member may make entries of this kind, 1 for edits and 2 for changes
+-- whether the client's device is live and its member may make entries of this kind, 1 for edits and 2 for changes
 abbrev pub has_right : PlainClient → ℕ → Bool
-has_right c kind = allows_member kind (member_at (roster_of c.opening.genesis c.entries) (me_of c))
+has_right c kind =
+    allows_member kind (member_at (roster_of c.opening.genesis c.entries) (me_of c).member)
+    && is_some (key_of (roster_of c.opening.genesis c.entries) (me_of c))
 
 -- whether one more event may be
 abbrev pub journal_has_room : PlainClient → Bool

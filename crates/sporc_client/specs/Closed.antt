@@ -2,26 +2,35 @@
 use Rattle.std.specs.Prelude.{◌≡◌, ℕ, List, [], ◌∷◌, Contains, ⊤}
 use Rattle.std.specs.List.{AllByRecursion}
 use Rattle.sporc_member.specs.declared.change.Change.{Change as MemberChange}
-use Rattle.sporc_member.specs.declared.change.Change.TheVariants.{Add, Remove, SetRole}
+use Rattle.sporc_member.specs.declared.change.Change.TheVariants.{Add, Remove, SetRole, AddDevice, DropDevice, Upgrade}
+use Rattle.sporc_member.specs.declared.device.Device.{Device}
 use Rattle.sporc_member.specs.declared.founder.Founder.{Founder}
+use Rattle.sporc_member.specs.Device.{first_device}
 use Rattle.sporc_client.specs.Log.{Change, Accept}
-use Rattle.sporc_client.specs.Run.{Setup, Signing, World, Move, Open, Happen, Give, Restart, after, key_of_member, start}
+use Rattle.sporc_client.specs.Run.{Setup, Signing, World, Move, Open, Happen, Give, Restart, after, key_of_device, start}
 
--- a founder has its own key, if it is a member of the run
+-- a key is a device's own, if it is a device of the run
+abbrev pub IsItsKey : Setup → Device → List ℕ → Type 0
+IsItsKey s device key = Contains s.devices device → key ≡ key_of_device s device
+
+-- a founder has its own key, if its first device is one of the run
 abbrev pub HasItsKey : Setup → Founder → Type 0
-HasItsKey s founder = Contains s.members founder.member → founder.key ≡ key_of_member s founder.member
+HasItsKey s founder = IsItsKey s (first_device founder.member) founder.key
 
--- a change adds a member of the run under its own key
+-- a change adds a device of the run under its own key
 abbrev pub AddsItsKey : Setup → MemberChange → Type 0
-AddsItsKey s (Add member role key) = Contains s.members member → key ≡ key_of_member s member
+AddsItsKey s (Add member role key) = IsItsKey s (first_device member) key
 AddsItsKey s (Remove member) = ⊤
 AddsItsKey s (SetRole member role) = ⊤
+AddsItsKey s (AddDevice member device key) = IsItsKey s (record { member = member; number = device }) key
+AddsItsKey s (DropDevice member device) = ⊤
+AddsItsKey s Upgrade = ⊤
 
 -- a client of the run signed the bytes
 abbrev pub IsSigned : World → List ℕ → Type 0
 IsSigned w bytes = (signing : Signing) × Contains w.signed signing × (signing.entry ≡ bytes)
 
--- what comes in was signed by a client of the run, and a change that a client makes adds a member under its own key
+-- what comes in was signed by a client of the run, and a change that a client makes adds a device under its own key
 abbrev pub IsClosedMove : Setup → World → Move → Type 0
 IsClosedMove s w (Open who ring) = ⊤
 IsClosedMove s w (Happen who (Change by change)) = AddsItsKey s change

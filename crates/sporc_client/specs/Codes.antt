@@ -10,7 +10,7 @@ use Rattle.lms_tree.specs.declared.lms_type.LmsType.TheVariants.{H5, H10, H15, H
 use Rattle.lms_tree.specs.LmsPrivate.{LmsPrivate}
 use Rattle.sporc_delta.specs.Marks.{Mark, Retain, Delete, Insert}
 use Rattle.sporc_member.specs.declared.change.Change.{Change as MemberChange}
-use Rattle.sporc_member.specs.declared.change.Change.TheVariants.{Add, Remove, SetRole}
+use Rattle.sporc_member.specs.declared.change.Change.TheVariants.{Add, Remove, SetRole, AddDevice, DropDevice, Upgrade}
 use Rattle.sporc_member.specs.declared.change.ChangeFault.{ChangeFault}
 use Rattle.sporc_member.specs.declared.change.ChangeFault.TheVariants as faults
 use Rattle.sporc_member.specs.ChangeFault.{change_fault_code_of}
@@ -92,16 +92,25 @@ abbrev pub change_parts : MemberChange → ChangeParts
 change_parts (Add member role key) = (0, (member, (role_code_of role, key)))
 change_parts (Remove member) = (1, (member, (0, [])))
 change_parts (SetRole member role) = (2, (member, (role_code_of role, [])))
+change_parts (AddDevice member device key) = (3, (member, (device, key)))
+change_parts (DropDevice member device) = (4, (member, (device, [])))
+change_parts Upgrade = (5, (0, (0, [])))
 
 abbrev pub change_of_parts : ChangeParts → MemberChange
 change_of_parts p =
     if p.0 == 0 then Add p.1.0 (role_of_code p.1.1.0) p.1.1.1
-    else (if p.0 == 1 then Remove p.1.0 else SetRole p.1.0 (role_of_code p.1.1.0))
+    else (if p.0 == 1 then Remove p.1.0
+    else (if p.0 == 2 then SetRole p.1.0 (role_of_code p.1.1.0)
+    else (if p.0 == 3 then AddDevice p.1.0 p.1.1.0 p.1.1.1
+    else (if p.0 == 4 then DropDevice p.1.0 p.1.1.0 else Upgrade))))
 
 pub change_again : (c : MemberChange) → change_of_parts (change_parts c) ≡ c
 change_again (Add member role key) = ap (λ r. Add member r key) (role_again role)
 change_again (Remove member) = refl
 change_again (SetRole member role) = ap (SetRole member) (role_again role)
+change_again (AddDevice member device key) = refl
+change_again (DropDevice member device) = refl
+change_again Upgrade = refl
 
 abbrev pub change_code : Coded MemberChange
 change_code = code_by ChangeParts (coded× coded_ℕ (coded× coded_ℕ (coded× coded_ℕ (coded_list coded_ℕ)))) change_parts change_of_parts change_again
@@ -112,7 +121,13 @@ fault_of_number n =
     else (if n == 2 then faults.NotMember
     else (if n == 3 then faults.SameRole
     else (if n == 4 then faults.LastAdmin
-    else (if n == 5 then faults.RosterFull else faults.BadKey))))
+    else (if n == 5 then faults.RosterFull
+    else (if n == 6 then faults.BadKey
+    else (if n == 7 then faults.DeviceUsed
+    else (if n == 8 then faults.NoDevice
+    else (if n == 9 then faults.LastDevice
+    else (if n == 10 then faults.DevicesFull
+    else (if n == 11 then faults.NotUpgraded else faults.AlreadyUpgraded))))))))))
 
 pub fault_again : (f : ChangeFault) → fault_of_number (change_fault_code_of f) ≡ f
 fault_again faults.NumberUsed = refl
@@ -121,6 +136,12 @@ fault_again faults.SameRole = refl
 fault_again faults.LastAdmin = refl
 fault_again faults.RosterFull = refl
 fault_again faults.BadKey = refl
+fault_again faults.DeviceUsed = refl
+fault_again faults.NoDevice = refl
+fault_again faults.LastDevice = refl
+fault_again faults.DevicesFull = refl
+fault_again faults.NotUpgraded = refl
+fault_again faults.AlreadyUpgraded = refl
 
 abbrev pub fault_code : Coded ChangeFault
 fault_code = code_by ℕ coded_ℕ change_fault_code_of fault_of_number fault_again

@@ -1,10 +1,11 @@
 -- What an entry of a pending item asks of its history, and what is known of it once it was made.
-use Rattle.std.specs.Prelude.{◌≡◌, ℕ, ◌+◌, ◌≤◌, true, false, List, length, None, Some}
+use Rattle.std.specs.Prelude.{◌≡◌, ℕ, ◌+◌, ◌≤◌, true, false, List, length, is_some, None, Some}
 use Rattle.sporc_delta.specs.Format.{delta_bytes}
 use Rattle.sporc_delta.specs.Typed.{IsTypedDelta}
-use Rattle.sporc_member.specs.Roster.{after_change, change_fault_of, numbers_of}
+use Rattle.sporc_member.specs.Roster.{after_change, change_fault_of, key_of, numbers_of}
 use Rattle.sporc_entry.specs.ChangeBody.{IsChangeBody}
 use Rattle.sporc_entry.specs.Entry.{entry_of}
+use Rattle.sporc_entry.specs.Version.{version_of}
 use Rattle.sporc_epoch.specs.Sealing.{body_sealed, least_unpaired}
 use Rattle.sporc_head.specs.declared.limits.TheConstants.{MAX_ENTRIES}
 use Rattle.sporc_head.specs.History.{is_removed, roster_of}
@@ -27,17 +28,18 @@ Fits line (Change change) =
     (change_fault_of (roster_of line.genesis line.entries) change ≡ None)
     × (least_unpaired line.kit.pairs (numbers_of (after_change (roster_of line.genesis line.entries) change).members) ≡ None)
 
--- the history is good and has room, it doesn't remove the member, and the item fits
+-- the history is good and has room, it doesn't remove the device, which is live, and the item fits
 pub record CanTake (line : LineModel) (item : Pending) : Type 0 where
   pub good : Good line.genesis line.kit line.entries
   pub room : length line.entries + 1 ≤ MAX_ENTRIES
   pub not_removed : is_removed line.kit.me line.entries ≡ false
+  pub live : is_some (key_of (roster_of line.genesis line.entries) line.kit.me) ≡ true
   pub fits : Fits line item
 
 -- what the entry of an item holds is spelled as its format has it
 abbrev pub IsSpelled : PlainClient → Chosen → Pending → Type 0
 IsSpelled c chosen (Edit marks) = IsTypedDelta marks
-IsSpelled c chosen (Change change) = IsChangeBody (body_sealed (sealing_of c chosen change) c.opening.kit.pairs)
+IsSpelled c chosen (Change change) = IsChangeBody (version_of (roster_of c.opening.genesis c.entries).upgraded) (body_sealed (sealing_of c chosen change) c.opening.kit.pairs)
 
 -- a client can submit these bytes, signed by this leaf: its log allows them, and they are the entry of its first item
 pub record IsSubmission (c : PlainClient) (leaf : ℕ) (bytes : List ℕ) : Type 0 where

@@ -9,6 +9,7 @@ use Rattle.sporc_entry.specs.declared.entry.Entry.{Entry}
 use Rattle.sporc_entry.specs.declared.header.Header.{Header}
 use Rattle.sporc_entry.specs.ChangeBody.{change_body_bytes}
 use Rattle.sporc_entry.specs.Entry.{entry_bytes, signed_string}
+use Rattle.sporc_entry.specs.Version.{version_of}
 use Rattle.sporc_epoch.specs.Sealing.{Sealing, body_sealed}
 use Rattle.sporc_epoch.specs.Streams.{entry_stream}
 use Rattle.sporc_head.specs.History.{count_of, epoch_of, hash_of, roster_of}
@@ -35,8 +36,10 @@ kind_of (Change change) = 2
 -- what stands before the body of the client's next entry
 abbrev pub next_header : PlainClient → ℕ → Pending → Header
 next_header c leaf item = record {
+  version = version_of (roster_of c.opening.genesis c.entries).upgraded;
   document = c.opening.genesis.document;
-  author = me_of c;
+  author = (me_of c).member;
+  device = (me_of c).number;
   number = count_of (me_of c) c.entries + 1;
   base = length c.entries;
   base_hash = hash_of c.opening.genesis c.entries;
@@ -51,8 +54,8 @@ sealing_of c chosen change = record {
   change = change;
   members = numbers_of (after_change (roster_of c.opening.genesis c.entries) change).members;
   document = c.opening.genesis.document;
-  author = me_of c;
-  leaf = chosen.leaf;
+  author = (me_of c).member;
+  stream = entry_stream (me_of c) chosen.leaf;
   epoch = epoch_of c.entries;
   old = current_key c;
   new = chosen.new_key;

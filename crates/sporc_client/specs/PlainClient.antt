@@ -2,13 +2,14 @@
 use Rattle.std.specs.Prelude.{ℕ, List, [], take, Option, None, fold}
 use Rattle.lms_tree.specs.LmsPrivate.{LmsPrivate}
 use Rattle.sporc_delta.specs.Marks.{Mark, apply}
+use Rattle.sporc_member.specs.declared.device.Device.{Device}
 use Rattle.sporc_entry.specs.declared.genesis.Genesis.{Genesis}
 use Rattle.sporc_line.specs.Kit.{Kit}
 use Rattle.sporc_line.specs.Document.{text_after, text_of}
 use Rattle.sporc_client.specs.declared.pending.Pending.{Pending}
 use Rattle.sporc_client.specs.declared.pending.Pending.TheVariants.{Edit, Change}
 
--- what a client is opened with: the document, what its member was given, and its private key
+-- what a client is opened with: the document, what its device was given, and its private key
 pub record Opening : Type 0 where
   pub genesis : Genesis
   pub kit : Kit
@@ -29,8 +30,8 @@ pub record PlainClient : Type 0 where
 abbrev pub opened : Opening → PlainClient
 opened opening = record { opening = opening; entries = []; pending = []; flight = None; shown = [] }
 
--- its member
-abbrev pub me_of : PlainClient → ℕ
+-- its device
+abbrev pub me_of : PlainClient → Device
 me_of c = c.opening.kit.me
 
 -- the text after a pending item

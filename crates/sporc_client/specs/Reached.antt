@@ -1,5 +1,6 @@
 -- Clients as their own calls lead to them.
-use Rattle.std.specs.Prelude.{◌≡◌, ℕ, true, List, Contains}
+use Rattle.std.specs.Prelude.{◌≡◌, true, List, Contains}
+use Rattle.sporc_member.specs.declared.device.Device.{Device}
 use Rattle.sporc_epoch.specs.Keys.{Keys}
 use Rattle.sporc_line.specs.Good.{Good}
 use Rattle.sporc_client.specs.Log.{Logged}
@@ -8,9 +9,9 @@ use Rattle.sporc_client.specs.Step.{replay}
 use Rattle.sporc_client.specs.Allowed.{is_allowed}
 use Rattle.sporc_client.specs.Run.{Setup, opening_of}
 
--- a client that a member of a run opened: its history is good, and its state is the replay of a log that it allows
-pub record IsReached (s : Setup) (who : ℕ) (c : PlainClient) : Type 0 where
-  pub is_member : Contains s.members who
+-- a client that a device of a run opened: its history is good, and its state is the replay of a log that it allows
+pub record IsReached (s : Setup) (who : Device) (c : PlainClient) : Type 0 where
+  pub is_device : Contains s.devices who
   pub ring : Keys
   pub opening : c.opening ≡ opening_of s who ring
   pub good : Good c.opening.genesis c.opening.kit c.entries

@@ -1,8 +1,10 @@
 -- Clients of one document, under a server that hands any bytes to anyone.
-use Rattle.std.specs.Prelude.{◌≡◌, ℕ, ◌≤◌, ◌==◌, true, List, [], ◌∷◌, ◌++◌, length, take, Option, None, Some, if◌then◌else◌, IsSomeAnd, Contains, ⊤}
+use Rattle.std.specs.Prelude.{◌≡◌, ℕ, ◌≤◌, true, List, [], ◌∷◌, ◌++◌, length, take, Option, None, Some, if◌then◌else◌, IsSomeAnd, Contains, ⊤}
 use Rattle.std.specs.FinMap.{get}
 use Rattle.lms_tree.specs.LmsPrivate.{LmsPrivate, lms_public_of}
 use Rattle.lms_tree.specs.LmsPublic.{public_key_bytes}
+use Rattle.sporc_member.specs.declared.device.Device.{Device}
+use Rattle.sporc_member.specs.Device.{same_device}
 use Rattle.sporc_entry.specs.declared.genesis.Genesis.{Genesis}
 use Rattle.sporc_epoch.specs.Keys.{Keys}
 use Rattle.sporc_head.specs.declared.refusal.Refusal.{Refusal}
@@ -13,30 +15,30 @@ use Rattle.sporc_client.specs.Step.{accepted, log_of_entries, replay, step}
 use Rattle.sporc_client.specs.Answers.{journal_has_room, refusal_of}
 use Rattle.sporc_client.specs.Allowed.{allows}
 
--- a document, its members that run this program, and what each was given: its pairwise keys and its private key
+-- a document, the devices of its members that run this program, and what each was given: its pairwise keys and its private key
 pub record Setup : Type 0 where
   pub genesis : Genesis
-  pub members : List ℕ
-  pub pairs : ℕ → Keys
-  pub private : ℕ → LmsPrivate
+  pub devices : List Device
+  pub pairs : Device → Keys
+  pub private : Device → LmsPrivate
 
--- what a member's client is opened with, if it has this ring
-abbrev pub opening_of : Setup → ℕ → Keys → Opening
+-- what a device's client is opened with, if it has this ring
+abbrev pub opening_of : Setup → Device → Keys → Opening
 opening_of s who ring = record { genesis = s.genesis; kit = record { me = who; ring = ring; pairs = s.pairs who }; key = s.private who }
 
--- the bytes of a member's public key
-abbrev pub key_of_member : Setup → ℕ → List ℕ
-key_of_member s who = public_key_bytes (lms_public_of (s.private who))
+-- the bytes of a device's public key
+abbrev pub key_of_device : Setup → Device → List ℕ
+key_of_device s who = public_key_bytes (lms_public_of (s.private who))
 
 -- an entry that a client signed, with what the client was then
 pub record Signing : Type 0 where
-  pub who : ℕ
+  pub who : Device
   pub entry : List ℕ
   pub client : PlainClient
 
--- the clients that are open, by their members' numbers, and all that was ever signed
+-- the clients that are open, by their devices, and all that was ever signed
 pub record World : Type 0 where
-  pub clients : ℕ → Option PlainClient
+  pub clients : Device → Option PlainClient
   pub signed : List Signing
 
 -- nothing has happened
@@ -45,28 +47,28 @@ start = record { clients = λ who. None; signed = [] }
 
 -- what happens next
 pub data Move : Type 0 where
-  -- a member opens a client with this ring
-  Open : (who : ℕ) → Keys → Move
+  -- a device opens a client with this ring
+  Open : (who : Device) → Keys → Move
   -- an event of a client
-  Happen : (who : ℕ) → Logged → Move
+  Happen : (who : Device) → Logged → Move
   -- the server hands it bytes as the entry at a position
-  Give : (who position : ℕ) → List ℕ → Move
+  Give : (who : Device) (position : ℕ) → List ℕ → Move
   -- it goes back to its first k entries
-  Restart : (who k : ℕ) → Move
+  Restart : (who : Device) (k : ℕ) → Move
 
 -- the clients with this one in its place
-abbrev pub with_client : (ℕ → Option PlainClient) → ℕ → PlainClient → ℕ → Option PlainClient
-with_client clients who c other = if other == who then Some c else clients other
+abbrev pub with_client : (Device → Option PlainClient) → Device → PlainClient → Device → Option PlainClient
+with_client clients who c other = if same_device other who then Some c else clients other
 
-abbrev pub put : World → ℕ → PlainClient → World
+abbrev pub put : World → Device → PlainClient → World
 put w who c = record w { clients = with_client w.clients who c }
 
 -- what a client signs by an event
-abbrev pub signings : ℕ → PlainClient → Logged → List Signing
+abbrev pub signings : Device → PlainClient → Logged → List Signing
 signings who c (Submit by bytes) = record { who = who; entry = bytes; client = c } ∷ []
 signings who c event = []
 
-abbrev pub happens_to : World → ℕ → Logged → Option PlainClient → World
+abbrev pub happens_to : World → Device → Logged → Option PlainClient → World
 happens_to w who event None = w
 happens_to w who event (Some c) = record { clients = with_client w.clients who (step c event); signed = w.signed ++ signings who c event }
 
@@ -75,7 +77,7 @@ abbrev pub given : PlainClient → List ℕ → Option Refusal → PlainClient
 given c bytes (Some refusal) = c
 given c bytes None = if journal_has_room c then accepted c bytes else c
 
-abbrev pub gives_to : World → ℕ → ℕ → List ℕ → Option PlainClient → World
+abbrev pub gives_to : World → Device → ℕ → List ℕ → Option PlainClient → World
 gives_to w who position bytes None = w
 gives_to w who position bytes (Some c) = put w who (given c bytes (refusal_of c position bytes))
 
@@ -83,7 +85,7 @@ gives_to w who position bytes (Some c) = put w who (given c bytes (refusal_of c 
 abbrev pub restarted : PlainClient → ℕ → PlainClient
 restarted c k = replay c.opening (log_of_entries (take k c.entries))
 
-abbrev pub restarts : World → ℕ → ℕ → Option PlainClient → World
+abbrev pub restarts : World → Device → ℕ → Option PlainClient → World
 restarts w who k None = w
 restarts w who k (Some c) = put w who (restarted c k)
 
@@ -101,7 +103,7 @@ after_all s w (move ∷ moves) = after_all s (after s w move) moves
 
 -- a move may happen
 abbrev pub May : Setup → World → Move → Type 0
-May s w (Open who ring) = Contains s.members who × Meets s.genesis 0 (get ring 0) s.genesis.commitment
+May s w (Open who ring) = Contains s.devices who × Meets s.genesis 0 (get ring 0) s.genesis.commitment
 May s w (Happen who event) = IsSomeAnd (w.clients who) (λ c. allows c event ≡ true)
 May s w (Give who position bytes) = IsSomeAnd (w.clients who) (λ c. ⊤)
 May s w (Restart who k) = IsSomeAnd (w.clients who) (λ c. k ≤ length c.entries)
@@ -115,6 +117,6 @@ IsRun s w (move ∷ moves) = May s w move × IsRun s (after s w move) moves
 abbrev pub world_at : Setup → List Move → ℕ → World
 world_at s moves n = after_all s start (take n moves)
 
--- the member's client then
-abbrev pub IsAt : Setup → List Move → ℕ → ℕ → PlainClient → Type 0
+-- the device's client then
+abbrev pub IsAt : Setup → List Move → ℕ → Device → PlainClient → Type 0
 IsAt s moves n who c = (world_at s moves n).clients who ≡ Some c

@@ -1,10 +1,11 @@
 -- What taking a prepared entry asks of a client's own part, and what it does.
-use Rattle.std.specs.Prelude.{◌≡◌, ℕ, ◌+◌, ◌<◌, ◌≤◌, ◌==◌, List, [], ◌∷◌, ◌++◌, length}
+use Rattle.std.specs.Prelude.{◌≡◌, ℕ, ◌+◌, ◌<◌, ◌≤◌, List, [], ◌∷◌, ◌++◌, length}
 use Rattle.std.specs.Option.{is_some}
 use Rattle.sporc_delta.specs.declared.limits.TheConstants.{MAX_COUNT, MAX_TEXT_LEN}
 use Rattle.sporc_delta.specs.Marks.{Mark, base_len, inserted_len}
 use Rattle.sporc_suffix.specs.Forms.{Follow, reached}
-use Rattle.sporc_entry.specs.Entry.{change_of}
+use Rattle.sporc_member.specs.Device.{same_device}
+use Rattle.sporc_entry.specs.Entry.{author_device, change_of}
 use Rattle.sporc_line.specs.Document.{text_after}
 use Rattle.sporc_line.specs.LineModel.{LineModel}
 use Rattle.sporc_line.specs.Prepared.{PreparedModel}
@@ -17,7 +18,7 @@ use Rattle.sporc_client.specs.Workspace.{WorkspaceModel}
 
 -- what it does to the pending items and to the entry on its way
 abbrev pub coming_at : LineModel → WorkspaceModel → PreparedModel → Effect
-coming_at line own p = coming_of (is_same_as own.flight p.checked.bytes) (is_some (change_of p.checked.entry)) (p.checked.entry.header.author == line.kit.me) p.form own.pending
+coming_at line own p = coming_of (is_same_as own.flight p.checked.bytes) (is_some (change_of p.checked.entry)) (same_device (author_device p.checked.entry.header) line.kit.me) p.form own.pending
 
 -- its shown delta
 abbrev pub form_at : WorkspaceModel → PreparedModel → List Mark

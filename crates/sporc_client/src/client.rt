@@ -1,6 +1,6 @@
-//! A member's client.
+//! A client of a member's device.
 
-ghost use Rattle.std.specs.Prelude.{◌≡◌, ◌≢◌, ◌+◌, ◌<◌, ◌≤◌, ◌∷◌, ◌++◌, [], map as map_, drop, take, length, true, None, Some, IfOk, IfErr, OnOk, OnErr, option_copied};
+ghost use Rattle.std.specs.Prelude.{◌≡◌, ◌≢◌, ◌+◌, ◌<◌, ◌≤◌, ◌∷◌, ◌++◌, ◌&&◌, [], map as map_, drop, take, length, is_some, true, None, Some, IfOk, IfErr, OnOk, OnErr, option_copied};
 ghost use Rattle.std.specs.FinMap as map;
 ghost use Rattle.sporc_hash.specs.Chain.{chain};
 ghost use Rattle.sporc_entry.specs.Genesis.{IsGenesis, genesis_bytes};
@@ -15,7 +15,7 @@ ghost use Rattle.sporc_client.specs.Answers.{added, change_checks, change_fault,
 ghost use Rattle.sporc_head.specs.Examined.{key_for};
 ghost use Rattle.sporc_head.specs.HeadChecks.{allows_member};
 ghost use Rattle.sporc_head.specs.History.{roster_of};
-ghost use Rattle.sporc_member.specs.Roster.{member_at};
+ghost use Rattle.sporc_member.specs.Roster.{key_of, member_at};
 ghost use Rattle.sporc_client.specs.ClientInvariant.{plain_of};
 ghost use Rattle.lms_tree.specs.LmsPrivate.{LmsPrivate};
 ghost use Rattle.lms_leaf.specs.LeafFile.{ArePassed, AreTaken};
@@ -81,12 +81,13 @@ impl<D: LeafDisk> Model for Client<D> {
 }
 
 impl<D: LeafDisk> Client<D> {
-    /// The client of a member with an empty history, by its number, a ring with the key of epoch 0 or a joiner's hints,
-    /// its pairwise keys and its signer.
+    /// The client of a member's device with an empty history, by both numbers, a ring with the key of epoch 0 or a joiner's
+    /// hints, its member's pairwise keys and its signer.
     pub fn open(
         alloc: Global,
         genesis: Genesis,
         me: u16,
+        device: u8,
         ring: Ring,
         pairs: Pairs,
         signer: Signer<D>,
@@ -96,7 +97,7 @@ impl<D: LeafDisk> Client<D> {
         ensures err { IfErr result (λ e. e.0 ≢ LineOpenFault.Memory → first_of (open_checks genesis (map.get ring.keys 0)) ≡ Some e.0) }
         ensures returned { IfErr result (λ e. e.1 ≡ signer) }
         ensures value { IfOk result (λ client. client ≡ record {
-          opening = record { genesis = genesis; kit = kit_of me ring.keys (pairs_in pairs); key = signer.key };
+          opening = record { genesis = genesis; kit = kit_of (record { member = me; number = device }) ring.keys (pairs_in pairs); key = signer.key };
           log = [];
           leaves = signer.leaves;
           ticket = None;
@@ -104,7 +105,7 @@ impl<D: LeafDisk> Client<D> {
     {
         // No draw: what the signer says here of its leaves is what the order of the client's leaves rests on.
         let _next = signer.next_leaf();
-        match opened(alloc, genesis, me, ring, pairs) {
+        match opened(alloc, genesis, me, device, ring, pairs) {
             Ok((line, own)) => Ok(Client {
                 alloc,
                 line,
@@ -164,15 +165,15 @@ impl<D: LeafDisk> Client<D> {
         self.line.heads().roster()
     }
 
-    /// The key under which the check of an entry's signature verifies it at this history: its author's. None exactly if
-    /// the bytes are no entry, or its author is no member. It takes no memory and makes no event.
+    /// The key under which the check of an entry's signature verifies it at this history: that of its author's device. None
+    /// exactly if the bytes are no entry, or its author has no such live device. It takes no memory and makes no event.
     pub fn key_for(&self, entry: &[u8]) -> Option<[u8; 56]>
         ensures value { result ≡ key_for (roster_of self.now.opening.genesis (state_of self.now).entries) entry.now }
     {
         self.line.key_for(entry)
     }
 
-    /// Whether a change removed the member.
+    /// Whether a change removed the member, or dropped the device.
     pub fn removed(&self) -> bool
         ensures value { result ≡ is_out (state_of self.now) }
     {
@@ -181,9 +182,16 @@ impl<D: LeafDisk> Client<D> {
 
     /// The member's number.
     pub fn me(&self) -> u16
-        ensures value { result ≡ self.now.opening.kit.me }
+        ensures value { result ≡ self.now.opening.kit.me.member }
     {
         self.line.me()
+    }
+
+    /// The number of the member's device.
+    pub fn device(&self) -> u8
+        ensures value { result ≡ self.now.opening.kit.me.number }
+    {
+        self.line.device()
     }
 
     /// The document's number.
@@ -260,13 +268,14 @@ fn opened(
     alloc: Global,
     genesis: Genesis,
     me: u16,
+    device: u8,
     ring: Ring,
     pairs: Pairs,
 ) -> Result<(Line, Workspace), LineOpenFault>
     requires { IsGenesis genesis }
     ensures fault { AnswersUnless LineOpenFault.Memory result (first_of (open_checks genesis (map.get ring.keys 0))) }
     ensures genesis { IfOk result (λ both. both.0.genesis ≡ genesis) }
-    ensures kit { IfOk result (λ both. both.0.kit ≡ kit_of me ring.keys (pairs_in pairs)) }
+    ensures kit { IfOk result (λ both. both.0.kit ≡ kit_of (record { member = me; number = device }) ring.keys (pairs_in pairs)) }
     ensures empty { IfOk result (λ both. both.0.entries ≡ []) }
     ensures good { IfOk result (λ both. Good both.0.genesis both.0.kit both.0.entries) }
     ensures pending { IfOk result (λ both. both.1.pending ≡ []) }
@@ -274,7 +283,7 @@ fn opened(
     ensures shown { IfOk result (λ both. both.1.shown ≡ []) }
     ensures journal { IfOk result (λ both. both.1.journal ≡ []) }
 {
-    let line = Line::open(alloc, genesis, me, ring, pairs)?;
+    let line = Line::open(alloc, genesis, me, device, ring, pairs)?;
     let _good = line.len();
     match Workspace::new(alloc) {
         Ok(own) => Ok((line, own)),
@@ -285,13 +294,16 @@ fn opened(
     }
 }
 
-// Whether the member has the right to entries of this kind.
+// Whether the device is live and its member has the right to entries of this kind.
 pub(crate) fn has_right(line: &Line, kind: u8) -> bool
-    ensures value { result ≡ allows_member kind (member_at (roster_of line.now.genesis line.now.entries) line.now.kit.me) }
+    ensures value { result ≡ (allows_member kind (member_at (roster_of line.now.genesis line.now.entries) line.now.kit.me.member)
+        && is_some (key_of (roster_of line.now.genesis line.now.entries) line.now.kit.me)) }
 {
-    match line.heads().roster().role(line.me()) {
+    let roster = line.heads().roster();
+    let me = line.own_device();
+    match roster.role(me.member) {
         None => false,
-        Some(role) => allows(role, kind),
+        Some(role) => allows(role, kind) && roster.key(me.member, me.number).is_some(),
     }
 }
 

@@ -1,10 +1,11 @@
 //! What an entry that comes does to a client's own part.
 
-ghost use Rattle.std.specs.Prelude.{◌≡◌, ◌+◌, ◌≤◌, ◌==◌, length, is_some, IfOk};
+ghost use Rattle.std.specs.Prelude.{◌≡◌, ◌+◌, ◌≤◌, length, is_some, IfOk};
 ghost use Rattle.sporc_delta.specs.Marks.{base_len, inserted_len};
 ghost use Rattle.sporc_delta.specs.declared.limits.TheConstants.{MAX_COUNT, MAX_TEXT_LEN};
 ghost use Rattle.sporc_suffix.specs.Forms.{Follow};
-ghost use Rattle.sporc_entry.specs.Entry.{change_of};
+ghost use Rattle.sporc_member.specs.Device.{same_device};
+ghost use Rattle.sporc_entry.specs.Entry.{author_device, change_of};
 ghost use Rattle.sporc_line.specs.Document.{text_after};
 ghost use Rattle.sporc_client.specs.Coming.{CanCome, coming_of, effect, shown_form};
 ghost use Rattle.sporc_client.specs.Rebasing.{AreOver, inserted_by};
@@ -15,6 +16,7 @@ use crate::workspace::Workspace;
 use sporc_base::{Items, Memory};
 use sporc_delta::Delta;
 use sporc_line::Prepared;
+use sporc_member::Device;
 use sporc_xform::Passed;
 use std::alloc::Global;
 
@@ -25,7 +27,7 @@ pub(crate) enum Coming {
     Own,
     /// It is another change: the entry on its way has come too late.
     Change,
-    /// It is another edit: this is what the pending items become behind it. One of the member's own takes the number of
+    /// It is another edit: this is what the pending items become behind it. One of the device's own takes the number of
     /// the entry on its way.
     Edit(Items<Option<Passed>>, bool),
 }
@@ -33,7 +35,7 @@ pub(crate) enum Coming {
 /// What a prepared entry, of these bytes, does to a client's own part, and its shown delta.
 pub(crate) fn settle(
     alloc: Global,
-    me: u16,
+    me: Device,
     own: &Workspace,
     prepared: &Prepared,
     bytes: &[u8],
@@ -42,7 +44,7 @@ pub(crate) fn settle(
     requires short { length (text_after own.now.shown) ≤ MAX_COUNT }
     requires over { AreOver (base_len prepared.now.form) own.now.pending }
     requires limit { base_len prepared.now.form + inserted_len prepared.now.form + inserted_by own.now.pending ≤ MAX_TEXT_LEN }
-    ensures coming { IfOk result (λ both. effect both.0 own.now.pending ≡ coming_of (is_same_as own.now.flight bytes.now) (is_some (change_of prepared.now.checked.entry)) (prepared.now.checked.entry.header.author == me) prepared.now.form own.now.pending) }
+    ensures coming { IfOk result (λ both. effect both.0 own.now.pending ≡ coming_of (is_same_as own.now.flight bytes.now) (is_some (change_of prepared.now.checked.entry)) (same_device (author_device prepared.now.checked.entry.header) me) prepared.now.form own.now.pending) }
     ensures fits { IfOk result (λ both. CanCome both.0 own.now.pending) }
     ensures form { IfOk result (λ both. both.1 ≡ shown_form (is_same_as own.now.flight bytes.now) (is_some (change_of prepared.now.checked.entry)) (length (text_after own.now.shown)) prepared.now.form own.now.pending) }
 {
@@ -55,7 +57,7 @@ pub(crate) fn settle(
         return Ok((Coming::Change, keeps));
     }
     let passage = pass_items(alloc, prepared.form(), own.pending())?;
-    let by_me = prepared.author() == me;
+    let by_me = prepared.author_device().is(me);
     Ok((
         Coming::Edit(Items::new(passage.passed), by_me),
         passage.form,

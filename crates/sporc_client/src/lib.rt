@@ -12,7 +12,7 @@
 //! - [`laws`]: what all clients of one document agree on, whatever a server hands them.
 //!
 //! ```text
-//! let mut client = Client::open(alloc, genesis, me, ring, pairs, signer)?;
+//! let mut client = Client::open(alloc, genesis, me, device, ring, pairs, signer)?;
 //! client.edit(1, 0, &Delta::insert_at(alloc, 0, 0, "a")?)?;
 //! let submitted = client.submit(1, &random)?;          // Entry(bytes), for the server
 //! client.accept(1, 1, bytes)?;                         // as the server hands it back

@@ -9,6 +9,8 @@ mod changing;
 #[cfg(test)]
 mod checks;
 #[cfg(test)]
+mod devices;
+#[cfg(test)]
 mod editing;
 #[cfg(test)]
 mod filling;

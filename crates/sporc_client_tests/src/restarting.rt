@@ -4,6 +4,7 @@ use crate::checks::check;
 use crate::room::{ABC, Room};
 use crate::scene::{MemoryClient, founder_ring, paired};
 use sporc_line::Line;
+use sporc_member::FIRST_DEVICE;
 use sporc_samples::{Cast, epoch_key};
 use std::alloc::Global;
 use std::process::Abort;
@@ -93,7 +94,7 @@ fn empty_line(rt: &impl Abort, alloc: Global, cast: &Cast) -> Box<Line> {
     let genesis = cast.genesis(alloc).expect(rt, "a genesis");
     let ring = founder_ring(rt, alloc);
     let pairs = paired(rt, alloc, 2, 5);
-    let line = Line::open(alloc, genesis, 2, ring, pairs).expect(rt, "a line");
+    let line = Line::open(alloc, genesis, 2, FIRST_DEVICE, ring, pairs).expect(rt, "a line");
     Box::new(alloc, line).expect(rt, "memory")
 }
 

@@ -1,4 +1,5 @@
-//! Clients of the sample document that act by rows, one a line: a member, what its client is told, and what it answers.
+//! Clients of the sample document that act by rows, one a line: the place of a client, which is its member's number unless it is
+//! of a further device, what it is told, and what it answers.
 //!
 //! | Row | Answer |
 //! |---|---|
@@ -6,6 +7,7 @@
 //! | `M append SEEN LEN TEXT` | inserts at the end of a text of LEN characters, as shown after SEEN events: `event N` |
 //! | `M remove AT COUNT` | edits the shown text: `event N` |
 //! | `M edits N`, `M reads N`, `M drops N` | changes the role of member N, or removes it: `event K` |
+//! | `M upgrade`, `M device N D`, `M drops-device N D` | upgrades the document, adds or drops a device of member N: `event K` |
 //! | `M submit` | `entry`, `waiting`, `nothing` or `dropped FAULT`. Entries are counted from 1 |
 //! | `M give POSITION ENTRY` | accepts an entry at a position: `event N` |
 //! | `M examined POSITION ENTRY OTHER` | accepts an entry, examined under the key for another: `good event N`, `bad event N` |
@@ -22,9 +24,9 @@ use sporc_client::{EditFault, Submitted};
 use sporc_delta::Delta;
 use sporc_head::Examined;
 use sporc_line::Line;
-use sporc_member::{Change, Role};
+use sporc_member::{Change, Device, Role};
 use sporc_outside::Calls;
-use sporc_samples::Cast;
+use sporc_samples::{Cast, Member};
 use std::alloc::Global;
 use std::fmt::Debug;
 use std::process::Abort;
@@ -38,7 +40,8 @@ pub(crate) const ABC: &str = "
 2 give 1 1 -> event 1
 ";
 
-/// The clients of the members 1, 2, .., and the entries that they made. A function that owns a room is quick to prove.
+/// The clients of the members 1, 2, .. by their first devices and of further devices behind them, and the entries that they
+/// made. A function that owns a room is quick to prove.
 #[derive(Drop)]
 pub(crate) struct Room {
     clients: Vec<Box<MemoryClient>>,
@@ -50,7 +53,7 @@ impl Room {
     pub(crate) fn new(rt: &impl Abort, alloc: Global, cast: &Cast, members: u16) -> Room {
         let mut clients = Vec::new(alloc);
         for i in 0..members {
-            let client = joined(rt, alloc, cast, i.wrapping_add(1));
+            let client = joined(rt, alloc, cast, Device::first(i.wrapping_add(1)));
             clients.push(client).expect(rt, "memory");
         }
         Room {
@@ -69,12 +72,18 @@ impl Room {
         calls: Calls,
     ) -> Room {
         let mut clients = Vec::new(alloc);
-        let client = opened(rt, alloc, cast, me, last, calls);
+        let client = opened(rt, alloc, cast, Device::first(me), last, calls);
         clients.push(client).expect(rt, "memory");
         Room {
             clients,
             entries: Vec::new(alloc),
         }
+    }
+
+    /// The client of a further device, just opened, behind all others.
+    pub(crate) fn joins(&mut self, rt: &impl Abort, alloc: Global, cast: &Cast, device: Device) {
+        let client = joined(rt, alloc, cast, device);
+        self.clients.push(client).expect(rt, "memory");
     }
 
     /// The client of the member at this place, from 1 on.
@@ -289,11 +298,24 @@ fn changes(
     rt: &impl Abort,
     alloc: Global,
     client: &mut MemoryClient,
-    change: &str,
+    act: &str,
     words: &mut SplitWhitespace<'_>,
 ) -> String {
-    let member = u16::try_from(number(rt, words)).expect(rt, "a member");
-    let change = match change {
+    let change = match act {
+        "upgrade" => Change::Upgrade,
+        "device" | "drops-device" => change_of_device(rt, alloc, act, words),
+        _ => change_of_member(rt, act, words),
+    };
+    told(rt, alloc, client.change(1, change))
+}
+
+fn member(rt: &impl Abort, words: &mut SplitWhitespace<'_>) -> u16 {
+    u16::try_from(number(rt, words)).expect(rt, "a member")
+}
+
+fn change_of_member(rt: &impl Abort, act: &str, words: &mut SplitWhitespace<'_>) -> Change {
+    let member = member(rt, words);
+    match act {
         "edits" => Change::SetRole {
             member,
             role: Role::Editor,
@@ -304,8 +326,27 @@ fn changes(
         },
         "drops" => Change::Remove { member },
         _ => panic!(rt; "no such act"),
-    };
-    told(rt, alloc, client.change(1, change))
+    }
+}
+
+fn change_of_device(
+    rt: &impl Abort,
+    alloc: Global,
+    act: &str,
+    words: &mut SplitWhitespace<'_>,
+) -> Change {
+    let member = member(rt, words);
+    let device = u8::try_from(number(rt, words)).expect(rt, "a device");
+    if act == "drops-device" {
+        return Change::DropDevice { member, device };
+    }
+    let number = device;
+    let keys = Member::by_device(alloc, Device { member, number }, Role::Editor);
+    Change::AddDevice {
+        member,
+        device,
+        key: keys.expect(rt, "memory").key(),
+    }
 }
 
 fn restart(

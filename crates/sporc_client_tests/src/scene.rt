@@ -8,6 +8,7 @@ use sporc_client::Client;
 use sporc_delta::Delta;
 use sporc_epoch::{Pairs, Ring};
 use sporc_line::Line;
+use sporc_member::Device;
 use sporc_outside::{Calls, MemoryDisk};
 use sporc_samples::{Cast, epoch_key, pair_key};
 use std::alloc::Global;
@@ -37,38 +38,41 @@ pub(crate) fn paired(rt: &impl Abort, alloc: Global, me: u16, last: u16) -> Pair
     pairs
 }
 
-// A signer with the keys of a member of the cast, on a disk some of whose calls fail.
-fn signer(rt: &impl Abort, alloc: Global, me: u16, calls: Calls) -> Signer<MemoryDisk> {
-    let [high, low] = me.to_be_bytes();
-    let tree = Tree::build(
-        alloc,
-        &[high ^ low; 32],
-        &[low; 16],
-        LmsType::H5,
-        OtsType::W4,
-    )
-    .expect(rt, "memory");
+// The seed and the identifier of the key of a member's device.
+fn seed_and_identifier(me: Device) -> ([u8; 32], [u8; 16]) {
+    let [high, low] = me.member.to_be_bytes();
+    let mut seed = [high ^ low; 32];
+    seed[31] ^= me.number;
+    let mut id = [low; 16];
+    id[15] ^= me.number;
+    (seed, id)
+}
+
+// A signer with the key of a device of a member of the cast, on a disk some of whose calls fail.
+fn signer(rt: &impl Abort, alloc: Global, me: Device, calls: Calls) -> Signer<MemoryDisk> {
+    let (seed, id) = seed_and_identifier(me);
+    let tree = Tree::build(alloc, &seed, &id, LmsType::H5, OtsType::W4).expect(rt, "memory");
     let file = blank(alloc, 5).expect(rt, "memory");
     let disk = MemoryDisk::new(alloc, file, calls).expect(rt, "memory");
     let leaves = Leaves::open(alloc, disk, 5).ok().expect(rt, "leaves");
     Signer::open(tree, leaves)
 }
 
-/// The client of a founder who shares keys with the first members, just opened, on a disk some of whose calls fail. It is in a
-/// box: a function that owns a client itself is slow to prove.
+/// The client of a founder's device, of one who shares keys with the first members, just opened, on a disk some of whose calls
+/// fail. It is in a box: a function that owns a client itself is slow to prove.
 pub(crate) fn opened(
     rt: &impl Abort,
     alloc: Global,
     cast: &Cast,
-    me: u16,
+    me: Device,
     last: u16,
     calls: Calls,
 ) -> Box<MemoryClient> {
     let genesis = cast.genesis(alloc).expect(rt, "a genesis");
     let ring = founder_ring(rt, alloc);
-    let pairs = paired(rt, alloc, me, last);
+    let pairs = paired(rt, alloc, me.member, last);
     let signer = signer(rt, alloc, me, calls);
-    let client = Client::open(alloc, genesis, me, ring, pairs, signer)
+    let client = Client::open(alloc, genesis, me.member, me.number, ring, pairs, signer)
         .ok()
         .expect(rt, "a client");
     Box::new(alloc, client).expect(rt, "memory")
@@ -92,8 +96,8 @@ pub(crate) fn no_calls(alloc: Global) -> Calls {
     Calls::failing(Vec::new(alloc))
 }
 
-/// The client of a founder who shares a key with each, just opened.
-pub(crate) fn joined(rt: &impl Abort, alloc: Global, cast: &Cast, me: u16) -> Box<MemoryClient> {
+/// The client of a founder's device, of one who shares a key with each, just opened.
+pub(crate) fn joined(rt: &impl Abort, alloc: Global, cast: &Cast, me: Device) -> Box<MemoryClient> {
     opened(rt, alloc, cast, me, 5, no_calls(alloc))
 }
 

@@ -1,7 +1,7 @@
 -- A role that is read is spelled by the byte that it took, and a spelled role is read again.
-use Rattle.std.proofs.Common.{◌≡◌, ℕ, ◌+◌, ◌≤◌, List, [], ◌∷◌, Ok, refl, sym, ap, subst, arith}
+use Rattle.std.proofs.Common.{◌≡◌, ℕ, ◌+◌, ◌<◌, ◌≤◌, ◌^◌, List, [], ◌∷◌, Ok, refl, sym, ap, subst, arith}
 use Rattle.std.specs.Prelude.{◌==◌}
-use Rattle.std.specs.Int.{w8}
+use Rattle.std.specs.Int.{w8, to_be_bytes}
 use Rattle.std.proofs.lemmas.Bool.{eqb-true}
 use Rattle.sporc_base.specs.Bytes.{IsBytes}
 use Rattle.sporc_base.proofs.ListLemmas.{found_passes}
@@ -20,6 +20,10 @@ pub record Leaves (old : Reading) (spelled : List ℕ → List ℕ) (new : Readi
 
 pub is_one : (n : ℕ) → 1 ≤ n → n ≤ 1 → n ≡ 1
 is_one n low high = omega (arith, low, high)
+
+-- a number of one byte is that byte
+pub byte_is : (n : ℕ) → n < 2 ^ 8 → to_be_bytes w8 n ≡ n ∷ []
+byte_is n small = ap (λ (x : ℕ). x ∷ []) (omega (arith, small))
 
 -- ---- roles
 

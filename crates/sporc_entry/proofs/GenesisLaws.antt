@@ -13,7 +13,7 @@ use Rattle.sporc_member.specs.declared.limits.TheConstants.{MAX_MEMBERS}
 use Rattle.sporc_entry.specs.declared.limits.TheConstants.{HIGHEST_MEMBER}
 use Rattle.sporc_member.specs.declared.founder.Founder.{Founder}
 use Rattle.sporc_member.specs.Role.{role_code_of}
-use Rattle.sporc_member.specs.Roster.{numbers_of}
+use Rattle.sporc_member.specs.Roster.{founder_numbers}
 use Rattle.sporc_entry.specs.declared.fault.GenesisFault.{GenesisFault}
 use Rattle.sporc_entry.specs.declared.fault.GenesisFault.TheVariants.{Malformed, Memory}
 use Rattle.sporc_entry.specs.declared.genesis.Genesis.{Genesis}
@@ -44,15 +44,15 @@ increasing_tail x y ys is = (is 0 (omega arith), later)
 abbrev number_of : Founder → ℕ
 number_of m = m.member
 
-ascends_increasing : (least : ℕ) (ms : List Founder) → Ascends number_of least ms → IsStrictlyIncreasing (numbers_of ms)
+ascends_increasing : (least : ℕ) (ms : List Founder) → Ascends number_of least ms → IsStrictlyIncreasing (founder_numbers ms)
 ascends_increasing least [] is = λ k h. absurd (omega (arith, h))
 ascends_increasing least (m ∷ []) is = λ k h. absurd (omega (arith, h))
-ascends_increasing least (m ∷ n ∷ ms) is = increasing_cons m.member n.member (numbers_of ms) (omega (arith, is.1.0)) (ascends_increasing (m.member + 1) (n ∷ ms) is.1)
+ascends_increasing least (m ∷ n ∷ ms) is = increasing_cons m.member n.member (founder_numbers ms) (omega (arith, is.1.0)) (ascends_increasing (m.member + 1) (n ∷ ms) is.1)
 
-increasing_ascends : (least : ℕ) (m : Founder) (ms : List Founder) → least ≤ m.member → IsStrictlyIncreasing (numbers_of (m ∷ ms)) → Ascends number_of least (m ∷ ms)
+increasing_ascends : (least : ℕ) (m : Founder) (ms : List Founder) → least ≤ m.member → IsStrictlyIncreasing (founder_numbers (m ∷ ms)) → Ascends number_of least (m ∷ ms)
 increasing_ascends least m [] le is = (le, tt)
 increasing_ascends least m (n ∷ ms) le is =
-    let t = increasing_tail m.member n.member (numbers_of ms) is in
+    let t = increasing_tail m.member n.member (founder_numbers ms) is in
     (le, increasing_ascends (m.member + 1) n ms (omega (arith, t.0)) t.1)
 
 -- ---- founders
@@ -96,7 +96,7 @@ pub record AreFounders (n : ℕ) (r : Reading) (x : List Founder × Reading) : T
   pub text : Takes r (flat_map founder_bytes x.0) x.1
   pub count : length x.0 ≡ n
   pub each : AllByRecursion IsFounder x.0
-  pub ascending : IsStrictlyIncreasing (numbers_of x.0)
+  pub ascending : IsStrictlyIncreasing (founder_numbers x.0)
 
 founders_take : (n : ℕ) (r : Reading) (x : List Founder × Reading) → IsBytes r.rest → founders_at n r ≡ Ok x → AreFounders n r x
 unfolding founders_at
@@ -107,12 +107,12 @@ founders_take n r x h e =
     subst P (ok_is (l.0.0, l.0.1.1) x l.2) (record { text = t.text; count = t.count; each = t.each; ascending = ascends_increasing 1 l.0.0 t.ascending })
 
 -- founders in range ascend from 1 on
-ascends_from_one : (ms : List Founder) → AllByRecursion IsFounder ms → IsStrictlyIncreasing (numbers_of ms) → Ascends number_of 1 ms
+ascends_from_one : (ms : List Founder) → AllByRecursion IsFounder ms → IsStrictlyIncreasing (founder_numbers ms) → Ascends number_of 1 ms
 ascends_from_one [] is asc = tt
 ascends_from_one (m ∷ ms) is asc = increasing_ascends 1 m ms (omega (arith, is.0.member.positive)) asc
 
 -- the founders of all bytes that are left
-founders_again : (ms : List Founder) (at : ℕ) → AllByRecursion IsFounder ms → IsStrictlyIncreasing (numbers_of ms)
+founders_again : (ms : List Founder) (at : ℕ) → AllByRecursion IsFounder ms → IsStrictlyIncreasing (founder_numbers ms)
     → (after : ℕ) × (founders_at (length ms) (record { rest = flat_map founder_bytes ms; at = at }) ≡ Ok (ms, record { rest = []; at = after }))
 unfolding founders_at
 founders_again ms at is asc =
@@ -139,7 +139,7 @@ pub record IsInRange (g : Genesis) : Type 0 where
   pub commitment : length g.commitment ≡ 32
   pub count : (1 ≤ length g.founders) × (length g.founders ≤ MAX_MEMBERS)
   pub founders : AllByRecursion IsFounder g.founders
-  pub ascending : IsStrictlyIncreasing (numbers_of g.founders)
+  pub ascending : IsStrictlyIncreasing (founder_numbers g.founders)
 
 fields_take : (r : Reading) (x : Genesis × Reading) → IsBytes r.rest → genesis_at r ≡ Ok x → Leaves r (genesis_text x.0) x.1 × IsInRange x.0
 unfolding genesis_at

@@ -1,8 +1,11 @@
 pub mod FounderLoop
 pub mod FieldLaws
+pub mod VersionLaws
 pub mod ChangeLaws
 pub mod EntryLaws
 pub mod GenesisLaws
 pub mod Written
 pub mod Places
 pub mod ViewLaws
+mod Skimmed
+mod Examples

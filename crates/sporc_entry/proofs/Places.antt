@@ -7,16 +7,20 @@ use Rattle.std.proofs.lemmas.List.{length-take, length-drop}
 use Rattle.sporc_bytes.specs.Fields.{Reading, ◌>>=◌, bytes_at, number_at, only_if, counted_at, end_at, present, fault_as, number_within, values_at}
 use Rattle.sporc_base.specs.FirstFault.{unless, first_of}
 use Rattle.sporc_member.specs.declared.limits.TheConstants.{MAX_MEMBERS}
+use Rattle.sporc_member.specs.declared.change.Change.{Change}
+use Rattle.sporc_member.specs.declared.change.Change.TheVariants.{Add, Remove, SetRole, AddDevice, DropDevice, Upgrade}
 use Rattle.sporc_member.specs.declared.founder.Founder.{Founder}
 use Rattle.sporc_member.specs.Role.{role_with_code}
-use Rattle.sporc_member.specs.Roster.{founded, has_admin}
 use Rattle.sporc_entry.specs.declared.limits.TheConstants.{HIGHEST_MEMBER, MAX_SIGNATURE}
 use Rattle.sporc_entry.specs.declared.fault.GenesisFault.TheVariants.{Malformed, NoAdmin, BadKey}
 use Rattle.sporc_entry.specs.declared.genesis.Genesis.{Genesis}
 use Rattle.sporc_entry.specs.Fields.{role_at}
-use Rattle.sporc_entry.specs.ChangeBody.{change_of_kind, change_at, wrap_at, change_body_at, change_body_from}
-use Rattle.sporc_entry.specs.Entry.{header_at, body_limit, body_read, entry_of}
-use Rattle.sporc_entry.specs.Genesis.{founder_at, next_founder, founders_at, genesis_at, genesis_in, bad_key, accepted, tested, genesis_of}
+use Rattle.sporc_entry.specs.declared.header.Header.{Header}
+use Rattle.sporc_entry.specs.declared.version.TheConstants.{FIRST_VERSION, DEVICES_VERSION, ADD, REMOVE, SET_ROLE, ADD_DEVICE, UPGRADE}
+use Rattle.sporc_entry.specs.ChangeBody.{kind_at, change_of_device, change_of_member, change_of_kind, change_at, wrap_at, change_body_at, change_body_from}
+use Rattle.sporc_entry.specs.Entry.{device_at, header_at, body_limit, body_read, entry_of}
+use Rattle.sporc_entry.specs.Genesis.{founder_at, next_founder, founders_at, genesis_at, genesis_in, has_admin_founder, bad_key, accepted, tested, genesis_of}
+use Rattle.sporc_entry.specs.Version.{names_device, has_kind, header_len, body_place}
 
 -- ---- steps
 
@@ -115,65 +119,110 @@ values_end end after read each (suc n) s h =
 
 -- ---- changes
 
-change_ends : (end : ℕ) (r : Reading) → r.at + length r.rest ≡ end → Bounded end (Ends end) (change_at r)
-unfolding change_at
-change_ends end r e =
-    then end _ _ (number_within 1 3 w8 r) _ (within_begins 1 3 w8 end r.at r (from_here end r e)) (λ kind h. then end _ _ (number_within 1 HIGHEST_MEMBER w16 kind.1) _ (within_begins 1 HIGHEST_MEMBER w16 end _ kind.1 h)
-    (λ member k. of_kind (eqb kind.0 1) (eqb kind.0 2) member.0 member.1 k.ends))
+kind_begins : (version end at : ℕ) (r : Reading) → Left end at r → Bounded end (Begins end (at + 1)) (kind_at version r)
+unfolding kind_at
+kind_begins version end at r left =
+    let le : r.at ≤ end = omega (arith, left.ends) in
+    then end _ _ (number_at w8 r) _ (number_begins w8 end at r left) (λ n h. then end _ _ (only_if (has_kind version n.0) r.at n.0) _ (allowed _ r.at end n.0 le) (λ k _. h))
+
+module _ (end kind member : ℕ) where
+  of_device_ends : (device : ℕ) (r : Reading) → r.at + length r.rest ≡ end → Bounded end (Ends end) (change_of_device kind member device r)
+  unfolding change_of_device
+  of_device_ends device r e = go (eqb kind ADD_DEVICE)
+    where
+      go : (b : Bool) → Bounded end (Ends end) (cond b (bytes_at 56 r >>= λ key. Ok (AddDevice member device key.0, key.1)) (Ok (DropDevice member device, r)))
+      go true = then end _ _ (bytes_at 56 r) _ (bytes_begin 56 end r.at r (from_here end r e)) (λ key k. k.1.ends)
+      go false = e
+
+  of_member_ends : (r : Reading) → r.at + length r.rest ≡ end → Bounded end (Ends end) (change_of_member kind member r)
+  unfolding change_of_member
+  of_member_ends r e = go (eqb kind ADD) (eqb kind REMOVE) (eqb kind SET_ROLE)
+    where
+      go : (a b c : Bool) → Bounded end (Ends end) (cond a (role_at r >>= λ role. bytes_at 56 role.1 >>= λ key. Ok (Add member role.0 key.0, key.1))
+          (cond b (Ok (Remove member, r)) (cond c (role_at r >>= λ role. Ok (SetRole member role.0, role.1)) (number_at w8 r >>= λ device. change_of_device kind member device.0 device.1))))
+      go true b c = then end _ _ (role_at r) _ (role_begins end r.at r (from_here end r e)) (λ role h. then end _ _ (bytes_at 56 role.1) _ (bytes_begin 56 end _ role.1 h) (λ key k. k.1.ends))
+      go false true c = e
+      go false false true = then end _ _ (role_at r) _ (role_begins end r.at r (from_here end r e)) (λ role h. h.ends)
+      go false false false = then end _ _ (number_at w8 r) _ (number_begins w8 end r.at r (from_here end r e)) (λ device h. of_device_ends device.0 device.1 h.ends)
+
+of_kind_ends : (end kind : ℕ) (r : Reading) → r.at + length r.rest ≡ end → Bounded end (Ends end) (change_of_kind kind r)
+unfolding change_of_kind
+of_kind_ends end kind r e = go (eqb kind UPGRADE)
   where
-    add : (member : ℕ) (r : Reading) → r.at + length r.rest ≡ end → Bounded end (Ends end) (change_of_kind 1 member r)
-    add member r e = then end _ _ (role_at r) _ (role_begins end r.at r (from_here end r e)) (λ role h. then end _ _ (bytes_at 56 role.1) _ (bytes_begin 56 end _ role.1 h) (λ key k. k.1.ends))
+    go : (b : Bool) → Bounded end (Ends end) (cond b (Ok (Upgrade, r)) (number_within 1 HIGHEST_MEMBER w16 r >>= λ member. change_of_member kind member.0 member.1))
+    go true = e
+    go false = then end _ _ (number_within 1 HIGHEST_MEMBER w16 r) _ (within_begins 1 HIGHEST_MEMBER w16 end r.at r (from_here end r e)) (λ member h. of_member_ends end kind member.0 member.1 h.ends)
 
-    set_role : (member : ℕ) (r : Reading) → r.at + length r.rest ≡ end → Bounded end (Ends end) (change_of_kind 3 member r)
-    set_role member r e = then end _ _ (role_at r) _ (role_begins end r.at r (from_here end r e)) (λ role h. h.ends)
-
-    of_kind : (a b : Bool) (member : ℕ) (r : Reading) → r.at + length r.rest ≡ end → Bounded end (Ends end) (cond a (change_of_kind 1 member r) (cond b (change_of_kind 2 member r) (change_of_kind 3 member r)))
-    of_kind true b member r e = add member r e
-    of_kind false true member r e = e
-    of_kind false false member r e = set_role member r e
+change_ends : (version end : ℕ) (r : Reading) → r.at + length r.rest ≡ end → Bounded end (Ends end) (change_at version r)
+unfolding change_at
+change_ends version end r e = then end _ _ (kind_at version r) _ (kind_begins version end r.at r (from_here end r e)) (λ kind h. of_kind_ends end kind.0 kind.1 h.ends)
 
 wrap_ends : (end : ℕ) (r : Reading) → r.at + length r.rest ≡ end → Bounded end (Ends end) (wrap_at r)
 unfolding wrap_at
 wrap_ends end r e = then end _ _ (number_at w16 r) _ (number_begins w16 end r.at r (from_here end r e)) (λ member h. then end _ _ (bytes_at 32 member.1) _ (bytes_begin 32 end _ member.1 h) (λ sealed k. k.1.ends))
 
-change_body_ends : (end : ℕ) (r : Reading) → r.at + length r.rest ≡ end → Bounded end (Ends end) (change_body_at r)
+change_body_ends : (version end : ℕ) (r : Reading) → r.at + length r.rest ≡ end → Bounded end (Ends end) (change_body_at version r)
 unfolding change_body_at
-change_body_ends end r e =
-    then end _ _ (change_at r) _ (change_ends end r e) (λ change h. then end _ _ (bytes_at 32 change.1) _ (bytes_begin 32 end _ change.1 (from_here end change.1 h))
+change_body_ends version end r e =
+    then end _ _ (change_at version r) _ (change_ends version end r e) (λ change h. then end _ _ (bytes_at 32 change.1) _ (bytes_begin 32 end _ change.1 (from_here end change.1 h))
     (λ commitment k. then end _ _ (bytes_at 32 commitment.1) _ (bytes_begin 32 end _ commitment.1 k.1) (λ previous l. then end _ _ (number_within 0 MAX_MEMBERS w16 previous.1) _ (within_begins 0 MAX_MEMBERS w16 end _ previous.1 l.1)
     (λ count m. then end _ _ (values_at wrap_at count.0 count.1) _ (values_end end (λ r. r.at + length r.rest ≡ end) wrap_at (wrap_ends end) count.0 count.1 m.ends) (λ wraps n. n)))))
 
-change_bounded : (at : ℕ) (bytes : List ℕ) → Bounded (at + length bytes) (λ _. Unit {0}) (change_body_from at bytes)
+change_bounded : (version at : ℕ) (bytes : List ℕ) → Bounded (at + length bytes) (λ _. Unit {0}) (change_body_from version at bytes)
 unfolding change_body_from
-change_bounded at bytes =
+change_bounded version at bytes =
     let end = at + length bytes in
     let r : Reading = record { rest = bytes; at = at } in
-    then end _ _ (change_body_at r) _ (change_body_ends end r refl) (λ body h. then end _ _ (end_at body.1) _ (end_bounded end body.1 h) (λ _ _. tt))
+    then end _ _ (change_body_at version r) _ (change_body_ends version end r refl) (λ body h. then end _ _ (end_at body.1) _ (end_bounded end body.1 h) (λ _ _. tt))
 
 -- ---- entries
 
-header_begins : (end : ℕ) (r : Reading) → Left end 0 r → Bounded end (Begins end 68) (header_at r)
+-- the byte of a device, where there is one
+abbrev device_len : ℕ → ℕ
+device_len version = cond (names_device version) 1 0
+
+device_begins : (version end at : ℕ) (r : Reading) → Left end at r → Bounded end (Begins end (at + device_len version)) (device_at version r)
+device_begins version end at r left = go (names_device version)
+  where
+    go : (b : Bool) → Bounded end (Begins end (at + cond b 1 0)) (cond b (number_at w8 r) (Ok (0, r)))
+    go true = number_begins w8 end at r left
+    go false = record { place = omega (arith, left.place); ends = left.ends }
+
+header_ends : (version : ℕ) → 68 + device_len version ≡ header_len version
+header_ends version = go (names_device version)
+  where
+    go : (b : Bool) → 68 + cond b 1 0 ≡ cond b 69 68
+    go true = refl
+    go false = refl
+
+header_begins : (end : ℕ) (r : Reading) → Left end 0 r → Bounded end (λ x. Left end (header_len x.0.version) x.1) (header_at r)
 unfolding header_at
 header_begins end r left =
-    then end _ _ (number_within 1 1 w8 r) _ (within_begins 1 1 w8 end 0 r left) (λ version a. then end _ _ (bytes_at 16 version.1) _ (bytes_begin 16 end 1 version.1 a)
-    (λ document b. then end _ _ (number_at w16 document.1) _ (number_begins w16 end 17 document.1 b.1) (λ author c. then end _ _ (number_at w32 author.1) _ (number_begins w32 end 19 author.1 c)
-    (λ number d. then end _ _ (number_at w32 number.1) _ (number_begins w32 end 23 number.1 d) (λ base f. then end _ _ (bytes_at 32 base.1) _ (bytes_begin 32 end 27 base.1 f)
-    (λ base_hash g. then end _ _ (number_at w32 base_hash.1) _ (number_begins w32 end 59 base_hash.1 g.1) (λ epoch h. then end _ _ (number_at w32 epoch.1) _ (number_begins w32 end 63 epoch.1 h)
-    (λ leaf i. then end _ _ (number_within 1 2 w8 leaf.1) _ (within_begins 1 2 w8 end 67 leaf.1 i) (λ kind j. j)))))))))
+    then end _ _ (number_within FIRST_VERSION DEVICES_VERSION w8 r) _ (within_begins FIRST_VERSION DEVICES_VERSION w8 end 0 r left)
+    (λ version a. then end _ _ (bytes_at 16 version.1) _ (bytes_begin 16 end 1 version.1 a)
+    (λ document b. then end _ _ (number_at w16 document.1) _ (number_begins w16 end 17 document.1 b.1)
+    (λ author c. then end _ _ (device_at version.0 author.1) _ (device_begins version.0 end 19 author.1 c)
+    (λ device d. then end _ _ (number_at w32 device.1) _ (number_begins w32 end (19 + device_len version.0) device.1 d)
+    (λ number f. then end _ _ (number_at w32 number.1) _ (number_begins w32 end (19 + device_len version.0 + 4) number.1 f)
+    (λ base g. then end _ _ (bytes_at 32 base.1) _ (bytes_begin 32 end (19 + device_len version.0 + 4 + 4) base.1 g)
+    (λ base_hash h. then end _ _ (number_at w32 base_hash.1) _ (number_begins w32 end (19 + device_len version.0 + 4 + 4 + 32) base_hash.1 h.1)
+    (λ epoch i. then end _ _ (number_at w32 epoch.1) _ (number_begins w32 end (19 + device_len version.0 + 4 + 4 + 32 + 4) epoch.1 i)
+    (λ leaf j. then end _ _ (number_within 1 2 w8 leaf.1) _ (within_begins 1 2 w8 end (19 + device_len version.0 + 4 + 4 + 32 + 4 + 4) leaf.1 j)
+    (λ kind k. record { place = omega (arith, k.place, header_ends version.0); ends = k.ends }))))))))))
 
 abbrev no_fault : Unit {0} → Result (Unit {0}) ℕ
 no_fault u = Ok u
 
-body_bounded : (kind end : ℕ) (body : List ℕ) → 72 + length body ≤ end → Bounded end (λ _. Unit {0}) (body_read kind 72 body)
-body_bounded kind end body le = go (eqb kind 1)
+body_bounded : (h : Header) (end : ℕ) (body : List ℕ) → body_place h.version + length body ≤ end → Bounded end (λ _. Unit {0}) (body_read h body)
+body_bounded h end body le = go (eqb h.kind 1)
   where
-    later : (read : Result (Unit {0}) ℕ) → Bounded (72 + length body) (λ _. Unit {0}) read → Bounded end (λ _. Unit {0}) read
-    later (Ok u) h = tt
-    later (Err at) h = omega (arith, h, le)
+    later : (read : Result (Unit {0}) ℕ) → Bounded (body_place h.version + length body) (λ _. Unit {0}) read → Bounded end (λ _. Unit {0}) read
+    later (Ok u) k = tt
+    later (Err at) k = omega (arith, k, le)
 
-    go : (b : Bool) → Bounded end (λ _. Unit {0}) (cond b (no_fault tt) (change_body_from 72 body >>= λ change. no_fault tt))
+    go : (b : Bool) → Bounded end (λ _. Unit {0}) (cond b (no_fault tt) (change_body_from h.version (body_place h.version) body >>= λ change. no_fault tt))
     go true = tt
-    go false = later _ (then (72 + length body) _ _ (change_body_from 72 body) _ (change_bounded 72 body) (λ _ _. tt))
+    go false = later _ (then (body_place h.version + length body) _ _ (change_body_from h.version (body_place h.version) body) _ (change_bounded h.version (body_place h.version) body) (λ _ _. tt))
 
 entry_bounded : (bytes : List ℕ) → Bounded (length bytes) (λ _. Unit {0}) (entry_of bytes)
 unfolding entry_of
@@ -181,8 +230,9 @@ entry_bounded bytes =
     let end = length bytes in
     let r : Reading = record { rest = bytes; at = 0 } in
     let left : Left end 0 r = record { place = refl; ends = omega arith } in
-    then end _ _ (header_at r) _ (header_begins end r left) (λ header h. then end _ _ (counted_at (body_limit header.0.kind) header.1) _ (counted_begins (body_limit header.0.kind) end 68 header.1 h)
-    (λ body k. then end _ _ (body_read header.0.kind 72 body.0) _ (body_bounded header.0.kind end body.0 (omega (arith, k.place, k.ends))) (λ read _. then end _ _ (counted_at MAX_SIGNATURE body.1) _ (counted_begins MAX_SIGNATURE end _ body.1 k)
+    then end _ _ (header_at r) _ (header_begins end r left)
+    (λ header h. then end _ _ (counted_at (body_limit header.0.kind) header.1) _ (counted_begins (body_limit header.0.kind) end (header_len header.0.version) header.1 h)
+    (λ body k. then end _ _ (body_read header.0 body.0) _ (body_bounded header.0 end body.0 (omega (arith, k.place, k.ends))) (λ read _. then end _ _ (counted_at MAX_SIGNATURE body.1) _ (counted_begins MAX_SIGNATURE end _ body.1 k)
     (λ signature l. then end _ _ (end_at signature.1) _ (end_bounded end signature.1 l.ends) (λ _ _. tt)))))
 
 -- ---- geneses
@@ -217,8 +267,8 @@ genesis_in_bounded bytes =
 at_fault : {A : Type 0} (end at : ℕ) (read : Result A ℕ) → Bounded end (λ _. Unit {0}) read → read ≡ Err at → at ≤ end
 at_fault {A} end at read h e = let P : Result A ℕ → Type 0 = λ given. Bounded end (λ _. Unit {0}) given in subst P e h
 
-pub change_place : (first : ℕ) (bytes : List ℕ) (at : ℕ) → change_body_from first bytes ≡ Err at → at ≤ first + length bytes
-change_place first bytes at e = at_fault (first + length bytes) at (change_body_from first bytes) (change_bounded first bytes) e
+pub change_place : (version first : ℕ) (bytes : List ℕ) (at : ℕ) → change_body_from version first bytes ≡ Err at → at ≤ first + length bytes
+change_place version first bytes at e = at_fault (first + length bytes) at (change_body_from version first bytes) (change_bounded version first bytes) e
 
 pub entry_place : (bytes : List ℕ) (at : ℕ) → entry_of bytes ≡ Err at → at ≤ length bytes
 entry_place bytes at e = at_fault (length bytes) at (entry_of bytes) (entry_bounded bytes) e
@@ -232,7 +282,7 @@ not_malformed false o g at e = cc
 -- the place of a genesis that can't be read
 malformed_is : (read : Result Genesis ℕ) (at : ℕ) → tested (fault_as Malformed read) ≡ Err (Malformed at) → read ≡ Err at
 malformed_is (Err b) at e = cc
-malformed_is (Ok g) at e = absurd (not_malformed (has_admin (founded g.founders)) (bad_key g.founders) g at e)
+malformed_is (Ok g) at e = absurd (not_malformed (has_admin_founder g.founders) (bad_key g.founders) g at e)
 
 pub genesis_place : (bytes : List ℕ) (at : ℕ) → genesis_of bytes ≡ Err (Malformed at) → at ≤ length bytes
 unfolding genesis_of

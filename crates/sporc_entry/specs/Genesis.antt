@@ -6,8 +6,8 @@
 -- | commitment | 32 | |
 -- | count | 2 | 1 to MAX_MEMBERS |
 -- | founders, each | 2 number, 1 role, 56 key | number not 0, strictly ascending; role 1, 2 or 3 |
-use Rattle.std.specs.Prelude.{◌≡◌, ℕ, ◌+◌, ◌≤◌, List, [], ◌∷◌, ◌++◌, length, Option, None, Some, is_none, find, option_map, Result, Ok, Err}
-use Rattle.std.specs.List.{AllByRecursion, flat_map}
+use Rattle.std.specs.Prelude.{◌≡◌, ℕ, ◌+◌, ◌≤◌, List, [], ◌∷◌, ◌++◌, Bool, length, Option, None, Some, is_none, find, option_map, Result, Ok, Err}
+use Rattle.std.specs.List.{AllByRecursion, flat_map, list_any}
 use Rattle.std.specs.List.Sorted.{IsStrictlyIncreasing}
 use Rattle.std.specs.Int.{w8, w16, to_be_bytes}
 use Rattle.lms_tree.specs.LmsPublic.{public_key_in}
@@ -16,8 +16,8 @@ use Rattle.sporc_member.specs.declared.limits.TheConstants.{MAX_MEMBERS}
 use Rattle.sporc_entry.specs.declared.limits.TheConstants.{HIGHEST_MEMBER}
 use Rattle.sporc_member.specs.declared.founder.Founder.{Founder}
 use Rattle.sporc_base.specs.FirstFault.{unless, first_of}
-use Rattle.sporc_member.specs.Role.{role_code_of}
-use Rattle.sporc_member.specs.Roster.{numbers_of, founded, has_admin}
+use Rattle.sporc_member.specs.Role.{role_code_of, is_admin}
+use Rattle.sporc_member.specs.Roster.{founder_numbers}
 use Rattle.sporc_entry.specs.declared.fault.GenesisFault.{GenesisFault}
 use Rattle.sporc_entry.specs.declared.fault.GenesisFault.TheVariants.{Malformed, NoAdmin, BadKey}
 use Rattle.sporc_entry.specs.declared.genesis.Genesis.{Genesis}
@@ -63,6 +63,10 @@ genesis_in bytes = do
   end ← end_at genesis.1
   Ok genesis.0
 
+-- whether a founder is an admin
+abbrev pub has_admin_founder : List Founder → Bool
+has_admin_founder founders = list_any (λ m. is_admin m.role) founders
+
 -- the first founder whose key is of no known type
 abbrev pub bad_key : List Founder → Option Founder
 bad_key founders = find (λ m. is_none (public_key_in m.key)) founders
@@ -70,7 +74,7 @@ bad_key founders = find (λ m. is_none (public_key_in m.key)) founders
 -- why no document can begin with these founders, if it can't
 abbrev pub founders_fault : List Founder → Option GenesisFault
 founders_fault founders =
-    first_of (unless (has_admin (founded founders)) NoAdmin ∷ option_map (λ m. BadKey m.member) (bad_key founders) ∷ [])
+    first_of (unless (has_admin_founder founders) NoAdmin ∷ option_map (λ m. BadKey m.member) (bad_key founders) ∷ [])
 
 -- a genesis, where a document can begin with its founders
 abbrev pub accepted : Genesis → Option GenesisFault → Result Genesis GenesisFault
@@ -108,5 +112,5 @@ pub record IsGenesis (g : Genesis) : Type 0 where
   pub commitment : length g.commitment ≡ 32
   pub count : (1 ≤ length g.founders) × (length g.founders ≤ MAX_MEMBERS)
   pub founders : AllByRecursion IsFounder g.founders
-  pub ascending : IsStrictlyIncreasing (numbers_of g.founders)
+  pub ascending : IsStrictlyIncreasing (founder_numbers g.founders)
   pub accepted : founders_fault g.founders ≡ None

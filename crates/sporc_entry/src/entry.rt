@@ -1,15 +1,16 @@
 //! Entries of a history.
 
-ghost use Rattle.std.specs.Prelude.{◌≡◌, ◌≤◌, ◌<◌, ◌^◌, length, Ok, IfOk};
+ghost use Rattle.std.specs.Prelude.{◌≡◌, ◌≤◌, ◌<◌, ◌^◌, length, Ok, IfOk, true};
 ghost use Rattle.sporc_base.specs.Outcome.{GivesUnless};
 ghost use Rattle.sporc_bytes.specs.Fields.{fault_as};
 ghost use Rattle.sporc_entry.specs.declared.entry.Entry.{Entry};
 ghost use Rattle.sporc_entry.specs.declared.limits.TheConstants.{MAX_ENTRY};
 ghost use Rattle.sporc_entry.specs.Entry.{entry_of, entry_bytes, signed_string, IsEntry};
+ghost use Rattle.sporc_entry.specs.Version.{fits_version};
 
 use crate::fault::EntryFault;
 use crate::header::{Header, put_header};
-use crate::limits::BODY_AT;
+use crate::version::body_at;
 use crate::view::EntryView;
 use sporc_base::{Bytes, Memory};
 use sporc_bytes::Out;
@@ -54,13 +55,17 @@ fn read_copied(alloc: Global, bytes: &[u8]) -> Result<Entry, EntryFault>
 /// The bytes of an entry: the one spelling of it, where it has one.
 #[tactic(auto, unfolding(crate::specs::Entry::entry_bytes))]
 pub fn write_entry(alloc: Global, entry: &Entry) -> Result<Vec<u8>, Memory>
+    requires version { fits_version entry.now.header.version entry.now.header.device ≡ true }
     requires body { length entry.now.body < 2 ^ 32 }
     requires signature { length entry.now.signature < 2 ^ 32 }
     ensures ok { IfOk result (λ bytes. bytes.items ≡ entry_bytes entry.now) }
 {
     let body = entry.body.as_slice();
     let signature = entry.signature.as_slice();
-    let mut out = Out::with_capacity(alloc, BODY_AT + body.len() + 4 + signature.len())?;
+    let mut out = Out::with_capacity(
+        alloc,
+        body_at(entry.header.version) + body.len() + 4 + signature.len(),
+    )?;
     put_header(&mut out, &entry.header)?;
     out.put_counted(body)?;
     out.put_counted(signature)?;
@@ -70,11 +75,12 @@ pub fn write_entry(alloc: Global, entry: &Entry) -> Result<Vec<u8>, Memory>
 /// What the author of an entry signs.
 #[tactic(auto, unfolding(crate::specs::Entry::signed_string))]
 pub fn signed_part(alloc: Global, entry: &Entry) -> Result<Vec<u8>, Memory>
-    requires { length entry.now.body < 2 ^ 32 }
+    requires version { fits_version entry.now.header.version entry.now.header.device ≡ true }
+    requires body { length entry.now.body < 2 ^ 32 }
     ensures ok { IfOk result (λ bytes. bytes.items ≡ signed_string entry.now) }
 {
     let body = entry.body.as_slice();
-    let mut out = Out::with_capacity(alloc, 1 + BODY_AT + body.len())?;
+    let mut out = Out::with_capacity(alloc, 1 + body_at(entry.header.version) + body.len())?;
     out.put_u8(3)?;
     put_header(&mut out, &entry.header)?;
     out.put_counted(body)?;

@@ -3,10 +3,9 @@
 ghost use Rattle.std.specs.Prelude.{◌≡◌, ◌++◌, Ok, IfOk, OnOk};
 ghost use Rattle.std.specs.List.{flat_map};
 ghost use Rattle.sporc_bytes.specs.Fields.{Reads, fault_as};
-ghost use Rattle.sporc_member.specs.Roster.{founded, has_admin};
 ghost use Rattle.sporc_base.specs.Outcome.{GivesUnless};
 ghost use Rattle.sporc_entry.specs.declared.genesis.Genesis.{Genesis};
-ghost use Rattle.sporc_entry.specs.Genesis.{founder_at, founders_at, genesis_at, genesis_in, genesis_of, bad_key, founders_fault, founder_bytes, genesis_bytes, IsGenesis};
+ghost use Rattle.sporc_entry.specs.Genesis.{founder_at, founders_at, genesis_at, genesis_in, genesis_of, has_admin_founder, bad_key, founders_fault, founder_bytes, genesis_bytes, IsGenesis};
 
 use crate::fault::GenesisFault;
 use crate::fields::read_role;
@@ -109,7 +108,7 @@ fn read_all(alloc: Global, bytes: &[u8]) -> Result<Genesis, GenesisFault>
 
 // Whether a founder is an admin.
 fn has_an_admin(founders: &[Founder]) -> bool
-    ensures { result ≡ has_admin (founded founders.now) }
+    ensures { result ≡ has_admin_founder founders.now }
 {
     founders.iter().any(|m| m.role.is_admin())
 }

@@ -2,7 +2,8 @@
 //!
 //! All numbers are big-endian. Each genesis, entry and body of a change has exactly one spelling. A reader answers the
 //! value that its bytes spell, or the place of the first byte of the first field that is cut short or has a forbidden
-//! value. [`EntryView`] reads an entry where its bytes stand and copies nothing of it but a change's fields; [`read_entry`] copies it out.
+//! value. There are two versions of entries: those behind a document's Upgrade name their author's device, and have other
+//! kinds of change ([`version_of`]). [`EntryView`] reads an entry where its bytes stand and copies nothing of it but a change's fields; [`read_entry`] copies it out.
 //!
 //! ```text
 //! let view = EntryView::read(alloc, bytes)?;
@@ -23,6 +24,8 @@ mod genesis;
 mod header;
 pub mod laws;
 mod limits;
+mod skimming;
+mod version;
 mod view;
 mod wrap;
 
@@ -32,9 +35,9 @@ pub use entry::{Entry, read_entry, signed_part, write_entry};
 pub use fault::{EntryFault, GenesisFault};
 pub use genesis::{Founders, Genesis, read_genesis, write_genesis};
 pub use header::{CHANGE, EDIT, Header};
-pub use limits::{
-    BODY_AT, HIGHEST_MEMBER, MAX_CHANGE_BODY, MAX_EDIT_BODY, MAX_ENTRY, MAX_SIGNATURE,
-};
+pub use limits::{HIGHEST_MEMBER, MAX_CHANGE_BODY, MAX_EDIT_BODY, MAX_ENTRY, MAX_SIGNATURE};
+pub use skimming::header_in;
 pub use sporc_base::{Bytes, Memory};
+pub use version::{DEVICES_VERSION, FIRST_VERSION, body_at, fits_version, version_of};
 pub use view::EntryView;
 pub use wrap::{Wrap, Wraps};

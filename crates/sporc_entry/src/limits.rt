@@ -13,8 +13,6 @@ pub const MAX_CHANGE_BODY: u32 = 65_536;
 /// bytes. Two numbers have 8 bytes, and each of the 25 nodes of the path 32.
 pub const MAX_SIGNATURE: u32 = 9_324;
 
-/// The place of the first byte of an entry's body: a header has 68 bytes, and the length of the body 4.
-pub const BODY_AT: usize = 72;
-
-/// The longest entry: an edit with the longest body and signature. A header has 68 bytes, and each of the two lengths 4.
-pub const MAX_ENTRY: u32 = 76 + MAX_EDIT_BODY + MAX_SIGNATURE;
+/// The longest entry: an edit with the longest body and signature that names its author's device. A header has 69 bytes then,
+/// and each of the two lengths 4.
+pub const MAX_ENTRY: u32 = 77 + MAX_EDIT_BODY + MAX_SIGNATURE;

@@ -14,7 +14,8 @@ use crate::change::{ChangeBody, read_body};
 use crate::entry::Entry;
 use crate::fault::EntryFault;
 use crate::header::{EDIT, Header, read_header};
-use crate::limits::{BODY_AT, MAX_CHANGE_BODY, MAX_EDIT_BODY, MAX_SIGNATURE};
+use crate::limits::{MAX_CHANGE_BODY, MAX_EDIT_BODY, MAX_SIGNATURE};
+use crate::version::body_at;
 use sporc_base::{Bytes, Memory};
 use sporc_bytes::Cursor;
 use std::alloc::Global;
@@ -50,7 +51,7 @@ impl<'a> Model for EntryView<'a> {
 }
 
 // How many bytes the body of an entry of this kind may have.
-fn limit_of(kind: u8) -> u32
+pub(crate) fn limit_of(kind: u8) -> u32
     ensures value { result ≡ body_limit kind }
     ensures small { result ≤ MAX_EDIT_BODY }
 {
@@ -61,18 +62,19 @@ fn limit_of(kind: u8) -> u32
     }
 }
 
-// The change that a body of this kind is, if it is one.
-fn read_kind(alloc: Global, kind: u8, body: &[u8]) -> Result<Option<ChangeBody>, EntryFault>
+// The change that the body behind this header is, if it is one.
+fn read_kind(alloc: Global, header: &Header, body: &[u8]) -> Result<Option<ChangeBody>, EntryFault>
     requires { length body.now ≤ MAX_EDIT_BODY }
     ensures exact { GivesUnless EntryFault.Memory (λ _. tt) result
-        (fault_as EntryFault.Malformed (body_read kind 72 body.now)) }
-    ensures edit { IfOk result (λ change. kind ≡ 1 → change ≡ None) }
-    ensures change { IfOk result (λ change. kind ≡ 2 → change ≡ result_ok (change_body_from 0 body.now)) }
+        (fault_as EntryFault.Malformed (body_read header.now body.now)) }
+    ensures edit { IfOk result (λ change. header.now.kind ≡ 1 → change ≡ None) }
+    ensures change { IfOk result (λ change. header.now.kind ≡ 2
+        → change ≡ result_ok (change_body_from header.now.version 0 body.now)) }
 {
-    if kind == EDIT {
+    if header.kind == EDIT {
         return Ok(None);
     }
-    let change = read_body(alloc, body, BODY_AT)?;
+    let change = read_body(alloc, header.version, body, body_at(header.version))?;
     Ok(Some(change))
 }
 
@@ -82,12 +84,13 @@ fn read_parts<'a>(alloc: Global, bytes: &'a [u8]) -> Result<Parts<'a>, EntryFaul
     ensures exact { GivesUnless EntryFault.Memory (λ p. parts_entry p.header p.body.now p.signature.now) result
         (fault_as EntryFault.Malformed (entry_of bytes.now)) }
     ensures edit { IfOk result (λ p. p.header.kind ≡ 1 → p.change ≡ None) }
-    ensures change { IfOk result (λ p. p.header.kind ≡ 2 → p.change ≡ result_ok (change_body_from 0 p.body.now)) }
+    ensures change { IfOk result (λ p. p.header.kind ≡ 2
+        → p.change ≡ result_ok (change_body_from p.header.version 0 p.body.now)) }
 {
     let mut cursor = Cursor::new(bytes);
     let header = read_header(&mut cursor)?;
     let body = cursor.counted(limit_of(header.kind))?;
-    let change = read_kind(alloc, header.kind, body)?;
+    let change = read_kind(alloc, &header, body)?;
     let signature = cursor.counted(MAX_SIGNATURE)?;
     cursor.ended()?;
     Ok(Parts {
@@ -145,7 +148,7 @@ impl<'a> EntryView<'a> {
     pub fn signed(&self) -> &'a [u8]
         ensures value { 3 ∷ result.now ≡ signed_string self.now.entry }
     {
-        &self.bytes[..BODY_AT + self.parts.body.len()]
+        &self.bytes[..body_at(self.parts.header.version) + self.parts.body.len()]
     }
 
     /// The body of the change that it is, if it is one.

@@ -4,7 +4,8 @@ use Rattle.std.specs.Prelude.{Ok, Err}
 use Rattle.std.specs.FinMap.{insert, empty, gets}
 use Rattle.sporc_cipher.specs.Mask.{mask_of}
 use Rattle.sporc_member.specs.declared.role.Role.TheVariants.{Editor}
-use Rattle.sporc_member.specs.declared.change.Change.TheVariants.{Add, Remove}
+use Rattle.sporc_member.specs.declared.change.Change.TheVariants.{Add, Remove, AddDevice}
+use Rattle.sporc_member.specs.Device.{first_device}
 use Rattle.sporc_entry.specs.declared.wrap.Wrap.{Wrap}
 use Rattle.sporc_epoch.specs.declared.fault.HintFault.TheVariants.{WrongKey}
 use Rattle.sporc_epoch.specs.declared.start.EpochStart.{EpochStart}
@@ -14,9 +15,12 @@ use Rattle.sporc_epoch.specs.Wraps.{wrap_for}
 use Rattle.sporc_epoch.specs.Sealing.{least_unpaired, wraps_sealed}
 use Rattle.sporc_epoch.specs.Hints.{adds, is_committed, keys_back}
 
--- leaf 5 of member 3
-stream_of_an_entry : entry_stream 3 5 ≡ 0x030000000005
+-- leaf 5 of member 3, by its first device and by device 7
+stream_of_an_entry : entry_stream (first_device 3) 5 ≡ 0x030000000005
 stream_of_an_entry = refl
+
+stream_of_a_device : entry_stream (record { member = 3; number = 7 }) 5 ≡ 0x030700000005
+stream_of_a_device = refl
 
 stream_of_the_key_before_epoch_2 : previous_stream 2 ≡ 0x1000000000000002
 stream_of_the_key_before_epoch_2 = refl
@@ -54,6 +58,10 @@ adds_4 = refl
 
 removes_4 : adds 4 (Remove 4) ≡ false
 removes_4 = refl
+
+-- a further device is no joining
+device_of_4 : adds 4 (AddDevice 4 1 []) ≡ false
+device_of_4 = refl
 
 -- two epochs back from epoch 2, past a change that started epoch 7: the key of epoch 0 ends the walk
 abbrev first_start : EpochStart

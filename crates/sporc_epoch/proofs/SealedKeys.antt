@@ -9,7 +9,7 @@ use Rattle.sporc_cipher.proofs.Stream.{mask_from-mask_from}
 use Rattle.sporc_entry.specs.declared.change.ChangeBody.{ChangeBody}
 use Rattle.sporc_entry.specs.declared.wrap.Wrap.{Wrap}
 use Rattle.sporc_epoch.specs.Keys.{Keys}
-use Rattle.sporc_epoch.specs.Streams.{entry_stream, previous_stream}
+use Rattle.sporc_epoch.specs.Streams.{previous_stream}
 use Rattle.sporc_epoch.specs.Sealing.{Sealing, wraps_sealed, body_sealed, lesser, least_unpaired, body_unless, change_sealed}
 use Rattle.sporc_epoch.specs.Wraps.{wrap_for, opened_under, wrap_opened, previous_opened}
 
@@ -103,21 +103,21 @@ sealed s pairs body h = by (least_unpaired pairs s.members) refl h
 
 -- a wrap opens under the key that sealed it
 pub new_opens : (s : Sealing) (pairs mine : Keys) (body : ChangeBody) (member : ℕ) → change_sealed s pairs ≡ Ok body → Contains s.members member
-    → get mine s.author ≡ get pairs member → wrap_opened body s.author s.leaf member mine ≡ Some s.new
+    → get mine s.author ≡ get pairs member → wrap_opened body s.author s.stream member mine ≡ Some s.new
 unfolding wrap_opened body_sealed
 new_opens s pairs mine body member h c same =
     let is = sealed s pairs body h in
     by (get pairs member) refl is.0 (paired pairs s.members member is.1 c)
   where
     by : (o : Option (List ℕ)) → get pairs member ≡ o → body ≡ body_sealed s pairs → is_none o ≡ false
-        → option_and_then (opened_under (entry_stream s.author s.leaf) (get mine s.author)) (wrap_for member body.wraps) ≡ Some s.new
+        → option_and_then (opened_under s.stream (get mine s.author)) (wrap_for member body.wraps) ≡ Some s.new
     by None at is none = absurd cc
     by (Some pair) at is none =
-        let first : wrap_for member body.wraps ≡ Some (wrap_with (entry_stream s.author s.leaf) s.new member pair) =
-        ap (λ (b : ChangeBody). wrap_for member b.wraps) is ∙ first_wrap (entry_stream s.author s.leaf) s.new pairs member pair s.members at c in
-        ap (option_and_then (opened_under (entry_stream s.author s.leaf) (get mine s.author))) first
-        ∙ ap (λ o. opened_under (entry_stream s.author s.leaf) o (wrap_with (entry_stream s.author s.leaf) s.new member pair)) (same ∙ at)
-        ∙ ap Some (mask_from-mask_from pair (entry_stream s.author s.leaf) 0 s.new)
+        let first : wrap_for member body.wraps ≡ Some (wrap_with s.stream s.new member pair) =
+        ap (λ (b : ChangeBody). wrap_for member b.wraps) is ∙ first_wrap s.stream s.new pairs member pair s.members at c in
+        ap (option_and_then (opened_under s.stream (get mine s.author))) first
+        ∙ ap (λ o. opened_under s.stream o (wrap_with s.stream s.new member pair)) (same ∙ at)
+        ∙ ap Some (mask_from-mask_from pair s.stream 0 s.new)
 
 -- the new key opens the one before
 pub previous_opens : (s : Sealing) (pairs : Keys) (body : ChangeBody) → change_sealed s pairs ≡ Ok body → previous_opened body (s.epoch + 1) s.new ≡ s.old
@@ -131,4 +131,4 @@ pub members_named : (s : Sealing) (pairs : Keys) (body : ChangeBody) → change_
 unfolding body_sealed
 members_named s pairs body h =
     let is = sealed s pairs body h in
-    ap (λ (b : ChangeBody). map (λ w. w.member) b.wraps) is.0 ∙ wraps_name (entry_stream s.author s.leaf) s.new pairs s.members is.1
+    ap (λ (b : ChangeBody). map (λ w. w.member) b.wraps) is.0 ∙ wraps_name s.stream s.new pairs s.members is.1

@@ -1,5 +1,5 @@
 -- The body of a sealed change has a spelling.
-use Rattle.std.proofs.Common.{◌≡◌, ℕ, zero, suc, ◌+◌, ◌<◌, ◌≤◌, ◌^◌, List, [], ◌∷◌, length, get_or, None, Some, refl, ap, subst, sym, ◌∙◌, arith}
+use Rattle.std.proofs.Common.{◌≡◌, true, ℕ, zero, suc, ◌+◌, ◌<◌, ◌≤◌, ◌^◌, List, [], ◌∷◌, length, get_or, None, Some, refl, ap, subst, sym, ◌∙◌, arith}
 use Rattle.std.specs.Prelude.{Option, Ok, option_map}
 use Rattle.std.specs.List.{All, AllByRecursion, cons_option}
 use Rattle.std.specs.FinMap.{get}
@@ -9,9 +9,10 @@ use Rattle.sporc_cipher.proofs.Stream.{length-mask_from}
 use Rattle.sporc_member.specs.declared.limits.TheConstants.{MAX_MEMBERS}
 use Rattle.sporc_entry.specs.declared.change.ChangeBody.{ChangeBody}
 use Rattle.sporc_entry.specs.declared.wrap.Wrap.{Wrap}
-use Rattle.sporc_entry.specs.ChangeBody.{IsChange, IsWrap, IsChangeBody}
+use Rattle.sporc_entry.specs.ChangeBody.{kind_of, IsChange, IsWrap, IsChangeBody}
+use Rattle.sporc_entry.specs.Version.{has_kind}
 use Rattle.sporc_epoch.specs.Keys.{Keys}
-use Rattle.sporc_epoch.specs.Streams.{entry_stream, previous_stream}
+use Rattle.sporc_epoch.specs.Streams.{previous_stream}
 use Rattle.sporc_epoch.specs.Sealing.{Sealing, wraps_sealed, body_sealed, change_sealed}
 use Rattle.sporc_epoch.proofs.SealedKeys.{sealed}
 
@@ -46,9 +47,10 @@ wraps_few stream key pairs [] = omega arith
 wraps_few stream key pairs (m ∷ ms) = omega (arith, one_wrap stream key m (get pairs m) (wraps_sealed stream key pairs ms), wraps_few stream key pairs ms)
 
 -- a body whose wraps are sealed for members
-pub spelled_with : (body : ChangeBody) (stream : ℕ) (key : List ℕ) (pairs : Keys) (members : List ℕ) → IsChange body.change → length body.commitment ≡ 32 → length body.previous ≡ 32
-    → body.wraps ≡ wraps_sealed stream key pairs members → length key ≡ 32 → All (λ m. m < 2 ^ 16) members → length members ≤ MAX_MEMBERS → IsChangeBody body
-spelled_with body stream key pairs members change commitment previous wraps size small few = record {
+pub spelled_with : (version : ℕ) (body : ChangeBody) (stream : ℕ) (key : List ℕ) (pairs : Keys) (members : List ℕ) → has_kind version (kind_of body.change) ≡ true → IsChange body.change → length body.commitment ≡ 32 → length body.previous ≡ 32
+    → body.wraps ≡ wraps_sealed stream key pairs members → length key ≡ 32 → All (λ m. m < 2 ^ 16) members → length members ≤ MAX_MEMBERS → IsChangeBody version body
+spelled_with version body stream key pairs members kind change commitment previous wraps size small few = record {
+  kind = kind;
   change = change;
   commitment = commitment;
   previous = previous;
@@ -57,9 +59,9 @@ spelled_with body stream key pairs members change commitment previous wraps size
 }
 
 -- the body of a change that was sealed
-pub body_spelled : (s : Sealing) (pairs : Keys) (body : ChangeBody) → change_sealed s pairs ≡ Ok body → IsChange s.change → length s.old ≡ 32 → length s.new ≡ 32
-    → All (λ m. m < 2 ^ 16) s.members → length s.members ≤ MAX_MEMBERS → IsChangeBody body
+pub body_spelled : (version : ℕ) (s : Sealing) (pairs : Keys) (body : ChangeBody) → change_sealed s pairs ≡ Ok body → has_kind version (kind_of s.change) ≡ true → IsChange s.change → length s.old ≡ 32 → length s.new ≡ 32
+    → All (λ m. m < 2 ^ 16) s.members → length s.members ≤ MAX_MEMBERS → IsChangeBody version body
 unfolding body_sealed
-body_spelled s pairs body h change old new small few =
-    subst IsChangeBody (sym (sealed s pairs body h).0)
-    (spelled_with (body_sealed s pairs) (entry_stream s.author s.leaf) s.new pairs s.members change (length-sha256 _) (length-mask_from s.new (previous_stream (s.epoch + 1)) 0 s.old ∙ old) refl new small few)
+body_spelled version s pairs body h kind change old new small few =
+    subst (IsChangeBody version) (sym (sealed s pairs body h).0)
+    (spelled_with version (body_sealed s pairs) s.stream s.new pairs s.members kind change (length-sha256 _) (length-mask_from s.new (previous_stream (s.epoch + 1)) 0 s.old ∙ old) refl new small few)

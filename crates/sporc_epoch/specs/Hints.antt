@@ -6,7 +6,7 @@ use Rattle.std.specs.FinMap.{empty, insert}
 use Rattle.sporc_hash.specs.Chain.{commitment_of}
 use Rattle.sporc_cipher.specs.Mask.{mask_of}
 use Rattle.sporc_member.specs.declared.change.Change.{Change}
-use Rattle.sporc_member.specs.declared.change.Change.TheVariants.{Add, Remove, SetRole}
+use Rattle.sporc_member.specs.declared.change.Change.TheVariants.{Add}
 use Rattle.sporc_entry.specs.declared.committed.CommittedChange.{CommittedChange}
 use Rattle.sporc_entry.specs.CommittedChanges.{changes}
 use Rattle.sporc_epoch.specs.declared.fault.HintFault.{HintFault}
@@ -14,7 +14,7 @@ use Rattle.sporc_epoch.specs.declared.fault.HintFault.TheVariants.{NotAdded, NoP
 use Rattle.sporc_epoch.specs.declared.start.EpochStart.{EpochStart}
 use Rattle.sporc_epoch.specs.declared.streams.TheConstants.{MAX_EPOCH}
 use Rattle.sporc_epoch.specs.Keys.{Keys}
-use Rattle.sporc_epoch.specs.Streams.{previous_stream}
+use Rattle.sporc_epoch.specs.Streams.{stream_of, previous_stream}
 use Rattle.sporc_epoch.specs.Wraps.{wrap_for, wrap_opened}
 
 -- ---- the change that adds the member
@@ -22,8 +22,7 @@ use Rattle.sporc_epoch.specs.Wraps.{wrap_for, wrap_opened}
 -- whether a change adds this member
 abbrev pub adds : ℕ → Change → Bool
 adds me (Add member role key) = member == me
-adds me (Remove member) = false
-adds me (SetRole member role) = false
+adds me _ = false
 
 -- whether a change adds this member, with a wrap for it, and leaves an epoch to start
 abbrev pub joins : ℕ → CommittedChange → Bool
@@ -92,7 +91,7 @@ hints_under c starts (Some key) = ring_of empty (keys_back (c.header.epoch + 1) 
 -- the keys back from the change that adds a member, if there is one
 abbrev pub hints_at : ℕ → Keys → List EpochStart → Option CommittedChange → Result Keys HintFault
 hints_at me pairs starts None = Err NotAdded
-hints_at me pairs starts (Some c) = hints_under c starts (wrap_opened c.body c.header.author c.header.leaf me pairs)
+hints_at me pairs starts (Some c) = hints_under c starts (wrap_opened c.body c.header.author (stream_of c.header) me pairs)
 
 -- the keys of epochs that a history gives to a member whom it adds
 unfoldable pub hints_of : List (List ℕ) → ℕ → Keys → Result Keys HintFault

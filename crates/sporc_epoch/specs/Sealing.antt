@@ -9,16 +9,16 @@ use Rattle.sporc_entry.specs.declared.wrap.Wrap.{Wrap}
 use Rattle.sporc_epoch.specs.declared.fault.SealFault.{SealFault}
 use Rattle.sporc_epoch.specs.declared.fault.SealFault.TheVariants.{NoPairKey}
 use Rattle.sporc_epoch.specs.Keys.{Keys}
-use Rattle.sporc_epoch.specs.Streams.{entry_stream, previous_stream}
+use Rattle.sporc_epoch.specs.Streams.{previous_stream}
 
--- a change and the numbers of the members after it; its document, its author and the leaf that signs it; the epoch that
--- it ends, with its key, and the key of the next
+-- a change and the numbers of the members after it; its document, its author and its entry's stream; the epoch that it ends,
+-- with its key, and the key of the next
 pub record Sealing : Type 0 where
   pub change : Change
   pub members : List ℕ
   pub document : List ℕ
   pub author : ℕ
-  pub leaf : ℕ
+  pub stream : ℕ
   pub epoch : ℕ
   pub old : List ℕ
   pub new : List ℕ
@@ -38,7 +38,7 @@ body_sealed s pairs = record {
   change = s.change;
   commitment = commitment_of s.document (s.epoch + 1) s.new;
   previous = mask_of s.new (previous_stream (s.epoch + 1)) s.old;
-  wraps = wraps_sealed (entry_stream s.author s.leaf) s.new pairs s.members;
+  wraps = wraps_sealed s.stream s.new pairs s.members;
 }
 
 -- the lesser of two numbers, the first of which may be missing

@@ -11,8 +11,8 @@ use crate::joining::{Joining, find_joining};
 use crate::pairs::Pairs;
 use crate::ring::Ring;
 use crate::start::EpochStart;
-use crate::streams::{masked, previous_stream};
-use crate::wraps::open_wrap;
+use crate::streams::{masked, previous_stream, stream_of};
+use crate::wraps::open_wrap_at;
 use std::alloc::Global;
 
 /// The keys of the epochs that the first change to add `me` gives it: it has a wrap for `me`, and its epoch is below
@@ -36,7 +36,7 @@ pub fn hints_from(
         return Err(HintFault::NotAdded);
     };
     let header = change.header;
-    match open_wrap(&change.body, header.author, header.leaf, me, pairs) {
+    match open_wrap_at(&change.body, header.author, stream_of(&header), me, pairs) {
         Some(key) => keys_back(alloc, starts, header.epoch + 1, key),
         None => Err(HintFault::NoPairKey(header.author)),
     }

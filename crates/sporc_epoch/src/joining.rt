@@ -60,7 +60,10 @@ fn adds(change: &Change, me: u16) -> bool
 {
     match change {
         Change::Add { member, .. } => *member == me,
-        Change::Remove { .. } => false,
-        Change::SetRole { .. } => false,
+        Change::Remove { .. }
+        | Change::SetRole { .. }
+        | Change::AddDevice { .. }
+        | Change::DropDevice { .. }
+        | Change::Upgrade => false,
     }
 }

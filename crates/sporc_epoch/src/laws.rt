@@ -1,11 +1,13 @@
 //! Laws of sealed keys.
 
-ghost use Rattle.std.specs.Prelude.{◌≡◌, ◌≢◌, ℕ, ◌+◌, ◌-◌, ◌<◌, ◌≤◌, ◌^◌, length, map, Ok, Some, Contains};
+ghost use Rattle.std.specs.Prelude.{◌≡◌, ◌≢◌, ℕ, ◌+◌, ◌-◌, ◌<◌, ◌≤◌, ◌^◌, true, length, map, Ok, Some, Contains};
 ghost use Rattle.std.specs.List.{All};
 ghost use Rattle.std.specs.FinMap.{get};
 ghost use Rattle.sporc_member.specs.declared.limits.TheConstants.{MAX_MEMBERS};
+ghost use Rattle.sporc_member.specs.declared.device.Device.{Device};
 ghost use Rattle.sporc_entry.specs.declared.change.ChangeBody.{ChangeBody};
-ghost use Rattle.sporc_entry.specs.ChangeBody.{IsChange, IsChangeBody};
+ghost use Rattle.sporc_entry.specs.ChangeBody.{kind_of, IsChange, IsChangeBody};
+ghost use Rattle.sporc_entry.specs.Version.{has_kind};
 ghost use Rattle.sporc_epoch.specs.declared.streams.TheConstants.{MAX_EPOCH};
 ghost use Rattle.sporc_epoch.specs.Keys.{Keys};
 ghost use Rattle.sporc_epoch.specs.Sealing.{Sealing, change_sealed};
@@ -17,13 +19,14 @@ pub fn limits()
     ensures epoch { MAX_EPOCH ≡ 2 ^ 32 - 1 }
 {}
 
-/// No two entries have one stream, by their authors and leaves, nor has an entry the stream of a sealed key of an epoch that
-/// ended; and each stream has a number of 64 bits.
+/// No two entries have one stream, by the devices that sign them and their leaves, nor has an entry the stream of a sealed key
+/// of an epoch that ended; and each stream has a number of 64 bits.
 pub fn streams_do_not_meet()
-    ensures entries { (a b l m : ℕ) → l < 2 ^ 32 → m < 2 ^ 32 → entry_stream a l ≡ entry_stream b m → (a ≡ b) × (l ≡ m) }
+    ensures entries { (a b : Device) (l m : ℕ) → a.number < 2 ^ 8 → b.number < 2 ^ 8 → l < 2 ^ 32 → m < 2 ^ 32
+        → entry_stream a l ≡ entry_stream b m → (a ≡ b) × (l ≡ m) }
     ensures epochs { (e f : ℕ) → previous_stream e ≡ previous_stream f → e ≡ f }
-    ensures apart { (a l e : ℕ) → a < 2 ^ 16 → l < 2 ^ 32 → entry_stream a l ≢ previous_stream e }
-    ensures entry_fits { (a l : ℕ) → a < 2 ^ 16 → l < 2 ^ 32 → entry_stream a l < 2 ^ 64 }
+    ensures apart { (d : Device) (l e : ℕ) → d.member < 2 ^ 16 → d.number < 2 ^ 8 → l < 2 ^ 32 → entry_stream d l ≢ previous_stream e }
+    ensures entry_fits { (d : Device) (l : ℕ) → d.member < 2 ^ 16 → d.number < 2 ^ 8 → l < 2 ^ 32 → entry_stream d l < 2 ^ 64 }
     ensures epoch_fits { (e : ℕ) → e ≤ MAX_EPOCH → previous_stream e < 2 ^ 64 }
 {}
 
@@ -33,7 +36,7 @@ pub fn sealed_keys_open()
     ensures new { (s : Sealing) (pairs mine : Keys) (body : ChangeBody) (member : ℕ)
         → change_sealed s pairs ≡ Ok body → Contains s.members member
         → get mine s.author ≡ get pairs member
-        → wrap_opened body s.author s.leaf member mine ≡ Some s.new }
+        → wrap_opened body s.author s.stream member mine ≡ Some s.new }
     ensures previous { (s : Sealing) (pairs : Keys) (body : ChangeBody)
         → change_sealed s pairs ≡ Ok body → previous_opened body (s.epoch + 1) s.new ≡ s.old }
 {}
@@ -44,10 +47,10 @@ pub fn wraps_name_the_members()
         → change_sealed s pairs ≡ Ok body → map (λ w. w.member) body.wraps ≡ s.members }
 {}
 
-/// The body of a sealed change has a spelling, which is read again, if the change has one, its keys have 32 bytes, and it
-/// is sealed for at most as many members as a document can have.
+/// The body of a sealed change has a spelling in each version that has its kind, which is read again, if the change has one,
+/// its keys have 32 bytes, and it is sealed for at most as many members as a document can have.
 pub fn sealed_changes_are_spelled()
-    ensures spelled { (s : Sealing) (pairs : Keys) (body : ChangeBody)
-        → change_sealed s pairs ≡ Ok body → IsChange s.change → length s.old ≡ 32 → length s.new ≡ 32
-        → All (λ m. m < 2 ^ 16) s.members → length s.members ≤ MAX_MEMBERS → IsChangeBody body }
+    ensures spelled { (version : ℕ) (s : Sealing) (pairs : Keys) (body : ChangeBody)
+        → change_sealed s pairs ≡ Ok body → has_kind version (kind_of s.change) ≡ true → IsChange s.change → length s.old ≡ 32 → length s.new ≡ 32
+        → All (λ m. m < 2 ^ 16) s.members → length s.members ≤ MAX_MEMBERS → IsChangeBody version body }
 {}

@@ -1,17 +1,18 @@
 //! The keys of a document's epochs.
 //!
 //! Each change of the members ends an epoch and starts the next, which has a key of its own. The change seals the new key
-//! for each member after it, under the pairwise key of its author with that member ([`seal_change`], [`open_wrap`]), and
+//! for each member after it, under the pairwise key of its author with that member ([`seal_change_at`], [`open_wrap_at`]), and
 //! the key of the epoch that it ends under the new one ([`open_previous`]). So a member whom a change adds finds the keys
 //! of earlier epochs backwards ([`hints_from`]). A [`Ring`] holds the keys that a member knows.
 //!
 //! A key of 32 bytes is sealed by a mask of `sporc_cipher` (exclusive or with a ChaCha20 stream): for a member with the
-//! stream that the entry's author and leaf name ([`entry_stream`]), and under a new key with one that the epoch names. The
+//! stream that the entry's signing device and leaf name ([`entry_stream`]), and under a new key with one that the epoch names. The
 //! change commits to the new key by SHA-256 over the document, the epoch and the key.
 //!
 //! ```text
-//! let body = seal_change(alloc, &change, &members, &document, author, leaf, epoch, &old, &new, &pairs)?;
-//! open_wrap(&body, author, leaf, me, &mine)            // Some(new), under the same pairwise key
+//! let stream = entry_stream(device, leaf);
+//! let body = seal_change_at(alloc, &change, &members, &document, device.member, stream, epoch, &old, &new, &pairs)?;
+//! open_wrap_at(&body, device.member, stream, me, &mine)   // Some(new), under the same pairwise key
 //! open_previous(&body, epoch + 1, &new)                // old
 //! let ring = hints_from(alloc, &entries, me, &mine)?;  // the keys of the epochs before, too
 //! ```
@@ -37,7 +38,7 @@ pub use fault::{HintFault, SealFault};
 pub use hints::hints_from;
 pub use pairs::Pairs;
 pub use ring::Ring;
-pub use seal::{least_unpaired, seal_change};
+pub use seal::{least_unpaired, seal_change, seal_change_at};
 pub use sporc_base::Memory;
-pub use streams::{MAX_EPOCH, entry_stream};
-pub use wraps::{open_previous, open_wrap};
+pub use streams::{MAX_EPOCH, entry_stream, stream_of};
+pub use wraps::{open_previous, open_wrap, open_wrap_at};

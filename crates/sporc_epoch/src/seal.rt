@@ -1,12 +1,15 @@
 //! Keys, sealed.
 
-ghost use Rattle.std.specs.Prelude.{◌≡◌, ◌<◌, ◌≤◌, length, IfOk, filter, fold, is_none};
+ghost use Rattle.std.specs.Prelude.{◌≡◌, ℕ, ◌<◌, ◌≤◌, true, length, IfOk, filter, fold, is_none};
 ghost use Rattle.std.specs.FinMap as map;
 ghost use Rattle.sporc_base.specs.Outcome.{GivesUnless};
 ghost use Rattle.sporc_member.specs.declared.limits.TheConstants.{MAX_MEMBERS};
-ghost use Rattle.sporc_entry.specs.ChangeBody.{IsChange, IsChangeBody};
+ghost use Rattle.sporc_member.specs.Device.{first_device};
+ghost use Rattle.sporc_entry.specs.ChangeBody.{kind_of, IsChange, IsChangeBody};
+ghost use Rattle.sporc_entry.specs.Version.{has_kind};
 ghost use Rattle.sporc_epoch.specs.Keys.{pairs_in};
 ghost use Rattle.sporc_epoch.specs.Sealing.{wrap_sealed, wraps_sealed, lesser, least_unpaired, change_sealed};
+ghost use Rattle.sporc_epoch.specs.Streams.{entry_stream};
 
 use crate::fault::SealFault;
 use crate::pairs::Pairs;
@@ -14,13 +17,12 @@ use crate::streams::{MAX_EPOCH, entry_stream, masked, previous_stream};
 use sporc_base::Memory;
 use sporc_entry::{ChangeBody, Wrap, Wraps};
 use sporc_hash::commit;
-use sporc_member::Change;
+use sporc_member::{Change, Device};
 use std::alloc::Global;
 
 /// The body of a change that ends `epoch`, whose key is `old`, and starts the next, whose key is `new`. It seals the new
 /// key for each of `members`, those after the change, in their order, under the author's pairwise keys; `leaf` is that
-/// of the entry. NoPairKey if there is a member without one.
-#[tactic(auto, unfolding(crate::specs::Sealing::body_sealed, crate::specs::Sealing::change_sealed))]
+/// of the entry, which the author's first device signs. NoPairKey if there is a member without a pairwise key.
 pub fn seal_change(
     alloc: Global,
     change: &Change,
@@ -39,18 +41,55 @@ pub fn seal_change(
       members = members.now;
       document = document.now;
       author = author;
-      leaf = leaf;
+      stream = entry_stream (first_device author) leaf;
       epoch = epoch;
       old = old.now;
       new = new.now;
     }) (pairs_in pairs.now)) }
     // The body has a spelling.
-    ensures spelled { IsChange change.now → length members.now ≤ MAX_MEMBERS → IfOk result IsChangeBody }
+    ensures spelled { (version : ℕ) → has_kind version (kind_of change.now) ≡ true → IsChange change.now
+        → length members.now ≤ MAX_MEMBERS → IfOk result (IsChangeBody version) }
 {
+    let stream = entry_stream(Device::first(author), leaf);
+    seal_change_at(
+        alloc, change, members, document, author, stream, epoch, old, new, pairs,
+    )
+}
+
+/// The same of an entry by the number of its stream.
+#[tactic(auto, unfolding(crate::specs::Sealing::body_sealed, crate::specs::Sealing::change_sealed))]
+pub fn seal_change_at(
+    alloc: Global,
+    change: &Change,
+    members: &[u16],
+    document: &[u8; 16],
+    author: u16,
+    stream: u64,
+    epoch: u32,
+    old: &[u8; 32],
+    new: &[u8; 32],
+    pairs: &Pairs,
+) -> Result<ChangeBody, SealFault>
+    requires epoch { epoch < MAX_EPOCH }
+    ensures value { GivesUnless SealFault.Memory (λ body. body) result (change_sealed (record {
+      change = change.now;
+      members = members.now;
+      document = document.now;
+      author = author;
+      stream = stream;
+      epoch = epoch;
+      old = old.now;
+      new = new.now;
+    }) (pairs_in pairs.now)) }
+    // The body has a spelling.
+    ensures spelled { (version : ℕ) → has_kind version (kind_of change.now) ≡ true → IsChange change.now
+        → length members.now ≤ MAX_MEMBERS → IfOk result (IsChangeBody version) }
+{
+    let _ = author;
     if let Some(member) = least_unpaired(members, pairs) {
         return Err(SealFault::NoPairKey(member));
     }
-    let wraps = seal_wraps(alloc, members, entry_stream(author, leaf), new, pairs)?;
+    let wraps = seal_wraps(alloc, members, stream, new, pairs)?;
     Ok(ChangeBody {
         change: *change,
         commitment: commit(document, epoch + 1, new),

@@ -12,6 +12,7 @@ use std::sync::Wait;
 use std::thread::Threads;
 
 mod compares;
+mod devices;
 mod examines;
 mod files;
 mod folder;

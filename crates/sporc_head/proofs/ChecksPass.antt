@@ -3,10 +3,11 @@ use Rattle.std.proofs.Common.{◌≡◌, ℕ, ◌+◌, Bool, true, false, eqb, L
 use Rattle.std.proofs.lemmas.Bool.{eq-eqb}
 use Rattle.sporc_base.specs.FirstFault.{unless, first_of}
 use Rattle.std.specs.Str.{bytes_eq}
-use Rattle.sporc_member.specs.Roster.{member_at}
+use Rattle.sporc_member.specs.declared.device.Device.{Device}
+use Rattle.sporc_member.specs.Roster.{member_at, key_of}
 use Rattle.sporc_entry.specs.declared.entry.Entry.{Entry}
 use Rattle.sporc_entry.specs.declared.genesis.Genesis.{Genesis}
-use Rattle.sporc_entry.specs.Entry.{entry_of, change_of}
+use Rattle.sporc_entry.specs.Entry.{author_device, entry_of, change_of}
 use Rattle.sporc_head.specs.declared.refusal.Refusal.{Refusal}
 use Rattle.sporc_head.specs.declared.refusal.Refusal.TheVariants.{WrongDocument, WrongPosition, Removed}
 use Rattle.sporc_head.specs.History.{roster_of}
@@ -38,15 +39,15 @@ three_hold true false c x y z rest p q r h = absurd cc
 three_hold true true false x y z rest p q r h = absurd cc
 
 -- an entry that fails no check for a member fails none for nobody, at the next position
-pub for_nobody : (g : Genesis) (me : Option ℕ) (entries : List (List ℕ)) (pos : ℕ) (e : Entry) → first_of (head_checks g me entries pos e) ≡ None → first_of (head_checks g None entries (length entries + 1) e) ≡ None
+pub for_nobody : (g : Genesis) (me : Option Device) (entries : List (List ℕ)) (pos : ℕ) (e : Entry) → first_of (head_checks g me entries pos e) ≡ None → first_of (head_checks g None entries (length entries + 1) e) ≡ None
 unfolding head_checks
 for_nobody g me entries pos e h =
     let same = bytes_eq e.header.document g.document in
-    let rest : List (Option Refusal) = history_checks g entries e.header ++ (author_checks (member_at (roster_of g entries) e.header.author) e ++ roster_checks (roster_of g entries) (change_of e)) in
+    let rest : List (Option Refusal) = history_checks g entries e.header ++ (author_checks (member_at (roster_of g entries) e.header.author) (key_of (roster_of g entries) (author_device e.header)) e ++ roster_checks (roster_of g entries) (change_of e)) in
     let p = three same (eqb pos (length entries + 1)) (is_not_removed me entries) WrongDocument WrongPosition Removed rest h in
     three_hold same (eqb (length entries + 1) (length entries + 1)) true WrongDocument WrongPosition Removed rest p.0 (eq-eqb (length entries + 1) (length entries + 1) refl) refl p.1
 
-pub fault_for_nobody : (g : Genesis) (me : Option ℕ) (entries : List (List ℕ)) (pos : ℕ) (b : List ℕ) → head_fault g me entries pos b ≡ None → head_fault g None entries (length entries + 1) b ≡ None
+pub fault_for_nobody : (g : Genesis) (me : Option Device) (entries : List (List ℕ)) (pos : ℕ) (b : List ℕ) → head_fault g me entries pos b ≡ None → head_fault g None entries (length entries + 1) b ≡ None
 unfolding head_fault
 fault_for_nobody g me entries pos b h = go (entry_of b) h
   where

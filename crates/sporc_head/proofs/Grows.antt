@@ -1,5 +1,5 @@
 -- What a history says of itself, with one entry more.
-use Rattle.std.proofs.Common.{◌≡◌, ℕ, suc, zero, ◌+◌, ◌≤◌, Bool, true, false, List, [], ◌∷◌, ◌++◌, length, get_or, take, refl, ap, sym, ◌∙◌, arith, Option, None, Some, Ok, eqb, map, length-append, add-zero}
+use Rattle.std.proofs.Common.{◌≡◌, ℕ, suc, zero, ◌+◌, ◌≤◌, Bool, true, false, List, [], ◌∷◌, ◌++◌, length, get_or, take, refl, ap, sym, ◌∙◌, arith, Option, None, Some, Ok, map, length-append, add-zero}
 use Rattle.std.specs.Prelude.{cond, is_some, ◌||◌, count_by, fold}
 use Rattle.std.specs.List.{cons_option, list_any}
 use Rattle.std.proofs.lemmas.List.Elements.{filter_map-append}
@@ -9,11 +9,13 @@ use Rattle.std.proofs.lemmas.List.Sums.{count_by-le-length}
 use Rattle.sporc_hash.specs.Chain.{chain_after, value_after, next_value, chain, genesis_value}
 use Rattle.sporc_hash.proofs.ChainLemmas.{chain_push, length-chain_after}
 use Rattle.sporc_member.specs.declared.change.Change.{Change}
+use Rattle.sporc_member.specs.declared.device.Device.{Device}
+use Rattle.sporc_member.specs.Device.{same_device}
 use Rattle.sporc_member.specs.Roster.{Roster, roster_after, after_change, founded, removes}
 use Rattle.sporc_entry.specs.declared.entry.Entry.{Entry}
 use Rattle.sporc_entry.specs.declared.change.ChangeBody.{ChangeBody}
 use Rattle.sporc_entry.specs.declared.genesis.Genesis.{Genesis}
-use Rattle.sporc_entry.specs.Entry.{entry_of, change_of}
+use Rattle.sporc_entry.specs.Entry.{author_device, entry_of, change_of}
 use Rattle.sporc_entry.specs.Genesis.{genesis_bytes}
 use Rattle.sporc_head.specs.History.{CommittedChange, change_in, changes, change_read, committed_by, is_by, is_read_by, epoch_of, roster_of, last_from, count_of, hash_of, is_removed}
 
@@ -58,8 +60,8 @@ count_push p entries b t e = sum_push (λ x. cond (p x) 1 0) 0 entries b ∙ ap 
     one true = refl
     one false = omega arith
 
-pub count_le : (n : ℕ) (entries : List (List ℕ)) → count_of n entries ≤ length entries
-count_le n entries = count_by-le-length (is_by n) entries
+pub count_le : (d : Device) (entries : List (List ℕ)) → count_of d entries ≤ length entries
+count_le d entries = count_by-le-length (is_by d) entries
 
 -- ---- changes
 
@@ -100,27 +102,27 @@ roster_change g entries b s e =
     ∙ ap (λ (cs : List Change). fold after_change (founded g.founders) cs) (map-append (λ (c : CommittedChange). c.body.change) (changes entries) (s ∷ []))
     ∙ fold_push (founded g.founders) (map (λ c. c.body.change) (changes entries)) s.body.change
 
--- whether a change removes a member, if it is one
-abbrev pub removes_in : ℕ → Option CommittedChange → Bool
-removes_in n None = false
-removes_in n (Some s) = removes n s.body.change
+-- whether a change removes a device, or its member, if it is one
+abbrev pub removes_in : Device → Option CommittedChange → Bool
+removes_in d None = false
+removes_in d (Some s) = removes d s.body.change
 
-pub removed_push : (n : ℕ) (entries : List (List ℕ)) (b : List ℕ) (o : Option CommittedChange) → change_in b ≡ o → is_removed n (entries ++ b ∷ []) ≡ (is_removed n entries || removes_in n o)
-removed_push n entries b o e = ap (list_any (λ (c : CommittedChange). removes n c.body.change)) (changes_push entries b o e) ∙ list_any-append (λ (c : CommittedChange). removes n c.body.change) (changes entries) (cons_option o []) ∙ one o
+pub removed_push : (d : Device) (entries : List (List ℕ)) (b : List ℕ) (o : Option CommittedChange) → change_in b ≡ o → is_removed d (entries ++ b ∷ []) ≡ (is_removed d entries || removes_in d o)
+removed_push d entries b o e = ap (list_any (λ (c : CommittedChange). removes d c.body.change)) (changes_push entries b o e) ∙ list_any-append (λ (c : CommittedChange). removes d c.body.change) (changes entries) (cons_option o []) ∙ one o
   where
     or_false : (x : Bool) → (x || false) ≡ x
     or_false true = refl
     or_false false = refl
 
-    one : (o : Option CommittedChange) → (is_removed n entries || list_any (λ (c : CommittedChange). removes n c.body.change) (cons_option o [])) ≡ (is_removed n entries || removes_in n o)
+    one : (o : Option CommittedChange) → (is_removed d entries || list_any (λ (c : CommittedChange). removes d c.body.change) (cons_option o [])) ≡ (is_removed d entries || removes_in d o)
     one None = refl
-    one (Some c) = ap (λ (x : Bool). is_removed n entries || x) (or_false (removes n c.body.change))
+    one (Some c) = ap (λ (x : Bool). is_removed d entries || x) (or_false (removes d c.body.change))
 
 -- ---- an entry that was read
 
-pub is_by_read : (n : ℕ) (b : List ℕ) (e : Entry) → entry_of b ≡ Ok e → is_by n b ≡ eqb e.header.author n
+pub is_by_read : (d : Device) (b : List ℕ) (e : Entry) → entry_of b ≡ Ok e → is_by d b ≡ same_device (author_device e.header) d
 unfolding is_by
-is_by_read n b e h = ap (is_read_by n) h
+is_by_read d b e h = ap (is_read_by d) h
 
 pub change_in_read : (b : List ℕ) (e : Entry) (c : Option ChangeBody) → entry_of b ≡ Ok e → c ≡ change_of e → change_in b ≡ committed_by e c
 unfolding change_in

@@ -1,80 +1,140 @@
 -- What the fields of a history keep, as it begins and with one entry more.
-use Rattle.std.proofs.Common.{◌≡◌, ℕ, ◌+◌, ◌<◌, ◌≤◌, Bool, true, false, cond, eqb, List, [], ◌∷◌, ◌++◌, length, get_or, set, refl, ap, sym, ◌∙◌, subst, arith, Option, None, Some, length-append, length-set}
-use Rattle.std.specs.Prelude.{is_some, ◌||◌}
+use Rattle.std.proofs.Common.{◌≡◌, ℕ, ◌+◌, ◌<◌, ◌≤◌, Bool, true, false, cond, eqb, List, [], ◌∷◌, ◌++◌, length, refl, ap, sym, ◌∙◌, subst, arith, Option, None, Some, length-append}
+use Rattle.std.specs.Prelude.{is_some, ◌||◌, ◌&&◌}
+use Rattle.std.specs.List.{All}
+use Rattle.std.proofs.lemmas.Bool.{eqb-true, eqb-false, and_parts}
+use Rattle.std.proofs.lemmas.List.Elements.{All-nil, All-cons, All-append}
+use Rattle.std.proofs.lemmas.List.Folds.{list_any-append}
 use Rattle.sporc_hash.specs.Chain.{chain_after, genesis_value, next_value}
 use Rattle.sporc_member.specs.declared.change.Change.{Change}
-use Rattle.sporc_member.specs.declared.change.Change.TheVariants.{Add, Remove, SetRole}
+use Rattle.sporc_member.specs.declared.change.Change.TheVariants.{Add, Remove, SetRole, AddDevice, DropDevice, Upgrade}
+use Rattle.sporc_member.specs.declared.device.Device.{Device}
+use Rattle.sporc_member.specs.Device.{same_device}
 use Rattle.sporc_member.specs.Roster.{Roster, after_change, founded, removes}
 use Rattle.sporc_entry.specs.declared.genesis.Genesis.{Genesis}
 use Rattle.sporc_entry.specs.declared.limits.TheConstants.{MAX_ENTRY}
 use Rattle.sporc_entry.specs.Genesis.{genesis_bytes, IsGenesis}
-use Rattle.std.specs.List.{All}
-use Rattle.std.proofs.lemmas.Bool.{eqb-true}
-use Rattle.std.proofs.lemmas.List.Elements.{All-nil, All-cons, All-append}
-use Rattle.sporc_head.specs.declared.limits.TheConstants.{MAX_ENTRIES, NUMBERS}
-use Rattle.sporc_head.specs.History.{CommittedChange, change_in, is_by, hash_of, count_of}
-use Rattle.sporc_head.specs.TablesMatch.{TablesMatch, marked}
+use Rattle.sporc_head.specs.declared.limits.TheConstants.{MAX_ENTRIES, DEVICE_NUMBERS}
+use Rattle.sporc_head.specs.declared.tables.Removal.{Removal}
+use Rattle.sporc_head.specs.declared.tables.Tally.{Tally}
+use Rattle.sporc_head.specs.History.{CommittedChange, change_in, is_by, hash_of, count_of, last_of}
+use Rattle.sporc_head.specs.TablesMatch.{rank_of, tally_or_none, tally_in, covers, is_gone, with_removal, TablesMatch}
 use Rattle.sporc_head.specs.HeadsModel.{HeadsInvariant}
-use Rattle.sporc_head.proofs.Lists.{get_or-set_if}
 use Rattle.sporc_head.proofs.Grows.{chain_more, last_push, count_push, epoch_push, roster_edit, roster_change, removes_in, removed_push}
+
+-- ---- ranks
+
+-- numbers that a test tells apart differ
+apart : (m n : ℕ) → eqb m n ≡ false → m ≡ n → ⊥
+apart m n e same = eqb-false m n e same
+
+-- devices have one rank where they are the same
+pub rank_same : (a b : Device) → a.number < DEVICE_NUMBERS → b.number < DEVICE_NUMBERS → eqb (rank_of a) (rank_of b) ≡ same_device a b
+rank_same a b low high = go (eqb (rank_of a) (rank_of b)) (eqb a.member b.member) (eqb a.number b.number) refl refl refl
+  where
+    go : (r m n : Bool) → eqb (rank_of a) (rank_of b) ≡ r → eqb a.member b.member ≡ m → eqb a.number b.number ≡ n → r ≡ (m && n)
+    go true true true e f g = refl
+    go true true false e f g = absurd (let same = eqb-true (rank_of a) (rank_of b) e in apart a.number b.number g (omega (arith, low, high, same)))
+    go true false n e f g = absurd (let same = eqb-true (rank_of a) (rank_of b) e in apart a.member b.member f (omega (arith, low, high, same)))
+    go false true true e f g = absurd (let m = eqb-true a.member b.member f in let n = eqb-true a.number b.number g in apart (rank_of a) (rank_of b) e (omega (arith, m, n)))
+    go false true false e f g = refl
+    go false false n e f g = refl
 
 -- ---- the tables
 
-pub tables_push : (counts lasts : List ℕ) (removed removed' : List Bool) (entries : List (List ℕ)) (b : List ℕ) (a : ℕ) (o : Option CommittedChange) → TablesMatch counts lasts removed entries
-    → a < NUMBERS → ((n : ℕ) → is_by n b ≡ eqb a n) → change_in b ≡ o
-    → length removed' ≡ NUMBERS → ((n : ℕ) → n < NUMBERS → get_or removed' n false ≡ (get_or removed n false || removes_in n o))
-    → TablesMatch (set counts a (get_or counts a 0 + 1)) (set lasts a (length entries + 1)) removed' (entries ++ b ∷ [])
-tables_push counts lasts removed removed' entries b a o t lt by is len gone = record {
-  counts_len = length-set counts a (get_or counts a 0 + 1) ∙ t.counts_len;
-  lasts_len = length-set lasts a (length entries + 1) ∙ t.lasts_len;
-  removed_len = len;
-  count = λ n l. get_or-set_if counts a n (get_or counts a 0 + 1) 0 (omega (arith, t.counts_len, l)) ∙ counted n l (eqb a n) refl ∙ sym (count_push (is_by n) entries b (eqb a n) (by n));
-  last = λ n l. get_or-set_if lasts a n (length entries + 1) 0 (omega (arith, t.lasts_len, l)) ∙ ap (cond (eqb a n) (length entries + 1)) (t.last n l) ∙ sym (last_push (is_by n) entries b (eqb a n) (by n));
-  gone = λ n l. gone n l ∙ ap (λ (x : Bool). x || removes_in n o) (t.gone n l) ∙ sym (removed_push n entries b o is);
-}
-  where
-    counted : (n : ℕ) → n < NUMBERS → (q : Bool) → eqb a n ≡ q → cond q (get_or counts a 0 + 1) (get_or counts n 0) ≡ cond q (count_of n entries + 1) (count_of n entries)
-    counted n l true e = ap (λ (k : ℕ). k + 1) (t.count a lt ∙ ap (λ (k : ℕ). count_of k entries) (eqb-true a n e))
-    counted n l false e = t.count n l
+-- the same device has the same entries
+same_counts : (a b : Device) (f : Device → ℕ) → same_device a b ≡ true → f a ≡ f b
+same_counts a b f e =
+    let p = and_parts (eqb a.member b.member) (eqb a.number b.number) e in
+    let made : ℕ → ℕ → Device = λ m n. record { member = m; number = n } in
+    ap (λ (m : ℕ). f (made m a.number)) (eqb-true a.member b.member p.0) ∙ ap (λ (n : ℕ). f (made b.member n)) (eqb-true a.number b.number p.1)
 
--- an edit marks no member
-pub unmarked_gone : (removed : List Bool) (n : ℕ) → get_or removed n false ≡ (get_or removed n false || removes_in n None)
-unmarked_gone removed n = go (get_or removed n false)
-  where
-    go : (x : Bool) → x ≡ (x || false)
-    go true = refl
-    go false = refl
-
--- a change marks the member that it removes
-pub marked_gone : (removed : List Bool) (s : CommittedChange) (n : ℕ) → n < length removed → get_or (marked s.body.change removed) n false ≡ (get_or removed n false || removes_in n (Some s))
-marked_gone removed s n lt = go s.body.change
+-- those removed, with whom a change removes
+pub removals_more : (c : Change) (removals : List Removal) (d : Device) → is_gone d (with_removal c removals) ≡ (is_gone d removals || removes d c)
+removals_more c removals d = go c
   where
     left : (x : Bool) → x ≡ (x || false)
     left true = refl
     left false = refl
 
-    put : (t x : Bool) → cond t true x ≡ (x || t)
-    put true true = refl
-    put true false = refl
-    put false true = refl
-    put false false = refl
+    one : (x y z : Bool) → y ≡ z → (x || (y || false)) ≡ (x || z)
+    one true y z e = refl
+    one false true z e = e
+    one false false z e = e
 
-    go : (c : Change) → get_or (marked c removed) n false ≡ (get_or removed n false || removes n c)
-    go (Add member role key) = left (get_or removed n false)
-    go (Remove member) = get_or-set_if removed member n true false lt ∙ put (eqb member n) (get_or removed n false)
-    go (SetRole member role) = left (get_or removed n false)
+    all : (y : Bool) → (y && true) ≡ y
+    all true = refl
+    all false = refl
 
-pub length-marked : (c : Change) (removed : List Bool) → length (marked c removed) ≡ length removed
-length-marked (Add member role key) removed = refl
-length-marked (Remove member) removed = length-set removed member true
-length-marked (SetRole member role) removed = refl
+    go : (c : Change) → is_gone d (with_removal c removals) ≡ (is_gone d removals || removes d c)
+    go (Add member role key) = left (is_gone d removals)
+    go (Remove member) =
+        list_any-append (covers d) removals (record { member = member; device = None } ∷ [])
+        ∙ one (is_gone d removals) (eqb member d.member && true) (eqb member d.member) (all (eqb member d.member))
+    go (SetRole member role) = left (is_gone d removals)
+    go (AddDevice member number key) = left (is_gone d removals)
+    go (DropDevice member number) =
+        list_any-append (covers d) removals (record { member = member; device = Some number } ∷ [])
+        ∙ one (is_gone d removals) (eqb member d.member && eqb number d.number) (eqb member d.member && eqb number d.number) refl
+    go Upgrade = left (is_gone d removals)
+
+-- an edit removes none
+pub removals_left : (removals : List Removal) (d : Device) → is_gone d removals ≡ (is_gone d removals || removes_in d None)
+removals_left removals d = go (is_gone d removals)
+  where
+    go : (x : Bool) → x ≡ (x || false)
+    go true = refl
+    go false = refl
+
+-- the tally of a device that has one entry more, at this position
+abbrev tally_more : (ℕ → Option Tally) → Device → ℕ → Tally
+tally_more tallies a position = record { count = (tally_in tallies a).count + 1; last = position }
+
+pub tables_push : (tallies tallies' : ℕ → Option Tally) (removals removals' : List Removal) (entries : List (List ℕ)) (b : List ℕ) (a : Device) (o : Option CommittedChange) → TablesMatch tallies removals entries
+    → a.number < DEVICE_NUMBERS → ((d : Device) → is_by d b ≡ same_device a d) → change_in b ≡ o
+    → ((q : ℕ) → tallies' q ≡ cond (eqb (rank_of a) q) (Some (tally_more tallies a (length entries + 1))) (tallies q))
+    → ((d : Device) → is_gone d removals' ≡ (is_gone d removals || removes_in d o))
+    → TablesMatch tallies' removals' (entries ++ b ∷ [])
+tables_push tallies tallies' removals removals' entries b a o t lt by is put gone = record {
+  count = λ d l. ap (λ (x : Tally). x.count) (now d l) ∙ counted d l (same_device a d) refl ∙ sym (count_push (is_by d) entries b (same_device a d) (by d));
+  last = λ d l. ap (λ (x : Tally). x.last) (now d l) ∙ lasted d l (same_device a d) ∙ sym (last_push (is_by d) entries b (same_device a d) (by d));
+  gone = λ d. gone d ∙ ap (λ (x : Bool). x || removes_in d o) (t.gone d) ∙ sym (removed_push d entries b o is);
+}
+  where
+    now : (d : Device) → d.number < DEVICE_NUMBERS → tally_in tallies' d ≡ tally_or_none (cond (same_device a d) (Some (tally_more tallies a (length entries + 1))) (tallies (rank_of d)))
+    now d l = ap tally_or_none (put (rank_of d)) ∙ ap (λ (q : Bool). tally_or_none (cond q (Some (tally_more tallies a (length entries + 1))) (tallies (rank_of d)))) (rank_same a d lt l)
+
+    counted : (d : Device) → d.number < DEVICE_NUMBERS → (q : Bool) → same_device a d ≡ q
+        → (tally_or_none (cond q (Some (tally_more tallies a (length entries + 1))) (tallies (rank_of d)))).count ≡ cond q (count_of d entries + 1) (count_of d entries)
+    counted d l true e = ap (λ (k : ℕ). k + 1) (t.count a lt ∙ same_counts a d (λ x. count_of x entries) e)
+    counted d l false e = t.count d l
+
+    lasted : (d : Device) → d.number < DEVICE_NUMBERS → (q : Bool) → (tally_or_none (cond q (Some (tally_more tallies a (length entries + 1))) (tallies (rank_of d)))).last ≡ cond q (length entries + 1) (last_of d entries)
+    lasted d l true = refl
+    lasted d l false = t.last d l
+
+-- tables that say the same
+pub tables_same : (tallies tallies' : ℕ → Option Tally) (removals removals' : List Removal) (entries : List (List ℕ)) → TablesMatch tallies removals entries
+    → ((q : ℕ) → tallies' q ≡ tallies q) → removals' ≡ removals → TablesMatch tallies' removals' entries
+tables_same tallies tallies' removals removals' entries t same kept = record {
+  count = λ d l. ap (λ (o : Option Tally). (tally_or_none o).count) (same (rank_of d)) ∙ t.count d l;
+  last = λ d l. ap (λ (o : Option Tally). (tally_or_none o).last) (same (rank_of d)) ∙ t.last d l;
+  gone = λ d. ap (is_gone d) kept ∙ t.gone d;
+}
+
+pub tables_empty : (tallies : ℕ → Option Tally) (removals : List Removal) → ((q : ℕ) → tallies q ≡ None) → removals ≡ [] → TablesMatch tallies removals []
+tables_empty tallies removals none empty = record {
+  count = λ d l. ap (λ (o : Option Tally). (tally_or_none o).count) (none (rank_of d));
+  last = λ d l. ap (λ (o : Option Tally). (tally_or_none o).last) (none (rank_of d));
+  gone = λ d. ap (is_gone d) empty;
+}
 
 -- ---- the beginning
 
-pub keeps_open : (g : Genesis) (entries hashes : List (List ℕ)) (roster : Roster) (counts lasts : List ℕ) (removed : List Bool) → IsGenesis g → entries ≡ [] → hashes ≡ genesis_value (genesis_bytes g) ∷ []
-    → roster ≡ founded g.founders → TablesMatch counts lasts removed [] → HeadsInvariant g entries hashes roster 0 0 counts lasts removed
+pub keeps_open : (g : Genesis) (entries hashes : List (List ℕ)) (roster : Roster) (tallies : ℕ → Option Tally) (removals : List Removal) → IsGenesis g → entries ≡ [] → hashes ≡ genesis_value (genesis_bytes g) ∷ []
+    → roster ≡ founded g.founders → TablesMatch tallies removals [] → HeadsInvariant g entries hashes roster 0 0 tallies removals
 unfolding chain_after
-keeps_open g entries hashes roster counts lasts removed is e h r t = subst (λ (x : List (List ℕ)). HeadsInvariant g x hashes roster 0 0 counts lasts removed) (sym e) (record {
+keeps_open g entries hashes roster tallies removals is e h r t = subst (λ (x : List (List ℕ)). HeadsInvariant g x hashes roster 0 0 tallies removals) (sym e) (record {
   genesis = is;
   chained = h;
   members = r;
@@ -90,44 +150,43 @@ keeps_open g entries hashes roster counts lasts removed is e h r t = subst (λ (
 sized_push : (entries : List (List ℕ)) (b : List ℕ) → All (λ e. length e ≤ MAX_ENTRY) entries → length b ≤ MAX_ENTRY → All (λ e. length e ≤ MAX_ENTRY) (entries ++ b ∷ [])
 sized_push entries b all size = let P : List ℕ → Type 0 = λ e. length e ≤ MAX_ENTRY in All-append P entries (b ∷ []) all (All-cons P b [] size (All-nil P))
 
-pub keeps_edit : (g : Genesis) (entries hashes : List (List ℕ)) (roster : Roster) (barrier epoch : ℕ) (counts lasts : List ℕ) (removed : List Bool) (b h : List ℕ) (a : ℕ) (entries' hashes' : List (List ℕ)) (counts' lasts' : List ℕ)
-    → HeadsInvariant g entries hashes roster barrier epoch counts lasts removed → length entries < MAX_ENTRIES → length b ≤ MAX_ENTRY
-    → a < NUMBERS → ((n : ℕ) → is_by n b ≡ eqb a n) → change_in b ≡ None → h ≡ next_value (hash_of g entries) b
-    → entries' ≡ entries ++ b ∷ [] → hashes' ≡ hashes ++ h ∷ [] → counts' ≡ set counts a (get_or counts a 0 + 1) → lasts' ≡ set lasts a (length entries + 1)
-    → HeadsInvariant g entries' hashes' roster barrier epoch counts' lasts' removed
-keeps_edit g entries hashes roster barrier epoch counts lasts removed b h a entries' hashes' counts' lasts' k room size lt by is hash eA eH eC eL =
-    subst (λ (x : List (List ℕ)). HeadsInvariant g x hashes' roster barrier epoch counts' lasts' removed) (sym eA)
-    (subst (λ (x : List (List ℕ)). HeadsInvariant g (entries ++ b ∷ []) x roster barrier epoch counts' lasts' removed) (sym eH)
-    (subst (λ (x : List ℕ). HeadsInvariant g (entries ++ b ∷ []) (hashes ++ h ∷ []) roster barrier epoch x lasts' removed) (sym eC)
-    (subst (λ (x : List ℕ). HeadsInvariant g (entries ++ b ∷ []) (hashes ++ h ∷ []) roster barrier epoch (set counts a (get_or counts a 0 + 1)) x removed) (sym eL) (record {
+-- the table of tallies with one entry more of a device
+abbrev IsPut : (ℕ → Option Tally) → (ℕ → Option Tally) → Device → ℕ → Type 0
+IsPut tallies tallies' a position = (q : ℕ) → tallies' q ≡ cond (eqb (rank_of a) q) (Some (tally_more tallies a position)) (tallies q)
+
+pub keeps_edit : (g : Genesis) (entries hashes : List (List ℕ)) (roster : Roster) (barrier epoch : ℕ) (tallies : ℕ → Option Tally) (removals : List Removal) (b h : List ℕ) (a : Device) (entries' hashes' : List (List ℕ)) (tallies' : ℕ → Option Tally)
+    → HeadsInvariant g entries hashes roster barrier epoch tallies removals → length entries < MAX_ENTRIES → length b ≤ MAX_ENTRY
+    → a.number < DEVICE_NUMBERS → ((d : Device) → is_by d b ≡ same_device a d) → change_in b ≡ None → h ≡ next_value (hash_of g entries) b
+    → entries' ≡ entries ++ b ∷ [] → hashes' ≡ hashes ++ h ∷ [] → IsPut tallies tallies' a (length entries + 1)
+    → HeadsInvariant g entries' hashes' roster barrier epoch tallies' removals
+keeps_edit g entries hashes roster barrier epoch tallies removals b h a entries' hashes' tallies' k room size lt by is hash eA eH put =
+    subst (λ (x : List (List ℕ)). HeadsInvariant g x hashes' roster barrier epoch tallies' removals) (sym eA)
+    (subst (λ (x : List (List ℕ)). HeadsInvariant g (entries ++ b ∷ []) x roster barrier epoch tallies' removals) (sym eH) (record {
       genesis = k.genesis;
       chained = chain_more g entries hashes b h k.chained hash;
       members = k.members ∙ sym (roster_edit g entries b is);
       change = k.change ∙ sym (last_push (λ b. is_some (change_in b)) entries b false (ap is_some is));
       changes = k.changes ∙ sym (epoch_push entries b None is);
-      tables = tables_push counts lasts removed removed entries b a None k.tables lt by is k.tables.removed_len (λ n l. unmarked_gone removed n);
+      tables = tables_push tallies tallies' removals removals entries b a None k.tables lt by is put (removals_left removals);
       room = omega (arith, room, length-append entries (b ∷ []));
       sized = sized_push entries b k.sized size;
-    }))))
+    }))
 
-pub keeps_change : (g : Genesis) (entries hashes : List (List ℕ)) (roster : Roster) (barrier epoch : ℕ) (counts lasts : List ℕ) (removed : List Bool) (b h : List ℕ) (a : ℕ) (s : CommittedChange) (entries' hashes' : List (List ℕ)) (roster' : Roster) (barrier' epoch' : ℕ) (counts' lasts' : List ℕ) (removed' : List Bool)
-    → HeadsInvariant g entries hashes roster barrier epoch counts lasts removed → length entries < MAX_ENTRIES → length b ≤ MAX_ENTRY
-    → a < NUMBERS → ((n : ℕ) → is_by n b ≡ eqb a n) → change_in b ≡ Some s → h ≡ next_value (hash_of g entries) b
+pub keeps_change : (g : Genesis) (entries hashes : List (List ℕ)) (roster : Roster) (barrier epoch : ℕ) (tallies : ℕ → Option Tally) (removals : List Removal) (b h : List ℕ) (a : Device) (s : CommittedChange) (entries' hashes' : List (List ℕ)) (roster' : Roster) (barrier' epoch' : ℕ) (tallies' : ℕ → Option Tally) (removals' : List Removal)
+    → HeadsInvariant g entries hashes roster barrier epoch tallies removals → length entries < MAX_ENTRIES → length b ≤ MAX_ENTRY
+    → a.number < DEVICE_NUMBERS → ((d : Device) → is_by d b ≡ same_device a d) → change_in b ≡ Some s → h ≡ next_value (hash_of g entries) b
     → entries' ≡ entries ++ b ∷ [] → hashes' ≡ hashes ++ h ∷ [] → roster' ≡ after_change roster s.body.change → barrier' ≡ length entries + 1 → epoch' ≡ epoch + 1
-    → counts' ≡ set counts a (get_or counts a 0 + 1) → lasts' ≡ set lasts a (length entries + 1) → removed' ≡ marked s.body.change removed
-    → HeadsInvariant g entries' hashes' roster' barrier' epoch' counts' lasts' removed'
-keeps_change g entries hashes roster barrier epoch counts lasts removed b h a s entries' hashes' roster' barrier' epoch' counts' lasts' removed' k room size lt by is hash eA eH eR eB eE eC eL eM =
-    subst (λ (x : List (List ℕ)). HeadsInvariant g x hashes' roster' barrier' epoch' counts' lasts' removed') (sym eA)
-    (subst (λ (x : List (List ℕ)). HeadsInvariant g (entries ++ b ∷ []) x roster' barrier' epoch' counts' lasts' removed') (sym eH)
-    (subst (λ (x : List ℕ). HeadsInvariant g (entries ++ b ∷ []) (hashes ++ h ∷ []) roster' barrier' epoch' x lasts' removed') (sym eC)
-    (subst (λ (x : List ℕ). HeadsInvariant g (entries ++ b ∷ []) (hashes ++ h ∷ []) roster' barrier' epoch' (set counts a (get_or counts a 0 + 1)) x removed') (sym eL)
-    (subst (λ (x : List Bool). HeadsInvariant g (entries ++ b ∷ []) (hashes ++ h ∷ []) roster' barrier' epoch' (set counts a (get_or counts a 0 + 1)) (set lasts a (length entries + 1)) x) (sym eM) (record {
+    → IsPut tallies tallies' a (length entries + 1) → removals' ≡ with_removal s.body.change removals
+    → HeadsInvariant g entries' hashes' roster' barrier' epoch' tallies' removals'
+keeps_change g entries hashes roster barrier epoch tallies removals b h a s entries' hashes' roster' barrier' epoch' tallies' removals' k room size lt by is hash eA eH eR eB eE put eM =
+    subst (λ (x : List (List ℕ)). HeadsInvariant g x hashes' roster' barrier' epoch' tallies' removals') (sym eA)
+    (subst (λ (x : List (List ℕ)). HeadsInvariant g (entries ++ b ∷ []) x roster' barrier' epoch' tallies' removals') (sym eH) (record {
       genesis = k.genesis;
       chained = chain_more g entries hashes b h k.chained hash;
       members = eR ∙ ap (λ (r : Roster). after_change r s.body.change) k.members ∙ sym (roster_change g entries b s is);
       change = eB ∙ sym (last_push (λ b. is_some (change_in b)) entries b true (ap is_some is));
       changes = eE ∙ ap (λ (n : ℕ). n + 1) k.changes ∙ sym (epoch_push entries b (Some s) is);
-      tables = tables_push counts lasts removed (marked s.body.change removed) entries b a (Some s) k.tables lt by is (length-marked s.body.change removed ∙ k.tables.removed_len) (λ n l. marked_gone removed s n (omega (arith, k.tables.removed_len, l)));
+      tables = tables_push tallies tallies' removals removals' entries b a (Some s) k.tables lt by is put (λ d. ap (is_gone d) eM ∙ removals_more s.body.change removals d);
       room = omega (arith, room, length-append entries (b ∷ []));
       sized = sized_push entries b k.sized size;
-    })))))
+    }))

@@ -1,8 +1,6 @@
-mod Lists
 pub mod Grows
 pub mod ChecksPass
 mod Keeping
 pub mod OnceChecked
 mod Copied
-mod Skimmed
 mod Examination

@@ -1,17 +1,19 @@
 -- What is known of an entry that was checked.
-use Rattle.std.proofs.Common.{◌≡◌, ◌≢◌, ℕ, ◌+◌, ◌<◌, ltb, eqb, List, [], ◌∷◌, ◌++◌, length, refl, ap, sym, ◌∙◌, subst, Option, None, Some, Result, Ok, Err}
+use Rattle.std.proofs.Common.{◌≡◌, ◌≢◌, ℕ, ◌+◌, ◌<◌, ltb, List, [], ◌∷◌, ◌++◌, length, refl, ap, sym, ◌∙◌, subst, Option, None, Some, Result, Ok, Err}
 use Rattle.std.specs.Prelude.{option_map, OnOk, IsOk}
 use Rattle.std.proofs.lemmas.Bool.{ltb-true}
 use Rattle.sporc_base.specs.FirstFault.{first_of, AnswersUnless}
 use Rattle.sporc_member.specs.declared.change.Change.{Change}
 use Rattle.sporc_member.specs.declared.change.ChangeFault.{ChangeFault}
-use Rattle.sporc_member.specs.declared.founder.Founder.{Founder}
-use Rattle.sporc_member.specs.Roster.{member_at, change_fault_of}
+use Rattle.sporc_member.specs.declared.device.Device.{Device}
+use Rattle.sporc_member.specs.declared.member.Member.{Member}
+use Rattle.sporc_member.specs.Device.{same_device}
+use Rattle.sporc_member.specs.Roster.{member_at, key_of, change_fault_of}
 use Rattle.sporc_member.proofs.Checks.{passes}
 use Rattle.sporc_entry.specs.declared.entry.Entry.{Entry}
 use Rattle.sporc_entry.specs.declared.change.ChangeBody.{ChangeBody}
 use Rattle.sporc_entry.specs.declared.genesis.Genesis.{Genesis}
-use Rattle.sporc_entry.specs.Entry.{entry_of, change_of}
+use Rattle.sporc_entry.specs.Entry.{author_device, entry_of, change_of}
 use Rattle.sporc_head.specs.declared.refusal.Refusal.{Refusal}
 use Rattle.sporc_head.specs.declared.refusal.Refusal.TheVariants.{HistoryFull}
 use Rattle.sporc_head.specs.declared.limits.TheConstants.{MAX_ENTRIES}
@@ -46,7 +48,7 @@ parts : (g : Genesis) (entries : List (List ℕ)) (pos : ℕ) (e : Entry) → fi
 unfolding head_checks
 parts g entries pos e h =
     let rosters = roster_checks (roster_of g entries) (change_of e) in
-    let authors = author_checks (member_at (roster_of g entries) e.header.author) e in
+    let authors = author_checks (member_at (roster_of g entries) e.header.author) (key_of (roster_of g entries) (author_device e.header)) e in
     let a = both_pass (place_checks g None entries pos e.header) (history_checks g entries e.header ++ (authors ++ rosters)) h in
     let b = both_pass (history_checks g entries e.header) (authors ++ rosters) a.1 in
     (b.0, (both_pass authors rosters b.1).1)
@@ -56,8 +58,8 @@ checked_room g entries c k =
     let p = parts g entries (length entries + 1) c.entry (none_fails g entries (length entries + 1) c.bytes c.entry k.read k.passed) in
     ltb-true (length entries) MAX_ENTRIES (passes (ltb (length entries) MAX_ENTRIES) HistoryFull _ p.0).0
 
-pub checked_by : (g : Genesis) (entries : List (List ℕ)) (c : CheckedModel) → IsChecked g entries c → (n : ℕ) → is_by n c.bytes ≡ eqb c.entry.header.author n
-checked_by g entries c k n = is_by_read n c.bytes c.entry k.read
+pub checked_by : (g : Genesis) (entries : List (List ℕ)) (c : CheckedModel) → IsChecked g entries c → (d : Device) → is_by d c.bytes ≡ same_device (author_device c.entry.header) d
+checked_by g entries c k d = is_by_read d c.bytes c.entry k.read
 
 pub checked_edit : (g : Genesis) (entries : List (List ℕ)) (c : CheckedModel) → IsChecked g entries c → member_change_of c.entry ≡ None → change_in c.bytes ≡ None
 checked_edit g entries c k e = change_in_read c.bytes c.entry (change_of c.entry) k.read refl ∙ ap (committed_by c.entry) (none_in (change_of c.entry) e)
@@ -91,32 +93,43 @@ checked_accepted g entries c change k e =
 pub unless_exit : {X : Type 0} (m : Refusal) (r : Result X Refusal) (y e : Refusal) (fault : Option Refusal) → r ≡ Err y → y ≡ e → (e ≢ m → fault ≡ Some e) → AnswersUnless m r fault
 unless_exit {X} m r y e fault p q h = subst (λ (r : Result X Refusal). AnswersUnless m r fault) (sym p) (subst (λ (z : Refusal). z ≢ m → fault ≡ Some z) (sym q) h)
 
-module _ (g : Genesis) (me : Option ℕ) (entries : List (List ℕ)) (pos : ℕ) (e : Entry) (here : first_of (place_checks g me entries pos e.header) ≡ None) where
-  after_place : first_of (head_checks g me entries pos e)
-      ≡ first_of (history_checks g entries e.header ++ (author_checks (member_at (roster_of g entries) e.header.author) e ++ roster_checks (roster_of g entries) (change_of e)))
+pub at_place : (g : Genesis) (me : Option Device) (entries : List (List ℕ)) (pos : ℕ) (e : Entry) (f : Refusal) → first_of (place_checks g me entries pos e.header) ≡ Some f → first_of (head_checks g me entries pos e) ≡ Some f
+unfolding head_checks
+at_place g me entries pos e f h = first_of-some (place_checks g me entries pos e.header) _ f h
+
+module _ (g : Genesis) (me : Option Device) (entries : List (List ℕ)) (pos : ℕ) (e : Entry) (here : first_of (place_checks g me entries pos e.header) ≡ None) where
+  -- the checks of the author, and those of a change
+  abbrev author : List (Option Refusal)
+  author = author_checks (member_at (roster_of g entries) e.header.author) (key_of (roster_of g entries) (author_device e.header)) e
+
+  abbrev change : Option ChangeBody → List (Option Refusal)
+  change o = roster_checks (roster_of g entries) o
+
+  after_place : first_of (head_checks g me entries pos e) ≡ first_of (history_checks g entries e.header ++ (author ++ change (change_of e)))
   unfolding head_checks
-  after_place = first_of-none (place_checks g me entries pos e.header) (history_checks g entries e.header ++ (author_checks (member_at (roster_of g entries) e.header.author) e ++ roster_checks (roster_of g entries) (change_of e))) here
+  after_place = first_of-none (place_checks g me entries pos e.header) (history_checks g entries e.header ++ (author ++ change (change_of e))) here
 
   pub at_history : (f : Refusal) → first_of (history_checks g entries e.header) ≡ Some f → first_of (head_checks g me entries pos e) ≡ Some f
-  at_history f h = after_place ∙ first_of-some (history_checks g entries e.header) (author_checks (member_at (roster_of g entries) e.header.author) e ++ roster_checks (roster_of g entries) (change_of e)) f h
+  at_history f h = after_place ∙ first_of-some (history_checks g entries e.header) (author ++ change (change_of e)) f h
 
-  after_history : (m : Founder) → Some m ≡ member_at (roster_of g entries) e.header.author → first_of (history_checks g entries e.header) ≡ None
-      → first_of (head_checks g me entries pos e) ≡ first_of (author_checks (Some m) e ++ roster_checks (roster_of g entries) (change_of e))
-  after_history m is h = after_place
-      ∙ first_of-none (history_checks g entries e.header) (author_checks (member_at (roster_of g entries) e.header.author) e ++ roster_checks (roster_of g entries) (change_of e)) h
-      ∙ ap (λ (o : Option Founder). first_of (author_checks o e ++ roster_checks (roster_of g entries) (change_of e))) (sym is)
+  module _ (m : Member) (key : List ℕ) (is : Some m ≡ member_at (roster_of g entries) e.header.author) (has : Some key ≡ key_of (roster_of g entries) (author_device e.header))
+      (h : first_of (history_checks g entries e.header) ≡ None) where
+    after_history : first_of (head_checks g me entries pos e) ≡ first_of (author_checks (Some m) (Some key) e ++ change (change_of e))
+    after_history = after_place
+        ∙ first_of-none (history_checks g entries e.header) (author ++ change (change_of e)) h
+        ∙ ap (λ (o : Option Member). first_of (author_checks o (key_of (roster_of g entries) (author_device e.header)) e ++ change (change_of e))) (sym is)
+        ∙ ap (λ (o : Option (List ℕ)). first_of (author_checks (Some m) o e ++ change (change_of e))) (sym has)
 
-  pub at_author : (m : Founder) (f : Refusal) → Some m ≡ member_at (roster_of g entries) e.header.author → first_of (history_checks g entries e.header) ≡ None
-      → first_of (author_checks (Some m) e) ≡ Some f → first_of (head_checks g me entries pos e) ≡ Some f
-  at_author m f is h a = after_history m is h ∙ first_of-some (author_checks (Some m) e) (roster_checks (roster_of g entries) (change_of e)) f a
+    pub at_author : (f : Refusal) → first_of (author_checks (Some m) (Some key) e) ≡ Some f → first_of (head_checks g me entries pos e) ≡ Some f
+    at_author f a = after_history ∙ first_of-some (author_checks (Some m) (Some key) e) (change (change_of e)) f a
 
-  -- behind the author's checks those of the roster decide
-  pub at_roster : (m : Founder) (o : Option ChangeBody) (fault : Option Refusal) → Some m ≡ member_at (roster_of g entries) e.header.author → first_of (history_checks g entries e.header) ≡ None
-      → first_of (author_checks (Some m) e) ≡ None → o ≡ change_of e → first_of (roster_checks (roster_of g entries) o) ≡ fault → first_of (head_checks g me entries pos e) ≡ fault
-  at_roster m o fault is h a c r = after_history m is h
-      ∙ first_of-none (author_checks (Some m) e) (roster_checks (roster_of g entries) (change_of e)) a
-      ∙ ap (λ (o : Option ChangeBody). first_of (roster_checks (roster_of g entries) o)) (sym c) ∙ r
+    -- behind the author's checks those of the roster decide
+    pub at_roster : (o : Option ChangeBody) (fault : Option Refusal) → first_of (author_checks (Some m) (Some key) e) ≡ None → o ≡ change_of e → first_of (change o) ≡ fault
+        → first_of (head_checks g me entries pos e) ≡ fault
+    at_roster o fault a c r = after_history
+        ∙ first_of-none (author_checks (Some m) (Some key) e) (change (change_of e)) a
+        ∙ ap (λ (o : Option ChangeBody). first_of (change o)) (sym c) ∙ r
 
-pub passed_of : (g : Genesis) (me : Option ℕ) (entries : List (List ℕ)) (pos : ℕ) (b : List ℕ) (e : Entry) → entry_of b ≡ Ok e → first_of (head_checks g me entries pos e) ≡ None → head_fault g me entries pos b ≡ None
+pub passed_of : (g : Genesis) (me : Option Device) (entries : List (List ℕ)) (pos : ℕ) (b : List ℕ) (e : Entry) → entry_of b ≡ Ok e → first_of (head_checks g me entries pos e) ≡ None → head_fault g me entries pos b ≡ None
 unfolding head_fault
 passed_of g me entries pos b e is h = ap (fault_read (head_checks g me entries pos)) is ∙ h

@@ -1,9 +1,11 @@
 -- What examining an entry's signature finds, and the key that the check of a signature uses.
-use Rattle.std.specs.Prelude.{◌≡◌, ℕ, Bool, false, List, Option, None, Result, Ok, Err, option_map}
+use Rattle.std.specs.Prelude.{◌≡◌, ℕ, Bool, false, List, Option, None, Some, Result, Ok, Err}
 use Rattle.lms_tree.specs.LmsPublic.{public_key_in}
-use Rattle.sporc_member.specs.Roster.{Roster, member_at}
+use Rattle.sporc_member.specs.Roster.{Roster, key_of}
 use Rattle.sporc_entry.specs.declared.entry.Entry.{Entry}
-use Rattle.sporc_entry.specs.Entry.{entry_of, signed_string}
+use Rattle.sporc_entry.specs.declared.header.Header.{Header}
+use Rattle.sporc_entry.specs.Entry.{author_device, entry_of, signed_string}
+use Rattle.sporc_entry.specs.Skimming.{header_in}
 use Rattle.sporc_head.specs.declared.examined.Verdict.{Verdict}
 use Rattle.sporc_head.specs.HeadChecks.{verifies_under}
 
@@ -28,16 +30,11 @@ IsExact v bytes = v.good ≡ is_verified v.key bytes
 abbrev pub IsExactOf : Verdict → Entry → Type 0
 IsExactOf v e = v.good ≡ is_signed_under v.key e
 
--- the number of the author of an entry, or what reading it met
-abbrev pub author_read : Result Entry ℕ → Result ℕ ℕ
-author_read (Ok e) = Ok e.header.author
-author_read (Err at) = Err at
+-- the key of the device that signs the entry with a header, if there is one
+abbrev pub key_at : Roster → Option Header → Option (List ℕ)
+key_at roster None = None
+key_at roster (Some h) = key_of roster (author_device h)
 
--- the key of the member with a number, if reading found one
-abbrev pub key_of_author : Roster → Result ℕ ℕ → Option (List ℕ)
-key_of_author roster (Ok author) = option_map (λ m. m.key) (member_at roster author)
-key_of_author roster (Err at) = None
-
--- the key that the check of an entry's signature uses: None if the bytes are no entry, or its author is no member
+-- the key that the check of an entry's signature uses: None if the bytes are no entry, or its author has no such live device
 unfoldable pub key_for : Roster → List ℕ → Option (List ℕ)
-key_for roster bytes = key_of_author roster (author_read (entry_of bytes))
+key_for roster bytes = key_at roster (header_in bytes)

@@ -8,4 +8,3 @@ pub mod IsChecked
 pub mod HeadsModel
 pub mod Examined
 pub mod ExaminedModel
-pub mod Skimming

@@ -3,7 +3,7 @@ use Rattle.std.specs.Prelude.{ℕ, List, ◌++◌, codes}
 use Rattle.std.specs.Fmt.{decimal}
 use Rattle.sporc_member.specs.ChangeFault.{change_fault_name}
 use Rattle.sporc_head.specs.declared.refusal.Refusal.{Refusal}
-use Rattle.sporc_head.specs.declared.refusal.Refusal.TheVariants.{Malformed, WrongDocument, WrongPosition, Removed, HistoryFull, UnknownAuthor, BaseAhead, BeforeBarrier, WrongHistory, WrongNumber, BehindOwn, WrongEpoch, NoRight, LeafMismatch, BadSignature, BadPayload, WrongLength, BadChange, WrongWraps, NoKey, WrongKey, Memory}
+use Rattle.sporc_head.specs.declared.refusal.Refusal.TheVariants.{Malformed, WrongDocument, WrongPosition, Removed, HistoryFull, WrongVersion, UnknownAuthor, UnknownDevice, BaseAhead, BeforeBarrier, WrongHistory, WrongNumber, BehindOwn, WrongEpoch, NoRight, LeafMismatch, BadSignature, BadPayload, WrongLength, BadChange, WrongWraps, NoKey, WrongKey, Memory}
 
 -- the first word of its name
 abbrev pub refusal_word : Refusal → List ℕ
@@ -12,7 +12,9 @@ refusal_word WrongDocument = codes "wrong-document"
 refusal_word WrongPosition = codes "wrong-position"
 refusal_word Removed = codes "removed"
 refusal_word HistoryFull = codes "history-full"
+refusal_word WrongVersion = codes "wrong-version"
 refusal_word UnknownAuthor = codes "unknown-author"
+refusal_word UnknownDevice = codes "unknown-device"
 refusal_word BaseAhead = codes "base-ahead"
 refusal_word BeforeBarrier = codes "before-barrier"
 refusal_word WrongHistory = codes "wrong-history"
@@ -43,7 +45,9 @@ refusal_code_of WrongDocument = 2
 refusal_code_of WrongPosition = 3
 refusal_code_of Removed = 4
 refusal_code_of HistoryFull = 5
+refusal_code_of WrongVersion = 22
 refusal_code_of UnknownAuthor = 6
+refusal_code_of UnknownDevice = 23
 refusal_code_of BaseAhead = 7
 refusal_code_of BeforeBarrier = 8
 refusal_code_of WrongHistory = 9

@@ -11,19 +11,26 @@ use crate::refusal::Refusal;
 use lms_tree::{LmsPublic, verify_parts};
 use sporc_base::is_same;
 use sporc_entry::{EDIT, EntryView};
-use sporc_member::{Founder, Role};
+use sporc_member::{Member, Role};
 
-// Whether the author may make the entry, and signed it.
+/// The author of an entry, with the key of the device that signs it.
+#[derive(Clone, Copy)]
+pub(crate) struct Author {
+    pub(crate) member: Member,
+    pub(crate) key: [u8; 56],
+}
+
+// Whether the author may make the entry, and its device signed it.
 pub(crate) fn check_author(
-    author: &Founder,
+    author: &Author,
     entry: &EntryView<'_>,
     known: Option<&Verdict>,
 ) -> Result<(), Refusal>
     requires exact { IfSome known (λ v. IsExactOf v.now entry.now.entry) }
-    ensures { Answers result (first_of (author_checks (Some author.now) entry.now.entry)) }
+    ensures { Answers result (first_of (author_checks (Some author.now.member) (Some author.now.key) entry.now.entry)) }
 {
     let header = entry.header();
-    if !allows(author.role, header.kind) {
+    if !allows(author.member.role, header.kind) {
         return Err(Refusal::NoRight);
     }
     if !names_leaf(header.leaf, entry.signature()) {

@@ -7,7 +7,7 @@ ghost use Rattle.sporc_entry.specs.Entry.{change_of};
 ghost use Rattle.sporc_head.specs.History.{member_change_of};
 
 use sporc_base::{Bytes, Memory};
-use sporc_entry::{BODY_AT, ChangeBody, EntryView, Header};
+use sporc_entry::{ChangeBody, EntryView, Header, body_at};
 use sporc_hash::{Digest32, next_hash};
 use sporc_member::Change;
 use std::alloc::Global;
@@ -72,7 +72,11 @@ impl Checked {
     pub fn body(&self) -> &[u8]
         ensures value { result.now ≡ self.now.entry.body }
     {
-        part_of(self.bytes.as_slice(), BODY_AT, self.body_len)
+        part_of(
+            self.bytes.as_slice(),
+            body_at(self.header.version),
+            self.body_len,
+        )
     }
 
     /// What it changes, if it is a change.

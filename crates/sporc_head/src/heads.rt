@@ -6,25 +6,25 @@ ghost use Rattle.sporc_base.specs.FirstFault.{Answers, AnswersUnless, first_of};
 ghost use Rattle.sporc_hash.specs.Chain.{chain};
 ghost use Rattle.sporc_entry.specs.Genesis.{IsGenesis, genesis_bytes};
 ghost use Rattle.sporc_entry.specs.declared.limits.TheConstants.{MAX_ENTRY};
-ghost use Rattle.sporc_member.specs.Roster.{member_at};
+ghost use Rattle.sporc_member.specs.Roster.{member_at, key_of};
+ghost use Rattle.sporc_entry.specs.Entry.{author_device};
 ghost use Rattle.sporc_head.specs.History.{member_change_of, roster_of, barrier_of, epoch_of, count_of, last_of, hash_of, is_removed};
-ghost use Rattle.sporc_head.specs.HeadChecks.{place_checks, history_checks, head_checks, head_fault, is_not_removed};
+ghost use Rattle.sporc_head.specs.HeadChecks.{device_of_pair, place_checks, history_checks, head_checks, head_fault, is_not_removed};
 ghost use Rattle.sporc_head.specs.Examined.{IsExact, IsExactOf, key_for};
 ghost use Rattle.sporc_head.specs.declared.limits.TheConstants.{MAX_ENTRIES};
 ghost use Rattle.sporc_head.specs.IsChecked.{IsChecked};
 
-use crate::authors::check_author;
+use crate::authors::{Author, check_author};
 use crate::changes::check_change;
 use crate::checked::Checked;
 use crate::examined::{Examined, Verdict};
 use crate::limits::MAX_ENTRIES;
 use crate::refusal::Refusal;
-use crate::skimming::read_author;
-use crate::tables::{Tables, record_entry, record_removal};
+use crate::tables::{Tables, Tally, is_gone, record_entry, record_removal, tally_of};
 use sporc_base::{Memory, is_same};
-use sporc_entry::{EntryView, Genesis, Header, write_genesis};
+use sporc_entry::{EntryView, Genesis, Header, header_in, version_of, write_genesis};
 use sporc_hash::{Digest32, genesis_hash};
-use sporc_member::{Change, Founder, Roster};
+use sporc_member::{Change, Device, Roster};
 use std::alloc::Global;
 use std::marker::Model;
 
@@ -62,7 +62,7 @@ impl Heads {
         let bytes = write_genesis(alloc, &genesis)?;
         let hashes = vec![in alloc; genesis_hash(bytes.as_slice())]?;
         let roster = Roster::found(alloc, genesis.founders.as_slice())?;
-        let tables = Tables::new(alloc)?;
+        let tables = Tables::new(alloc);
         Ok(Heads {
             genesis,
             entries: Vec::new(alloc),
@@ -135,27 +135,43 @@ impl Heads {
         self.epoch
     }
 
-    /// How many entries an author has.
+    // How many entries a device has, and where its last one stands.
+    fn tally(&self, device: Device) -> Tally
+        ensures count { result.count ≡ count_of device self.now.entries }
+        ensures last { result.last ≡ last_of device self.now.entries }
+    {
+        tally_of(&self.tables.tallies, device)
+    }
+
+    /// How many entries an author's device has.
     #[tactic(auto, using(crate::proofs::Grows::count_le))]
-    pub fn count_of(&self, author: u16) -> u32
-        ensures value { result ≡ count_of author self.now.entries }
+    pub fn count_of(&self, author: u16, device: u8) -> u32
+        ensures value { result ≡ count_of (record { member = author; number = device }) self.now.entries }
         ensures within { result ≤ length self.now.entries }
     {
-        self.tables.counts[author as usize]
+        let device = Device {
+            member: author,
+            number: device,
+        };
+        self.tally(device).count
     }
 
-    /// The position of an author's last entry, 0 if there is none.
-    pub fn last_of(&self, author: u16) -> u32
-        ensures value { result ≡ last_of author self.now.entries }
+    /// The position of the last entry of an author's device, 0 if there is none.
+    pub fn last_of(&self, author: u16, device: u8) -> u32
+        ensures value { result ≡ last_of (record { member = author; number = device }) self.now.entries }
     {
-        self.tables.lasts[author as usize]
+        let device = Device {
+            member: author,
+            number: device,
+        };
+        self.tally(device).last
     }
 
-    /// Whether a change removed this member.
-    pub fn is_removed(&self, member: u16) -> bool
-        ensures value { result ≡ is_removed member self.now.entries }
+    /// Whether a change removed this device's member, or dropped the device.
+    pub fn is_removed(&self, device: Device) -> bool
+        ensures value { result ≡ is_removed device self.now.entries }
     {
-        self.tables.removed[member as usize]
+        is_gone(self.tables.removals.as_slice(), device)
     }
 
     /// Takes the memory of one entry: the next `push` takes none.
@@ -167,7 +183,8 @@ impl Heads {
     {
         self.entries.reserve(1)?;
         self.hashes.reserve(1)?;
-        self.roster.reserve()
+        self.roster.reserve()?;
+        self.tables.reserve()
     }
 
     /// Appends an entry that was checked at this history. It takes no memory where `spare` is at least 1.
@@ -199,9 +216,8 @@ impl Heads {
     {
         let position = self.entries.len() as u32 + 1;
         record_entry(
-            &mut self.tables.counts,
-            &mut self.tables.lasts,
-            checked.header().author,
+            &mut self.tables.tallies,
+            checked.header().author_device(),
             position,
         );
         self.hashes.push_reserved(*checked.hash());
@@ -218,12 +234,11 @@ impl Heads {
     {
         let position = self.entries.len() as u32 + 1;
         record_entry(
-            &mut self.tables.counts,
-            &mut self.tables.lasts,
-            checked.header().author,
+            &mut self.tables.tallies,
+            checked.header().author_device(),
             position,
         );
-        record_removal(&mut self.tables.removed, &change);
+        record_removal(&mut self.tables.removals, &change);
         self.barrier = position;
         self.epoch += 1;
         let _ = self.roster.make(&change);
@@ -231,55 +246,55 @@ impl Heads {
         self.entries.push_reserved(checked.into_bytes().into_vec());
     }
 
-    /// The key under which the check of an entry's signature verifies it at this history: its author's. None exactly if
-    /// the bytes are no entry, or its author is no member. It takes no memory.
+    /// The key under which the check of an entry's signature verifies it at this history: that of its author's device. None
+    /// exactly if the bytes are no entry, or its author has no such live device. It takes no memory.
     #[tactic(auto, unfolding(crate::specs::Examined::key_for))]
     pub fn key_for(&self, entry: &[u8]) -> Option<[u8; 56]>
         ensures value { result ≡ key_for (roster_of self.now.genesis self.now.entries) entry.now }
     {
-        match read_author(entry) {
-            Ok(number) => self.key_of(number),
-            Err(_) => None,
+        match header_in(entry) {
+            Some(header) => self.roster().key(header.author, header.device).copied(),
+            None => None,
         }
     }
 
-    // The key of the member with this number.
-    fn key_of(&self, number: u16) -> Option<[u8; 56]>
-        ensures { result ≡ option_map (λ m. m.key) (member_at (roster_of self.now.genesis self.now.entries) number) }
-    {
-        let member = self.roster().member(number)?;
-        Some(member.key)
-    }
-
-    /// The checks of an entry that is to stand at a position. Without `me` it isn't asked whether the history removes a
-    /// member.
-    pub fn check(&self, me: Option<u16>, pos: u32, bytes: &[u8]) -> Result<Checked, Refusal>
-        ensures fault { AnswersUnless Refusal.Memory result (head_fault self.now.genesis me self.now.entries pos bytes.now) }
+    /// The checks of an entry that is to stand at a position. `me` is a member and its device; without it it isn't asked
+    /// whether the history removes them.
+    pub fn check(&self, me: Option<(u16, u8)>, pos: u32, bytes: &[u8]) -> Result<Checked, Refusal>
+        ensures fault { AnswersUnless Refusal.Memory result
+            (head_fault self.now.genesis (option_map device_of_pair me) self.now.entries pos bytes.now) }
         ensures checked { IfOk result (IsChecked self.now.genesis self.now.entries) }
         ensures bytes { IfOk result (λ checked. checked.bytes ≡ bytes.now) }
     {
-        self.check_known(me, pos, bytes, None)
+        self.check_known(me.map(device_of_pair), pos, bytes, None)
     }
 
-    /// The same of an entry whose signature was examined. It is verified anew if the key isn't its author's at this history.
+    /// The same of an entry whose signature was examined. It is verified anew if the key isn't that of its author's device
+    /// at this history.
     pub fn check_examined(
         &self,
-        me: Option<u16>,
+        me: Option<(u16, u8)>,
         pos: u32,
         examined: &Examined,
     ) -> Result<Checked, Refusal>
-        ensures fault { AnswersUnless Refusal.Memory result (head_fault self.now.genesis me self.now.entries pos examined.now.entry) }
+        ensures fault { AnswersUnless Refusal.Memory result
+            (head_fault self.now.genesis (option_map device_of_pair me) self.now.entries pos examined.now.entry) }
         ensures checked { IfOk result (IsChecked self.now.genesis self.now.entries) }
         ensures bytes { IfOk result (λ checked. checked.bytes ≡ examined.now.entry) }
     {
-        self.check_known(me, pos, examined.entry(), Some(examined.known()))
+        self.check_known(
+            me.map(device_of_pair),
+            pos,
+            examined.entry(),
+            Some(examined.known()),
+        )
     }
 
     /// The same of bytes of which a verdict may be known.
     #[tactic(auto, unfolding(crate::specs::HeadChecks::head_fault))]
     pub fn check_known(
         &self,
-        me: Option<u16>,
+        me: Option<Device>,
         pos: u32,
         bytes: &[u8],
         known: Option<&Verdict>,
@@ -302,7 +317,7 @@ impl Heads {
     fn check_entry(
         &self,
         alloc: Global,
-        me: Option<u16>,
+        me: Option<Device>,
         pos: u32,
         view: &EntryView<'_>,
         known: Option<&Verdict>,
@@ -312,7 +327,7 @@ impl Heads {
     {
         self.check_place(me, pos, view.header())?;
         let author = self.check_history(view.header())?;
-        check_author(author, view, known)?;
+        check_author(&author, view, known)?;
         if let Some(body) = view.change() {
             check_change(alloc, self.roster(), body)?;
         }
@@ -320,7 +335,7 @@ impl Heads {
     }
 
     // The checks of where an entry is to stand.
-    fn check_place(&self, me: Option<u16>, pos: u32, header: &Header) -> Result<(), Refusal>
+    fn check_place(&self, me: Option<Device>, pos: u32, header: &Header) -> Result<(), Refusal>
         ensures { Answers result (first_of (place_checks self.now.genesis me self.now.entries pos header.now)) }
     {
         if !is_same(&header.document, &self.genesis().document) {
@@ -336,16 +351,24 @@ impl Heads {
     }
 
     // The checks of what an entry says of the history before it, and its author.
-    fn check_history(&self, header: &Header) -> Result<&Founder, Refusal>
+    fn check_history(&self, header: &Header) -> Result<Author, Refusal>
         ensures fault { Answers result (first_of (history_checks self.now.genesis self.now.entries header.now)) }
-        ensures author { IfOk result (λ author. Some author.now ≡ member_at (roster_of self.now.genesis self.now.entries) header.now.author) }
+        ensures member { IfOk result (λ author. Some author.member ≡ member_at (roster_of self.now.genesis self.now.entries) header.now.author) }
+        ensures key { IfOk result (λ author. Some author.key ≡ key_of (roster_of self.now.genesis self.now.entries) (author_device header.now)) }
     {
         let len = self.len();
         if len >= MAX_ENTRIES {
             return Err(Refusal::HistoryFull);
         }
-        let Some(author) = self.roster().member(header.author) else {
+        let roster = self.roster();
+        if header.version != version_of(roster.upgraded()) {
+            return Err(Refusal::WrongVersion);
+        }
+        let Some(member) = roster.member(header.author) else {
             return Err(Refusal::UnknownAuthor);
+        };
+        let Some(key) = roster.key(header.author, header.device) else {
+            return Err(Refusal::UnknownDevice);
         };
         if header.base > len {
             return Err(Refusal::BaseAhead);
@@ -356,20 +379,23 @@ impl Heads {
         if !is_same(&header.base_hash, &self.hash_at(header.base)) {
             return Err(Refusal::WrongHistory);
         }
-        if header.number != self.count_of(header.author) + 1 {
+        if header.number != self.count_of(header.author, header.device) + 1 {
             return Err(Refusal::WrongNumber);
         }
-        if header.base < self.last_of(header.author) {
+        if header.base < self.last_of(header.author, header.device) {
             return Err(Refusal::BehindOwn);
         }
         if header.epoch != self.epoch() {
             return Err(Refusal::WrongEpoch);
         }
-        Ok(author)
+        Ok(Author {
+            member: *member,
+            key: *key,
+        })
     }
 
-    // Whether no member is given, or the history doesn't remove it.
-    fn is_not_removed(&self, me: Option<u16>) -> bool
+    // Whether no device is given, or the history removes neither it nor its member.
+    fn is_not_removed(&self, me: Option<Device>) -> bool
         ensures { result ≡ is_not_removed me self.now.entries }
     {
         match me {
@@ -377,4 +403,12 @@ impl Heads {
             None => true,
         }
     }
+}
+
+// The device that a pair of its member's number and its own is of.
+fn device_of_pair(device: (u16, u8)) -> Device
+    ensures value { result ≡ device_of_pair device }
+{
+    let (member, number) = device;
+    Device { member, number }
 }

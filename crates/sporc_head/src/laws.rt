@@ -1,10 +1,10 @@
 //! Laws of histories.
 
 ghost use Rattle.std.specs.Prelude.{◌≡◌};
-ghost use Rattle.sporc_head.specs.declared.limits.TheConstants.{MAX_ENTRIES, NUMBERS};
+ghost use Rattle.sporc_head.specs.declared.limits.TheConstants.{MAX_ENTRIES, DEVICE_NUMBERS};
 
-/// The limit in numbers.
+/// The limits in numbers.
 pub fn limits()
     ensures entries { MAX_ENTRIES ≡ 16384 }
-    ensures numbers { NUMBERS ≡ 65536 }
+    ensures devices { DEVICE_NUMBERS ≡ 256 }
 {}

@@ -11,7 +11,7 @@
 //! The costly check, of the signature, can be done before an entry's turn:
 //!
 //! ```text
-//! let key = heads.key_for(entry.as_slice());           // the author's key here; takes no memory
+//! let key = heads.key_for(entry.as_slice());           // the key of its author's device here; takes no memory
 //! let examined = Examined::of(&key, entry)?;           // needs no history
 //! let checked = heads.check_examined(None, heads.len() + 1, &examined)?;   // verifies anew only under another key
 //! ```
@@ -31,7 +31,6 @@ mod heads;
 pub mod laws;
 mod limits;
 mod refusal;
-mod skimming;
 mod tables;
 
 pub use authors::allows;

@@ -19,21 +19,25 @@ pub enum Refusal {
     WrongDocument,
     #[error("its position is not the next one")]
     WrongPosition,
-    #[error("the history removes this member")]
+    #[error("the history removes this member or its device")]
     Removed,
     #[error("the history is full")]
     HistoryFull,
+    #[error("it is of another version than the history")]
+    WrongVersion,
     #[error("its author is no member")]
     UnknownAuthor,
+    #[error("its author has no such live device")]
+    UnknownDevice,
     #[error("its base is ahead of the history")]
     BaseAhead,
     #[error("its base is before the last change")]
     BeforeBarrier,
     #[error("its base is another history")]
     WrongHistory,
-    #[error("its number is not the author's next one")]
+    #[error("its number is not the next one of the author's device")]
     WrongNumber,
-    #[error("its base is before the author's last entry")]
+    #[error("its base is before the last entry of the author's device")]
     BehindOwn,
     #[error("it is of another epoch")]
     WrongEpoch,
@@ -73,7 +77,9 @@ impl Refusal {
             Refusal::WrongPosition => "wrong-position",
             Refusal::Removed => "removed",
             Refusal::HistoryFull => "history-full",
+            Refusal::WrongVersion => "wrong-version",
             Refusal::UnknownAuthor => "unknown-author",
+            Refusal::UnknownDevice => "unknown-device",
             Refusal::BaseAhead => "base-ahead",
             Refusal::BeforeBarrier => "before-barrier",
             Refusal::WrongHistory => "wrong-history",
@@ -110,7 +116,7 @@ impl Refusal {
         Ok(name)
     }
 
-    /// The number of its check, from 1 to 21, and 0 if memory ran out.
+    /// The number of its check, from 1 to 23, and 0 if memory ran out. Checks 22 and 23 are made before and after check 6.
     pub fn code(self) -> u8
         ensures value { result ≡ refusal_code_of self }
     {
@@ -120,7 +126,9 @@ impl Refusal {
             Refusal::WrongPosition => 3,
             Refusal::Removed => 4,
             Refusal::HistoryFull => 5,
+            Refusal::WrongVersion => 22,
             Refusal::UnknownAuthor => 6,
+            Refusal::UnknownDevice => 23,
             Refusal::BaseAhead => 7,
             Refusal::BeforeBarrier => 8,
             Refusal::WrongHistory => 9,

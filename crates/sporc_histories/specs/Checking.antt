@@ -15,6 +15,7 @@ use Rattle.sporc_line.specs.Kit.{Kit, kit_of}
 use Rattle.sporc_line.specs.LineModel.{LineModel}
 use Rattle.sporc_line.specs.Openings.{open_checks}
 use Rattle.sporc_line.specs.declared.fault.LineOpenFault.{LineOpenFault}
+use Rattle.sporc_member.specs.Device.{first_device}
 use Rattle.sporc_store.specs.Loading.{a_member, loaded}
 use Rattle.sporc_store.specs.SavedFile.{Taken, saved_in}
 use Rattle.sporc_files.specs.declared.fault.Fault.{Fault}
@@ -71,11 +72,12 @@ checked_line line = record { genesis = line.genesis; kit = line.kit; entries = l
 abbrev pub line_of_whole : ℕ → Genesis → Kit → Taken → Result CheckedLine Fault
 line_of_whole member genesis kit taken = whole (files.History member) taken >>= λ entries. Ok (record { genesis = genesis; kit = kit; entries = entries })
 
--- a history, if a member with these keys opens it and accepts all of it
+-- a history, if the first device of a member with these keys opens it and accepts all of it
 abbrev pub accepted_in : Genesis → ℕ → Keys → List ℕ → Keys → Result CheckedLine Fault
 accepted_in genesis member pairs history keys = do
   opened ← unless_closed (first_of (open_checks genesis (get keys 0))) keys
-  line_of_whole member genesis (kit_of member opened pairs) (loaded (a_member genesis (kit_of member opened pairs)) genesis.document history)
+  let kit = kit_of (first_device member) opened pairs in
+      line_of_whole member genesis kit (loaded (a_member genesis kit) genesis.document history)
 
 -- the same, for a member with this ring
 abbrev pub examined : Genesis → ℕ → RingFile → List ℕ → Result CheckedLine Fault

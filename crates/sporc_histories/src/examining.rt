@@ -12,6 +12,7 @@ use sporc_epoch::{Pairs, Ring, hints_from};
 use sporc_files::{Fault, File};
 use sporc_keys::RingFile;
 use sporc_line::Line;
+use sporc_member::FIRST_DEVICE;
 use sporc_outside::Gate;
 use sporc_store::{LOADERS, Stop, load_many};
 use std::alloc::Global;
@@ -87,7 +88,7 @@ fn accept<R: Threads + Wait + Sync, G: Gate + Sync>(
     requires { IsGenesis genesis }
     ensures value { AnswersUnlessOutside checked_line ⊥ result (accepted_in genesis member (pairs_in pairs) history.now keys.keys) }
 {
-    let line = match Line::open(alloc, genesis, member, keys, pairs) {
+    let line = match Line::open(alloc, genesis, member, FIRST_DEVICE, keys, pairs) {
         Ok(line) => line,
         Err(fault) => return Err(Fault::from(fault)),
     };

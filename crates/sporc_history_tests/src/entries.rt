@@ -1,6 +1,7 @@
 //! The bytes are spelled out by hand, field by field, from the tables of the formats.
 
-ghost use Rattle.std.specs.Prelude.{◌≡◌, length};
+ghost use Rattle.std.specs.Prelude.{◌≡◌, ◌≤◌, true, length};
+ghost use Rattle.sporc_entry.specs.Version.{fits_version};
 
 use crate::checks::{check, check_at, check_bytes};
 use sporc_base::is_same;
@@ -27,8 +28,10 @@ const EDIT: &str = "01\
     0000092c";
 
 const HEADER: Header = Header {
+    version: 1,
     document: [0xd0; 16],
     author: 0x0102,
+    device: 0,
     number: 0x0304_0506,
     base: 0x0708_090a,
     base_hash: [0xba; 32],
@@ -98,6 +101,18 @@ fn altered(rt: &impl Abort, alloc: Global, bytes: &[u8], place: usize, value: u8
         *byte = value;
     }
     all
+}
+
+// The same edit in version 2: the author's device stands behind the author.
+fn device_bytes(rt: &impl Abort, alloc: Global, device: u8) -> Vec<u8> {
+    let mut bytes = edit_bytes(rt, alloc);
+    if bytes.len() > 19 {
+        bytes.insert(19, device).ok().expect(rt, "memory");
+    }
+    if let Some(version) = bytes.first_mut() {
+        *version = 2;
+    }
+    bytes
 }
 
 fn is_edit(entry: &Entry) -> bool {
@@ -202,6 +217,7 @@ fn other_lengths_are_malformed(rt: &impl Abort, alloc: Global, edit: &mut Vec<u8
 
 // An edit whose body and signature have so many bytes.
 fn edit_of(rt: &impl Abort, alloc: Global, body: u32, signature: u32) -> Entry
+    ensures version { fits_version result.header.version result.header.device ≡ true }
     ensures body { length result.body ≡ body }
     ensures signature { length result.signature ≡ signature }
 {
@@ -269,9 +285,54 @@ fn an_edit_is_read_unless_it_has_a_fault(rt: HostRuntime) {
     edits_are_limited(&rt, rt.alloc());
 }
 
+// Whether it is the edit in version 2, by this device.
+fn is_by_device(entry: &Entry, device: u8) -> bool {
+    let mut header = HEADER;
+    header.version = 2;
+    header.device = device;
+    entry.header == header
+        && is_same(entry.body.as_slice(), &[0xbb; 19])
+        && entry.signature.as_slice().len() == 2348
+}
+
+fn reads_as_by_device(rt: &impl Abort, alloc: Global, bytes: &[u8], device: u8) -> bool {
+    let entry = read_entry(alloc, bytes).expect(rt, "an entry");
+    is_by_device(&entry, device)
+}
+
+// The place of a byte, its new value, and where the entry of version 2 is malformed then.
+const DEVICE_FAULTS: [(usize, u8, usize); 7] = [
+    (0, 0, 0),
+    (68, 3, 68),
+    (68, 0, 68),
+    (68, 2, 73),
+    (70, 0x11, 69),
+    (71, 0x0a, 73),
+    (94, 0x25, 92),
+];
+
+fn is_read_by_device(rt: &impl Abort, alloc: Global, device: u8) {
+    let bytes = device_bytes(rt, alloc, device);
+    check(rt, "length", bytes.len() == 2444);
+    check(
+        rt,
+        "edit",
+        reads_as_by_device(rt, alloc, bytes.as_slice(), device),
+    );
+    is_written_again(rt, alloc, bytes.as_slice());
+    each_altered_is_malformed(rt, alloc, bytes.as_slice(), &DEVICE_FAULTS);
+}
+
+// Version 2 with device 0 is another spelling than version 1.
+#[test]
+fn an_edit_names_its_device(rt: HostRuntime) {
+    is_read_by_device(&rt, rt.alloc(), 0);
+    is_read_by_device(&rt, rt.alloc(), 255);
+}
+
 // The bytes of the change that is read of these.
 fn rewritten_change(rt: &impl Abort, alloc: Global, bytes: &[u8]) -> Vec<u8> {
-    let body = read_change(alloc, bytes).expect(rt, "a change");
+    let body = read_change(alloc, 1, bytes).expect(rt, "a change");
     write_change(alloc, &body).expect(rt, "memory")
 }
 
@@ -317,7 +378,7 @@ fn is_spelled(body: &ChangeBody) -> bool {
 
 // Whether bytes are read as the change that is spelled out.
 fn reads_as_spelled(rt: &impl Abort, alloc: Global, bytes: &[u8]) -> bool {
-    let body = read_change(alloc, bytes).expect(rt, "a change");
+    let body = read_change(alloc, 1, bytes).expect(rt, "a change");
     is_spelled(&body)
 }
 
@@ -339,25 +400,63 @@ fn without_wraps(rt: &impl Abort, alloc: Global, change: Change) -> Vec<u8> {
     write_change(alloc, &body).expect(rt, "memory")
 }
 
-// The change that is read of bytes.
-fn change_in(rt: &impl Abort, alloc: Global, bytes: &[u8]) -> Change {
-    let body = read_change(alloc, bytes).expect(rt, "a change");
-    body.change
+const ADD_DEVICE: Change = Change::AddDevice {
+    member: 3,
+    device: 9,
+    key: [0x77; 56],
+};
+
+const DROP_DEVICE: Change = Change::DropDevice {
+    member: 3,
+    device: 255,
+};
+
+// Whether bytes are read as this change in an entry of a version, or are malformed at the kind.
+fn is_read_in(alloc: Global, version: u8, bytes: &[u8], change: Change) -> bool
+    requires { (1 ≤ version) × (version ≤ 2) }
+{
+    match read_change(alloc, version, bytes) {
+        Ok(body) => body.change == change,
+        Err(_) => false,
+    }
 }
 
+fn is_no_kind_of(alloc: Global, version: u8, bytes: &[u8]) -> bool
+    requires { (1 ≤ version) × (version ≤ 2) }
+{
+    read_change(alloc, version, bytes).err() == Some(EntryFault::Malformed(0))
+}
+
+// A change that entries of both versions may be.
 fn comes_back(rt: &impl Abort, alloc: Global, change: Change) {
     let bytes = without_wraps(rt, alloc, change);
-    let read = change_in(rt, alloc, bytes.as_slice());
-    check(rt, "comes back", read == change);
+    let one = is_read_in(alloc, 1, bytes.as_slice(), change);
+    let two = is_read_in(alloc, 2, bytes.as_slice(), change);
+    check(rt, "comes back", one && two);
+}
+
+// Changes of devices are of version 2 alone, and the Upgrade of version 1.
+fn comes_back_in_one(rt: &impl Abort, alloc: Global, change: Change, version: u8)
+    requires { (1 ≤ version) × (version ≤ 2) }
+{
+    let bytes = without_wraps(rt, alloc, change);
+    let read = is_read_in(alloc, version, bytes.as_slice(), change);
+    check(rt, "comes back", read);
+    check(
+        rt,
+        "is none of the other",
+        is_no_kind_of(alloc, 3 - version, bytes.as_slice()),
+    );
 }
 
 // The place of a byte, its new value, and where the entry is malformed then.
-const CHANGE_FAULTS: [(usize, u8, usize); 11] = [
+const CHANGE_FAULTS: [(usize, u8, usize); 12] = [
     (69, 1, 68),
     (70, 1, 72),
     (71, 193, 234),
     (71, 195, 266),
     (72, 4, 72),
+    (72, 5, 72),
     (74, 0, 73),
     (75, 0, 75),
     (75, 4, 75),
@@ -367,7 +466,7 @@ const CHANGE_FAULTS: [(usize, u8, usize); 11] = [
 ];
 
 fn is_change_malformed(alloc: Global, bytes: &[u8], at: usize) -> bool {
-    read_change(alloc, bytes).err() == Some(EntryFault::Malformed(at))
+    read_change(alloc, 1, bytes).err() == Some(EntryFault::Malformed(at))
 }
 
 // The body alone, and with a role that is none.
@@ -389,6 +488,9 @@ fn a_change_is_read_unless_it_has_a_fault(rt: HostRuntime) {
     body_is_read(&rt, rt.alloc());
     comes_back(&rt, rt.alloc(), REMOVE);
     comes_back(&rt, rt.alloc(), SET_ROLE);
+    comes_back_in_one(&rt, rt.alloc(), ADD_DEVICE, 2);
+    comes_back_in_one(&rt, rt.alloc(), DROP_DEVICE, 2);
+    comes_back_in_one(&rt, rt.alloc(), Change::Upgrade, 1);
 }
 
 fn are_two_and_seven(founders: &[Founder]) -> bool {

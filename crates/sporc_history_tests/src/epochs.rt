@@ -85,8 +85,10 @@ fn entry_bytes(rt: &impl Abort, alloc: Global, epoch: u32, body: &ChangeBody) ->
     let body = write_change(alloc, body).expect(rt, "memory");
     assert!(rt; body.len() < 4_294_967_296);
     let header = Header {
+        version: 1,
         document: DOCUMENT,
         author: 1,
+        device: 0,
         number: 1,
         base: 0,
         base_hash: [0; 32],

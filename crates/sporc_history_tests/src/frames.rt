@@ -122,18 +122,19 @@ const BAD_TO_SERVER: [(&[u8], u64); 8] = [
 ];
 
 // Bodies to a client that are no messages, and the place of the field in the body.
-const BAD_TO_CLIENT: [(&[u8], u64); 18] = [
+const BAD_TO_CLIENT: [(&[u8], u64); 19] = [
     (&[], 0),
     (&[5], 0),
     (&[1, 0, 0, 0], 1),
     (&[1, 0, 0, 0, 1, 0], 5),
     (&[2], 1),
     (&[2, 0, 0, 0, 0, 0], 1),
-    (&[2, 22, 0, 0, 0, 0], 1),
+    (&[2, 24, 0, 0, 0, 0], 1),
     (&[2, 9, 0, 0], 2),
     (&[2, 9, 0, 0, 0, 1], 2),
     (&[2, 18, 0, 0, 0, 0], 2),
-    (&[2, 18, 0, 0, 0, 7], 2),
+    (&[2, 18, 0, 0, 0, 13], 2),
+    (&[2, 23, 0, 0, 0, 1], 2),
     (&[2, 18, 0, 0, 0, 6, 0], 6),
     (&[3, 0, 0, 0, 1, 0], 5),
     (&[3, 0, 0, 0, 1, 17], 5),
@@ -295,6 +296,43 @@ fn are_written_to_client(rt: &impl Abort, alloc: Global) {
     check_bytes(rt, "empty", empty.as_slice(), &EMPTY);
 }
 
+// A refusal, the number of its check, and its detail.
+const REJECTIONS: [(Refusal, u8, u8); 6] = [
+    (Refusal::Malformed(9), 1, 9),
+    (Refusal::WrongKey, 21, 0),
+    (Refusal::WrongVersion, 22, 0),
+    (Refusal::UnknownDevice, 23, 0),
+    (Refusal::BadChange(ChangeFault::DeviceUsed), 18, 7),
+    (Refusal::BadChange(ChangeFault::AlreadyUpgraded), 18, 12),
+];
+
+fn is_rejected(found: &Option<ToClient>, wanted: Refusal) -> bool {
+    match found {
+        Some(ToClient::Rejected { refusal }) => *refusal == wanted,
+        _ => false,
+    }
+}
+
+fn reads_as_rejected(rt: &impl Abort, alloc: Global, frame: &[u8], wanted: Refusal) -> bool {
+    let mut frames = Frames::new(alloc);
+    frames.feed(frame).expect(rt, "good frames");
+    is_rejected(&frames.next_to_client().expect(rt, "good frames"), wanted)
+}
+
+fn rejections_are_written(rt: &impl Abort, alloc: Global) {
+    for (refusal, code, detail) in &REJECTIONS {
+        let refusal = *refusal;
+        let frame = [0, 0, 0, 6, 2, *code, 0, 0, 0, *detail];
+        check(
+            rt,
+            refusal.word(),
+            reads_as_rejected(rt, alloc, &frame, refusal),
+        );
+        let written = write_to_client(alloc, &ToClient::Rejected { refusal }).expect(rt, "a frame");
+        check_bytes(rt, refusal.word(), written.as_slice(), &frame);
+    }
+}
+
 fn entries_are_written(rt: &impl Abort, alloc: Global) {
     let mut entries = Vec::new(alloc);
     entries
@@ -338,6 +376,7 @@ fn lengths_are_limited(rt: &impl Abort, alloc: Global) {
 fn messages_are_written(rt: HostRuntime) {
     are_written_to_server(&rt, rt.alloc());
     are_written_to_client(&rt, rt.alloc());
+    rejections_are_written(&rt, rt.alloc());
     entries_are_written(&rt, rt.alloc());
     lengths_are_limited(&rt, rt.alloc());
 }

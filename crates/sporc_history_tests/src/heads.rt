@@ -1,10 +1,10 @@
 use crate::checks::{check, check_at, is_refusal};
-use crate::samples::short_sample;
+use crate::samples::{short_sample, upgraded_sample};
 use sporc_base::is_same;
-use sporc_entry::Header;
+use sporc_entry::{Header, version_of};
 use sporc_head::{Examined, Heads, MAX_ENTRIES, Refusal};
-use sporc_member::{Change, ChangeFault};
-use sporc_samples::{CHANGE, Cast, DOCUMENT, Draft, EDIT, change_body};
+use sporc_member::{Change, ChangeFault, Device, Role};
+use sporc_samples::{CHANGE, Cast, DOCUMENT, Draft, EDIT, History, Member, change_body, insertion};
 use std::alloc::Global;
 use std::process::Abort;
 
@@ -12,11 +12,13 @@ use std::process::Abort;
 // signed.
 #[derive(Clone, Copy)]
 struct Attempt {
-    me: Option<u16>,
+    me: Option<(u16, u8)>,
     pos: u32,
+    version: u8,
     document: [u8; 16],
     author: u16,
-    // How far its number is ahead of the author's next one.
+    device: u8,
+    // How far its number is ahead of the next one of the author's device.
     ahead: u32,
     base: u32,
     // Whether its base hash is none of the history's.
@@ -34,10 +36,12 @@ impl Attempt {
     // The next edit of editor 2, which no check refuses.
     fn good(heads: &Heads) -> Attempt {
         Attempt {
-            me: Some(2),
+            me: Some((2, 0)),
             pos: heads.len().wrapping_add(1),
+            version: version_of(heads.roster().upgraded()),
             document: DOCUMENT,
             author: 2,
+            device: 0,
             ahead: 0,
             base: heads.len(),
             foreign: false,
@@ -49,18 +53,21 @@ impl Attempt {
         }
     }
 
-    // Makes it fail the check of this refusal, at a history that begins with the short one.
-    fn spoil(&mut self, refusal: Refusal) {
+    // Makes it fail the check of this refusal, at a history that begins with the short one and whose last entry but its
+    // edits by 2 is an edit by 5.
+    fn spoil(&mut self, heads: &Heads, refusal: Refusal) {
         match refusal {
             Refusal::WrongDocument => self.document = [8; 16],
             Refusal::WrongPosition => self.pos = 1,
-            Refusal::Removed => self.me = Some(4),
+            Refusal::Removed => self.me = Some((4, 0)),
+            Refusal::WrongVersion => self.version = if self.version == 1 { 2 } else { 1 },
             Refusal::UnknownAuthor => self.author = 4,
+            Refusal::UnknownDevice => self.device = 9,
             Refusal::BaseAhead => self.base = u32::MAX,
-            Refusal::BeforeBarrier => self.base = 2,
+            Refusal::BeforeBarrier => self.base = heads.barrier().wrapping_sub(1),
             Refusal::WrongHistory => self.foreign = true,
             Refusal::WrongNumber => self.ahead = 1,
-            Refusal::BehindOwn => (self.author, self.base) = (5, 3),
+            Refusal::BehindOwn => (self.author, self.base) = (5, heads.barrier()),
             Refusal::WrongEpoch => self.epoch = 9,
             Refusal::NoRight => self.author = 3,
             Refusal::LeafMismatch => self.leaf = 1,
@@ -81,11 +88,15 @@ impl Attempt {
         } else {
             heads.hash_at(self.base.min(heads.len()))
         };
+        // An entry of version 1 is by device 0.
+        let device = if self.version == 1 { 0 } else { self.device };
         Header {
+            version: self.version,
             document: self.document,
             author: self.author,
+            device,
             number: heads
-                .count_of(self.author)
+                .count_of(self.author, device)
                 .wrapping_add(1)
                 .wrapping_add(self.ahead),
             base: self.base,
@@ -101,7 +112,10 @@ impl Attempt {
             Some(member) => change_body(
                 alloc,
                 Change::Remove { member },
-                self.author,
+                Device {
+                    member: self.author,
+                    number: self.device,
+                },
                 self.leaf,
                 self.epoch,
                 &self.sealed_for,
@@ -124,7 +138,7 @@ impl Attempt {
 // Appends an entry.
 fn take(rt: &impl Abort, heads: &mut Heads, bytes: &[u8]) {
     let checked = heads
-        .check(Some(2), heads.len().wrapping_add(1), bytes)
+        .check(Some((2, 0)), heads.len().wrapping_add(1), bytes)
         .expect(rt, "an entry");
     check(rt, "checked bytes", is_same(checked.bytes(), bytes));
     heads.push(checked).ok().expect(rt, "memory");
@@ -155,16 +169,22 @@ fn short(rt: &impl Abort, alloc: Global, cast: &Cast) -> Box<Heads> {
     grown(rt, alloc, cast, sample.entries())
 }
 
+// The same, and the document's Upgrade by 1, and another edit by 5.
+fn upgraded(rt: &impl Abort, alloc: Global, cast: &Cast) -> Box<Heads> {
+    let sample = upgraded_sample(rt, alloc, cast);
+    grown(rt, alloc, cast, sample.entries())
+}
+
 const MEMBERS: [u16; 4] = [1, 2, 3, 5];
 
 fn has_grown(heads: &Heads) -> bool {
     heads.len() == 4
         && heads.barrier() == 3
         && heads.epoch() == 1
-        && heads.count_of(2) == 1
-        && heads.last_of(2) == 1
+        && heads.count_of(2, 0) == 1
+        && heads.last_of(2, 0) == 1
         && heads.roster().members() == MEMBERS.as_slice()
-        && heads.is_removed(4)
+        && heads.is_removed(Device::first(4))
 }
 
 // Why heads refuse an attempt, if they do: the same where its signature was examined before, under the key for it or,
@@ -199,7 +219,7 @@ fn is_refused(
 
 // The refusals of a history that is not full, by the last check and those before it. A base that is ahead is neither
 // before the barrier nor behind the author's last entry.
-const REFUSALS: [Refusal; 15] = [
+const REFUSALS: [Refusal; 17] = [
     Refusal::WrongWraps,
     Refusal::BadChange(ChangeFault::NotMember),
     Refusal::BadSignature,
@@ -211,7 +231,9 @@ const REFUSALS: [Refusal; 15] = [
     Refusal::WrongHistory,
     Refusal::BeforeBarrier,
     Refusal::BaseAhead,
+    Refusal::UnknownDevice,
     Refusal::UnknownAuthor,
+    Refusal::WrongVersion,
     Refusal::Removed,
     Refusal::WrongPosition,
     Refusal::WrongDocument,
@@ -228,14 +250,14 @@ fn refuses(
 ) {
     let code = u64::from(refusal.code());
     let mut alone = Attempt::good(heads);
-    alone.spoil(refusal);
+    alone.spoil(heads, refusal);
     check_at(
         rt,
         "alone",
         code,
         is_refused(rt, alloc, heads, cast, &alone, refusal),
     );
-    worse.spoil(refusal);
+    worse.spoil(heads, refusal);
     check_at(
         rt,
         "with later ones",
@@ -256,7 +278,10 @@ fn is_malformed(rt: &impl Abort, alloc: Global, heads: &Heads, cast: &Cast, wors
 fn each_refuses(rt: &impl Abort, alloc: Global, heads: &Heads, cast: &Cast) {
     let mut worse = Attempt::good(heads);
     for refusal in &REFUSALS {
-        refuses(rt, alloc, heads, cast, &mut worse, *refusal);
+        // Before the Upgrade each live device is a first one, and no entry names another.
+        if *refusal != Refusal::UnknownDevice || heads.roster().upgraded() {
+            refuses(rt, alloc, heads, cast, &mut worse, *refusal);
+        }
     }
     is_malformed(rt, alloc, heads, cast, &worse);
 }
@@ -285,7 +310,7 @@ fn full_refuses(rt: &impl Abort, alloc: Global, heads: &Heads, cast: &Cast) {
         is_refused(rt, alloc, heads, cast, &worse, Refusal::HistoryFull),
     );
     for refusal in &REFUSALS {
-        worse.spoil(*refusal);
+        worse.spoil(heads, *refusal);
         let refused = is_refused(rt, alloc, heads, cast, &worse, first_if_full(*refusal));
         check_at(rt, "full", u64::from(refusal.code()), refused);
     }
@@ -302,6 +327,182 @@ fn a_history_grows_and_refuses(rt: HostRuntime) {
     full_refuses(&rt, rt.alloc(), &heads, &cast);
 }
 
+// Each check refuses behind an Upgrade too.
+#[test]
+fn an_upgraded_history_refuses(rt: HostRuntime) {
+    let cast = Cast::new(rt.alloc()).expect(&rt, "a cast");
+    let heads = upgraded(&rt, rt.alloc(), &cast);
+    check(&rt, "grown", heads.len() == 6 && heads.barrier() == 5);
+    each_refuses(&rt, rt.alloc(), &heads, &cast);
+}
+
+// Whether a change by 1 is the next entry that heads take.
+fn change_is_taken(
+    rt: &impl Abort,
+    alloc: Global,
+    heads: &mut Heads,
+    cast: &Cast,
+    sample: &mut History,
+    change: Change,
+) {
+    sample
+        .change(alloc, cast, 1, change, &MEMBERS)
+        .expect(rt, "a change");
+    take_last(rt, heads, sample);
+}
+
+fn take_last(rt: &impl Abort, heads: &mut Heads, sample: &History) {
+    if let Some(bytes) = sample.entries().last() {
+        take(rt, heads, bytes.as_slice());
+    }
+}
+
+fn edit_is_taken(
+    rt: &impl Abort,
+    alloc: Global,
+    heads: &mut Heads,
+    sample: &mut History,
+    signer: &Member,
+) {
+    let delta = insertion(alloc, 0, b"z").expect(rt, "memory");
+    sample
+        .edit_by(alloc, signer, delta.as_slice())
+        .expect(rt, "an edit");
+    take_last(rt, heads, sample);
+}
+
+// Why heads refuse the next edit by a device, for a client of this device.
+fn edit_refused(
+    rt: &impl Abort,
+    alloc: Global,
+    heads: &Heads,
+    sample: &mut History,
+    signer: &Member,
+    me: (u16, u8),
+) -> Option<Refusal> {
+    let delta = insertion(alloc, 0, b"z").expect(rt, "memory");
+    sample
+        .edit_by(alloc, signer, delta.as_slice())
+        .expect(rt, "an edit");
+    match sample.entries().last() {
+        Some(bytes) => heads
+            .check(Some(me), heads.len().wrapping_add(1), bytes.as_slice())
+            .err(),
+        None => None,
+    }
+}
+
+// Devices of one member count each for itself, and a dropped one signs no more.
+fn devices_sign(rt: &impl Abort, alloc: Global, cast: &Cast, other: &Member) {
+    let mut sample = upgraded_sample(rt, alloc, cast);
+    let mut heads = upgraded(rt, alloc, cast);
+    let (member, device, key) = (2, 1, other.key());
+    let added = Change::AddDevice {
+        member,
+        device,
+        key,
+    };
+    change_is_taken(rt, alloc, &mut heads, cast, &mut sample, added);
+    edit_is_taken(rt, alloc, &mut heads, &mut sample, other);
+    edit_is_taken(rt, alloc, &mut heads, &mut sample, other);
+    check(
+        rt,
+        "counts",
+        heads.count_of(2, 0) == 1 && heads.count_of(2, 1) == 2 && heads.last_of(2, 1) == 9,
+    );
+    let first = cast.member(2).expect(rt, "a member");
+    let late = next_edit(rt, alloc, &sample, first, Device::first(2));
+    let before = refused_at(&heads, late.as_slice());
+    check(rt, "on its way", before.is_none());
+    let dropped = Change::DropDevice { member, device: 0 };
+    change_is_taken(rt, alloc, &mut heads, cast, &mut sample, dropped);
+    let found = refused_at(&heads, late.as_slice());
+    check(
+        rt,
+        "on its way to a drop",
+        is_refusal(found, Refusal::UnknownDevice),
+    );
+    dropped_key_signs(rt, alloc, &heads, &sample, first, other.device());
+    devices_are_told_apart(rt, alloc, &heads, cast, &mut sample, other);
+}
+
+// The next edit of a history by a device, signed with these keys. What is masked in it no check of heads asks.
+fn next_edit(
+    rt: &impl Abort,
+    alloc: Global,
+    sample: &History,
+    signer: &Member,
+    device: Device,
+) -> Vec<u8> {
+    Draft::new(sample.header_of(device, EDIT))
+        .signed(alloc, signer, b"")
+        .expect(rt, "an entry")
+}
+
+// Why heads refuse an entry at the next position, for nobody.
+fn refused_at(heads: &Heads, bytes: &[u8]) -> Option<Refusal> {
+    heads.check(None, heads.len().wrapping_add(1), bytes).err()
+}
+
+// The key of a dropped device signs an entry in the name of the live one.
+fn dropped_key_signs(
+    rt: &impl Abort,
+    alloc: Global,
+    heads: &Heads,
+    sample: &History,
+    first: &Member,
+    live: Device,
+) {
+    let bytes = next_edit(rt, alloc, sample, first, live);
+    let found = refused_at(heads, bytes.as_slice());
+    check(
+        rt,
+        "by a dropped key",
+        is_refusal(found, Refusal::BadSignature),
+    );
+}
+
+fn devices_are_told_apart(
+    rt: &impl Abort,
+    alloc: Global,
+    heads: &Heads,
+    cast: &Cast,
+    sample: &mut History,
+    other: &Member,
+) {
+    check(
+        rt,
+        "removed",
+        heads.is_removed(Device::first(2)) && !heads.is_removed(other.device()),
+    );
+    let good = edit_refused(rt, alloc, heads, sample, other, (2, 1));
+    check(rt, "the live one", good.is_none());
+    let seen = edit_refused(rt, alloc, heads, sample, other, (2, 0));
+    check(
+        rt,
+        "for the dropped one",
+        is_refusal(seen, Refusal::Removed),
+    );
+    let first = cast.member(2).expect(rt, "a member");
+    let found = edit_refused(rt, alloc, heads, sample, first, (2, 1));
+    check(
+        rt,
+        "by the dropped one",
+        is_refusal(found, Refusal::UnknownDevice),
+    );
+}
+
+#[test]
+fn devices_of_one_member_sign(rt: HostRuntime) {
+    let cast = Cast::new(rt.alloc()).expect(&rt, "a cast");
+    let device = Device {
+        member: 2,
+        number: 1,
+    };
+    let other = Member::by_device(rt.alloc(), device, Role::Editor).expect(&rt, "memory");
+    devices_sign(&rt, rt.alloc(), &cast, &other);
+}
+
 fn check_name(rt: &impl Abort, alloc: Global, refusal: Refusal, name: &str) {
     let found = refusal.name(alloc).expect(rt, "memory");
     check(rt, name, found.as_str() == name);
@@ -313,5 +514,5 @@ const LAST_ADMIN: Refusal = Refusal::BadChange(ChangeFault::LastAdmin);
 fn refusals_have_names(rt: HostRuntime) {
     check_name(&rt, rt.alloc(), Refusal::Malformed(95), "malformed 95");
     check_name(&rt, rt.alloc(), LAST_ADMIN, "bad-change last-admin");
-    check(&rt, "code", Refusal::WrongKey.code() == 21);
+    check(&rt, "code", Refusal::UnknownDevice.code() == 23);
 }

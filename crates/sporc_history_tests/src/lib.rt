@@ -4,7 +4,8 @@
 //!
 //! Digests are compared with those of Python's hashlib, masks with those of OpenSSL; formats with bytes that are spelled out by
 //! hand. Entries are signed by real keys. Each refusal comes of an entry that fails its check alone, and of one that fails all
-//! later checks too; that of a full history, of heads alone.
+//! later checks too, in both versions; that of a full history, of heads alone. A history of version 1 that the code of before
+//! version 2 saved is loaded.
 #![tactic(auto)]
 
 #[cfg(test)]

@@ -3,4 +3,5 @@
 mod examined;
 mod reading;
 mod refusals;
+mod saved;
 mod scene;

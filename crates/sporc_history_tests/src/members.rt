@@ -43,6 +43,24 @@ fn set_role(member: u16, role: Role) -> Change {
     Change::SetRole { member, role }
 }
 
+fn add_device(member: u16, device: u8) -> Change {
+    Change::AddDevice {
+        member,
+        device,
+        key: key(device),
+    }
+}
+
+const DEVICE_WITHOUT_KEY: Change = Change::AddDevice {
+    member: 1,
+    device: 9,
+    key: [0; 56],
+};
+
+fn drop_device(member: u16, device: u8) -> Change {
+    Change::DropDevice { member, device }
+}
+
 fn is_refused(rt: &impl Abort, roster: &Roster, change: Change, fault: ChangeFault) {
     check(rt, fault.name(), roster.test(&change) == Err(fault));
 }
@@ -106,7 +124,55 @@ fn is_key(found: Option<&[u8; 56]>, key: &[u8; 56]) -> bool {
 fn is_changed(roster: &Roster) -> bool {
     roster.role(3) == Some(Role::Admin)
         && roster.role(1).is_none()
-        && is_key(roster.key(65535), &key(9))
+        && is_key(roster.key(65535, 0), &key(9))
+}
+
+fn has_devices(rt: &impl Abort, roster: &Roster, member: u16, devices: &[u8]) {
+    check(rt, "devices", roster.devices(member) == devices);
+}
+
+// What the roster of admin 1 alone refuses of devices, before its Upgrade and after.
+fn devices_are_refused(rt: &impl Abort, roster: &mut Roster) {
+    is_refused(rt, roster, add_device(1, 1), ChangeFault::NotUpgraded);
+    is_refused(rt, roster, drop_device(1, 0), ChangeFault::NotUpgraded);
+    make(rt, roster, Change::Upgrade, &[1]);
+    check(rt, "upgraded", roster.upgraded());
+    is_refused(rt, roster, Change::Upgrade, ChangeFault::AlreadyUpgraded);
+    is_refused(rt, roster, add_device(1, 0), ChangeFault::DeviceUsed);
+    is_refused(rt, roster, drop_device(1, 0), ChangeFault::LastDevice);
+    is_refused(rt, roster, drop_device(1, 3), ChangeFault::NoDevice);
+    is_refused(rt, roster, add_device(2, 1), ChangeFault::NotMember);
+    is_refused(rt, roster, drop_device(2, 0), ChangeFault::NotMember);
+}
+
+// Eight live devices are as many as one can have; a number that was dropped is used.
+fn devices_come_and_go(rt: &impl Abort, roster: &mut Roster) {
+    for device in [7, 2, 5, 1, 6, 3, 4] {
+        make(rt, roster, add_device(1, device), &[1]);
+    }
+    has_devices(rt, roster, 1, &[0, 1, 2, 3, 4, 5, 6, 7]);
+    is_refused(rt, roster, add_device(1, 8), ChangeFault::DevicesFull);
+    make(rt, roster, drop_device(1, 3), &[1]);
+    has_devices(rt, roster, 1, &[0, 1, 2, 4, 5, 6, 7]);
+    is_refused(rt, roster, add_device(1, 3), ChangeFault::DeviceUsed);
+    is_refused(rt, roster, drop_device(1, 3), ChangeFault::NoDevice);
+    is_refused(rt, roster, DEVICE_WITHOUT_KEY, ChangeFault::BadKey);
+    make(rt, roster, drop_device(1, 0), &[1]);
+    make(rt, roster, add_device(1, 255), &[1]);
+    has_devices(rt, roster, 1, &[1, 2, 4, 5, 6, 7, 255]);
+    check(rt, "no key", roster.key(1, 3).is_none());
+    check(rt, "a key", is_key(roster.key(1, 5), &key(5)));
+}
+
+// Who leaves has no device, and the devices of others stay.
+fn devices_leave(rt: &impl Abort, roster: &mut Roster) {
+    make(rt, roster, add(2, Role::Admin), &[1, 2]);
+    make(rt, roster, add_device(2, 9), &[1, 2]);
+    has_devices(rt, roster, 2, &[0, 9]);
+    make(rt, roster, remove(1), &[2]);
+    has_devices(rt, roster, 1, &[]);
+    has_devices(rt, roster, 2, &[0, 9]);
+    is_refused(rt, roster, add_device(1, 8), ChangeFault::NotMember);
 }
 
 fn two_change(rt: &impl Abort, alloc: Global) {
@@ -117,14 +183,32 @@ fn two_change(rt: &impl Abort, alloc: Global) {
     is_refused(rt, &roster, add(1, Role::Editor), ChangeFault::NumberUsed);
 }
 
+// Sixty-four members are as many as there can be.
+fn members_are_full(rt: &impl Abort, roster: &mut Roster) {
+    for member in 2..66 {
+        let change = add(member, Role::Reader);
+        if roster.test(&change).is_ok() {
+            roster.make(&change).expect(rt, "memory");
+        }
+    }
+    check(rt, "sixty-four", roster.members().len() == 64);
+    is_refused(rt, roster, add(66, Role::Reader), ChangeFault::RosterFull);
+}
+
 // By their numbers, from 1 on.
-const FAULTS: [(ChangeFault, &str); 6] = [
+const FAULTS: [(ChangeFault, &str); 12] = [
     (ChangeFault::NumberUsed, "number-used"),
     (ChangeFault::NotMember, "not-member"),
     (ChangeFault::SameRole, "same-role"),
     (ChangeFault::LastAdmin, "last-admin"),
     (ChangeFault::RosterFull, "roster-full"),
     (ChangeFault::BadKey, "bad-key"),
+    (ChangeFault::DeviceUsed, "device-used"),
+    (ChangeFault::NoDevice, "no-device"),
+    (ChangeFault::LastDevice, "last-device"),
+    (ChangeFault::DevicesFull, "devices-full"),
+    (ChangeFault::NotUpgraded, "not-upgraded"),
+    (ChangeFault::AlreadyUpgraded, "already-upgraded"),
 ];
 
 fn is_named_and_numbered(fault: ChangeFault, name: &str, number: u8) -> bool {
@@ -149,4 +233,14 @@ fn members_change(rt: HostRuntime) {
     one_admin_refuses(&rt, &roster);
     have_names_and_numbers(&rt);
     two_change(&rt, rt.alloc());
+}
+
+#[test]
+fn devices_change(rt: HostRuntime) {
+    let founders = [founder(1, Role::Admin)];
+    let mut roster = Roster::found(rt.alloc(), &founders).expect(&rt, "memory");
+    devices_are_refused(&rt, &mut roster);
+    devices_come_and_go(&rt, &mut roster);
+    devices_leave(&rt, &mut roster);
+    members_are_full(&rt, &mut roster);
 }

@@ -1,6 +1,7 @@
 //! Sample histories, each in a box: a function that owns a history itself is slow to prove.
 
-use sporc_samples::{Cast, History, short_history};
+use sporc_member::Change;
+use sporc_samples::{Cast, History, insertion, short_history};
 use std::alloc::Global;
 use std::process::Abort;
 
@@ -15,4 +16,17 @@ pub(crate) fn empty_sample(rt: &impl Abort, alloc: Global, cast: &Cast) -> Box<H
 pub(crate) fn short_sample(rt: &impl Abort, alloc: Global, cast: &Cast) -> Box<History> {
     let sample = short_history(alloc, cast).expect(rt, "a history");
     Box::new(alloc, sample).expect(rt, "memory")
+}
+
+/// The same, and the document's Upgrade by 1, and another edit by 5.
+pub(crate) fn upgraded_sample(rt: &impl Abort, alloc: Global, cast: &Cast) -> Box<History> {
+    let mut sample = short_sample(rt, alloc, cast);
+    sample
+        .change(alloc, cast, 1, Change::Upgrade, &[1, 2, 3, 5])
+        .expect(rt, "a change");
+    let delta = insertion(alloc, 4, b"e").expect(rt, "memory");
+    sample
+        .edit(alloc, cast, 5, delta.as_slice())
+        .expect(rt, "an edit");
+    sample
 }

@@ -11,7 +11,7 @@ use Rattle.sporc_hash.specs.Chain.{commitment_string}
 use Rattle.sporc_member.specs.declared.founder.Founder.{Founder}
 use Rattle.sporc_member.specs.declared.limits.TheConstants.{MAX_MEMBERS}
 use Rattle.sporc_member.specs.Role.{is_admin}
-use Rattle.sporc_member.specs.Roster.{numbers_of as founder_numbers}
+use Rattle.sporc_member.specs.Roster.{founder_numbers}
 use Rattle.sporc_entry.specs.ChangeBody.{IsMember}
 use Rattle.sporc_entry.specs.Genesis.{IsFounder, IsGenesis, bad_key, founders_fault}
 use Rattle.sporc_entry.specs.declared.genesis.Genesis.{Genesis}

@@ -6,14 +6,17 @@ use Rattle.std.proofs.lemmas.Bool.{leb-true, eqb-true, eq-eqb}
 use Rattle.sporc_base.specs.FirstFault.{unless, first_of}
 use Rattle.sporc_delta.specs.Marks.{Mark, base_len, inserted_len, retains}
 use Rattle.sporc_suffix.specs.Forms.{later_over}
-use Rattle.sporc_member.specs.Roster.{member_at}
+use Rattle.sporc_member.specs.declared.device.Device.{Device}
+use Rattle.sporc_member.specs.Roster.{member_at, key_of as key_of_device}
 use Rattle.sporc_member.proofs.Checks.{passes}
 use Rattle.sporc_entry.specs.declared.entry.Entry.{Entry}
 use Rattle.sporc_entry.specs.declared.header.Header.{Header}
 use Rattle.sporc_entry.specs.declared.change.ChangeBody.{ChangeBody}
 use Rattle.sporc_entry.specs.declared.genesis.Genesis.{Genesis}
 use Rattle.sporc_entry.specs.declared.limits.TheConstants.{MAX_EDIT_BODY}
-use Rattle.sporc_entry.specs.Entry.{entry_of, change_of}
+use Rattle.sporc_entry.specs.Entry.{author_device, entry_of, change_of}
+use Rattle.sporc_entry.specs.Version.{version_of}
+use Rattle.sporc_epoch.specs.Streams.{stream_of}
 use Rattle.sporc_head.specs.declared.refusal.Refusal.{Refusal}
 use Rattle.sporc_head.specs.declared.refusal.Refusal.TheVariants.{BadPayload, WrongLength}
 use Rattle.sporc_head.specs.CheckedModel.{CheckedModel}
@@ -40,12 +43,14 @@ use Rattle.sporc_line.proofs.ReadLengths.{body_within, marks_within}
 
 pub record HeadPassed (g : Genesis) (A : List (List ℕ)) (e : Entry) : Type 0 where
   pub room : nat_lt (length A) MAX_ENTRIES ≡ true
+  pub version : e.header.version ≡ version_of (roster_of g A).upgraded
   pub member : is_some (member_at (roster_of g A) e.header.author) ≡ true
+  pub device : is_some (key_of_device (roster_of g A) (author_device e.header)) ≡ true
   pub base : e.header.base ≤ length A
   pub barrier : nat_le (barrier_of A) e.header.base ≡ true
   pub history : bytes_eq e.header.base_hash (hash_of g (take e.header.base A)) ≡ true
-  pub number : (e.header.number == count_of e.header.author A + 1) ≡ true
-  pub own : nat_le (last_of e.header.author A) e.header.base ≡ true
+  pub number : (e.header.number == count_of (author_device e.header) A + 1) ≡ true
+  pub own : nat_le (last_of (author_device e.header) A) e.header.base ≡ true
   pub epoch : e.header.epoch ≡ epoch_of A
   pub roster : first_of (roster_checks (roster_of g A) (change_of e)) ≡ None
 
@@ -58,7 +63,7 @@ unfolding head_checks
 head_passed g A c k =
     let e = c.entry in
     let rosters = roster_checks (roster_of g A) (change_of e) in
-    let authors = author_checks (member_at (roster_of g A) e.header.author) e in
+    let authors = author_checks (member_at (roster_of g A) e.header.author) (key_of_device (roster_of g A) (author_device e.header)) e in
     let histories = history_checks g A e.header in
     let a = both_pass (place_checks g None A (length A + 1) e.header) (histories ++ (authors ++ rosters)) (none_fails g A c k) in
     let b = both_pass histories (authors ++ rosters) a.1 in
@@ -70,15 +75,19 @@ head_passed g A c k =
     let c10 = passes _ _ _ c9.1 in
     let c11 = passes _ _ _ c10.1 in
     let c12 = passes _ _ _ c11.1 in
+    let c13 = passes _ _ _ c12.1 in
+    let c14 = passes _ _ _ c13.1 in
     record {
       room = c5.0;
-      member = c6.0;
-      base = leb-true _ _ c7.0;
-      barrier = c8.0;
-      history = c9.0;
-      number = c10.0;
-      own = c11.0;
-      epoch = eqb-true _ _ c12.0;
+      version = eqb-true _ _ c6.0;
+      member = c7.0;
+      device = c8.0;
+      base = leb-true _ _ c9.0;
+      barrier = c10.0;
+      history = c11.0;
+      number = c12.0;
+      own = c13.0;
+      epoch = eqb-true _ _ c14.0;
       roster = (both_pass authors rosters b.1).1;
     }
 
@@ -121,7 +130,7 @@ edit_does g kit A c key m effect k none is marks form after =
     let in_none : change_in c.bytes ≡ None = change_in_read c.bytes c.entry None k.read (sym none) in
     record {
       form_is = form ∙ sym (edit_form g kit A c.bytes c.entry m k.read none there);
-      small = omega (arith, ap inserted_len form, inserted_len-over m (drop c.entry.header.base (forms_of g kit A)), marks_within key c.entry.header.author c.entry.header.leaf c.entry.body m marks, body_within c.bytes c.entry k.read);
+      small = omega (arith, ap inserted_len form, inserted_len-over m (drop c.entry.header.base (forms_of g kit A)), marks_within key (stream_of c.entry.header) c.entry.body m marks, body_within c.bytes c.entry k.read);
       key_is = after ∙ is ∙ sym (edit_key g kit A c.bytes in_none);
     }
 
@@ -157,23 +166,24 @@ change_does g kit A c body epoch effect k has e form key =
 
 -- ---- what a call has seen of an edit, and of a change
 
-pub record EditSeen (g : Genesis) (kit : Kit) (A : List (List ℕ)) (c : CheckedModel) (h : Header) (key body : List ℕ) : Type 0 where
+pub record EditSeen (g : Genesis) (kit : Kit) (A : List (List ℕ)) (c : CheckedModel) (h : Header) (stream : ℕ) (key body : List ℕ) : Type 0 where
   pub checked : IsChecked g A c
   pub edit : change_of c.entry ≡ None
   pub key_is : Some key ≡ key_of g kit A (epoch_of A)
   pub header_is : h ≡ c.entry.header
+  pub stream_is : stream ≡ stream_of h
   pub body_is : body ≡ c.entry.body
 
-module _ {g : Genesis} {kit : Kit} {A : List (List ℕ)} {c : CheckedModel} {h : Header} {key body : List ℕ} (s : EditSeen g kit A c h key body) where
-  seen_marks : edit_marks (Some key) c.entry ≡ marks_in key h.author h.leaf body
+module _ {g : Genesis} {kit : Kit} {A : List (List ℕ)} {c : CheckedModel} {h : Header} {stream : ℕ} {key body : List ℕ} (s : EditSeen g kit A c h stream key body) where
+  seen_marks : edit_marks (Some key) c.entry ≡ marks_in key stream body
   seen_marks =
-      ap (λ (b : List ℕ). marks_in key c.entry.header.author c.entry.header.leaf b) (sym s.body_is)
-      ∙ ap (λ (h : Header). marks_in key h.author h.leaf body) (sym s.header_is)
+      ap (λ (b : List ℕ). marks_in key (stream_of c.entry.header) b) (sym s.body_is)
+      ∙ ap (λ (n : ℕ). marks_in key n body) (ap stream_of (sym s.header_is) ∙ sym s.stream_is)
 
   seen_base : length (text_of g kit (take h.base A)) ≡ length (text_of g kit (take c.entry.header.base A))
   seen_base = ap (λ (h : Header). length (text_of g kit (take h.base A))) s.header_is
 
-  seen_faults : first_of (key_checks g kit A c.entry) ≡ first_of (edit_checks (length (text_of g kit (take c.entry.header.base A))) (marks_in key h.author h.leaf body))
+  seen_faults : first_of (key_checks g kit A c.entry) ≡ first_of (edit_checks (length (text_of g kit (take c.entry.header.base A))) (marks_in key stream body))
   seen_faults =
       edit_faults g kit A c (Some key) s.checked s.edit s.key_is
       ∙ ap (λ (o : Option (List Mark)). first_of (edit_checks (length (text_of g kit (take c.entry.header.base A))) o)) seen_marks
@@ -186,19 +196,19 @@ module _ {g : Genesis} {kit : Kit} {A : List (List ℕ)} {c : CheckedModel} {h :
       let same : h.base ≡ c.entry.header.base = ap (λ (h : Header). h.base) s.header_is in
       omega (arith, same, (head_passed g A c s.checked).base)
 
-  pub seen_bad : (r : Refusal) → unless (is_some (marks_in key h.author h.leaf body)) BadPayload ≡ Some r → first_of (key_checks g kit A c.entry) ≡ Some r
-  seen_bad r is = seen_faults ∙ bad_payload (length (text_of g kit (take c.entry.header.base A))) (marks_in key h.author h.leaf body) r is
+  pub seen_bad : (r : Refusal) → unless (is_some (marks_in key stream body)) BadPayload ≡ Some r → first_of (key_checks g kit A c.entry) ≡ Some r
+  seen_bad r is = seen_faults ∙ bad_payload (length (text_of g kit (take c.entry.header.base A))) (marks_in key stream body) r is
 
-  pub seen_wrong : (m : List Mark) → marks_in key h.author h.leaf body ≡ Some m → (base_len m ≡ length (text_of g kit (take h.base A)) → ⊥) → first_of (key_checks g kit A c.entry) ≡ Some WrongLength
-  seen_wrong m is other = seen_faults ∙ wrong_length (length (text_of g kit (take c.entry.header.base A))) (marks_in key h.author h.leaf body) m is (λ same. other (same ∙ sym seen_base))
+  pub seen_wrong : (m : List Mark) → marks_in key stream body ≡ Some m → (base_len m ≡ length (text_of g kit (take h.base A)) → ⊥) → first_of (key_checks g kit A c.entry) ≡ Some WrongLength
+  seen_wrong m is other = seen_faults ∙ wrong_length (length (text_of g kit (take c.entry.header.base A))) (marks_in key stream body) m is (λ same. other (same ∙ sym seen_base))
 
-  pub seen_right : (m : List Mark) → marks_in key h.author h.leaf body ≡ Some m → base_len m ≡ length (text_of g kit (take h.base A)) → first_of (key_checks g kit A c.entry) ≡ None
-  seen_right m is same = seen_faults ∙ edit_passes (length (text_of g kit (take c.entry.header.base A))) (marks_in key h.author h.leaf body) m is (same ∙ seen_base)
+  pub seen_right : (m : List Mark) → marks_in key stream body ≡ Some m → base_len m ≡ length (text_of g kit (take h.base A)) → first_of (key_checks g kit A c.entry) ≡ None
+  seen_right m is same = seen_faults ∙ edit_passes (length (text_of g kit (take c.entry.header.base A))) (marks_in key stream body) m is (same ∙ seen_base)
 
-  pub seen_small : (m : List Mark) → marks_in key h.author h.leaf body ≡ Some m → inserted_len m ≤ MAX_EDIT_BODY
-  seen_small m is = omega (arith, marks_within key h.author h.leaf body m is, seen_size)
+  pub seen_small : (m : List Mark) → marks_in key stream body ≡ Some m → inserted_len m ≤ MAX_EDIT_BODY
+  seen_small m is = omega (arith, marks_within key stream body m is, seen_size)
 
-  pub seen_does : (m form : List Mark) → marks_in key h.author h.leaf body ≡ Some m → form ≡ later_over m (drop h.base (forms_of g kit A)) → IsEffect g kit A c (record { form = form; key = Some key })
+  pub seen_does : (m form : List Mark) → marks_in key stream body ≡ Some m → form ≡ later_over m (drop h.base (forms_of g kit A)) → IsEffect g kit A c (record { form = form; key = Some key })
   seen_does m form is form_is =
       edit_does g kit A c key m (record { form = form; key = Some key }) s.checked s.edit s.key_is (seen_marks ∙ is)
       (form_is ∙ ap (λ (h : Header). later_over m (drop h.base (forms_of g kit A))) s.header_is) refl
@@ -207,7 +217,7 @@ module _ {g : Genesis} {kit : Kit} {A : List (List ℕ)} {c : CheckedModel} {h :
 pub no_key : (g : Genesis) (kit : Kit) (A : List (List ℕ)) (c : CheckedModel) → IsChecked g A c → change_of c.entry ≡ None → None ≡ key_of g kit A (epoch_of A) → first_of (key_checks g kit A c.entry) ≡ Some BadPayload
 no_key g kit A c k none is = edit_faults g kit A c None k none is
 
-pub record ChangeSeen (g : Genesis) (kit : Kit) (A : List (List ℕ)) (c : CheckedModel) (body : ChangeBody) (epoch me : ℕ) (document : List ℕ) (old key : Option (List ℕ)) : Type 0 where
+pub record ChangeSeen (g : Genesis) (kit : Kit) (A : List (List ℕ)) (c : CheckedModel) (body : ChangeBody) (epoch : ℕ) (me : Device) (document : List ℕ) (old key : Option (List ℕ)) : Type 0 where
   pub checked : IsChecked g A c
   pub change : change_of c.entry ≡ Some body
   pub epoch_is : epoch ≡ epoch_of A + 1
@@ -216,14 +226,14 @@ pub record ChangeSeen (g : Genesis) (kit : Kit) (A : List (List ℕ)) (c : Check
   pub old_is : old ≡ key_of g kit A (epoch_of A)
   pub key_is : key ≡ key_by_wraps kit epoch c.entry.header body
 
-pub change_seen : {g : Genesis} {kit : Kit} {A : List (List ℕ)} {c : CheckedModel} {body : ChangeBody} {epoch me : ℕ} {document : List ℕ} {old key : Option (List ℕ)} → ChangeSeen g kit A c body epoch me document old key
+pub change_seen : {g : Genesis} {kit : Kit} {A : List (List ℕ)} {c : CheckedModel} {body : ChangeBody} {epoch : ℕ} {me : Device} {document : List ℕ} {old key : Option (List ℕ)} → ChangeSeen g kit A c body epoch me document old key
     → first_of (key_checks g kit A c.entry) ≡ first_of (new_key_checks document me epoch body old key)
 change_seen {g} {kit} {A} {c} {body} {epoch} {me} {document} {old} {key} s =
     change_faults g kit A c body epoch document old key s.checked s.change s.epoch_is s.document_is s.old_is s.key_is
-    ∙ ap (λ (n : ℕ). first_of (new_key_checks document n epoch body old key)) (sym s.me_is)
+    ∙ ap (λ (me : Device). first_of (new_key_checks document me epoch body old key)) (sym s.me_is)
 
 -- the first fault of an entry that passed the head's checks
-pub checked_faults : (g : Genesis) (kit : Kit) (A : List (List ℕ)) (pos me : ℕ) (b : List ℕ) (c : CheckedModel) → IsChecked g A c → c.bytes ≡ b → me ≡ kit.me → head_fault g (Some me) A pos b ≡ None
+pub checked_faults : (g : Genesis) (kit : Kit) (A : List (List ℕ)) (pos : ℕ) (me : Device) (b : List ℕ) (c : CheckedModel) → IsChecked g A c → c.bytes ≡ b → me ≡ kit.me → head_fault g (Some me) A pos b ≡ None
     → first_fault g kit A pos b ≡ first_of (key_checks g kit A c.entry)
 checked_faults g kit A pos me b c k same is none =
-    fault_at_keys g kit A pos b c.entry (ap entry_of (sym same) ∙ k.read) (ap (λ (n : ℕ). head_fault g (Some n) A pos b) (sym is) ∙ none)
+    fault_at_keys g kit A pos b c.entry (ap entry_of (sym same) ∙ k.read) (ap (λ (me : Device). head_fault g (Some me) A pos b) (sym is) ∙ none)

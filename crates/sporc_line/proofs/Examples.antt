@@ -3,6 +3,7 @@ use Rattle.std.proofs.Common.{◌≡◌, List, [], ◌∷◌, refl, None, Some}
 use Rattle.sporc_delta.specs.Marks.{Mark, Retain, Delete, Insert}
 use Rattle.sporc_member.specs.declared.role.Role.TheVariants.{Reader}
 use Rattle.sporc_member.specs.declared.change.Change.TheVariants.{SetRole}
+use Rattle.sporc_member.specs.Device.{first_device}
 use Rattle.sporc_entry.specs.declared.genesis.Genesis.{Genesis}
 use Rattle.sporc_line.specs.Kit.{Kit}
 use Rattle.sporc_line.specs.Keys.{key_after, key_started}
@@ -14,7 +15,7 @@ use Rattle.sporc_head.specs.declared.refusal.Refusal.TheVariants.{BadPayload, Wr
 
 -- "abc", by member 1
 abbrev abc : Operation
-abc = record { author = 1; number = 1; base = 0; what = Edited (Insert 97 ∷ Insert 98 ∷ Insert 99 ∷ []) }
+abc = record { author = first_device 1; number = 1; base = 0; what = Edited (Insert 97 ∷ Insert 98 ∷ Insert 99 ∷ []) }
 
 -- the operations of "abc", then of these
 abbrev after_abc : List Operation → List (List Mark)
@@ -23,8 +24,8 @@ after_abc os = forms_from [] (abc ∷ os)
 -- both members insert at the end of "abc": the one whose entry stands first stands left, "abcde"
 pub two_insertions_example :
     text_after (after_abc (
-    record { author = 1; number = 2; base = 1; what = Edited (Retain ∷ Retain ∷ Retain ∷ Insert 100 ∷ []) }
-    ∷ record { author = 2; number = 1; base = 1; what = Edited (Retain ∷ Retain ∷ Retain ∷ Insert 101 ∷ []) }
+    record { author = first_device 1; number = 2; base = 1; what = Edited (Retain ∷ Retain ∷ Retain ∷ Insert 100 ∷ []) }
+    ∷ record { author = first_device 2; number = 1; base = 1; what = Edited (Retain ∷ Retain ∷ Retain ∷ Insert 101 ∷ []) }
     ∷ []))
     ≡ 97 ∷ 98 ∷ 99 ∷ 100 ∷ 101 ∷ []
 unfolding forms_from
@@ -33,8 +34,8 @@ two_insertions_example = refl
 -- both members remove the "b" of "abc": the form of the second one's entry keeps all of "ac"
 pub one_removal_example :
     after_abc (
-    record { author = 1; number = 2; base = 1; what = Edited (Retain ∷ Delete ∷ Retain ∷ []) }
-    ∷ record { author = 2; number = 1; base = 1; what = Edited (Retain ∷ Delete ∷ Retain ∷ []) }
+    record { author = first_device 1; number = 2; base = 1; what = Edited (Retain ∷ Delete ∷ Retain ∷ []) }
+    ∷ record { author = first_device 2; number = 1; base = 1; what = Edited (Retain ∷ Delete ∷ Retain ∷ []) }
     ∷ [])
     ≡ (Insert 97 ∷ Insert 98 ∷ Insert 99 ∷ []) ∷ (Retain ∷ Delete ∷ Retain ∷ []) ∷ (Retain ∷ Retain ∷ []) ∷ []
 unfolding forms_from
@@ -43,8 +44,8 @@ one_removal_example = refl
 -- a change keeps the text, and an edit that was made before it passes its form
 pub change_example :
     after_abc (
-    record { author = 1; number = 2; base = 1; what = Changed (SetRole 2 Reader) }
-    ∷ record { author = 2; number = 1; base = 1; what = Edited (Delete ∷ Retain ∷ Retain ∷ []) }
+    record { author = first_device 1; number = 2; base = 1; what = Changed (SetRole 2 Reader) }
+    ∷ record { author = first_device 2; number = 1; base = 1; what = Edited (Delete ∷ Retain ∷ Retain ∷ []) }
     ∷ [])
     ≡ (Insert 97 ∷ Insert 98 ∷ Insert 99 ∷ []) ∷ (Retain ∷ Retain ∷ Retain ∷ []) ∷ (Delete ∷ Retain ∷ Retain ∷ []) ∷ []
 unfolding forms_from

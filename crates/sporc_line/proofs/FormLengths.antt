@@ -15,7 +15,7 @@ use Rattle.sporc_member.proofs.Checks.{passes}
 use Rattle.sporc_entry.specs.declared.entry.Entry.{Entry}
 use Rattle.sporc_entry.specs.declared.change.ChangeBody.{ChangeBody}
 use Rattle.sporc_entry.specs.declared.genesis.Genesis.{Genesis}
-use Rattle.sporc_entry.specs.Entry.{entry_of, change_of}
+use Rattle.sporc_entry.specs.Entry.{author_device, entry_of, change_of}
 use Rattle.sporc_head.specs.declared.refusal.Refusal.TheVariants.{WrongLength}
 use Rattle.sporc_line.specs.Kit.{Kit}
 use Rattle.sporc_line.specs.Keys.{key_of}
@@ -106,11 +106,11 @@ edit_passed len (Some m) h = let p = passes (is_over len (Some m)) WrongLength [
 
 -- what an entry that was read does
 pub operation_is : (keys : ℕ → Option (List ℕ)) (b : List ℕ) (e : Entry) (o : Option ChangeBody) → entry_of b ≡ Ok e → change_of e ≡ o
-    → operation_in keys b ≡ record { author = e.header.author; number = e.header.number; base = e.header.base; what = what_of (keys e.header.epoch) e o }
+    → operation_in keys b ≡ record { author = author_device e.header; number = e.header.number; base = e.header.base; what = what_of (keys e.header.epoch) e o }
 unfolding operation_in
 operation_is keys b e o is c =
     ap (operation_read keys) is
-    ∙ ap (λ (o : Option ChangeBody). let x : Operation = record { author = e.header.author; number = e.header.number; base = e.header.base; what = what_of (keys e.header.epoch) e o } in x) c
+    ∙ ap (λ (o : Option ChangeBody). let x : Operation = record { author = author_device e.header; number = e.header.number; base = e.header.base; what = what_of (keys e.header.epoch) e o } in x) c
 
 -- the form of an entry that changes the members
 pub change_form : (g : Genesis) (kit : Kit) (A : List (List ℕ)) (b : List ℕ) (e : Entry) (c : ChangeBody) → entry_of b ≡ Ok e → change_of e ≡ Some c → next_form g kit A b ≡ retains (length (text_of g kit A))

@@ -6,7 +6,8 @@ use Rattle.std.specs.FinMap.{get}
 use Rattle.std.proofs.lemmas.List.{append-nil, take_all}
 use Rattle.std.proofs.lemmas.Slice.Eq.{bytes_eq-Decides}
 use Rattle.sporc_base.specs.FirstFault.{unless, first_of}
-use Rattle.sporc_member.specs.declared.founder.Founder.{Founder}
+use Rattle.sporc_member.specs.declared.device.Device.{Device}
+use Rattle.sporc_member.specs.declared.member.Member.{Member}
 use Rattle.sporc_member.specs.Roster.{Roster, removes, member_at, numbers_of, after_change, roster_after}
 use Rattle.sporc_member.proofs.Checks.{passes}
 use Rattle.sporc_entry.specs.declared.entry.Entry.{Entry}
@@ -14,6 +15,7 @@ use Rattle.sporc_entry.specs.declared.wrap.Wrap.{Wrap}
 use Rattle.sporc_entry.specs.declared.change.ChangeBody.{ChangeBody}
 use Rattle.sporc_entry.specs.declared.genesis.Genesis.{Genesis}
 use Rattle.sporc_entry.specs.Entry.{entry_of, change_of}
+use Rattle.sporc_epoch.specs.Streams.{stream_of}
 use Rattle.sporc_epoch.specs.Wraps.{wrap_opened}
 use Rattle.sporc_head.specs.declared.refusal.Refusal.{Refusal}
 use Rattle.sporc_head.specs.declared.refusal.Refusal.TheVariants.{WrongWraps}
@@ -56,12 +58,12 @@ at_next g kit A pos b h =
 -- ---- the key that a change starts
 
 -- whether a list of members has one with this number
-find_any : (me : ℕ) (ms : List Founder) → is_some (find (λ (m : Founder). m.member == me) ms) ≡ list_any (λ (n : ℕ). n == me) (map (λ (m : Founder). m.member) ms)
+find_any : (me : ℕ) (ms : List Member) → is_some (find (λ (m : Member). m.member == me) ms) ≡ list_any (λ (n : ℕ). n == me) (map (λ (m : Member). m.member) ms)
 find_any me [] = refl
 find_any me (m ∷ ms) = go (m.member == me) (find_any me ms)
   where
-    go : (t : Bool) → is_some (find (λ (m : Founder). m.member == me) ms) ≡ list_any (λ (n : ℕ). n == me) (map (λ (m : Founder). m.member) ms)
-        → is_some (cond t (Some m) (find (λ (m : Founder). m.member == me) ms)) ≡ (t || list_any (λ (n : ℕ). n == me) (map (λ (m : Founder). m.member) ms))
+    go : (t : Bool) → is_some (find (λ (m : Member). m.member == me) ms) ≡ list_any (λ (n : ℕ). n == me) (map (λ (m : Member). m.member) ms)
+        → is_some (cond t (Some m) (find (λ (m : Member). m.member == me) ms)) ≡ (t || list_any (λ (n : ℕ). n == me) (map (λ (m : Member). m.member) ms))
     go true h = refl
     go false h = h
 
@@ -103,10 +105,10 @@ started_by_wraps g kit A b e c is has h =
     let some : change_in b ≡ Some s = change_in_read b e (Some c) is (sym has) in
     let roster : roster_after g.founders (map (λ (c : CommittedChange). c.body.change) (changes A ++ s ∷ [])) ≡ after_change (roster_of g A) c.change
     = ap (λ (cs : List CommittedChange). roster_after g.founders (map (λ (c : CommittedChange). c.body.change) cs)) (sym (changes_push A b (Some s) some)) ∙ roster_change g A b s some in
-    let there = wrapped kit.me (roster_of g A) c (ap (λ (o : Option ChangeBody). first_of (roster_checks (roster_of g A) o)) (sym has) ∙ h) in
+    let there = wrapped kit.me.member (roster_of g A) c (ap (λ (o : Option ChangeBody). first_of (roster_checks (roster_of g A) o)) (sym has) ∙ h) in
     key_last g kit (changes A) s
-    ∙ ap (λ (r : Roster). cond (removes kit.me c.change) None (cond (is_some (member_at r kit.me)) (wrap_opened c e.header.author e.header.leaf kit.me kit.pairs) (get kit.ring (epoch_of A + 1)))) roster
-    ∙ ap (λ (t : Bool). cond (removes kit.me c.change) None (cond t (wrap_opened c e.header.author e.header.leaf kit.me kit.pairs) (get kit.ring (epoch_of A + 1)))) there
+    ∙ ap (λ (r : Roster). cond (removes kit.me c.change) None (cond (is_some (member_at r kit.me.member)) (wrap_opened c e.header.author (stream_of e.header) kit.me.member kit.pairs) (get kit.ring (epoch_of A + 1)))) roster
+    ∙ ap (λ (t : Bool). cond (removes kit.me c.change) None (cond t (wrap_opened c e.header.author (stream_of e.header) kit.me.member kit.pairs) (get kit.ring (epoch_of A + 1)))) there
 
 -- ---- the key after one entry more
 
@@ -121,11 +123,11 @@ key_after_change g kit A b s some =
     ap (λ (cs : List CommittedChange). key_after g kit cs (length cs)) (changes_push A b (Some s) some)
     ∙ ap (key_after g kit (changes A ++ s ∷ [])) (length-append (changes A) (s ∷ []))
 
--- whether the member is removed after one entry more, which it accepts only while it isn't
-removed_after : (me : ℕ) (A : List (List ℕ)) (b : List ℕ) (o : Option CommittedChange) → change_in b ≡ o → is_removed me A ≡ false → is_removed me (A ++ b ∷ []) ≡ removes_in me o
+-- whether the device is removed after one entry more, which it accepts only while it isn't
+removed_after : (me : Device) (A : List (List ℕ)) (b : List ℕ) (o : Option CommittedChange) → change_in b ≡ o → is_removed me A ≡ false → is_removed me (A ++ b ∷ []) ≡ removes_in me o
 removed_after me A b o is there = removed_push me A b o is ∙ ap (λ (t : Bool). t || removes_in me o) there
 
--- a key that a change starts is at hand where the change doesn't remove the member
+-- a key that a change starts is at hand where the change doesn't remove the device
 change_keyed : (g : Genesis) (kit : Kit) (A : List (List ℕ)) (pos : ℕ) (e : Entry) (c : ChangeBody) → Passes g kit A pos e → change_of e ≡ Some c
     → is_some (key_after g kit (changes A ++ committed e c ∷ []) (epoch_of A + 1)) ≡ not (removes kit.me c.change)
 unfolding key_started
@@ -134,10 +136,10 @@ change_keyed g kit A pos e c p has = go (removes kit.me c.change) refl
     go : (t : Bool) → removes kit.me c.change ≡ t → is_some (key_after g kit (changes A ++ committed e c ∷ []) (epoch_of A + 1)) ≡ not t
     go true t =
         ap is_some (key_last g kit (changes A) (committed e c))
-        ∙ ap (λ (t : Bool). is_some (cond t None (cond (is_some (member_at (roster_after g.founders (map (λ (c : CommittedChange). c.body.change) (changes A ++ committed e c ∷ []))) kit.me)) (wrap_opened c e.header.author e.header.leaf kit.me kit.pairs) (get kit.ring (epoch_of A + 1))))) t
+        ∙ ap (λ (t : Bool). is_some (cond t None (cond (is_some (member_at (roster_after g.founders (map (λ (c : CommittedChange). c.body.change) (changes A ++ committed e c ∷ []))) kit.me.member)) (wrap_opened c e.header.author (stream_of e.header) kit.me.member kit.pairs) (get kit.ring (epoch_of A + 1))))) t
     go false t = ap is_some (change_key g kit A pos e c p has t).is
 
--- a key is at hand exactly where the member is not removed
+-- a key is at hand exactly where the device is not removed
 pub keyed_push : (g : Genesis) (kit : Kit) (A : List (List ℕ)) (b : List ℕ) (pos : ℕ) → is_some (key_of g kit A (epoch_of A)) ≡ not (is_removed kit.me A) → first_fault g kit A pos b ≡ None
     → is_some (key_of g kit (A ++ b ∷ []) (epoch_of (A ++ b ∷ []))) ≡ not (is_removed kit.me (A ++ b ∷ []))
 keyed_push g kit A b pos keyed h =

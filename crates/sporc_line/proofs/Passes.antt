@@ -4,15 +4,16 @@ use Rattle.std.specs.Prelude.{is_some}
 use Rattle.std.proofs.lemmas.Bool.{ltb-true, leb-true, eqb-true, not-true, lt-ltb, le-leb, eq-eqb, not_from_false}
 use Rattle.std.proofs.lemmas.Slice.Eq.{bytes_eq-Decides}
 use Rattle.sporc_base.specs.FirstFault.{first_of}
-use Rattle.sporc_member.specs.Roster.{member_at}
+use Rattle.sporc_member.specs.Roster.{member_at, key_of}
 use Rattle.sporc_member.proofs.Checks.{passes, holds}
 use Rattle.sporc_entry.specs.declared.entry.Entry.{Entry}
 use Rattle.sporc_entry.specs.declared.genesis.Genesis.{Genesis}
-use Rattle.sporc_entry.specs.Entry.{entry_of, change_of, signed_string}
-use Rattle.sporc_head.specs.declared.refusal.Refusal.TheVariants.{WrongDocument, WrongPosition, Removed, HistoryFull, UnknownAuthor, BaseAhead, BeforeBarrier, WrongHistory, WrongNumber, BehindOwn, WrongEpoch, NoRight, LeafMismatch, BadSignature}
+use Rattle.sporc_entry.specs.Entry.{author_device, entry_of, change_of, signed_string}
+use Rattle.sporc_entry.specs.Version.{version_of}
+use Rattle.sporc_head.specs.declared.refusal.Refusal.TheVariants.{WrongDocument, WrongPosition, Removed, HistoryFull, WrongVersion, UnknownAuthor, UnknownDevice, BaseAhead, BeforeBarrier, WrongHistory, WrongNumber, BehindOwn, WrongEpoch, NoRight, LeafMismatch, BadSignature}
 use Rattle.sporc_head.specs.declared.limits.TheConstants.{MAX_ENTRIES}
 use Rattle.sporc_head.specs.History.{epoch_of, roster_of, is_removed, barrier_of, last_of, count_of, hash_of}
-use Rattle.sporc_head.specs.HeadChecks.{place_checks, history_checks, author_checks, roster_checks, head_checks, allows_member, names_leaf, verifies_member, fault_read}
+use Rattle.sporc_head.specs.HeadChecks.{place_checks, history_checks, author_checks, roster_checks, head_checks, allows_member, names_leaf, verifies_device, fault_read}
 use Rattle.sporc_head.proofs.ChecksPass.{first_of-none}
 use Rattle.sporc_line.specs.Kit.{Kit}
 use Rattle.sporc_line.specs.LineChecks.{key_checks, line_checks, first_fault}
@@ -32,16 +33,18 @@ pub record Passes (g : Genesis) (kit : Kit) (entries : List (List ℕ)) (pos : �
   pub position : pos ≡ length entries + 1
   pub not_removed : is_removed kit.me entries ≡ false
   pub room : length entries < MAX_ENTRIES
+  pub version : e.header.version ≡ version_of (roster_of g entries).upgraded
   pub member : is_some (member_at (roster_of g entries) e.header.author) ≡ true
+  pub device : is_some (key_of (roster_of g entries) (author_device e.header)) ≡ true
   pub base : e.header.base ≤ length entries
   pub barrier : barrier_of entries ≤ e.header.base
   pub history : e.header.base_hash ≡ hash_of g (take e.header.base entries)
-  pub number : e.header.number ≡ count_of e.header.author entries + 1
-  pub own : last_of e.header.author entries ≤ e.header.base
+  pub number : e.header.number ≡ count_of (author_device e.header) entries + 1
+  pub own : last_of (author_device e.header) entries ≤ e.header.base
   pub epoch : e.header.epoch ≡ epoch_of entries
   pub right : allows_member e.header.kind (member_at (roster_of g entries) e.header.author) ≡ true
   pub leaf : names_leaf e.header.leaf e.signature ≡ true
-  pub signature : verifies_member (signed_string e) e.signature (member_at (roster_of g entries) e.header.author) ≡ true
+  pub signature : verifies_device (signed_string e) e.signature (key_of (roster_of g entries) (author_device e.header)) ≡ true
   pub roster : first_of (roster_checks (roster_of g entries) (change_of e)) ≡ None
   pub keys : first_of (key_checks g kit entries e) ≡ None
 
@@ -49,7 +52,7 @@ all_passed : (g : Genesis) (kit : Kit) (entries : List (List ℕ)) (position : �
 unfolding head_checks
 all_passed g kit A pos e h =
     let rosters = roster_checks (roster_of g A) (change_of e) in
-    let authors = author_checks (member_at (roster_of g A) e.header.author) e in
+    let authors = author_checks (member_at (roster_of g A) e.header.author) (key_of (roster_of g A) (author_device e.header)) e in
     let histories = history_checks g A e.header in
     let all = both_pass (head_checks g (Some kit.me) A pos e) (key_checks g kit A e) h in
     let a = both_pass (place_checks g (Some kit.me) A pos e.header) (histories ++ (authors ++ rosters)) all.0 in
@@ -66,24 +69,28 @@ all_passed g kit A pos e h =
     let c10 = passes _ _ _ c9.1 in
     let c11 = passes _ _ _ c10.1 in
     let c12 = passes _ _ _ c11.1 in
-    let c13 = passes _ _ _ c.0 in
+    let c13 = passes _ _ _ c12.1 in
     let c14 = passes _ _ _ c13.1 in
-    let c15 = passes _ _ _ c14.1 in
+    let c15 = passes _ _ _ c.0 in
+    let c16 = passes _ _ _ c15.1 in
+    let c17 = passes _ _ _ c16.1 in
     record {
       document = (bytes_eq-Decides _ _).0 c2.0;
       position = eqb-true _ _ c3.0;
       not_removed = not-true _ c4.0;
       room = ltb-true _ _ c5.0;
-      member = c6.0;
-      base = leb-true _ _ c7.0;
-      barrier = leb-true _ _ c8.0;
-      history = (bytes_eq-Decides _ _).0 c9.0;
-      number = eqb-true _ _ c10.0;
-      own = leb-true _ _ c11.0;
-      epoch = eqb-true _ _ c12.0;
-      right = c13.0;
-      leaf = c14.0;
-      signature = c15.0;
+      version = eqb-true _ _ c6.0;
+      member = c7.0;
+      device = c8.0;
+      base = leb-true _ _ c9.0;
+      barrier = leb-true _ _ c10.0;
+      history = (bytes_eq-Decides _ _).0 c11.0;
+      number = eqb-true _ _ c12.0;
+      own = leb-true _ _ c13.0;
+      epoch = eqb-true _ _ c14.0;
+      right = c15.0;
+      leaf = c16.0;
+      signature = c17.0;
       roster = c.1;
       keys = all.1;
     }
@@ -102,18 +109,20 @@ all_hold : (g : Genesis) (kit : Kit) (entries : List (List ℕ)) (position : ℕ
 unfolding head_checks
 all_hold g kit A pos e p =
     let rosters = roster_checks (roster_of g A) (change_of e) in
-    let authors = author_checks (member_at (roster_of g A) e.header.author) e in
+    let authors = author_checks (member_at (roster_of g A) e.header.author) (key_of (roster_of g A) (author_device e.header)) e in
     let histories = history_checks g A e.header in
     let author : first_of authors ≡ None = holds _ NoRight _ p.right (holds _ LeafMismatch _ p.leaf (holds _ BadSignature _ p.signature refl)) in
     let history : first_of histories ≡ None =
     holds _ HistoryFull _ (lt-ltb _ _ p.room)
+    (holds _ WrongVersion _ (eq-eqb _ _ p.version)
     (holds _ UnknownAuthor _ p.member
+    (holds _ UnknownDevice _ p.device
     (holds _ BaseAhead _ (le-leb _ _ p.base)
     (holds _ BeforeBarrier _ (le-leb _ _ p.barrier)
     (holds _ WrongHistory _ ((bytes_eq-Decides _ _).1 p.history)
     (holds _ WrongNumber _ (eq-eqb _ _ p.number)
     (holds _ BehindOwn _ (le-leb _ _ p.own)
-    (holds _ WrongEpoch _ (eq-eqb _ _ p.epoch) refl))))))) in
+    (holds _ WrongEpoch _ (eq-eqb _ _ p.epoch) refl))))))))) in
     let place : first_of (place_checks g (Some kit.me) A pos e.header) ≡ None =
     holds _ WrongDocument _ ((bytes_eq-Decides _ _).1 p.document)
     (holds _ WrongPosition _ (eq-eqb _ _ p.position)

@@ -25,7 +25,6 @@ use Rattle.sporc_delta.proofs.Lengths.{inserted_len-append, inserted_len-deletes
 use Rattle.sporc_entry.specs.declared.entry.Entry.{Entry}
 use Rattle.sporc_entry.specs.declared.limits.TheConstants.{MAX_CHANGE_BODY, MAX_EDIT_BODY, MAX_SIGNATURE}
 use Rattle.sporc_entry.specs.Entry.{header_at, body_limit, body_read, entry_of}
-use Rattle.sporc_epoch.specs.Streams.{entry_stream}
 use Rattle.sporc_line.specs.Operations.{marks_in}
 
 -- ---- fields
@@ -64,7 +63,7 @@ unfolding entry_of
 body_within bytes e h =
     let header = bind_ok (header_at (record { rest = bytes; at = 0 })) _ e h in
     let body = bind_ok (counted_at (body_limit header.0.0.kind) header.0.1) _ e header.2 in
-    let read = bind_ok (body_read header.0.0.kind 72 body.0.0) _ e body.2 in
+    let read = bind_ok (body_read header.0.0 body.0.0) _ e body.2 in
     let signature = bind_ok (counted_at MAX_SIGNATURE body.0.1) _ e read.2 in
     let end = bind_ok (end_at signature.0.1) _ e signature.2 in
     let same : body.0.0 ≡ e.body = ap (λ (e : Entry). e.body) (ok_entry _ e end.2) in
@@ -140,6 +139,6 @@ result_of (Ok y) x h = cc
 result_of (Err f) x h = absurd cc
 
 -- the marks of a masked body insert no more characters than the body has bytes
-pub marks_within : (key : List ℕ) (author leaf : ℕ) (body : List ℕ) (ms : List Mark) → marks_in key author leaf body ≡ Some ms → inserted_len ms ≤ length body
-marks_within key author leaf body ms h =
-    omega (arith, read_within (mask_of key (entry_stream author leaf) body) ms (result_of (read_delta (mask_of key (entry_stream author leaf) body)) ms h), length-mask_from key (entry_stream author leaf) 0 body)
+pub marks_within : (key : List ℕ) (stream : ℕ) (body : List ℕ) (ms : List Mark) → marks_in key stream body ≡ Some ms → inserted_len ms ≤ length body
+marks_within key stream body ms h =
+    omega (arith, read_within (mask_of key stream body) ms (result_of (read_delta (mask_of key stream body)) ms h), length-mask_from key stream 0 body)

@@ -11,6 +11,7 @@ use Rattle.sporc_base.specs.FirstFault.{first_of}
 use Rattle.sporc_hash.specs.Chain.{commitment_of, commitment_string}
 use Rattle.sporc_hash.specs.Strings.{chain_strings, key_string, key_strings, CollisionFree}
 use Rattle.sporc_hash.proofs.Lists.{from_end, Contains-first}
+use Rattle.sporc_member.specs.declared.device.Device.{Device}
 use Rattle.sporc_member.specs.Roster.{removes}
 use Rattle.sporc_member.proofs.Checks.{passes}
 use Rattle.sporc_entry.specs.declared.entry.Entry.{Entry}
@@ -42,7 +43,7 @@ KeysMeet g kit cs = (e : ℕ) → e ≤ length cs → Meets g e (key_after g kit
 
 -- ---- the key that a change starts
 
--- what holds of it, for a member that the change doesn't remove
+-- what holds of it, for a device that the change doesn't remove
 pub record NewKey (document : List ℕ) (epoch : ℕ) (c : ChangeBody) (old key : Option (List ℕ)) : Type 0 where
   pub bytes : List ℕ
   pub is : key ≡ Some bytes
@@ -56,7 +57,7 @@ some_of : {X : Type 0} (o : Option X) → is_some o ≡ true → (x : X) × (o �
 some_of None h = absurd cc
 some_of (Some x) h = (x, refl)
 
-pub new_key : (document : List ℕ) (me epoch : ℕ) (c : ChangeBody) (old key : Option (List ℕ)) → removes me c.change ≡ false → first_of (new_key_checks document me epoch c old key) ≡ None → NewKey document epoch c old key
+pub new_key : (document : List ℕ) (me : Device) (epoch : ℕ) (c : ChangeBody) (old key : Option (List ℕ)) → removes me c.change ≡ false → first_of (new_key_checks document me epoch c old key) ≡ None → NewKey document epoch c old key
 new_key document me epoch c old key kept h =
     let a = passes (removes me c.change || is_some key) NoKey _ h in
     let b = passes (removes me c.change || is_new_key document epoch c old key) WrongKey [] a.1 in
@@ -72,7 +73,7 @@ meets_new g epoch c (Some old) (Some key) h = (bytes_eq-Decides (commitment_of g
 abbrev pub committed : Entry → ChangeBody → CommittedChange
 committed e c = record { header = e.header; body = c }
 
--- the key of the epoch that a change starts, where it passed and doesn't remove the member
+-- the key of the epoch that a change starts, where it passed and doesn't remove the device
 pub change_key : (g : Genesis) (kit : Kit) (A : List (List ℕ)) (pos : ℕ) (e : Entry) (c : ChangeBody) → Passes g kit A pos e → change_of e ≡ Some c → removes kit.me c.change ≡ false
     → NewKey g.document (epoch_of A + 1) c (key_of g kit A (epoch_of A)) (key_after g kit (changes A ++ committed e c ∷ []) (epoch_of A + 1))
 unfolding key_checks
@@ -100,8 +101,8 @@ meets_more g kit cs c old new e h = elim (cases_lt (length cs) e) [
       (subst (λ e. Meets g e (key_after g kit (cs ++ c ∷ []) e) c.body.commitment) m new))
 ]
 
--- a member that is still there was there before
-pub not_removed_before : (me : ℕ) (A : List (List ℕ)) (b : List ℕ) (o : Option CommittedChange) → change_in b ≡ o → is_removed me (A ++ b ∷ []) ≡ false → (is_removed me A ≡ false) × (removes_in me o ≡ false)
+-- a device that is still there was there before
+pub not_removed_before : (me : Device) (A : List (List ℕ)) (b : List ℕ) (o : Option CommittedChange) → change_in b ≡ o → is_removed me (A ++ b ∷ []) ≡ false → (is_removed me A ≡ false) × (removes_in me o ≡ false)
 not_removed_before me A b o is h = or_parts (is_removed me A) (removes_in me o) (sym (removed_push me A b o is) ∙ h)
 
 abbrev IfThere : Genesis → Kit → List (List ℕ) → Type 0
@@ -129,7 +130,7 @@ meet_push g kit A b ih good kept =
         subst (KeysMeet g kit) (sym (changes_push A b (Some (committed e c)) some))
         (meets_more g kit (changes A) (committed e c) (ih (good_front g kit A b good) before.0) (meets_new g (epoch_of A + 1) c _ _ key.new))
 
--- the keys of a good history that doesn't remove the member meet their commitments
+-- the keys of a good history that doesn't remove the device meet their commitments
 pub keys_meet : (g : Genesis) (kit : Kit) (A : List (List ℕ)) → Good g kit A → is_removed kit.me A ≡ false → (e : ℕ) → e ≤ epoch_of A → Meets g e (key_of g kit A e) (commitment_at g (changes A) e)
 keys_meet g kit A = from_end (IfThere g kit) (meet_none g kit) (meet_push g kit) A
 

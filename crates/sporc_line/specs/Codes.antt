@@ -5,6 +5,7 @@ use Rattle.std.specs.FinMap.{code}
 use Rattle.std.proofs.Common.{ap}
 use Rattle.sporc_member.specs.declared.role.Role.{Role}
 use Rattle.sporc_member.specs.declared.role.Role.TheVariants.{Reader, Editor, Admin}
+use Rattle.sporc_member.specs.declared.device.Device.{Device}
 use Rattle.sporc_member.specs.declared.founder.Founder.{Founder}
 use Rattle.sporc_member.specs.Role.{role_code_of}
 use Rattle.sporc_entry.specs.declared.genesis.Genesis.{Genesis}
@@ -34,9 +35,12 @@ genesis_code =
 abbrev pub keys_code : Coded Keys
 keys_code = code coded_ℕ (coded_list coded_ℕ)
 
+abbrev pub device_code : Coded Device
+device_code = code_by (ℕ × ℕ) (coded× coded_ℕ coded_ℕ) (λ d. (d.member, d.number)) (λ p. record { member = p.0; number = p.1 }) (λ _. refl)
+
 abbrev pub kit_code : Coded Kit
 kit_code =
-    code_by (ℕ × (Keys × Keys)) (coded× coded_ℕ (coded× keys_code keys_code))
+    code_by (Device × (Keys × Keys)) (coded× device_code (coded× keys_code keys_code))
     (λ k. (k.me, (k.ring, k.pairs))) (λ p. record { me = p.0; ring = p.1.0; pairs = p.1.1 }) (λ _. refl)
 
 abbrev pub line_code : Coded LineModel

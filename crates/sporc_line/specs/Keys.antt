@@ -6,6 +6,7 @@ use Rattle.sporc_member.specs.Roster.{member_at, removes, roster_after}
 use Rattle.sporc_entry.specs.declared.change.ChangeBody.{ChangeBody}
 use Rattle.sporc_entry.specs.declared.header.Header.{Header}
 use Rattle.sporc_entry.specs.declared.genesis.Genesis.{Genesis}
+use Rattle.sporc_epoch.specs.Streams.{stream_of}
 use Rattle.sporc_epoch.specs.Wraps.{wrap_opened}
 use Rattle.sporc_head.specs.History.{CommittedChange, changes}
 use Rattle.sporc_line.specs.Kit.{Kit}
@@ -15,7 +16,7 @@ unfoldable pub key_started : Genesis → Kit → List CommittedChange → ℕ �
 key_started genesis kit committed e None = None
 key_started genesis kit committed e (Some c) =
     if removes kit.me c.body.change then None
-    else if is_some (member_at (roster_after genesis.founders (map (λ c. c.body.change) committed)) kit.me) then wrap_opened c.body c.header.author c.header.leaf kit.me kit.pairs
+    else if is_some (member_at (roster_after genesis.founders (map (λ c. c.body.change) committed)) kit.me.member) then wrap_opened c.body c.header.author (stream_of c.header) kit.me.member kit.pairs
     else get kit.ring e
 
 -- the key of epoch e after changes: that of epoch 0 is given, each later one is read off the change that starts it
@@ -31,5 +32,5 @@ key_of genesis kit entries e = key_after genesis kit (changes entries) e
 abbrev pub key_by_wraps : Kit → ℕ → Header → ChangeBody → Option (List ℕ)
 key_by_wraps kit e h c =
     if removes kit.me c.change then None
-    else if list_any (λ w. w.member == kit.me) c.wraps then wrap_opened c h.author h.leaf kit.me kit.pairs
+    else if list_any (λ w. w.member == kit.me.member) c.wraps then wrap_opened c h.author (stream_of h) kit.me.member kit.pairs
     else get kit.ring e

@@ -1,12 +1,12 @@
--- What a member was given.
-use Rattle.std.specs.Prelude.{ℕ}
+-- What a device of a member was given.
+use Rattle.sporc_member.specs.declared.device.Device.{Device}
 use Rattle.sporc_epoch.specs.Keys.{Keys}
 
--- its number, keys of epochs (that of epoch 0, or the hints of a joiner), and the keys that it shares with other members
+-- which device it is, keys of epochs (that of epoch 0, or the hints of a joiner), and the keys that its member shares with others
 pub record Kit : Type 0 where
-  pub me : ℕ
+  pub me : Device
   pub ring : Keys
   pub pairs : Keys
 
-abbrev pub kit_of : ℕ → Keys → Keys → Kit
+abbrev pub kit_of : Device → Keys → Keys → Kit
 kit_of me ring pairs = record { me = me; ring = ring; pairs = pairs }

@@ -4,6 +4,7 @@ use Rattle.std.specs.Str.{bytes_eq}
 use Rattle.sporc_base.specs.FirstFault.{unless}
 use Rattle.sporc_hash.specs.Chain.{commitment_of}
 use Rattle.sporc_delta.specs.Marks.{Mark, base_len}
+use Rattle.sporc_member.specs.declared.device.Device.{Device}
 use Rattle.sporc_member.specs.Roster.{removes}
 use Rattle.sporc_entry.specs.declared.entry.Entry.{Entry}
 use Rattle.sporc_entry.specs.declared.change.ChangeBody.{ChangeBody}
@@ -37,8 +38,8 @@ is_new_key document epoch c (Some old) (Some key) =
     bytes_eq (commitment_of document epoch key) c.commitment && bytes_eq (previous_opened c epoch key) old
 is_new_key document epoch c old key = false
 
--- the checks of the key that a change starts, for a member that it doesn't remove
-abbrev pub new_key_checks : List ℕ → ℕ → ℕ → ChangeBody → Option (List ℕ) → Option (List ℕ) → List (Option Refusal)
+-- the checks of the key that a change starts, for a device that it doesn't remove
+abbrev pub new_key_checks : List ℕ → Device → ℕ → ChangeBody → Option (List ℕ) → Option (List ℕ) → List (Option Refusal)
 new_key_checks document me epoch c old key =
     unless (removes me c.change || is_some key) NoKey
     ∷ unless (removes me c.change || is_new_key document epoch c old key) WrongKey

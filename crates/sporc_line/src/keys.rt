@@ -10,11 +10,12 @@ use sporc_entry::ChangeBody;
 use sporc_epoch::open_previous;
 use sporc_hash::commit;
 use sporc_head::Refusal;
+use sporc_member::Device;
 
-/// The checks of the key of the epoch that a change starts, for a member that holds the key `old` of the epoch before.
+/// The checks of the key of the epoch that a change starts, for a device that holds the key `old` of the epoch before.
 pub(crate) fn check_new_key(
     document: &[u8; 16],
-    me: u16,
+    me: Device,
     epoch: u32,
     body: &ChangeBody,
     old: Option<[u8; 32]>,

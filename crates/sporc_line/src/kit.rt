@@ -1,8 +1,9 @@
-//! What a member was given.
+//! What a device of a member was given.
 
 ghost use Rattle.std.specs.Prelude.{◌≡◌, ◌==◌, Option, IfOk};
 ghost use Rattle.std.specs.FinMap as map;
 ghost use Rattle.std.specs.List.{list_any};
+ghost use Rattle.sporc_member.specs.Device.{same_device};
 ghost use Rattle.sporc_member.specs.Roster.{removes};
 ghost use Rattle.sporc_epoch.specs.Keys.{pairs_in};
 ghost use Rattle.sporc_line.specs.Kit.{kit_of};
@@ -10,14 +11,14 @@ ghost use Rattle.sporc_line.specs.Keys.{key_by_wraps};
 
 use sporc_base::Memory;
 use sporc_entry::{ChangeBody, Header, Wrap};
-use sporc_epoch::{Pairs, Ring, open_wrap};
-use sporc_member::Change;
+use sporc_epoch::{Pairs, Ring, open_wrap_at, stream_of};
+use sporc_member::{Change, Device};
 use std::marker::Model;
 
-/// A member's number, its keys of epochs, and the keys that it shares with other members.
+/// Which device it is, its keys of epochs, and the keys that its member shares with others.
 #[derive(Drop)]
 pub(crate) struct MemberKit {
-    me: u16,
+    me: Device,
     ring: Ring,
     pairs: Pairs,
 }
@@ -36,14 +37,14 @@ impl Model for MemberKit {
 
 impl MemberKit {
     /// The kit of these parts.
-    pub(crate) fn new(me: u16, ring: Ring, pairs: Pairs) -> MemberKit
+    pub(crate) fn new(me: Device, ring: Ring, pairs: Pairs) -> MemberKit
         ensures value { result ≡ kit_of me ring.keys (pairs_in pairs) }
     {
         MemberKit { me, ring, pairs }
     }
 
-    /// The member's number.
-    pub(crate) fn me(&self) -> u16
+    /// Which device it is.
+    pub(crate) fn me(&self) -> Device
         ensures value { result ≡ self.now.me }
     {
         self.me
@@ -77,7 +78,7 @@ impl MemberKit {
     }
 
     /// The key of the epoch that a change starts: from the member's own wrap, or its hint, if the change has no wrap for
-    /// it. None if the change removes the member.
+    /// it. None if the change removes the member or drops the device.
     pub(crate) fn started_key(
         &self,
         header: &Header,
@@ -89,22 +90,38 @@ impl MemberKit {
         if is_removal(&body.change, self.me) {
             return None;
         }
-        if has_wrap(body.wraps.as_slice(), self.me) {
-            open_wrap(body, header.author, header.leaf, self.me, &self.pairs)
+        if has_wrap(body.wraps.as_slice(), self.me.member) {
+            open_wrap_at(
+                body,
+                header.author,
+                stream_of(header),
+                self.me.member,
+                &self.pairs,
+            )
         } else {
             self.hint(epoch)
         }
     }
 }
 
-/// Whether a change removes this member.
-pub(crate) fn is_removal(change: &Change, me: u16) -> bool
+/// Whether a change removes this device, or its member.
+pub(crate) fn is_removal(change: &Change, me: Device) -> bool
     ensures value { result ≡ removes me change.now }
 {
     match change {
-        Change::Remove { member } => *member == me,
-        _ => false,
+        Change::Remove { member } => *member == me.member,
+        Change::DropDevice { member, device } => is_device(me, *member, *device),
+        Change::Add { .. } | Change::SetRole { .. } | Change::AddDevice { .. } | Change::Upgrade =>
+            false,
     }
+}
+
+// Whether it is this device of a member.
+fn is_device(me: Device, member: u16, number: u8) -> bool
+    ensures value { result ≡ same_device (record { member = member; number = number }) me }
+{
+    let device = Device { member, number };
+    device.is(me)
 }
 
 // Whether a change has a wrap for this member.

@@ -2,7 +2,7 @@
 //! epoch, and the first check that an entry fails.
 //!
 //! - [`Line`]: opened with a document's genesis and what the member was given. `accept` appends an entry or answers the
-//!   first of the 21 checks that fails; `prepare` and `commit` are its two halves, the second of which takes no memory.
+//!   first of the 23 checks that fails; `prepare` and `commit` are its two halves, the second of which takes no memory.
 //!   `accept_examined` and `prepare_examined` do the same with an entry whose signature was examined before its turn, under
 //!   the key that `key_for` tells.
 //! - `specs/`: each of the definitions recomputes everything from the first entry: the keys of epochs (`Keys`), what each
@@ -11,8 +11,8 @@
 //! - [`laws`]: members with one good history read it alike; what one entry more makes of a good history.
 //!
 //! ```text
-//! let mut line = Line::open(alloc, genesis, me, ring, pairs)?;     // NoKey, WrongKey
-//! line.accept(1, entry)?;                                          // or the first check that fails
+//! let mut line = Line::open(alloc, genesis, me, device, ring, pairs)?;     // NoKey, WrongKey
+//! line.accept(1, entry)?;                                                  // or the first check that fails
 //! let text = line.text()?;
 //! ```
 //!

@@ -32,6 +32,7 @@ use sporc_entry::Genesis;
 use sporc_epoch::{Pairs, Ring};
 use sporc_hash::Digest32;
 use sporc_head::{Checked, Heads, Refusal};
+use sporc_member::Device;
 use sporc_suffix::Blocks;
 use sporc_text::Doc;
 use std::alloc::Global;
@@ -69,21 +70,26 @@ impl Model for Line {
 }
 
 impl Line {
-    /// The empty history of a document for a member, by its number, a ring with the key of epoch 0 or a joiner's hints,
-    /// and its pairwise keys.
+    /// The empty history of a document for a device of a member, by both numbers, a ring with the key of epoch 0 or a joiner's
+    /// hints, and the member's pairwise keys.
     pub fn open(
         alloc: Global,
         genesis: Genesis,
         me: u16,
+        device: u8,
         ring: Ring,
         pairs: Pairs,
     ) -> Result<Line, LineOpenFault>
         requires { IsGenesis genesis }
         ensures fault { AnswersUnless LineOpenFault.Memory result (first_of (open_checks genesis (map.get ring.keys 0))) }
         ensures genesis { IfOk result (λ line. line.genesis ≡ genesis) }
-        ensures kit { IfOk result (λ line. line.kit ≡ kit_of me ring.keys (pairs_in pairs)) }
+        ensures kit { IfOk result (λ line. line.kit ≡ kit_of (record { member = me; number = device }) ring.keys (pairs_in pairs)) }
         ensures empty { IfOk result (λ line. line.entries ≡ []) }
     {
+        let me = Device {
+            member: me,
+            number: device,
+        };
         let kit = MemberKit::new(me, ring, pairs);
         let key = opening_key(&genesis, kit.hint(0))?;
         let line = Line::empty(alloc, genesis, kit, key)?;
@@ -191,7 +197,7 @@ impl Line {
         self.heads.hashes()
     }
 
-    /// Whether a change removed the member.
+    /// Whether a change removed the member, or dropped the device.
     pub fn removed(&self) -> bool
         ensures value { result ≡ is_removed self.now.kit.me self.now.entries }
     {
@@ -206,8 +212,8 @@ impl Line {
         &self.heads
     }
 
-    /// The key under which the check of an entry's signature verifies it at this line: its author's. None exactly if the
-    /// bytes are no entry, or its author is no member. It takes no memory.
+    /// The key under which the check of an entry's signature verifies it at this line: that of its author's device. None
+    /// exactly if the bytes are no entry, or its author has no such live device. It takes no memory.
     pub fn key_for(&self, entry: &[u8]) -> Option<[u8; 56]>
         ensures value { result ≡ key_for (roster_of self.now.genesis self.now.entries) entry.now }
     {
@@ -216,6 +222,20 @@ impl Line {
 
     /// The member's number.
     pub fn me(&self) -> u16
+        ensures value { result ≡ self.now.kit.me.member }
+    {
+        self.kit.me().member
+    }
+
+    /// The number of the member's device.
+    pub fn device(&self) -> u8
+        ensures value { result ≡ self.now.kit.me.number }
+    {
+        self.kit.me().number
+    }
+
+    /// Which device it is, as one value.
+    pub fn own_device(&self) -> Device
         ensures value { result ≡ self.now.kit.me }
     {
         self.kit.me()
@@ -235,7 +255,7 @@ impl Line {
         self.kit.pairs()
     }
 
-    /// The key of the last epoch. None if the member was removed.
+    /// The key of the last epoch. None if the member was removed or the device dropped.
     pub fn key(&self) -> Option<&[u8; 32]>
         ensures value { option_copied result ≡ key_of self.now.genesis self.now.kit self.now.entries (epoch_of self.now.entries) }
         ensures none { is_none result ≡ is_removed self.now.kit.me self.now.entries }

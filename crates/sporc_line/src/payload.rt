@@ -10,23 +10,21 @@ ghost use Rattle.sporc_line.specs.Payload.{payload_refusal};
 use sporc_base::Memory;
 use sporc_cipher::mask;
 use sporc_delta::{Delta, DeltaFault};
-use sporc_epoch::entry_stream;
 use sporc_head::Refusal;
 use std::alloc::Global;
 
-/// The delta that a masked body holds under its epoch's key, by the author and the leaf of its entry.
+/// The delta that a masked body holds under its epoch's key, by the stream of its entry.
 pub(crate) fn read_payload(
     alloc: Global,
     key: &[u8; 32],
-    author: u16,
-    leaf: u32,
+    stream: u64,
     body: &[u8],
 ) -> Result<Delta, Refusal>
     requires { length body.now ≤ MAX_DELTA_BYTES }
-    ensures fault { AnswersUnless Refusal.Memory result (unless (is_some (marks_in key.now author leaf body.now)) Refusal.BadPayload) }
-    ensures ok { IfOk result (λ delta. marks_in key.now author leaf body.now ≡ Some delta) }
+    ensures fault { AnswersUnless Refusal.Memory result (unless (is_some (marks_in key.now stream body.now)) Refusal.BadPayload) }
+    ensures ok { IfOk result (λ delta. marks_in key.now stream body.now ≡ Some delta) }
 {
-    let bytes = unmasked(alloc, key, entry_stream(author, leaf), body)?;
+    let bytes = unmasked(alloc, key, stream, body)?;
     match Delta::decode(alloc, bytes.as_slice()) {
         Ok(delta) => Ok(delta),
         Err(fault) => Err(refusal_of(fault)),

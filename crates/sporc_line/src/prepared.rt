@@ -1,10 +1,11 @@
 //! Entries that were prepared.
 
 ghost use Rattle.std.specs.Prelude.{◌≡◌, Option, is_some};
-ghost use Rattle.sporc_entry.specs.Entry.{change_of};
+ghost use Rattle.sporc_entry.specs.Entry.{author_device, change_of};
 
 use sporc_delta::Delta;
 use sporc_head::Checked;
+use sporc_member::Device;
 use sporc_suffix::ReadyForm;
 use sporc_text::ReadyText;
 use std::marker::Model;
@@ -32,11 +33,11 @@ impl Model for Prepared {
 }
 
 impl Prepared {
-    /// The number of its author.
-    pub fn author(&self) -> u16
-        ensures value { result ≡ self.now.checked.entry.header.author }
+    /// The device of its author.
+    pub fn author_device(&self) -> Device
+        ensures value { result ≡ author_device self.now.checked.entry.header }
     {
-        self.checked.header().author
+        self.checked.header().author_device()
     }
 
     /// Whether it is a change.

@@ -1,9 +1,10 @@
 -- Worked examples: changes of a document that one admin founded.
-use Rattle.std.proofs.Common.{◌≡◌, [], ◌∷◌, refl, Some, replicate}
+use Rattle.std.proofs.Common.{◌≡◌, ℕ, [], ◌∷◌, List, refl, Some, None, replicate, true, false}
+use Rattle.std.specs.Prelude.{fold, map}
 use Rattle.sporc_member.specs.declared.role.Role.TheVariants.{Reader, Editor, Admin}
-use Rattle.sporc_member.specs.declared.change.Change.TheVariants.{Add, Remove, SetRole}
-use Rattle.sporc_member.specs.declared.change.ChangeFault.TheVariants.{NumberUsed, NotMember, SameRole, LastAdmin, BadKey}
-use Rattle.sporc_member.specs.Roster.{Roster, founded, after_change, change_fault_of, numbers_of}
+use Rattle.sporc_member.specs.declared.change.Change.TheVariants.{Add, Remove, SetRole, AddDevice, DropDevice, Upgrade}
+use Rattle.sporc_member.specs.declared.change.ChangeFault.TheVariants.{NumberUsed, NotMember, SameRole, LastAdmin, BadKey, DeviceUsed, NoDevice, LastDevice, DevicesFull, NotUpgraded, AlreadyUpgraded}
+use Rattle.sporc_member.specs.Roster.{Roster, founded, after_change, change_fault_of, numbers_of, devices_of, key_of, removes}
 
 -- founded by member 1, an admin
 abbrev alone : Roster
@@ -43,3 +44,92 @@ two_is_used = refl
 -- members stand in the order of their numbers
 in_order : numbers_of (after_change (after_change alone (Add 9 Reader [])) (Add 4 Reader [])).members ≡ 1 ∷ 4 ∷ 9 ∷ []
 in_order = refl
+
+-- ---- devices
+
+it_begins_with_device_zero : devices_of alone 1 ≡ 0 ∷ []
+it_begins_with_device_zero = refl
+
+no_device_before_the_upgrade : change_fault_of alone (AddDevice 1 1 []) ≡ Some NotUpgraded
+no_device_before_the_upgrade = refl
+
+none_dropped_before_it : change_fault_of alone (DropDevice 1 0) ≡ Some NotUpgraded
+none_dropped_before_it = refl
+
+may_be_upgraded : change_fault_of alone Upgrade ≡ None
+may_be_upgraded = refl
+
+abbrev upgraded : Roster
+upgraded = after_change alone Upgrade
+
+no_second_upgrade : change_fault_of upgraded Upgrade ≡ Some AlreadyUpgraded
+no_second_upgrade = refl
+
+device_zero_is_used : change_fault_of upgraded (AddDevice 1 0 []) ≡ Some DeviceUsed
+device_zero_is_used = refl
+
+its_only_device_stays : change_fault_of upgraded (DropDevice 1 0) ≡ Some LastDevice
+its_only_device_stays = refl
+
+it_has_no_device_three : change_fault_of upgraded (DropDevice 1 3) ≡ Some NoDevice
+it_has_no_device_three = refl
+
+two_has_no_devices : change_fault_of upgraded (AddDevice 2 1 []) ≡ Some NotMember
+two_has_no_devices = refl
+
+no_known_type_of_a_device : change_fault_of upgraded (AddDevice 1 1 (replicate 56 0)) ≡ Some BadKey
+no_known_type_of_a_device = refl
+
+-- with devices 7, 2, 5, .. in this order, each with its number for a key
+abbrev with_devices : List ℕ → Roster
+with_devices numbers = fold after_change upgraded (map (λ n. AddDevice 1 n (n ∷ [])) numbers)
+
+devices_in_order : devices_of (with_devices (7 ∷ 2 ∷ 5 ∷ [])) 1 ≡ 0 ∷ 2 ∷ 5 ∷ 7 ∷ []
+devices_in_order = refl
+
+each_has_its_key : key_of (with_devices (7 ∷ 2 ∷ 5 ∷ [])) (record { member = 1; number = 5 }) ≡ Some (5 ∷ [])
+each_has_its_key = refl
+
+another_members_devices : devices_of (after_change (with_devices (7 ∷ [])) (Add 2 Editor [])) 2 ≡ 0 ∷ []
+another_members_devices = refl
+
+-- a ninth is refused while eight are live, and one more may be had where one is dropped
+abbrev with_eight : Roster
+with_eight = with_devices (1 ∷ 2 ∷ 3 ∷ 4 ∷ 5 ∷ 6 ∷ 7 ∷ [])
+
+no_ninth : change_fault_of with_eight (AddDevice 1 8 []) ≡ Some DevicesFull
+no_ninth = refl
+
+-- a device that was dropped
+abbrev without_three : Roster
+without_three = after_change with_eight (DropDevice 1 3)
+
+three_is_gone : devices_of without_three 1 ≡ 0 ∷ 1 ∷ 2 ∷ 4 ∷ 5 ∷ 6 ∷ 7 ∷ []
+three_is_gone = refl
+
+its_key_too : key_of without_three (record { member = 1; number = 3 }) ≡ None
+its_key_too = refl
+
+its_number_is_never_used_again : change_fault_of without_three (AddDevice 1 3 []) ≡ Some DeviceUsed
+its_number_is_never_used_again = refl
+
+not_dropped_twice : change_fault_of without_three (DropDevice 1 3) ≡ Some NoDevice
+not_dropped_twice = refl
+
+-- also device 0 may be dropped
+device_zero_may_go : change_fault_of with_eight (DropDevice 1 0) ≡ None
+device_zero_may_go = refl
+
+-- who leaves has no devices
+no_devices_left : devices_of (after_change (after_change with_eight (Add 2 Editor [])) (Remove 1)) 1 ≡ []
+no_devices_left = refl
+
+-- a change removes the devices of a member, or one
+removed_with_its_member : removes (record { member = 1; number = 3 }) (Remove 1) ≡ true
+removed_with_its_member = refl
+
+removed_alone : removes (record { member = 1; number = 3 }) (DropDevice 1 3) ≡ true
+removed_alone = refl
+
+another_stays : removes (record { member = 1; number = 2 }) (DropDevice 1 3) ≡ false
+another_stays = refl

@@ -1,4 +1,7 @@
 pub mod Checks
 pub mod Places
-mod Keeping
+pub mod Keeping
+mod Grouped
+pub mod Belonging
+pub mod SameDevice
 mod Examples

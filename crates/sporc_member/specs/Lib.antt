@@ -1,5 +1,6 @@
 pub mod Role
 pub mod ChangeFault
-pub mod Roster
 pub mod Lists
+pub mod Device
+pub mod Roster
 pub mod RosterModel

@@ -1,64 +1,106 @@
--- The members of a document, as its changes make them from the founders.
-use Rattle.std.specs.Prelude.{ℕ, ◌==◌, Bool, false, not, ◌&&◌, nat_lt, List, [], ◌∷◌, ◌++◌, length, Option, None, Some, is_some, if◌then◌else◌, filter, find, map, fold}
+-- The members of a document and their devices, as its changes make them from the founders.
+use Rattle.std.specs.Prelude.{ℕ, ◌==◌, Bool, true, false, not, ◌&&◌, nat_lt, List, [], ◌∷◌, ◌++◌, length, Option, None, Some, is_some, if◌then◌else◌, filter, find, map, option_map, fold}
 use Rattle.std.specs.List.{list_any}
 use Rattle.lms_tree.specs.LmsPublic.{public_key_in}
-use Rattle.sporc_member.specs.declared.limits.TheConstants.{MAX_MEMBERS}
+use Rattle.sporc_member.specs.declared.limits.TheConstants.{MAX_DEVICES, MAX_MEMBERS}
 use Rattle.sporc_member.specs.declared.role.Role.{Role}
 use Rattle.sporc_member.specs.declared.change.Change.{Change}
-use Rattle.sporc_member.specs.declared.change.Change.TheVariants.{Add, Remove, SetRole}
+use Rattle.sporc_member.specs.declared.change.Change.TheVariants.{Add, Remove, SetRole, AddDevice, DropDevice, Upgrade}
 use Rattle.sporc_member.specs.declared.change.ChangeFault.{ChangeFault}
-use Rattle.sporc_member.specs.declared.change.ChangeFault.TheVariants.{NumberUsed, NotMember, SameRole, LastAdmin, RosterFull, BadKey}
+use Rattle.sporc_member.specs.declared.change.ChangeFault.TheVariants.{NumberUsed, NotMember, SameRole, LastAdmin, RosterFull, BadKey, DeviceUsed, NoDevice, LastDevice, DevicesFull, NotUpgraded, AlreadyUpgraded}
+use Rattle.sporc_member.specs.declared.device.Device.{Device}
+use Rattle.sporc_member.specs.declared.device.LiveDevice.{LiveDevice}
 use Rattle.sporc_member.specs.declared.founder.Founder.{Founder}
+use Rattle.sporc_member.specs.declared.member.Member.{Member}
+use Rattle.sporc_member.specs.Device.{first_device, same_device, insert_device}
+use Rattle.sporc_member.specs.Lists.{insert_by}
 use Rattle.sporc_member.specs.Role.{same_role, is_admin}
 use Rattle.sporc_base.specs.FirstFault.{unless, first_of}
 
--- the members in ascending order of their numbers, and every number that was ever a member's, in the order of use
+-- the members in ascending order of their numbers; their live devices in the order of members, and of numbers; every device
+-- that ever was one, in the order of use; and whether the document was upgraded
 pub record Roster : Type 0 where
-  pub members : List Founder
-  pub ever : List ℕ
+  pub members : List Member
+  pub devices : List LiveDevice
+  pub ever : List Device
+  pub upgraded : Bool
+
+-- ---- what a roster says
 
 -- the numbers of members
-abbrev pub numbers_of : List Founder → List ℕ
+abbrev pub numbers_of : List Member → List ℕ
 numbers_of members = map (λ m. m.member) members
 
 -- the member with this number
-abbrev pub member_at : Roster → ℕ → Option Founder
+abbrev pub member_at : Roster → ℕ → Option Member
 member_at roster number = find (λ m. m.member == number) roster.members
 
--- whether a number was ever a member's
+-- the key of a live device
+abbrev pub key_of : Roster → Device → Option (List ℕ)
+key_of roster device = option_map (λ d. d.key) (find (λ d. same_device d.device device) roster.devices)
+
+-- the numbers of a member's live devices
+abbrev pub devices_of : Roster → ℕ → List ℕ
+devices_of roster number = map (λ d. d.device.number) (filter (λ d. d.device.member == number) roster.devices)
+
+-- whether a number was ever a member's: each began with a device
 abbrev pub is_used : Roster → ℕ → Bool
-is_used roster number = list_any (λ n. n == number) roster.ever
+is_used roster number = list_any (λ d. d.member == number) roster.ever
 
--- a member among those in order
-abbrev pub insert_sorted : Founder → List Founder → List Founder
-insert_sorted m [] = m ∷ []
-insert_sorted m (n ∷ ns) = if nat_lt m.member n.member then m ∷ n ∷ ns else n ∷ insert_sorted m ns
-
--- the role of a member, once the one with this number has this role
-abbrev pub role_once : ℕ → Role → Founder → Role
-role_once number role m = if m.member == number then role else m.role
-
--- the member, once the one with this number has this role
-abbrev pub with_role : ℕ → Role → Founder → Founder
-with_role number role m = record { member = m.member; role = role_once number role m; key = m.key }
-
--- the roster after a change
-abbrev pub after_change : Roster → Change → Roster
-after_change roster (Add member role key) =
-    record { members = insert_sorted (record { member = member; role = role; key = key }) roster.members; ever = roster.ever ++ member ∷ [] }
-after_change roster (Remove member) =
-    record { members = filter (λ m. not (m.member == member)) roster.members; ever = roster.ever }
-after_change roster (SetRole member role) =
-    record { members = map (with_role member role) roster.members; ever = roster.ever }
+-- whether a device ever was one
+abbrev pub is_device_used : Roster → Device → Bool
+is_device_used roster device = list_any (λ d. same_device d device) roster.ever
 
 -- whether a roster has an admin
 abbrev pub has_admin : Roster → Bool
 has_admin roster = list_any (λ m. is_admin m.role) roster.members
 
 -- whether the member with this number, if there is one, has this role
-abbrev pub has_role : Option Founder → Role → Bool
+abbrev pub has_role : Option Member → Role → Bool
 has_role None role = false
 has_role (Some m) role = same_role m.role role
+
+-- ---- the roster after a change
+
+-- a member among those in order
+abbrev pub insert_sorted : Member → List Member → List Member
+insert_sorted m members = insert_by (λ m. m.member) m members
+
+-- the role of a member, once the one with this number has this role
+abbrev pub role_once : ℕ → Role → Member → Role
+role_once number role m = if m.member == number then role else m.role
+
+-- the member, once the one with this number has this role
+abbrev pub with_role : ℕ → Role → Member → Member
+with_role number role m = record { member = m.member; role = role_once number role m }
+
+-- with a device more
+abbrev pub with_device : Device → List ℕ → Roster → Roster
+with_device device key roster = record roster {
+  devices = insert_device (record { device = device; key = key }) roster.devices;
+  ever = roster.ever ++ device ∷ [];
+}
+
+-- with those live devices alone that pass a test
+abbrev pub with_devices : (Device → Bool) → Roster → Roster
+with_devices stays roster = record roster { devices = filter (λ d. stays d.device) roster.devices }
+
+-- with these members
+abbrev pub with_members : List Member → Roster → Roster
+with_members members roster = record roster { members = members }
+
+-- the roster after a change
+abbrev pub after_change : Roster → Change → Roster
+after_change roster (Add member role key) =
+    with_device (first_device member) key (with_members (insert_sorted (record { member = member; role = role }) roster.members) roster)
+after_change roster (Remove member) =
+    with_devices (λ d. not (d.member == member)) (with_members (filter (λ m. not (m.member == member)) roster.members) roster)
+after_change roster (SetRole member role) = with_members (map (with_role member role) roster.members) roster
+after_change roster (AddDevice member device key) = with_device (record { member = member; number = device }) key roster
+after_change roster (DropDevice member device) = with_devices (λ d. not (same_device d (record { member = member; number = device }))) roster
+after_change roster Upgrade = record roster { upgraded = true }
+
+-- ---- why a roster refuses a change
 
 -- the checks of a change, in their order
 abbrev pub change_checks : Roster → Change → List (Option ChangeFault)
@@ -76,20 +118,55 @@ change_checks roster (SetRole member role) =
     ∷ unless (not (has_role (member_at roster member) role)) SameRole
     ∷ unless (has_admin (after_change roster (SetRole member role))) LastAdmin
     ∷ []
+change_checks roster (AddDevice member device key) =
+    unless roster.upgraded NotUpgraded
+    ∷ unless (is_some (member_at roster member)) NotMember
+    ∷ unless (not (is_device_used roster (record { member = member; number = device }))) DeviceUsed
+    ∷ unless (nat_lt (length (devices_of roster member)) MAX_DEVICES) DevicesFull
+    ∷ unless (is_some (public_key_in key)) BadKey
+    ∷ []
+change_checks roster (DropDevice member device) =
+    unless roster.upgraded NotUpgraded
+    ∷ unless (is_some (member_at roster member)) NotMember
+    ∷ unless (is_some (key_of roster (record { member = member; number = device }))) NoDevice
+    ∷ unless (nat_lt 1 (length (devices_of roster member))) LastDevice
+    ∷ []
+change_checks roster Upgrade =
+    unless (not roster.upgraded) AlreadyUpgraded
+    ∷ []
 
 -- why a roster refuses a change, if it does
 abbrev pub change_fault_of : Roster → Change → Option ChangeFault
 change_fault_of roster change = first_of (change_checks roster change)
 
+-- ---- histories of changes
+
+-- a founder as a member, and its first device
+abbrev pub member_by : Founder → Member
+member_by f = record { member = f.member; role = f.role }
+
+abbrev pub device_by : Founder → LiveDevice
+device_by f = record { device = first_device f.member; key = f.key }
+
+-- the numbers of founders
+abbrev pub founder_numbers : List Founder → List ℕ
+founder_numbers founders = map (λ f. f.member) founders
+
 -- the roster at the beginning
 abbrev pub founded : List Founder → Roster
-founded founders = record { members = founders; ever = numbers_of founders }
+founded founders = record {
+  members = map member_by founders;
+  devices = map device_by founders;
+  ever = map (λ d. d.device) (map device_by founders);
+  upgraded = false;
+}
 
 -- the roster after changes, in their order
 abbrev pub roster_after : List Founder → List Change → Roster
 roster_after founders changes = fold after_change (founded founders) changes
 
--- whether a change removes this member
-abbrev pub removes : ℕ → Change → Bool
-removes number (Remove member) = member == number
-removes number _ = false
+-- whether a change removes a device, or its member
+abbrev pub removes : Device → Change → Bool
+removes device (Remove member) = member == device.member
+removes device (DropDevice member number) = same_device (record { member = member; number = number }) device
+removes device _ = false

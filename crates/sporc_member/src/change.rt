@@ -1,11 +1,11 @@
-//! Changes of the members, and why one is refused.
+//! Changes of the members and their devices, and why one is refused.
 
 ghost use Rattle.std.specs.Prelude.{◌≡◌};
 
 use crate::role::Role;
 use thiserror::Error;
 
-/// A change of the members.
+/// A change of the members, of their devices, or of the document's version.
 #[derive(Clone, Copy, PartialEq, Eq)]
 pub enum Change {
     /// A new member, with its role and the 56 bytes of its public key.
@@ -23,6 +23,19 @@ pub enum Change {
         member: u16,
         role: Role,
     },
+    /// A member gets a further device, with the 56 bytes of its public key.
+    AddDevice {
+        member: u16,
+        device: u8,
+        key: [u8; 56],
+    },
+    /// A device of a member signs no more.
+    DropDevice {
+        member: u16,
+        device: u8,
+    },
+    /// Members may have further devices from now on.
+    Upgrade,
 }
 
 /// Why a change is refused.
@@ -40,6 +53,18 @@ pub enum ChangeFault {
     RosterFull,
     #[error("the key is of no known type")]
     BadKey,
+    #[error("the number was a device of the member before")]
+    DeviceUsed,
+    #[error("no live device of the member has that number")]
+    NoDevice,
+    #[error("the member would have no device")]
+    LastDevice,
+    #[error("the member has as many devices as one can have")]
+    DevicesFull,
+    #[error("the document is not upgraded")]
+    NotUpgraded,
+    #[error("the document is upgraded")]
+    AlreadyUpgraded,
 }
 
 impl ChangeFault {
@@ -56,10 +81,16 @@ impl ChangeFault {
             ChangeFault::LastAdmin => "last-admin",
             ChangeFault::RosterFull => "roster-full",
             ChangeFault::BadKey => "bad-key",
+            ChangeFault::DeviceUsed => "device-used",
+            ChangeFault::NoDevice => "no-device",
+            ChangeFault::LastDevice => "last-device",
+            ChangeFault::DevicesFull => "devices-full",
+            ChangeFault::NotUpgraded => "not-upgraded",
+            ChangeFault::AlreadyUpgraded => "already-upgraded",
         }
     }
 
-    /// The number that is sent, from 1 to 6.
+    /// The number that is sent, from 1 to 12.
     pub fn code(self) -> u8
         ensures value { result ≡ change_fault_code_of self }
     {
@@ -70,6 +101,12 @@ impl ChangeFault {
             ChangeFault::LastAdmin => 4,
             ChangeFault::RosterFull => 5,
             ChangeFault::BadKey => 6,
+            ChangeFault::DeviceUsed => 7,
+            ChangeFault::NoDevice => 8,
+            ChangeFault::LastDevice => 9,
+            ChangeFault::DevicesFull => 10,
+            ChangeFault::NotUpgraded => 11,
+            ChangeFault::AlreadyUpgraded => 12,
         }
     }
 
@@ -84,6 +121,12 @@ impl ChangeFault {
             4 => Some(ChangeFault::LastAdmin),
             5 => Some(ChangeFault::RosterFull),
             6 => Some(ChangeFault::BadKey),
+            7 => Some(ChangeFault::DeviceUsed),
+            8 => Some(ChangeFault::NoDevice),
+            9 => Some(ChangeFault::LastDevice),
+            10 => Some(ChangeFault::DevicesFull),
+            11 => Some(ChangeFault::NotUpgraded),
+            12 => Some(ChangeFault::AlreadyUpgraded),
             _ => None,
         }
     }

@@ -1,8 +1,13 @@
-//! Members, their roles, and the changes that a document's history makes to them.
+//! Members, their roles and devices, and the changes that a document's history makes to them.
 //!
 //! Members are named by numbers from 1 to 65,535. A number that was ever a member's is never used again in a document.
-//! A [`Roster`] holds the members, at most [`MAX_MEMBERS`], and tests and makes [`Change`]s: a new member, one that
-//! leaves, another role. At least one admin is always left.
+//! A member signs by devices, each with a number from 0 to 255 and a key of its own. It begins with device 0
+//! ([`FIRST_DEVICE`]). After an Upgrade it may have further ones, at most [`MAX_DEVICES`] at one time, and at least one is
+//! always left; a number that was ever a device of the member is never one again.
+//!
+//! A [`Roster`] holds the members, at most [`MAX_MEMBERS`], with their live devices, and tests and makes [`Change`]s: a new
+//! member, one that leaves, another role, a further device, one that signs no more, the Upgrade. At least one admin is always
+//! left.
 //!
 //! ```text
 //! let mut roster = Roster::found(alloc, genesis.founders.as_slice())?;
@@ -16,16 +21,21 @@
 #![tactic(auto)]
 
 mod change;
+mod device;
+mod device_lists;
 mod founder;
 pub mod laws;
 mod limits;
 mod lists;
+mod member;
 mod role;
 mod roster;
 
 pub use change::{Change, ChangeFault};
+pub use device::{Device, FIRST_DEVICE, LiveDevice};
 pub use founder::Founder;
-pub use limits::MAX_MEMBERS;
+pub use limits::{MAX_DEVICES, MAX_MEMBERS};
+pub use member::Member;
 pub use role::Role;
 pub use roster::Roster;
 pub use sporc_base::Memory;

@@ -1,31 +1,42 @@
-//! The members as changes make them.
+//! The members and their devices as changes make them.
 
-ghost use Rattle.std.specs.Prelude.{◌≡◌, ◌≤◌, length, option_map, IfOk, OnOk, OnErr, IsOk, None};
+ghost use Rattle.std.specs.Prelude.{◌≡◌, ◌≤◌, true, false, [], length, option_map, is_some, IfOk, OnOk, OnErr, IsOk, None};
 ghost use Rattle.std.specs.Option.{option_copied};
+ghost use Rattle.sporc_member.specs.declared.device.TheConstants.{FIRST_DEVICE};
 ghost use Rattle.sporc_member.specs.declared.limits.TheConstants.{MAX_MEMBERS};
 ghost use Rattle.std.specs.List.Sorted.{IsStrictlyIncreasing};
 
 use crate::change::{Change, ChangeFault};
-use crate::founder::Founder;
-use crate::limits::MAX_MEMBERS;
-use crate::lists::{
-    give_role, has_admin_with, has_admin_without, insert_ready, numbers_in, numbers_with,
-    numbers_without, place_of, take_out_member, take_out_number,
+use crate::device::{Device, LiveDevice};
+use crate::device_lists::{
+    device_numbers_in, devices_by, devices_in, insert_live, place_from, renumber, take_out_device,
+    take_out_devices_of,
 };
+use crate::founder::Founder;
+use crate::limits::{MAX_DEVICES, MAX_MEMBERS};
+use crate::lists::{
+    give_role, has_admin_with, has_admin_without, insert_ready, members_by, numbers_in,
+    numbers_with, numbers_without, place_of, take_out_member, take_out_number,
+};
+use crate::member::Member;
 use crate::role::Role;
 use lms_tree::LmsPublic;
 use sporc_base::Memory;
 use std::alloc::Global;
 use std::marker::Model;
 
-/// The members in ascending order of their numbers, with every number that was ever a member's.
+/// The members in ascending order of their numbers with their live devices, every device that ever was one, and whether the
+/// document was upgraded.
 ///
 /// Contracts see the roster, and `spare`: how many changes it can make without memory.
 #[derive(Drop)]
 pub struct Roster {
-    members: Vec<Founder>,
+    members: Vec<Member>,
     numbers: Vec<u16>,
-    ever: Vec<u16>,
+    devices: Vec<LiveDevice>,
+    device_numbers: Vec<u8>,
+    ever: Vec<Device>,
+    upgraded: bool,
 }
 
 impl Model for Roster {
@@ -40,21 +51,26 @@ impl Model for Roster {
 
 impl Roster {
     ghost use Rattle.sporc_base.specs.FirstFault.{Answers};
-    ghost use Rattle.sporc_member.specs.Roster.{numbers_of, member_at, is_used, change_fault_of, after_change, founded};
+    ghost use Rattle.sporc_member.specs.Roster.{founder_numbers, numbers_of, member_at, key_of, devices_of, is_used, is_device_used, change_fault_of, after_change, founded};
 
     /// The roster of the founders.
     pub fn found(alloc: Global, founders: &[Founder]) -> Result<Roster, Memory>
-        requires ascending { IsStrictlyIncreasing (numbers_of founders.now) }
+        requires ascending { IsStrictlyIncreasing (founder_numbers founders.now) }
         requires room { length founders.now ≤ MAX_MEMBERS }
         ensures ok { IfOk result (λ roster. roster.roster ≡ founded founders.now) }
     {
-        let members = Vec::from_slice(alloc, founders)?;
-        let numbers = numbers_in(alloc, founders)?;
-        let ever = Vec::from_slice(alloc, numbers.as_slice())?;
+        let members = members_by(alloc, founders)?;
+        let numbers = numbers_in(alloc, members.as_slice())?;
+        let devices = devices_by(alloc, founders)?;
+        let device_numbers = device_numbers_in(alloc, devices.as_slice())?;
+        let ever = devices_in(alloc, devices.as_slice())?;
         Ok(Roster {
             members,
             numbers,
+            devices,
+            device_numbers,
             ever,
+            upgraded: false,
         })
     }
 
@@ -67,7 +83,7 @@ impl Roster {
     }
 
     /// The member with this number.
-    pub fn member(&self, number: u16) -> Option<&Founder>
+    pub fn member(&self, number: u16) -> Option<&Member>
         ensures value { option_copied result ≡ member_at self.now.roster number }
     {
         self.members.iter().find(|m| m.member == number)
@@ -77,7 +93,14 @@ impl Roster {
     fn is_used(&self, number: u16) -> bool
         ensures { result ≡ is_used self.now.roster number }
     {
-        self.ever.iter().any(|n| *n == number)
+        self.ever.iter().any(|d| d.member == number)
+    }
+
+    // Whether a device ever was one.
+    fn is_device_used(&self, device: Device) -> bool
+        ensures { result ≡ is_device_used self.now.roster device }
+    {
+        self.ever.iter().any(|d| d.is(device))
     }
 
     /// The role of the member with this number.
@@ -87,11 +110,40 @@ impl Roster {
         self.member(member).map(|m| m.role)
     }
 
-    /// The public key of the member with this number.
-    pub fn key(&self, member: u16) -> Option<&[u8; 56]>
-        ensures value { option_copied result ≡ option_map (λ m. m.key) (member_at self.now.roster member) }
+    /// The numbers of the member's live devices, ascending. Empty for one who is no member.
+    pub fn devices(&self, member: u16) -> &[u8]
+        ensures value { result.now ≡ devices_of self.now.roster member }
+        ensures none { is_some (member_at self.now.roster member) ≡ false → result.now ≡ [] }
     {
-        self.member(member).map(|m| &m.key)
+        let devices = self.devices.as_slice();
+        let first = place_from(devices, u32::from(member));
+        let end = place_from(devices, u32::from(member) + 1);
+        &self.device_numbers[first..end]
+    }
+
+    /// The public key of a live device of the member with this number. Up to the Upgrade only its first device has one.
+    pub fn key(&self, member: u16, device: u8) -> Option<&[u8; 56]>
+        ensures value { option_copied result ≡ key_of self.now.roster (record { member = member; number = device }) }
+        ensures member { is_some (key_of self.now.roster (record { member = member; number = device })) ≡ true
+            → is_some (member_at self.now.roster member) ≡ true }
+        ensures first { is_some (key_of self.now.roster (record { member = member; number = device })) ≡ true
+            → self.now.roster.upgraded ≡ false → device ≡ FIRST_DEVICE }
+    {
+        let device = Device {
+            member,
+            number: device,
+        };
+        self.devices
+            .iter()
+            .find(|d| d.device.is(device))
+            .map(|d| &d.key)
+    }
+
+    /// Whether the document was upgraded.
+    pub fn upgraded(&self) -> bool
+        ensures value { result ≡ self.now.roster.upgraded }
+    {
+        self.upgraded
     }
 
     /// Whether the members may be changed so: the first fault of the change, if it has one.
@@ -102,6 +154,13 @@ impl Roster {
             Change::Add { member, role, key } => self.test_add(*member, *role, key),
             Change::Remove { member } => self.test_remove(*member),
             Change::SetRole { member, role } => self.test_set_role(*member, *role),
+            Change::AddDevice {
+                member,
+                device,
+                key,
+            } => self.test_add_device(*member, *device, key),
+            Change::DropDevice { member, device } => self.test_drop_device(*member, *device),
+            Change::Upgrade => self.test_upgrade(),
         }
     }
 
@@ -149,6 +208,57 @@ impl Roster {
         Ok(())
     }
 
+    fn test_add_device(&self, member: u16, device: u8, key: &[u8; 56]) -> Result<(), ChangeFault>
+        ensures { Answers result (change_fault_of self.now.roster (Change.AddDevice member device key.now)) }
+    {
+        if !self.upgraded() {
+            return Err(ChangeFault::NotUpgraded);
+        }
+        if self.member(member).is_none() {
+            return Err(ChangeFault::NotMember);
+        }
+        if self.is_device_used(Device {
+            member,
+            number: device,
+        }) {
+            return Err(ChangeFault::DeviceUsed);
+        }
+        if self.devices(member).len() >= usize::from(MAX_DEVICES) {
+            return Err(ChangeFault::DevicesFull);
+        }
+        if LmsPublic::from_bytes(key).is_none() {
+            return Err(ChangeFault::BadKey);
+        }
+        Ok(())
+    }
+
+    fn test_drop_device(&self, member: u16, device: u8) -> Result<(), ChangeFault>
+        ensures { Answers result (change_fault_of self.now.roster (Change.DropDevice member device)) }
+    {
+        if !self.upgraded() {
+            return Err(ChangeFault::NotUpgraded);
+        }
+        if self.member(member).is_none() {
+            return Err(ChangeFault::NotMember);
+        }
+        if self.key(member, device).is_none() {
+            return Err(ChangeFault::NoDevice);
+        }
+        if self.devices(member).len() <= 1 {
+            return Err(ChangeFault::LastDevice);
+        }
+        Ok(())
+    }
+
+    fn test_upgrade(&self) -> Result<(), ChangeFault>
+        ensures { Answers result (change_fault_of self.now.roster Change.Upgrade) }
+    {
+        if self.upgraded() {
+            return Err(ChangeFault::AlreadyUpgraded);
+        }
+        Ok(())
+    }
+
     /// Takes the memory of one change: the next `make` takes none.
     pub fn reserve(&mut self) -> Result<(), Memory>
         ensures unchanged { self.new.roster ≡ self.old.roster }
@@ -157,6 +267,8 @@ impl Roster {
     {
         self.members.reserve(1)?;
         self.numbers.reserve(1)?;
+        self.devices.reserve(1)?;
+        self.device_numbers.reserve(1)?;
         self.ever.reserve(1)
     }
 
@@ -177,6 +289,19 @@ impl Roster {
                 self.set_role(*member, *role);
                 Ok(())
             }
+            Change::AddDevice {
+                member,
+                device,
+                key,
+            } => self.add_device(*member, *device, *key),
+            Change::DropDevice { member, device } => {
+                self.drop_device(*member, *device);
+                Ok(())
+            }
+            Change::Upgrade => {
+                self.upgrade();
+                Ok(())
+            }
         }
     }
 
@@ -187,10 +312,16 @@ impl Roster {
         ensures ready { 1 ≤ self.old.spare → IsOk result }
     {
         self.reserve()?;
+        let device = Device::first(member);
         let place = place_of(self.numbers.as_slice(), member);
-        insert_ready(&mut self.members, place, Founder { member, role, key });
+        insert_ready(&mut self.members, place, Member { member, role });
         insert_ready(&mut self.numbers, place, member);
-        self.ever.push_reserved(member);
+        insert_live(
+            &mut self.devices,
+            &mut self.device_numbers,
+            LiveDevice { device, key },
+        );
+        self.ever.push_reserved(device);
         Ok(())
     }
 
@@ -199,6 +330,8 @@ impl Roster {
     {
         take_out_member(&mut self.members, member);
         take_out_number(&mut self.numbers, member);
+        take_out_devices_of(&mut self.devices, member);
+        renumber(&mut self.device_numbers, self.devices.as_slice());
     }
 
     fn set_role(&mut self, member: u16, role: Role)
@@ -207,15 +340,58 @@ impl Roster {
         give_role(&mut self.members, member, role);
     }
 
+    fn add_device(&mut self, member: u16, device: u8, key: [u8; 56]) -> Result<(), Memory>
+        requires accepted { change_fault_of self.old.roster (Change.AddDevice member device key) ≡ None }
+        ensures ok { OnOk result (self.new.roster ≡ after_change self.old.roster (Change.AddDevice member device key)) }
+        ensures memory { OnErr result (self.new.roster ≡ self.old.roster) }
+        ensures ready { 1 ≤ self.old.spare → IsOk result }
+    {
+        self.reserve()?;
+        let device = Device {
+            member,
+            number: device,
+        };
+        insert_live(
+            &mut self.devices,
+            &mut self.device_numbers,
+            LiveDevice { device, key },
+        );
+        self.ever.push_reserved(device);
+        Ok(())
+    }
+
+    fn drop_device(&mut self, member: u16, device: u8)
+        ensures { self.new.roster ≡ after_change self.old.roster (Change.DropDevice member device) }
+    {
+        take_out_device(
+            &mut self.devices,
+            Device {
+                member,
+                number: device,
+            },
+        );
+        renumber(&mut self.device_numbers, self.devices.as_slice());
+    }
+
+    fn upgrade(&mut self)
+        ensures { self.new.roster ≡ after_change self.old.roster Change.Upgrade }
+    {
+        self.upgraded = true;
+    }
+
     /// The numbers of the members after a change, ascending where `test` accepts it.
     pub fn members_after(&self, change: &Change) -> Result<Vec<u16>, Memory>
         ensures ok { IfOk result (λ numbers. numbers.items ≡ numbers_of (after_change self.now.roster change.now).members) }
     {
         let alloc = *self.numbers.allocator();
+        let numbers = self.numbers.as_slice();
         match change {
-            Change::Add { member, .. } => numbers_with(alloc, self.numbers.as_slice(), *member),
-            Change::Remove { member } => numbers_without(alloc, self.numbers.as_slice(), *member),
-            Change::SetRole { .. } => Vec::from_slice(alloc, self.numbers.as_slice()),
+            Change::Add { member, .. } => numbers_with(alloc, numbers, *member),
+            Change::Remove { member } => numbers_without(alloc, numbers, *member),
+            Change::SetRole { .. } => Vec::from_slice(alloc, numbers),
+            Change::AddDevice { .. } | Change::DropDevice { .. } | Change::Upgrade => {
+                Vec::from_slice(alloc, numbers)
+            }
         }
     }
 }

@@ -92,7 +92,7 @@ impl Order {
         self.submit_known(bytes, None)
     }
 
-    /// The same of an entry whose signature was examined. It is verified anew if the key isn't its author's here.
+    /// The same of an entry whose signature was examined. It is verified anew if the key isn't that of its author's device here.
     pub fn submit_examined(&mut self, examined: &Examined) -> Result<u32, Refusal>
         ensures genesis { self.new.genesis ≡ self.old.genesis }
         ensures fault { AnswersUnless Refusal.Memory result (head_fault self.old.genesis None self.old.entries (length self.old.entries + 1) examined.now.entry) }
@@ -120,8 +120,8 @@ impl Order {
         }
     }
 
-    /// The key under which the check of an entry's signature verifies it here: its author's. None exactly if the bytes are
-    /// no entry, or its author is no member. It takes no memory.
+    /// The key under which the check of an entry's signature verifies it here: that of its author's device. None exactly if the
+    /// bytes are no entry, or its author has no such live device. It takes no memory.
     pub fn key_for(&self, entry: &[u8]) -> Option<[u8; 56]>
         ensures value { result ≡ key_for (roster_of self.now.genesis self.now.entries) entry.now }
     {

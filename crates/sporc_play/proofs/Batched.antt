@@ -8,6 +8,8 @@ use Rattle.std.proofs.lemmas.Grind.{flat_map-append}
 use Rattle.std.proofs.lemmas.List.{length-map, map-append}
 use Rattle.std.proofs.lemmas.List.Sums.{fold-append}
 use Rattle.std.proofs.lemmas.Bool.{cases_lt}
+use Rattle.sporc_member.specs.declared.device.Device.{Device}
+use Rattle.sporc_member.specs.Device.{first_device}
 use Rattle.sporc_script.specs.declared.command.Command.{Command}
 use Rattle.sporc_script.specs.declared.command.Command.TheVariants as commands
 use Rattle.sporc_script.specs.declared.command.Give.{Give}
@@ -48,23 +50,23 @@ has_room n k old new commands room does few = record {
 
 -- ---- the members
 
-three : (m : ℕ) → IsAsked m → Contains (1 ∷ 2 ∷ 3 ∷ []) m
+three : (m : ℕ) → IsAsked m → Contains (first_device 1 ∷ first_device 2 ∷ first_device 3 ∷ []) (first_device m)
 three m is = elim (cases_lt m 2) [
-  | inl one ↦ let e : 1 ≡ m = omega (arith, one, is) in (0, omega arith, e)
+  | inl one ↦ let e : 1 ≡ m = omega (arith, one, is) in (0, omega arith, ap first_device e)
   | inr more ↦ elim (cases_lt m 3) [
-    | inl two ↦ let e : 2 ≡ m = omega (arith, two, more) in (1, omega arith, e)
-    | inr last ↦ let e : 3 ≡ m = omega (arith, last, is) in (2, omega arith, e)
+    | inl two ↦ let e : 2 ≡ m = omega (arith, two, more) in (1, omega arith, ap first_device e)
+    | inr last ↦ let e : 3 ≡ m = omega (arith, last, is) in (2, omega arith, ap first_device e)
   ]
 ]
 
-all_seated : (setup_of generated_cast).members ≡ 1 ∷ 2 ∷ 3 ∷ []
+all_seated : (setup_of generated_cast).devices ≡ first_device 1 ∷ first_device 2 ∷ first_device 3 ∷ []
 unfolding setup_of
 all_seated = refl
 
-pub seated_by : (scene : Scene) (state : PlayState) (m : ℕ) → StandsFor generated_cast scene state → IsAsked m → Contains (seated state.seats.items) m
-seated_by scene state m stands is = subst (λ (ns : List ℕ). Contains ns m) (sym (stands.seated ∙ all_seated)) (three m is)
+pub seated_by : (scene : Scene) (state : PlayState) (m : ℕ) → StandsFor generated_cast scene state → IsAsked m → Contains (seated state.seats.items) (first_device m)
+seated_by scene state m stands is = subst (λ (ds : List Device). Contains ds (first_device m)) (sym (stands.seated ∙ all_seated)) (three m is)
 
-pub seated_there : (n : ℕ) (state : PlayState) (m : ℕ) → HasRoom n state → IsAsked m → Contains (seated state.seats.items) m
+pub seated_there : (n : ℕ) (state : PlayState) (m : ℕ) → HasRoom n state → IsAsked m → Contains (seated state.seats.items) (first_device m)
 seated_there n state m room is = seated_by room.scene state m room.stands is
 
 pub can_ask : (state : PlayState) (command : Command) → HasRoom 1 state → IsCast state command → text_size command ≤ MAX_SCRIPT → CanPerform state command
@@ -134,7 +136,7 @@ can_edit state command j a room asked is =
     short_edit : (j a : ℕ) (scene : Scene) → text_size (edits j a scene) ≤ MAX_SCRIPT
     short_edit j a scene = go (eqb (j % 5) 0)
       where
-        go : (b : Bool) → edit_size (cond b (removes a) (inserts j a (seen_len (scene.world.clients a)))) ≤ MAX_SCRIPT
+        go : (b : Bool) → edit_size (cond b (removes a) (inserts j a (seen_len (scene.world.clients (first_device a))))) ≤ MAX_SCRIPT
         go true = omega arith
         go false = short_letter (97 + (3 * j + a) % 26) (omega arith)
 

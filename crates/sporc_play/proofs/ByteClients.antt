@@ -1,12 +1,14 @@
 -- The keys that the clients of a play hold, and those of the members whom they are to add, are strings of bytes.
-use Rattle.std.proofs.Common.{◌≡◌, ℕ, Bool, true, false, cond, List, [], ◌∷◌, ◌++◌, drop, take, refl, subst, Option, None, Some, IfSome}
-use Rattle.std.specs.Prelude.{◌==◌, is_some}
+use Rattle.std.proofs.Common.{◌≡◌, ℕ, ◌<◌, Bool, true, false, cond, List, [], ◌∷◌, ◌++◌, drop, take, refl, subst, Option, None, Some, IfSome}
+use Rattle.std.specs.Prelude.{is_some}
 use Rattle.std.specs.FinMap.{get}
 use Rattle.std.specs.List.{AllByRecursion}
 use Rattle.sporc_delta.specs.Marks.{Mark}
 use Rattle.sporc_delta.specs.Transforms.{earlier}
 use Rattle.sporc_member.specs.declared.change.Change.{Change as MemberChange}
-use Rattle.sporc_member.specs.declared.change.Change.TheVariants.{Add, Remove, SetRole}
+use Rattle.sporc_member.specs.declared.change.Change.TheVariants.{Add, Remove, SetRole, AddDevice, DropDevice, Upgrade}
+use Rattle.sporc_member.specs.declared.device.Device.{Device}
+use Rattle.sporc_member.specs.Device.{same_device}
 use Rattle.sporc_epoch.specs.Keys.{Keys}
 use Rattle.sporc_head.specs.History.{change_in}
 use Rattle.sporc_head.specs.declared.refusal.Refusal.{Refusal}
@@ -27,6 +29,9 @@ abbrev pub IsByteChange : MemberChange → Type 0
 IsByteChange (Add member role key) = AreBytes key
 IsByteChange (Remove member) = Unit {0}
 IsByteChange (SetRole member role) = Unit {0}
+IsByteChange (AddDevice member device key) = (device < 256) × AreBytes key
+IsByteChange (DropDevice member device) = device < 256
+IsByteChange Upgrade = Unit {0}
 
 abbrev pub IsByteItem : Pending → Type 0
 IsByteItem (items.Edit marks) = Unit {0}
@@ -88,10 +93,10 @@ replay_bytes c (bytes ∷ entries) is = replay_bytes (accepted c bytes) entries 
 -- ---- moves
 
 abbrev pub AreByteClients : World → Type 0
-AreByteClients w = (who : ℕ) (c : PlainClient) → w.clients who ≡ Some c → IsByteClient c
+AreByteClients w = (who : Device) (c : PlainClient) → w.clients who ≡ Some c → IsByteClient c
 
-put_bytes : (w : World) (who : ℕ) (d : PlainClient) → AreByteClients w → IsByteClient d → AreByteClients (put w who d)
-put_bytes w who d all is other c at = go (other == who) at
+put_bytes : (w : World) (who : Device) (d : PlainClient) → AreByteClients w → IsByteClient d → AreByteClients (put w who d)
+put_bytes w who d all is other c at = go (same_device other who) at
   where
     go : (b : Bool) → cond b (Some d) (w.clients other) ≡ Some c → IsByteClient c
     go true at = let same : d ≡ c = cc in subst IsByteClient same is

@@ -3,8 +3,10 @@ use Rattle.std.proofs.Common.{◌≡◌, ℕ, zero, suc, Bool, true, false, cond
 use Rattle.std.specs.Prelude.{Contains, if◌then◌else◌, nat_le}
 use Rattle.std.specs.List.{AllByRecursion}
 use Rattle.std.proofs.lemmas.List.Elements.{Contains-append_left, Contains-append_right}
+use Rattle.sporc_member.specs.declared.device.Device.{Device}
 use Rattle.sporc_member.specs.declared.founder.Founder.{Founder}
-use Rattle.sporc_member.specs.Roster.{insert_sorted}
+use Rattle.sporc_member.specs.Device.{first_device}
+use Rattle.sporc_member.specs.Lists.{insert_by}
 use Rattle.sporc_epoch.specs.Keys.{Keys}
 use Rattle.sporc_epoch.specs.Hints.{hints_of}
 use Rattle.sporc_epoch.specs.declared.fault.HintFault.{HintFault}
@@ -23,7 +25,6 @@ use Rattle.sporc_client.specs.Genuine.{Genuine}
 use Rattle.sporc_client.specs.Typed.{IsTypedRun}
 use Rattle.sporc_client.specs.Run.{Setup, Signing, World, Move, Give, Happen, Open, Restart, after, after_all, gives_to, happens_to, restarts as restarts_in, signings, start}
 use Rattle.sporc_client.proofs.ClosedRuns.{closed_runs_are_genuine}
-use Rattle.sporc_client.proofs.RosterFacts.{all_added}
 use Rattle.sporc_delta.specs.Marks.{Mark}
 use Rattle.sporc_script.specs.Grammar.{IsPlayScript}
 use Rattle.sporc_script.specs.declared.command.Command.{Command}
@@ -39,7 +40,7 @@ use Rattle.sporc_play.specs.Moves.{moves_from, moves_of}
 use Rattle.sporc_play.specs.OwnPlays.{AreByClients, IsByClients}
 use Rattle.sporc_play.specs.Scene.{Effect, Scene, effect_of, adds, commands_of, delta_by, edit_events, entries_at, entry_at, gives, if_open, joins, nothing, opening, opening_moves, openings, opens_unless, opens_with, restarts, seen_by, submission_in, submits}
 use Rattle.sporc_play.specs.Scene as scenes
-use Rattle.sporc_play.proofs.Founders.{founders, inserted}
+use Rattle.sporc_play.proofs.Founders.{all_added, founders, inserted}
 use Rattle.sporc_play.proofs.OneRun.{typed_run}
 use Rattle.sporc_play.proofs.Places.{at_place}
 
@@ -83,31 +84,31 @@ record IsOwn (s : Setup) (scene : Scene) (act : Effect) : Type 0 where
 no_own : (s : Setup) (scene : Scene) → IsOwn s scene nothing
 no_own s scene = record { closed = tt; made = tt }
 
-own_if_open : (s : Setup) (scene : Scene) (m : ℕ) (act : PlainClient → Effect) → ((c : PlainClient) → scene.world.clients m ≡ Some c → IsOwn s scene (act c)) → IsOwn s scene (if_open (scene.world.clients m) act)
+own_if_open : (s : Setup) (scene : Scene) (m : Device) (act : PlainClient → Effect) → ((c : PlainClient) → scene.world.clients m ≡ Some c → IsOwn s scene (act c)) → IsOwn s scene (if_open (scene.world.clients m) act)
 own_if_open s scene m act each = go (scene.world.clients m) each
   where
     go : (o : Option PlainClient) → ((c : PlainClient) → o ≡ Some c → IsOwn s scene (act c)) → IsOwn s scene (if_open o act)
     go None each = no_own s scene
     go (Some c) each = each c refl
 
-own_event : {F : Type 0} (s : Setup) (scene : Scene) (m : ℕ) (fault : Option F) (event : Logged) → IsClosedMove s scene.world (Happen m event) → IsOwn s scene (adds m (logged_unless fault event))
+own_event : {F : Type 0} (s : Setup) (scene : Scene) (m : Device) (fault : Option F) (event : Logged) → IsClosedMove s scene.world (Happen m event) → IsOwn s scene (adds m (logged_unless fault event))
 own_event s scene m None event closed = record { closed = (closed, tt); made = tt }
 own_event s scene m (Some fault) event closed = no_own s scene
 
-own_edit : (s : Setup) (scene : Scene) (m : ℕ) (c : PlainClient) (seen : ℕ) (o : Option (List Mark)) → IsOwn s scene (adds m (edit_logged c seen o))
+own_edit : (s : Setup) (scene : Scene) (m : Device) (c : PlainClient) (seen : ℕ) (o : Option (List Mark)) → IsOwn s scene (adds m (edit_logged c seen o))
 own_edit s scene m c seen None = no_own s scene
 own_edit s scene m c seen (Some marks) = own_event s scene m (edit_fault c seen marks) (Edit 0 seen marks) tt
 
-own_change : (s : Setup) (scene : Scene) (m : ℕ) (change : RosterChange) → IsClosedMove s scene.world (Happen m (Change 0 (member_change s change)))
+own_change : (s : Setup) (scene : Scene) (m : Device) (change : RosterChange) → IsClosedMove s scene.world (Happen m (Change 0 (member_change s change)))
 own_change s scene m (changes.Add r) = λ among. refl
 own_change s scene m (changes.Remove r) = tt
 own_change s scene m (changes.SetRole r) = tt
 
-signed_now : (s : Setup) (w : World) (m : ℕ) (c : PlainClient) (bytes : List ℕ) → w.clients m ≡ Some c → IsSigned (after s w (Happen m (Submit 0 bytes))) bytes
+signed_now : (s : Setup) (w : World) (m : Device) (c : PlainClient) (bytes : List ℕ) → w.clients m ≡ Some c → IsSigned (after s w (Happen m (Submit 0 bytes))) bytes
 signed_now s w m c bytes at = subst (λ (o : Option PlainClient). IsSigned (happens_to w m (Submit 0 bytes) o) bytes) (sym at)
     (record { who = m; entry = bytes; client = c }, Contains-append_right w.signed (record { who = m; entry = bytes; client = c } ∷ []) (record { who = m; entry = bytes; client = c }) (0, omega arith, refl), refl)
 
-own_submission : (s : Setup) (scene : Scene) (m : ℕ) (c : PlainClient) (r : Result Submitted SubmitFault) → scene.world.clients m ≡ Some c → IsOwn s scene (submits m r)
+own_submission : (s : Setup) (scene : Scene) (m : Device) (c : PlainClient) (r : Result Submitted SubmitFault) → scene.world.clients m ≡ Some c → IsOwn s scene (submits m r)
 own_submission s scene m c (Ok (submitted.Entry bytes)) at = record { closed = (tt, tt); made = (signed_now s scene.world m c bytes at, tt) }
 own_submission s scene m c (Ok (submitted.Dropped fault)) at = record { closed = (tt, tt); made = tt }
 own_submission s scene m c (Ok submitted.Waiting) at = no_own s scene
@@ -118,21 +119,21 @@ found_signed : (w : World) (made : List (List ℕ)) (number : ℕ) (bytes : List
 found_signed w made zero bytes all at = absurd cc
 found_signed w made (suc n) bytes all at = at_place (IsSigned w) made n bytes all at
 
-own_give : (s : Setup) (scene : Scene) (m position number : ℕ) (o : Option (List ℕ)) → AllByRecursion (IsSigned scene.world) scene.made → entry_at scene.made number ≡ o → IsOwn s scene (gives m position o)
+own_give : (s : Setup) (scene : Scene) (m : Device) (position number : ℕ) (o : Option (List ℕ)) → AllByRecursion (IsSigned scene.world) scene.made → entry_at scene.made number ≡ o → IsOwn s scene (gives m position o)
 own_give s scene m position number None all at = no_own s scene
 own_give s scene m position number (Some bytes) all at = record { closed = (found_signed scene.world scene.made number bytes all at, tt); made = tt }
 
-own_restart : (s : Setup) (scene : Scene) (m k : ℕ) (c : PlainClient) → IsOwn s scene (restarts m k c)
+own_restart : (s : Setup) (scene : Scene) (m : Device) (k : ℕ) (c : PlainClient) → IsOwn s scene (restarts m k c)
 own_restart s scene m k c = go (nat_le k (length c.entries))
   where
     go : (b : Bool) → IsOwn s scene (cond b (record { moves = Restart m k ∷ []; entries = [] }) nothing)
     go true = record { closed = (tt, tt); made = tt }
     go false = no_own s scene
 
-own_join : (s : Setup) (scene : Scene) (m : ℕ) (r : Result (List (List ℕ)) ℕ) (o : Option PlainClient) → IsOwn s scene (joins s m r o)
+own_join : (s : Setup) (scene : Scene) (m : Device) (r : Result (List (List ℕ)) ℕ) (o : Option PlainClient) → IsOwn s scene (joins s m r o)
 own_join s scene m r (Some c) = no_own s scene
 own_join s scene m (Err missing) None = no_own s scene
-own_join s scene m (Ok entries) None = hinted (hints_of entries m (s.pairs m))
+own_join s scene m (Ok entries) None = hinted (hints_of entries m.member (s.pairs m))
   where
     opened : (ring : Keys) (fault : Option LineOpenFault) → IsOwn s scene (opens_unless m ring fault)
     opened ring None = record { closed = (tt, tt); made = tt }
@@ -143,16 +144,18 @@ own_join s scene m (Ok entries) None = hinted (hints_of entries m (s.pairs m))
     hinted (Err fault) = no_own s scene
 
 own_act : (s : Setup) (scene : Scene) (c : Command) → IsByClients c → AllByRecursion (IsSigned scene.world) scene.made → IsOwn s scene (effect_of s scene c)
-own_act s scene (commands.Edit e) by all = own_if_open s scene e.member (λ c. adds e.member (edit_events e c)) (λ c at. own_edit s scene e.member c (seen_by c e.seen) (delta_by c (seen_by c e.seen) e.change))
+own_act s scene (commands.Edit e) by all = own_if_open s scene (first_device e.member) (λ c. adds (first_device e.member) (edit_events e c)) (λ c at. own_edit s scene (first_device e.member) c (seen_by c e.seen) (delta_by c (seen_by c e.seen) e.change))
 own_act s scene (commands.Change e) by all =
-    own_if_open s scene e.member (λ c. adds e.member (change_events (member_change s e.change) c))
-    (λ c at. own_event s scene e.member (change_fault c) (Change 0 (member_change s e.change)) (own_change s scene e.member e.change))
-own_act s scene (commands.Discard m) by all = own_if_open s scene m (λ c. adds m (discard_events c)) (λ c at. own_event s scene m (discard_fault c) (Discard 0) tt)
-own_act s scene (commands.Submit m) by all = own_if_open s scene m (λ c. submits m (submission_in s scene m c)) (λ c at. own_submission s scene m c (submission_in s scene m c) at)
+    own_if_open s scene (first_device e.member) (λ c. adds (first_device e.member) (change_events (member_change s e.change) c))
+    (λ c at. own_event s scene (first_device e.member) (change_fault c) (Change 0 (member_change s e.change)) (own_change s scene (first_device e.member) e.change))
+own_act s scene (commands.Discard m) by all = own_if_open s scene (first_device m) (λ c. adds (first_device m) (discard_events c)) (λ c at. own_event s scene (first_device m) (discard_fault c) (Discard 0) tt)
+own_act s scene (commands.Submit m) by all =
+    let who = first_device m in
+    own_if_open s scene who (λ c. submits who (submission_in s scene who c)) (λ c at. own_submission s scene who c (submission_in s scene who c) at)
 own_act s scene (commands.Give g) by all =
-    own_if_open s scene g.member (λ c. gives g.member g.position (entry_at scene.made g.entry)) (λ c at. own_give s scene g.member g.position g.entry (entry_at scene.made g.entry) all refl)
-own_act s scene (commands.Restart r) by all = own_if_open s scene r.member (restarts r.member r.entries) (λ c at. own_restart s scene r.member r.entries c)
-own_act s scene (commands.Join j) by all = own_join s scene j.member (entries_at scene.made j.entries) (scene.world.clients j.member)
+    own_if_open s scene (first_device g.member) (λ c. gives (first_device g.member) g.position (entry_at scene.made g.entry)) (λ c at. own_give s scene (first_device g.member) g.position g.entry (entry_at scene.made g.entry) all refl)
+own_act s scene (commands.Restart r) by all = own_if_open s scene (first_device r.member) (restarts (first_device r.member) r.entries) (λ c at. own_restart s scene (first_device r.member) r.entries c)
+own_act s scene (commands.Join j) by all = own_join s scene (first_device j.member) (entries_at scene.made j.entries) (scene.world.clients (first_device j.member))
 own_act s scene (commands.Flip f) by all = absurd by
 own_act s scene (commands.Cut n) by all = absurd by
 own_act s scene (commands.Sign f) by all = absurd by
@@ -185,7 +188,7 @@ closed_from s scene (command ∷ asked) by all =
     closed_append s scene.world act.moves (moves_from s (scenes.after s scene (command scene)) asked) own.closed
     (closed_from s (scenes.after s scene (command scene)) asked by.1 (signed_append world scene.made act.entries (all_stay s scene.world act.moves scene.made all) own.made))
 
-openings_closed : (s : Setup) (w : World) (ns : List ℕ) → AreClosed s w (map (λ (n : ℕ). Open n first_ring) ns)
+openings_closed : (s : Setup) (w : World) (ns : List Device) → AreClosed s w (map (λ (n : Device). Open n first_ring) ns)
 openings_closed s w [] = tt
 openings_closed s w (n ∷ ns) = (tt, openings_closed s (after s w (Open n first_ring)) ns)
 
@@ -198,15 +201,15 @@ first_closed s script = go (has_admin script)
 
 -- ---- the founders
 
-keys_own : (script : List PlayLine) (founders : List Founder) → AllByRecursion (λ (f : Founder). f.key ≡ public_of (tree_of script) f.member) founders → AllByRecursion (HasItsKey (setup_of script)) founders
+keys_own : (script : List PlayLine) (founders : List Founder) → AllByRecursion (λ (f : Founder). f.key ≡ public_of (tree_of script) (first_device f.member)) founders → AllByRecursion (HasItsKey (setup_of script)) founders
 unfolding setup_of
 keys_own script [] all = tt
 keys_own script (f ∷ fs) all = ((λ among. all.0), keys_own script fs all.1)
 
-founders_own : (tree : Tree) (fs : List Founder) (ms : List MemberRole) → AllByRecursion (λ (f : Founder). f.key ≡ public_of tree f.member) fs
-    → AllByRecursion (λ (f : Founder). f.key ≡ public_of tree f.member) (inserted tree fs ms)
+founders_own : (tree : Tree) (fs : List Founder) (ms : List MemberRole) → AllByRecursion (λ (f : Founder). f.key ≡ public_of tree (first_device f.member)) fs
+    → AllByRecursion (λ (f : Founder). f.key ≡ public_of tree (first_device f.member)) (inserted tree fs ms)
 founders_own tree fs [] all = all
-founders_own tree fs (m ∷ ms) all = founders_own tree (insert_sorted (founder_of tree m) fs) ms (all_added (λ (f : Founder). f.key ≡ public_of tree f.member) (founder_of tree m) fs refl all)
+founders_own tree fs (m ∷ ms) all = founders_own tree (insert_by (λ (f : Founder). f.member) (founder_of tree m) fs) ms (all_added (λ (f : Founder). f.key ≡ public_of tree (first_device f.member)) (founder_of tree m) fs refl all)
 
 founders_keys : (script : List PlayLine) → AllByRecursion (HasItsKey (setup_of script)) (setup_of script).genesis.founders
 unfolding setup_of

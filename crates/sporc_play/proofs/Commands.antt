@@ -10,6 +10,7 @@ use Rattle.sporc_client.specs.PlainClient.{Opening, PlainClient}
 use Rattle.sporc_client.specs.Run.{Setup, Move, Give, Restart, given, restarted}
 use Rattle.sporc_client.specs.Step.{accepted, log_of_entries, replay, replay_from}
 use Rattle.sporc_client.proofs.Calls.{replay_append, replay_opening}
+use Rattle.sporc_member.specs.declared.device.Device.{Device}
 use Rattle.sporc_script.specs.declared.play_line.PlayLine.{PlayLine}
 use Rattle.sporc_play.specs.declared.seat.Seat.{Seat}
 use Rattle.sporc_play.specs.declared.state.PlayState.{PlayState}
@@ -25,39 +26,39 @@ use Rattle.sporc_play.proofs.Seating.{ChangesSeat, Does, client_moved, same_for_
 
 -- ---- the seat that a command names
 
-pub seat_there : (script : List PlayLine) (scene : Scene) (state : PlayState) (i m : ℕ) (seat : Seat) → StandsFor script scene state → IsSeatAt state.seats.items i m seat → IsSeatOf (setup_of script) scene seat
-seat_there script scene state i m seat stands at = at_place (IsSeatOf (setup_of script) scene) state.seats.items i seat stands.seats at.there
+pub seat_there : (script : List PlayLine) (scene : Scene) (state : PlayState) (i : ℕ) (who : Device) (seat : Seat) → StandsFor script scene state → IsSeatAt state.seats.items i who seat → IsSeatOf (setup_of script) scene seat
+seat_there script scene state i who seat stands at = at_place (IsSeatOf (setup_of script) scene) state.seats.items i seat stands.seats at.there
 
-pub client_there : (script : List PlayLine) (scene : Scene) (state : PlayState) (i m : ℕ) (seat : Seat) → StandsFor script scene state → IsSeatAt state.seats.items i m seat → scene.world.clients m ≡ plain_in seat
-client_there script scene state i m seat stands at = ap scene.world.clients (sym at.own) ∙ (seat_there script scene state i m seat stands at).client
+pub client_there : (script : List PlayLine) (scene : Scene) (state : PlayState) (i : ℕ) (who : Device) (seat : Seat) → StandsFor script scene state → IsSeatAt state.seats.items i who seat → scene.world.clients who ≡ plain_in seat
+client_there script scene state i who seat stands at = ap scene.world.clients (sym at.own) ∙ (seat_there script scene state i who seat stands at).client
 
 -- the line that a client tells
-pub told : (script : List PlayLine) (scene : Scene) (state : PlayState) (i m : ℕ) (seat : Seat) (line : PlainClient → List ℕ) (old new : List ℕ) → StandsFor script scene state → IsSeatAt state.seats.items i m seat
-    → new ≡ old ++ line_by m (plain_in seat) line → (l : List ℕ) × (l ≡ line_by m (scene.world.clients m) line) × (new ≡ old ++ l)
-told script scene state i m seat line old new stands at is =
-    (line_by m (plain_in seat) line, ap (λ (o : Option PlainClient). line_by m o line) (sym (client_there script scene state i m seat stands at)), is)
+pub told : (script : List PlayLine) (scene : Scene) (state : PlayState) (i : ℕ) (who : Device) (seat : Seat) (line : PlainClient → List ℕ) (old new : List ℕ) → StandsFor script scene state → IsSeatAt state.seats.items i who seat
+    → new ≡ old ++ line_by who.member (plain_in seat) line → (l : List ℕ) × (l ≡ line_by who.member (scene.world.clients who) line) × (new ≡ old ++ l)
+told script scene state i who seat line old new stands at is =
+    (line_by who.member (plain_in seat) line, ap (λ (o : Option PlainClient). line_by who.member o line) (sym (client_there script scene state i who seat stands at)), is)
 
 -- ---- what adds events
 
-no_entries : (m : ℕ) (events : PlainClient → List Logged) (o : Option PlainClient) → (if_open o (λ c. adds m (events c))).entries ≡ []
-no_entries m events None = refl
-no_entries m events (Some c) = refl
+no_entries : (who : Device) (events : PlainClient → List Logged) (o : Option PlainClient) → (if_open o (λ c. adds who (events c))).entries ≡ []
+no_entries who events None = refl
+no_entries who events (Some c) = refl
 
-of_member : (m : ℕ) (events : PlainClient → List Logged) (o : Option PlainClient) → AreOf m (if_open o (λ c. adds m (events c))).moves
-of_member m events None = tt
-of_member m events (Some c) = happens_of m (events c)
+of_device : (who : Device) (events : PlainClient → List Logged) (o : Option PlainClient) → AreOf who (if_open o (λ c. adds who (events c))).moves
+of_device who events None = tt
+of_device who events (Some c) = happens_of who (events c)
 
-pub adds_stand : (script : List PlayLine) (scene scene' : Scene) (state state' : PlayState) (i m : ℕ) (seat : Seat) (events : PlainClient → List Logged) → StandsFor script scene state → IsSeatAt state.seats.items i m seat
-    → Does (setup_of script) scene (if_open (scene.world.clients m) (λ c. adds m (events c))).moves scene' → scene'.made ≡ scene.made ++ (if_open (scene.world.clients m) (λ c. adds m (events c))).entries
+pub adds_stand : (script : List PlayLine) (scene scene' : Scene) (state state' : PlayState) (i : ℕ) (who : Device) (seat : Seat) (events : PlainClient → List Logged) → StandsFor script scene state → IsSeatAt state.seats.items i who seat
+    → Does (setup_of script) scene (if_open (scene.world.clients who) (λ c. adds who (events c))).moves scene' → scene'.made ≡ scene.made ++ (if_open (scene.world.clients who) (λ c. adds who (events c))).entries
     → ChangesSeat i (seat_logged events seat) state state' → map (λ bytes. bytes.items) state'.made.items ≡ map (λ bytes. bytes.items) state.made.items → StandsFor script scene' state'
-adds_stand script scene scene' state state' i m seat events stands at does made changed same =
+adds_stand script scene scene' state state' i who seat events stands at does made changed same =
     let s = setup_of script in
-    let o = scene.world.clients m in
-    stands_seat script scene scene' state state' i m seat (seat_logged events seat) stands at
-    (λ other differs. same_for_others s scene scene' (if_open o (λ c. adds m (events c))).moves m other does (of_member m events o) differs)
-    (seat_adds s scene scene' seat events (seat_there script scene state i m seat stands at) (subst (λ (n : ℕ). Does s scene (if_open (scene.world.clients n) (λ c. adds n (events c))).moves scene') (sym at.own) does))
+    let o = scene.world.clients who in
+    stands_seat script scene scene' state state' i who seat (seat_logged events seat) stands at
+    (λ other differs. same_for_others s scene scene' (if_open o (λ c. adds who (events c))).moves who other does (of_device who events o) differs)
+    (seat_adds s scene scene' seat events (seat_there script scene state i who seat stands at) (subst (λ (n : Device). Does s scene (if_open (scene.world.clients n) (λ c. adds n (events c))).moves scene') (sym at.own) does))
     refl changed
-    (same ∙ stands.made ∙ sym (append-nil scene.made) ∙ ap (λ (es : List (List ℕ)). scene.made ++ es) (sym (no_entries m events o)) ∙ sym made)
+    (same ∙ stands.made ∙ sym (append-nil scene.made) ∙ ap (λ (es : List (List ℕ)). scene.made ++ es) (sym (no_entries who events o)) ∙ sym made)
 
 -- ---- entries that are handed out
 
@@ -78,28 +79,28 @@ outcome_is c bytes true (Some refusal) = refl
 outcome_is c bytes false (Some refusal) = refl
 
 -- the moves of an entry that is handed out, or of none
-abbrev give_moves : ℕ → ℕ → Option (List ℕ) → Option PlainClient → List Move
-give_moves m position entry o = (if_open o (λ c. gives m position entry)).moves
+abbrev give_moves : Device → ℕ → Option (List ℕ) → Option PlainClient → List Move
+give_moves who position entry o = (if_open o (λ c. gives who position entry)).moves
 
-give_none : (m position : ℕ) (entry : Option (List ℕ)) (o : Option PlainClient) → (if_open o (λ c. gives m position entry)).entries ≡ []
-give_none m position entry None = refl
-give_none m position None (Some c) = refl
-give_none m position (Some bytes) (Some c) = refl
+give_none : (who : Device) (position : ℕ) (entry : Option (List ℕ)) (o : Option PlainClient) → (if_open o (λ c. gives who position entry)).entries ≡ []
+give_none who position entry None = refl
+give_none who position None (Some c) = refl
+give_none who position (Some bytes) (Some c) = refl
 
-give_member : (m position : ℕ) (entry : Option (List ℕ)) (o : Option PlainClient) → AreOf m (give_moves m position entry o)
-give_member m position entry None = tt
-give_member m position None (Some c) = tt
-give_member m position (Some bytes) (Some c) = (refl, tt)
+give_device : (who : Device) (position : ℕ) (entry : Option (List ℕ)) (o : Option PlainClient) → AreOf who (give_moves who position entry o)
+give_device who position entry None = tt
+give_device who position None (Some c) = tt
+give_device who position (Some bytes) (Some c) = (refl, tt)
 
 seat_given : (s : Setup) (scene scene' : Scene) (seat : Seat) (position : ℕ) (entry : Option (List ℕ)) → IsSeatOf s scene seat
-    → Does s scene (give_moves seat.member position entry (scene.world.clients seat.member)) scene' → IsSeatOf s scene' (seat_logged (given_by position entry) seat)
+    → Does s scene (give_moves seat.device position entry (scene.world.clients seat.device)) scene' → IsSeatOf s scene' (seat_logged (given_by position entry) seat)
 seat_given s scene scene' seat position entry is does = go seat.client entry is does
   where
-    go : (o : Option (ClientModel MemoryDiskModel)) (entry : Option (List ℕ)) → IsSeatOf s scene (with_client seat o) → Does s scene (give_moves seat.member position entry (scene.world.clients seat.member)) scene'
+    go : (o : Option (ClientModel MemoryDiskModel)) (entry : Option (List ℕ)) → IsSeatOf s scene (with_client seat o) → Does s scene (give_moves seat.device position entry (scene.world.clients seat.device)) scene'
         → IsSeatOf s scene' (seat_logged (given_by position entry) (with_client seat o))
-    go None entry is does = seat_kept s scene scene' (with_client seat None) (same_for_all s scene scene' seat.member (subst (λ (o : Option PlainClient). Does s scene (give_moves seat.member position entry o) scene') is.client does)) is
+    go None entry is does = seat_kept s scene scene' (with_client seat None) (same_for_all s scene scene' seat.device (subst (λ (o : Option PlainClient). Does s scene (give_moves seat.device position entry o) scene') is.client does)) is
     go (Some c) None is does =
-        client_moved s scene scene' [] seat c (c.log ++ []) is (subst (λ (o : Option PlainClient). Does s scene (give_moves seat.member position None o) scene') is.client does)
+        client_moved s scene scene' [] seat c (c.log ++ []) is (subst (λ (o : Option PlainClient). Does s scene (give_moves seat.device position None o) scene') is.client does)
         (is.client ∙ ap (λ (l : List Logged). Some (replay c.opening l)) (sym (append-nil c.log)))
         (is.holds.log ∙ sym (append-nil c.log))
     go (Some c) (Some bytes) is does =
@@ -108,40 +109,40 @@ seat_given s scene scene' seat position entry is does = go seat.client entry is 
         given_is (state_of c) bytes (refusal_of (state_of c) position bytes)
         ∙ outcome_is (state_of c) bytes (journal_has_room (state_of c)) (refusal_of (state_of c) position bytes)
         ∙ replay_append c.opening c.log added in
-        client_moved s scene scene' (Give seat.member position bytes ∷ []) seat c (c.log ++ added) is
-        (subst (λ (o : Option PlainClient). Does s scene (give_moves seat.member position (Some bytes) o) scene') is.client does)
-        (client_given s scene.world seat.member position (state_of c) bytes is.client ∙ ap Some by_client)
-        (log_moved s scene.world scene.logs (Give seat.member position bytes)
-        ∙ ap (λ (o : Option PlainClient). scene.logs seat.member ++ events_by (λ c. given_events c position bytes) o) is.client
+        client_moved s scene scene' (Give seat.device position bytes ∷ []) seat c (c.log ++ added) is
+        (subst (λ (o : Option PlainClient). Does s scene (give_moves seat.device position (Some bytes) o) scene') is.client does)
+        (client_given s scene.world seat.device position (state_of c) bytes is.client ∙ ap Some by_client)
+        (log_moved s scene.world scene.logs (Give seat.device position bytes)
+        ∙ ap (λ (o : Option PlainClient). scene.logs seat.device ++ events_by (λ c. given_events c position bytes) o) is.client
         ∙ ap (λ (l : List Logged). l ++ added) is.holds.log)
 
-pub give_stands : (script : List PlayLine) (scene scene' : Scene) (state state' : PlayState) (i m position : ℕ) (entry : Option (List ℕ)) (seat : Seat) → StandsFor script scene state → IsSeatAt state.seats.items i m seat
-    → Does (setup_of script) scene (if_open (scene.world.clients m) (λ c. gives m position entry)).moves scene' → scene'.made ≡ scene.made ++ (if_open (scene.world.clients m) (λ c. gives m position entry)).entries
+pub give_stands : (script : List PlayLine) (scene scene' : Scene) (state state' : PlayState) (i : ℕ) (who : Device) (position : ℕ) (entry : Option (List ℕ)) (seat : Seat) → StandsFor script scene state → IsSeatAt state.seats.items i who seat
+    → Does (setup_of script) scene (if_open (scene.world.clients who) (λ c. gives who position entry)).moves scene' → scene'.made ≡ scene.made ++ (if_open (scene.world.clients who) (λ c. gives who position entry)).entries
     → ChangesSeat i (seat_logged (given_by position entry) seat) state state' → map (λ bytes. bytes.items) state'.made.items ≡ map (λ bytes. bytes.items) state.made.items → StandsFor script scene' state'
-give_stands script scene scene' state state' i m position entry seat stands at does made changed same =
+give_stands script scene scene' state state' i who position entry seat stands at does made changed same =
     let s = setup_of script in
-    let o = scene.world.clients m in
-    stands_seat script scene scene' state state' i m seat (seat_logged (given_by position entry) seat) stands at
-    (λ other differs. same_for_others s scene scene' (give_moves m position entry o) m other does (give_member m position entry o) differs)
-    (seat_given s scene scene' seat position entry (seat_there script scene state i m seat stands at) (subst (λ (n : ℕ). Does s scene (give_moves n position entry (scene.world.clients n)) scene') (sym at.own) does))
+    let o = scene.world.clients who in
+    stands_seat script scene scene' state state' i who seat (seat_logged (given_by position entry) seat) stands at
+    (λ other differs. same_for_others s scene scene' (give_moves who position entry o) who other does (give_device who position entry o) differs)
+    (seat_given s scene scene' seat position entry (seat_there script scene state i who seat stands at) (subst (λ (n : Device). Does s scene (give_moves n position entry (scene.world.clients n)) scene') (sym at.own) does))
     refl changed
-    (same ∙ stands.made ∙ sym (append-nil scene.made) ∙ ap (λ (es : List (List ℕ)). scene.made ++ es) (sym (give_none m position entry o)) ∙ sym made)
+    (same ∙ stands.made ∙ sym (append-nil scene.made) ∙ ap (λ (es : List (List ℕ)). scene.made ++ es) (sym (give_none who position entry o)) ∙ sym made)
 
 -- ---- going back
 
-restart_none : (m k : ℕ) (o : Option PlainClient) → (if_open o (restarts m k)).entries ≡ []
-restart_none m k None = refl
-restart_none m k (Some c) = go (nat_le k (length c.entries))
+restart_none : (who : Device) (k : ℕ) (o : Option PlainClient) → (if_open o (restarts who k)).entries ≡ []
+restart_none who k None = refl
+restart_none who k (Some c) = go (nat_le k (length c.entries))
   where
-    go : (b : Bool) → (cond b (moved (Restart m k ∷ [])) nothing).entries ≡ []
+    go : (b : Bool) → (cond b (moved (Restart who k ∷ [])) nothing).entries ≡ []
     go true = refl
     go false = refl
 
-restart_member : (m k : ℕ) (o : Option PlainClient) → AreOf m (if_open o (restarts m k)).moves
-restart_member m k None = tt
-restart_member m k (Some c) = go (nat_le k (length c.entries))
+restart_device : (who : Device) (k : ℕ) (o : Option PlainClient) → AreOf who (if_open o (restarts who k)).moves
+restart_device who k None = tt
+restart_device who k (Some c) = go (nat_le k (length c.entries))
   where
-    go : (b : Bool) → AreOf m (cond b (moved (Restart m k ∷ [])) nothing).moves
+    go : (b : Bool) → AreOf who (cond b (moved (Restart who k ∷ [])) nothing).moves
     go true = (refl, tt)
     go false = tt
 
@@ -149,32 +150,32 @@ back_is : (o : Opening) (log : List Logged) (k : ℕ) → restarted (replay o lo
 back_is o log k = ap (λ (p : Opening). replay p (log_of_entries (take k (replay o log).entries))) (replay_opening o log)
 
 seat_goes_back : (s : Setup) (scene scene' : Scene) (seat : Seat) (k : ℕ) → IsSeatOf s scene seat
-    → Does s scene (if_open (scene.world.clients seat.member) (restarts seat.member k)).moves scene' → IsSeatOf s scene' (seat_restarted k seat)
+    → Does s scene (if_open (scene.world.clients seat.device) (restarts seat.device k)).moves scene' → IsSeatOf s scene' (seat_restarted k seat)
 seat_goes_back s scene scene' seat k is does = go seat.client is
   where
     M : Option PlainClient → List Move
-    M o = (if_open o (restarts seat.member k)).moves
+    M o = (if_open o (restarts seat.device k)).moves
 
-    back : (c : ClientModel MemoryDiskModel) → IsSeatOf s scene (with_client seat (Some c)) → (b : Bool) → Does s scene (cond b (moved (Restart seat.member k ∷ [])) nothing).moves scene'
+    back : (c : ClientModel MemoryDiskModel) → IsSeatOf s scene (with_client seat (Some c)) → (b : Bool) → Does s scene (cond b (moved (Restart seat.device k ∷ [])) nothing).moves scene'
         → IsSeatOf s scene' (with_client seat (Some (record c { log = cond b (log_of_entries (take k (state_of c).entries)) c.log })))
     back c is true did =
-        client_moved s scene scene' (Restart seat.member k ∷ []) seat c (log_of_entries (take k (state_of c).entries)) is did
-        (client_goes_back s scene.world seat.member k (state_of c) is.client ∙ ap Some (back_is c.opening c.log k))
-        (log_moved s scene.world scene.logs (Restart seat.member k) ∙ ap (λ (o : Option PlainClient). first_accepts o k) is.client)
+        client_moved s scene scene' (Restart seat.device k ∷ []) seat c (log_of_entries (take k (state_of c).entries)) is did
+        (client_goes_back s scene.world seat.device k (state_of c) is.client ∙ ap Some (back_is c.opening c.log k))
+        (log_moved s scene.world scene.logs (Restart seat.device k) ∙ ap (λ (o : Option PlainClient). first_accepts o k) is.client)
     back c is false did = client_moved s scene scene' [] seat c c.log is did is.client is.holds.log
 
     go : (o : Option (ClientModel MemoryDiskModel)) → IsSeatOf s scene (with_client seat o) → IsSeatOf s scene' (with_client seat (option_map (client_restarted k) o))
-    go None is = seat_kept s scene scene' (with_client seat None) (same_for_all s scene scene' seat.member (subst (λ (o : Option PlainClient). Does s scene (M o) scene') is.client does)) is
+    go None is = seat_kept s scene scene' (with_client seat None) (same_for_all s scene scene' seat.device (subst (λ (o : Option PlainClient). Does s scene (M o) scene') is.client does)) is
     go (Some c) is = back c is (nat_le k (length (state_of c).entries)) (subst (λ (o : Option PlainClient). Does s scene (M o) scene') is.client does)
 
-pub restart_stands : (script : List PlayLine) (scene scene' : Scene) (state state' : PlayState) (i m k : ℕ) (seat : Seat) → StandsFor script scene state → IsSeatAt state.seats.items i m seat
-    → Does (setup_of script) scene (if_open (scene.world.clients m) (restarts m k)).moves scene' → scene'.made ≡ scene.made ++ (if_open (scene.world.clients m) (restarts m k)).entries
+pub restart_stands : (script : List PlayLine) (scene scene' : Scene) (state state' : PlayState) (i : ℕ) (who : Device) (k : ℕ) (seat : Seat) → StandsFor script scene state → IsSeatAt state.seats.items i who seat
+    → Does (setup_of script) scene (if_open (scene.world.clients who) (restarts who k)).moves scene' → scene'.made ≡ scene.made ++ (if_open (scene.world.clients who) (restarts who k)).entries
     → ChangesSeat i (seat_restarted k seat) state state' → map (λ bytes. bytes.items) state'.made.items ≡ map (λ bytes. bytes.items) state.made.items → StandsFor script scene' state'
-restart_stands script scene scene' state state' i m k seat stands at does made changed same =
+restart_stands script scene scene' state state' i who k seat stands at does made changed same =
     let s = setup_of script in
-    let o = scene.world.clients m in
-    stands_seat script scene scene' state state' i m seat (seat_restarted k seat) stands at
-    (λ other differs. same_for_others s scene scene' (if_open o (restarts m k)).moves m other does (restart_member m k o) differs)
-    (seat_goes_back s scene scene' seat k (seat_there script scene state i m seat stands at) (subst (λ (n : ℕ). Does s scene (if_open (scene.world.clients n) (restarts n k)).moves scene') (sym at.own) does))
+    let o = scene.world.clients who in
+    stands_seat script scene scene' state state' i who seat (seat_restarted k seat) stands at
+    (λ other differs. same_for_others s scene scene' (if_open o (restarts who k)).moves who other does (restart_device who k o) differs)
+    (seat_goes_back s scene scene' seat k (seat_there script scene state i who seat stands at) (subst (λ (n : Device). Does s scene (if_open (scene.world.clients n) (restarts n k)).moves scene') (sym at.own) does))
     refl changed
-    (same ∙ stands.made ∙ sym (append-nil scene.made) ∙ ap (λ (es : List (List ℕ)). scene.made ++ es) (sym (restart_none m k o)) ∙ sym made)
+    (same ∙ stands.made ∙ sym (append-nil scene.made) ∙ ap (λ (es : List (List ℕ)). scene.made ++ es) (sym (restart_none who k o)) ∙ sym made)

@@ -4,8 +4,10 @@ use Rattle.std.specs.Prelude.{filter_map}
 use Rattle.std.specs.List.{AllByRecursion, cons_option}
 use Rattle.std.proofs.lemmas.List.Elements.{filter_map-append}
 use Rattle.std.proofs.lemmas.List.Sums.{fold-append}
+use Rattle.sporc_member.specs.declared.device.Device.{Device}
 use Rattle.sporc_member.specs.declared.founder.Founder.{Founder}
-use Rattle.sporc_member.specs.Roster.{insert_sorted}
+use Rattle.sporc_member.specs.Device.{first_device}
+use Rattle.sporc_member.specs.Lists.{insert_by}
 use Rattle.sporc_script.specs.declared.command.Command.{Command}
 use Rattle.sporc_script.specs.declared.command.Command.TheVariants as commands
 use Rattle.sporc_script.specs.declared.command.Pair.{Pair}
@@ -16,9 +18,9 @@ use Rattle.sporc_play.specs.declared.cast.Cast.{Cast}
 use Rattle.sporc_play.specs.declared.cast.Declared.{Declared}
 use Rattle.sporc_play.specs.declared.seat.Rogue.{Rogue}
 use Rattle.sporc_play.specs.declared.seat.Seat.{Seat}
-use Rattle.sporc_play.specs.Cast.{declared_member, founder_by, founder_of, member_by, public_of, rogue_by, unpaired_by}
+use Rattle.sporc_play.specs.Cast.{declared_member, device_by, founder_by, founder_of, public_of, rogue_by, unpaired_by}
 use Rattle.sporc_play.specs.Opening.{HasRogue, HasSat, HaveDeclared, IsFresh, IsFreshRogue, IsNamed, founders_by}
-use Rattle.sporc_play.specs.Seats.{rogue_numbers, seated}
+use Rattle.sporc_play.specs.Seats.{rogue_devices, seated}
 
 all_push : {X : Type 0} (P : X → Type 0) (xs : List X) (x : X) → AllByRecursion P xs → P x → AllByRecursion P (xs ++ x ∷ [])
 all_push P [] x all p = (p, tt)
@@ -34,15 +36,15 @@ more : {Y : Type 0} (f : Command → Option Y) (lines : List PlayLine) (l : Play
 more f lines l c is =
     filter_map-append (λ (l : PlayLine). f l.command) lines (l ∷ []) ∙ ap (λ (d : Command). filter_map (λ (l : PlayLine). f l.command) lines ++ cons_option (f d) []) is
 
-founders_more : (tree : Tree) (lines : List PlayLine) (l : PlayLine) (m : MemberRole) → founder_by l.command ≡ Some m → founders_by tree (lines ++ l ∷ []) ≡ insert_sorted (founder_of tree m) (founders_by tree lines)
+founders_more : (tree : Tree) (lines : List PlayLine) (l : PlayLine) (m : MemberRole) → founder_by l.command ≡ Some m → founders_by tree (lines ++ l ∷ []) ≡ insert_by (λ (f : Founder). f.member) (founder_of tree m) (founders_by tree lines)
 founders_more tree lines l m is =
-    ap (fold (λ (founders : List Founder) (m : MemberRole). insert_sorted (founder_of tree m) founders) [])
+    ap (fold (λ (founders : List Founder) (m : MemberRole). insert_by (λ (f : Founder). f.member) (founder_of tree m) founders) [])
     (filter_map-append (λ (l : PlayLine). founder_by l.command) lines (l ∷ []) ∙ ap (λ (o : Option MemberRole). filter_map (λ (l : PlayLine). founder_by l.command) lines ++ cons_option o []) is)
-    ∙ fold-append (λ (founders : List Founder) (m : MemberRole). insert_sorted (founder_of tree m) founders) [] (filter_map (λ (l : PlayLine). founder_by l.command) lines) (m ∷ [])
+    ∙ fold-append (λ (founders : List Founder) (m : MemberRole). insert_by (λ (f : Founder). f.member) (founder_of tree m) founders) [] (filter_map (λ (l : PlayLine). founder_by l.command) lines) (m ∷ [])
 
 founders_same : (tree : Tree) (lines : List PlayLine) (l : PlayLine) → founder_by l.command ≡ None → founders_by tree (lines ++ l ∷ []) ≡ founders_by tree lines
 founders_same tree lines l is =
-    ap (fold (λ (founders : List Founder) (m : MemberRole). insert_sorted (founder_of tree m) founders) [])
+    ap (fold (λ (founders : List Founder) (m : MemberRole). insert_by (λ (f : Founder). f.member) (founder_of tree m) founders) [])
     (filter_map-append (λ (l : PlayLine). founder_by l.command) lines (l ∷ []) ∙ ap (λ (o : Option MemberRole). filter_map (λ (l : PlayLine). founder_by l.command) lines ++ cons_option o []) is ∙ append-nil _)
 
 same_more : {Y : Type 0} (f : Command → Option Y) (lines : List PlayLine) (l : PlayLine) (c : Command) (xs : List Y) → l.command ≡ c → f c ≡ None
@@ -60,57 +62,57 @@ push_more {Y = Y} f lines l c xs y is some so =
 -- the names after one more
 record Names (tree : Tree) (lines : List PlayLine) (l : PlayLine) (cast : Cast) : Type 0 where
   declared : map (λ d. d.member) cast.declared.items ≡ filter_map (λ l. declared_member l.command) (lines ++ l ∷ [])
-  keys : AllByRecursion (λ d. d.key ≡ public_of tree d.member) cast.declared.items
+  keys : AllByRecursion (λ d. d.key ≡ public_of tree (first_device d.member)) cast.declared.items
 
 named : (tree : Tree) (lines : List PlayLine) (l : PlayLine) (c : Command) (m : ℕ) (cast new : Cast) (seats : List Seat) (rogues : List Rogue) → HaveDeclared tree lines cast seats rogues → l.command ≡ c → declared_member c ≡ Some m → IsNamed m cast new → Names tree lines l new
 named tree lines l c m cast new seats rogues known is own did = record {
-  declared = ap (map (λ (d : Declared). d.member)) did.declared ∙ map_push (λ (d : Declared). d.member) cast.declared.items (record { member = m; key = public_of cast.tree m })
+  declared = ap (map (λ (d : Declared). d.member)) did.declared ∙ map_push (λ (d : Declared). d.member) cast.declared.items (record { member = m; key = public_of cast.tree (first_device m) })
       ∙ push_more declared_member lines l c (map (λ (d : Declared). d.member) cast.declared.items) m is own known.declared;
-  keys = subst (AllByRecursion (λ (d : Declared). d.key ≡ public_of tree d.member)) (sym did.declared)
-      (all_push (λ (d : Declared). d.key ≡ public_of tree d.member) cast.declared.items (record { member = m; key = public_of cast.tree m }) known.keys (ap (λ (t : Tree). public_of t m) known.tree_is));
+  keys = subst (AllByRecursion (λ (d : Declared). d.key ≡ public_of tree (first_device d.member))) (sym did.declared)
+      (all_push (λ (d : Declared). d.key ≡ public_of tree (first_device d.member)) cast.declared.items (record { member = m; key = public_of cast.tree (first_device m) }) known.keys (ap (λ (t : Tree). public_of t (first_device m)) known.tree_is));
 }
 
 pub member_declared : (tree : Tree) (lines : List PlayLine) (l : PlayLine) (m : MemberRole) (cast mid new : Cast) (seats seats' : List Seat) (rogues : List Rogue) (key : List ℕ) → HaveDeclared tree lines cast seats rogues → l.command ≡ commands.Member m
-    → key ≡ public_of cast.tree m.member → HasSat cast.tree m.member seats seats' → IsNamed m.member cast mid → new.founders.items ≡ insert_sorted (record { member = m.member; role = m.role; key = key }) mid.founders.items
+    → key ≡ public_of cast.tree (first_device m.member) → HasSat cast.tree (first_device m.member) seats seats' → IsNamed m.member cast mid → new.founders.items ≡ insert_by (λ (f : Founder). f.member) (record { member = m.member; role = m.role; key = key }) mid.founders.items
     → new.tree ≡ mid.tree → new.declared.items ≡ mid.declared.items → new.unpaired.items ≡ mid.unpaired.items → HaveDeclared tree (lines ++ l ∷ []) new seats' rogues
 member_declared tree lines l m cast mid new seats seats' rogues key known is key_is sat did founders tree_is declared unpaired =
     let names = named tree lines l (commands.Member m) m.member cast mid seats rogues known is refl did in
     record {
       tree_is = tree_is ∙ did.tree ∙ known.tree_is;
       declared = ap (map (λ (d : Declared). d.member)) declared ∙ names.declared;
-      keys = subst (AllByRecursion (λ (d : Declared). d.key ≡ public_of tree d.member)) (sym declared) names.keys;
+      keys = subst (AllByRecursion (λ (d : Declared). d.key ≡ public_of tree (first_device d.member))) (sym declared) names.keys;
       unpaired = same_more unpaired_by lines l (commands.Member m) new.unpaired.items is refl (unpaired ∙ did.unpaired ∙ known.unpaired);
-      founders = founders ∙ ap (insert_sorted (record { member = m.member; role = m.role; key = key })) (did.founders ∙ known.founders)
-          ∙ ap (λ (k : List ℕ). insert_sorted (record { member = m.member; role = m.role; key = k }) (founders_by tree lines)) (key_is ∙ ap (λ (t : Tree). public_of t m.member) known.tree_is)
+      founders = founders ∙ ap (insert_by (λ (f : Founder). f.member) (record { member = m.member; role = m.role; key = key })) (did.founders ∙ known.founders)
+          ∙ ap (λ (k : List ℕ). insert_by (λ (f : Founder). f.member) (record { member = m.member; role = m.role; key = k }) (founders_by tree lines)) (key_is ∙ ap (λ (t : Tree). public_of t (first_device m.member)) known.tree_is)
           ∙ sym (founders_more tree lines l m (ap founder_by is));
       fresh = subst (AllByRecursion (IsFresh tree)) (sym sat.pushed) (all_push (IsFresh tree) seats sat.seat known.fresh (subst (λ (t : Tree). IsFresh t sat.seat) known.tree_is sat.fresh));
-      seated_are = ap seated sat.pushed ∙ map_push (λ (x : Seat). x.member) seats sat.seat ∙ ap (λ (n : ℕ). seated seats ++ n ∷ []) sat.own ∙ push_more member_by lines l (commands.Member m) (seated seats) m.member is refl known.seated_are;
+      seated_are = ap seated sat.pushed ∙ map_push (λ (x : Seat). x.device) seats sat.seat ∙ ap (λ (d : Device). seated seats ++ d ∷ []) sat.own ∙ push_more device_by lines l (commands.Member m) (seated seats) (first_device m.member) is refl known.seated_are;
       fresh_rogues = known.fresh_rogues;
-      rogues_are = same_more rogue_by lines l (commands.Member m) (rogue_numbers rogues) is refl known.rogues_are;
+      rogues_are = same_more rogue_by lines l (commands.Member m) (rogue_devices rogues) is refl known.rogues_are;
     }
 
 pub rogue_declared : (tree : Tree) (lines : List PlayLine) (l : PlayLine) (m : MemberRole) (cast mid new : Cast) (seats : List Seat) (rogues rogues' : List Rogue) (key : List ℕ) → HaveDeclared tree lines cast seats rogues → l.command ≡ commands.Rogue m
-    → key ≡ public_of cast.tree m.member → HasRogue cast.tree m.member rogues rogues' → IsNamed m.member cast mid → new.founders.items ≡ insert_sorted (record { member = m.member; role = m.role; key = key }) mid.founders.items
+    → key ≡ public_of cast.tree (first_device m.member) → HasRogue cast.tree (first_device m.member) rogues rogues' → IsNamed m.member cast mid → new.founders.items ≡ insert_by (λ (f : Founder). f.member) (record { member = m.member; role = m.role; key = key }) mid.founders.items
     → new.tree ≡ mid.tree → new.declared.items ≡ mid.declared.items → new.unpaired.items ≡ mid.unpaired.items → HaveDeclared tree (lines ++ l ∷ []) new seats rogues'
 rogue_declared tree lines l m cast mid new seats rogues rogues' key known is key_is sat did founders tree_is declared unpaired =
     let names = named tree lines l (commands.Rogue m) m.member cast mid seats rogues known is refl did in
     record {
       tree_is = tree_is ∙ did.tree ∙ known.tree_is;
       declared = ap (map (λ (d : Declared). d.member)) declared ∙ names.declared;
-      keys = subst (AllByRecursion (λ (d : Declared). d.key ≡ public_of tree d.member)) (sym declared) names.keys;
+      keys = subst (AllByRecursion (λ (d : Declared). d.key ≡ public_of tree (first_device d.member))) (sym declared) names.keys;
       unpaired = same_more unpaired_by lines l (commands.Rogue m) new.unpaired.items is refl (unpaired ∙ did.unpaired ∙ known.unpaired);
-      founders = founders ∙ ap (insert_sorted (record { member = m.member; role = m.role; key = key })) (did.founders ∙ known.founders)
-          ∙ ap (λ (k : List ℕ). insert_sorted (record { member = m.member; role = m.role; key = k }) (founders_by tree lines)) (key_is ∙ ap (λ (t : Tree). public_of t m.member) known.tree_is)
+      founders = founders ∙ ap (insert_by (λ (f : Founder). f.member) (record { member = m.member; role = m.role; key = key })) (did.founders ∙ known.founders)
+          ∙ ap (λ (k : List ℕ). insert_by (λ (f : Founder). f.member) (record { member = m.member; role = m.role; key = k }) (founders_by tree lines)) (key_is ∙ ap (λ (t : Tree). public_of t (first_device m.member)) known.tree_is)
           ∙ sym (founders_more tree lines l m (ap founder_by is));
       fresh = known.fresh;
-      seated_are = same_more member_by lines l (commands.Rogue m) (seated seats) is refl known.seated_are;
+      seated_are = same_more device_by lines l (commands.Rogue m) (seated seats) is refl known.seated_are;
       fresh_rogues = subst (AllByRecursion (IsFreshRogue tree)) (sym sat.pushed) (all_push (IsFreshRogue tree) rogues sat.rogue known.fresh_rogues (subst (λ (t : Tree). IsFreshRogue t sat.rogue) known.tree_is sat.fresh));
-      rogues_are = ap rogue_numbers sat.pushed ∙ map_push (λ (x : Rogue). x.member) rogues sat.rogue ∙ ap (λ (n : ℕ). rogue_numbers rogues ++ n ∷ []) sat.own
-          ∙ push_more rogue_by lines l (commands.Rogue m) (rogue_numbers rogues) m.member is refl known.rogues_are;
+      rogues_are = ap rogue_devices sat.pushed ∙ map_push (λ (x : Rogue). x.device) rogues sat.rogue ∙ ap (λ (d : Device). rogue_devices rogues ++ d ∷ []) sat.own
+          ∙ push_more rogue_by lines l (commands.Rogue m) (rogue_devices rogues) (first_device m.member) is refl known.rogues_are;
     }
 
 pub joiner_declared : (tree : Tree) (lines : List PlayLine) (l : PlayLine) (m : ℕ) (cast new : Cast) (seats seats' : List Seat) (rogues : List Rogue) → HaveDeclared tree lines cast seats rogues → l.command ≡ commands.Joiner m
-    → HasSat cast.tree m seats seats' → IsNamed m cast new → HaveDeclared tree (lines ++ l ∷ []) new seats' rogues
+    → HasSat cast.tree (first_device m) seats seats' → IsNamed m cast new → HaveDeclared tree (lines ++ l ∷ []) new seats' rogues
 joiner_declared tree lines l m cast new seats seats' rogues known is sat did =
     let names = named tree lines l (commands.Joiner m) m cast new seats rogues known is refl did in
     record {
@@ -120,9 +122,9 @@ joiner_declared tree lines l m cast new seats seats' rogues known is sat did =
       unpaired = same_more unpaired_by lines l (commands.Joiner m) new.unpaired.items is refl (did.unpaired ∙ known.unpaired);
       founders = did.founders ∙ known.founders ∙ sym (founders_same tree lines l (ap founder_by is));
       fresh = subst (AllByRecursion (IsFresh tree)) (sym sat.pushed) (all_push (IsFresh tree) seats sat.seat known.fresh (subst (λ (t : Tree). IsFresh t sat.seat) known.tree_is sat.fresh));
-      seated_are = ap seated sat.pushed ∙ map_push (λ (x : Seat). x.member) seats sat.seat ∙ ap (λ (n : ℕ). seated seats ++ n ∷ []) sat.own ∙ push_more member_by lines l (commands.Joiner m) (seated seats) m is refl known.seated_are;
+      seated_are = ap seated sat.pushed ∙ map_push (λ (x : Seat). x.device) seats sat.seat ∙ ap (λ (d : Device). seated seats ++ d ∷ []) sat.own ∙ push_more device_by lines l (commands.Joiner m) (seated seats) (first_device m) is refl known.seated_are;
       fresh_rogues = known.fresh_rogues;
-      rogues_are = same_more rogue_by lines l (commands.Joiner m) (rogue_numbers rogues) is refl known.rogues_are;
+      rogues_are = same_more rogue_by lines l (commands.Joiner m) (rogue_devices rogues) is refl known.rogues_are;
     }
 
 pub unpaired_declared : (tree : Tree) (lines : List PlayLine) (l : PlayLine) (p : Pair) (cast new : Cast) (seats : List Seat) (rogues : List Rogue) → HaveDeclared tree lines cast seats rogues → l.command ≡ commands.Unpaired p
@@ -130,13 +132,13 @@ pub unpaired_declared : (tree : Tree) (lines : List PlayLine) (l : PlayLine) (p 
 unpaired_declared tree lines l p cast new seats rogues known is pushed tree_is declared founders = record {
   tree_is = tree_is ∙ known.tree_is;
   declared = same_more declared_member lines l (commands.Unpaired p) (map (λ (d : Declared). d.member) new.declared.items) is refl (ap (map (λ (d : Declared). d.member)) declared ∙ known.declared);
-  keys = subst (AllByRecursion (λ (d : Declared). d.key ≡ public_of tree d.member)) (sym declared) known.keys;
+  keys = subst (AllByRecursion (λ (d : Declared). d.key ≡ public_of tree (first_device d.member))) (sym declared) known.keys;
   unpaired = pushed ∙ push_more unpaired_by lines l (commands.Unpaired p) cast.unpaired.items p is refl known.unpaired;
   founders = founders ∙ known.founders ∙ sym (founders_same tree lines l (ap founder_by is));
   fresh = known.fresh;
-  seated_are = same_more member_by lines l (commands.Unpaired p) (seated seats) is refl known.seated_are;
+  seated_are = same_more device_by lines l (commands.Unpaired p) (seated seats) is refl known.seated_are;
   fresh_rogues = known.fresh_rogues;
-  rogues_are = same_more rogue_by lines l (commands.Unpaired p) (rogue_numbers rogues) is refl known.rogues_are;
+  rogues_are = same_more rogue_by lines l (commands.Unpaired p) (rogue_devices rogues) is refl known.rogues_are;
 }
 
 -- a line that declares nothing
@@ -144,7 +146,7 @@ record DeclaresNone (c : Command) : Type 0 where
   declared : declared_member c ≡ None
   unpaired : unpaired_by c ≡ None
   founder : founder_by c ≡ None
-  member : member_by c ≡ None
+  device : device_by c ≡ None
   rogue : rogue_by c ≡ None
 
 nothing_declared : (c : Command) → ((m : MemberRole) → c ≡ commands.Member m → ⊥) → ((m : MemberRole) → c ≡ commands.Rogue m → ⊥) → ((m : ℕ) → c ≡ commands.Joiner m → ⊥) → ((p : Pair) → c ≡ commands.Unpaired p → ⊥) → DeclaresNone c
@@ -152,7 +154,7 @@ nothing_declared (commands.Member m) a b d e = absurd (a m refl)
 nothing_declared (commands.Rogue m) a b d e = absurd (b m refl)
 nothing_declared (commands.Joiner m) a b d e = absurd (d m refl)
 nothing_declared (commands.Unpaired p) a b d e = absurd (e p refl)
-nothing_declared c a b d e = record { declared = refl; unpaired = refl; founder = refl; member = refl; rogue = refl }
+nothing_declared c a b d e = record { declared = refl; unpaired = refl; founder = refl; device = refl; rogue = refl }
 
 pub none_declared : (tree : Tree) (lines : List PlayLine) (l : PlayLine) (cast : Cast) (seats : List Seat) (rogues : List Rogue)
     → ((m : MemberRole) → l.command ≡ commands.Member m → ⊥) → ((m : MemberRole) → l.command ≡ commands.Rogue m → ⊥) → ((m : ℕ) → l.command ≡ commands.Joiner m → ⊥) → ((p : Pair) → l.command ≡ commands.Unpaired p → ⊥)
@@ -166,7 +168,7 @@ none_declared tree lines l cast seats rogues a b d e known =
       unpaired = same_more unpaired_by lines l l.command cast.unpaired.items refl none.unpaired known.unpaired;
       founders = known.founders ∙ sym (founders_same tree lines l none.founder);
       fresh = known.fresh;
-      seated_are = same_more member_by lines l l.command (seated seats) refl none.member known.seated_are;
+      seated_are = same_more device_by lines l l.command (seated seats) refl none.device known.seated_are;
       fresh_rogues = known.fresh_rogues;
-      rogues_are = same_more rogue_by lines l l.command (rogue_numbers rogues) refl none.rogue known.rogues_are;
+      rogues_are = same_more rogue_by lines l l.command (rogue_devices rogues) refl none.rogue known.rogues_are;
     }

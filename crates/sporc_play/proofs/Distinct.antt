@@ -1,30 +1,43 @@
--- Numbers of which no two are one, by what each differs from.
-use Rattle.std.proofs.Common.{◌≡◌, ◌≢◌, ℕ, false, List, [], ◌∷◌, eq-eqb, ne_eqb, sym}
-use Rattle.std.specs.Prelude.{nat_eq, ⊤}
+-- Items of which no two are one, by what each differs from.
+use Rattle.std.proofs.Common.{◌≡◌, ◌≢◌, Bool, true, false, List, [], ◌∷◌, refl, subst, sym}
+use Rattle.std.specs.Prelude.{⊤}
 use Rattle.std.specs.List.{AllByRecursion, IsDistinct}
+use Rattle.sporc_member.specs.declared.device.Device.{Device}
+use Rattle.sporc_member.specs.Device.{same_device}
+use Rattle.sporc_member.proofs.SameDevice.{one_same, same_one}
 
-abbrev pub IsNotIn : ℕ → List ℕ → Type 0
-IsNotIn n [] = ⊤
-IsNotIn n (m ∷ ms) = (m ≢ n) × IsNotIn n ms
+abbrev pub IsNotIn : {A : Type 0} → A → List A → Type 0
+IsNotIn x [] = ⊤
+IsNotIn x (y ∷ ys) = (y ≢ x) × IsNotIn x ys
 
-abbrev pub AreDistinct : List ℕ → Type 0
+abbrev pub AreDistinct : {A : Type 0} → List A → Type 0
 AreDistinct [] = ⊤
-AreDistinct (n ∷ ns) = IsNotIn n ns × AreDistinct ns
+AreDistinct (x ∷ xs) = IsNotIn x xs × AreDistinct xs
 
-avoided : (n : ℕ) (ns : List ℕ) → IsNotIn n ns → AllByRecursion (λ m. nat_eq n m ≡ false) ns
-avoided n [] h = tt
-avoided n (m ∷ ms) h = (ne_eqb n m (λ is. h.0 (sym is)), avoided n ms h.1)
+-- ---- devices
 
-pub is_distinct : (ns : List ℕ) → AreDistinct ns → IsDistinct nat_eq ns
+pub same_or_not : (a b : Device) → a ≢ b → same_device a b ≡ false
+same_or_not a b differs = go (same_device a b) refl
+  where
+    go : (same : Bool) → same_device a b ≡ same → same ≡ false
+    go true is = absurd (differs (same_one a b is))
+    go false is = refl
+
+avoided : (d : Device) (ds : List Device) → IsNotIn d ds → AllByRecursion (λ e. same_device d e ≡ false) ds
+avoided d [] h = tt
+avoided d (e ∷ es) h = (same_or_not d e (λ is. h.0 (sym is)), avoided d es h.1)
+
+pub is_distinct : (ds : List Device) → AreDistinct ds → IsDistinct same_device ds
 unfolding IsDistinct
 is_distinct [] h = tt
-is_distinct (n ∷ ns) h = (avoided n ns h.0, is_distinct ns h.1)
+is_distinct (d ∷ ds) h = (avoided d ds h.0, is_distinct ds h.1)
 
-not_in : (n : ℕ) (ns : List ℕ) → AllByRecursion (λ m. nat_eq n m ≡ false) ns → IsNotIn n ns
-not_in n [] h = tt
-not_in n (m ∷ ms) h = (λ is. let same = eq-eqb n m (sym is) in let other = h.0 in cc, not_in n ms h.1)
+not_in : (d : Device) (ds : List Device) → AllByRecursion (λ e. same_device d e ≡ false) ds → IsNotIn d ds
+not_in d [] h = tt
+not_in d (e ∷ es) h =
+    ((λ is. let same : same_device d e ≡ true = subst (λ (x : Device). same_device d x ≡ true) (sym is) (one_same d) in let other = h.0 in cc), not_in d es h.1)
 
-pub are_distinct : (ns : List ℕ) → IsDistinct nat_eq ns → AreDistinct ns
+pub are_distinct : (ds : List Device) → IsDistinct same_device ds → AreDistinct ds
 unfolding IsDistinct
 are_distinct [] h = tt
-are_distinct (n ∷ ns) h = (not_in n ns h.0, are_distinct ns h.1)
+are_distinct (d ∷ ds) h = (not_in d ds h.0, are_distinct ds h.1)

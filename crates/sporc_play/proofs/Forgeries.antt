@@ -18,16 +18,19 @@ use Rattle.lms_tree.specs.LmsType.{height_of}
 use Rattle.lms_tree.specs.Signatures.{lms_signature_of}
 use Rattle.sporc_cipher.specs.Mask.{mask_of}
 use Rattle.sporc_cipher.proofs.Stream.{length-mask_from}
+use Rattle.sporc_member.specs.declared.device.TheConstants.{FIRST_DEVICE}
 use Rattle.sporc_member.specs.declared.limits.TheConstants.{MAX_MEMBERS}
 use Rattle.sporc_member.specs.declared.change.Change.{Change as MemberChange}
 use Rattle.sporc_member.specs.declared.change.Change.TheVariants as changes
 use Rattle.sporc_member.specs.declared.change.ChangeFault.{ChangeFault}
+use Rattle.sporc_member.specs.Device.{first_device}
 use Rattle.sporc_member.specs.Role.{role_code_of}
 use Rattle.sporc_member.specs.Roster.{Roster, after_change, change_fault_of, numbers_of}
 use Rattle.sporc_entry.specs.declared.change.ChangeBody.{ChangeBody}
 use Rattle.sporc_entry.specs.declared.entry.Entry.{Entry}
 use Rattle.sporc_entry.specs.declared.genesis.Genesis.{Genesis}
 use Rattle.sporc_entry.specs.declared.header.Header.{Header}
+use Rattle.sporc_entry.specs.declared.version.TheConstants.{FIRST_VERSION}
 use Rattle.sporc_entry.specs.declared.wrap.Wrap.{Wrap}
 use Rattle.sporc_entry.specs.ChangeBody.{change_body_bytes, change_bytes, wrap_bytes}
 use Rattle.sporc_entry.specs.Entry.{entry_bytes, signed_string}
@@ -35,7 +38,7 @@ use Rattle.sporc_entry.specs.Genesis.{IsGenesis}
 use Rattle.sporc_epoch.specs.Keys.{Keys}
 use Rattle.sporc_epoch.specs.declared.fault.SealFault.TheVariants.{NoPairKey}
 use Rattle.sporc_epoch.specs.Sealing.{Sealing, body_sealed, change_sealed, least_of, least_unpaired, wraps_sealed}
-use Rattle.sporc_epoch.specs.Streams.{entry_stream, previous_stream}
+use Rattle.sporc_epoch.specs.Streams.{previous_stream, stream_of}
 use Rattle.sporc_epoch.proofs.SpelledBodies.{wraps_few}
 use Rattle.sporc_head.specs.History.{count_of, epoch_of, hash_of, roster_of}
 use Rattle.sporc_line.specs.Good.{Good}
@@ -127,6 +130,10 @@ length-change (changes.Add member role key) rest is =
     omega (arith, is, length-append (to_be_bytes w16 member) (role_code_of role ∷ key ++ rest), length-append key rest)
 length-change (changes.Remove member) rest is = omega (arith, length-append (to_be_bytes w16 member) rest)
 length-change (changes.SetRole member role) rest is = omega (arith, length-append (to_be_bytes w16 member) (role_code_of role ∷ rest))
+length-change (changes.AddDevice member device key) rest is =
+    omega (arith, is, length-append (to_be_bytes w16 member) (device ∷ key ++ rest), length-append key rest)
+length-change (changes.DropDevice member device) rest is = omega (arith, length-append (to_be_bytes w16 member) (device ∷ rest))
+length-change changes.Upgrade rest is = omega arith
 
 length-wraps : (ws : List Wrap) → AllByRecursion IsWhole ws → length (flat_map wrap_bytes ws) ≡ 34 * length ws
 length-wraps [] all = refl
@@ -173,8 +180,8 @@ sealed_small s pairs change old new few = record {
   change = change;
   commitment = length-sha256 _;
   previous = length-mask_from s.new (previous_stream (s.epoch + 1)) 0 s.old ∙ old;
-  wraps = all_whole (entry_stream s.author s.leaf) s.new pairs s.members new;
-  few = omega (arith, wraps_few (entry_stream s.author s.leaf) s.new pairs s.members, few);
+  wraps = all_whole s.stream s.new pairs s.members new;
+  few = omega (arith, wraps_few s.stream s.new pairs s.members, few);
 }
 
 -- ---- a rogue has a key with each member
@@ -233,12 +240,12 @@ few_sealed g kit entries change is good = go (change_fault_of (roster_of g entri
 
 -- ---- what is sealed, as its parts are found
 
-pub forged_same : (c : PlainClient) (h : Header) (change : MemberChange) (members document old new : List ℕ) (epoch : ℕ) (pairs : Keys) (body : ChangeBody)
-    → members ≡ sealed_for (roster_of c.opening.genesis c.entries) change → document ≡ c.opening.genesis.document → epoch ≡ epoch_of c.entries → old ≡ key_there c → pairs ≡ derived_pairs h.author members
-    → change_sealed (record { change = change; members = members; document = document; author = h.author; leaf = h.leaf; epoch = epoch; old = old; new = new }) pairs ≡ Ok body → body ≡ forged_change c h change new
-forged_same c h change members document old new epoch pairs body m d e o p is =
-    let s : Sealing = record { change = change; members = members; document = document; author = h.author; leaf = h.leaf; epoch = epoch; old = old; new = new } in
-    let same : s ≡ forged_sealing c h change new = rw (m, d, e, o) refl in
+pub forged_same : (c : PlainClient) (h : Header) (change : MemberChange) (members document old new : List ℕ) (stream epoch : ℕ) (pairs : Keys) (body : ChangeBody)
+    → members ≡ sealed_for (roster_of c.opening.genesis c.entries) change → document ≡ c.opening.genesis.document → stream ≡ stream_of h → epoch ≡ epoch_of c.entries → old ≡ key_there c → pairs ≡ derived_pairs h.author members
+    → change_sealed (record { change = change; members = members; document = document; author = h.author; stream = stream; epoch = epoch; old = old; new = new }) pairs ≡ Ok body → body ≡ forged_change c h change new
+forged_same c h change members document old new stream epoch pairs body m d t e o p is =
+    let s : Sealing = record { change = change; members = members; document = document; author = h.author; stream = stream; epoch = epoch; old = old; new = new } in
+    let same : s ≡ forged_sealing c h change new = rw (m, d, t, e, o) refl in
     sealed_same s (forged_sealing c h change new) pairs (derived_pairs h.author (sealed_for (roster_of c.opening.genesis c.entries) change)) body is same (p ∙ ap (derived_pairs h.author) m)
 
 pub forged_paired : (s : Sealing) (pairs : Keys) (author member : ℕ) → pairs ≡ derived_pairs author s.members → change_sealed s pairs ≡ Err (NoPairKey member) → ⊥
@@ -257,9 +264,9 @@ value_there c base there =
     rw yes refl
 
 pub header_same : (c : PlainClient) (f : Forgery) (own : ℕ) (document base_hash : List ℕ) (number base epoch leaf kind : ℕ)
-    → document ≡ c.opening.genesis.document → number ≡ number_by f.signed.suffix (count_of f.member c.entries + 1) → base_hash ≡ value_at c base → base ≡ base_by f.signed.suffix (length c.entries)
+    → document ≡ c.opening.genesis.document → number ≡ number_by f.signed.suffix (count_of (first_device f.member) c.entries + 1) → base_hash ≡ value_at c base → base ≡ base_by f.signed.suffix (length c.entries)
     → epoch ≡ epoch_by f.signed.suffix (epoch_of c.entries) → leaf ≡ leaf_by f.signed.suffix own → kind ≡ kind_of f.signed.what
-    → let h : Header = record { document = document; author = f.member; number = number; base = base; base_hash = base_hash; epoch = epoch; leaf = leaf; kind = kind } in h ≡ forged_header c f own
+    → let h : Header = record { version = FIRST_VERSION; document = document; author = f.member; device = FIRST_DEVICE; number = number; base = base; base_hash = base_hash; epoch = epoch; leaf = leaf; kind = kind } in h ≡ forged_header c f own
 header_same c f own document base_hash number base epoch leaf kind d n h b e l k = rw (d, n, h, b, e, l, k) refl
 
 -- ---- the entry
@@ -270,7 +277,7 @@ pub unsigned_same : (s : Setup) (c : PlainClient) (f : Forgery) (random : List �
 unsigned_same s c f random leaf h body signature head held none = rw (none, held, head) refl
 
 pub signed_same : (s : Setup) (c : PlainClient) (f : Forgery) (random : List ℕ) (leaf : ℕ) (e : Entry) (key : LmsPrivate) (randomizer message signature : List ℕ)
-    → e ≡ unsigned_by s c f random leaf → key ≡ s.private f.member → randomizer ≡ take 32 random → message ≡ signed_string e → signature ≡ lms_signature_of key leaf randomizer message
+    → e ≡ unsigned_by s c f random leaf → key ≡ s.private (first_device f.member) → randomizer ≡ take 32 random → message ≡ signed_string e → signature ≡ lms_signature_of key leaf randomizer message
     → entry_bytes (record e { signature = signature }) ≡ signed_by s c f random leaf
 unfolding signed_by
 signed_same s c f random leaf e key randomizer message signature is own first told by = rw (by, told, first, own, is) refl

@@ -1,5 +1,5 @@
 -- The generated run is a run of its three members' clients.
-use Rattle.std.proofs.Common.{◌≡◌, ℕ, zero, suc, ◌+◌, ◌*◌, ◌/◌, ◌%◌, ◌^◌, ◌<◌, ◌≤◌, ◌==◌, ◌&&◌, Bool, true, false, List, [], ◌∷◌, ◌++◌, map, ap, arith, None}
+use Rattle.std.proofs.Common.{◌≡◌, ℕ, zero, suc, ◌+◌, ◌*◌, ◌/◌, ◌%◌, ◌^◌, ◌<◌, ◌≤◌, ◌==◌, ◌&&◌, Bool, true, false, List, [], ◌∷◌, ◌++◌, map, ap, subst, arith, None}
 use Rattle.std.specs.Prelude.{Contains, flat_map, if◌then◌else◌}
 use Rattle.std.specs.List.{AllByRecursion}
 use Rattle.std.specs.Str.{all_scalars}
@@ -7,6 +7,8 @@ use Rattle.std.proofs.Math.Nat.{mod-le}
 use Rattle.std.proofs.Math.Utf8.{low_scalar}
 use Rattle.std.proofs.lemmas.Nat.{mod_below}
 use Rattle.sporc_base.proofs.ListLemmas.{all_append}
+use Rattle.sporc_member.specs.declared.device.Device.{Device}
+use Rattle.sporc_member.specs.Device.{first_device}
 use Rattle.sporc_client.specs.Run.{start}
 use Rattle.sporc_client.specs.Typed.{IsTypedRun}
 use Rattle.sporc_client.specs.WellFormed.{IsWellFormed}
@@ -18,7 +20,7 @@ use Rattle.sporc_play.specs.Generated.{batch, batches, edits, generated_cast, ge
 use Rattle.sporc_play.specs.Moves.{IsOneRun, moves_of}
 use Rattle.sporc_play.specs.Scene.{Scene, opening_moves}
 use Rattle.sporc_play.proofs.Acts.{edit_acts, give_acts}
-use Rattle.sporc_play.proofs.FirstMoves.{among_members, commits, openings_run, openings_typed}
+use Rattle.sporc_play.proofs.FirstMoves.{among_devices, commits, openings_run, openings_typed}
 use Rattle.sporc_play.proofs.Generating.{generated_genesis}
 use Rattle.sporc_play.proofs.OwnKeys.{half_len}
 use Rattle.sporc_play.proofs.Runs.{MayBe, one_run_of, typed_play}
@@ -26,18 +28,24 @@ use Rattle.sporc_play.proofs.SubmitActs.{submit_acts}
 
 -- ---- its founders open their clients
 
-small_member : (who : ℕ) → Contains (1 ∷ 2 ∷ 3 ∷ []) who → who < 2 ^ 16
-small_member who (zero, low, at) = let e : 1 ≡ who = cc in omega (arith, e)
-small_member who (suc zero, low, at) = let e : 2 ≡ who = cc in omega (arith, e)
-small_member who (suc (suc zero), low, at) = let e : 3 ≡ who = cc in omega (arith, e)
-small_member who (suc (suc (suc i)), low, at) = absurd (omega (arith, low))
+abbrev its_devices : List Device
+its_devices = first_device 1 ∷ first_device 2 ∷ first_device 3 ∷ []
+
+abbrev IsSmall : Device → Type 0
+IsSmall who = (who.member < 2 ^ 16) × (who.number < 2 ^ 8)
+
+small_device : (who : Device) → Contains its_devices who → IsSmall who
+small_device who (zero, low, at) = let e : first_device 1 ≡ who = cc in subst IsSmall e (omega arith, omega arith)
+small_device who (suc zero, low, at) = let e : first_device 2 ≡ who = cc in subst IsSmall e (omega arith, omega arith)
+small_device who (suc (suc zero), low, at) = let e : first_device 3 ≡ who = cc in subst IsSmall e (omega arith, omega arith)
+small_device who (suc (suc (suc i)), low, at) = absurd (omega (arith, low))
 
 well_formed : IsWellFormed (setup_of generated_cast)
 unfolding setup_of
 well_formed = record {
   genesis = generated_genesis;
-  members = small_member;
-  identifiers = λ who among. half_len 2 who 0;
+  devices = small_device;
+  identifiers = λ who among. half_len 2 who.member who.number;
 }
 
 first : IsTypedRun (setup_of generated_cast) (opening_moves generated_cast)
@@ -45,8 +53,8 @@ first =
     let s = setup_of generated_cast in
     record {
       setup = well_formed;
-      typed = openings_typed (1 ∷ 2 ∷ 3 ∷ []);
-      run = openings_run s start (1 ∷ 2 ∷ 3 ∷ []) (among_members generated_cast) (commits generated_cast);
+      typed = openings_typed its_devices;
+      run = openings_run s start its_devices (among_devices generated_cast) (commits generated_cast);
     }
 
 -- ---- its edits are typed
@@ -63,9 +71,9 @@ removes_fit author small = (omega (arith, small), omega arith)
 edit_fits : (j author : ℕ) (scene : Scene) → j * author < 2 ^ 64 → author ≤ 3 → TextEditInRange (generated_edit j author scene)
 edit_fits j author scene room small = go (j % 5 == 0)
   where
-    go : (b : Bool) → TextEditInRange (if b then removes author else inserts j author (seen_len (scene.world.clients author)))
+    go : (b : Bool) → TextEditInRange (if b then removes author else inserts j author (seen_len (scene.world.clients (first_device author))))
     go true = removes_fit author small
-    go false = inserts_fit j author (seen_len (scene.world.clients author)) room
+    go false = inserts_fit j author (seen_len (scene.world.clients (first_device author))) room
 
 -- ---- its commands
 

@@ -6,8 +6,10 @@ use Rattle.std.proofs.lemmas.Bool.{cases_lt}
 use Rattle.sha2.proofs.Facts256.{length-sha256}
 use Rattle.lms_tree.specs.LmsPublic.{public_key_in}
 use Rattle.sporc_entry.specs.Genesis.{IsFounder, IsGenesis, founders_fault}
+use Rattle.sporc_member.specs.declared.device.Device.{Device}
 use Rattle.sporc_member.specs.declared.role.Role.{Role}
 use Rattle.sporc_member.specs.declared.role.Role.TheVariants.{Admin, Editor}
+use Rattle.sporc_member.specs.Device.{first_device}
 use Rattle.sporc_hash.specs.Chain.{commitment_string}
 use Rattle.sporc_play.specs.declared.state.PlayState.{PlayState}
 use Rattle.sporc_play.specs.Batches.{AreOpen, IsAsked}
@@ -25,8 +27,8 @@ rises zero low = omega arith
 rises (suc zero) low = omega arith
 rises (suc (suc k)) low = absurd (omega arith)
 
-known : (member : ℕ) → is_none (public_key_in (public_of (tree_of generated_cast) member)) ≡ false
-known member = ap is_none (own_key_known (tree_of generated_cast) member)
+known : (member : ℕ) → is_none (public_key_in (public_of (tree_of generated_cast) (first_device member))) ≡ false
+known member = ap is_none (own_key_known (tree_of generated_cast) (first_device member))
 
 no_fault : founders_fault (founders_of generated_cast) ≡ None
 no_fault = rw (known 1, known 2, known 3) refl
@@ -44,14 +46,14 @@ generated_genesis = record {
   accepted = no_fault;
 }
 
-one_two : ◌≢◌ {A = ℕ} 2 1
-one_two h = omega (arith, h)
+one_two : first_device 2 ≢ first_device 1
+one_two h = let e : 2 ≡ 1 = ap (λ (d : Device). d.member) h in omega (arith, e)
 
-one_three : ◌≢◌ {A = ℕ} 3 1
-one_three h = omega (arith, h)
+one_three : first_device 3 ≢ first_device 1
+one_three h = let e : 3 ≡ 1 = ap (λ (d : Device). d.member) h in omega (arith, e)
 
-two_three : ◌≢◌ {A = ℕ} 3 2
-two_three h = omega (arith, h)
+two_three : first_device 3 ≢ first_device 2
+two_three h = let e : 3 ≡ 2 = ap (λ (d : Device). d.member) h in omega (arith, e)
 
 pub generated_declared : AreDeclared generated_cast
 unfolding setup_of
@@ -61,7 +63,7 @@ generated_declared = record {
 }
 
 -- all three open their clients, and keep them
-opened_there : (m : ℕ) → IsAsked m → IsSome ((opening generated_cast).world.clients m)
+opened_there : (m : ℕ) → IsAsked m → IsSome ((opening generated_cast).world.clients (first_device m))
 unfolding setup_of
 opened_there m is = elim (cases_lt m 2) [
   | inl one ↦ let e : 1 ≡ m = omega (arith, one, is) in subst IsThere e refl
@@ -72,11 +74,11 @@ opened_there m is = elim (cases_lt m 2) [
 ]
   where
     IsThere : ℕ → Type 0
-    IsThere n = IsSome ((opening generated_cast).world.clients n)
+    IsThere n = IsSome ((opening generated_cast).world.clients (first_device n))
 
 pub generated_open : (n : ℕ) (state : PlayState) → StandsFor generated_cast (generated_scene n) state → AreOpen state
 generated_open n state stands = record {
   scene = generated_scene n;
   stands = stands;
-  open_clients = λ m is. open_each (setup_of generated_cast) (opening generated_cast) (generated_commands n) m (opened_there m is);
+  open_clients = λ m is. open_each (setup_of generated_cast) (opening generated_cast) (generated_commands n) (first_device m) (opened_there m is);
 }

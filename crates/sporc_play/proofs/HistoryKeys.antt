@@ -7,7 +7,7 @@ use Rattle.std.specs.List.{AllByRecursion, cons_option}
 use Rattle.std.proofs.lemmas.Bool.{eqb-true}
 use Rattle.sporc_base.specs.Bytes.{IsBytes}
 use Rattle.sporc_member.specs.declared.change.Change.{Change as MemberChange}
-use Rattle.sporc_member.specs.declared.change.Change.TheVariants.{Add, Remove, SetRole}
+use Rattle.sporc_member.specs.declared.change.Change.TheVariants.{Add, Remove, SetRole, AddDevice, DropDevice, Upgrade}
 use Rattle.sporc_member.specs.Role.{role_code_of}
 use Rattle.sporc_member.specs.Roster.{member_at, removes, roster_after}
 use Rattle.sporc_entry.specs.declared.change.ChangeBody.{ChangeBody}
@@ -16,10 +16,10 @@ use Rattle.sporc_entry.specs.declared.genesis.Genesis.{Genesis}
 use Rattle.sporc_entry.specs.declared.header.Header.{Header}
 use Rattle.sporc_entry.specs.declared.wrap.Wrap.{Wrap}
 use Rattle.sporc_entry.specs.ChangeBody.{change_body_bytes, change_bytes, wrap_bytes}
-use Rattle.sporc_entry.specs.Entry.{IsEntry, change_of, entry_bytes, entry_of, header_bytes}
+use Rattle.sporc_entry.specs.Entry.{IsEntry, change_of, device_bytes, entry_bytes, entry_of, header_bytes}
 use Rattle.sporc_entry.proofs.EntryLaws.{entry_takes}
 use Rattle.sporc_epoch.specs.Keys.{Keys}
-use Rattle.sporc_epoch.specs.Streams.{entry_stream}
+use Rattle.sporc_epoch.specs.Streams.{stream_of}
 use Rattle.sporc_epoch.specs.Wraps.{opened_under, wrap_for, wrap_opened}
 use Rattle.sporc_head.specs.History.{CommittedChange, change_in, change_read, changes, committed_by, epoch_of}
 use Rattle.sporc_line.specs.Kit.{Kit}
@@ -50,11 +50,13 @@ after_header h rest all =
     let hash = h.base_hash ++ epoch in
     let base = to_be_bytes w32 h.base ++ hash in
     let number = to_be_bytes w32 h.number ++ base in
-    let author = to_be_bytes w16 h.author ++ number in
+    let device = device_bytes h.version h.device ++ number in
+    let author = to_be_bytes w16 h.author ++ device in
     let end : AreBytes last =
     behind (to_be_bytes w32 h.leaf) last
     (behind (to_be_bytes w32 h.epoch) leaf
-    (behind h.base_hash epoch (behind (to_be_bytes w32 h.base) hash (behind (to_be_bytes w32 h.number) base (behind (to_be_bytes w16 h.author) number (behind h.document author all.1)))))) in
+    (behind h.base_hash epoch (behind (to_be_bytes w32 h.base) hash (behind (to_be_bytes w32 h.number) base
+    (behind (device_bytes h.version h.device) number (behind (to_be_bytes w16 h.author) device (behind h.document author all.1))))))) in
     end.1
 
 body_in : (e : Entry) → AreBytes (entry_bytes e) → AreBytes e.body
@@ -72,6 +74,13 @@ after_change (Remove member) rest all = behind (to_be_bytes w16 member) rest all
 after_change (SetRole member role) rest all =
     let end : AreBytes (role_code_of role ∷ rest) = behind (to_be_bytes w16 member) (role_code_of role ∷ rest) all.1 in
     end.1
+after_change (AddDevice member device key) rest all =
+    let end : AreBytes ((device ∷ key) ++ rest) = behind (to_be_bytes w16 member) ((device ∷ key) ++ rest) all.1 in
+    behind key rest end.1
+after_change (DropDevice member device) rest all =
+    let end : AreBytes (device ∷ rest) = behind (to_be_bytes w16 member) (device ∷ rest) all.1 in
+    end.1
+after_change Upgrade rest all = all.1
 
 sealed_in : (wraps : List Wrap) → AreBytes (flat_map wrap_bytes wraps) → AllByRecursion (λ w. AreBytes w.sealed) wraps
 sealed_in [] all = tt
@@ -134,15 +143,15 @@ changes_bytes (bytes ∷ entries) all = go (change_in bytes) (change_bytes_in by
 
 -- ---- keys
 
-pub opened_bytes : (body : ChangeBody) (author leaf me : ℕ) (pairs : Keys) → IsByteBody body → IfSome (wrap_opened body author leaf me pairs) AreBytes
+pub opened_bytes : (body : ChangeBody) (author stream me : ℕ) (pairs : Keys) → IsByteBody body → IfSome (wrap_opened body author stream me pairs) AreBytes
 unfolding wrap_opened
-opened_bytes body author leaf me pairs is = go (wrap_for me body.wraps) (found_typed (λ (w : Wrap). AreBytes w.sealed) (λ (w : Wrap). w.member == me) body.wraps is.wraps)
+opened_bytes body author stream me pairs is = go (wrap_for me body.wraps) (found_typed (λ (w : Wrap). AreBytes w.sealed) (λ (w : Wrap). w.member == me) body.wraps is.wraps)
   where
-    under : (pair : Option (List ℕ)) (w : Wrap) → AreBytes w.sealed → IfSome (opened_under (entry_stream author leaf) pair w) AreBytes
+    under : (pair : Option (List ℕ)) (w : Wrap) → AreBytes w.sealed → IfSome (opened_under stream pair w) AreBytes
     under None w are = tt
-    under (Some pair) w are = bytes_mask pair (entry_stream author leaf) w.sealed are
+    under (Some pair) w are = bytes_mask pair stream w.sealed are
 
-    go : (o : Option Wrap) → IfSome o (λ w. AreBytes w.sealed) → IfSome (option_and_then (opened_under (entry_stream author leaf) (get pairs author)) o) AreBytes
+    go : (o : Option Wrap) → IfSome o (λ w. AreBytes w.sealed) → IfSome (option_and_then (opened_under stream (get pairs author)) o) AreBytes
     go None are = tt
     go (Some w) are = under (get pairs author) w are
 
@@ -151,14 +160,14 @@ unfolding key_after key_started
 key_bytes g kit cs zero ring all = ring 0
 key_bytes g kit cs (suc e) ring all = go (slice_get cs e) (typed_at IsByteCommitted cs e all)
   where
-    tests : (c : CommittedChange) (removed member : Bool) → IsByteCommitted c → IfSome (cond removed None (cond member (wrap_opened c.body c.header.author c.header.leaf kit.me kit.pairs) (get kit.ring (suc e)))) AreBytes
+    tests : (c : CommittedChange) (removed member : Bool) → IsByteCommitted c → IfSome (cond removed None (cond member (wrap_opened c.body c.header.author (stream_of c.header) kit.me.member kit.pairs) (get kit.ring (suc e)))) AreBytes
     tests c true member is = tt
-    tests c false true is = opened_bytes c.body c.header.author c.header.leaf kit.me kit.pairs is
+    tests c false true is = opened_bytes c.body c.header.author (stream_of c.header) kit.me.member kit.pairs is
     tests c false false is = ring (suc e)
 
     go : (o : Option CommittedChange) → IfSome o IsByteCommitted → IfSome (key_started g kit (take (suc e) cs) (suc e) o) AreBytes
     go None is = tt
-    go (Some c) is = tests c (removes kit.me c.body.change) (is_some (member_at (roster_after g.founders (map (λ c. c.body.change) (take (suc e) cs))) kit.me)) is
+    go (Some c) is = tests c (removes kit.me c.body.change) (is_some (member_at (roster_after g.founders (map (λ c. c.body.change) (take (suc e) cs))) kit.me.member)) is
 
 -- the key of a client's epoch
 pub epoch_bytes : (c : PlainClient) → AreByteKeys c.opening.kit.ring → AllByRecursion IsBytes c.entries → IfSome (key_after c.opening.genesis c.opening.kit (changes c.entries) (epoch_of c.entries)) AreBytes

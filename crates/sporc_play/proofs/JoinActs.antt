@@ -20,7 +20,7 @@ use Rattle.sporc_epoch.specs.declared.fault.HintFault.{HintFault}
 use Rattle.sporc_epoch.specs.declared.fault.HintFault.TheVariants.{WrongKey}
 use Rattle.sporc_epoch.specs.Hints.{hints_at, hints_of, hints_under, is_committed, is_of, joining, joins as joins_by, keys_back, ring_of, start_by, with_key, with_keys}
 use Rattle.sporc_epoch.specs.Keys.{Keys}
-use Rattle.sporc_epoch.specs.Streams.{entry_stream, previous_stream}
+use Rattle.sporc_epoch.specs.Streams.{previous_stream, stream_of}
 use Rattle.sporc_epoch.specs.Wraps.{opened_under, wrap_for, wrap_opened}
 use Rattle.sporc_head.specs.History.{CommittedChange, changes}
 use Rattle.sporc_line.specs.declared.fault.LineOpenFault.{LineOpenFault}
@@ -31,6 +31,8 @@ use Rattle.sporc_client.specs.PlainClient.{PlainClient}
 use Rattle.sporc_client.specs.Run.{Setup}
 use Rattle.sporc_client.specs.Typed.{AreEpochKeys}
 use Rattle.sporc_client.proofs.TypedHistories.{IsTypedCommitted, changes_typed, found_typed}
+use Rattle.sporc_member.specs.declared.device.Device.{Device}
+use Rattle.sporc_member.specs.Device.{first_device}
 use Rattle.sporc_script.specs.declared.command.Command.TheVariants as commands
 use Rattle.sporc_script.specs.declared.command.Join.{Join}
 use Rattle.sporc_play.specs.Scene.{Scene, entries_at, entry_at, joins, opens_unless, opens_with, with_entry}
@@ -140,16 +142,16 @@ wraps_both : (wraps : List Wrap) → AllByRecursion (λ w. AreBytes w.sealed) wr
 wraps_both [] a b = tt
 wraps_both (w ∷ ws) a b = (record { bytes = a.0; size = b.0.sealed }, wraps_both ws a.1 b.1)
 
-opened_is : (c : CommittedChange) (author leaf me : ℕ) (pairs : Keys) → IsSound c → IfSome (wrap_opened c.body author leaf me pairs) IsKey
+opened_is : (c : CommittedChange) (author stream me : ℕ) (pairs : Keys) → IsSound c → IfSome (wrap_opened c.body author stream me pairs) IsKey
 unfolding wrap_opened
-opened_is c author leaf me pairs is =
+opened_is c author stream me pairs is =
     go (wrap_for me c.body.wraps) (found_typed (λ (w : Wrap). IsKey w.sealed) (λ (w : Wrap). w.member == me) c.body.wraps (wraps_both c.body.wraps is.bytes.wraps is.typed.wraps))
   where
-    under : (pair : Option (List ℕ)) (w : Wrap) → IsKey w.sealed → IfSome (opened_under (entry_stream author leaf) pair w) IsKey
+    under : (pair : Option (List ℕ)) (w : Wrap) → IsKey w.sealed → IfSome (opened_under stream pair w) IsKey
     under None w key = tt
-    under (Some pair) w key = masked pair (entry_stream author leaf) w.sealed key
+    under (Some pair) w key = masked pair stream w.sealed key
 
-    go : (o : Option Wrap) → IfSome o (λ w. IsKey w.sealed) → IfSome (option_and_then (opened_under (entry_stream author leaf) (get pairs author)) o) IsKey
+    go : (o : Option Wrap) → IfSome o (λ w. IsKey w.sealed) → IfSome (option_and_then (opened_under stream (get pairs author)) o) IsKey
     go None key = tt
     go (Some w) key = under (get pairs author) w key
 
@@ -159,7 +161,7 @@ under_is c cs (Some k) is all key = ring_are (keys_back (c.header.epoch + 1) k (
 
 at_is : (me : ℕ) (pairs : Keys) (cs : List CommittedChange) (o : Option CommittedChange) → AllByRecursion IsSound cs → IfSome o IsSound → IfOk (hints_at me pairs (map start_by cs) o) HoldsKeys
 at_is me pairs cs None all is = tt
-at_is me pairs cs (Some c) all is = under_is c cs (wrap_opened c.body c.header.author c.header.leaf me pairs) is all (opened_is c c.header.author c.header.leaf me pairs is)
+at_is me pairs cs (Some c) all is = under_is c cs (wrap_opened c.body c.header.author (stream_of c.header) me pairs) is all (opened_is c c.header.author (stream_of c.header) me pairs is)
 
 hints_are : (entries : List (List ℕ)) (me : ℕ) (pairs : Keys) → AllByRecursion AreBytes entries → IfOk (hints_of entries me pairs) HoldsKeys
 unfolding hints_of
@@ -195,7 +197,7 @@ byte_keys ring holds epoch = go (get ring epoch) (holds epoch)
     go None is = tt
     go (Some key) is = is.bytes
 
-unless_acts : (s : Setup) (scene : Scene) (m : ℕ) (ring : Keys) (fault : Option LineOpenFault) → Contains s.members m → HoldsKeys ring → first_of (open_checks s.genesis (get ring 0)) ≡ fault → MayAct s scene (opens_unless m ring fault)
+unless_acts : (s : Setup) (scene : Scene) (m : Device) (ring : Keys) (fault : Option LineOpenFault) → Contains s.devices m → HoldsKeys ring → first_of (open_checks s.genesis (get ring 0)) ≡ fault → MayAct s scene (opens_unless m ring fault)
 unless_acts s scene m ring None member holds none = record {
   run = ((member, meets s.genesis (get ring 0) none), tt);
   typed = (sizes ring holds, tt);
@@ -204,14 +206,14 @@ unless_acts s scene m ring None member holds none = record {
 }
 unless_acts s scene m ring (Some fault) member holds some = no_act s scene
 
-with_acts : (s : Setup) (scene : Scene) (m : ℕ) (hints : Result Keys HintFault) → Contains s.members m → IfOk hints HoldsKeys → MayAct s scene (opens_with s m hints)
+with_acts : (s : Setup) (scene : Scene) (m : Device) (hints : Result Keys HintFault) → Contains s.devices m → IfOk hints HoldsKeys → MayAct s scene (opens_with s m hints)
 with_acts s scene m (Ok ring) member holds = unless_acts s scene m ring (first_of (open_checks s.genesis (get ring 0))) member holds refl
 with_acts s scene m (Err fault) member holds = no_act s scene
 
-pub join_acts : (s : Setup) (j : Join) → Contains s.members j.member → MayBe s (λ scene. commands.Join j)
-join_acts s j member moves scene come = go (scene.world.clients j.member) (entries_at scene.made j.entries) (given_are scene.made j.entries come.made)
+pub join_acts : (s : Setup) (j : Join) → Contains s.devices (first_device j.member) → MayBe s (λ scene. commands.Join j)
+join_acts s j member moves scene come = go (scene.world.clients (first_device j.member)) (entries_at scene.made j.entries) (given_are scene.made j.entries come.made)
   where
-    go : (o : Option PlainClient) (r : Result (List (List ℕ)) ℕ) → IfOk r (AllByRecursion AreBytes) → MayAct s scene (joins s j.member r o)
+    go : (o : Option PlainClient) (r : Result (List (List ℕ)) ℕ) → IfOk r (AllByRecursion AreBytes) → MayAct s scene (joins s (first_device j.member) r o)
     go (Some c) r all = no_act s scene
     go None (Err missing) all = no_act s scene
-    go None (Ok entries) all = with_acts s scene j.member (hints_of entries j.member (s.pairs j.member)) member (hints_are entries j.member (s.pairs j.member) all)
+    go None (Ok entries) all = let who = first_device j.member in with_acts s scene who (hints_of entries who.member (s.pairs who)) member (hints_are entries who.member (s.pairs who) all)

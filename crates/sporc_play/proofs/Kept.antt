@@ -13,6 +13,8 @@ use Rattle.sporc_hash.specs.Verdict.{DivergesAfter, IfForked, SameTip, TipIsIn}
 use Rattle.sporc_hash.specs.declared.verdict.Verdict.{Verdict}
 use Rattle.sporc_hash.specs.declared.verdict.Verdict.TheVariants.{ForkedAfter, Longer, Prefix, Same}
 use Rattle.sporc_hash.proofs.Prefixes.{slice_get-chain}
+use Rattle.sporc_member.specs.declared.device.Device.{Device}
+use Rattle.sporc_member.specs.Device.{first_device}
 use Rattle.sporc_script.specs.declared.command.Command.TheVariants as commands
 use Rattle.sporc_script.specs.declared.command.Flip.{Flip}
 use Rattle.sporc_script.specs.declared.command.Pair.{Pair}
@@ -40,7 +42,7 @@ flip_becomes old new f entries same grown act script scene stands =
     let is : flips f.at (entry_at scene.made f.entry) ≡ makes entries = ap (λ (es : List (List ℕ)). flips f.at (entry_at es f.entry)) (sym stands.made) ∙ act in
     subst (λ (a : Effect). StandsFor script (performed s scene (commands.Flip f) a) new) (sym is)
     (made_stands script scene (performed s scene (commands.Flip f) (makes entries)) old new stands same
-    (λ m. record { client = refl; log = refl; last = refl; asked = refl; leaves = refl })
+    (λ who. record { client = refl; log = refl; last = refl; asked = refl; leaves = refl })
     (grown ∙ ap (λ (es : List (List ℕ)). es ++ entries) stands.made))
 
 pub cut_becomes : (old new : PlayState) (number : ℕ) (entries : List (List ℕ)) → HasSameMembers old new → entries_of new ≡ entries_of old ++ entries → cuts (entry_at (entries_of old) number) ≡ makes entries
@@ -50,7 +52,7 @@ cut_becomes old new number entries same grown act script scene stands =
     let is : cuts (entry_at scene.made number) ≡ makes entries = ap (λ (es : List (List ℕ)). cuts (entry_at es number)) (sym stands.made) ∙ act in
     subst (λ (a : Effect). StandsFor script (performed s scene (commands.Cut number) a) new) (sym is)
     (made_stands script scene (performed s scene (commands.Cut number) (makes entries)) old new stands same
-    (λ m. record { client = refl; log = refl; last = refl; asked = refl; leaves = refl })
+    (λ who. record { client = refl; log = refl; last = refl; asked = refl; leaves = refl })
     (grown ∙ ap (λ (es : List (List ℕ)). es ++ entries) stands.made))
 
 pub flip_tells : (old : PlayState) (f : Flip) (out out' : List ℕ) → out' ≡ out ++ flip_line (length (entries_of old) + 1) f.entry f.at (entry_at (entries_of old) f.entry) → AppendsLineOf old (commands.Flip f) out out'
@@ -85,48 +87,48 @@ cut_act made number bytes new found is = ap cuts found ∙ ap (λ (b : List ℕ)
 
 -- ---- clients that are compared
 
--- the client of a member, as it was found
-pub record IsFound (state : PlayState) (m : ℕ) (found : Option (ClientModel MemoryDiskModel)) : Type 0 where
+-- the client of a device, as it was found
+pub record IsFound (state : PlayState) (who : Device) (found : Option (ClientModel MemoryDiskModel)) : Type 0 where
   pub place : ℕ
   pub seat : Seat
-  pub at : IsSeatAt state.seats.items place m seat
+  pub at : IsSeatAt state.seats.items place who seat
   pub is : found ≡ seat.client
 
-pub found_by : (state : PlayState) (m : ℕ) (found : Option (ClientModel MemoryDiskModel)) → (i : ℕ) × (seat : Seat) × IsSeatAt state.seats.items i m seat × (found ≡ seat.client) → IsFound state m found
-found_by state m found (i, seat, at, is) = record { place = i; seat = seat; at = at; is = is }
+pub found_by : (state : PlayState) (who named : Device) (found : Option (ClientModel MemoryDiskModel)) → named ≡ who → (i : ℕ) × (seat : Seat) × IsSeatAt state.seats.items i named seat × (found ≡ seat.client) → IsFound state who found
+found_by state who named found same (i, seat, at, is) = record { place = i; seat = seat; at = record { there = at.there; own = at.own ∙ same }; is = is }
 
-found_there : (script : List PlayLine) (scene : Scene) (state : PlayState) (m : ℕ) (found : Option (ClientModel MemoryDiskModel)) → StandsFor script scene state → IsFound state m found → scene.world.clients m ≡ option_map state_of found
-found_there script scene state m found stands f = client_there script scene state f.place m f.seat stands f.at ∙ ap (option_map state_of) (sym f.is)
+found_there : (script : List PlayLine) (scene : Scene) (state : PlayState) (who : Device) (found : Option (ClientModel MemoryDiskModel)) → StandsFor script scene state → IsFound state who found → scene.world.clients who ≡ option_map state_of found
+found_there script scene state who found stands f = client_there script scene state f.place who f.seat stands f.at ∙ ap (option_map state_of) (sym f.is)
 
 -- what is known of a client that was found
-client_is : (script : List PlayLine) (scene : Scene) (state : PlayState) (m : ℕ) (c : ClientModel MemoryDiskModel) → StandsFor script scene state → IsFound state m (Some c) → IsClientOf (setup_of script) scene m c
-client_is script scene state m c stands f =
+client_is : (script : List PlayLine) (scene : Scene) (state : PlayState) (who : Device) (c : ClientModel MemoryDiskModel) → StandsFor script scene state → IsFound state who (Some c) → IsClientOf (setup_of script) scene who c
+client_is script scene state who c stands f =
     let s = setup_of script in
-    subst (λ (n : ℕ). IsClientOf s scene n c) f.at.own
-    (subst (λ (o : Option (ClientModel MemoryDiskModel)). Holds s scene f.seat.member f.seat.signer o) (sym f.is) (seat_there script scene state f.place m f.seat stands f.at).holds)
+    subst (λ (n : Device). IsClientOf s scene n c) f.at.own
+    (subst (λ (o : Option (ClientModel MemoryDiskModel)). Holds s scene f.seat.device f.seat.signer o) (sym f.is) (seat_there script scene state f.place who f.seat stands f.at).holds)
 
--- the line of a client by its own number
-pub line_there : (script : List PlayLine) (scene : Scene) (state : PlayState) (m : ℕ) (c : ClientModel MemoryDiskModel) (line : ℕ → PlainClient → List ℕ) (out out' : List ℕ) → StandsFor script scene state → IsFound state m (Some c)
-    → out' ≡ out ++ line c.opening.kit.me (state_of c) → (l : List ℕ) × (l ≡ line_by m (scene.world.clients m) (line m)) × (out' ≡ out ++ l)
-line_there script scene state m c line out out' stands f is = (
-  line m (state_of c),
-  ap (λ (o : Option PlainClient). line_by m o (line m)) (sym (found_there script scene state m (Some c) stands f)),
-  is ∙ ap (λ (o : Opening). out ++ line o.kit.me (state_of c)) (client_is script scene state m c stands f).opening,
+-- the line of a client by its own member
+pub line_there : (script : List PlayLine) (scene : Scene) (state : PlayState) (who : Device) (c : ClientModel MemoryDiskModel) (line : ℕ → PlainClient → List ℕ) (out out' : List ℕ) → StandsFor script scene state → IsFound state who (Some c)
+    → out' ≡ out ++ line c.opening.kit.me.member (state_of c) → (l : List ℕ) × (l ≡ line_by who.member (scene.world.clients who) (line who.member)) × (out' ≡ out ++ l)
+line_there script scene state who c line out out' stands f is = (
+  line who.member (state_of c),
+  ap (λ (o : Option PlainClient). line_by who.member o (line who.member)) (sym (found_there script scene state who (Some c) stands f)),
+  is ∙ ap (λ (o : Opening). out ++ line o.kit.me.member (state_of c)) (client_is script scene state who c stands f).opening,
 )
 
 -- that it is not open
-pub none_there : (script : List PlayLine) (scene : Scene) (state : PlayState) (m : ℕ) (line : PlainClient → List ℕ) (out out' : List ℕ) → StandsFor script scene state → IsFound state m None
-    → out' ≡ out ++ not_open_line m → (l : List ℕ) × (l ≡ line_by m (scene.world.clients m) line) × (out' ≡ out ++ l)
-none_there script scene state m line out out' stands f is =
-    (not_open_line m, ap (λ (o : Option PlainClient). line_by m o line) (sym (found_there script scene state m None stands f)), is)
+pub none_there : (script : List PlayLine) (scene : Scene) (state : PlayState) (who : Device) (line : PlainClient → List ℕ) (out out' : List ℕ) → StandsFor script scene state → IsFound state who None
+    → out' ≡ out ++ not_open_line who.member → (l : List ℕ) × (l ≡ line_by who.member (scene.world.clients who) line) × (out' ≡ out ++ l)
+none_there script scene state who line out out' stands f is =
+    (not_open_line who.member, ap (λ (o : Option PlainClient). line_by who.member o line) (sym (found_there script scene state who None stands f)), is)
 
 -- the lines of its journal
-pub journal_there : (script : List PlayLine) (scene : Scene) (state : PlayState) (m : ℕ) (c : ClientModel MemoryDiskModel) (out out' : List ℕ) → StandsFor script scene state → IsFound state m (Some c)
-    → out' ≡ out ++ journal_lines (journal_of c.log) → (l : List ℕ) × (l ≡ line_by m (scene.world.clients m) (λ c. journal_lines (journal_of (scene.logs m)))) × (out' ≡ out ++ l)
-journal_there script scene state m c out out' stands f is = (
-  journal_lines (journal_of (scene.logs m)),
-  ap (λ (o : Option PlainClient). line_by m o (λ c. journal_lines (journal_of (scene.logs m)))) (sym (found_there script scene state m (Some c) stands f)),
-  is ∙ ap (λ (l : List Logged). out ++ journal_lines (journal_of l)) (sym (client_is script scene state m c stands f).log),
+pub journal_there : (script : List PlayLine) (scene : Scene) (state : PlayState) (who : Device) (c : ClientModel MemoryDiskModel) (out out' : List ℕ) → StandsFor script scene state → IsFound state who (Some c)
+    → out' ≡ out ++ journal_lines (journal_of c.log) → (l : List ℕ) × (l ≡ line_by who.member (scene.world.clients who) (λ c. journal_lines (journal_of (scene.logs who)))) × (out' ≡ out ++ l)
+journal_there script scene state who c out out' stands f is = (
+  journal_lines (journal_of (scene.logs who)),
+  ap (λ (o : Option PlainClient). line_by who.member o (λ c. journal_lines (journal_of (scene.logs who)))) (sym (found_there script scene state who (Some c) stands f)),
+  is ∙ ap (λ (l : List Logged). out ++ journal_lines (journal_of l)) (sym (client_is script scene state who c stands f).log),
 )
 
 -- ---- their chains
@@ -144,16 +146,16 @@ begun (y ∷ ys) x at = omega arith
 pub begun_chain : (genesis : List ℕ) (entries : List (List ℕ)) → 0 < length (chain genesis entries)
 begun_chain genesis entries = begun (chain genesis entries) (last_value genesis []) (first_value genesis entries)
 
-document_of : (state : PlayState) (m : ℕ) (c : ClientModel MemoryDiskModel) → AreOfOneDocument state → IsFound state m (Some c) → c.opening.genesis ≡ state.genesis
-document_of state m c one f =
+document_of : (state : PlayState) (who : Device) (c : ClientModel MemoryDiskModel) → AreOfOneDocument state → IsFound state who (Some c) → c.opening.genesis ≡ state.genesis
+document_of state who c one f =
     subst (λ (o : Option (ClientModel MemoryDiskModel)). IfSome o (λ c. c.opening.genesis ≡ state.genesis)) (sym f.is)
     (at_place (λ (seat : Seat). IfSome seat.client (λ c. c.opening.genesis ≡ state.genesis)) state.seats.items f.place f.seat one f.at.there)
 
-pub one_beginning : (state : PlayState) (m n : ℕ) (a b : ClientModel MemoryDiskModel) → AreOfOneDocument state → IsFound state m (Some a) → IsFound state n (Some b)
+pub one_beginning : (state : PlayState) (who n : Device) (a b : ClientModel MemoryDiskModel) → AreOfOneDocument state → IsFound state who (Some a) → IsFound state n (Some b)
     → slice_get (chain (genesis_bytes a.opening.genesis) (state_of a).entries) 0 ≡ slice_get (chain (genesis_bytes b.opening.genesis) (state_of b).entries) 0
-one_beginning state m n a b one first second =
+one_beginning state who n a b one first second =
     first_value (genesis_bytes a.opening.genesis) (state_of a).entries
-    ∙ ap (λ (g : Genesis). Some (last_value (genesis_bytes g) [])) (document_of state m a one first ∙ sym (document_of state n b one second))
+    ∙ ap (λ (g : Genesis). Some (last_value (genesis_bytes g) [])) (document_of state who a one first ∙ sym (document_of state n b one second))
     ∙ sym (first_value (genesis_bytes b.opening.genesis) (state_of b).entries)
 
 -- ---- what is told of them
@@ -164,27 +166,27 @@ stands a b Prefix same prefix longer forked = prefix.0 refl
 stands a b Longer same prefix longer forked = longer.0 refl
 stands a b (ForkedAfter k) same prefix longer forked = forked
 
-pub compare_tells : (state : PlayState) (p : Pair) (a b : ClientModel MemoryDiskModel) (v : Verdict) (out out' : List ℕ) → IsFound state p.first (Some a) → IsFound state p.second (Some b)
+pub compare_tells : (state : PlayState) (p : Pair) (a b : ClientModel MemoryDiskModel) (v : Verdict) (out out' : List ℕ) → IsFound state (first_device p.first) (Some a) → IsFound state (first_device p.second) (Some b)
     → Stands (hashes_of (state_of a)) (hashes_of (state_of b)) v → out' ≡ out ++ compare_line p v → AppendsLineOf state (commands.Compare p) out out'
 compare_tells state p a b v out out' first second stand is script scene stands =
     (compare_line p v, written, is)
   where
-    written : Compares p (scene.world.clients p.first) (scene.world.clients p.second) (compare_line p v)
-    written = subst (λ (o : Option PlainClient). Compares p o (scene.world.clients p.second) (compare_line p v)) (sym (found_there script scene state p.first (Some a) stands first))
-        (subst (λ (o : Option PlainClient). Compares p (Some (state_of a)) o (compare_line p v)) (sym (found_there script scene state p.second (Some b) stands second)) (v, stand, refl))
+    written : Compares p (scene.world.clients (first_device p.first)) (scene.world.clients (first_device p.second)) (compare_line p v)
+    written = subst (λ (o : Option PlainClient). Compares p o (scene.world.clients (first_device p.second)) (compare_line p v)) (sym (found_there script scene state (first_device p.first) (Some a) stands first))
+        (subst (λ (o : Option PlainClient). Compares p (Some (state_of a)) o (compare_line p v)) (sym (found_there script scene state (first_device p.second) (Some b) stands second)) (v, stand, refl))
 
-pub first_missing : (state : PlayState) (p : Pair) (out out' : List ℕ) → IsFound state p.first None → out' ≡ out ++ not_open_line p.first → AppendsLineOf state (commands.Compare p) out out'
+pub first_missing : (state : PlayState) (p : Pair) (out out' : List ℕ) → IsFound state (first_device p.first) None → out' ≡ out ++ not_open_line p.first → AppendsLineOf state (commands.Compare p) out out'
 first_missing state p out out' f is script scene stands = (
   not_open_line p.first,
-  subst (λ (o : Option PlainClient). Compares p o (scene.world.clients p.second) (not_open_line p.first)) (sym (found_there script scene state p.first None stands f)) refl,
+  subst (λ (o : Option PlainClient). Compares p o (scene.world.clients (first_device p.second)) (not_open_line p.first)) (sym (found_there script scene state (first_device p.first) None stands f)) refl,
   is,
 )
 
-pub second_missing : (state : PlayState) (p : Pair) (a : ClientModel MemoryDiskModel) (out out' : List ℕ) → IsFound state p.first (Some a) → IsFound state p.second None → out' ≡ out ++ not_open_line p.second
+pub second_missing : (state : PlayState) (p : Pair) (a : ClientModel MemoryDiskModel) (out out' : List ℕ) → IsFound state (first_device p.first) (Some a) → IsFound state (first_device p.second) None → out' ≡ out ++ not_open_line p.second
     → AppendsLineOf state (commands.Compare p) out out'
 second_missing state p a out out' first second is script scene stands = (
   not_open_line p.second,
-  subst (λ (o : Option PlainClient). Compares p o (scene.world.clients p.second) (not_open_line p.second)) (sym (found_there script scene state p.first (Some a) stands first))
-      (subst (λ (o : Option PlainClient). Compares p (Some (state_of a)) o (not_open_line p.second)) (sym (found_there script scene state p.second None stands second)) refl),
+  subst (λ (o : Option PlainClient). Compares p o (scene.world.clients (first_device p.second)) (not_open_line p.second)) (sym (found_there script scene state (first_device p.first) (Some a) stands first))
+      (subst (λ (o : Option PlainClient). Compares p (Some (state_of a)) o (not_open_line p.second)) (sym (found_there script scene state (first_device p.second) None stands second)) refl),
   is,
 )

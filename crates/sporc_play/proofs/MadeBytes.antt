@@ -1,5 +1,5 @@
 -- The entries that clients make are strings of bytes.
-use Rattle.std.proofs.Common.{ℕ, ◌+◌, ◌<◌, List, [], ◌∷◌, ◌++◌, length, arith, Option, None, Some}
+use Rattle.std.proofs.Common.{ℕ, ◌+◌, ◌<◌, Bool, true, false, List, [], ◌∷◌, ◌++◌, length, arith, Option, None, Some}
 use Rattle.std.specs.Prelude.{flat_map, option_map}
 use Rattle.std.specs.FinMap.{get}
 use Rattle.std.specs.Int.{w16, to_be_bytes}
@@ -8,7 +8,7 @@ use Rattle.sporc_cipher.specs.Mask.{mask_of}
 use Rattle.sporc_delta.specs.Format.{delta_bytes}
 use Rattle.sporc_hash.specs.Chain.{genesis_value, last_value, next_value, value_after}
 use Rattle.sporc_member.specs.declared.change.Change.{Change as MemberChange}
-use Rattle.sporc_member.specs.declared.change.Change.TheVariants.{Add, Remove, SetRole}
+use Rattle.sporc_member.specs.declared.change.Change.TheVariants.{Add, Remove, SetRole, AddDevice, DropDevice, Upgrade}
 use Rattle.sporc_member.specs.declared.role.Role.{Role}
 use Rattle.sporc_member.specs.declared.role.Role.TheVariants.{Admin, Editor, Reader}
 use Rattle.sporc_member.specs.Role.{role_code_of}
@@ -17,9 +17,11 @@ use Rattle.sporc_entry.specs.declared.wrap.Wrap.{Wrap}
 use Rattle.sporc_entry.specs.ChangeBody.{change_body_bytes, change_bytes, wrap_bytes}
 use Rattle.sporc_entry.specs.Entry.{signed_string}
 use Rattle.sporc_entry.specs.Genesis.{genesis_bytes}
+use Rattle.sporc_entry.specs.Version.{version_of}
 use Rattle.sporc_epoch.specs.Keys.{Keys}
 use Rattle.sporc_epoch.specs.Sealing.{body_sealed, wraps_sealed}
 use Rattle.sporc_epoch.specs.Streams.{entry_stream, previous_stream}
+use Rattle.sporc_head.specs.History.{roster_of}
 use Rattle.sporc_client.specs.declared.pending.Pending.{Pending}
 use Rattle.sporc_client.specs.declared.pending.Pending.TheVariants as items
 use Rattle.sporc_client.specs.Entries.{Chosen, body_of, bytes_made, current_key, entry_made, kind_of, sealing_of, unsigned_entry}
@@ -45,6 +47,13 @@ change_are (Remove member) rest is are = (omega arith, bytes_append (to_be_bytes
 change_are (SetRole member role) rest is are =
     let last : AreBytes (role_code_of role ∷ rest) = (role_fits role, are) in
     (omega arith, bytes_append (to_be_bytes w16 member) (role_code_of role ∷ rest) (bytes_16 member) last)
+change_are (AddDevice member device key) rest is are =
+    let last : AreBytes ((device ∷ key) ++ rest) = (is.0, bytes_append key rest is.1 are) in
+    (omega arith, bytes_append (to_be_bytes w16 member) ((device ∷ key) ++ rest) (bytes_16 member) last)
+change_are (DropDevice member device) rest is are =
+    let last : AreBytes (device ∷ rest) = (is, are) in
+    (omega arith, bytes_append (to_be_bytes w16 member) (device ∷ rest) (bytes_16 member) last)
+change_are Upgrade rest is are = (omega arith, are)
 
 abbrev AreSealed : List Wrap → Type 0
 AreSealed wraps = AllByRecursion (λ w. AreBytes w.sealed) wraps
@@ -109,14 +118,24 @@ body_are c chosen (items.Change change) is new old =
       change = is;
       commitment = bytes_sha _;
       previous = bytes_mask chosen.new_key (previous_stream (sealing.epoch + 1)) (current_key c) old;
-      wraps = sealed_are (entry_stream sealing.author sealing.leaf) chosen.new_key c.opening.kit.pairs sealing.members new;
+      wraps = sealed_are sealing.stream chosen.new_key c.opening.kit.pairs sealing.members new;
     })
 
-pub made_are : (c : PlainClient) (chosen : Chosen) (item : Pending) → IsWritten item → AreBytes c.opening.genesis.document → AreBytes chosen.randomizer → AreBytes chosen.new_key → AreBytes (current_key c) → AreBytes (bytes_made c chosen item)
+version_fits : (upgraded : Bool) → version_of upgraded < 256
+version_fits true = omega arith
+version_fits false = omega arith
+
+pub made_are : (c : PlainClient) (chosen : Chosen) (item : Pending) → IsWritten item → (me_of c).number < 256 → AreBytes c.opening.genesis.document → AreBytes chosen.randomizer → AreBytes chosen.new_key → AreBytes (current_key c) → AreBytes (bytes_made c chosen item)
 unfolding entry_made
-made_are c chosen item is document randomizer new old =
+made_are c chosen item is device document randomizer new old =
     bytes_entry (entry_made c chosen item)
-    (record { document = document; base_hash = hash_are (genesis_bytes c.opening.genesis) c.entries; kind = kind_fits item })
+    (record {
+      version = version_fits (roster_of c.opening.genesis c.entries).upgraded;
+      document = document;
+      device = device;
+      base_hash = hash_are (genesis_bytes c.opening.genesis) c.entries;
+      kind = kind_fits item;
+    })
     (body_are c chosen item is new old)
     (bytes_signature c.opening.key chosen.leaf chosen.randomizer (signed_string (unsigned_entry c chosen item)) randomizer)
 

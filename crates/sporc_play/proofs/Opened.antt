@@ -10,7 +10,9 @@ use Rattle.sporc_outside.specs.MemoryDisk.{MemoryDiskModel}
 use Rattle.sporc_epoch.specs.Keys.{Keys}
 use Rattle.sporc_client.specs.ClientModel.{ClientModel, state_of}
 use Rattle.sporc_client.specs.Run.{Move}
+use Rattle.sporc_member.specs.declared.device.Device.{Device}
 use Rattle.sporc_member.specs.declared.founder.Founder.{Founder}
+use Rattle.sporc_member.specs.Device.{first_device}
 use Rattle.sporc_member.specs.Role.{is_admin}
 use Rattle.sporc_script.specs.declared.command.Pair.{Pair}
 use Rattle.sporc_script.specs.declared.command.Tree.{Tree}
@@ -35,27 +37,27 @@ pairs_by member unpaired declared =
 cast_is : (script : List PlayLine) (cast : Cast) (seats : List Seat) (rogues : List Rogue) → HaveDeclared (tree_of script) script cast seats rogues → IsCastOf (setup_of script) cast
 unfolding setup_of pairs_by
 cast_is script cast seats rogues known = record {
-  keys = All-from_recursion (λ (d : Declared). d.key ≡ public_of (tree_of script) d.member) cast.declared.items known.keys;
+  keys = All-from_recursion (λ (d : Declared). d.key ≡ public_of (tree_of script) (first_device d.member)) cast.declared.items known.keys;
   founders = known.founders;
-  trees = λ member. ap (λ (t : Tree). private_of t member) (sym known.tree_is);
-  pairs = λ member. ap₂ (pairs_by member) known.unpaired known.declared;
+  trees = λ who. ap (λ (t : Tree). private_of t who) (sym known.tree_is);
+  pairs = λ who. ap₂ (pairs_by who.member) known.unpaired known.declared;
 }
 
 -- ---- seats
 
-fresh_holds : (script : List PlayLine) (member : ℕ) (signer : Option (SignerModel MemoryDiskModel)) (client : Option (ClientModel MemoryDiskModel)) → client ≡ None → HasBlank (tree_of script) member signer
-    → Holds (setup_of script) (scene_opened script 0) member signer client
+fresh_holds : (script : List PlayLine) (who : Device) (signer : Option (SignerModel MemoryDiskModel)) (client : Option (ClientModel MemoryDiskModel)) → client ≡ None → HasBlank (tree_of script) who signer
+    → Holds (setup_of script) (scene_opened script 0) who signer client
 unfolding setup_of
-fresh_holds script member None client closed blank = absurd blank
-fresh_holds script member (Some signer) client closed blank =
-    subst (Holds (setup_of script) (scene_opened script 0) member (Some signer)) (sym closed) (record { key = blank.key; leaves = blank.leaves })
+fresh_holds script who None client closed blank = absurd blank
+fresh_holds script who (Some signer) client closed blank =
+    subst (Holds (setup_of script) (scene_opened script 0) who (Some signer)) (sym closed) (record { key = blank.key; leaves = blank.leaves })
 
 fresh_seat : (script : List PlayLine) (seat : Seat) → IsFresh (tree_of script) seat → IsSeatOf (setup_of script) (scene_opened script 0) seat
 fresh_seat script seat is = record {
   asked = is.asked;
   last = is.last;
   client = sym (ap (option_map state_of) is.closed);
-  holds = fresh_holds script seat.member seat.signer seat.client is.closed is.signer;
+  holds = fresh_holds script seat.device seat.signer seat.client is.closed is.signer;
 }
 
 fresh_seats : (script : List PlayLine) (seats : List Seat) → AllByRecursion (IsFresh (tree_of script)) seats → AllByRecursion (IsSeatOf (setup_of script) (scene_opened script 0)) seats
@@ -76,7 +78,7 @@ genesis_is : (script : List PlayLine) → (setup_of script).genesis ≡ genesis_
 unfolding setup_of
 genesis_is script = refl
 
-seated_are : (script : List PlayLine) (cast : Cast) (seats : List Seat) (rogues : List Rogue) → HaveDeclared (tree_of script) script cast seats rogues → map (λ (x : Seat). x.member) seats ≡ (setup_of script).members
+seated_are : (script : List PlayLine) (cast : Cast) (seats : List Seat) (rogues : List Rogue) → HaveDeclared (tree_of script) script cast seats rogues → map (λ (x : Seat). x.device) seats ≡ (setup_of script).devices
 unfolding setup_of
 seated_are script cast seats rogues known = known.seated_are
 
@@ -88,7 +90,7 @@ stands_first script state declared known genesis none = record {
   seats = fresh_seats script state.seats.items known.fresh;
   rogues = fresh_rogues script state.rogues.items known.fresh_rogues;
   seated = seated_are script state.cast state.seats.items state.rogues.items known;
-  rogue_numbers = known.rogues_are;
+  rogue_devices = known.rogues_are;
   declared = declared;
   made = ap (map (λ bytes. bytes.items)) none;
 }

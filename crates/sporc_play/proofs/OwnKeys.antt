@@ -10,6 +10,8 @@ use Rattle.lms_tree.specs.LmsType.{height_of, lms_code_of}
 use Rattle.lms_tree.proofs.PublicKeyLemmas.{public_key_read_back}
 use Rattle.sporc_client.proofs.HonestSignatures.{root_len}
 use Rattle.sporc_entry.specs.Genesis.{IsFounder}
+use Rattle.sporc_member.specs.declared.device.Device.{Device}
+use Rattle.sporc_member.specs.Device.{first_device}
 use Rattle.sporc_script.specs.declared.command.Tree.{Tree}
 use Rattle.sporc_script.specs.declared.member_role.MemberRole.{MemberRole}
 use Rattle.sporc_play.specs.Cast.{founder_of, private_of, public_of}
@@ -22,9 +24,9 @@ pub half_len : (kind member number : ℕ) → length (take 16 (derived kind memb
 half_len kind member number = length-take-le 16 (derived kind member number) (omega (arith, derived_len kind member number))
 
 -- a public key has 56 bytes, and is of a known type
-pub own_key_len : (tree : Tree) (member : ℕ) → length (public_of tree member) ≡ 56
-own_key_len tree member =
-    let key = private_of tree member in
+pub own_key_len : (tree : Tree) (who : Device) → length (public_of tree who) ≡ 56
+own_key_len tree who =
+    let key = private_of tree who in
     let a = to_be_bytes w32 (lms_code_of key.lms) in
     let b = to_be_bytes w32 (ots_code_of key.ots) in
     omega (
@@ -32,14 +34,14 @@ own_key_len tree member =
       length-append (a ++ b ++ key.id) (root_of key),
       length-append (a ++ b) key.id,
       length-append a b,
-      half_len 2 member 0,
+      half_len 2 who.member who.number,
       root_len key (height_of key.lms) 1,
     )
 
-pub own_key_known : (tree : Tree) (member : ℕ) → public_key_in (public_of tree member) ≡ Some (lms_public_of (private_of tree member))
-own_key_known tree member =
-    let key = private_of tree member in
-    public_key_read_back (lms_public_of key) (half_len 2 member 0) (root_len key (height_of key.lms) 1)
+pub own_key_known : (tree : Tree) (who : Device) → public_key_in (public_of tree who) ≡ Some (lms_public_of (private_of tree who))
+own_key_known tree who =
+    let key = private_of tree who in
+    public_key_read_back (lms_public_of key) (half_len 2 who.member who.number) (root_len key (height_of key.lms) 1)
 
 pub own_founder : (tree : Tree) (m : MemberRole) → 0 < m.member → m.member < 2 ^ 16 → IsFounder (founder_of tree m)
-own_founder tree m positive small = record { member = record { positive = positive; small = small }; key = own_key_len tree m.member }
+own_founder tree m positive small = record { member = record { positive = positive; small = small }; key = own_key_len tree (first_device m.member) }

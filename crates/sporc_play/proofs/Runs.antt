@@ -11,6 +11,7 @@ use Rattle.sporc_client.specs.Run.{Setup, Move, Open, World, IsRun, after_all, s
 use Rattle.sporc_client.specs.Typed.{IsTypedMove, IsTypedRun}
 use Rattle.sporc_client.proofs.Agreed.{agree}
 use Rattle.sporc_client.proofs.Calls.{after_append, run_append}
+use Rattle.sporc_member.specs.declared.device.Device.{Device}
 use Rattle.sporc_script.specs.declared.command.Command.{Command}
 use Rattle.sporc_script.specs.declared.play_line.PlayLine.{PlayLine}
 use Rattle.sporc_play.specs.Cast.{first_ring, has_admin, openers_by, setup_of}
@@ -113,7 +114,7 @@ first_keys epoch =
     go true = bytes_sha _
     go false = subst (λ (o : Option (List ℕ)). IfSome o AreBytes) (sym (get-empty nat_cmp epoch)) tt
 
-openings_bytes : (ns : List ℕ) → AllByRecursion IsByteMove (map (λ (n : ℕ). Open n first_ring) ns)
+openings_bytes : (ns : List Device) → AllByRecursion IsByteMove (map (λ (n : Device). Open n first_ring) ns)
 openings_bytes [] = tt
 openings_bytes (n ∷ ns) = (first_keys, openings_bytes ns)
 

@@ -1,9 +1,12 @@
 -- What the grammar gives of a script: who is declared, and whom its commands name.
-use Rattle.std.proofs.Common.{◌≡◌, ◌≢◌, ℕ, zero, suc, ◌+◌, ◌<◌, Bool, true, false, eq-eqb, List, [], ◌∷◌, ◌++◌, length, take, get_or, fold, refl, sym, ap, ◌∙◌, subst, arith, append_assoc, append-nil, Option, None, Some, inl, inr}
+use Rattle.std.proofs.Common.{◌≡◌, ◌≢◌, ℕ, zero, suc, ◌+◌, ◌<◌, Bool, true, false, eq-eqb, List, [], ◌∷◌, ◌++◌, length, take, get_or, fold, map, refl, sym, ap, ap₂, ◌∙◌, subst, arith, append_assoc, append-nil, Option, None, Some, inl, inr}
 use Rattle.std.specs.Prelude.{◌==◌, ◌&&◌, ◌||◌, ◌⊎◌, not, nat_lt, Contains, filter_map}
 use Rattle.std.specs.List.{cons_option}
 use Rattle.std.proofs.lemmas.Bool.{and_parts, eqb-true}
+use Rattle.std.proofs.lemmas.List.{map-append}
 use Rattle.std.proofs.lemmas.List.Elements.{filter_map-append}
+use Rattle.sporc_member.specs.declared.device.Device.{Device}
+use Rattle.sporc_member.specs.Device.{first_device}
 use Rattle.sporc_script.specs.Commands.{InRange}
 use Rattle.sporc_script.specs.Declarations.{Declared, declared_after, declared_by as declarations, is_among, is_client, is_declared, is_rogue, is_joiner, may_declare, may_follow, none_declared}
 use Rattle.sporc_script.specs.Grammar.{IsNext, IsPlayScript, play_line}
@@ -12,7 +15,7 @@ use Rattle.sporc_script.specs.declared.command.Command.{Command}
 use Rattle.sporc_script.specs.declared.command.Command.TheVariants as commands
 use Rattle.sporc_script.specs.declared.play_line.PlayLine.{PlayLine}
 use Rattle.sporc_play.proofs.Distinct.{AreDistinct, IsNotIn}
-use Rattle.sporc_play.specs.Cast.{declared_member, member_by, rogue_by}
+use Rattle.sporc_play.specs.Cast.{declared_member, device_by, rogue_by}
 use Rattle.sporc_play.proofs.Places.{among_cases, among_front, among_here, among_more, not_in_append, not_in_contains}
 
 -- ---- each line may follow those before it
@@ -51,11 +54,21 @@ line_at text script i l is low at = line_from [] script i l (script_follows text
 abbrev pub numbers : List PlayLine → List ℕ
 numbers lines = filter_map (λ (l : PlayLine). declared_member l.command) lines
 
+-- those who have a client or may get one, and rogues
+abbrev member_by : Command → Option ℕ
+member_by (commands.Member m) = Some m.member
+member_by (commands.Joiner m) = Some m
+member_by c = None
+
 abbrev members : List PlayLine → List ℕ
 members lines = filter_map (λ (l : PlayLine). member_by l.command) lines
 
+abbrev rogue_number : Command → Option ℕ
+rogue_number (commands.Rogue m) = Some m.member
+rogue_number c = None
+
 abbrev rogues : List PlayLine → List ℕ
-rogues lines = filter_map (λ (l : PlayLine). rogue_by l.command) lines
+rogues lines = filter_map (λ (l : PlayLine). rogue_number l.command) lines
 
 after_numbers : (d : Declared) (c : Command) → (declared_after d c).numbers ≡ d.numbers ++ cons_option (declared_member c) []
 after_numbers d (commands.Member m) = refl
@@ -63,7 +76,7 @@ after_numbers d (commands.Rogue m) = refl
 after_numbers d (commands.Joiner m) = refl
 after_numbers d c = sym (append-nil d.numbers)
 
-after_rogues : (d : Declared) (c : Command) → (declared_after d c).rogues ≡ d.rogues ++ cons_option (rogue_by c) []
+after_rogues : (d : Declared) (c : Command) → (declared_after d c).rogues ≡ d.rogues ++ cons_option (rogue_number c) []
 after_rogues d (commands.Rogue m) = refl
 after_rogues d c = sym (append-nil d.rogues)
 
@@ -81,7 +94,7 @@ fold_rogues : (d : Declared) (lines : List PlayLine) → (fold (λ (d : Declared
 fold_rogues d [] = sym (append-nil d.rogues)
 fold_rogues d (l ∷ ls) =
     fold_rogues (declared_after d l.command) ls ∙ ap (λ (ns : List ℕ). ns ++ rogues ls) (after_rogues d l.command)
-    ∙ append_assoc d.rogues (cons_option (rogue_by l.command) []) (rogues ls) ∙ ap (λ (ns : List ℕ). d.rogues ++ ns) (option_append (rogue_by l.command) (rogues ls))
+    ∙ append_assoc d.rogues (cons_option (rogue_number l.command) []) (rogues ls) ∙ ap (λ (ns : List ℕ). d.rogues ++ ns) (option_append (rogue_number l.command) (rogues ls))
 
 pub numbers_are : (lines : List PlayLine) → (declarations lines).numbers ≡ filter_map (λ (l : PlayLine). declared_member l.command) lines
 numbers_are lines = fold_numbers none_declared lines
@@ -157,21 +170,21 @@ pub numbers_push : (before : List PlayLine) (l : PlayLine) → numbers (before +
 numbers_push before l = filter_map-append (λ (l : PlayLine). declared_member l.command) before (l ∷ [])
 
 apart_more : (before : List PlayLine) (l : PlayLine) (o : Option ℕ) → declared_member l.command ≡ o → may_follow (declarations before) l.command ≡ true → AreDistinct (numbers before) → AreDistinct (numbers before ++ cons_option o [])
-apart_more before l None is may apart = subst AreDistinct (sym (append-nil (numbers before))) apart
+apart_more before l None is may apart = subst (λ (ns : List ℕ). AreDistinct ns) (sym (append-nil (numbers before))) apart
 apart_more before l (Some n) is may apart = apart_push (numbers before) n apart (new_by before l.command n may is)
 
 numbers_apart : (before script : List PlayLine) → Follows before script → AreDistinct (numbers before) → AreDistinct (numbers (before ++ script))
 numbers_apart before [] all apart = subst (λ (ls : List PlayLine). AreDistinct (numbers ls)) (sym (append-nil before)) apart
 numbers_apart before (l ∷ ls) all apart =
     subst (λ (xs : List PlayLine). AreDistinct (numbers xs)) (append_assoc before (l ∷ []) ls)
-    (numbers_apart (before ++ l ∷ []) ls all.2 (subst AreDistinct (sym (numbers_push before l)) (apart_more before l (declared_member l.command) refl all.0 apart)))
+    (numbers_apart (before ++ l ∷ []) ls all.2 (subst (λ (ns : List ℕ). AreDistinct ns) (sym (numbers_push before l)) (apart_more before l (declared_member l.command) refl all.0 apart)))
 
 pub script_numbers_apart : (text : List ℕ) (script : List PlayLine) → IsPlayScript text script → AreDistinct (filter_map (λ (l : PlayLine). declared_member l.command) script)
 script_numbers_apart text script is = numbers_apart [] script (script_follows text script is) tt
 
 -- each that is declared is a member or a rogue
 record Splits (c : Command) : Type 0 where
-  parts : ((member_by c ≡ declared_member c) × (rogue_by c ≡ None)) ⊎ ((member_by c ≡ None) × (rogue_by c ≡ declared_member c))
+  parts : ((member_by c ≡ declared_member c) × (rogue_number c ≡ None)) ⊎ ((member_by c ≡ None) × (rogue_number c ≡ declared_member c))
 
 splits : (c : Command) → Splits c
 splits (commands.Rogue m) = record { parts = inr (refl, refl) }
@@ -203,9 +216,9 @@ apart_insert (x ∷ xs) n ys apart a b =
 parts_apart : (lines : List PlayLine) → AreDistinct (numbers lines) → AreDistinct (members lines ++ rogues lines)
 parts_apart [] apart = tt
 parts_apart (l ∷ ls) apart = elim (splits l.command).parts [
-  | inl p ↦ subst (λ (o : Option ℕ). AreDistinct (cons_option o (members ls) ++ cons_option (rogue_by l.command) (rogues ls))) (sym p.0)
+  | inl p ↦ subst (λ (o : Option ℕ). AreDistinct (cons_option o (members ls) ++ cons_option (rogue_number l.command) (rogues ls))) (sym p.0)
       (subst (λ (o : Option ℕ). AreDistinct (cons_option (declared_member l.command) (members ls) ++ cons_option o (rogues ls))) (sym p.1) (as_member (declared_member l.command) apart (parts_apart ls)))
-  | inr p ↦ subst (λ (o : Option ℕ). AreDistinct (cons_option o (members ls) ++ cons_option (rogue_by l.command) (rogues ls))) (sym p.0)
+  | inr p ↦ subst (λ (o : Option ℕ). AreDistinct (cons_option o (members ls) ++ cons_option (rogue_number l.command) (rogues ls))) (sym p.0)
       (subst (λ (o : Option ℕ). AreDistinct (members ls ++ cons_option o (rogues ls))) (sym p.1) (as_rogue (declared_member l.command) apart (parts_apart ls)))
 ]
   where
@@ -217,9 +230,46 @@ parts_apart (l ∷ ls) apart = elim (splits l.command).parts [
     as_rogue None apart rest = rest apart
     as_rogue (Some n) apart rest = let q = not_part n ls apart.0 in apart_insert (members ls) n (rogues ls) (rest apart.1) q.0 q.1
 
+-- ---- their devices
+
+devices_are : (lines : List PlayLine) → filter_map (λ (l : PlayLine). device_by l.command) lines ≡ map first_device (members lines)
+devices_are [] = refl
+devices_are (l ∷ ls) = go l.command (devices_are ls)
+  where
+    go : (c : Command) → filter_map (λ (l : PlayLine). device_by l.command) ls ≡ map first_device (members ls)
+        → cons_option (device_by c) (filter_map (λ (l : PlayLine). device_by l.command) ls) ≡ map first_device (cons_option (member_by c) (members ls))
+    go (commands.Member m) rest = ap (λ (ds : List Device). first_device m.member ∷ ds) rest
+    go (commands.Joiner m) rest = ap (λ (ds : List Device). first_device m ∷ ds) rest
+    go c rest = rest
+
+rogue_devices_are : (lines : List PlayLine) → filter_map (λ (l : PlayLine). rogue_by l.command) lines ≡ map first_device (rogues lines)
+rogue_devices_are [] = refl
+rogue_devices_are (l ∷ ls) = go l.command (rogue_devices_are ls)
+  where
+    go : (c : Command) → filter_map (λ (l : PlayLine). rogue_by l.command) ls ≡ map first_device (rogues ls)
+        → cons_option (rogue_by c) (filter_map (λ (l : PlayLine). rogue_by l.command) ls) ≡ map first_device (cons_option (rogue_number c) (rogues ls))
+    go (commands.Rogue m) rest = ap (λ (ds : List Device). first_device m.member ∷ ds) rest
+    go c rest = rest
+
+not_in_first : (n : ℕ) (ns : List ℕ) → IsNotIn n ns → IsNotIn (first_device n) (map first_device ns)
+not_in_first n [] apart = tt
+not_in_first n (m ∷ ms) apart = ((λ same. apart.0 (ap (λ (d : Device). d.member) same)), not_in_first n ms apart.1)
+
+apart_first : (ns : List ℕ) → AreDistinct ns → AreDistinct (map first_device ns)
+apart_first [] apart = tt
+apart_first (n ∷ ns) apart = (not_in_first n ns apart.0, apart_first ns apart.1)
+
+first_among : (n : ℕ) (ns : List ℕ) → Contains ns n → Contains (map first_device ns) (first_device n)
+first_among n [] is = absurd (omega (arith, is.1))
+first_among n (m ∷ ms) (zero, low, at) = (0, omega arith, ap first_device at)
+first_among n (m ∷ ms) (suc k, low, at) = let r = first_among n ms (k, omega (arith, low), at) in (suc r.0, omega (arith, r.1), r.2)
+
 pub script_apart : (text : List ℕ) (script : List PlayLine) → IsPlayScript text script
-    → AreDistinct (filter_map (λ (l : PlayLine). member_by l.command) script ++ filter_map (λ (l : PlayLine). rogue_by l.command) script)
-script_apart text script is = parts_apart script (numbers_apart [] script (script_follows text script is) tt)
+    → AreDistinct (filter_map (λ (l : PlayLine). device_by l.command) script ++ filter_map (λ (l : PlayLine). rogue_by l.command) script)
+script_apart text script is =
+    subst (λ (ds : List Device). AreDistinct ds)
+    (map-append first_device (members script) (rogues script) ∙ ap₂ (λ (xs ys : List Device). xs ++ ys) (sym (devices_are script)) (sym (rogue_devices_are script)))
+    (apart_first (members script ++ rogues script) (parts_apart script (numbers_apart [] script (script_follows text script is) tt)))
 
 -- ---- those whom a command names
 
@@ -228,17 +278,17 @@ part_of n [] is = absurd (omega (arith, is.1))
 part_of n (l ∷ ls) is = elim (among_cases n (declared_member l.command) (numbers ls) is) [
   | inl here ↦ elim (splits l.command).parts [
     | inl p ↦ inl (among_here n (member_by l.command) (members ls) (p.0 ∙ here))
-    | inr p ↦ inr (among_here n (rogue_by l.command) (rogues ls) (p.1 ∙ here))
+    | inr p ↦ inr (among_here n (rogue_number l.command) (rogues ls) (p.1 ∙ here))
   ]
   | inr there ↦ elim (part_of n ls there) [
     | inl m ↦ inl (among_more n (member_by l.command) (members ls) m)
-    | inr r ↦ inr (among_more n (rogue_by l.command) (rogues ls) r)
+    | inr r ↦ inr (among_more n (rogue_number l.command) (rogues ls) r)
   ]
 ]
 
 -- one who has a client or may get one
-pub client_named : (script : List PlayLine) (i n : ℕ) → is_client (declarations (take i script)) n ≡ true → Contains (filter_map (λ (l : PlayLine). member_by l.command) script) n
-client_named script i n is =
+client_among : (script : List PlayLine) (i n : ℕ) → is_client (declarations (take i script)) n ≡ true → Contains (members script) n
+client_among script i n is =
     let before = take i script in
     let d = declarations before in
     let p = and_parts (is_declared d n) (not (is_rogue d n)) is in
@@ -249,10 +299,14 @@ client_named script i n is =
       | inr r ↦ absurd (not_in_contains n (rogues before) no_rogue r)
     ])
 
-pub rogue_named : (script : List PlayLine) (i n : ℕ) → is_rogue (declarations (take i script)) n ≡ true → Contains (filter_map (λ (l : PlayLine). rogue_by l.command) script) n
+pub client_named : (script : List PlayLine) (i n : ℕ) → is_client (declarations (take i script)) n ≡ true → Contains (filter_map (λ (l : PlayLine). device_by l.command) script) (first_device n)
+client_named script i n is = subst (λ (ds : List Device). Contains ds (first_device n)) (sym (devices_are script)) (first_among n (members script) (client_among script i n is))
+
+pub rogue_named : (script : List PlayLine) (i n : ℕ) → is_rogue (declarations (take i script)) n ≡ true → Contains (filter_map (λ (l : PlayLine). rogue_by l.command) script) (first_device n)
 rogue_named script i n is =
     let before = take i script in
-    among_front (λ (l : PlayLine). rogue_by l.command) n script i (subst (λ (ns : List ℕ). Contains ns n) (rogues_are before) (among (declarations before).rogues n is))
+    subst (λ (ds : List Device). Contains ds (first_device n)) (sym (rogue_devices_are script))
+    (first_among n (rogues script) (among_front (λ (l : PlayLine). rogue_number l.command) n script i (subst (λ (ns : List ℕ). Contains ns n) (rogues_are before) (among (declarations before).rogues n is))))
 
 joiner_parts : (script : List PlayLine) (i n : ℕ) → is_joiner (declarations (take i script)) n ≡ true → Contains (joiners (take i script)) n
 joiner_parts script i n is = subst (λ (ns : List ℕ). Contains ns n) (joiners_are (take i script)) (among (declarations (take i script)).joiners n is)
@@ -268,13 +322,17 @@ joiners_in n (l ∷ ls) is = elim (among_cases n (joiner_by l.command) (joiners 
   | inr there ↦ among_more n (member_by l.command) (members ls) (joiners_in n ls there)
 ]
 
-pub joiner_named : (script : List PlayLine) (i n : ℕ) → is_joiner (declarations (take i script)) n ≡ true → Contains (filter_map (λ (l : PlayLine). member_by l.command) script) n
-joiner_named script i n is = among_front (λ (l : PlayLine). member_by l.command) n script i (joiners_in n (take i script) (joiner_parts script i n is))
+pub joiner_named : (script : List PlayLine) (i n : ℕ) → is_joiner (declarations (take i script)) n ≡ true → Contains (filter_map (λ (l : PlayLine). device_by l.command) script) (first_device n)
+joiner_named script i n is =
+    subst (λ (ds : List Device). Contains ds (first_device n)) (sym (devices_are script))
+    (first_among n (members script) (among_front (λ (l : PlayLine). member_by l.command) n script i (joiners_in n (take i script) (joiner_parts script i n is))))
 
 -- one who is to join is a member of the whole script
-pub joiner_before : (before lines : List PlayLine) (n : ℕ) → is_joiner (declarations before) n ≡ true → Contains (filter_map (λ (l : PlayLine). member_by l.command) (before ++ lines)) n
+pub joiner_before : (before lines : List PlayLine) (n : ℕ) → is_joiner (declarations before) n ≡ true → Contains (filter_map (λ (l : PlayLine). device_by l.command) (before ++ lines)) (first_device n)
 joiner_before before lines n is =
-    front_among before lines n (joiners_in n before (subst (λ (ns : List ℕ). Contains ns n) (joiners_are before) (among (declarations before).joiners n is)))
+    subst (λ (ds : List Device). Contains ds (first_device n)) (sym (devices_are (before ++ lines)))
+    (first_among n (members (before ++ lines))
+    (front_among before lines n (joiners_in n before (subst (λ (ns : List ℕ). Contains ns n) (joiners_are before) (among (declarations before).joiners n is)))))
   where
     front_among : (before lines : List PlayLine) (n : ℕ) → Contains (members before) n → Contains (members (before ++ lines)) n
     front_among [] lines n is = absurd (omega (arith, is.1))

@@ -10,6 +10,7 @@ use Rattle.sporc_client.specs.PlainClient.{PlainClient}
 use Rattle.sporc_client.specs.Run.{Setup, World, Move, Happen, after_all}
 use Rattle.sporc_client.specs.Step.{replay}
 use Rattle.sporc_client.proofs.Calls.{replay_append}
+use Rattle.sporc_member.specs.declared.device.Device.{Device}
 use Rattle.sporc_script.specs.declared.play_line.PlayLine.{PlayLine}
 use Rattle.sporc_play.specs.declared.seat.Rogue.{Rogue}
 use Rattle.sporc_play.specs.declared.seat.Seat.{Seat}
@@ -18,7 +19,7 @@ use Rattle.sporc_play.proofs.Distinct.{AreDistinct, IsNotIn, are_distinct}
 use Rattle.sporc_play.specs.Cast.{setup_of}
 use Rattle.sporc_play.specs.Logs.{logs_after}
 use Rattle.sporc_play.specs.Scene.{Scene, adds, if_open}
-use Rattle.sporc_play.specs.Seats.{AreDrawn, IsReady, IsRogueAt, IsSeatAt, client_logged, rogue_numbers, seat_logged, seated}
+use Rattle.sporc_play.specs.Seats.{AreDrawn, IsReady, IsRogueAt, IsSeatAt, client_logged, rogue_devices, seat_logged, seated}
 use Rattle.sporc_play.specs.Stage.{HasSameMembers, Holds, IsCastOf, IsRogueOf, IsSeatOf, IsSignerOf, StandsFor}
 use Rattle.sporc_play.proofs.Moved.{AreOf, client_happens, clients_other, log_happens, logs_other}
 use Rattle.sporc_play.proofs.Places.{all_others, all_set, apart_back, apart_front, not_across, not_behind, numbers_set}
@@ -33,62 +34,62 @@ pub record Does (s : Setup) (scene : Scene) (moves : List Move) (scene' : Scene)
   pub asked : scene'.asked ≡ scene.asked
   pub leaves : scene'.leaves ≡ scene.leaves
 
--- nothing of a member has changed
-pub record IsSameAt (m : ℕ) (scene scene' : Scene) : Type 0 where
-  pub client : scene'.world.clients m ≡ scene.world.clients m
-  pub log : scene'.logs m ≡ scene.logs m
-  pub last : scene'.last m ≡ scene.last m
-  pub asked : scene'.asked m ≡ scene.asked m
-  pub leaves : scene'.leaves m ≡ scene.leaves m
+-- nothing of a device has changed
+pub record IsSameAt (who : Device) (scene scene' : Scene) : Type 0 where
+  pub client : scene'.world.clients who ≡ scene.world.clients who
+  pub log : scene'.logs who ≡ scene.logs who
+  pub last : scene'.last who ≡ scene.last who
+  pub asked : scene'.asked who ≡ scene.asked who
+  pub leaves : scene'.leaves who ≡ scene.leaves who
 
-pub same_for_others : (s : Setup) (scene scene' : Scene) (moves : List Move) (m other : ℕ) → Does s scene moves scene' → AreOf m moves → other ≢ m → IsSameAt other scene scene'
-same_for_others s scene scene' moves m other does are differs = record {
-  client = ap (λ (w : World). w.clients other) does.world ∙ clients_other s scene.world moves m other are differs;
-  log = ap (λ (l : ℕ → List Logged). l other) does.logs ∙ logs_other s scene.world scene.logs moves m other are differs;
-  last = ap (λ (f : ℕ → ℕ). f other) does.last;
-  asked = ap (λ (f : ℕ → ℕ). f other) does.asked;
-  leaves = ap (λ (f : ℕ → ℕ). f other) does.leaves;
+pub same_for_others : (s : Setup) (scene scene' : Scene) (moves : List Move) (who other : Device) → Does s scene moves scene' → AreOf who moves → other ≢ who → IsSameAt other scene scene'
+same_for_others s scene scene' moves who other does are differs = record {
+  client = ap (λ (w : World). w.clients other) does.world ∙ clients_other s scene.world moves who other are differs;
+  log = ap (λ (l : Device → List Logged). l other) does.logs ∙ logs_other s scene.world scene.logs moves who other are differs;
+  last = ap (λ (f : Device → ℕ). f other) does.last;
+  asked = ap (λ (f : Device → ℕ). f other) does.asked;
+  leaves = ap (λ (f : Device → ℕ). f other) does.leaves;
 }
 
-pub same_for_all : (s : Setup) (scene scene' : Scene) (m : ℕ) → Does s scene [] scene' → IsSameAt m scene scene'
-same_for_all s scene scene' m does = record {
-  client = ap (λ (w : World). w.clients m) does.world;
-  log = ap (λ (l : ℕ → List Logged). l m) does.logs;
-  last = ap (λ (f : ℕ → ℕ). f m) does.last;
-  asked = ap (λ (f : ℕ → ℕ). f m) does.asked;
-  leaves = ap (λ (f : ℕ → ℕ). f m) does.leaves;
+pub same_for_all : (s : Setup) (scene scene' : Scene) (who : Device) → Does s scene [] scene' → IsSameAt who scene scene'
+same_for_all s scene scene' who does = record {
+  client = ap (λ (w : World). w.clients who) does.world;
+  log = ap (λ (l : Device → List Logged). l who) does.logs;
+  last = ap (λ (f : Device → ℕ). f who) does.last;
+  asked = ap (λ (f : Device → ℕ). f who) does.asked;
+  leaves = ap (λ (f : Device → ℕ). f who) does.leaves;
 }
 
 -- ---- seats of which nothing changes
 
-signer_kept : {D : Type 0} (s : Setup) (scene scene' : Scene) (m : ℕ) (signer : SignerModel D) → IsSameAt m scene scene' → IsSignerOf s scene m signer → IsSignerOf s scene' m signer
-signer_kept s scene scene' m signer same is = record {
+signer_kept : {D : Type 0} (s : Setup) (scene scene' : Scene) (who : Device) (signer : SignerModel D) → IsSameAt who scene scene' → IsSignerOf s scene who signer → IsSignerOf s scene' who signer
+signer_kept s scene scene' who signer same is = record {
   key = is.key;
-  leaves = subst (λ (n : ℕ). AreDrawn (s.private m) n signer.leaves) (sym same.leaves) is.leaves;
+  leaves = subst (λ (n : ℕ). AreDrawn (s.private who) n signer.leaves) (sym same.leaves) is.leaves;
 }
 
-holds_kept : {D : Type 0} (s : Setup) (scene scene' : Scene) (m : ℕ) (signer : Option (SignerModel D)) (client : Option (ClientModel D)) → IsSameAt m scene scene' → Holds s scene m signer client → Holds s scene' m signer client
-holds_kept s scene scene' m signer (Some c) same is = record {
+holds_kept : {D : Type 0} (s : Setup) (scene scene' : Scene) (who : Device) (signer : Option (SignerModel D)) (client : Option (ClientModel D)) → IsSameAt who scene scene' → Holds s scene who signer client → Holds s scene' who signer client
+holds_kept s scene scene' who signer (Some c) same is = record {
   ring = is.ring;
   opening = is.opening;
   log = same.log ∙ is.log;
-  ready = subst (λ (n : ℕ). IsReady (s.private m) n c) (sym same.leaves) is.ready;
+  ready = subst (λ (n : ℕ). IsReady (s.private who) n c) (sym same.leaves) is.ready;
 }
-holds_kept s scene scene' m (Some signer) None same is = signer_kept s scene scene' m signer same is
-holds_kept s scene scene' m None None same is = absurd is
+holds_kept s scene scene' who (Some signer) None same is = signer_kept s scene scene' who signer same is
+holds_kept s scene scene' who None None same is = absurd is
 
-pub seat_kept : (s : Setup) (scene scene' : Scene) (seat : Seat) → IsSameAt seat.member scene scene' → IsSeatOf s scene seat → IsSeatOf s scene' seat
+pub seat_kept : (s : Setup) (scene scene' : Scene) (seat : Seat) → IsSameAt seat.device scene scene' → IsSeatOf s scene seat → IsSeatOf s scene' seat
 seat_kept s scene scene' seat same is = record {
   asked = is.asked ∙ sym same.asked;
   last = is.last ∙ sym same.last;
   client = same.client ∙ is.client;
-  holds = holds_kept s scene scene' seat.member seat.signer seat.client same is.holds;
+  holds = holds_kept s scene scene' seat.device seat.signer seat.client same is.holds;
 }
 
-pub rogue_kept : (s : Setup) (scene scene' : Scene) (rogue : Rogue) → IsSameAt rogue.member scene scene' → IsRogueOf s scene rogue → IsRogueOf s scene' rogue
+pub rogue_kept : (s : Setup) (scene scene' : Scene) (rogue : Rogue) → IsSameAt rogue.device scene scene' → IsRogueOf s scene rogue → IsRogueOf s scene' rogue
 rogue_kept s scene scene' rogue same is = record {
   asked = is.asked ∙ sym same.asked;
-  signer = signer_kept s scene scene' rogue.member rogue.signer same is.signer;
+  signer = signer_kept s scene scene' rogue.device rogue.signer same is.signer;
 }
 
 -- ---- the seat whose client moves
@@ -98,37 +99,37 @@ with_client seat client = record seat { client = client }
 
 -- a client that has another log now
 pub client_moved : (s : Setup) (scene scene' : Scene) (moves : List Move) (seat : Seat) (c : ClientModel MemoryDiskModel) (log : List Logged) → IsSeatOf s scene (with_client seat (Some c)) → Does s scene moves scene'
-    → (after_all s scene.world moves).clients seat.member ≡ Some (replay c.opening log) → logs_after s scene.world scene.logs moves seat.member ≡ log
+    → (after_all s scene.world moves).clients seat.device ≡ Some (replay c.opening log) → logs_after s scene.world scene.logs moves seat.device ≡ log
     → IsSeatOf s scene' (with_client seat (Some (record c { log = log })))
 client_moved s scene scene' moves seat c log is does client logs = record {
-  asked = is.asked ∙ ap (λ (f : ℕ → ℕ). f seat.member) (sym does.asked);
-  last = is.last ∙ ap (λ (f : ℕ → ℕ). f seat.member) (sym does.last);
-  client = ap (λ (w : World). w.clients seat.member) does.world ∙ client;
+  asked = is.asked ∙ ap (λ (f : Device → ℕ). f seat.device) (sym does.asked);
+  last = is.last ∙ ap (λ (f : Device → ℕ). f seat.device) (sym does.last);
+  client = ap (λ (w : World). w.clients seat.device) does.world ∙ client;
   holds = record {
     ring = is.holds.ring;
     opening = is.holds.opening;
-    log = ap (λ (l : ℕ → List Logged). l seat.member) does.logs ∙ logs;
-    ready = subst (λ (n : ℕ). IsReady (s.private seat.member) n (record c { log = log })) (ap (λ (f : ℕ → ℕ). f seat.member) (sym does.leaves))
+    log = ap (λ (l : Device → List Logged). l seat.device) does.logs ∙ logs;
+    ready = subst (λ (n : ℕ). IsReady (s.private seat.device) n (record c { log = log })) (ap (λ (f : Device → ℕ). f seat.device) (sym does.leaves))
         (record { key = is.holds.ready.key; leaves = is.holds.ready.leaves; no_ticket = is.holds.ready.no_ticket });
   };
 }
 
 -- one that adds events to its log
 pub seat_adds : (s : Setup) (scene scene' : Scene) (seat : Seat) (events : PlainClient → List Logged) → IsSeatOf s scene seat
-    → Does s scene (if_open (scene.world.clients seat.member) (λ c. adds seat.member (events c))).moves scene' → IsSeatOf s scene' (seat_logged events seat)
+    → Does s scene (if_open (scene.world.clients seat.device) (λ c. adds seat.device (events c))).moves scene' → IsSeatOf s scene' (seat_logged events seat)
 seat_adds s scene scene' seat events is does = go seat.client is
   where
     M : Option PlainClient → List Move
-    M o = (if_open o (λ c. adds seat.member (events c))).moves
+    M o = (if_open o (λ c. adds seat.device (events c))).moves
 
     go : (o : Option (ClientModel MemoryDiskModel)) → IsSeatOf s scene (with_client seat o) → IsSeatOf s scene' (with_client seat (option_map (client_logged events) o))
-    go None is = seat_kept s scene scene' (with_client seat None) (same_for_all s scene scene' seat.member (subst (λ (o : Option PlainClient). Does s scene (M o) scene') is.client does)) is
+    go None is = seat_kept s scene scene' (with_client seat None) (same_for_all s scene scene' seat.device (subst (λ (o : Option PlainClient). Does s scene (M o) scene') is.client does)) is
     go (Some c) is =
         let added = events (state_of c) in
         let did = subst (λ (o : Option PlainClient). Does s scene (M o) scene') is.client does in
-        client_moved s scene scene' (map (Happen seat.member) added) seat c (c.log ++ added) is did
-        (client_happens s scene.world seat.member (state_of c) added is.client ∙ ap Some (replay_append c.opening c.log added))
-        (log_happens s scene.world scene.logs seat.member added ∙ ap (λ (l : List Logged). l ++ added) is.holds.log)
+        client_moved s scene scene' (map (Happen seat.device) added) seat c (c.log ++ added) is did
+        (client_happens s scene.world seat.device (state_of c) added is.client ∙ ap Some (replay_append c.opening c.log added))
+        (log_happens s scene.world scene.logs seat.device added ∙ ap (λ (l : List Logged). l ++ added) is.holds.log)
 
 -- ---- whole states
 
@@ -139,15 +140,15 @@ pub record ChangesSeat (i : ℕ) (seat : Seat) (old new : PlayState) : Type 0 wh
   pub rogues : new.rogues.items ≡ old.rogues.items
   pub seats : new.seats.items ≡ set old.seats.items i seat
 
-seats_apart : (script : List PlayLine) (scene : Scene) (state : PlayState) → StandsFor script scene state → AreDistinct (seated state.seats.items ++ rogue_numbers state.rogues.items)
+seats_apart : (script : List PlayLine) (scene : Scene) (state : PlayState) → StandsFor script scene state → AreDistinct (seated state.seats.items ++ rogue_devices state.rogues.items)
 seats_apart script scene state stands =
-    subst (λ (ns : List ℕ). AreDistinct (ns ++ rogue_numbers state.rogues.items)) (sym stands.seated)
-    (subst (λ (ns : List ℕ). AreDistinct ((setup_of script).members ++ ns)) (sym stands.rogue_numbers) (are_distinct _ stands.declared.distinct))
+    subst (λ (ns : List Device). AreDistinct (ns ++ rogue_devices state.rogues.items)) (sym stands.seated)
+    (subst (λ (ns : List Device). AreDistinct ((setup_of script).devices ++ ns)) (sym stands.rogue_devices) (are_distinct _ stands.declared.distinct))
 
-pub stands_seat : (script : List PlayLine) (scene scene' : Scene) (state state' : PlayState) (i m : ℕ) (seat new : Seat) → StandsFor script scene state → IsSeatAt state.seats.items i m seat
-    → ((other : ℕ) → other ≢ m → IsSameAt other scene scene') → IsSeatOf (setup_of script) scene' new → new.member ≡ seat.member → ChangesSeat i new state state'
+pub stands_seat : (script : List PlayLine) (scene scene' : Scene) (state state' : PlayState) (i : ℕ) (who : Device) (seat new : Seat) → StandsFor script scene state → IsSeatAt state.seats.items i who seat
+    → ((other : Device) → other ≢ who → IsSameAt other scene scene') → IsSeatOf (setup_of script) scene' new → new.device ≡ seat.device → ChangesSeat i new state state'
     → map (λ bytes. bytes.items) state'.made.items ≡ scene'.made → StandsFor script scene' state'
-stands_seat script scene scene' state state' i m seat new stands at others is own changed made =
+stands_seat script scene scene' state state' i who seat new stands at others is own changed made =
     let s = setup_of script in
     let apart = seats_apart script scene state stands in
     let seats = state.seats.items in
@@ -155,14 +156,14 @@ stands_seat script scene scene' state state' i m seat new stands at others is ow
       genesis = changed.genesis ∙ stands.genesis;
       cast = subst (IsCastOf s) (sym changed.cast) stands.cast;
       seats = subst (AllByRecursion (IsSeatOf s scene')) (sym changed.seats)
-          (all_set (λ (x : Seat). x.member) (IsSeatOf s scene) (IsSeatOf s scene') seats i seat new (apart_front (seated seats) (rogue_numbers state.rogues.items) apart) at.there
-          (λ y differs was. seat_kept s scene scene' y (others y.member (λ same. differs (same ∙ sym at.own))) was) is stands.seats);
+          (all_set (λ (x : Seat). x.device) (IsSeatOf s scene) (IsSeatOf s scene') seats i seat new (apart_front (seated seats) (rogue_devices state.rogues.items) apart) at.there
+          (λ y differs was. seat_kept s scene scene' y (others y.device (λ same. differs (same ∙ sym at.own))) was) is stands.seats);
       rogues = subst (AllByRecursion (IsRogueOf s scene')) (sym changed.rogues)
-          (all_others (λ (x : Rogue). x.member) (IsRogueOf s scene) (IsRogueOf s scene') m state.rogues.items
-          (subst (λ (n : ℕ). IsNotIn n (rogue_numbers state.rogues.items)) at.own (not_behind (λ (x : Seat). x.member) seats (rogue_numbers state.rogues.items) i seat apart at.there))
-          (λ y differs was. rogue_kept s scene scene' y (others y.member differs) was) stands.rogues);
-      seated = ap seated changed.seats ∙ numbers_set (λ (x : Seat). x.member) seats i seat new at.there own ∙ stands.seated;
-      rogue_numbers = ap rogue_numbers changed.rogues ∙ stands.rogue_numbers;
+          (all_others (λ (x : Rogue). x.device) (IsRogueOf s scene) (IsRogueOf s scene') who state.rogues.items
+          (subst (λ (n : Device). IsNotIn n (rogue_devices state.rogues.items)) at.own (not_behind (λ (x : Seat). x.device) seats (rogue_devices state.rogues.items) i seat apart at.there))
+          (λ y differs was. rogue_kept s scene scene' y (others y.device differs) was) stands.rogues);
+      seated = ap seated changed.seats ∙ numbers_set (λ (x : Seat). x.device) seats i seat new at.there own ∙ stands.seated;
+      rogue_devices = ap rogue_devices changed.rogues ∙ stands.rogue_devices;
       declared = stands.declared;
       made = made;
     }
@@ -174,10 +175,10 @@ pub record ChangesRogue (i : ℕ) (rogue : Rogue) (old new : PlayState) : Type 0
   pub seats : new.seats.items ≡ old.seats.items
   pub rogues : new.rogues.items ≡ set old.rogues.items i rogue
 
-pub stands_rogue : (script : List PlayLine) (scene scene' : Scene) (state state' : PlayState) (i m : ℕ) (rogue new : Rogue) → StandsFor script scene state → IsRogueAt state.rogues.items i m rogue
-    → ((other : ℕ) → other ≢ m → IsSameAt other scene scene') → IsRogueOf (setup_of script) scene' new → new.member ≡ rogue.member → ChangesRogue i new state state'
+pub stands_rogue : (script : List PlayLine) (scene scene' : Scene) (state state' : PlayState) (i : ℕ) (who : Device) (rogue new : Rogue) → StandsFor script scene state → IsRogueAt state.rogues.items i who rogue
+    → ((other : Device) → other ≢ who → IsSameAt other scene scene') → IsRogueOf (setup_of script) scene' new → new.device ≡ rogue.device → ChangesRogue i new state state'
     → map (λ bytes. bytes.items) state'.made.items ≡ scene'.made → StandsFor script scene' state'
-stands_rogue script scene scene' state state' i m rogue new stands at others is own changed made =
+stands_rogue script scene scene' state state' i who rogue new stands at others is own changed made =
     let s = setup_of script in
     let apart = seats_apart script scene state stands in
     let rogues = state.rogues.items in
@@ -185,20 +186,20 @@ stands_rogue script scene scene' state state' i m rogue new stands at others is 
       genesis = changed.genesis ∙ stands.genesis;
       cast = subst (IsCastOf s) (sym changed.cast) stands.cast;
       seats = subst (AllByRecursion (IsSeatOf s scene')) (sym changed.seats)
-          (all_others (λ (x : Seat). x.member) (IsSeatOf s scene) (IsSeatOf s scene') m state.seats.items
-          (subst (λ (n : ℕ). IsNotIn n (seated state.seats.items)) at.own (not_across (λ (x : Rogue). x.member) (seated state.seats.items) rogues i rogue apart at.there))
-          (λ y differs was. seat_kept s scene scene' y (others y.member differs) was) stands.seats);
+          (all_others (λ (x : Seat). x.device) (IsSeatOf s scene) (IsSeatOf s scene') who state.seats.items
+          (subst (λ (n : Device). IsNotIn n (seated state.seats.items)) at.own (not_across (λ (x : Rogue). x.device) (seated state.seats.items) rogues i rogue apart at.there))
+          (λ y differs was. seat_kept s scene scene' y (others y.device differs) was) stands.seats);
       rogues = subst (AllByRecursion (IsRogueOf s scene')) (sym changed.rogues)
-          (all_set (λ (x : Rogue). x.member) (IsRogueOf s scene) (IsRogueOf s scene') rogues i rogue new (apart_back (seated state.seats.items) (rogue_numbers rogues) apart) at.there
-          (λ y differs was. rogue_kept s scene scene' y (others y.member (λ same. differs (same ∙ sym at.own))) was) is stands.rogues);
+          (all_set (λ (x : Rogue). x.device) (IsRogueOf s scene) (IsRogueOf s scene') rogues i rogue new (apart_back (seated state.seats.items) (rogue_devices rogues) apart) at.there
+          (λ y differs was. rogue_kept s scene scene' y (others y.device (λ same. differs (same ∙ sym at.own))) was) is stands.rogues);
       seated = ap seated changed.seats ∙ stands.seated;
-      rogue_numbers = ap rogue_numbers changed.rogues ∙ numbers_set (λ (x : Rogue). x.member) rogues i rogue new at.there own ∙ stands.rogue_numbers;
+      rogue_devices = ap rogue_devices changed.rogues ∙ numbers_set (λ (x : Rogue). x.device) rogues i rogue new at.there own ∙ stands.rogue_devices;
       declared = stands.declared;
       made = made;
     }
 
 -- a state of which only the entries that were made have changed
-pub stands_made : (script : List PlayLine) (scene scene' : Scene) (state state' : PlayState) → StandsFor script scene state → ((m : ℕ) → IsSameAt m scene scene') → HasSameMembers state state'
+pub stands_made : (script : List PlayLine) (scene scene' : Scene) (state state' : PlayState) → StandsFor script scene state → ((who : Device) → IsSameAt who scene scene') → HasSameMembers state state'
     → map (λ bytes. bytes.items) state'.made.items ≡ scene'.made → StandsFor script scene' state'
 stands_made script scene scene' state state' stands all same made =
     let s = setup_of script in
@@ -208,15 +209,15 @@ stands_made script scene scene' state state' stands all same made =
       seats = subst (AllByRecursion (IsSeatOf s scene')) (sym same.seats) (seats_kept state.seats.items stands.seats);
       rogues = subst (AllByRecursion (IsRogueOf s scene')) (sym same.rogues) (rogues_kept state.rogues.items stands.rogues);
       seated = ap seated same.seats ∙ stands.seated;
-      rogue_numbers = ap rogue_numbers same.rogues ∙ stands.rogue_numbers;
+      rogue_devices = ap rogue_devices same.rogues ∙ stands.rogue_devices;
       declared = stands.declared;
       made = made;
     }
   where
     seats_kept : (seats : List Seat) → AllByRecursion (IsSeatOf (setup_of script) scene) seats → AllByRecursion (IsSeatOf (setup_of script) scene') seats
     seats_kept [] each = tt
-    seats_kept (x ∷ xs) each = (seat_kept (setup_of script) scene scene' x (all x.member) each.0, seats_kept xs each.1)
+    seats_kept (x ∷ xs) each = (seat_kept (setup_of script) scene scene' x (all x.device) each.0, seats_kept xs each.1)
 
     rogues_kept : (rogues : List Rogue) → AllByRecursion (IsRogueOf (setup_of script) scene) rogues → AllByRecursion (IsRogueOf (setup_of script) scene') rogues
     rogues_kept [] each = tt
-    rogues_kept (x ∷ xs) each = (rogue_kept (setup_of script) scene scene' x (all x.member) each.0, rogues_kept xs each.1)
+    rogues_kept (x ∷ xs) each = (rogue_kept (setup_of script) scene scene' x (all x.device) each.0, rogues_kept xs each.1)

@@ -14,7 +14,8 @@ use Rattle.sporc_entry.specs.declared.wrap.Wrap.{Wrap}
 use Rattle.sporc_entry.specs.Entry.{signed_string}
 use Rattle.sporc_entry.specs.Genesis.{genesis_bytes}
 use Rattle.sporc_epoch.specs.Sealing.{body_sealed}
-use Rattle.sporc_epoch.specs.Streams.{entry_stream, previous_stream}
+use Rattle.sporc_epoch.specs.Streams.{previous_stream, stream_of}
+use Rattle.sporc_member.specs.Device.{first_device}
 use Rattle.sporc_head.specs.History.{changes, epoch_of, hash_of}
 use Rattle.sporc_line.specs.Keys.{key_after}
 use Rattle.sporc_client.specs.PlainClient.{Opening, PlainClient, committed_of}
@@ -65,7 +66,7 @@ kind_fits (whats.Insert e) = omega arith
 kind_fits (whats.Raw payload) = omega arith
 
 header_are : (c : PlainClient) (f : Forgery) (leaf : ℕ) → AreBytes c.opening.genesis.document → IsByteHeader (forged_header c f leaf)
-header_are c f leaf document = record { document = document; base_hash = value_are c _; kind = kind_fits f.signed.what }
+header_are c f leaf document = record { version = omega arith; document = document; device = omega arith; base_hash = value_are c _; kind = kind_fits f.signed.what }
 
 -- ---- the body
 
@@ -106,10 +107,10 @@ unfolding body_sealed
 body_are script c f leaf new (whats.Insert e) fits are old =
     let h = forged_header c f leaf in
     let len = length (committed_of c) in
-    bytes_mask (key_there c) (entry_stream h.author h.leaf) (delta_bytes (insertion len (min e.at len) e.text)) (delta_are (insertion len (min e.at len) e.text) (ap all_scalars (inserted-insertion len (min e.at len) e.text) ∙ fits.1))
+    bytes_mask (key_there c) (stream_of h) (delta_bytes (insertion len (min e.at len) e.text)) (delta_are (insertion len (min e.at len) e.text) (ap all_scalars (inserted-insertion len (min e.at len) e.text) ∙ fits.1))
 body_are script c f leaf new (whats.Raw payload) fits are old =
     let h = forged_header c f leaf in
-    bytes_mask (key_there c) (entry_stream h.author h.leaf) payload (are_bytes payload fits.0)
+    bytes_mask (key_there c) (stream_of h) payload (are_bytes payload fits.0)
 body_are script c f leaf new (whats.Change change) fits are old =
     let s = setup_of script in
     let h = forged_header c f leaf in
@@ -119,7 +120,7 @@ body_are script c f leaf new (whats.Change change) fits are old =
       change = byte_change script change;
       commitment = bytes_sha _;
       previous = bytes_mask new (previous_stream (sealing.epoch + 1)) (key_there c) old;
-      wraps = sealed_are (entry_stream sealing.author sealing.leaf) new _ sealing.members are;
+      wraps = sealed_are sealing.stream new _ sealing.members are;
     }))
 
 -- ---- the entry
@@ -132,7 +133,7 @@ forged_are script c f random leaf fits are document old =
     let e = unsigned_by s c f random leaf in
     bytes_entry (record e { signature = signature_by s c f random leaf }) (header_are c f leaf document)
     (body_are script c f leaf (drop 32 random) f.signed.what fits (bytes_drop 32 random are) old)
-    (bytes_signature (s.private f.member) leaf (take 32 random) (signed_string e) (bytes_take 32 random are))
+    (bytes_signature (s.private (first_device f.member)) leaf (take 32 random) (signed_string e) (bytes_take 32 random are))
 
 last_of : (A B C : Type 0) → A × B × C → C
 last_of A B C p = p.2
@@ -143,18 +144,19 @@ what_fits f fits = let signed : SignedInRange f.signed = last_of (IsMember f.mem
 pub sign_acts : (script : List PlayLine) (f : Forgery) → ForgeryInRange f → MayBe (setup_of script) (λ scene. commands.Sign f)
 unfolding forged_entry
 sign_acts script f fits moves scene come =
-    open_acts (setup_of script) scene f.from (λ c. signs_by (forged_entry (setup_of script) c f (scene.asked f.member + 1) (leaf_after ((setup_of script).private f.member) (scene.leaves f.member))))
-    (λ c at. go c at (leaf_after ((setup_of script).private f.member) (scene.leaves f.member)))
+    let rogue = first_device f.member in
+    open_acts (setup_of script) scene (first_device f.from) (λ c. signs_by (forged_entry (setup_of script) c f (scene.asked rogue + 1) (leaf_after ((setup_of script).private rogue) (scene.leaves rogue))))
+    (λ c at. go c at (leaf_after ((setup_of script).private rogue) (scene.leaves rogue)))
   where
-    go : (c : PlainClient) → scene.world.clients f.from ≡ Some c → (leaf : Result ℕ LeafFault) → MayAct (setup_of script) scene (signs_by (forged_entry (setup_of script) c f (scene.asked f.member + 1) leaf))
+    go : (c : PlainClient) → scene.world.clients (first_device f.from) ≡ Some c → (leaf : Result ℕ LeafFault) → MayAct (setup_of script) scene (signs_by (forged_entry (setup_of script) c f (scene.asked (first_device f.member) + 1) leaf))
     go c at (Err fault) = no_act (setup_of script) scene
     go c at (Ok leaf) =
         let s = setup_of script in
-        let t = scene.asked f.member + 1 in
-        let there = client_at s moves scene f.from c come at in
-        let known = sound_and_typed_at s moves (length moves) f.from c come.run there in
-        let reached = reached_at s moves (length moves) f.from c come.run.run there in
+        let t = scene.asked (first_device f.member) + 1 in
+        let there = client_at s moves scene (first_device f.from) c come at in
+        let known = sound_and_typed_at s moves (length moves) (first_device f.from) c come.run there in
+        let reached = reached_at s moves (length moves) (first_device f.from) c come.run.run there in
         let document : AreBytes c.opening.genesis.document = subst (λ (o : Opening). AreBytes o.genesis.document) (sym reached.opening) (document_are script) in
         let all : AreBytes (signed_by s c f (random_of f.member t) leaf) =
-        forged_are script c f (random_of f.member t) leaf (what_fits f fits) (random_are f.member t) document (there_are c (come.clients f.from c at).ring known.bytes) in
+        forged_are script c f (random_of f.member t) leaf (what_fits f fits) (random_are f.member t) document (there_are c (come.clients (first_device f.from) c at).ring known.bytes) in
         record { run = tt; typed = tt; bytes = tt; entries = (all, tt) }

@@ -1,5 +1,5 @@
 -- Signatures and entries are strings of bytes.
-use Rattle.std.proofs.Common.{ℕ, zero, suc, ◌<◌, List, [], ◌∷◌, ◌++◌, length, arith}
+use Rattle.std.proofs.Common.{ℕ, zero, suc, ◌<◌, Bool, true, false, cond, List, [], ◌∷◌, ◌++◌, length}
 use Rattle.std.specs.Int.{w16, w32, to_be_bytes}
 use Rattle.lms_ots.specs.Chains.{concatenated}
 use Rattle.lms_ots.specs.Coefficients.{coef_of, with_checksum}
@@ -12,7 +12,9 @@ use Rattle.lms_tree.specs.Nodes.{node_of}
 use Rattle.lms_tree.specs.Signatures.{lms_signature_of}
 use Rattle.sporc_entry.specs.declared.entry.Entry.{Entry}
 use Rattle.sporc_entry.specs.declared.header.Header.{Header}
-use Rattle.sporc_entry.specs.Entry.{entry_bytes, header_bytes}
+use Rattle.sporc_entry.specs.Entry.{device_bytes, entry_bytes, header_bytes}
+use Rattle.sporc_entry.specs.Version.{names_device}
+use Rattle.sporc_member.specs.declared.device.Device.{Device}
 use Rattle.sporc_script.specs.declared.command.Tree.{Tree}
 use Rattle.sporc_play.specs.Cast.{private_of, public_of}
 use Rattle.sporc_play.specs.Derived.{derived}
@@ -44,9 +46,18 @@ bytes_signature key q c message are =
 
 -- what a header's fields have to be
 pub record IsByteHeader (h : Header) : Type 0 where
+  pub version : h.version < 256
   pub document : AreBytes h.document
+  pub device : h.device < 256
   pub base_hash : AreBytes h.base_hash
   pub kind : h.kind < 256
+
+device_are : (version device : ℕ) → device < 256 → AreBytes (device_bytes version device)
+device_are version device low = go (names_device version)
+  where
+    go : (named : Bool) → AreBytes (cond named (device ∷ []) [])
+    go true = (low, tt)
+    go false = tt
 
 pub bytes_header : (h : Header) (rest : List ℕ) → IsByteHeader h → AreBytes rest → AreBytes (header_bytes h rest)
 unfolding header_bytes
@@ -57,15 +68,17 @@ bytes_header h rest is are =
     let hash = h.base_hash ++ epoch in
     let base = to_be_bytes w32 h.base ++ hash in
     let number = to_be_bytes w32 h.number ++ base in
-    let author = to_be_bytes w16 h.author ++ number in
+    let device = device_bytes h.version h.device ++ number in
+    let author = to_be_bytes w16 h.author ++ device in
     let end : AreBytes last = (is.kind, are) in (
-      omega arith,
+      is.version,
       bytes_append h.document author is.document
-          (bytes_append (to_be_bytes w16 h.author) number (bytes_16 h.author)
+          (bytes_append (to_be_bytes w16 h.author) device (bytes_16 h.author)
+          (bytes_append (device_bytes h.version h.device) number (device_are h.version h.device is.device)
           (bytes_append (to_be_bytes w32 h.number) base (bytes_32 h.number)
           (bytes_append (to_be_bytes w32 h.base) hash (bytes_32 h.base)
           (bytes_append h.base_hash epoch is.base_hash
-          (bytes_append (to_be_bytes w32 h.epoch) leaf (bytes_32 h.epoch) (bytes_append (to_be_bytes w32 h.leaf) last (bytes_32 h.leaf) end)))))),
+          (bytes_append (to_be_bytes w32 h.epoch) leaf (bytes_32 h.epoch) (bytes_append (to_be_bytes w32 h.leaf) last (bytes_32 h.leaf) end))))))),
     )
 
 counted_are : (bytes rest : List ℕ) → AreBytes bytes → AreBytes rest → AreBytes (to_be_bytes w32 (length bytes) ++ (bytes ++ rest))
@@ -77,12 +90,12 @@ bytes_entry e is body signature =
     let last = to_be_bytes w32 (length e.signature) ++ (e.signature ++ []) in
     bytes_header e.header (to_be_bytes w32 (length e.body) ++ (e.body ++ last)) is (counted_are e.body last body (counted_are e.signature [] signature tt))
 
--- the key of a member
-pub key_bytes : (tree : Tree) (member : ℕ) → AreBytes (public_of tree member)
-key_bytes tree member =
-    let key = private_of tree member in
+-- the key of a device
+pub key_bytes : (tree : Tree) (who : Device) → AreBytes (public_of tree who)
+key_bytes tree who =
+    let key = private_of tree who in
     let lms = to_be_bytes w32 (lms_code_of key.lms) in
     let ots = to_be_bytes w32 (ots_code_of key.ots) in
     bytes_append (lms ++ ots ++ key.id) (root_of key)
-    (bytes_append (lms ++ ots) key.id (bytes_append lms ots (bytes_32 (lms_code_of key.lms)) (bytes_32 (ots_code_of key.ots))) (bytes_take 16 (derived 2 member 0) (bytes_sha _)))
+    (bytes_append (lms ++ ots) key.id (bytes_append lms ots (bytes_32 (lms_code_of key.lms)) (bytes_32 (ots_code_of key.ots))) (bytes_take 16 (derived 2 who.member who.number) (bytes_sha _)))
     (node_are key.ots key.id key.seed (height_of key.lms) (height_of key.lms) 1)

@@ -9,6 +9,8 @@ use Rattle.lms_leaf.specs.declared.faults.LeafFault.TheVariants.{Exhausted}
 use Rattle.lms_tree.specs.LmsPrivate.{LmsPrivate}
 use Rattle.lms_tree.specs.LmsType.{height_of}
 use Rattle.sporc_member.specs.declared.change.ChangeFault.{ChangeFault}
+use Rattle.sporc_member.specs.declared.device.Device.{Device}
+use Rattle.sporc_member.specs.Device.{first_device}
 use Rattle.sporc_member.specs.ChangeFault.{change_fault_code_of}
 use Rattle.sporc_client.specs.declared.fault.SubmitFault.{SubmitFault}
 use Rattle.sporc_client.specs.declared.pending.Pending.{Pending}
@@ -17,7 +19,7 @@ use Rattle.sporc_client.specs.declared.submitted.Submitted.TheVariants as submit
 use Rattle.sporc_client.specs.Allowed.{allows, is_drop}
 use Rattle.sporc_client.specs.Entries.{Chosen, bytes_made}
 use Rattle.sporc_client.specs.Log.{Dropped, Submit}
-use Rattle.sporc_client.specs.PlainClient.{Opening, PlainClient}
+use Rattle.sporc_client.specs.PlainClient.{Opening, PlainClient, me_of}
 use Rattle.sporc_client.specs.Submissions.{Due, Waiting, Nothing, Drop, Refuse, Sign, answered, due, signed, submission}
 use Rattle.sporc_client.proofs.Makings.{made_allowed}
 use Rattle.sporc_client.proofs.Reached.{reached_at}
@@ -111,29 +113,34 @@ document_are script = bytes_take 16 (derived 5 0 0) (bytes_sha _)
 
 pub submit_acts : (script : List PlayLine) (m : ℕ) → MayBe (setup_of script) (λ scene. commands.Submit m)
 submit_acts script m moves scene come =
-    open_acts (setup_of script) scene m (λ c. submits m (submission_in (setup_of script) scene m c)) (λ c at. go c at (submission_in (setup_of script) scene m c) refl)
+    open_acts (setup_of script) scene who (λ c. submits who (submission_in (setup_of script) scene who c)) (λ c at. go c at (submission_in (setup_of script) scene who c) refl)
   where
-    entry : (c : PlainClient) → scene.world.clients m ≡ Some c → (bytes : List ℕ) → submission_in (setup_of script) scene m c ≡ Ok (submitted.Entry bytes) → MayAct (setup_of script) scene (submits m (Ok (submitted.Entry bytes)))
+    who : Device
+    who = first_device m
+
+    entry : (c : PlainClient) → scene.world.clients who ≡ Some c → (bytes : List ℕ) → submission_in (setup_of script) scene who c ≡ Ok (submitted.Entry bytes) → MayAct (setup_of script) scene (submits who (Ok (submitted.Entry bytes)))
     entry c at bytes is =
         let s = setup_of script in
-        let random = random_of m (scene.asked m + 1) in
-        let leaf = leaf_after (s.private m) (scene.leaves m) in
-        let there = client_at s moves scene m c come at in
-        let known = sound_and_typed_at s moves (length moves) m c come.run there in
-        let reached = reached_at s moves (length moves) m c come.run.run there in
+        let random = random_of who.member (scene.asked who + 1) in
+        let leaf = leaf_after (s.private who) (scene.leaves who) in
+        let there = client_at s moves scene who c come at in
+        let known = sound_and_typed_at s moves (length moves) who c come.run there in
+        let reached = reached_at s moves (length moves) who c come.run.run there in
+        let small = come.run.setup.devices who reached.is_device in
+        let number : (me_of c).number < 256 = subst (λ (o : Opening). o.kit.me.number < 256) (sym reached.opening) small.1 in
         let sign = signs_item c random leaf bytes is in
         let first = is_due c sign.item sign.is_due in
-        let written = first_written sign.item first.others (subst AreTypedItems first.first known.typed) (subst (AllByRecursion IsByteItem) first.first (come.clients m c at).pending) in
+        let written = first_written sign.item first.others (subst AreTypedItems first.first known.typed) (subst (AllByRecursion IsByteItem) first.first (come.clients who c at).pending) in
         let document : AreBytes c.opening.genesis.document = subst (λ (o : Opening). AreBytes o.genesis.document) (sym reached.opening) (document_are script) in
         let made : AreBytes (bytes_made c (chosen_by sign.number random) sign.item) =
-        made_are c (chosen_by sign.number random) sign.item written document (bytes_take 32 random (random_are m (scene.asked m + 1))) (bytes_drop 32 random (random_are m (scene.asked m + 1)))
-        (current_bytes c (come.clients m c at).ring known.bytes) in
+        made_are c (chosen_by sign.number random) sign.item written number document (bytes_take 32 random (random_are who.member (scene.asked who + 1))) (bytes_drop 32 random (random_are who.member (scene.asked who + 1)))
+        (current_bytes c (come.clients who c at).ring known.bytes) in
         let all : AreBytes bytes = subst AreBytes (sym sign.made) made in
-        let may : allows c (Submit 0 bytes) ≡ true = made_allowed s moves (length moves) m 0 c bytes come.run there (record {
+        let may : allows c (Submit 0 bytes) ≡ true = made_allowed s moves (length moves) 0 who c bytes come.run there (record {
           leaf = sign.number;
-          within = subst (λ (k : LmsPrivate). sign.number < 2 ^ height_of k.lms) (sym (ap (λ (o : Opening). o.key) reached.opening)) (leaf_is (s.private m) (scene.leaves m) sign.number sign.drawn);
+          within = subst (λ (k : LmsPrivate). sign.number < 2 ^ height_of k.lms) (sym (ap (λ (o : Opening). o.key) reached.opening)) (leaf_is (s.private who) (scene.leaves who) sign.number sign.drawn);
           random = random;
-          size = random_len m (scene.asked m + 1);
+          size = random_len who.member (scene.asked who + 1);
           answer = sym (ap (submission c random) sign.drawn) ∙ is;
         }) in
         record {
@@ -143,7 +150,7 @@ submit_acts script m moves scene come =
           entries = (all, tt);
         }
 
-    dropped : (c : PlainClient) → scene.world.clients m ≡ Some c → (fault : ChangeFault) → submission_in (setup_of script) scene m c ≡ Ok (submitted.Dropped fault) → MayAct (setup_of script) scene (submits m (Ok (submitted.Dropped fault)))
+    dropped : (c : PlainClient) → scene.world.clients who ≡ Some c → (fault : ChangeFault) → submission_in (setup_of script) scene who c ≡ Ok (submitted.Dropped fault) → MayAct (setup_of script) scene (submits who (Ok (submitted.Dropped fault)))
     dropped c at fault is = record {
       run = (subst (λ (o : Option PlainClient). IsSomeAnd o (λ c. allows c (Dropped 0 fault) ≡ true)) (sym at) (drop_may c fault (drop_due c _ _ fault is)), tt);
       typed = (tt, tt);
@@ -151,7 +158,7 @@ submit_acts script m moves scene come =
       entries = tt;
     }
 
-    go : (c : PlainClient) → scene.world.clients m ≡ Some c → (r : Result Submitted SubmitFault) → submission_in (setup_of script) scene m c ≡ r → MayAct (setup_of script) scene (submits m r)
+    go : (c : PlainClient) → scene.world.clients who ≡ Some c → (r : Result Submitted SubmitFault) → submission_in (setup_of script) scene who c ≡ r → MayAct (setup_of script) scene (submits who r)
     go c at (Ok (submitted.Entry bytes)) is = entry c at bytes is
     go c at (Ok (submitted.Dropped fault)) is = dropped c at fault is
     go c at (Ok submitted.Waiting) is = no_act (setup_of script) scene

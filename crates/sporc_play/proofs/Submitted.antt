@@ -268,11 +268,11 @@ told_both (Err e) random old new result named no_disk is = tt
 
 -- ---- a seat after it
 
-pub has_submitted : (next : ℕ) (seat : Seat) (c c' : ClientModel MemoryDiskModel) (random : List ℕ) (made : Option (List ℕ)) → seat.client ≡ Some c → random ≡ random_of seat.member (seat.asked + 1)
+pub has_submitted : (next : ℕ) (seat : Seat) (c c' : ClientModel MemoryDiskModel) (random : List ℕ) (made : Option (List ℕ)) → seat.client ≡ Some c → random ≡ random_of seat.device.member (seat.asked + 1)
     → option_to_list made ≡ entries_in (submission (state_of c) random (leaf_next c)) → IsSubmitted c (submission (state_of c) random (leaf_next c)) c'
-    → HasSubmitted next seat made (record { member = seat.member; asked = seat.asked + 1; last = last_with next seat.last made; signer = seat.signer; client = Some c' })
+    → HasSubmitted next seat made (record { device = seat.device; asked = seat.asked + 1; last = last_with next seat.last made; signer = seat.signer; client = Some c' })
 has_submitted next seat c c' random made is at entries did = record {
-  member = refl;
+  device = refl;
   asked = refl;
   last = refl;
   signer = refl;

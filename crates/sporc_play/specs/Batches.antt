@@ -1,5 +1,7 @@
 -- How the code performs the generated run, command by command.
 use Rattle.std.specs.Prelude.{ℕ, ◌+◌, ◌^◌, ◌<◌, ◌≤◌, List, IsSome}
+use Rattle.sporc_member.specs.declared.device.Device.{Device}
+use Rattle.sporc_member.specs.Device.{first_device}
 use Rattle.sporc_script.specs.declared.command.Command.{Command}
 use Rattle.sporc_play.specs.declared.state.PlayState.{PlayState}
 use Rattle.sporc_play.specs.Cast.{setup_of}
@@ -15,13 +17,13 @@ IsAsked member = (0 < member) × (member ≤ 3)
 pub record HasRoom (n : ℕ) (state : PlayState) : Type 0 where
   pub scene : Scene
   pub stands : StandsFor generated_cast scene state
-  pub room : (m : ℕ) → scene.asked m + n < 2 ^ 32
+  pub room : (who : Device) → scene.asked who + n < 2 ^ 32
 
 -- the state stands for a scene of its members, who all have clients
 pub record AreOpen (state : PlayState) : Type 0 where
   pub scene : Scene
   pub stands : StandsFor generated_cast scene state
-  pub open_clients : (m : ℕ) → IsAsked m → IsSome (scene.world.clients m)
+  pub open_clients : (m : ℕ) → IsAsked m → IsSome (scene.world.clients (first_device m))
 
 -- whatever scene a state stands for, the other stands for the scene after these commands
 abbrev pub Performs : PlayState → List (Scene → Command) → PlayState → Type 0

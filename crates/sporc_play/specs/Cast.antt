@@ -11,12 +11,14 @@ use Rattle.lms_tree.specs.LmsPublic.{public_key_bytes}
 use Rattle.sporc_hash.specs.Chain.{commitment_of}
 use Rattle.sporc_member.specs.declared.change.Change.{Change as MemberChange}
 use Rattle.sporc_member.specs.declared.change.Change.TheVariants as member_changes
+use Rattle.sporc_member.specs.declared.device.Device.{Device}
 use Rattle.sporc_member.specs.declared.founder.Founder.{Founder}
+use Rattle.sporc_member.specs.Device.{first_device}
+use Rattle.sporc_member.specs.Lists.{insert_by}
 use Rattle.sporc_member.specs.Role.{is_admin}
-use Rattle.sporc_member.specs.Roster.{insert_sorted}
 use Rattle.sporc_entry.specs.declared.genesis.Genesis.{Genesis}
 use Rattle.sporc_epoch.specs.Keys.{Keys}
-use Rattle.sporc_client.specs.Run.{Setup, key_of_member}
+use Rattle.sporc_client.specs.Run.{Setup, key_of_device}
 use Rattle.sporc_script.specs.declared.command.Command.{Command}
 use Rattle.sporc_script.specs.declared.command.Command.TheVariants as commands
 use Rattle.sporc_script.specs.declared.command.Height.{Height}
@@ -39,19 +41,19 @@ founder_by (commands.Member m) = Some m
 founder_by (commands.Rogue m) = Some m
 founder_by command = None
 
--- one who has a client from the beginning, and one who has or may get one
-abbrev pub opener_by : Command → Option ℕ
-opener_by (commands.Member m) = Some m.member
+-- a device that has a client from the beginning, and one that has or may get one
+abbrev pub opener_by : Command → Option Device
+opener_by (commands.Member m) = Some (first_device m.member)
 opener_by command = None
 
-abbrev pub member_by : Command → Option ℕ
-member_by (commands.Member m) = Some m.member
-member_by (commands.Joiner m) = Some m
-member_by command = None
+abbrev pub device_by : Command → Option Device
+device_by (commands.Member m) = Some (first_device m.member)
+device_by (commands.Joiner m) = Some (first_device m)
+device_by command = None
 
--- one for whom the script signs
-abbrev pub rogue_by : Command → Option ℕ
-rogue_by (commands.Rogue m) = Some m.member
+-- the device of one for whom the script signs
+abbrev pub rogue_by : Command → Option Device
+rogue_by (commands.Rogue m) = Some (first_device m.member)
 rogue_by command = None
 
 -- anyone who is declared
@@ -84,31 +86,31 @@ abbrev pub tree_of : List PlayLine → Tree
 tree_of [] = record { height = Five; width = Four }
 tree_of (line ∷ lines) = tree_by line.command
 
-abbrev pub private_of : Tree → ℕ → LmsPrivate
-private_of tree member = record { lms = lms_type_of tree.height; ots = ots_type_of tree.width; id = identifier_of member; seed = seed_of member }
+abbrev pub private_of : Tree → Device → LmsPrivate
+private_of tree device = record { lms = lms_type_of tree.height; ots = ots_type_of tree.width; id = identifier_of device; seed = seed_of device }
 
-abbrev pub public_of : Tree → ℕ → List ℕ
-public_of tree member = public_key_bytes (lms_public_of (private_of tree member))
+abbrev pub public_of : Tree → Device → List ℕ
+public_of tree device = public_key_bytes (lms_public_of (private_of tree device))
 
 -- ---- the members
 
 abbrev pub founder_of : Tree → MemberRole → Founder
-founder_of tree m = record { member = m.member; role = m.role; key = public_of tree m.member }
+founder_of tree m = record { member = m.member; role = m.role; key = public_of tree (first_device m.member) }
 
 -- in ascending order of their numbers
 abbrev pub founders_of : List PlayLine → List Founder
-founders_of script = fold (λ founders m. insert_sorted (founder_of (tree_of script) m) founders) [] (filter_map (λ l. founder_by l.command) script)
+founders_of script = fold (λ founders m. insert_by (λ f. f.member) (founder_of (tree_of script) m) founders) [] (filter_map (λ l. founder_by l.command) script)
 
 -- without an admin there is no document, and no command may follow
 abbrev pub has_admin : List PlayLine → Bool
 has_admin script = list_any (λ f. is_admin f.role) (founders_of script)
 
--- who has a client from the beginning, if a founder is an admin
-abbrev pub openers_by : List PlayLine → List ℕ
+-- the devices that have a client from the beginning, if a founder is an admin
+abbrev pub openers_by : List PlayLine → List Device
 openers_by script = filter_map (λ l. opener_by l.command) script
 
--- for whom the script signs
-abbrev pub rogues_of : List PlayLine → List ℕ
+-- the devices of those for whom the script signs
+abbrev pub rogues_of : List PlayLine → List Device
 rogues_of script = filter_map (λ l. rogue_by l.command) script
 
 -- ---- the keys that members share
@@ -145,13 +147,13 @@ genesis_of script = genesis_by (founders_of script)
 unfoldable pub setup_of : List PlayLine → Setup
 setup_of script = record {
   genesis = genesis_of script;
-  members = filter_map (λ l. member_by l.command) script;
-  pairs = pairs_of script;
+  devices = filter_map (λ l. device_by l.command) script;
+  pairs = λ who. pairs_of script who.member;
   private = private_of (tree_of script);
 }
 
 -- a change of the members; the key of a new one is its own
 abbrev pub member_change : Setup → RosterChange → MemberChange
-member_change s (changes.Add m) = member_changes.Add m.member m.role (key_of_member s m.member)
+member_change s (changes.Add m) = member_changes.Add m.member m.role (key_of_device s (first_device m.member))
 member_change s (changes.Remove member) = member_changes.Remove member
 member_change s (changes.SetRole m) = member_changes.SetRole m.member m.role

@@ -1,18 +1,19 @@
--- The values that a play derives for the members of its script, all of them by SHA-256.
+-- The values that a play derives for the members of its script and their devices, all of them by SHA-256.
 use Rattle.std.specs.Prelude.{ℕ, nat_le, List, ◌∷◌, ◌++◌, take, if◌then◌else◌}
 use Rattle.std.specs.Int.{w16, w32, to_be_bytes}
 use Rattle.sha2.specs.Sha256.{sha256}
+use Rattle.sporc_member.specs.declared.device.Device.{Device}
 
 -- a value of some kind, by a member and a number
 abbrev pub derived : ℕ → ℕ → ℕ → List ℕ
 derived kind member number = sha256 (240 ∷ kind ∷ to_be_bytes w16 member ++ to_be_bytes w32 number)
 
--- the seed and the identifier of a member's signature tree
-abbrev pub seed_of : ℕ → List ℕ
-seed_of member = derived 1 member 0
+-- the seed and the identifier of a device's signature tree
+abbrev pub seed_of : Device → List ℕ
+seed_of device = derived 1 device.member device.number
 
-abbrev pub identifier_of : ℕ → List ℕ
-identifier_of member = take 16 (derived 2 member 0)
+abbrev pub identifier_of : Device → List ℕ
+identifier_of device = take 16 (derived 2 device.member device.number)
 
 -- the key that two members share
 abbrev pub pair_key : ℕ → ℕ → List ℕ

@@ -10,17 +10,20 @@ use Rattle.sporc_delta.specs.Marks.{insertion}
 use Rattle.sporc_member.specs.declared.change.Change.{Change as MemberChange}
 use Rattle.sporc_member.specs.declared.change.Change.TheVariants as changes
 use Rattle.sporc_member.specs.declared.change.ChangeFault.{ChangeFault}
+use Rattle.sporc_member.specs.declared.device.TheConstants.{FIRST_DEVICE}
 use Rattle.sporc_member.specs.declared.limits.TheConstants.{MAX_MEMBERS}
+use Rattle.sporc_member.specs.Device.{first_device}
 use Rattle.sporc_member.specs.Roster.{Roster, after_change, change_fault_of, numbers_of}
 use Rattle.sporc_entry.specs.declared.change.ChangeBody.{ChangeBody}
 use Rattle.sporc_entry.specs.declared.entry.Entry.{Entry}
 use Rattle.sporc_entry.specs.declared.header.Header.{Header}
+use Rattle.sporc_entry.specs.declared.version.TheConstants.{FIRST_VERSION}
 use Rattle.sporc_entry.specs.declared.wrap.Wrap.{Wrap}
 use Rattle.sporc_entry.specs.ChangeBody.{change_body_bytes}
 use Rattle.sporc_entry.specs.Entry.{entry_bytes, signed_string}
 use Rattle.sporc_epoch.specs.Keys.{Keys}
 use Rattle.sporc_epoch.specs.Sealing.{Sealing, body_sealed}
-use Rattle.sporc_epoch.specs.Streams.{entry_stream}
+use Rattle.sporc_epoch.specs.Streams.{stream_of}
 use Rattle.sporc_head.specs.History.{count_of, epoch_of, hash_of, roster_of}
 use Rattle.sporc_line.specs.Keys.{key_of}
 use Rattle.sporc_client.specs.PlainClient.{PlainClient, committed_of}
@@ -64,9 +67,11 @@ forged_header c f leaf =
     let suffix = f.signed.suffix in
     let base = base_by suffix (length c.entries) in
     record {
+      version = FIRST_VERSION;
       document = c.opening.genesis.document;
       author = f.member;
-      number = number_by suffix (count_of f.member c.entries + 1);
+      device = FIRST_DEVICE;
+      number = number_by suffix (count_of (first_device f.member) c.entries + 1);
       base = base;
       base_hash = value_at c base;
       epoch = epoch_by suffix (epoch_of c.entries);
@@ -101,7 +106,7 @@ forged_sealing c h change new = record {
   members = sealed_for (roster_of c.opening.genesis c.entries) change;
   document = c.opening.genesis.document;
   author = h.author;
-  leaf = h.leaf;
+  stream = stream_of h;
   epoch = epoch_of c.entries;
   old = key_there c;
   new = new;
@@ -116,6 +121,9 @@ abbrev pub IsSmallChange : MemberChange → Type 0
 IsSmallChange (changes.Add member role key) = length key ≡ 56
 IsSmallChange (changes.Remove member) = ⊤
 IsSmallChange (changes.SetRole member role) = ⊤
+IsSmallChange (changes.AddDevice member device key) = length key ≡ 56
+IsSmallChange (changes.DropDevice member device) = ⊤
+IsSmallChange changes.Upgrade = ⊤
 
 -- a body whose sealed keys have 32 bytes each, for at most 64 members
 pub record IsSmallBody (body : ChangeBody) : Type 0 where
@@ -142,7 +150,7 @@ spoiled (Some suffixes.Previous) body = record body { previous = first_flipped b
 spoiled suffix body = body
 
 abbrev pub masked : PlainClient → Header → List ℕ → List ℕ
-masked c h payload = mask_of (key_there c) (entry_stream h.author h.leaf) payload
+masked c h payload = mask_of (key_there c) (stream_of h) payload
 
 -- an insertion stands at the text's end, if its place lies behind it; a change seals this new key
 abbrev pub forged_body : Setup → PlainClient → Option Suffix → Header → List ℕ → What → List ℕ
@@ -162,7 +170,7 @@ unsigned_by s c f random leaf =
     record { header = h; body = forged_body s c f.signed.suffix h (drop 32 random) f.signed.what; signature = [] }
 
 abbrev pub signature_by : Setup → PlainClient → Forgery → List ℕ → ℕ → List ℕ
-signature_by s c f random leaf = lms_signature_of (s.private f.member) leaf (take 32 random) (signed_string (unsigned_by s c f random leaf))
+signature_by s c f random leaf = lms_signature_of (s.private (first_device f.member)) leaf (take 32 random) (signed_string (unsigned_by s c f random leaf))
 
 -- signed with the rogue's next leaf, whatever the header says
 unfoldable pub signed_by : Setup → PlainClient → Forgery → List ℕ → ℕ → List ℕ

@@ -3,6 +3,7 @@ use Rattle.std.specs.Prelude.{◌≡◌, ◌⊎◌, ℕ, zero, suc, ◌+◌, ◌
 use Rattle.std.specs.Fmt.{decimal}
 use Rattle.hex.specs.Hex.{encode_lower}
 use Rattle.sporc_head.specs.History.{hash_of}
+use Rattle.sporc_member.specs.Device.{first_device}
 use Rattle.sporc_member.specs.declared.role.Role.{Role}
 use Rattle.sporc_member.specs.declared.role.Role.TheVariants.{Editor, Admin}
 use Rattle.sporc_client.specs.PlainClient.{PlainClient, committed_of, shown_of}
@@ -45,7 +46,7 @@ inserts j author len = Insert (record { at = (j * author) % (len + 1); text = (9
 
 -- the edit of an author in batch j: each fifth removes a character, the others insert a letter
 abbrev pub generated_edit : ℕ → ℕ → Scene → TextEdit
-generated_edit j author scene = if j % 5 == 0 then removes author else inserts j author (seen_len (scene.world.clients author))
+generated_edit j author scene = if j % 5 == 0 then removes author else inserts j author (seen_len (scene.world.clients (first_device author)))
 
 abbrev pub edits : ℕ → ℕ → Scene → Command
 edits j author scene = commands.Edit (record { member = author; seen = None; change = generated_edit j author scene })
@@ -102,5 +103,5 @@ summary_line c word =
 abbrev pub Summarizes : Scene → List ℕ → Type 0
 Summarizes scene line =
     (a : PlainClient) × (b : PlainClient) × (c : PlainClient) × (word : List ℕ)
-    × (scene.world.clients 1 ≡ Some a) × (scene.world.clients 2 ≡ Some b) × (scene.world.clients 3 ≡ Some c)
+    × (scene.world.clients (first_device 1) ≡ Some a) × (scene.world.clients (first_device 2) ≡ Some b) × (scene.world.clients (first_device 3) ≡ Some c)
     × IsVerdict a b c word × (line ≡ summary_line a word)

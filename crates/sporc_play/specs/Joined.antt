@@ -2,6 +2,7 @@
 use Rattle.std.specs.Prelude.{ℕ, List, [], map, Option, None, Some, Result, Ok, Err}
 use Rattle.std.specs.FinMap.{get}
 use Rattle.lms_sign.specs.Signer.{SignerModel}
+use Rattle.sporc_member.specs.declared.device.Device.{Device}
 use Rattle.sporc_base.specs.FirstFault.{first_of}
 use Rattle.sporc_epoch.specs.Hints.{hints_of}
 use Rattle.sporc_epoch.specs.Keys.{Keys}
@@ -21,10 +22,10 @@ abbrev pub entries_found : Found → Result (List (List ℕ)) ℕ
 entries_found (Entries entries) = Ok (map (λ v. v.items) entries.items)
 entries_found (Missing number) = Err number
 
--- the client of a member that opens with this ring
-abbrev pub client_with : {D : Type 0} → Setup → ℕ → Keys → SignerModel D → ClientModel D
-client_with s member ring signer = record {
-  opening = record { genesis = s.genesis; kit = kit_of member ring (s.pairs member); key = signer.key };
+-- the client of a device that opens with this ring
+abbrev pub client_with : {D : Type 0} → Setup → Device → Keys → SignerModel D → ClientModel D
+client_with s who ring signer = record {
+  opening = record { genesis = s.genesis; kit = kit_of who ring (s.pairs who); key = signer.key };
   log = [];
   leaves = signer.leaves;
   ticket = None;
@@ -33,7 +34,7 @@ client_with s member ring signer = record {
 -- a seat whose client opens with this ring
 abbrev pub seat_open : Setup → Keys → Seat → Option (SignerModel MemoryDiskModel) → Seat
 seat_open s ring seat None = seat
-seat_open s ring seat (Some signer) = record seat { signer = None; client = Some (client_with s seat.member ring signer) }
+seat_open s ring seat (Some signer) = record seat { signer = None; client = Some (client_with s seat.device ring signer) }
 
 abbrev pub seat_unless : Setup → Keys → Seat → Option LineOpenFault → Seat
 seat_unless s ring seat None = seat_open s ring seat seat.signer
@@ -45,7 +46,7 @@ seat_by s seat (Err fault) = seat
 
 -- a seat whose client opens by these entries, unless there are none or they give no ring that opens it
 abbrev pub seat_with : Setup → Seat → Result (List (List ℕ)) ℕ → Seat
-seat_with s seat (Ok entries) = seat_by s seat (hints_of entries seat.member (s.pairs seat.member))
+seat_with s seat (Ok entries) = seat_by s seat (hints_of entries seat.device.member (s.pairs seat.device))
 seat_with s seat (Err missing) = seat
 
 -- one whose client is open stays as it is

@@ -1,6 +1,8 @@
 -- The logs of the clients of a play.
-use Rattle.std.specs.Prelude.{ℕ, ◌==◌, nat_le, List, [], ◌∷◌, ◌++◌, length, take, Bool, true, Option, None, Some, if◌then◌else◌}
+use Rattle.std.specs.Prelude.{ℕ, nat_le, List, [], ◌∷◌, ◌++◌, length, take, Bool, true, Option, None, Some, if◌then◌else◌}
 use Rattle.sporc_member.specs.declared.change.Change.{Change as MemberChange}
+use Rattle.sporc_member.specs.declared.device.Device.{Device}
+use Rattle.sporc_member.specs.Device.{same_device}
 use Rattle.sporc_head.specs.declared.refusal.Refusal.{Refusal}
 use Rattle.sporc_delta.specs.Marks.{Mark}
 use Rattle.sporc_client.specs.Answers.{change_fault, discard_fault, edit_fault, journal_has_room, refusal_of}
@@ -10,7 +12,7 @@ use Rattle.sporc_client.specs.Run.{Setup, World, Move, Open, Happen, Give, Resta
 use Rattle.sporc_client.specs.Step.{log_of_entries}
 
 -- whose client a move is of
-abbrev pub mover_of : Move → ℕ
+abbrev pub mover_of : Move → Device
 mover_of (Open who ring) = who
 mover_of (Happen who event) = who
 mover_of (Give who position bytes) = who
@@ -67,7 +69,7 @@ log_after w log (Give who position bytes) = log ++ events_by (λ c. given_events
 log_after w log (Restart who k) = first_accepts (w.clients who) k
 
 -- all logs after moves
-abbrev pub logs_after : Setup → World → (ℕ → List Logged) → List Move → ℕ → List Logged
+abbrev pub logs_after : Setup → World → (Device → List Logged) → List Move → Device → List Logged
 logs_after s w logs [] = logs
 logs_after s w logs (move ∷ moves) =
-    logs_after s (after s w move) (λ who. if who == mover_of move then log_after w (logs who) move else logs who) moves
+    logs_after s (after s w move) (λ who. if same_device who (mover_of move) then log_after w (logs who) move else logs who) moves

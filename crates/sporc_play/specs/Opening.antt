@@ -2,68 +2,70 @@
 use Rattle.std.specs.Prelude.{◌≡◌, ℕ, List, [], ◌∷◌, ◌++◌, filter_map, fold, map, Option, None, Some}
 use Rattle.std.specs.List.{AllByRecursion}
 use Rattle.lms_sign.specs.Signer.{SignerModel}
+use Rattle.sporc_member.specs.declared.device.Device.{Device}
 use Rattle.sporc_member.specs.declared.founder.Founder.{Founder}
-use Rattle.sporc_member.specs.Roster.{insert_sorted}
+use Rattle.sporc_member.specs.Device.{first_device}
+use Rattle.sporc_member.specs.Lists.{insert_by}
 use Rattle.sporc_script.specs.declared.command.Tree.{Tree}
 use Rattle.sporc_script.specs.declared.play_line.PlayLine.{PlayLine}
 use Rattle.sporc_play.specs.declared.cast.Cast.{Cast}
 use Rattle.sporc_play.specs.declared.seat.Rogue.{Rogue}
 use Rattle.sporc_play.specs.declared.seat.Seat.{Seat}
-use Rattle.sporc_play.specs.Cast.{declared_member, founder_by, founder_of, member_by, private_of, public_of, rogue_by, unpaired_by}
-use Rattle.sporc_play.specs.Seats.{AreDrawn, rogue_numbers, seated}
+use Rattle.sporc_play.specs.Cast.{declared_member, device_by, founder_by, founder_of, private_of, public_of, rogue_by, unpaired_by}
+use Rattle.sporc_play.specs.Seats.{AreDrawn, rogue_devices, seated}
 
--- a signer of a member with a blank leaf file
-pub record IsBlank {D : Type 0} (tree : Tree) (member : ℕ) (signer : SignerModel D) : Type 0 where
-  pub key : signer.key ≡ private_of tree member
-  pub leaves : AreDrawn (private_of tree member) 0 signer.leaves
+-- a signer of a device with a blank leaf file
+pub record IsBlank {D : Type 0} (tree : Tree) (who : Device) (signer : SignerModel D) : Type 0 where
+  pub key : signer.key ≡ private_of tree who
+  pub leaves : AreDrawn (private_of tree who) 0 signer.leaves
 
-abbrev pub HasBlank : {D : Type 0} → Tree → ℕ → Option (SignerModel D) → Type 0
-HasBlank tree member None = ⊥
-HasBlank tree member (Some signer) = IsBlank tree member signer
+abbrev pub HasBlank : {D : Type 0} → Tree → Device → Option (SignerModel D) → Type 0
+HasBlank tree who None = ⊥
+HasBlank tree who (Some signer) = IsBlank tree who signer
 
 -- a seat that nothing has happened to
 pub record IsFresh (tree : Tree) (seat : Seat) : Type 0 where
   pub asked : seat.asked ≡ 0
   pub last : seat.last ≡ 0
   pub closed : seat.client ≡ None
-  pub signer : HasBlank tree seat.member seat.signer
+  pub signer : HasBlank tree seat.device seat.signer
 
 pub record IsFreshRogue (tree : Tree) (rogue : Rogue) : Type 0 where
   pub asked : rogue.asked ≡ 0
-  pub signer : IsBlank tree rogue.member rogue.signer
+  pub signer : IsBlank tree rogue.device rogue.signer
 
 -- the founders of these lines, in ascending order of their numbers
 abbrev pub founders_by : Tree → List PlayLine → List Founder
-founders_by tree lines = fold (λ founders m. insert_sorted (founder_of tree m) founders) [] (filter_map (λ l. founder_by l.command) lines)
+founders_by tree lines = fold (λ founders m. insert_by (λ f. f.member) (founder_of tree m) founders) [] (filter_map (λ l. founder_by l.command) lines)
 
 -- what these lines have declared is there
 pub record HaveDeclared (tree : Tree) (lines : List PlayLine) (cast : Cast) (seats : List Seat) (rogues : List Rogue) : Type 0 where
   pub tree_is : cast.tree ≡ tree
   pub declared : map (λ d. d.member) cast.declared.items ≡ filter_map (λ l. declared_member l.command) lines
-  pub keys : AllByRecursion (λ d. d.key ≡ public_of tree d.member) cast.declared.items
+  pub keys : AllByRecursion (λ d. d.key ≡ public_of tree (first_device d.member)) cast.declared.items
   pub unpaired : cast.unpaired.items ≡ filter_map (λ l. unpaired_by l.command) lines
   pub founders : cast.founders.items ≡ founders_by tree lines
   pub fresh : AllByRecursion (IsFresh tree) seats
-  pub seated_are : seated seats ≡ filter_map (λ l. member_by l.command) lines
+  pub seated_are : seated seats ≡ filter_map (λ l. device_by l.command) lines
   pub fresh_rogues : AllByRecursion (IsFreshRogue tree) rogues
-  pub rogues_are : rogue_numbers rogues ≡ filter_map (λ l. rogue_by l.command) lines
+  pub rogues_are : rogue_devices rogues ≡ filter_map (λ l. rogue_by l.command) lines
 
--- a seat for a member is the last now
-pub record HasSat (tree : Tree) (member : ℕ) (old new : List Seat) : Type 0 where
+-- a seat for a device is the last now
+pub record HasSat (tree : Tree) (who : Device) (old new : List Seat) : Type 0 where
   pub seat : Seat
-  pub own : seat.member ≡ member
+  pub own : seat.device ≡ who
   pub fresh : IsFresh tree seat
   pub pushed : new ≡ old ++ seat ∷ []
 
-pub record HasRogue (tree : Tree) (member : ℕ) (old new : List Rogue) : Type 0 where
+pub record HasRogue (tree : Tree) (who : Device) (old new : List Rogue) : Type 0 where
   pub rogue : Rogue
-  pub own : rogue.member ≡ member
+  pub own : rogue.device ≡ who
   pub fresh : IsFreshRogue tree rogue
   pub pushed : new ≡ old ++ rogue ∷ []
 
 -- a member is declared with its key, and all else is as it was
 pub record IsNamed (member : ℕ) (old new : Cast) : Type 0 where
   pub tree : new.tree ≡ old.tree
-  pub declared : new.declared.items ≡ old.declared.items ++ record { member = member; key = public_of old.tree member } ∷ []
+  pub declared : new.declared.items ≡ old.declared.items ++ record { member = member; key = public_of old.tree (first_device member) } ∷ []
   pub unpaired : new.unpaired.items ≡ old.unpaired.items
   pub founders : new.founders.items ≡ old.founders.items

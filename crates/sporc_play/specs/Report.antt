@@ -14,7 +14,9 @@ use Rattle.sporc_hash.specs.Chain.{chain}
 use Rattle.sporc_hash.specs.declared.verdict.Verdict.{Verdict}
 use Rattle.sporc_line.specs.Openings.{open_checks}
 use Rattle.sporc_line.specs.declared.fault.LineOpenFault.{LineOpenFault}
+use Rattle.sporc_member.specs.declared.device.Device.{Device}
 use Rattle.sporc_member.specs.ChangeFault.{change_fault_name}
+use Rattle.sporc_member.specs.Device.{first_device}
 use Rattle.sporc_outside.specs.Writing.{AppendsPrefix}
 use Rattle.sporc_client.specs.declared.fault.AcceptFault.{AcceptFault}
 use Rattle.sporc_client.specs.declared.fault.EditFault.{EditFault}
@@ -105,13 +107,13 @@ abbrev pub hints_line : Setup → ℕ → Result Keys HintFault → List ℕ
 hints_line s m (Ok ring) = open_line m (first_of (open_checks s.genesis (get ring 0)))
 hints_line s m (Err fault) = decimal m ++ (codes " join refused " ++ (hint_fault_name fault ++ codes "\n"))
 
-abbrev pub joined_line : Setup → ℕ → Result (List (List ℕ)) ℕ → List ℕ
-joined_line s m (Ok entries) = hints_line s m (hints_of entries m (s.pairs m))
-joined_line s m (Err missing) = no_entry_line missing
+abbrev pub joined_line : Setup → Device → Result (List (List ℕ)) ℕ → List ℕ
+joined_line s who (Ok entries) = hints_line s who.member (hints_of entries who.member (s.pairs who))
+joined_line s who (Err missing) = no_entry_line missing
 
-abbrev pub join_line : Setup → ℕ → Result (List (List ℕ)) ℕ → Option PlainClient → List ℕ
-join_line s m entries (Some c) = decimal m ++ codes " already open\n"
-join_line s m entries None = joined_line s m entries
+abbrev pub join_line : Setup → Device → Result (List (List ℕ)) ℕ → Option PlainClient → List ℕ
+join_line s who entries (Some c) = decimal who.member ++ codes " already open\n"
+join_line s who entries None = joined_line s who entries
 
 -- ---- how the history of one member stands to another's
 
@@ -156,28 +158,32 @@ next_number scene = length scene.made + 1
 
 -- the line that a command writes in a scene, but for a comparison; a declaration writes none
 abbrev pub line_of : Setup → Scene → Command → List ℕ
-line_of s scene (commands.Edit e) = line_by e.member (scene.world.clients e.member) (edited_line e)
-line_of s scene (commands.Change e) = line_by e.member (scene.world.clients e.member) (change_line e.member)
-line_of s scene (commands.Discard m) = line_by m (scene.world.clients m) (discard_line m)
+line_of s scene (commands.Edit e) = line_by e.member (scene.world.clients (first_device e.member)) (edited_line e)
+line_of s scene (commands.Change e) = line_by e.member (scene.world.clients (first_device e.member)) (change_line e.member)
+line_of s scene (commands.Discard m) = line_by m (scene.world.clients (first_device m)) (discard_line m)
 line_of s scene (commands.Submit m) =
-    line_by m (scene.world.clients m) (λ c. submit_line m (next_number scene) (scene.last m) (submission_in s scene m c))
+    let who = first_device m in
+    line_by m (scene.world.clients who) (λ c. submit_line m (next_number scene) (scene.last who) (submission_in s scene who c))
 line_of s scene (commands.Give g) =
-    line_by g.member (scene.world.clients g.member) (λ c. give_line g.member g.position c (entry_at scene.made g.entry))
-line_of s scene (commands.Restart r) = line_by r.member (scene.world.clients r.member) (restart_line r.member r.entries)
-line_of s scene (commands.Join j) = join_line s j.member (entries_at scene.made j.entries) (scene.world.clients j.member)
-line_of s scene (commands.Show m) = line_by m (scene.world.clients m) (show_line m)
-line_of s scene (commands.Members m) = line_by m (scene.world.clients m) (members_line m)
-line_of s scene (commands.Journal m) = line_by m (scene.world.clients m) (λ c. journal_lines (journal_of (scene.logs m)))
-line_of s scene (commands.Hash m) = line_by m (scene.world.clients m) (hash_line m)
+    line_by g.member (scene.world.clients (first_device g.member)) (λ c. give_line g.member g.position c (entry_at scene.made g.entry))
+line_of s scene (commands.Restart r) = line_by r.member (scene.world.clients (first_device r.member)) (restart_line r.member r.entries)
+line_of s scene (commands.Join j) =
+    let who = first_device j.member in join_line s who (entries_at scene.made j.entries) (scene.world.clients who)
+line_of s scene (commands.Show m) = line_by m (scene.world.clients (first_device m)) (show_line m)
+line_of s scene (commands.Members m) = line_by m (scene.world.clients (first_device m)) (members_line m)
+line_of s scene (commands.Journal m) =
+    let who = first_device m in line_by m (scene.world.clients who) (λ c. journal_lines (journal_of (scene.logs who)))
+line_of s scene (commands.Hash m) = line_by m (scene.world.clients (first_device m)) (hash_line m)
 line_of s scene (commands.Flip f) = flip_line (next_number scene) f.entry f.at (entry_at scene.made f.entry)
 line_of s scene (commands.Cut number) = cut_line (next_number scene) number (entry_at scene.made number)
 line_of s scene (commands.Sign f) =
-    line_by f.from (scene.world.clients f.from) (λ c. sign_line f.member (next_number scene) (leaf_after (s.private f.member) (scene.leaves f.member)))
+    let rogue = first_device f.member in
+    line_by f.from (scene.world.clients (first_device f.from)) (λ c. sign_line f.member (next_number scene) (leaf_after (s.private rogue) (scene.leaves rogue)))
 line_of s scene command = []
 
 -- a line that the command may write
 abbrev pub Writes : Setup → Scene → Command → List ℕ → Type 0
-Writes s scene (commands.Compare p) line = Compares p (scene.world.clients p.first) (scene.world.clients p.second) line
+Writes s scene (commands.Compare p) line = Compares p (scene.world.clients (first_device p.first)) (scene.world.clients (first_device p.second)) line
 Writes s scene command line = line ≡ line_of s scene command
 
 -- ---- scripts

@@ -1,5 +1,5 @@
 -- What the commands of a script do: each acts on the clients by its moves.
-use Rattle.std.specs.Prelude.{ℕ, zero, suc, ◌+◌, ◌-◌, ◌^◌, ◌==◌, nat_le, nat_lt, List, [], ◌∷◌, ◌++◌, length, map, take, fold, set, slice_get, bit_xor, Option, None, Some, Result, Ok, Err, if◌then◌else◌}
+use Rattle.std.specs.Prelude.{ℕ, zero, suc, ◌+◌, ◌-◌, ◌^◌, nat_le, nat_lt, List, [], ◌∷◌, ◌++◌, length, map, take, fold, set, slice_get, bit_xor, Option, None, Some, Result, Ok, Err, if◌then◌else◌}
 use Rattle.std.specs.FinMap.{get}
 use Rattle.std.specs.Str.{encode_utf8_all}
 use Rattle.lms_leaf.specs.declared.faults.LeafFault.{LeafFault}
@@ -8,6 +8,8 @@ use Rattle.lms_tree.specs.LmsPrivate.{LmsPrivate}
 use Rattle.lms_tree.specs.LmsType.{height_of}
 use Rattle.sporc_base.specs.FirstFault.{first_of}
 use Rattle.sporc_delta.specs.Marks.{Mark, insertion, removal}
+use Rattle.sporc_member.specs.declared.device.Device.{Device}
+use Rattle.sporc_member.specs.Device.{first_device, same_device}
 use Rattle.sporc_epoch.specs.Hints.{hints_of}
 use Rattle.sporc_epoch.specs.Keys.{Keys}
 use Rattle.sporc_epoch.specs.declared.fault.HintFault.{HintFault}
@@ -35,17 +37,17 @@ use Rattle.sporc_play.specs.Forged.{forged_entry}
 use Rattle.sporc_play.specs.Logs.{change_events, discard_events, edit_logged, logs_after}
 
 pub record Scene : Type 0 where
-  -- the members' clients, and all that they signed
+  -- the clients of devices, and all that they signed
   pub world : World
   -- the log of each client
-  pub logs : ℕ → List Logged
+  pub logs : Device → List Logged
   -- all entries, in the order in which they were made
   pub made : List (List ℕ)
   -- the number of the entry that each client made last
-  pub last : ℕ → ℕ
-  -- how often each member was to submit or to sign, and how many of its leaves have signed
-  pub asked : ℕ → ℕ
-  pub leaves : ℕ → ℕ
+  pub last : Device → ℕ
+  -- how often each device was to submit or to sign, and how many of its leaves have signed
+  pub asked : Device → ℕ
+  pub leaves : Device → ℕ
 
 -- what a command does to the clients, and the entries that it makes
 pub record Effect : Type 0 where
@@ -62,8 +64,8 @@ abbrev pub made_entry : List ℕ → Effect
 made_entry bytes = record { moves = []; entries = bytes ∷ [] }
 
 -- a client adds these events
-abbrev pub adds : ℕ → List Logged → Effect
-adds member events = moved (map (Happen member) events)
+abbrev pub adds : Device → List Logged → Effect
+adds who events = moved (map (Happen who) events)
 
 -- entry E, counted from 1
 abbrev pub entry_at : List (List ℕ) → ℕ → Option (List ℕ)
@@ -97,7 +99,7 @@ edit_events e c = edit_logged c (seen_by c e.seen) (delta_by c (seen_by c e.seen
 
 -- ---- submissions
 
--- the leaf that a member draws after so many
+-- the leaf that a signer with this key draws after so many
 abbrev pub leaf_after : LmsPrivate → ℕ → Result ℕ LeafFault
 leaf_after key n = if nat_lt n (2 ^ height_of key.lms) then Ok n else Err (Exhausted n)
 
@@ -106,8 +108,8 @@ abbrev pub leaf_next : {D : Type 0} → ClientModel D → Result ℕ LeafFault
 leaf_next c = leaf_after c.opening.key c.leaves.next
 
 -- the answer to a submission in a scene
-abbrev pub submission_in : Setup → Scene → ℕ → PlainClient → Result Submitted SubmitFault
-submission_in s scene member c = submission c (random_of member (scene.asked member + 1)) (leaf_after (s.private member) (scene.leaves member))
+abbrev pub submission_in : Setup → Scene → Device → PlainClient → Result Submitted SubmitFault
+submission_in s scene who c = submission c (random_of who.member (scene.asked who + 1)) (leaf_after (s.private who) (scene.leaves who))
 
 -- the entry that an answer hands out
 abbrev pub entries_in : Result Submitted SubmitFault → List (List ℕ)
@@ -117,17 +119,17 @@ entries_in (Ok submitted.Nothing) = []
 entries_in (Ok (submitted.Dropped fault)) = []
 entries_in (Err fault) = []
 
-abbrev pub submits : ℕ → Result Submitted SubmitFault → Effect
-submits member answer = record { moves = map (Happen member) (submission_added 0 answer); entries = entries_in answer }
+abbrev pub submits : Device → Result Submitted SubmitFault → Effect
+submits who answer = record { moves = map (Happen who) (submission_added 0 answer); entries = entries_in answer }
 
 -- ---- what is handed out
 
-abbrev pub gives : ℕ → ℕ → Option (List ℕ) → Effect
-gives member position None = nothing
-gives member position (Some bytes) = moved (Give member position bytes ∷ [])
+abbrev pub gives : Device → ℕ → Option (List ℕ) → Effect
+gives who position None = nothing
+gives who position (Some bytes) = moved (Give who position bytes ∷ [])
 
-abbrev pub restarts : ℕ → ℕ → PlainClient → Effect
-restarts member k c = if nat_le k (length c.entries) then moved (Restart member k ∷ []) else nothing
+abbrev pub restarts : Device → ℕ → PlainClient → Effect
+restarts who k c = if nat_le k (length c.entries) then moved (Restart who k ∷ []) else nothing
 
 -- ---- joiners
 
@@ -142,22 +144,22 @@ entries_at made [] = Ok []
 entries_at made (number ∷ numbers) = with_entry number (entry_at made number) (entries_at made numbers)
 
 -- a client opens with the hints that entries give, if there are hints and its line opens
-abbrev pub opens_unless : ℕ → Keys → Option LineOpenFault → Effect
-opens_unless member ring None = moved (Open member ring ∷ [])
-opens_unless member ring (Some fault) = nothing
+abbrev pub opens_unless : Device → Keys → Option LineOpenFault → Effect
+opens_unless who ring None = moved (Open who ring ∷ [])
+opens_unless who ring (Some fault) = nothing
 
-abbrev pub opens_with : Setup → ℕ → Result Keys HintFault → Effect
-opens_with s member (Ok ring) = opens_unless member ring (first_of (open_checks s.genesis (get ring 0)))
-opens_with s member (Err fault) = nothing
+abbrev pub opens_with : Setup → Device → Result Keys HintFault → Effect
+opens_with s who (Ok ring) = opens_unless who ring (first_of (open_checks s.genesis (get ring 0)))
+opens_with s who (Err fault) = nothing
 
-abbrev pub joins_with : Setup → ℕ → Result (List (List ℕ)) ℕ → Effect
-joins_with s member (Ok entries) = opens_with s member (hints_of entries member (s.pairs member))
-joins_with s member (Err missing) = nothing
+abbrev pub joins_with : Setup → Device → Result (List (List ℕ)) ℕ → Effect
+joins_with s who (Ok entries) = opens_with s who (hints_of entries who.member (s.pairs who))
+joins_with s who (Err missing) = nothing
 
--- one who has a client already does not join
-abbrev pub joins : Setup → ℕ → Result (List (List ℕ)) ℕ → Option PlainClient → Effect
-joins s member entries (Some c) = nothing
-joins s member entries None = joins_with s member entries
+-- one that has a client already does not join
+abbrev pub joins : Setup → Device → Result (List (List ℕ)) ℕ → Option PlainClient → Effect
+joins s who entries (Some c) = nothing
+joins s who entries None = joins_with s who entries
 
 -- ---- entries that are changed
 
@@ -192,18 +194,20 @@ if_open (Some c) act = act c
 
 abbrev pub effect_of : Setup → Scene → Command → Effect
 effect_of s scene (commands.Edit e) =
-    if_open (scene.world.clients e.member) (λ c. adds e.member (edit_events e c))
+    let who = first_device e.member in if_open (scene.world.clients who) (λ c. adds who (edit_events e c))
 effect_of s scene (commands.Change e) =
-    if_open (scene.world.clients e.member) (λ c. adds e.member (change_events (member_change s e.change) c))
-effect_of s scene (commands.Discard member) = if_open (scene.world.clients member) (λ c. adds member (discard_events c))
-effect_of s scene (commands.Submit member) = if_open (scene.world.clients member) (λ c. submits member (submission_in s scene member c))
-effect_of s scene (commands.Give g) = if_open (scene.world.clients g.member) (λ c. gives g.member g.position (entry_at scene.made g.entry))
-effect_of s scene (commands.Restart r) = if_open (scene.world.clients r.member) (restarts r.member r.entries)
-effect_of s scene (commands.Join j) = joins s j.member (entries_at scene.made j.entries) (scene.world.clients j.member)
+    let who = first_device e.member in if_open (scene.world.clients who) (λ c. adds who (change_events (member_change s e.change) c))
+effect_of s scene (commands.Discard m) = let who = first_device m in if_open (scene.world.clients who) (λ c. adds who (discard_events c))
+effect_of s scene (commands.Submit m) = let who = first_device m in if_open (scene.world.clients who) (λ c. submits who (submission_in s scene who c))
+effect_of s scene (commands.Give g) =
+    let who = first_device g.member in if_open (scene.world.clients who) (λ c. gives who g.position (entry_at scene.made g.entry))
+effect_of s scene (commands.Restart r) = let who = first_device r.member in if_open (scene.world.clients who) (restarts who r.entries)
+effect_of s scene (commands.Join j) = let who = first_device j.member in joins s who (entries_at scene.made j.entries) (scene.world.clients who)
 effect_of s scene (commands.Flip f) = flips f.at (entry_at scene.made f.entry)
 effect_of s scene (commands.Cut entry) = cuts (entry_at scene.made entry)
 effect_of s scene (commands.Sign f) =
-    if_open (scene.world.clients f.from) (λ c. signs_by (forged_entry s c f (scene.asked f.member + 1) (leaf_after (s.private f.member) (scene.leaves f.member))))
+    let rogue = first_device f.member in
+    if_open (scene.world.clients (first_device f.from)) (λ c. signs_by (forged_entry s c f (scene.asked rogue + 1) (leaf_after (s.private rogue) (scene.leaves rogue))))
 effect_of s scene command = nothing
 
 -- how many bytes the text or the payload of a command has
@@ -218,24 +222,24 @@ text_size (commands.Sign f) = what_size f.signed.what
 text_size command = 0
 
 -- who is to submit or to sign by a command
-abbrev pub signer_of : Command → Option ℕ
-signer_of (commands.Submit member) = Some member
-signer_of (commands.Sign f) = Some f.member
+abbrev pub signer_of : Command → Option Device
+signer_of (commands.Submit m) = Some (first_device m)
+signer_of (commands.Sign f) = Some (first_device f.member)
 signer_of command = None
 
--- counts, with so many more of one member's
-abbrev pub with_more : (ℕ → ℕ) → Option ℕ → ℕ → ℕ → ℕ
+-- counts, with so many more of one device's
+abbrev pub with_more : (Device → ℕ) → Option Device → ℕ → Device → ℕ
 with_more counts None more other = counts other
-with_more counts (Some member) more other = if other == member then counts other + more else counts other
+with_more counts (Some who) more other = if same_device other who then counts other + more else counts other
 
--- the number of the entry that a member's client made last, if it has just made these
-abbrev pub last_made : (ℕ → ℕ) → ℕ → ℕ → List (List ℕ) → ℕ → ℕ
-last_made last member next [] other = last other
-last_made last member next (entry ∷ entries) other = if other == member then next else last other
+-- the number of the entry that a device's client made last, if it has just made these
+abbrev pub last_made : (Device → ℕ) → Device → ℕ → List (List ℕ) → Device → ℕ
+last_made last who next [] other = last other
+last_made last who next (entry ∷ entries) other = if same_device other who then next else last other
 
 -- those numbers after a command whose entries get numbers from the next on
-abbrev pub last_by : (ℕ → ℕ) → Command → ℕ → List (List ℕ) → ℕ → ℕ
-last_by last (commands.Submit member) next entries = last_made last member next entries
+abbrev pub last_by : (Device → ℕ) → Command → ℕ → List (List ℕ) → Device → ℕ
+last_by last (commands.Submit m) next entries = last_made last (first_device m) next entries
 last_by last command next entries = last
 
 -- a scene after a command
@@ -252,19 +256,19 @@ performed s scene command act = record {
 abbrev pub after : Setup → Scene → Command → Scene
 after s scene command = performed s scene command (effect_of s scene command)
 
--- those whom these lines declare as founders with clients open them
+-- the founders whom these lines declare with clients open them
 abbrev pub openings : List PlayLine → List Move
-openings lines = map (λ member. Open member first_ring) (openers_by lines)
+openings lines = map (λ who. Open who first_ring) (openers_by lines)
 
 -- the scene after moves of the members of a script, before any command
 abbrev pub scene_moved : List PlayLine → List Move → Scene
 scene_moved script moves = record {
   world = after_all (setup_of script) start moves;
-  logs = logs_after (setup_of script) start (λ member. []) moves;
+  logs = logs_after (setup_of script) start (λ who. []) moves;
   made = [];
-  last = λ member. 0;
-  asked = λ member. 0;
-  leaves = λ member. 0;
+  last = λ who. 0;
+  asked = λ who. 0;
+  leaves = λ who. 0;
 }
 
 -- the founders open their clients, if one of them is an admin

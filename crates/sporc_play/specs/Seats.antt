@@ -4,6 +4,7 @@ use Rattle.std.specs.Option.{option_to_list}
 use Rattle.lms_leaf.specs.Leaves.{LeavesModel}
 use Rattle.lms_tree.specs.LmsPrivate.{LmsPrivate}
 use Rattle.lms_tree.specs.LmsType.{height_of}
+use Rattle.sporc_member.specs.declared.device.Device.{Device}
 use Rattle.sporc_client.specs.declared.fault.SubmitFault.{SubmitFault}
 use Rattle.sporc_client.specs.declared.submitted.Submitted.{Submitted}
 use Rattle.sporc_client.specs.ClientModel.{ClientModel, state_of}
@@ -20,20 +21,20 @@ use Rattle.sporc_play.specs.Scene.{entries_in, leaf_next}
 -- ---- where they stand
 
 -- who has a seat, and who is a rogue
-abbrev pub seated : List Seat → List ℕ
-seated seats = map (λ seat. seat.member) seats
+abbrev pub seated : List Seat → List Device
+seated seats = map (λ seat. seat.device) seats
 
-abbrev pub rogue_numbers : List Rogue → List ℕ
-rogue_numbers rogues = map (λ rogue. rogue.member) rogues
+abbrev pub rogue_devices : List Rogue → List Device
+rogue_devices rogues = map (λ rogue. rogue.device) rogues
 
--- this seat of the member stands at the place
-pub record IsSeatAt (seats : List Seat) (i member : ℕ) (seat : Seat) : Type 0 where
+-- this seat of the device stands at the place
+pub record IsSeatAt (seats : List Seat) (i : ℕ) (who : Device) (seat : Seat) : Type 0 where
   pub there : slice_get seats i ≡ Some seat
-  pub own : seat.member ≡ member
+  pub own : seat.device ≡ who
 
-pub record IsRogueAt (rogues : List Rogue) (i member : ℕ) (rogue : Rogue) : Type 0 where
+pub record IsRogueAt (rogues : List Rogue) (i : ℕ) (who : Device) (rogue : Rogue) : Type 0 where
   pub there : slice_get rogues i ≡ Some rogue
-  pub own : rogue.member ≡ member
+  pub own : rogue.device ≡ who
 
 -- ---- their clients
 
@@ -48,7 +49,7 @@ pub record AreDrawn {D : Type 0} (key : LmsPrivate) (drawn : ℕ) (leaves : Leav
   pub count : leaves.leaf_count ≡ 2 ^ height_of key.lms
   pub works : leaves.faulty ≡ false
 
--- a client can sign for its member, and keeps no ticket
+-- a client can sign for its device, and keeps no ticket
 pub record IsReady {D : Type 0} (private : LmsPrivate) (drawn : ℕ) (c : ClientModel D) : Type 0 where
   pub key : c.opening.key ≡ private
   pub leaves : AreDrawn private drawn c.leaves
@@ -72,12 +73,12 @@ seat_restarted k seat = record seat { client = option_map (client_restarted k) s
 
 -- what a client of the seat answers to the next submission
 abbrev pub answer_of : {D : Type 0} → Seat → ClientModel D → Result Submitted SubmitFault
-answer_of seat c = submission (state_of c) (random_of seat.member (seat.asked + 1)) (leaf_next c)
+answer_of seat c = submission (state_of c) (random_of seat.device.member (seat.asked + 1)) (leaf_next c)
 
 -- the line of that answer, by the number of the next entry
 abbrev pub submission_line : {D : Type 0} → ℕ → Seat → Option (ClientModel D) → List ℕ
-submission_line next seat None = not_open_line seat.member
-submission_line next seat (Some c) = submit_line seat.member next seat.last (answer_of seat c)
+submission_line next seat None = not_open_line seat.device.member
+submission_line next seat (Some c) = submit_line seat.device.member next seat.last (answer_of seat c)
 
 -- a client after a submission with this answer
 pub record IsSubmitted {D : Type 0} (old : ClientModel D) (answer : Result Submitted SubmitFault) (new : ClientModel D) : Type 0 where
@@ -98,7 +99,7 @@ last_with next last (Some entry) = next
 
 -- a seat after a submission that made this entry, with the number next, if it made any
 pub record HasSubmitted (next : ℕ) (old : Seat) (made : Option (List ℕ)) (new : Seat) : Type 0 where
-  pub member : new.member ≡ old.member
+  pub device : new.device ≡ old.device
   pub asked : new.asked ≡ old.asked + 1
   pub last : new.last ≡ last_with next old.last made
   pub signer : new.signer ≡ old.signer

@@ -22,7 +22,7 @@ signing_line f next rogue client = line_by f.from (option_map state_of client) (
 
 -- a rogue after it was to sign, and signed this entry, if it did
 pub record HasSigned (old : Rogue) (made : Option (List ℕ)) (new : Rogue) : Type 0 where
-  pub member : new.member ≡ old.member
+  pub device : new.device ≡ old.device
   pub asked : new.asked ≡ old.asked + 1
   pub key : new.signer.key ≡ old.signer.key
   pub leaves : AreDrawn old.signer.key (old.signer.leaves.next + length (option_to_list made)) new.signer.leaves

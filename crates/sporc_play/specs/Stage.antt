@@ -1,12 +1,14 @@
 -- How the state that the code keeps stands for a scene.
-use Rattle.std.specs.Prelude.{◌≡◌, ℕ, ◌+◌, ◌≤◌, ◌<◌, ◌^◌, true, List, ◌++◌, fold, map, nat_eq, Option, None, Some, Contains, IfSome, IsSome, ⊤, if◌then◌else◌}
+use Rattle.std.specs.Prelude.{◌≡◌, ℕ, ◌+◌, ◌≤◌, ◌<◌, ◌^◌, true, List, ◌++◌, fold, map, Option, None, Some, Contains, IfSome, IsSome, ⊤, if◌then◌else◌}
 use Rattle.std.specs.FinMap.{empty, insert}
 use Rattle.std.specs.List.{All, AllByRecursion, IsDistinct, list_any}
 use Rattle.lms_sign.specs.Signer.{SignerModel}
+use Rattle.sporc_member.specs.declared.device.Device.{Device}
+use Rattle.sporc_member.specs.Device.{first_device, same_device}
 use Rattle.sporc_entry.specs.Genesis.{IsGenesis}
 use Rattle.sporc_epoch.specs.Keys.{Keys}
 use Rattle.sporc_client.specs.ClientModel.{ClientModel}
-use Rattle.sporc_client.specs.Run.{Setup, key_of_member, opening_of}
+use Rattle.sporc_client.specs.Run.{Setup, key_of_device, opening_of}
 use Rattle.sporc_script.specs.declared.command.Command.{Command}
 use Rattle.sporc_script.specs.declared.command.Command.TheVariants as commands
 use Rattle.sporc_script.specs.declared.play_line.PlayLine.{PlayLine}
@@ -20,7 +22,7 @@ use Rattle.sporc_play.specs.Derived.{pair_key}
 use Rattle.sporc_play.specs.Lines.{AppendsLine}
 use Rattle.sporc_play.specs.Scene.{Scene, after, text_size}
 pub use Rattle.sporc_play.specs.Seats.{AreDrawn}
-use Rattle.sporc_play.specs.Seats.{IsReady, plain_in, rogue_numbers, seated}
+use Rattle.sporc_play.specs.Seats.{IsReady, plain_in, rogue_devices, seated}
 
 -- ---- who takes part
 
@@ -33,45 +35,45 @@ pairs_among cast member = fold (pair_among cast member) empty (map (λ d. d.memb
 
 -- who takes part, as the code keeps it: the keys of those who are declared, and what each shares with the others
 pub record IsCastOf (s : Setup) (cast : Cast) : Type 0 where
-  pub keys : All (λ d. d.key ≡ key_of_member s d.member) cast.declared.items
+  pub keys : All (λ d. d.key ≡ key_of_device s (first_device d.member)) cast.declared.items
   pub founders : cast.founders.items ≡ s.genesis.founders
-  pub trees : (member : ℕ) → s.private member ≡ private_of cast.tree member
-  pub pairs : (member : ℕ) → pairs_among cast member ≡ s.pairs member
+  pub trees : (who : Device) → s.private who ≡ private_of cast.tree who
+  pub pairs : (who : Device) → pairs_among cast who.member ≡ s.pairs who
 
--- what the grammar says of the declarations: no two numbers are one, and the founders can begin a document if one is an admin
+-- what the grammar says of the declarations: no two devices are one, and the founders can begin a document if one is an admin
 pub record AreDeclared (script : List PlayLine) : Type 0 where
-  pub distinct : IsDistinct nat_eq ((setup_of script).members ++ rogues_of script)
+  pub distinct : IsDistinct same_device ((setup_of script).devices ++ rogues_of script)
   pub genesis : has_admin script ≡ true → IsGenesis (setup_of script).genesis
 
 -- ---- seats
 
--- a client is that of a member in a scene
-pub record IsClientOf {D : Type 0} (s : Setup) (scene : Scene) (member : ℕ) (c : ClientModel D) : Type 0 where
+-- a client is that of a device in a scene
+pub record IsClientOf {D : Type 0} (s : Setup) (scene : Scene) (who : Device) (c : ClientModel D) : Type 0 where
   pub ring : Keys
-  pub opening : c.opening ≡ opening_of s member ring
-  pub log : scene.logs member ≡ c.log
-  pub ready : IsReady (s.private member) (scene.leaves member) c
+  pub opening : c.opening ≡ opening_of s who ring
+  pub log : scene.logs who ≡ c.log
+  pub ready : IsReady (s.private who) (scene.leaves who) c
 
--- a signer is that of a member
-pub record IsSignerOf {D : Type 0} (s : Setup) (scene : Scene) (member : ℕ) (signer : SignerModel D) : Type 0 where
-  pub key : signer.key ≡ s.private member
-  pub leaves : AreDrawn (s.private member) (scene.leaves member) signer.leaves
+-- a signer is that of a device
+pub record IsSignerOf {D : Type 0} (s : Setup) (scene : Scene) (who : Device) (signer : SignerModel D) : Type 0 where
+  pub key : signer.key ≡ s.private who
+  pub leaves : AreDrawn (s.private who) (scene.leaves who) signer.leaves
 
 -- a signer until the client opens, and the client from then on
-abbrev pub Holds : {D : Type 0} → Setup → Scene → ℕ → Option (SignerModel D) → Option (ClientModel D) → Type 0
-Holds s scene member signer (Some c) = IsClientOf s scene member c
-Holds s scene member (Some signer) None = IsSignerOf s scene member signer
-Holds s scene member None None = ⊥
+abbrev pub Holds : {D : Type 0} → Setup → Scene → Device → Option (SignerModel D) → Option (ClientModel D) → Type 0
+Holds s scene who signer (Some c) = IsClientOf s scene who c
+Holds s scene who (Some signer) None = IsSignerOf s scene who signer
+Holds s scene who None None = ⊥
 
 pub record IsSeatOf (s : Setup) (scene : Scene) (seat : Seat) : Type 0 where
-  pub asked : seat.asked ≡ scene.asked seat.member
-  pub last : seat.last ≡ scene.last seat.member
-  pub client : scene.world.clients seat.member ≡ plain_in seat
-  pub holds : Holds s scene seat.member seat.signer seat.client
+  pub asked : seat.asked ≡ scene.asked seat.device
+  pub last : seat.last ≡ scene.last seat.device
+  pub client : scene.world.clients seat.device ≡ plain_in seat
+  pub holds : Holds s scene seat.device seat.signer seat.client
 
 pub record IsRogueOf (s : Setup) (scene : Scene) (rogue : Rogue) : Type 0 where
-  pub asked : rogue.asked ≡ scene.asked rogue.member
-  pub signer : IsSignerOf s scene rogue.member rogue.signer
+  pub asked : rogue.asked ≡ scene.asked rogue.device
+  pub signer : IsSignerOf s scene rogue.device rogue.signer
 
 -- ---- the state
 
@@ -81,8 +83,8 @@ pub record StandsFor (script : List PlayLine) (scene : Scene) (state : PlayState
   pub cast : IsCastOf (setup_of script) state.cast
   pub seats : AllByRecursion (IsSeatOf (setup_of script) scene) state.seats.items
   pub rogues : AllByRecursion (IsRogueOf (setup_of script) scene) state.rogues.items
-  pub seated : seated state.seats.items ≡ (setup_of script).members
-  pub rogue_numbers : rogue_numbers state.rogues.items ≡ rogues_of script
+  pub seated : seated state.seats.items ≡ (setup_of script).devices
+  pub rogue_devices : rogue_devices state.rogues.items ≡ rogues_of script
   pub declared : AreDeclared script
   pub made : map (λ bytes. bytes.items) state.made.items ≡ scene.made
 
@@ -97,19 +99,19 @@ pub record HasSameMembers (old new : PlayState) : Type 0 where
 
 -- those whom a command names take part
 abbrev pub IsCast : PlayState → Command → Type 0
-IsCast state (commands.Edit e) = Contains (seated state.seats.items) e.member
-IsCast state (commands.Change e) = Contains (seated state.seats.items) e.member
-IsCast state (commands.Discard m) = Contains (seated state.seats.items) m
-IsCast state (commands.Submit m) = Contains (seated state.seats.items) m
-IsCast state (commands.Give g) = Contains (seated state.seats.items) g.member
-IsCast state (commands.Restart r) = Contains (seated state.seats.items) r.member
-IsCast state (commands.Join j) = Contains (seated state.seats.items) j.member × IsGenesis state.genesis
-IsCast state (commands.Show m) = Contains (seated state.seats.items) m
-IsCast state (commands.Members m) = Contains (seated state.seats.items) m
-IsCast state (commands.Hash m) = Contains (seated state.seats.items) m
-IsCast state (commands.Journal m) = Contains (seated state.seats.items) m
-IsCast state (commands.Compare p) = Contains (seated state.seats.items) p.first × Contains (seated state.seats.items) p.second
-IsCast state (commands.Sign f) = Contains (rogue_numbers state.rogues.items) f.member × Contains (seated state.seats.items) f.from
+IsCast state (commands.Edit e) = Contains (seated state.seats.items) (first_device e.member)
+IsCast state (commands.Change e) = Contains (seated state.seats.items) (first_device e.member)
+IsCast state (commands.Discard m) = Contains (seated state.seats.items) (first_device m)
+IsCast state (commands.Submit m) = Contains (seated state.seats.items) (first_device m)
+IsCast state (commands.Give g) = Contains (seated state.seats.items) (first_device g.member)
+IsCast state (commands.Restart r) = Contains (seated state.seats.items) (first_device r.member)
+IsCast state (commands.Join j) = Contains (seated state.seats.items) (first_device j.member) × IsGenesis state.genesis
+IsCast state (commands.Show m) = Contains (seated state.seats.items) (first_device m)
+IsCast state (commands.Members m) = Contains (seated state.seats.items) (first_device m)
+IsCast state (commands.Hash m) = Contains (seated state.seats.items) (first_device m)
+IsCast state (commands.Journal m) = Contains (seated state.seats.items) (first_device m)
+IsCast state (commands.Compare p) = Contains (seated state.seats.items) (first_device p.first) × Contains (seated state.seats.items) (first_device p.second)
+IsCast state (commands.Sign f) = Contains (rogue_devices state.rogues.items) (first_device f.member) × Contains (seated state.seats.items) (first_device f.from)
 IsCast state command = ⊤
 
 -- a seat is ready for any call: its count has room, and its client can sign, or else its signer may open one

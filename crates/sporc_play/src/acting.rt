@@ -200,8 +200,8 @@ pub fn submit(seat: &mut Seat, next: u64, out: &mut String) -> Result<Option<Vec
     ensures seat { IfOk result (λ made. HasSubmitted next seat.old (option_map (λ v. v.items) made) seat.new) }
 {
     seat.asked += 1;
-    let random = random_of(seat.member, seat.asked);
-    let member = seat.member;
+    let member = seat.device.member;
+    let random = random_of(member, seat.asked);
     let last = seat.last;
     let Some(client) = &mut seat.client else {
         push_not_open(out, member)?;

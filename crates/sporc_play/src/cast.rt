@@ -4,10 +4,11 @@ ghost use Rattle.std.specs.Prelude.{◌≡◌, ◌≤◌, ◌^◌, [], false, le
 ghost use Rattle.std.specs.List.{list_any};
 ghost use Rattle.lms_leaf.specs.LeafFile.{IsLeafHeight};
 ghost use Rattle.lms_tree.specs.LmsType.{height_of};
-ghost use Rattle.sporc_client.specs.Run.{Setup, key_of_member};
+ghost use Rattle.sporc_client.specs.Run.{Setup, key_of_device};
 ghost use Rattle.sporc_epoch.specs.Keys.{pairs_in};
-ghost use Rattle.sporc_member.specs.Lists.{place_among};
-ghost use Rattle.sporc_member.specs.Roster.{insert_sorted, numbers_of};
+ghost use Rattle.sporc_member.specs.Device.{first_device};
+ghost use Rattle.sporc_member.specs.Lists.{insert_by, place_among};
+ghost use Rattle.sporc_member.specs.Roster.{founder_numbers};
 ghost use Rattle.sporc_play.specs.Cast.{first_ring, genesis_by, is_pair, lms_type_of, member_change, ots_type_of, private_of, tree_of};
 ghost use Rattle.sporc_play.specs.Forged.{IsSmallChange};
 ghost use Rattle.sporc_play.specs.Seats.{AreDrawn};
@@ -22,7 +23,7 @@ use sporc_base::Memory;
 use sporc_entry::{Founders, Genesis};
 use sporc_epoch::{Pairs, Ring};
 use sporc_hash::commit;
-use sporc_member::{Change, Founder};
+use sporc_member::{Change, Device, Founder};
 use sporc_outside::{Calls, MemoryDisk};
 use sporc_script::{Command, Height, Pair, PlayLine, RosterChange, Tree, Width};
 use std::alloc::{AllocError, Global};
@@ -101,16 +102,16 @@ impl Cast {
         self.unpaired.iter().any(|p| is_pair(one, other, p))
     }
 
-    // The public key of a member. None is kept of one who is not declared: it is made anew.
+    // The public key of a member's first device. None is kept of one who is not declared: it is made anew.
     fn key_of(&self, alloc: Global, member: u16) -> Result<[u8; 56], Memory>
-        ensures value { IfOk result (λ key. (s : Setup) → IsCastOf s self.now → key ≡ key_of_member s member) }
+        ensures value { IfOk result (λ key. (s : Setup) → IsCastOf s self.now → key ≡ key_of_device s (first_device member)) }
     {
         for one in &self.declared {
             if one.member == member {
                 return Ok(one.key);
             }
         }
-        let signer = signer_of(alloc, self.tree, member)?;
+        let signer = signer_of(alloc, self.tree, Device::first(member))?;
         let key = signer.public().to_bytes();
         drop(signer);
         Ok(key)
@@ -164,15 +165,15 @@ pub fn tree_of(lines: &[PlayLine]) -> Tree
     }
 }
 
-/// A member's signer, with a blank leaf file.
-pub fn signer_of(alloc: Global, tree: Tree, member: u16) -> Result<Signer<MemoryDisk>, Memory>
-    ensures key { IfOk result (λ signer. signer.key ≡ private_of tree member) }
-    ensures undrawn { IfOk result (λ signer. AreDrawn (private_of tree member) 0 signer.leaves) }
+/// A device's signer, with a blank leaf file.
+pub fn signer_of(alloc: Global, tree: Tree, device: Device) -> Result<Signer<MemoryDisk>, Memory>
+    ensures key { IfOk result (λ signer. signer.key ≡ private_of tree device) }
+    ensures undrawn { IfOk result (λ signer. AreDrawn (private_of tree device) 0 signer.leaves) }
 {
     let lms = lms_type_of(tree.height);
     let ots = ots_type_of(tree.width);
     let leaves = blank_leaves(alloc, lms.height())?;
-    match SignatureTree::build(alloc, &seed_of(member), &identifier_of(member), lms, ots) {
+    match SignatureTree::build(alloc, &seed_of(device), &identifier_of(device), lms, ots) {
         Ok(tree) => Ok(Signer::open(tree, leaves)),
         Err(memory) => {
             drop(leaves);
@@ -227,7 +228,7 @@ pub fn first_ring(alloc: Global) -> Result<Ring, Memory>
 /// Adds a founder before the first whose number is above its own.
 #[tactic(auto, using(crate::proofs::Rosters::put_in_place))]
 pub fn insert_founder(founders: &mut Vec<Founder>, founder: Founder) -> Result<(), Memory>
-    ensures ok { OnOk result (founders.new.items ≡ insert_sorted founder founders.old.items) }
+    ensures ok { OnOk result (founders.new.items ≡ insert_by (λ f. f.member) founder founders.old.items) }
 {
     let place = place_of(founders.as_slice(), &founder);
     founders.insert(place, founder)?;
@@ -238,7 +239,7 @@ pub fn insert_founder(founders: &mut Vec<Founder>, founder: Founder) -> Result<(
 #[tactic(auto, using(crate::proofs::Rosters::place_step))]
 fn place_of(founders: &[Founder], founder: &Founder) -> usize
     ensures within { result ≤ length founders.now }
-    ensures value { result ≡ place_among founder.now.member (numbers_of founders.now) }
+    ensures value { result ≡ place_among founder.now.member (founder_numbers founders.now) }
 {
     for (i, other) in founders.iter().enumerate() {
         if founder.member < other.member {

@@ -1,10 +1,11 @@
-//! The values that a play derives for the members of its script, all of them by SHA-256.
+//! The values that a play derives for the members of its script and their devices, all of them by SHA-256.
 
 ghost use Rattle.std.specs.Prelude.{◌≡◌, take};
 ghost use Rattle.sporc_play.specs.Derived.{derived, document_number, first_key, identifier_of, pair_key, random_of, seed_of};
 
 use sha2::{Digest, Sha256};
 use sporc_base::put_at;
+use sporc_member::Device;
 
 // A value of some kind, by a member and a number.
 fn derived(kind: u8, member: u16, number: u32) -> [u8; 32]
@@ -26,18 +27,18 @@ fn first_half(value: &[u8; 32]) -> [u8; 16]
     half
 }
 
-/// The seed of a member's signature tree.
-pub fn seed_of(member: u16) -> [u8; 32]
-    ensures value { result ≡ seed_of member }
+/// The seed of a device's signature tree.
+pub fn seed_of(device: Device) -> [u8; 32]
+    ensures value { result ≡ seed_of device }
 {
-    derived(1, member, 0)
+    derived(1, device.member, u32::from(device.number))
 }
 
-/// The identifier of a member's signature tree.
-pub fn identifier_of(member: u16) -> [u8; 16]
-    ensures value { result ≡ identifier_of member }
+/// The identifier of a device's signature tree.
+pub fn identifier_of(device: Device) -> [u8; 16]
+    ensures value { result ≡ identifier_of device }
 {
-    first_half(&derived(2, member, 0))
+    first_half(&derived(2, device.member, u32::from(device.number)))
 }
 
 /// The key that two members share.

@@ -1,14 +1,16 @@
 //! The entries that a script signs for rogues: as a client's history says, but for what the script says otherwise.
 
-ghost use Rattle.std.specs.Prelude.{◌≡◌, ℕ, ◌+◌, ◌<◌, ◌≤◌, ◌^◌, ◌==◌, not, List, filter, length, map, Option, IfOk, OnOk, option_map};
+ghost use Rattle.std.specs.Prelude.{◌≡◌, ℕ, ◌+◌, ◌<◌, ◌≤◌, ◌^◌, ◌==◌, true, not, List, filter, length, map, Option, IfOk, OnOk, option_map};
 ghost use Rattle.std.specs.Option.{option_to_list};
 ghost use Rattle.lms_tree.specs.LmsType.{height_of};
 ghost use Rattle.sporc_client.specs.ClientModel.{state_of};
 ghost use Rattle.sporc_client.specs.Run.{Setup};
 ghost use Rattle.sporc_entry.specs.ChangeBody.{change_body_bytes};
 ghost use Rattle.sporc_entry.specs.Entry.{entry_bytes, signed_string};
+ghost use Rattle.sporc_entry.specs.Version.{fits_version};
 ghost use Rattle.sporc_epoch.specs.Keys.{pairs_in};
 ghost use Rattle.sporc_head.specs.History.{roster_of};
+ghost use Rattle.sporc_member.specs.Device.{first_device};
 ghost use Rattle.sporc_member.specs.declared.limits.TheConstants.{MAX_MEMBERS};
 ghost use Rattle.sporc_script.specs.declared.sign.Suffix.{Suffix};
 ghost use Rattle.sporc_script.specs.declared.sign.What.TheVariants as whats;
@@ -28,10 +30,11 @@ use sporc_cipher::mask;
 use sporc_client::{first_half, second_half};
 use sporc_delta::Delta;
 use sporc_entry::{
-    CHANGE, ChangeBody, EDIT, Entry, Header, Wrap, Wraps, signed_part, write_change, write_entry,
+    CHANGE, ChangeBody, EDIT, Entry, FIRST_VERSION, Header, Wrap, Wraps, signed_part, write_change,
+    write_entry,
 };
-use sporc_epoch::{Pairs, SealFault, entry_stream, seal_change};
-use sporc_member::Change;
+use sporc_epoch::{Pairs, SealFault, seal_change_at, stream_of};
+use sporc_member::{Change, FIRST_DEVICE};
 use sporc_outside::MemoryDisk;
 use sporc_script::{Forgery, Insertion, Suffix, What};
 use std::alloc::{AllocError, Global};
@@ -48,7 +51,7 @@ pub fn forge(
 ) -> Result<Option<Vec<u8>>, Memory>
     requires short { what_size forgery.now.signed.what ≤ MAX_SCRIPT }
     requires leaves { AreDrawn signer.old.key signer.old.leaves.next signer.old.leaves }
-    ensures entry { IfOk result (λ made. (s : Setup) → signer.old.key ≡ s.private forgery.now.member → IsCastOf s cast.now
+    ensures entry { IfOk result (λ made. (s : Setup) → signer.old.key ≡ s.private (first_device forgery.now.member) → IsCastOf s cast.now
         → option_map (λ v. v.items) made
         ≡ forged_entry s (state_of client.now) forgery.now t (leaf_after signer.old.key signer.old.leaves.next)) }
     ensures key { signer.new.key ≡ signer.old.key }
@@ -77,7 +80,7 @@ fn sign_with(
 ) -> Result<Vec<u8>, Memory>
     requires short { what_size forgery.now.signed.what ≤ MAX_SCRIPT }
     requires can_sign { ticket < 2 ^ height_of signer.old.key.lms }
-    ensures entry { IfOk result (λ bytes. (s : Setup) → signer.old.key ≡ s.private forgery.now.member → IsCastOf s cast.now
+    ensures entry { IfOk result (λ bytes. (s : Setup) → signer.old.key ≡ s.private (first_device forgery.now.member) → IsCastOf s cast.now
         → bytes.items ≡ signed_by s (state_of client.now) forgery.now random.now ticket) }
     ensures unchanged { signer.new ≡ signer.old }
 {
@@ -112,6 +115,7 @@ fn unsigned_by(
     requires { what_size forgery.now.signed.what ≤ MAX_SCRIPT }
     ensures entry { IfOk result (λ draft. (s : Setup) → IsCastOf s cast.now → draft.0 ≡ unsigned_by s (state_of client.now) forgery.now random.now leaf) }
     ensures message { IfOk result (λ draft. draft.1.items ≡ signed_string draft.0) }
+    ensures version { IfOk result (λ draft. fits_version draft.0.header.version draft.0.header.device ≡ true) }
     ensures short { IfOk result (λ draft. length draft.0.body < 2 ^ 32) }
 {
     let header = forged_header(client, forgery, leaf);
@@ -128,6 +132,7 @@ fn unsigned_by(
 
 // The bytes of an entry with this signature.
 fn with_signature(alloc: Global, mut entry: Entry, signature: Vec<u8>) -> Result<Vec<u8>, Memory>
+    requires version { fits_version entry.header.version entry.header.device ≡ true }
     requires body { length entry.body < 2 ^ 32 }
     requires signature { length signature.items < 2 ^ 32 }
     ensures { IfOk result (λ bytes. bytes.items ≡ entry_bytes (record entry { signature = signature.items })) }
@@ -146,9 +151,11 @@ fn forged_header(client: &PlayClient, forgery: &Forgery, leaf: u32) -> Header
     let suffix = forgery.signed.suffix;
     let base = base_by(suffix, heads.len());
     Header {
+        version: FIRST_VERSION,
         document: heads.genesis().document,
         author: forgery.member,
-        number: number_by(suffix, heads.count_of(forgery.member) + 1),
+        device: FIRST_DEVICE,
+        number: number_by(suffix, heads.count_of(forgery.member, FIRST_DEVICE) + 1),
         base,
         base_hash: value_at(client, base),
         epoch: epoch_by(suffix, heads.epoch()),
@@ -256,8 +263,7 @@ fn masked(client: &PlayClient, header: &Header, mut payload: Vec<u8>) -> Vec<u8>
     ensures size { length result.items ≡ length payload.items }
 {
     let key = key_there(client);
-    let stream = entry_stream(header.author, header.leaf);
-    mask(&key, stream, payload.as_mut_slice());
+    mask(&key, stream_of(header), payload.as_mut_slice());
     payload
 }
 
@@ -326,13 +332,13 @@ fn sealed(
     let _count = heads.len();
     let members = sealed_for(alloc, client, change)?;
     let pairs = pairs_with(alloc, header.author, members.as_slice())?;
-    match seal_change(
+    match seal_change_at(
         alloc,
         change,
         members.as_slice(),
         &heads.genesis().document,
         header.author,
-        header.leaf,
+        stream_of(header),
         heads.epoch(),
         old_key,
         new_key,

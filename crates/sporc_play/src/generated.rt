@@ -5,6 +5,7 @@ ghost use Rattle.std.specs.Fmt.{decimal};
 ghost use Rattle.sporc_outside.specs.Uses.{sink_use};
 ghost use Rattle.sporc_client.specs.ClientModel.{state_of};
 ghost use Rattle.sporc_client.specs.PlainClient.{shown_of};
+ghost use Rattle.sporc_member.specs.Device.{first_device};
 ghost use Rattle.sporc_play.specs.Batches.{AreOpen, HasRoom, IsAsked, Performs};
 ghost use Rattle.sporc_play.specs.Generated.{AreSame, IsVerdict, Summarizes, batch, edits, founds, generated_cast, generated_scene, gives, inserts, removes, seen_len, submits, summary_line, up_to};
 ghost use Rattle.sporc_play.specs.Playing.{GeneratedFault, PlaysGenerated};
@@ -17,7 +18,7 @@ use crate::state::PlayState;
 use sporc_base::{Memory, is_same as is_same_bytes};
 use sporc_delta::Text;
 use sporc_hash::Digest32;
-use sporc_member::Role;
+use sporc_member::{Device, Role};
 use sporc_outside::{Sink, write_all};
 use sporc_report::{last_hash, push_digits};
 use sporc_script::{
@@ -232,10 +233,10 @@ fn insertion(alloc: Global, batch: u64, author: u64, len: u64) -> Result<TextEdi
 fn shown_len(state: &PlayState, member: u16) -> u64
     requires member { IsAsked member }
     requires room { HasRoom 1 state.now }
-    ensures value { (scene : Scene) → StandsFor generated_cast scene state.now → result ≡ seen_len (scene.world.clients member) }
+    ensures value { (scene : Scene) → StandsFor generated_cast scene state.now → result ≡ seen_len (scene.world.clients (first_device member)) }
     ensures small { result < 2 ^ 63 }
 {
-    match state.client(member) {
+    match state.client(Device::first(member)) {
         Some(client) => len_of_shown(client),
         None => 0,
     }
@@ -280,9 +281,9 @@ fn summary(alloc: Global, state: &PlayState) -> Result<String, Memory>
 fn open_client(state: &PlayState, member: u16) -> &PlayClient
     requires member { IsAsked member }
     requires open { AreOpen state.now }
-    ensures { (scene : Scene) → StandsFor generated_cast scene state.now → scene.world.clients member ≡ Some (state_of result.now) }
+    ensures { (scene : Scene) → StandsFor generated_cast scene state.now → scene.world.clients (first_device member) ≡ Some (state_of result.now) }
 {
-    match state.client(member) {
+    match state.client(Device::first(member)) {
         Some(client) => client,
         None => unreachable!(),
     }

@@ -18,6 +18,7 @@ use sporc_base::Memory;
 use sporc_entry::Genesis;
 use sporc_epoch::{HintFault, Ring, hints_from};
 use sporc_line::LineOpenFault;
+use sporc_member::Device;
 use sporc_report::{push_hint_fault, push_open_fault, push_start};
 use sporc_script::Join;
 use std::alloc::Global;
@@ -35,11 +36,11 @@ pub fn join(
     requires genesis { IsGenesis genesis.now }
     requires signer { seat.old.client ≡ None → IsSome seat.old.signer }
     ensures line { OnOk result ((s : Setup) → IsCastOf s cast.now → genesis.now ≡ s.genesis → string_bytes out.new
-        ≡ string_bytes out.old ++ join_line s seat.old.member (entries_at (map (λ v. v.items) made.now) join.now.entries) (option_map state_of seat.old.client)) }
+        ≡ string_bytes out.old ++ join_line s seat.old.device (entries_at (map (λ v. v.items) made.now) join.now.entries) (option_map state_of seat.old.client)) }
     ensures seat { OnOk result ((s : Setup) → IsCastOf s cast.now → genesis.now ≡ s.genesis
         → seat.new ≡ seat_joined s seat.old (entries_at (map (λ v. v.items) made.now) join.now.entries) seat.old.client) }
 {
-    let member = seat.member;
+    let member = seat.device.member;
     if seat.client.is_some() {
         return push_start(out, member, " already open\n");
     }
@@ -61,28 +62,28 @@ fn join_by(
     requires genesis { IsGenesis genesis.now }
     requires signer { IsSome seat.old.signer }
     ensures line { OnOk result ((s : Setup) → IsCastOf s cast.now → genesis.now ≡ s.genesis → string_bytes out.new
-        ≡ string_bytes out.old ++ hints_line s seat.old.member (hints_of (map (λ v. v.items) entries.now) seat.old.member (s.pairs seat.old.member))) }
+        ≡ string_bytes out.old ++ hints_line s seat.old.device.member (hints_of (map (λ v. v.items) entries.now) seat.old.device.member (s.pairs seat.old.device))) }
     ensures seat { OnOk result ((s : Setup) → IsCastOf s cast.now → genesis.now ≡ s.genesis
-        → seat.new ≡ seat_by s seat.old (hints_of (map (λ v. v.items) entries.now) seat.old.member (s.pairs seat.old.member))) }
+        → seat.new ≡ seat_by s seat.old (hints_of (map (λ v. v.items) entries.now) seat.old.device.member (s.pairs seat.old.device))) }
 {
-    match hints_for(alloc, cast, entries, seat.member) {
+    match hints_for(alloc, cast, entries, seat.device) {
         Ok(ring) => open_with(alloc, cast, genesis, seat, ring, out),
-        Err(fault) => push_no_hints(out, seat.member, fault),
+        Err(fault) => push_no_hints(out, seat.device.member, fault),
     }
 }
 
-// The hints that these entries give a member.
+// The hints that these entries give a device.
 fn hints_for(
     alloc: Global,
     cast: &Cast,
     entries: &[Vec<u8>],
-    member: u16,
+    device: Device,
 ) -> Result<Ring, HintFault>
     ensures { (s : Setup) → IsCastOf s cast.now
-        → GivesUnless HintFault.Memory (λ ring. ring.keys) result (hints_of (map (λ v. v.items) entries.now) member (s.pairs member)) }
+        → GivesUnless HintFault.Memory (λ ring. ring.keys) result (hints_of (map (λ v. v.items) entries.now) device.member (s.pairs device)) }
 {
-    let pairs = cast.pairs_of(alloc, member)?;
-    hints_from(alloc, entries, member, &pairs)
+    let pairs = cast.pairs_of(alloc, device.member)?;
+    hints_from(alloc, entries, device.member, &pairs)
 }
 
 // Opens a joiner's client with a ring.
@@ -97,10 +98,10 @@ fn open_with(
     requires genesis { IsGenesis genesis.now }
     requires signer { IsSome seat.old.signer }
     ensures line { OnOk result ((s : Setup) → IsCastOf s cast.now → genesis.now ≡ s.genesis → string_bytes out.new
-        ≡ string_bytes out.old ++ hints_line s seat.old.member (Ok ring.keys)) }
+        ≡ string_bytes out.old ++ hints_line s seat.old.device.member (Ok ring.keys)) }
     ensures seat { OnOk result ((s : Setup) → IsCastOf s cast.now → genesis.now ≡ s.genesis → seat.new ≡ seat_by s seat.old (Ok ring.keys)) }
 {
-    let member = seat.member;
+    let member = seat.device.member;
     match open_seat(alloc, cast, genesis, ring, seat) {
         Ok(()) => push_start(out, member, " join ok\n"),
         Err(fault) => push_not_opened(out, member, fault),

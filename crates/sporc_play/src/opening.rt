@@ -3,7 +3,9 @@
 ghost use Rattle.std.specs.Prelude.{◌≡◌, List, ◌∷◌, ◌++◌, [], IfOk, OnOk};
 ghost use Rattle.sporc_client.specs.Run.{Setup};
 ghost use Rattle.sporc_entry.specs.Genesis.{IsGenesis};
-ghost use Rattle.sporc_member.specs.Roster.{insert_sorted};
+ghost use Rattle.sporc_member.specs.declared.device.Device.{Device};
+ghost use Rattle.sporc_member.specs.Device.{first_device};
+ghost use Rattle.sporc_member.specs.Lists.{insert_by};
 ghost use Rattle.sporc_play.specs.Cast.{first_ring, public_of};
 ghost use Rattle.sporc_play.specs.Joined.{seat_open};
 ghost use Rattle.sporc_play.specs.Opening.{HasRogue, HasSat, HaveDeclared, IsNamed};
@@ -13,7 +15,7 @@ use crate::cast::{Cast, Declared, first_ring, insert_founder, signer_of};
 use crate::seat::{Rogue, Seat, open_seat};
 use sporc_base::Memory;
 use sporc_entry::Genesis;
-use sporc_member::Founder;
+use sporc_member::{Device, Founder};
 use sporc_script::{Command, MemberRole, PlayLine, Tree};
 use std::alloc::{AllocError, Global};
 
@@ -56,18 +58,19 @@ fn sit(
     seats: &mut Vec<Seat>,
     member: u16,
 ) -> Result<[u8; 56], Memory>
-    ensures key { IfOk result (λ key. key ≡ public_of cast.old.tree member) }
-    ensures seats { OnOk result (HasSat cast.old.tree member seats.old.items seats.new.items) }
+    ensures key { IfOk result (λ key. key ≡ public_of cast.old.tree (first_device member)) }
+    ensures seats { OnOk result (HasSat cast.old.tree (first_device member) seats.old.items seats.new.items) }
     ensures named { OnOk result (IsNamed member cast.old cast.new) }
 {
-    let signer = signer_of(alloc, cast.tree, member)?;
+    let device = Device::first(member);
+    let signer = signer_of(alloc, cast.tree, device)?;
     let key = signer.public().to_bytes();
     if let Err(failed) = cast.declared.push(Declared { member, key }) {
         drop(signer);
         return Err(failed.into());
     }
     seats.push(Seat {
-        member,
+        device,
         asked: 0,
         last: 0,
         signer: Some(signer),
@@ -83,18 +86,19 @@ fn employ(
     rogues: &mut Vec<Rogue>,
     member: u16,
 ) -> Result<[u8; 56], Memory>
-    ensures key { IfOk result (λ key. key ≡ public_of cast.old.tree member) }
-    ensures rogues { OnOk result (HasRogue cast.old.tree member rogues.old.items rogues.new.items) }
+    ensures key { IfOk result (λ key. key ≡ public_of cast.old.tree (first_device member)) }
+    ensures rogues { OnOk result (HasRogue cast.old.tree (first_device member) rogues.old.items rogues.new.items) }
     ensures named { OnOk result (IsNamed member cast.old cast.new) }
 {
-    let signer = signer_of(alloc, cast.tree, member)?;
+    let device = Device::first(member);
+    let signer = signer_of(alloc, cast.tree, device)?;
     let key = signer.public().to_bytes();
     if let Err(failed) = cast.declared.push(Declared { member, key }) {
         drop(signer);
         return Err(failed.into());
     }
     rogues.push(Rogue {
-        member,
+        device,
         asked: 0,
         signer,
     })?;
@@ -103,7 +107,7 @@ fn employ(
 
 // A founder with this key, in the order of the numbers.
 fn found(cast: &mut Cast, founder: &MemberRole, key: [u8; 56]) -> Result<(), Memory>
-    ensures founders { OnOk result (cast.new.founders.items ≡ insert_sorted (record { member = founder.now.member; role = founder.now.role; key = key }) cast.old.founders.items) }
+    ensures founders { OnOk result (cast.new.founders.items ≡ insert_by (λ f. f.member) (record { member = founder.now.member; role = founder.now.role; key = key }) cast.old.founders.items) }
     ensures tree { cast.new.tree ≡ cast.old.tree }
     ensures declared { cast.new.declared.items ≡ cast.old.declared.items }
     ensures unpaired { cast.new.unpaired.items ≡ cast.old.unpaired.items }

@@ -1,4 +1,4 @@
-//! Members with their clients, and rogues with their signers.
+//! Devices of members with their clients, and rogues with their signers.
 
 ghost use Rattle.std.specs.FinMap.{get};
 ghost use Rattle.std.specs.Option.{option_copied};
@@ -8,7 +8,7 @@ ghost use Rattle.sporc_client.specs.Run.{Setup};
 ghost use Rattle.sporc_entry.specs.Genesis.{IsGenesis};
 ghost use Rattle.sporc_line.specs.Openings.{open_checks};
 ghost use Rattle.sporc_play.specs.Joined.{seat_open};
-ghost use Rattle.sporc_play.specs.Seats.{IsRogueAt, IsSeatAt, rogue_numbers, seated};
+ghost use Rattle.sporc_play.specs.Seats.{IsRogueAt, IsSeatAt, rogue_devices, seated};
 ghost use Rattle.sporc_play.specs.Stage.{IsCastOf};
 
 use crate::cast::Cast;
@@ -17,16 +17,17 @@ use sporc_client::Client;
 use sporc_entry::Genesis;
 use sporc_epoch::Ring;
 use sporc_line::LineOpenFault;
+use sporc_member::Device;
 use sporc_outside::MemoryDisk;
 use std::alloc::Global;
 
-/// The client of a play's member. Its leaf file is in memory.
+/// The client of a device. Its leaf file is in memory.
 pub type PlayClient = Client<MemoryDisk>;
 
-/// A member, or one who may join. It has a signer until its client opens, and the client from then on.
+/// A device of a member, or of one who may join. It has a signer until its client opens, and the client from then on.
 #[derive(Drop)]
 pub struct Seat {
-    pub member: u16,
+    pub device: Device,
     /// How often it was to submit.
     pub asked: u32,
     /// The number of the entry that it made last, 0 if it made none.
@@ -38,19 +39,19 @@ pub struct Seat {
 /// One without a client, for whom the script signs.
 #[derive(Drop)]
 pub struct Rogue {
-    pub member: u16,
+    pub device: Device,
     /// How often it was to sign.
     pub asked: u32,
     pub signer: Signer<MemoryDisk>,
 }
 
-/// The place of a member's seat.
-pub fn seat_at(seats: &[Seat], member: u16) -> usize
-    requires seated { Contains (seated seats.now) member }
-    ensures value { (seat : Seat) × IsSeatAt seats.now result member seat }
+/// The place of a device's seat.
+pub fn seat_at(seats: &[Seat], device: Device) -> usize
+    requires seated { Contains (seated seats.now) device }
+    ensures value { (seat : Seat) × IsSeatAt seats.now result device seat }
 {
     for (i, seat) in seats.iter().enumerate() {
-        if seat.member == member {
+        if seat.device.is(device) {
             return i;
         }
     }
@@ -58,24 +59,24 @@ pub fn seat_at(seats: &[Seat], member: u16) -> usize
 }
 
 /// The place of a rogue.
-pub fn rogue_at(rogues: &[Rogue], member: u16) -> usize
-    requires rogue { Contains (rogue_numbers rogues.now) member }
-    ensures value { (rogue : Rogue) × IsRogueAt rogues.now result member rogue }
+pub fn rogue_at(rogues: &[Rogue], device: Device) -> usize
+    requires rogue { Contains (rogue_devices rogues.now) device }
+    ensures value { (rogue : Rogue) × IsRogueAt rogues.now result device rogue }
 {
     for (i, rogue) in rogues.iter().enumerate() {
-        if rogue.member == member {
+        if rogue.device.is(device) {
             return i;
         }
     }
     unreachable!()
 }
 
-/// The client of a member, if it is open.
-pub fn client_of(seats: &[Seat], member: u16) -> Option<&PlayClient>
-    requires seated { Contains (seated seats.now) member }
-    ensures value { (i : ℕ) × (seat : Seat) × IsSeatAt seats.now i member seat × (option_copied result ≡ seat.client) }
+/// The client of a device, if it is open.
+pub fn client_of(seats: &[Seat], device: Device) -> Option<&PlayClient>
+    requires seated { Contains (seated seats.now) device }
+    ensures value { (i : ℕ) × (seat : Seat) × IsSeatAt seats.now i device seat × (option_copied result ≡ seat.client) }
 {
-    let i = seat_at(seats, member);
+    let i = seat_at(seats, device);
     seats[i].client.as_ref()
 }
 
@@ -93,12 +94,21 @@ pub fn open_seat(
     ensures ok { OnOk result ((s : Setup) → IsCastOf s cast.now → genesis.now ≡ s.genesis → seat.new ≡ seat_open s ring.keys seat.old seat.old.signer) }
     ensures err { IfErr result (λ fault. fault ≢ LineOpenFault.Memory → seat.new ≡ seat.old) }
 {
-    let pairs = cast.pairs_of(alloc, seat.member)?;
+    let device = seat.device;
+    let pairs = cast.pairs_of(alloc, device.member)?;
     let genesis = genesis.copy()?;
     let Some(signer) = seat.signer.take() else {
         unreachable!()
     };
-    match Client::open(alloc, genesis, seat.member, ring, pairs, signer) {
+    match Client::open(
+        alloc,
+        genesis,
+        device.member,
+        device.number,
+        ring,
+        pairs,
+        signer,
+    ) {
         Ok(client) => {
             drop(seat.client.replace(client));
             Ok(())

@@ -3,6 +3,7 @@
 ghost use Rattle.std.specs.Prelude.{◌≡◌, ◌+◌, ◌<◌, ◌≤◌, ◌^◌, ◌++◌, IfOk, OnOk, option_map, string_bytes};
 ghost use Rattle.std.specs.Option.{option_copied};
 ghost use Rattle.sporc_client.specs.Run.{Setup};
+ghost use Rattle.sporc_member.specs.Device.{first_device};
 ghost use Rattle.sporc_play.specs.declared.playing.TheConstants.{MAX_SCRIPT};
 ghost use Rattle.sporc_play.specs.Scene.{what_size};
 ghost use Rattle.sporc_play.specs.Seats.{AreDrawn};
@@ -31,9 +32,9 @@ pub fn sign(
     requires asked { rogue.old.asked + 1 < 2 ^ 32 }
     requires leaves { AreDrawn rogue.old.signer.key rogue.old.signer.leaves.next rogue.old.signer.leaves }
     requires short { what_size forgery.now.signed.what ≤ MAX_SCRIPT }
-    ensures entry { IfOk result (λ made. (s : Setup) → rogue.old.signer.key ≡ s.private forgery.now.member → IsCastOf s cast.now
+    ensures entry { IfOk result (λ made. (s : Setup) → rogue.old.signer.key ≡ s.private (first_device forgery.now.member) → IsCastOf s cast.now
         → option_map (λ v. v.items) made ≡ forged_by s forgery.now rogue.old (option_copied client.entry)) }
-    ensures line { OnOk result ((s : Setup) → rogue.old.signer.key ≡ s.private forgery.now.member → IsCastOf s cast.now
+    ensures line { OnOk result ((s : Setup) → rogue.old.signer.key ≡ s.private (first_device forgery.now.member) → IsCastOf s cast.now
         → string_bytes out.new ≡ string_bytes out.old ++ signing_line forgery.now next rogue.old (option_copied client.entry)) }
     ensures rogue { IfOk result (λ made. HasSigned rogue.old (option_map (λ v. v.items) made) rogue.new) }
 {

@@ -4,6 +4,7 @@ ghost use Rattle.std.specs.Option.{option_copied, option_to_list};
 ghost use Rattle.std.specs.Prelude.{◌≡◌, ℕ, ◌+◌, ◌<◌, [], ◌∷◌, ◌++◌, length, Contains, IfOk, OnOk, List, get_or, map as map_, None, Some, option_map, set, slice_get, string_bytes};
 ghost use Rattle.std.specs.List.{list_any};
 ghost use Rattle.sporc_entry.specs.Genesis.{IsGenesis};
+ghost use Rattle.sporc_member.specs.Device.{first_device};
 ghost use Rattle.sporc_member.specs.Role.{is_admin};
 ghost use Rattle.sporc_script.specs.declared.member_role.MemberRole.{MemberRole};
 ghost use Rattle.sporc_play.specs.Report.{entry_line, flipped_line};
@@ -19,6 +20,7 @@ use crate::{acting, joining, signing};
 use sporc_base::Memory;
 use sporc_entry::Genesis;
 use sporc_hash::compare;
+use sporc_member::Device;
 use sporc_report::{push_hash, push_journal, push_members, push_show, push_verdict};
 use sporc_script::{Command, Edit, Flip, Forgery, Give, Join, Pair, PlayLine, Restart, RosterEdit};
 use std::alloc::Global;
@@ -91,14 +93,14 @@ impl PlayState {
     // Opens the client of a founder, if the line declares one.
     fn open_by(&mut self, alloc: Global, line: &PlayLine) -> Result<(), Memory>
         requires genesis { IsGenesis self.old.genesis }
-        requires seated { (m : MemberRole) → line.now.command ≡ Command.Member m → Contains (seated self.old.seats.items) m.member }
+        requires seated { (m : MemberRole) → line.now.command ≡ Command.Member m → Contains (seated self.old.seats.items) (first_device m.member) }
         ensures stands { OnOk result ((script : List PlayLine) (i : ℕ) → i < length script → line.now ≡ get_or script i line.now
             → StandsFor script (scene_opened script i) self.old → StandsFor script (scene_opened script (i + 1)) self.new) }
         ensures genesis { self.new.genesis ≡ self.old.genesis }
     {
         match &line.command {
             Command::Member(founder) => {
-                let i = seat_at(self.seats.as_slice(), founder.member);
+                let i = seat_at(self.seats.as_slice(), Device::first(founder.member));
                 open_founder(alloc, &self.cast, &self.genesis, &mut self.seats[i])
             }
             _ => Ok(()),
@@ -140,12 +142,12 @@ impl PlayState {
         }
     }
 
-    /// The client of a member, if it is open.
-    pub fn client(&self, member: u16) -> Option<&PlayClient>
-        requires seated { Contains (seated self.now.seats.items) member }
-        ensures value { (i : ℕ) × (seat : Seat) × IsSeatAt self.now.seats.items i member seat × (option_copied result ≡ seat.client) }
+    /// The client of a device, if it is open.
+    pub fn client(&self, device: Device) -> Option<&PlayClient>
+        requires seated { Contains (seated self.now.seats.items) device }
+        ensures value { (i : ℕ) × (seat : Seat) × IsSeatAt self.now.seats.items i device seat × (option_copied result ≡ seat.client) }
     {
-        client_of(self.seats.as_slice(), member)
+        client_of(self.seats.as_slice(), device)
     }
 
     // ---- commands that act on one client
@@ -155,7 +157,7 @@ impl PlayState {
         ensures state { OnOk result (Becomes self.old (Command.Edit edit.now) self.new) }
         ensures line { OnOk result (AppendsLineOf self.old (Command.Edit edit.now) (string_bytes out.old) (string_bytes out.new)) }
     {
-        let i = seat_at(self.seats.as_slice(), edit.member);
+        let i = seat_at(self.seats.as_slice(), Device::first(edit.member));
         acting::edit(alloc, &mut self.seats[i], edit, out)
     }
 
@@ -165,7 +167,7 @@ impl PlayState {
         ensures line { OnOk result (AppendsLineOf self.old (Command.Change edit.now) (string_bytes out.old) (string_bytes out.new)) }
     {
         let change = self.cast.member_change(alloc, &edit.change)?;
-        let i = seat_at(self.seats.as_slice(), edit.member);
+        let i = seat_at(self.seats.as_slice(), Device::first(edit.member));
         acting::change(&mut self.seats[i], edit.member, change, out)
     }
 
@@ -174,7 +176,7 @@ impl PlayState {
         ensures state { OnOk result (Becomes self.old (Command.Discard member) self.new) }
         ensures line { OnOk result (AppendsLineOf self.old (Command.Discard member) (string_bytes out.old) (string_bytes out.new)) }
     {
-        let i = seat_at(self.seats.as_slice(), member);
+        let i = seat_at(self.seats.as_slice(), Device::first(member));
         acting::discard(&mut self.seats[i], member, out)
     }
 
@@ -183,7 +185,7 @@ impl PlayState {
         ensures state { OnOk result (Becomes self.old (Command.Submit member) self.new) }
         ensures line { OnOk result (AppendsLineOf self.old (Command.Submit member) (string_bytes out.old) (string_bytes out.new)) }
     {
-        let i = seat_at(self.seats.as_slice(), member);
+        let i = seat_at(self.seats.as_slice(), Device::first(member));
         let next = self.made.len() as u64 + 1;
         let made = acting::submit(&mut self.seats[i], next, out)?;
         self.keep_made(made)
@@ -194,7 +196,7 @@ impl PlayState {
         ensures state { OnOk result (Becomes self.old (Command.Give give.now) self.new) }
         ensures line { OnOk result (AppendsLineOf self.old (Command.Give give.now) (string_bytes out.old) (string_bytes out.new)) }
     {
-        let i = seat_at(self.seats.as_slice(), give.member);
+        let i = seat_at(self.seats.as_slice(), Device::first(give.member));
         let entry = entry_at(self.made.as_slice(), give.entry);
         acting::give(alloc, &mut self.seats[i], give, entry, out)
     }
@@ -204,7 +206,7 @@ impl PlayState {
         ensures state { OnOk result (Becomes self.old (Command.Restart restart.now) self.new) }
         ensures line { OnOk result (AppendsLineOf self.old (Command.Restart restart.now) (string_bytes out.old) (string_bytes out.new)) }
     {
-        let i = seat_at(self.seats.as_slice(), restart.member);
+        let i = seat_at(self.seats.as_slice(), Device::first(restart.member));
         acting::restart(&mut self.seats[i], restart, out)
     }
 
@@ -213,7 +215,7 @@ impl PlayState {
         ensures state { OnOk result (Becomes self.old (Command.Join join.now) self.new) }
         ensures line { OnOk result (AppendsLineOf self.old (Command.Join join.now) (string_bytes out.old) (string_bytes out.new)) }
     {
-        let i = seat_at(self.seats.as_slice(), join.member);
+        let i = seat_at(self.seats.as_slice(), Device::first(join.member));
         joining::join(
             alloc,
             &self.cast,
@@ -271,9 +273,9 @@ impl PlayState {
         ensures state { OnOk result (Becomes self.old (Command.Sign forgery.now) self.new) }
         ensures line { OnOk result (AppendsLineOf self.old (Command.Sign forgery.now) (string_bytes out.old) (string_bytes out.new)) }
     {
-        let i = rogue_at(self.rogues.as_slice(), forgery.member);
+        let i = rogue_at(self.rogues.as_slice(), Device::first(forgery.member));
         let next = self.made.len() as u64 + 1;
-        let client = client_of(self.seats.as_slice(), forgery.from);
+        let client = client_of(self.seats.as_slice(), Device::first(forgery.from));
         let rogue = &mut self.rogues[i];
         let made = signing::sign(alloc, rogue, &self.cast, client, forgery, next, out)?;
         self.keep_made(made)
@@ -296,55 +298,55 @@ impl PlayState {
     // ---- commands that only show
 
     fn show(&self, member: u16, out: &mut String) -> Result<(), Memory>
-        requires { Contains (seated self.now.seats.items) member }
+        requires { Contains (seated self.now.seats.items) (first_device member) }
         ensures { OnOk result (AppendsLineOf self.now (Command.Show member) (string_bytes out.old) (string_bytes out.new)) }
     {
-        match self.client(member) {
+        match self.client(Device::first(member)) {
             Some(client) => push_show(out, client),
             None => acting::push_not_open(out, member),
         }
     }
 
     fn members(&self, member: u16, out: &mut String) -> Result<(), Memory>
-        requires { Contains (seated self.now.seats.items) member }
+        requires { Contains (seated self.now.seats.items) (first_device member) }
         ensures { OnOk result (AppendsLineOf self.now (Command.Members member) (string_bytes out.old) (string_bytes out.new)) }
     {
-        match self.client(member) {
+        match self.client(Device::first(member)) {
             Some(client) => push_members(out, client),
             None => acting::push_not_open(out, member),
         }
     }
 
     fn hash(&self, alloc: Global, member: u16, out: &mut String) -> Result<(), Memory>
-        requires { Contains (seated self.now.seats.items) member }
+        requires { Contains (seated self.now.seats.items) (first_device member) }
         ensures { OnOk result (AppendsLineOf self.now (Command.Hash member) (string_bytes out.old) (string_bytes out.new)) }
     {
-        match self.client(member) {
+        match self.client(Device::first(member)) {
             Some(client) => push_hash(alloc, out, client),
             None => acting::push_not_open(out, member),
         }
     }
 
     fn journal(&self, alloc: Global, member: u16, out: &mut String) -> Result<(), Memory>
-        requires { Contains (seated self.now.seats.items) member }
+        requires { Contains (seated self.now.seats.items) (first_device member) }
         ensures { OnOk result (AppendsLineOf self.now (Command.Journal member) (string_bytes out.old) (string_bytes out.new)) }
     {
-        match self.client(member) {
+        match self.client(Device::first(member)) {
             Some(client) => push_journal(alloc, out, client.journal()),
             None => acting::push_not_open(out, member),
         }
     }
 
     fn compare(&self, pair: &Pair, out: &mut String) -> Result<(), Memory>
-        requires first { Contains (seated self.now.seats.items) pair.now.first }
-        requires second { Contains (seated self.now.seats.items) pair.now.second }
+        requires first { Contains (seated self.now.seats.items) (first_device pair.now.first) }
+        requires second { Contains (seated self.now.seats.items) (first_device pair.now.second) }
         requires one_document { AreOfOneDocument self.now }
         ensures { OnOk result (AppendsLineOf self.now (Command.Compare pair.now) (string_bytes out.old) (string_bytes out.new)) }
     {
-        let Some(first) = self.client(pair.first) else {
+        let Some(first) = self.client(Device::first(pair.first)) else {
             return acting::push_not_open(out, pair.first);
         };
-        let Some(second) = self.client(pair.second) else {
+        let Some(second) = self.client(Device::first(pair.second)) else {
             return acting::push_not_open(out, pair.second);
         };
         let verdict = compare(first.hashes(), second.hashes());

@@ -1,5 +1,5 @@
 -- The lines of entries, one after another, and the text that they tell.
-use Rattle.std.proofs.Common.{◌≡◌, ℕ, suc, zero, ◌+◌, ◌-◌, ◌<◌, ◌≤◌, List, [], ◌∷◌, ◌++◌, length, take, drop, map, fold, get_or, Option, None, Some, Result, Ok, Err, refl, sym, ap, ap₂, ◌∙◌, subst, arith, append_assoc, append-nil, length-append}
+use Rattle.std.proofs.Common.{◌≡◌, ℕ, suc, zero, ◌-◌, ◌<◌, ◌≤◌, List, [], ◌∷◌, ◌++◌, length, take, drop, map, fold, get_or, Option, None, Some, Result, Ok, refl, sym, ap, ap₂, ◌∙◌, subst, arith, append_assoc}
 use Rattle.std.specs.List.{slice_get}
 use Rattle.std.specs.Result.{IsOk}
 use Rattle.std.proofs.lemmas.List.{drop_all, length-map}
@@ -10,7 +10,7 @@ use Rattle.sporc_entry.specs.declared.change.ChangeBody.{ChangeBody}
 use Rattle.sporc_entry.specs.declared.genesis.Genesis.{Genesis}
 use Rattle.sporc_entry.specs.Entry.{entry_of, change_of}
 use Rattle.sporc_line.specs.Kit.{Kit}
-use Rattle.sporc_line.specs.Operations.{Operation, What}
+use Rattle.sporc_line.specs.Operations.{Operation}
 use Rattle.sporc_line.specs.Document.{forms_from, forms_of, next_form, text_of}
 use Rattle.sporc_line.specs.Good.{Good}
 use Rattle.sporc_line.proofs.FormLengths.{change_form, forms_take, length-forms}

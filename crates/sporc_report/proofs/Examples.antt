@@ -26,6 +26,11 @@ two_changes : journal_lines (events.Change 1 (changes.Add 4 Reader (0 ∷ 171 �
 unfolding digits encode_with
 two_changes = refl
 
+devices : journal_lines (events.Change 1 changes.Upgrade ∷ events.Change 1 (changes.AddDevice 2 255 (0 ∷ 171 ∷ [])) ∷ events.Change 1 (changes.DropDevice 2 0) ∷ [])
+    ≡ codes "change 1 upgrade\nchange 1 device 2 255 00ab\nchange 1 drop-device 2 0\n"
+unfolding digits encode_with
+devices = refl
+
 a_round : journal_lines (events.Submit 2 (1 ∷ 255 ∷ []) ∷ events.Accept 0 10 ∷ events.Discard 2 ∷ events.Dropped 2 change_faults.LastAdmin ∷ [])
     ≡ codes "submit 2 01ff\naccept 0 10\ndiscard 2\ndropped 2 last-admin\n"
 unfolding digits encode_with
@@ -33,7 +38,7 @@ a_round = refl
 
 -- ---- what a client shows
 
-a_member : member_text (record { member = 2; role = Editor; key = [] }) ≡ codes " 2=editor"
+a_member : member_text (record { member = 2; role = Editor }) ≡ codes " 2=editor"
 unfolding digits
 a_member = refl
 

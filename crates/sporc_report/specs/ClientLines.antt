@@ -6,7 +6,7 @@ use Rattle.sporc_hash.specs.declared.verdict.Verdict.{Verdict}
 use Rattle.sporc_hash.specs.declared.verdict.Verdict.TheVariants.{Same, Prefix, Longer, ForkedAfter}
 use Rattle.sporc_hash.specs.Verdict.{SameTip, TipIsIn, DivergesAfter}
 use Rattle.sporc_head.specs.History.{hash_of, roster_of}
-use Rattle.sporc_member.specs.declared.founder.Founder.{Founder}
+use Rattle.sporc_member.specs.declared.member.Member.{Member}
 use Rattle.sporc_client.specs.Answers.{is_out}
 use Rattle.sporc_client.specs.PlainClient.{PlainClient, shown_of}
 use Rattle.sporc_script.specs.Quoted.{quoted}
@@ -24,12 +24,12 @@ show_line m c =
     decimal m ++ (codes " at " ++ (decimal (length c.entries) ++ (codes " pending " ++ (decimal (length c.pending) ++ (codes " text "
     ++ (quoted (shown_of c) ++ (if_removed (is_out c) ++ codes "\n")))))))
 
-abbrev pub member_text : Founder → List ℕ
-member_text f = codes " " ++ (decimal f.member ++ (codes "=" ++ role_name f.role))
+abbrev pub member_text : Member → List ℕ
+member_text m = codes " " ++ (decimal m.member ++ (codes "=" ++ role_name m.role))
 
-abbrev pub text_of_member : Option Founder → List ℕ
+abbrev pub text_of_member : Option Member → List ℕ
 text_of_member None = []
-text_of_member (Some f) = member_text f
+text_of_member (Some m) = member_text m
 
 abbrev pub members_line : ℕ → PlainClient → List ℕ
 members_line m c = decimal m ++ (codes " members" ++ (flat_map member_text (roster_of c.opening.genesis c.entries).members ++ codes "\n"))

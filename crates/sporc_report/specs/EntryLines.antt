@@ -2,10 +2,11 @@
 use Rattle.std.specs.Prelude.{ℕ, suc, ◌-◌, List, [], ◌∷◌, ◌++◌, codes, drop, Option, None, Some, Result, Ok, Err}
 use Rattle.std.specs.Fmt.{decimal}
 use Rattle.sporc_delta.specs.Marks.{Mark, apply}
+use Rattle.sporc_member.specs.Device.{first_device}
 use Rattle.sporc_entry.specs.declared.entry.Entry.{Entry}
 use Rattle.sporc_entry.specs.declared.change.ChangeBody.{ChangeBody}
 use Rattle.sporc_entry.specs.declared.genesis.Genesis.{Genesis}
-use Rattle.sporc_entry.specs.Entry.{entry_of, change_of}
+use Rattle.sporc_entry.specs.Entry.{author_device, entry_of, change_of}
 use Rattle.sporc_line.specs.Kit.{Kit}
 use Rattle.sporc_line.specs.Operations.{Operation, What, Edited, Changed, Unread}
 use Rattle.sporc_line.specs.Document.{forms_of}
@@ -20,8 +21,8 @@ done_by (Some c) form = Changed c.change
 
 abbrev pub committed_by : Result Entry ℕ → List Mark → Operation
 committed_by (Ok e) form =
-    record { author = e.header.author; number = e.header.number; base = e.header.base; what = done_by (change_of e) form }
-committed_by (Err at) form = record { author = 0; number = 0; base = 0; what = Unread }
+    record { author = author_device e.header; number = e.header.number; base = e.header.base; what = done_by (change_of e) form }
+committed_by (Err at) form = record { author = first_device 0; number = 0; base = 0; what = Unread }
 
 -- entries with their forms
 abbrev pub committed_with : List (List ℕ) → List (List Mark) → List Operation
@@ -53,7 +54,7 @@ what_text Unread = []
 -- position, author, number, base, and what the entry did
 abbrev pub entry_line : ℕ → Operation → List ℕ
 entry_line position o =
-    decimal position ++ (codes " " ++ (decimal o.author ++ (codes " " ++ (decimal o.number ++ (codes " " ++ (decimal o.base
+    decimal position ++ (codes " " ++ (decimal o.author.member ++ (codes " " ++ (decimal o.number ++ (codes " " ++ (decimal o.base
     ++ (codes " " ++ (what_text o.what ++ codes "\n"))))))))
 
 -- a line for each operation, of which the first stands behind so many

@@ -35,6 +35,9 @@ abbrev pub change_text : MemberChange → List ℕ
 change_text (changes.Add member role key) = codes "add " ++ (decimal member ++ (codes " " ++ (role_name role ++ (codes " " ++ encode_lower key))))
 change_text (changes.Remove member) = codes "remove " ++ decimal member
 change_text (changes.SetRole member role) = codes "role " ++ (decimal member ++ (codes " " ++ role_name role))
+change_text (changes.AddDevice member device key) = codes "device " ++ (decimal member ++ (codes " " ++ (decimal device ++ (codes " " ++ encode_lower key))))
+change_text (changes.DropDevice member device) = codes "drop-device " ++ (decimal member ++ (codes " " ++ decimal device))
+change_text changes.Upgrade = codes "upgrade"
 
 abbrev pub event_text : Event → List ℕ
 event_text (events.Edit by seen marks) = codes "edit " ++ (decimal by ++ (codes " " ++ (decimal seen ++ (codes " " ++ delta_text marks))))

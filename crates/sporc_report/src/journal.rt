@@ -85,6 +85,16 @@ pub(crate) fn push_change(alloc: Global, out: &mut String, change: &Change) -> R
         }
         Change::Remove { member } => write!(out, "remove {member}"),
         Change::SetRole { member, role } => push_role(out, "role", *member, *role),
+        Change::AddDevice {
+            member,
+            device,
+            key,
+        } => {
+            write!(out, "device {member} {device} ")?;
+            push_digits(alloc, out, key)
+        }
+        Change::DropDevice { member, device } => write!(out, "drop-device {member} {device}"),
+        Change::Upgrade => out.push_str("upgrade"),
     }
 }
 

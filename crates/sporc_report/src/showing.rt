@@ -23,7 +23,7 @@ use std::fmt::Write;
 
 /// Appends what a member sees.
 pub fn push_show<D: LeafDisk>(out: &mut String, client: &Client<D>) -> Result<(), Memory>
-    ensures ok { OnOk result (string_bytes out.new ≡ string_bytes out.old ++ show_line client.now.opening.kit.me (state_of client.now)) }
+    ensures ok { OnOk result (string_bytes out.new ≡ string_bytes out.old ++ show_line client.now.opening.kit.me.member (state_of client.now)) }
 {
     let member = client.me();
     let at = client.entries().len();
@@ -69,7 +69,7 @@ pub fn push_number(out: &mut String, member: u16, words: &str, number: u64) -> R
 
 /// Appends the members, in ascending order of their numbers.
 pub fn push_members<D: LeafDisk>(out: &mut String, client: &Client<D>) -> Result<(), Memory>
-    ensures ok { OnOk result (string_bytes out.new ≡ string_bytes out.old ++ members_line client.now.opening.kit.me (state_of client.now)) }
+    ensures ok { OnOk result (string_bytes out.new ≡ string_bytes out.old ++ members_line client.now.opening.kit.me.member (state_of client.now)) }
 {
     push_start(out, client.me(), " members")?;
     push_roster(out, client)?;
@@ -110,7 +110,7 @@ pub fn push_hash<D: LeafDisk>(
     out: &mut String,
     client: &Client<D>,
 ) -> Result<(), Memory>
-    ensures ok { OnOk result (string_bytes out.new ≡ string_bytes out.old ++ hash_line client.now.opening.kit.me (state_of client.now)) }
+    ensures ok { OnOk result (string_bytes out.new ≡ string_bytes out.old ++ hash_line client.now.opening.kit.me.member (state_of client.now)) }
 {
     push_start(out, client.me(), " hash ")?;
     push_digits(alloc, out, &last_hash(client))?;

@@ -8,7 +8,7 @@ use sporc_bytes::Out;
 use sporc_cipher::mask;
 use sporc_entry::{ChangeBody, Wrap, Wraps, write_change};
 use sporc_hash::commit;
-use sporc_member::Change;
+use sporc_member::{Change, Device};
 use std::alloc::Global;
 
 /// The bytes of the delta that keeps so many characters and inserts a text behind them.
@@ -27,7 +27,7 @@ pub fn insertion(alloc: Global, keep: u64, text: &[u8]) -> Result<Vec<u8>, Memor
 /// The body of an edit: the bytes of a delta, masked under the key of its epoch.
 pub fn edit_body(
     alloc: Global,
-    author: u16,
+    device: Device,
     leaf: u32,
     epoch: u32,
     delta: &[u8],
@@ -35,17 +35,17 @@ pub fn edit_body(
     let mut body = Vec::from_slice(alloc, delta)?;
     mask(
         &epoch_key(epoch),
-        entry_stream(author, leaf),
+        entry_stream(device, leaf),
         body.as_mut_slice(),
     );
     Ok(body)
 }
 
-/// The body of a change that an author makes in an epoch, with the next key sealed for these members.
+/// The body of a change that a device signs in an epoch, with the next key sealed for these members.
 pub fn change_body(
     alloc: Global,
     change: Change,
-    author: u16,
+    device: Device,
     leaf: u32,
     epoch: u32,
     members: &[u16],
@@ -54,7 +54,7 @@ pub fn change_body(
     let key = epoch_key(next);
     let mut previous = epoch_key(epoch);
     mask(&key, (1 << 60) + u64::from(next), &mut previous);
-    let wraps = wraps_of(alloc, &key, author, leaf, members)?;
+    let wraps = wraps_of(alloc, &key, device, leaf, members)?;
     if wraps.len() > 64 {
         return Err(SampleFault::TooLong);
     }
@@ -71,7 +71,7 @@ pub fn change_body(
 fn wraps_of(
     alloc: Global,
     key: &[u8; 32],
-    author: u16,
+    device: Device,
     leaf: u32,
     members: &[u16],
 ) -> Result<Vec<Wrap>, SampleFault> {
@@ -79,8 +79,8 @@ fn wraps_of(
     for member in members {
         let mut sealed = *key;
         mask(
-            &pair_key(author, *member),
-            entry_stream(author, leaf),
+            &pair_key(device.member, *member),
+            entry_stream(device, leaf),
             &mut sealed,
         );
         wraps.push(Wrap {
@@ -92,6 +92,6 @@ fn wraps_of(
 }
 
 // The number of the stream that masks what an entry holds.
-fn entry_stream(author: u16, leaf: u32) -> u64 {
-    u64::from(author) * (1 << 40) + u64::from(leaf)
+fn entry_stream(device: Device, leaf: u32) -> u64 {
+    u64::from(device.member) * (1 << 40) + u64::from(device.number) * (1 << 32) + u64::from(leaf)
 }

@@ -2,7 +2,7 @@
 
 use crate::fault::SampleFault;
 use crate::member::Member;
-use sporc_entry::{Bytes, Entry, Header, signed_part, write_entry};
+use sporc_entry::{Bytes, Entry, Header, fits_version, signed_part, write_entry};
 use std::alloc::Global;
 
 /// An entry to be signed: whatever stands in its header is signed as it stands.
@@ -32,6 +32,9 @@ impl Draft {
         signer: &Member,
         body: &[u8],
     ) -> Result<Vec<u8>, SampleFault> {
+        if !fits_version(self.header.version, self.header.device) {
+            return Err(SampleFault::NoVersion);
+        }
         if body.len() > 0xffff_ffff {
             return Err(SampleFault::TooLong);
         }

@@ -10,6 +10,8 @@ use thiserror::Error;
 pub enum SampleFault {
     #[error("no member of the cast has that number")]
     NoMember,
+    #[error("no entry of that version can be by that device")]
+    NoVersion,
     #[error("a body is too long")]
     TooLong,
     #[error("the cast can't found a document")]

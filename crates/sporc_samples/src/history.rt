@@ -6,18 +6,20 @@ use crate::bodies::{change_body, edit_body};
 use crate::cast::{Cast, DOCUMENT};
 use crate::draft::Draft;
 use crate::fault::SampleFault;
-use sporc_entry::{CHANGE, EDIT, Genesis, Header, write_genesis};
+use crate::member::Member;
+use sporc_entry::{CHANGE, EDIT, Genesis, Header, version_of, write_genesis};
 use sporc_hash::{Digest32, genesis_hash, next_hash};
-use sporc_member::Change;
+use sporc_member::{Change, Device};
 use std::alloc::Global;
 
 /// The entries of a history of the sample document, with what the header of the next one says.
 #[derive(Drop)]
 pub struct History {
     entries: Vec<Vec<u8>>,
-    authors: Vec<u16>,
+    signers: Vec<Device>,
     hash: Digest32,
     epoch: u32,
+    upgraded: bool,
 }
 
 impl History {
@@ -28,9 +30,10 @@ impl History {
         let bytes = write_genesis(alloc, genesis)?;
         Ok(History {
             entries: Vec::new(alloc),
-            authors: Vec::new(alloc),
+            signers: Vec::new(alloc),
             hash: genesis_hash(bytes.as_slice()),
             epoch: 0,
+            upgraded: false,
         })
     }
 
@@ -49,13 +52,20 @@ impl History {
         self.epoch
     }
 
-    /// The header of an author's next entry of this kind: its base is the whole history.
+    /// The header of the next entry of this kind by an author's first device: its base is the whole history.
     pub fn header(&self, author: u16, kind: u8) -> Header {
-        let before = self.authors.iter().filter(|a| **a == author).count();
+        self.header_of(Device::first(author), kind)
+    }
+
+    /// The same by any device.
+    pub fn header_of(&self, device: Device, kind: u8) -> Header {
+        let before = self.signers.iter().filter(|d| d.is(device)).count();
         let before = u32::try_from(before).unwrap_or(u32::MAX);
         Header {
+            version: version_of(self.upgraded),
             document: DOCUMENT,
-            author,
+            author: device.member,
+            device: device.number,
             number: before.wrapping_add(1),
             base: u32::try_from(self.entries.len()).unwrap_or(u32::MAX),
             base_hash: self.hash,
@@ -65,7 +75,7 @@ impl History {
         }
     }
 
-    /// Appends an author's edit, by the bytes of its delta.
+    /// Appends an edit by an author's first device, by the bytes of its delta.
     pub fn edit(
         &mut self,
         alloc: Global,
@@ -73,13 +83,24 @@ impl History {
         author: u16,
         delta: &[u8],
     ) -> Result<(), SampleFault> {
-        let header = self.header(author, EDIT);
-        let body = edit_body(alloc, author, header.leaf, header.epoch, delta)?;
-        let bytes = Draft::new(header).signed(alloc, cast.member(author)?, body.as_slice())?;
-        self.append(author, bytes)
+        self.edit_by(alloc, cast.member(author)?, delta)
     }
 
-    /// Appends an author's change, with the next key sealed for these members.
+    /// The same by the device that these keys are of.
+    pub fn edit_by(
+        &mut self,
+        alloc: Global,
+        signer: &Member,
+        delta: &[u8],
+    ) -> Result<(), SampleFault> {
+        let device = signer.device();
+        let header = self.header_of(device, EDIT);
+        let body = edit_body(alloc, device, header.leaf, header.epoch, delta)?;
+        let bytes = Draft::new(header).signed(alloc, signer, body.as_slice())?;
+        self.append(device, bytes)
+    }
+
+    /// Appends a change by an author's first device, with the next key sealed for these members.
     pub fn change(
         &mut self,
         alloc: Global,
@@ -88,18 +109,31 @@ impl History {
         change: Change,
         members: &[u16],
     ) -> Result<(), SampleFault> {
-        let header = self.header(author, CHANGE);
-        let body = change_body(alloc, change, author, header.leaf, header.epoch, members)?;
-        let bytes = Draft::new(header).signed(alloc, cast.member(author)?, body.as_slice())?;
-        self.append(author, bytes)?;
+        self.change_by(alloc, cast.member(author)?, change, members)
+    }
+
+    /// The same by the device that these keys are of.
+    pub fn change_by(
+        &mut self,
+        alloc: Global,
+        signer: &Member,
+        change: Change,
+        members: &[u16],
+    ) -> Result<(), SampleFault> {
+        let device = signer.device();
+        let header = self.header_of(device, CHANGE);
+        let body = change_body(alloc, change, device, header.leaf, header.epoch, members)?;
+        let bytes = Draft::new(header).signed(alloc, signer, body.as_slice())?;
+        self.append(device, bytes)?;
         self.epoch = self.epoch.wrapping_add(1);
+        self.upgraded = self.upgraded || matches!(change, Change::Upgrade);
         Ok(())
     }
 
-    fn append(&mut self, author: u16, bytes: Vec<u8>) -> Result<(), SampleFault> {
+    fn append(&mut self, device: Device, bytes: Vec<u8>) -> Result<(), SampleFault> {
         self.hash = next_hash(&self.hash, bytes.as_slice());
         self.entries.push(bytes)?;
-        self.authors.push(author)?;
+        self.signers.push(device)?;
         Ok(())
     }
 }

@@ -3,7 +3,8 @@
 //!
 //! - [`Cast`]: five members with their one-time keys, and the genesis of the document that they founded.
 //! - [`Draft`]: an entry to be signed, each field of whose header can be spoilt first.
-//! - [`History`]: a history that grows by signed edits and changes; [`short_history`] and [`forked_history`] part after three.
+//! - [`Member::by_device`]: a further device of a member, with keys of its own.
+//! - [`History`]: a history that grows by signed edits and changes, by first devices or any others; [`short_history`] and [`forked_history`] part after three.
 //! - [`epoch_key`], [`pair_key`]: the keys that its edits are masked with and its changes seal.
 //! - [`count_calls`]: lets each call of an object fail in turn, in a run anew for each.
 //!

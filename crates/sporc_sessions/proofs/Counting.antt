@@ -1,7 +1,8 @@
 -- Counts, and what stays told.
-use Rattle.std.proofs.Common.{◌≡◌, ℕ, ◌+◌, ◌-◌, ◌^◌, ◌<◌, ◌≤◌, Option, Some, None, refl, sym, ap, ◌∙◌, arith}
+use Rattle.std.proofs.Common.{◌≡◌, ℕ, ◌+◌, ◌-◌, ◌^◌, ◌<◌, ◌≤◌, Option, Some, None, refl, sym, ap, ◌∙◌, subst, arith}
 use Rattle.std.specs.Option.{option_map}
 use Rattle.sporc_outside.specs.Counts.{Rose, count_of_both}
+use Rattle.sporc_outside.specs.Told.{IsPositive}
 
 -- a count of links that fits a u64 does not fall as a link is taken back
 pub both_kept : (old more new : ℕ) → old < 2 ^ 64 → count_of_both old more ≤ new → old ≤ new
@@ -22,3 +23,8 @@ less_again (Some n) = ap (λ (m : ℕ). Some m) (omega arith)
 -- as many links are out as before
 pub as_many : (a b c : Option ℕ) → b ≡ option_map (λ n. n + 1) a → b ≡ option_map (λ n. n + 1) c → c ≡ a
 as_many a b c more again = sym (less_again c) ∙ ap one_less (sym again ∙ more) ∙ less_again a
+
+-- one link more is out, so there is one
+pub one_is_out : (a b : Option ℕ) → b ≡ option_map (λ n. n + 1) a → IsPositive b
+one_is_out None b more = subst IsPositive (sym more) tt
+one_is_out (Some n) b more = subst IsPositive (sym more) (omega arith)

@@ -11,6 +11,7 @@ use Rattle.sporc_line.specs.LineModel.{LineModel}
 use Rattle.sporc_line.specs.Openings.{open_checks}
 use Rattle.sporc_line.specs.declared.fault.LineOpenFault.{LineOpenFault}
 use Rattle.sporc_line.specs.declared.fault.LineOpenFault.TheVariants as line_faults
+use Rattle.sporc_member.specs.Device.{first_device}
 use Rattle.sporc_outside.specs.Counts.{Rose}
 use Rattle.sporc_shared.specs.declared.fault.SessionFault.{SessionFault}
 use Rattle.sporc_sessions.specs.declared.hinting.HintsFault.{HintsFault}
@@ -39,10 +40,10 @@ failed X fault = Err fault
 module _ {L : Type 0} (view : LinkView L) (begin : Begin) (old new : NetTold L) where
   -- the line was opened with keys
   pub opened_with : (keys pairs : Keys) → HasKeys view begin old new keys → pairs ≡ shared_of begin → (result : Result LineModel OpenFault)
-      → OnOk result (first_of (open_checks begin.genesis (get keys 0)) ≡ None) → IfOk result (λ line. line.genesis ≡ begin.genesis) → IfOk result (λ line. line.kit ≡ kit_of begin.member keys pairs) → IfOk result (λ line. line.entries ≡ [])
+      → OnOk result (first_of (open_checks begin.genesis (get keys 0)) ≡ None) → IfOk result (λ line. line.genesis ≡ begin.genesis) → IfOk result (λ line. line.kit ≡ kit_of (first_device begin.member) keys pairs) → IfOk result (λ line. line.entries ≡ [])
       → IfOk result (Opens view begin old new)
   opened_with keys pairs has same (Ok line) meets genesis kit empty =
-      record { keys = keys; has = has; meets = meets; genesis = genesis; kit = kit ∙ ap (kit_of begin.member keys) same; empty = empty }
+      record { keys = keys; has = has; meets = meets; genesis = genesis; kit = kit ∙ ap (kit_of (first_device begin.member) keys) same; empty = empty }
   opened_with keys pairs has same (Err fault) meets genesis kit empty = tt
 
   -- or it was not

@@ -12,6 +12,7 @@ use Rattle.sporc_line.specs.LineModel.{LineModel}
 use Rattle.sporc_line.specs.Openings.{open_checks}
 use Rattle.sporc_line.specs.declared.fault.LineOpenFault.{LineOpenFault}
 use Rattle.sporc_line.specs.declared.fault.LineOpenFault.TheVariants as line_faults
+use Rattle.sporc_member.specs.Device.{first_device}
 use Rattle.sporc_outside.specs.Counts.{Rose}
 use Rattle.sporc_shared.specs.declared.fault.SessionFault.{SessionFault}
 use Rattle.sporc_sessions.specs.declared.hinting.HintsFault.{HintsFault}
@@ -48,13 +49,13 @@ module _ {L : Type 0} (view : LinkView L) (begin : Begin) (old new : NetTold L) 
     joins : {entries : List (List ℕ)} → begin.ring.epoch_key ≡ None → Fetches (Ok entries) → hints_by begin.member (shared_of begin) (Ok entries) ≡ Ok keys
         → HasKeys keys
 
-  -- the empty line of the member was opened with them: that of epoch 0 is the one that the genesis commits to
+  -- the empty line of the member's first device was opened with them: that of epoch 0 is the one that the genesis commits to
   pub record Opens (line : LineModel) : Type 0 where
     pub keys : Keys
     pub has : HasKeys keys
     pub meets : first_of (open_checks begin.genesis (get keys 0)) ≡ None
     pub genesis : line.genesis ≡ begin.genesis
-    pub kit : line.kit ≡ kit_of begin.member keys (shared_of begin)
+    pub kit : line.kit ≡ kit_of (first_device begin.member) keys (shared_of begin)
     pub empty : line.entries ≡ []
 
   -- Why it was not, where the net's count of faults went from `before` to `after`. Memory may run out at any time

@@ -6,6 +6,7 @@ ghost use Rattle.sporc_base.specs.FirstFault.{first_of};
 ghost use Rattle.sporc_entry.specs.Genesis.{IsGenesis};
 ghost use Rattle.sporc_epoch.specs.Keys.{pairs_in};
 ghost use Rattle.sporc_line.specs.Kit.{kit_of};
+ghost use Rattle.sporc_member.specs.Device.{first_device};
 ghost use Rattle.sporc_line.specs.Openings.{open_checks};
 ghost use Rattle.sporc_outside.specs.Told.{AreShutBehind};
 ghost use Rattle.sporc_sessions.specs.Nets.{AsksAtMost, link_view, net_told};
@@ -17,6 +18,7 @@ use sporc_entry::Genesis;
 use sporc_epoch::{Pairs, Ring};
 use sporc_keys::RingFile;
 use sporc_line::{Line, LineOpenFault};
+use sporc_member::FIRST_DEVICE;
 use sporc_outside::Dial;
 use std::alloc::{AllocError, Global};
 use std::sync::Wait;
@@ -91,12 +93,12 @@ fn open_with(
     requires genesis { IsGenesis genesis }
     ensures meets { OnOk result (first_of (open_checks genesis (map.get keys.keys 0)) ≡ None) }
     ensures genesis { IfOk result (λ line. line.genesis ≡ genesis) }
-    ensures kit { IfOk result (λ line. line.kit ≡ kit_of member keys.keys (pairs_in pairs)) }
+    ensures kit { IfOk result (λ line. line.kit ≡ kit_of (first_device member) keys.keys (pairs_in pairs)) }
     ensures empty { IfOk result (λ line. line.entries ≡ []) }
     ensures err { IfErr result (λ fault. (cause : LineOpenFault) × (fault ≡ OpenFault.Line cause)
         × (cause ≢ LineOpenFault.Memory → first_of (open_checks genesis (map.get keys.keys 0)) ≡ Some cause)) }
 {
-    match Line::open(alloc, genesis, member, keys, pairs) {
+    match Line::open(alloc, genesis, member, FIRST_DEVICE, keys, pairs) {
         Ok(line) => Ok(line),
         Err(fault) => Err(OpenFault::Line(fault)),
     }

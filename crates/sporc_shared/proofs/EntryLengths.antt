@@ -4,10 +4,13 @@ use Rattle.std.specs.Int.{Width, w8, w16, w32, byte_len, from_be_bytes}
 use Rattle.std.proofs.lemmas.Bool.{and_parts, leb-true}
 use Rattle.sporc_bytes.specs.Fields.{Reading, ◌>>=◌, bytes_at, counted_at, end_at, number_at, only_if, number_within}
 use Rattle.sporc_bytes.proofs.Fields.{bind_ok, bytes_len, end_takes, ok_is, only_if_ok}
+use Rattle.sporc_member.specs.declared.device.TheConstants.{FIRST_DEVICE}
 use Rattle.sporc_entry.specs.declared.entry.Entry.{Entry}
 use Rattle.sporc_entry.specs.declared.header.Header.{Header}
 use Rattle.sporc_entry.specs.declared.limits.TheConstants.{MAX_CHANGE_BODY, MAX_EDIT_BODY, MAX_ENTRY, MAX_SIGNATURE}
-use Rattle.sporc_entry.specs.Entry.{body_limit, body_read, entry_of, header_at}
+use Rattle.sporc_entry.specs.declared.version.TheConstants.{FIRST_VERSION, DEVICES_VERSION}
+use Rattle.sporc_entry.specs.Entry.{body_limit, body_read, device_at, entry_of, header_at}
+use Rattle.sporc_entry.specs.Version.{names_device}
 use Rattle.sporc_wire.specs.declared.cutter.TheConstants.{MAX_BODY}
 use Rattle.sporc_client.specs.Allowed.{allows, allows_all, is_allowed, is_made}
 use Rattle.sporc_client.specs.Log.{Logged, Submit}
@@ -42,35 +45,45 @@ string_len limit r x e =
     let four : byte_len w32 ≡ 4 = refl in
     omega (arith, four, number_len w32 r a.0 a.1, bytes_len b.0 a.0.1 x b.2, g.1, leb-true _ _ g.0)
 
-header_sum : (r0 r1 r2 r3 r4 r5 r6 r7 r8 r9 r10 : List ℕ) → 1 + length r1 ≡ length r0 → 16 + length r2 ≡ length r1 → 2 + length r3 ≡ length r2 → 4 + length r4 ≡ length r3 → 4 + length r5 ≡ length r4
-    → 32 + length r6 ≡ length r5 → 4 + length r7 ≡ length r6 → 4 + length r8 ≡ length r7 → 1 + length r9 ≡ length r8 → length r9 ≡ length r10 → 68 + length r10 ≡ length r0
-header_sum r0 r1 r2 r3 r4 r5 r6 r7 r8 r9 r10 e0 e1 e2 e3 e4 e5 e6 e7 e8 e9 = omega arith
+-- the device, which an entry of the first version doesn't name
+device_len : (version : ℕ) (r : Reading) (x : ℕ × Reading) → device_at version r ≡ Ok x → length r.rest ≤ 1 + length x.1.rest
+device_len version r x e = by (names_device version) e
+  where
+    by : (b : Bool) → cond b (number_at w8 r) (Ok (FIRST_DEVICE, r)) ≡ Ok x → length r.rest ≤ 1 + length x.1.rest
+    by true e = let one : byte_len w8 ≡ 1 = refl in omega (arith, one, number_len w8 r x e)
+    by false e = omega (arith, ap (λ (y : ℕ × Reading). length y.1.rest) (ok_is (FIRST_DEVICE, r) x e))
 
-header_len : (r : Reading) (x : Header × Reading) → header_at r ≡ Ok x → 68 + length x.1.rest ≡ length r.rest
+header_sum : (r0 r1 r2 r3 r4 r5 r6 r7 r8 r9 r10 r11 : List ℕ) → 1 + length r1 ≡ length r0 → 16 + length r2 ≡ length r1 → 2 + length r3 ≡ length r2 → length r3 ≤ 1 + length r4 → 4 + length r5 ≡ length r4
+    → 4 + length r6 ≡ length r5 → 32 + length r7 ≡ length r6 → 4 + length r8 ≡ length r7 → 4 + length r9 ≡ length r8 → 1 + length r10 ≡ length r9 → length r10 ≡ length r11 → length r0 ≤ 69 + length r11
+header_sum r0 r1 r2 r3 r4 r5 r6 r7 r8 r9 r10 r11 e0 e1 e2 e3 e4 e5 e6 e7 e8 e9 e10 = omega arith
+
+header_len : (r : Reading) (x : Header × Reading) → header_at r ≡ Ok x → length r.rest ≤ 69 + length x.1.rest
 unfolding header_at
 header_len r x e =
     let v = bind_ok _ _ x e in
     let d = bind_ok _ _ x v.2 in
     let a = bind_ok _ _ x d.2 in
-    let n = bind_ok _ _ x a.2 in
+    let i = bind_ok _ _ x a.2 in
+    let n = bind_ok _ _ x i.2 in
     let b = bind_ok _ _ x n.2 in
     let s = bind_ok _ _ x b.2 in
     let p = bind_ok _ _ x s.2 in
     let l = bind_ok _ _ x p.2 in
     let k = bind_ok _ _ x l.2 in
-    let lv = within_len 1 1 w8 r v.0 v.1 in
+    let lv = within_len FIRST_VERSION DEVICES_VERSION w8 r v.0 v.1 in
     let ld = bytes_len 16 v.0.1 d.0 d.1 in
     let la = number_len w16 d.0.1 a.0 a.1 in
-    let ln = number_len w32 a.0.1 n.0 n.1 in
+    let li = device_len v.0.0 a.0.1 i.0 i.1 in
+    let ln = number_len w32 i.0.1 n.0 n.1 in
     let lb = number_len w32 n.0.1 b.0 b.1 in
     let ls = bytes_len 32 b.0.1 s.0 s.1 in
     let lp = number_len w32 s.0.1 p.0 p.1 in
     let ll = number_len w32 p.0.1 l.0 l.1 in
     let lk = within_len 1 2 w8 l.0.1 k.0 k.1 in
     let made : Header × Reading =
-    (record { document = d.0.0; author = a.0.0; number = n.0.0; base = b.0.0; base_hash = s.0.0; epoch = p.0.0; leaf = l.0.0; kind = k.0.0 }, k.0.1) in
+    (record { version = v.0.0; document = d.0.0; author = a.0.0; device = i.0.0; number = n.0.0; base = b.0.0; base_hash = s.0.0; epoch = p.0.0; leaf = l.0.0; kind = k.0.0 }, k.0.1) in
     let last : length k.0.1.rest ≡ length x.1.rest = ap (λ (y : Header × Reading). length y.1.rest) (ok_is made x k.2) in
-    header_sum r.rest v.0.1.rest d.0.1.rest a.0.1.rest n.0.1.rest b.0.1.rest s.0.1.rest p.0.1.rest l.0.1.rest k.0.1.rest x.1.rest lv ld la ln lb ls lp ll lk last
+    header_sum r.rest v.0.1.rest d.0.1.rest a.0.1.rest i.0.1.rest n.0.1.rest b.0.1.rest s.0.1.rest p.0.1.rest l.0.1.rest k.0.1.rest x.1.rest lv ld la li ln lb ls lp ll lk last
 
 -- ---- entries
 
@@ -86,7 +99,7 @@ abbrev signature_on : Header → List ℕ → Reading → Result Entry ℕ
 signature_on header body r = counted_at MAX_SIGNATURE r >>= λ signature. end_at signature.1 >>= λ end. Ok (record { header = header; body = body; signature = signature.0 })
 
 abbrev body_on : Header → Reading → Result Entry ℕ
-body_on header r = counted_at (body_limit header.kind) r >>= λ body. body_read header.kind 72 body.0 >>= λ read. signature_on header body.0 body.1
+body_on header r = counted_at (body_limit header.kind) r >>= λ body. body_read header body.0 >>= λ read. signature_on header body.0 body.1
 
 signature_len : (header : Header) (body : List ℕ) (r : Reading) (e : Entry) → signature_on header body r ≡ Ok e → length r.rest ≤ 4 + MAX_SIGNATURE
 signature_len header body r e read =
@@ -97,8 +110,8 @@ signature_len header body r e read =
 
 body_len : (header : Header) (r : Reading) (e : Entry) → body_on header r ≡ Ok e → length r.rest ≤ 8 + MAX_EDIT_BODY + MAX_SIGNATURE
 body_len header r e read =
-    let b = bind_ok (counted_at (body_limit header.kind) r) (λ body. body_read header.kind 72 body.0 >>= λ read. signature_on header body.0 body.1) e read in
-    let u = bind_ok (body_read header.kind 72 b.0.0) (λ read. signature_on header b.0.0 b.0.1) e b.2 in
+    let b = bind_ok (counted_at (body_limit header.kind) r) (λ body. body_read header body.0 >>= λ read. signature_on header body.0 body.1) e read in
+    let u = bind_ok (body_read header b.0.0) (λ read. signature_on header b.0.0 b.0.1) e b.2 in
     omega (arith, string_len (body_limit header.kind) r b.0 b.1, limit_most header.kind, signature_len header b.0.0 b.0.1 e u.2)
 
 -- bytes that read as an entry

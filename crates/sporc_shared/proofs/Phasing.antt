@@ -29,7 +29,7 @@ use Rattle.sporc_shared.proofs.Telling.{Tells, TellsOr, worn_stopped}
 
 -- the message says of a client for which document and which member it is
 abbrev pub IsHello : Past → ToServer → Type 0
-IsHello past message = message ≡ to_server.Hello past.opening.genesis.document past.opening.kit.me
+IsHello past message = message ≡ to_server.Hello past.opening.genesis.document past.opening.kit.me.member
 
 not_greeting : {document : List ℕ} {member : ℕ} → ¬ IsSubmitting (Greeting document member)
 not_greeting s = absurd cc

@@ -1,8 +1,11 @@
 -- Journals are runs, in whatever order the events of several come.
-use Rattle.std.proofs.Common.{◌≡◌, ◌≢◌, ◌⊎◌, ℕ, ◌==◌, Bool, true, false, cond, List, [], ◌∷◌, Option, Some, None, refl, sym, ap, ◌∙◌, subst, ⊎_elim, ne_eqb, eq-eqb, true≢false}
+use Rattle.std.proofs.Common.{◌≡◌, ◌≢◌, ◌⊎◌, ℕ, Bool, true, false, cond, List, [], ◌∷◌, Option, Some, None, refl, sym, ap, ◌∙◌, subst, ⊎_elim, true≢false}
 use Rattle.std.specs.Prelude.{Contains, IsSomeAnd, Result, ⊤}
 use Rattle.std.specs.FinMap.{get}
-use Rattle.std.proofs.lemmas.Bool.{and_parts, eqb-true}
+use Rattle.std.proofs.lemmas.Bool.{and_parts}
+use Rattle.sporc_member.specs.declared.device.Device.{Device}
+use Rattle.sporc_member.specs.Device.{same_device}
+use Rattle.sporc_member.proofs.SameDevice.{one_same, same_one}
 use Rattle.sporc_line.specs.Good.{Meets}
 use Rattle.sporc_script.specs.declared.editor_line.EditorLine.{EditorLine}
 use Rattle.sporc_client.specs.Allowed.{allows, allows_all, is_allowed}
@@ -16,12 +19,12 @@ use Rattle.sporc_client.proofs.Reached.{put_same}
 use Rattle.sporc_shared.specs.declared.fault.SessionFault.{SessionFault}
 use Rattle.sporc_shared.specs.Courses.{Stand}
 use Rattle.sporc_shared.specs.Items.{Item, IsAllowed, Past, client_of, items_of, with_events}
-use Rattle.sporc_shared.specs.Runs.{IsJournal, member_of, moves_of}
+use Rattle.sporc_shared.specs.Runs.{IsJournal, device_of, moves_of}
 use Rattle.sporc_shared.specs.Sessions.{IsSession}
 use Rattle.sporc_turn.specs.Log.{StartsWith}
 use Rattle.sporc_shared.proofs.Pasts.{past_goes_on}
 
-pub session_leads : (s : Setup) (w : World) (who : ℕ) (past : Past) (a b : Stand) (rounds until : ℕ) (scripts : List (List EditorLine)) (result : Result ⊤ SessionFault)
+pub session_leads : (s : Setup) (w : World) (who : Device) (past : Past) (a b : Stand) (rounds until : ℕ) (scripts : List (List EditorLine)) (result : Result ⊤ SessionFault)
     → w.clients who ≡ Some (client_of past) → a.known.seen ≡ items_of past → IsSession a b rounds until scripts result
     → (events : List Logged) × (b.known.seen ≡ items_of (with_events past events)) × LeadTo s w (events_of who events) who (client_of (with_events past events))
 session_leads s w who past a b rounds until scripts result at seen session =
@@ -30,47 +33,47 @@ session_leads s w who past a b rounds until scripts result at seen session =
 
 -- ---- the journals of several clients
 
--- moves of one member's client, from what it is
-abbrev Goes : Setup → ℕ → Option PlainClient → List Move → Type 0
+-- moves of one device's client, from what it is
+abbrev Goes : Setup → Device → Option PlainClient → List Move → Type 0
 Goes s who client [] = ⊤
-Goes s who None (Open member ring ∷ moves) = Contains s.members member × Meets s.genesis 0 (get ring 0) s.genesis.commitment × Goes s who (Some (opened (opening_of s member ring))) moves
-Goes s who None (Happen member event ∷ moves) = ⊥
-Goes s who None (Give member position bytes ∷ moves) = ⊥
-Goes s who None (Restart member k ∷ moves) = ⊥
-Goes s who (Some c) (Open member ring ∷ moves) = ⊥
-Goes s who (Some c) (Happen member event ∷ moves) = (allows c event ≡ true) × Goes s who (Some (step c event)) moves
-Goes s who (Some c) (Give member position bytes ∷ moves) = ⊥
-Goes s who (Some c) (Restart member k ∷ moves) = ⊥
+Goes s who None (Open device ring ∷ moves) = Contains s.devices device × Meets s.genesis 0 (get ring 0) s.genesis.commitment × Goes s who (Some (opened (opening_of s device ring))) moves
+Goes s who None (Happen device event ∷ moves) = ⊥
+Goes s who None (Give device position bytes ∷ moves) = ⊥
+Goes s who None (Restart device k ∷ moves) = ⊥
+Goes s who (Some c) (Open device ring ∷ moves) = ⊥
+Goes s who (Some c) (Happen device event ∷ moves) = (allows c event ≡ true) × Goes s who (Some (step c event)) moves
+Goes s who (Some c) (Give device position bytes ∷ moves) = ⊥
+Goes s who (Some c) (Restart device k ∷ moves) = ⊥
 
-events_go : (s : Setup) (who : ℕ) (c : PlainClient) (log : List Logged) → allows_all c log ≡ true → Goes s who (Some c) (events_of who log)
+events_go : (s : Setup) (who : Device) (c : PlainClient) (log : List Logged) → allows_all c log ≡ true → Goes s who (Some c) (events_of who log)
 events_go s who c [] may = tt
 events_go s who c (event ∷ log) may = let p = and_parts (allows c event) (allows_all (step c event) log) may in (p.0, events_go s who (step c event) log p.1)
 
-journal_goes : (s : Setup) (who : ℕ) (moves : List Move) → IsJournal s who moves → Goes s who None moves
+journal_goes : (s : Setup) (who : Device) (moves : List Move) → IsJournal s who moves → Goes s who None moves
 unfolding is_allowed
 journal_goes s who moves j =
     let allowed = subst (λ (o : Opening). is_allowed o j.past.log ≡ true) j.opening j.allowed in
-    subst (Goes s who None) (sym j.are) (j.is_member, j.meets, events_go s who (opened (opening_of s who j.past.opening.kit.ring)) j.past.log allowed)
+    subst (Goes s who None) (sym j.are) (j.is_device, j.meets, events_go s who (opened (opening_of s who j.past.opening.kit.ring)) j.past.log allowed)
 
 -- the client of a world, and what all moves have of it
 abbrev AllGo : Setup → World → List Move → Type 0
-AllGo s w moves = (who : ℕ) → Goes s who (w.clients who) (moves_of who moves)
+AllGo s w moves = (who : Device) → Goes s who (w.clients who) (moves_of who moves)
 
--- the first move is its member's first one
-own_first : (move : Move) (moves : List Move) (who : ℕ) → member_of move ≡ who → moves_of who (move ∷ moves) ≡ move ∷ moves_of who moves
-own_first move moves who is = ap (λ (b : Bool). cond b (move ∷ moves_of who moves) (moves_of who moves)) (eq-eqb (member_of move) who is)
+-- the first move is its device's first one
+own_first : (move : Move) (moves : List Move) (who : Device) → same_device (device_of move) who ≡ true → moves_of who (move ∷ moves) ≡ move ∷ moves_of who moves
+own_first move moves who is = ap (λ (b : Bool). cond b (move ∷ moves_of who moves) (moves_of who moves)) is
 
 -- and none of another's
-others_stay : (move : Move) (moves : List Move) (who : ℕ) → member_of move ≢ who → moves_of who (move ∷ moves) ≡ moves_of who moves
-others_stay move moves who differs = ap (λ (b : Bool). cond b (move ∷ moves_of who moves) (moves_of who moves)) (ne_eqb (member_of move) who differs)
+others_stay : (move : Move) (moves : List Move) (who : Device) → same_device (device_of move) who ≡ false → moves_of who (move ∷ moves) ≡ moves_of who moves
+others_stay move moves who is = ap (λ (b : Bool). cond b (move ∷ moves_of who moves) (moves_of who moves)) is
 
--- what a member's first move needs and does
+-- what a device's first move needs and does
 record Moved (s : Setup) (w : World) (move : Move) (rest : List Move) : Type 0 where
   may : May s w move
-  goes : Goes s (member_of move) ((after s w move).clients (member_of move)) rest
-  others : (other : ℕ) → member_of move ≢ other → (after s w move).clients other ≡ w.clients other
+  goes : Goes s (device_of move) ((after s w move).clients (device_of move)) rest
+  others : (other : Device) → device_of move ≢ other → (after s w move).clients other ≡ w.clients other
 
-moved : (s : Setup) (w : World) (move : Move) (rest : List Move) (client : Option PlainClient) → w.clients (member_of move) ≡ client → Goes s (member_of move) client (move ∷ rest) → Moved s w move rest
+moved : (s : Setup) (w : World) (move : Move) (rest : List Move) (client : Option PlainClient) → w.clients (device_of move) ≡ client → Goes s (device_of move) client (move ∷ rest) → Moved s w move rest
 moved s w (Open who ring) rest None at g =
     let c = opened (opening_of s who ring) in
     record {
@@ -94,22 +97,22 @@ all_run : (s : Setup) (w : World) (moves : List Move) → AllGo s w moves → Is
 all_run s w [] all = tt
 all_run s w (move ∷ moves) all = (m.may, all_run s (after s w move) moves then)
   where
-    me : ℕ
-    me = member_of move
+    me : Device
+    me = device_of move
 
     m : Moved s w move (moves_of me moves)
-    m = moved s w move (moves_of me moves) (w.clients me) refl (subst (Goes s me (w.clients me)) (own_first move moves me refl) (all me))
+    m = moved s w move (moves_of me moves) (w.clients me) refl (subst (Goes s me (w.clients me)) (own_first move moves me (one_same me)) (all me))
 
-    by : (who : ℕ) (same : Bool) → (me == who) ≡ same → Goes s who ((after s w move).clients who) (moves_of who moves)
-    by who true is = subst (λ (n : ℕ). Goes s n ((after s w move).clients n) (moves_of n moves)) (eqb-true me who is) m.goes
+    by : (who : Device) (same : Bool) → same_device me who ≡ same → Goes s who ((after s w move).clients who) (moves_of who moves)
+    by who true is = subst (λ (d : Device). Goes s d ((after s w move).clients d) (moves_of d moves)) (same_one me who is) m.goes
     by who false is =
-        let differs : me ≢ who = λ e. absurd (true≢false (sym (eq-eqb me who e) ∙ is)) in
-        subst (λ (z : Option PlainClient × List Move). Goes s who z.0 z.1) (λ i. (sym (m.others who differs) i, others_stay move moves who differs i)) (all who)
+        let differs : me ≢ who = λ e. absurd (true≢false (sym (one_same me) ∙ ap (same_device me) e ∙ is)) in
+        subst (λ (z : Option PlainClient × List Move). Goes s who z.0 z.1) (λ i. (sym (m.others who differs) i, others_stay move moves who is i)) (all who)
 
     then : AllGo s (after s w move) moves
-    then who = by who (me == who) refl
+    then who = by who (same_device me who) refl
 
-pub journals_run : (s : Setup) (moves : List Move) → ((who : ℕ) → (moves_of who moves ≡ []) ⊎ IsJournal s who (moves_of who moves)) → IsRun s start moves
+pub journals_run : (s : Setup) (moves : List Move) → ((who : Device) → (moves_of who moves ≡ []) ⊎ IsJournal s who (moves_of who moves)) → IsRun s start moves
 journals_run s moves all = all_run s start moves goes
   where
     goes : AllGo s start moves

@@ -83,11 +83,11 @@ module _ {link : LinkStand} {words : Option (List (List ℕ))} {g : ℕ} where
   }
 
   pub ask_did : {ready : ℕ → ℕ → Bool} {k k' : Known Item} {before : Past} → IsCall k k' before []
-      → Did ready (stand k link words g) (stand k' link words g) Asking (Greeting before.opening.genesis.document before.opening.kit.me)
+      → Did ready (stand k link words g) (stand k' link words g) Asking (Greeting before.opening.genesis.document before.opening.kit.me.member)
   ask_did {k = k} {k' = k'} {before = before} c = record {
-    acts = Ask before.opening.genesis.document before.opening.kit.me ∷ [];
+    acts = Ask before.opening.genesis.document before.opening.kit.me.member ∷ [];
     course = known_course (call_knows k k' before [] c) (before.opening, before.first_leaf, (map Happened before.log ++ [], seen_after k k' before [] c), refl, refl) (at_most (length k.seen)) refl refl refl;
-    leads = (Greeting before.opening.genesis.document before.opening.kit.me, asks, refl);
+    leads = (Greeting before.opening.genesis.document before.opening.kit.me.member, asks, refl);
   }
 
   pub look_course : {k k' : Known Item} {before : Past} {at pending : ℕ} → k.number ≡ 0 → IsCall k k' before [] → Looked (client_of before) at pending

@@ -114,7 +114,7 @@ all_of f (act ∷ acts) = f act ++ all_of f acts
 abbrev pub IsFor : List Item → List ℕ → ℕ → Type 0
 IsFor log document member =
     (opening : Opening) × (first_leaf : ℕ) × StartsWith log (Opened opening first_leaf ∷ [])
-    × (document ≡ opening.genesis.document) × (member ≡ opening.kit.me)
+    × (document ≡ opening.genesis.document) × (member ≡ opening.kit.me.member)
 
 -- what a look tells of a client
 pub record Looked (client : PlainClient) (at pending : ℕ) : Type 0 where

@@ -1,27 +1,29 @@
 -- Journals as parts of a run.
-use Rattle.std.specs.Prelude.{◌≡◌, ℕ, ◌==◌, List, ◌∷◌, Contains}
+use Rattle.std.specs.Prelude.{◌≡◌, List, ◌∷◌, Contains}
 use Rattle.std.specs.FinMap.{get}
 use Rattle.std.specs.List.{filter}
+use Rattle.sporc_member.specs.declared.device.Device.{Device}
+use Rattle.sporc_member.specs.Device.{same_device}
 use Rattle.sporc_line.specs.Good.{Meets}
 use Rattle.sporc_client.specs.Calls.{events_of}
 use Rattle.sporc_client.specs.Run.{Setup, Move, Open, Happen, Give, Restart, opening_of}
 use Rattle.sporc_shared.specs.Items.{Past, IsAllowed}
 
 -- whose client a move is of
-abbrev pub member_of : Move → ℕ
-member_of (Open who ring) = who
-member_of (Happen who event) = who
-member_of (Give who position bytes) = who
-member_of (Restart who k) = who
+abbrev pub device_of : Move → Device
+device_of (Open who ring) = who
+device_of (Happen who event) = who
+device_of (Give who position bytes) = who
+device_of (Restart who k) = who
 
--- the moves of one member's client, in order
-abbrev pub moves_of : ℕ → List Move → List Move
-moves_of who moves = filter (λ move. member_of move == who) moves
+-- the moves of one device's client, in order
+abbrev pub moves_of : Device → List Move → List Move
+moves_of who moves = filter (λ move. same_device (device_of move) who) moves
 
--- the moves are that a member of the setup opens a client, and then its events, each of which its calls make there
-pub record IsJournal (s : Setup) (who : ℕ) (moves : List Move) : Type 0 where
+-- the moves are that a device of the setup opens a client, and then its events, each of which its calls make there
+pub record IsJournal (s : Setup) (who : Device) (moves : List Move) : Type 0 where
   pub past : Past
-  pub is_member : Contains s.members who
+  pub is_device : Contains s.devices who
   pub opening : past.opening ≡ opening_of s who past.opening.kit.ring
   pub meets : Meets s.genesis 0 (get past.opening.kit.ring 0) s.genesis.commitment
   pub allowed : IsAllowed past

@@ -181,7 +181,7 @@ fn has_on_its_way<D: LeafDisk>(client: &Client<D>, entry: &[u8]) -> bool
 // The Hello of the client's member, for its document.
 pub(crate) fn hello<D: LeafDisk>(held: &mut Held<Desk<D>>) -> (ToServer, u64)
     ensures unchanged { held.new ≡ held.old }
-    ensures hello { let opening = (past_of (value_of held.old).client.value).opening in result.0 ≡ ToServer.Hello opening.genesis.document opening.kit.me }
+    ensures hello { let opening = (past_of (value_of held.old).client.value).opening in result.0 ≡ ToServer.Hello opening.genesis.document opening.kit.me.member }
     ensures short { length (to_server_bytes result.0) ≤ MAX_BODY }
     ensures allowed { IsAllowed (past_of (value_of held.old).client.value) }
     ensures events { result.1 ≡ length (past_of (value_of held.old).client.value).log }

@@ -4,6 +4,7 @@
 ghost use Rattle.std.specs.Prelude.{◌≡◌, ◌⊎◌, ◌↔◌, ◌≤◌, ◌^◌, ℕ, Bool, true, List, [], ◌++◌, length, drop, All, Ok, Err, Result, Some, ⊤};
 ghost use Rattle.lms_leaf.specs.declared.faults.LeafFault.TheVariants as leaves;
 ghost use Rattle.lms_tree.specs.LmsType.{height_of};
+ghost use Rattle.sporc_member.specs.declared.device.Device.{Device};
 ghost use Rattle.sporc_script.specs.declared.editor_line.EditorLine.{EditorLine};
 ghost use Rattle.sporc_turn.specs.Log.{own};
 ghost use Rattle.sporc_client.specs.Calls.{LeadTo, events_of};
@@ -21,10 +22,10 @@ ghost use Rattle.sporc_shared.specs.Runs.{IsJournal, moves_of};
 ghost use Rattle.sporc_shared.specs.Sessions.{IsSession};
 ghost use Rattle.sporc_shared.specs.WholeRounds.{AreRounds, IsFirstPhase};
 
-/// What a session adds to the log, by all its threads, is moves of a run: a run in which a member has the client that the
-/// session was begun with may go on with just these events, and the member then has the client that the session left.
+/// What a session adds to the log, by all its threads, is moves of a run: a run in which a device has the client that the
+/// session was begun with may go on with just these events, and the device then has the client that the session left.
 pub fn sessions_are_moves()
-    ensures moves { (s : Setup) (w : World) (who : ℕ) (past : Past) (a b : Stand) (rounds until : ℕ) (scripts : List (List EditorLine)) (result : Result ⊤ SessionFault)
+    ensures moves { (s : Setup) (w : World) (who : Device) (past : Past) (a b : Stand) (rounds until : ℕ) (scripts : List (List EditorLine)) (result : Result ⊤ SessionFault)
         → w.clients who ≡ Some (client_of past) → a.known.seen ≡ items_of past → IsSession a b rounds until scripts result
         → (events : List Logged) × (b.known.seen ≡ items_of (with_events past events)) × LeadTo s w (events_of who events) who (client_of (with_events past events)) }
 {}
@@ -32,7 +33,7 @@ pub fn sessions_are_moves()
 /// Sessions of several clients may run at one time: in whatever order the events of their journals come, they are one run.
 /// So all that the clients of a run agree on holds of them.
 pub fn journals_are_a_run()
-    ensures run { (s : Setup) (moves : List Move) → ((who : ℕ) → (moves_of who moves ≡ []) ⊎ IsJournal s who (moves_of who moves)) → IsRun s start moves }
+    ensures run { (s : Setup) (moves : List Move) → ((who : Device) → (moves_of who moves ≡ []) ⊎ IsJournal s who (moves_of who moves)) → IsRun s start moves }
 {}
 
 /// The table of a receiver's modes, read as whole rounds. Acts lead from the beginning of a phase to the end of its last round

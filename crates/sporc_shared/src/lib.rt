@@ -15,7 +15,7 @@
 //! ```
 //!
 //! Verifying an entry's signature is what accepting it takes longest for, and it can be done before the turn, under the key
-//! that the author has then:
+//! that the author's device has then:
 //!
 //! ```text
 //! let Answered { answer: key, pass, .. } = shared.key_for(&rt, pass, &entry)?;

@@ -160,8 +160,8 @@ impl<D: LeafDisk> SharedClient<D> {
     }
 
     /// Accepts an entry that was examined before the turn. It answers what [`SharedClient::accept`] answers on its bytes,
-    /// and the signature is verified in the turn only if the author's key is by then another one than that under which it
-    /// was examined.
+    /// and the signature is verified in the turn only if the key of the author's device is by then another one than that under
+    /// which it was examined.
     pub fn accept_examined<R: Wait>(
         &self,
         rt: &R,
@@ -184,8 +184,8 @@ impl<D: LeafDisk> SharedClient<D> {
         Ok(self.give(answer, events, held))
     }
 
-    /// The key under which the signature of an entry is checked: its author's. None exactly if the bytes are no entry, or
-    /// its author is no member. It takes no memory.
+    /// The key under which the signature of an entry is checked: that of its author's device. None exactly if the bytes are
+    /// no entry, or its author has no such live device. It takes no memory.
     pub fn key_for<R: Wait>(&self, rt: &R, pass: Pass, entry: &[u8]) -> Reply<Option<[u8; 56]>>
         requires lock { IsPassOf self.now pass }
         ensures lock { IsReplyOf self.now result }
@@ -235,7 +235,7 @@ impl<D: LeafDisk> SharedClient<D> {
         ensures lock { IsReplyOf self.now result }
         ensures call { IfOk result (λ r. (before : Past)
             × IsCall (known_of pass) (known_of r.pass) before []
-            × (r.answer ≡ ToServer.Hello before.opening.genesis.document before.opening.kit.me)) }
+            × (r.answer ≡ ToServer.Hello before.opening.genesis.document before.opening.kit.me.member)) }
         ensures short { IfOk result (λ r. length (to_server_bytes r.answer) ≤ MAX_BODY) }
         ensures worn { IsWornOnErr pass result }
     {

@@ -1,24 +1,16 @@
 -- A refusal and its two numbers.
-use Rattle.std.proofs.Common.{◌≡◌, ℕ, ◌≤◌, Bool, true, false, cond, eqb, List, [], ◌∷◌, Option, Some, None, refl, sym, ap, ◌∙◌, subst, arith}
+use Rattle.std.proofs.Common.{◌≡◌, ℕ, ◌≤◌, Bool, true, false, cond, eqb, Option, Some, None, refl, sym, ap, ◌∙◌, subst, arith}
 use Rattle.std.specs.Prelude.{◌≢◌, ◌==◌, find}
 use Rattle.std.proofs.lemmas.Bool.{eqb-true, eqb-false}
 use Rattle.sporc_member.specs.declared.change.ChangeFault.{ChangeFault}
-use Rattle.sporc_member.specs.declared.change.ChangeFault.TheVariants.{NumberUsed, NotMember, SameRole, LastAdmin, RosterFull, BadKey}
-use Rattle.sporc_member.specs.ChangeFault.{change_fault_code_of, change_fault_with_code}
+use Rattle.sporc_member.specs.declared.change.ChangeFault.TheVariants.{NumberUsed, NotMember, SameRole, LastAdmin, RosterFull, BadKey, DeviceUsed, NoDevice, LastDevice, DevicesFull, NotUpgraded, AlreadyUpgraded}
+use Rattle.sporc_base.proofs.ListLemmas.{found_passes}
+use Rattle.sporc_member.specs.ChangeFault.{change_fault_code_of, change_fault_with_code, change_faults}
 use Rattle.sporc_head.specs.declared.refusal.Refusal.{Refusal}
 use Rattle.sporc_head.specs.declared.refusal.Refusal.TheVariants.{Malformed, BadChange, Memory}
 use Rattle.sporc_head.specs.Refusal.{refusal_code_of}
 use Rattle.sporc_head.specs.HeadChecks.{bad_change}
 use Rattle.sporc_wire.specs.Refusals.{refusal_detail_of, plain_refusals, refusal_with}
-
--- what a search finds passes its test
-found_passes : {X : Type 0} (p : X → Bool) (xs : List X) (x : X) → find p xs ≡ Some x → p x ≡ true
-found_passes {X} p [] x e = absurd cc
-found_passes {X} p (y ∷ ys) x e = go (p y) refl (found_passes p ys x) e
-  where
-    go : (b : Bool) → p y ≡ b → (find p ys ≡ Some x → p x ≡ true) → cond b (Some y) (find p ys) ≡ Some x → p x ≡ true
-    go true is later e = let y-is : y ≡ x = cc in let P : X → Type 0 = λ z. p z ≡ true in subst P y-is is
-    go false is later e = later e
 
 -- the two numbers are the refusal's
 pub record HasNumbers (refusal : Refusal) (m n : ℕ) : Type 0 where
@@ -57,7 +49,7 @@ refusal_takes code detail r positive e = go (eqb code 1) (eqb code 18) (eqb deta
         subst P is (record { code = sym (eqb-true code 1 p); detail = refl; kind = not_memory (Malformed detail) code (sym (eqb-true code 1 p)) positive })
     go false true c p q s e =
         let is = bad_change_is (change_fault_with_code detail) r e in
-        let found = found_passes (λ f. change_fault_code_of f == detail) (NumberUsed ∷ NotMember ∷ SameRole ∷ LastAdmin ∷ RosterFull ∷ BadKey ∷ []) is.0 is.1 in
+        let found = found_passes (λ f. change_fault_code_of f == detail) change_faults is.0 is.1 in
         let P : Refusal → Type 0 = λ x. HasNumbers x code detail in
         subst P is.2 (record { code = sym (eqb-true code 18 q); detail = eqb-true _ _ found; kind = not_memory (BadChange is.0) code (sym (eqb-true code 18 q)) positive })
     go false false true p q s e =
@@ -76,6 +68,12 @@ bad_change_again SameRole = refl
 bad_change_again LastAdmin = refl
 bad_change_again RosterFull = refl
 bad_change_again BadKey = refl
+bad_change_again DeviceUsed = refl
+bad_change_again NoDevice = refl
+bad_change_again LastDevice = refl
+bad_change_again DevicesFull = refl
+bad_change_again NotUpgraded = refl
+bad_change_again AlreadyUpgraded = refl
 
 pub refusal_again : (r : Refusal) → r ≢ Memory → refusal_with (refusal_code_of r) (refusal_detail_of r) ≡ Some r
 unfolding refusal_with
@@ -83,6 +81,6 @@ refusal_again Memory is = absurd (is refl)
 refusal_again (BadChange fault) is = ap bad_change (bad_change_again fault)
 refusal_again _ is = refl
 
-pub code_within : (r : Refusal) → r ≢ Memory → (1 ≤ refusal_code_of r) × (refusal_code_of r ≤ 21)
+pub code_within : (r : Refusal) → r ≢ Memory → (1 ≤ refusal_code_of r) × (refusal_code_of r ≤ 23)
 code_within Memory is = absurd (is refl)
 code_within _ is = (omega arith, omega arith)

@@ -1,9 +1,9 @@
--- A refusal as two numbers: that of its check, from 1 to 21, and a detail.
+-- A refusal as two numbers: that of its check, from 1 to 23, and a detail.
 use Rattle.std.specs.Prelude.{ℕ, ◌==◌, List, [], ◌∷◌, Option, None, Some, find, if◌then◌else◌}
 use Rattle.sporc_member.specs.ChangeFault.{change_fault_code_of, change_fault_with_code}
 use Rattle.sporc_head.specs.HeadChecks.{bad_change}
 use Rattle.sporc_head.specs.declared.refusal.Refusal.{Refusal}
-use Rattle.sporc_head.specs.declared.refusal.Refusal.TheVariants.{Malformed, WrongDocument, WrongPosition, Removed, HistoryFull, UnknownAuthor, BaseAhead, BeforeBarrier, WrongHistory, WrongNumber, BehindOwn, WrongEpoch, NoRight, LeafMismatch, BadSignature, BadPayload, WrongLength, BadChange, WrongWraps, NoKey, WrongKey}
+use Rattle.sporc_head.specs.declared.refusal.Refusal.TheVariants.{Malformed, WrongDocument, WrongPosition, Removed, HistoryFull, UnknownAuthor, BaseAhead, BeforeBarrier, WrongHistory, WrongNumber, BehindOwn, WrongEpoch, NoRight, LeafMismatch, BadSignature, BadPayload, WrongLength, BadChange, WrongWraps, NoKey, WrongKey, WrongVersion, UnknownDevice}
 use Rattle.sporc_head.specs.Refusal.{refusal_code_of}
 
 -- the detail: where an entry is malformed, which fault a change has, and else 0
@@ -14,7 +14,9 @@ refusal_detail_of _ = 0
 
 -- the refusals with no detail
 abbrev pub plain_refusals : List Refusal
-plain_refusals = WrongDocument ∷ WrongPosition ∷ Removed ∷ HistoryFull ∷ UnknownAuthor ∷ BaseAhead ∷ BeforeBarrier ∷ WrongHistory ∷ WrongNumber ∷ BehindOwn ∷ WrongEpoch ∷ NoRight ∷ LeafMismatch ∷ BadSignature ∷ BadPayload ∷ WrongLength ∷ WrongWraps ∷ NoKey ∷ WrongKey ∷ []
+plain_refusals =
+    WrongDocument ∷ WrongPosition ∷ Removed ∷ HistoryFull ∷ UnknownAuthor ∷ BaseAhead ∷ BeforeBarrier ∷ WrongHistory ∷ WrongNumber ∷ BehindOwn
+    ∷ WrongEpoch ∷ NoRight ∷ LeafMismatch ∷ BadSignature ∷ BadPayload ∷ WrongLength ∷ WrongWraps ∷ NoKey ∷ WrongKey ∷ WrongVersion ∷ UnknownDevice ∷ []
 
 -- the refusal with these two numbers, if there is one
 unfoldable pub refusal_with : ℕ → ℕ → Option Refusal

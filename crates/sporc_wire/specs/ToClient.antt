@@ -12,7 +12,6 @@ use Rattle.sporc_bytes.specs.Fields.{Reading, ◌>>=◌, number_at, counted_at, 
 use Rattle.sporc_head.specs.declared.refusal.Refusal.TheVariants.{Memory}
 use Rattle.sporc_head.specs.Refusal.{refusal_code_of}
 use Rattle.sporc_wire.specs.Refusals.{refusal_detail_of, refusal_with}
-use Rattle.sporc_wire.specs.declared.cutter.TheConstants.{MAX_BODY}
 use Rattle.sporc_wire.specs.declared.to_client.ToClient.{ToClient}
 use Rattle.sporc_wire.specs.declared.to_client.ToClient.TheVariants.{Ordered, Rejected, Entries, Empty}
 use Rattle.sporc_wire.specs.declared.to_client.TheConstants.{ORDERED, REJECTED, ENTRIES, EMPTY, MAX_PULLED, MAX_CODE}

@@ -22,7 +22,7 @@ pub fn numbers_of_the_format()
     ensures rejected { REJECTED ≡ 2 }
     ensures entries { ENTRIES ≡ 3 }
     ensures empty { EMPTY ≡ 4 }
-    ensures max_code { MAX_CODE ≡ 21 }
+    ensures max_code { MAX_CODE ≡ 23 }
     ensures max_pulled { MAX_PULLED ≡ 16 }
     ensures max_body { MAX_BODY ≡ 4194304 }
 {}

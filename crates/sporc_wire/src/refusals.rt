@@ -56,6 +56,8 @@ fn plain(code: u8) -> Option<Refusal>
         19 => Some(Refusal::WrongWraps),
         20 => Some(Refusal::NoKey),
         21 => Some(Refusal::WrongKey),
+        22 => Some(Refusal::WrongVersion),
+        23 => Some(Refusal::UnknownDevice),
         _ => None,
     }
 }

@@ -27,8 +27,8 @@ pub(crate) const ENTRIES: u8 = 3;
 
 const EMPTY: u8 = 4;
 
-// The number of the last check.
-const MAX_CODE: u8 = 21;
+// The greatest number of a check.
+const MAX_CODE: u8 = 23;
 
 /// How many entries one answer holds at most.
 pub const MAX_PULLED: u8 = 16;

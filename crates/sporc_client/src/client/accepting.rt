@@ -1,9 +1,10 @@
 //! Entries that come.
 
-ghost use Rattle.std.specs.Prelude.{◌≡◌, ◌<◌, ◌≤◌, ◌++◌, ◌==◌, length, is_some, nat_lt, IfOk, IfSome, OnOk, OnErr};
+ghost use Rattle.std.specs.Prelude.{◌≡◌, ◌<◌, ◌≤◌, ◌++◌, length, is_some, nat_lt, IfOk, IfSome, OnOk, OnErr};
 ghost use Rattle.sporc_base.specs.FirstFault.{AnswersUnless};
 ghost use Rattle.sporc_suffix.specs.Runs.{IsReadyAt};
-ghost use Rattle.sporc_entry.specs.Entry.{change_of};
+ghost use Rattle.sporc_member.specs.Device.{same_device};
+ghost use Rattle.sporc_entry.specs.Entry.{author_device, change_of};
 ghost use Rattle.sporc_head.specs.Examined.{IsExact};
 ghost use Rattle.sporc_line.specs.LineChecks.{first_fault};
 ghost use Rattle.sporc_line.specs.Prepared.{IsPrepared};
@@ -25,6 +26,7 @@ use crate::workspace::Workspace;
 use sporc_base::Memory;
 use sporc_head::{Examined, Refusal, Verdict};
 use sporc_line::{Line, Prepared};
+use sporc_member::Device;
 use sporc_outside::LeafDisk;
 use sporc_suffix::ReadyForm;
 use std::alloc::Global;
@@ -33,7 +35,7 @@ impl<D: LeafDisk> Client<D> {
     /// Accepts an entry that is to stand at a position, if no check fails. The length of the journal.
     ///
     /// The entry on its way commits the first pending item. Another's edit and the pending edits pass each other: the
-    /// other's is ordered earlier. A change, or another entry of the member's own, ends the way of the entry on its way.
+    /// other's is ordered earlier. A change, or another entry of the device's own, ends the way of the entry on its way.
     pub fn accept(&mut self, by: u32, pos: u32, bytes: &[u8]) -> Result<u64, AcceptFault>
         ensures fault { AnswersUnless AcceptFault.Memory result (accept_fault (state_of self.old) pos bytes.now) }
         ensures ok { IfOk result (λ n. n ≡ length self.new.log) }
@@ -99,7 +101,7 @@ fn take_entry(
     ensures unchanged_line { OnErr result (line.new ≡ line.old) }
     ensures unchanged { OnErr result (SameOwn own.old own.new) }
 {
-    match ready_coming(alloc, line.me(), own, &prepared, bytes) {
+    match ready_coming(alloc, line.own_device(), own, &prepared, bytes) {
         Ok((coming, ready)) => {
             line.commit(prepared);
             let place = line.len();
@@ -116,14 +118,14 @@ fn take_entry(
 // What a prepared entry, of these bytes, does to a client's own part, and its shown delta with the memory of its event.
 fn ready_coming(
     alloc: Global,
-    me: u16,
+    me: Device,
     own: &mut Workspace,
     prepared: &Prepared,
     bytes: &[u8],
 ) -> Result<(Coming, ReadyForm), Memory>
     requires bytes { prepared.now.checked.bytes ≡ bytes.now }
     requires settles { CanSettle own.old prepared.now }
-    ensures coming { IfOk result (λ both. effect both.0 own.old.pending ≡ coming_of (is_same_as own.old.flight bytes.now) (is_some (change_of prepared.now.checked.entry)) (prepared.now.checked.entry.header.author == me) prepared.now.form own.old.pending) }
+    ensures coming { IfOk result (λ both. effect both.0 own.old.pending ≡ coming_of (is_same_as own.old.flight bytes.now) (is_some (change_of prepared.now.checked.entry)) (same_device (author_device prepared.now.checked.entry.header) me) prepared.now.form own.old.pending) }
     ensures fits { IfOk result (λ both. CanCome both.0 own.old.pending) }
     ensures ready { IfOk result (λ both. both.1.form ≡ form_at own.old prepared.now) }
     ensures made { IfOk result (λ both. IsReadyAt 0 own.new.shown both.1) }

@@ -8,6 +8,7 @@ use crate::checks::{check, check_at, check_stop};
 use sporc_epoch::{Pairs, Ring};
 use sporc_head::Refusal;
 use sporc_line::Line;
+use sporc_member::FIRST_DEVICE;
 use sporc_order::Order;
 use sporc_samples::{Cast, DOCUMENT, History, epoch_key, pair_key};
 use sporc_store::{Stop, load, load_order, read_saved};
@@ -30,7 +31,7 @@ pub(super) fn founded(rt: &impl Abort, alloc: Global, cast: &Cast, me: u16) -> B
     let inserted: Result<_, _> = pairs.insert(1, pair_key(me, 1));
     inserted.expect(rt, "memory");
     let genesis = cast.genesis(alloc).expect(rt, "a genesis");
-    let line = Line::open(alloc, genesis, me, ring, pairs).expect(rt, "a line");
+    let line = Line::open(alloc, genesis, me, FIRST_DEVICE, ring, pairs).expect(rt, "a line");
     Box::new(alloc, line).expect(rt, "memory")
 }
 

@@ -72,7 +72,8 @@ fn add_edit(
 // Member 5's edit with this header, which inserts an `x` behind two characters.
 fn late_edit(rt: &impl Abort, alloc: Global, cast: &Cast, header: Header) -> Vec<u8> {
     let delta = insertion(alloc, 2, b"x").expect(rt, "memory");
-    let body = edit_body(alloc, 5, header.leaf, header.epoch, delta.as_slice()).expect(
+    let device = header.author_device();
+    let body = edit_body(alloc, device, header.leaf, header.epoch, delta.as_slice()).expect(
         rt, "memory",
     );
     let member = cast.member(5).expect(rt, "member 5");

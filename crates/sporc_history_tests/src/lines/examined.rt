@@ -104,7 +104,7 @@ fn next_edit(rt: &impl Abort, alloc: Global, sample: &History, author: &Member) 
     let delta = insertion(alloc, 3, b"d").expect(rt, "memory");
     let body = edit_body(
         alloc,
-        header.author,
+        header.author_device(),
         header.leaf,
         header.epoch,
         delta.as_slice(),

@@ -13,8 +13,14 @@ use sporc_samples::{Cast, Draft, EDIT, History, Member, epoch_key};
 use std::alloc::Global;
 use std::process::Abort;
 
-// Whether a line has so many entries, this text, and this key of the last epoch.
-fn reads(rt: &impl Abort, line: &Line, len: u32, text: &str, key: Option<[u8; 32]>) -> bool {
+/// Whether a line has so many entries, this text, and this key of the last epoch.
+pub(crate) fn reads(
+    rt: &impl Abort,
+    line: &Line,
+    len: u32,
+    text: &str,
+    key: Option<[u8; 32]>,
+) -> bool {
     let found = line.text().expect(rt, "memory");
     line.len() == len
         && found.as_str() == text
@@ -62,7 +68,7 @@ fn is_removed_again(rt: &impl Abort, alloc: Global, line: &Line, sample: &Histor
 
 // It refuses an edit that fails all later checks, too.
 fn refuses_worse(rt: &impl Abort, alloc: Global, cast: &Cast, line: &mut Line, sample: &History) {
-    let worse = spoilt(&Draft::new(sample.header(2, EDIT)), line.hashes());
+    let worse = spoilt(&Draft::new(sample.header(2, EDIT)), line.heads());
     let found = tried(rt, alloc, cast, line, &worse, 4, &[5]);
     check(rt, "removed", is_refusal(found, Refusal::Removed));
 }

@@ -1,11 +1,11 @@
 //! Each check of an entry refuses one that fails it alone, and one that fails all that come after it, too.
 
 use crate::checks::{check, check_at, is_refusal};
-use crate::lines::scene::{founded, given, insert, take, unpaired};
-use crate::samples::{empty_sample, short_sample};
+use crate::lines::scene::{change, founded, given, insert, take, unpaired};
+use crate::samples::{empty_sample, short_sample, upgraded_sample};
 use sporc_entry::Header;
 use sporc_hash::Digest32;
-use sporc_head::Refusal;
+use sporc_head::{Heads, Refusal};
 use sporc_line::Line;
 use sporc_member::{Change, ChangeFault, Role};
 use sporc_samples::{CHANGE, Cast, Draft, EDIT, History, change_body, edit_body, insertion};
@@ -15,6 +15,9 @@ use std::process::Abort;
 // No value of the chain.
 const NOWHERE: Digest32 = [0; 32];
 
+// No number of an entry.
+const NO_NUMBER: u32 = 99;
+
 // Makes a header state this base, and its hash unless the hash is to be wrong.
 fn state_base(header: &mut Header, hashes: &[Digest32], base: u32) {
     header.base = base;
@@ -23,19 +26,34 @@ fn state_base(header: &mut Header, hashes: &[Digest32], base: u32) {
     }
 }
 
-// Makes an edit fail the check of this refusal, at the short history.
-fn spoil(draft: &mut Draft, hashes: &[Digest32], refusal: Refusal) {
+// Makes a header name a device that its author does not have, with the number of its first entry unless the number is to be
+// wrong.
+fn name_a_device(header: &mut Header) {
+    header.device = 9;
+    if header.number != NO_NUMBER {
+        header.number = 1;
+    }
+}
+
+// Makes an edit fail the check of this refusal, at the short history or the upgraded one.
+fn spoil(draft: &mut Draft, heads: &Heads, refusal: Refusal) {
     let header = &mut draft.header;
     match refusal {
         Refusal::WrongDocument => header.document = [8; 16],
+        // An entry of version 1 is by device 0.
+        Refusal::WrongVersion if header.version == 2 => (header.version, header.device) = (1, 0),
+        Refusal::WrongVersion => header.version = 2,
         Refusal::UnknownAuthor => header.author = 4,
+        Refusal::UnknownDevice if header.version == 2 => name_a_device(header),
         Refusal::BaseAhead => header.base = u32::MAX,
-        Refusal::BeforeBarrier => state_base(header, hashes, 2),
+        Refusal::BeforeBarrier => {
+            state_base(header, heads.hashes(), heads.barrier().wrapping_sub(1))
+        }
         Refusal::WrongHistory => header.base_hash = NOWHERE,
-        Refusal::WrongNumber => header.number = 9,
+        Refusal::WrongNumber => header.number = NO_NUMBER,
         Refusal::BehindOwn => {
-            (header.author, header.number) = (5, 2);
-            state_base(header, hashes, 3);
+            (header.author, header.number) = (5, heads.count_of(5, 0).wrapping_add(1));
+            state_base(header, heads.hashes(), heads.barrier());
         }
         Refusal::WrongEpoch => header.epoch = 9,
         Refusal::NoRight => (header.author, header.number) = (3, 1),
@@ -68,8 +86,8 @@ pub(crate) fn tried(
     given(line, position, bytes.as_slice())
 }
 
-// The refusals of an edit's header, by the last check and those before it. The tenth is that of its author.
-const REFUSALS: [Refusal; 12] = [
+// The refusals of an edit's header, by the last check and those before it. The eleventh is that of its author.
+const REFUSALS: [Refusal; 14] = [
     Refusal::BadSignature,
     Refusal::LeafMismatch,
     Refusal::NoRight,
@@ -79,16 +97,18 @@ const REFUSALS: [Refusal; 12] = [
     Refusal::WrongHistory,
     Refusal::BeforeBarrier,
     Refusal::BaseAhead,
+    Refusal::UnknownDevice,
     Refusal::UnknownAuthor,
+    Refusal::WrongVersion,
     Refusal::WrongPosition,
     Refusal::WrongDocument,
 ];
 
 /// An edit that fails all checks from that of its author on.
-pub(crate) fn spoilt(good: &Draft, hashes: &[Digest32]) -> Draft {
+pub(crate) fn spoilt(good: &Draft, heads: &Heads) -> Draft {
     let mut draft = *good;
-    for refusal in REFUSALS.iter().take(10) {
-        spoil(&mut draft, hashes, *refusal);
+    for refusal in REFUSALS.iter().take(11) {
+        spoil(&mut draft, heads, *refusal);
     }
     draft
 }
@@ -106,18 +126,19 @@ fn refuses(
     refusal: Refusal,
 ) -> bool {
     let mut alone = *good;
-    spoil(&mut alone, line.hashes(), refusal);
-    spoil(worse, line.hashes(), refusal);
+    spoil(&mut alone, line.heads(), refusal);
+    spoil(worse, line.heads(), refusal);
     let position = place(line, refusal);
     let found = tried(rt, alloc, cast, line, &alone, position, body);
     let found_worse = tried(rt, alloc, cast, line, worse, position, &[5]);
     is_refusal(found, refusal) && is_refusal(found_worse, refusal)
 }
 
-// The body of member 2's next edit of the short history: it keeps so many characters and inserts one.
-fn body_keeping(rt: &impl Abort, alloc: Global, keep: u64) -> Vec<u8> {
+// The body of an edit with this header: it keeps so many characters and inserts one.
+fn body_keeping(rt: &impl Abort, alloc: Global, header: &Header, keep: u64) -> Vec<u8> {
     let delta = insertion(alloc, keep, b"e").expect(rt, "memory");
-    edit_body(alloc, 2, 1, 1, delta.as_slice()).expect(rt, "memory")
+    let device = header.author_device();
+    edit_body(alloc, device, header.leaf, header.epoch, delta.as_slice()).expect(rt, "memory")
 }
 
 // Edits whose body fails, and one that fails no check.
@@ -129,10 +150,11 @@ fn bodies_refused(
     good: &Draft,
     body: &[u8],
 ) {
-    let long = body_keeping(rt, alloc, 5);
-    let found = tried(rt, alloc, cast, line, good, 5, long.as_slice());
+    let next = line.len().wrapping_add(1);
+    let long = body_keeping(rt, alloc, &good.header, 99);
+    let found = tried(rt, alloc, cast, line, good, next, long.as_slice());
     check(rt, "long edit", is_refusal(found, Refusal::WrongLength));
-    let found = tried(rt, alloc, cast, line, good, 5, &[5]);
+    let found = tried(rt, alloc, cast, line, good, next, &[5]);
     check(rt, "no delta", is_refusal(found, Refusal::BadPayload));
     check(
         rt,
@@ -142,11 +164,11 @@ fn bodies_refused(
     check(
         rt,
         "good edit",
-        tried(rt, alloc, cast, line, good, 5, body).is_none(),
+        tried(rt, alloc, cast, line, good, next, body).is_none(),
     );
 }
 
-// Edits whose header fails.
+// Edits whose header fails. Before the Upgrade no entry names a device.
 fn headers_refused(
     rt: &impl Abort,
     alloc: Global,
@@ -157,24 +179,33 @@ fn headers_refused(
 ) {
     let mut worse = *good;
     for refusal in &REFUSALS {
-        let refused = refuses(rt, alloc, cast, line, good, body, &mut worse, *refusal);
-        check_at(rt, "refusal", u64::from(refusal.code()), refused);
+        if *refusal != Refusal::UnknownDevice || good.header.version == 2 {
+            let refused = refuses(rt, alloc, cast, line, good, body, &mut worse, *refusal);
+            check_at(rt, "refusal", u64::from(refusal.code()), refused);
+        }
     }
 }
 
-// Edits of all these kinds at the line of a member who accepted the short history.
-fn edits_refused(rt: &impl Abort, alloc: Global, cast: &Cast, line: &mut Line, good: &Draft) {
-    let body = body_keeping(rt, alloc, 4);
+// Edits of all these kinds at the line of a member who accepted a history, whose text has so many characters.
+fn edits_refused(
+    rt: &impl Abort,
+    alloc: Global,
+    cast: &Cast,
+    line: &mut Line,
+    good: &Draft,
+    len: u64,
+) {
+    let body = body_keeping(rt, alloc, &good.header, len);
     headers_refused(rt, alloc, cast, line, good, body.as_slice());
     bodies_refused(rt, alloc, cast, line, good, body.as_slice());
 }
 
 // The same, at the line of editor 2.
-fn edits_refused_by(rt: &impl Abort, alloc: Global, cast: &Cast, sample: &History) {
+fn edits_refused_by(rt: &impl Abort, alloc: Global, cast: &Cast, sample: &History, len: u64) {
     let mut line = founded(rt, alloc, cast, 2);
     take(rt, &mut line, sample, None);
     let good = Draft::new(sample.header(2, EDIT));
-    edits_refused(rt, alloc, cast, &mut line, &good);
+    edits_refused(rt, alloc, cast, &mut line, &good, len);
 }
 
 const EDITOR: Change = Change::SetRole {
@@ -192,7 +223,7 @@ const TWICE: &[u16] = &[1, 2, 2, 3, 4, 5];
 
 const NOT_MEMBER: Refusal = Refusal::BadChange(ChangeFault::NotMember);
 
-// A change, the epoch that its keys end, the members that its wraps name, and why it is refused.
+// A change, how far the epoch that its keys end is ahead, the members that its wraps name, and why it is refused.
 type Row = (Change, u32, &'static [u16], Refusal);
 
 // Changes that fail one check, at the line of a member who shares a key with their author.
@@ -212,7 +243,7 @@ const WORSE: [Row; 4] = [
     (STRANGER, 1, FEW, NOT_MEMBER),
 ];
 
-// Gives a line of one edit a change by the admin.
+// Gives a line a change.
 fn tries_change(
     rt: &impl Abort,
     alloc: Global,
@@ -221,9 +252,20 @@ fn tries_change(
     draft: &Draft,
     row: &Row,
 ) {
-    let (change, epoch, wraps, refusal) = *row;
-    let body = change_body(alloc, change, 1, 0, epoch, wraps).expect(rt, "a body");
-    let found = tried(rt, alloc, cast, line, draft, 2, body.as_slice());
+    let (change, ahead, wraps, refusal) = *row;
+    let header = &draft.header;
+    let epoch = header.epoch.wrapping_add(ahead);
+    let body = change_body(
+        alloc,
+        change,
+        header.author_device(),
+        header.leaf,
+        epoch,
+        wraps,
+    )
+    .expect(rt, "a body");
+    let next = line.len().wrapping_add(1);
+    let found = tried(rt, alloc, cast, line, draft, next, body.as_slice());
     check_at(
         rt,
         "change",
@@ -232,17 +274,18 @@ fn tries_change(
     );
 }
 
-// Gives a line a history, and then changes.
+// Gives a line a history, and then changes by this author.
 fn changes_refused(
     rt: &impl Abort,
     alloc: Global,
     cast: &Cast,
     sample: &History,
     line: &mut Line,
+    author: u16,
     rows: &[Row],
 ) {
     take(rt, line, sample, None);
-    let draft = Draft::new(sample.header(1, CHANGE));
+    let draft = Draft::new(sample.header(author, CHANGE));
     for row in rows {
         tries_change(rt, alloc, cast, line, &draft, row);
     }
@@ -251,13 +294,13 @@ fn changes_refused(
 // At the line of editor 2.
 fn refused_alone(rt: &impl Abort, alloc: Global, cast: &Cast, sample: &History) {
     let mut line = founded(rt, alloc, cast, 2);
-    changes_refused(rt, alloc, cast, sample, &mut line, &ALONE);
+    changes_refused(rt, alloc, cast, sample, &mut line, 1, &ALONE);
 }
 
 // At that of editor 5, who shares no key.
 fn refused_worse(rt: &impl Abort, alloc: Global, cast: &Cast, sample: &History) {
     let mut line = unpaired(rt, alloc, cast, 5);
-    changes_refused(rt, alloc, cast, sample, &mut line, &WORSE);
+    changes_refused(rt, alloc, cast, sample, &mut line, 1, &WORSE);
 }
 
 // Both, after one edit.
@@ -267,11 +310,35 @@ fn refused_at_both(rt: &impl Abort, alloc: Global, cast: &Cast, sample: &mut His
     refused_worse(rt, alloc, cast, sample);
 }
 
+const ADMIN: Change = Change::SetRole {
+    member: 2,
+    role: Role::Admin,
+};
+
+// The same behind an Upgrade, which both accept: admin 2, with whom editor 5 shares no key, makes those that fail all checks from
+// one on.
+fn refused_behind_an_upgrade(rt: &impl Abort, alloc: Global, cast: &Cast, sample: &mut History) {
+    change(rt, alloc, cast, sample, ADMIN, ALL);
+    change(rt, alloc, cast, sample, Change::Upgrade, ALL);
+    refused_alone(rt, alloc, cast, sample);
+    let mut line = founded(rt, alloc, cast, 5);
+    changes_refused(rt, alloc, cast, sample, &mut line, 2, &WORSE);
+}
+
+// The short history's text has four characters, the upgraded one's five.
 #[test]
-fn each_check_of_an_edit_and_of_a_change_refuses(rt: HostRuntime) {
+fn each_check_of_an_edit_refuses(rt: HostRuntime) {
     let cast = Cast::new(rt.alloc()).expect(&rt, "a cast");
     let sample = short_sample(&rt, rt.alloc(), &cast);
-    edits_refused_by(&rt, rt.alloc(), &cast, &sample);
+    edits_refused_by(&rt, rt.alloc(), &cast, &sample, 4);
+    let sample = upgraded_sample(&rt, rt.alloc(), &cast);
+    edits_refused_by(&rt, rt.alloc(), &cast, &sample, 5);
+}
+
+#[test]
+fn each_check_of_a_change_refuses(rt: HostRuntime) {
+    let cast = Cast::new(rt.alloc()).expect(&rt, "a cast");
     let mut sample = empty_sample(&rt, rt.alloc(), &cast);
     refused_at_both(&rt, rt.alloc(), &cast, &mut sample);
+    refused_behind_an_upgrade(&rt, rt.alloc(), &cast, &mut sample);
 }

@@ -1,10 +1,12 @@
 //! Lines of the sample document, and what they are given.
 
+ghost use Rattle.std.specs.Prelude.{◌≡◌, []};
+
 use crate::checks::check;
 use sporc_epoch::{Pairs, Ring};
 use sporc_head::Refusal;
 use sporc_line::Line;
-use sporc_member::Change;
+use sporc_member::{Change, FIRST_DEVICE};
 use sporc_samples::{Cast, History, Member, epoch_key, insertion, pair_key};
 use std::alloc::Global;
 use std::process::Abort;
@@ -32,14 +34,18 @@ pub(crate) fn opened(
     me: u16,
     ring: Ring,
     pairs: Pairs,
-) -> Box<Line> {
+) -> Box<Line>
+    ensures { result.value.entries ≡ [] }
+{
     let genesis = cast.genesis(alloc).expect(rt, "a genesis");
-    let line = Line::open(alloc, genesis, me, ring, pairs).expect(rt, "a line");
+    let line = Line::open(alloc, genesis, me, FIRST_DEVICE, ring, pairs).expect(rt, "a line");
     Box::new(alloc, line).expect(rt, "memory")
 }
 
 /// The empty line of a founder who shares a key with the admin.
-pub(crate) fn founded(rt: &impl Abort, alloc: Global, cast: &Cast, me: u16) -> Box<Line> {
+pub(crate) fn founded(rt: &impl Abort, alloc: Global, cast: &Cast, me: u16) -> Box<Line>
+    ensures { result.value.entries ≡ [] }
+{
     let ring = founder_ring(rt, alloc);
     let pairs = paired(rt, alloc, me);
     opened(rt, alloc, cast, me, ring, pairs)

@@ -21,6 +21,7 @@ use crate::prepared::Prepared;
 use sporc_base::Memory;
 use sporc_delta::Delta;
 use sporc_entry::ChangeBody;
+use sporc_epoch::stream_of;
 use sporc_head::{Checked, Examined, Refusal, Verdict};
 
 impl Line {
@@ -161,13 +162,7 @@ impl Line {
         let Some(key) = self.key() else {
             return Err(Refusal::BadPayload);
         };
-        let marks = read_payload(
-            self.allocator(),
-            key,
-            header.author,
-            header.leaf,
-            checked.body(),
-        )?;
+        let marks = read_payload(self.allocator(), key, stream_of(header), checked.body())?;
         if marks.base_len() != self.text_len_at(header.base) {
             return Err(Refusal::WrongLength);
         }
@@ -189,7 +184,7 @@ impl Line {
         let epoch = self.heads().epoch() + 1;
         let key = self.kit().started_key(checked.header(), body, epoch);
         let old = self.key().copied();
-        check_new_key(self.document(), self.me(), epoch, body, old, key)?;
+        check_new_key(self.document(), self.own_device(), epoch, body, old, key)?;
         let form = Delta::keep_all(self.allocator(), self.text_len_at(len))?;
         Ok(Effect { form, key })
     }

@@ -2,4 +2,4 @@ use Rattle.sporc_client.proofs.Makings.{can_make, made_allowed}
 use Rattle.sporc_client.proofs.laws.allowed_submissions_can_be_made.Goals as goal
 
 pub returns : goal.returns
-returns c = record { made = λ s moves n who by c entry run at typed. (can_make s moves n who by c entry run at typed, made_allowed s moves n who by c entry run at) }
+returns c = record { made = λ s moves n by who c entry run at typed. (can_make s moves n by who c entry run at typed, made_allowed s moves n by who c entry run at) }

@@ -1,11 +1,12 @@
 //! An entry from its draft to its bytes.
 
-ghost use Rattle.std.specs.Prelude.{◌≡◌, ◌+◌, ◌≤◌, ◌<◌, ◌^◌, ◌++◌, length, vec_len, vec_capacity, IfOk, IfErr};
+ghost use Rattle.std.specs.Prelude.{◌≡◌, true, ◌+◌, ◌≤◌, ◌<◌, ◌^◌, ◌++◌, length, vec_len, vec_capacity, IfOk, IfErr};
 ghost use Rattle.lms_tree.specs.LmsType.{height_of};
 ghost use Rattle.lms_tree.specs.Signatures.{lms_signature_of};
 ghost use Rattle.lms_tree.specs.Verification.{lms_signature_len_of};
 ghost use Rattle.sporc_entry.specs.declared.limits.TheConstants.{MAX_ENTRY, MAX_SIGNATURE};
 ghost use Rattle.sporc_entry.specs.Entry.{entry_bytes, signed_string};
+ghost use Rattle.sporc_entry.specs.Version.{fits_version};
 ghost use Rattle.sporc_client.specs.Drafts.{AreCopies, HasRoom, IsDraft, prefix_bytes};
 
 use lms_sign::{Signer, Ticket};
@@ -45,6 +46,7 @@ pub(crate) fn sign_entry<D: LeafDisk>(
     entry: &Entry,
 ) -> Result<Made, (Ticket, Memory)>
     requires can_sign { ticket < 2 ^ height_of signer.old.key.lms }
+    requires version { fits_version entry.now.header.version entry.now.header.device ≡ true }
     requires body { length entry.now.body < 2 ^ 32 }
     requires size { length (signed_string entry.now) ≤ MAX_ENTRY }
     ensures made { IfOk result (AreCopies (entry_bytes (record entry.now { signature = lms_signature_of signer.old.key ticket randomizer.now (signed_string entry.now) }))) }
@@ -63,6 +65,7 @@ pub(crate) fn sign_entry<D: LeafDisk>(
 
 // The draft of an entry for a signature under a key. It takes all memory of the entry's bytes.
 fn write_draft(alloc: Global, key: &LmsPublic, entry: &Entry) -> Result<Draft, Memory>
+    requires version { fits_version entry.now.header.version entry.now.header.device ≡ true }
     requires body { length entry.now.body < 2 ^ 32 }
     requires size { length (signed_string entry.now) ≤ MAX_ENTRY }
     ensures draft { IfOk result (IsDraft (lms_signature_len_of key.now) entry.now) }

@@ -1,17 +1,19 @@
 //! The entry of a pending item, before it is signed.
 
-ghost use Rattle.std.specs.Prelude.{◌≡◌, ◌+◌, ◌≤◌, [], length, Some, IfOk, OnOk};
+ghost use Rattle.std.specs.Prelude.{◌≡◌, ◌+◌, ◌≤◌, [], length, is_some, true, Some, IfOk, OnOk};
 ghost use Rattle.lms_tree.specs.LmsPrivate.{LmsPrivate};
 ghost use Rattle.sporc_cipher.specs.Mask.{mask_of};
 ghost use Rattle.sporc_delta.specs.Format.{delta_bytes};
 ghost use Rattle.sporc_delta.specs.Typed.{IsTypedDelta};
 ghost use Rattle.sporc_entry.specs.ChangeBody.{IsChangeBody};
-ghost use Rattle.sporc_entry.specs.Entry.{IsHeader};
+ghost use Rattle.sporc_entry.specs.Entry.{IsHeader, author_device};
+ghost use Rattle.sporc_entry.specs.Version.{version_of};
 ghost use Rattle.sporc_epoch.specs.Sealing.{body_sealed};
 ghost use Rattle.sporc_epoch.specs.Streams.{entry_stream};
 ghost use Rattle.sporc_head.specs.declared.limits.TheConstants.{MAX_ENTRIES};
-ghost use Rattle.sporc_head.specs.History.{count_of, epoch_of, hash_of};
+ghost use Rattle.sporc_head.specs.History.{count_of, epoch_of, hash_of, roster_of};
 ghost use Rattle.sporc_line.specs.Keys.{key_of};
+ghost use Rattle.sporc_member.specs.Roster.{key_of as key_of_device};
 ghost use Rattle.sporc_client.specs.ClientInvariant.{plain_of};
 ghost use Rattle.sporc_client.specs.Contents.{CanTake, IsSpelled};
 ghost use Rattle.sporc_client.specs.Entries.{body_of, sealing_of, unsigned_entry};
@@ -24,8 +26,8 @@ use crate::pending::Pending;
 use sporc_base::{Bytes, Memory};
 use sporc_cipher::mask;
 use sporc_delta::Delta;
-use sporc_entry::{ChangeBody, Entry, Header, write_change};
-use sporc_epoch::{SealFault, entry_stream, seal_change};
+use sporc_entry::{ChangeBody, Entry, Header, version_of, write_change};
+use sporc_epoch::{SealFault, entry_stream, seal_change_at};
 use sporc_line::Line;
 use sporc_member::Change;
 use std::alloc::{AllocError, Global};
@@ -53,12 +55,14 @@ pub(crate) fn unsigned_entry(
     })
 }
 
-// What stands before the body of the member's next entry of this kind.
+// What stands before the body of the device's next entry of this kind.
 fn next_header(line: &Line, leaf: u32, kind: u8) -> Header
     requires room { length line.now.entries + 1 ≤ MAX_ENTRIES }
     requires kind { (1 ≤ kind) × (kind ≤ 2) }
+    requires live { is_some (key_of_device (roster_of line.now.genesis line.now.entries) line.now.kit.me) ≡ true }
     ensures document { result.document ≡ line.now.genesis.document }
-    ensures author { result.author ≡ line.now.kit.me }
+    ensures version { result.version ≡ version_of (roster_of line.now.genesis line.now.entries).upgraded }
+    ensures author { author_device result ≡ line.now.kit.me }
     ensures number { result.number ≡ count_of line.now.kit.me line.now.entries + 1 }
     ensures base { result.base ≡ length line.now.entries }
     ensures base_hash { result.base_hash ≡ hash_of line.now.genesis line.now.entries }
@@ -68,10 +72,16 @@ fn next_header(line: &Line, leaf: u32, kind: u8) -> Header
     ensures is_header { IsHeader result }
 {
     let heads = line.heads();
+    let roster = heads.roster();
+    let me = line.own_device();
+    // Before the upgrade only first devices are live.
+    let _key = roster.key(me.member, me.number);
     Header {
+        version: version_of(roster.upgraded()),
         document: heads.genesis().document,
-        author: line.me(),
-        number: heads.count_of(line.me()) + 1,
+        author: me.member,
+        device: me.number,
+        number: heads.count_of(me.member, me.number) + 1,
         base: line.len(),
         base_hash: line.hash(),
         epoch: heads.epoch(),
@@ -96,18 +106,18 @@ fn entry_body(
         unreachable!()
     };
     match item {
-        Pending::Edit(delta) => edit_body(key, line.me(), leaf, delta),
+        Pending::Edit(delta) => edit_body(key, entry_stream(line.own_device(), leaf), delta),
         Pending::Change(change) => change_body(alloc, line, key, change, leaf, new_key),
     }
 }
 
 // The bytes of a delta, masked under the key of its epoch.
-fn edit_body(key: &[u8; 32], author: u16, leaf: u32, delta: &Delta) -> Result<Bytes, Memory>
-    ensures value { IfOk result (λ body. body ≡ mask_of key.now (entry_stream author leaf) (delta_bytes delta.now)) }
+fn edit_body(key: &[u8; 32], stream: u64, delta: &Delta) -> Result<Bytes, Memory>
+    ensures value { IfOk result (λ body. body ≡ mask_of key.now stream (delta_bytes delta.now)) }
     ensures typed { OnOk result (IsTypedDelta delta.now) }
 {
     let mut bytes = delta.encode()?;
-    mask(key, entry_stream(author, leaf), bytes.as_mut_slice());
+    mask(key, stream, bytes.as_mut_slice());
     Ok(Bytes::new(bytes))
 }
 
@@ -142,18 +152,18 @@ fn seal(
     requires can_take { CanTake line.now (items.Change change.now) }
     requires key { key_of line.now.genesis line.now.kit line.now.entries (epoch_of line.now.entries) ≡ Some old_key.now }
     ensures value { IfOk result (λ body. (key : LmsPrivate) (own : WorkspaceModel) → body ≡ body_sealed (sealing_of (plain_of key line.now own) (record { leaf = leaf; randomizer = []; new_key = new_key.now }) change.now) line.now.kit.pairs) }
-    ensures spelled { IfOk result IsChangeBody }
+    ensures spelled { IfOk result (IsChangeBody (version_of (roster_of line.now.genesis line.now.entries).upgraded)) }
 {
     let heads = line.heads();
     let members = heads.roster().members_after(change)?;
     let _subject = subject_of(change);
-    match seal_change(
+    match seal_change_at(
         alloc,
         change,
         members.as_slice(),
         &heads.genesis().document,
         line.me(),
-        leaf,
+        entry_stream(line.own_device(), leaf),
         heads.epoch(),
         old_key,
         new_key,
@@ -165,7 +175,7 @@ fn seal(
     }
 }
 
-// The number of the member that a change is of. What the change says is in range.
+// The number of the member that a change is of, 0 if it is of all. What the change says is in range.
 fn subject_of(change: &Change) -> u16
     ensures typed { IsTypedChange change.now }
 {
@@ -175,6 +185,19 @@ fn subject_of(change: &Change) -> u16
             *member
         }
         Change::Remove { member } | Change::SetRole { member, .. } => *member,
+        Change::AddDevice {
+            member,
+            device,
+            key,
+        } => {
+            let _sizes = (*device, key_len(key));
+            *member
+        }
+        Change::DropDevice { member, device } => {
+            let _size = *device;
+            *member
+        }
+        Change::Upgrade => 0,
     }
 }
 

@@ -11,6 +11,7 @@ returns c = rw (
   c.in_ok-put_bytes-2.ensures.ok,
   c.in_ok-put_u32-2.ensures.ok,
   c.in_ok-put_u32.ensures.ok,
+  c.in_ok-put_device.ensures,
   c.in_ok-put_u16.ensures.ok,
   c.in_ok-put_bytes.ensures.ok,
   c.in_ok-put_u8.ensures.ok,

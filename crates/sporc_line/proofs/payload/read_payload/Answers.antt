@@ -1,23 +1,22 @@
-use Rattle.std.proofs.Common.{◌≡◌, ◌≢◌, ℕ, length, arith, Err, Some, ap, sym, ◌∙◌}
+use Rattle.std.proofs.Common.{◌≡◌, ◌≢◌, length, arith, Err, Some, ap, sym, ◌∙◌}
 use Rattle.sporc_cipher.specs.Mask.{mask_of}
 use Rattle.sporc_cipher.proofs.Stream.{length-mask_from}
 use Rattle.sporc_delta.specs.declared.fault.DeltaFault.TheVariants as faults
 use Rattle.sporc_delta.specs.Reading.{read_delta}
-use Rattle.sporc_epoch.specs.Streams.{entry_stream}
 use Rattle.sporc_head.specs.declared.refusal.Refusal.{Refusal}
 use Rattle.sporc_line.proofs.Payloads.{payload_fault}
 use Rattle.sporc_line.proofs.payload.read_payload.Goals as goal
 
 pub decode-requires : goal.decode-requires
 decode-requires c =
-    let same : c.as_slice.result.now ≡ mask_of c.args.key.now c.entry_stream.result c.args.body.now = c.as_slice.ensures.value ∙ c.in_ok-bytes.ensures.ok in
-    record { size = omega (arith, ap length same, length-mask_from c.args.key.now c.entry_stream.result 0 c.args.body.now, c.requires) }
+    let same : c.as_slice.result.now ≡ mask_of c.args.key.now c.args.stream c.args.body.now = c.as_slice.ensures.value ∙ c.in_ok-bytes.ensures.ok in
+    record { size = omega (arith, ap length same, length-mask_from c.args.key.now c.args.stream 0 c.args.body.now, c.requires) }
 
 pub returns-clause-fault : goal.returns-clause-fault
 returns-clause-fault c other =
-    let bytes = mask_of c.args.key.now (entry_stream c.args.author c.args.leaf) c.args.body.now in
+    let bytes = mask_of c.args.key.now c.args.stream c.args.body.now in
     let same : c.as_slice.result.now ≡ bytes =
-    c.as_slice.ensures.value ∙ c.in_ok-bytes.ensures.ok ∙ ap (λ (n : ℕ). mask_of c.args.key.now n c.args.body.now) c.entry_stream.ensures.value in
+    c.as_slice.ensures.value ∙ c.in_ok-bytes.ensures.ok in
     let read : c.in-Err.fault ≢ faults.Memory → read_delta bytes ≡ Err c.in-Err.fault = λ n. ap read_delta (sym same) ∙ c.in-Err.ensures.err n in
     let is = c.refusal_of.ensures.value in
     payload_fault (read_delta bytes) c.in-Err.fault read (λ e. other (is ∙ e)) ∙ ap (λ (r : Refusal). Some r) (sym is)

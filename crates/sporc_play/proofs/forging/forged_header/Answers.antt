@@ -1,6 +1,7 @@
 use Rattle.std.proofs.Common.{List, ℕ, ◌+◌, length, ap, sym, ◌∙◌}
 use Rattle.sporc_entry.specs.declared.genesis.Genesis.{Genesis}
 use Rattle.sporc_head.specs.History.{count_of, epoch_of}
+use Rattle.sporc_member.specs.Device.{first_device}
 use Rattle.sporc_client.specs.ClientModel.{state_of}
 use Rattle.sporc_client.specs.PlainClient.{Opening}
 use Rattle.sporc_client.proofs.Calls.{replay_opening}
@@ -16,7 +17,7 @@ returns c =
     let suffix = f.signed.suffix in
     header_same (state_of client) f c.args.leaf _ _ _ _ _ _ _
     (ap (λ (g : Genesis). g.document) (c.genesis.ensures.value ∙ e.genesis) ∙ ap (λ (o : Opening). o.genesis.document) (sym (replay_opening client.opening client.log)))
-    (c.number_by.ensures ∙ ap (λ (n : ℕ). number_by suffix (n + 1)) (c.count_of.ensures.value ∙ ap (count_of f.member) e.entries))
+    (c.number_by.ensures ∙ ap (λ (n : ℕ). number_by suffix (n + 1)) (c.count_of.ensures.value ∙ ap (count_of (first_device f.member)) e.entries))
     c.value_at.ensures
     (c.base_by-base.ensures ∙ ap (base_by suffix) (c.len.ensures.value ∙ ap (λ (entries : List (List ℕ)). length entries) e.entries))
     (c.epoch_by.ensures ∙ ap (epoch_by suffix) (c.epoch.ensures.value ∙ ap epoch_of e.entries))

@@ -12,8 +12,8 @@ use Rattle.sporc_play.specs.Forged.{IsSmallBody, derived_pairs, sealed_for}
 use Rattle.sporc_play.proofs.Forgeries.{forged_paired, forged_same, forged_small}
 use Rattle.sporc_play.proofs.forging.sealed.Goals as goal
 
-pub seal_change-requires : goal.seal_change-requires
-seal_change-requires c =
+pub seal_change_at-requires : goal.seal_change_at-requires
+seal_change_at-requires c =
     let e = c.heads-heads.ensures in
     record { epoch = omega (arith, c.epoch.ensures.value, epoch_le c.heads-heads.result.now.entries, c.len-count.ensures.value, c.len-count.ensures.within) }
 
@@ -33,9 +33,10 @@ returns-in-Ok-clause-value c =
     let e = c.heads-heads.ensures in
     let opening = sym (replay_opening client.opening client.log) in
     let members = c.in_ok-members.ensures.value ∙ ap (λ (o : Opening). sealed_for (roster_of o.genesis (state_of client).entries) c.args.change.now) opening in
-    forged_same (state_of client) c.args.header.now c.args.change.now c.as_slice-2.result.now _ _ _ _ _ c.in-Ok.body
+    forged_same (state_of client) c.args.header.now c.args.change.now c.as_slice-2.result.now _ _ _ _ _ _ c.in-Ok.body
     (c.as_slice-2.ensures.value ∙ members)
     (ap (λ (g : Genesis). g.document) (c.genesis.ensures.value ∙ e.genesis) ∙ ap (λ (o : Opening). o.genesis.document) opening)
+    c.stream_of.ensures.value
     (c.epoch.ensures.value ∙ ap epoch_of e.entries)
     c.requires.old
     (c.in_ok-pairs.ensures ∙ ap (derived_pairs c.args.header.now.author) (c.as_slice.ensures.value ∙ sym c.as_slice-2.ensures.value))

@@ -1,4 +1,6 @@
 use Rattle.std.proofs.Common.{List, ℕ, ap, ◌∙◌}
+use Rattle.sporc_entry.specs.declared.header.Header.{Header}
+use Rattle.sporc_entry.specs.Version.{fits_version}
 use Rattle.sporc_client.specs.ClientModel.{state_of}
 use Rattle.sporc_play.specs.Forged.{forged_body}
 use Rattle.sporc_play.proofs.Forgeries.{unsigned_same}
@@ -13,3 +15,9 @@ returns-clause-entry c = λ s is.
     (c.new.ensures.value ∙ c.in_ok-body.ensures.value s is
     ∙ ap (λ (key : List ℕ). forged_body s client f.signed.suffix c.forged_header-header.result key f.signed.what) c.second_half-new_key.ensures.value)
     (c.new-3.ensures.value ∙ c.new-2.ensures.items)
+
+pub signed_part-requires-clause-version : goal.signed_part-requires-clause-version
+signed_part-requires-clause-version c = ap (λ (h : Header). fits_version h.version h.device) c.forged_header-header.ensures
+
+pub returns-clause-version : goal.returns-clause-version
+returns-clause-version c = ap (λ (h : Header). fits_version h.version h.device) c.forged_header-header.ensures

@@ -16,8 +16,8 @@ returns-in-Entries-clause-line c = ok_then c.join_by.result _ _ c.join_by.ensure
     let made = map (λ (v : Vec ℕ Global). v.items) c.args.made.now in
     let found = all_found made c.args.join.now.entries c.as_slice.result.now c.in_ok-entries.field-0 c.in-Entries.entries c.as_slice-in-Entries.result.now
     c.in-Entries.is c.in_ok-entries.ensures.value c.as_slice.ensures.value c.as_slice-in-Entries.ensures.value in
-    told s cast same ∙ ap (λ (es : Result (List (List ℕ)) ℕ). old ++ joined_line s seat.member es) (sym found)
-    ∙ ap (λ (o : Option (ClientModel MemoryDiskModel)). old ++ join_line s seat.member (entries_at made c.args.join.now.entries) (option_map state_of o)) (sym (none_there seat.client c.if-is_some.ensures)))
+    told s cast same ∙ ap (λ (es : Result (List (List ℕ)) ℕ). old ++ joined_line s seat.device es) (sym found)
+    ∙ ap (λ (o : Option (ClientModel MemoryDiskModel)). old ++ join_line s seat.device (entries_at made c.args.join.now.entries) (option_map state_of o)) (sym (none_there seat.client c.if-is_some.ensures)))
 
 pub returns-in-Entries-clause-seat : goal.returns-in-Entries-clause-seat
 returns-in-Entries-clause-seat c = ok_then c.join_by.result _ _ c.join_by.ensures.seat (λ joined s cast same.

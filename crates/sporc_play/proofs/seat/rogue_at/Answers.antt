@@ -1,17 +1,26 @@
+use Rattle.std.proofs.Common.{◌≡◌, true, false, ap, sym, ◌∙◌}
+use Rattle.sporc_member.specs.declared.device.Device.{Device}
+use Rattle.sporc_member.specs.Device.{same_device}
+use Rattle.sporc_member.proofs.SameDevice.{one_same, same_one}
 use Rattle.sporc_play.specs.declared.seat.Rogue.{Rogue}
 use Rattle.sporc_play.proofs.Places.{element, not_in_more, nowhere}
 use Rattle.sporc_play.proofs.seat.rogue_at.Goals as goal
 
-pub returns-then-rogue-member : goal.returns-then-rogue-member
-returns-then-rogue-member c = record {
+pub returns-then-is : goal.returns-then-is
+returns-then-is c = record {
   value = (
     c.index-rogues-i.result,
-    record { there = element c.args.rogues.now c.loop-i.i c.index-rogues-i.result c.loop-i-test.true c.index-rogues-i.is; own = c.if-rogue-member.true },
+    record { there = element c.args.rogues.now c.loop-i.i c.index-rogues-i.result c.loop-i-test.true c.index-rogues-i.is; own = same_one c.index-rogues-i.result.device c.args.device (sym c.is.ensures.value ∙ c.if-is.true) },
   );
 }
 
+apart : (a b : Device) → same_device a b ≡ false → a ≡ b → ⊥
+apart a b other same = let yes : same_device a b ≡ true = ap (same_device a) (sym same) ∙ one_same a in cc
+
 pub loop-i-preserved : goal.loop-i-preserved
-loop-i-preserved c = not_in_more (λ (x : Rogue). x.member) c.args.member c.args.rogues.now c.loop-i.i c.index-rogues-i.result c.loop-i-test.true c.index-rogues-i.is c.if-rogue-member.false c.loop-i.invariant
+loop-i-preserved c =
+    not_in_more (λ (x : Rogue). x.device) c.args.device c.args.rogues.now c.loop-i.i c.index-rogues-i.result c.loop-i-test.true c.index-rogues-i.is
+    (apart c.index-rogues-i.result.device c.args.device (sym c.is.ensures.value ∙ c.if-is.false)) c.loop-i.invariant
 
 pub unreachable-requires : goal.unreachable-requires
-unreachable-requires c = nowhere (λ (x : Rogue). x.member) c.args.member c.args.rogues.now c.loop-i.i c.loop-i-test.false c.loop-i.invariant c.requires.rogue
+unreachable-requires c = nowhere (λ (x : Rogue). x.device) c.args.device c.args.rogues.now c.loop-i.i c.loop-i-test.false c.loop-i.invariant c.requires.rogue

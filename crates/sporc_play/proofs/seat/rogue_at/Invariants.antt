@@ -1,7 +1,7 @@
 use Rattle.std.proofs.Common.{take}
 use Rattle.sporc_play.proofs.Distinct.{IsNotIn}
-use Rattle.sporc_play.specs.Seats.{rogue_numbers}
+use Rattle.sporc_play.specs.Seats.{rogue_devices}
 use Rattle.sporc_play.proofs.seat.rogue_at.Given as goal
 
 abbrev pub invariant-loop-i : goal.invariant-loop-i
-invariant-loop-i l = IsNotIn l.member (rogue_numbers (take l.i l.rogues))
+invariant-loop-i l = IsNotIn l.device (rogue_devices (take l.i l.rogues))

@@ -4,4 +4,4 @@ use Rattle.sporc_play.specs.Seats.{seated}
 use Rattle.sporc_play.proofs.seat.seat_at.Given as goal
 
 abbrev pub invariant-loop-i : goal.invariant-loop-i
-invariant-loop-i l = IsNotIn l.member (seated (take l.i l.seats))
+invariant-loop-i l = IsNotIn l.device (seated (take l.i l.seats))

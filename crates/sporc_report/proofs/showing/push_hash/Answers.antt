@@ -12,7 +12,7 @@ pub returns : goal.returns
 returns g c =
     let client = c.args.client.now in
     let old = string_bytes c.args.out.now in
-    let me = client.opening.kit.me in
+    let me = client.opening.kit.me.member in
     let state = state_of client in
     let hash = hash_of state.opening.genesis state.entries in
     let start : string_bytes c.push_start.new.out ≡ old ++ (decimal me ++ codes " hash ") =

@@ -3,10 +3,13 @@ use Rattle.sporc_outside.specs.Counts.{count_of_both}
 use Rattle.sporc_outside.specs.Told.{AppendsItem, TakesItem}
 use Rattle.sporc_outside.proofs.Returning.{shut_none, shut_one}
 use Rattle.sporc_sessions.proofs.Causes.{rose_at_net}
-use Rattle.sporc_sessions.proofs.Counting.{as_many, both_kept}
+use Rattle.sporc_sessions.proofs.Counting.{as_many, both_kept, one_is_out}
 use Rattle.sporc_sessions.proofs.Sessioning.{over_same_link, told_again}
 use Rattle.sporc_sessions.specs.Sessions.{link_told}
 use Rattle.sporc_sessions.proofs.working.work.Goals as goal
+
+pub take_back-requires : goal.take_back-requires
+take_back-requires g c = one_is_out (g.N.Links.out c.args.net.now) (g.N.Links.out c.connect.new.self) c.in-Ok.ensures.out
 
 pub returns-in-Ok-ended-clause-work : goal.returns-in-Ok-ended-clause-work
 returns-in-Ok-ended-clause-work g c = record {
@@ -84,3 +87,6 @@ pub returns-in-Err-clause-shut : goal.returns-in-Err-clause-shut
 returns-in-Err-clause-shut g c =
     shut_one g.N.Link.Stream.is_shut (g.N.Links.returned c.args.net.now) (g.N.Links.returned c.connect.new.self) (g.N.Links.returned c.take_back.new.self) c.shut.new.self
     c.connect.ensures.returned c.take_back.ensures.returned c.shut.ensures.shut
+
+pub returns-in-Err-clause-links_out : goal.returns-in-Err-clause-links_out
+returns-in-Err-clause-links_out g c = as_many (g.N.Links.out c.args.net.now) (g.N.Links.out c.connect.new.self) (g.N.Links.out c.take_back.new.self) c.in-Ok.ensures.out c.take_back.ensures.out

@@ -26,7 +26,7 @@ returns-in-Ok-clause-ok c =
     let found = c.in-Ok.ensures in
     let same = found.unchanged in
     let did = c.record_coming.ensures in
-    let coming : effect c.in-Ok.coming own.pending ≡ coming_at line own p = coming_there line own p c.args.bytes.now c.me.result c.in-Ok.coming c.requires.bytes c.me.ensures.value found.coming in
+    let coming : effect c.in-Ok.coming own.pending ≡ coming_at line own p = coming_there line own p c.args.bytes.now c.own_device.result c.in-Ok.coming c.requires.bytes c.own_device.ensures.value found.coming in
     let place : c.len-place.result ≡ length line.entries + 1 = omega (arith, c.len-place.ensures.value, ap length c.commit.ensures.entries, length-append line.entries (p.checked.bytes ∷ [])) in
     record {
       genesis = c.commit.ensures.genesis;

@@ -1,14 +1,29 @@
-use Rattle.std.proofs.Common.{◌≡◌, ◌<◌, ◌∷◌, ◌++◌, [], ◌+◌, ℕ, List, eqb, length, map, set, ap, sym, ◌∙◌, arith}
+use Rattle.std.proofs.Common.{◌≡◌, ◌<◌, ◌∷◌, ◌++◌, [], ◌+◌, ℕ, List, eqb, length, map, ap, sym, ◌∙◌, arith}
 use Rattle.std.specs.Global.{Vec}
 use Rattle.std.proofs.lemmas.List.{map_push, length-map}
 use Rattle.sporc_hash.specs.Chain.{next_value}
-use Rattle.sporc_entry.specs.declared.header.Header.{Header}
-use Rattle.sporc_head.specs.declared.limits.TheConstants.{MAX_ENTRIES}
+use Rattle.std.specs.Prelude.{nat_eq, cond, Some}
+use Rattle.std.specs.HashMap.{get}
+use Rattle.sporc_member.specs.declared.device.Device.{Device}
+use Rattle.sporc_member.specs.Device.{same_device}
+use Rattle.sporc_entry.specs.Entry.{author_device}
+use Rattle.sporc_head.specs.declared.limits.TheConstants.{MAX_ENTRIES, DEVICE_NUMBERS}
+use Rattle.sporc_head.specs.TablesMatch.{rank_of, tally_in}
 use Rattle.sporc_head.specs.History.{hash_of}
 use Rattle.sporc_head.specs.HeadsModel.{HeadsModel, entries_in}
+use Rattle.sporc_head.proofs.Grows.{count_le}
 use Rattle.sporc_head.proofs.Keeping.{keeps_edit}
 use Rattle.sporc_head.proofs.OnceChecked.{checked_room, checked_by, checked_edit}
 use Rattle.sporc_head.proofs.heads.Heads.put_edit.Goals as goal
+
+pub record_entry-requires : goal.record_entry-requires
+record_entry-requires c =
+    let d : Device = c.author_device.result in
+    let small : d.number < DEVICE_NUMBERS = omega (arith, ap (λ (d : Device). d.number) c.author_device.ensures.value) in
+    record {
+      room = omega (arith, c.requires.spare, ap (λ (m : HeadsModel). m.spare) c.self.view_is);
+      count = omega (arith, c.self.invariant.tables.count d small, count_le d (entries_in c.self.inside), c.self.invariant.room);
+    }
 
 pub invariant_of-self : goal.invariant_of-self
 invariant_of-self c =
@@ -20,12 +35,18 @@ invariant_of-self c =
     let size : c.len.result ≡ length entries = omega (arith, c.len.ensures, length-map c.self.inside.entries.items items) in
     let grown : map items c.push_reserved-2.new.self.items ≡ entries ++ checked.bytes ∷ [] =
     ap (map items) c.push_reserved-2.ensures.items ∙ map_push items c.self.inside.entries.items c.into_vec.result ∙ ap (λ (b : List ℕ). entries ++ b ∷ []) (c.into_vec.ensures.value ∙ c.into_bytes.ensures) in
+    let signed : c.author_device.result ≡ author_device checked.entry.header = c.author_device.ensures.value ∙ ap author_device c.header.ensures.value in
+    let small : c.author_device.result.number < DEVICE_NUMBERS = omega (arith, ap (λ (d : Device). d.number) c.author_device.ensures.value) in
+    let put : (q : ℕ) → get nat_eq c.record_entry.new.tallies q ≡ cond (eqb (rank_of c.author_device.result) q)
+    (Some (record { count = (tally_in (get nat_eq c.self.inside.tables.tallies) c.author_device.result).count + 1; last = length entries + 1 })) (get nat_eq c.self.inside.tables.tallies q) =
+    λ q. c.record_entry.ensures q
+    ∙ ap (λ (n : ℕ). cond (eqb (rank_of c.author_device.result) q)
+    (Some (record { count = (tally_in (get nat_eq c.self.inside.tables.tallies) c.author_device.result).count + 1; last = n + 1 })) (get nat_eq c.self.inside.tables.tallies q)) size in
     let room : length before.entries < MAX_ENTRIES = checked_room before.genesis before.entries checked c.requires.checked in
     keeps_edit c.self.inside.genesis entries c.self.inside.hashes.items c.self.inside.roster.roster c.self.inside.barrier c.self.inside.epoch
-    c.self.inside.tables.counts.items c.self.inside.tables.lasts.items c.self.inside.tables.removed.items checked.bytes c.hash.result.now c.header.result.now.author _ _ _ _
-    c.self.invariant (omega (arith, room, ap length now)) c.requires.checked.sized (omega arith)
-    (λ n. checked_by before.genesis before.entries checked c.requires.checked n ∙ ap (λ (h : Header). eqb h.author n) (sym c.header.ensures.value))
+    (get nat_eq c.self.inside.tables.tallies) c.self.inside.tables.removals.items checked.bytes c.hash.result.now c.author_device.result _ _ (get nat_eq c.record_entry.new.tallies)
+    c.self.invariant (omega (arith, room, ap length now)) c.requires.checked.sized small
+    (λ d. checked_by before.genesis before.entries checked c.requires.checked d ∙ ap (λ (x : Device). same_device x d) (sym signed))
     (checked_edit before.genesis before.entries checked c.requires.checked c.requires.edit)
     (c.hash.ensures.value ∙ c.requires.checked.hash ∙ ap (λ (m : HeadsModel). next_value (hash_of m.genesis m.entries) checked.bytes) (sym c.self.view_is))
-    grown c.push_reserved.ensures.items c.record_entry.ensures.count
-    (c.record_entry.ensures.last ∙ ap (λ (n : ℕ). set c.self.inside.tables.lasts.items c.header.result.now.author (n + 1)) size)
+    grown c.push_reserved.ensures.items put

@@ -19,11 +19,11 @@ overflow_add-epoch c = omega (arith, c.epoch-epoch.ensures.value, ap epoch_of c.
 pub returns-in_err-check_new_key-clause-fault : goal.returns-in_err-check_new_key-clause-fault
 returns-in_err-check_new_key-clause-fault c =
     let p = err_from_is_err_and c.from_residual.result c.from_residual.ensures.1 in
-    let s : ChangeSeen c.args.self.now.genesis c.args.self.now.kit c.args.self.now.entries c.args.checked.now c.args.body.now (c.epoch-epoch.result + 1) c.me.result c.document.result.now c.copied-old.result c.started_key-key.result = record {
+    let s : ChangeSeen c.args.self.now.genesis c.args.self.now.kit c.args.self.now.entries c.args.checked.now c.args.body.now (c.epoch-epoch.result + 1) c.own_device.result c.document.result.now c.copied-old.result c.started_key-key.result = record {
       checked = c.requires.checked;
       change = c.requires.change;
       epoch_is = ap (λ (n : ℕ). n + 1) (c.epoch-epoch.ensures.value ∙ ap epoch_of c.heads.ensures.entries);
-      me_is = c.me.ensures.value;
+      me_is = c.own_device.ensures.value;
       document_is = c.document.ensures.value;
       old_is = c.copied-old.ensures ∙ c.key.ensures.value;
       key_is = c.started_key-key.ensures.value
@@ -34,11 +34,11 @@ returns-in_err-check_new_key-clause-fault c =
 
 pub returns-clause-fault : goal.returns-clause-fault
 returns-clause-fault c =
-    let s : ChangeSeen c.args.self.now.genesis c.args.self.now.kit c.args.self.now.entries c.args.checked.now c.args.body.now (c.epoch-epoch.result + 1) c.me.result c.document.result.now c.copied-old.result c.started_key-key.result = record {
+    let s : ChangeSeen c.args.self.now.genesis c.args.self.now.kit c.args.self.now.entries c.args.checked.now c.args.body.now (c.epoch-epoch.result + 1) c.own_device.result c.document.result.now c.copied-old.result c.started_key-key.result = record {
       checked = c.requires.checked;
       change = c.requires.change;
       epoch_is = ap (λ (n : ℕ). n + 1) (c.epoch-epoch.ensures.value ∙ ap epoch_of c.heads.ensures.entries);
-      me_is = c.me.ensures.value;
+      me_is = c.own_device.ensures.value;
       document_is = c.document.ensures.value;
       old_is = c.copied-old.ensures ∙ c.key.ensures.value;
       key_is = c.started_key-key.ensures.value
@@ -49,11 +49,11 @@ returns-clause-fault c =
 
 pub returns-clause-ok : goal.returns-clause-ok
 returns-clause-ok c =
-    let s : ChangeSeen c.args.self.now.genesis c.args.self.now.kit c.args.self.now.entries c.args.checked.now c.args.body.now (c.epoch-epoch.result + 1) c.me.result c.document.result.now c.copied-old.result c.started_key-key.result = record {
+    let s : ChangeSeen c.args.self.now.genesis c.args.self.now.kit c.args.self.now.entries c.args.checked.now c.args.body.now (c.epoch-epoch.result + 1) c.own_device.result c.document.result.now c.copied-old.result c.started_key-key.result = record {
       checked = c.requires.checked;
       change = c.requires.change;
       epoch_is = ap (λ (n : ℕ). n + 1) (c.epoch-epoch.ensures.value ∙ ap epoch_of c.heads.ensures.entries);
-      me_is = c.me.ensures.value;
+      me_is = c.own_device.ensures.value;
       document_is = c.document.ensures.value;
       old_is = c.copied-old.ensures ∙ c.key.ensures.value;
       key_is = c.started_key-key.ensures.value

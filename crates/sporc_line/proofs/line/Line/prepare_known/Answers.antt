@@ -1,6 +1,7 @@
 use Rattle.std.proofs.Common.{◌≡◌, ℕ, ◌+◌, List, length, Some, None, ap, sym, ◌∙◌, subst}
 use Rattle.std.proofs.lemmas.Result.{err_from_is_err_and}
 use Rattle.sporc_base.specs.FirstFault.{first_of}
+use Rattle.sporc_member.specs.declared.device.Device.{Device}
 use Rattle.sporc_head.specs.declared.refusal.Refusal.TheVariants.{Memory}
 use Rattle.sporc_head.specs.HeadChecks.{head_fault}
 use Rattle.sporc_line.specs.LineChecks.{key_checks, first_fault}
@@ -17,7 +18,7 @@ returns-in_err-checked-clause-fault c =
     unless_exit Memory _ p.0 c.in_err-checked.field-0.0 _ p.1 p.2 (λ n.
     subst (λ (m : LineModel). first_fault m.genesis m.kit m.entries c.args.pos c.args.bytes.now ≡ Some c.in_err-checked.field-0.0) c.self.view_is
     (fault_at_head i.heads.genesis i.kit i.heads.entries c.args.pos c.args.bytes.now c.in_err-checked.field-0.0
-    (ap (λ (me : ℕ). head_fault i.heads.genesis (Some me) i.heads.entries c.args.pos c.args.bytes.now) (sym c.me.ensures.value) ∙ c.in_err-checked.ensures.fault n)))
+    (ap (λ (me : Device). head_fault i.heads.genesis (Some me) i.heads.entries c.args.pos c.args.bytes.now) (sym c.me.ensures.value) ∙ c.in_err-checked.ensures.fault n)))
 
 pub returns-in_err-effect-clause-fault : goal.returns-in_err-effect-clause-fault
 returns-in_err-effect-clause-fault c =

@@ -23,7 +23,7 @@ sign_entry-requires g c =
     let unsigned = unsigned_is plain random c.args.ticket c.leaf.result c.second_half-new_key.result item c.in-Ok.entry c.leaf.ensures.value c.second_half-new_key.ensures.value
     (e.value key c.args.own.now) e.header (e.spelled key c.args.own.now) in
     let short = short_entry plain random c.args.ticket item c.in-Ok.entry is unsigned in
-    record { can_sign = c.requires.can_sign; body = short.body; size = short.string }
+    record { can_sign = c.requires.can_sign; version = unsigned.header.version; body = short.body; size = short.string }
 
 pub returns-in-Ok-clause-answer : goal.returns-in-Ok-clause-answer
 returns-in-Ok-clause-answer g c =

@@ -1,4 +1,6 @@
 use Rattle.std.proofs.Common.{ap, subst, ◌∙◌}
+use Rattle.sporc_entry.specs.Version.{version_of}
+use Rattle.sporc_head.specs.History.{roster_of}
 use Rattle.sporc_entry.specs.ChangeBody.{IsChangeBody, change_body_bytes}
 use Rattle.sporc_client.proofs.client.submitting.unsigned.change_body.Goals as goal
 
@@ -6,4 +8,4 @@ pub returns-clause-value : goal.returns-clause-value
 returns-clause-value c = λ key own. c.new.ensures.value ∙ c.in_ok-bytes.ensures.ok ∙ ap change_body_bytes (c.in_ok-body.ensures.value key own)
 
 pub returns-clause-spelled : goal.returns-clause-spelled
-returns-clause-spelled c = λ key own. subst IsChangeBody (c.in_ok-body.ensures.value key own) c.in_ok-body.ensures.spelled
+returns-clause-spelled c = λ key own. subst (IsChangeBody (version_of (roster_of c.args.line.now.genesis c.args.line.now.entries).upgraded)) (c.in_ok-body.ensures.value key own) c.in_ok-body.ensures.spelled

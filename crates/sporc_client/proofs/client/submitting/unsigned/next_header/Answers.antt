@@ -1,13 +1,30 @@
-use Rattle.std.proofs.Common.{ap, length, arith, ◌∙◌}
-use Rattle.sporc_head.specs.History.{epoch_of}
+use Rattle.std.proofs.Common.{◌≡◌, ℕ, true, false, ap, length, arith, ◌∙◌}
+use Rattle.std.specs.Prelude.{is_some}
+use Rattle.sporc_member.specs.declared.device.Device.{Device}
+use Rattle.sporc_member.specs.Roster.{Roster, key_of}
+use Rattle.sporc_entry.specs.declared.genesis.Genesis.{Genesis}
+use Rattle.sporc_entry.specs.Version.{fits_version, version_of}
+use Rattle.sporc_head.specs.History.{epoch_of, roster_of}
 use Rattle.sporc_head.proofs.Grows.{epoch_le}
 use Rattle.sporc_client.proofs.SignedEntries.{length-hash_of}
+use Rattle.sporc_client.proofs.SubmitRosters.{fits_by}
 use Rattle.sporc_client.proofs.client.submitting.unsigned.next_header.Goals as goal
 
 pub returns-clause-is_header : goal.returns-clause-is_header
 returns-clause-is_header c =
     let line = c.args.line.now in
+    let heads = c.heads-heads.ensures in
+    let me = c.own_device-me.result in
+    let roster = roster_of line.genesis line.entries in
+    let here : c.roster-roster.result.now.roster ≡ roster =
+    c.roster-roster.ensures.value ∙ ap (λ (g : Genesis). roster_of g c.heads-heads.result.now.entries) heads.genesis ∙ ap (roster_of line.genesis) heads.entries in
+    let live : is_some (key_of c.roster-roster.result.now.roster me) ≡ true =
+    ap (λ (r : Roster). is_some (key_of r me)) here ∙ ap (λ (d : Device). is_some (key_of roster d)) c.own_device-me.ensures.value ∙ c.requires.live in
+    let fits : fits_version (version_of roster.upgraded) me.number ≡ true =
+    fits_by roster.upgraded me.number (λ (old : roster.upgraded ≡ false). c.key-key.ensures.first live (ap (λ (r : Roster). r.upgraded) here ∙ old)) in
     record {
+      version = ap (λ (v : ℕ). fits_version v me.number) (c.version_of.ensures.value ∙ ap version_of (c.upgraded.ensures.value ∙ ap (λ (r : Roster). r.upgraded) here)) ∙ fits;
+      device = omega arith;
       document = c.genesis.ensures.is_genesis.document;
       author = omega arith;
       number = omega (arith, c.count_of.ensures.within, ap length c.heads-heads.ensures.entries);

@@ -1,18 +1,21 @@
 use Rattle.std.proofs.Common.{◌≡◌, ℕ, [], ap, subst, ◌∙◌, arith, Err}
+use Rattle.sporc_member.specs.declared.device.Device.{Device}
 use Rattle.sporc_member.specs.Roster.{Roster, after_change, numbers_of}
 use Rattle.sporc_entry.specs.declared.genesis.Genesis.{Genesis}
 use Rattle.sporc_entry.specs.Genesis.{IsGenesis}
 use Rattle.sporc_epoch.specs.declared.fault.SealFault.{SealFault}
 use Rattle.sporc_epoch.specs.declared.fault.SealFault.TheVariants.{Memory, NoPairKey}
 use Rattle.sporc_epoch.specs.Keys.{pairs_in}
+use Rattle.sporc_epoch.specs.Streams.{entry_stream}
+use Rattle.sporc_entry.specs.Version.{version_of}
 use Rattle.sporc_head.specs.History.{epoch_of, roster_of}
 use Rattle.sporc_head.proofs.Grows.{epoch_le}
 use Rattle.sporc_client.specs.ClientInvariant.{plain_of}
-use Rattle.sporc_client.proofs.SubmitRosters.{all_paired, can_seal, sealed_same, sealing_same}
+use Rattle.sporc_client.proofs.SubmitRosters.{all_paired, can_seal, kind_written, sealed_same, sealing_same}
 use Rattle.sporc_client.proofs.client.submitting.unsigned.seal.Goals as goal
 
-pub seal_change-requires : goal.seal_change-requires
-seal_change-requires c = record { epoch = omega (arith, c.epoch.ensures.value, ap epoch_of c.heads-heads.ensures.entries, epoch_le c.args.line.now.entries, c.requires.can_take.room) }
+pub seal_change_at-requires : goal.seal_change_at-requires
+seal_change_at-requires c = record { epoch = omega (arith, c.epoch.ensures.value, ap epoch_of c.heads-heads.ensures.entries, epoch_le c.args.line.now.entries, c.requires.can_take.room) }
 
 pub returns-in-Ok-clause-value : goal.returns-in-Ok-clause-value
 returns-in-Ok-clause-value c = λ key own.
@@ -24,8 +27,8 @@ returns-in-Ok-clause-value c = λ key own.
     c.roster.ensures.value ∙ ap (λ (g : Genesis). roster_of g c.heads-heads.result.now.entries) heads.genesis ∙ ap (roster_of line.genesis) heads.entries in
     let members : c.as_slice.result.now ≡ numbers_of (after_change (roster_of line.genesis line.entries) change).members =
     c.as_slice.ensures.value ∙ c.in_ok-members.ensures.ok ∙ ap (λ (r : Roster). numbers_of (after_change r change).members) roster in
-    let same = sealing_same (plain_of key line own) (record { leaf = c.args.leaf; randomizer = []; new_key = c.args.new_key.now }) change c.as_slice.result.now c.genesis.result.now.document c.me.result c.epoch.result c.args.old_key.now
-    members (ap (λ (g : Genesis). g.document) genesis) c.me.ensures.value (c.epoch.ensures.value ∙ ap epoch_of heads.entries) c.requires.key in
+    let same = sealing_same (plain_of key line own) (record { leaf = c.args.leaf; randomizer = []; new_key = c.args.new_key.now }) change c.as_slice.result.now c.genesis.result.now.document c.me.result c.entry_stream.result c.epoch.result c.args.old_key.now
+    members (ap (λ (g : Genesis). g.document) genesis) c.me.ensures.value (c.entry_stream.ensures.value ∙ ap (λ (me : Device). entry_stream me c.args.leaf) c.own_device.ensures.value) (c.epoch.ensures.value ∙ ap epoch_of heads.entries) c.requires.key in
     sealed_same _ _ (pairs_in c.pairs.result.now) line.kit.pairs c.in-Ok.body c.in-Ok.ensures.value same c.pairs.ensures.value
 
 pub returns-in-Ok-clause-spelled : goal.returns-in-Ok-clause-spelled
@@ -39,7 +42,7 @@ returns-in-Ok-clause-spelled c =
     let members : c.as_slice.result.now ≡ numbers_of (after_change (roster_of line.genesis line.entries) change).members =
     c.as_slice.ensures.value ∙ c.in_ok-members.ensures.ok ∙ ap (λ (r : Roster). numbers_of (after_change r change).members) roster in
     let can = can_seal line change c.as_slice.result.now c.requires.can_take (subst IsGenesis genesis c.genesis.ensures.is_genesis) c.subject_of-subject.ensures.typed members in
-    c.in-Ok.ensures.spelled can.is_change can.few
+    c.in-Ok.ensures.spelled (version_of (roster_of line.genesis line.entries).upgraded) (kind_written (roster_of line.genesis line.entries) change c.requires.can_take.fits.0) can.is_change can.few
 
 apart : (fault : SealFault) (member : ℕ) → fault ≡ NoPairKey member → fault ≡ Memory → ⊥
 apart fault member is memory = absurd cc

@@ -4,9 +4,11 @@ use Rattle.std.proofs.lemmas.Bool.{ne_eqb}
 use Rattle.sporc_bytes.specs.Fields.{Reading, ◌>>=◌, values_at, end_at}
 use Rattle.sporc_bytes.proofs.Fields.{ok_is}
 use Rattle.sporc_entry.specs.declared.change.ChangeBody.{ChangeBody}
+use Rattle.sporc_entry.specs.declared.header.Header.{Header}
 use Rattle.sporc_entry.specs.ChangeBody.{change_body_at, change_body_from}
 use Rattle.sporc_entry.specs.Entry.{body_read}
-use Rattle.sporc_head.specs.Skimming.{left_by}
+use Rattle.sporc_entry.specs.Version.{body_place}
+use Rattle.sporc_entry.specs.Skimming.{left_by}
 
 -- what is left behind one value and others is what is left behind the others
 pub left_then : {A B : Type 0} (f : A → B) (read : Result (A × Reading) ℕ) → left_by (read >>= λ x. Ok (f x.0, x.1)) ≡ left_by read
@@ -45,11 +47,11 @@ fields_fail (Ok x) at h = absurd cc
 fields_fail (Err a) at h = cc
 
 -- what a body of no edit reads as, told by what is behind the fields of a change
-module _ (kind at : ℕ) (body : List ℕ) (r : Reading) (other : kind ≢ 1) (rest : r.rest ≡ body) (place : r.at ≡ at) where
-  pub body_ends : (after : Reading) → left_by (change_body_at r) ≡ Ok after → body_read kind at body ≡ end_at after
+module _ (h : Header) (body : List ℕ) (r : Reading) (other : h.kind ≢ 1) (rest : r.rest ≡ body) (place : r.at ≡ body_place h.version) where
+  pub body_ends : (after : Reading) → left_by (change_body_at h.version r) ≡ Ok after → body_read h body ≡ end_at after
   unfolding change_body_from
-  body_ends after h = rw (sym rest, sym place, ne_eqb kind 1 other) (fields_end (change_body_at r) after h)
+  body_ends after e = rw (sym rest, sym place, ne_eqb h.kind 1 other) (fields_end (change_body_at h.version r) after e)
 
-  pub body_fails : (f : ℕ) → left_by (change_body_at r) ≡ Err f → body_read kind at body ≡ Err f
+  pub body_fails : (f : ℕ) → left_by (change_body_at h.version r) ≡ Err f → body_read h body ≡ Err f
   unfolding change_body_from
-  body_fails f h = rw (sym rest, sym place, ne_eqb kind 1 other) (fields_fail (change_body_at r) f h)
+  body_fails f e = rw (sym rest, sym place, ne_eqb h.kind 1 other) (fields_fail (change_body_at h.version r) f e)
