@@ -1,3 +1,11 @@
 pub mod Places
 pub mod Isolated
+pub mod Passes
+pub mod Sessions
+pub mod Columns
+pub mod Opening
+pub mod Binding
+pub mod Ending
+pub mod Crowding
+pub mod Served
 mod Examples

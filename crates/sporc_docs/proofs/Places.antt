@@ -25,7 +25,7 @@ apart_both d e h = go (bytes_eq e d) refl
         let same : e ≡ d = (bytes_eq-Decides e d).0 is in
         let is_here : bytes_eq d e ≡ true = (bytes_eq-Decides d e).1 (sym same) in absurd cc
 
-none_more : (d : List ℕ) (os : List OrderModel) (o : OrderModel) → list_of os d ≡ None → is_of d o ≡ false → list_of (os ++ o ∷ []) d ≡ None
+pub none_more : (d : List ℕ) (os : List OrderModel) (o : OrderModel) → list_of os d ≡ None → is_of d o ≡ false → list_of (os ++ o ∷ []) d ≡ None
 none_more d [] o h is_not = ap (λ (b : Bool). cond b (Some o) None) is_not
 none_more d (x ∷ os) o h is_not = go (is_of d x) h (λ low. none_more d os o low is_not)
   where
@@ -54,20 +54,32 @@ kept_apart (Ok x) os os' o n is room are none =
 kept_apart (Err e) os os' o n is room are none =
     subst (λ (l : List OrderModel). (length l ≤ n) × AreApart l) (sym is) (omega (arith, room), are)
 
--- the list at a place
-list_at : (os : List OrderModel) (i : ℕ) (o : OrderModel) → i < length os → o ≡ slice_index_or os i o → drop i os ≡ o ∷ drop (i + 1) os
-list_at os i o within is = rw add-one (drop-cons os i o within ∙ ap (λ (x : OrderModel). x ∷ drop (suc i) os) (sym is))
+-- the item at a place
+item_at : {A : Type 0} (xs : List A) (i : ℕ) (x : A) → i < length xs → x ≡ slice_index_or xs i x → drop i xs ≡ x ∷ drop (i + 1) xs
+item_at {A} xs i x within is = rw add-one (drop-cons xs i x within ∙ ap (λ (y : A). y ∷ drop (suc i) xs) (sym is))
 
--- it is of the document, or it isn't
-pub at_place : (d : List ℕ) (os : List OrderModel) (i : ℕ) (o : OrderModel) → i < length os → o ≡ slice_index_or os i o → is_of d o ≡ true
-    → position_from (is_of d) i (drop i os) ≡ Some i
-at_place d os i o within is is_here =
-    ap (position_from (is_of d) i) (list_at os i o within is) ∙ ap (λ (b : Bool). cond b (Some i) (position_from (is_of d) (i + 1) (drop (i + 1) os))) is_here
+-- it is one that is looked for, or it isn't
+pub at_place : {A : Type 0} (is_one : A → Bool) (xs : List A) (i : ℕ) (x : A) → i < length xs → x ≡ slice_index_or xs i x → is_one x ≡ true
+    → position_from is_one i (drop i xs) ≡ Some i
+at_place is_one xs i x within is is_here =
+    ap (position_from is_one i) (item_at xs i x within is) ∙ ap (λ (b : Bool). cond b (Some i) (position_from is_one (i + 1) (drop (i + 1) xs))) is_here
 
-pub not_at_place : (d : List ℕ) (os : List OrderModel) (i : ℕ) (o : OrderModel) → i < length os → o ≡ slice_index_or os i o → is_of d o ≡ false
-    → position_from (is_of d) i (drop i os) ≡ position_from (is_of d) (i + 1) (drop (i + 1) os)
-not_at_place d os i o within is is_not =
-    ap (position_from (is_of d) i) (list_at os i o within is) ∙ ap (λ (b : Bool). cond b (Some i) (position_from (is_of d) (i + 1) (drop (i + 1) os))) is_not
+pub not_at_place : {A : Type 0} (is_one : A → Bool) (xs : List A) (i : ℕ) (x : A) → i < length xs → x ≡ slice_index_or xs i x → is_one x ≡ false
+    → position_from is_one i (drop i xs) ≡ position_from is_one (i + 1) (drop (i + 1) xs)
+not_at_place is_one xs i x within is is_not =
+    ap (position_from is_one i) (item_at xs i x within is) ∙ ap (λ (b : Bool). cond b (Some i) (position_from is_one (i + 1) (drop (i + 1) xs))) is_not
+
+-- the same, of the item as it is read there
+pub read_at_place : {A : Type 0} (is_one : A → Bool) (xs : List A) (i : ℕ) (d : A) → i < length xs → is_one (slice_index_or xs i d) ≡ true
+    → position_from is_one i (drop i xs) ≡ Some i
+read_at_place {A} is_one xs i d within is_here =
+    ap (position_from is_one i) (drop-cons xs i d within) ∙ ap (λ (b : Bool). cond b (Some i) (position_from is_one (i + 1) (drop (suc i) xs))) is_here
+
+pub not_read_at_place : {A : Type 0} (is_one : A → Bool) (xs : List A) (i : ℕ) (d : A) → i < length xs → is_one (slice_index_or xs i d) ≡ false
+    → position_from is_one i (drop i xs) ≡ position_from is_one (i + 1) (drop (i + 1) xs)
+not_read_at_place {A} is_one xs i d within is_not =
+    let last : position_from is_one (i + 1) (drop (suc i) xs) ≡ position_from is_one (i + 1) (drop (i + 1) xs) = rw add-one refl in
+    ap (position_from is_one i) (drop-cons xs i d within) ∙ ap (λ (b : Bool). cond b (Some i) (position_from is_one (i + 1) (drop (suc i) xs))) is_not ∙ last
 
 pub is_none : (x : Option ℕ) → is_some x ≡ false → x ≡ None
 is_none None h = refl

@@ -43,6 +43,15 @@ impl Docs {
         }
     }
 
+    // These orders.
+    pub(crate) fn of(orders: Vec<Order>) -> Docs
+        requires apart { AreApart orders.items }
+        requires within { length orders.items ≤ MAX_DOCUMENTS }
+        ensures value { result ≡ orders.items }
+    {
+        Docs { orders }
+    }
+
     /// Adds the order of a document, unless one of it is held already, or as many as may be.
     pub fn add(&mut self, order: Order) -> Result<(), (DocsFault, Order)>
         ensures ok { OnOk result (self.new ≡ self.old ++ order ∷ []) }

@@ -1,4 +1,4 @@
-//! Why a document is not taken.
+//! Why a document is not taken, and why a server stopped, or didn't begin.
 
 use std::alloc::AllocError;
 use thiserror::Error;
@@ -26,4 +26,18 @@ impl From<AllocError> for DocsFault {
     fn from(_: AllocError) -> DocsFault {
         DocsFault::Memory
     }
+}
+
+/// What a server of many documents answers where not all went well.
+#[derive(Clone, Copy, Debug, PartialEq, Eq, Error)]
+pub enum DocsServeFault {
+    /// A call of the net failed, which counts it.
+    #[error("the net failed")]
+    ListenFault,
+    /// This ticket of a document's lock is never drawn.
+    #[error("ticket {0} is never drawn")]
+    Worn(u64),
+    /// Memory ran out, of the server or in a session.
+    #[error("out of memory")]
+    Memory,
 }

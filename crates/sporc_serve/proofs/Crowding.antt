@@ -38,7 +38,7 @@ last_ticket g a b BadFrame h = tt
 last_ticket g a b Memory h = tt
 
 module _ {L : Type 0} where
-  tells_more : (n f0 f1 f2 : ℕ) (b a : L) (end : SessionEnd) (vs : List (Visit L)) (rest : Result (Unit {0}) ServeFault) → f0 ≤ f1 → TellsOf n f1 f2 vs rest
+  pub tells_more : (n f0 f1 f2 : ℕ) (b a : L) (end : SessionEnd) (vs : List (Visit L)) (rest : Result (Unit {0}) ServeFault) → f0 ≤ f1 → TellsOf n f1 f2 vs rest
       → IsLastTicket end → TellsOf (suc n) f0 f2 (record { before = b; after = a; end = end } ∷ vs) (with_end rest end)
   tells_more n f0 f1 f2 b a end vs (Err faults.ListenFault) le h last = rose_before f0 f1 f2 le h
   tells_more n f0 f1 f2 b a end vs (Err (faults.Worn t)) le h last = (h.0, inr h.1)
@@ -55,7 +55,7 @@ module _ {L : Type 0} where
   tells_more n f0 f1 f2 b a LinkFault vs (Ok done) le h last = (ap suc h.0, ((λ w. elim w [ inl e ↦ absurd cc | inr e ↦ absurd cc ]), h.1))
   tells_more n f0 f1 f2 b a BadFrame vs (Ok done) le h last = (ap suc h.0, ((λ w. elim w [ inl e ↦ absurd cc | inr e ↦ absurd cc ]), h.1))
 
-  from_more : (old mid new : Option (List L)) (l : L) (ls : List L) → TakesItem old mid l → AreFrom mid new ls → AreFrom old new (l ∷ ls)
+  pub from_more : (old mid new : Option (List L)) (l : L) (ls : List L) → TakesItem old mid l → AreFrom mid new ls → AreFrom old new (l ∷ ls)
   from_more None mid new l ls first more = tt
   from_more (Some o) None new l ls first more = absurd first
   from_more (Some o) (Some m) None l ls first more = more
@@ -65,7 +65,7 @@ module _ {L : Type 0} where
   from_none None = tt
   from_none (Some ls) = refl
 
-  behind_more : (old mid new : Option (List L)) (l : L) (ls : List L) → AreBehind old mid ls → AppendsItem mid new l → AreBehind old new (ls ++ l ∷ [])
+  pub behind_more : (old mid new : Option (List L)) (l : L) (ls : List L) → AreBehind old mid ls → AppendsItem mid new l → AreBehind old new (ls ++ l ∷ [])
   behind_more None mid new l ls first more = tt
   behind_more (Some o) None new l ls first more = absurd first
   behind_more (Some o) (Some m) None l ls first more = more

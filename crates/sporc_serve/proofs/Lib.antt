@@ -6,5 +6,6 @@ pub mod Going
 pub mod Framed
 pub mod Sendable
 pub mod Stepping
+pub mod Waiting
 pub mod Crowding
 pub mod Serving

@@ -4,21 +4,23 @@ use Rattle.std.proofs.lemmas.Bool.{ltb-true, ltb-false}
 use Rattle.std.proofs.lemmas.List.{drop_all}
 use Rattle.sporc_base.specs.FirstFault.{unless, first_of}
 use Rattle.sporc_bytes.specs.Fields.{counted}
-use Rattle.sporc_member.specs.declared.founder.Founder.{Founder}
+use Rattle.sporc_member.specs.declared.device.Device.{Device}
+use Rattle.sporc_member.specs.declared.member.Member.{Member}
 use Rattle.sporc_member.specs.declared.change.ChangeFault.{ChangeFault}
-use Rattle.sporc_member.specs.declared.change.ChangeFault.TheVariants.{NumberUsed, NotMember, SameRole, LastAdmin, RosterFull, BadKey}
-use Rattle.sporc_member.specs.Roster.{Roster, member_at, change_fault_of, numbers_of, after_change}
+use Rattle.sporc_member.specs.declared.change.ChangeFault.TheVariants.{NumberUsed, NotMember, SameRole, LastAdmin, RosterFull, BadKey, DeviceUsed, NoDevice, LastDevice, DevicesFull, NotUpgraded, AlreadyUpgraded}
+use Rattle.sporc_member.specs.Roster.{Roster, member_at, key_of, change_fault_of, numbers_of, after_change}
 use Rattle.sporc_entry.specs.declared.change.ChangeBody.{ChangeBody}
 use Rattle.sporc_entry.specs.declared.entry.Entry.{Entry}
 use Rattle.sporc_entry.specs.declared.genesis.Genesis.{Genesis}
 use Rattle.sporc_entry.specs.declared.header.Header.{Header}
-use Rattle.sporc_entry.specs.Entry.{entry_of, change_of, signed_string}
+use Rattle.sporc_entry.specs.Entry.{author_device, entry_of, change_of, signed_string}
+use Rattle.sporc_entry.specs.Version.{version_of}
 use Rattle.sporc_entry.proofs.Places.{entry_place}
 use Rattle.sporc_head.specs.declared.limits.TheConstants.{MAX_ENTRIES}
 use Rattle.sporc_head.specs.declared.refusal.Refusal.{Refusal}
-use Rattle.sporc_head.specs.declared.refusal.Refusal.TheVariants.{Malformed, WrongDocument, WrongPosition, Removed, HistoryFull, UnknownAuthor, BaseAhead, BeforeBarrier, WrongHistory, WrongNumber, BehindOwn, WrongEpoch, NoRight, LeafMismatch, BadSignature, BadChange, WrongWraps, Memory}
+use Rattle.sporc_head.specs.declared.refusal.Refusal.TheVariants.{Malformed, WrongDocument, WrongPosition, Removed, HistoryFull, WrongVersion, UnknownAuthor, UnknownDevice, BaseAhead, BeforeBarrier, WrongHistory, WrongNumber, BehindOwn, WrongEpoch, NoRight, LeafMismatch, BadSignature, BadChange, WrongWraps, Memory}
 use Rattle.sporc_head.specs.History.{epoch_of, roster_of, barrier_of, last_of, count_of, hash_of}
-use Rattle.sporc_head.specs.HeadChecks.{bad_change, is_not_removed, allows_member, names_leaf, verifies_member, names, roster_checks, place_checks, history_checks, author_checks, head_checks, fault_read, head_fault}
+use Rattle.sporc_head.specs.HeadChecks.{bad_change, is_not_removed, allows_member, names_leaf, verifies_device, names, roster_checks, place_checks, history_checks, author_checks, head_checks, fault_read, head_fault}
 use Rattle.sporc_wire.specs.Refusals.{refusal_detail_of}
 use Rattle.sporc_wire.specs.declared.cutter.TheConstants.{MAX_BODY}
 use Rattle.sporc_wire.specs.declared.to_client.TheConstants.{MAX_PULLED}
@@ -59,6 +61,12 @@ change_is_told SameRole = refl
 change_is_told LastAdmin = refl
 change_is_told RosterFull = refl
 change_is_told BadKey = refl
+change_is_told DeviceUsed = refl
+change_is_told NoDevice = refl
+change_is_told LastDevice = refl
+change_is_told DevicesFull = refl
+change_is_told NotUpgraded = refl
+change_is_told AlreadyUpgraded = refl
 
 abbrev AllTold : List (Option Refusal) → Type 0
 AllTold [] = Unit {0}
@@ -96,23 +104,24 @@ plain_told : (cs : List (Bool × Refusal)) → AllPlain cs → AllTold (plain cs
 plain_told [] all = tt
 plain_told (c ∷ cs) all = unless_told c.0 c.1 (plain cs) all.0 (plain_told cs all.1)
 
-place_told : (g : Genesis) (me : Option ℕ) (entries : List (List ℕ)) (pos : ℕ) (h : Header) → AllTold (place_checks g me entries pos h)
+place_told : (g : Genesis) (me : Option Device) (entries : List (List ℕ)) (pos : ℕ) (h : Header) → AllTold (place_checks g me entries pos h)
 place_told g me entries pos h =
     plain_told ((bytes_eq h.document g.document, WrongDocument) ∷ (pos == length entries + 1, WrongPosition) ∷ (is_not_removed me entries, Removed) ∷ [])
     (refl, (refl, (refl, tt)))
 
 history_told : (g : Genesis) (entries : List (List ℕ)) (h : Header) → AllTold (history_checks g entries h)
 history_told g entries h =
-    plain_told ((nat_lt (length entries) MAX_ENTRIES, HistoryFull) ∷ (is_some (member_at (roster_of g entries) h.author), UnknownAuthor)
+    plain_told ((nat_lt (length entries) MAX_ENTRIES, HistoryFull) ∷ (h.version == version_of (roster_of g entries).upgraded, WrongVersion)
+    ∷ (is_some (member_at (roster_of g entries) h.author), UnknownAuthor) ∷ (is_some (key_of (roster_of g entries) (author_device h)), UnknownDevice)
     ∷ (nat_le h.base (length entries), BaseAhead) ∷ (nat_le (barrier_of entries) h.base, BeforeBarrier)
-    ∷ (bytes_eq h.base_hash (hash_of g (take h.base entries)), WrongHistory) ∷ (h.number == count_of h.author entries + 1, WrongNumber)
-    ∷ (nat_le (last_of h.author entries) h.base, BehindOwn) ∷ (h.epoch == epoch_of entries, WrongEpoch) ∷ [])
-    (refl, (refl, (refl, (refl, (refl, (refl, (refl, (refl, tt))))))))
+    ∷ (bytes_eq h.base_hash (hash_of g (take h.base entries)), WrongHistory) ∷ (h.number == count_of (author_device h) entries + 1, WrongNumber)
+    ∷ (nat_le (last_of (author_device h) entries) h.base, BehindOwn) ∷ (h.epoch == epoch_of entries, WrongEpoch) ∷ [])
+    (refl, (refl, (refl, (refl, (refl, (refl, (refl, (refl, (refl, (refl, tt))))))))))
 
-author_told : (author : Option Founder) (e : Entry) → AllTold (author_checks author e)
-author_told author e =
+author_told : (author : Option Member) (key : Option (List ℕ)) (e : Entry) → AllTold (author_checks author key e)
+author_told author key e =
     plain_told ((allows_member e.header.kind author, NoRight) ∷ (names_leaf e.header.leaf e.signature, LeafMismatch)
-    ∷ (verifies_member (signed_string e) e.signature author, BadSignature) ∷ [])
+    ∷ (verifies_device (signed_string e) e.signature key, BadSignature) ∷ [])
     (refl, (refl, (refl, tt)))
 
 roster_told : (r : Roster) (c : Option ChangeBody) → AllTold (roster_checks r c)
@@ -122,15 +131,16 @@ roster_told r (Some c) =
     change_told (change_fault_of r c.change) wraps
     (plain_told ((names c.wraps (numbers_of (after_change r c.change).members), WrongWraps) ∷ []) (refl, tt))
 
-head_told : (g : Genesis) (me : Option ℕ) (entries : List (List ℕ)) (pos : ℕ) (e : Entry) → AllTold (head_checks g me entries pos e)
+head_told : (g : Genesis) (me : Option Device) (entries : List (List ℕ)) (pos : ℕ) (e : Entry) → AllTold (head_checks g me entries pos e)
 unfolding head_checks
 head_told g me entries pos e =
     let roster = roster_of g entries in
     let author = member_at roster e.header.author in
+    let key = key_of roster (author_device e.header) in
     append_told (place_checks g me entries pos e.header)
-    (history_checks g entries e.header ++ (author_checks author e ++ roster_checks roster (change_of e))) (place_told g me entries pos e.header)
-    (append_told (history_checks g entries e.header) (author_checks author e ++ roster_checks roster (change_of e)) (history_told g entries e.header)
-    (append_told (author_checks author e) (roster_checks roster (change_of e)) (author_told author e) (roster_told roster (change_of e))))
+    (history_checks g entries e.header ++ (author_checks author key e ++ roster_checks roster (change_of e))) (place_told g me entries pos e.header)
+    (append_told (history_checks g entries e.header) (author_checks author key e ++ roster_checks roster (change_of e)) (history_told g entries e.header)
+    (append_told (author_checks author key e) (roster_checks roster (change_of e)) (author_told author key e) (roster_told roster (change_of e))))
 
 below-is : (a b : ℕ) → a < b → ltb a b ≡ true
 below-is a b h = grind arith
@@ -138,7 +148,7 @@ below-is a b h = grind arith
 small : (n : ℕ) → n ≤ MAX_BODY → n < 2 ^ 32
 small n le = omega (arith, le)
 
-pub refusal_told : (g : Genesis) (me : Option ℕ) (entries : List (List ℕ)) (pos : ℕ) (bytes : List ℕ) (r : Refusal) → length bytes ≤ MAX_BODY
+pub refusal_told : (g : Genesis) (me : Option Device) (entries : List (List ℕ)) (pos : ℕ) (bytes : List ℕ) (r : Refusal) → length bytes ≤ MAX_BODY
     → head_fault g me entries pos bytes ≡ Some r → is_told r ≡ true
 unfolding head_fault
 refusal_told g me entries pos bytes r fits is = go (entry_of bytes) refl is

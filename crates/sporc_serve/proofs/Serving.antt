@@ -25,7 +25,7 @@ use Rattle.sporc_serve.proofs.Going.{rose_before}
 use Rattle.sporc_serve.proofs.Crowding.{from_none, behind_none}
 
 -- no item of a list has a number
-none_of : (n : ℕ) (xs : List Item) → filter (λ e. by_of e == n) xs ≡ [] → All (λ e. by_of e ≢ n) xs
+pub none_of : (n : ℕ) (xs : List Item) → filter (λ e. by_of e == n) xs ≡ [] → All (λ e. by_of e ≢ n) xs
 none_of n [] h = All-nil (λ (e : Item). by_of e ≢ n)
 none_of n (x ∷ xs) h = go (by_of x == n) refl (none_of n xs)
   where
@@ -120,12 +120,12 @@ served left written faults is_shut o after k vs log h is agrees at =
     }
 
 -- the first log is of the order's document, and its entries are the order's
-first_is : (o : OrderModel) → o ≡ order_at o.genesis (log_at_first o)
+pub first_is : (o : OrderModel) → o ≡ order_at o.genesis (log_at_first o)
 first_is o =
     order_is o.genesis o (replicate (length o.entries) 0) (length-replicate (length o.entries) 0) (placed (replicate (length o.entries) 0) o.entries, refl)
 
 -- what is told where the net's count rose before too
-tells_before : {L : Type 0} (n x y z : ℕ) (vs : List (Visit L)) (result : Result (Unit {0}) ServeFault) → x ≤ y → TellsOf n y z vs result → TellsOf n x z vs result
+pub tells_before : {L : Type 0} (n x y z : ℕ) (vs : List (Visit L)) (result : Result (Unit {0}) ServeFault) → x ≤ y → TellsOf n y z vs result → TellsOf n x z vs result
 tells_before n x y z vs (Ok done) le h = h
 tells_before n x y z vs (Err faults'.ListenFault) le h = rose_before x y z le h
 tells_before n x y z vs (Err (faults'.Worn ticket)) le h = h

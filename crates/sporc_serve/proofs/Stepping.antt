@@ -23,7 +23,7 @@ use Rattle.sporc_serve.specs.Logs.{IsLogOf, OfDocument}
 use Rattle.sporc_serve.specs.Sending.{bytes_of, CanBeSent}
 use Rattle.sporc_serve.specs.Turns.{HasReadLast, TakesTurn}
 use Rattle.sporc_serve.specs.Endings.{IsSendEnd, Inlet, inlet, TakesMessage, IsNextEnd, IsNext}
-use Rattle.sporc_serve.specs.Courses.{ServerStand, stand, GoesOn, Carries}
+use Rattle.sporc_serve.specs.Courses.{ServerStand, stand, GoesOn, Carries, Leads}
 use Rattle.sporc_serve.specs.Visits.{visit, Shuts, IsServedSession}
 use Rattle.sporc_serve.proofs.Turning.{starts_log}
 use Rattle.sporc_serve.proofs.Coursing.{grows_starts, course_begins}
@@ -154,6 +154,32 @@ pub carried : (g : Genesis) (a b b' : ServerStand) (e : Option SessionEnd) → I
 carried g a b b' e log went carries =
     carries g a went.0 went.1 (starts_log g b.known.seen a.known.seen
     (grows_starts g a.known.number a.known.seen false went.1 b.known.seen went.2.did.grows) log) went.2
+
+-- no step more, and one step more after some
+pub leads_same : (b : ServerStand) → Leads b b None
+leads_same b g a bytes xs log c = (bytes, xs, c)
+
+pub leads_then : (b b' b'' : ServerStand) (e : Option SessionEnd) → Leads b b' None → Carries b' b'' e → Leads b b'' e
+leads_then b b' b'' e first then g a bytes xs log c = carried g a b' b'' e log (first g a bytes xs log c) then
+
+-- the first message was answered, of a client that was not greeted
+pub first_leads : (known known' : Known Item) (left left' written written' : Option (List ℕ)) (faults faults' : ℕ) (unread unread' : Unread) (s s' : Bool) (e e' : Option SessionEnd)
+    → s ≡ false → e ≡ e' → Carries (stand known left written faults unread s) (stand known' left' written' faults' unread' s') e
+    → Leads (stand known left written faults unread false) (stand known' left' written' faults' unread' s') e'
+first_leads known known' left left' written written' faults faults' unread unread' s s' e e' fresh is carries =
+    leads_then (stand known left written faults unread false) (stand known left written faults unread false) (stand known' left' written' faults' unread' s') e'
+    (leads_same (stand known left written faults unread false))
+    (subst (λ (x : Option SessionEnd). Carries (stand known left written faults unread false) (stand known' left' written' faults' unread' s') x) is
+    (subst (λ (x : Bool). Carries (stand known left written faults unread x) (stand known' left' written' faults' unread' s') e) fresh carries))
+
+-- a session from its beginning
+pub begins_leads : (g : Genesis) (known known' : Known Item) (left left' written written' : Option (List ℕ)) (faults faults' : ℕ) (unread unread' : Unread) (s s' : Bool) (e : Option SessionEnd)
+    → IsLogOf g known.seen → unread ≡ stream_of [] → s ≡ false
+    → Leads (stand known left written faults unread s) (stand known' left' written' faults' unread' s') e
+    → GoesOn g (stand known left written faults (stream_of []) false) (stand known' left' written' faults' unread' s') e
+begins_leads g known known' left left' written written' faults faults' unread unread' s s' e log empty fresh leads =
+    let went = begun g known left written faults unread s empty fresh in
+    leads g (stand known left written faults (stream_of []) false) went.0 went.1 log went.2
 
 module _ {L : Type 0} (left written : L → Option (List ℕ)) (faults : L → ℕ) (is_shut : L → Option Bool) where
   -- a link was shut as its session ended

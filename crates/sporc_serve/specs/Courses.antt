@@ -131,3 +131,9 @@ abbrev pub Carries : ServerStand → ServerStand → Option SessionEnd → Type 
 Carries b b' end =
     (genesis : Genesis) (a : ServerStand) (bytes : List ℕ) (xs : List Exchange) → IsLogOf genesis b.known.seen → ServerCourse genesis a b bytes xs
     → GoesOn genesis a b' end
+
+-- a session that went on to here from any beginning whose log is of a document goes on to there, or ends
+abbrev pub Leads : ServerStand → ServerStand → Option SessionEnd → Type 0
+Leads b b' end =
+    (genesis : Genesis) (a : ServerStand) (bytes : List ℕ) (xs : List Exchange) → IsLogOf genesis a.known.seen → ServerCourse genesis a b bytes xs
+    → GoesOn genesis a b' end

@@ -1,11 +1,11 @@
 -- Why a step of a session is its last.
-use Rattle.std.specs.Prelude.{◌≡◌, ◌<◌, ℕ, List, [], length, Option, Some, None, Result, Ok, Err}
+use Rattle.std.specs.Prelude.{◌≡◌, ◌<◌, ◌≤◌, ℕ, List, [], length, Option, Some, None, Result, Ok, Err}
 use Rattle.std.specs.Io.KnownBytes.{Consumes, Appends, IsAtEnd}
 use Rattle.sporc_outside.specs.Counts.{Rose}
 use Rattle.sporc_outside.specs.Writing.{AppendsLess}
 use Rattle.sporc_wire.specs.declared.fault.FrameFault.{FrameFault}
 use Rattle.sporc_wire.specs.declared.to_server.ToServer.{ToServer}
-use Rattle.sporc_wire.specs.Messages.{Unread, fed, next}
+use Rattle.sporc_wire.specs.Messages.{Unread, HandsOut, stream_of, fed, next}
 use Rattle.sporc_wire.specs.ToServer.{to_server_of}
 use Rattle.sporc_order.specs.declared.session.Answer.{Answer}
 use Rattle.sporc_order.specs.declared.session.Answer.TheVariants.{Close}
@@ -56,3 +56,18 @@ abbrev pub IsNext : Inlet → Inlet → Result (Option ToServer) SessionEnd → 
 IsNext a b (Ok (Some message)) = TakesMessage a b message
 IsNext a b (Ok None) = (piece : List ℕ) × TakesPiece a b piece
 IsNext a b (Err end) = IsNextEnd a b end
+
+-- these bytes were taken, and no message of them was handed out
+pub record Waits (a b : Inlet) (bytes : List ℕ) : Type 0 where
+  pub taken : Consumes a.left b.left bytes
+  pub reads : HandsOut to_server_of (stream_of bytes) [] b.unread
+  pub faults : a.faults ≤ b.faults
+
+-- what comes of waiting for the first message
+abbrev pub IsFound : Inlet → Inlet → Result ToServer SessionEnd → Type 0
+IsFound a b (Ok message) = TakesMessage a b message
+IsFound a b (Err end) = IsNextEnd a b end
+
+-- the first message, or why there is none
+abbrev pub IsFirst : Inlet → Inlet → Result ToServer SessionEnd → Type 0
+IsFirst a b result = (mid : Inlet) × (bytes : List ℕ) × Waits a mid bytes × (mid.faults ≤ b.faults) × IsFound mid b result

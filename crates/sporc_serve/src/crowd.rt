@@ -22,8 +22,9 @@ use std::alloc::Global;
 use std::sync::Wait;
 use std::thread::{Threads, join_mut};
 
-// What the server answers, once a session more has ended.
-fn with_end(rest: Result<(), ServeFault>, end: SessionEnd) -> Result<(), ServeFault>
+/// What a server answers, once a session more has ended: a fault of the net goes before a ticket's, and that before running out
+/// of memory.
+pub fn with_end(rest: Result<(), ServeFault>, end: SessionEnd) -> Result<(), ServeFault>
     ensures { result ≡ with_end rest end }
 {
     match end {

@@ -16,9 +16,9 @@ use sporc_turn::Kept;
 use sporc_wire::ToServer;
 use std::alloc::{AllocError, Global};
 
-// An order, and the number of the pass that submitted each entry.
+/// An order, and the number of the pass that submitted each entry.
 #[derive(Drop)]
-pub(crate) struct Desk {
+pub struct Desk {
     order: Order,
     numbers: Vec<u32>,
     ghost matched: { length numbers.items ≡ length order.entries },

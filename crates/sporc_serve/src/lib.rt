@@ -6,6 +6,10 @@
 //! key, in a turn of its own, and examines the signature under that key before it takes the turn that orders the entry: so
 //! sessions verify side by side.
 //!
+//! A server of another make, as one of many documents, runs the same session from its first message on: [`first_message`]
+//! waits for it, [`serve_from`] serves from it at the order under a lock that [`open_desk`] made, and [`close_desk`] takes the
+//! order out again.
+//!
 //! ```text
 //! let (order, answer) = serve(&rt, alloc, &mut net, "localhost:4000", order, 2, &OpenGate);
 //! ```
@@ -22,17 +26,24 @@ mod crowd;
 mod desk;
 mod end;
 mod fault;
+mod first;
 mod item;
 pub mod laws;
 mod limits;
+mod opening;
 mod replying;
 mod sending;
 mod server;
 mod session;
 mod turns;
 
+pub use crate::crowd::with_end;
+pub use crate::desk::Desk;
 pub use crate::end::SessionEnd;
 pub use crate::fault::ServeFault;
+pub use crate::first::first_message;
 pub use crate::item::Item;
 pub use crate::limits::MAX_SESSIONS;
+pub use crate::opening::{close_desk, open_desk};
 pub use crate::server::serve;
+pub use crate::session::serve_from;

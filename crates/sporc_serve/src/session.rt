@@ -1,13 +1,13 @@
 //! One session, from its first message to its end.
 
-ghost use Rattle.std.specs.Prelude.{◌≡◌, ◌≢◌, ◌≤◌, Ok, Err, Some, None, IfErr, IfSome, OnOk};
+ghost use Rattle.std.specs.Prelude.{◌≡◌, ◌≢◌, ◌≤◌, [], false, Ok, Err, Some, None, IfErr, IfSome, OnOk};
 ghost use Rattle.sporc_outside.specs.Told.{IsTrueIfTold};
 ghost use Rattle.sporc_turn.specs.Passes.{known_of, read_of, IsPassOf};
-ghost use Rattle.sporc_wire.specs.Messages.{Unread, next};
+ghost use Rattle.sporc_wire.specs.Messages.{Unread, next, stream_of};
 ghost use Rattle.sporc_wire.specs.ToServer.{to_server_of};
 ghost use Rattle.sporc_order.specs.Sessions.{IsFramed};
 ghost use Rattle.sporc_serve.specs.Logs.{OfDocument};
-ghost use Rattle.sporc_serve.specs.Courses.{stand, Carries};
+ghost use Rattle.sporc_serve.specs.Courses.{stand, Carries, Leads};
 ghost use Rattle.sporc_serve.specs.Endings.{inlet, IsNext};
 ghost use Rattle.sporc_serve.specs.Turns.{HasReadLast};
 ghost use Rattle.sporc_serve.specs.Visits.{visit, IsServedSession};
@@ -63,7 +63,10 @@ fn end_of(fault: FrameFault) -> SessionEnd
 }
 
 // The next message of the link's bytes, or none: then a piece more of them was taken.
-fn next_message<L: Link>(link: &mut L, frames: &mut Frames) -> Result<Option<ToServer>, SessionEnd>
+pub(crate) fn next_message<L: Link>(
+    link: &mut L,
+    frames: &mut Frames,
+) -> Result<Option<ToServer>, SessionEnd>
     ensures next { IsNext (inlet (L.left link.old) (L.faults link.old) frames.old) (inlet (L.left link.new) (L.faults link.new) frames.new) result }
     ensures written { L.written link.new ≡ L.written link.old }
     ensures as_shut { L.is_shut link.new ≡ L.is_shut link.old }
@@ -137,7 +140,67 @@ fn step<R: Wait, L: Link, G: Gate>(
     answer(rt, alloc, turn, gate, link, session, pass, &message)
 }
 
-// A session over a link.
+// Answers the messages that are to come, up to the session's end.
+fn go_on<R: Wait, L: Link, G: Gate>(
+    rt: &R,
+    alloc: Global,
+    turn: &Turn<Desk>,
+    gate: &G,
+    link: &mut L,
+    frames: &mut Frames,
+    session: &mut Session,
+    pass: Pass<Item>,
+) -> (SessionEnd, Pass<Item>)
+    requires lock { IsPassOf turn.now pass }
+    ensures lock { IsPassOf turn.now result.1 }
+    ensures number { (known_of result.1).number ≡ (known_of pass).number }
+    ensures as_shut { L.is_shut link.new ≡ L.is_shut link.old }
+    ensures worn { HasReadLast (read_of result.1) result.0 }
+    ensures goes { Leads (stand (known_of pass) (L.left link.old) (L.written link.old) (L.faults link.old) frames.old session.old)
+        (stand (known_of result.1) (L.left link.new) (L.written link.new) (L.faults link.new) (stream_of []) false) (Some result.0) }
+{
+    let mut pass = pass;
+    for _ in rt.forever() {
+        let (end, after) = step(rt, alloc, turn, gate, link, frames, session, pass);
+        pass = after;
+        if let Some(end) = end {
+            return (end, pass);
+        }
+    }
+    unreachable!()
+}
+
+/// The session over a link from its first message on, at the order under this lock. The message is the first that was taken
+/// of the frames. The link is left open.
+pub fn serve_from<R: Wait, L: Link, G: Gate>(
+    rt: &R,
+    alloc: Global,
+    turn: &Turn<Desk>,
+    gate: &G,
+    link: &mut L,
+    frames: &mut Frames,
+    first: &ToServer,
+    pass: Pass<Item>,
+) -> (SessionEnd, Pass<Item>)
+    requires lock { IsPassOf turn.now pass }
+    requires framed { IsFramed first.now }
+    ensures lock { IsPassOf turn.now result.1 }
+    ensures number { (known_of result.1).number ≡ (known_of pass).number }
+    ensures as_shut { L.is_shut link.new ≡ L.is_shut link.old }
+    ensures worn { HasReadLast (read_of result.1) result.0 }
+    ensures goes { (unread : Unread) → (next to_server_of unread).answer ≡ Ok (Some first.now) → frames.old ≡ (next to_server_of unread).after
+        → Leads (stand (known_of pass) (L.left link.old) (L.written link.old) (L.faults link.old) unread false)
+        (stand (known_of result.1) (L.left link.new) (L.written link.new) (L.faults link.new) (stream_of []) false) (Some result.0) }
+{
+    let mut session = Session::new();
+    let (end, pass) = answer(rt, alloc, turn, gate, link, &mut session, pass, first);
+    match end {
+        Some(end) => (end, pass),
+        None => go_on(rt, alloc, turn, gate, link, frames, &mut session, pass),
+    }
+}
+
+// A session over a link, at a lock that was chosen before its first message.
 pub(crate) fn serve_link<R: Wait, L: Link, G: Gate>(
     rt: &R,
     alloc: Global,
@@ -156,14 +219,7 @@ pub(crate) fn serve_link<R: Wait, L: Link, G: Gate>(
 {
     let mut frames = Frames::new(alloc);
     let mut session = Session::new();
-    let mut pass = pass;
-    for _ in rt.forever() {
-        let (end, after) = step(rt, alloc, turn, gate, link, &mut frames, &mut session, pass);
-        pass = after;
-        if let Some(end) = end {
-            link.shut();
-            return (end, pass);
-        }
-    }
-    unreachable!()
+    let (end, pass) = go_on(rt, alloc, turn, gate, link, &mut frames, &mut session, pass);
+    link.shut();
+    (end, pass)
 }

@@ -1,5 +1,8 @@
 //! Documents that one server holds.
 
+mod serving;
+mod sessions;
+
 use crate::checks::{check, check_at};
 use sporc_docs::{Docs, DocsFault, MAX_DOCUMENTS};
 use sporc_order::Order;

@@ -9,7 +9,8 @@
 //! - `shared/fetching`: entries that are fetched over a link in memory.
 //! - `shared/session_faults`: each fault that ends a session but `Worn`, which takes 2^62 calls, and `Memory`; with each call
 //!   of the leaf file, the link and the chance that may fail.
-//! - `docs`: as many documents as a server may hold.
+//! - `docs`: as many documents as a server may hold, and what a server of many documents answers: sessions of two documents
+//!   beside one of none, entries of the other document, a link that fails beside one that doesn't, and 64 documents at once.
 //! - `serve`: what a server answers over links in memory. Answers are compared with bytes that are spelled out by hand.
 //!
 //! Those of the lock are built of `lock/tally` (a value under the lock) and `lock/work` (a turn, rounds of turns, and a crowd

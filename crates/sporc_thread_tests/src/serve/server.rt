@@ -45,6 +45,11 @@ impl Peers {
         let link = listed_link(rt, alloc, stream, piece, failing);
         self.links.push(link).expect(rt, "memory");
     }
+
+    /// The net that these links come from.
+    pub fn into_net(self, rt: &impl Abort, alloc: Global) -> MemoryNet {
+        MemoryNet::new(alloc, self.links, calls(rt, alloc, &[]))
+    }
 }
 
 /// What a server left. It is kept in a box: a function that owns an order or a net itself is slow to prove.
@@ -103,7 +108,7 @@ pub fn served<R: Threads + Wait + Sync + Abort, G: Gate + Sync>(
     requires limit { sessions ≤ MAX_SESSIONS }
 {
     let order = Box::into_inner(empty_order(rt, alloc, cast));
-    let mut net = MemoryNet::new(alloc, peers.links, calls(rt, alloc, &[]));
+    let mut net = peers.into_net(rt, alloc);
     let (order, answer) = serve(rt, alloc, &mut net, "address", order, sessions, gate);
     Box::new(alloc, Outcome { order, net, answer }).expect(rt, "memory")
 }

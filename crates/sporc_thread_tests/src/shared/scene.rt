@@ -11,6 +11,7 @@ use sporc_client::{Client, MAX_EVENTS};
 use sporc_delta::Delta;
 use sporc_epoch::{Pairs, Ring};
 use sporc_head::MAX_ENTRIES;
+use sporc_member::FIRST_DEVICE;
 use sporc_outside::{LeafDisk, MemoryDisk};
 use sporc_samples::{Cast, History, epoch_key, insertion};
 use std::alloc::Global;
@@ -81,7 +82,15 @@ pub(crate) fn opened(
     let genesis = cast.genesis(alloc).expect(rt, "a genesis");
     let signer = signer(rt, alloc, member, file);
     let pairs = Pairs::new(alloc);
-    match Client::open(alloc, genesis, u16::from(member), ring, pairs, signer) {
+    match Client::open(
+        alloc,
+        genesis,
+        u16::from(member),
+        FIRST_DEVICE,
+        ring,
+        pairs,
+        signer,
+    ) {
         Ok(client) => Box::new(alloc, client).expect(rt, "memory"),
         Err((fault, _)) => panic!(rt; "a client: {fault:?}"),
     }

@@ -12,14 +12,14 @@ pub returns-then-is_same : goal.returns-then-is_same
 returns-then-is_same c =
     let is_here = ap (bytes_eq c.args.document.now) (sym c.document.ensures.value) ∙ sym c.is_same.ensures.value ∙ c.if-is_same.true in
     record {
-      value = sym (c.loop-place.invariant ∙ at_place c.args.document.now c.args.orders.now c.loop-place.place c.index-orders-place.result
+      value = sym (c.loop-place.invariant ∙ at_place (is_of c.args.document.now) c.args.orders.now c.loop-place.place c.index-orders-place.result
           c.loop-place-test.true c.index-orders-place.is is_here);
     }
 
 pub loop-place-preserved : goal.loop-place-preserved
 loop-place-preserved c =
     let is_not = ap (bytes_eq c.args.document.now) (sym c.document.ensures.value) ∙ sym c.is_same.ensures.value ∙ c.if-is_same.false in
-    c.loop-place.invariant ∙ not_at_place c.args.document.now c.args.orders.now c.loop-place.place c.index-orders-place.result c.loop-place-test.true c.index-orders-place.is is_not
+    c.loop-place.invariant ∙ not_at_place (is_of c.args.document.now) c.args.orders.now c.loop-place.place c.index-orders-place.result c.loop-place-test.true c.index-orders-place.is is_not
 
 pub returns : goal.returns
 returns c =

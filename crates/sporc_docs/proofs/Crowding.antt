@@ -1,0 +1,138 @@
+-- Sessions of many documents beside one another.
+use Rattle.std.proofs.Common.{◌≡◌, ℕ, suc, ◌+◌, ◌≤◌, Bool, true, false, List, [], ◌∷◌, length, cond, Option, Some, None, Result, Ok, Err, slice_get, refl, sym, subst, arith, bytes_eq}
+use Rattle.std.specs.List.{position_from}
+use Rattle.sporc_outside.specs.Counts.{Rose}
+use Rattle.sporc_outside.specs.Told.{AppendsItem, TakesItem, IsFalseIfTold}
+use Rattle.sporc_turn.specs.declared.pass.Pass.{Pass}
+use Rattle.sporc_turn.specs.declared.turn.Turn.{Turn}
+use Rattle.sporc_turn.specs.Passes.{known_of}
+use Rattle.sporc_wire.specs.Messages.{stream_of}
+use Rattle.sporc_wire.specs.declared.to_server.ToServer.{ToServer}
+use Rattle.sporc_wire.specs.declared.to_server.ToServer.TheVariants.{Hello, Submit, Pull}
+use Rattle.sporc_serve.specs.declared.desk.Desk.{Desk}
+use Rattle.sporc_serve.specs.declared.end.SessionEnd.{SessionEnd}
+use Rattle.sporc_serve.specs.declared.end.SessionEnd.TheVariants.{Closed, LinkEnded, LinkFault, BadFrame, Worn, Memory}
+use Rattle.sporc_serve.specs.declared.fault.ServeFault.{ServeFault}
+use Rattle.sporc_serve.specs.declared.fault.ServeFault.TheVariants as faults
+use Rattle.sporc_serve.specs.declared.item.Item.{Item}
+use Rattle.sporc_serve.specs.Courses.{stand}
+use Rattle.sporc_serve.specs.Crowds.{Net}
+use Rattle.sporc_serve.specs.Endings.{Inlet, inlet, IsFirst}
+use Rattle.sporc_serve.specs.Visits.{visit, came, went, AreFrom, AreBehind, TellsOf, with_end}
+use Rattle.sporc_serve.proofs.Crowding.{IsLastTicket, last_ticket, tells_more, from_more, from_none, behind_more, behind_none}
+use Rattle.sporc_docs.specs.declared.hands.Hand.{Hand}
+use Rattle.sporc_docs.specs.Crowds.{IsCrowd}
+use Rattle.sporc_docs.specs.Hands.{AllHands, Both, HasPass, HavePasses, LogsBegin, MayHave, pass_at}
+use Rattle.sporc_docs.specs.Sessions.{named_by, IsUnboundEnd, Sits}
+use Rattle.sporc_docs.proofs.Ending.{same_place, both_at}
+
+-- a place that is named is within the documents
+position_within : (f : List ℕ → Bool) (i : ℕ) (xs : List (List ℕ)) (place : ℕ) → position_from f i xs ≡ Some place → (j : ℕ) × (place ≡ i + j) × (d : List ℕ) × (slice_get xs j ≡ Some d)
+position_within f i [] place h = absurd cc
+position_within f i (x ∷ xs) place h = go (f x) h (position_within f (i + 1) xs place)
+  where
+    go : (b : Bool) → cond b (Some i) (position_from f (i + 1) xs) ≡ Some place
+        → (position_from f (i + 1) xs ≡ Some place → (j : ℕ) × (place ≡ i + 1 + j) × (d : List ℕ) × (slice_get xs j ≡ Some d))
+        → (j : ℕ) × (place ≡ i + j) × (d : List ℕ) × (slice_get (x ∷ xs) j ≡ Some d)
+    go true h more = let here : place ≡ i = cc in (0, omega (arith, here), x, refl)
+    go false h more = let m = more h in let at : place ≡ i + 1 + m.0 = m.1 in (suc m.0, omega (arith, at), m.2, m.3)
+
+named_within : (documents : List (List ℕ)) (m : ToServer) (place : ℕ) → named_by documents m ≡ Some place → (d : List ℕ) × (slice_get documents place ≡ Some d)
+named_within documents (Submit entry) place h = absurd cc
+named_within documents (Pull from) place h = absurd cc
+named_within documents (Hello d member) place h =
+    let found = position_within (bytes_eq d) 0 documents place h in
+    let from = found.1 in
+    let at : place ≡ found.0 = omega (arith, from) in
+    (found.2, subst (λ (j : ℕ). slice_get documents j ≡ Some found.2) (sym at) found.3)
+
+has_is : (t : Turn Desk Item) (q : Option (Pass Item)) → HasPass t q → (p : Pass Item) × (q ≡ Some p)
+has_is t None h = absurd h
+has_is t (Some p) h = (p, refl)
+
+module _ {L : Type 0} (left written : L → Option (List ℕ)) (faults' : L → ℕ) (is_shut : L → Option Bool) (turns : List (Turn Desk Item)) (documents : List (List ℕ)) where
+  first_last : (a b : Inlet) (r : Result ToServer SessionEnd) (end : SessionEnd) → IsFirst a b r
+      → IsUnboundEnd left written faults' is_shut (named_by documents) r end → IsLastTicket end
+  first_last a b (Ok m) end first is = subst IsLastTicket (sym is.1) tt
+  first_last a b (Err why) end first is = subst IsLastTicket (sym is) (at why first)
+    where
+      at : (why : SessionEnd) → IsFirst a b (Err why) → IsLastTicket why
+      at (Worn ticket) first = absurd first.4
+      at Closed first = tt
+      at LinkEnded first = tt
+      at LinkFault first = tt
+      at BadFrame first = tt
+      at Memory first = tt
+
+  -- a session that ended for want of a ticket did so for want of the last
+  sits_last : (h h' : List (Option (Pass Item))) (b a : L) (end : SessionEnd) → HavePasses turns h → HavePasses turns h'
+      → length documents ≡ length turns → LogsBegin h → Sits left written faults' is_shut documents (visit b a end) h h' → IsLastTicket end
+  sits_last h h' b a end have have' size logs (None, sits) =
+      let u = sits.bound in
+      first_last (inlet (left b) (faults' b) (stream_of [])) (inlet (left u.0) (faults' u.0) u.1) u.2 end u.3.first_is u.3.end_is
+  sits_last h h' b a end have have' size logs (Some place, sits) =
+      let d = named_within documents sits.bound.2 place sits.bound.3.names in
+      let t = same_place documents turns place d.0 size d.1 in
+      let p = has_is t.0 (pass_at place h) (both_at HasPass turns h have place t.0 t.1) in
+      let p' = has_is t.0 (pass_at place h') (both_at HasPass turns h' have' place t.0 t.1) in
+      let log = logs place p.0 p.1 in
+      let session = ((sits.serves place p.0 p'.0 p.1 p'.1).0 refl).2 log.0 log.1 in
+      last_ticket log.0 (stand (known_of p.0) (left b) (written b) (faults' b) (stream_of []) false)
+      (stand (known_of p'.0) (left session.0) (written session.0) (faults' session.0) (stream_of []) false) end session.1.ends
+
+  -- no session
+  pub crowd_none : (hs : List Hand) (old : Net L) → length hs ≡ 0 → IsCrowd left written faults' is_shut turns documents hs hs old old (Ok tt)
+  crowd_none hs old none =
+      ([], record { sit = refl; came_open = tt; coming = from_none old.coming; returned = behind_none old.returned; result_is = (sym none, tt) })
+
+  -- no link came
+  pub crowd_failed : (hs hs' : List Hand) (old new : Net L) → hs' ≡ hs → new.coming ≡ old.coming → new.returned ≡ old.returned → Rose old.faults new.faults
+      → IsCrowd left written faults' is_shut turns documents hs hs' old new (Err faults.ListenFault)
+  crowd_failed hs hs' old new same coming returned rose = (
+    [],
+    record {
+      sit = same;
+      came_open = tt;
+      coming = subst (λ (c : Option (List L)). AreFrom old.coming c []) (sym coming) (from_none old.coming);
+      returned = subst (λ (c : Option (List L)). AreBehind old.returned c []) (sym returned) (behind_none old.returned);
+      result_is = rose;
+    },
+  )
+
+  -- a link came and was served beside the others
+  pub crowd_more : (h h' : Hand) (hs hs' : List Hand) (b a : L) (end : SessionEnd) (old mid low new : Net L)
+      (result result' : Result (Unit {0}) ServeFault) → HavePasses turns h.passes.items → HavePasses turns h'.passes.items → length documents ≡ length turns
+      → LogsBegin h.passes.items → Sits left written faults' is_shut documents (visit b a end) h.passes.items h'.passes.items
+      → IsCrowd left written faults' is_shut turns documents hs hs' mid low result → TakesItem old.coming mid.coming b → IsFalseIfTold (is_shut b)
+      → mid.returned ≡ old.returned → old.faults ≤ mid.faults → new.coming ≡ low.coming → AppendsItem low.returned new.returned a → new.faults ≡ low.faults
+      → result' ≡ with_end result end → IsCrowd left written faults' is_shut turns documents (h ∷ hs) (h' ∷ hs') old new result'
+  crowd_more h h' hs hs' b a end old mid low new result result' have have' size logs sits crowd took is_open back le coming returned count ended =
+      let vs = crowd.0 in
+      let c = crowd.1 in (
+        visit b a end ∷ vs,
+        record {
+          sit = (have, have', sits, c.sit);
+          came_open = (is_open, c.came_open);
+          coming = from_more old.coming mid.coming new.coming b (came vs) took (subst (λ (x : Option (List L)). AreFrom mid.coming x (came vs)) (sym coming) c.coming);
+          returned = behind_more old.returned low.returned new.returned a (went vs) (subst (λ (x : Option (List L)). AreBehind x low.returned (went vs)) back c.returned) returned;
+          result_is = subst (λ (z : ℕ × Result (Unit {0}) ServeFault). TellsOf (suc (length hs)) old.faults z.0 (visit b a end ∷ vs) z.1) (λ i. (sym count i, sym ended i))
+              (tells_more (length hs) old.faults mid.faults low.faults b a end vs result le c.result_is
+              (sits_last h.passes.items h'.passes.items b a end have have' size logs sits));
+        },
+      )
+
+  -- memory ran out before the first link was taken
+  pub crowd_memory : (hs : List Hand) (old : Net L) → IsCrowd left written faults' is_shut turns documents hs hs old old (Err faults.Memory)
+  crowd_memory hs old = ([], record { sit = refl; came_open = tt; coming = from_none old.coming; returned = behind_none old.returned; result_is = tt })
+
+-- hands with passes may have them
+pub may_have : (ts : List (Turn Desk Item)) (ps : List (Option (Pass Item))) → HavePasses ts ps → Both MayHave ts ps
+may_have [] [] h = tt
+may_have [] (p ∷ ps) h = absurd h
+may_have (t ∷ ts) [] h = absurd h
+may_have (t ∷ ts) (None ∷ ps) h = absurd h.0
+may_have (t ∷ ts) (Some p ∷ ps) h = (h.0, may_have ts ps h.1)
+
+pub all_may_have : (ts : List (Turn Desk Item)) (hs : List Hand) → AllHands (HavePasses ts) hs → AllHands (Both MayHave ts) hs
+all_may_have ts [] h = tt
+all_may_have ts (x ∷ hs) h = (may_have ts x.passes.items h.0, all_may_have ts hs h.1)

@@ -1,0 +1,128 @@
+-- Locks, and lists with one item more or less at their ends.
+use Rattle.std.proofs.Common.{◌≡◌, ◌∙◌, ℕ, List, [], ◌∷◌, ◌++◌, length, reverse, replicate, suc, Option, Some, None, refl, ap, sym, subst, subst₂, append_assoc}
+use Rattle.std.proofs.lemmas.List.{reverse-append, map-append}
+use Rattle.std.specs.Prelude.{IsSome}
+use Rattle.sporc_turn.specs.declared.pass.Pass.{Pass}
+use Rattle.sporc_turn.specs.declared.turn.Turn.{Turn}
+use Rattle.sporc_turn.specs.declared.known.Known.{Known}
+use Rattle.sporc_turn.specs.Knowing.{first_known}
+use Rattle.sporc_turn.specs.Passes.{known_of, IsPassOf}
+use Rattle.sporc_order.specs.OrderModel.{OrderModel}
+use Rattle.sporc_serve.specs.declared.desk.Desk.{Desk}
+use Rattle.sporc_serve.specs.declared.item.Item.{Item}
+use Rattle.sporc_serve.specs.Served.{log_at_first}
+use Rattle.sporc_docs.specs.declared.hands.Hand.{Hand}
+use Rattle.sporc_docs.specs.declared.locks.Locks.{Locks}
+use Rattle.sporc_docs.specs.Hands.{Both, AllHands, IsEmpty, HasFirst}
+use Rattle.sporc_docs.specs.Locks.{KnowsFirst, AreOpen, AreBack, IsBack}
+
+module _ {A B : Type 0} (R : A → B → Type 0) where
+  pub both_more : (xs : List A) (ys : List B) (x : A) (y : B) → Both R xs ys → R x y → Both R (xs ++ x ∷ []) (ys ++ y ∷ [])
+  both_more [] [] x y h one = (one, tt)
+  both_more [] (y' ∷ ys) x y h one = absurd h
+  both_more (x' ∷ xs) [] x y h one = absurd h
+  both_more (x' ∷ xs) (y' ∷ ys) x y h one = (h.0, both_more xs ys x y h.1 one)
+
+  no_end : (ys : List B) (y : B) → Both R [] (ys ++ y ∷ []) → ⊥
+  no_end [] y h = h
+  no_end (y' ∷ ys) y h = h
+
+  no_end' : (xs : List A) (x : A) → Both R (xs ++ x ∷ []) [] → ⊥
+  no_end' [] x h = h
+  no_end' (x' ∷ xs) x h = h
+
+  pub both_less : (xs : List A) (ys : List B) (x : A) (y : B) → Both R (xs ++ x ∷ []) (ys ++ y ∷ []) → Both R xs ys × R x y
+  both_less [] [] x y h = (tt, h.0)
+  both_less [] (y' ∷ ys) x y h = absurd (no_end ys y h.1)
+  both_less (x' ∷ xs) [] x y h = absurd (no_end' xs x h.1)
+  both_less (x' ∷ xs) (y' ∷ ys) x y h = let less = both_less xs ys x y h.1 in ((h.0, less.0), less.1)
+
+  pub both_append : (xs xs' : List A) (ys ys' : List B) → Both R xs ys → Both R xs' ys' → Both R (xs ++ xs') (ys ++ ys')
+  both_append [] xs' [] ys' h more = more
+  both_append [] xs' (y ∷ ys) ys' h more = absurd h
+  both_append (x ∷ xs) xs' [] ys' h more = absurd h
+  both_append (x ∷ xs) xs' (y ∷ ys) ys' h more = (h.0, both_append xs xs' ys ys' h.1 more)
+
+  pub both_reverse : (xs : List A) (ys : List B) → Both R xs ys → Both R (reverse xs) (reverse ys)
+  both_reverse [] [] h = tt
+  both_reverse [] (y ∷ ys) h = absurd h
+  both_reverse (x ∷ xs) [] h = absurd h
+  both_reverse (x ∷ xs) (y ∷ ys) h =
+      subst (λ (l : List A). Both R l (reverse (y ∷ ys))) (sym (reverse-append (x ∷ []) xs))
+      (subst (λ (l : List B). Both R (reverse xs ++ x ∷ []) l) (sym (reverse-append (y ∷ []) ys)) (both_more (reverse xs) (reverse ys) x y (both_reverse xs ys h.1) h.0))
+
+  pub both_length : (xs : List A) (ys : List B) → Both R xs ys → length xs ≡ length ys
+  both_length [] [] h = refl
+  both_length [] (y ∷ ys) h = absurd h
+  both_length (x ∷ xs) [] h = absurd h
+  both_length (x ∷ xs) (y ∷ ys) h = ap suc (both_length xs ys h.1)
+
+-- one item more in front of those that are reversed
+pub reversed_more : {A : Type 0} (all left less : List A) (x : A) (xs : List A) → all ≡ left ++ reverse xs → left ≡ less ++ x ∷ [] → all ≡ less ++ reverse (xs ++ x ∷ [])
+reversed_more {A} all left less x xs is last =
+    is ∙ ap (λ (l : List A). l ++ reverse xs) last ∙ append_assoc less (x ∷ []) (reverse xs) ∙ ap (λ (l : List A). less ++ l) (sym (reverse-append xs (x ∷ [])))
+
+-- one item more behind them
+pub reversed_behind : {A : Type 0} (all before after : List A) (x : A) (xs : List A) → before ≡ all ++ reverse xs → after ≡ before ++ x ∷ [] → after ≡ all ++ reverse (x ∷ xs)
+reversed_behind {A} all before after x xs is last =
+    last ∙ ap (λ (l : List A). l ++ x ∷ []) is ∙ append_assoc all (reverse xs) (x ∷ []) ∙ ap (λ (l : List A). all ++ l) (sym (reverse-append (x ∷ []) xs))
+
+-- one item more at the front
+pub shifted : {A : Type 0} (all left less : List A) (x : A) (xs : List A) → all ≡ left ++ xs → left ≡ less ++ x ∷ [] → all ≡ less ++ (x ∷ xs)
+shifted {A} all left less x xs is last = is ∙ ap (λ (l : List A). l ++ xs) last ∙ append_assoc less (x ∷ []) xs
+
+-- a lock more
+pub open_more : (os : List OrderModel) (o : OrderModel) (locks locks' : Locks) (t : Turn Desk Item) (d : List ℕ) (p : Pass Item) → AreOpen os locks
+    → locks'.turns.items ≡ locks.turns.items ++ t ∷ [] → locks'.documents.items ≡ locks.documents.items ++ d ∷ []
+    → locks'.firsts.items ≡ locks.firsts.items ++ Some p ∷ [] → IsPassOf t p → d ≡ o.genesis.document → known_of p ≡ first_known (log_at_first o)
+    → AreOpen (os ++ o ∷ []) locks'
+open_more os o locks locks' t d p are turns documents firsts pass document known =
+    let more : Both HasFirst (locks.turns.items ++ t ∷ []) (locks.firsts.items ++ Some p ∷ []) =
+    both_more HasFirst locks.turns.items locks.firsts.items t (Some p) are.firsts (pass, ap (λ (k : Known Item). k.number) known) in
+    record {
+      firsts = subst (λ (l : List (Turn Desk Item)). Both HasFirst l locks'.firsts.items) (sym turns)
+          (subst (λ (l : List (Option (Pass Item))). Both HasFirst (locks.turns.items ++ t ∷ []) l) (sym firsts) more);
+      documents_are = documents ∙ (λ i. are.documents_are i ++ document i ∷ []) ∙ sym (map-append (λ (x : OrderModel). x.genesis.document) os (o ∷ []));
+      known = subst (λ (l : List (Option (Pass Item))). Both KnowsFirst (os ++ o ∷ []) l) (sym firsts)
+          (both_more KnowsFirst os locks.firsts.items o (Some p) are.known known);
+    }
+
+-- a lock less
+pub back_less : (ps : List (Option (Pass Item))) (p : Option (Pass Item)) → AreBack (ps ++ p ∷ []) → AreBack ps × IsBack p
+back_less [] p h = (tt, h.0)
+back_less (q ∷ qs) p h = let less = back_less qs p h.1 in ((h.0, less.0), less.1)
+
+-- hands without a pass
+empty_each : (ts : List (Turn Desk Item)) (ps : List (Option (Pass Item))) → ps ≡ replicate (length ts) None → Both IsEmpty ts ps
+empty_each [] [] is = tt
+empty_each [] (p ∷ ps) is = absurd cc
+empty_each (t ∷ ts) [] is = absurd cc
+empty_each (t ∷ ts) (p ∷ ps) is = (head is, empty_each ts ps (tail is))
+  where
+    head : (p ∷ ps) ≡ None ∷ replicate (length ts) None → p ≡ None
+    head h = cc
+
+    tail : (p ∷ ps) ≡ None ∷ replicate (length ts) None → ps ≡ replicate (length ts) None
+    tail h = cc
+
+pub empty_all : (ts : List (Turn Desk Item)) (n : ℕ) (hs : List Hand) → length ts ≡ n → AllHands (λ ps. ps ≡ replicate n None) hs → AllHands (Both IsEmpty ts) hs
+empty_all ts n [] size h = tt
+empty_all ts n (x ∷ hs) size h =
+    (empty_each ts x.passes.items (h.0 ∙ ap (λ (m : ℕ). replicate m None) (sym size)), empty_all ts n hs size h.1)
+
+pub hands_more : (holds : List (Option (Pass Item)) → Type 0) (hs : List Hand) (h : Hand) → AllHands holds hs → holds h.passes.items → AllHands holds (hs ++ h ∷ [])
+hands_more holds [] h all one = (one, tt)
+hands_more holds (x ∷ hs) h all one = (all.0, hands_more holds hs h all.1 one)
+
+-- the last lock and its pass
+pub last_both : (ts less : List (Turn Desk Item)) (ps less' : List (Option (Pass Item))) (t : Turn Desk Item) (p : Option (Pass Item)) → Both HasFirst ts ps
+    → ts ≡ less ++ t ∷ [] → ps ≡ less' ++ p ∷ [] → Both HasFirst less less' × HasFirst t p
+last_both ts less ps less' t p h turns passes =
+    both_less HasFirst less less' t p (subst₂ (λ (x : List (Turn Desk Item)) (y : List (Option (Pass Item))). Both HasFirst x y) turns passes h)
+
+pub last_back : (ps less : List (Option (Pass Item))) (p : Option (Pass Item)) → AreBack ps → ps ≡ less ++ p ∷ [] → AreBack less × IsBack p
+last_back ps less p h is = back_less less p (subst AreBack is h)
+
+pub has_some : (t : Turn Desk Item) (q : Option (Pass Item)) → HasFirst t q → IsSome q
+has_some t None h = absurd h
+has_some t (Some p) h = refl

@@ -1,0 +1,19 @@
+use Rattle.std.proofs.Common.{◌≡◌, ◌∷◌, [], Option, Some, refl, subst₂}
+use Rattle.sporc_turn.specs.declared.pass.Pass.{Pass}
+use Rattle.sporc_serve.specs.declared.item.Item.{Item}
+use Rattle.sporc_docs.specs.Hands.{JoinsAt}
+use Rattle.sporc_docs.proofs.hands.join_at.Goals as goal
+
+pub returns-clause-joins : goal.returns-clause-joins
+returns-clause-joins c =
+    let taken = c.take-2.ensures.value in
+    let some = c.unwrap-pass.ensures in
+    let taken' = c.take.ensures.value in
+    let some' = c.in-Some.is in
+    let first : Some c.unwrap-pass.result ≡ c.args.first.now = cc in
+    let place : Some c.in-Some.other ≡ c.args.place.now = cc in
+    subst₂ (λ (f q : Option (Pass Item)). JoinsAt f (q ∷ []) (Some c.join.result)) first place (
+      c.join.result,
+      record { known_is = c.join.ensures.known; read_is = c.join.ensures.read; first = c.join.ensures.first; other = c.join.ensures.other },
+      refl,
+    )

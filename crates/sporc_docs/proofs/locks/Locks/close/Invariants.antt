@@ -1,0 +1,19 @@
+use Rattle.std.proofs.Common.{◌≡◌, ◌≤◌, ◌+◌, ◌++◌, List, Option, reverse, vec_len, vec_capacity}
+use Rattle.sporc_turn.specs.declared.pass.Pass.{Pass}
+use Rattle.sporc_order.specs.OrderModel.{OrderModel}
+use Rattle.sporc_serve.specs.declared.item.Item.{Item}
+use Rattle.sporc_docs.specs.Hands.{Both, HasFirst}
+use Rattle.sporc_docs.specs.Locks.{AreBack, Closes}
+use Rattle.sporc_docs.proofs.locks.Locks.close.Given as goal
+
+abbrev pub invariant-loop-turn : goal.invariant-loop-turn
+invariant-loop-turn l = record {
+  first : Both HasFirst l.turns.items l.firsts.items;
+  back : AreBack l.firsts.items;
+  closed : (done : List (Option (Pass Item))) × (os : List OrderModel) × (l.fn.self.firsts.items ≡ l.firsts.items ++ done)
+      × (l.orders.items ≡ l.initial.orders.items ++ reverse os) × Both Closes done os;
+  room : vec_len l.orders + vec_len l.turns ≤ vec_capacity l.orders;
+}
+
+abbrev pub decreases-loop-turn : goal.decreases-loop-turn
+decreases-loop-turn l = vec_len l.turns

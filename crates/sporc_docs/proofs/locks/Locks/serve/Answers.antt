@@ -1,0 +1,10 @@
+use Rattle.std.proofs.Common.{List, sym, subst}
+use Rattle.sporc_turn.specs.declared.turn.Turn.{Turn}
+use Rattle.sporc_serve.specs.declared.desk.Desk.{Desk}
+use Rattle.sporc_serve.specs.declared.item.Item.{Item}
+use Rattle.sporc_docs.specs.Hands.{AllHands, Both, IsEmpty}
+use Rattle.sporc_docs.proofs.locks.Locks.serve.Goals as goal
+
+pub serve_hands-requires-clause-empty : goal.serve_hands-requires-clause-empty
+serve_hands-requires-clause-empty g c κs within =
+    subst (λ (ts : List (Turn Desk Item)). AllHands (Both IsEmpty ts) c.args.hands.now) (sym c.deref.ensures.value) c.requires.empty

@@ -1,0 +1,113 @@
+use Rattle.std.proofs.Common.{◌≡◌, ◌∙◌, ℕ, [], Some, None, Result, Ok, Err, false, set, slice_index_or, refl, ap, sym, subst, subst₂, arith}
+use Rattle.sporc_wire.specs.declared.to_server.ToServer.{ToServer}
+use Rattle.sporc_wire.specs.Messages.{Unread, stream_of, next}
+use Rattle.sporc_wire.specs.ToServer.{to_server_of}
+use Rattle.sporc_turn.specs.declared.pass.Pass.{Pass}
+use Rattle.sporc_turn.specs.Passes.{known_of, read_of}
+use Rattle.sporc_serve.specs.declared.end.SessionEnd.{SessionEnd}
+use Rattle.sporc_serve.specs.declared.item.Item.{Item}
+use Rattle.sporc_serve.specs.Endings.{inlet, IsFirst}
+use Rattle.sporc_serve.specs.Courses.{stand, Leads}
+use Rattle.sporc_serve.specs.Turns.{HasReadLast}
+use Rattle.sporc_docs.specs.Hands.{pass_at}
+use Rattle.sporc_docs.proofs.Sessions.{have_length, have_at, have_set, became_here, kept_elsewhere, serves_from}
+use Rattle.sporc_docs.proofs.session.serve_one.Goals as goal
+
+pub returns-in-Err-clause-session : goal.returns-in-Err-clause-session
+returns-in-Err-clause-session g c = (
+  None,
+  record {
+    bound = (
+      c.first_message.new.link,
+      c.first_message.new.frames,
+      Err c.in-Err.end,
+      record {
+        first_is = subst₂ (λ (u : Unread) (r : Result ToServer SessionEnd). IsFirst (inlet (g.L.Source.left c.args.link.now) (g.L.Counted.faults c.args.link.now) u)
+            (inlet (g.L.Source.left c.first_message.new.link) (g.L.Counted.faults c.first_message.new.link) c.first_message.new.frames) r)
+            c.new-frames.ensures.value c.in-Err.is c.first_message.ensures.first;
+        end_is = refl;
+        written_is = c.first_message.ensures.written;
+        as_shut = c.first_message.ensures.as_shut;
+        shuts = record { shut = c.shut.ensures.shut; left_is = c.shut.ensures.left; written_is = c.shut.ensures.written; faults_are = c.shut.ensures.count };
+      },
+    );
+    serves = λ i p p' old new. cc;
+  },
+)
+
+pub returns-in_default-clause-session : goal.returns-in_default-clause-session
+returns-in_default-clause-session g c = (
+  None,
+  record {
+    bound = (
+      c.first_message.new.link,
+      c.first_message.new.frames,
+      Ok c.in-Ok.first,
+      record {
+        first_is = subst₂ (λ (u : Unread) (r : Result ToServer SessionEnd). IsFirst (inlet (g.L.Source.left c.args.link.now) (g.L.Counted.faults c.args.link.now) u)
+            (inlet (g.L.Source.left c.first_message.new.link) (g.L.Counted.faults c.first_message.new.link) c.first_message.new.frames) r)
+            c.new-frames.ensures.value c.in-Ok.is c.first_message.ensures.first;
+        end_is = (sym c.named_by.ensures.value ∙ c.in_default.is, refl);
+        written_is = c.first_message.ensures.written;
+        as_shut = c.first_message.ensures.as_shut;
+        shuts = record { shut = c.shut-in_default.ensures.shut; left_is = c.shut-in_default.ensures.left; written_is = c.shut-in_default.ensures.written; faults_are = c.shut-in_default.ensures.count };
+      },
+    );
+    serves = λ i p p' old new. cc;
+  },
+)
+
+pub bounds-hand-place : goal.bounds-hand-place
+bounds-hand-place g c =
+    let same = have_length c.args.turns.now c.args.hand.now c.requires.locks in omega (arith, same, c.requires.documents, c.in-Some.ensures.within)
+
+pub serve_at-end-requires-clause-lock : goal.serve_at-end-requires-clause-lock
+serve_at-end-requires-clause-lock g c =
+    have_at c.args.turns.now c.args.hand.now c.in-Some.place c.index-turns-place.result (slice_index_or c.args.hand.now c.in-Some.place c.index-hand-place.result) c.requires.locks
+    (omega (arith, c.requires.documents, c.in-Some.ensures.within)) c.index-turns-place.is (ap (slice_index_or c.args.hand.now c.in-Some.place) c.index-hand-place.is)
+
+pub returns-clause-locks : goal.returns-clause-locks
+returns-clause-locks g c =
+    have_set c.args.turns.now c.args.hand.now c.in-Some.place c.index-turns-place.result c.serve_at-end.new.pass c.requires.locks
+    (omega (arith, c.requires.documents, c.in-Some.ensures.within)) c.index-turns-place.is c.serve_at-end.ensures.lock
+
+pub returns-clause-session : goal.returns-clause-session
+returns-clause-session g c =
+    let first = subst₂ (λ (u : Unread) (r : Result ToServer SessionEnd). IsFirst (inlet (g.L.Source.left c.args.link.now) (g.L.Counted.faults c.args.link.now) u)
+    (inlet (g.L.Source.left c.first_message.new.link) (g.L.Counted.faults c.first_message.new.link) c.first_message.new.frames) r)
+    c.new-frames.ensures.value c.in-Ok.is c.first_message.ensures.first in
+    let hand = c.args.hand.now in
+    let place = c.in-Some.place in
+    let old = slice_index_or hand place c.index-hand-place.result in
+    let new = c.serve_at-end.new.pass in
+    let read = ap (slice_index_or hand place) c.index-hand-place.is in (
+      Some place,
+      record {
+        bound = (
+          c.first_message.new.link,
+          c.first_message.new.frames,
+          c.in-Ok.first,
+          record { first_is = first; names = sym c.named_by.ensures.value ∙ c.in-Some.is },
+        );
+        serves = λ i p p' at_old at_new. (
+          λ here. (
+              let at_old' = subst (λ (j : ℕ). pass_at j hand ≡ Some p) (sym here) at_old in
+              let at_new' = subst (λ (j : ℕ). pass_at j (set hand place new) ≡ Some p') (sym here) at_new in (
+                became_here (λ (q q' : Pass Item). (known_of q').number ≡ (known_of q).number) hand place old new p p' read at_old' at_new' c.serve_at-end.ensures.number,
+                became_here (λ (q q' : Pass Item). HasReadLast (read_of q') c.serve_at-end.result) hand place old new p p' read at_old' at_new' c.serve_at-end.ensures.worn,
+                λ genesis log.
+                    serves_from g.L.Source.left g.L.Sink.written g.L.Counted.faults g.L.Stream.is_shut c.args.link.now c.first_message.new.link c.serve_at-end.new.link
+                    c.shut-2.new.self (stream_of []) c.first_message.new.frames c.in-Ok.first first c.first_message.ensures.written c.first_message.ensures.as_shut
+                    c.serve_at-end.ensures.as_shut
+                    (record { shut = c.shut-2.ensures.shut; left_is = c.shut-2.ensures.left; written_is = c.shut-2.ensures.written; faults_are = c.shut-2.ensures.count })
+                    genesis (known_of p) (known_of p') c.serve_at-end.result log
+                    (became_here (λ (q q' : Pass Item). (unread : Unread) → (next to_server_of unread).answer ≡ Ok (Some c.in-Ok.first)
+                    → c.first_message.new.frames ≡ (next to_server_of unread).after
+                    → Leads (stand (known_of q) (g.L.Source.left c.first_message.new.link) (g.L.Sink.written c.first_message.new.link) (g.L.Counted.faults c.first_message.new.link) unread false)
+                    (stand (known_of q') (g.L.Source.left c.serve_at-end.new.link) (g.L.Sink.written c.serve_at-end.new.link) (g.L.Counted.faults c.serve_at-end.new.link) (stream_of []) false)
+                    (Some c.serve_at-end.result)) hand place old new p p' read at_old' at_new' c.serve_at-end.ensures.goes),
+              )),
+          λ apart. kept_elsewhere hand place i new p p' apart at_old at_new,
+        );
+      },
+    )

@@ -1,0 +1,64 @@
+-- Orders under locks of their own, for inner contracts.
+use Rattle.std.specs.Prelude.{◌≡◌, ℕ, Bool, List, [], ◌∷◌, map, reverse, Option, Some, None, Result}
+use Rattle.sporc_turn.specs.Knowing.{first_known}
+use Rattle.sporc_turn.specs.Log.{Agrees}
+use Rattle.sporc_turn.specs.Passes.{known_of, out_of}
+use Rattle.sporc_turn.specs.declared.pass.Pass.{Pass}
+use Rattle.sporc_entry.specs.declared.genesis.Genesis.{Genesis}
+use Rattle.sporc_order.specs.OrderModel.{OrderModel}
+use Rattle.sporc_serve.specs.declared.item.Item.{Item}
+use Rattle.sporc_serve.specs.Logs.{by_of, order_at, IsLogOf}
+use Rattle.sporc_serve.specs.Served.{log_at_first}
+use Rattle.sporc_serve.specs.Crowds.{Net}
+use Rattle.sporc_serve.specs.Visits.{CameOpen, came, went, AreFrom, AreBehind, TellsOf}
+use Rattle.sporc_serve.specs.declared.fault.ServeFault.{ServeFault}
+use Rattle.sporc_docs.specs.declared.locks.Locks.{Locks}
+use Rattle.sporc_docs.specs.Hands.{Both, HasFirst}
+use Rattle.sporc_docs.specs.Served.{Session, visits_of, AreBound, IsServedDocument}
+
+-- number 0 of the lock round an order, as it was opened
+abbrev pub KnowsFirst : OrderModel → Option (Pass Item) → Type 0
+KnowsFirst o None = ⊥
+KnowsFirst o (Some p) = known_of p ≡ first_known (log_at_first o)
+
+-- locks round these orders, in their order
+pub record AreOpen (orders : List OrderModel) (locks : Locks) : Type 0 where
+  pub firsts : Both HasFirst locks.turns.items locks.firsts.items
+  pub documents_are : locks.documents.items ≡ map (λ o. o.genesis.document) orders
+  pub known : Both KnowsFirst orders locks.firsts.items
+
+-- each pass that was split from number 0 was joined back
+abbrev pub IsBack : Option (Pass Item) → Type 0
+IsBack None = ⊥
+IsBack (Some p) = out_of p ≡ 0
+
+abbrev pub AreBack : List (Option (Pass Item)) → Type 0
+AreBack [] = Unit {0}
+AreBack (p ∷ ps) = IsBack p × AreBack ps
+
+-- the order under a lock that is closed with number 0: that of all that number 0 has seen
+abbrev pub Closes : Option (Pass Item) → OrderModel → Type 0
+Closes None o = ⊥
+Closes (Some p) o =
+    Agrees by_of (known_of p) (known_of p).seen × ((genesis : Genesis) → IsLogOf genesis (known_of p).seen → o ≡ order_at genesis (known_of p).seen)
+
+-- number 0 of the lock round an order, once these sessions have ended
+abbrev pub Ends : {L : Type 0} → (L → Option (List ℕ)) → (L → Option (List ℕ)) → (L → ℕ) → (L → Option Bool) → List (Session L) → OrderModel → Option (Pass Item)
+    → Type 0
+Ends left written faults is_shut sessions o p = (o' : OrderModel) → Closes p o' → IsServedDocument left written faults is_shut sessions o o'
+
+-- number 0 of the locks round these orders, the last order's first, once so many sessions at a net have ended
+pub record Ending {L : Type 0} (left written : L → Option (List ℕ)) (faults : L → ℕ) (is_shut : L → Option Bool) (orders : List OrderModel)
+    (firsts : List (Option (Pass Item))) (old new : Net L) (count : ℕ) (result : Result (Unit {0}) ServeFault) (sessions : List (Session L)) : Type 0 where
+  pub bound : AreBound left written faults is_shut orders sessions
+  pub back : AreBack firsts
+  pub ends : Both (Ends left written faults is_shut sessions) (reverse orders) firsts
+  pub came_open : CameOpen is_shut (visits_of sessions)
+  pub coming : AreFrom old.coming new.coming (came (visits_of sessions))
+  pub returned : AreBehind old.returned new.returned (went (visits_of sessions))
+  pub result_is : TellsOf count old.faults new.faults (visits_of sessions) result
+
+abbrev pub AreEnding : {L : Type 0} → (L → Option (List ℕ)) → (L → Option (List ℕ)) → (L → ℕ) → (L → Option Bool) → List OrderModel → List (Option (Pass Item))
+    → Net L → Net L → ℕ → Result (Unit {0}) ServeFault → Type 0
+AreEnding {L} left written faults is_shut orders firsts old new count result =
+    (sessions : List (Session L)) × Ending left written faults is_shut orders firsts old new count result sessions

@@ -1,0 +1,203 @@
+//! Hands of passes: for each session one pass of each lock.
+
+ghost use Rattle.std.specs.Prelude.{◌≡◌, ◌∷◌, ℕ, [], None, length, replicate, IfOk, OnOk};
+ghost use Rattle.sporc_turn.specs.declared.pass.Pass.{Pass};
+ghost use Rattle.sporc_docs.specs.Hands.{AllHands, Both, HasFirst, HasPass, HasRoom, HavePasses, HaveRoom, IsEmpty, JoinsAt, MayHave, SplitsAt, column, pass_at};
+
+use sporc_base::Memory;
+use sporc_serve::{Desk, Item};
+use sporc_turn::{Pass, Turn};
+use std::alloc::Global;
+
+// For each lock a pass of it, where one was split.
+#[derive(Drop)]
+pub(crate) struct Hand {
+    pub(crate) passes: Vec<Option<Pass<Item>>>,
+}
+
+impl Hand {
+    // No pass, and places for so many.
+    fn new(alloc: Global, len: usize) -> Result<Hand, Memory>
+        ensures { IfOk result (λ hand. hand.passes.items ≡ replicate len None) }
+    {
+        let mut passes = Vec::with_capacity(alloc, len)?;
+        for _ in 0..len {
+            passes.push_reserved(None);
+        }
+        Ok(Hand { passes })
+    }
+
+    // Splits the passes, each from number 0 of its lock, as far as memory goes.
+    fn split(
+        &mut self,
+        turns: &[Turn<Desk>],
+        firsts: &mut [Option<Pass<Item>>],
+    ) -> Result<(), Memory>
+        requires firsts { Both HasFirst turns.now firsts.old }
+        requires room { HaveRoom 1 firsts.old }
+        requires empty { Both IsEmpty turns.now self.old.passes.items }
+        ensures firsts { Both HasFirst turns.now firsts.new }
+        ensures hand { Both MayHave turns.now self.new.passes.items }
+        ensures ok { OnOk result (HavePasses turns.now self.new.passes.items) }
+        ensures splits { (i : ℕ) → SplitsAt (pass_at i firsts.old) (pass_at i self.new.passes.items ∷ []) (pass_at i firsts.new) }
+    {
+        split_each(turns, firsts, &mut self.passes)
+    }
+
+    // Joins the passes back, each to number 0 of its lock.
+    fn join(&mut self, turns: &[Turn<Desk>], firsts: &mut [Option<Pass<Item>>])
+        requires firsts { Both HasFirst turns.now firsts.old }
+        requires hand { Both MayHave turns.now self.old.passes.items }
+        ensures firsts { Both HasFirst turns.now firsts.new }
+        ensures joins { (i : ℕ) → JoinsAt (pass_at i firsts.old) (pass_at i self.old.passes.items ∷ []) (pass_at i firsts.new) }
+    {
+        join_each(turns, firsts, &mut self.passes);
+    }
+}
+
+// So many hands without a pass, with places for so many locks.
+pub(crate) fn empty_hands(alloc: Global, sessions: u32, len: usize) -> Result<Vec<Hand>, Memory>
+    ensures len { IfOk result (λ hands. length hands.items ≡ sessions) }
+    ensures empty { IfOk result (λ hands. AllHands (λ passes. passes ≡ replicate len None) hands.items) }
+{
+    let mut hands = Vec::with_capacity(alloc, sessions as usize)?;
+    for _ in 0..sessions {
+        let hand = Hand::new(alloc, len)?;
+        hands.push_reserved(hand);
+    }
+    Ok(hands)
+}
+
+// Splits a pass from number 0.
+fn split_at(
+    turn: &Turn<Desk>,
+    first: &mut Option<Pass<Item>>,
+    place: &mut Option<Pass<Item>>,
+) -> Result<(), Memory>
+    requires first { HasFirst turn.now first.old }
+    requires room { HasRoom 1 first.old }
+    requires empty { place.old ≡ None }
+    ensures first { HasFirst turn.now first.new }
+    ensures place { MayHave turn.now place.new }
+    ensures ok { OnOk result (HasPass turn.now place.new) }
+    ensures splits { SplitsAt first.old (place.new ∷ []) first.new }
+{
+    let pass = first.take().unwrap();
+    match turn.split(pass) {
+        Ok((pass, other)) => {
+            *first = Some(pass);
+            *place = Some(other);
+            Ok(())
+        }
+        Err((pass, memory)) => {
+            *first = Some(pass);
+            Err(memory)
+        }
+    }
+}
+
+// Splits a pass from each number 0, as far as memory goes.
+fn split_each(
+    turns: &[Turn<Desk>],
+    firsts: &mut [Option<Pass<Item>>],
+    hand: &mut [Option<Pass<Item>>],
+) -> Result<(), Memory>
+    requires firsts { Both HasFirst turns.now firsts.old }
+    requires room { HaveRoom 1 firsts.old }
+    requires empty { Both IsEmpty turns.now hand.old }
+    ensures firsts { Both HasFirst turns.now firsts.new }
+    ensures hand { Both MayHave turns.now hand.new }
+    ensures ok { OnOk result (HavePasses turns.now hand.new) }
+    ensures splits { (i : ℕ) → SplitsAt (pass_at i firsts.old) (pass_at i hand.new ∷ []) (pass_at i firsts.new) }
+{
+    let Some((turn, turns)) = turns.split_first() else {
+        return Ok(());
+    };
+    let Some((first, firsts)) = firsts.split_first_mut() else {
+        return Ok(());
+    };
+    let Some((place, hand)) = hand.split_first_mut() else {
+        return Ok(());
+    };
+    let here = split_at(turn, first, place);
+    let others = split_each(turns, firsts, hand);
+    here.and(others)
+}
+
+// Splits the passes of these hands, as far as memory goes.
+pub(crate) fn split_hands(
+    turns: &[Turn<Desk>],
+    firsts: &mut [Option<Pass<Item>>],
+    hands: &mut [Hand],
+) -> Result<(), Memory>
+    requires firsts { Both HasFirst turns.now firsts.old }
+    requires room { HaveRoom (length hands.old) firsts.old }
+    requires empty { AllHands (Both IsEmpty turns.now) hands.old }
+    ensures firsts { Both HasFirst turns.now firsts.new }
+    ensures hands { AllHands (Both MayHave turns.now) hands.new }
+    ensures ok { OnOk result (AllHands (HavePasses turns.now) hands.new) }
+    ensures splits { (i : ℕ) → SplitsAt (pass_at i firsts.old) (column i hands.new) (pass_at i firsts.new) }
+{
+    let Some((hand, others)) = hands.split_first_mut() else {
+        return Ok(());
+    };
+    let here = hand.split(turns, firsts);
+    let later = split_hands(turns, firsts, others);
+    here.and(later)
+}
+
+// Joins a pass back to number 0, if it is there.
+fn join_at(turn: &Turn<Desk>, first: &mut Option<Pass<Item>>, place: &mut Option<Pass<Item>>)
+    requires first { HasFirst turn.now first.old }
+    requires place { MayHave turn.now place.old }
+    ensures first { HasFirst turn.now first.new }
+    ensures joins { JoinsAt first.old (place.old ∷ []) first.new }
+{
+    let Some(other) = place.take() else {
+        return;
+    };
+    let pass = first.take().unwrap();
+    *first = Some(turn.join(pass, other));
+}
+
+// Joins passes back, each to number 0 of its lock.
+fn join_each(
+    turns: &[Turn<Desk>],
+    firsts: &mut [Option<Pass<Item>>],
+    hand: &mut [Option<Pass<Item>>],
+)
+    requires firsts { Both HasFirst turns.now firsts.old }
+    requires hand { Both MayHave turns.now hand.old }
+    ensures firsts { Both HasFirst turns.now firsts.new }
+    ensures joins { (i : ℕ) → JoinsAt (pass_at i firsts.old) (pass_at i hand.old ∷ []) (pass_at i firsts.new) }
+{
+    let Some((turn, turns)) = turns.split_first() else {
+        return;
+    };
+    let Some((first, firsts)) = firsts.split_first_mut() else {
+        return;
+    };
+    let Some((place, hand)) = hand.split_first_mut() else {
+        return;
+    };
+    join_at(turn, first, place);
+    join_each(turns, firsts, hand);
+}
+
+// Joins the passes of these hands back.
+pub(crate) fn join_hands(
+    turns: &[Turn<Desk>],
+    firsts: &mut [Option<Pass<Item>>],
+    hands: &mut [Hand],
+)
+    requires firsts { Both HasFirst turns.now firsts.old }
+    requires hands { AllHands (Both MayHave turns.now) hands.old }
+    ensures firsts { Both HasFirst turns.now firsts.new }
+    ensures joins { (i : ℕ) → JoinsAt (pass_at i firsts.old) (column i hands.old) (pass_at i firsts.new) }
+{
+    let Some((hand, others)) = hands.split_first_mut() else {
+        return;
+    };
+    hand.join(turns, firsts);
+    join_hands(turns, firsts, others);
+}

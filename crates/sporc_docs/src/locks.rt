@@ -1,0 +1,148 @@
+//! Orders under locks of their own, and taken out again.
+
+ghost use Rattle.std.specs.Prelude.{◌≡◌, ◌≤◌, ◌<◌, ◌+◌, ◌∷◌, ◌++◌, List, [], Some, length, map, reverse, IfOk, OnOk};
+ghost use Rattle.std.specs.Vec.{vec_len, vec_capacity};
+ghost use Rattle.sporc_order.specs.OrderModel.{OrderModel};
+ghost use Rattle.sporc_outside.specs.Told.{AreShutBehind};
+ghost use Rattle.sporc_serve.specs.Crowds.{net_of};
+ghost use Rattle.sporc_docs.specs.Hands.{AllHands, Both, HasFirst, HaveRoom, IsEmpty};
+ghost use Rattle.sporc_docs.specs.Lists.{AreApart};
+ghost use Rattle.sporc_docs.specs.Locks.{AreBack, AreEnding, AreOpen, Closes, KnowsFirst};
+
+use crate::hands::Hand;
+use crate::serving::serve_hands;
+use sporc_base::Memory;
+use sporc_order::Order;
+use sporc_outside::{Gate, Listen};
+use sporc_serve::{Desk, Item, ServeFault, close_desk, open_desk};
+use sporc_turn::{Pass, Turn};
+use std::alloc::Global;
+use std::sync::Wait;
+use std::thread::Threads;
+
+// For each order its lock, its document, and the pass with number 0.
+#[derive(Drop)]
+pub(crate) struct Locks {
+    pub(crate) turns: Vec<Turn<Desk>>,
+    pub(crate) documents: Vec<[u8; 16]>,
+    pub(crate) firsts: Vec<Option<Pass<Item>>>,
+}
+
+impl Locks {
+    // No lock, and room for so many.
+    pub(crate) fn with_capacity(alloc: Global, len: usize) -> Result<Locks, Memory>
+        ensures none { IfOk result (AreOpen []) }
+        ensures turns { IfOk result (λ l. vec_len l.turns + len ≤ vec_capacity l.turns) }
+        ensures documents { IfOk result (λ l. vec_len l.documents + len ≤ vec_capacity l.documents) }
+        ensures firsts { IfOk result (λ l. vec_len l.firsts + len ≤ vec_capacity l.firsts) }
+    {
+        let turns = Vec::with_capacity(alloc, len)?;
+        let documents = Vec::with_capacity(alloc, len)?;
+        let firsts = Vec::with_capacity(alloc, len)?;
+        Ok(Locks {
+            turns,
+            documents,
+            firsts,
+        })
+    }
+
+    // Puts orders under locks, the last one first, as far as memory goes.
+    pub(crate) fn open(&mut self, alloc: Global, orders: &mut Vec<Order>) -> Result<(), Memory>
+        requires none { AreOpen [] self.old }
+        requires turns { vec_len self.old.turns + vec_len orders.old ≤ vec_capacity self.old.turns }
+        requires documents { vec_len self.old.documents + vec_len orders.old ≤ vec_capacity self.old.documents }
+        requires firsts { vec_len self.old.firsts + vec_len orders.old ≤ vec_capacity self.old.firsts }
+        ensures open { (os : List OrderModel) × (orders.old.items ≡ orders.new.items ++ reverse os) × AreOpen os self.new }
+        ensures ok { OnOk result (orders.new.items ≡ []) }
+        ensures room { vec_capacity orders.new ≡ vec_capacity orders.old }
+    {
+        while let Some(order) = orders.pop() {
+            let document = *order.document();
+            match open_desk(alloc, order) {
+                Ok((turn, first)) => self.push(turn, document, first),
+                Err((order, memory)) => {
+                    orders.push_reserved(order);
+                    return Err(memory);
+                }
+            }
+        }
+        Ok(())
+    }
+
+    // One lock more.
+    fn push(&mut self, turn: Turn<Desk>, document: [u8; 16], first: Pass<Item>)
+        requires turns { vec_len self.old.turns < vec_capacity self.old.turns }
+        requires documents { vec_len self.old.documents < vec_capacity self.old.documents }
+        requires firsts { vec_len self.old.firsts < vec_capacity self.old.firsts }
+        ensures turns { self.new.turns.items ≡ self.old.turns.items ++ turn ∷ [] }
+        ensures documents { self.new.documents.items ≡ self.old.documents.items ++ document ∷ [] }
+        ensures firsts { self.new.firsts.items ≡ self.old.firsts.items ++ Some first ∷ [] }
+        ensures len { (vec_len self.new.turns ≡ vec_len self.old.turns + 1) × (vec_len self.new.documents ≡ vec_len self.old.documents + 1)
+            × (vec_len self.new.firsts ≡ vec_len self.old.firsts + 1) }
+        ensures room { (vec_capacity self.new.turns ≡ vec_capacity self.old.turns) × (vec_capacity self.new.documents ≡ vec_capacity self.old.documents)
+            × (vec_capacity self.new.firsts ≡ vec_capacity self.old.firsts) }
+    {
+        self.turns.push_reserved(turn);
+        self.documents.push_reserved(document);
+        self.firsts.push_reserved(Some(first));
+    }
+
+    // Serves the documents of these locks with such hands.
+    pub(crate) fn serve<R: Threads + Wait + Sync, N: Listen, G: Gate + Sync>(
+        &mut self,
+        rt: &R,
+        alloc: Global,
+        net: &mut N,
+        gate: &G,
+        hands: &mut [Hand],
+    ) -> Result<(), ServeFault>
+    where
+        N::Link: Send,
+        requires firsts { Both HasFirst self.old.turns.items self.old.firsts.items }
+        requires room { HaveRoom (length hands.old) self.old.firsts.items }
+        requires empty { AllHands (Both IsEmpty self.old.turns.items) hands.old }
+        requires documents { length self.old.documents.items ≡ length self.old.turns.items }
+        ensures turns { self.new.turns ≡ self.old.turns }
+        ensures firsts { Both HasFirst self.new.turns.items self.new.firsts.items }
+        ensures ending { (orders : List OrderModel) → AreApart orders → self.old.documents.items ≡ map (λ o. o.genesis.document) (reverse orders)
+            → Both KnowsFirst (reverse orders) self.old.firsts.items
+            → AreEnding N.Link.left N.Link.written N.Link.faults N.Link.is_shut orders self.new.firsts.items
+            (net_of (N.coming net.old) (N.returned net.old) (N.faults net.old)) (net_of (N.coming net.new) (N.returned net.new) (N.faults net.new)) (length hands.old) result }
+        ensures shut { AreShutBehind N.Link.is_shut (N.returned net.old) (N.returned net.new) }
+        ensures asked { N.asked net.new ≡ N.asked net.old }
+        ensures links_out { N.out net.new ≡ N.out net.old }
+        ensures kept { N.faults net.old ≤ N.faults net.new }
+    {
+        serve_hands(
+            rt,
+            alloc,
+            net,
+            &self.turns,
+            &self.documents,
+            &mut self.firsts,
+            gate,
+            hands,
+        )
+    }
+
+    // Takes the orders out of their locks, the last lock's first.
+    pub(crate) fn close(self, orders: &mut Vec<Order>)
+        requires firsts { Both HasFirst self.turns.items self.firsts.items }
+        requires back { AreBack self.firsts.items }
+        requires room { vec_len orders.old + vec_len self.turns ≤ vec_capacity orders.old }
+        ensures closed { (os : List OrderModel) × (orders.new.items ≡ orders.old.items ++ reverse os) × Both Closes self.firsts.items os }
+    {
+        let Locks {
+            mut turns,
+            documents: _,
+            mut firsts,
+        } = self;
+        while let Some(turn) = turns.pop() {
+            let first = firsts.pop().unwrap().unwrap();
+            match close_desk(turn, first) {
+                Ok(order) => orders.push_reserved(order),
+                Err(_) => unreachable!(),
+            }
+        }
+    }
+}

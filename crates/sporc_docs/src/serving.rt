@@ -1,0 +1,52 @@
+//! The sessions of many documents, with passes that are split before them and joined back behind.
+
+ghost use Rattle.std.specs.Prelude.{◌≡◌, ◌≤◌, List, length, map, reverse};
+ghost use Rattle.sporc_outside.specs.Told.{AreShutBehind};
+ghost use Rattle.sporc_order.specs.OrderModel.{OrderModel};
+ghost use Rattle.sporc_serve.specs.Crowds.{net_of};
+ghost use Rattle.sporc_docs.specs.Hands.{AllHands, Both, HasFirst, HaveRoom, IsEmpty};
+ghost use Rattle.sporc_docs.specs.Lists.{AreApart};
+ghost use Rattle.sporc_docs.specs.Locks.{AreEnding, KnowsFirst};
+
+use crate::crowd::crowd_if;
+use crate::hands::{Hand, join_hands, split_hands};
+use sporc_outside::{Gate, Listen};
+use sporc_serve::{Desk, Item, ServeFault};
+use sporc_turn::{Pass, Turn};
+use std::alloc::Global;
+use std::sync::Wait;
+use std::thread::Threads;
+
+// Serves the documents of these locks: all passes are split before the first link is taken, and joined back behind the last
+// session.
+pub(crate) fn serve_hands<R: Threads + Wait + Sync, N: Listen, G: Gate + Sync>(
+    rt: &R,
+    alloc: Global,
+    net: &mut N,
+    turns: &[Turn<Desk>],
+    documents: &[[u8; 16]],
+    firsts: &mut [Option<Pass<Item>>],
+    gate: &G,
+    hands: &mut [Hand],
+) -> Result<(), ServeFault>
+where
+    N::Link: Send,
+    requires firsts { Both HasFirst turns.now firsts.old }
+    requires room { HaveRoom (length hands.old) firsts.old }
+    requires empty { AllHands (Both IsEmpty turns.now) hands.old }
+    requires documents { length documents.now ≡ length turns.now }
+    ensures firsts { Both HasFirst turns.now firsts.new }
+    ensures ending { (orders : List OrderModel) → AreApart orders → documents.now ≡ map (λ o. o.genesis.document) (reverse orders)
+        → Both KnowsFirst (reverse orders) firsts.old
+        → AreEnding N.Link.left N.Link.written N.Link.faults N.Link.is_shut orders firsts.new
+        (net_of (N.coming net.old) (N.returned net.old) (N.faults net.old)) (net_of (N.coming net.new) (N.returned net.new) (N.faults net.new)) (length hands.old) result }
+    ensures shut { AreShutBehind N.Link.is_shut (N.returned net.old) (N.returned net.new) }
+    ensures asked { N.asked net.new ≡ N.asked net.old }
+    ensures links_out { N.out net.new ≡ N.out net.old }
+    ensures kept { N.faults net.old ≤ N.faults net.new }
+{
+    let split = split_hands(turns, firsts, hands);
+    let answer = crowd_if(rt, alloc, net, turns, documents, gate, split, hands);
+    join_hands(turns, firsts, hands);
+    answer
+}

@@ -1,0 +1,140 @@
+//! One session of a server of many documents.
+
+ghost use Rattle.std.specs.Prelude.{◌≡◌, ◌<◌, Ok, Some, length, IfSome, false, []};
+ghost use Rattle.sporc_outside.specs.Told.{IsTrueIfTold};
+ghost use Rattle.sporc_turn.specs.declared.pass.Pass.{Pass};
+ghost use Rattle.sporc_turn.specs.declared.turn.Turn.{Turn};
+ghost use Rattle.sporc_turn.specs.Passes.{known_of, read_of};
+ghost use Rattle.sporc_wire.specs.Messages.{Unread, next, stream_of};
+ghost use Rattle.sporc_wire.specs.ToServer.{to_server_of};
+ghost use Rattle.sporc_order.specs.Sessions.{IsFramed};
+ghost use Rattle.sporc_serve.specs.Courses.{stand, Leads};
+ghost use Rattle.sporc_serve.specs.Turns.{HasReadLast};
+ghost use Rattle.std.specs.List.{position_from};
+ghost use Rattle.std.specs.Str.{bytes_eq};
+ghost use Rattle.sporc_serve.specs.Visits.{visit};
+ghost use Rattle.sporc_docs.specs.Hands.{HasPass, HavePasses};
+ghost use Rattle.sporc_docs.specs.Sessions.{Became, Sits, named_by};
+
+use crate::hands::Hand;
+use sporc_base::is_same;
+use sporc_outside::{Gate, Link};
+use sporc_serve::{Desk, Item, SessionEnd, first_message, serve_from};
+use sporc_turn::{Pass, Turn};
+use sporc_wire::{Frames, ToServer};
+use std::alloc::Global;
+use std::sync::Wait;
+
+// The session over a link from its first message on, by the pass that is kept for the document which that names.
+fn serve_at<R: Wait, L: Link, G: Gate>(
+    rt: &R,
+    alloc: Global,
+    turn: &Turn<Desk>,
+    gate: &G,
+    link: &mut L,
+    frames: &mut Frames,
+    first: &ToServer,
+    pass: &mut Option<Pass<Item>>,
+) -> SessionEnd
+    requires lock { HasPass turn.now pass.old }
+    requires framed { IsFramed first.now }
+    ensures lock { HasPass turn.now pass.new }
+    ensures number { Became (λ p p'. (known_of p').number ≡ (known_of p).number) pass.old pass.new }
+    ensures worn { Became (λ p p'. HasReadLast (read_of p') result) pass.old pass.new }
+    ensures as_shut { L.is_shut link.new ≡ L.is_shut link.old }
+    ensures goes { Became (λ p p'. (unread : Unread) → (next to_server_of unread).answer ≡ Ok (Some first.now)
+        → frames.old ≡ (next to_server_of unread).after
+        → Leads (stand (known_of p) (L.left link.old) (L.written link.old) (L.faults link.old) unread false)
+        (stand (known_of p') (L.left link.new) (L.written link.new) (L.faults link.new) (stream_of []) false) (Some result)) pass.old pass.new }
+{
+    let taken = pass.take().unwrap();
+    let (end, after) = serve_from(rt, alloc, turn, gate, link, frames, first, taken);
+    *pass = Some(after);
+    end
+}
+
+// The place that a first message names, from 0 on.
+fn named_by(documents: &[[u8; 16]], message: &ToServer) -> Option<usize>
+    ensures value { result ≡ named_by documents.now message.now }
+    ensures within { IfSome result (λ place. place < length documents.now) }
+{
+    match message {
+        ToServer::Hello { document, .. } => place_among(documents, document),
+        ToServer::Submit { .. } | ToServer::Pull { .. } => None,
+    }
+}
+
+// The place of a document, from 0 on.
+fn place_among(documents: &[[u8; 16]], document: &[u8; 16]) -> Option<usize>
+    ensures value { result ≡ position_from (bytes_eq document.now) 0 documents.now }
+    ensures within { IfSome result (λ place. place < length documents.now) }
+{
+    for (place, held) in documents.iter().enumerate() {
+        if is_same(document, held) {
+            return Some(place);
+        }
+    }
+    None
+}
+
+// A session over a link. Its first message names its document, for good, and a first message that names none ends it. A
+// hand has a pass for each document.
+fn serve_one<R: Wait, L: Link, G: Gate>(
+    rt: &R,
+    alloc: Global,
+    turns: &[Turn<Desk>],
+    documents: &[[u8; 16]],
+    gate: &G,
+    link: &mut L,
+    hand: &mut [Option<Pass<Item>>],
+) -> SessionEnd
+    requires locks { HavePasses turns.now hand.old }
+    requires documents { length documents.now ≡ length turns.now }
+    ensures locks { HavePasses turns.now hand.new }
+    ensures session { Sits L.left L.written L.faults L.is_shut documents.now (visit link.old link.new result) hand.old hand.new }
+    ensures shut { IsTrueIfTold (L.is_shut link.new) }
+{
+    let mut frames = Frames::new(alloc);
+    let first = match first_message(rt, link, &mut frames) {
+        Ok(first) => first,
+        Err(end) => {
+            link.shut();
+            return end;
+        }
+    };
+    let Some(place) = named_by(documents, &first) else {
+        link.shut();
+        return SessionEnd::Closed;
+    };
+    let end = serve_at(
+        rt,
+        alloc,
+        &turns[place],
+        gate,
+        link,
+        &mut frames,
+        &first,
+        &mut hand[place],
+    );
+    link.shut();
+    end
+}
+
+// The same with a hand.
+pub(crate) fn serve_hand<R: Wait, L: Link, G: Gate>(
+    rt: &R,
+    alloc: Global,
+    turns: &[Turn<Desk>],
+    documents: &[[u8; 16]],
+    gate: &G,
+    link: &mut L,
+    hand: &mut Hand,
+) -> SessionEnd
+    requires locks { HavePasses turns.now hand.old.passes.items }
+    requires documents { length documents.now ≡ length turns.now }
+    ensures locks { HavePasses turns.now hand.new.passes.items }
+    ensures session { Sits L.left L.written L.faults L.is_shut documents.now (visit link.old link.new result) hand.old.passes.items hand.new.passes.items }
+    ensures shut { IsTrueIfTold (L.is_shut link.new) }
+{
+    serve_one(rt, alloc, turns, documents, gate, link, &mut hand.passes)
+}

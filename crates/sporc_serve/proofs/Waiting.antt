@@ -1,0 +1,63 @@
+-- The first message of a session.
+use Rattle.std.proofs.Common.{◌≡◌, ℕ, ◌≤◌, List, [], ◌++◌, Option, Some, None, Result, Ok, Err, false, refl, sym, subst, append-nil, arith}
+use Rattle.std.specs.Io.KnownBytes.{Consumes}
+use Rattle.std.proofs.KnownBytes.{Consumes-nil, Consumes-trans, Appends-nil}
+use Rattle.sporc_entry.specs.declared.genesis.Genesis.{Genesis}
+use Rattle.sporc_turn.specs.declared.known.Known.{Known}
+use Rattle.sporc_wire.specs.declared.to_server.ToServer.{ToServer}
+use Rattle.sporc_wire.specs.Messages.{Unread, HandsOut, stream_of, fed}
+use Rattle.sporc_wire.specs.ToServer.{to_server_of}
+use Rattle.sporc_wire.proofs.Readings.{HandsOut-fed}
+use Rattle.sporc_serve.specs.declared.end.SessionEnd.{SessionEnd}
+use Rattle.sporc_serve.specs.declared.item.Item.{Item}
+use Rattle.sporc_serve.specs.Endings.{Inlet, inlet, IsNext, Waits, IsFirst}
+use Rattle.sporc_serve.specs.Courses.{stand, ServerCourse}
+use Rattle.sporc_serve.proofs.Coursing.{starts_same}
+
+-- nothing was taken yet
+pub waits_none : (left : Option (List ℕ)) (faults : ℕ) (unread : Unread) → unread ≡ stream_of [] → Waits (inlet left faults unread) (inlet left faults unread) []
+waits_none left faults unread fresh = record {
+  taken = Consumes-nil left;
+  reads = subst (λ (u : Unread). HandsOut to_server_of (stream_of []) [] u) (sym fresh) refl;
+  faults = omega arith;
+}
+
+module _ (a b c : Inlet) (bytes : List ℕ) (r : Result (Option ToServer) SessionEnd) (waits : Waits a b bytes) (found : IsNext b c r) (more : b.faults ≤ c.faults) where
+  -- a piece more was taken
+  pub waits_more : r ≡ Ok None → (all : List ℕ) × Waits a c all
+  waits_more is =
+      let h = subst (λ (x : Result (Option ToServer) SessionEnd). IsNext b c x) is found in (
+        bytes ++ h.0,
+        record {
+          taken = Consumes-trans a.left b.left c.left bytes h.0 waits.taken h.1.taken;
+          reads = subst (λ (u : Unread). HandsOut to_server_of (stream_of (bytes ++ h.0)) [] u) (sym h.1.unread)
+              (HandsOut-fed to_server_of (stream_of bytes) h.0 [] b.unread waits.reads);
+          faults = omega (arith, waits.faults, more);
+        },
+      )
+
+  -- a message was found
+  pub first_found : (m : ToServer) → r ≡ Ok (Some m) → IsFirst a c (Ok m)
+  first_found m is = (b, bytes, waits, more, subst (λ (x : Result (Option ToServer) SessionEnd). IsNext b c x) is found)
+
+  -- none is to follow
+  pub first_ends : (end : SessionEnd) → r ≡ Err end → IsFirst a c (Err end)
+  first_ends end is = (b, bytes, waits, more, subst (λ (x : Result (Option ToServer) SessionEnd). IsNext b c x) is found)
+
+-- a session that waited for its first message
+pub course_waits : (g : Genesis) (known : Known Item) (written : Option (List ℕ)) (a b : Inlet) (bytes : List ℕ) → Waits a b bytes
+    → ServerCourse g (stand known a.left written a.faults (stream_of []) false) (stand known b.left written b.faults b.unread false) bytes []
+course_waits g known written a b bytes waits = record {
+  did = record {
+    taken = waits.taken;
+    reads = waits.reads;
+    greeted = refl;
+    number = refl;
+    start = refl;
+    mine = sym (append-nil known.mine);
+    grows = starts_same known.seen;
+    faults = waits.faults;
+  };
+  none_closes = tt;
+  sent = Appends-nil written;
+}

@@ -1,0 +1,35 @@
+//! The first message of a session.
+
+ghost use Rattle.std.specs.Prelude.{◌≡◌, ◌≤◌, []};
+ghost use Rattle.sporc_wire.specs.Messages.{stream_of};
+ghost use Rattle.sporc_serve.specs.Endings.{inlet, IsFirst};
+
+use crate::end::SessionEnd;
+use crate::session::next_message;
+use sporc_outside::Link;
+use sporc_wire::{Frames, ToServer};
+use std::sync::Wait;
+
+/// Takes the first message of a link's bytes, however many pieces it comes in.
+pub fn first_message<R: Wait, L: Link>(
+    rt: &R,
+    link: &mut L,
+    frames: &mut Frames,
+) -> Result<ToServer, SessionEnd>
+    requires fresh { frames.old ≡ stream_of [] }
+    ensures first { IsFirst (inlet (L.left link.old) (L.faults link.old) frames.old) (inlet (L.left link.new) (L.faults link.new) frames.new) result }
+    ensures written { L.written link.new ≡ L.written link.old }
+    ensures as_shut { L.is_shut link.new ≡ L.is_shut link.old }
+    ensures kept { L.faults link.old ≤ L.faults link.new }
+{
+    for _ in rt.forever() {
+        let found = match next_message(link, frames) {
+            Ok(found) => found,
+            Err(end) => return Err(end),
+        };
+        if let Some(message) = found {
+            return Ok(message);
+        }
+    }
+    unreachable!()
+}
