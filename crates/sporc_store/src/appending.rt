@@ -1,6 +1,6 @@
 //! The entries of a saved history, appended one after another.
 
-ghost use Rattle.std.specs.Prelude.{◌≡◌, ◌+◌, ◌≤◌, ◌<◌, ◌^◌, [], length, vec_len, IfOk, OnErr};
+ghost use Rattle.std.specs.Prelude.{◌≡◌, ◌+◌, ◌≤◌, ◌<◌, ◌^◌, [], length, vec_len, IfOk, IfNone, OnErr};
 ghost use Rattle.std.specs.Thread.{IsSync};
 ghost use Rattle.sporc_entry.specs.Genesis.{IsGenesis};
 ghost use Rattle.sporc_store.specs.declared.limits.TheConstants.{MAX_WORKERS};
@@ -10,11 +10,11 @@ ghost use Rattle.sporc_store.specs.Verdicts.{AreExact};
 
 use crate::foretelling::foretell;
 use crate::history::{DocumentHistory, History};
-use crate::limits::BLOCK;
+use crate::limits::{APPENDING, BLOCK};
 use crate::reading::saved_entries;
 use crate::saved_entry::SavedEntry;
 use crate::stop::Stop;
-use crate::workers::{examine_by, tell};
+use crate::workers::{examine_by, examine_part, tell};
 use sporc_base::Memory;
 use sporc_entry::Genesis;
 use sporc_head::Verdict;
@@ -130,7 +130,7 @@ fn append_blocks<R: Threads + Wait + Sync, G: Gate + Sync, H: History>(
 }
 
 // Appends examined entries behind so many others, up to the first that is refused, while the workers examine the first few of
-// the rest.
+// the rest. The first worker does both, so its part of these is the smaller.
 fn append_beside<R: Threads + Wait + Sync, G: Gate + Sync, H: History>(
     rt: &R,
     alloc: Global,
@@ -153,28 +153,86 @@ fn append_beside<R: Threads + Wait + Sync, G: Gate + Sync, H: History>(
     ensures rest { rest.new ≡ rest.old }
 {
     let behind = (before + block.len()) as u32;
-    let next = &rest[..count];
-    let (found, refused) = join_mut(
+    let share = first_share(block.len(), count, workers);
+    let (own, others) = rest[..count].split_at(share);
+    let (found, appended) = join_mut(
         rt,
         &mut || -> Result<Vec<Option<Verdict>>, Memory>
-            requires { IsSync R.row × IsSync G.row × (1 ≤ workers) × (workers ≤ MAX_WORKERS) × (behind + length next.now < 2 ^ 32) }
-            ensures { IfOk result (λ verdicts. AreExact verdicts.items next.entry.now) }
-        { examine_by(rt, alloc, gate, 1, workers, behind, next) },
-        &mut || -> Result<Option<Stop>, Memory>
-            requires { (length (H.entries history.now) ≡ before) × (before + length block.now < 2 ^ 32) }
-            ensures ok { IfOk result (λ refused. AppendsPart (H.checker history.entry.now) (H.entries history.entry.now) block.entry.now refused (H.entries history.exit.now)) }
+            requires { IsSync R.row × IsSync G.row × (1 ≤ workers) × (workers ≤ MAX_WORKERS) × (behind + share + length others.now < 2 ^ 32) }
+            ensures { IfOk result (λ verdicts. AreExact verdicts.items others.entry.now) }
+        {
+            examine_by(
+                rt,
+                alloc,
+                gate,
+                2,
+                workers - 1,
+                behind + share as u32,
+                others,
+            )
+        },
+        &mut || -> Result<Appended, Memory>
+            requires { IsSync R.row × IsSync G.row × (length (H.entries history.now) ≡ before) × (before + length block.now + length own.now < 2 ^ 32) }
+            ensures ok { IfOk result (λ appended. AppendsPart (H.checker history.entry.now) (H.entries history.entry.now) block.entry.now appended.refused (H.entries history.exit.now)) }
+            ensures exact { IfOk result (λ appended. IfNone appended.refused (AreExact appended.verdicts.items own.entry.now)) }
             ensures memory { OnErr result (AppendsSome (H.checker history.entry.now) (H.entries history.entry.now) block.entry.now (H.entries history.exit.now)) }
             ensures checker { H.checker history.exit.now ≡ H.checker history.entry.now }
-        { append_part(alloc, history, before, block) },
+        { append_and_examine(rt, alloc, gate, history, before, block, own) },
     );
-    match refused? {
-        Some(refused) => Ok(Some(refused)),
-        None => {
-            let verdicts = found?;
-            tell(rest, count, verdicts.as_slice());
-            Ok(None)
-        }
+    let mut appended = appended?;
+    if appended.refused.is_none() {
+        let mut found = found?;
+        appended.verdicts.append(&mut found)?;
+        tell(rest, count, appended.verdicts.as_slice());
     }
+    Ok(appended.refused)
+}
+
+// How many of the entries to examine the first worker takes, while it appends so many: its part of all that is to be done.
+fn first_share(appended: usize, count: usize, workers: u32) -> usize
+    requires some { 1 ≤ workers }
+    requires room { appended + count < 2 ^ 32 }
+    ensures within { result ≤ count }
+{
+    let appending = appended / APPENDING;
+    ((count + appending) / workers as usize)
+        .saturating_sub(appending)
+        .min(count)
+}
+
+// The first worker's work on a block: what came of the entries that it appended, and what it found of those that it examined.
+#[derive(Drop)]
+struct Appended {
+    refused: Option<Stop>,
+    verdicts: Vec<Option<Verdict>>,
+}
+
+// Appends examined entries behind so many others, and unless one is refused, examines some of those behind them.
+fn append_and_examine<R: Wait, G: Gate, H: History>(
+    rt: &R,
+    alloc: Global,
+    gate: &G,
+    history: &mut H,
+    before: usize,
+    block: &[SavedEntry<'_>],
+    next: &[SavedEntry<'_>],
+) -> Result<Appended, Memory>
+    requires count { length (H.entries history.old) ≡ before }
+    requires room { before + length block.now + length next.now < 2 ^ 32 }
+    ensures ok { IfOk result (λ appended. AppendsPart (H.checker history.old) (H.entries history.old) block.now appended.refused (H.entries history.new)) }
+    ensures exact { IfOk result (λ appended. IfNone appended.refused (AreExact appended.verdicts.items next.now)) }
+    ensures memory { OnErr result (AppendsSome (H.checker history.old) (H.entries history.old) block.now (H.entries history.new)) }
+    ensures checker { H.checker history.new ≡ H.checker history.old }
+{
+    let refused = append_part(alloc, history, before, block)?;
+    let verdicts = match refused {
+        Some(_) => Vec::new(alloc),
+        None => {
+            let behind = (before + block.len()) as u32;
+            examine_part(rt, alloc, gate, 1, behind, next)?
+        }
+    };
+    Ok(Appended { refused, verdicts })
 }
 
 // Appends entries to an empty history, up to the first that is refused, or where their reading stopped.

@@ -25,14 +25,15 @@ pub(crate) fn foretell(
     Ok(())
 }
 
-// The key of an entry's author, if it is a member; the roster is then as the entry changes it.
+// The key of the device of an entry's author, if it is a live one; the roster is then as the entry changes it.
 fn key_at(alloc: Global, roster: &mut Roster, bytes: &[u8]) -> Result<Option<[u8; 56]>, Memory> {
     let view = match EntryView::read(alloc, bytes) {
         Ok(view) => view,
         Err(EntryFault::Memory) => return Err(AllocError),
         Err(EntryFault::Malformed(_)) => return Ok(None),
     };
-    let key = roster.key(view.header().author).copied();
+    let header = view.header();
+    let key = roster.key(header.author, header.device).copied();
     if let Some(body) = view.change() {
         follow(roster, &body.change)?;
     }

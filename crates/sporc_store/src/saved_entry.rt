@@ -56,7 +56,7 @@ impl<'a> SavedEntry<'a> {
         self.verdict.as_ref()
     }
 
-    // Foretells its author's key.
+    // Foretells the key of its author's device.
     pub(crate) fn foretell(&mut self, key: Option<[u8; 56]>)
         ensures { self.new ≡ self.old }
     {

@@ -13,7 +13,8 @@ use std::sync::Wait;
 use std::thread::{Threads, join_mut};
 
 // Examines the signatures of entries, the first of which stands behind so many others, by so many workers, numbered from
-// `worker` on. Each takes entries that stand together, in a thread of its own where one can be made.
+// `worker` on. Each takes entries that stand together, in a thread of its own where one can be made. If there is none, the
+// first takes them.
 pub(crate) fn examine_by<R: Threads + Wait + Sync, G: Gate + Sync>(
     rt: &R,
     alloc: Global,
@@ -23,12 +24,11 @@ pub(crate) fn examine_by<R: Threads + Wait + Sync, G: Gate + Sync>(
     before: u32,
     entries: &[SavedEntry<'_>],
 ) -> Result<Vec<Option<Verdict>>, Memory>
-    requires some { 1 ≤ workers }
     requires few { worker + workers < 2 ^ 32 }
     requires room { before + length entries.now < 2 ^ 32 }
     ensures { IfOk result (λ verdicts. AreExact verdicts.items entries.now) }
 {
-    if workers == 1 {
+    if workers <= 1 {
         return examine_part(rt, alloc, gate, worker, before, entries);
     }
     let next = worker + 1;
@@ -54,7 +54,7 @@ pub(crate) fn examine_by<R: Threads + Wait + Sync, G: Gate + Sync>(
 }
 
 // The same by one worker.
-fn examine_part<R: Wait, G: Gate>(
+pub(crate) fn examine_part<R: Wait, G: Gate>(
     rt: &R,
     alloc: Global,
     gate: &G,
