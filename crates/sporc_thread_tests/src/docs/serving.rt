@@ -3,12 +3,13 @@
 ghost use Rattle.std.specs.Prelude.{◌≤◌};
 ghost use Rattle.sporc_serve.specs.declared.limits.TheConstants.{MAX_SESSIONS};
 
+use crate::checks::check_at;
+use crate::docs::{added, document};
 use crate::objects::joined;
 use crate::serve::server::Peers;
 use crate::serve::streams::{PULL, submit};
 use sporc_base::is_same;
 use sporc_docs::{Docs, DocsServeFault, serve_docs};
-use sporc_entry::Genesis;
 use sporc_order::Order;
 use sporc_outside::{MemoryNet, OpenGate};
 use sporc_samples::{Cast, Draft, EDIT, History, edit_body};
@@ -65,25 +66,18 @@ fn has_only(order: &Order, entry: &[u8]) -> bool {
     }
 }
 
-// The genesis of the document with this number.
-fn genesis(rt: &impl Abort, alloc: Global, cast: &Cast, number: u8) -> Genesis {
-    let mut genesis = cast.genesis(alloc).expect(rt, "a genesis");
-    genesis.document = [number; 16];
-    genesis
-}
-
-/// Its first entry, by member 1.
+/// The first entry of the document with this number, by member 1.
 pub fn entry_of(rt: &impl Abort, alloc: Global, cast: &Cast, number: u8) -> Vec<u8> {
-    let genesis = genesis(rt, alloc, cast, number);
+    let named = document(number);
+    let mut genesis = cast.genesis(alloc).expect(rt, "a genesis");
+    genesis.document = named;
     let history = History::new(alloc, &genesis).expect(rt, "a history");
     let mut header = history.header(1, EDIT);
-    header.document = genesis.document;
+    header.document = named;
     let signer = cast.member(1).expect(rt, "a member");
-    let body = edit_body(alloc, signer.device(), header.leaf, header.epoch, b"").expect(
-        rt, "memory",
-    );
+    let body = edit_body(alloc, signer.device(), header.leaf, header.epoch, b"");
     Draft::new(header)
-        .signed(alloc, signer, body.as_slice())
+        .signed(alloc, signer, body.expect(rt, "memory").as_slice())
         .expect(rt, "an entry")
 }
 
@@ -103,15 +97,6 @@ pub fn hello_submit_and_pull(rt: &impl Abort, alloc: Global, number: u8, entry: 
     joined(rt, alloc, &[hello.as_slice(), submission.as_slice(), &PULL])
 }
 
-// Adds the empty order of a document.
-fn add(rt: &impl Abort, alloc: Global, cast: &Cast, docs: &mut Docs, number: u8) {
-    let genesis = genesis(rt, alloc, cast, number);
-    let order = Order::open(alloc, genesis).expect(rt, "memory");
-    if docs.add(order).is_err() {
-        panic!(rt; "the document is not taken");
-    }
-}
-
 /// Serves so many links from the empty orders of these documents.
 pub fn served<R: Threads + Wait + Sync + Abort>(
     rt: &R,
@@ -126,7 +111,8 @@ pub fn served<R: Threads + Wait + Sync + Abort>(
 {
     let mut docs = Docs::new(alloc);
     for number in numbers {
-        add(rt, alloc, cast, &mut docs, *number);
+        let fault = added(rt, alloc, cast, &mut docs, *number);
+        check_at(rt, "added", u64::from(*number), fault.is_none());
     }
     let mut net = peers.into_net(rt, alloc);
     let (docs, answer) = serve_docs(rt, alloc, &mut net, "address", docs, sessions, &OpenGate);
