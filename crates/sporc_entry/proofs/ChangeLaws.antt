@@ -1,5 +1,5 @@
 -- The body of a change that is read is spelled so, and one that is spelled so is read again.
-use Rattle.std.proofs.Common.{◌≡◌, ◌≢◌, ℕ, ◌+◌, ◌^◌, ◌<◌, ◌≤◌, Bool, true, false, cond, eqb, List, [], ◌∷◌, ◌++◌, length, Result, Ok, Err, refl, sym, ap, subst, ◌∙◌, append_assoc, arith}
+use Rattle.std.proofs.Common.{◌≡◌, ℕ, ◌+◌, ◌^◌, ◌<◌, ◌≤◌, Bool, true, false, cond, eqb, List, [], ◌∷◌, ◌++◌, length, Result, Ok, Err, refl, sym, ap, subst, ◌∙◌, append_assoc, arith}
 use Rattle.std.specs.Prelude.{IfOk}
 use Rattle.std.specs.List.{flat_map}
 use Rattle.std.specs.Int.{w8, w16, to_be_bytes}
@@ -20,7 +20,7 @@ use Rattle.sporc_entry.specs.declared.wrap.Wrap.{Wrap}
 use Rattle.sporc_entry.specs.Fields.{role_at}
 use Rattle.sporc_entry.specs.declared.fault.EntryFault.TheVariants.{Malformed, Memory}
 use Rattle.sporc_base.specs.Outcome.{GivesUnless}
-use Rattle.sporc_entry.specs.declared.version.TheConstants.{FIRST_VERSION, DEVICES_VERSION, ADD, REMOVE, SET_ROLE, ADD_DEVICE, DROP_DEVICE, UPGRADE}
+use Rattle.sporc_entry.specs.declared.version.TheConstants.{ADD, REMOVE, SET_ROLE, ADD_DEVICE, DROP_DEVICE, UPGRADE}
 use Rattle.sporc_entry.specs.ChangeBody.{kind_at, change_of_device, change_of_member, change_of_kind, change_at, wrap_at, change_body_at, change_body_from, kind_of, change_fields, change_bytes, wrap_bytes, change_body_bytes, IsMember, IsChange, IsWrap, IsChangeBody}
 use Rattle.sporc_entry.specs.Version.{has_kind}
 use Rattle.sporc_entry.proofs.FieldLaws.{Leaves, byte_is, role_takes, role_again}

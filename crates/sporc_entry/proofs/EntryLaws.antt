@@ -17,7 +17,7 @@ use Rattle.sporc_base.specs.Outcome.{GivesUnless}
 use Rattle.sporc_entry.specs.ChangeBody.{change_body_from, IsChangeBody, SpellsChange}
 use Rattle.sporc_entry.specs.declared.version.TheConstants.{FIRST_VERSION, DEVICES_VERSION}
 use Rattle.sporc_entry.specs.declared.limits.TheConstants.{MAX_EDIT_BODY, MAX_CHANGE_BODY, MAX_SIGNATURE, MAX_ENTRY}
-use Rattle.sporc_entry.specs.Entry.{device_at, header_at, body_limit, body_read, entry_of, change_of, device_bytes, header_bytes, counted_bytes, entry_bytes, IsHeader, IsEntry}
+use Rattle.sporc_entry.specs.Entry.{header_at, body_limit, body_read, entry_of, change_of, device_bytes, header_bytes, counted_bytes, entry_bytes, IsHeader, IsEntry}
 use Rattle.sporc_entry.specs.Version.{header_len, body_place}
 use Rattle.sporc_entry.proofs.FieldLaws.{Leaves}
 use Rattle.sporc_entry.proofs.VersionLaws.{version_known, fits, device_takes, device_again, header_len_is, header_len-le}

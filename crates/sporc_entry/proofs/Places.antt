@@ -7,7 +7,6 @@ use Rattle.std.proofs.lemmas.List.{length-take, length-drop}
 use Rattle.sporc_bytes.specs.Fields.{Reading, ◌>>=◌, bytes_at, number_at, only_if, counted_at, end_at, present, fault_as, number_within, values_at}
 use Rattle.sporc_base.specs.FirstFault.{unless, first_of}
 use Rattle.sporc_member.specs.declared.limits.TheConstants.{MAX_MEMBERS}
-use Rattle.sporc_member.specs.declared.change.Change.{Change}
 use Rattle.sporc_member.specs.declared.change.Change.TheVariants.{Add, Remove, SetRole, AddDevice, DropDevice, Upgrade}
 use Rattle.sporc_member.specs.declared.founder.Founder.{Founder}
 use Rattle.sporc_member.specs.Role.{role_with_code}

@@ -1,7 +1,7 @@
 -- What holds of versions: which there are, where a device is named, and which kinds of change they have.
 use Rattle.std.proofs.Common.{◌≡◌, ℕ, ◌+◌, ◌^◌, ◌<◌, ◌≤◌, Bool, true, false, cond, eqb, leb, List, [], ◌∷◌, ◌++◌, length, Result, Ok, refl, sym, ap, subst, ◌∙◌, arith}
 use Rattle.std.specs.Prelude.{◌&&◌, ◌||◌}
-use Rattle.std.specs.Int.{w8, to_be_bytes}
+use Rattle.std.specs.Int.{w8}
 use Rattle.std.proofs.lemmas.Bool.{eqb-true, eqb-false, leb-true, and_parts}
 use Rattle.sporc_base.specs.Bytes.{IsBytes}
 use Rattle.sporc_bytes.specs.Fields.{Reading, ◌>>=◌, number_at, only_if}

@@ -9,7 +9,7 @@ use Rattle.sporc_entry.specs.declared.change.ChangeBody.{ChangeBody}
 use Rattle.sporc_entry.specs.declared.entry.Entry.{Entry}
 use Rattle.sporc_entry.specs.ChangeBody.{change_body_from}
 use Rattle.sporc_entry.specs.Entry.{entry_of, change_of, header_bytes, counted_bytes, entry_bytes, signed_string, IsEntry}
-use Rattle.sporc_entry.specs.Version.{header_len, body_place}
+use Rattle.sporc_entry.specs.Version.{body_place}
 use Rattle.sporc_entry.specs.EntryView.{parts_entry, entry_within, EntryViewInvariant}
 use Rattle.sporc_entry.proofs.ChangeLaws.{change_body_takes, change_body_again}
 use Rattle.sporc_entry.proofs.EntryLaws.{entry_takes, length-header_bytes, length-counted_bytes}

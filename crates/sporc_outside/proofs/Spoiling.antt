@@ -1,5 +1,5 @@
 -- A loop that puts one byte at each place that is in one of some ranges.
-use Rattle.std.proofs.Common.{◌≡◌, ◌⊎◌, ℕ, ◌+◌, ◌<◌, ◌≤◌, inl, inr, List, length, slice_index, set, length-set, subst, ap, sym, ◌∙◌, arith, get_or-set_same, get_or-set_other}
+use Rattle.std.proofs.Common.{◌≡◌, ◌⊎◌, ℕ, ◌+◌, ◌<◌, ◌≤◌, inl, inr, List, length, slice_index, set, length-set, subst, sym, ◌∙◌, arith, get_or-set_same, get_or-set_other}
 use Rattle.std.proofs.Math.Nat.{eq-or-lt_of_le}
 use Rattle.sporc_outside.specs.MemoryDisk.{IsUnsynced}
 

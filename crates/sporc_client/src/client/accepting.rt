@@ -44,7 +44,7 @@ impl<D: LeafDisk> Client<D> {
         self.accept_known(by, pos, bytes, None)
     }
 
-    /// The same of an entry whose signature was examined. It is verified anew if the key isn't its author's at this history.
+    /// The same of an entry whose signature was examined. It is verified anew if the key isn't that of its author's device at this history.
     pub fn accept_examined(
         &mut self,
         by: u32,

@@ -39,7 +39,7 @@ impl Line {
         self.prepare_known(pos, bytes, None)
     }
 
-    /// The same of an entry whose signature was examined. It is verified anew if the key isn't its author's at this line.
+    /// The same of an entry whose signature was examined. It is verified anew if the key isn't that of its author's device at this line.
     pub fn prepare_examined(&mut self, pos: u32, examined: &Examined) -> Result<Prepared, Refusal>
         ensures fault { AnswersUnless Refusal.Memory result (first_fault self.old.genesis self.old.kit self.old.entries pos examined.now.entry) }
         ensures prepared { IfOk result (IsPrepared self.old.genesis self.old.kit self.old.entries) }
@@ -108,7 +108,7 @@ impl Line {
         self.accept_known(pos, bytes, None)
     }
 
-    /// The same of an entry whose signature was examined. It is verified anew if the key isn't its author's at this line.
+    /// The same of an entry whose signature was examined. It is verified anew if the key isn't that of its author's device at this line.
     pub fn accept_examined(&mut self, pos: u32, examined: &Examined) -> Result<(), Refusal>
         ensures fault { AnswersUnless Refusal.Memory result (first_fault self.old.genesis self.old.kit self.old.entries pos examined.now.entry) }
         ensures genesis { self.new.genesis ≡ self.old.genesis }
