@@ -1,5 +1,5 @@
 -- A turn after one that was taken to look at the log.
-use Rattle.std.proofs.Common.{◌≡◌, ℕ, Bool, List, [], ◌++◌, Result, Ok, Err, ap, subst, ◌∙◌, append-nil}
+use Rattle.std.proofs.Common.{ℕ, Bool, List, [], ◌++◌, Result, Ok, Err, ap, subst, ◌∙◌, append-nil}
 use Rattle.sporc_entry.specs.declared.genesis.Genesis.{Genesis}
 use Rattle.sporc_wire.specs.declared.to_server.ToServer.{ToServer}
 use Rattle.sporc_order.specs.declared.reply.Reply.{Reply}

@@ -12,7 +12,7 @@ use Rattle.sporc_turn.specs.Log.{StartsWith, Agrees, own}
 use Rattle.sporc_turn.specs.Knowing.{first_known, splitting, copied}
 use Rattle.sporc_order.specs.OrderModel.{OrderModel}
 use Rattle.sporc_serve.specs.declared.item.Item.{Item}
-use Rattle.sporc_serve.specs.Logs.{by_of, log_of, order_at, placed, IsLogOf, OfDocument}
+use Rattle.sporc_serve.specs.Logs.{by_of, order_at, placed, IsLogOf, OfDocument}
 use Rattle.sporc_serve.specs.declared.fault.ServeFault.{ServeFault}
 use Rattle.sporc_serve.specs.declared.fault.ServeFault.TheVariants as faults'
 use Rattle.sporc_serve.specs.Visits.{Visit, Visits, came, went, AreFrom, AreBehind, TellsOf}
@@ -163,18 +163,12 @@ module _ {L : Type 0} (left written : L → Option (List ℕ)) (faults : L → �
         let same : k.splits + 0 ≡ 0 + length k.joined = h in
         omega (arith, same)
 
-  -- what number 0 knows at first, once the order is on a desk
-  first_at : (o' : OrderModel) (ns : List ℕ) (k : Known Item) → o' ≡ o → ns ≡ replicate (length o.entries) 0 → k ≡ first_known (log_of o' ns)
-      → k ≡ first_known (log_at_first o)
-  first_at o' ns k order numbers is = is ∙ (λ i. first_known (log_of (order i) (numbers i)))
-
-  module _ (o' : OrderModel) (ns : List ℕ) (k0 k : Known Item) (read : ℕ) (old mid new : Net L) (n : ℕ) (result : Result (Unit {0}) ServeFault) (order : o' ≡ o)
-      (numbers : ns ≡ replicate (length o.entries) 0) (is0 : k0 ≡ first_known (log_of o' ns))
+  module _ (k0 k : Known Item) (read : ℕ) (old mid new : Net L) (n : ℕ) (result : Result (Unit {0}) ServeFault) (is0 : k0 ≡ first_known (log_at_first o))
       (crowd : OfDocument k0.seen (λ g. IsCrowd left written faults is_shut g k0 k read mid new n result)) where
     -- the crowd's part of it
     crowd_first : IsCrowd left written faults is_shut o.genesis (first_known (log_at_first o)) k read mid new n result
     crowd_first =
-        subst (λ (x : Known Item). OfDocument x.seen (λ g. IsCrowd left written faults is_shut g x k read mid new n result)) (first_at o' ns k0 order numbers is0) crowd
+        subst (λ (x : Known Item). OfDocument x.seen (λ g. IsCrowd left written faults is_shut g x k read mid new n result)) is0 crowd
         o.genesis (placed (replicate (length o.entries) 0) o.entries, refl)
 
     -- no pass is out
@@ -182,25 +176,22 @@ module _ {L : Type 0} (left written : L → Option (List ℕ)) (faults : L → �
     none_out = all_back k crowd_first.0 crowd_first.1.visits_are
 
     -- the sessions, once the lock is closed
-    pub serves : (back after : OrderModel) (ms : List ℕ) → back ≡ after → mid.coming ≡ old.coming → mid.returned ≡ old.returned → old.faults ≤ mid.faults
-        → length ms ≡ length after.entries → log_of after ms ≡ k.seen → Agrees by_of k (log_of after ms)
-        → (MAX_TICKETS ≤ read → (pass : Pass Item) × (k ≡ known_of pass) × IsWorn pass) → IsServed left written faults is_shut o back old new n result
-    serves back after ms same_order coming returned le same is agrees worn =
+    pub serves : (after : OrderModel) → ((genesis : Genesis) → IsLogOf genesis k.seen → after ≡ order_at genesis k.seen) → Agrees by_of k k.seen
+        → mid.coming ≡ old.coming → mid.returned ≡ old.returned → old.faults ≤ mid.faults
+        → (MAX_TICKETS ≤ read → (pass : Pass Item) × (k ≡ known_of pass) × IsWorn pass) → IsServed left written faults is_shut o after old new n result
+    serves after closes agrees coming returned le worn =
         let c = crowd_first.1 in
         let vs = crowd_first.0 in
-        let log = log_of after ms in
         let begins = begins_first left written faults is_shut o.genesis (first_known (log_at_first o)) k vs c.visits_are in
-        let of_it : IsLogOf o.genesis log =
-        starts_log o.genesis log (log_at_first o) (subst (λ (l : List Item). StartsWith l (log_at_first o)) (sym is) begins)
-        (placed (replicate (length o.entries) 0) o.entries, refl) in (
+        let of_it : IsLogOf o.genesis k.seen = starts_log o.genesis k.seen (log_at_first o) begins (placed (replicate (length o.entries) 0) o.entries, refl) in (
           vs,
-          log,
+          k.seen,
           record {
-            served = served left written faults is_shut o back k vs log c.visits_are is agrees (same_order ∙ order_is o.genesis after ms same of_it);
+            served = served left written faults is_shut o after k vs k.seen c.visits_are refl agrees (closes o.genesis of_it);
             came_open = c.came_open;
             coming = subst (λ (x : Option (List L)). AreFrom x new.coming (came vs)) coming c.coming;
             returned = subst (λ (x : Option (List L)). AreBehind x new.returned (went vs)) returned c.returned;
             result_is = tells_before n old.faults mid.faults new.faults vs result le c.result_is;
-            worn = λ ticket w. (let t = worn (c.worn ticket w) in (t.0, ap (λ (x : Known Item). x.seen) (sym t.1) ∙ sym is, t.2));
+            worn = λ ticket w. (let t = worn (c.worn ticket w) in (t.0, ap (λ (x : Known Item). x.seen) (sym t.1), t.2));
           },
         )

@@ -7,11 +7,10 @@ ghost use Rattle.sporc_serve.specs.Crowds.{net_of};
 ghost use Rattle.sporc_serve.specs.Served.{IsServed};
 
 use crate::crowd::crowd;
-use crate::desk::Desk;
 use crate::fault::ServeFault;
+use crate::opening::{close_desk, open_desk};
 use sporc_order::Order;
 use sporc_outside::{Gate, Listen};
-use sporc_turn::Turn;
 use std::alloc::Global;
 use std::sync::Wait;
 use std::thread::Threads;
@@ -48,17 +47,13 @@ where
     let Ok(()) = net.listen(address) else {
         return (order, Err(ServeFault::ListenFault));
     };
-    let desk = match Desk::new(alloc, order) {
-        Ok(desk) => desk,
+    let (turn, first) = match open_desk(alloc, order) {
+        Ok(both) => both,
         Err((order, _)) => return (order, Err(ServeFault::Memory)),
     };
-    let (turn, first) = match Turn::open(alloc, desk) {
-        Ok(both) => both,
-        Err((desk, _)) => return (desk.into_order(), Err(ServeFault::Memory)),
-    };
     let (answer, first) = crowd(rt, alloc, net, &turn, gate, first, sessions);
-    match turn.close(first) {
-        Ok(desk) => (desk.into_order(), answer),
+    match close_desk(turn, first) {
+        Ok(order) => (order, answer),
         Err(_) => unreachable!(),
     }
 }

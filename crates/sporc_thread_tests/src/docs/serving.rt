@@ -6,7 +6,7 @@ ghost use Rattle.sporc_serve.specs.declared.limits.TheConstants.{MAX_SESSIONS};
 use crate::checks::check_at;
 use crate::docs::{added, document};
 use crate::objects::joined;
-use crate::serve::server::Peers;
+use crate::serve::server::{Outcome as Alone, Peers};
 use crate::serve::streams::{PULL, submit};
 use sporc_base::is_same;
 use sporc_docs::{Docs, DocsServeFault, serve_docs};
@@ -38,6 +38,17 @@ impl Outcome {
         match self.orders.get(place) {
             Some(order) => has_only(order, entry),
             None => false,
+        }
+    }
+
+    /// Whether the order at a place, and what was written on the link that was taken as the last but so many, are those that a
+    /// server of one document left after one entry in one session.
+    pub fn is_as(&self, place: usize, alone: &Alone) -> bool {
+        match alone.order.entries() {
+            [only] => {
+                self.has_entry(place, only.as_slice()) && alone.is_written(0, self.written(place))
+            }
+            _ => false,
         }
     }
 

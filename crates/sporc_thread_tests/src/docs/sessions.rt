@@ -1,15 +1,19 @@
 //! Sessions of many documents on one server.
 
 use crate::checks::{check, check_at};
+use crate::docs::empty_order;
 use crate::docs::serving::{Outcome, entry_of, hello, hello_submit_and_pull, served};
 use crate::objects::joined;
 use crate::serve::replies::{EMPTY, ORDERED_FIRST, are_of_submit_and_pull};
-use crate::serve::server::Peers;
+use crate::serve::server::{Outcome as Alone, Peers, served_order};
 use crate::serve::streams::{PULL, submit};
 use sporc_base::is_same;
+use sporc_outside::OpenGate;
 use sporc_samples::Cast;
 use std::alloc::Global;
 use std::process::Abort;
+use std::sync::Wait;
+use std::thread::Threads;
 
 // A Rejected of an entry of another document.
 const WRONG_DOCUMENT: [u8; 10] = [0, 0, 0, 6, 2, 2, 0, 0, 0, 0];
@@ -153,13 +157,36 @@ fn peers_of(rt: &impl Abort, alloc: Global, numbers: &[u8], entries: &[Vec<u8>])
     peers
 }
 
-fn check_all(rt: &impl Abort, alloc: Global, outcome: &Outcome, entries: &[Vec<u8>]) {
+// What a server of this document alone leaves after the same session.
+fn served_alone<R: Threads + Wait + Sync + Abort>(
+    rt: &R,
+    alloc: Global,
+    cast: &Cast,
+    number: u8,
+    entry: &[u8],
+) -> Box<Alone> {
+    let stream = hello_submit_and_pull(rt, alloc, number, entry);
+    let mut peers = Peers::new(alloc);
+    peers.add(rt, alloc, stream.as_slice(), 512, &[]);
+    let order = empty_order(rt, alloc, cast, number);
+    served_order(rt, alloc, order, peers, 1, &OpenGate)
+}
+
+// Each document has its own entry alone, and its log and its answers are those of a server of it alone.
+fn check_all<R: Threads + Wait + Sync + Abort>(
+    rt: &R,
+    alloc: Global,
+    cast: &Cast,
+    outcome: &Outcome,
+    numbers: &[u8],
+    entries: &[Vec<u8>],
+) {
     check(rt, "the server", outcome.went_well());
-    for (place, entry) in entries.iter().enumerate() {
+    for (place, (number, entry)) in numbers.iter().zip(entries).enumerate() {
         let own = outcome.has_entry(place, entry.as_slice());
         check_at(rt, "its own entry alone", place as u64, own);
-        let answered = are_of_submit_and_pull(rt, alloc, outcome.written(place));
-        check_at(rt, "its answers", place as u64, answered);
+        let alone = served_alone(rt, alloc, cast, *number, entry.as_slice());
+        check_at(rt, "as alone", place as u64, outcome.is_as(place, &alone));
     }
 }
 
@@ -171,5 +198,12 @@ fn sixty_four_documents_at_once(rt: HostRuntime) {
     let entries = entries_of(&rt, alloc, &cast, numbers.as_slice());
     let peers = peers_of(&rt, alloc, numbers.as_slice(), entries.as_slice());
     let outcome = served(&rt, alloc, &cast, numbers.as_slice(), peers, 64);
-    check_all(&rt, alloc, &outcome, entries.as_slice());
+    check_all(
+        &rt,
+        alloc,
+        &cast,
+        &outcome,
+        numbers.as_slice(),
+        entries.as_slice(),
+    );
 }

@@ -107,7 +107,23 @@ pub fn served<R: Threads + Wait + Sync + Abort, G: Gate + Sync>(
     requires some { 1 ≤ sessions }
     requires limit { sessions ≤ MAX_SESSIONS }
 {
-    let order = Box::into_inner(empty_order(rt, alloc, cast));
+    let order = empty_order(rt, alloc, cast);
+    served_order(rt, alloc, order, peers, sessions, gate)
+}
+
+/// The same from this order.
+pub fn served_order<R: Threads + Wait + Sync + Abort, G: Gate + Sync>(
+    rt: &R,
+    alloc: Global,
+    order: Box<Order>,
+    peers: Peers,
+    sessions: u32,
+    gate: &G,
+) -> Box<Outcome>
+    requires some { 1 ≤ sessions }
+    requires limit { sessions ≤ MAX_SESSIONS }
+{
+    let order = Box::into_inner(order);
     let mut net = peers.into_net(rt, alloc);
     let (order, answer) = serve(rt, alloc, &mut net, "address", order, sessions, gate);
     Box::new(alloc, Outcome { order, net, answer }).expect(rt, "memory")

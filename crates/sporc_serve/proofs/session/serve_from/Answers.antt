@@ -1,10 +1,9 @@
-use Rattle.std.proofs.Common.{◌≡◌, Option, None, Some, [], false, subst, sym}
+use Rattle.std.proofs.Common.{None, Some, [], false, subst, sym}
 use Rattle.sporc_turn.specs.Passes.{known_of}
 use Rattle.sporc_wire.specs.Messages.{Unread, next, stream_of}
 use Rattle.sporc_wire.specs.ToServer.{to_server_of}
-use Rattle.sporc_serve.specs.declared.end.SessionEnd.{SessionEnd}
 use Rattle.sporc_serve.specs.Courses.{ServerStand, stand, Carries, Leads}
-use Rattle.sporc_serve.proofs.Stepping.{leads_same, leads_then, first_leads}
+use Rattle.sporc_serve.proofs.Stepping.{first_leads}
 use Rattle.sporc_serve.proofs.session.serve_from.Goals as goal
 
 pub returns-in-Some-clause-goes : goal.returns-in-Some-clause-goes
