@@ -53,35 +53,34 @@ pub no_act : (s : Setup) (scene : Scene) → MayAct s scene nothing
 no_act s scene = record { run = tt; typed = tt; bytes = tt; entries = tt }
 
 -- what a client does, if there is one
-pub open_acts : (s : Setup) (scene : Scene) (m : Device) (act : PlainClient → Effect) → ((c : PlainClient) → scene.world.clients m ≡ Some c → MayAct s scene (act c)) → MayAct s scene (if_open (scene.world.clients m) act)
-open_acts s scene m act each = go (scene.world.clients m) each
+pub open_acts : (s : Setup) (scene : Scene) (who : Device) (act : PlainClient → Effect) → ((c : PlainClient) → scene.world.clients who ≡ Some c → MayAct s scene (act c)) → MayAct s scene (if_open (scene.world.clients who) act)
+open_acts s scene who act each = go (scene.world.clients who) each
   where
     go : (o : Option PlainClient) → ((c : PlainClient) → o ≡ Some c → MayAct s scene (act c)) → MayAct s scene (if_open o act)
     go None each = no_act s scene
     go (Some c) each = each c refl
 
 -- the moment of a play's client
-pub client_at : (s : Setup) (moves : List Move) (scene : Scene) (m : Device) (c : PlainClient) → HasCome s moves scene → scene.world.clients m ≡ Some c → IsAt s moves (length moves) m c
-client_at s moves scene m c come at =
-    ap (λ (ms : List Move). (after_all s start ms).clients m) (take_all (length moves) moves (omega arith)) ∙ ap (λ (w : World). w.clients m) (sym come.world) ∙ at
+pub client_at : (s : Setup) (moves : List Move) (scene : Scene) (who : Device) (c : PlainClient) → HasCome s moves scene → scene.world.clients who ≡ Some c → IsAt s moves (length moves) who c
+client_at s moves scene who c come at =
+    ap (λ (ms : List Move). (after_all s start ms).clients who) (take_all (length moves) moves (omega arith)) ∙ ap (λ (w : World). w.clients who) (sym come.world) ∙ at
 
 -- one event, unless there is a fault
-pub event_acts : {F : Type 0} (s : Setup) (scene : Scene) (m : Device) (c : PlainClient) (fault : Option F) (event : Logged) → scene.world.clients m ≡ Some c → (fault ≡ None → allows c event ≡ true) → (fault ≡ None → IsTypedEvent event) → IsByteEvent event → MayAct s scene (adds m (logged_unless fault event))
-event_acts s scene m c None event at may typed bytes = record {
+pub event_acts : {F : Type 0} (s : Setup) (scene : Scene) (who : Device) (c : PlainClient) (fault : Option F) (event : Logged) → scene.world.clients who ≡ Some c → (fault ≡ None → allows c event ≡ true) → (fault ≡ None → IsTypedEvent event) → IsByteEvent event → MayAct s scene (adds who (logged_unless fault event))
+event_acts s scene who c None event at may typed bytes = record {
   run = (subst (λ (o : Option PlainClient). IsSomeAnd o (λ c. allows c event ≡ true)) (sym at) (may refl), tt);
   typed = (typed refl, tt);
   bytes = (bytes, tt);
   entries = tt;
 }
-event_acts s scene m c (Some fault) event at may typed bytes = no_act s scene
+event_acts s scene who c (Some fault) event at may typed bytes = no_act s scene
 
 discard_may : (c : PlainClient) → discard_fault c ≡ None → allows c (Discard 0) ≡ true
 unfolding allows
 discard_may c none = ap is_none none
 
-pub discard_acts : (s : Setup) (m : ℕ) → MayBe s (λ scene. commands.Discard m)
-discard_acts s m moves scene come =
-    let who = first_device m in
+pub discard_acts : (s : Setup) (who : Device) → MayBe s (λ scene. commands.Discard who)
+discard_acts s who moves scene come =
     open_acts s scene who (λ c. adds who (discard_events c)) (λ c at. event_acts s scene who c (discard_fault c) (Discard 0) at (discard_may c) (λ none. tt) tt)
 
 change_may : (c : PlainClient) (change : MemberChange) → change_fault c ≡ None → allows c (Change 0 change) ≡ true
@@ -93,20 +92,26 @@ unfolding setup_of
 typed_change script (changes.Add m) fits = (fits.1, own_key_len (tree_of script) (first_device m.member))
 typed_change script (changes.Remove m) fits = fits.1
 typed_change script (changes.SetRole m) fits = fits.1
+typed_change script (changes.AddDevice d) fits = (fits.0.1, fits.1, own_key_len (tree_of script) d)
+typed_change script (changes.DropDevice d) fits = (fits.0.1, fits.1)
+typed_change script changes.Upgrade fits = tt
 
-pub byte_change : (script : List PlayLine) (change : RosterChange) → IsByteChange (member_change (setup_of script) change)
+pub byte_change : (script : List PlayLine) (change : RosterChange) → RosterChangeInRange change → IsByteChange (member_change (setup_of script) change)
 unfolding setup_of
-byte_change script (changes.Add m) = key_bytes (tree_of script) (first_device m.member)
-byte_change script (changes.Remove m) = tt
-byte_change script (changes.SetRole m) = tt
+byte_change script (changes.Add m) fits = key_bytes (tree_of script) (first_device m.member)
+byte_change script (changes.Remove m) fits = tt
+byte_change script (changes.SetRole m) fits = tt
+byte_change script (changes.AddDevice d) fits = (fits.1, key_bytes (tree_of script) d)
+byte_change script (changes.DropDevice d) fits = fits.1
+byte_change script changes.Upgrade fits = tt
 
 pub change_acts : (script : List PlayLine) (e : RosterEdit) → RosterChangeInRange e.change → MayBe (setup_of script) (λ scene. commands.Change e)
 change_acts script e fits moves scene come =
     let s = setup_of script in
     let change = member_change s e.change in
-    let who = first_device e.member in
+    let who = e.device in
     open_acts s scene who (λ c. adds who (change_events change c))
-    (λ c at. event_acts s scene who c (change_fault c) (Change 0 change) at (change_may c change) (λ none. typed_change script e.change fits) (byte_change script e.change))
+    (λ c at. event_acts s scene who c (change_fault c) (Change 0 change) at (change_may c change) (λ none. typed_change script e.change fits) (byte_change script e.change fits))
 
 -- ---- what is handed out, and going back
 
@@ -115,9 +120,9 @@ made_bytes made zero bytes all at = absurd cc
 made_bytes made (suc n) bytes all at = at_place AreBytes made n bytes all at
 
 pub give_acts : (s : Setup) (g : Give) → MayBe s (λ scene. commands.Give g)
-give_acts s g moves scene come = open_acts s scene (first_device g.member) (λ c. gives (first_device g.member) g.position (entry_at scene.made g.entry)) (λ c at. go c at (entry_at scene.made g.entry) refl)
+give_acts s g moves scene come = open_acts s scene g.device (λ c. gives g.device g.position (entry_at scene.made g.entry)) (λ c at. go c at (entry_at scene.made g.entry) refl)
   where
-    go : (c : PlainClient) → scene.world.clients (first_device g.member) ≡ Some c → (o : Option (List ℕ)) → entry_at scene.made g.entry ≡ o → MayAct s scene (gives (first_device g.member) g.position o)
+    go : (c : PlainClient) → scene.world.clients g.device ≡ Some c → (o : Option (List ℕ)) → entry_at scene.made g.entry ≡ o → MayAct s scene (gives g.device g.position o)
     go c at None none = no_act s scene
     go c at (Some bytes) some = record {
       run = (subst (λ (o : Option PlainClient). IsSomeAnd o (λ c. ⊤)) (sym at) tt, tt);
@@ -127,11 +132,11 @@ give_acts s g moves scene come = open_acts s scene (first_device g.member) (λ c
     }
 
 pub restart_acts : (s : Setup) (r : Restart) → MayBe s (λ scene. commands.Restart r)
-restart_acts s r moves scene come = open_acts s scene (first_device r.member) (restarts (first_device r.member) r.entries) (λ c at. go c at (nat_le r.entries (length c.entries)) refl)
+restart_acts s r moves scene come = open_acts s scene r.device (restarts r.device r.entries) (λ c at. go c at (nat_le r.entries (length c.entries)) refl)
   where
-    go : (c : PlainClient) → scene.world.clients (first_device r.member) ≡ Some c → (b : Bool) → nat_le r.entries (length c.entries) ≡ b → MayAct s scene (restarts (first_device r.member) r.entries c)
-    go c at false over = subst (λ (b : Bool). MayAct s scene (cond b (record { moves = GoesBack (first_device r.member) r.entries ∷ []; entries = [] }) nothing)) (sym over) (no_act s scene)
-    go c at true within = subst (λ (b : Bool). MayAct s scene (cond b (record { moves = GoesBack (first_device r.member) r.entries ∷ []; entries = [] }) nothing)) (sym within) (record {
+    go : (c : PlainClient) → scene.world.clients r.device ≡ Some c → (b : Bool) → nat_le r.entries (length c.entries) ≡ b → MayAct s scene (restarts r.device r.entries c)
+    go c at false over = subst (λ (b : Bool). MayAct s scene (cond b (record { moves = GoesBack r.device r.entries ∷ []; entries = [] }) nothing)) (sym over) (no_act s scene)
+    go c at true within = subst (λ (b : Bool). MayAct s scene (cond b (record { moves = GoesBack r.device r.entries ∷ []; entries = [] }) nothing)) (sym within) (record {
       run = (subst (λ (o : Option PlainClient). IsSomeAnd o (λ c. r.entries ≤ length c.entries)) (sym at) (leb-true r.entries (length c.entries) within), tt);
       typed = (tt, tt);
       bytes = (tt, tt);
@@ -203,21 +208,21 @@ unfolding allows
 edit_may c seen marks none = ap is_none none
 
 pub edit_acts : (s : Setup) (e : ScriptEdit) → TextEditInRange e.change → MayBe s (λ scene. commands.Edit e)
-edit_acts s e fits moves scene come = open_acts s scene (first_device e.member) (λ c. adds (first_device e.member) (edit_events e c)) (λ c at. go c at (delta_by c (seen_by c e.seen) e.change) refl)
+edit_acts s e fits moves scene come = open_acts s scene e.device (λ c. adds e.device (edit_events e c)) (λ c at. go c at (delta_by c (seen_by c e.seen) e.change) refl)
   where
-    typed : (c : PlainClient) → scene.world.clients (first_device e.member) ≡ Some c → (marks : List Mark) → delta_by c (seen_by c e.seen) e.change ≡ Some marks → edit_fault c (seen_by c e.seen) marks ≡ None → IsTypedDelta marks
+    typed : (c : PlainClient) → scene.world.clients e.device ≡ Some c → (marks : List Mark) → delta_by c (seen_by c e.seen) e.change ≡ Some marks → edit_fault c (seen_by c e.seen) marks ≡ None → IsTypedDelta marks
     typed c at marks is none =
         let seen = seen_by c e.seen in
-        let there = client_at s moves scene (first_device e.member) c come at in
+        let there = client_at s moves scene e.device c come at in
         let passed = edit_passed c seen marks (sym (edit_fault_is c seen marks) ∙ none) in
-        let known = sound_and_typed_at s moves (length moves) (first_device e.member) c come.run there in
-        let short = short_text s (first_device e.member) c seen (reached_at s moves (length moves) (first_device e.member) c come.run.run there) known.sound passed.within (omega (arith, passed.room.events)) in
+        let known = sound_and_typed_at s moves (length moves) e.device c come.run there in
+        let short = short_text s e.device c seen (reached_at s moves (length moves) e.device c come.run.run there) known.sound passed.within (omega (arith, passed.room.events)) in
         typed_delta marks (record {
           base = omega (arith, passed.base, short);
           size = omega (arith, passed.bytes);
           scalars = scalars_of_delta c seen e.change marks fits is;
         })
 
-    go : (c : PlainClient) → scene.world.clients (first_device e.member) ≡ Some c → (o : Option (List Mark)) → delta_by c (seen_by c e.seen) e.change ≡ o → MayAct s scene (adds (first_device e.member) (edit_logged c (seen_by c e.seen) o))
+    go : (c : PlainClient) → scene.world.clients e.device ≡ Some c → (o : Option (List Mark)) → delta_by c (seen_by c e.seen) e.change ≡ o → MayAct s scene (adds e.device (edit_logged c (seen_by c e.seen) o))
     go c at None is = no_act s scene
-    go c at (Some marks) is = event_acts s scene (first_device e.member) c (edit_fault c (seen_by c e.seen) marks) (Edit 0 (seen_by c e.seen) marks) at (edit_may c (seen_by c e.seen) marks) (typed c at marks is) tt
+    go c at (Some marks) is = event_acts s scene e.device c (edit_fault c (seen_by c e.seen) marks) (Edit 0 (seen_by c e.seen) marks) at (edit_may c (seen_by c e.seen) marks) (typed c at marks is) tt

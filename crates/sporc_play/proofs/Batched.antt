@@ -140,11 +140,14 @@ can_edit state command j a room asked is =
         go true = omega arith
         go false = short_letter (97 + (3 * j + a) % 26) (omega arith)
 
-pub can_submit : (state : PlayState) (a : ℕ) → HasRoom 1 state → IsAsked a → CanPerform state (commands.Submit a)
-can_submit state a room asked = can_ask state (commands.Submit a) room (seated_there 1 state a room asked) (omega arith)
+device_there : (state : PlayState) (who : Device) (a : ℕ) → who ≡ first_device a → HasRoom 1 state → IsAsked a → Contains (seated state.seats.items) who
+device_there state who a is room asked = subst (Contains (seated state.seats.items)) (sym is) (seated_there 1 state a room asked)
 
-pub can_give : (state : PlayState) (g : Give) → HasRoom 1 state → IsAsked g.member → CanPerform state (commands.Give g)
-can_give state g room asked = can_ask state (commands.Give g) room (seated_there 1 state g.member room asked) (omega arith)
+pub can_submit : (state : PlayState) (who : Device) (a : ℕ) → who ≡ first_device a → HasRoom 1 state → IsAsked a → CanPerform state (commands.Submit who)
+can_submit state who a is room asked = can_ask state (commands.Submit who) room (device_there state who a is room asked) (omega arith)
+
+pub can_give : (state : PlayState) (g : Give) (a : ℕ) → g.device ≡ first_device a → HasRoom 1 state → IsAsked a → CanPerform state (commands.Give g)
+can_give state g a is room asked = can_ask state (commands.Give g) room (device_there state g.device a is room asked) (omega arith)
 
 -- ---- whole batches
 

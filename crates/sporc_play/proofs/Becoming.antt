@@ -55,11 +55,11 @@ entry_found slice made number entry same is = is ∙ ap (λ (xs : List (Vec ℕ 
 
 -- ---- the seat at hand
 
-pub seat_read : (slice items : List Seat) (i : ℕ) (who named : Device) (x : Seat) → slice ≡ items → named ≡ who → (seat : Seat) × IsSeatAt slice i named seat → x ≡ get_or items i x → IsSeatAt items i who x
-seat_read slice items i who named x same is found read =
+pub seat_read : (slice items : List Seat) (i : ℕ) (who : Device) (x : Seat) → slice ≡ items → (seat : Seat) × IsSeatAt slice i who seat → x ≡ get_or items i x → IsSeatAt items i who x
+seat_read slice items i who x same found read =
     let there : slice_get items i ≡ Some found.0 = subst (λ (xs : List Seat). slice_get xs i ≡ Some found.0) same found.1.there in
     let here : slice_get items i ≡ Some x = element items i x (slice_get_within items i found.0 there) read in
-    record { there = here; own = ap (λ (s : Seat). s.device) (same_Some x found.0 (sym here ∙ there)) ∙ found.1.own ∙ is }
+    record { there = here; own = ap (λ (s : Seat). s.device) (same_Some x found.0 (sym here ∙ there)) ∙ found.1.own }
 
 pub rogue_read : (slice items : List Rogue) (i : ℕ) (who named : Device) (x : Rogue) → slice ≡ items → named ≡ who → (rogue : Rogue) × IsRogueAt slice i named rogue → x ≡ get_or items i x → IsRogueAt items i who x
 rogue_read slice items i who named x same is found read =
@@ -75,109 +75,109 @@ rogue_within slice len i who same found = subst (λ (n : ℕ). i < n) same (slic
 
 -- ---- edits, changes and discards
 
-pub edit_becomes : (old new : PlayState) (e : Edit) (i : ℕ) (x x' : Seat) → IsSeatAt old.seats.items i (first_device e.member) x → ChangesSeat i x' old new → entries_of new ≡ entries_of old
+pub edit_becomes : (old new : PlayState) (e : Edit) (i : ℕ) (x x' : Seat) → IsSeatAt old.seats.items i e.device x → ChangesSeat i x' old new → entries_of new ≡ entries_of old
     → x' ≡ seat_logged (edit_events e) x → Becomes old (commands.Edit e) new
 edit_becomes old new e i x x' at changed same is script scene stands =
-    adds_stand script scene (after (setup_of script) scene (commands.Edit e)) old new i (first_device e.member) x (edit_events e) stands at
+    adds_stand script scene (after (setup_of script) scene (commands.Edit e)) old new i e.device x (edit_events e) stands at
     (record { world = refl; logs = refl; last = refl; asked = refl; leaves = refl }) refl (subst (λ (y : Seat). ChangesSeat i y old new) is changed) same
 
-pub edit_tells : (old : PlayState) (e : Edit) (i : ℕ) (x : Seat) (out out' : List ℕ) → IsSeatAt old.seats.items i (first_device e.member) x → out' ≡ out ++ line_by e.member (plain_in x) (edited_line e) → AppendsLineOf old (commands.Edit e) out out'
-edit_tells old e i x out out' at is script scene stands = told script scene old i (first_device e.member) x (edited_line e) out out' stands at is
+pub edit_tells : (old : PlayState) (e : Edit) (i : ℕ) (x : Seat) (out out' : List ℕ) → IsSeatAt old.seats.items i e.device x → out' ≡ out ++ line_by e.device (plain_in x) (edited_line e) → AppendsLineOf old (commands.Edit e) out out'
+edit_tells old e i x out out' at is script scene stands = told script scene old i e.device x (edited_line e) out out' stands at is
 
-pub change_becomes : (old new : PlayState) (e : RosterEdit) (i : ℕ) (x x' : Seat) (change : MemberChange) → IsSeatAt old.seats.items i (first_device e.member) x → ChangesSeat i x' old new → entries_of new ≡ entries_of old
+pub change_becomes : (old new : PlayState) (e : RosterEdit) (i : ℕ) (x x' : Seat) (change : MemberChange) → IsSeatAt old.seats.items i e.device x → ChangesSeat i x' old new → entries_of new ≡ entries_of old
     → ((s : Setup) → IsCastOf s old.cast → change ≡ member_change s e.change) → x' ≡ seat_logged (change_events change) x → Becomes old (commands.Change e) new
 change_becomes old new e i x x' change at changed same asked is script scene stands =
     let s = setup_of script in
-    adds_stand script scene (after s scene (commands.Change e)) old new i (first_device e.member) x (change_events (member_change s e.change)) stands at
+    adds_stand script scene (after s scene (commands.Change e)) old new i e.device x (change_events (member_change s e.change)) stands at
     (record { world = refl; logs = refl; last = refl; asked = refl; leaves = refl }) refl
     (subst (λ (y : Seat). ChangesSeat i y old new) (is ∙ ap (λ (c : MemberChange). seat_logged (change_events c) x) (asked s stands.cast)) changed) same
 
-pub change_tells : (old : PlayState) (e : RosterEdit) (i : ℕ) (x : Seat) (out out' : List ℕ) → IsSeatAt old.seats.items i (first_device e.member) x → out' ≡ out ++ line_by e.member (plain_in x) (change_line e.member) → AppendsLineOf old (commands.Change e) out out'
-change_tells old e i x out out' at is script scene stands = told script scene old i (first_device e.member) x (change_line e.member) out out' stands at is
+pub change_tells : (old : PlayState) (e : RosterEdit) (i : ℕ) (x : Seat) (out out' : List ℕ) → IsSeatAt old.seats.items i e.device x → out' ≡ out ++ line_by e.device (plain_in x) (change_line e.device) → AppendsLineOf old (commands.Change e) out out'
+change_tells old e i x out out' at is script scene stands = told script scene old i e.device x (change_line e.device) out out' stands at is
 
-pub discard_becomes : (old new : PlayState) (i m : ℕ) (x x' : Seat) → IsSeatAt old.seats.items i (first_device m) x → ChangesSeat i x' old new → entries_of new ≡ entries_of old
-    → x' ≡ seat_logged discard_events x → Becomes old (commands.Discard m) new
-discard_becomes old new i m x x' at changed same is script scene stands =
-    adds_stand script scene (after (setup_of script) scene (commands.Discard m)) old new i (first_device m) x discard_events stands at
+pub discard_becomes : (old new : PlayState) (i : ℕ) (who : Device) (x x' : Seat) → IsSeatAt old.seats.items i who x → ChangesSeat i x' old new → entries_of new ≡ entries_of old
+    → x' ≡ seat_logged discard_events x → Becomes old (commands.Discard who) new
+discard_becomes old new i who x x' at changed same is script scene stands =
+    adds_stand script scene (after (setup_of script) scene (commands.Discard who)) old new i who x discard_events stands at
     (record { world = refl; logs = refl; last = refl; asked = refl; leaves = refl }) refl (subst (λ (y : Seat). ChangesSeat i y old new) is changed) same
 
-pub discard_tells : (old : PlayState) (i m : ℕ) (x : Seat) (out out' : List ℕ) → IsSeatAt old.seats.items i (first_device m) x → out' ≡ out ++ line_by m (plain_in x) (discard_line m) → AppendsLineOf old (commands.Discard m) out out'
-discard_tells old i m x out out' at is script scene stands = told script scene old i (first_device m) x (discard_line m) out out' stands at is
+pub discard_tells : (old : PlayState) (i : ℕ) (who : Device) (x : Seat) (out out' : List ℕ) → IsSeatAt old.seats.items i who x → out' ≡ out ++ line_by who (plain_in x) (discard_line who) → AppendsLineOf old (commands.Discard who) out out'
+discard_tells old i who x out out' at is script scene stands = told script scene old i who x (discard_line who) out out' stands at is
 
 -- ---- submissions
 
-pub submit_becomes : (old new : PlayState) (i m next : ℕ) (x x' : Seat) (made : Option (List ℕ)) → IsSeatAt old.seats.items i (first_device m) x → ChangesSeat i x' old new → next ≡ length (entries_of old) + 1
-    → entries_of new ≡ entries_of old ++ option_to_list made → HasSubmitted next x made x' → Becomes old (commands.Submit m) new
-submit_becomes old new i m next x x' made at changed number grown did script scene stands =
+pub submit_becomes : (old new : PlayState) (i : ℕ) (who : Device) (next : ℕ) (x x' : Seat) (made : Option (List ℕ)) → IsSeatAt old.seats.items i who x → ChangesSeat i x' old new → next ≡ length (entries_of old) + 1
+    → entries_of new ≡ entries_of old ++ option_to_list made → HasSubmitted next x made x' → Becomes old (commands.Submit who) new
+submit_becomes old new i who next x x' made at changed number grown did script scene stands =
     let count : next ≡ length scene.made + 1 = number ∙ ap (λ (es : List (List ℕ)). length es + 1) stands.made in
-    submit_stands script scene old new i m x x' made stands at (subst (λ (n : ℕ). HasSubmitted n x made x') count did) changed grown
+    submit_stands script scene old new i who x x' made stands at (subst (λ (n : ℕ). HasSubmitted n x made x') count did) changed grown
 
-pub submit_tells : (old : PlayState) (i m next : ℕ) (x : Seat) (out out' : List ℕ) → IsSeatAt old.seats.items i (first_device m) x → next ≡ length (entries_of old) + 1
-    → out' ≡ out ++ submission_line next x x.client → AppendsLineOf old (commands.Submit m) out out'
-submit_tells old i m next x out out' at number is script scene stands =
-    submission_told script scene old i (first_device m) next x out out' stands at (number ∙ ap (λ (es : List (List ℕ)). length es + 1) stands.made) is
+pub submit_tells : (old : PlayState) (i : ℕ) (who : Device) (next : ℕ) (x : Seat) (out out' : List ℕ) → IsSeatAt old.seats.items i who x → next ≡ length (entries_of old) + 1
+    → out' ≡ out ++ submission_line next x x.client → AppendsLineOf old (commands.Submit who) out out'
+submit_tells old i who next x out out' at number is script scene stands =
+    submission_told script scene old i who next x out out' stands at (number ∙ ap (λ (es : List (List ℕ)). length es + 1) stands.made) is
 
 -- ---- what is handed out, and going back
 
-pub give_becomes : (old new : PlayState) (g : Give) (i : ℕ) (x x' : Seat) (entry : Option (List ℕ)) → IsSeatAt old.seats.items i (first_device g.member) x → ChangesSeat i x' old new → entries_of new ≡ entries_of old
+pub give_becomes : (old new : PlayState) (g : Give) (i : ℕ) (x x' : Seat) (entry : Option (List ℕ)) → IsSeatAt old.seats.items i g.device x → ChangesSeat i x' old new → entries_of new ≡ entries_of old
     → entry ≡ entry_at (entries_of old) g.entry → x' ≡ seat_logged (given_by g.position entry) x → Becomes old (commands.Give g) new
 give_becomes old new g i x x' entry at changed same found is script scene stands =
     let entry_is : entry ≡ entry_at scene.made g.entry = found ∙ ap (λ (es : List (List ℕ)). entry_at es g.entry) stands.made in
-    give_stands script scene (after (setup_of script) scene (commands.Give g)) old new i (first_device g.member) g.position (entry_at scene.made g.entry) x stands at
+    give_stands script scene (after (setup_of script) scene (commands.Give g)) old new i g.device g.position (entry_at scene.made g.entry) x stands at
     (record { world = refl; logs = refl; last = refl; asked = refl; leaves = refl }) refl
     (subst (λ (y : Seat). ChangesSeat i y old new) (is ∙ ap (λ (o : Option (List ℕ)). seat_logged (given_by g.position o) x) entry_is) changed) same
 
-pub give_tells : (old : PlayState) (g : Give) (i : ℕ) (x : Seat) (entry : Option (List ℕ)) (out out' : List ℕ) → IsSeatAt old.seats.items i (first_device g.member) x → entry ≡ entry_at (entries_of old) g.entry
-    → out' ≡ out ++ line_by g.member (plain_in x) (λ c. give_line g.member g.position c entry) → AppendsLineOf old (commands.Give g) out out'
+pub give_tells : (old : PlayState) (g : Give) (i : ℕ) (x : Seat) (entry : Option (List ℕ)) (out out' : List ℕ) → IsSeatAt old.seats.items i g.device x → entry ≡ entry_at (entries_of old) g.entry
+    → out' ≡ out ++ line_by g.device (plain_in x) (λ c. give_line g.device g.position c entry) → AppendsLineOf old (commands.Give g) out out'
 give_tells old g i x entry out out' at found is script scene stands =
     let entry_is : entry ≡ entry_at scene.made g.entry = found ∙ ap (λ (es : List (List ℕ)). entry_at es g.entry) stands.made in
-    told script scene old i (first_device g.member) x (λ c. give_line g.member g.position c (entry_at scene.made g.entry)) out out' stands at
-    (is ∙ ap (λ (o : Option (List ℕ)). out ++ line_by g.member (plain_in x) (λ c. give_line g.member g.position c o)) entry_is)
+    told script scene old i g.device x (λ c. give_line g.device g.position c (entry_at scene.made g.entry)) out out' stands at
+    (is ∙ ap (λ (o : Option (List ℕ)). out ++ line_by g.device (plain_in x) (λ c. give_line g.device g.position c o)) entry_is)
 
-pub restart_becomes : (old new : PlayState) (r : Restart) (i : ℕ) (x x' : Seat) → IsSeatAt old.seats.items i (first_device r.member) x → ChangesSeat i x' old new → entries_of new ≡ entries_of old
+pub restart_becomes : (old new : PlayState) (r : Restart) (i : ℕ) (x x' : Seat) → IsSeatAt old.seats.items i r.device x → ChangesSeat i x' old new → entries_of new ≡ entries_of old
     → x' ≡ seat_restarted r.entries x → Becomes old (commands.Restart r) new
 restart_becomes old new r i x x' at changed same is script scene stands =
-    restart_stands script scene (after (setup_of script) scene (commands.Restart r)) old new i (first_device r.member) r.entries x stands at
+    restart_stands script scene (after (setup_of script) scene (commands.Restart r)) old new i r.device r.entries x stands at
     (record { world = refl; logs = refl; last = refl; asked = refl; leaves = refl }) refl (subst (λ (y : Seat). ChangesSeat i y old new) is changed) same
 
-pub restart_tells : (old : PlayState) (r : Restart) (i : ℕ) (x : Seat) (out out' : List ℕ) → IsSeatAt old.seats.items i (first_device r.member) x → out' ≡ out ++ line_by r.member (plain_in x) (restart_line r.member r.entries)
+pub restart_tells : (old : PlayState) (r : Restart) (i : ℕ) (x : Seat) (out out' : List ℕ) → IsSeatAt old.seats.items i r.device x → out' ≡ out ++ line_by r.device (plain_in x) (restart_line r.device r.entries)
     → AppendsLineOf old (commands.Restart r) out out'
-restart_tells old r i x out out' at is script scene stands = told script scene old i (first_device r.member) x (restart_line r.member r.entries) out out' stands at is
+restart_tells old r i x out out' at is script scene stands = told script scene old i r.device x (restart_line r.device r.entries) out out' stands at is
 
 -- ---- joiners
 
-pub join_becomes : (old new : PlayState) (j : Join) (i : ℕ) (x x' : Seat) → IsSeatAt old.seats.items i (first_device j.member) x → ChangesSeat i x' old new → entries_of new ≡ entries_of old
+pub join_becomes : (old new : PlayState) (j : Join) (i : ℕ) (x x' : Seat) → IsSeatAt old.seats.items i j.device x → ChangesSeat i x' old new → entries_of new ≡ entries_of old
     → ((s : Setup) → IsCastOf s old.cast → old.genesis ≡ s.genesis → x' ≡ seat_joined s x (entries_at (entries_of old) j.entries) x.client) → Becomes old (commands.Join j) new
 join_becomes old new j i x x' at changed same is script scene stands =
     let s = setup_of script in
-    join_stands script scene (after s scene (commands.Join j)) old new i (first_device j.member) x x' (entries_at scene.made j.entries) stands at
+    join_stands script scene (after s scene (commands.Join j)) old new i j.device x x' (entries_at scene.made j.entries) stands at
     (record { world = refl; logs = refl; last = refl; asked = refl; leaves = refl }) refl
     (is s stands.cast stands.genesis ∙ ap (λ (es : List (List ℕ)). seat_joined s x (entries_at es j.entries) x.client) stands.made) changed same
 
-pub join_tells : (old : PlayState) (j : Join) (i : ℕ) (x : Seat) (out out' : List ℕ) → IsSeatAt old.seats.items i (first_device j.member) x
+pub join_tells : (old : PlayState) (j : Join) (i : ℕ) (x : Seat) (out out' : List ℕ) → IsSeatAt old.seats.items i j.device x
     → ((s : Setup) → IsCastOf s old.cast → old.genesis ≡ s.genesis → out' ≡ out ++ join_line s x.device (entries_at (entries_of old) j.entries) (plain_in x)) → AppendsLineOf old (commands.Join j) out out'
 join_tells old j i x out out' at is script scene stands =
     let s = setup_of script in (
-      join_line s (first_device j.member) (entries_at scene.made j.entries) (scene.world.clients (first_device j.member)),
+      join_line s j.device (entries_at scene.made j.entries) (scene.world.clients j.device),
       refl,
       is s stands.cast stands.genesis ∙ ap (λ (who : Device). out ++ join_line s who (entries_at (entries_of old) j.entries) (plain_in x)) at.own
-          ∙ ap (λ (es : List (List ℕ)). out ++ join_line s (first_device j.member) (entries_at es j.entries) (plain_in x)) stands.made
-          ∙ ap (λ (o : Option PlainClient). out ++ join_line s (first_device j.member) (entries_at scene.made j.entries) o) (sym (client_there script scene old i (first_device j.member) x stands at)),
+          ∙ ap (λ (es : List (List ℕ)). out ++ join_line s j.device (entries_at es j.entries) (plain_in x)) stands.made
+          ∙ ap (λ (o : Option PlainClient). out ++ join_line s j.device (entries_at scene.made j.entries) o) (sym (client_there script scene old i j.device x stands at)),
     )
 
 -- ---- rogues
 
-pub sign_becomes : (old new : PlayState) (f : Forgery) (i k : ℕ) (x x' : Rogue) (seat : Seat) (made : Option (List ℕ)) → IsRogueAt old.rogues.items i (first_device f.member) x → IsSeatAt old.seats.items k (first_device f.from) seat → ChangesRogue i x' old new
+pub sign_becomes : (old new : PlayState) (f : Forgery) (i k : ℕ) (x x' : Rogue) (seat : Seat) (made : Option (List ℕ)) → IsRogueAt old.rogues.items i (first_device f.member) x → IsSeatAt old.seats.items k f.from seat → ChangesRogue i x' old new
     → entries_of new ≡ entries_of old ++ option_to_list made → ((s : Setup) → x.signer.key ≡ s.private (first_device f.member) → IsCastOf s old.cast → made ≡ forged_by s f x seat.client) → HasSigned x made x' → Becomes old (commands.Sign f) new
 sign_becomes old new f i k x x' seat made at from changed grown forged did script scene stands =
     let s = setup_of script in
     let is = rogue_there script scene old i (first_device f.member) x stands at in
-    sign_stands script scene old new i f x x' seat.client made stands at (client_there script scene old k (first_device f.from) seat stands from) did (forged s (is.signer.key ∙ ap s.private at.own) stands.cast) changed grown
+    sign_stands script scene old new i f x x' seat.client made stands at (client_there script scene old k f.from seat stands from) did (forged s (is.signer.key ∙ ap s.private at.own) stands.cast) changed grown
 
-pub sign_tells : (old : PlayState) (f : Forgery) (i k next : ℕ) (x : Rogue) (seat : Seat) (out out' : List ℕ) → IsRogueAt old.rogues.items i (first_device f.member) x → IsSeatAt old.seats.items k (first_device f.from) seat → next ≡ length (entries_of old) + 1
+pub sign_tells : (old : PlayState) (f : Forgery) (i k next : ℕ) (x : Rogue) (seat : Seat) (out out' : List ℕ) → IsRogueAt old.rogues.items i (first_device f.member) x → IsSeatAt old.seats.items k f.from seat → next ≡ length (entries_of old) + 1
     → ((s : Setup) → x.signer.key ≡ s.private (first_device f.member) → IsCastOf s old.cast → out' ≡ out ++ signing_line f next x seat.client) → AppendsLineOf old (commands.Sign f) out out'
 sign_tells old f i k next x seat out out' at from number is script scene stands =
     let s = setup_of script in
     let there = rogue_there script scene old i (first_device f.member) x stands at in
-    signing_told script scene old i next f x seat.client out out' stands at (client_there script scene old k (first_device f.from) seat stands from) (number ∙ ap (λ (es : List (List ℕ)). length es + 1) stands.made)
+    signing_told script scene old i next f x seat.client out out' stands at (client_there script scene old k f.from seat stands from) (number ∙ ap (λ (es : List (List ℕ)). length es + 1) stands.made)
     (is s (there.signer.key ∙ ap s.private at.own) stands.cast)

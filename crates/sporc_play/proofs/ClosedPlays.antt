@@ -34,7 +34,7 @@ use Rattle.sporc_script.specs.declared.member_role.MemberRole.{MemberRole}
 use Rattle.sporc_script.specs.declared.play_line.PlayLine.{PlayLine}
 use Rattle.sporc_script.specs.declared.roster_change.RosterChange.{RosterChange}
 use Rattle.sporc_script.specs.declared.roster_change.RosterChange.TheVariants as changes
-use Rattle.sporc_play.specs.Cast.{first_ring, founder_of, has_admin, member_change, openers_by, public_of, setup_of, tree_of}
+use Rattle.sporc_play.specs.Cast.{first_ring, founder_of, founders_of, has_admin, member_change, openers_by, public_of, setup_of, tree_of}
 use Rattle.sporc_play.specs.Logs.{change_events, discard_events, edit_logged, logged_unless}
 use Rattle.sporc_play.specs.Moves.{moves_from, moves_of}
 use Rattle.sporc_play.specs.OwnPlays.{AreByClients, IsByClients}
@@ -84,78 +84,80 @@ record IsOwn (s : Setup) (scene : Scene) (act : Effect) : Type 0 where
 no_own : (s : Setup) (scene : Scene) → IsOwn s scene nothing
 no_own s scene = record { closed = tt; made = tt }
 
-own_if_open : (s : Setup) (scene : Scene) (m : Device) (act : PlainClient → Effect) → ((c : PlainClient) → scene.world.clients m ≡ Some c → IsOwn s scene (act c)) → IsOwn s scene (if_open (scene.world.clients m) act)
-own_if_open s scene m act each = go (scene.world.clients m) each
+own_if_open : (s : Setup) (scene : Scene) (who : Device) (act : PlainClient → Effect) → ((c : PlainClient) → scene.world.clients who ≡ Some c → IsOwn s scene (act c)) → IsOwn s scene (if_open (scene.world.clients who) act)
+own_if_open s scene who act each = go (scene.world.clients who) each
   where
     go : (o : Option PlainClient) → ((c : PlainClient) → o ≡ Some c → IsOwn s scene (act c)) → IsOwn s scene (if_open o act)
     go None each = no_own s scene
     go (Some c) each = each c refl
 
-own_event : {F : Type 0} (s : Setup) (scene : Scene) (m : Device) (fault : Option F) (event : Logged) → IsClosedMove s scene.world (Happen m event) → IsOwn s scene (adds m (logged_unless fault event))
-own_event s scene m None event closed = record { closed = (closed, tt); made = tt }
-own_event s scene m (Some fault) event closed = no_own s scene
+own_event : {F : Type 0} (s : Setup) (scene : Scene) (who : Device) (fault : Option F) (event : Logged) → IsClosedMove s scene.world (Happen who event) → IsOwn s scene (adds who (logged_unless fault event))
+own_event s scene who None event closed = record { closed = (closed, tt); made = tt }
+own_event s scene who (Some fault) event closed = no_own s scene
 
-own_edit : (s : Setup) (scene : Scene) (m : Device) (c : PlainClient) (seen : ℕ) (o : Option (List Mark)) → IsOwn s scene (adds m (edit_logged c seen o))
-own_edit s scene m c seen None = no_own s scene
-own_edit s scene m c seen (Some marks) = own_event s scene m (edit_fault c seen marks) (Edit 0 seen marks) tt
+own_edit : (s : Setup) (scene : Scene) (who : Device) (c : PlainClient) (seen : ℕ) (o : Option (List Mark)) → IsOwn s scene (adds who (edit_logged c seen o))
+own_edit s scene who c seen None = no_own s scene
+own_edit s scene who c seen (Some marks) = own_event s scene who (edit_fault c seen marks) (Edit 0 seen marks) tt
 
-own_change : (s : Setup) (scene : Scene) (m : Device) (change : RosterChange) → IsClosedMove s scene.world (Happen m (Change 0 (member_change s change)))
-own_change s scene m (changes.Add r) = λ among. refl
-own_change s scene m (changes.Remove r) = tt
-own_change s scene m (changes.SetRole r) = tt
+own_change : (s : Setup) (scene : Scene) (who : Device) (change : RosterChange) → IsClosedMove s scene.world (Happen who (Change 0 (member_change s change)))
+own_change s scene who (changes.Add r) = λ among. refl
+own_change s scene who (changes.Remove r) = tt
+own_change s scene who (changes.SetRole r) = tt
+own_change s scene who (changes.AddDevice d) = λ among. refl
+own_change s scene who (changes.DropDevice d) = tt
+own_change s scene who changes.Upgrade = tt
 
-signed_now : (s : Setup) (w : World) (m : Device) (c : PlainClient) (bytes : List ℕ) → w.clients m ≡ Some c → IsSigned (after s w (Happen m (Submit 0 bytes))) bytes
-signed_now s w m c bytes at = subst (λ (o : Option PlainClient). IsSigned (happens_to w m (Submit 0 bytes) o) bytes) (sym at)
-    (record { who = m; entry = bytes; client = c }, Contains-append_right w.signed (record { who = m; entry = bytes; client = c } ∷ []) (record { who = m; entry = bytes; client = c }) (0, omega arith, refl), refl)
+signed_now : (s : Setup) (w : World) (device : Device) (c : PlainClient) (bytes : List ℕ) → w.clients device ≡ Some c → IsSigned (after s w (Happen device (Submit 0 bytes))) bytes
+signed_now s w device c bytes at = subst (λ (o : Option PlainClient). IsSigned (happens_to w device (Submit 0 bytes) o) bytes) (sym at)
+    (record { who = device; entry = bytes; client = c }, Contains-append_right w.signed (record { who = device; entry = bytes; client = c } ∷ []) (record { who = device; entry = bytes; client = c }) (0, omega arith, refl), refl)
 
-own_submission : (s : Setup) (scene : Scene) (m : Device) (c : PlainClient) (r : Result Submitted SubmitFault) → scene.world.clients m ≡ Some c → IsOwn s scene (submits m r)
-own_submission s scene m c (Ok (submitted.Entry bytes)) at = record { closed = (tt, tt); made = (signed_now s scene.world m c bytes at, tt) }
-own_submission s scene m c (Ok (submitted.Dropped fault)) at = record { closed = (tt, tt); made = tt }
-own_submission s scene m c (Ok submitted.Waiting) at = no_own s scene
-own_submission s scene m c (Ok submitted.Nothing) at = no_own s scene
-own_submission s scene m c (Err fault) at = no_own s scene
+own_submission : (s : Setup) (scene : Scene) (who : Device) (c : PlainClient) (r : Result Submitted SubmitFault) → scene.world.clients who ≡ Some c → IsOwn s scene (submits who r)
+own_submission s scene who c (Ok (submitted.Entry bytes)) at = record { closed = (tt, tt); made = (signed_now s scene.world who c bytes at, tt) }
+own_submission s scene who c (Ok (submitted.Dropped fault)) at = record { closed = (tt, tt); made = tt }
+own_submission s scene who c (Ok submitted.Waiting) at = no_own s scene
+own_submission s scene who c (Ok submitted.Nothing) at = no_own s scene
+own_submission s scene who c (Err fault) at = no_own s scene
 
 found_signed : (w : World) (made : List (List ℕ)) (number : ℕ) (bytes : List ℕ) → AllByRecursion (IsSigned w) made → entry_at made number ≡ Some bytes → IsSigned w bytes
 found_signed w made zero bytes all at = absurd cc
 found_signed w made (suc n) bytes all at = at_place (IsSigned w) made n bytes all at
 
-own_give : (s : Setup) (scene : Scene) (m : Device) (position number : ℕ) (o : Option (List ℕ)) → AllByRecursion (IsSigned scene.world) scene.made → entry_at scene.made number ≡ o → IsOwn s scene (gives m position o)
-own_give s scene m position number None all at = no_own s scene
-own_give s scene m position number (Some bytes) all at = record { closed = (found_signed scene.world scene.made number bytes all at, tt); made = tt }
+own_give : (s : Setup) (scene : Scene) (who : Device) (position number : ℕ) (o : Option (List ℕ)) → AllByRecursion (IsSigned scene.world) scene.made → entry_at scene.made number ≡ o → IsOwn s scene (gives who position o)
+own_give s scene who position number None all at = no_own s scene
+own_give s scene who position number (Some bytes) all at = record { closed = (found_signed scene.world scene.made number bytes all at, tt); made = tt }
 
-own_restart : (s : Setup) (scene : Scene) (m : Device) (k : ℕ) (c : PlainClient) → IsOwn s scene (restarts m k c)
-own_restart s scene m k c = go (nat_le k (length c.entries))
+own_restart : (s : Setup) (scene : Scene) (who : Device) (k : ℕ) (c : PlainClient) → IsOwn s scene (restarts who k c)
+own_restart s scene who k c = go (nat_le k (length c.entries))
   where
-    go : (b : Bool) → IsOwn s scene (cond b (record { moves = Restart m k ∷ []; entries = [] }) nothing)
+    go : (b : Bool) → IsOwn s scene (cond b (record { moves = Restart who k ∷ []; entries = [] }) nothing)
     go true = record { closed = (tt, tt); made = tt }
     go false = no_own s scene
 
-own_join : (s : Setup) (scene : Scene) (m : Device) (r : Result (List (List ℕ)) ℕ) (o : Option PlainClient) → IsOwn s scene (joins s m r o)
-own_join s scene m r (Some c) = no_own s scene
-own_join s scene m (Err missing) None = no_own s scene
-own_join s scene m (Ok entries) None = hinted (hints_of entries m.member (s.pairs m))
+own_join : (s : Setup) (scene : Scene) (who : Device) (r : Result (List (List ℕ)) ℕ) (o : Option PlainClient) → IsOwn s scene (joins s who r o)
+own_join s scene who r (Some c) = no_own s scene
+own_join s scene who (Err missing) None = no_own s scene
+own_join s scene who (Ok entries) None = hinted (hints_of entries who.member (s.pairs who))
   where
-    opened : (ring : Keys) (fault : Option LineOpenFault) → IsOwn s scene (opens_unless m ring fault)
+    opened : (ring : Keys) (fault : Option LineOpenFault) → IsOwn s scene (opens_unless who ring fault)
     opened ring None = record { closed = (tt, tt); made = tt }
     opened ring (Some fault) = no_own s scene
 
-    hinted : (hints : Result Keys HintFault) → IsOwn s scene (opens_with s m hints)
+    hinted : (hints : Result Keys HintFault) → IsOwn s scene (opens_with s who hints)
     hinted (Ok ring) = opened ring (first_of (open_checks s.genesis (get ring 0)))
     hinted (Err fault) = no_own s scene
 
 own_act : (s : Setup) (scene : Scene) (c : Command) → IsByClients c → AllByRecursion (IsSigned scene.world) scene.made → IsOwn s scene (effect_of s scene c)
-own_act s scene (commands.Edit e) by all = own_if_open s scene (first_device e.member) (λ c. adds (first_device e.member) (edit_events e c)) (λ c at. own_edit s scene (first_device e.member) c (seen_by c e.seen) (delta_by c (seen_by c e.seen) e.change))
+own_act s scene (commands.Edit e) by all = own_if_open s scene e.device (λ c. adds e.device (edit_events e c)) (λ c at. own_edit s scene e.device c (seen_by c e.seen) (delta_by c (seen_by c e.seen) e.change))
 own_act s scene (commands.Change e) by all =
-    own_if_open s scene (first_device e.member) (λ c. adds (first_device e.member) (change_events (member_change s e.change) c))
-    (λ c at. own_event s scene (first_device e.member) (change_fault c) (Change 0 (member_change s e.change)) (own_change s scene (first_device e.member) e.change))
-own_act s scene (commands.Discard m) by all = own_if_open s scene (first_device m) (λ c. adds (first_device m) (discard_events c)) (λ c at. own_event s scene (first_device m) (discard_fault c) (Discard 0) tt)
-own_act s scene (commands.Submit m) by all =
-    let who = first_device m in
+    own_if_open s scene e.device (λ c. adds e.device (change_events (member_change s e.change) c))
+    (λ c at. own_event s scene e.device (change_fault c) (Change 0 (member_change s e.change)) (own_change s scene e.device e.change))
+own_act s scene (commands.Discard who) by all = own_if_open s scene who (λ c. adds who (discard_events c)) (λ c at. own_event s scene who (discard_fault c) (Discard 0) tt)
+own_act s scene (commands.Submit who) by all =
     own_if_open s scene who (λ c. submits who (submission_in s scene who c)) (λ c at. own_submission s scene who c (submission_in s scene who c) at)
 own_act s scene (commands.Give g) by all =
-    own_if_open s scene (first_device g.member) (λ c. gives (first_device g.member) g.position (entry_at scene.made g.entry)) (λ c at. own_give s scene (first_device g.member) g.position g.entry (entry_at scene.made g.entry) all refl)
-own_act s scene (commands.Restart r) by all = own_if_open s scene (first_device r.member) (restarts (first_device r.member) r.entries) (λ c at. own_restart s scene (first_device r.member) r.entries c)
-own_act s scene (commands.Join j) by all = own_join s scene (first_device j.member) (entries_at scene.made j.entries) (scene.world.clients (first_device j.member))
+    own_if_open s scene g.device (λ c. gives g.device g.position (entry_at scene.made g.entry)) (λ c at. own_give s scene g.device g.position g.entry (entry_at scene.made g.entry) all refl)
+own_act s scene (commands.Restart r) by all = own_if_open s scene r.device (restarts r.device r.entries) (λ c at. own_restart s scene r.device r.entries c)
+own_act s scene (commands.Join j) by all = own_join s scene j.device (entries_at scene.made j.entries) (scene.world.clients j.device)
 own_act s scene (commands.Flip f) by all = absurd by
 own_act s scene (commands.Cut n) by all = absurd by
 own_act s scene (commands.Sign f) by all = absurd by
@@ -188,15 +190,15 @@ closed_from s scene (command ∷ asked) by all =
     closed_append s scene.world act.moves (moves_from s (scenes.after s scene (command scene)) asked) own.closed
     (closed_from s (scenes.after s scene (command scene)) asked by.1 (signed_append world scene.made act.entries (all_stay s scene.world act.moves scene.made all) own.made))
 
-openings_closed : (s : Setup) (w : World) (ns : List Device) → AreClosed s w (map (λ (n : Device). Open n first_ring) ns)
+openings_closed : (s : Setup) (w : World) (ds : List Device) → AreClosed s w (map (λ (who : Device). Open who first_ring) ds)
 openings_closed s w [] = tt
-openings_closed s w (n ∷ ns) = (tt, openings_closed s (after s w (Open n first_ring)) ns)
+openings_closed s w (who ∷ ds) = (tt, openings_closed s (after s w (Open who first_ring)) ds)
 
 first_closed : (s : Setup) (script : List PlayLine) → AreClosed s start (opening_moves script)
 first_closed s script = go (has_admin script)
   where
-    go : (b : Bool) → AreClosed s start (if b then openings script else [])
-    go true = openings_closed s start (openers_by script)
+    go : (b : Bool) → AreClosed s start (if b then openings (founders_of script) script else [])
+    go true = openings_closed s start (openers_by (founders_of script) script)
     go false = tt
 
 -- ---- the founders

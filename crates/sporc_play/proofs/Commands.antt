@@ -34,9 +34,9 @@ client_there script scene state i who seat stands at = ap scene.world.clients (s
 
 -- the line that a client tells
 pub told : (script : List PlayLine) (scene : Scene) (state : PlayState) (i : ℕ) (who : Device) (seat : Seat) (line : PlainClient → List ℕ) (old new : List ℕ) → StandsFor script scene state → IsSeatAt state.seats.items i who seat
-    → new ≡ old ++ line_by who.member (plain_in seat) line → (l : List ℕ) × (l ≡ line_by who.member (scene.world.clients who) line) × (new ≡ old ++ l)
+    → new ≡ old ++ line_by who (plain_in seat) line → (l : List ℕ) × (l ≡ line_by who (scene.world.clients who) line) × (new ≡ old ++ l)
 told script scene state i who seat line old new stands at is =
-    (line_by who.member (plain_in seat) line, ap (λ (o : Option PlainClient). line_by who.member o line) (sym (client_there script scene state i who seat stands at)), is)
+    (line_by who (plain_in seat) line, ap (λ (o : Option PlainClient). line_by who o line) (sym (client_there script scene state i who seat stands at)), is)
 
 -- ---- what adds events
 
@@ -56,7 +56,7 @@ adds_stand script scene scene' state state' i who seat events stands at does mad
     let o = scene.world.clients who in
     stands_seat script scene scene' state state' i who seat (seat_logged events seat) stands at
     (λ other differs. same_for_others s scene scene' (if_open o (λ c. adds who (events c))).moves who other does (of_device who events o) differs)
-    (seat_adds s scene scene' seat events (seat_there script scene state i who seat stands at) (subst (λ (n : Device). Does s scene (if_open (scene.world.clients n) (λ c. adds n (events c))).moves scene') (sym at.own) does))
+    (seat_adds s scene scene' seat events (seat_there script scene state i who seat stands at) (subst (λ (device : Device). Does s scene (if_open (scene.world.clients device) (λ c. adds device (events c))).moves scene') (sym at.own) does))
     refl changed
     (same ∙ stands.made ∙ sym (append-nil scene.made) ∙ ap (λ (es : List (List ℕ)). scene.made ++ es) (sym (no_entries who events o)) ∙ sym made)
 
@@ -124,7 +124,7 @@ give_stands script scene scene' state state' i who position entry seat stands at
     let o = scene.world.clients who in
     stands_seat script scene scene' state state' i who seat (seat_logged (given_by position entry) seat) stands at
     (λ other differs. same_for_others s scene scene' (give_moves who position entry o) who other does (give_device who position entry o) differs)
-    (seat_given s scene scene' seat position entry (seat_there script scene state i who seat stands at) (subst (λ (n : Device). Does s scene (give_moves n position entry (scene.world.clients n)) scene') (sym at.own) does))
+    (seat_given s scene scene' seat position entry (seat_there script scene state i who seat stands at) (subst (λ (device : Device). Does s scene (give_moves device position entry (scene.world.clients device)) scene') (sym at.own) does))
     refl changed
     (same ∙ stands.made ∙ sym (append-nil scene.made) ∙ ap (λ (es : List (List ℕ)). scene.made ++ es) (sym (give_none who position entry o)) ∙ sym made)
 
@@ -176,6 +176,6 @@ restart_stands script scene scene' state state' i who k seat stands at does made
     let o = scene.world.clients who in
     stands_seat script scene scene' state state' i who seat (seat_restarted k seat) stands at
     (λ other differs. same_for_others s scene scene' (if_open o (restarts who k)).moves who other does (restart_device who k o) differs)
-    (seat_goes_back s scene scene' seat k (seat_there script scene state i who seat stands at) (subst (λ (n : Device). Does s scene (if_open (scene.world.clients n) (restarts n k)).moves scene') (sym at.own) does))
+    (seat_goes_back s scene scene' seat k (seat_there script scene state i who seat stands at) (subst (λ (device : Device). Does s scene (if_open (scene.world.clients device) (restarts device k)).moves scene') (sym at.own) does))
     refl changed
     (same ∙ stands.made ∙ sym (append-nil scene.made) ∙ ap (λ (es : List (List ℕ)). scene.made ++ es) (sym (restart_none who k o)) ∙ sym made)

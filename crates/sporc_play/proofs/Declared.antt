@@ -64,19 +64,20 @@ record Names (tree : Tree) (lines : List PlayLine) (l : PlayLine) (cast : Cast) 
   declared : map (λ d. d.member) cast.declared.items ≡ filter_map (λ l. declared_member l.command) (lines ++ l ∷ [])
   keys : AllByRecursion (λ d. d.key ≡ public_of tree (first_device d.member)) cast.declared.items
 
-named : (tree : Tree) (lines : List PlayLine) (l : PlayLine) (c : Command) (m : ℕ) (cast new : Cast) (seats : List Seat) (rogues : List Rogue) → HaveDeclared tree lines cast seats rogues → l.command ≡ c → declared_member c ≡ Some m → IsNamed m cast new → Names tree lines l new
-named tree lines l c m cast new seats rogues known is own did = record {
-  declared = ap (map (λ (d : Declared). d.member)) did.declared ∙ map_push (λ (d : Declared). d.member) cast.declared.items (record { member = m; key = public_of cast.tree (first_device m) })
+named : (tree : Tree) (lines : List PlayLine) (l : PlayLine) (c : Command) (m : ℕ) (key : List ℕ) (cast new : Cast) (seats : List Seat) (rogues : List Rogue) → HaveDeclared tree lines cast seats rogues → l.command ≡ c → declared_member c ≡ Some m
+    → key ≡ public_of cast.tree (first_device m) → IsNamed m key cast new → Names tree lines l new
+named tree lines l c m key cast new seats rogues known is own key_is did = record {
+  declared = ap (map (λ (d : Declared). d.member)) did.declared ∙ map_push (λ (d : Declared). d.member) cast.declared.items (record { member = m; key = key })
       ∙ push_more declared_member lines l c (map (λ (d : Declared). d.member) cast.declared.items) m is own known.declared;
   keys = subst (AllByRecursion (λ (d : Declared). d.key ≡ public_of tree (first_device d.member))) (sym did.declared)
-      (all_push (λ (d : Declared). d.key ≡ public_of tree (first_device d.member)) cast.declared.items (record { member = m; key = public_of cast.tree (first_device m) }) known.keys (ap (λ (t : Tree). public_of t (first_device m)) known.tree_is));
+      (all_push (λ (d : Declared). d.key ≡ public_of tree (first_device d.member)) cast.declared.items (record { member = m; key = key }) known.keys (key_is ∙ ap (λ (t : Tree). public_of t (first_device m)) known.tree_is));
 }
 
 pub member_declared : (tree : Tree) (lines : List PlayLine) (l : PlayLine) (m : MemberRole) (cast mid new : Cast) (seats seats' : List Seat) (rogues : List Rogue) (key : List ℕ) → HaveDeclared tree lines cast seats rogues → l.command ≡ commands.Member m
-    → key ≡ public_of cast.tree (first_device m.member) → HasSat cast.tree (first_device m.member) seats seats' → IsNamed m.member cast mid → new.founders.items ≡ insert_by (λ (f : Founder). f.member) (record { member = m.member; role = m.role; key = key }) mid.founders.items
+    → key ≡ public_of cast.tree (first_device m.member) → HasSat cast.tree (first_device m.member) seats seats' → IsNamed m.member key cast mid → new.founders.items ≡ insert_by (λ (f : Founder). f.member) (record { member = m.member; role = m.role; key = key }) mid.founders.items
     → new.tree ≡ mid.tree → new.declared.items ≡ mid.declared.items → new.unpaired.items ≡ mid.unpaired.items → HaveDeclared tree (lines ++ l ∷ []) new seats' rogues
 member_declared tree lines l m cast mid new seats seats' rogues key known is key_is sat did founders tree_is declared unpaired =
-    let names = named tree lines l (commands.Member m) m.member cast mid seats rogues known is refl did in
+    let names = named tree lines l (commands.Member m) m.member key cast mid seats rogues known is refl key_is did in
     record {
       tree_is = tree_is ∙ did.tree ∙ known.tree_is;
       declared = ap (map (λ (d : Declared). d.member)) declared ∙ names.declared;
@@ -92,10 +93,10 @@ member_declared tree lines l m cast mid new seats seats' rogues key known is key
     }
 
 pub rogue_declared : (tree : Tree) (lines : List PlayLine) (l : PlayLine) (m : MemberRole) (cast mid new : Cast) (seats : List Seat) (rogues rogues' : List Rogue) (key : List ℕ) → HaveDeclared tree lines cast seats rogues → l.command ≡ commands.Rogue m
-    → key ≡ public_of cast.tree (first_device m.member) → HasRogue cast.tree (first_device m.member) rogues rogues' → IsNamed m.member cast mid → new.founders.items ≡ insert_by (λ (f : Founder). f.member) (record { member = m.member; role = m.role; key = key }) mid.founders.items
+    → key ≡ public_of cast.tree (first_device m.member) → HasRogue cast.tree (first_device m.member) rogues rogues' → IsNamed m.member key cast mid → new.founders.items ≡ insert_by (λ (f : Founder). f.member) (record { member = m.member; role = m.role; key = key }) mid.founders.items
     → new.tree ≡ mid.tree → new.declared.items ≡ mid.declared.items → new.unpaired.items ≡ mid.unpaired.items → HaveDeclared tree (lines ++ l ∷ []) new seats rogues'
 rogue_declared tree lines l m cast mid new seats rogues rogues' key known is key_is sat did founders tree_is declared unpaired =
-    let names = named tree lines l (commands.Rogue m) m.member cast mid seats rogues known is refl did in
+    let names = named tree lines l (commands.Rogue m) m.member key cast mid seats rogues known is refl key_is did in
     record {
       tree_is = tree_is ∙ did.tree ∙ known.tree_is;
       declared = ap (map (λ (d : Declared). d.member)) declared ∙ names.declared;
@@ -111,10 +112,10 @@ rogue_declared tree lines l m cast mid new seats rogues rogues' key known is key
           ∙ push_more rogue_by lines l (commands.Rogue m) (rogue_devices rogues) (first_device m.member) is refl known.rogues_are;
     }
 
-pub joiner_declared : (tree : Tree) (lines : List PlayLine) (l : PlayLine) (m : ℕ) (cast new : Cast) (seats seats' : List Seat) (rogues : List Rogue) → HaveDeclared tree lines cast seats rogues → l.command ≡ commands.Joiner m
-    → HasSat cast.tree (first_device m) seats seats' → IsNamed m cast new → HaveDeclared tree (lines ++ l ∷ []) new seats' rogues
-joiner_declared tree lines l m cast new seats seats' rogues known is sat did =
-    let names = named tree lines l (commands.Joiner m) m cast new seats rogues known is refl did in
+pub joiner_declared : (tree : Tree) (lines : List PlayLine) (l : PlayLine) (m : ℕ) (cast new : Cast) (seats seats' : List Seat) (rogues : List Rogue) (key : List ℕ) → HaveDeclared tree lines cast seats rogues → l.command ≡ commands.Joiner m
+    → key ≡ public_of cast.tree (first_device m) → HasSat cast.tree (first_device m) seats seats' → IsNamed m key cast new → HaveDeclared tree (lines ++ l ∷ []) new seats' rogues
+joiner_declared tree lines l m cast new seats seats' rogues key known is key_is sat did =
+    let names = named tree lines l (commands.Joiner m) m key cast new seats rogues known is refl key_is did in
     record {
       tree_is = did.tree ∙ known.tree_is;
       declared = names.declared;
@@ -141,6 +142,20 @@ unpaired_declared tree lines l p cast new seats rogues known is pushed tree_is d
   rogues_are = same_more rogue_by lines l (commands.Unpaired p) (rogue_devices rogues) is refl known.rogues_are;
 }
 
+pub device_declared : (tree : Tree) (lines : List PlayLine) (l : PlayLine) (who : Device) (cast : Cast) (seats seats' : List Seat) (rogues : List Rogue) → HaveDeclared tree lines cast seats rogues → l.command ≡ commands.Device who
+    → HasSat cast.tree who seats seats' → HaveDeclared tree (lines ++ l ∷ []) cast seats' rogues
+device_declared tree lines l who cast seats seats' rogues known is sat = record {
+  tree_is = known.tree_is;
+  declared = same_more declared_member lines l (commands.Device who) (map (λ (d : Declared). d.member) cast.declared.items) is refl known.declared;
+  keys = known.keys;
+  unpaired = same_more unpaired_by lines l (commands.Device who) cast.unpaired.items is refl known.unpaired;
+  founders = known.founders ∙ sym (founders_same tree lines l (ap founder_by is));
+  fresh = subst (AllByRecursion (IsFresh tree)) (sym sat.pushed) (all_push (IsFresh tree) seats sat.seat known.fresh (subst (λ (t : Tree). IsFresh t sat.seat) known.tree_is sat.fresh));
+  seated_are = ap seated sat.pushed ∙ map_push (λ (x : Seat). x.device) seats sat.seat ∙ ap (λ (d : Device). seated seats ++ d ∷ []) sat.own ∙ push_more device_by lines l (commands.Device who) (seated seats) who is refl known.seated_are;
+  fresh_rogues = known.fresh_rogues;
+  rogues_are = same_more rogue_by lines l (commands.Device who) (rogue_devices rogues) is refl known.rogues_are;
+}
+
 -- a line that declares nothing
 record DeclaresNone (c : Command) : Type 0 where
   declared : declared_member c ≡ None
@@ -149,18 +164,19 @@ record DeclaresNone (c : Command) : Type 0 where
   device : device_by c ≡ None
   rogue : rogue_by c ≡ None
 
-nothing_declared : (c : Command) → ((m : MemberRole) → c ≡ commands.Member m → ⊥) → ((m : MemberRole) → c ≡ commands.Rogue m → ⊥) → ((m : ℕ) → c ≡ commands.Joiner m → ⊥) → ((p : Pair) → c ≡ commands.Unpaired p → ⊥) → DeclaresNone c
-nothing_declared (commands.Member m) a b d e = absurd (a m refl)
-nothing_declared (commands.Rogue m) a b d e = absurd (b m refl)
-nothing_declared (commands.Joiner m) a b d e = absurd (d m refl)
-nothing_declared (commands.Unpaired p) a b d e = absurd (e p refl)
-nothing_declared c a b d e = record { declared = refl; unpaired = refl; founder = refl; device = refl; rogue = refl }
+nothing_declared : (c : Command) → ((m : MemberRole) → c ≡ commands.Member m → ⊥) → ((m : MemberRole) → c ≡ commands.Rogue m → ⊥) → ((m : ℕ) → c ≡ commands.Joiner m → ⊥) → ((p : Pair) → c ≡ commands.Unpaired p → ⊥) → ((who : Device) → c ≡ commands.Device who → ⊥) → DeclaresNone c
+nothing_declared (commands.Member m) a b d e f = absurd (a m refl)
+nothing_declared (commands.Rogue m) a b d e f = absurd (b m refl)
+nothing_declared (commands.Joiner m) a b d e f = absurd (d m refl)
+nothing_declared (commands.Unpaired p) a b d e f = absurd (e p refl)
+nothing_declared (commands.Device who) a b d e f = absurd (f who refl)
+nothing_declared c a b d e f = record { declared = refl; unpaired = refl; founder = refl; device = refl; rogue = refl }
 
 pub none_declared : (tree : Tree) (lines : List PlayLine) (l : PlayLine) (cast : Cast) (seats : List Seat) (rogues : List Rogue)
-    → ((m : MemberRole) → l.command ≡ commands.Member m → ⊥) → ((m : MemberRole) → l.command ≡ commands.Rogue m → ⊥) → ((m : ℕ) → l.command ≡ commands.Joiner m → ⊥) → ((p : Pair) → l.command ≡ commands.Unpaired p → ⊥)
+    → ((m : MemberRole) → l.command ≡ commands.Member m → ⊥) → ((m : MemberRole) → l.command ≡ commands.Rogue m → ⊥) → ((m : ℕ) → l.command ≡ commands.Joiner m → ⊥) → ((p : Pair) → l.command ≡ commands.Unpaired p → ⊥) → ((who : Device) → l.command ≡ commands.Device who → ⊥)
     → HaveDeclared tree lines cast seats rogues → HaveDeclared tree (lines ++ l ∷ []) cast seats rogues
-none_declared tree lines l cast seats rogues a b d e known =
-    let none = nothing_declared l.command a b d e in
+none_declared tree lines l cast seats rogues a b d e f known =
+    let none = nothing_declared l.command a b d e f in
     record {
       tree_is = known.tree_is;
       declared = same_more declared_member lines l l.command (map (λ (x : Declared). x.member) cast.declared.items) refl none.declared known.declared;

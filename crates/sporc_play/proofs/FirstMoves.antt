@@ -12,16 +12,18 @@ use Rattle.sporc_client.specs.Run.{Setup, Move, World, IsRun, Open, after, start
 use Rattle.sporc_client.specs.Typed.{AreEpochKeys, IsTypedMove, IsTypedRun}
 use Rattle.sporc_client.specs.WellFormed.{IsWellFormed}
 use Rattle.sporc_member.specs.declared.device.Device.{Device}
+use Rattle.sporc_member.specs.declared.founder.Founder.{Founder}
 use Rattle.sporc_member.specs.Device.{first_device}
 use Rattle.sporc_script.specs.Commands.{InRange}
 use Rattle.sporc_script.specs.Grammar.{IsPlayScript}
 use Rattle.sporc_script.specs.declared.command.Command.{Command}
 use Rattle.sporc_script.specs.declared.command.Command.TheVariants as commands
 use Rattle.sporc_script.specs.declared.play_line.PlayLine.{PlayLine}
-use Rattle.sporc_play.specs.Cast.{device_by, first_ring, has_admin, opener_by, openers_by, setup_of}
+use Rattle.sporc_play.specs.Cast.{device_by, first_ring, founders_of, has_admin, opener_by, openers_by, setup_of}
 use Rattle.sporc_play.specs.Derived.{first_key}
 use Rattle.sporc_play.specs.Scene.{opening_moves, openings}
 use Rattle.sporc_play.proofs.Founders.{are_declared}
+use Rattle.sporc_play.proofs.Openings.{opener_device}
 use Rattle.sporc_play.proofs.OwnKeys.{half_len}
 use Rattle.sporc_play.proofs.Places.{among_cases, among_here, among_more}
 use Rattle.sporc_play.proofs.Scripts.{Follows, script_follows}
@@ -49,47 +51,44 @@ first_there =
 
 -- ---- who opens
 
-openers_in : (n : Device) (lines : List PlayLine) → Contains (openers_by lines) n → Contains (filter_map (λ (l : PlayLine). device_by l.command) lines) n
-openers_in n [] is = is
-openers_in n (l ∷ ls) is = elim (among_cases n (opener_by l.command) (openers_by ls) is) [
-  | inl here ↦ among_here n (device_by l.command) (filter_map (λ (l : PlayLine). device_by l.command) ls) (own l.command here)
-  | inr there ↦ among_more n (device_by l.command) (filter_map (λ (l : PlayLine). device_by l.command) ls) (openers_in n ls there)
+openers_in : (fs : List Founder) (who : Device) (lines : List PlayLine) → Contains (openers_by fs lines) who → Contains (filter_map (λ (l : PlayLine). device_by l.command) lines) who
+openers_in fs who [] is = is
+openers_in fs who (l ∷ ls) is = elim (among_cases who (opener_by fs l.command) (openers_by fs ls) is) [
+  | inl here ↦ among_here who (device_by l.command) (filter_map (λ (l : PlayLine). device_by l.command) ls) (opener_device fs l.command who here)
+  | inr there ↦ among_more who (device_by l.command) (filter_map (λ (l : PlayLine). device_by l.command) ls) (openers_in fs who ls there)
 ]
-  where
-    own : (c : Command) → opener_by c ≡ Some n → device_by c ≡ Some n
-    own (commands.Member m) is = is
-    own c is = absurd cc
 
 all_of : {X : Type 0} (P : X → Type 0) (xs : List X) → ((x : X) → Contains xs x → P x) → AllByRecursion P xs
 all_of P [] each = tt
 all_of P (x ∷ xs) each = (each x (0, omega arith, refl), all_of P xs (λ y is. each y (suc is.0, omega (arith, is.1), is.2)))
 
-pub openings_run : (s : Setup) (w : World) (ns : List Device) → AllByRecursion (λ n. Contains s.devices n) ns → commitment_of s.genesis.document 0 first_key ≡ s.genesis.commitment → IsRun s w (map (λ (n : Device). Open n first_ring) ns)
+pub openings_run : (s : Setup) (w : World) (ds : List Device) → AllByRecursion (λ who. Contains s.devices who) ds → commitment_of s.genesis.document 0 first_key ≡ s.genesis.commitment → IsRun s w (map (λ (who : Device). Open who first_ring) ds)
 openings_run s w [] all meets = tt
-openings_run s w (n ∷ ns) all meets = (
+openings_run s w (who ∷ ds) all meets = (
   (all.0, subst (λ (o : Option (List ℕ)). IsSomeAnd o (λ k. commitment_of s.genesis.document 0 k ≡ s.genesis.commitment)) (sym first_there) meets),
-  openings_run s (after s w (Open n first_ring)) ns all.1 meets,
+  openings_run s (after s w (Open who first_ring)) ds all.1 meets,
 )
 
-pub openings_typed : (ns : List Device) → AllByRecursion IsTypedMove (map (λ (n : Device). Open n first_ring) ns)
+pub openings_typed : (ds : List Device) → AllByRecursion IsTypedMove (map (λ (who : Device). Open who first_ring) ds)
 openings_typed [] = tt
-openings_typed (n ∷ ns) = (first_keys, openings_typed ns)
+openings_typed (who ∷ ds) = (first_keys, openings_typed ds)
 
 -- ---- the setup
 
 abbrev IsSmall : Device → Type 0
 IsSmall who = (who.member < 2 ^ 16) × (who.number < 2 ^ 8)
 
-device_small : (before lines : List PlayLine) (n : Device) → Follows before lines → Contains (filter_map (λ (l : PlayLine). device_by l.command) lines) n → IsSmall n
-device_small before [] n all is = absurd (omega (arith, is.1))
-device_small before (l ∷ ls) n all is = elim (among_cases n (device_by l.command) (filter_map (λ (l : PlayLine). device_by l.command) ls) is) [
+device_small : (before lines : List PlayLine) (who : Device) → Follows before lines → Contains (filter_map (λ (l : PlayLine). device_by l.command) lines) who → IsSmall who
+device_small before [] who all is = absurd (omega (arith, is.1))
+device_small before (l ∷ ls) who all is = elim (among_cases who (device_by l.command) (filter_map (λ (l : PlayLine). device_by l.command) ls) is) [
   | inl here ↦ own l.command all.1 here
-  | inr there ↦ device_small (before ++ l ∷ []) ls n all.2 there
+  | inr there ↦ device_small (before ++ l ∷ []) ls who all.2 there
 ]
   where
-    own : (c : Command) → InRange c → device_by c ≡ Some n → IsSmall n
-    own (commands.Member m) fits is = let same : first_device m.member ≡ n = cc in subst IsSmall same (fits.1, omega arith)
-    own (commands.Joiner m) fits is = let same : first_device m ≡ n = cc in subst IsSmall same (fits.1, omega arith)
+    own : (c : Command) → InRange c → device_by c ≡ Some who → IsSmall who
+    own (commands.Member m) fits is = let same : first_device m.member ≡ who = cc in subst IsSmall same (fits.1, omega arith)
+    own (commands.Joiner m) fits is = let same : first_device m ≡ who = cc in subst IsSmall same (fits.1, omega arith)
+    own (commands.Device d) fits is = let same : d ≡ who = cc in subst IsSmall same (fits.0.1, fits.1.1)
     own c fits is = absurd cc
 
 well_formed : (text : List ℕ) (script : List PlayLine) → IsPlayScript text script → has_admin script ≡ true → IsWellFormed (setup_of script)
@@ -104,16 +103,19 @@ pub commits : (script : List PlayLine) → commitment_of (setup_of script).genes
 unfolding setup_of
 commits script = refl
 
-pub among_devices : (script : List PlayLine) → AllByRecursion (λ n. Contains (setup_of script).devices n) (openers_by script)
+pub among_devices : (script : List PlayLine) → AllByRecursion (λ who. Contains (setup_of script).devices who) (openers_by (founders_of script) script)
 unfolding setup_of
-among_devices script = all_of (λ (n : Device). Contains (filter_map (λ (l : PlayLine). device_by l.command) script) n) (openers_by script) (λ n is. openers_in n script is)
+among_devices script =
+    let fs = founders_of script in
+    all_of (λ (who : Device). Contains (filter_map (λ (l : PlayLine). device_by l.command) script) who) (openers_by fs script) (λ who is. openers_in fs who script is)
 
 pub first_run : (text : List ℕ) (script : List PlayLine) → IsPlayScript text script → has_admin script ≡ true → IsTypedRun (setup_of script) (opening_moves script)
 first_run text script is founded =
     let s = setup_of script in
-    let run : IsTypedRun s (openings script) = record {
+    let fs = founders_of script in
+    let run : IsTypedRun s (openings fs script) = record {
       setup = well_formed text script is founded;
-      typed = openings_typed (openers_by script);
-      run = openings_run s start (openers_by script) (among_devices script) (commits script);
+      typed = openings_typed (openers_by fs script);
+      run = openings_run s start (openers_by fs script) (among_devices script) (commits script);
     } in
-    subst (λ (moves : List Move). IsTypedRun s moves) (sym (ap (λ (b : Bool). if b then openings script else []) founded)) run
+    subst (λ (moves : List Move). IsTypedRun s moves) (sym (ap (λ (b : Bool). if b then openings fs script else []) founded)) run

@@ -30,11 +30,11 @@ use Rattle.sporc_entry.specs.declared.change.ChangeBody.{ChangeBody}
 use Rattle.sporc_entry.specs.declared.entry.Entry.{Entry}
 use Rattle.sporc_entry.specs.declared.genesis.Genesis.{Genesis}
 use Rattle.sporc_entry.specs.declared.header.Header.{Header}
-use Rattle.sporc_entry.specs.declared.version.TheConstants.{FIRST_VERSION}
 use Rattle.sporc_entry.specs.declared.wrap.Wrap.{Wrap}
 use Rattle.sporc_entry.specs.ChangeBody.{change_body_bytes, change_bytes, wrap_bytes}
 use Rattle.sporc_entry.specs.Entry.{entry_bytes, signed_string}
 use Rattle.sporc_entry.specs.Genesis.{IsGenesis}
+use Rattle.sporc_entry.specs.Version.{fits_version, names_device, version_of}
 use Rattle.sporc_epoch.specs.Keys.{Keys}
 use Rattle.sporc_epoch.specs.declared.fault.SealFault.TheVariants.{NoPairKey}
 use Rattle.sporc_epoch.specs.Sealing.{Sealing, body_sealed, change_sealed, least_of, least_unpaired, wraps_sealed}
@@ -50,7 +50,7 @@ use Rattle.sporc_script.specs.declared.sign.Forgery.{Forgery}
 use Rattle.sporc_script.specs.declared.sign.Suffix.{Suffix}
 use Rattle.sporc_script.specs.declared.sign.Suffix.TheVariants as suffixes
 use Rattle.sporc_play.specs.Derived.{pair_key, random_of}
-use Rattle.sporc_play.specs.Forged.{IsSmallBody, IsSmallChange, base_by, derived_pairs, epoch_by, first_flipped, forged_body, forged_change, forged_entry, forged_header, forged_sealing, key_there, kind_of, leaf_by, number_by, sealed_for, signed_by, spoiled, unless_refused, unsigned_by, value_at, with_derived, wrap_flipped}
+use Rattle.sporc_play.specs.Forged.{IsSmallBody, IsSmallChange, base_by, derived_pairs, device_in, epoch_by, first_flipped, forged_body, forged_change, forged_entry, forged_header, forged_sealing, key_there, kind_of, leaf_by, number_by, sealed_for, signed_by, spoiled, unless_refused, unsigned_by, value_at, version_by, with_derived, wrap_flipped}
 use Rattle.sporc_play.specs.Scene.{leaf_after}
 
 -- ---- a flipped byte
@@ -108,6 +108,8 @@ spoiled_small (Some (suffixes.Drop member)) body is = record {
   wraps = whole_others (λ w. not (eqb w.member member)) body.wraps is.wraps;
   few = omega (arith, fewer (λ w. not (eqb w.member member)) body.wraps, is.few);
 }
+spoiled_small (Some (suffixes.Version k)) body is = is
+spoiled_small (Some (suffixes.Device number)) body is = is
 spoiled_small (Some suffixes.Commit) body is = record {
   change = is.change;
   commitment = length-first_flipped body.commitment ∙ is.commitment;
@@ -263,11 +265,26 @@ value_there c base there =
     let yes : leb base (length c.entries) ≡ true = le-leb base (length c.entries) there in
     rw yes refl
 
-pub header_same : (c : PlainClient) (f : Forgery) (own : ℕ) (document base_hash : List ℕ) (number base epoch leaf kind : ℕ)
+-- every version that a rogue's entry has can name its device
+fits_named : (second : Bool) (number : ℕ) → let version = version_of second in fits_version version (cond (names_device version) number FIRST_DEVICE) ≡ true
+fits_named true number = refl
+fits_named false number = refl
+
+fits_first : (second : Bool) → fits_version (version_of second) FIRST_DEVICE ≡ true
+fits_first true = refl
+fits_first false = refl
+
+pub header_fits : (suffix : Option Suffix) (upgraded : Bool) → let version = version_by suffix upgraded in fits_version version (device_in suffix version) ≡ true
+header_fits (Some (suffixes.Version k)) upgraded = fits_first (names_device k)
+header_fits (Some (suffixes.Device number)) upgraded = fits_named upgraded number
+header_fits suffix upgraded = fits_first upgraded
+
+pub header_same : (c : PlainClient) (f : Forgery) (own : ℕ) (version device : ℕ) (document base_hash : List ℕ) (number base epoch leaf kind : ℕ)
+    → version ≡ version_by f.signed.suffix (roster_of c.opening.genesis c.entries).upgraded → device ≡ device_in f.signed.suffix version
     → document ≡ c.opening.genesis.document → number ≡ number_by f.signed.suffix (count_of (first_device f.member) c.entries + 1) → base_hash ≡ value_at c base → base ≡ base_by f.signed.suffix (length c.entries)
     → epoch ≡ epoch_by f.signed.suffix (epoch_of c.entries) → leaf ≡ leaf_by f.signed.suffix own → kind ≡ kind_of f.signed.what
-    → let h : Header = record { version = FIRST_VERSION; document = document; author = f.member; device = FIRST_DEVICE; number = number; base = base; base_hash = base_hash; epoch = epoch; leaf = leaf; kind = kind } in h ≡ forged_header c f own
-header_same c f own document base_hash number base epoch leaf kind d n h b e l k = rw (d, n, h, b, e, l, k) refl
+    → let h : Header = record { version = version; document = document; author = f.member; device = device; number = number; base = base; base_hash = base_hash; epoch = epoch; leaf = leaf; kind = kind } in h ≡ forged_header c f own
+header_same c f own version device document base_hash number base epoch leaf kind v w d n h b e l k = rw (w, v, d, n, h, b, e, l, k) refl
 
 -- ---- the entry
 
@@ -283,7 +300,7 @@ unfolding signed_by
 signed_same s c f random leaf e key randomizer message signature is own first told by = rw (by, told, first, own, is) refl
 
 pub forged_signed : (s : Setup) (c : PlainClient) (f : Forgery) (t leaf : ℕ) (bytes : List ℕ) (drawn : Result ℕ LeafFault)
-    → drawn ≡ Ok leaf → bytes ≡ signed_by s c f (random_of f.member t) leaf → Some bytes ≡ forged_entry s c f t drawn
+    → drawn ≡ Ok leaf → bytes ≡ signed_by s c f (random_of (first_device f.member) t) leaf → Some bytes ≡ forged_entry s c f t drawn
 unfolding forged_entry
 forged_signed s c f t leaf bytes drawn is by = rw (is, by) refl
 

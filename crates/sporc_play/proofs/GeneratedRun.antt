@@ -90,11 +90,11 @@ to P zero each = tt
 to P (suc n) each = all_append P (up_to n) (suc n ∷ []) (to P n (λ k low. each k (omega (arith, low)))) (each (suc n) (omega arith), tt)
 
 abbrev Submits : Type 0
-Submits = (m : ℕ) → MayBe (setup_of generated_cast) (λ scene. commands.Submit m)
+Submits = (who : Device) → MayBe (setup_of generated_cast) (λ scene. commands.Submit who)
 
 edit_may : (j author : ℕ) → j * author < 2 ^ 64 → author ≤ 3 → MayBe (setup_of generated_cast) (edits j author)
 edit_may j author room small moves scene come =
-    edit_acts (setup_of generated_cast) (record { member = author; seen = None; change = generated_edit j author scene }) (edit_fits j author scene room small) moves scene come
+    edit_acts (setup_of generated_cast) (record { device = first_device author; seen = None; change = generated_edit j author scene }) (edit_fits j author scene room small) moves scene come
 
 batch_may : Submits → (done authors : ℕ) → done ≤ MAX_GENERATED → authors ≤ 3 → AllByRecursion (MayBe (setup_of generated_cast)) (batch done authors)
 batch_may submit done authors low few =
@@ -104,10 +104,10 @@ batch_may submit done authors low few =
     all_append May (map (edits j) (up_to authors) ++ map submits (up_to authors)) _
     (all_append May (map (edits j) (up_to authors)) _
     (mapped May (edits j) (up_to authors) (to (λ a. May (edits j a)) authors (λ a at. edit_may j a (room j a (omega (arith, low, third)) (omega (arith, at, few))) (omega (arith, at, few)))))
-    (mapped May submits (up_to authors) (to (λ a. May (submits a)) authors (λ a at. submit a))))
+    (mapped May submits (up_to authors) (to (λ a. May (submits a)) authors (λ a at. submit (first_device a)))))
     (flat May (λ a. map (gives (done + a)) (up_to 3)) (up_to authors)
     (to (λ a. AllByRecursion May (map (gives (done + a)) (up_to 3))) authors (λ a at.
-    mapped May (gives (done + a)) (up_to 3) (to (λ m. May (gives (done + a) m)) 3 (λ m there. give_acts (setup_of generated_cast) (record { member = m; position = done + a; entry = done + a }))))))
+    mapped May (gives (done + a)) (up_to 3) (to (λ m. May (gives (done + a) m)) 3 (λ m there. give_acts (setup_of generated_cast) (record { device = first_device m; position = done + a; entry = done + a }))))))
   where
     mul_div : (n : ℕ) → n / 3 ≤ n
     mul_div n = omega arith

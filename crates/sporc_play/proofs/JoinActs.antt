@@ -32,7 +32,6 @@ use Rattle.sporc_client.specs.Run.{Setup}
 use Rattle.sporc_client.specs.Typed.{AreEpochKeys}
 use Rattle.sporc_client.proofs.TypedHistories.{IsTypedCommitted, changes_typed, found_typed}
 use Rattle.sporc_member.specs.declared.device.Device.{Device}
-use Rattle.sporc_member.specs.Device.{first_device}
 use Rattle.sporc_script.specs.declared.command.Command.TheVariants as commands
 use Rattle.sporc_script.specs.declared.command.Join.{Join}
 use Rattle.sporc_play.specs.Scene.{Scene, entries_at, entry_at, joins, opens_unless, opens_with, with_entry}
@@ -197,23 +196,23 @@ byte_keys ring holds epoch = go (get ring epoch) (holds epoch)
     go None is = tt
     go (Some key) is = is.bytes
 
-unless_acts : (s : Setup) (scene : Scene) (m : Device) (ring : Keys) (fault : Option LineOpenFault) → Contains s.devices m → HoldsKeys ring → first_of (open_checks s.genesis (get ring 0)) ≡ fault → MayAct s scene (opens_unless m ring fault)
-unless_acts s scene m ring None member holds none = record {
+unless_acts : (s : Setup) (scene : Scene) (who : Device) (ring : Keys) (fault : Option LineOpenFault) → Contains s.devices who → HoldsKeys ring → first_of (open_checks s.genesis (get ring 0)) ≡ fault → MayAct s scene (opens_unless who ring fault)
+unless_acts s scene who ring None member holds none = record {
   run = ((member, meets s.genesis (get ring 0) none), tt);
   typed = (sizes ring holds, tt);
   bytes = (byte_keys ring holds, tt);
   entries = tt;
 }
-unless_acts s scene m ring (Some fault) member holds some = no_act s scene
+unless_acts s scene who ring (Some fault) member holds some = no_act s scene
 
-with_acts : (s : Setup) (scene : Scene) (m : Device) (hints : Result Keys HintFault) → Contains s.devices m → IfOk hints HoldsKeys → MayAct s scene (opens_with s m hints)
-with_acts s scene m (Ok ring) member holds = unless_acts s scene m ring (first_of (open_checks s.genesis (get ring 0))) member holds refl
-with_acts s scene m (Err fault) member holds = no_act s scene
+with_acts : (s : Setup) (scene : Scene) (who : Device) (hints : Result Keys HintFault) → Contains s.devices who → IfOk hints HoldsKeys → MayAct s scene (opens_with s who hints)
+with_acts s scene who (Ok ring) member holds = unless_acts s scene who ring (first_of (open_checks s.genesis (get ring 0))) member holds refl
+with_acts s scene who (Err fault) member holds = no_act s scene
 
-pub join_acts : (s : Setup) (j : Join) → Contains s.devices (first_device j.member) → MayBe s (λ scene. commands.Join j)
-join_acts s j member moves scene come = go (scene.world.clients (first_device j.member)) (entries_at scene.made j.entries) (given_are scene.made j.entries come.made)
+pub join_acts : (s : Setup) (j : Join) → Contains s.devices j.device → MayBe s (λ scene. commands.Join j)
+join_acts s j member moves scene come = go (scene.world.clients j.device) (entries_at scene.made j.entries) (given_are scene.made j.entries come.made)
   where
-    go : (o : Option PlainClient) (r : Result (List (List ℕ)) ℕ) → IfOk r (AllByRecursion AreBytes) → MayAct s scene (joins s (first_device j.member) r o)
+    go : (o : Option PlainClient) (r : Result (List (List ℕ)) ℕ) → IfOk r (AllByRecursion AreBytes) → MayAct s scene (joins s j.device r o)
     go (Some c) r all = no_act s scene
     go None (Err missing) all = no_act s scene
-    go None (Ok entries) all = let who = first_device j.member in with_acts s scene who (hints_of entries who.member (s.pairs who)) member (hints_are entries who.member (s.pairs who) all)
+    go None (Ok entries) all = let who = j.device in with_acts s scene who (hints_of entries who.member (s.pairs who)) member (hints_are entries who.member (s.pairs who) all)

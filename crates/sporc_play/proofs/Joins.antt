@@ -130,7 +130,7 @@ join_stands script scene scene' state state' i who seat new entries stands at do
     let s = setup_of script in
     let quiet = joins_quiet s who entries (scene.world.clients who) in
     let seats : IsSeatOf s scene' (seat_joined s seat entries seat.client) =
-    seat_joins s scene scene' seat entries (seat_there script scene state i who seat stands at) (subst (λ (n : Device). Does s scene (joins s n entries (scene.world.clients n)).moves scene') (sym at.own) does) in
+    seat_joins s scene scene' seat entries (seat_there script scene state i who seat stands at) (subst (λ (other : Device). Does s scene (joins s other entries (scene.world.clients other)).moves scene') (sym at.own) does) in
     stands_seat script scene scene' state state' i who seat new stands at
     (λ other differs. same_for_others s scene scene' (joins s who entries (scene.world.clients who)).moves who other does quiet.moves differs)
     (subst (IsSeatOf s scene') (sym joined) seats)

@@ -14,10 +14,9 @@ use Rattle.sporc_hash.specs.declared.verdict.Verdict.{Verdict}
 use Rattle.sporc_hash.specs.declared.verdict.Verdict.TheVariants.{ForkedAfter, Longer, Prefix, Same}
 use Rattle.sporc_hash.proofs.Prefixes.{slice_get-chain}
 use Rattle.sporc_member.specs.declared.device.Device.{Device}
-use Rattle.sporc_member.specs.Device.{first_device}
 use Rattle.sporc_script.specs.declared.command.Command.TheVariants as commands
 use Rattle.sporc_script.specs.declared.command.Flip.{Flip}
-use Rattle.sporc_script.specs.declared.command.Pair.{Pair}
+use Rattle.sporc_script.specs.declared.command.DevicePair.{DevicePair}
 use Rattle.sporc_script.specs.declared.play_line.PlayLine.{PlayLine}
 use Rattle.sporc_play.specs.declared.seat.Seat.{Seat}
 use Rattle.sporc_play.specs.declared.state.PlayState.{PlayState}
@@ -94,8 +93,8 @@ pub record IsFound (state : PlayState) (who : Device) (found : Option (ClientMod
   pub at : IsSeatAt state.seats.items place who seat
   pub is : found ≡ seat.client
 
-pub found_by : (state : PlayState) (who named : Device) (found : Option (ClientModel MemoryDiskModel)) → named ≡ who → (i : ℕ) × (seat : Seat) × IsSeatAt state.seats.items i named seat × (found ≡ seat.client) → IsFound state who found
-found_by state who named found same (i, seat, at, is) = record { place = i; seat = seat; at = record { there = at.there; own = at.own ∙ same }; is = is }
+pub found_by : (state : PlayState) (who : Device) (found : Option (ClientModel MemoryDiskModel)) → (i : ℕ) × (seat : Seat) × IsSeatAt state.seats.items i who seat × (found ≡ seat.client) → IsFound state who found
+found_by state who found (i, seat, at, is) = record { place = i; seat = seat; at = at; is = is }
 
 found_there : (script : List PlayLine) (scene : Scene) (state : PlayState) (who : Device) (found : Option (ClientModel MemoryDiskModel)) → StandsFor script scene state → IsFound state who found → scene.world.clients who ≡ option_map state_of found
 found_there script scene state who found stands f = client_there script scene state f.place who f.seat stands f.at ∙ ap (option_map state_of) (sym f.is)
@@ -104,30 +103,30 @@ found_there script scene state who found stands f = client_there script scene st
 client_is : (script : List PlayLine) (scene : Scene) (state : PlayState) (who : Device) (c : ClientModel MemoryDiskModel) → StandsFor script scene state → IsFound state who (Some c) → IsClientOf (setup_of script) scene who c
 client_is script scene state who c stands f =
     let s = setup_of script in
-    subst (λ (n : Device). IsClientOf s scene n c) f.at.own
+    subst (λ (other : Device). IsClientOf s scene other c) f.at.own
     (subst (λ (o : Option (ClientModel MemoryDiskModel)). Holds s scene f.seat.device f.seat.signer o) (sym f.is) (seat_there script scene state f.place who f.seat stands f.at).holds)
 
--- the line of a client by its own member
-pub line_there : (script : List PlayLine) (scene : Scene) (state : PlayState) (who : Device) (c : ClientModel MemoryDiskModel) (line : ℕ → PlainClient → List ℕ) (out out' : List ℕ) → StandsFor script scene state → IsFound state who (Some c)
-    → out' ≡ out ++ line c.opening.kit.me.member (state_of c) → (l : List ℕ) × (l ≡ line_by who.member (scene.world.clients who) (line who.member)) × (out' ≡ out ++ l)
+-- the line of a client by its own device
+pub line_there : (script : List PlayLine) (scene : Scene) (state : PlayState) (who : Device) (c : ClientModel MemoryDiskModel) (line : Device → PlainClient → List ℕ) (out out' : List ℕ) → StandsFor script scene state → IsFound state who (Some c)
+    → out' ≡ out ++ line c.opening.kit.me (state_of c) → (l : List ℕ) × (l ≡ line_by who (scene.world.clients who) (line who)) × (out' ≡ out ++ l)
 line_there script scene state who c line out out' stands f is = (
-  line who.member (state_of c),
-  ap (λ (o : Option PlainClient). line_by who.member o (line who.member)) (sym (found_there script scene state who (Some c) stands f)),
-  is ∙ ap (λ (o : Opening). out ++ line o.kit.me.member (state_of c)) (client_is script scene state who c stands f).opening,
+  line who (state_of c),
+  ap (λ (o : Option PlainClient). line_by who o (line who)) (sym (found_there script scene state who (Some c) stands f)),
+  is ∙ ap (λ (o : Opening). out ++ line o.kit.me (state_of c)) (client_is script scene state who c stands f).opening,
 )
 
 -- that it is not open
 pub none_there : (script : List PlayLine) (scene : Scene) (state : PlayState) (who : Device) (line : PlainClient → List ℕ) (out out' : List ℕ) → StandsFor script scene state → IsFound state who None
-    → out' ≡ out ++ not_open_line who.member → (l : List ℕ) × (l ≡ line_by who.member (scene.world.clients who) line) × (out' ≡ out ++ l)
+    → out' ≡ out ++ not_open_line who → (l : List ℕ) × (l ≡ line_by who (scene.world.clients who) line) × (out' ≡ out ++ l)
 none_there script scene state who line out out' stands f is =
-    (not_open_line who.member, ap (λ (o : Option PlainClient). line_by who.member o line) (sym (found_there script scene state who None stands f)), is)
+    (not_open_line who, ap (λ (o : Option PlainClient). line_by who o line) (sym (found_there script scene state who None stands f)), is)
 
 -- the lines of its journal
 pub journal_there : (script : List PlayLine) (scene : Scene) (state : PlayState) (who : Device) (c : ClientModel MemoryDiskModel) (out out' : List ℕ) → StandsFor script scene state → IsFound state who (Some c)
-    → out' ≡ out ++ journal_lines (journal_of c.log) → (l : List ℕ) × (l ≡ line_by who.member (scene.world.clients who) (λ c. journal_lines (journal_of (scene.logs who)))) × (out' ≡ out ++ l)
+    → out' ≡ out ++ journal_lines (journal_of c.log) → (l : List ℕ) × (l ≡ line_by who (scene.world.clients who) (λ c. journal_lines (journal_of (scene.logs who)))) × (out' ≡ out ++ l)
 journal_there script scene state who c out out' stands f is = (
   journal_lines (journal_of (scene.logs who)),
-  ap (λ (o : Option PlainClient). line_by who.member o (λ c. journal_lines (journal_of (scene.logs who)))) (sym (found_there script scene state who (Some c) stands f)),
+  ap (λ (o : Option PlainClient). line_by who o (λ c. journal_lines (journal_of (scene.logs who)))) (sym (found_there script scene state who (Some c) stands f)),
   is ∙ ap (λ (l : List Logged). out ++ journal_lines (journal_of l)) (sym (client_is script scene state who c stands f).log),
 )
 
@@ -166,27 +165,27 @@ stands a b Prefix same prefix longer forked = prefix.0 refl
 stands a b Longer same prefix longer forked = longer.0 refl
 stands a b (ForkedAfter k) same prefix longer forked = forked
 
-pub compare_tells : (state : PlayState) (p : Pair) (a b : ClientModel MemoryDiskModel) (v : Verdict) (out out' : List ℕ) → IsFound state (first_device p.first) (Some a) → IsFound state (first_device p.second) (Some b)
+pub compare_tells : (state : PlayState) (p : DevicePair) (a b : ClientModel MemoryDiskModel) (v : Verdict) (out out' : List ℕ) → IsFound state p.first (Some a) → IsFound state p.second (Some b)
     → Stands (hashes_of (state_of a)) (hashes_of (state_of b)) v → out' ≡ out ++ compare_line p v → AppendsLineOf state (commands.Compare p) out out'
 compare_tells state p a b v out out' first second stand is script scene stands =
     (compare_line p v, written, is)
   where
-    written : Compares p (scene.world.clients (first_device p.first)) (scene.world.clients (first_device p.second)) (compare_line p v)
-    written = subst (λ (o : Option PlainClient). Compares p o (scene.world.clients (first_device p.second)) (compare_line p v)) (sym (found_there script scene state (first_device p.first) (Some a) stands first))
-        (subst (λ (o : Option PlainClient). Compares p (Some (state_of a)) o (compare_line p v)) (sym (found_there script scene state (first_device p.second) (Some b) stands second)) (v, stand, refl))
+    written : Compares p (scene.world.clients p.first) (scene.world.clients p.second) (compare_line p v)
+    written = subst (λ (o : Option PlainClient). Compares p o (scene.world.clients p.second) (compare_line p v)) (sym (found_there script scene state p.first (Some a) stands first))
+        (subst (λ (o : Option PlainClient). Compares p (Some (state_of a)) o (compare_line p v)) (sym (found_there script scene state p.second (Some b) stands second)) (v, stand, refl))
 
-pub first_missing : (state : PlayState) (p : Pair) (out out' : List ℕ) → IsFound state (first_device p.first) None → out' ≡ out ++ not_open_line p.first → AppendsLineOf state (commands.Compare p) out out'
+pub first_missing : (state : PlayState) (p : DevicePair) (out out' : List ℕ) → IsFound state p.first None → out' ≡ out ++ not_open_line p.first → AppendsLineOf state (commands.Compare p) out out'
 first_missing state p out out' f is script scene stands = (
   not_open_line p.first,
-  subst (λ (o : Option PlainClient). Compares p o (scene.world.clients (first_device p.second)) (not_open_line p.first)) (sym (found_there script scene state (first_device p.first) None stands f)) refl,
+  subst (λ (o : Option PlainClient). Compares p o (scene.world.clients p.second) (not_open_line p.first)) (sym (found_there script scene state p.first None stands f)) refl,
   is,
 )
 
-pub second_missing : (state : PlayState) (p : Pair) (a : ClientModel MemoryDiskModel) (out out' : List ℕ) → IsFound state (first_device p.first) (Some a) → IsFound state (first_device p.second) None → out' ≡ out ++ not_open_line p.second
+pub second_missing : (state : PlayState) (p : DevicePair) (a : ClientModel MemoryDiskModel) (out out' : List ℕ) → IsFound state p.first (Some a) → IsFound state p.second None → out' ≡ out ++ not_open_line p.second
     → AppendsLineOf state (commands.Compare p) out out'
 second_missing state p a out out' first second is script scene stands = (
   not_open_line p.second,
-  subst (λ (o : Option PlainClient). Compares p o (scene.world.clients (first_device p.second)) (not_open_line p.second)) (sym (found_there script scene state (first_device p.first) (Some a) stands first))
-      (subst (λ (o : Option PlainClient). Compares p (Some (state_of a)) o (not_open_line p.second)) (sym (found_there script scene state (first_device p.second) None stands second)) refl),
+  subst (λ (o : Option PlainClient). Compares p o (scene.world.clients p.second) (not_open_line p.second)) (sym (found_there script scene state p.first (Some a) stands first))
+      (subst (λ (o : Option PlainClient). Compares p (Some (state_of a)) o (not_open_line p.second)) (sym (found_there script scene state p.second None stands second)) refl),
   is,
 )

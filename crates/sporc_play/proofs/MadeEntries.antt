@@ -48,13 +48,13 @@ forged_is s scene f rogue (Some c) is own =
     (ap₂ leaf_after (ap s.private (sym own) ∙ sym is.signer.key) (ap scene.leaves (sym own) ∙ sym is.signer.leaves.next))
 
 pub sign_stands : (script : List PlayLine) (scene : Scene) (state state' : PlayState) (i : ℕ) (f : Forgery) (rogue new : Rogue) (client : Option (ClientModel MemoryDiskModel)) (made : Option (List ℕ)) → StandsFor script scene state
-    → IsRogueAt state.rogues.items i (first_device f.member) rogue → scene.world.clients (first_device f.from) ≡ option_map state_of client → HasSigned rogue made new → made ≡ forged_by (setup_of script) f rogue client
+    → IsRogueAt state.rogues.items i (first_device f.member) rogue → scene.world.clients f.from ≡ option_map state_of client → HasSigned rogue made new → made ≡ forged_by (setup_of script) f rogue client
     → ChangesRogue i new state state' → map (λ bytes. bytes.items) state'.made.items ≡ map (λ bytes. bytes.items) state.made.items ++ option_to_list made
     → StandsFor script (after (setup_of script) scene (commands.Sign f)) state'
 sign_stands script scene state state' i f rogue new client made stands at client_is did forged changed grown =
     let s = setup_of script in
     let is = rogue_there script scene state i (first_device f.member) rogue stands at in
-    let act : if_open (scene.world.clients (first_device f.from)) (λ c. signs_by (forged_entry s c f (scene.asked (first_device f.member) + 1) (leaf_after (s.private (first_device f.member)) (scene.leaves (first_device f.member))))) ≡ makes (option_to_list made) =
+    let act : if_open (scene.world.clients f.from) (λ c. signs_by (forged_entry s c f (scene.asked (first_device f.member) + 1) (leaf_after (s.private (first_device f.member)) (scene.leaves (first_device f.member))))) ≡ makes (option_to_list made) =
     ap (λ (o : Option PlainClient). if_open o (λ c. signs_by (forged_entry s c f (scene.asked (first_device f.member) + 1) (leaf_after (s.private (first_device f.member)) (scene.leaves (first_device f.member)))))) client_is
     ∙ forged_is s scene f rogue client is at.own ∙ ap (λ (o : Option (List ℕ)). makes (option_to_list o)) (sym forged) in
     let own : new.device ≡ first_device f.member = did.device ∙ at.own in
@@ -81,16 +81,16 @@ sign_stands script scene state state' i f rogue new client made stands at client
     (grown ∙ ap (λ (es : List (List ℕ)). es ++ option_to_list made) stands.made))
 
 pub signing_told : (script : List PlayLine) (scene : Scene) (state : PlayState) (i next : ℕ) (f : Forgery) (rogue : Rogue) (client : Option (ClientModel MemoryDiskModel)) (old new : List ℕ) → StandsFor script scene state
-    → IsRogueAt state.rogues.items i (first_device f.member) rogue → scene.world.clients (first_device f.from) ≡ option_map state_of client → next ≡ next_number scene → new ≡ old ++ signing_line f next rogue client
-    → (l : List ℕ) × (l ≡ line_by f.from (scene.world.clients (first_device f.from)) (λ c. sign_line f.member (next_number scene) (leaf_after ((setup_of script).private (first_device f.member)) (scene.leaves (first_device f.member))))) × (new ≡ old ++ l)
+    → IsRogueAt state.rogues.items i (first_device f.member) rogue → scene.world.clients f.from ≡ option_map state_of client → next ≡ next_number scene → new ≡ old ++ signing_line f next rogue client
+    → (l : List ℕ) × (l ≡ line_by f.from (scene.world.clients f.from) (λ c. sign_line (first_device f.member) (next_number scene) (leaf_after ((setup_of script).private (first_device f.member)) (scene.leaves (first_device f.member))))) × (new ≡ old ++ l)
 signing_told script scene state i next f rogue client old new stands at client_is number told =
     let s = setup_of script in
     let is = rogue_there script scene state i (first_device f.member) rogue stands at in
     let leaf : leaf_after rogue.signer.key rogue.signer.leaves.next ≡ leaf_after (s.private (first_device f.member)) (scene.leaves (first_device f.member)) =
     ap₂ leaf_after (is.signer.key ∙ ap s.private at.own) (is.signer.leaves.next ∙ ap scene.leaves at.own) in (
       signing_line f next rogue client,
-      ap₂ (λ (n : ℕ) (r : Result ℕ LeafFault). line_by f.from (option_map state_of client) (λ c. sign_line f.member n r)) number leaf
-          ∙ ap (λ (o : Option PlainClient). line_by f.from o (λ c. sign_line f.member (next_number scene) (leaf_after (s.private (first_device f.member)) (scene.leaves (first_device f.member))))) (sym client_is),
+      ap₂ (λ (n : ℕ) (r : Result ℕ LeafFault). line_by f.from (option_map state_of client) (λ c. sign_line (first_device f.member) n r)) number leaf
+          ∙ ap (λ (o : Option PlainClient). line_by f.from o (λ c. sign_line (first_device f.member) (next_number scene) (leaf_after (s.private (first_device f.member)) (scene.leaves (first_device f.member))))) (sym client_is),
       told,
     )
 

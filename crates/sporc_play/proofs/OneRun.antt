@@ -4,7 +4,6 @@ use Rattle.std.specs.Prelude.{Contains}
 use Rattle.std.specs.List.{AllByRecursion}
 use Rattle.std.proofs.lemmas.Bool.{and_parts}
 use Rattle.sporc_client.specs.Typed.{IsTypedRun}
-use Rattle.sporc_member.specs.Device.{first_device}
 use Rattle.sporc_script.specs.Commands.{InRange}
 use Rattle.sporc_script.specs.Declarations.{declared_by as declarations, may_follow, names_performers}
 use Rattle.sporc_script.specs.declared.command.Join.{Join}
@@ -25,11 +24,11 @@ use Rattle.sporc_play.proofs.Scripts.{Follows, joiner_before, script_follows}
 
 -- ---- all commands
 
-command_acts : (script : List PlayLine) (c : Command) → InRange c → ((j : Join) → c ≡ commands.Join j → Contains (setup_of script).devices (first_device j.member)) → MayBe (setup_of script) (λ scene. c)
+command_acts : (script : List PlayLine) (c : Command) → InRange c → ((j : Join) → c ≡ commands.Join j → Contains (setup_of script).devices j.device) → MayBe (setup_of script) (λ scene. c)
 command_acts script (commands.Edit e) fits among = edit_acts (setup_of script) e fits.2
 command_acts script (commands.Change e) fits among = change_acts script e fits.1
-command_acts script (commands.Discard m) fits among = discard_acts (setup_of script) m
-command_acts script (commands.Submit m) fits among = submit_acts script m
+command_acts script (commands.Discard who) fits among = discard_acts (setup_of script) who
+command_acts script (commands.Submit who) fits among = submit_acts script who
 command_acts script (commands.Give g) fits among = give_acts (setup_of script) g
 command_acts script (commands.Restart r) fits among = restart_acts (setup_of script) r
 command_acts script (commands.Join j) fits among = join_acts (setup_of script) j (among j refl)
@@ -39,16 +38,16 @@ command_acts script (commands.Sign f) fits among = sign_acts script f fits
 command_acts script c fits among = λ moves scene come. no_act (setup_of script) scene
 
 -- one whom a line lets join has a device that may open
-joiner_there : (before lines : List PlayLine) (c : Command) → may_follow (declarations before) c ≡ true → (j : Join) → c ≡ commands.Join j → Contains (setup_of (before ++ lines)).devices (first_device j.member)
+joiner_there : (before lines : List PlayLine) (c : Command) → may_follow (declarations before) c ≡ true → (j : Join) → c ≡ commands.Join j → Contains (setup_of (before ++ lines)).devices j.device
 unfolding setup_of
 joiner_there before lines c may j is =
     let here : may_follow (declarations before) (commands.Join j) ≡ true = ap (may_follow (declarations before)) (sym is) ∙ may in
-    joiner_before before lines j.member (and_parts (declarations before).has_admin (names_performers (declarations before) (commands.Join j)) here).1
+    joiner_before before lines j.device (and_parts (declarations before).has_admin (names_performers (declarations before) (commands.Join j)) here).1
 
 all_act : (script before lines : List PlayLine) → before ++ lines ≡ script → Follows before lines → AllByRecursion (MayBe (setup_of script)) (commands_of lines)
 all_act script before [] whole all = tt
 all_act script before (l ∷ ls) whole all = (
-  command_acts script l.command all.1 (λ j is. subst (λ (s : List PlayLine). Contains (setup_of s).devices (first_device j.member)) whole (joiner_there before (l ∷ ls) l.command all.0 j is)),
+  command_acts script l.command all.1 (λ j is. subst (λ (s : List PlayLine). Contains (setup_of s).devices j.device) whole (joiner_there before (l ∷ ls) l.command all.0 j is)),
   all_act script (before ++ l ∷ []) ls (append_assoc before (l ∷ []) ls ∙ whole) all.2,
 )
 

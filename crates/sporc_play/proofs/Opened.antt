@@ -103,8 +103,8 @@ admin_among script scene state stands = sym (ap (λ (fs : List Founder). list_an
 pub opened_all : (script : List PlayLine) (n : ℕ) (state : PlayState) → has_admin script ≡ true → length script ≤ n → StandsFor script (scene_opened script n) state → StandsFor script (opening script) state
 opened_all script n state founded all stands =
     subst (λ (moves : List Move). StandsFor script (scene_moved script moves) state)
-    (ap openings (take_all n script all) ∙ sym (ap (λ (b : Bool). if b then openings script else []) founded)) stands
+    (ap (openings (founders_of script)) (take_all n script all) ∙ sym (ap (λ (b : Bool). if b then openings (founders_of script) script else []) founded)) stands
 
 pub opened_none : (script : List PlayLine) (state : PlayState) → has_admin script ≡ false → StandsFor script (scene_opened script 0) state → StandsFor script (opening script) state
 opened_none script state unfounded stands =
-    subst (λ (moves : List Move). StandsFor script (scene_moved script moves) state) (sym (ap (λ (b : Bool). if b then openings script else []) unfounded)) stands
+    subst (λ (moves : List Move). StandsFor script (scene_moved script moves) state) (sym (ap (λ (b : Bool). if b then openings (founders_of script) script else []) unfounded)) stands

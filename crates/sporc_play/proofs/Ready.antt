@@ -1,5 +1,5 @@
 -- A state that stands for a scene of a script can perform the script's next command.
-use Rattle.std.proofs.Common.{◌≡◌, ℕ, zero, suc, ◌+◌, ◌^◌, ◌<◌, ◌≤◌, Bool, true, false, cond, List, [], ◌∷◌, length, take, get_or, refl, sym, ap, ◌∙◌, subst, arith, length-take, Option, None, Some, IfSome, IsSome}
+use Rattle.std.proofs.Common.{◌≡◌, ℕ, zero, suc, ◌+◌, ◌-◌, ◌^◌, ◌<◌, ◌≤◌, Bool, true, false, cond, List, [], ◌∷◌, length, take, get_or, refl, sym, ap, ◌∙◌, subst, arith, length-take, Option, None, Some, IfSome, IsSome}
 use Rattle.std.specs.Prelude.{Contains, filter_map}
 use Rattle.std.specs.List.{AllByRecursion}
 use Rattle.std.proofs.lemmas.Bool.{and_parts}
@@ -14,7 +14,8 @@ use Rattle.sporc_client.specs.ClientModel.{ClientModel}
 use Rattle.sporc_client.specs.Run.{Setup}
 use Rattle.sporc_member.specs.declared.device.Device.{Device}
 use Rattle.sporc_member.specs.Device.{first_device, same_device}
-use Rattle.sporc_script.specs.Declarations.{declared_by as declarations, is_client, is_rogue, may_follow, names_performers}
+use Rattle.sporc_script.specs.Declarations.{declared_by as declarations, is_client, is_rogue, may_follow, names_performers, none_declared}
+use Rattle.sporc_script.specs.Grammar.{IsPlayScript}
 use Rattle.sporc_script.specs.declared.command.Command.{Command}
 use Rattle.sporc_script.specs.declared.command.Command.TheVariants as commands
 use Rattle.sporc_script.specs.declared.play_line.PlayLine.{PlayLine}
@@ -32,55 +33,71 @@ use Rattle.sporc_play.proofs.Sizes.{script_count, script_sizes}
 
 -- ---- counts
 
-more_at_most : (counts : Device → ℕ) (who : Option Device) (m : Device) → with_more counts who 1 m ≤ counts m + 1
-more_at_most counts None m = omega arith
-more_at_most counts (Some n) m = go (same_device m n)
+more_at_most : (counts : Device → ℕ) (who : Option Device) (device : Device) → with_more counts who 1 device ≤ counts device + 1
+more_at_most counts None device = omega arith
+more_at_most counts (Some n) device = go (same_device device n)
   where
-    go : (same : Bool) → cond same (counts m + 1) (counts m) ≤ counts m + 1
+    go : (same : Bool) → cond same (counts device + 1) (counts device) ≤ counts device + 1
     go true = omega arith
     go false = omega arith
 
-pub asked_grows : (s : Setup) (scene : Scene) (commands : List (Scene → Command)) (m : Device) → (after_each s scene commands).asked m ≤ scene.asked m + length commands
-asked_grows s scene [] m = omega arith
-asked_grows s scene (c ∷ cs) m =
-    omega (arith, asked_grows s (after s scene (c scene)) cs m, more_at_most scene.asked (signer_of (c scene)) m)
+pub asked_grows : (s : Setup) (scene : Scene) (commands : List (Scene → Command)) (who : Device) → (after_each s scene commands).asked who ≤ scene.asked who + length commands
+asked_grows s scene [] who = omega arith
+asked_grows s scene (c ∷ cs) who =
+    omega (arith, asked_grows s (after s scene (c scene)) cs who, more_at_most scene.asked (signer_of (c scene)) who)
 
-pub asked_at : (script : List PlayLine) (i : ℕ) (m : Device) → (scene_at script i).asked m ≤ i
-asked_at script i m =
-    omega (arith, asked_grows (setup_of script) (opening script) (commands_of (take i script)) m, length-map {B = Scene → Command} (take i script) (λ (line : PlayLine) (scene : Scene). line.command), length-take i script)
+-- the first line asks nobody
+first_asks : (c : Command) → may_follow none_declared c ≡ true → signer_of c ≡ None
+first_asks (commands.Submit who) may = absurd cc
+first_asks (commands.Sign f) may = absurd cc
+first_asks c may = refl
+
+asked_from : (s : Setup) (scene : Scene) (lines : List PlayLine) (i : ℕ) (who : Device) → ((l : PlayLine) → l ≡ get_or lines 0 l → 0 < length lines → signer_of l.command ≡ None) → scene.asked who ≡ 0
+    → (after_each s scene (commands_of (take i lines))).asked who ≤ i - 1
+asked_from s scene lines zero who first none = omega (arith, none)
+asked_from s scene [] (suc i) who first none = omega (arith, none)
+asked_from s scene (l ∷ ls) (suc i) who first none =
+    let now = after s scene l.command in
+    let still : now.asked who ≡ 0 = ap (λ (o : Option Device). with_more scene.asked o 1 who) (first l refl (omega arith)) ∙ none in
+    omega (arith, asked_grows s now (commands_of (take i ls)) who, still, length-map {B = Scene → Command} (take i ls) (λ (line : PlayLine) (scene : Scene). line.command), length-take i ls)
+
+pub asked_at : (text : List ℕ) (script : List PlayLine) (i : ℕ) (who : Device) → IsPlayScript text script → (scene_at script i).asked who ≤ i - 1
+asked_at text script i who is =
+    asked_from (setup_of script) (opening script) script i who
+    (λ l at low. first_asks l.command (line_at text script 0 l is low at).may) refl
 
 -- ---- seats and rogues
 
-ready_client : {D : Type 0} (s : Setup) (scene : Scene) (m : Device) (signer : Option (SignerModel D)) (client : Option (ClientModel D)) → Holds s scene m signer client → IfSome client (λ c. IsReady c.opening.key c.leaves.next c)
-ready_client s scene m signer None holds = tt
-ready_client s scene m signer (Some c) holds = record {
+ready_client : {D : Type 0} (s : Setup) (scene : Scene) (who : Device) (signer : Option (SignerModel D)) (client : Option (ClientModel D)) → Holds s scene who signer client → IfSome client (λ c. IsReady c.opening.key c.leaves.next c)
+ready_client s scene who signer None holds = tt
+ready_client s scene who signer (Some c) holds = record {
   key = refl;
   leaves = subst (λ (k : LmsPrivate). AreDrawn k c.leaves.next c.leaves) (sym holds.ready.key)
-      (subst (λ (n : ℕ). AreDrawn (s.private m) n c.leaves) (sym holds.ready.leaves.next) holds.ready.leaves);
+      (subst (λ (n : ℕ). AreDrawn (s.private who) n c.leaves) (sym holds.ready.leaves.next) holds.ready.leaves);
   no_ticket = holds.ready.no_ticket;
 }
 
-some_signer : {D : Type 0} (s : Setup) (scene : Scene) (m : Device) (signer : Option (SignerModel D)) (client : Option (ClientModel D)) → Holds s scene m signer client → client ≡ None → IsSome signer
-some_signer s scene m signer (Some c) holds none = absurd cc
-some_signer s scene m (Some signer) None holds none = refl
-some_signer s scene m None None holds none = absurd holds
+some_signer : {D : Type 0} (s : Setup) (scene : Scene) (who : Device) (signer : Option (SignerModel D)) (client : Option (ClientModel D)) → Holds s scene who signer client → client ≡ None → IsSome signer
+some_signer s scene who signer (Some c) holds none = absurd cc
+some_signer s scene who (Some signer) None holds none = refl
+some_signer s scene who None None holds none = absurd holds
 
-ready_seats : (s : Setup) (scene : Scene) (seats : List Seat) → ((m : Device) → scene.asked m + 1 < 2 ^ 32) → AllByRecursion (IsSeatOf s scene) seats → AllByRecursion IsReadySeat seats
+ready_seats : (s : Setup) (scene : Scene) (seats : List Seat) → ((who : Device) → scene.asked who + 1 < 2 ^ 24) → AllByRecursion (IsSeatOf s scene) seats → AllByRecursion IsReadySeat seats
 ready_seats s scene [] few all = tt
 ready_seats s scene (x ∷ xs) few all = (
   record {
-    asked = subst (λ (n : ℕ). n + 1 < 2 ^ 32) (sym all.0.asked) (few x.device);
+    asked = subst (λ (n : ℕ). n + 1 < 2 ^ 24) (sym all.0.asked) (few x.device);
     signer = some_signer s scene x.device x.signer x.client all.0.holds;
     ready = ready_client s scene x.device x.signer x.client all.0.holds;
   },
   ready_seats s scene xs few all.1,
 )
 
-ready_rogues : (s : Setup) (scene : Scene) (rogues : List Rogue) → ((m : Device) → scene.asked m + 1 < 2 ^ 32) → AllByRecursion (IsRogueOf s scene) rogues → AllByRecursion IsReadyRogue rogues
+ready_rogues : (s : Setup) (scene : Scene) (rogues : List Rogue) → ((who : Device) → scene.asked who + 1 < 2 ^ 24) → AllByRecursion (IsRogueOf s scene) rogues → AllByRecursion IsReadyRogue rogues
 ready_rogues s scene [] few all = tt
 ready_rogues s scene (x ∷ xs) few all = (
   record {
-    asked = subst (λ (n : ℕ). n + 1 < 2 ^ 32) (sym all.0.asked) (few x.device);
+    asked = subst (λ (n : ℕ). n + 1 < 2 ^ 24) (sym all.0.asked) (few x.device);
     leaves = subst (λ (k : LmsPrivate). AreDrawn k x.signer.leaves.next x.signer.leaves) (sym all.0.signer.key)
         (subst (λ (n : ℕ). AreDrawn (s.private x.device) n x.signer.leaves) (sym all.0.signer.leaves.next) all.0.signer.leaves);
   },
@@ -96,7 +113,7 @@ one_document s scene genesis (x ∷ xs) same all = (go x.signer x.client all.0.h
     go signer (Some c) holds = ap (λ (o : Opening). o.genesis) holds.opening ∙ sym same
 
 -- from whom a command names
-pub can_perform : (script : List PlayLine) (scene : Scene) (state : PlayState) (c : Command) → StandsFor script scene state → ((m : Device) → scene.asked m + 1 < 2 ^ 32) → IsCast state c → text_size c ≤ MAX_SCRIPT → CanPerform state c
+pub can_perform : (script : List PlayLine) (scene : Scene) (state : PlayState) (c : Command) → StandsFor script scene state → ((who : Device) → scene.asked who + 1 < 2 ^ 24) → IsCast state c → text_size c ≤ MAX_SCRIPT → CanPerform state c
 can_perform script scene state c stands few named short = record {
   named = named;
   seats = ready_seats (setup_of script) scene state.seats.items few stands.seats;
@@ -111,30 +128,30 @@ devices_there : (script : List PlayLine) (scene : Scene) (state : PlayState) →
 unfolding setup_of
 devices_there script scene state stands = sym stands.seated
 
-seated_there : (script : List PlayLine) (scene : Scene) (state : PlayState) (i n : ℕ) → StandsFor script scene state → is_client (declarations (take i script)) n ≡ true → Contains (seated state.seats.items) (first_device n)
-seated_there script scene state i n stands is = subst (λ (ds : List Device). Contains ds (first_device n)) (devices_there script scene state stands) (client_named script i n is)
+seated_there : (script : List PlayLine) (scene : Scene) (state : PlayState) (i : ℕ) (who : Device) → StandsFor script scene state → is_client (declarations (take i script)) who ≡ true → Contains (seated state.seats.items) who
+seated_there script scene state i who stands is = subst (λ (ds : List Device). Contains ds who) (devices_there script scene state stands) (client_named script i who is)
 
 pub are_named : (script : List PlayLine) (scene : Scene) (state : PlayState) (i : ℕ) (c : Command) → StandsFor script scene state → may_follow (declarations (take i script)) c ≡ true
     → ((declarations (take i script)).has_admin ≡ true → has_admin script ≡ true) → IsCast state c
-are_named script scene state i (commands.Edit e) stands may founded = seated_there script scene state i e.member stands (and_parts (declarations (take i script)).has_admin (is_client (declarations (take i script)) e.member) may).1
+are_named script scene state i (commands.Edit e) stands may founded = seated_there script scene state i e.device stands (and_parts (declarations (take i script)).has_admin (is_client (declarations (take i script)) e.device) may).1
 are_named script scene state i (commands.Change e) stands may founded =
     let d = declarations (take i script) in
     let p = and_parts d.has_admin (names_performers d (commands.Change e)) may in
-    seated_there script scene state i e.member stands (and_parts (is_client d e.member) _ p.1).0
-are_named script scene state i (commands.Discard m) stands may founded = seated_there script scene state i m stands (and_parts (declarations (take i script)).has_admin (is_client (declarations (take i script)) m) may).1
-are_named script scene state i (commands.Submit m) stands may founded = seated_there script scene state i m stands (and_parts (declarations (take i script)).has_admin (is_client (declarations (take i script)) m) may).1
-are_named script scene state i (commands.Give g) stands may founded = seated_there script scene state i g.member stands (and_parts (declarations (take i script)).has_admin (is_client (declarations (take i script)) g.member) may).1
-are_named script scene state i (commands.Restart r) stands may founded = seated_there script scene state i r.member stands (and_parts (declarations (take i script)).has_admin (is_client (declarations (take i script)) r.member) may).1
+    seated_there script scene state i e.device stands (and_parts (is_client d e.device) _ p.1).0
+are_named script scene state i (commands.Discard who) stands may founded = seated_there script scene state i who stands (and_parts (declarations (take i script)).has_admin (is_client (declarations (take i script)) who) may).1
+are_named script scene state i (commands.Submit who) stands may founded = seated_there script scene state i who stands (and_parts (declarations (take i script)).has_admin (is_client (declarations (take i script)) who) may).1
+are_named script scene state i (commands.Give g) stands may founded = seated_there script scene state i g.device stands (and_parts (declarations (take i script)).has_admin (is_client (declarations (take i script)) g.device) may).1
+are_named script scene state i (commands.Restart r) stands may founded = seated_there script scene state i r.device stands (and_parts (declarations (take i script)).has_admin (is_client (declarations (take i script)) r.device) may).1
 are_named script scene state i (commands.Join j) stands may founded =
     let d = declarations (take i script) in
     let p = and_parts d.has_admin (names_performers d (commands.Join j)) may in (
-      subst (λ (ds : List Device). Contains ds (first_device j.member)) (devices_there script scene state stands) (joiner_named script i j.member p.1),
+      subst (λ (ds : List Device). Contains ds j.device) (devices_there script scene state stands) (joiner_named script i j.device p.1),
       subst IsGenesis (sym stands.genesis) (stands.declared.genesis (founded p.0)),
     )
-are_named script scene state i (commands.Show m) stands may founded = seated_there script scene state i m stands (and_parts (declarations (take i script)).has_admin (is_client (declarations (take i script)) m) may).1
-are_named script scene state i (commands.Members m) stands may founded = seated_there script scene state i m stands (and_parts (declarations (take i script)).has_admin (is_client (declarations (take i script)) m) may).1
-are_named script scene state i (commands.Hash m) stands may founded = seated_there script scene state i m stands (and_parts (declarations (take i script)).has_admin (is_client (declarations (take i script)) m) may).1
-are_named script scene state i (commands.Journal m) stands may founded = seated_there script scene state i m stands (and_parts (declarations (take i script)).has_admin (is_client (declarations (take i script)) m) may).1
+are_named script scene state i (commands.Show who) stands may founded = seated_there script scene state i who stands (and_parts (declarations (take i script)).has_admin (is_client (declarations (take i script)) who) may).1
+are_named script scene state i (commands.Members who) stands may founded = seated_there script scene state i who stands (and_parts (declarations (take i script)).has_admin (is_client (declarations (take i script)) who) may).1
+are_named script scene state i (commands.Hash who) stands may founded = seated_there script scene state i who stands (and_parts (declarations (take i script)).has_admin (is_client (declarations (take i script)) who) may).1
+are_named script scene state i (commands.Journal who) stands may founded = seated_there script scene state i who stands (and_parts (declarations (take i script)).has_admin (is_client (declarations (take i script)) who) may).1
 are_named script scene state i (commands.Compare p) stands may founded =
     let d = declarations (take i script) in
     let q = and_parts d.has_admin (names_performers d (commands.Compare p)) may in
@@ -159,7 +176,7 @@ next_can script state i l short low is founded stands =
     let line = line_at text script i l reads low is in
     let count = script_count text script reads in
     can_perform script (scene_at script i) state l.command stands
-    (λ m. omega (arith, asked_at script i m, low, count, within))
+    (λ who. omega (arith, asked_at text script i who reads, low, count, within))
     (are_named script (scene_at script i) state i l.command stands line.may founded)
     (size_at (length text) script i l (script_sizes text script reads) low is within)
   where

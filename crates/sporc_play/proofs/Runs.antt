@@ -14,7 +14,7 @@ use Rattle.sporc_client.proofs.Calls.{after_append, run_append}
 use Rattle.sporc_member.specs.declared.device.Device.{Device}
 use Rattle.sporc_script.specs.declared.command.Command.{Command}
 use Rattle.sporc_script.specs.declared.play_line.PlayLine.{PlayLine}
-use Rattle.sporc_play.specs.Cast.{first_ring, has_admin, openers_by, setup_of}
+use Rattle.sporc_play.specs.Cast.{first_ring, founders_of, has_admin, openers_by, setup_of}
 use Rattle.sporc_play.specs.Derived.{first_key}
 use Rattle.sporc_play.specs.Moves.{IsOneRun, moment, moves_from, moves_of}
 use Rattle.sporc_play.specs.Scene.{Effect, Scene, effect_of, after, after_each, opening, opening_moves, openings}
@@ -114,15 +114,15 @@ first_keys epoch =
     go true = bytes_sha _
     go false = subst (λ (o : Option (List ℕ)). IfSome o AreBytes) (sym (get-empty nat_cmp epoch)) tt
 
-openings_bytes : (ns : List Device) → AllByRecursion IsByteMove (map (λ (n : Device). Open n first_ring) ns)
+openings_bytes : (ds : List Device) → AllByRecursion IsByteMove (map (λ (who : Device). Open who first_ring) ds)
 openings_bytes [] = tt
-openings_bytes (n ∷ ns) = (first_keys, openings_bytes ns)
+openings_bytes (who ∷ ds) = (first_keys, openings_bytes ds)
 
 first_bytes : (cast : List PlayLine) → AllByRecursion IsByteMove (opening_moves cast)
 first_bytes cast = go (has_admin cast)
   where
-    go : (b : Bool) → AllByRecursion IsByteMove (if b then openings cast else [])
-    go true = openings_bytes (openers_by cast)
+    go : (b : Bool) → AllByRecursion IsByteMove (if b then openings (founders_of cast) cast else [])
+    go true = openings_bytes (openers_by (founders_of cast) cast)
     go false = tt
 
 -- a play whose founders' moves are a run, and whose commands may be

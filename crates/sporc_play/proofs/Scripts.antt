@@ -1,22 +1,23 @@
 -- What the grammar gives of a script: who is declared, and whom its commands name.
-use Rattle.std.proofs.Common.{◌≡◌, ◌≢◌, ℕ, zero, suc, ◌+◌, ◌<◌, Bool, true, false, eq-eqb, List, [], ◌∷◌, ◌++◌, length, take, get_or, fold, map, refl, sym, ap, ap₂, ◌∙◌, subst, arith, append_assoc, append-nil, Option, None, Some, inl, inr}
-use Rattle.std.specs.Prelude.{◌==◌, ◌&&◌, ◌||◌, ◌⊎◌, not, nat_lt, Contains, filter_map}
-use Rattle.std.specs.List.{cons_option}
+use Rattle.std.proofs.Common.{◌≡◌, ◌≢◌, ℕ, zero, suc, ◌+◌, ◌<◌, Bool, true, false, eq-eqb, List, [], ◌∷◌, ◌++◌, length, take, get_or, fold, refl, sym, ap, ◌∙◌, subst, arith, append_assoc, append-nil, Option, None, Some, inl, inr}
+use Rattle.std.specs.Prelude.{◌==◌, ◌&&◌, ◌||◌, not, nat_lt, Contains, filter_map}
+use Rattle.std.specs.List.{AllByRecursion, cons_option, list_any}
 use Rattle.std.proofs.lemmas.Bool.{and_parts, eqb-true}
-use Rattle.std.proofs.lemmas.List.{map-append}
 use Rattle.std.proofs.lemmas.List.Elements.{filter_map-append}
 use Rattle.sporc_member.specs.declared.device.Device.{Device}
-use Rattle.sporc_member.specs.Device.{first_device}
+use Rattle.sporc_member.specs.Device.{first_device, same_device}
+use Rattle.sporc_member.proofs.SameDevice.{one_same, same_one}
 use Rattle.sporc_script.specs.Commands.{InRange}
 use Rattle.sporc_script.specs.Declarations.{Declared, declared_after, declared_by as declarations, is_among, is_client, is_declared, is_rogue, is_joiner, may_declare, may_follow, none_declared}
 use Rattle.sporc_script.specs.Grammar.{IsNext, IsPlayScript, play_line}
 use Rattle.sporc_script.specs.Lines.{ReadsAs, lines_of}
+use Rattle.sporc_script.specs.Spelling.{FurtherInRange}
 use Rattle.sporc_script.specs.declared.command.Command.{Command}
 use Rattle.sporc_script.specs.declared.command.Command.TheVariants as commands
 use Rattle.sporc_script.specs.declared.play_line.PlayLine.{PlayLine}
 use Rattle.sporc_play.proofs.Distinct.{AreDistinct, IsNotIn}
 use Rattle.sporc_play.specs.Cast.{declared_member, device_by, rogue_by}
-use Rattle.sporc_play.proofs.Places.{among_cases, among_front, among_here, among_more, not_in_append, not_in_contains}
+use Rattle.sporc_play.proofs.Places.{among_cases, among_front, among_here, among_more, not_in_append}
 
 -- ---- each line may follow those before it
 
@@ -51,94 +52,95 @@ line_at text script i l is low at = line_from [] script i l (script_follows text
 
 -- ---- what is declared, as lists that are read off the lines
 
+-- of their commands
+abbrev read_off : {A : Type 0} → (Command → Option A) → List PlayLine → List A
+read_off read lines = filter_map (λ (l : PlayLine). read l.command) lines
+
+pub read_push : {A : Type 0} (read : Command → Option A) (before : List PlayLine) (l : PlayLine)
+    → filter_map (λ (l : PlayLine). read l.command) (before ++ l ∷ []) ≡ filter_map (λ (l : PlayLine). read l.command) before ++ cons_option (read l.command) []
+read_push read before l = filter_map-append (λ (l : PlayLine). read l.command) before (l ∷ [])
+
 abbrev pub numbers : List PlayLine → List ℕ
 numbers lines = filter_map (λ (l : PlayLine). declared_member l.command) lines
 
--- those who have a client or may get one, and rogues
-abbrev member_by : Command → Option ℕ
-member_by (commands.Member m) = Some m.member
-member_by (commands.Joiner m) = Some m
-member_by c = None
-
-abbrev members : List PlayLine → List ℕ
-members lines = filter_map (λ (l : PlayLine). member_by l.command) lines
+-- the devices that have a client or may get one
+abbrev devices : List PlayLine → List Device
+devices lines = read_off device_by lines
 
 abbrev rogue_number : Command → Option ℕ
 rogue_number (commands.Rogue m) = Some m.member
 rogue_number c = None
 
 abbrev rogues : List PlayLine → List ℕ
-rogues lines = filter_map (λ (l : PlayLine). rogue_number l.command) lines
+rogues lines = read_off rogue_number lines
 
-after_numbers : (d : Declared) (c : Command) → (declared_after d c).numbers ≡ d.numbers ++ cons_option (declared_member c) []
-after_numbers d (commands.Member m) = refl
-after_numbers d (commands.Rogue m) = refl
-after_numbers d (commands.Joiner m) = refl
-after_numbers d c = sym (append-nil d.numbers)
+option_append : {A : Type 0} (o : Option A) (xs : List A) → cons_option o [] ++ xs ≡ cons_option o xs
+option_append None xs = refl
+option_append (Some x) xs = refl
 
-after_rogues : (d : Declared) (c : Command) → (declared_after d c).rogues ≡ d.rogues ++ cons_option (rogue_number c) []
-after_rogues d (commands.Rogue m) = refl
-after_rogues d c = sym (append-nil d.rogues)
+-- a list that each line adds to
+fold_read : {A : Type 0} (part : Declared → List A) (read : Command → Option A) → ((d : Declared) (c : Command) → part (declared_after d c) ≡ part d ++ cons_option (read c) [])
+    → (d : Declared) (lines : List PlayLine) → part (fold (λ (d : Declared) (l : PlayLine). declared_after d l.command) d lines) ≡ part d ++ read_off read lines
+fold_read part read adds d [] = sym (append-nil (part d))
+fold_read {A = A} part read adds d (l ∷ ls) =
+    fold_read part read adds (declared_after d l.command) ls ∙ ap (λ (xs : List A). xs ++ read_off read ls) (adds d l.command)
+    ∙ append_assoc (part d) (cons_option (read l.command) []) (read_off read ls) ∙ ap (λ (xs : List A). part d ++ xs) (option_append (read l.command) (read_off read ls))
 
-option_append : (o : Option ℕ) (ns : List ℕ) → cons_option o [] ++ ns ≡ cons_option o ns
-option_append None ns = refl
-option_append (Some n) ns = refl
+adds_number : (d : Declared) (c : Command) → (declared_after d c).numbers ≡ d.numbers ++ cons_option (declared_member c) []
+adds_number d (commands.Member m) = refl
+adds_number d (commands.Rogue m) = refl
+adds_number d (commands.Joiner m) = refl
+adds_number d c = sym (append-nil d.numbers)
 
-fold_numbers : (d : Declared) (lines : List PlayLine) → (fold (λ (d : Declared) (l : PlayLine). declared_after d l.command) d lines).numbers ≡ d.numbers ++ numbers lines
-fold_numbers d [] = sym (append-nil d.numbers)
-fold_numbers d (l ∷ ls) =
-    fold_numbers (declared_after d l.command) ls ∙ ap (λ (ns : List ℕ). ns ++ numbers ls) (after_numbers d l.command)
-    ∙ append_assoc d.numbers (cons_option (declared_member l.command) []) (numbers ls) ∙ ap (λ (ns : List ℕ). d.numbers ++ ns) (option_append (declared_member l.command) (numbers ls))
+adds_client : (d : Declared) (c : Command) → (declared_after d c).clients ≡ d.clients ++ cons_option (device_by c) []
+adds_client d (commands.Member m) = refl
+adds_client d (commands.Joiner m) = refl
+adds_client d (commands.Device x) = refl
+adds_client d c = sym (append-nil d.clients)
 
-fold_rogues : (d : Declared) (lines : List PlayLine) → (fold (λ (d : Declared) (l : PlayLine). declared_after d l.command) d lines).rogues ≡ d.rogues ++ rogues lines
-fold_rogues d [] = sym (append-nil d.rogues)
-fold_rogues d (l ∷ ls) =
-    fold_rogues (declared_after d l.command) ls ∙ ap (λ (ns : List ℕ). ns ++ rogues ls) (after_rogues d l.command)
-    ∙ append_assoc d.rogues (cons_option (rogue_number l.command) []) (rogues ls) ∙ ap (λ (ns : List ℕ). d.rogues ++ ns) (option_append (rogue_number l.command) (rogues ls))
+adds_rogue : (d : Declared) (c : Command) → (declared_after d c).rogues ≡ d.rogues ++ cons_option (rogue_number c) []
+adds_rogue d (commands.Rogue m) = refl
+adds_rogue d c = sym (append-nil d.rogues)
 
 pub numbers_are : (lines : List PlayLine) → (declarations lines).numbers ≡ filter_map (λ (l : PlayLine). declared_member l.command) lines
-numbers_are lines = fold_numbers none_declared lines
+numbers_are lines = fold_read (λ (d : Declared). d.numbers) declared_member adds_number none_declared lines
+
+clients_are : (lines : List PlayLine) → (declarations lines).clients ≡ devices lines
+clients_are lines = fold_read (λ (d : Declared). d.clients) device_by adds_client none_declared lines
 
 rogues_are : (lines : List PlayLine) → (declarations lines).rogues ≡ rogues lines
-rogues_are lines = fold_rogues none_declared lines
+rogues_are lines = fold_read (λ (d : Declared). d.rogues) rogue_number adds_rogue none_declared lines
 
-abbrev joiner_by : Command → Option ℕ
-joiner_by (commands.Joiner m) = Some m
-joiner_by c = None
+-- ---- what a test of a list says
 
-abbrev joiners : List PlayLine → List ℕ
-joiners lines = filter_map (λ (l : PlayLine). joiner_by l.command) lines
+-- a test of whether two are one
+record IsTest {A : Type 0} (same : A → A → Bool) : Type 0 where
+  one : (a b : A) → same a b ≡ true → a ≡ b
+  is : (a b : A) → a ≡ b → same a b ≡ true
 
-after_joiners : (d : Declared) (c : Command) → (declared_after d c).joiners ≡ d.joiners ++ cons_option (joiner_by c) []
-after_joiners d (commands.Joiner m) = refl
-after_joiners d c = sym (append-nil d.joiners)
+of_numbers : IsTest (λ (a b : ℕ). a == b)
+of_numbers = record { one = eqb-true; is = eq-eqb }
 
-fold_joiners : (d : Declared) (lines : List PlayLine) → (fold (λ (d : Declared) (l : PlayLine). declared_after d l.command) d lines).joiners ≡ d.joiners ++ joiners lines
-fold_joiners d [] = sym (append-nil d.joiners)
-fold_joiners d (l ∷ ls) =
-    fold_joiners (declared_after d l.command) ls ∙ ap (λ (ns : List ℕ). ns ++ joiners ls) (after_joiners d l.command)
-    ∙ append_assoc d.joiners (cons_option (joiner_by l.command) []) (joiners ls) ∙ ap (λ (ns : List ℕ). d.joiners ++ ns) (option_append (joiner_by l.command) (joiners ls))
+of_devices : IsTest same_device
+of_devices = record { one = same_one; is = λ a b same. subst (λ (d : Device). same_device a d ≡ true) same (one_same a) }
 
-joiners_are : (lines : List PlayLine) → (declarations lines).joiners ≡ joiners lines
-joiners_are lines = fold_joiners none_declared lines
-
--- ---- members and rogues apart
-
-not_among : (ns : List ℕ) (n : ℕ) → is_among ns n ≡ false → IsNotIn n ns
-not_among [] n is = tt
-not_among (m ∷ ms) n is = go (m == n) refl is (not_among ms n)
+among : {A : Type 0} (same : A → A → Bool) → IsTest same → (xs : List A) (x : A) → list_any (λ y. same y x) xs ≡ true → Contains xs x
+among same test [] x is = absurd cc
+among {A = A} same test (y ∷ ys) x is = go (same y x) refl is (among same test ys x)
   where
-    go : (same : Bool) → (m == n) ≡ same → (same || is_among ms n) ≡ false → (is_among ms n ≡ false → IsNotIn n ms) → (m ≢ n) × IsNotIn n ms
-    go true at is rest = absurd cc
-    go false at is rest = ((λ same. let no : true ≡ false = sym (eq-eqb m n same) ∙ at in cc), rest is)
-
-among : (ns : List ℕ) (n : ℕ) → is_among ns n ≡ true → Contains ns n
-among [] n is = absurd cc
-among (m ∷ ms) n is = go (m == n) refl is (among ms n)
-  where
-    go : (same : Bool) → (m == n) ≡ same → (same || is_among ms n) ≡ true → (is_among ms n ≡ true → Contains ms n) → Contains (m ∷ ms) n
-    go true at is rest = (0, omega arith, eqb-true m n at)
+    go : (b : Bool) → same y x ≡ b → (b || list_any (λ z. same z x) ys) ≡ true → (list_any (λ z. same z x) ys ≡ true → Contains ys x) → Contains (y ∷ ys) x
+    go true at is rest = (0, omega arith, test.one y x at)
     go false at is rest = let r = rest is in (suc r.0, omega (arith, r.1), r.2)
+
+not_among : {A : Type 0} (same : A → A → Bool) → IsTest same → (xs : List A) (x : A) → list_any (λ y. same y x) xs ≡ false → IsNotIn x xs
+not_among same test [] x is = tt
+not_among {A = A} same test (y ∷ ys) x is = go (same y x) refl is (not_among same test ys x)
+  where
+    go : (b : Bool) → same y x ≡ b → (b || list_any (λ z. same z x) ys) ≡ false → (list_any (λ z. same z x) ys ≡ false → IsNotIn x ys) → (y ≢ x) × IsNotIn x ys
+    go true at is rest = absurd cc
+    go false at is rest = ((λ one. let no : true ≡ false = sym (test.is y x one) ∙ at in cc), rest is)
+
+-- ---- numbers apart
 
 is_not : (b : Bool) → not b ≡ true → b ≡ false
 is_not true is = absurd cc
@@ -150,7 +152,7 @@ new_number before n may =
     let d = declarations before in
     let a = and_parts (not d.begun) (nat_lt (length d.numbers) _ && not (is_declared d n)) may in
     let b = and_parts (nat_lt (length d.numbers) _) (not (is_declared d n)) a.1 in
-    subst (IsNotIn n) (numbers_are before) (not_among d.numbers n (is_not (is_declared d n) b.1))
+    subst (IsNotIn n) (numbers_are before) (not_among (λ (a b : ℕ). a == b) of_numbers d.numbers n (is_not (is_declared d n) b.1))
 
 new_by : (before : List PlayLine) (c : Command) (n : ℕ) → may_follow (declarations before) c ≡ true → declared_member c ≡ Some n → IsNotIn n (numbers before)
 new_by before (commands.Member m) n may is = let same : m.member ≡ n = cc in subst (λ (k : ℕ). IsNotIn k (numbers before)) same (new_number before m.member may)
@@ -158,16 +160,13 @@ new_by before (commands.Rogue m) n may is = let same : m.member ≡ n = cc in su
 new_by before (commands.Joiner m) n may is = let same : m ≡ n = cc in subst (λ (k : ℕ). IsNotIn k (numbers before)) same (new_number before m may)
 new_by before c n may is = absurd cc
 
-not_in_both : (n : ℕ) (xs ys : List ℕ) → IsNotIn n xs → IsNotIn n ys → IsNotIn n (xs ++ ys)
+not_in_both : {A : Type 0} (n : A) (xs ys : List A) → IsNotIn n xs → IsNotIn n ys → IsNotIn n (xs ++ ys)
 not_in_both n [] ys a b = b
 not_in_both n (x ∷ xs) ys a b = (a.0, not_in_both n xs ys a.1 b)
 
-apart_push : (ns : List ℕ) (n : ℕ) → AreDistinct ns → IsNotIn n ns → AreDistinct (ns ++ n ∷ [])
+apart_push : {A : Type 0} (ns : List A) (n : A) → AreDistinct ns → IsNotIn n ns → AreDistinct (ns ++ n ∷ [])
 apart_push [] n apart new = (tt, tt)
 apart_push (m ∷ ms) n apart new = (not_in_both m ms (n ∷ []) apart.0 ((λ same. new.0 (sym same)), tt), apart_push ms n apart.1 new.1)
-
-pub numbers_push : (before : List PlayLine) (l : PlayLine) → numbers (before ++ l ∷ []) ≡ numbers before ++ cons_option (declared_member l.command) []
-numbers_push before l = filter_map-append (λ (l : PlayLine). declared_member l.command) before (l ∷ [])
 
 apart_more : (before : List PlayLine) (l : PlayLine) (o : Option ℕ) → declared_member l.command ≡ o → may_follow (declarations before) l.command ≡ true → AreDistinct (numbers before) → AreDistinct (numbers before ++ cons_option o [])
 apart_more before l None is may apart = subst (λ (ns : List ℕ). AreDistinct ns) (sym (append-nil (numbers before))) apart
@@ -177,166 +176,143 @@ numbers_apart : (before script : List PlayLine) → Follows before script → Ar
 numbers_apart before [] all apart = subst (λ (ls : List PlayLine). AreDistinct (numbers ls)) (sym (append-nil before)) apart
 numbers_apart before (l ∷ ls) all apart =
     subst (λ (xs : List PlayLine). AreDistinct (numbers xs)) (append_assoc before (l ∷ []) ls)
-    (numbers_apart (before ++ l ∷ []) ls all.2 (subst (λ (ns : List ℕ). AreDistinct ns) (sym (numbers_push before l)) (apart_more before l (declared_member l.command) refl all.0 apart)))
+    (numbers_apart (before ++ l ∷ []) ls all.2 (subst (λ (ns : List ℕ). AreDistinct ns) (sym (read_push declared_member before l)) (apart_more before l (declared_member l.command) refl all.0 apart)))
 
 pub script_numbers_apart : (text : List ℕ) (script : List PlayLine) → IsPlayScript text script → AreDistinct (filter_map (λ (l : PlayLine). declared_member l.command) script)
 script_numbers_apart text script is = numbers_apart [] script (script_follows text script is) tt
 
--- each that is declared is a member or a rogue
-record Splits (c : Command) : Type 0 where
-  parts : ((member_by c ≡ declared_member c) × (rogue_number c ≡ None)) ⊎ ((member_by c ≡ None) × (rogue_number c ≡ declared_member c))
+-- ---- devices apart
 
-splits : (c : Command) → Splits c
-splits (commands.Rogue m) = record { parts = inr (refl, refl) }
-splits c = record { parts = inl (refl, refl) }
+abbrev AreInRange : List PlayLine → Type 0
+AreInRange lines = AllByRecursion (λ (l : PlayLine). InRange l.command) lines
 
-not_part : (n : ℕ) (lines : List PlayLine) → IsNotIn n (numbers lines) → IsNotIn n (members lines) × IsNotIn n (rogues lines)
-not_part n [] apart = (tt, tt)
-not_part n (l ∷ ls) apart = elim (splits l.command).parts [
-  | inl p ↦ let r = rest (declared_member l.command) apart in let q = not_part n ls r.1 in
-      (subst (λ (o : Option ℕ). IsNotIn n (cons_option o (members ls))) (sym p.0) (first (declared_member l.command) (members ls) apart q.0), subst (λ (o : Option ℕ). IsNotIn n (cons_option o (rogues ls))) (sym p.1) q.1)
-  | inr p ↦ let r = rest (declared_member l.command) apart in let q = not_part n ls r.1 in
-      (subst (λ (o : Option ℕ). IsNotIn n (cons_option o (members ls))) (sym p.0) q.0, subst (λ (o : Option ℕ). IsNotIn n (cons_option o (rogues ls))) (sym p.1) (first (declared_member l.command) (rogues ls) apart q.1))
-]
+in_range_push : (before : List PlayLine) (l : PlayLine) → AreInRange before → InRange l.command → AreInRange (before ++ l ∷ [])
+in_range_push [] l all is = (is, tt)
+in_range_push (x ∷ xs) l all is = (all.0, in_range_push xs l all.1 is)
+
+in_range : (before lines : List PlayLine) → Follows before lines → AreInRange lines
+in_range before [] all = tt
+in_range before (l ∷ ls) all = (all.1, in_range (before ++ l ∷ []) ls all.2)
+
+-- a further device is no first one
+no_first : (x : Device) (n : ℕ) → FurtherInRange x → x ≢ first_device n
+no_first x n fits same = omega (arith, ap (λ (d : Device). d.number) same, fits.1.0)
+
+-- one that is not declared has no device
+no_device : (n : ℕ) (lines : List PlayLine) → AreInRange lines → IsNotIn n (numbers lines) → IsNotIn (first_device n) (devices lines)
+no_device n [] fits apart = tt
+no_device n (l ∷ ls) fits apart = go l.command fits.0 apart (no_device n ls fits.1)
   where
-    rest : (o : Option ℕ) → IsNotIn n (cons_option o (numbers ls)) → Unit {0} × IsNotIn n (numbers ls)
-    rest None apart = (tt, apart)
-    rest (Some m) apart = (tt, apart.1)
+    go : (c : Command) → InRange c → IsNotIn n (cons_option (declared_member c) (numbers ls)) → (IsNotIn n (numbers ls) → IsNotIn (first_device n) (devices ls)) → IsNotIn (first_device n) (cons_option (device_by c) (devices ls))
+    go (commands.Member m) is apart rest = ((λ same. apart.0 (ap (λ (d : Device). d.member) same)), rest apart.1)
+    go (commands.Rogue m) is apart rest = rest apart.1
+    go (commands.Joiner m) is apart rest = ((λ same. apart.0 (ap (λ (d : Device). d.member) same)), rest apart.1)
+    go (commands.Device x) is apart rest = (no_first x n is, rest apart)
+    go c is apart rest = rest apart
 
-    first : (o : Option ℕ) (ns : List ℕ) → IsNotIn n (cons_option o (numbers ls)) → IsNotIn n ns → IsNotIn n (cons_option o ns)
-    first None ns apart is = is
-    first (Some m) ns apart is = (apart.0, is)
+no_rogue : (n : ℕ) (lines : List PlayLine) → IsNotIn n (numbers lines) → IsNotIn (first_device n) (read_off rogue_by lines)
+no_rogue n [] apart = tt
+no_rogue n (l ∷ ls) apart = go l.command apart (no_rogue n ls)
+  where
+    go : (c : Command) → IsNotIn n (cons_option (declared_member c) (numbers ls)) → (IsNotIn n (numbers ls) → IsNotIn (first_device n) (read_off rogue_by ls)) → IsNotIn (first_device n) (cons_option (rogue_by c) (read_off rogue_by ls))
+    go (commands.Member m) apart rest = rest apart.1
+    go (commands.Rogue m) apart rest = ((λ same. apart.0 (ap (λ (d : Device). d.member) same)), rest apart.1)
+    go (commands.Joiner m) apart rest = rest apart.1
+    go c apart rest = rest apart
 
-apart_insert : (xs : List ℕ) (n : ℕ) (ys : List ℕ) → AreDistinct (xs ++ ys) → IsNotIn n xs → IsNotIn n ys → AreDistinct (xs ++ n ∷ ys)
+-- a further device is no rogue's
+further_no_rogue : (x : Device) (lines : List PlayLine) → FurtherInRange x → IsNotIn x (read_off rogue_by lines)
+further_no_rogue x [] fits = tt
+further_no_rogue x (l ∷ ls) fits = go l.command (further_no_rogue x ls fits)
+  where
+    go : (c : Command) → IsNotIn x (read_off rogue_by ls) → IsNotIn x (cons_option (rogue_by c) (read_off rogue_by ls))
+    go (commands.Rogue m) rest = ((λ same. no_first x m.member fits (sym same)), rest)
+    go c rest = rest
+
+-- a device that a line declares is none of those before
+devices_more : (before : List PlayLine) (c : Command) → may_follow (declarations before) c ≡ true → AreInRange before → AreDistinct (devices before) → AreDistinct (devices before ++ cons_option (device_by c) [])
+devices_more before (commands.Member m) may fits apart = apart_push (devices before) (first_device m.member) apart (no_device m.member before fits (new_number before m.member may))
+devices_more before (commands.Joiner m) may fits apart = apart_push (devices before) (first_device m) apart (no_device m before fits (new_number before m may))
+devices_more before (commands.Device x) may fits apart =
+    let d = declarations before in
+    let a = and_parts (not d.begun) (is_client d (first_device x.member) && not (is_client d x)) may in
+    let b = and_parts (is_client d (first_device x.member)) (not (is_client d x)) a.1 in
+    apart_push (devices before) x apart (subst (IsNotIn x) (clients_are before) (not_among same_device of_devices d.clients x (is_not (is_client d x) b.1)))
+devices_more before c may fits apart = subst (λ (ds : List Device). AreDistinct ds) (sym (append-nil (devices before))) apart
+
+devices_apart : (before lines : List PlayLine) → Follows before lines → AreInRange before → AreDistinct (devices before) → AreDistinct (devices (before ++ lines))
+devices_apart before [] all fits apart = subst (λ (ls : List PlayLine). AreDistinct (devices ls)) (sym (append-nil before)) apart
+devices_apart before (l ∷ ls) all fits apart =
+    subst (λ (xs : List PlayLine). AreDistinct (devices xs)) (append_assoc before (l ∷ []) ls)
+    (devices_apart (before ++ l ∷ []) ls all.2 (in_range_push before l fits all.1) (subst (λ (ds : List Device). AreDistinct ds) (sym (read_push device_by before l)) (devices_more before l.command all.0 fits apart)))
+
+apart_insert : {A : Type 0} (xs : List A) (n : A) (ys : List A) → AreDistinct (xs ++ ys) → IsNotIn n xs → IsNotIn n ys → AreDistinct (xs ++ n ∷ ys)
 apart_insert [] n ys apart a b = (b, apart)
 apart_insert (x ∷ xs) n ys apart a b =
     let p = not_in_append x xs ys apart.0 in
     (not_in_both x xs (n ∷ ys) p.0 ((λ same. a.0 (sym same)), p.1), apart_insert xs n ys apart.1 a.1 b)
 
-parts_apart : (lines : List PlayLine) → AreDistinct (numbers lines) → AreDistinct (members lines ++ rogues lines)
-parts_apart [] apart = tt
-parts_apart (l ∷ ls) apart = elim (splits l.command).parts [
-  | inl p ↦ subst (λ (o : Option ℕ). AreDistinct (cons_option o (members ls) ++ cons_option (rogue_number l.command) (rogues ls))) (sym p.0)
-      (subst (λ (o : Option ℕ). AreDistinct (cons_option (declared_member l.command) (members ls) ++ cons_option o (rogues ls))) (sym p.1) (as_member (declared_member l.command) apart (parts_apart ls)))
-  | inr p ↦ subst (λ (o : Option ℕ). AreDistinct (cons_option o (members ls) ++ cons_option (rogue_number l.command) (rogues ls))) (sym p.0)
-      (subst (λ (o : Option ℕ). AreDistinct (members ls ++ cons_option o (rogues ls))) (sym p.1) (as_rogue (declared_member l.command) apart (parts_apart ls)))
-]
+-- those of clients and those of rogues
+all_apart : (lines : List PlayLine) → AreInRange lines → AreDistinct (numbers lines) → AreDistinct (devices lines) → AreDistinct (devices lines ++ read_off rogue_by lines)
+all_apart [] fits apart clients = tt
+all_apart (l ∷ ls) fits apart clients = go l.command fits.0 apart clients (all_apart ls fits.1)
   where
-    as_member : (o : Option ℕ) → AreDistinct (cons_option o (numbers ls)) → (AreDistinct (numbers ls) → AreDistinct (members ls ++ rogues ls)) → AreDistinct (cons_option o (members ls) ++ rogues ls)
-    as_member None apart rest = rest apart
-    as_member (Some n) apart rest = let q = not_part n ls apart.0 in (not_in_both n (members ls) (rogues ls) q.0 q.1, rest apart.1)
-
-    as_rogue : (o : Option ℕ) → AreDistinct (cons_option o (numbers ls)) → (AreDistinct (numbers ls) → AreDistinct (members ls ++ rogues ls)) → AreDistinct (members ls ++ cons_option o (rogues ls))
-    as_rogue None apart rest = rest apart
-    as_rogue (Some n) apart rest = let q = not_part n ls apart.0 in apart_insert (members ls) n (rogues ls) (rest apart.1) q.0 q.1
-
--- ---- their devices
-
-devices_are : (lines : List PlayLine) → filter_map (λ (l : PlayLine). device_by l.command) lines ≡ map first_device (members lines)
-devices_are [] = refl
-devices_are (l ∷ ls) = go l.command (devices_are ls)
-  where
-    go : (c : Command) → filter_map (λ (l : PlayLine). device_by l.command) ls ≡ map first_device (members ls)
-        → cons_option (device_by c) (filter_map (λ (l : PlayLine). device_by l.command) ls) ≡ map first_device (cons_option (member_by c) (members ls))
-    go (commands.Member m) rest = ap (λ (ds : List Device). first_device m.member ∷ ds) rest
-    go (commands.Joiner m) rest = ap (λ (ds : List Device). first_device m ∷ ds) rest
-    go c rest = rest
-
-rogue_devices_are : (lines : List PlayLine) → filter_map (λ (l : PlayLine). rogue_by l.command) lines ≡ map first_device (rogues lines)
-rogue_devices_are [] = refl
-rogue_devices_are (l ∷ ls) = go l.command (rogue_devices_are ls)
-  where
-    go : (c : Command) → filter_map (λ (l : PlayLine). rogue_by l.command) ls ≡ map first_device (rogues ls)
-        → cons_option (rogue_by c) (filter_map (λ (l : PlayLine). rogue_by l.command) ls) ≡ map first_device (cons_option (rogue_number c) (rogues ls))
-    go (commands.Rogue m) rest = ap (λ (ds : List Device). first_device m.member ∷ ds) rest
-    go c rest = rest
-
-not_in_first : (n : ℕ) (ns : List ℕ) → IsNotIn n ns → IsNotIn (first_device n) (map first_device ns)
-not_in_first n [] apart = tt
-not_in_first n (m ∷ ms) apart = ((λ same. apart.0 (ap (λ (d : Device). d.member) same)), not_in_first n ms apart.1)
-
-apart_first : (ns : List ℕ) → AreDistinct ns → AreDistinct (map first_device ns)
-apart_first [] apart = tt
-apart_first (n ∷ ns) apart = (not_in_first n ns apart.0, apart_first ns apart.1)
-
-first_among : (n : ℕ) (ns : List ℕ) → Contains ns n → Contains (map first_device ns) (first_device n)
-first_among n [] is = absurd (omega (arith, is.1))
-first_among n (m ∷ ms) (zero, low, at) = (0, omega arith, ap first_device at)
-first_among n (m ∷ ms) (suc k, low, at) = let r = first_among n ms (k, omega (arith, low), at) in (suc r.0, omega (arith, r.1), r.2)
+    go : (c : Command) → InRange c → AreDistinct (cons_option (declared_member c) (numbers ls)) → AreDistinct (cons_option (device_by c) (devices ls))
+        → (AreDistinct (numbers ls) → AreDistinct (devices ls) → AreDistinct (devices ls ++ read_off rogue_by ls)) → AreDistinct (cons_option (device_by c) (devices ls) ++ cons_option (rogue_by c) (read_off rogue_by ls))
+    go (commands.Member m) is apart clients rest =
+        (not_in_both (first_device m.member) (devices ls) (read_off rogue_by ls) clients.0 (no_rogue m.member ls apart.0), rest apart.1 clients.1)
+    go (commands.Rogue m) is apart clients rest =
+        apart_insert (devices ls) (first_device m.member) (read_off rogue_by ls) (rest apart.1 clients) (no_device m.member ls fits.1 apart.0) (no_rogue m.member ls apart.0)
+    go (commands.Joiner m) is apart clients rest =
+        (not_in_both (first_device m) (devices ls) (read_off rogue_by ls) clients.0 (no_rogue m ls apart.0), rest apart.1 clients.1)
+    go (commands.Device x) is apart clients rest =
+        (not_in_both x (devices ls) (read_off rogue_by ls) clients.0 (further_no_rogue x ls is), rest apart clients.1)
+    go c is apart clients rest = rest apart clients
 
 pub script_apart : (text : List ℕ) (script : List PlayLine) → IsPlayScript text script
     → AreDistinct (filter_map (λ (l : PlayLine). device_by l.command) script ++ filter_map (λ (l : PlayLine). rogue_by l.command) script)
 script_apart text script is =
-    subst (λ (ds : List Device). AreDistinct ds)
-    (map-append first_device (members script) (rogues script) ∙ ap₂ (λ (xs ys : List Device). xs ++ ys) (sym (devices_are script)) (sym (rogue_devices_are script)))
-    (apart_first (members script ++ rogues script) (parts_apart script (numbers_apart [] script (script_follows text script is) tt)))
+    let all = script_follows text script is in
+    all_apart script (in_range [] script all) (script_numbers_apart text script is) (devices_apart [] script all tt tt)
 
 -- ---- those whom a command names
 
-part_of : (n : ℕ) (lines : List PlayLine) → Contains (numbers lines) n → Contains (members lines) n ⊎ Contains (rogues lines) n
-part_of n [] is = absurd (omega (arith, is.1))
-part_of n (l ∷ ls) is = elim (among_cases n (declared_member l.command) (numbers ls) is) [
-  | inl here ↦ elim (splits l.command).parts [
-    | inl p ↦ inl (among_here n (member_by l.command) (members ls) (p.0 ∙ here))
-    | inr p ↦ inr (among_here n (rogue_number l.command) (rogues ls) (p.1 ∙ here))
-  ]
-  | inr there ↦ elim (part_of n ls there) [
-    | inl m ↦ inl (among_more n (member_by l.command) (members ls) m)
-    | inr r ↦ inr (among_more n (rogue_number l.command) (rogues ls) r)
-  ]
-]
+client_before : (before : List PlayLine) (who : Device) → is_client (declarations before) who ≡ true → Contains (devices before) who
+client_before before who is = subst (λ (ds : List Device). Contains ds who) (clients_are before) (among same_device of_devices (declarations before).clients who is)
 
--- one who has a client or may get one
-client_among : (script : List PlayLine) (i n : ℕ) → is_client (declarations (take i script)) n ≡ true → Contains (members script) n
-client_among script i n is =
-    let before = take i script in
-    let d = declarations before in
-    let p = and_parts (is_declared d n) (not (is_rogue d n)) is in
-    let no_rogue : IsNotIn n (rogues before) = subst (IsNotIn n) (rogues_are before) (not_among d.rogues n (is_not (is_rogue d n) p.1)) in
-    let there : Contains (numbers before) n = subst (λ (ns : List ℕ). Contains ns n) (numbers_are before) (among d.numbers n p.0) in
-    among_front (λ (l : PlayLine). member_by l.command) n script i (elim (part_of n before there) [
-      | inl m ↦ m
-      | inr r ↦ absurd (not_in_contains n (rogues before) no_rogue r)
-    ])
+pub client_named : (script : List PlayLine) (i : ℕ) (who : Device) → is_client (declarations (take i script)) who ≡ true → Contains (filter_map (λ (l : PlayLine). device_by l.command) script) who
+client_named script i who is = among_front (λ (l : PlayLine). device_by l.command) who script i (client_before (take i script) who is)
 
-pub client_named : (script : List PlayLine) (i n : ℕ) → is_client (declarations (take i script)) n ≡ true → Contains (filter_map (λ (l : PlayLine). device_by l.command) script) (first_device n)
-client_named script i n is = subst (λ (ds : List Device). Contains ds (first_device n)) (sym (devices_are script)) (first_among n (members script) (client_among script i n is))
+rogue_among : (n : ℕ) (lines : List PlayLine) → Contains (rogues lines) n → Contains (read_off rogue_by lines) (first_device n)
+rogue_among n [] is = absurd (omega (arith, is.1))
+rogue_among n (l ∷ ls) is = go l.command is (rogue_among n ls)
+  where
+    go : (c : Command) → Contains (cons_option (rogue_number c) (rogues ls)) n → (Contains (rogues ls) n → Contains (read_off rogue_by ls) (first_device n)) → Contains (cons_option (rogue_by c) (read_off rogue_by ls)) (first_device n)
+    go (commands.Rogue m) is rest = elim (among_cases n (Some m.member) (rogues ls) is) [
+      | inl here ↦ among_here (first_device n) (Some (first_device m.member)) (read_off rogue_by ls) (let same : m.member ≡ n = cc in ap (λ (k : ℕ). Some (first_device k)) same)
+      | inr there ↦ among_more (first_device n) (Some (first_device m.member)) (read_off rogue_by ls) (rest there)
+    ]
+    go c is rest = rest is
 
 pub rogue_named : (script : List PlayLine) (i n : ℕ) → is_rogue (declarations (take i script)) n ≡ true → Contains (filter_map (λ (l : PlayLine). rogue_by l.command) script) (first_device n)
 rogue_named script i n is =
     let before = take i script in
-    subst (λ (ds : List Device). Contains ds (first_device n)) (sym (rogue_devices_are script))
-    (first_among n (rogues script) (among_front (λ (l : PlayLine). rogue_number l.command) n script i (subst (λ (ns : List ℕ). Contains ns n) (rogues_are before) (among (declarations before).rogues n is))))
+    among_front (λ (l : PlayLine). rogue_by l.command) (first_device n) script i
+    (rogue_among n before (subst (λ (ns : List ℕ). Contains ns n) (rogues_are before) (among (λ (a b : ℕ). a == b) of_numbers (declarations before).rogues n is)))
 
-joiner_parts : (script : List PlayLine) (i n : ℕ) → is_joiner (declarations (take i script)) n ≡ true → Contains (joiners (take i script)) n
-joiner_parts script i n is = subst (λ (ns : List ℕ). Contains ns n) (joiners_are (take i script)) (among (declarations (take i script)).joiners n is)
+joiner_is_client : (before : List PlayLine) (who : Device) → is_joiner (declarations before) who ≡ true → is_client (declarations before) who ≡ true
+joiner_is_client before who is = let d = declarations before in (and_parts (is_among d.joiners who.member) (is_client d who) is).1
 
-joiner_member : (c : Command) (n : ℕ) → joiner_by c ≡ Some n → member_by c ≡ Some n
-joiner_member (commands.Joiner m) n is = is
-joiner_member c n is = absurd cc
+pub joiner_named : (script : List PlayLine) (i : ℕ) (who : Device) → is_joiner (declarations (take i script)) who ≡ true → Contains (filter_map (λ (l : PlayLine). device_by l.command) script) who
+joiner_named script i who is = client_named script i who (joiner_is_client (take i script) who is)
 
-joiners_in : (n : ℕ) (lines : List PlayLine) → Contains (joiners lines) n → Contains (members lines) n
-joiners_in n [] is = is
-joiners_in n (l ∷ ls) is = elim (among_cases n (joiner_by l.command) (joiners ls) is) [
-  | inl here ↦ among_here n (member_by l.command) (members ls) (joiner_member l.command n here)
-  | inr there ↦ among_more n (member_by l.command) (members ls) (joiners_in n ls there)
-]
-
-pub joiner_named : (script : List PlayLine) (i n : ℕ) → is_joiner (declarations (take i script)) n ≡ true → Contains (filter_map (λ (l : PlayLine). device_by l.command) script) (first_device n)
-joiner_named script i n is =
-    subst (λ (ds : List Device). Contains ds (first_device n)) (sym (devices_are script))
-    (first_among n (members script) (among_front (λ (l : PlayLine). member_by l.command) n script i (joiners_in n (take i script) (joiner_parts script i n is))))
-
--- one who is to join is a member of the whole script
-pub joiner_before : (before lines : List PlayLine) (n : ℕ) → is_joiner (declarations before) n ≡ true → Contains (filter_map (λ (l : PlayLine). device_by l.command) (before ++ lines)) (first_device n)
-joiner_before before lines n is =
-    subst (λ (ds : List Device). Contains ds (first_device n)) (sym (devices_are (before ++ lines)))
-    (first_among n (members (before ++ lines))
-    (front_among before lines n (joiners_in n before (subst (λ (ns : List ℕ). Contains ns n) (joiners_are before) (among (declarations before).joiners n is)))))
+-- one who is to join is a client of the whole script
+pub joiner_before : (before lines : List PlayLine) (who : Device) → is_joiner (declarations before) who ≡ true → Contains (filter_map (λ (l : PlayLine). device_by l.command) (before ++ lines)) who
+joiner_before before lines who is = front_among before lines (client_before before who (joiner_is_client before who is))
   where
-    front_among : (before lines : List PlayLine) (n : ℕ) → Contains (members before) n → Contains (members (before ++ lines)) n
-    front_among [] lines n is = absurd (omega (arith, is.1))
-    front_among (l ∷ ls) lines n is = elim (among_cases n (member_by l.command) (members ls) is) [
-      | inl here ↦ among_here n (member_by l.command) (members (ls ++ lines)) here
-      | inr there ↦ among_more n (member_by l.command) (members (ls ++ lines)) (front_among ls lines n there)
+    front_among : (before lines : List PlayLine) → Contains (devices before) who → Contains (devices (before ++ lines)) who
+    front_among [] lines is = absurd (omega (arith, is.1))
+    front_among (l ∷ ls) lines is = elim (among_cases who (device_by l.command) (devices ls) is) [
+      | inl here ↦ among_here who (device_by l.command) (devices (ls ++ lines)) here
+      | inr there ↦ among_more who (device_by l.command) (devices (ls ++ lines)) (front_among ls lines there)
     ]

@@ -142,8 +142,8 @@ pub record ChangesSeat (i : ℕ) (seat : Seat) (old new : PlayState) : Type 0 wh
 
 seats_apart : (script : List PlayLine) (scene : Scene) (state : PlayState) → StandsFor script scene state → AreDistinct (seated state.seats.items ++ rogue_devices state.rogues.items)
 seats_apart script scene state stands =
-    subst (λ (ns : List Device). AreDistinct (ns ++ rogue_devices state.rogues.items)) (sym stands.seated)
-    (subst (λ (ns : List Device). AreDistinct ((setup_of script).devices ++ ns)) (sym stands.rogue_devices) (are_distinct _ stands.declared.distinct))
+    subst (λ (ds : List Device). AreDistinct (ds ++ rogue_devices state.rogues.items)) (sym stands.seated)
+    (subst (λ (ds : List Device). AreDistinct ((setup_of script).devices ++ ds)) (sym stands.rogue_devices) (are_distinct _ stands.declared.distinct))
 
 pub stands_seat : (script : List PlayLine) (scene scene' : Scene) (state state' : PlayState) (i : ℕ) (who : Device) (seat new : Seat) → StandsFor script scene state → IsSeatAt state.seats.items i who seat
     → ((other : Device) → other ≢ who → IsSameAt other scene scene') → IsSeatOf (setup_of script) scene' new → new.device ≡ seat.device → ChangesSeat i new state state'
@@ -160,7 +160,7 @@ stands_seat script scene scene' state state' i who seat new stands at others is 
           (λ y differs was. seat_kept s scene scene' y (others y.device (λ same. differs (same ∙ sym at.own))) was) is stands.seats);
       rogues = subst (AllByRecursion (IsRogueOf s scene')) (sym changed.rogues)
           (all_others (λ (x : Rogue). x.device) (IsRogueOf s scene) (IsRogueOf s scene') who state.rogues.items
-          (subst (λ (n : Device). IsNotIn n (rogue_devices state.rogues.items)) at.own (not_behind (λ (x : Seat). x.device) seats (rogue_devices state.rogues.items) i seat apart at.there))
+          (subst (λ (other : Device). IsNotIn other (rogue_devices state.rogues.items)) at.own (not_behind (λ (x : Seat). x.device) seats (rogue_devices state.rogues.items) i seat apart at.there))
           (λ y differs was. rogue_kept s scene scene' y (others y.device differs) was) stands.rogues);
       seated = ap seated changed.seats ∙ numbers_set (λ (x : Seat). x.device) seats i seat new at.there own ∙ stands.seated;
       rogue_devices = ap rogue_devices changed.rogues ∙ stands.rogue_devices;
@@ -187,7 +187,7 @@ stands_rogue script scene scene' state state' i who rogue new stands at others i
       cast = subst (IsCastOf s) (sym changed.cast) stands.cast;
       seats = subst (AllByRecursion (IsSeatOf s scene')) (sym changed.seats)
           (all_others (λ (x : Seat). x.device) (IsSeatOf s scene) (IsSeatOf s scene') who state.seats.items
-          (subst (λ (n : Device). IsNotIn n (seated state.seats.items)) at.own (not_across (λ (x : Rogue). x.device) (seated state.seats.items) rogues i rogue apart at.there))
+          (subst (λ (other : Device). IsNotIn other (seated state.seats.items)) at.own (not_across (λ (x : Rogue). x.device) (seated state.seats.items) rogues i rogue apart at.there))
           (λ y differs was. seat_kept s scene scene' y (others y.device differs) was) stands.seats);
       rogues = subst (AllByRecursion (IsRogueOf s scene')) (sym changed.rogues)
           (all_set (λ (x : Rogue). x.device) (IsRogueOf s scene) (IsRogueOf s scene') rogues i rogue new (apart_back (seated state.seats.items) (rogue_devices rogues) apart) at.there

@@ -13,16 +13,18 @@ use Rattle.sporc_entry.specs.declared.change.ChangeBody.{ChangeBody}
 use Rattle.sporc_entry.specs.declared.wrap.Wrap.{Wrap}
 use Rattle.sporc_entry.specs.Entry.{signed_string}
 use Rattle.sporc_entry.specs.Genesis.{genesis_bytes}
+use Rattle.sporc_entry.specs.Version.{names_device, version_of}
 use Rattle.sporc_epoch.specs.Sealing.{body_sealed}
 use Rattle.sporc_epoch.specs.Streams.{previous_stream, stream_of}
+use Rattle.sporc_member.specs.declared.device.TheConstants.{FIRST_DEVICE}
 use Rattle.sporc_member.specs.Device.{first_device}
-use Rattle.sporc_head.specs.History.{changes, epoch_of, hash_of}
+use Rattle.sporc_head.specs.History.{changes, epoch_of, hash_of, roster_of}
 use Rattle.sporc_line.specs.Keys.{key_after}
 use Rattle.sporc_client.specs.PlainClient.{Opening, PlainClient, committed_of}
 use Rattle.sporc_client.proofs.Reached.{reached_at}
 use Rattle.sporc_client.proofs.SoundRuns.{sound_and_typed_at}
-use Rattle.sporc_script.specs.Signs.{ForgeryInRange, SignedInRange, WhatInRange}
-use Rattle.sporc_script.specs.Spelling.{IsMember}
+use Rattle.sporc_script.specs.Signs.{ForgeryInRange, MaySuffixInRange, SignedInRange, WhatInRange}
+use Rattle.sporc_script.specs.Spelling.{DeviceInRange, IsMember}
 use Rattle.sporc_script.specs.declared.command.Command.TheVariants as commands
 use Rattle.sporc_script.specs.declared.play_line.PlayLine.{PlayLine}
 use Rattle.sporc_script.specs.declared.sign.Forgery.{Forgery}
@@ -32,7 +34,7 @@ use Rattle.sporc_script.specs.declared.sign.What.{What}
 use Rattle.sporc_script.specs.declared.sign.What.TheVariants as whats
 use Rattle.sporc_play.specs.Cast.{member_change, setup_of}
 use Rattle.sporc_play.specs.Derived.{random_of}
-use Rattle.sporc_play.specs.Forged.{first_flipped, forged_body, forged_change, forged_entry, forged_header, forged_sealing, key_there, kind_of, signature_by, signed_by, spoiled, unsigned_by, value_at, wrap_flipped}
+use Rattle.sporc_play.specs.Forged.{device_in, first_flipped, forged_body, forged_change, forged_entry, forged_header, forged_sealing, key_there, kind_of, signature_by, signed_by, spoiled, unsigned_by, value_at, version_by, wrap_flipped}
 use Rattle.sporc_play.specs.Scene.{leaf_after, signs_by}
 use Rattle.sporc_play.proofs.Acts.{byte_change, client_at, no_act, open_acts}
 use Rattle.sporc_play.proofs.ByteClients.{AreByteKeys}
@@ -65,8 +67,34 @@ kind_fits (whats.Change change) = omega arith
 kind_fits (whats.Insert e) = omega arith
 kind_fits (whats.Raw payload) = omega arith
 
-header_are : (c : PlainClient) (f : Forgery) (leaf : ℕ) → AreBytes c.opening.genesis.document → IsByteHeader (forged_header c f leaf)
-header_are c f leaf document = record { version = omega arith; document = document; device = omega arith; base_hash = value_are c _; kind = kind_fits f.signed.what }
+version_fits : (suffix : Option Suffix) (upgraded : Bool) → version_by suffix upgraded < 256
+version_fits (Some (suffixes.Version k)) upgraded = go (names_device k)
+  where
+    go : (second : Bool) → version_of second < 256
+    go true = omega arith
+    go false = omega arith
+version_fits suffix true = omega arith
+version_fits suffix false = omega arith
+
+device_fits : (suffix : Option Suffix) (version : ℕ) → MaySuffixInRange suffix → device_in suffix version < 256
+device_fits (Some (suffixes.Device d)) version fits = go (names_device version)
+  where
+    go : (named : Bool) → cond named d FIRST_DEVICE < 256
+    go true = omega (arith, fits)
+    go false = omega arith
+device_fits suffix version fits = omega arith
+
+header_are : (c : PlainClient) (f : Forgery) (leaf : ℕ) → MaySuffixInRange f.signed.suffix → AreBytes c.opening.genesis.document → IsByteHeader (forged_header c f leaf)
+header_are c f leaf fits document =
+    let suffix = f.signed.suffix in
+    let upgraded = (roster_of c.opening.genesis c.entries).upgraded in
+    record {
+      version = version_fits suffix upgraded;
+      document = document;
+      device = device_fits suffix (version_by suffix upgraded) fits;
+      base_hash = value_are c _;
+      kind = kind_fits f.signed.what;
+    }
 
 -- ---- the body
 
@@ -117,7 +145,7 @@ body_are script c f leaf new (whats.Change change) fits are old =
     let sealing = forged_sealing c h (member_change s change) new in
     let body = forged_change c h (member_change s change) new in
     bytes_body (spoiled f.signed.suffix body) (spoiled_are f.signed.suffix body (record {
-      change = byte_change script change;
+      change = byte_change script change fits;
       commitment = bytes_sha _;
       previous = bytes_mask new (previous_stream (sealing.epoch + 1)) (key_there c) old;
       wraps = sealed_are sealing.stream new _ sealing.members are;
@@ -125,38 +153,39 @@ body_are script c f leaf new (whats.Change change) fits are old =
 
 -- ---- the entry
 
-pub forged_are : (script : List PlayLine) (c : PlainClient) (f : Forgery) (random : List ℕ) (leaf : ℕ) → WhatInRange f.signed.what → AreBytes random → AreBytes c.opening.genesis.document → AreBytes (key_there c)
+pub forged_are : (script : List PlayLine) (c : PlainClient) (f : Forgery) (random : List ℕ) (leaf : ℕ) → SignedInRange f.signed → AreBytes random → AreBytes c.opening.genesis.document → AreBytes (key_there c)
     → AreBytes (signed_by (setup_of script) c f random leaf)
 unfolding signed_by
 forged_are script c f random leaf fits are document old =
     let s = setup_of script in
     let e = unsigned_by s c f random leaf in
-    bytes_entry (record e { signature = signature_by s c f random leaf }) (header_are c f leaf document)
-    (body_are script c f leaf (drop 32 random) f.signed.what fits (bytes_drop 32 random are) old)
+    bytes_entry (record e { signature = signature_by s c f random leaf }) (header_are c f leaf fits.1 document)
+    (body_are script c f leaf (drop 32 random) f.signed.what fits.0 (bytes_drop 32 random are) old)
     (bytes_signature (s.private (first_device f.member)) leaf (take 32 random) (signed_string e) (bytes_take 32 random are))
 
 last_of : (A B C : Type 0) → A × B × C → C
 last_of A B C p = p.2
 
-what_fits : (f : Forgery) → ForgeryInRange f → WhatInRange f.signed.what
-what_fits f fits = let signed : SignedInRange f.signed = last_of (IsMember f.member) (IsMember f.from) (SignedInRange f.signed) fits in signed.0
+signed_fits : (f : Forgery) → ForgeryInRange f → SignedInRange f.signed
+signed_fits f fits = last_of (IsMember f.member) (DeviceInRange f.from) (SignedInRange f.signed) fits
 
 pub sign_acts : (script : List PlayLine) (f : Forgery) → ForgeryInRange f → MayBe (setup_of script) (λ scene. commands.Sign f)
 unfolding forged_entry
 sign_acts script f fits moves scene come =
     let rogue = first_device f.member in
-    open_acts (setup_of script) scene (first_device f.from) (λ c. signs_by (forged_entry (setup_of script) c f (scene.asked rogue + 1) (leaf_after ((setup_of script).private rogue) (scene.leaves rogue))))
+    open_acts (setup_of script) scene f.from (λ c. signs_by (forged_entry (setup_of script) c f (scene.asked rogue + 1) (leaf_after ((setup_of script).private rogue) (scene.leaves rogue))))
     (λ c at. go c at (leaf_after ((setup_of script).private rogue) (scene.leaves rogue)))
   where
-    go : (c : PlainClient) → scene.world.clients (first_device f.from) ≡ Some c → (leaf : Result ℕ LeafFault) → MayAct (setup_of script) scene (signs_by (forged_entry (setup_of script) c f (scene.asked (first_device f.member) + 1) leaf))
+    go : (c : PlainClient) → scene.world.clients f.from ≡ Some c → (leaf : Result ℕ LeafFault) → MayAct (setup_of script) scene (signs_by (forged_entry (setup_of script) c f (scene.asked (first_device f.member) + 1) leaf))
     go c at (Err fault) = no_act (setup_of script) scene
     go c at (Ok leaf) =
         let s = setup_of script in
-        let t = scene.asked (first_device f.member) + 1 in
-        let there = client_at s moves scene (first_device f.from) c come at in
-        let known = sound_and_typed_at s moves (length moves) (first_device f.from) c come.run there in
-        let reached = reached_at s moves (length moves) (first_device f.from) c come.run.run there in
+        let rogue = first_device f.member in
+        let t = scene.asked rogue + 1 in
+        let there = client_at s moves scene f.from c come at in
+        let known = sound_and_typed_at s moves (length moves) f.from c come.run there in
+        let reached = reached_at s moves (length moves) f.from c come.run.run there in
         let document : AreBytes c.opening.genesis.document = subst (λ (o : Opening). AreBytes o.genesis.document) (sym reached.opening) (document_are script) in
-        let all : AreBytes (signed_by s c f (random_of f.member t) leaf) =
-        forged_are script c f (random_of f.member t) leaf (what_fits f fits) (random_are f.member t) document (there_are c (come.clients (first_device f.from) c at).ring known.bytes) in
+        let all : AreBytes (signed_by s c f (random_of rogue t) leaf) =
+        forged_are script c f (random_of rogue t) leaf (signed_fits f fits) (random_are rogue t) document (there_are c (come.clients f.from c at).ring known.bytes) in
         record { run = tt; typed = tt; bytes = tt; entries = (all, tt) }

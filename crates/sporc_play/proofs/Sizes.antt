@@ -12,7 +12,7 @@ use Rattle.sporc_script.specs.Grammar.{IsNext, IsPlayScript, play_line}
 use Rattle.sporc_script.specs.Lines.{ReadsAs, lines_of, with_byte}
 use Rattle.sporc_script.specs.Quoted.{escape, quoted}
 use Rattle.sporc_script.specs.Signs.{signed_spelling_of, suffix_spelling, with_suffix}
-use Rattle.sporc_script.specs.Spelling.{stated_spelling, text_edit_spelling}
+use Rattle.sporc_script.specs.Spelling.{device_text, stated_spelling, text_edit_spelling}
 use Rattle.sporc_script.specs.declared.command.Command.{Command}
 use Rattle.sporc_script.specs.declared.command.Command.TheVariants as commands
 use Rattle.sporc_script.specs.declared.play_line.PlayLine.{PlayLine}
@@ -86,10 +86,10 @@ what_within (whats.Change change) suffix = omega arith
 command_within : (c : Command) → text_size c ≤ length (spelling c)
 command_within (commands.Edit e) =
     let n = edit_size e.change in
-    behind_size (codes "edit ") _ n (behind_size (decimal e.member) _ n (behind_size (codes " ") (stated_spelling e.seen e.change) n (stated_within e.seen e.change)))
+    behind_size (codes "edit ") _ n (behind_size (device_text e.device) _ n (behind_size (codes " ") (stated_spelling e.seen e.change) n (stated_within e.seen e.change)))
 command_within (commands.Sign f) =
     let n = what_size f.signed.what in
-    behind_size (codes "sign ") _ n (behind_size (decimal f.member) _ n (behind_size (codes " from ") _ n (behind_size (decimal f.from) _ n (behind_size (codes " ") (signed_spelling_of f.signed.what f.signed.suffix) n (what_within f.signed.what f.signed.suffix)))))
+    behind_size (codes "sign ") _ n (behind_size (decimal f.member) _ n (behind_size (codes " from ") _ n (behind_size (device_text f.from) _ n (behind_size (codes " ") (signed_spelling_of f.signed.what f.signed.suffix) n (what_within f.signed.what f.signed.suffix)))))
 command_within c = omega arith
 
 -- ---- lines

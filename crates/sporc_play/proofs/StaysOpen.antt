@@ -17,28 +17,28 @@ put_open clients who m c is = go (same_device m who)
     go true = refl
     go false = is
 
-open_after : (s : Setup) (w : World) (move : Move) (m : Device) → IsSome (w.clients m) → IsSome ((after_move s w move).clients m)
-open_after s w (Open who ring) m is = put_open w.clients who m (opened (opening_of s who ring)) is
-open_after s w (Happen who event) m is = go (w.clients who)
+open_after : (s : Setup) (w : World) (move : Move) (device : Device) → IsSome (w.clients device) → IsSome ((after_move s w move).clients device)
+open_after s w (Open who ring) device is = put_open w.clients who device (opened (opening_of s who ring)) is
+open_after s w (Happen who event) device is = go (w.clients who)
   where
-    go : (o : Option PlainClient) → IsSome ((happens_to w who event o).clients m)
+    go : (o : Option PlainClient) → IsSome ((happens_to w who event o).clients device)
     go None = is
-    go (Some c) = put_open w.clients who m (step c event) is
-open_after s w (Give who position bytes) m is = go (w.clients who)
+    go (Some c) = put_open w.clients who device (step c event) is
+open_after s w (Give who position bytes) device is = go (w.clients who)
   where
-    go : (o : Option PlainClient) → IsSome ((gives_to w who position bytes o).clients m)
+    go : (o : Option PlainClient) → IsSome ((gives_to w who position bytes o).clients device)
     go None = is
-    go (Some c) = put_open w.clients who m (given c bytes (refusal_of c position bytes)) is
-open_after s w (Restart who k) m is = go (w.clients who)
+    go (Some c) = put_open w.clients who device (given c bytes (refusal_of c position bytes)) is
+open_after s w (Restart who k) device is = go (w.clients who)
   where
-    go : (o : Option PlainClient) → IsSome ((restarts w who k o).clients m)
+    go : (o : Option PlainClient) → IsSome ((restarts w who k o).clients device)
     go None = is
-    go (Some c) = put_open w.clients who m (restarted c k) is
+    go (Some c) = put_open w.clients who device (restarted c k) is
 
-pub open_moves : (s : Setup) (w : World) (moves : List Move) (m : Device) → IsSome (w.clients m) → IsSome ((after_all s w moves).clients m)
-open_moves s w [] m is = is
-open_moves s w (move ∷ moves) m is = open_moves s (after_move s w move) moves m (open_after s w move m is)
+pub open_moves : (s : Setup) (w : World) (moves : List Move) (who : Device) → IsSome (w.clients who) → IsSome ((after_all s w moves).clients who)
+open_moves s w [] who is = is
+open_moves s w (move ∷ moves) who is = open_moves s (after_move s w move) moves who (open_after s w move who is)
 
-pub open_each : (s : Setup) (scene : Scene) (commands : List (Scene → Command)) (m : Device) → IsSome (scene.world.clients m) → IsSome ((after_each s scene commands).world.clients m)
-open_each s scene [] m is = is
-open_each s scene (c ∷ cs) m is = open_each s (after s scene (c scene)) cs m (open_moves s scene.world (effect_of s scene (c scene)).moves m is)
+pub open_each : (s : Setup) (scene : Scene) (commands : List (Scene → Command)) (who : Device) → IsSome (scene.world.clients who) → IsSome ((after_each s scene commands).world.clients who)
+open_each s scene [] who is = is
+open_each s scene (c ∷ cs) who is = open_each s (after s scene (c scene)) cs who (open_moves s scene.world (effect_of s scene (c scene)).moves who is)

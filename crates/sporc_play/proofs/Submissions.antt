@@ -15,7 +15,6 @@ use Rattle.sporc_client.specs.Step.{replay}
 use Rattle.sporc_client.specs.Submissions.{submission, submission_added}
 use Rattle.sporc_client.proofs.Calls.{replay_append}
 use Rattle.sporc_member.specs.declared.device.Device.{Device}
-use Rattle.sporc_member.specs.Device.{first_device}
 use Rattle.sporc_member.proofs.SameDevice.{one_same}
 use Rattle.sporc_script.specs.declared.command.Command.TheVariants as commands
 use Rattle.sporc_script.specs.declared.play_line.PlayLine.{PlayLine}
@@ -78,7 +77,7 @@ holds_more s scene answer who c c' was key is =
 -- the same in the words of the scene
 answer_is : (s : Setup) (scene : Scene) (seat : Seat) (c : ClientModel MemoryDiskModel) → IsSeatOf s scene (with_client seat (Some c)) → answer_of seat c ≡ submission_in s scene seat.device (state_of c)
 answer_is s scene seat c is =
-    ap₂ (λ (n : ℕ) (leaf : Result ℕ LeafFault). submission (state_of c) (random_of seat.device.member (n + 1)) leaf) is.asked
+    ap₂ (λ (n : ℕ) (leaf : Result ℕ LeafFault). submission (state_of c) (random_of seat.device (n + 1)) leaf) is.asked
     (ap₂ leaf_after is.holds.ready.key is.holds.ready.leaves.next)
 
 record IsDone (s : Setup) (scene' : Scene) (entries : List (List ℕ)) (made : Option (List ℕ)) (new : Seat) : Type 0 where
@@ -167,17 +166,16 @@ same_for_others s scene who other act are differs = record {
   leaves = more_other scene.leaves who (length act.entries) other differs;
 }
 
-pub submit_stands : (script : List PlayLine) (scene : Scene) (state state' : PlayState) (i m : ℕ) (seat new : Seat) (made : Option (List ℕ)) → StandsFor script scene state → IsSeatAt state.seats.items i (first_device m) seat
+pub submit_stands : (script : List PlayLine) (scene : Scene) (state state' : PlayState) (i : ℕ) (who : Device) (seat new : Seat) (made : Option (List ℕ)) → StandsFor script scene state → IsSeatAt state.seats.items i who seat
     → HasSubmitted (length scene.made + 1) seat made new → ChangesSeat i new state state'
-    → map (λ bytes. bytes.items) state'.made.items ≡ map (λ bytes. bytes.items) state.made.items ++ option_to_list made → StandsFor script (after (setup_of script) scene (commands.Submit m)) state'
-submit_stands script scene state state' i m seat new made stands at did changed grown =
+    → map (λ bytes. bytes.items) state'.made.items ≡ map (λ bytes. bytes.items) state.made.items ++ option_to_list made → StandsFor script (after (setup_of script) scene (commands.Submit who)) state'
+submit_stands script scene state state' i who seat new made stands at did changed grown =
     let s = setup_of script in
-    let who = first_device m in
     let act = if_open (scene.world.clients who) (λ c. submits who (submission_in s scene who c)) in
-    let is_done : IsDone s (after s scene (commands.Submit m)) act.entries made new =
+    let is_done : IsDone s (after s scene (commands.Submit who)) act.entries made new =
     subst (λ (d : Device). let a = if_open (scene.world.clients d) (λ c. submits d (submission_in s scene d c)) in IsDone s (submitted_by s scene d a) a.entries made new) at.own
     (seat_done s scene seat made new (seat_there script scene state i who seat stands at) did) in
-    stands_seat script scene (after s scene (commands.Submit m)) state state' i who seat new stands at
+    stands_seat script scene (after s scene (commands.Submit who)) state state' i who seat new stands at
     (λ other differs. same_for_others s scene who other act (of_device s scene who (scene.world.clients who)) differs)
     is_done.seat did.device changed
     (grown ∙ ap₂ (λ (xs ys : List (List ℕ)). xs ++ ys) stands.made is_done.entries_are)
@@ -185,7 +183,7 @@ submit_stands script scene state state' i m seat new made stands at did changed 
 -- the line that it tells
 pub submission_told : (script : List PlayLine) (scene : Scene) (state : PlayState) (i : ℕ) (who : Device) (next : ℕ) (seat : Seat) (old new : List ℕ) → StandsFor script scene state → IsSeatAt state.seats.items i who seat → next ≡ next_number scene
     → new ≡ old ++ submission_line next seat seat.client
-    → (l : List ℕ) × (l ≡ line_by who.member (scene.world.clients who) (λ c. submit_line who.member (next_number scene) (scene.last who) (submission_in (setup_of script) scene who c))) × (new ≡ old ++ l)
+    → (l : List ℕ) × (l ≡ line_by who (scene.world.clients who) (λ c. submit_line who (next_number scene) (scene.last who) (submission_in (setup_of script) scene who c))) × (new ≡ old ++ l)
 submission_told script scene state i who next seat old new stands at number is =
     (submission_line next seat seat.client, subst T at.own (go seat.client (seat_there script scene state i who seat stands at)), is)
   where
@@ -193,14 +191,14 @@ submission_told script scene state i who next seat old new stands at number is =
     s = setup_of script
 
     T : Device → Type 0
-    T d = submission_line next seat seat.client ≡ line_by d.member (scene.world.clients d) (λ c. submit_line d.member (next_number scene) (scene.last d) (submission_in (setup_of script) scene d c))
+    T d = submission_line next seat seat.client ≡ line_by d (scene.world.clients d) (λ c. submit_line d (next_number scene) (scene.last d) (submission_in (setup_of script) scene d c))
 
     L : Option PlainClient → List ℕ
-    L o = line_by seat.device.member o (λ c. submit_line seat.device.member (next_number scene) (scene.last seat.device) (submission_in (setup_of script) scene seat.device c))
+    L o = line_by seat.device o (λ c. submit_line seat.device (next_number scene) (scene.last seat.device) (submission_in (setup_of script) scene seat.device c))
 
     go : (o : Option (ClientModel MemoryDiskModel)) → IsSeatOf (setup_of script) scene (with_client seat o) → submission_line next seat o ≡ L (scene.world.clients seat.device)
     go None is = sym (ap L is.client)
     go (Some c) is =
-        ap₂ (λ (n l : ℕ). submit_line seat.device.member n l (answer_of seat c)) number is.last
-        ∙ ap (submit_line seat.device.member (next_number scene) (scene.last seat.device)) (answer_is (setup_of script) scene seat c is)
+        ap₂ (λ (n l : ℕ). submit_line seat.device n l (answer_of seat c)) number is.last
+        ∙ ap (submit_line seat.device (next_number scene) (scene.last seat.device)) (answer_is (setup_of script) scene seat c is)
         ∙ sym (ap L is.client)

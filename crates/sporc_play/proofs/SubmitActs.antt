@@ -1,5 +1,5 @@
 -- What a submission does may happen wherever a play has come to, and its entry is a string of bytes.
-use Rattle.std.proofs.Common.{◌≡◌, ℕ, ◌+◌, ◌^◌, ◌<◌, Bool, true, false, cond, eq-eqb, List, drop, length, length-append, take, refl, sym, ap, ◌∙◌, subst, arith, Option, Some, Result, Ok, Err}
+use Rattle.std.proofs.Common.{◌≡◌, ℕ, ◌+◌, ◌*◌, ◌^◌, ◌<◌, Bool, true, false, cond, eq-eqb, List, ◌++◌, drop, length, length-append, take, refl, sym, ap, ◌∙◌, subst, arith, Option, Some, Result, Ok, Err}
 use Rattle.std.specs.Prelude.{IsSomeAnd, nat_lt}
 use Rattle.std.specs.List.{AllByRecursion}
 use Rattle.std.proofs.lemmas.Bool.{ltb-true}
@@ -10,7 +10,6 @@ use Rattle.lms_tree.specs.LmsPrivate.{LmsPrivate}
 use Rattle.lms_tree.specs.LmsType.{height_of}
 use Rattle.sporc_member.specs.declared.change.ChangeFault.{ChangeFault}
 use Rattle.sporc_member.specs.declared.device.Device.{Device}
-use Rattle.sporc_member.specs.Device.{first_device}
 use Rattle.sporc_member.specs.ChangeFault.{change_fault_code_of}
 use Rattle.sporc_client.specs.declared.fault.SubmitFault.{SubmitFault}
 use Rattle.sporc_client.specs.declared.pending.Pending.{Pending}
@@ -96,14 +95,18 @@ leaf_is key n q is = go (nat_lt n (2 ^ height_of key.lms)) refl is
 
 -- ---- random bytes, and the document's number
 
-pub random_are : (m t : ℕ) → AreBytes (random_of m t)
-random_are m t = bytes_append (derived 6 m t) (derived 7 m t) (bytes_sha _) (bytes_sha _)
+pub random_are : (who : Device) (t : ℕ) → AreBytes (random_of who t)
+random_are who t =
+    let number = who.number * 2 ^ 24 + t in bytes_append (derived 6 who.member number) (derived 7 who.member number) (bytes_sha _) (bytes_sha _)
 
-random_len : (m t : ℕ) → length (random_of m t) ≡ 64
-random_len m t =
-    let first : length (derived 6 m t) ≡ 32 = length-sha256 _ in
-    let second : length (derived 7 m t) ≡ 32 = length-sha256 _ in
-    omega (arith, length-append (derived 6 m t) (derived 7 m t), first, second)
+random_len : (who : Device) (t : ℕ) → length (random_of who t) ≡ 64
+random_len who t = both who.member (who.number * 2 ^ 24 + t)
+  where
+    both : (member number : ℕ) → length (derived 6 member number ++ derived 7 member number) ≡ 64
+    both member number =
+        let first : length (derived 6 member number) ≡ 32 = length-sha256 _ in
+        let second : length (derived 7 member number) ≡ 32 = length-sha256 _ in
+        omega (arith, length-append (derived 6 member number) (derived 7 member number), first, second)
 
 pub document_are : (script : List PlayLine) → AreBytes (setup_of script).genesis.document
 unfolding setup_of
@@ -111,17 +114,14 @@ document_are script = bytes_take 16 (derived 5 0 0) (bytes_sha _)
 
 -- ---- submissions
 
-pub submit_acts : (script : List PlayLine) (m : ℕ) → MayBe (setup_of script) (λ scene. commands.Submit m)
-submit_acts script m moves scene come =
+pub submit_acts : (script : List PlayLine) (who : Device) → MayBe (setup_of script) (λ scene. commands.Submit who)
+submit_acts script who moves scene come =
     open_acts (setup_of script) scene who (λ c. submits who (submission_in (setup_of script) scene who c)) (λ c at. go c at (submission_in (setup_of script) scene who c) refl)
   where
-    who : Device
-    who = first_device m
-
     entry : (c : PlainClient) → scene.world.clients who ≡ Some c → (bytes : List ℕ) → submission_in (setup_of script) scene who c ≡ Ok (submitted.Entry bytes) → MayAct (setup_of script) scene (submits who (Ok (submitted.Entry bytes)))
     entry c at bytes is =
         let s = setup_of script in
-        let random = random_of who.member (scene.asked who + 1) in
+        let random = random_of who (scene.asked who + 1) in
         let leaf = leaf_after (s.private who) (scene.leaves who) in
         let there = client_at s moves scene who c come at in
         let known = sound_and_typed_at s moves (length moves) who c come.run there in
@@ -133,14 +133,14 @@ submit_acts script m moves scene come =
         let written = first_written sign.item first.others (subst AreTypedItems first.first known.typed) (subst (AllByRecursion IsByteItem) first.first (come.clients who c at).pending) in
         let document : AreBytes c.opening.genesis.document = subst (λ (o : Opening). AreBytes o.genesis.document) (sym reached.opening) (document_are script) in
         let made : AreBytes (bytes_made c (chosen_by sign.number random) sign.item) =
-        made_are c (chosen_by sign.number random) sign.item written number document (bytes_take 32 random (random_are who.member (scene.asked who + 1))) (bytes_drop 32 random (random_are who.member (scene.asked who + 1)))
+        made_are c (chosen_by sign.number random) sign.item written number document (bytes_take 32 random (random_are who (scene.asked who + 1))) (bytes_drop 32 random (random_are who (scene.asked who + 1)))
         (current_bytes c (come.clients who c at).ring known.bytes) in
         let all : AreBytes bytes = subst AreBytes (sym sign.made) made in
         let may : allows c (Submit 0 bytes) ≡ true = made_allowed s moves (length moves) 0 who c bytes come.run there (record {
           leaf = sign.number;
           within = subst (λ (k : LmsPrivate). sign.number < 2 ^ height_of k.lms) (sym (ap (λ (o : Opening). o.key) reached.opening)) (leaf_is (s.private who) (scene.leaves who) sign.number sign.drawn);
           random = random;
-          size = random_len who.member (scene.asked who + 1);
+          size = random_len who (scene.asked who + 1);
           answer = sym (ap (submission c random) sign.drawn) ∙ is;
         }) in
         record {

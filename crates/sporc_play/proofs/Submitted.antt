@@ -9,6 +9,7 @@ use Rattle.lms_leaf.specs.declared.faults.LeafFault.TheVariants as leaves
 use Rattle.lms_leaf.specs.Leaves.{DrawFaults, Draws, LeavesModel}
 use Rattle.lms_tree.specs.LmsPrivate.{LmsPrivate}
 use Rattle.lms_tree.specs.LmsType.{height_of}
+use Rattle.sporc_member.specs.declared.device.Device.{Device}
 use Rattle.sporc_base.specs.Outcome.{GivesUnless}
 use Rattle.sporc_client.specs.declared.fault.SubmitFault.{SubmitFault}
 use Rattle.sporc_client.specs.declared.fault.SubmitFault.TheVariants as faults
@@ -241,10 +242,10 @@ module _ {D : Type 0} (stored : D → Option (List ℕ)) (moment : D → ℕ) (i
 
 -- ---- the same, once the answer was told
 
-pub told_line : {X F : Type 0} (r : Result X F) (out new : List ℕ) (m next last : ℕ) (result answer : Result Submitted SubmitFault)
-    → OnOk r (new ≡ out ++ submit_line m next last result) → OnOk r (answer ≡ result) → OnOk r (new ≡ out ++ submit_line m next last answer)
-told_line (Ok x) out new m next last result answer line same = line ∙ ap (λ (a : Result Submitted SubmitFault). out ++ submit_line m next last a) (sym same)
-told_line (Err e) out new m next last result answer line same = tt
+pub told_line : {X F : Type 0} (r : Result X F) (out new : List ℕ) (who : Device) (next last : ℕ) (result answer : Result Submitted SubmitFault)
+    → OnOk r (new ≡ out ++ submit_line who next last result) → OnOk r (answer ≡ result) → OnOk r (new ≡ out ++ submit_line who next last answer)
+told_line (Ok x) out new who next last result answer line same = line ∙ ap (λ (a : Result Submitted SubmitFault). out ++ submit_line who next last a) (sym same)
+told_line (Err e) out new who next last result answer line same = tt
 
 pub told_made : {V F : Type 0} (items : V → List ℕ) (r : Result (Option V) F) (result answer : Result Submitted SubmitFault)
     → IfOk r (λ made. option_to_list (option_map items made) ≡ entries_in result) → OnOk r (answer ≡ result) → IfOk r (λ made. option_to_list (option_map items made) ≡ entries_in answer)
@@ -268,7 +269,7 @@ told_both (Err e) random old new result named no_disk is = tt
 
 -- ---- a seat after it
 
-pub has_submitted : (next : ℕ) (seat : Seat) (c c' : ClientModel MemoryDiskModel) (random : List ℕ) (made : Option (List ℕ)) → seat.client ≡ Some c → random ≡ random_of seat.device.member (seat.asked + 1)
+pub has_submitted : (next : ℕ) (seat : Seat) (c c' : ClientModel MemoryDiskModel) (random : List ℕ) (made : Option (List ℕ)) → seat.client ≡ Some c → random ≡ random_of seat.device (seat.asked + 1)
     → option_to_list made ≡ entries_in (submission (state_of c) random (leaf_next c)) → IsSubmitted c (submission (state_of c) random (leaf_next c)) c'
     → HasSubmitted next seat made (record { device = seat.device; asked = seat.asked + 1; last = last_with next seat.last made; signer = seat.signer; client = Some c' })
 has_submitted next seat c c' random made is at entries did = record {

@@ -4,6 +4,7 @@ use Rattle.std.specs.Prelude.{◌↔◌}
 use Rattle.std.specs.Result.{OnOk}
 use Rattle.std.proofs.lemmas.Bool.{lt-ltb, ltb-true}
 use borrow.Author.Tests.{ltb-false}
+use Rattle.sporc_member.specs.declared.device.Device.{Device}
 use Rattle.sporc_base.specs.FirstFault.{AnswersUnless}
 use Rattle.sporc_head.specs.declared.refusal.Refusal.{Refusal}
 use Rattle.sporc_client.specs.declared.fault.AcceptFault.{AcceptFault}
@@ -18,11 +19,11 @@ use Rattle.sporc_play.specs.Report.{event_line}
 use Rattle.sporc_play.specs.Scene.{delta_by, marks_of}
 
 -- the line of a call that adds an event
-pub event_told : {X F : Type 0} (r : Result X F) (old new : List ℕ) (m : ℕ) (word : List ℕ) (answer : Result ℕ EditFault) (events : ℕ) (fault : Option EditFault)
-    → OnOk r ((events : ℕ) (fault : Option EditFault) → AnswersUnless edits.Memory answer fault → IfOk answer (λ n. n ≡ events) → new ≡ old ++ event_line m word events fault)
-    → AnswersUnless edits.Memory answer fault → IfOk answer (λ n. n ≡ events) → OnOk r (new ≡ old ++ event_line m word events fault)
-event_told (Ok x) old new m word answer events fault line answers count = line events fault answers count
-event_told (Err e) old new m word answer events fault line answers count = tt
+pub event_told : {X F : Type 0} (r : Result X F) (old new : List ℕ) (who : Device) (word : List ℕ) (answer : Result ℕ EditFault) (events : ℕ) (fault : Option EditFault)
+    → OnOk r ((events : ℕ) (fault : Option EditFault) → AnswersUnless edits.Memory answer fault → IfOk answer (λ n. n ≡ events) → new ≡ old ++ event_line who word events fault)
+    → AnswersUnless edits.Memory answer fault → IfOk answer (λ n. n ≡ events) → OnOk r (new ≡ old ++ event_line who word events fault)
+event_told (Ok x) old new who word answer events fault line answers count = line events fault answers count
+event_told (Err e) old new who word answer events fault line answers count = tt
 
 -- ---- entries that are handed out
 

@@ -17,7 +17,7 @@ IsAsked member = (0 < member) × (member ≤ 3)
 pub record HasRoom (n : ℕ) (state : PlayState) : Type 0 where
   pub scene : Scene
   pub stands : StandsFor generated_cast scene state
-  pub room : (who : Device) → scene.asked who + n < 2 ^ 32
+  pub room : (who : Device) → scene.asked who + n < 2 ^ 24
 
 -- the state stands for a scene of its members, who all have clients
 pub record AreOpen (state : PlayState) : Type 0 where

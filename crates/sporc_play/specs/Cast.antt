@@ -41,14 +41,11 @@ founder_by (commands.Member m) = Some m
 founder_by (commands.Rogue m) = Some m
 founder_by command = None
 
--- a device that has a client from the beginning, and one that has or may get one
-abbrev pub opener_by : Command → Option Device
-opener_by (commands.Member m) = Some (first_device m.member)
-opener_by command = None
-
+-- a device that has or may get a client
 abbrev pub device_by : Command → Option Device
 device_by (commands.Member m) = Some (first_device m.member)
 device_by (commands.Joiner m) = Some (first_device m)
+device_by (commands.Device device) = Some device
 device_by command = None
 
 -- the device of one for whom the script signs
@@ -105,9 +102,17 @@ founders_of script = fold (λ founders m. insert_by (λ f. f.member) (founder_of
 abbrev pub has_admin : List PlayLine → Bool
 has_admin script = list_any (λ f. is_admin f.role) (founders_of script)
 
--- the devices that have a client from the beginning, if a founder is an admin
-abbrev pub openers_by : List PlayLine → List Device
-openers_by script = filter_map (λ l. opener_by l.command) script
+-- the devices that have a client from the beginning, if a founder is an admin: those of founders
+abbrev pub is_founder : List Founder → ℕ → Bool
+is_founder founders member = list_any (λ f. f.member == member) founders
+
+abbrev pub opener_by : List Founder → Command → Option Device
+opener_by founders (commands.Member m) = Some (first_device m.member)
+opener_by founders (commands.Device device) = if is_founder founders device.member then Some device else None
+opener_by founders command = None
+
+abbrev pub openers_by : List Founder → List PlayLine → List Device
+openers_by founders lines = filter_map (λ l. opener_by founders l.command) lines
 
 -- the devices of those for whom the script signs
 abbrev pub rogues_of : List PlayLine → List Device
@@ -152,8 +157,11 @@ setup_of script = record {
   private = private_of (tree_of script);
 }
 
--- a change of the members; the key of a new one is its own
+-- a change of the members; the key of a new one, and of a further device, is its own
 abbrev pub member_change : Setup → RosterChange → MemberChange
 member_change s (changes.Add m) = member_changes.Add m.member m.role (key_of_device s (first_device m.member))
 member_change s (changes.Remove member) = member_changes.Remove member
 member_change s (changes.SetRole m) = member_changes.SetRole m.member m.role
+member_change s (changes.AddDevice device) = member_changes.AddDevice device.member device.number (key_of_device s device)
+member_change s (changes.DropDevice device) = member_changes.DropDevice device.member device.number
+member_change s changes.Upgrade = member_changes.Upgrade

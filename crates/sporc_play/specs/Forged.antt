@@ -1,5 +1,5 @@
 -- The entries that a script signs for rogues: as a client's history says, but for what the script says otherwise.
-use Rattle.std.specs.Prelude.{◌≡◌, ℕ, ◌≤◌, ⊤, ◌+◌, ◌==◌, nat_le, not, List, [], ◌∷◌, length, take, drop, filter, fold, map, min, bit_xor, replicate, unwrap_or, Option, None, Some, Result, Ok, Err, if◌then◌else◌}
+use Rattle.std.specs.Prelude.{◌≡◌, ℕ, ◌≤◌, ⊤, ◌+◌, ◌==◌, nat_le, not, Bool, List, [], ◌∷◌, length, take, drop, filter, fold, map, min, bit_xor, replicate, unwrap_or, Option, None, Some, Result, Ok, Err, if◌then◌else◌}
 use Rattle.std.specs.FinMap.{empty, insert}
 use Rattle.std.specs.List.{AllByRecursion}
 use Rattle.lms_leaf.specs.declared.faults.LeafFault.{LeafFault}
@@ -17,10 +17,10 @@ use Rattle.sporc_member.specs.Roster.{Roster, after_change, change_fault_of, num
 use Rattle.sporc_entry.specs.declared.change.ChangeBody.{ChangeBody}
 use Rattle.sporc_entry.specs.declared.entry.Entry.{Entry}
 use Rattle.sporc_entry.specs.declared.header.Header.{Header}
-use Rattle.sporc_entry.specs.declared.version.TheConstants.{FIRST_VERSION}
 use Rattle.sporc_entry.specs.declared.wrap.Wrap.{Wrap}
 use Rattle.sporc_entry.specs.ChangeBody.{change_body_bytes}
 use Rattle.sporc_entry.specs.Entry.{entry_bytes, signed_string}
+use Rattle.sporc_entry.specs.Version.{names_device, version_of}
 use Rattle.sporc_epoch.specs.Keys.{Keys}
 use Rattle.sporc_epoch.specs.Sealing.{Sealing, body_sealed}
 use Rattle.sporc_epoch.specs.Streams.{stream_of}
@@ -37,6 +37,16 @@ use Rattle.sporc_play.specs.Cast.{member_change}
 use Rattle.sporc_play.specs.Derived.{pair_key, random_of}
 
 -- ---- the header
+
+-- the version that the script says, 1 or 2, or else that of the history
+abbrev pub version_by : Option Suffix → Bool → ℕ
+version_by (Some (suffixes.Version k)) upgraded = version_of (names_device k)
+version_by suffix upgraded = version_of upgraded
+
+-- the device that the script says, if the version names one
+abbrev pub device_in : Option Suffix → ℕ → ℕ
+device_in (Some (suffixes.Device d)) version = if names_device version then d else FIRST_DEVICE
+device_in suffix version = FIRST_DEVICE
 
 abbrev pub number_by : Option Suffix → ℕ → ℕ
 number_by (Some (suffixes.Number k)) number = k
@@ -65,12 +75,13 @@ value_at c base = if nat_le base (length c.entries) then hash_of c.opening.genes
 abbrev pub forged_header : PlainClient → Forgery → ℕ → Header
 forged_header c f leaf =
     let suffix = f.signed.suffix in
+    let version = version_by suffix (roster_of c.opening.genesis c.entries).upgraded in
     let base = base_by suffix (length c.entries) in
     record {
-      version = FIRST_VERSION;
+      version = version;
       document = c.opening.genesis.document;
       author = f.member;
-      device = FIRST_DEVICE;
+      device = device_in suffix version;
       number = number_by suffix (count_of (first_device f.member) c.entries + 1);
       base = base;
       base_hash = value_at c base;
@@ -178,5 +189,5 @@ signed_by s c f random leaf = entry_bytes (record (unsigned_by s c f random leaf
 
 -- the bytes of the entry that a rogue signs for the t-th time, unless its leaves are used up
 unfoldable pub forged_entry : Setup → PlainClient → Forgery → ℕ → Result ℕ LeafFault → Option (List ℕ)
-forged_entry s c f t (Ok leaf) = Some (signed_by s c f (random_of f.member t) leaf)
+forged_entry s c f t (Ok leaf) = Some (signed_by s c f (random_of (first_device f.member) t) leaf)
 forged_entry s c f t (Err fault) = None

@@ -49,13 +49,13 @@ abbrev pub generated_edit : ℕ → ℕ → Scene → TextEdit
 generated_edit j author scene = if j % 5 == 0 then removes author else inserts j author (seen_len (scene.world.clients (first_device author)))
 
 abbrev pub edits : ℕ → ℕ → Scene → Command
-edits j author scene = commands.Edit (record { member = author; seen = None; change = generated_edit j author scene })
+edits j author scene = commands.Edit (record { device = first_device author; seen = None; change = generated_edit j author scene })
 
 abbrev pub submits : ℕ → Scene → Command
-submits author scene = commands.Submit author
+submits author scene = commands.Submit (first_device author)
 
 abbrev pub gives : ℕ → ℕ → Scene → Command
-gives number member scene = commands.Give (record { member = member; position = number; entry = number })
+gives number member scene = commands.Give (record { device = first_device member; position = number; entry = number })
 
 -- the numbers from 1 to n
 abbrev pub up_to : ℕ → List ℕ

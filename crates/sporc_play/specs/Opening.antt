@@ -63,9 +63,9 @@ pub record HasRogue (tree : Tree) (who : Device) (old new : List Rogue) : Type 0
   pub fresh : IsFreshRogue tree rogue
   pub pushed : new ≡ old ++ rogue ∷ []
 
--- a member is declared with its key, and all else is as it was
-pub record IsNamed (member : ℕ) (old new : Cast) : Type 0 where
+-- a member is declared with this key, and all else is as it was
+pub record IsNamed (member : ℕ) (key : List ℕ) (old new : Cast) : Type 0 where
   pub tree : new.tree ≡ old.tree
-  pub declared : new.declared.items ≡ old.declared.items ++ record { member = member; key = public_of old.tree (first_device member) } ∷ []
+  pub declared : new.declared.items ≡ old.declared.items ++ record { member = member; key = key } ∷ []
   pub unpaired : new.unpaired.items ≡ old.unpaired.items
   pub founders : new.founders.items ≡ old.founders.items

@@ -30,8 +30,9 @@ use Rattle.sporc_client.specs.Run.{Setup}
 use Rattle.sporc_script.specs.declared.command.Command.{Command}
 use Rattle.sporc_script.specs.declared.command.Command.TheVariants as commands
 use Rattle.sporc_script.specs.declared.command.Edit.{Edit}
-use Rattle.sporc_script.specs.declared.command.Pair.{Pair}
+use Rattle.sporc_script.specs.declared.command.DevicePair.{DevicePair}
 use Rattle.sporc_script.specs.declared.play_line.PlayLine.{PlayLine}
+use Rattle.sporc_script.specs.Spelling.{device_text}
 use Rattle.sporc_report.specs.ClientLines.{Stands, compare_line, hash_line, members_line, show_line}
 use Rattle.sporc_report.specs.JournalLines.{journal_lines}
 use Rattle.sporc_report.specs.Names.{accept_fault_name, edit_fault_name, hint_fault_name, open_fault_name, submit_fault_name}
@@ -40,8 +41,8 @@ use Rattle.sporc_play.specs.Scene.{Scene, after, delta_by, entries_at, entry_at,
 
 -- ---- lines that several commands write
 
-abbrev pub not_open_line : ℕ → List ℕ
-not_open_line m = decimal m ++ codes " not open\n"
+abbrev pub not_open_line : Device → List ℕ
+not_open_line who = device_text who ++ codes " not open\n"
 
 abbrev pub no_entry_line : ℕ → List ℕ
 no_entry_line number = codes "no entry " ++ (decimal number ++ codes "\n")
@@ -51,77 +52,77 @@ abbrev pub entry_line : ℕ → List ℕ
 entry_line next = codes "entry " ++ (decimal next ++ codes "\n")
 
 -- a call that adds an event, unless it is refused; the journal has so many with it
-abbrev pub event_line : ℕ → List ℕ → ℕ → Option EditFault → List ℕ
-event_line m word events None = decimal m ++ (codes " " ++ (word ++ (codes " event " ++ (decimal events ++ codes "\n"))))
-event_line m word events (Some fault) = decimal m ++ (codes " " ++ (word ++ (codes " refused " ++ (edit_fault_name fault ++ codes "\n"))))
+abbrev pub event_line : Device → List ℕ → ℕ → Option EditFault → List ℕ
+event_line who word events None = device_text who ++ (codes " " ++ (word ++ (codes " event " ++ (decimal events ++ codes "\n"))))
+event_line who word events (Some fault) = device_text who ++ (codes " " ++ (word ++ (codes " refused " ++ (edit_fault_name fault ++ codes "\n"))))
 
 -- ---- edits, changes and discards
 
-abbrev pub edit_line : ℕ → PlainClient → ℕ → Option (List Mark) → List ℕ
-edit_line m c seen None = decimal m ++ (codes " edit outside " ++ (decimal (length (shown_after seen c)) ++ codes "\n"))
-edit_line m c seen (Some marks) = event_line m (codes "edit") (length c.shown + 1) (edit_fault c seen marks)
+abbrev pub edit_line : Device → PlainClient → ℕ → Option (List Mark) → List ℕ
+edit_line who c seen None = device_text who ++ (codes " edit outside " ++ (decimal (length (shown_after seen c)) ++ codes "\n"))
+edit_line who c seen (Some marks) = event_line who (codes "edit") (length c.shown + 1) (edit_fault c seen marks)
 
 -- of what a member sees, or saw
 abbrev pub edited_line : Edit → PlainClient → List ℕ
-edited_line e c = edit_line e.member c (seen_by c e.seen) (delta_by c (seen_by c e.seen) e.change)
+edited_line e c = edit_line e.device c (seen_by c e.seen) (delta_by c (seen_by c e.seen) e.change)
 
-abbrev pub change_line : ℕ → PlainClient → List ℕ
-change_line m c = event_line m (codes "change") (length c.shown + 1) (change_fault c)
+abbrev pub change_line : Device → PlainClient → List ℕ
+change_line who c = event_line who (codes "change") (length c.shown + 1) (change_fault c)
 
-abbrev pub discard_line : ℕ → PlainClient → List ℕ
-discard_line m c = event_line m (codes "discard") (length c.shown + 1) (discard_fault c)
+abbrev pub discard_line : Device → PlainClient → List ℕ
+discard_line who c = event_line who (codes "discard") (length c.shown + 1) (discard_fault c)
 
 -- ---- submissions: the next entry that is made has this number, and the client's last one has that
 
-abbrev pub submit_line : ℕ → ℕ → ℕ → Result Submitted SubmitFault → List ℕ
-submit_line m next last (Ok (submitted.Entry entry)) = decimal m ++ (codes " submit entry " ++ (decimal next ++ codes "\n"))
-submit_line m next last (Ok submitted.Nothing) = decimal m ++ codes " submit nothing\n"
-submit_line m next last (Ok submitted.Waiting) = decimal m ++ (codes " submit waiting " ++ (decimal last ++ codes "\n"))
-submit_line m next last (Ok (submitted.Dropped fault)) = decimal m ++ (codes " submit dropped " ++ (change_fault_name fault ++ codes "\n"))
-submit_line m next last (Err fault) = decimal m ++ (codes " submit refused " ++ (submit_fault_name fault ++ codes "\n"))
+abbrev pub submit_line : Device → ℕ → ℕ → Result Submitted SubmitFault → List ℕ
+submit_line who next last (Ok (submitted.Entry entry)) = device_text who ++ (codes " submit entry " ++ (decimal next ++ codes "\n"))
+submit_line who next last (Ok submitted.Nothing) = device_text who ++ codes " submit nothing\n"
+submit_line who next last (Ok submitted.Waiting) = device_text who ++ (codes " submit waiting " ++ (decimal last ++ codes "\n"))
+submit_line who next last (Ok (submitted.Dropped fault)) = device_text who ++ (codes " submit dropped " ++ (change_fault_name fault ++ codes "\n"))
+submit_line who next last (Err fault) = device_text who ++ (codes " submit refused " ++ (submit_fault_name fault ++ codes "\n"))
 
 -- ---- what is handed out, and going back
 
-abbrev pub accept_line : ℕ → ℕ → Option AcceptFault → List ℕ
-accept_line m position None = decimal m ++ (codes " accept " ++ (decimal position ++ codes " ok\n"))
-accept_line m position (Some fault) = decimal m ++ (codes " accept " ++ (decimal position ++ (codes " refused " ++ (accept_fault_name fault ++ codes "\n"))))
+abbrev pub accept_line : Device → ℕ → Option AcceptFault → List ℕ
+accept_line who position None = device_text who ++ (codes " accept " ++ (decimal position ++ codes " ok\n"))
+accept_line who position (Some fault) = device_text who ++ (codes " accept " ++ (decimal position ++ (codes " refused " ++ (accept_fault_name fault ++ codes "\n"))))
 
-abbrev pub give_line : ℕ → ℕ → PlainClient → Option (List ℕ) → List ℕ
-give_line m position c None = decimal m ++ (codes " accept " ++ (decimal position ++ codes " no entry\n"))
-give_line m position c (Some bytes) = accept_line m position (accept_fault c position bytes)
+abbrev pub give_line : Device → ℕ → PlainClient → Option (List ℕ) → List ℕ
+give_line who position c None = device_text who ++ (codes " accept " ++ (decimal position ++ codes " no entry\n"))
+give_line who position c (Some bytes) = accept_line who position (accept_fault c position bytes)
 
-abbrev pub restart_answer : Bool → ℕ → ℕ → ℕ → List ℕ
-restart_answer true m k len = decimal m ++ (codes " restart " ++ (decimal k ++ (codes " ahead " ++ (decimal len ++ codes "\n"))))
-restart_answer false m k len = decimal m ++ (codes " restart " ++ (decimal k ++ codes " ok\n"))
+abbrev pub restart_answer : Bool → Device → ℕ → ℕ → List ℕ
+restart_answer true who k len = device_text who ++ (codes " restart " ++ (decimal k ++ (codes " ahead " ++ (decimal len ++ codes "\n"))))
+restart_answer false who k len = device_text who ++ (codes " restart " ++ (decimal k ++ codes " ok\n"))
 
-abbrev pub restart_line : ℕ → ℕ → PlainClient → List ℕ
-restart_line m k c = restart_answer (nat_lt (length c.entries) k) m k (length c.entries)
+abbrev pub restart_line : Device → ℕ → PlainClient → List ℕ
+restart_line who k c = restart_answer (nat_lt (length c.entries) k) who k (length c.entries)
 
 -- ---- joiners
 
-abbrev pub open_line : ℕ → Option LineOpenFault → List ℕ
-open_line m None = decimal m ++ codes " join ok\n"
-open_line m (Some fault) = decimal m ++ (codes " join refused " ++ (open_fault_name fault ++ codes "\n"))
+abbrev pub open_line : Device → Option LineOpenFault → List ℕ
+open_line who None = device_text who ++ codes " join ok\n"
+open_line who (Some fault) = device_text who ++ (codes " join refused " ++ (open_fault_name fault ++ codes "\n"))
 
-abbrev pub hints_line : Setup → ℕ → Result Keys HintFault → List ℕ
-hints_line s m (Ok ring) = open_line m (first_of (open_checks s.genesis (get ring 0)))
-hints_line s m (Err fault) = decimal m ++ (codes " join refused " ++ (hint_fault_name fault ++ codes "\n"))
+abbrev pub hints_line : Setup → Device → Result Keys HintFault → List ℕ
+hints_line s who (Ok ring) = open_line who (first_of (open_checks s.genesis (get ring 0)))
+hints_line s who (Err fault) = device_text who ++ (codes " join refused " ++ (hint_fault_name fault ++ codes "\n"))
 
 abbrev pub joined_line : Setup → Device → Result (List (List ℕ)) ℕ → List ℕ
-joined_line s who (Ok entries) = hints_line s who.member (hints_of entries who.member (s.pairs who))
+joined_line s who (Ok entries) = hints_line s who (hints_of entries who.member (s.pairs who))
 joined_line s who (Err missing) = no_entry_line missing
 
 abbrev pub join_line : Setup → Device → Result (List (List ℕ)) ℕ → Option PlainClient → List ℕ
-join_line s who entries (Some c) = decimal who.member ++ codes " already open\n"
+join_line s who entries (Some c) = device_text who ++ codes " already open\n"
 join_line s who entries None = joined_line s who entries
 
--- ---- how the history of one member stands to another's
+-- ---- how the history of one client stands to another's
 
 abbrev pub hashes_of : PlainClient → List (List ℕ)
 hashes_of c = chain (genesis_bytes c.opening.genesis) c.entries
 
 -- if values of both chains meet again after they parted, any place at which they part may stand in the line
-abbrev pub Compares : Pair → Option PlainClient → Option PlainClient → List ℕ → Type 0
+abbrev pub Compares : DevicePair → Option PlainClient → Option PlainClient → List ℕ → Type 0
 Compares p (Some a) (Some b) line = (v : Verdict) × Stands (hashes_of a) (hashes_of b) v × (line ≡ compare_line p v)
 Compares p None b line = line ≡ not_open_line p.first
 Compares p (Some a) None line = line ≡ not_open_line p.second
@@ -141,16 +142,16 @@ cut_line next number None = no_entry_line number
 cut_line next number (Some bytes) = entry_line next
 
 -- by the leaf that the rogue draws
-abbrev pub sign_line : ℕ → ℕ → Result ℕ LeafFault → List ℕ
-sign_line m next (Ok leaf) = decimal m ++ (codes " sign entry " ++ (decimal next ++ codes "\n"))
-sign_line m next (Err fault) = decimal m ++ codes " sign exhausted\n"
+abbrev pub sign_line : Device → ℕ → Result ℕ LeafFault → List ℕ
+sign_line who next (Ok leaf) = device_text who ++ (codes " sign entry " ++ (decimal next ++ codes "\n"))
+sign_line who next (Err fault) = device_text who ++ codes " sign exhausted\n"
 
 -- ---- commands
 
 -- the line of a call of a client, if there is one
-abbrev pub line_by : ℕ → Option PlainClient → (PlainClient → List ℕ) → List ℕ
-line_by m None line = not_open_line m
-line_by m (Some c) line = line c
+abbrev pub line_by : Device → Option PlainClient → (PlainClient → List ℕ) → List ℕ
+line_by who None line = not_open_line who
+line_by who (Some c) line = line c
 
 -- the number of the next entry that is made
 abbrev pub next_number : Scene → ℕ
@@ -158,32 +159,29 @@ next_number scene = length scene.made + 1
 
 -- the line that a command writes in a scene, but for a comparison; a declaration writes none
 abbrev pub line_of : Setup → Scene → Command → List ℕ
-line_of s scene (commands.Edit e) = line_by e.member (scene.world.clients (first_device e.member)) (edited_line e)
-line_of s scene (commands.Change e) = line_by e.member (scene.world.clients (first_device e.member)) (change_line e.member)
-line_of s scene (commands.Discard m) = line_by m (scene.world.clients (first_device m)) (discard_line m)
-line_of s scene (commands.Submit m) =
-    let who = first_device m in
-    line_by m (scene.world.clients who) (λ c. submit_line m (next_number scene) (scene.last who) (submission_in s scene who c))
+line_of s scene (commands.Edit e) = line_by e.device (scene.world.clients e.device) (edited_line e)
+line_of s scene (commands.Change e) = line_by e.device (scene.world.clients e.device) (change_line e.device)
+line_of s scene (commands.Discard who) = line_by who (scene.world.clients who) (discard_line who)
+line_of s scene (commands.Submit who) =
+    line_by who (scene.world.clients who) (λ c. submit_line who (next_number scene) (scene.last who) (submission_in s scene who c))
 line_of s scene (commands.Give g) =
-    line_by g.member (scene.world.clients (first_device g.member)) (λ c. give_line g.member g.position c (entry_at scene.made g.entry))
-line_of s scene (commands.Restart r) = line_by r.member (scene.world.clients (first_device r.member)) (restart_line r.member r.entries)
-line_of s scene (commands.Join j) =
-    let who = first_device j.member in join_line s who (entries_at scene.made j.entries) (scene.world.clients who)
-line_of s scene (commands.Show m) = line_by m (scene.world.clients (first_device m)) (show_line m)
-line_of s scene (commands.Members m) = line_by m (scene.world.clients (first_device m)) (members_line m)
-line_of s scene (commands.Journal m) =
-    let who = first_device m in line_by m (scene.world.clients who) (λ c. journal_lines (journal_of (scene.logs who)))
-line_of s scene (commands.Hash m) = line_by m (scene.world.clients (first_device m)) (hash_line m)
+    line_by g.device (scene.world.clients g.device) (λ c. give_line g.device g.position c (entry_at scene.made g.entry))
+line_of s scene (commands.Restart r) = line_by r.device (scene.world.clients r.device) (restart_line r.device r.entries)
+line_of s scene (commands.Join j) = join_line s j.device (entries_at scene.made j.entries) (scene.world.clients j.device)
+line_of s scene (commands.Show who) = line_by who (scene.world.clients who) (show_line who)
+line_of s scene (commands.Members who) = line_by who (scene.world.clients who) (members_line who)
+line_of s scene (commands.Journal who) = line_by who (scene.world.clients who) (λ c. journal_lines (journal_of (scene.logs who)))
+line_of s scene (commands.Hash who) = line_by who (scene.world.clients who) (hash_line who)
 line_of s scene (commands.Flip f) = flip_line (next_number scene) f.entry f.at (entry_at scene.made f.entry)
 line_of s scene (commands.Cut number) = cut_line (next_number scene) number (entry_at scene.made number)
 line_of s scene (commands.Sign f) =
     let rogue = first_device f.member in
-    line_by f.from (scene.world.clients (first_device f.from)) (λ c. sign_line f.member (next_number scene) (leaf_after (s.private rogue) (scene.leaves rogue)))
+    line_by f.from (scene.world.clients f.from) (λ c. sign_line rogue (next_number scene) (leaf_after (s.private rogue) (scene.leaves rogue)))
 line_of s scene command = []
 
 -- a line that the command may write
 abbrev pub Writes : Setup → Scene → Command → List ℕ → Type 0
-Writes s scene (commands.Compare p) line = Compares p (scene.world.clients (first_device p.first)) (scene.world.clients (first_device p.second)) line
+Writes s scene (commands.Compare p) line = Compares p (scene.world.clients p.first) (scene.world.clients p.second) line
 Writes s scene command line = line ≡ line_of s scene command
 
 -- ---- scripts

@@ -9,6 +9,7 @@ use Rattle.lms_tree.specs.LmsType.{height_of}
 use Rattle.sporc_base.specs.FirstFault.{first_of}
 use Rattle.sporc_delta.specs.Marks.{Mark, insertion, removal}
 use Rattle.sporc_member.specs.declared.device.Device.{Device}
+use Rattle.sporc_member.specs.declared.founder.Founder.{Founder}
 use Rattle.sporc_member.specs.Device.{first_device, same_device}
 use Rattle.sporc_epoch.specs.Hints.{hints_of}
 use Rattle.sporc_epoch.specs.Keys.{Keys}
@@ -31,7 +32,7 @@ use Rattle.sporc_script.specs.declared.text_edit.TextEdit.{TextEdit}
 use Rattle.sporc_script.specs.declared.text_edit.TextEdit.TheVariants.{Insert, Remove}
 use Rattle.sporc_script.specs.declared.sign.What.{What}
 use Rattle.sporc_script.specs.declared.sign.What.TheVariants as whats
-use Rattle.sporc_play.specs.Cast.{first_ring, has_admin, member_change, openers_by, setup_of}
+use Rattle.sporc_play.specs.Cast.{first_ring, founders_of, has_admin, member_change, openers_by, setup_of}
 use Rattle.sporc_play.specs.Derived.{random_of}
 use Rattle.sporc_play.specs.Forged.{forged_entry}
 use Rattle.sporc_play.specs.Logs.{change_events, discard_events, edit_logged, logs_after}
@@ -109,7 +110,7 @@ leaf_next c = leaf_after c.opening.key c.leaves.next
 
 -- the answer to a submission in a scene
 abbrev pub submission_in : Setup → Scene → Device → PlainClient → Result Submitted SubmitFault
-submission_in s scene who c = submission c (random_of who.member (scene.asked who + 1)) (leaf_after (s.private who) (scene.leaves who))
+submission_in s scene who c = submission c (random_of who (scene.asked who + 1)) (leaf_after (s.private who) (scene.leaves who))
 
 -- the entry that an answer hands out
 abbrev pub entries_in : Result Submitted SubmitFault → List (List ℕ)
@@ -193,21 +194,20 @@ if_open None act = nothing
 if_open (Some c) act = act c
 
 abbrev pub effect_of : Setup → Scene → Command → Effect
-effect_of s scene (commands.Edit e) =
-    let who = first_device e.member in if_open (scene.world.clients who) (λ c. adds who (edit_events e c))
+effect_of s scene (commands.Edit e) = if_open (scene.world.clients e.device) (λ c. adds e.device (edit_events e c))
 effect_of s scene (commands.Change e) =
-    let who = first_device e.member in if_open (scene.world.clients who) (λ c. adds who (change_events (member_change s e.change) c))
-effect_of s scene (commands.Discard m) = let who = first_device m in if_open (scene.world.clients who) (λ c. adds who (discard_events c))
-effect_of s scene (commands.Submit m) = let who = first_device m in if_open (scene.world.clients who) (λ c. submits who (submission_in s scene who c))
+    if_open (scene.world.clients e.device) (λ c. adds e.device (change_events (member_change s e.change) c))
+effect_of s scene (commands.Discard who) = if_open (scene.world.clients who) (λ c. adds who (discard_events c))
+effect_of s scene (commands.Submit who) = if_open (scene.world.clients who) (λ c. submits who (submission_in s scene who c))
 effect_of s scene (commands.Give g) =
-    let who = first_device g.member in if_open (scene.world.clients who) (λ c. gives who g.position (entry_at scene.made g.entry))
-effect_of s scene (commands.Restart r) = let who = first_device r.member in if_open (scene.world.clients who) (restarts who r.entries)
-effect_of s scene (commands.Join j) = let who = first_device j.member in joins s who (entries_at scene.made j.entries) (scene.world.clients who)
+    if_open (scene.world.clients g.device) (λ c. gives g.device g.position (entry_at scene.made g.entry))
+effect_of s scene (commands.Restart r) = if_open (scene.world.clients r.device) (restarts r.device r.entries)
+effect_of s scene (commands.Join j) = joins s j.device (entries_at scene.made j.entries) (scene.world.clients j.device)
 effect_of s scene (commands.Flip f) = flips f.at (entry_at scene.made f.entry)
 effect_of s scene (commands.Cut entry) = cuts (entry_at scene.made entry)
 effect_of s scene (commands.Sign f) =
     let rogue = first_device f.member in
-    if_open (scene.world.clients (first_device f.from)) (λ c. signs_by (forged_entry s c f (scene.asked rogue + 1) (leaf_after (s.private rogue) (scene.leaves rogue))))
+    if_open (scene.world.clients f.from) (λ c. signs_by (forged_entry s c f (scene.asked rogue + 1) (leaf_after (s.private rogue) (scene.leaves rogue))))
 effect_of s scene command = nothing
 
 -- how many bytes the text or the payload of a command has
@@ -223,7 +223,7 @@ text_size command = 0
 
 -- who is to submit or to sign by a command
 abbrev pub signer_of : Command → Option Device
-signer_of (commands.Submit m) = Some (first_device m)
+signer_of (commands.Submit who) = Some who
 signer_of (commands.Sign f) = Some (first_device f.member)
 signer_of command = None
 
@@ -239,7 +239,7 @@ last_made last who next (entry ∷ entries) other = if same_device other who the
 
 -- those numbers after a command whose entries get numbers from the next on
 abbrev pub last_by : (Device → ℕ) → Command → ℕ → List (List ℕ) → Device → ℕ
-last_by last (commands.Submit m) next entries = last_made last (first_device m) next entries
+last_by last (commands.Submit who) next entries = last_made last who next entries
 last_by last command next entries = last
 
 -- a scene after a command
@@ -256,9 +256,9 @@ performed s scene command act = record {
 abbrev pub after : Setup → Scene → Command → Scene
 after s scene command = performed s scene command (effect_of s scene command)
 
--- the founders whom these lines declare with clients open them
-abbrev pub openings : List PlayLine → List Move
-openings lines = map (λ who. Open who first_ring) (openers_by lines)
+-- the devices of these founders that these lines declare open their clients
+abbrev pub openings : List Founder → List PlayLine → List Move
+openings founders lines = map (λ who. Open who first_ring) (openers_by founders lines)
 
 -- the scene after moves of the members of a script, before any command
 abbrev pub scene_moved : List PlayLine → List Move → Scene
@@ -273,14 +273,14 @@ scene_moved script moves = record {
 
 -- the founders open their clients, if one of them is an admin
 abbrev pub opening_moves : List PlayLine → List Move
-opening_moves script = if has_admin script then openings script else []
+opening_moves script = if has_admin script then openings (founders_of script) script else []
 
 abbrev pub opening : List PlayLine → Scene
 opening script = scene_moved script (opening_moves script)
 
 -- the scene in which the clients of the first n lines of a script are open
 abbrev pub scene_opened : List PlayLine → ℕ → Scene
-scene_opened script n = scene_moved script (openings (take n script))
+scene_opened script n = scene_moved script (openings (founders_of script) (take n script))
 
 -- a scene after commands, each of which may depend on the scene that it is performed in
 abbrev pub after_each : Setup → Scene → List (Scene → Command) → Scene

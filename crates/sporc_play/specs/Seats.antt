@@ -73,12 +73,12 @@ seat_restarted k seat = record seat { client = option_map (client_restarted k) s
 
 -- what a client of the seat answers to the next submission
 abbrev pub answer_of : {D : Type 0} → Seat → ClientModel D → Result Submitted SubmitFault
-answer_of seat c = submission (state_of c) (random_of seat.device.member (seat.asked + 1)) (leaf_next c)
+answer_of seat c = submission (state_of c) (random_of seat.device (seat.asked + 1)) (leaf_next c)
 
 -- the line of that answer, by the number of the next entry
 abbrev pub submission_line : {D : Type 0} → ℕ → Seat → Option (ClientModel D) → List ℕ
-submission_line next seat None = not_open_line seat.device.member
-submission_line next seat (Some c) = submit_line seat.device.member next seat.last (answer_of seat c)
+submission_line next seat None = not_open_line seat.device
+submission_line next seat (Some c) = submit_line seat.device next seat.last (answer_of seat c)
 
 -- a client after a submission with this answer
 pub record IsSubmitted {D : Type 0} (old : ClientModel D) (answer : Result Submitted SubmitFault) (new : ClientModel D) : Type 0 where

@@ -4,7 +4,10 @@ use Rattle.std.specs.Fmt.{decimal}
 use Rattle.std.specs.Option.{option_to_list}
 use Rattle.sporc_client.specs.ClientModel.{ClientModel, state_of}
 use Rattle.sporc_client.specs.Run.{Setup}
+use Rattle.sporc_member.specs.declared.device.Device.{Device}
+use Rattle.sporc_member.specs.Device.{first_device}
 use Rattle.sporc_script.specs.declared.sign.Forgery.{Forgery}
+use Rattle.sporc_script.specs.Spelling.{device_text}
 use Rattle.sporc_play.specs.declared.seat.Rogue.{Rogue}
 use Rattle.sporc_play.specs.Forged.{forged_entry}
 use Rattle.sporc_play.specs.Report.{line_by, sign_line}
@@ -18,7 +21,7 @@ forged_by s f rogue (Some c) = forged_entry s (state_of c) f (rogue.asked + 1) (
 
 -- the line that tells it, by the number of the next entry
 abbrev pub signing_line : {D : Type 0} → Forgery → ℕ → Rogue → Option (ClientModel D) → List ℕ
-signing_line f next rogue client = line_by f.from (option_map state_of client) (λ c. sign_line f.member next (leaf_after rogue.signer.key rogue.signer.leaves.next))
+signing_line f next rogue client = line_by f.from (option_map state_of client) (λ c. sign_line (first_device f.member) next (leaf_after rogue.signer.key rogue.signer.leaves.next))
 
 -- a rogue after it was to sign, and signed this entry, if it did
 pub record HasSigned (old : Rogue) (made : Option (List ℕ)) (new : Rogue) : Type 0 where
@@ -28,6 +31,6 @@ pub record HasSigned (old : Rogue) (made : Option (List ℕ)) (new : Rogue) : Ty
   pub leaves : AreDrawn old.signer.key (old.signer.leaves.next + length (option_to_list made)) new.signer.leaves
 
 -- the line that tells whether a rogue signed
-abbrev pub signed_line : ℕ → ℕ → Bool → List ℕ
-signed_line m next true = decimal m ++ (codes " sign entry " ++ (decimal next ++ codes "\n"))
-signed_line m next false = decimal m ++ codes " sign exhausted\n"
+abbrev pub signed_line : Device → ℕ → Bool → List ℕ
+signed_line who next true = device_text who ++ (codes " sign entry " ++ (decimal next ++ codes "\n"))
+signed_line who next false = device_text who ++ codes " sign exhausted\n"

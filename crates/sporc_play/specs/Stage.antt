@@ -99,29 +99,29 @@ pub record HasSameMembers (old new : PlayState) : Type 0 where
 
 -- those whom a command names take part
 abbrev pub IsCast : PlayState → Command → Type 0
-IsCast state (commands.Edit e) = Contains (seated state.seats.items) (first_device e.member)
-IsCast state (commands.Change e) = Contains (seated state.seats.items) (first_device e.member)
-IsCast state (commands.Discard m) = Contains (seated state.seats.items) (first_device m)
-IsCast state (commands.Submit m) = Contains (seated state.seats.items) (first_device m)
-IsCast state (commands.Give g) = Contains (seated state.seats.items) (first_device g.member)
-IsCast state (commands.Restart r) = Contains (seated state.seats.items) (first_device r.member)
-IsCast state (commands.Join j) = Contains (seated state.seats.items) (first_device j.member) × IsGenesis state.genesis
-IsCast state (commands.Show m) = Contains (seated state.seats.items) (first_device m)
-IsCast state (commands.Members m) = Contains (seated state.seats.items) (first_device m)
-IsCast state (commands.Hash m) = Contains (seated state.seats.items) (first_device m)
-IsCast state (commands.Journal m) = Contains (seated state.seats.items) (first_device m)
-IsCast state (commands.Compare p) = Contains (seated state.seats.items) (first_device p.first) × Contains (seated state.seats.items) (first_device p.second)
-IsCast state (commands.Sign f) = Contains (rogue_devices state.rogues.items) (first_device f.member) × Contains (seated state.seats.items) (first_device f.from)
+IsCast state (commands.Edit e) = Contains (seated state.seats.items) e.device
+IsCast state (commands.Change e) = Contains (seated state.seats.items) e.device
+IsCast state (commands.Discard who) = Contains (seated state.seats.items) who
+IsCast state (commands.Submit who) = Contains (seated state.seats.items) who
+IsCast state (commands.Give g) = Contains (seated state.seats.items) g.device
+IsCast state (commands.Restart r) = Contains (seated state.seats.items) r.device
+IsCast state (commands.Join j) = Contains (seated state.seats.items) j.device × IsGenesis state.genesis
+IsCast state (commands.Show who) = Contains (seated state.seats.items) who
+IsCast state (commands.Members who) = Contains (seated state.seats.items) who
+IsCast state (commands.Hash who) = Contains (seated state.seats.items) who
+IsCast state (commands.Journal who) = Contains (seated state.seats.items) who
+IsCast state (commands.Compare p) = Contains (seated state.seats.items) p.first × Contains (seated state.seats.items) p.second
+IsCast state (commands.Sign f) = Contains (rogue_devices state.rogues.items) (first_device f.member) × Contains (seated state.seats.items) f.from
 IsCast state command = ⊤
 
 -- a seat is ready for any call: its count has room, and its client can sign, or else its signer may open one
 pub record IsReadySeat (seat : Seat) : Type 0 where
-  pub asked : seat.asked + 1 < 2 ^ 32
+  pub asked : seat.asked + 1 < 2 ^ 24
   pub signer : seat.client ≡ None → IsSome seat.signer
   pub ready : IfSome seat.client (λ c. IsReady c.opening.key c.leaves.next c)
 
 pub record IsReadyRogue (rogue : Rogue) : Type 0 where
-  pub asked : rogue.asked + 1 < 2 ^ 32
+  pub asked : rogue.asked + 1 < 2 ^ 24
   pub leaves : AreDrawn rogue.signer.key rogue.signer.leaves.next rogue.signer.leaves
 
 -- all clients are of the document that the state was begun with

@@ -1,4 +1,4 @@
-//! Commands that act on the client of a member, and the lines that tell their answers.
+//! Commands that act on the client of a device, and the lines that tell their answers.
 
 ghost use Rattle.std.specs.Prelude.{◌≡◌, ◌≢◌, ℕ, ◌+◌, ◌<◌, ◌≤◌, ◌^◌, ◌++◌, codes, length, take, Some, true, false, Ok, Err, Option, OnOk, OnErr, IfOk, IfErr, IfSome, option_map, string_bytes};
 ghost use Rattle.std.specs.Option.{option_copied, option_to_list};
@@ -11,6 +11,7 @@ ghost use Rattle.sporc_client.specs.ClientModel.{state_of};
 ghost use Rattle.sporc_client.specs.PlainClient.{shown_after};
 ghost use Rattle.sporc_client.specs.Step.{log_of_entries};
 ghost use Rattle.sporc_client.specs.Submissions.{submission};
+ghost use Rattle.sporc_script.specs.Spelling.{device_text};
 ghost use Rattle.sporc_play.specs.Logs.{change_events, discard_events, edit_logged, given_by, given_events};
 ghost use Rattle.sporc_play.specs.Report.{change_line, discard_line, edit_line, edited_line, event_line, give_line, line_by, not_open_line, restart_answer, restart_line, submit_line};
 ghost use Rattle.sporc_play.specs.Seats.{HasSubmitted, IsReady, IsSubmitted, client_logged, plain_in, seat_logged, seat_restarted, submission_line};
@@ -21,32 +22,32 @@ use crate::seat::{PlayClient, Seat};
 use sporc_base::Memory;
 use sporc_client::{EditFault, RestartFault, SubmitFault, Submitted};
 use sporc_delta::Delta;
-use sporc_member::{Change, ChangeFault};
+use sporc_member::{Change, ChangeFault, Device};
 use sporc_report::{
-    push_accept_fault, push_edit_fault, push_number, push_start, push_submit_fault,
+    push_accept_fault, push_device, push_edit_fault, push_number, push_start, push_submit_fault,
 };
 use sporc_script::{Edit, Give, Restart, TextEdit};
 use std::alloc::{AllocError, Global};
 use std::fmt::Write;
 
-/// Appends that a member has no client.
-pub fn push_not_open(out: &mut String, member: u16) -> Result<(), Memory>
-    ensures ok { OnOk result (string_bytes out.new ≡ string_bytes out.old ++ not_open_line member) }
+/// Appends that a device has no client.
+pub fn push_not_open(out: &mut String, device: Device) -> Result<(), Memory>
+    ensures ok { OnOk result (string_bytes out.new ≡ string_bytes out.old ++ not_open_line device) }
 {
-    writeln!(out, "{member} not open")
+    push_start(out, device, " not open\n")
 }
 
 // ---- edits
 
-/// Edits what a member sees, or saw after so many events.
+/// Edits what a client shows, or showed after so many events.
 pub fn edit(alloc: Global, seat: &mut Seat, edit: &Edit, out: &mut String) -> Result<(), Memory>
     requires limit { edit_size edit.now.change ≤ MAX_COUNT }
-    ensures line { OnOk result (string_bytes out.new ≡ string_bytes out.old ++ line_by edit.now.member (plain_in seat.old) (edited_line edit.now)) }
+    ensures line { OnOk result (string_bytes out.new ≡ string_bytes out.old ++ line_by edit.now.device (plain_in seat.old) (edited_line edit.now)) }
     ensures seat { OnOk result (seat.new ≡ seat_logged (edit_events edit.now) seat.old) }
 {
     match &mut seat.client {
         Some(client) => edit_client(alloc, client, edit, out),
-        None => push_not_open(out, edit.member),
+        None => push_not_open(out, edit.device),
     }
 }
 
@@ -60,11 +61,11 @@ fn edit_client(
     ensures line { OnOk result (string_bytes out.new ≡ string_bytes out.old ++ edited_line edit.now (state_of client.old)) }
     ensures log { OnOk result (client.new ≡ client_logged (edit_events edit.now) client.old) }
 {
-    let member = edit.member;
+    let device = edit.device;
     let seen = seen_by(client, edit.seen);
     match delta_by(alloc, client, seen, &edit.change)? {
-        Ok(delta) => edit_by(client, member, seen, &delta, out),
-        Err(len) => push_number(out, member, " edit outside ", len),
+        Ok(delta) => edit_by(client, device, seen, &delta, out),
+        Err(len) => push_number(out, device, " edit outside ", len),
     }
 }
 
@@ -103,16 +104,16 @@ fn seen_by(client: &PlayClient, seen: Option<u64>) -> u64
 // Edits by a delta.
 fn edit_by(
     client: &mut PlayClient,
-    member: u16,
+    device: Device,
     seen: u64,
     delta: &Delta,
     out: &mut String,
 ) -> Result<(), Memory>
-    ensures line { OnOk result (string_bytes out.new ≡ string_bytes out.old ++ edit_line member (state_of client.old) seen (Some delta.now)) }
+    ensures line { OnOk result (string_bytes out.new ≡ string_bytes out.old ++ edit_line device (state_of client.old) seen (Some delta.now)) }
     ensures log { OnOk result (client.new ≡ client_logged (λ c. edit_logged c seen (Some delta.now)) client.old) }
 {
     let answer = client.edit(0, seen, delta);
-    push_event(out, member, "edit", answer)
+    push_event(out, device, "edit", answer)
 }
 
 // The delta of an edit of a text of this length; none, if the edit lies outside it.
@@ -142,18 +143,19 @@ fn delta_of(alloc: Global, edit: &TextEdit, len: u64) -> Result<Option<Delta>, M
 // The line of a call that adds an event.
 fn push_event(
     out: &mut String,
-    member: u16,
+    device: Device,
     word: &str,
     answer: Result<u64, EditFault>,
 ) -> Result<(), Memory>
     ensures line { OnOk result ((events : ℕ) (fault : Option EditFault) → AnswersUnless EditFault.Memory answer fault → IfOk answer (λ n. n ≡ events)
-        → string_bytes out.new ≡ string_bytes out.old ++ event_line member word.now events fault) }
+        → string_bytes out.new ≡ string_bytes out.old ++ event_line device word.now events fault) }
     ensures named { OnOk result (answer ≢ Err EditFault.Memory) }
 {
+    push_device(out, device)?;
     match answer {
-        Ok(events) => writeln!(out, "{member} {word} event {events}"),
+        Ok(events) => writeln!(out, " {word} event {events}"),
         Err(fault) => {
-            write!(out, "{member} {word} refused ")?;
+            write!(out, " {word} refused ")?;
             push_edit_fault(out, fault)?;
             out.push_str("\n")
         }
@@ -163,51 +165,56 @@ fn push_event(
 // ---- changes and discards
 
 /// Asks for a change of the members.
-pub fn change(seat: &mut Seat, member: u16, change: Change, out: &mut String) -> Result<(), Memory>
-    ensures line { OnOk result (string_bytes out.new ≡ string_bytes out.old ++ line_by member (plain_in seat.old) (change_line member)) }
+pub fn change(
+    seat: &mut Seat,
+    device: Device,
+    change: Change,
+    out: &mut String,
+) -> Result<(), Memory>
+    ensures line { OnOk result (string_bytes out.new ≡ string_bytes out.old ++ line_by device (plain_in seat.old) (change_line device)) }
     ensures seat { OnOk result (seat.new ≡ seat_logged (change_events change) seat.old) }
 {
     match &mut seat.client {
         Some(client) => {
             let answer = client.change(0, change);
-            push_event(out, member, "change", answer)
+            push_event(out, device, "change", answer)
         }
-        None => push_not_open(out, member),
+        None => push_not_open(out, device),
     }
 }
 
 /// Gives up what is pending.
-pub fn discard(seat: &mut Seat, member: u16, out: &mut String) -> Result<(), Memory>
-    ensures line { OnOk result (string_bytes out.new ≡ string_bytes out.old ++ line_by member (plain_in seat.old) (discard_line member)) }
+pub fn discard(seat: &mut Seat, device: Device, out: &mut String) -> Result<(), Memory>
+    ensures line { OnOk result (string_bytes out.new ≡ string_bytes out.old ++ line_by device (plain_in seat.old) (discard_line device)) }
     ensures seat { OnOk result (seat.new ≡ seat_logged discard_events seat.old) }
 {
     match &mut seat.client {
         Some(client) => {
             let answer = client.discard(0);
-            push_event(out, member, "discard", answer)
+            push_event(out, device, "discard", answer)
         }
-        None => push_not_open(out, member),
+        None => push_not_open(out, device),
     }
 }
 
 // ---- submissions
 
-/// Submits the first pending item of a member. The entry that is made gets the number `next`.
+/// Submits the first pending item of a client. The entry that is made gets the number `next`.
 pub fn submit(seat: &mut Seat, next: u64, out: &mut String) -> Result<Option<Vec<u8>>, Memory>
-    requires asked { seat.old.asked + 1 < 2 ^ 32 }
+    requires asked { seat.old.asked + 1 < 2 ^ 24 }
     requires ready { IfSome seat.old.client (λ c. IsReady c.opening.key c.leaves.next c) }
     ensures line { OnOk result (string_bytes out.new ≡ string_bytes out.old ++ submission_line next seat.old seat.old.client) }
     ensures seat { IfOk result (λ made. HasSubmitted next seat.old (option_map (λ v. v.items) made) seat.new) }
 {
     seat.asked += 1;
-    let member = seat.device.member;
-    let random = random_of(member, seat.asked);
+    let device = seat.device;
+    let random = random_of(device, seat.asked);
     let last = seat.last;
     let Some(client) = &mut seat.client else {
-        push_not_open(out, member)?;
+        push_not_open(out, device)?;
         return Ok(None);
     };
-    match submit_client(client, member, &random, next, last, out)? {
+    match submit_client(client, device, &random, next, last, out)? {
         Some(entry) => {
             seat.last = next;
             Ok(Some(entry))
@@ -219,55 +226,55 @@ pub fn submit(seat: &mut Seat, next: u64, out: &mut String) -> Result<Option<Vec
 // Submits the first pending item of a client; `last` is the number of the entry that it made last.
 fn submit_client(
     client: &mut PlayClient,
-    member: u16,
+    device: Device,
     random: &[u8; 64],
     next: u64,
     last: u64,
     out: &mut String,
 ) -> Result<Option<Vec<u8>>, Memory>
     requires ready { IsReady client.old.opening.key client.old.leaves.next client.old }
-    ensures line { OnOk result (string_bytes out.new ≡ string_bytes out.old ++ submit_line member next last (submission (state_of client.old) random.now (leaf_next client.old))) }
+    ensures line { OnOk result (string_bytes out.new ≡ string_bytes out.old ++ submit_line device next last (submission (state_of client.old) random.now (leaf_next client.old))) }
     ensures made { IfOk result (λ made. option_to_list (option_map (λ v. v.items) made) ≡ entries_in (submission (state_of client.old) random.now (leaf_next client.old))) }
     ensures client { OnOk result (IsSubmitted client.old (submission (state_of client.old) random.now (leaf_next client.old)) client.new) }
 {
     let answer = client.submit(0, random);
-    tell_submission(out, member, next, last, answer)
+    tell_submission(out, device, next, last, answer)
 }
 
 // The line of what a submission answered, and the entry that it hands out.
 fn tell_submission(
     out: &mut String,
-    member: u16,
+    device: Device,
     next: u64,
     last: u64,
     answer: Result<Submitted, SubmitFault>,
 ) -> Result<Option<Vec<u8>>, Memory>
-    ensures line { OnOk result (string_bytes out.new ≡ string_bytes out.old ++ submit_line member next last answer) }
+    ensures line { OnOk result (string_bytes out.new ≡ string_bytes out.old ++ submit_line device next last answer) }
     ensures made { IfOk result (λ made. option_to_list (option_map (λ v. v.items) made) ≡ entries_in answer) }
     ensures named { OnOk result (answer ≢ Err SubmitFault.Memory) }
     ensures no_disk { OnOk result (answer ≢ Err SubmitFault.LeafFault) }
 {
-    push_submission(out, member, next, last, &answer)?;
+    push_submission(out, device, next, last, &answer)?;
     Ok(entry_in(answer))
 }
 
 fn push_submission(
     out: &mut String,
-    member: u16,
+    device: Device,
     next: u64,
     last: u64,
     answer: &Result<Submitted, SubmitFault>,
 ) -> Result<(), Memory>
-    ensures line { OnOk result (string_bytes out.new ≡ string_bytes out.old ++ submit_line member next last answer.now) }
+    ensures line { OnOk result (string_bytes out.new ≡ string_bytes out.old ++ submit_line device next last answer.now) }
     ensures named { OnOk result (answer.now ≢ Err SubmitFault.Memory) }
     ensures no_disk { OnOk result (answer.now ≢ Err SubmitFault.LeafFault) }
 {
     match answer {
-        Ok(Submitted::Entry(_)) => push_number(out, member, " submit entry ", next),
-        Ok(Submitted::Nothing) => push_start(out, member, " submit nothing\n"),
-        Ok(Submitted::Waiting) => push_number(out, member, " submit waiting ", last),
-        Ok(Submitted::Dropped(fault)) => push_dropped(out, member, *fault),
-        Err(fault) => push_unsubmitted(out, member, *fault),
+        Ok(Submitted::Entry(_)) => push_number(out, device, " submit entry ", next),
+        Ok(Submitted::Nothing) => push_start(out, device, " submit nothing\n"),
+        Ok(Submitted::Waiting) => push_number(out, device, " submit waiting ", last),
+        Ok(Submitted::Dropped(fault)) => push_dropped(out, device, *fault),
+        Err(fault) => push_unsubmitted(out, device, *fault),
     }
 }
 
@@ -282,37 +289,38 @@ fn entry_in(answer: Result<Submitted, SubmitFault>) -> Option<Vec<u8>>
 }
 
 // The line of a submission that gives an item up.
-fn push_dropped(out: &mut String, member: u16, fault: ChangeFault) -> Result<(), Memory>
-    ensures { OnOk result (string_bytes out.new ≡ string_bytes out.old ++ submit_line member 0 0 (Ok (Submitted.Dropped fault))) }
+fn push_dropped(out: &mut String, device: Device, fault: ChangeFault) -> Result<(), Memory>
+    ensures { OnOk result (string_bytes out.new ≡ string_bytes out.old ++ submit_line device 0 0 (Ok (Submitted.Dropped fault))) }
 {
-    let name = fault.name();
-    writeln!(out, "{member} submit dropped {name}")
+    push_start(out, device, " submit dropped ")?;
+    out.push_str(fault.name())?;
+    out.push_str("\n")
 }
 
 // The line of a submission that is refused. A disk in memory fails only if it finds no memory, which is then the answer.
-fn push_unsubmitted(out: &mut String, member: u16, fault: SubmitFault) -> Result<(), Memory>
-    ensures line { OnOk result (string_bytes out.new ≡ string_bytes out.old ++ submit_line member 0 0 (Err fault)) }
+fn push_unsubmitted(out: &mut String, device: Device, fault: SubmitFault) -> Result<(), Memory>
+    ensures line { OnOk result (string_bytes out.new ≡ string_bytes out.old ++ submit_line device 0 0 (Err fault)) }
     ensures named { OnOk result (fault ≢ SubmitFault.Memory) }
     ensures no_disk { OnOk result (fault ≢ SubmitFault.LeafFault) }
 {
     match fault {
         SubmitFault::LeafFault => Err(AllocError),
-        _ => push_refused(out, member, fault),
+        _ => push_refused(out, device, fault),
     }
 }
 
-fn push_refused(out: &mut String, member: u16, fault: SubmitFault) -> Result<(), Memory>
-    ensures line { OnOk result (string_bytes out.new ≡ string_bytes out.old ++ submit_line member 0 0 (Err fault)) }
+fn push_refused(out: &mut String, device: Device, fault: SubmitFault) -> Result<(), Memory>
+    ensures line { OnOk result (string_bytes out.new ≡ string_bytes out.old ++ submit_line device 0 0 (Err fault)) }
     ensures named { OnOk result (fault ≢ SubmitFault.Memory) }
 {
-    push_start(out, member, " submit refused ")?;
+    push_start(out, device, " submit refused ")?;
     push_submit_fault(out, fault)?;
     out.push_str("\n")
 }
 
 // ---- what is handed out, and going back
 
-/// Hands a member an entry as the one at a position, if there is one.
+/// Hands a client an entry as the one at a position, if there is one.
 pub fn give(
     alloc: Global,
     seat: &mut Seat,
@@ -320,12 +328,12 @@ pub fn give(
     entry: Option<&[u8]>,
     out: &mut String,
 ) -> Result<(), Memory>
-    ensures line { OnOk result (string_bytes out.new ≡ string_bytes out.old ++ line_by give.now.member (plain_in seat.old) (λ c.
-        give_line give.now.member give.now.position c (option_copied entry.entry))) }
+    ensures line { OnOk result (string_bytes out.new ≡ string_bytes out.old ++ line_by give.now.device (plain_in seat.old) (λ c.
+        give_line give.now.device give.now.position c (option_copied entry.entry))) }
     ensures seat { OnOk result (seat.new ≡ seat_logged (given_by give.now.position (option_copied entry.entry)) seat.old) }
 {
     let Some(client) = &mut seat.client else {
-        return push_not_open(out, give.member);
+        return push_not_open(out, give.device);
     };
     match entry {
         Some(entry) => give_client(alloc, client, give, entry, out),
@@ -340,7 +348,7 @@ fn give_client(
     entry: &[u8],
     out: &mut String,
 ) -> Result<(), Memory>
-    ensures line { OnOk result (string_bytes out.new ≡ string_bytes out.old ++ give_line give.now.member give.now.position (state_of client.old) (Some entry.now)) }
+    ensures line { OnOk result (string_bytes out.new ≡ string_bytes out.old ++ give_line give.now.device give.now.position (state_of client.old) (Some entry.now)) }
     ensures log { OnOk result (client.new ≡ client_logged (λ c. given_events c give.now.position entry.now) client.old) }
 {
     match client.accept(0, give.position, entry) {
@@ -355,20 +363,20 @@ fn give_client(
 
 // Appends who is handed an entry at which position, and these words.
 fn push_given(out: &mut String, give: &Give, words: &str) -> Result<(), Memory>
-    ensures { OnOk result (string_bytes out.new ≡ string_bytes out.old ++ (decimal give.now.member ++ (codes " accept " ++ (decimal give.now.position ++ words.now)))) }
+    ensures { OnOk result (string_bytes out.new ≡ string_bytes out.old ++ (device_text give.now.device ++ (codes " accept " ++ (decimal give.now.position ++ words.now)))) }
 {
-    let member = give.member;
     let position = give.position;
-    write!(out, "{member} accept {position}{words}")
+    push_device(out, give.device)?;
+    write!(out, " accept {position}{words}")
 }
 
 /// Goes back to the first entries.
 pub fn restart(seat: &mut Seat, restart: &Restart, out: &mut String) -> Result<(), Memory>
-    ensures line { OnOk result (string_bytes out.new ≡ string_bytes out.old ++ line_by restart.now.member (plain_in seat.old) (restart_line restart.now.member restart.now.entries)) }
+    ensures line { OnOk result (string_bytes out.new ≡ string_bytes out.old ++ line_by restart.now.device (plain_in seat.old) (restart_line restart.now.device restart.now.entries)) }
     ensures seat { OnOk result (seat.new ≡ seat_restarted restart.now.entries seat.old) }
 {
     let Some(client) = &mut seat.client else {
-        return push_not_open(out, restart.member);
+        return push_not_open(out, restart.device);
     };
     match restart_to(client, restart.entries) {
         Ok(()) => push_restarted(out, restart),
@@ -378,19 +386,19 @@ pub fn restart(seat: &mut Seat, restart: &Restart, out: &mut String) -> Result<(
 }
 
 fn push_restarted(out: &mut String, restart: &Restart) -> Result<(), Memory>
-    ensures { OnOk result (string_bytes out.new ≡ string_bytes out.old ++ restart_answer false restart.now.member restart.now.entries 0) }
+    ensures { OnOk result (string_bytes out.new ≡ string_bytes out.old ++ restart_answer false restart.now.device restart.now.entries 0) }
 {
-    let member = restart.member;
     let k = restart.entries;
-    writeln!(out, "{member} restart {k} ok")
+    push_device(out, restart.device)?;
+    writeln!(out, " restart {k} ok")
 }
 
 fn push_ahead(out: &mut String, restart: &Restart, len: u32) -> Result<(), Memory>
-    ensures { OnOk result (string_bytes out.new ≡ string_bytes out.old ++ restart_answer true restart.now.member restart.now.entries len) }
+    ensures { OnOk result (string_bytes out.new ≡ string_bytes out.old ++ restart_answer true restart.now.device restart.now.entries len) }
 {
-    let member = restart.member;
     let k = restart.entries;
-    writeln!(out, "{member} restart {k} ahead {len}")
+    push_device(out, restart.device)?;
+    writeln!(out, " restart {k} ahead {len}")
 }
 
 // The same for numbers that no history reaches.

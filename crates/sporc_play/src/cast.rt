@@ -6,7 +6,6 @@ ghost use Rattle.lms_leaf.specs.LeafFile.{IsLeafHeight};
 ghost use Rattle.lms_tree.specs.LmsType.{height_of};
 ghost use Rattle.sporc_client.specs.Run.{Setup, key_of_device};
 ghost use Rattle.sporc_epoch.specs.Keys.{pairs_in};
-ghost use Rattle.sporc_member.specs.Device.{first_device};
 ghost use Rattle.sporc_member.specs.Lists.{insert_by, place_among};
 ghost use Rattle.sporc_member.specs.Roster.{founder_numbers};
 ghost use Rattle.sporc_play.specs.Cast.{first_ring, genesis_by, is_pair, lms_type_of, member_change, ots_type_of, private_of, tree_of};
@@ -102,29 +101,30 @@ impl Cast {
         self.unpaired.iter().any(|p| is_pair(one, other, p))
     }
 
-    // The public key of a member's first device. None is kept of one who is not declared: it is made anew.
-    fn key_of(&self, alloc: Global, member: u16) -> Result<[u8; 56], Memory>
-        ensures value { IfOk result (λ key. (s : Setup) → IsCastOf s self.now → key ≡ key_of_device s (first_device member)) }
+    // A device's public key. None is kept but those of the first devices of all who are declared: it is made anew.
+    #[tactic(auto, using(sporc_member::proofs::SameDevice::same_one))]
+    fn key_of(&self, alloc: Global, device: Device) -> Result<[u8; 56], Memory>
+        ensures value { IfOk result (λ key. (s : Setup) → IsCastOf s self.now → key ≡ key_of_device s device) }
     {
         for one in &self.declared {
-            if one.member == member {
+            if device.is(Device::first(one.member)) {
                 return Ok(one.key);
             }
         }
-        let signer = signer_of(alloc, self.tree, Device::first(member))?;
+        let signer = signer_of(alloc, self.tree, device)?;
         let key = signer.public().to_bytes();
         drop(signer);
         Ok(key)
     }
 
-    /// A change of the members. The key of a new one is its own.
+    /// A change of the members. The key of a new one, and of a further device, is its own.
     pub fn member_change(&self, alloc: Global, change: &RosterChange) -> Result<Change, Memory>
         ensures value { IfOk result (λ asked. (s : Setup) → IsCastOf s self.now → asked ≡ member_change s change.now) }
         ensures sized { IfOk result IsSmallChange }
     {
         match change {
             RosterChange::Add(added) => {
-                let key = self.key_of(alloc, added.member)?;
+                let key = self.key_of(alloc, Device::first(added.member))?;
                 Ok(Change::Add {
                     member: added.member,
                     role: added.role,
@@ -136,6 +136,19 @@ impl Cast {
                 member: set.member,
                 role: set.role,
             }),
+            RosterChange::AddDevice(added) => {
+                let key = self.key_of(alloc, *added)?;
+                Ok(Change::AddDevice {
+                    member: added.member,
+                    device: added.number,
+                    key,
+                })
+            }
+            RosterChange::DropDevice(dropped) => Ok(Change::DropDevice {
+                member: dropped.member,
+                device: dropped.number,
+            }),
+            RosterChange::Upgrade => Ok(Change::Upgrade),
         }
     }
 }

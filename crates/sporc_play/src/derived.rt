@@ -1,6 +1,6 @@
 //! The values that a play derives for the members of its script and their devices, all of them by SHA-256.
 
-ghost use Rattle.std.specs.Prelude.{◌≡◌, take};
+ghost use Rattle.std.specs.Prelude.{◌≡◌, ◌<◌, ◌^◌, take};
 ghost use Rattle.sporc_play.specs.Derived.{derived, document_number, first_key, identifier_of, pair_key, random_of, seed_of};
 
 use sha2::{Digest, Sha256};
@@ -66,13 +66,15 @@ pub fn document_number() -> [u8; 16]
     first_half(&derived(5, 0, 0))
 }
 
-/// The random bytes of what a member signs or submits for the t-th time, from 1: 32 for the signature, and 32 for a new
+/// The random bytes of what a device signs or submits for the t-th time, from 1: 32 for the signature, and 32 for a new
 /// key.
-pub fn random_of(member: u16, t: u32) -> [u8; 64]
-    ensures value { result ≡ random_of member t }
+pub fn random_of(device: Device, t: u32) -> [u8; 64]
+    requires few { t < 2 ^ 24 }
+    ensures value { result ≡ random_of device t }
 {
+    let number = u32::from(device.number) * (1 << 24) + t;
     let mut random = [0; 64];
-    put_at(&mut random, 0, &derived(6, member, t));
-    put_at(&mut random, 32, &derived(7, member, t));
+    put_at(&mut random, 0, &derived(6, device.member, number));
+    put_at(&mut random, 32, &derived(7, device.member, number));
     random
 }

@@ -15,7 +15,7 @@ ghost use Rattle.sporc_member.specs.declared.limits.TheConstants.{MAX_MEMBERS};
 ghost use Rattle.sporc_script.specs.declared.sign.Suffix.{Suffix};
 ghost use Rattle.sporc_script.specs.declared.sign.What.TheVariants as whats;
 ghost use Rattle.sporc_play.specs.declared.playing.TheConstants.{MAX_SCRIPT};
-ghost use Rattle.sporc_play.specs.Forged.{IsSmallBody, IsSmallChange, base_by, derived_pairs, epoch_by, first_flipped, forged_body, forged_change, forged_entry, forged_header, key_there, kind_of, leaf_by, masked, number_by, sealed_for, signed_by, spoiled, unsigned_by, value_at, with_derived, wrap_flipped};
+ghost use Rattle.sporc_play.specs.Forged.{IsSmallBody, IsSmallChange, base_by, derived_pairs, epoch_by, device_in, first_flipped, forged_body, forged_change, forged_entry, forged_header, key_there, kind_of, leaf_by, masked, number_by, sealed_for, signed_by, spoiled, unsigned_by, value_at, version_by, with_derived, wrap_flipped};
 ghost use Rattle.sporc_play.specs.Scene.{leaf_after, what_size};
 ghost use Rattle.sporc_play.specs.Seats.{AreDrawn};
 ghost use Rattle.sporc_play.specs.Stage.{IsCastOf};
@@ -30,11 +30,11 @@ use sporc_cipher::mask;
 use sporc_client::{first_half, second_half};
 use sporc_delta::Delta;
 use sporc_entry::{
-    CHANGE, ChangeBody, EDIT, Entry, FIRST_VERSION, Header, Wrap, Wraps, signed_part, write_change,
-    write_entry,
+    CHANGE, ChangeBody, DEVICES_VERSION, EDIT, Entry, Header, Wrap, Wraps, signed_part, version_of,
+    write_change, write_entry,
 };
 use sporc_epoch::{Pairs, SealFault, seal_change_at, stream_of};
-use sporc_member::{Change, FIRST_DEVICE};
+use sporc_member::{Change, Device, FIRST_DEVICE};
 use sporc_outside::MemoryDisk;
 use sporc_script::{Forgery, Insertion, Suffix, What};
 use std::alloc::{AllocError, Global};
@@ -49,6 +49,7 @@ pub fn forge(
     forgery: &Forgery,
     t: u32,
 ) -> Result<Option<Vec<u8>>, Memory>
+    requires few { t < 2 ^ 24 }
     requires short { what_size forgery.now.signed.what ≤ MAX_SCRIPT }
     requires leaves { AreDrawn signer.old.key signer.old.leaves.next signer.old.leaves }
     ensures entry { IfOk result (λ made. (s : Setup) → signer.old.key ≡ s.private (first_device forgery.now.member) → IsCastOf s cast.now
@@ -59,7 +60,7 @@ pub fn forge(
 {
     match signer.draw() {
         Ok(ticket) => {
-            let random = random_of(forgery.member, t);
+            let random = random_of(Device::first(forgery.member), t);
             let bytes = sign_with(alloc, signer, ticket, cast, client, forgery, &random)?;
             Ok(Some(bytes))
         }
@@ -149,18 +150,37 @@ fn forged_header(client: &PlayClient, forgery: &Forgery, leaf: u32) -> Header
 {
     let heads = client.heads();
     let suffix = forgery.signed.suffix;
+    let version = version_by(suffix, client.roster().upgraded());
     let base = base_by(suffix, heads.len());
     Header {
-        version: FIRST_VERSION,
+        version,
         document: heads.genesis().document,
         author: forgery.member,
-        device: FIRST_DEVICE,
+        device: device_in(suffix, version),
         number: number_by(suffix, heads.count_of(forgery.member, FIRST_DEVICE) + 1),
         base,
         base_hash: value_at(client, base),
         epoch: epoch_by(suffix, heads.epoch()),
         leaf: leaf_by(suffix, leaf),
         kind: kind_of(&forgery.signed.what),
+    }
+}
+
+fn version_by(suffix: Option<Suffix>, upgraded: bool) -> u8
+    ensures { result ≡ version_by suffix upgraded }
+{
+    match suffix {
+        Some(Suffix::Version(k)) => version_of(k == DEVICES_VERSION),
+        _ => version_of(upgraded),
+    }
+}
+
+fn device_in(suffix: Option<Suffix>, version: u8) -> u8
+    ensures { result ≡ device_in suffix version }
+{
+    match suffix {
+        Some(Suffix::Device(number)) if version == DEVICES_VERSION => number,
+        _ => FIRST_DEVICE,
     }
 }
 

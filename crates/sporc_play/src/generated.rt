@@ -137,7 +137,7 @@ fn submit_all(alloc: Global, state: &mut PlayState, authors: u32) -> Result<(), 
     ensures { OnOk result (Performs state.old (map submits (up_to authors)) state.new) }
 {
     for a in 0..authors {
-        perform(alloc, state, Command::Submit(a as u16 + 1))?;
+        perform(alloc, state, Command::Submit(Device::first(a as u16 + 1)))?;
     }
     Ok(())
 }
@@ -162,7 +162,7 @@ fn give_all(alloc: Global, state: &mut PlayState, number: u32) -> Result<(), Mem
 {
     for m in 0..MEMBERS {
         let give = Give {
-            member: m as u16 + 1,
+            device: Device::first(m as u16 + 1),
             position: number,
             entry: u64::from(number),
         };
@@ -198,7 +198,7 @@ fn edit_of(alloc: Global, state: &PlayState, batch: u32, author: u16) -> Result<
         )?
     };
     Ok(Command::Edit(Edit {
-        member: author,
+        device: Device::first(author),
         seen: None,
         change,
     }))

@@ -40,9 +40,8 @@ pub fn join(
     ensures seat { OnOk result ((s : Setup) → IsCastOf s cast.now → genesis.now ≡ s.genesis
         → seat.new ≡ seat_joined s seat.old (entries_at (map (λ v. v.items) made.now) join.now.entries) seat.old.client) }
 {
-    let member = seat.device.member;
     if seat.client.is_some() {
-        return push_start(out, member, " already open\n");
+        return push_start(out, seat.device, " already open\n");
     }
     match entries_at(alloc, made, join.entries.as_slice())? {
         Found::Entries(entries) => join_by(alloc, cast, genesis, seat, entries.as_slice(), out),
@@ -62,13 +61,13 @@ fn join_by(
     requires genesis { IsGenesis genesis.now }
     requires signer { IsSome seat.old.signer }
     ensures line { OnOk result ((s : Setup) → IsCastOf s cast.now → genesis.now ≡ s.genesis → string_bytes out.new
-        ≡ string_bytes out.old ++ hints_line s seat.old.device.member (hints_of (map (λ v. v.items) entries.now) seat.old.device.member (s.pairs seat.old.device))) }
+        ≡ string_bytes out.old ++ hints_line s seat.old.device (hints_of (map (λ v. v.items) entries.now) seat.old.device.member (s.pairs seat.old.device))) }
     ensures seat { OnOk result ((s : Setup) → IsCastOf s cast.now → genesis.now ≡ s.genesis
         → seat.new ≡ seat_by s seat.old (hints_of (map (λ v. v.items) entries.now) seat.old.device.member (s.pairs seat.old.device))) }
 {
     match hints_for(alloc, cast, entries, seat.device) {
         Ok(ring) => open_with(alloc, cast, genesis, seat, ring, out),
-        Err(fault) => push_no_hints(out, seat.device.member, fault),
+        Err(fault) => push_no_hints(out, seat.device, fault),
     }
 }
 
@@ -98,32 +97,32 @@ fn open_with(
     requires genesis { IsGenesis genesis.now }
     requires signer { IsSome seat.old.signer }
     ensures line { OnOk result ((s : Setup) → IsCastOf s cast.now → genesis.now ≡ s.genesis → string_bytes out.new
-        ≡ string_bytes out.old ++ hints_line s seat.old.device.member (Ok ring.keys)) }
+        ≡ string_bytes out.old ++ hints_line s seat.old.device (Ok ring.keys)) }
     ensures seat { OnOk result ((s : Setup) → IsCastOf s cast.now → genesis.now ≡ s.genesis → seat.new ≡ seat_by s seat.old (Ok ring.keys)) }
 {
-    let member = seat.device.member;
+    let device = seat.device;
     match open_seat(alloc, cast, genesis, ring, seat) {
-        Ok(()) => push_start(out, member, " join ok\n"),
-        Err(fault) => push_not_opened(out, member, fault),
+        Ok(()) => push_start(out, device, " join ok\n"),
+        Err(fault) => push_not_opened(out, device, fault),
     }
 }
 
 // The line of a joiner to whom entries give no hints.
-fn push_no_hints(out: &mut String, member: u16, fault: HintFault) -> Result<(), Memory>
-    ensures line { OnOk result ((s : Setup) → string_bytes out.new ≡ string_bytes out.old ++ hints_line s member (Err fault)) }
+fn push_no_hints(out: &mut String, device: Device, fault: HintFault) -> Result<(), Memory>
+    ensures line { OnOk result ((s : Setup) → string_bytes out.new ≡ string_bytes out.old ++ hints_line s device (Err fault)) }
     ensures named { OnOk result (fault ≢ HintFault.Memory) }
 {
-    push_start(out, member, " join refused ")?;
+    push_start(out, device, " join refused ")?;
     push_hint_fault(out, fault)?;
     out.push_str("\n")
 }
 
 // The line of a joiner whose client does not open.
-fn push_not_opened(out: &mut String, member: u16, fault: LineOpenFault) -> Result<(), Memory>
-    ensures line { OnOk result (string_bytes out.new ≡ string_bytes out.old ++ open_line member (Some fault)) }
+fn push_not_opened(out: &mut String, device: Device, fault: LineOpenFault) -> Result<(), Memory>
+    ensures line { OnOk result (string_bytes out.new ≡ string_bytes out.old ++ open_line device (Some fault)) }
     ensures named { OnOk result (fault ≢ LineOpenFault.Memory) }
 {
-    push_start(out, member, " join refused ")?;
+    push_start(out, device, " join refused ")?;
     push_open_fault(out, fault)?;
     out.push_str("\n")
 }

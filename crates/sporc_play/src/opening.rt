@@ -32,15 +32,21 @@ pub fn declare(
 {
     match &line.command {
         Command::Member(founder) => {
-            let key = sit(alloc, cast, seats, founder.member)?;
+            let key = sit(alloc, cast.tree, seats, Device::first(founder.member))?;
+            name(cast, founder.member, key)?;
             found(cast, founder, key)
         }
         Command::Rogue(founder) => {
-            let key = employ(alloc, cast, rogues, founder.member)?;
+            let key = employ(alloc, cast.tree, rogues, founder.member)?;
+            name(cast, founder.member, key)?;
             found(cast, founder, key)
         }
         Command::Joiner(member) => {
-            sit(alloc, cast, seats, *member)?;
+            let key = sit(alloc, cast.tree, seats, Device::first(*member))?;
+            name(cast, *member, key)
+        }
+        Command::Device(device) => {
+            sit(alloc, cast.tree, seats, *device)?;
             Ok(())
         }
         Command::Unpaired(pair) => {
@@ -51,24 +57,13 @@ pub fn declare(
     }
 }
 
-// A seat for one who has or may get a client. Its public key.
-fn sit(
-    alloc: Global,
-    cast: &mut Cast,
-    seats: &mut Vec<Seat>,
-    member: u16,
-) -> Result<[u8; 56], Memory>
-    ensures key { IfOk result (λ key. key ≡ public_of cast.old.tree (first_device member)) }
-    ensures seats { OnOk result (HasSat cast.old.tree (first_device member) seats.old.items seats.new.items) }
-    ensures named { OnOk result (IsNamed member cast.old cast.new) }
+// A seat for a device that has or may get a client. Its public key.
+fn sit(alloc: Global, tree: Tree, seats: &mut Vec<Seat>, device: Device) -> Result<[u8; 56], Memory>
+    ensures key { IfOk result (λ key. key ≡ public_of tree device) }
+    ensures seats { OnOk result (HasSat tree device seats.old.items seats.new.items) }
 {
-    let device = Device::first(member);
-    let signer = signer_of(alloc, cast.tree, device)?;
+    let signer = signer_of(alloc, tree, device)?;
     let key = signer.public().to_bytes();
-    if let Err(failed) = cast.declared.push(Declared { member, key }) {
-        drop(signer);
-        return Err(failed.into());
-    }
     seats.push(Seat {
         device,
         asked: 0,
@@ -82,27 +77,30 @@ fn sit(
 // A signer for one for whom the script signs. Its public key.
 fn employ(
     alloc: Global,
-    cast: &mut Cast,
+    tree: Tree,
     rogues: &mut Vec<Rogue>,
     member: u16,
 ) -> Result<[u8; 56], Memory>
-    ensures key { IfOk result (λ key. key ≡ public_of cast.old.tree (first_device member)) }
-    ensures rogues { OnOk result (HasRogue cast.old.tree (first_device member) rogues.old.items rogues.new.items) }
-    ensures named { OnOk result (IsNamed member cast.old cast.new) }
+    ensures key { IfOk result (λ key. key ≡ public_of tree (first_device member)) }
+    ensures rogues { OnOk result (HasRogue tree (first_device member) rogues.old.items rogues.new.items) }
 {
     let device = Device::first(member);
-    let signer = signer_of(alloc, cast.tree, device)?;
+    let signer = signer_of(alloc, tree, device)?;
     let key = signer.public().to_bytes();
-    if let Err(failed) = cast.declared.push(Declared { member, key }) {
-        drop(signer);
-        return Err(failed.into());
-    }
     rogues.push(Rogue {
         device,
         asked: 0,
         signer,
     })?;
     Ok(key)
+}
+
+// A member is declared, with the key of its first device.
+fn name(cast: &mut Cast, member: u16, key: [u8; 56]) -> Result<(), Memory>
+    ensures { OnOk result (IsNamed member key cast.old cast.new) }
+{
+    cast.declared.push(Declared { member, key })?;
+    Ok(())
 }
 
 // A founder with this key, in the order of the numbers.

@@ -15,6 +15,7 @@ use crate::cast::Cast;
 use crate::forging::forge;
 use crate::seat::{PlayClient, Rogue};
 use sporc_base::Memory;
+use sporc_member::Device;
 use sporc_report::{push_number, push_start};
 use sporc_script::Forgery;
 use std::alloc::Global;
@@ -29,7 +30,7 @@ pub fn sign(
     next: u64,
     out: &mut String,
 ) -> Result<Option<Vec<u8>>, Memory>
-    requires asked { rogue.old.asked + 1 < 2 ^ 32 }
+    requires asked { rogue.old.asked + 1 < 2 ^ 24 }
     requires leaves { AreDrawn rogue.old.signer.key rogue.old.signer.leaves.next rogue.old.signer.leaves }
     requires short { what_size forgery.now.signed.what ≤ MAX_SCRIPT }
     ensures entry { IfOk result (λ made. (s : Setup) → rogue.old.signer.key ≡ s.private (first_device forgery.now.member) → IsCastOf s cast.now
@@ -44,17 +45,17 @@ pub fn sign(
         return Ok(None);
     };
     let made = forge(alloc, &mut rogue.signer, cast, client, forgery, rogue.asked)?;
-    push_signed(out, forgery.member, next, made.is_some())?;
+    push_signed(out, Device::first(forgery.member), next, made.is_some())?;
     Ok(made)
 }
 
 // The line that tells whether a rogue signed.
-fn push_signed(out: &mut String, member: u16, next: u64, signed: bool) -> Result<(), Memory>
-    ensures { OnOk result (string_bytes out.new ≡ string_bytes out.old ++ signed_line member next signed) }
+fn push_signed(out: &mut String, device: Device, next: u64, signed: bool) -> Result<(), Memory>
+    ensures { OnOk result (string_bytes out.new ≡ string_bytes out.old ++ signed_line device next signed) }
 {
     if signed {
-        push_number(out, member, " sign entry ", next)
+        push_number(out, device, " sign entry ", next)
     } else {
-        push_start(out, member, " sign exhausted\n")
+        push_start(out, device, " sign exhausted\n")
     }
 }

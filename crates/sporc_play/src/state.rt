@@ -4,9 +4,9 @@ ghost use Rattle.std.specs.Option.{option_copied, option_to_list};
 ghost use Rattle.std.specs.Prelude.{◌≡◌, ℕ, ◌+◌, ◌<◌, [], ◌∷◌, ◌++◌, length, Contains, IfOk, OnOk, List, get_or, map as map_, None, Some, option_map, set, slice_get, string_bytes};
 ghost use Rattle.std.specs.List.{list_any};
 ghost use Rattle.sporc_entry.specs.Genesis.{IsGenesis};
-ghost use Rattle.sporc_member.specs.Device.{first_device};
+ghost use Rattle.sporc_member.specs.declared.device.Device.{Device};
 ghost use Rattle.sporc_member.specs.Role.{is_admin};
-ghost use Rattle.sporc_script.specs.declared.member_role.MemberRole.{MemberRole};
+ghost use Rattle.sporc_play.specs.Cast.{device_by, is_founder, opener_by};
 ghost use Rattle.sporc_play.specs.Report.{entry_line, flipped_line};
 ghost use Rattle.sporc_play.specs.Scene.{flipped, opening, scene_opened};
 ghost use Rattle.sporc_play.specs.Seats.{IsSeatAt, seated};
@@ -22,7 +22,9 @@ use sporc_entry::Genesis;
 use sporc_hash::compare;
 use sporc_member::Device;
 use sporc_report::{push_hash, push_journal, push_members, push_show, push_verdict};
-use sporc_script::{Command, Edit, Flip, Forgery, Give, Join, Pair, PlayLine, Restart, RosterEdit};
+use sporc_script::{
+    Command, DevicePair, Edit, Flip, Forgery, Give, Join, PlayLine, Restart, RosterEdit,
+};
 use std::alloc::Global;
 use std::fmt::Write;
 
@@ -90,21 +92,38 @@ impl PlayState {
         Ok(())
     }
 
-    // Opens the client of a founder, if the line declares one.
+    // Opens the client of a founder's device, if the line declares one.
     fn open_by(&mut self, alloc: Global, line: &PlayLine) -> Result<(), Memory>
         requires genesis { IsGenesis self.old.genesis }
-        requires seated { (m : MemberRole) → line.now.command ≡ Command.Member m → Contains (seated self.old.seats.items) (first_device m.member) }
+        requires seated { (who : Device) → device_by line.now.command ≡ Some who → Contains (seated self.old.seats.items) who }
         ensures stands { OnOk result ((script : List PlayLine) (i : ℕ) → i < length script → line.now ≡ get_or script i line.now
             → StandsFor script (scene_opened script i) self.old → StandsFor script (scene_opened script (i + 1)) self.new) }
         ensures genesis { self.new.genesis ≡ self.old.genesis }
     {
-        match &line.command {
-            Command::Member(founder) => {
-                let i = seat_at(self.seats.as_slice(), Device::first(founder.member));
+        match self.opener(&line.command) {
+            Some(device) => {
+                let i = seat_at(self.seats.as_slice(), device);
                 open_founder(alloc, &self.cast, &self.genesis, &mut self.seats[i])
             }
-            _ => Ok(()),
+            None => Ok(()),
         }
+    }
+
+    // The device of a founder that the line declares.
+    fn opener(&self, command: &Command) -> Option<Device>
+        ensures { result ≡ opener_by self.now.cast.founders.items command.now }
+    {
+        match command {
+            Command::Member(founder) => Some(Device::first(founder.member)),
+            Command::Device(device) if self.is_founder(device.member) => Some(*device),
+            _ => None,
+        }
+    }
+
+    fn is_founder(&self, member: u16) -> bool
+        ensures { result ≡ is_founder self.now.cast.founders.items member }
+    {
+        self.cast.founders.iter().any(|f| f.member == member)
     }
 
     /// Performs a command, and appends the line that it writes.
@@ -123,21 +142,22 @@ impl PlayState {
             | Command::Member(_)
             | Command::Rogue(_)
             | Command::Joiner(_)
-            | Command::Unpaired(_) => Ok(()),
+            | Command::Unpaired(_)
+            | Command::Device(_) => Ok(()),
             Command::Edit(edit) => self.edit(alloc, edit, out),
             Command::Change(edit) => self.change(alloc, edit, out),
-            Command::Discard(member) => self.discard(*member, out),
-            Command::Submit(member) => self.submit(*member, out),
+            Command::Discard(device) => self.discard(*device, out),
+            Command::Submit(device) => self.submit(*device, out),
             Command::Give(give) => self.give(alloc, give, out),
             Command::Restart(restart) => self.restart(restart, out),
             Command::Join(join) => self.join(alloc, join, out),
             Command::Flip(flip) => self.flip(alloc, flip, out),
             Command::Cut(entry) => self.cut(alloc, *entry, out),
             Command::Sign(forgery) => self.sign(alloc, forgery, out),
-            Command::Show(member) => self.show(*member, out),
-            Command::Members(member) => self.members(*member, out),
-            Command::Hash(member) => self.hash(alloc, *member, out),
-            Command::Journal(member) => self.journal(alloc, *member, out),
+            Command::Show(device) => self.show(*device, out),
+            Command::Members(device) => self.members(*device, out),
+            Command::Hash(device) => self.hash(alloc, *device, out),
+            Command::Journal(device) => self.journal(alloc, *device, out),
             Command::Compare(pair) => self.compare(pair, out),
         }
     }
@@ -157,7 +177,7 @@ impl PlayState {
         ensures state { OnOk result (Becomes self.old (Command.Edit edit.now) self.new) }
         ensures line { OnOk result (AppendsLineOf self.old (Command.Edit edit.now) (string_bytes out.old) (string_bytes out.new)) }
     {
-        let i = seat_at(self.seats.as_slice(), Device::first(edit.member));
+        let i = seat_at(self.seats.as_slice(), edit.device);
         acting::edit(alloc, &mut self.seats[i], edit, out)
     }
 
@@ -167,25 +187,25 @@ impl PlayState {
         ensures line { OnOk result (AppendsLineOf self.old (Command.Change edit.now) (string_bytes out.old) (string_bytes out.new)) }
     {
         let change = self.cast.member_change(alloc, &edit.change)?;
-        let i = seat_at(self.seats.as_slice(), Device::first(edit.member));
-        acting::change(&mut self.seats[i], edit.member, change, out)
+        let i = seat_at(self.seats.as_slice(), edit.device);
+        acting::change(&mut self.seats[i], edit.device, change, out)
     }
 
-    fn discard(&mut self, member: u16, out: &mut String) -> Result<(), Memory>
-        requires can { CanPerform self.old (Command.Discard member) }
-        ensures state { OnOk result (Becomes self.old (Command.Discard member) self.new) }
-        ensures line { OnOk result (AppendsLineOf self.old (Command.Discard member) (string_bytes out.old) (string_bytes out.new)) }
+    fn discard(&mut self, device: Device, out: &mut String) -> Result<(), Memory>
+        requires can { CanPerform self.old (Command.Discard device) }
+        ensures state { OnOk result (Becomes self.old (Command.Discard device) self.new) }
+        ensures line { OnOk result (AppendsLineOf self.old (Command.Discard device) (string_bytes out.old) (string_bytes out.new)) }
     {
-        let i = seat_at(self.seats.as_slice(), Device::first(member));
-        acting::discard(&mut self.seats[i], member, out)
+        let i = seat_at(self.seats.as_slice(), device);
+        acting::discard(&mut self.seats[i], device, out)
     }
 
-    fn submit(&mut self, member: u16, out: &mut String) -> Result<(), Memory>
-        requires can { CanPerform self.old (Command.Submit member) }
-        ensures state { OnOk result (Becomes self.old (Command.Submit member) self.new) }
-        ensures line { OnOk result (AppendsLineOf self.old (Command.Submit member) (string_bytes out.old) (string_bytes out.new)) }
+    fn submit(&mut self, device: Device, out: &mut String) -> Result<(), Memory>
+        requires can { CanPerform self.old (Command.Submit device) }
+        ensures state { OnOk result (Becomes self.old (Command.Submit device) self.new) }
+        ensures line { OnOk result (AppendsLineOf self.old (Command.Submit device) (string_bytes out.old) (string_bytes out.new)) }
     {
-        let i = seat_at(self.seats.as_slice(), Device::first(member));
+        let i = seat_at(self.seats.as_slice(), device);
         let next = self.made.len() as u64 + 1;
         let made = acting::submit(&mut self.seats[i], next, out)?;
         self.keep_made(made)
@@ -196,7 +216,7 @@ impl PlayState {
         ensures state { OnOk result (Becomes self.old (Command.Give give.now) self.new) }
         ensures line { OnOk result (AppendsLineOf self.old (Command.Give give.now) (string_bytes out.old) (string_bytes out.new)) }
     {
-        let i = seat_at(self.seats.as_slice(), Device::first(give.member));
+        let i = seat_at(self.seats.as_slice(), give.device);
         let entry = entry_at(self.made.as_slice(), give.entry);
         acting::give(alloc, &mut self.seats[i], give, entry, out)
     }
@@ -206,7 +226,7 @@ impl PlayState {
         ensures state { OnOk result (Becomes self.old (Command.Restart restart.now) self.new) }
         ensures line { OnOk result (AppendsLineOf self.old (Command.Restart restart.now) (string_bytes out.old) (string_bytes out.new)) }
     {
-        let i = seat_at(self.seats.as_slice(), Device::first(restart.member));
+        let i = seat_at(self.seats.as_slice(), restart.device);
         acting::restart(&mut self.seats[i], restart, out)
     }
 
@@ -215,7 +235,7 @@ impl PlayState {
         ensures state { OnOk result (Becomes self.old (Command.Join join.now) self.new) }
         ensures line { OnOk result (AppendsLineOf self.old (Command.Join join.now) (string_bytes out.old) (string_bytes out.new)) }
     {
-        let i = seat_at(self.seats.as_slice(), Device::first(join.member));
+        let i = seat_at(self.seats.as_slice(), join.device);
         joining::join(
             alloc,
             &self.cast,
@@ -275,7 +295,7 @@ impl PlayState {
     {
         let i = rogue_at(self.rogues.as_slice(), Device::first(forgery.member));
         let next = self.made.len() as u64 + 1;
-        let client = client_of(self.seats.as_slice(), Device::first(forgery.from));
+        let client = client_of(self.seats.as_slice(), forgery.from);
         let rogue = &mut self.rogues[i];
         let made = signing::sign(alloc, rogue, &self.cast, client, forgery, next, out)?;
         self.keep_made(made)
@@ -297,56 +317,56 @@ impl PlayState {
 
     // ---- commands that only show
 
-    fn show(&self, member: u16, out: &mut String) -> Result<(), Memory>
-        requires { Contains (seated self.now.seats.items) (first_device member) }
-        ensures { OnOk result (AppendsLineOf self.now (Command.Show member) (string_bytes out.old) (string_bytes out.new)) }
+    fn show(&self, device: Device, out: &mut String) -> Result<(), Memory>
+        requires { Contains (seated self.now.seats.items) device }
+        ensures { OnOk result (AppendsLineOf self.now (Command.Show device) (string_bytes out.old) (string_bytes out.new)) }
     {
-        match self.client(Device::first(member)) {
+        match self.client(device) {
             Some(client) => push_show(out, client),
-            None => acting::push_not_open(out, member),
+            None => acting::push_not_open(out, device),
         }
     }
 
-    fn members(&self, member: u16, out: &mut String) -> Result<(), Memory>
-        requires { Contains (seated self.now.seats.items) (first_device member) }
-        ensures { OnOk result (AppendsLineOf self.now (Command.Members member) (string_bytes out.old) (string_bytes out.new)) }
+    fn members(&self, device: Device, out: &mut String) -> Result<(), Memory>
+        requires { Contains (seated self.now.seats.items) device }
+        ensures { OnOk result (AppendsLineOf self.now (Command.Members device) (string_bytes out.old) (string_bytes out.new)) }
     {
-        match self.client(Device::first(member)) {
+        match self.client(device) {
             Some(client) => push_members(out, client),
-            None => acting::push_not_open(out, member),
+            None => acting::push_not_open(out, device),
         }
     }
 
-    fn hash(&self, alloc: Global, member: u16, out: &mut String) -> Result<(), Memory>
-        requires { Contains (seated self.now.seats.items) (first_device member) }
-        ensures { OnOk result (AppendsLineOf self.now (Command.Hash member) (string_bytes out.old) (string_bytes out.new)) }
+    fn hash(&self, alloc: Global, device: Device, out: &mut String) -> Result<(), Memory>
+        requires { Contains (seated self.now.seats.items) device }
+        ensures { OnOk result (AppendsLineOf self.now (Command.Hash device) (string_bytes out.old) (string_bytes out.new)) }
     {
-        match self.client(Device::first(member)) {
+        match self.client(device) {
             Some(client) => push_hash(alloc, out, client),
-            None => acting::push_not_open(out, member),
+            None => acting::push_not_open(out, device),
         }
     }
 
-    fn journal(&self, alloc: Global, member: u16, out: &mut String) -> Result<(), Memory>
-        requires { Contains (seated self.now.seats.items) (first_device member) }
-        ensures { OnOk result (AppendsLineOf self.now (Command.Journal member) (string_bytes out.old) (string_bytes out.new)) }
+    fn journal(&self, alloc: Global, device: Device, out: &mut String) -> Result<(), Memory>
+        requires { Contains (seated self.now.seats.items) device }
+        ensures { OnOk result (AppendsLineOf self.now (Command.Journal device) (string_bytes out.old) (string_bytes out.new)) }
     {
-        match self.client(Device::first(member)) {
+        match self.client(device) {
             Some(client) => push_journal(alloc, out, client.journal()),
-            None => acting::push_not_open(out, member),
+            None => acting::push_not_open(out, device),
         }
     }
 
-    fn compare(&self, pair: &Pair, out: &mut String) -> Result<(), Memory>
-        requires first { Contains (seated self.now.seats.items) (first_device pair.now.first) }
-        requires second { Contains (seated self.now.seats.items) (first_device pair.now.second) }
+    fn compare(&self, pair: &DevicePair, out: &mut String) -> Result<(), Memory>
+        requires first { Contains (seated self.now.seats.items) pair.now.first }
+        requires second { Contains (seated self.now.seats.items) pair.now.second }
         requires one_document { AreOfOneDocument self.now }
         ensures { OnOk result (AppendsLineOf self.now (Command.Compare pair.now) (string_bytes out.old) (string_bytes out.new)) }
     {
-        let Some(first) = self.client(Device::first(pair.first)) else {
+        let Some(first) = self.client(pair.first) else {
             return acting::push_not_open(out, pair.first);
         };
-        let Some(second) = self.client(Device::first(pair.second)) else {
+        let Some(second) = self.client(pair.second) else {
             return acting::push_not_open(out, pair.second);
         };
         let verdict = compare(first.hashes(), second.hashes());

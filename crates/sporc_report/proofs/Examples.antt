@@ -1,14 +1,16 @@
 -- Worked examples: lines of a journal, and of what a client shows, as docs/FORMATS.md has them.
-use Rattle.std.proofs.Common.{◌≡◌, [], ◌∷◌, codes, refl}
+use Rattle.std.proofs.Common.{◌≡◌, ℕ, [], ◌∷◌, codes, refl}
 use Rattle.std.specs.Fmt.{digits}
 use Rattle.hex.specs.Hex.{encode_with}
 use Rattle.sporc_delta.specs.Marks.{Delete, Insert, Retain}
 use Rattle.sporc_hash.specs.declared.verdict.Verdict.TheVariants.{ForkedAfter, Prefix}
 use Rattle.sporc_member.specs.declared.change.Change.TheVariants as changes
 use Rattle.sporc_member.specs.declared.change.ChangeFault.TheVariants as change_faults
+use Rattle.sporc_member.specs.declared.device.Device.{Device}
 use Rattle.sporc_member.specs.declared.role.Role.TheVariants.{Editor, Reader}
+use Rattle.sporc_member.specs.Roster.{Roster, after_change, founded}
 use Rattle.sporc_client.specs.declared.event.Event.TheVariants as events
-use Rattle.sporc_report.specs.ClientLines.{compare_line, member_text}
+use Rattle.sporc_report.specs.ClientLines.{compare_line, members_text}
 use Rattle.sporc_report.specs.JournalLines.{delta_text, event_text, journal_lines}
 
 -- ---- a journal
@@ -38,14 +40,29 @@ a_round = refl
 
 -- ---- what a client shows
 
-a_member : member_text (record { member = 2; role = Editor }) ≡ codes " 2=editor"
+abbrev device : ℕ → ℕ → Device
+device member number = record { member = member; number = number }
+
+abbrev by_one : Roster
+by_one = founded (record { member = 2; role = Editor; key = [] } ∷ [])
+
+a_member : members_text by_one ≡ codes " 2=editor"
 unfolding digits
 a_member = refl
 
-a_prefix : compare_line (record { first = 1; second = 2 }) Prefix ≡ codes "1 2 prefix\n"
+its_devices : members_text (after_change by_one (changes.AddDevice 2 1 [])) ≡ codes " 2=editor:0,1"
+unfolding digits
+its_devices = refl
+
+-- a device that was dropped is not told
+one_left : members_text (after_change (after_change by_one (changes.AddDevice 2 1 [])) (changes.DropDevice 2 0)) ≡ codes " 2=editor:1"
+unfolding digits
+one_left = refl
+
+a_prefix : compare_line (record { first = device 1 0; second = device 2 1 }) Prefix ≡ codes "1 2.1 prefix\n"
 unfolding digits
 a_prefix = refl
 
-a_fork : compare_line (record { first = 1; second = 2 }) (ForkedAfter 0) ≡ codes "1 2 forked after 0\n"
+a_fork : compare_line (record { first = device 1 0; second = device 2 0 }) (ForkedAfter 0) ≡ codes "1 2 forked after 0\n"
 unfolding digits
 a_fork = refl

@@ -10,6 +10,7 @@ use Rattle.sporc_entry.specs.Entry.{author_device, entry_of, change_of}
 use Rattle.sporc_line.specs.Kit.{Kit}
 use Rattle.sporc_line.specs.Operations.{Operation, What, Edited, Changed, Unread}
 use Rattle.sporc_line.specs.Document.{forms_of}
+use Rattle.sporc_script.specs.Spelling.{device_text}
 use Rattle.sporc_report.specs.JournalLines.{change_text, delta_text}
 
 -- ---- what entries did
@@ -51,10 +52,10 @@ what_text (Edited marks) = codes "edit " ++ delta_text marks
 what_text (Changed c) = codes "change " ++ change_text c
 what_text Unread = []
 
--- position, author, number, base, and what the entry did
+-- position, author's device, number, base, and what the entry did
 abbrev pub entry_line : ℕ → Operation → List ℕ
 entry_line position o =
-    decimal position ++ (codes " " ++ (decimal o.author.member ++ (codes " " ++ (decimal o.number ++ (codes " " ++ (decimal o.base
+    decimal position ++ (codes " " ++ (device_text o.author ++ (codes " " ++ (decimal o.number ++ (codes " " ++ (decimal o.base
     ++ (codes " " ++ (what_text o.what ++ codes "\n"))))))))
 
 -- a line for each operation, of which the first stands behind so many

@@ -7,6 +7,7 @@ ghost use Rattle.sporc_line.specs.Good.{Good};
 ghost use Rattle.sporc_report.specs.EntryLines.{committed, committed_by, done_by, entry_line, entry_lines, lines_behind, what_text};
 
 use crate::journal::{push_change, push_delta};
+use crate::showing::push_device;
 use sporc_base::Memory;
 use sporc_delta::Delta;
 use sporc_entry::{ChangeBody, EntryFault, EntryView};
@@ -14,7 +15,8 @@ use sporc_line::Line;
 use std::alloc::{AllocError, Global};
 use std::fmt::Write;
 
-/// Appends a line for each entry of a history from a position on: its position, author, number and base, and what it did.
+/// Appends a line for each entry of a history from a position on: its position, its author's device, number and base, and what
+/// it did.
 /// Of an edit that is its form, so that the text can be followed by the lines alone.
 pub fn push_entries(alloc: Global, out: &mut String, line: &Line, from: u32) -> Result<(), Memory>
     ensures ok { OnOk result (string_bytes out.new ≡ string_bytes out.old ++ entry_lines from line.now.genesis line.now.kit line.now.entries) }
@@ -68,10 +70,11 @@ fn push_view(
     ensures { OnOk result (string_bytes out.new ≡ string_bytes out.old ++ entry_line position (committed_by (Ok entry.now.entry) form.now)) }
 {
     let header = entry.header();
-    let author = header.author;
     let number = header.number;
     let base = header.base;
-    write!(out, "{position} {author} {number} {base} ")?;
+    write!(out, "{position} ")?;
+    push_device(out, header.author_device())?;
+    write!(out, " {number} {base} ")?;
     push_done(alloc, out, entry.change(), form)?;
     out.push_str("\n")
 }

@@ -5,8 +5,8 @@
 //! ```text
 //! push_journal(alloc, &mut out, client.journal())?;   // edit 0 0 i"abc"
 //! push_show(&mut out, &client)?;                      // 1 at 1 pending 0 text "abc"
-//! push_members(&mut out, &client)?;                   // 1 members 1=admin 2=editor
-//! push_verdict(&mut out, 1, 2, Verdict::Prefix)?;     // 1 2 prefix
+//! push_members(&mut out, &client)?;                   // 1 members 1=admin 2=editor:0,1
+//! push_verdict(&mut out, one, other, Verdict::Prefix)?; // 1 2.1 prefix
 //! push_entries(alloc, &mut out, &line, 1)?;           // 1 1 1 0 edit i"abc"
 //! ```
 //!
@@ -29,7 +29,7 @@ pub use crate::names::{
     push_open_fault, push_submit_fault,
 };
 pub use crate::showing::{
-    last_hash, push_digits, push_hash, push_members, push_number, push_show, push_start,
-    push_verdict,
+    last_hash, push_device, push_digits, push_hash, push_members, push_number, push_show,
+    push_start, push_verdict,
 };
 pub use sporc_base::Memory;

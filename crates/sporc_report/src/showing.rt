@@ -1,34 +1,34 @@
 //! The lines that show a client.
 
-ghost use Rattle.std.specs.Prelude.{◌≡◌, ◌++◌, codes, OnOk, flat_map, string_bytes};
+ghost use Rattle.std.specs.Prelude.{◌≡◌, ◌∷◌, ◌++◌, codes, OnOk, flat_map, string_bytes};
 ghost use Rattle.std.specs.Fmt.{decimal};
 ghost use Rattle.hex.specs.Hex.{encode_lower};
 ghost use Rattle.sporc_client.specs.ClientModel.{state_of};
 ghost use Rattle.sporc_client.specs.PlainClient.{shown_of};
 ghost use Rattle.sporc_head.specs.History.{hash_of, roster_of};
-ghost use Rattle.sporc_member.specs.Roster.{member_at};
-ghost use Rattle.sporc_script.specs.Spelling.{role_name};
-ghost use Rattle.sporc_report.specs.ClientLines.{compare_line, hash_line, if_removed, member_text, members_line, show_line, text_of_member};
+ghost use Rattle.sporc_member.specs.Roster.{devices_of, member_at};
+ghost use Rattle.sporc_script.specs.Spelling.{device_text, role_name};
+ghost use Rattle.sporc_report.specs.ClientLines.{compare_line, devices_text, further_text, hash_line, if_removed, members_line, members_text, show_line, text_of_member};
 ghost use Rattle.sporc_script.specs.Quoted.{quoted};
 
 use crate::quoted::push_quoted;
 use sporc_base::Memory;
 use sporc_client::Client;
 use sporc_hash::{Digest32, Verdict};
-use sporc_member::{Role, Roster};
+use sporc_member::{Device, FIRST_DEVICE, Role, Roster};
 use sporc_outside::LeafDisk;
 use sporc_script::role_name;
 use std::alloc::Global;
 use std::fmt::Write;
 
-/// Appends what a member sees.
+/// Appends what a client shows.
 pub fn push_show<D: LeafDisk>(out: &mut String, client: &Client<D>) -> Result<(), Memory>
-    ensures ok { OnOk result (string_bytes out.new ≡ string_bytes out.old ++ show_line client.now.opening.kit.me.member (state_of client.now)) }
+    ensures ok { OnOk result (string_bytes out.new ≡ string_bytes out.old ++ show_line client.now.opening.kit.me (state_of client.now)) }
 {
-    let member = client.me();
     let at = client.entries().len();
     let pending = client.pending();
-    write!(out, "{member} at {at} pending {pending} text ")?;
+    push_device(out, device_of(client))?;
+    write!(out, " at {at} pending {pending} text ")?;
     push_shown(out, client)?;
     push_removed(out, client.removed())?;
     out.push_str("\n")
@@ -53,32 +53,57 @@ fn push_removed(out: &mut String, removed: bool) -> Result<(), Memory>
     }
 }
 
-/// Appends what a member's line starts with.
-pub fn push_start(out: &mut String, member: u16, words: &str) -> Result<(), Memory>
-    ensures ok { OnOk result (string_bytes out.new ≡ string_bytes out.old ++ (decimal member ++ words.now)) }
+/// Appends a device as a word: `M`, its member's number, for the first one; `M.D` for a further one.
+pub fn push_device(out: &mut String, device: Device) -> Result<(), Memory>
+    ensures ok { OnOk result (string_bytes out.new ≡ string_bytes out.old ++ device_text device) }
 {
-    write!(out, "{member}{words}")
+    let member = device.member;
+    let number = device.number;
+    if number == FIRST_DEVICE {
+        write!(out, "{member}")
+    } else {
+        write!(out, "{member}.{number}")
+    }
 }
 
-/// Appends a member's line that ends in a number.
-pub fn push_number(out: &mut String, member: u16, words: &str, number: u64) -> Result<(), Memory>
-    ensures ok { OnOk result (string_bytes out.new ≡ string_bytes out.old ++ (decimal member ++ (words.now ++ (decimal number ++ codes "\n")))) }
+/// Appends what a client's line starts with.
+pub fn push_start(out: &mut String, device: Device, words: &str) -> Result<(), Memory>
+    ensures ok { OnOk result (string_bytes out.new ≡ string_bytes out.old ++ (device_text device ++ words.now)) }
 {
-    writeln!(out, "{member}{words}{number}")
+    push_device(out, device)?;
+    out.push_str(words)
 }
 
-/// Appends the members, in ascending order of their numbers.
+/// Appends a client's line that ends in a number.
+pub fn push_number(out: &mut String, device: Device, words: &str, number: u64) -> Result<(), Memory>
+    ensures ok { OnOk result (string_bytes out.new ≡ string_bytes out.old ++ (device_text device ++ (words.now ++ (decimal number ++ codes "\n")))) }
+{
+    push_start(out, device, words)?;
+    writeln!(out, "{number}")
+}
+
+// The device that a client is of.
+fn device_of<D: LeafDisk>(client: &Client<D>) -> Device
+    ensures { result ≡ client.now.opening.kit.me }
+{
+    Device {
+        member: client.me(),
+        number: client.device(),
+    }
+}
+
+/// Appends the members, in ascending order of their numbers, with their roles and live devices.
 pub fn push_members<D: LeafDisk>(out: &mut String, client: &Client<D>) -> Result<(), Memory>
-    ensures ok { OnOk result (string_bytes out.new ≡ string_bytes out.old ++ members_line client.now.opening.kit.me.member (state_of client.now)) }
+    ensures ok { OnOk result (string_bytes out.new ≡ string_bytes out.old ++ members_line client.now.opening.kit.me (state_of client.now)) }
 {
-    push_start(out, client.me(), " members")?;
+    push_start(out, device_of(client), " members")?;
     push_roster(out, client)?;
     out.push_str("\n")
 }
 
-// Appends each member with its role.
+// Appends each member with its role and devices.
 fn push_roster<D: LeafDisk>(out: &mut String, client: &Client<D>) -> Result<(), Memory>
-    ensures { OnOk result (string_bytes out.new ≡ string_bytes out.old ++ flat_map member_text (roster_of client.now.opening.genesis (state_of client.now).entries).members) }
+    ensures { OnOk result (string_bytes out.new ≡ string_bytes out.old ++ members_text (roster_of client.now.opening.genesis (state_of client.now).entries)) }
 {
     let roster = client.roster();
     for number in roster.members() {
@@ -89,10 +114,13 @@ fn push_roster<D: LeafDisk>(out: &mut String, client: &Client<D>) -> Result<(), 
 
 // Appends the member with this number, if there is one.
 fn push_numbered(out: &mut String, roster: &Roster, number: u16) -> Result<(), Memory>
-    ensures { OnOk result (string_bytes out.new ≡ string_bytes out.old ++ text_of_member (member_at roster.now.roster number)) }
+    ensures { OnOk result (string_bytes out.new ≡ string_bytes out.old ++ text_of_member roster.now.roster (member_at roster.now.roster number)) }
 {
     match roster.member(number) {
-        Some(member) => push_member(out, member.member, member.role),
+        Some(member) => {
+            push_member(out, member.member, member.role)?;
+            push_devices(out, roster.devices(member.member))
+        }
         None => Ok(()),
     }
 }
@@ -104,15 +132,44 @@ fn push_member(out: &mut String, number: u16, role: Role) -> Result<(), Memory>
     write!(out, " {number}={name}")
 }
 
+// Appends the numbers of a member's live devices, unless there is the first one alone.
+fn push_devices(out: &mut String, devices: &[u8]) -> Result<(), Memory>
+    ensures { OnOk result (string_bytes out.new ≡ string_bytes out.old ++ devices_text devices.now) }
+{
+    match devices {
+        [] => Ok(()),
+        [first, more @ ..] => push_listed(out, *first, more),
+    }
+}
+
+fn push_listed(out: &mut String, first: u8, more: &[u8]) -> Result<(), Memory>
+    ensures { OnOk result (string_bytes out.new ≡ string_bytes out.old ++ devices_text (first ∷ more.now)) }
+{
+    if first == FIRST_DEVICE && more.is_empty() {
+        return Ok(());
+    }
+    write!(out, ":{first}")?;
+    push_further(out, more)
+}
+
+fn push_further(out: &mut String, numbers: &[u8]) -> Result<(), Memory>
+    ensures { OnOk result (string_bytes out.new ≡ string_bytes out.old ++ flat_map further_text numbers.now) }
+{
+    for number in numbers {
+        write!(out, ",{number}")?;
+    }
+    Ok(())
+}
+
 /// Appends the last value of the chain.
 pub fn push_hash<D: LeafDisk>(
     alloc: Global,
     out: &mut String,
     client: &Client<D>,
 ) -> Result<(), Memory>
-    ensures ok { OnOk result (string_bytes out.new ≡ string_bytes out.old ++ hash_line client.now.opening.kit.me.member (state_of client.now)) }
+    ensures ok { OnOk result (string_bytes out.new ≡ string_bytes out.old ++ hash_line client.now.opening.kit.me (state_of client.now)) }
 {
-    push_start(out, client.me(), " hash ")?;
+    push_start(out, device_of(client), " hash ")?;
     push_digits(alloc, out, &last_hash(client))?;
     out.push_str("\n")
 }
@@ -133,11 +190,11 @@ pub fn push_digits(alloc: Global, out: &mut String, bytes: &[u8]) -> Result<(), 
     out.push_str(digits.as_str())
 }
 
-/// Appends how the history of one member stands to another's.
+/// Appends how the history of one client stands to another's.
 pub fn push_verdict(
     out: &mut String,
-    first: u16,
-    second: u16,
+    first: Device,
+    second: Device,
     verdict: Verdict,
 ) -> Result<(), Memory>
     ensures ok { OnOk result (string_bytes out.new ≡ string_bytes out.old ++ compare_line (record { first = first; second = second }) verdict) }

@@ -2,7 +2,7 @@
 use Rattle.std.proofs.Common.{◌≡◌, ◌≢◌, ℕ, ◌+◌, ◌<◌, ◌^◌, Bool, true, false, List, [], ◌∷◌, ◌++◌, length, take, drop, get_or, flat_map, Option, Some, None, option_map, refl, sym, ap, ◌∙◌, subst, inl, inr, add-one, drop-cons, append_assoc, append-nil, length-drop, arith, ◌-◌, ◌≤◌, not, ◌&&◌}
 use Rattle.std.specs.Prelude.{◌==◌, if◌then◌else◌}
 use Rattle.std.specs.List.{AllByRecursion, list_all}
-use Rattle.std.proofs.lemmas.Bool.{and_parts}
+use Rattle.std.proofs.lemmas.Bool.{and_parts, eqb-true}
 use Rattle.std.proofs.lemmas.List.{nil_from_length, take_all, take_more}
 use Rattle.std.specs.Fmt.{decimal}
 use Rattle.std.specs.Str.Parse.{AllDigits}
@@ -11,7 +11,7 @@ use Rattle.std.proofs.lemmas.Fmt.{decimal_is_IsNumeral}
 use Rattle.std.proofs.lemmas.Bool.Decides.{eqb_tells}
 use Rattle.sporc_script.specs.declared.words.Place.{Place}
 use Rattle.sporc_script.specs.declared.words.Place.TheVariants.{Outside, Quoted, Escaped}
-use Rattle.sporc_script.specs.Words.{cut, cut_at, ends_word, place_after, with_first}
+use Rattle.sporc_script.specs.Words.{Lacks, cut, cut_at, ends_word, place_after, split_at, with_first}
 use Rattle.sporc_script.specs.Quoted.{quoted}
 use Rattle.sporc_script.proofs.CharEscapes.{escape_byte, flat_map-encode_all}
 use Rattle.std.specs.Str.{encode_utf8_all}
@@ -46,7 +46,7 @@ ends_at_space Outside b e = elim (eqb_tells b 32) [ inl h ↦ h.1 | inr h ↦ le
 ends_at_space Quoted b e = cc
 ends_at_space Escaped b e = cc
 
-abbrev parted : List ℕ → List ℕ → List ℕ × List ℕ
+abbrev pub parted : List ℕ → List ℕ → List ℕ × List ℕ
 parted word rest = (word, rest)
 
 with_first-some : (b : ℕ) (o : Option (List ℕ × List ℕ)) (word rest : List ℕ) → option_map (with_first b) o ≡ Some (parted word rest) → (front : List ℕ) × (o ≡ Some (parted front rest)) × (word ≡ b ∷ front)
@@ -55,22 +55,23 @@ with_first-some b (Some parts) word rest e =
     let pair = same_Some (with_first b parts) (parted word rest) e in
     (parts.0, ap (λ r. Some (parted parts.0 r)) (ap (λ (p : List ℕ × List ℕ). p.1) pair), sym (ap (λ (p : List ℕ × List ℕ). p.0) pair))
 
-cut_at-step : (place : Place) (b : ℕ) (bs word rest : List ℕ) (t : Bool) → ends_word place b ≡ t → ((front : List ℕ) → cut_at (place_after place b) bs ≡ Some (parted front rest) → bs ≡ front ++ 32 ∷ rest)
-    → (if t then Some (parted [] bs) else option_map (with_first b) (cut_at (place_after place b) bs)) ≡ Some (parted word rest) → b ∷ bs ≡ word ++ 32 ∷ rest
-cut_at-step place b bs word rest true is more e =
+-- one byte of a cut at a separator: it is one, or a later one was found
+cut_step : (separator b : ℕ) (bs word rest : List ℕ) (later : Option (List ℕ × List ℕ)) (t : Bool) → (t ≡ true → b ≡ separator) → ((front : List ℕ) → later ≡ Some (parted front rest) → bs ≡ front ++ separator ∷ rest)
+    → (if t then Some (parted [] bs) else option_map (with_first b) later) ≡ Some (parted word rest) → b ∷ bs ≡ word ++ separator ∷ rest
+cut_step separator b bs word rest later true is more e =
     let pair = same_Some (parted [] bs) (parted word rest) e in
     let none : [] ≡ word = ap (λ (p : List ℕ × List ℕ). p.0) pair in
     let all : bs ≡ rest = ap (λ (p : List ℕ × List ℕ). p.1) pair in
-    ap (λ x. x ∷ bs) (ends_at_space place b is) ∙ ap (λ zs. 32 ∷ zs) all ∙ ap (λ w. w ++ 32 ∷ rest) none
-cut_at-step place b bs word rest false is more e =
-    let got = with_first-some b (cut_at (place_after place b) bs) word rest e in
-    ap (λ zs. b ∷ zs) (more got.0 got.1) ∙ ap (λ zs. zs ++ 32 ∷ rest) (sym got.2)
+    ap (λ x. x ∷ bs) (is refl) ∙ ap (λ zs. separator ∷ zs) all ∙ ap (λ w. w ++ separator ∷ rest) none
+cut_step separator b bs word rest later false is more e =
+    let got = with_first-some b later word rest e in
+    ap (λ zs. b ∷ zs) (more got.0 got.1) ∙ ap (λ zs. zs ++ separator ∷ rest) (sym got.2)
 
 cut_at-sound : (place : Place) (bytes word rest : List ℕ) → cut_at place bytes ≡ Some (word, rest) → bytes ≡ word ++ 32 ∷ rest
 unfolding cut_at
 cut_at-sound place [] word rest e = cc
 cut_at-sound place (b ∷ bs) word rest e =
-    cut_at-step place b bs word rest (ends_word place b) refl (λ front h. cut_at-sound (place_after place b) bs front rest h) e
+    cut_step 32 b bs word rest (cut_at (place_after place b) bs) (ends_word place b) (ends_at_space place b) (λ front h. cut_at-sound (place_after place b) bs front rest h) e
 
 pub cut_sound : (bytes word rest : List ℕ) → cut bytes ≡ Some (word, rest) → bytes ≡ word ++ 32 ∷ rest
 cut_sound bytes word rest e = cut_at-sound Outside bytes word rest e
@@ -94,8 +95,20 @@ bare_digits : (ds : List ℕ) → AllDigits 10 ds → IsBare ds
 bare_digits [] all = tt
 bare_digits (d ∷ ds) all = let range = digit_from_value d all.0 in (((omega (arith, range.0)), (omega (arith, range.0))), bare_digits ds all.1)
 
+pub bare_point : (word more : List ℕ) → IsBare word → IsBare more → IsBare (word ++ 46 ∷ more)
+bare_point [] more bare bare' = ((omega arith, omega arith), bare')
+bare_point (b ∷ bs) more bare bare' = (bare.0, bare_point bs more bare.1 bare')
+
 pub decimal_bare : (n : ℕ) → n < 2 ^ 64 → IsBare (decimal n)
 decimal_bare n fits = bare_digits (decimal n) (decimal_is_IsNumeral n fits).0.1
+
+-- a separator below the digits
+lacks_digits : (b : ℕ) (ds : List ℕ) → b < 48 → AllDigits 10 ds → Lacks b ds
+lacks_digits b [] low all = tt
+lacks_digits b (d ∷ ds) low all = let range = digit_from_value d all.0 in (omega (arith, low, range.0), lacks_digits b ds low all.1)
+
+pub decimal_lacks : (b n : ℕ) → b < 48 → n < 2 ^ 64 → Lacks b (decimal n)
+decimal_lacks b n low fits = lacks_digits b (decimal n) low (decimal_is_IsNumeral n fits).0.1
 
 pub decimal_word : (n : ℕ) → n < 2 ^ 64 → IsWord (decimal n)
 decimal_word n fits = bare_word (decimal n) (decimal_bare n fits)
@@ -141,6 +154,27 @@ bare_from_test (b ∷ bs) e =
 -- a word that is known, by a test that computes
 pub word_from_test : (word : List ℕ) → is_bare word ≡ true → IsWord word
 word_from_test word e = bare_word word (bare_from_test word e)
+
+-- ---- a cut at the first byte of a kind
+
+same_byte : (b : ℕ) → (b == b) ≡ true
+same_byte b = elim (eqb_tells b b) [ inl h ↦ h.0 | inr h ↦ absurd (h.1 refl) ]
+
+pub split_none : (b : ℕ) (bytes : List ℕ) → Lacks b bytes → split_at b bytes ≡ None
+unfolding split_at
+split_none b [] lacks = refl
+split_none b (x ∷ xs) lacks = rw (is_not x b lacks.0, split_none b xs lacks.1) refl
+
+pub split_some : (b : ℕ) (front rest : List ℕ) → Lacks b front → split_at b (front ++ b ∷ rest) ≡ Some (front, rest)
+unfolding split_at
+split_some b [] rest lacks = rw (same_byte b) refl
+split_some b (x ∷ xs) rest lacks = rw (is_not x b lacks.0, split_some b xs rest lacks.1) refl
+
+pub split_sound : (b : ℕ) (bytes front rest : List ℕ) → split_at b bytes ≡ Some (front, rest) → bytes ≡ front ++ b ∷ rest
+unfolding split_at
+split_sound b [] front rest e = cc
+split_sound b (x ∷ xs) front rest e =
+    cut_step b x xs front rest (split_at b xs) (x == b) (λ is. eqb-true x b is) (λ first h. split_sound b xs first rest h) e
 
 -- ---- the loop that looks for the space
 

@@ -1,10 +1,11 @@
 -- Readers of what a first word begins.
-use Rattle.std.proofs.Common.{◌≡◌, ℕ, Bool, true, false, List, ◌∷◌, ◌++◌, Option, Some, None, option_map, refl, sym, ap, ◌∙◌, subst}
+use Rattle.std.proofs.Common.{◌≡◌, ◌⊎◌, inl, inr, ℕ, Bool, true, false, List, ◌∷◌, ◌++◌, Option, Some, None, option_map, refl, sym, ap, ◌∙◌, subst}
 use Rattle.std.specs.Prelude.{IsSomeAnd, MatchOption, ◌≢◌, if◌then◌else◌}
 use Rattle.std.specs.Str.{bytes_eq}
+use Rattle.std.proofs.lemmas.Option.{same_Some}
 use Rattle.std.proofs.lemmas.Slice.Eq.{bytes_eq-Decides}
 use Rattle.sporc_script.specs.Words.{cut}
-use Rattle.sporc_script.specs.Readers.{behind_of, keyed_of, then_read}
+use Rattle.sporc_script.specs.Readers.{behind_of, keyed_of, lone_or, then_read}
 use Rattle.sporc_script.proofs.Cuts.{IsWord, cut_sound, cut_word}
 use Rattle.sporc_script.proofs.Exact.{IsExact, map_some, read_is, read_none, then_some}
 
@@ -50,6 +51,31 @@ keyed_exact K A name word_of exact words In spell read sound complete = record {
       ∙ b.reads;
 }
 
+-- a word that stands alone for a value, or what others are
+lone_sound : (A : Type 0) (name : List ℕ) (value : A) (In In' : A → Type 0) (spell : A → List ℕ) (read : List ℕ → Option A) → IsExact A In' spell read
+    → In value → spell value ≡ name → ((a : A) → In' a → In a)
+    → (bytes : List ℕ) (a : A) (t : Bool) → bytes_eq bytes name ≡ t → (if t then Some value else read bytes) ≡ Some a → In a × (bytes ≡ spell a)
+lone_sound A name value In In' spell read exact range named wider bytes a true is e =
+    let same : bytes ≡ name = (bytes_eq-Decides bytes name).0 is in
+    subst (λ (x : A). In x × (bytes ≡ spell x)) (same_Some value a e) (range, same ∙ sym named)
+lone_sound A name value In In' spell read exact range named wider bytes a false is e =
+    let h = exact.sound bytes a e in (wider a h.0, h.1)
+
+pub lone_exact : (A : Type 0) (name : List ℕ) (value : A) (In In' : A → Type 0) (spell : A → List ℕ) (read : List ℕ → Option A) → IsExact A In' spell read
+    → In value → spell value ≡ name → ((a : A) → In' a → In a)
+    → ((a : A) → In a → (a ≡ value) ⊎ (In' a × (bytes_eq (spell a) name ≡ false)))
+    → IsExact A In spell (lone_or name value read)
+lone_exact A name value In In' spell read exact range named wider cases = record {
+  sound = λ bytes a e. lone_sound A name value In In' spell read exact range named wider bytes a (bytes_eq bytes name) refl e;
+  complete = λ a h.
+      elim (cases a h) [
+        | inl is ↦
+            let same : spell a ≡ name = ap spell is ∙ named in
+            ap (λ (t : Bool). if t then Some value else read (spell a)) ((bytes_eq-Decides (spell a) name).1 same) ∙ ap (λ (x : A). Some x) (sym is)
+        | inr other ↦ ap (λ (t : Bool). if t then Some value else read (spell a)) other.1 ∙ exact.complete a other.0
+      ];
+}
+
 -- a name that was found is the one that is read
 pub named_is : (K : Type 0) (name : K → List ℕ) (word_of : List ℕ → Option K) → IsExact K (λ _. Unit {0}) name word_of
     → (word : List ℕ) (found : Option K) → MatchOption found ((k : K) → word ≢ name k) (λ k. word ≡ name k) → found ≡ word_of word
@@ -71,6 +97,18 @@ behind_exact A In spell read exact name word = record {
       ∙ ap (λ (t : Bool). if t then read (spell a) else None) ((bytes_eq-Decides name name).1 refl)
       ∙ exact.complete a range;
 }
+
+-- what is read behind a word is read of what stands behind it
+pub behind_then : (A : Type 0) (name : List ℕ) (read : List ℕ → Option A) (words rest : List ℕ) → behind_of name Some words ≡ Some rest → behind_of name read words ≡ read rest
+behind_then A name read words rest is = by_cut (cut words) is
+  where
+    by_test : (t : Bool) (more : List ℕ) → (if t then Some more else None) ≡ Some rest → (if t then read more else None) ≡ read rest
+    by_test true more e = ap read (same_Some more rest e)
+    by_test false more e = cc
+
+    by_cut : (c : Option (List ℕ × List ℕ)) → then_read c (λ p. if bytes_eq p.0 name then Some p.1 else None) ≡ Some rest → then_read c (λ p. if bytes_eq p.0 name then read p.1 else None) ≡ read rest
+    by_cut None e = cc
+    by_cut (Some p) e = by_test (bytes_eq p.0 name) p.1 e
 
 -- what a value that may be there becomes
 pub mapped : {A B : Type 0} (to : A → B) (o : Option A) (r : Option B) → MatchOption o (r ≡ None) (λ a. IsSomeAnd r (λ b. b ≡ to a)) → r ≡ option_map to o

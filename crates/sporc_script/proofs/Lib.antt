@@ -1,9 +1,11 @@
 pub mod CharEscapes
 pub mod CommandReaders
 pub mod Cuts
+pub mod DeviceWords
 pub mod EditReaders
 pub mod EditorReaders
 pub mod Escapes
+mod Examples
 pub mod Exact
 pub mod HexWords
 pub mod Keyed

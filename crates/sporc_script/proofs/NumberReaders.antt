@@ -6,13 +6,14 @@ use Rattle.std.proofs.lemmas.Bool.Decides.{eqb_tells}
 use Rattle.std.proofs.lemmas.Option.{same_Some}
 use Rattle.sporc_script.specs.declared.command.Join.{Join}
 use Rattle.sporc_script.specs.Numbers.{JoinInRange, NumbersInRange, all_numbers, join_of, join_spelling, numbers_of, numbers_spelling, parts_of}
-use Rattle.sporc_script.specs.Readers.{member_of, then_read}
-use Rattle.sporc_script.specs.Spelling.{IsU64}
+use Rattle.sporc_member.specs.declared.device.Device.{Device}
+use Rattle.sporc_script.specs.Readers.{device_of, then_read}
+use Rattle.sporc_script.specs.Spelling.{IsU64, device_text}
 use Rattle.sporc_script.specs.Words.{Lacks, Splits, number_of}
-use Rattle.sporc_script.proofs.Cuts.{IsBare, decimal_bare}
+use Rattle.sporc_script.proofs.Cuts.{decimal_lacks}
 use Rattle.sporc_script.proofs.Exact.{IsExact, map_exact, map_some, pair_exact, then_some}
-use Rattle.sporc_script.proofs.PlainReaders.{member_words}
-use Rattle.sporc_script.proofs.TextWords.{member_exact, number_exact}
+use Rattle.sporc_script.proofs.DeviceWords.{device_exact, device_words}
+use Rattle.sporc_script.proofs.TextWords.{number_exact}
 
 -- ---- the parts between spaces
 
@@ -90,19 +91,15 @@ numbers_sound w (v ∷ ws) ns e =
     subst (AreSpelled (w ++ 32 ∷ joined (v ∷ ws))) same
     (((h.0, more.0.0), omega arith), ap (λ z. z ++ 32 ∷ joined (v ∷ ws)) h.1 ∙ ap (λ zs. decimal got.0 ++ 32 ∷ zs) more.1)
 
-bare_lacks : (word : List ℕ) → IsBare word → Lacks 32 word
-bare_lacks [] bare = tt
-bare_lacks (b ∷ bs) bare = (bare.0.0, bare_lacks bs bare.1)
-
-decimal_lacks : (n : ℕ) → IsU64 n → Lacks 32 (decimal n)
-decimal_lacks n fits = bare_lacks (decimal n) (decimal_bare n fits)
+spaceless : (n : ℕ) → IsU64 n → Lacks 32 (decimal n)
+spaceless n fits = decimal_lacks 32 n (omega arith) fits
 
 numbers_complete : (n : ℕ) (ns : List ℕ) → IsU64 n → AllByRecursion IsU64 ns → all_numbers (parts_of (numbers_spelling (n ∷ ns))) ≡ Some (n ∷ ns)
 numbers_complete n [] fits all =
-    ap all_numbers (parts_last (decimal n) (decimal_lacks n fits))
+    ap all_numbers (parts_last (decimal n) (spaceless n fits))
     ∙ ap (λ (o : Option ℕ). then_read o (λ m. Some (m ∷ []))) (number_exact.complete n fits)
 numbers_complete n (m ∷ ms) fits all =
-    ap all_numbers (parts_split (decimal n) (numbers_spelling (m ∷ ms)) (decimal_lacks n fits))
+    ap all_numbers (parts_split (decimal n) (numbers_spelling (m ∷ ms)) (spaceless n fits))
     ∙ ap (λ (o : Option ℕ). then_read o (λ x. option_map (λ xs. x ∷ xs) (all_numbers (parts_of (numbers_spelling (m ∷ ms)))))) (number_exact.complete n fits)
     ∙ ap (option_map (λ xs. n ∷ xs)) (numbers_complete m ms all.0 all.1)
 
@@ -123,9 +120,9 @@ numbers_exact = record {
 pub join_exact : IsExact Join JoinInRange join_spelling join_of
 unfolding join_of
 join_exact =
-    map_exact (ℕ × List ℕ) Join _ _ _
-    (pair_exact ℕ (List ℕ) _ _ decimal numbers_spelling member_of numbers_of member_exact member_words numbers_exact)
-    (λ p. record { member = p.0; entries = p.1 }) (λ j. (j.member, j.entries)) (λ p. refl) (λ j. refl)
+    map_exact (Device × List ℕ) Join _ _ _
+    (pair_exact Device (List ℕ) _ _ device_text numbers_spelling device_of numbers_of device_exact device_words numbers_exact)
+    (λ p. record { device = p.0; entries = p.1 }) (λ j. (j.device, j.entries)) (λ p. refl) (λ j. refl)
 
 -- ---- the loop that reads them
 

@@ -1,8 +1,10 @@
 -- The readers of lines that are words alone are exact.
 use Rattle.std.proofs.Common.{◌≡◌, ℕ, ◌<◌, ◌^◌, true, [], ◌∷◌, ◌++◌, Some, refl, arith}
 use Rattle.std.specs.Fmt.{decimal}
+use Rattle.sporc_member.specs.declared.device.Device.{Device}
 use Rattle.sporc_member.specs.declared.role.Role.{Role}
 use Rattle.sporc_member.specs.declared.role.Role.TheVariants.{Reader, Editor, Admin}
+use Rattle.sporc_script.specs.declared.command.DevicePair.{DevicePair}
 use Rattle.sporc_script.specs.declared.command.Flip.{Flip}
 use Rattle.sporc_script.specs.declared.command.Give.{Give}
 use Rattle.sporc_script.specs.declared.command.Height.{Height}
@@ -15,11 +17,12 @@ use Rattle.sporc_script.specs.declared.command.Restart.{Restart}
 use Rattle.sporc_script.specs.declared.command.Tree.{Tree}
 use Rattle.sporc_script.specs.declared.command.Width.{Width}
 use Rattle.sporc_script.specs.declared.command.Width.TheVariants.{Four, Eight}
-use Rattle.sporc_script.specs.Readers.{member_of, pair_of, u32_of}
-use Rattle.sporc_script.specs.Plain.{flip_of, give_of, height_of, keyword_of, member_role_of, restart_of, role_of, tree_of, two_members_of, width_of}
-use Rattle.sporc_script.specs.Spelling.{FlipInRange, GiveInRange, IsMember, IsU64, PairInRange, RestartInRange, flip_spelling, give_spelling, height_name, keyword_name, member_role_spelling, pair_spelling, restart_spelling, role_name, tree_spelling, width_name}
+use Rattle.sporc_script.specs.Readers.{device_number_of, device_of, further_number_of, member_of, pair_of, u32_of}
+use Rattle.sporc_script.specs.Plain.{flip_of, further_device_of, give_of, height_of, keyword_of, member_device_of, member_role_of, restart_of, role_of, tree_of, two_devices_of, two_members_of, width_of}
+use Rattle.sporc_script.specs.Spelling.{DeviceInRange, DevicePairInRange, FlipInRange, FurtherInRange, GiveInRange, IsDeviceNumber, IsMember, IsU64, PairInRange, RestartInRange, device_pair_spelling, device_text, flip_spelling, give_spelling, height_name, keyword_name, member_device_spelling, member_role_spelling, pair_spelling, restart_spelling, role_name, tree_spelling, width_name}
 use Rattle.sporc_script.specs.Words.{number_of}
 use Rattle.sporc_script.proofs.Cuts.{IsWord, decimal_word, is_bare, word_from_test}
+use Rattle.sporc_script.proofs.DeviceWords.{device_exact, device_number_exact, device_words, further_number_exact}
 use Rattle.sporc_script.proofs.Exact.{AreWords, IsExact, map_exact, named_exact, pair_exact, range_exact}
 use Rattle.sporc_script.proofs.TextWords.{member_exact, number_exact, u32_exact}
 
@@ -35,11 +38,11 @@ member_words n range = decimal_word n (omega (arith, range.1))
 pub keyword_exact : IsExact Keyword (λ _. Unit {0}) keyword_name keyword_of
 unfolding keyword_of
 keyword_exact = named_exact Keyword keyword_name
-    (keywords.Tree ∷ keywords.Member ∷ keywords.Rogue ∷ keywords.Joiner ∷ keywords.Unpaired ∷ keywords.Edit ∷ keywords.Change ∷ keywords.Discard ∷ keywords.Submit ∷ keywords.Give ∷ keywords.Restart ∷ keywords.Join ∷ keywords.Show ∷ keywords.Members ∷ keywords.Hash ∷ keywords.Journal ∷ keywords.Compare ∷ keywords.Flip ∷ keywords.Cut ∷ keywords.Sign ∷ [])
-    (λ k. elim k as (λ k. keyword_of (keyword_name k) ≡ Some k) [ keywords.Tree ↦ refl | keywords.Member ↦ refl | keywords.Rogue ↦ refl | keywords.Joiner ↦ refl | keywords.Unpaired ↦ refl | keywords.Edit ↦ refl | keywords.Change ↦ refl | keywords.Discard ↦ refl | keywords.Submit ↦ refl | keywords.Give ↦ refl | keywords.Restart ↦ refl | keywords.Join ↦ refl | keywords.Show ↦ refl | keywords.Members ↦ refl | keywords.Hash ↦ refl | keywords.Journal ↦ refl | keywords.Compare ↦ refl | keywords.Flip ↦ refl | keywords.Cut ↦ refl | keywords.Sign ↦ refl ])
+    (keywords.Tree ∷ keywords.Member ∷ keywords.Rogue ∷ keywords.Joiner ∷ keywords.Unpaired ∷ keywords.Edit ∷ keywords.Change ∷ keywords.Discard ∷ keywords.Submit ∷ keywords.Give ∷ keywords.Restart ∷ keywords.Join ∷ keywords.Show ∷ keywords.Members ∷ keywords.Hash ∷ keywords.Journal ∷ keywords.Compare ∷ keywords.Flip ∷ keywords.Cut ∷ keywords.Sign ∷ keywords.Device ∷ [])
+    (λ k. elim k as (λ k. keyword_of (keyword_name k) ≡ Some k) [ keywords.Tree ↦ refl | keywords.Member ↦ refl | keywords.Rogue ↦ refl | keywords.Joiner ↦ refl | keywords.Unpaired ↦ refl | keywords.Edit ↦ refl | keywords.Change ↦ refl | keywords.Discard ↦ refl | keywords.Submit ↦ refl | keywords.Give ↦ refl | keywords.Restart ↦ refl | keywords.Join ↦ refl | keywords.Show ↦ refl | keywords.Members ↦ refl | keywords.Hash ↦ refl | keywords.Journal ↦ refl | keywords.Compare ↦ refl | keywords.Flip ↦ refl | keywords.Cut ↦ refl | keywords.Sign ↦ refl | keywords.Device ↦ refl ])
 
 pub keyword_words : (k : Keyword) → IsWord (keyword_name k)
-keyword_words k = word_from_test (keyword_name k) (elim k as (λ k. is_bare (keyword_name k) ≡ true) [ keywords.Tree ↦ refl | keywords.Member ↦ refl | keywords.Rogue ↦ refl | keywords.Joiner ↦ refl | keywords.Unpaired ↦ refl | keywords.Edit ↦ refl | keywords.Change ↦ refl | keywords.Discard ↦ refl | keywords.Submit ↦ refl | keywords.Give ↦ refl | keywords.Restart ↦ refl | keywords.Join ↦ refl | keywords.Show ↦ refl | keywords.Members ↦ refl | keywords.Hash ↦ refl | keywords.Journal ↦ refl | keywords.Compare ↦ refl | keywords.Flip ↦ refl | keywords.Cut ↦ refl | keywords.Sign ↦ refl ])
+keyword_words k = word_from_test (keyword_name k) (elim k as (λ k. is_bare (keyword_name k) ≡ true) [ keywords.Tree ↦ refl | keywords.Member ↦ refl | keywords.Rogue ↦ refl | keywords.Joiner ↦ refl | keywords.Unpaired ↦ refl | keywords.Edit ↦ refl | keywords.Change ↦ refl | keywords.Discard ↦ refl | keywords.Submit ↦ refl | keywords.Give ↦ refl | keywords.Restart ↦ refl | keywords.Join ↦ refl | keywords.Show ↦ refl | keywords.Members ↦ refl | keywords.Hash ↦ refl | keywords.Journal ↦ refl | keywords.Compare ↦ refl | keywords.Flip ↦ refl | keywords.Cut ↦ refl | keywords.Sign ↦ refl | keywords.Device ↦ refl ])
 
 pub role_exact : IsExact Role (λ _. Unit {0}) role_name role_of
 unfolding role_of
@@ -82,21 +85,45 @@ two_members_exact =
     (pair_exact ℕ ℕ _ _ decimal decimal member_of member_of member_exact member_words member_exact)
     (λ p. record { first = p.0; second = p.1 }) (λ p. (p.first, p.second)) (λ p. refl) (λ p. refl)
 
+pub two_devices_exact : IsExact DevicePair DevicePairInRange device_pair_spelling two_devices_of
+unfolding two_devices_of
+two_devices_exact =
+    map_exact (Device × Device) DevicePair _ _ _
+    (pair_exact Device Device _ _ device_text device_text device_of device_of device_exact device_words device_exact)
+    (λ p. record { first = p.0; second = p.1 }) (λ p. (p.first, p.second)) (λ p. refl) (λ p. refl)
+
+pub device_number_words : AreWords ℕ IsDeviceNumber decimal
+device_number_words n fits = decimal_word n (omega (arith, fits))
+
+pub member_device_exact : IsExact Device DeviceInRange member_device_spelling member_device_of
+unfolding member_device_of
+member_device_exact =
+    map_exact (ℕ × ℕ) Device _ _ _
+    (pair_exact ℕ ℕ _ _ decimal decimal member_of device_number_of member_exact member_words device_number_exact)
+    (λ p. record { member = p.0; number = p.1 }) (λ d. (d.member, d.number)) (λ p. refl) (λ d. refl)
+
+pub further_device_exact : IsExact Device FurtherInRange member_device_spelling further_device_of
+unfolding further_device_of
+further_device_exact =
+    map_exact (ℕ × ℕ) Device _ _ _
+    (pair_exact ℕ ℕ _ _ decimal decimal member_of further_number_of member_exact member_words further_number_exact)
+    (λ p. record { member = p.0; number = p.1 }) (λ d. (d.member, d.number)) (λ p. refl) (λ d. refl)
+
 pub give_exact : IsExact Give GiveInRange give_spelling give_of
 unfolding give_of
 give_exact = range_exact Give _ _ give_spelling _
-    (map_exact (ℕ × (ℕ × ℕ)) Give _ _ _
-    (pair_exact ℕ (ℕ × ℕ) _ _ decimal (λ p. decimal p.0 ++ 32 ∷ decimal p.1) member_of (pair_of u32_of number_of) member_exact member_words
+    (map_exact (Device × (ℕ × ℕ)) Give _ _ _
+    (pair_exact Device (ℕ × ℕ) _ _ device_text (λ p. decimal p.0 ++ 32 ∷ decimal p.1) device_of (pair_of u32_of number_of) device_exact device_words
     (pair_exact ℕ ℕ _ _ decimal decimal u32_of number_of u32_exact u32_words number_exact))
-    (λ p. record { member = p.0; position = p.1.0; entry = p.1.1 }) (λ g. (g.member, (g.position, g.entry))) (λ p. refl) (λ g. refl))
+    (λ p. record { device = p.0; position = p.1.0; entry = p.1.1 }) (λ g. (g.device, (g.position, g.entry))) (λ p. refl) (λ g. refl))
     (λ g h. (h.0, h.1.0, h.1.1)) (λ g h. (h.0, (h.1, h.2)))
 
 pub restart_exact : IsExact Restart RestartInRange restart_spelling restart_of
 unfolding restart_of
 restart_exact =
-    map_exact (ℕ × ℕ) Restart _ _ _
-    (pair_exact ℕ ℕ _ _ decimal decimal member_of number_of member_exact member_words number_exact)
-    (λ p. record { member = p.0; entries = p.1 }) (λ r. (r.member, r.entries)) (λ p. refl) (λ r. refl)
+    map_exact (Device × ℕ) Restart _ _ _
+    (pair_exact Device ℕ _ _ device_text decimal device_of number_of device_exact device_words number_exact)
+    (λ p. record { device = p.0; entries = p.1 }) (λ r. (r.device, r.entries)) (λ p. refl) (λ r. refl)
 
 pub flip_exact : IsExact Flip FlipInRange flip_spelling flip_of
 unfolding flip_of

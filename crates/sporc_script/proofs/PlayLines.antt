@@ -29,7 +29,7 @@ pub one_command : (line : List ℕ) (c d : Command) → Spells line c → Spells
 one_command line c d first second = one_spelled Command InRange spelling command_of command_exact line c d first second
 
 keyword_named : (k : Keyword) → is_named (keyword_name k) ≡ true
-keyword_named k = elim k as (λ k. is_named (keyword_name k) ≡ true) [ keywords.Tree ↦ refl | keywords.Member ↦ refl | keywords.Rogue ↦ refl | keywords.Joiner ↦ refl | keywords.Unpaired ↦ refl | keywords.Edit ↦ refl | keywords.Change ↦ refl | keywords.Discard ↦ refl | keywords.Submit ↦ refl | keywords.Give ↦ refl | keywords.Restart ↦ refl | keywords.Join ↦ refl | keywords.Show ↦ refl | keywords.Members ↦ refl | keywords.Hash ↦ refl | keywords.Journal ↦ refl | keywords.Compare ↦ refl | keywords.Flip ↦ refl | keywords.Cut ↦ refl | keywords.Sign ↦ refl ]
+keyword_named k = elim k as (λ k. is_named (keyword_name k) ≡ true) [ keywords.Tree ↦ refl | keywords.Member ↦ refl | keywords.Rogue ↦ refl | keywords.Joiner ↦ refl | keywords.Unpaired ↦ refl | keywords.Edit ↦ refl | keywords.Change ↦ refl | keywords.Discard ↦ refl | keywords.Submit ↦ refl | keywords.Give ↦ refl | keywords.Restart ↦ refl | keywords.Join ↦ refl | keywords.Show ↦ refl | keywords.Members ↦ refl | keywords.Hash ↦ refl | keywords.Journal ↦ refl | keywords.Compare ↦ refl | keywords.Flip ↦ refl | keywords.Cut ↦ refl | keywords.Sign ↦ refl | keywords.Device ↦ refl ]
 
 pub one_next : (before : List PlayLine) (line : List ℕ) (c d : Command) → IsNext before line c → IsNext before line d → c ≡ d
 one_next before line c d first second = one_command line c d first.0 second.0
@@ -37,7 +37,7 @@ one_next before line c d first second = one_command line c d first.0 second.0
 pub next_not_skipped : (before : List PlayLine) (line : List ℕ) (c : Command) → IsSkipped line → IsNext before line c → ⊥
 next_not_skipped before line c skipped next =
     let begins = command_begins c next.0.0 in
-    not_skipped line (keyword_name begins.word) begins.rest (keyword_named begins.word) (next.0.1 ∙ begins.spelled) skipped
+    not_skipped line (keyword_name begins.word) (32 ∷ begins.rest) (keyword_named begins.word) (next.0.1 ∙ begins.spelled) skipped
 
 pub next_or_none : (before : List PlayLine) (line : List ℕ) → Found Command (λ c. IsNext before line c)
 next_or_none before line =

@@ -40,7 +40,7 @@ abbrev pub is_named : List ℕ → Bool
 is_named [] = false
 is_named (b ∷ bs) = nat_lt 35 b
 
-pub not_skipped : (line name rest : List ℕ) → is_named name ≡ true → line ≡ name ++ 32 ∷ rest → IsSkipped line → ⊥
+pub not_skipped : (line name rest : List ℕ) → is_named name ≡ true → line ≡ name ++ rest → IsSkipped line → ⊥
 not_skipped line [] rest named is skipped = cc
 not_skipped [] (b ∷ bs) rest named is skipped = omega (arith, ap length is)
 not_skipped (x ∷ xs) (b ∷ bs) rest named is skipped =

@@ -13,8 +13,8 @@ use Rattle.sporc_script.specs.declared.text_edit.TextEdit.{TextEdit}
 use Rattle.sporc_script.specs.declared.text_edit.TextEdit.TheVariants as edits
 use Rattle.sporc_script.specs.declared.text_edit.TextWord.{TextWord}
 use Rattle.sporc_script.specs.declared.text_edit.TextWord.TheVariants as text_words
-use Rattle.sporc_script.specs.Plain.{member_role_of}
-use Rattle.sporc_script.specs.Readers.{keyed_of, member_of, named_of, pair_of, then_read}
+use Rattle.sporc_script.specs.Plain.{member_device_of, member_role_of}
+use Rattle.sporc_script.specs.Readers.{device_of, keyed_of, lone_or, member_of, named_of, pair_of, then_read}
 use Rattle.sporc_script.specs.Spelling.{roster_word_name, text_word_name}
 use Rattle.sporc_script.specs.Texts.{text_of}
 use Rattle.sporc_script.specs.Words.{cut, number_of}
@@ -23,7 +23,10 @@ unfoldable pub text_word_of : List ℕ → Option TextWord
 text_word_of word = named_of text_word_name (text_words.Insert ∷ text_words.Remove ∷ []) word
 
 unfoldable pub roster_word_of : List ℕ → Option RosterWord
-roster_word_of word = named_of roster_word_name (roster_words.Add ∷ roster_words.Remove ∷ roster_words.Role ∷ []) word
+roster_word_of word =
+    named_of roster_word_name
+    (roster_words.Add ∷ roster_words.Remove ∷ roster_words.Role ∷ roster_words.Device ∷ roster_words.DropDevice ∷ [])
+    word
 
 unfoldable pub insertion_of : List ℕ → Option Insertion
 insertion_of words = option_map (λ p. record { at = p.0; text = p.1 }) (pair_of number_of text_of words)
@@ -48,15 +51,17 @@ unfoldable pub stated_of : List ℕ → Option (Option ℕ × TextEdit)
 stated_of words = then_read (cut words) (λ parts. stated_with words parts.0 parts.1)
 
 unfoldable pub edit_of : List ℕ → Option Edit
-edit_of words = option_map (λ p. record { member = p.0; seen = p.1.0; change = p.1.1 }) (pair_of member_of stated_of words)
+edit_of words = option_map (λ p. record { device = p.0; seen = p.1.0; change = p.1.1 }) (pair_of device_of stated_of words)
 
 abbrev pub roster_change_with : RosterWord → List ℕ → Option RosterChange
 roster_change_with roster_words.Add words = option_map changes.Add (member_role_of words)
 roster_change_with roster_words.Remove words = option_map changes.Remove (member_of words)
 roster_change_with roster_words.Role words = option_map changes.SetRole (member_role_of words)
+roster_change_with roster_words.Device words = option_map changes.AddDevice (member_device_of words)
+roster_change_with roster_words.DropDevice words = option_map changes.DropDevice (member_device_of words)
 
 unfoldable pub roster_change_of : List ℕ → Option RosterChange
-roster_change_of words = keyed_of roster_word_of roster_change_with words
+roster_change_of words = lone_or (codes "upgrade") changes.Upgrade (keyed_of roster_word_of roster_change_with) words
 
 unfoldable pub roster_edit_of : List ℕ → Option RosterEdit
-roster_edit_of words = option_map (λ p. record { member = p.0; change = p.1 }) (pair_of member_of roster_change_of words)
+roster_edit_of words = option_map (λ p. record { device = p.0; change = p.1 }) (pair_of device_of roster_change_of words)

@@ -4,8 +4,8 @@ use Rattle.std.specs.List.{AllByRecursion}
 use Rattle.std.specs.Fmt.{decimal}
 use Rattle.sporc_script.specs.declared.command.Join.{Join}
 use Rattle.sporc_script.specs.Lines.{with_byte}
-use Rattle.sporc_script.specs.Readers.{member_of, pair_of, then_read}
-use Rattle.sporc_script.specs.Spelling.{IsMember, IsU64}
+use Rattle.sporc_script.specs.Readers.{device_of, pair_of, then_read}
+use Rattle.sporc_script.specs.Spelling.{DeviceInRange, IsU64, device_text}
 use Rattle.sporc_script.specs.Words.{number_of}
 
 abbrev pub numbers_spelling : List ℕ → List ℕ
@@ -14,14 +14,14 @@ numbers_spelling (n ∷ []) = decimal n
 numbers_spelling (n ∷ m ∷ ns) = decimal n ++ (codes " " ++ numbers_spelling (m ∷ ns))
 
 abbrev pub join_spelling : Join → List ℕ
-join_spelling j = decimal j.member ++ (codes " " ++ numbers_spelling j.entries)
+join_spelling j = device_text j.device ++ (codes " " ++ numbers_spelling j.entries)
 
 -- there is one at least
 abbrev pub NumbersInRange : List ℕ → Type 0
 NumbersInRange ns = AllByRecursion IsU64 ns × (0 < length ns)
 
 abbrev pub JoinInRange : Join → Type 0
-JoinInRange j = IsMember j.member × NumbersInRange j.entries
+JoinInRange j = DeviceInRange j.device × NumbersInRange j.entries
 
 -- the parts between spaces
 abbrev pub parts_of : List ℕ → List (List ℕ)
@@ -37,4 +37,4 @@ unfoldable pub numbers_of : List ℕ → Option (List ℕ)
 numbers_of words = all_numbers (parts_of words)
 
 unfoldable pub join_of : List ℕ → Option Join
-join_of words = option_map (λ p. record { member = p.0; entries = p.1 }) (pair_of member_of numbers_of words)
+join_of words = option_map (λ p. record { device = p.0; entries = p.1 }) (pair_of device_of numbers_of words)

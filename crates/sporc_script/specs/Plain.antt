@@ -1,7 +1,9 @@
 -- How lines that are words and numbers alone are read.
 use Rattle.std.specs.Prelude.{ℕ, List, [], ◌∷◌, Option, option_map}
+use Rattle.sporc_member.specs.declared.device.Device.{Device}
 use Rattle.sporc_member.specs.declared.role.Role.{Role}
 use Rattle.sporc_member.specs.declared.role.Role.TheVariants.{Reader, Editor, Admin}
+use Rattle.sporc_script.specs.declared.command.DevicePair.{DevicePair}
 use Rattle.sporc_script.specs.declared.command.Flip.{Flip}
 use Rattle.sporc_script.specs.declared.command.Give.{Give}
 use Rattle.sporc_script.specs.declared.command.Height.{Height}
@@ -14,7 +16,7 @@ use Rattle.sporc_script.specs.declared.command.Restart.{Restart}
 use Rattle.sporc_script.specs.declared.command.Tree.{Tree}
 use Rattle.sporc_script.specs.declared.command.Width.{Width}
 use Rattle.sporc_script.specs.declared.command.Width.TheVariants.{Four, Eight}
-use Rattle.sporc_script.specs.Readers.{member_of, named_of, pair_of, u32_of}
+use Rattle.sporc_script.specs.Readers.{device_number_of, device_of, further_number_of, member_of, named_of, pair_of, u32_of}
 use Rattle.sporc_script.specs.Spelling.{height_name, keyword_name, role_name, width_name}
 use Rattle.sporc_script.specs.Words.{number_of}
 
@@ -23,7 +25,7 @@ keyword_of word =
     named_of keyword_name
     (keywords.Tree ∷ keywords.Member ∷ keywords.Rogue ∷ keywords.Joiner ∷ keywords.Unpaired ∷ keywords.Edit ∷ keywords.Change
     ∷ keywords.Discard ∷ keywords.Submit ∷ keywords.Give ∷ keywords.Restart ∷ keywords.Join ∷ keywords.Show ∷ keywords.Members
-    ∷ keywords.Hash ∷ keywords.Journal ∷ keywords.Compare ∷ keywords.Flip ∷ keywords.Cut ∷ keywords.Sign ∷ [])
+    ∷ keywords.Hash ∷ keywords.Journal ∷ keywords.Compare ∷ keywords.Flip ∷ keywords.Cut ∷ keywords.Sign ∷ keywords.Device ∷ [])
     word
 
 unfoldable pub role_of : List ℕ → Option Role
@@ -44,13 +46,23 @@ member_role_of words = option_map (λ p. record { member = p.0; role = p.1 }) (p
 unfoldable pub two_members_of : List ℕ → Option Pair
 two_members_of words = option_map (λ p. record { first = p.0; second = p.1 }) (pair_of member_of member_of words)
 
+unfoldable pub two_devices_of : List ℕ → Option DevicePair
+two_devices_of words = option_map (λ p. record { first = p.0; second = p.1 }) (pair_of device_of device_of words)
+
+-- a device as two words: any, or a further one
+unfoldable pub member_device_of : List ℕ → Option Device
+member_device_of words = option_map (λ p. record { member = p.0; number = p.1 }) (pair_of member_of device_number_of words)
+
+unfoldable pub further_device_of : List ℕ → Option Device
+further_device_of words = option_map (λ p. record { member = p.0; number = p.1 }) (pair_of member_of further_number_of words)
+
 unfoldable pub give_of : List ℕ → Option Give
 give_of words =
-    option_map (λ p. record { member = p.0; position = p.1.0; entry = p.1.1 })
-    (pair_of member_of (pair_of u32_of number_of) words)
+    option_map (λ p. record { device = p.0; position = p.1.0; entry = p.1.1 })
+    (pair_of device_of (pair_of u32_of number_of) words)
 
 unfoldable pub restart_of : List ℕ → Option Restart
-restart_of words = option_map (λ p. record { member = p.0; entries = p.1 }) (pair_of member_of number_of words)
+restart_of words = option_map (λ p. record { device = p.0; entries = p.1 }) (pair_of device_of number_of words)
 
 unfoldable pub flip_of : List ℕ → Option Flip
 flip_of words = option_map (λ p. record { entry = p.0; at = p.1 }) (pair_of number_of number_of words)

@@ -39,6 +39,11 @@ cut_at place (b ∷ bs) = if ends_word place b then Some ([], bs) else option_ma
 abbrev pub cut : List ℕ → Option (List ℕ × List ℕ)
 cut line = cut_at Outside line
 
+-- what stands before the first b, and what stands after it
+unfoldable pub split_at : ℕ → List ℕ → Option (List ℕ × List ℕ)
+split_at b [] = None
+split_at b (x ∷ xs) = if x == b then Some ([], xs) else option_map (with_first x) (split_at b xs)
+
 -- as a number is written: not empty, with no plus and no leading zero
 pub record IsPlain (word : List ℕ) : Type 0 where
   pub some : 0 < length word

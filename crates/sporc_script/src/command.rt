@@ -5,6 +5,7 @@ use crate::roster_change::RosterChange;
 use crate::sign::Forgery;
 use crate::text_edit::TextEdit;
 use sporc_base::Items;
+use sporc_member::Device;
 
 /// A line of a play script.
 #[derive(Drop)]
@@ -19,36 +20,38 @@ pub enum Command {
     Joiner(u16),
     /// `unpaired M N` takes the key from a pair.
     Unpaired(Pair),
-    /// `edit M ..` edits the text that a member sees.
+    /// `edit C ..` edits the text that a client shows.
     Edit(Edit),
-    /// `change M ..` asks for a change of the members.
+    /// `change C ..` asks for a change of the members.
     Change(RosterEdit),
-    /// `discard M` gives up the pending items.
-    Discard(u16),
-    /// `submit M` makes an entry of the first pending item.
-    Submit(u16),
-    /// `give M POS E` hands a member an entry at a position.
+    /// `discard C` gives up the pending items.
+    Discard(Device),
+    /// `submit C` makes an entry of the first pending item.
+    Submit(Device),
+    /// `give C POS E` hands a client an entry at a position.
     Give(Give),
-    /// `restart M K` opens a member's client again from the first entries of its history.
+    /// `restart C K` opens a client again from the first entries of its history.
     Restart(Restart),
-    /// `join M E1 E2 ..` opens a joiner's client from entries.
+    /// `join C E1 E2 ..` opens a joiner's client from entries.
     Join(Join),
-    /// `show M` shows the text that a member sees.
-    Show(u16),
-    /// `members M` lists the members.
-    Members(u16),
-    /// `hash M` shows the last value of the chain.
-    Hash(u16),
-    /// `journal M` lists the events.
-    Journal(u16),
-    /// `compare M N` compares what two members accepted.
-    Compare(Pair),
+    /// `show C` shows the text of a client.
+    Show(Device),
+    /// `members C` lists the members.
+    Members(Device),
+    /// `hash C` shows the last value of the chain.
+    Hash(Device),
+    /// `journal C` lists the events.
+    Journal(Device),
+    /// `compare C C` compares what two clients accepted.
+    Compare(DevicePair),
     /// `flip E AT` makes an entry that differs in a bit.
     Flip(Flip),
     /// `cut E` makes an entry that lacks the last byte.
     Cut(u64),
     /// `sign M from C ..` signs for a rogue.
     Sign(Forgery),
+    /// `device M D` declares a further device, with a client.
+    Device(Device),
 }
 
 /// The first word of a line.
@@ -74,6 +77,7 @@ pub enum Keyword {
     Flip,
     Cut,
     Sign,
+    Device,
 }
 
 /// The height of a signature tree.
@@ -104,36 +108,43 @@ pub struct Pair {
     pub second: u16,
 }
 
-/// An edit of the text that a member sees, or saw.
+/// Two devices.
+#[derive(Clone, Copy)]
+pub struct DevicePair {
+    pub first: Device,
+    pub second: Device,
+}
+
+/// An edit of the text that a client shows, or showed.
 #[derive(Drop)]
 pub struct Edit {
-    pub member: u16,
-    /// How many events of the journal the member has seen, if that is stated.
+    pub device: Device,
+    /// How many events of the journal its author has seen, if that is stated.
     pub seen: Option<u64>,
     pub change: TextEdit,
 }
 
-/// A change of the members that a member asks for.
+/// A change of the members that a client asks for.
 #[derive(Clone, Copy)]
 pub struct RosterEdit {
-    pub member: u16,
+    pub device: Device,
     pub change: RosterChange,
 }
 
-/// An entry that a member is handed.
+/// An entry that a client is handed.
 #[derive(Clone, Copy)]
 pub struct Give {
-    pub member: u16,
+    pub device: Device,
     /// The position that is stated, counted from 1.
     pub position: u32,
     /// The entry, counted from 1 in the order in which entries were made.
     pub entry: u64,
 }
 
-/// A member that goes back to the first entries of its history.
+/// A client that goes back to the first entries of its history.
 #[derive(Clone, Copy)]
 pub struct Restart {
-    pub member: u16,
+    pub device: Device,
     /// How many entries of its history are kept.
     pub entries: u64,
 }
@@ -141,7 +152,7 @@ pub struct Restart {
 /// A joiner and the entries that its client opens from.
 #[derive(Drop)]
 pub struct Join {
-    pub member: u16,
+    pub device: Device,
     /// The entries, at least one, by their numbers.
     pub entries: Items<u64>,
 }

@@ -8,10 +8,11 @@ use crate::edits::{read_edit, read_roster_edit};
 use crate::names::parse_keyword;
 use crate::numbers::read_join;
 use crate::plain::{
-    read_flip, read_give, read_member_role, read_restart, read_tree, read_two_members,
+    read_flip, read_further_device, read_give, read_member_role, read_restart, read_tree,
+    read_two_devices, read_two_members,
 };
 use crate::signs::read_forgery;
-use crate::words::{cut, parse_member, parse_u64};
+use crate::words::{cut, parse_device, parse_member, parse_u64};
 use sporc_base::Memory;
 use std::alloc::Global;
 
@@ -41,19 +42,20 @@ fn read_words(alloc: Global, keyword: Keyword, words: &[u8]) -> Result<Option<Co
         Keyword::Unpaired => read_two_members(words).map(Command::Unpaired),
         Keyword::Edit => read_edit(alloc, words)?.map(Command::Edit),
         Keyword::Change => read_roster_edit(words).map(Command::Change),
-        Keyword::Discard => parse_member(words).map(Command::Discard),
-        Keyword::Submit => parse_member(words).map(Command::Submit),
+        Keyword::Discard => parse_device(words).map(Command::Discard),
+        Keyword::Submit => parse_device(words).map(Command::Submit),
         Keyword::Give => read_give(words).map(Command::Give),
         Keyword::Restart => read_restart(words).map(Command::Restart),
         Keyword::Join => read_join(alloc, words)?.map(Command::Join),
-        Keyword::Show => parse_member(words).map(Command::Show),
-        Keyword::Members => parse_member(words).map(Command::Members),
-        Keyword::Hash => parse_member(words).map(Command::Hash),
-        Keyword::Journal => parse_member(words).map(Command::Journal),
-        Keyword::Compare => read_two_members(words).map(Command::Compare),
+        Keyword::Show => parse_device(words).map(Command::Show),
+        Keyword::Members => parse_device(words).map(Command::Members),
+        Keyword::Hash => parse_device(words).map(Command::Hash),
+        Keyword::Journal => parse_device(words).map(Command::Journal),
+        Keyword::Compare => read_two_devices(words).map(Command::Compare),
         Keyword::Flip => read_flip(words).map(Command::Flip),
         Keyword::Cut => parse_u64(words).map(Command::Cut),
         Keyword::Sign => read_forgery(alloc, words)?.map(Command::Sign),
+        Keyword::Device => read_further_device(words).map(Command::Device),
     };
     Ok(command)
 }

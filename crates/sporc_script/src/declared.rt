@@ -1,12 +1,13 @@
 //! What the lines of a play script declare.
 
 ghost use Rattle.std.specs.Prelude.{◌≡◌, OnOk};
-ghost use Rattle.sporc_script.specs.Declarations.{changed_by, declared_after, is_among, is_client, is_declared, is_joiner, is_known_change, is_known_suffix, is_rogue, may_declare, may_follow, may_sign, names_performers, none_declared};
+ghost use Rattle.sporc_script.specs.Declarations.{declared_after, is_among, is_client, is_declared, is_joiner, is_known_change, is_known_suffix, is_known_what, is_rogue, may_declare, may_declare_device, may_follow, may_sign, names_performers, none_declared};
 
 use crate::command::Command;
 use crate::roster_change::RosterChange;
 use crate::sign::{Forgery, Suffix, What};
 use sporc_base::Memory;
+use sporc_member::Device;
 use std::alloc::Global;
 use std::marker::Model;
 
@@ -17,6 +18,7 @@ pub const MAX_DECLARED: usize = 64;
 #[derive(Drop)]
 pub struct Declared {
     numbers: Vec<u16>,
+    clients: Vec<Device>,
     rogues: Vec<u16>,
     joiners: Vec<u16>,
     has_admin: bool,
@@ -29,7 +31,7 @@ impl Model for Declared {
 
     ghost Value = { Declared };
 
-    ghost view = { λ d. record { numbers = d.numbers.items; rogues = d.rogues.items; joiners = d.joiners.items; has_admin = d.has_admin; started = d.started; begun = d.begun } };
+    ghost view = { λ d. record { numbers = d.numbers.items; clients = d.clients.items; rogues = d.rogues.items; joiners = d.joiners.items; has_admin = d.has_admin; started = d.started; begun = d.begun } };
 }
 
 impl Declared {
@@ -39,6 +41,7 @@ impl Declared {
     {
         Declared {
             numbers: Vec::new(alloc),
+            clients: Vec::new(alloc),
             rogues: Vec::new(alloc),
             joiners: Vec::new(alloc),
             has_admin: false,
@@ -55,6 +58,7 @@ impl Declared {
             Command::Tree(_) | Command::Unpaired(_) => {}
             Command::Member(founder) => {
                 self.numbers.push(founder.member)?;
+                self.clients.push(Device::first(founder.member))?;
                 self.has_admin = self.has_admin || founder.role.is_admin();
             }
             Command::Rogue(founder) => {
@@ -64,8 +68,10 @@ impl Declared {
             }
             Command::Joiner(member) => {
                 self.numbers.push(*member)?;
+                self.clients.push(Device::first(*member))?;
                 self.joiners.push(*member)?;
             }
+            Command::Device(device) => self.clients.push(*device)?,
             _ => self.begun = true,
         }
         self.started = true;
@@ -86,6 +92,7 @@ impl Declared {
                     && self.is_declared(pair.second)
                     && pair.first != pair.second
             }
+            Command::Device(device) => self.may_declare_device(*device),
             _ => self.has_admin && self.names_performers(command),
         }
     }
@@ -96,24 +103,31 @@ impl Declared {
         !self.begun && self.numbers.len() < MAX_DECLARED && !self.is_declared(member)
     }
 
+    // A member with a client may have a further device, once.
+    fn may_declare_device(&self, device: Device) -> bool
+        ensures value { result ≡ may_declare_device self.now device }
+    {
+        !self.begun && self.is_client(Device::first(device.member)) && !self.is_client(device)
+    }
+
     // Whether those whom a command names can do it.
     fn names_performers(&self, command: &Command) -> bool
         ensures value { result ≡ names_performers self.now command.now }
     {
         match command {
-            Command::Edit(edit) => self.is_client(edit.member),
+            Command::Edit(edit) => self.is_client(edit.device),
             Command::Change(edit) => {
-                self.is_client(edit.member) && self.is_declared(changed_by(&edit.change))
+                self.is_client(edit.device) && self.is_known_change(&edit.change)
             }
-            Command::Discard(member)
-            | Command::Submit(member)
-            | Command::Show(member)
-            | Command::Members(member)
-            | Command::Hash(member)
-            | Command::Journal(member) => self.is_client(*member),
-            Command::Give(give) => self.is_client(give.member),
-            Command::Restart(restart) => self.is_client(restart.member),
-            Command::Join(join) => self.is_joiner(join.member),
+            Command::Discard(device)
+            | Command::Submit(device)
+            | Command::Show(device)
+            | Command::Members(device)
+            | Command::Hash(device)
+            | Command::Journal(device) => self.is_client(*device),
+            Command::Give(give) => self.is_client(give.device),
+            Command::Restart(restart) => self.is_client(restart.device),
+            Command::Join(join) => self.is_joiner(join.device),
             Command::Compare(pair) => self.is_client(pair.first) && self.is_client(pair.second),
             Command::Sign(forgery) => self.may_sign(forgery),
             _ => true,
@@ -125,16 +139,31 @@ impl Declared {
     {
         self.is_rogue(forgery.member)
             && self.is_client(forgery.from)
-            && self.is_known_change(&forgery.signed.what)
+            && self.is_known_what(&forgery.signed.what)
             && self.is_known_suffix(&forgery.signed.suffix)
     }
 
-    fn is_known_change(&self, what: &What) -> bool
-        ensures value { result ≡ is_known_change self.now what.now }
+    fn is_known_what(&self, what: &What) -> bool
+        ensures value { result ≡ is_known_what self.now what.now }
     {
         match what {
-            What::Change(change) => self.is_declared(changed_by(change)),
+            What::Change(change) => self.is_known_change(change),
             _ => true,
+        }
+    }
+
+    fn is_known_change(&self, change: &RosterChange) -> bool
+        ensures value { result ≡ is_known_change self.now change.now }
+    {
+        match change {
+            RosterChange::Add(member) | RosterChange::SetRole(member) => {
+                self.is_declared(member.member)
+            }
+            RosterChange::Remove(member) => self.is_declared(*member),
+            RosterChange::AddDevice(device) | RosterChange::DropDevice(device) => {
+                self.is_declared(device.member)
+            }
+            RosterChange::Upgrade => true,
         }
     }
 
@@ -147,16 +176,16 @@ impl Declared {
         }
     }
 
-    fn is_client(&self, member: u16) -> bool
-        ensures value { result ≡ is_client self.now member }
+    fn is_client(&self, device: Device) -> bool
+        ensures value { result ≡ is_client self.now device }
     {
-        self.is_declared(member) && !self.is_rogue(member)
+        self.clients.iter().any(|c| c.is(device))
     }
 
-    fn is_joiner(&self, member: u16) -> bool
-        ensures value { result ≡ is_joiner self.now member }
+    fn is_joiner(&self, device: Device) -> bool
+        ensures value { result ≡ is_joiner self.now device }
     {
-        is_among(self.joiners.as_slice(), member)
+        is_among(self.joiners.as_slice(), device.member) && self.is_client(device)
     }
 
     fn is_rogue(&self, member: u16) -> bool
@@ -176,14 +205,4 @@ fn is_among(numbers: &[u16], member: u16) -> bool
     ensures { result ≡ is_among numbers.now member }
 {
     numbers.iter().any(|n| *n == member)
-}
-
-fn changed_by(change: &RosterChange) -> u16
-    ensures { result ≡ changed_by change.now }
-{
-    match change {
-        RosterChange::Add(added) => added.member,
-        RosterChange::Remove(member) => *member,
-        RosterChange::SetRole(set) => set.member,
-    }
 }

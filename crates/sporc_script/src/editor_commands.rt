@@ -1,16 +1,16 @@
 //! One line of an editor script, read.
 
 ghost use Rattle.std.specs.Prelude.{◌≡◌, IfOk};
-ghost use Rattle.sporc_script.specs.EditorLines.{editor_of, editor_with, key_of, newcomer_of};
+ghost use Rattle.sporc_script.specs.EditorLines.{editor_of, editor_with, key_of, new_device_of, newcomer_of};
 
 use crate::editor_line::{EditorCommand, EditorWord, KEY_BYTES};
 use crate::edits::{read_insertion, read_removal};
 use crate::hex_word::parse_hex;
 use crate::names::{parse_editor_word, parse_role};
-use crate::plain::read_member_role;
-use crate::words::{cut, parse_member};
-use sporc_base::Memory;
-use sporc_member::Founder;
+use crate::plain::{read_member_device, read_member_role};
+use crate::words::{cut, parse_device_number, parse_member};
+use sporc_base::{Memory, is_same};
+use sporc_member::{Device, Founder, LiveDevice};
 use std::alloc::Global;
 
 // The command that the whole line spells, if there is one.
@@ -18,6 +18,9 @@ use std::alloc::Global;
 pub fn read_editor_command(alloc: Global, line: &[u8]) -> Result<Option<EditorCommand>, Memory>
     ensures ok { IfOk result (λ found. found ≡ editor_of line.now) }
 {
+    if is_same(line, b"upgrade") {
+        return Ok(Some(EditorCommand::Upgrade));
+    }
     let Some((first, words)) = cut(line) else {
         return Ok(None);
     };
@@ -41,6 +44,8 @@ fn read_editor_words(
         EditorWord::Remove => read_removal(words).map(EditorCommand::Remove),
         EditorWord::Drop => parse_member(words).map(EditorCommand::Drop),
         EditorWord::Role => read_member_role(words).map(EditorCommand::SetRole),
+        EditorWord::Device => read_new_device(alloc, words)?.map(EditorCommand::AddDevice),
+        EditorWord::DropDevice => read_member_device(words).map(EditorCommand::DropDevice),
     };
     Ok(command)
 }
@@ -66,6 +71,30 @@ fn read_newcomer(alloc: Global, words: &[u8]) -> Result<Option<Founder>, Memory>
         return Ok(None);
     };
     Ok(Some(Founder { member, role, key }))
+}
+
+// `N D HEX`
+#[tactic(auto, unfolding(crate::specs::EditorLines::new_device_of))]
+fn read_new_device(alloc: Global, words: &[u8]) -> Result<Option<LiveDevice>, Memory>
+    ensures { IfOk result (λ found. found ≡ new_device_of words.now) }
+{
+    let Some((first, rest)) = cut(words) else {
+        return Ok(None);
+    };
+    let Some(member) = parse_member(first) else {
+        return Ok(None);
+    };
+    let Some((second, third)) = cut(rest) else {
+        return Ok(None);
+    };
+    let Some(number) = parse_device_number(second) else {
+        return Ok(None);
+    };
+    let Some(key) = parse_key(alloc, third)? else {
+        return Ok(None);
+    };
+    let device = Device { member, number };
+    Ok(Some(LiveDevice { device, key }))
 }
 
 #[tactic(auto, unfolding(crate::specs::EditorLines::key_of))]

@@ -2,7 +2,7 @@
 
 use crate::member_role::MemberRole;
 use crate::text_edit::{Insertion, Removal};
-use sporc_member::Founder;
+use sporc_member::{Device, Founder, LiveDevice};
 
 /// The bytes of a public key (RFC 8554, section 5.3).
 pub const KEY_BYTES: usize = 56;
@@ -28,9 +28,15 @@ pub enum EditorCommand {
     Drop(u16),
     /// `role N ROLE`
     SetRole(MemberRole),
+    /// `device N D HEX`, with the digits of the new device's key.
+    AddDevice(LiveDevice),
+    /// `drop-device N D`
+    DropDevice(Device),
+    /// `upgrade`
+    Upgrade,
 }
 
-/// The first word of a line.
+/// The first word of a line that has more.
 #[derive(Clone, Copy)]
 pub enum EditorWord {
     Insert,
@@ -38,4 +44,6 @@ pub enum EditorWord {
     Add,
     Drop,
     Role,
+    Device,
+    DropDevice,
 }

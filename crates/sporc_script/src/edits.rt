@@ -7,15 +7,15 @@ ghost use Rattle.sporc_script.specs.Words.{number_of};
 
 use crate::command::{Edit, RosterEdit};
 use crate::names::{parse_roster_word, parse_text_word};
-use crate::plain::read_member_role;
+use crate::plain::{read_member_device, read_member_role};
 use crate::quoted::parse_text;
 use crate::roster_change::{RosterChange, RosterWord};
 use crate::text_edit::{Insertion, Removal, TextEdit, TextWord};
-use crate::words::{cut, parse_member, parse_u64};
+use crate::words::{cut, parse_device, parse_member, parse_u64};
 use sporc_base::{Memory, is_same};
 use std::alloc::Global;
 
-// `M insert ..`, `M remove ..` or one of these behind `M seen S`
+// `C insert ..`, `C remove ..` or one of these behind `C seen S`
 #[tactic(auto, unfolding(crate::specs::Edits::edit_of))]
 pub fn read_edit(alloc: Global, words: &[u8]) -> Result<Option<Edit>, Memory>
     ensures ok { IfOk result (λ found. found ≡ edit_of words.now) }
@@ -23,14 +23,14 @@ pub fn read_edit(alloc: Global, words: &[u8]) -> Result<Option<Edit>, Memory>
     let Some((first, rest)) = cut(words) else {
         return Ok(None);
     };
-    let Some(member) = parse_member(first) else {
+    let Some(device) = parse_device(first) else {
         return Ok(None);
     };
     let Some(stated) = read_stated(alloc, rest)? else {
         return Ok(None);
     };
     Ok(Some(Edit {
-        member,
+        device,
         seen: stated.0,
         change: stated.1,
     }))
@@ -120,25 +120,31 @@ pub fn read_removal(words: &[u8]) -> Option<Removal>
     Some(Removal { at, count })
 }
 
-// `M add N ROLE`, `M remove N` or `M role N ROLE`
+// `C ..` with a change
 #[tactic(auto, unfolding(crate::specs::Edits::roster_edit_of))]
 pub fn read_roster_edit(words: &[u8]) -> Option<RosterEdit>
     ensures value { result ≡ roster_edit_of words.now }
 {
     let (first, rest) = cut(words)?;
-    let member = parse_member(first)?;
+    let device = parse_device(first)?;
     let change = read_roster_change(rest)?;
-    Some(RosterEdit { member, change })
+    Some(RosterEdit { device, change })
 }
 
+// `add N ROLE`, `remove N`, `role N ROLE`, `device N D`, `drop-device N D` or `upgrade`
 #[tactic(auto, unfolding(crate::specs::Edits::roster_change_of))]
 fn read_roster_change(words: &[u8]) -> Option<RosterChange>
     ensures { result ≡ roster_change_of words.now }
 {
+    if is_same(words, b"upgrade") {
+        return Some(RosterChange::Upgrade);
+    }
     let (first, rest) = cut(words)?;
     match parse_roster_word(first)? {
         RosterWord::Add => Some(RosterChange::Add(read_member_role(rest)?)),
         RosterWord::Remove => Some(RosterChange::Remove(parse_member(rest)?)),
         RosterWord::Role => Some(RosterChange::SetRole(read_member_role(rest)?)),
+        RosterWord::Device => Some(RosterChange::AddDevice(read_member_device(rest)?)),
+        RosterWord::DropDevice => Some(RosterChange::DropDevice(read_member_device(rest)?)),
     }
 }

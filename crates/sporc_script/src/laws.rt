@@ -1,7 +1,10 @@
 //! Laws over the definitions that contracts cite. Their functions do nothing.
 
-ghost use Rattle.std.specs.Prelude.{◌≡◌, ◌^◌, ◌⊎◌, ℕ, List};
+ghost use Rattle.std.specs.Prelude.{◌≡◌, ◌^◌, ◌⊎◌, ℕ, List, Some};
+ghost use Rattle.sporc_member.specs.declared.device.Device.{Device};
 ghost use Rattle.sporc_script.specs.Grammar.{IsEditorFault, IsEditorScript, IsPlayFault, IsPlayScript};
+ghost use Rattle.sporc_script.specs.Readers.{device_of};
+ghost use Rattle.sporc_script.specs.Spelling.{DeviceInRange, device_text};
 ghost use Rattle.sporc_script.specs.declared.editor_line.EditorLine.{EditorLine};
 ghost use Rattle.sporc_script.specs.declared.play_line.PlayLine.{PlayLine};
 
@@ -16,6 +19,12 @@ pub fn limits()
     ensures key { KEY_BYTES ≡ 56 }
     ensures editors { MAX_EDITORS ≡ 8 }
     ensures generated { MAX_GENERATED ≡ 3000 }
+{}
+
+/// A word is read as a device exactly if it is how that device is printed.
+pub fn devices_are_words()
+    ensures read { (device : Device) → DeviceInRange device → device_of (device_text device) ≡ Some device }
+    ensures printed { (word : List ℕ) (device : Device) → device_of word ≡ Some device → DeviceInRange device × (word ≡ device_text device) }
 {}
 
 /// A text is a play script, or has a first line outside the grammar.

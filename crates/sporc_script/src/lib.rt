@@ -7,7 +7,8 @@
 //! ```text
 //! member 1 admin
 //! rogue 2 editor
-//! edit 1 seen 0 insert 0 "abc"
+//! device 1 3
+//! edit 1.3 seen 0 insert 0 "abc"
 //! sign 2 from 1 insert 0 "x" with number 7
 //! ```
 //!
@@ -43,7 +44,7 @@ mod text_edit;
 mod words;
 
 pub use command::{
-    Command, Edit, Flip, Give, Height, Join, Pair, Restart, RosterEdit, Tree, Width,
+    Command, DevicePair, Edit, Flip, Give, Height, Join, Pair, Restart, RosterEdit, Tree, Width,
 };
 pub use declared::MAX_DECLARED;
 pub use editor_line::{EditorCommand, EditorLine, KEY_BYTES};
@@ -57,4 +58,4 @@ pub use play_script::{PlayScript, read_play};
 pub use roster_change::RosterChange;
 pub use sign::{Forgery, Signed, Suffix, What};
 pub use text_edit::{Insertion, Removal, TextEdit};
-pub use words::{parse_member, parse_u32, parse_u64};
+pub use words::{parse_device, parse_device_number, parse_member, parse_u32, parse_u64};

@@ -15,7 +15,7 @@ use crate::sign::{LoneWord, SuffixWord, WhatWord};
 use crate::text_edit::TextWord;
 use sporc_member::Role;
 
-const KEYWORDS: [Keyword; 20] = [
+const KEYWORDS: [Keyword; 21] = [
     Keyword::Tree,
     Keyword::Member,
     Keyword::Rogue,
@@ -36,6 +36,7 @@ const KEYWORDS: [Keyword; 20] = [
     Keyword::Flip,
     Keyword::Cut,
     Keyword::Sign,
+    Keyword::Device,
 ];
 
 impl HasName for Keyword {
@@ -63,6 +64,7 @@ impl HasName for Keyword {
             Keyword::Flip => b"flip",
             Keyword::Cut => b"cut",
             Keyword::Sign => b"sign",
+            Keyword::Device => b"device",
         }
     }
 }
@@ -94,7 +96,13 @@ pub fn parse_text_word(word: &[u8]) -> Option<TextWord>
     find_named(&TEXT_WORDS, word)
 }
 
-const ROSTER_WORDS: [RosterWord; 3] = [RosterWord::Add, RosterWord::Remove, RosterWord::Role];
+const ROSTER_WORDS: [RosterWord; 5] = [
+    RosterWord::Add,
+    RosterWord::Remove,
+    RosterWord::Role,
+    RosterWord::Device,
+    RosterWord::DropDevice,
+];
 
 impl HasName for RosterWord {
     ghost name_of = { roster_word_name };
@@ -104,6 +112,8 @@ impl HasName for RosterWord {
             RosterWord::Add => b"add",
             RosterWord::Remove => b"remove",
             RosterWord::Role => b"role",
+            RosterWord::Device => b"device",
+            RosterWord::DropDevice => b"drop-device",
         }
     }
 }
@@ -115,12 +125,14 @@ pub fn parse_roster_word(word: &[u8]) -> Option<RosterWord>
     find_named(&ROSTER_WORDS, word)
 }
 
-const EDITOR_WORDS: [EditorWord; 5] = [
+const EDITOR_WORDS: [EditorWord; 7] = [
     EditorWord::Insert,
     EditorWord::Remove,
     EditorWord::Add,
     EditorWord::Drop,
     EditorWord::Role,
+    EditorWord::Device,
+    EditorWord::DropDevice,
 ];
 
 impl HasName for EditorWord {
@@ -133,6 +145,8 @@ impl HasName for EditorWord {
             EditorWord::Add => b"add",
             EditorWord::Drop => b"drop",
             EditorWord::Role => b"role",
+            EditorWord::Device => b"device",
+            EditorWord::DropDevice => b"drop-device",
         }
     }
 }
@@ -144,12 +158,15 @@ pub fn parse_editor_word(word: &[u8]) -> Option<EditorWord>
     find_named(&EDITOR_WORDS, word)
 }
 
-const WHAT_WORDS: [WhatWord; 5] = [
+const WHAT_WORDS: [WhatWord; 8] = [
     WhatWord::Insert,
     WhatWord::Raw,
     WhatWord::Add,
     WhatWord::Remove,
     WhatWord::Role,
+    WhatWord::Device,
+    WhatWord::DropDevice,
+    WhatWord::Upgrade,
 ];
 
 impl HasName for WhatWord {
@@ -162,6 +179,9 @@ impl HasName for WhatWord {
             WhatWord::Add => b"add",
             WhatWord::Remove => b"remove",
             WhatWord::Role => b"role",
+            WhatWord::Device => b"device",
+            WhatWord::DropDevice => b"drop-device",
+            WhatWord::Upgrade => b"upgrade",
         }
     }
 }
@@ -173,13 +193,15 @@ pub fn parse_what_word(word: &[u8]) -> Option<WhatWord>
     find_named(&WHAT_WORDS, word)
 }
 
-const SUFFIX_WORDS: [SuffixWord; 6] = [
+const SUFFIX_WORDS: [SuffixWord; 8] = [
     SuffixWord::Number,
     SuffixWord::Base,
     SuffixWord::Epoch,
     SuffixWord::Leaf,
     SuffixWord::Wrap,
     SuffixWord::Drop,
+    SuffixWord::Version,
+    SuffixWord::Device,
 ];
 
 impl HasName for SuffixWord {
@@ -193,6 +215,8 @@ impl HasName for SuffixWord {
             SuffixWord::Leaf => b"leaf",
             SuffixWord::Wrap => b"wrap",
             SuffixWord::Drop => b"drop",
+            SuffixWord::Version => b"version",
+            SuffixWord::Device => b"device",
         }
     }
 }

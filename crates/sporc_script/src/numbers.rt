@@ -4,11 +4,11 @@ ghost use Rattle.std.specs.Prelude.{◌≡◌, IfOk};
 ghost use Rattle.sporc_script.specs.Numbers.{join_of, numbers_of};
 
 use crate::command::Join;
-use crate::words::{cut, parse_member, parse_u64, split_once};
+use crate::words::{cut, parse_device, parse_u64, split_once};
 use sporc_base::{Items, Memory};
 use std::alloc::Global;
 
-// `M E1 E2 ..`
+// `C E1 E2 ..`
 #[tactic(auto, unfolding(crate::specs::Numbers::join_of))]
 pub fn read_join(alloc: Global, words: &[u8]) -> Result<Option<Join>, Memory>
     ensures ok { IfOk result (λ found. found ≡ join_of words.now) }
@@ -16,13 +16,13 @@ pub fn read_join(alloc: Global, words: &[u8]) -> Result<Option<Join>, Memory>
     let Some((first, rest)) = cut(words) else {
         return Ok(None);
     };
-    let Some(member) = parse_member(first) else {
+    let Some(device) = parse_device(first) else {
         return Ok(None);
     };
     let Some(entries) = parse_numbers(alloc, rest)? else {
         return Ok(None);
     };
-    Ok(Some(Join { member, entries }))
+    Ok(Some(Join { device, entries }))
 }
 
 // The numbers that all words are.

@@ -1,12 +1,16 @@
 //! Lines that are words and numbers alone.
 
 ghost use Rattle.std.specs.Prelude.{◌≡◌};
-ghost use Rattle.sporc_script.specs.Plain.{flip_of, give_of, member_role_of, restart_of, tree_of, two_members_of};
+ghost use Rattle.sporc_script.specs.Plain.{flip_of, further_device_of, give_of, member_device_of, member_role_of, restart_of, tree_of, two_devices_of, two_members_of};
 
-use crate::command::{Flip, Give, Pair, Restart, Tree};
+use crate::command::{DevicePair, Flip, Give, Pair, Restart, Tree};
 use crate::member_role::MemberRole;
 use crate::names::{parse_height, parse_role, parse_width};
-use crate::words::{cut, parse_member, parse_u32, parse_u64};
+use crate::words::{
+    cut, parse_device, parse_device_number, parse_further_number, parse_member, parse_u32,
+    parse_u64,
+};
+use sporc_member::Device;
 
 // `H W`
 #[tactic(auto, unfolding(crate::specs::Plain::tree_of))]
@@ -41,32 +45,65 @@ pub fn read_two_members(words: &[u8]) -> Option<Pair>
     Some(Pair { first, second })
 }
 
-// `M POS E`
+// `C C`
+#[tactic(auto, unfolding(crate::specs::Plain::two_devices_of))]
+pub fn read_two_devices(words: &[u8]) -> Option<DevicePair>
+    ensures value { result ≡ two_devices_of words.now }
+{
+    let (c, d) = cut(words)?;
+    let first = parse_device(c)?;
+    let second = parse_device(d)?;
+    Some(DevicePair { first, second })
+}
+
+// `M D`
+#[tactic(auto, unfolding(crate::specs::Plain::member_device_of))]
+pub fn read_member_device(words: &[u8]) -> Option<Device>
+    ensures value { result ≡ member_device_of words.now }
+{
+    let (first, second) = cut(words)?;
+    let member = parse_member(first)?;
+    let number = parse_device_number(second)?;
+    Some(Device { member, number })
+}
+
+// `M D` of a further device
+#[tactic(auto, unfolding(crate::specs::Plain::further_device_of))]
+pub fn read_further_device(words: &[u8]) -> Option<Device>
+    ensures value { result ≡ further_device_of words.now }
+{
+    let (first, second) = cut(words)?;
+    let member = parse_member(first)?;
+    let number = parse_further_number(second)?;
+    Some(Device { member, number })
+}
+
+// `C POS E`
 #[tactic(auto, unfolding(crate::specs::Plain::give_of))]
 pub fn read_give(words: &[u8]) -> Option<Give>
     ensures value { result ≡ give_of words.now }
 {
     let (first, rest) = cut(words)?;
-    let member = parse_member(first)?;
+    let device = parse_device(first)?;
     let (second, third) = cut(rest)?;
     let position = parse_u32(second)?;
     let entry = parse_u64(third)?;
     Some(Give {
-        member,
+        device,
         position,
         entry,
     })
 }
 
-// `M K`
+// `C K`
 #[tactic(auto, unfolding(crate::specs::Plain::restart_of))]
 pub fn read_restart(words: &[u8]) -> Option<Restart>
     ensures value { result ≡ restart_of words.now }
 {
     let (first, second) = cut(words)?;
-    let member = parse_member(first)?;
+    let device = parse_device(first)?;
     let entries = parse_u64(second)?;
-    Some(Restart { member, entries })
+    Some(Restart { device, entries })
 }
 
 // `E AT`

@@ -3,14 +3,15 @@
 use crate::roster_change::RosterChange;
 use crate::text_edit::Insertion;
 use sporc_base::Bytes;
+use sporc_member::Device;
 
 /// An entry that a rogue signs.
 #[derive(Drop)]
 pub struct Forgery {
     /// The rogue that signs.
     pub member: u16,
-    /// The member whose client's history the entry follows.
-    pub from: u16,
+    /// The client whose history the entry follows.
+    pub from: Device,
     pub signed: Signed,
 }
 
@@ -29,13 +30,13 @@ pub enum What {
     Insert(Insertion),
     /// `raw HEX` is the payload before masking.
     Raw(Bytes),
-    /// `add N ROLE`, `remove N` or `role N ROLE`
+    /// `add N ROLE`, `remove N`, `role N ROLE`, `device N D`, `drop-device N D` or `upgrade`
     Change(RosterChange),
 }
 
 /// What is wrong about an entry that a rogue signs.
 ///
-/// The last four stand behind a change of the members alone.
+/// Those from `Wrap` to `Previous` stand behind a change of the members alone.
 #[derive(Clone, Copy)]
 pub enum Suffix {
     /// `with number K`
@@ -54,6 +55,10 @@ pub enum Suffix {
     Commit,
     /// `with previous` changes the sealed previous key.
     Previous,
+    /// `with version K`, which is 1 or 2
+    Version(u8),
+    /// `with device D` states the device in the header.
+    Device(u8),
 }
 
 /// The first word of what is signed.
@@ -64,6 +69,9 @@ pub enum WhatWord {
     Add,
     Remove,
     Role,
+    Device,
+    DropDevice,
+    Upgrade,
 }
 
 /// The word behind `with`, if a number follows it.
@@ -75,6 +83,8 @@ pub enum SuffixWord {
     Leaf,
     Wrap,
     Drop,
+    Version,
+    Device,
 }
 
 /// The word behind `with`, if nothing follows it.

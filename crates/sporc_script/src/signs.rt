@@ -6,8 +6,8 @@ ghost use Rattle.sporc_script.specs.declared.sign.SuffixWord.{SuffixWord};
 ghost use Rattle.sporc_script.specs.declared.sign.WhatWord.{WhatWord};
 ghost use Rattle.sporc_script.specs.declared.sign.WhatWord.TheVariants as what_words;
 ghost use Rattle.sporc_script.specs.Plain.{role_of};
-ghost use Rattle.sporc_script.specs.Readers.{behind_of, member_of, pair_of};
-ghost use Rattle.sporc_script.specs.Signs.{forgery_of, last_of, lone_suffix, needs_change, signed_of, signed_with, suffix_fits, suffix_of, suffix_with};
+ghost use Rattle.sporc_script.specs.Readers.{behind_of, device_number_of, member_of, pair_of};
+ghost use Rattle.sporc_script.specs.Signs.{forgery_of, last_of, lone_suffix, needs_change, signed_of, signed_upgrade, signed_with, stated_of, suffix_fits, suffix_of, suffix_with, version_of};
 
 use crate::hex_word::parse_hex;
 use crate::member_role::MemberRole;
@@ -16,9 +16,9 @@ use crate::quoted::parse_text;
 use crate::roster_change::RosterChange;
 use crate::sign::{Forgery, LoneWord, Signed, Suffix, SuffixWord, What, WhatWord};
 use crate::text_edit::Insertion;
-use crate::words::{cut, parse_member, parse_u32, parse_u64};
+use crate::words::{cut, parse_device, parse_device_number, parse_member, parse_u32, parse_u64};
 use sporc_base::{Memory, is_same};
-use sporc_member::Role;
+use sporc_member::{Device, Role};
 use std::alloc::Global;
 
 // `M from C ..`
@@ -38,7 +38,7 @@ pub fn read_forgery(alloc: Global, words: &[u8]) -> Result<Option<Forgery>, Memo
     let Some((second, rest)) = cut(source) else {
         return Ok(None);
     };
-    let Some(from) = parse_member(second) else {
+    let Some(from) = parse_device(second) else {
         return Ok(None);
     };
     let Some(signed) = read_signed(alloc, rest)? else {
@@ -67,19 +67,39 @@ fn behind<'a>(words: &'a [u8], name: &[u8]) -> Option<&'a [u8]>
 fn read_signed(alloc: Global, words: &[u8]) -> Result<Option<Signed>, Memory>
     ensures { IfOk result (λ found. found ≡ signed_of words.now) }
 {
-    let Some((first, rest)) = cut(words) else {
-        return Ok(None);
-    };
-    let Some(word) = parse_what_word(first) else {
-        return Ok(None);
-    };
-    let Some(signed) = read_what(alloc, word, rest)? else {
+    let Some(signed) = read_stated(alloc, words)? else {
         return Ok(None);
     };
     if suffix_fits(&signed) {
         return Ok(Some(signed));
     }
     Ok(None)
+}
+
+// The same, whether or not the suffix may follow.
+#[tactic(auto, unfolding(crate::specs::Signs::stated_of))]
+fn read_stated(alloc: Global, words: &[u8]) -> Result<Option<Signed>, Memory>
+    ensures { IfOk result (λ found. found ≡ stated_of words.now) }
+{
+    if is_same(words, b"upgrade") {
+        return Ok(Some(signed_upgrade(None)));
+    }
+    let Some((first, rest)) = cut(words) else {
+        return Ok(None);
+    };
+    let Some(word) = parse_what_word(first) else {
+        return Ok(None);
+    };
+    read_what(alloc, word, rest)
+}
+
+fn signed_upgrade(suffix: Option<Suffix>) -> Signed
+    ensures { result ≡ signed_upgrade suffix }
+{
+    Signed {
+        what: What::Change(RosterChange::Upgrade),
+        suffix,
+    }
 }
 
 fn suffix_fits(signed: &Signed) -> bool
@@ -95,7 +115,12 @@ fn needs_change(suffix: Suffix) -> bool
     ensures { result ≡ needs_change suffix }
 {
     match suffix {
-        Suffix::Number(_) | Suffix::Base(_) | Suffix::Epoch(_) | Suffix::Leaf(_) => false,
+        Suffix::Number(_)
+        | Suffix::Base(_)
+        | Suffix::Epoch(_)
+        | Suffix::Leaf(_)
+        | Suffix::Version(_)
+        | Suffix::Device(_) => false,
         Suffix::Wrap(_) | Suffix::Drop(_) | Suffix::Commit | Suffix::Previous => true,
     }
 }
@@ -109,6 +134,9 @@ fn read_what(alloc: Global, word: WhatWord, words: &[u8]) -> Result<Option<Signe
         WhatWord::Add => Ok(read_signed_add(words)),
         WhatWord::Remove => Ok(read_signed_removal(words)),
         WhatWord::Role => Ok(read_signed_role(words)),
+        WhatWord::Device => Ok(read_signed_device(words)),
+        WhatWord::DropDevice => Ok(read_signed_drop(words)),
+        WhatWord::Upgrade => Ok(read_suffixed_upgrade(words)),
     }
 }
 
@@ -185,6 +213,43 @@ fn read_signed_removal(words: &[u8]) -> Option<Signed>
     Some(Signed { what, suffix })
 }
 
+// `N D ..`
+fn read_signed_device(words: &[u8]) -> Option<Signed>
+    ensures { result ≡ signed_with what_words.Device words.now }
+{
+    let (member, number, suffix) = read_number_suffix(words)?;
+    let what = What::Change(RosterChange::AddDevice(Device { member, number }));
+    Some(Signed { what, suffix })
+}
+
+// `N D ..`
+fn read_signed_drop(words: &[u8]) -> Option<Signed>
+    ensures { result ≡ signed_with what_words.DropDevice words.now }
+{
+    let (member, number, suffix) = read_number_suffix(words)?;
+    let what = What::Change(RosterChange::DropDevice(Device { member, number }));
+    Some(Signed { what, suffix })
+}
+
+fn read_number_suffix(words: &[u8]) -> Option<(u16, u8, Option<Suffix>)>
+    ensures { MatchOption result (pair_of member_of (last_of device_number_of) words.now ≡ None)
+        (λ p. pair_of member_of (last_of device_number_of) words.now ≡ Some (p.0, (p.1, p.2))) }
+{
+    let (first, rest) = cut(words)?;
+    let member = parse_member(first)?;
+    let (last, suffix) = split_suffix(rest)?;
+    let number = parse_device_number(last)?;
+    Some((member, number, suffix))
+}
+
+// `with ..` behind `upgrade`
+fn read_suffixed_upgrade(words: &[u8]) -> Option<Signed>
+    ensures { result ≡ signed_with what_words.Upgrade words.now }
+{
+    let suffix = read_suffix(words)?;
+    Some(signed_upgrade(Some(suffix)))
+}
+
 // The first word, and the suffix that may follow it.
 fn split_suffix(words: &[u8]) -> Option<(&[u8], Option<Suffix>)>
     ensures { MatchOption result (last_of Some words.now ≡ None) (λ parts. last_of Some words.now ≡ Some (parts.0.now, parts.1)) }
@@ -219,7 +284,21 @@ fn read_suffix_number(word: SuffixWord, last: &[u8]) -> Option<Suffix>
         SuffixWord::Leaf => Some(Suffix::Leaf(parse_u32(last)?)),
         SuffixWord::Wrap => Some(Suffix::Wrap(parse_member(last)?)),
         SuffixWord::Drop => Some(Suffix::Drop(parse_member(last)?)),
+        SuffixWord::Version => Some(Suffix::Version(parse_version(last)?)),
+        SuffixWord::Device => Some(Suffix::Device(parse_device_number(last)?)),
     }
+}
+
+// 1 or 2
+#[tactic(auto, unfolding(crate::specs::Signs::version_of))]
+fn parse_version(word: &[u8]) -> Option<u8>
+    ensures { result ≡ version_of word.now }
+{
+    let number = parse_u64(word)?;
+    if 0 < number && number < 3 {
+        return Some(number as u8);
+    }
+    None
 }
 
 fn lone_suffix(word: LoneWord) -> Suffix

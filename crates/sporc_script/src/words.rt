@@ -2,7 +2,9 @@
 
 ghost use Rattle.std.specs.Prelude.{◌≡◌, ◌≢◌, ◌<◌, ◌↔◌, ◌++◌, ℕ, List, IsTrue, MatchOption, None, Some};
 ghost use Rattle.sporc_script.specs.Words.{IsPlain, Lacks, Splits, cut, ends_word, number_of, place_after};
-ghost use Rattle.sporc_script.specs.Readers.{member_of, u32_of};
+ghost use Rattle.sporc_script.specs.Readers.{device_number_of, device_of, further_number_of, member_of, u32_of};
+
+use sporc_member::Device;
 
 // Where a byte of a line stands.
 #[derive(Clone, Copy)]
@@ -125,4 +127,42 @@ pub fn parse_member(word: &[u8]) -> Option<u16>
         return Some(number as u16);
     }
     None
+}
+
+/// The number of a device that the whole word is, as [`parse_u64`] reads it: from 0 to 255.
+#[tactic(auto, unfolding(crate::specs::Readers::device_number_of))]
+pub fn parse_device_number(word: &[u8]) -> Option<u8>
+    ensures value { result ≡ device_number_of word.now }
+{
+    let number = parse_u64(word)?;
+    if number < 1 << 8 {
+        return Some(number as u8);
+    }
+    None
+}
+
+// The number of a further device, which is not 0.
+#[tactic(auto, unfolding(crate::specs::Readers::further_number_of))]
+pub fn parse_further_number(word: &[u8]) -> Option<u8>
+    ensures value { result ≡ further_number_of word.now }
+{
+    let number = parse_u64(word)?;
+    if 0 < number && number < 1 << 8 {
+        return Some(number as u8);
+    }
+    None
+}
+
+/// The device that the whole word is: `M`, its member's number, for the first one; `M.D` for a further one, D from 1 to 255.
+#[tactic(auto, using(crate::proofs::DeviceWords::device_alone))]
+pub fn parse_device(word: &[u8]) -> Option<Device>
+    ensures value { result ≡ device_of word.now }
+{
+    let Some((first, rest)) = split_once(word, b'.') else {
+        let member = parse_member(word)?;
+        return Some(Device::first(member));
+    };
+    let member = parse_member(first)?;
+    let number = parse_further_number(rest)?;
+    Some(Device { member, number })
 }

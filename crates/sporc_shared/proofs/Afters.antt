@@ -9,7 +9,7 @@ use Rattle.sporc_client.specs.Submissions.{submission_added}
 use Rattle.sporc_client.specs.declared.fault.SubmitFault.{SubmitFault}
 use Rattle.sporc_client.specs.declared.submitted.Submitted.{Submitted}
 use Rattle.sporc_client.proofs.FirstLeaf.{first_leaf-same, first_leaf-submitted}
-use Rattle.sporc_shared.specs.Items.{Past, past_of, with_events}
+use Rattle.sporc_shared.specs.Items.{past_of, with_events}
 
 no_leaves : {X F : Type 0} (answer : Result X F) (event : Logged) → leaf_in event ≡ None → leaves_of (added answer event) ≡ []
 no_leaves (Ok x) event none = rw none refl

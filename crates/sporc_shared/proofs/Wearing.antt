@@ -1,10 +1,9 @@
 -- That a pass has read that no ticket is left.
-use Rattle.std.proofs.Common.{◌≡◌, ◌≤◌, ℕ, max, Bool, true, false, List, Option, Some, None, Ok, Err, refl, sym, ap, ◌∙◌, subst, arith}
+use Rattle.std.proofs.Common.{◌≡◌, ◌≤◌, ℕ, max, Bool, true, false, List, Option, Some, None, Ok, Err, sym, subst, arith}
 use Rattle.std.specs.Prelude.{Result, IfErr, IfSome, ⊤}
 use Rattle.std.specs.Result.{result_err}
 use Rattle.sporc_head.specs.declared.refusal.Refusal.{Refusal}
 use Rattle.sporc_wire.specs.declared.to_server.ToServer.{ToServer}
-use Rattle.sporc_turn.specs.declared.limits.TheConstants.{MAX_TICKETS}
 use Rattle.sporc_turn.specs.declared.pass.Pass.{Pass}
 use Rattle.sporc_turn.specs.declared.turn.Worn.{Worn}
 use Rattle.sporc_turn.specs.Passes.{IsWorn, read_of}

@@ -2,7 +2,7 @@
 use Rattle.std.specs.Prelude.{◌≡◌, ℕ, ◌+◌, ◌-◌, min, List, [], ◌∷◌, ◌++◌, length, take, drop, Option, None, Some, ⊤}
 use Rattle.sporc_delta.specs.Marks.{Mark, insertion, removal}
 use Rattle.sporc_member.specs.declared.change.Change.{Change as MemberChange}
-use Rattle.sporc_member.specs.declared.change.Change.TheVariants.{Add, Remove, SetRole}
+use Rattle.sporc_member.specs.declared.change.Change.TheVariants.{Add, Remove, SetRole, AddDevice, DropDevice, Upgrade}
 use Rattle.sporc_script.specs.declared.editor_line.EditorCommand.{EditorCommand}
 use Rattle.sporc_script.specs.declared.editor_line.EditorCommand.TheVariants as commands
 use Rattle.sporc_script.specs.declared.editor_line.EditorLine.{EditorLine}
@@ -29,6 +29,9 @@ asked_by (commands.Remove e) = Edits (λ len. removal len (min e.at len) (min e.
 asked_by (commands.Add f) = Changes (Add f.member f.role f.key)
 asked_by (commands.Drop member) = Changes (Remove member)
 asked_by (commands.SetRole r) = Changes (SetRole r.member r.role)
+asked_by (commands.AddDevice d) = Changes (AddDevice d.device.member d.device.number d.key)
+asked_by (commands.DropDevice d) = Changes (DropDevice d.member d.number)
+asked_by commands.Upgrade = Changes Upgrade
 
 -- The edit of an editor with this number, which had added these items, at a front: it is stated on the text that was shown there
 pub record IsEditAt (log : List Item) (start number : ℕ) (mine : List Item) (edit : ℕ → List Mark) (seen : ℕ) (marks : List Mark) : Type 0 where

@@ -1,6 +1,7 @@
 //! An editor's lines.
 
 ghost use Rattle.std.specs.Prelude.{◌≡◌, ◌-◌, ◌≤◌, ◌^◌, min, [], IfErr, IfOk, IfSome};
+ghost use Rattle.sporc_member.specs.declared.change.Change.TheVariants.{Add, SetRole, AddDevice, DropDevice};
 ghost use Rattle.sporc_script.specs.declared.editor_line.EditorCommand.TheVariants as commands;
 ghost use Rattle.sporc_turn.specs.Passes.{known_of};
 ghost use Rattle.sporc_delta.specs.Marks.{base_len, insertion, removal};
@@ -20,9 +21,9 @@ use crate::shared_client::SharedClient;
 use sporc_base::Memory;
 use sporc_client::EditFault;
 use sporc_delta::{Delta, MAX_COUNT};
-use sporc_member::Change;
+use sporc_member::{Change, Device, Founder, LiveDevice};
 use sporc_outside::{Gate, LeafDisk};
-use sporc_script::{EditorCommand, EditorLine, Insertion, Removal};
+use sporc_script::{EditorCommand, EditorLine, Insertion, MemberRole, Removal};
 use sporc_turn::Worn;
 use std::alloc::{AllocError, Global};
 use std::sync::Wait;
@@ -222,25 +223,55 @@ fn do_line<R: Wait, D: LeafDisk, G: Gate>(
     match &line.command {
         EditorCommand::Insert(insertion) => insert(rt, alloc, shared, pass, number, insertion),
         EditorCommand::Remove(removal) => remove(rt, alloc, shared, pass, number, removal),
-        EditorCommand::Add(founder) => {
-            let added = Change::Add {
-                member: founder.member,
-                role: founder.role,
-                key: founder.key,
-            };
-            change(rt, shared, pass, number, added)
-        }
+        EditorCommand::Add(founder) => change(rt, shared, pass, number, added(founder)),
         EditorCommand::Drop(member) => {
             let removed = Change::Remove { member: *member };
             change(rt, shared, pass, number, removed)
         }
-        EditorCommand::SetRole(role) => {
-            let set = Change::SetRole {
-                member: role.member,
-                role: role.role,
-            };
-            change(rt, shared, pass, number, set)
+        EditorCommand::SetRole(set) => change(rt, shared, pass, number, role_set(*set)),
+        EditorCommand::AddDevice(live) => change(rt, shared, pass, number, device_added(live)),
+        EditorCommand::DropDevice(device) => {
+            change(rt, shared, pass, number, device_dropped(*device))
         }
+        EditorCommand::Upgrade => change(rt, shared, pass, number, Change::Upgrade),
+    }
+}
+
+fn added(founder: &Founder) -> Change
+    ensures { result ≡ Add founder.now.member founder.now.role founder.now.key }
+{
+    Change::Add {
+        member: founder.member,
+        role: founder.role,
+        key: founder.key,
+    }
+}
+
+fn role_set(set: MemberRole) -> Change
+    ensures { result ≡ SetRole set.member set.role }
+{
+    Change::SetRole {
+        member: set.member,
+        role: set.role,
+    }
+}
+
+fn device_added(live: &LiveDevice) -> Change
+    ensures { result ≡ AddDevice live.now.device.member live.now.device.number live.now.key }
+{
+    Change::AddDevice {
+        member: live.device.member,
+        device: live.device.number,
+        key: live.key,
+    }
+}
+
+fn device_dropped(device: Device) -> Change
+    ensures { result ≡ DropDevice device.member device.number }
+{
+    Change::DropDevice {
+        member: device.member,
+        device: device.number,
     }
 }
 

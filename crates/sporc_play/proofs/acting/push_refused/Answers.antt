@@ -1,9 +1,9 @@
 use Rattle.std.proofs.Common.{codes}
-use Rattle.std.specs.Fmt.{decimal}
 use Rattle.sporc_report.specs.Names.{submit_fault_name}
+use Rattle.sporc_script.specs.Spelling.{device_text}
 use Rattle.sporc_report.proofs.Parts.{told_in_parts}
 use Rattle.sporc_play.proofs.acting.push_refused.Goals as goal
 
 pub returns-clause-line : goal.returns-clause-line
 returns-clause-line c =
-    told_in_parts c.push_str.result _ _ _ _ (decimal c.args.member) (codes " submit refused ") (submit_fault_name c.args.fault) (codes "\n") c.in_ok-push_start.ensures.ok c.in_ok-push_submit_fault.ensures.name c.push_str.ensures.bytes
+    told_in_parts c.push_str.result _ _ _ _ (device_text c.args.device) (codes " submit refused ") (submit_fault_name c.args.fault) (codes "\n") c.in_ok-push_start.ensures.ok c.in_ok-push_submit_fault.ensures.name c.push_str.ensures.bytes

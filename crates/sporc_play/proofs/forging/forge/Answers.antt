@@ -4,7 +4,9 @@ use Rattle.lms_leaf.specs.Leaves.{LeavesModel}
 use Rattle.lms_sign.specs.Signer.{SignerModel}
 use Rattle.lms_tree.specs.LmsPrivate.{LmsPrivate}
 use Rattle.lms_tree.specs.LmsType.{height_of}
+use Rattle.sporc_member.specs.declared.device.Device.{Device}
 use Rattle.sporc_client.specs.ClientModel.{state_of}
+use Rattle.sporc_play.specs.Derived.{random_of}
 use Rattle.sporc_play.specs.Forged.{signed_by}
 use Rattle.sporc_play.specs.Seats.{AreDrawn}
 use Rattle.sporc_play.proofs.Forgeries.{forged_none, forged_signed, leaf_drawn, leaf_none}
@@ -18,7 +20,7 @@ returns-in_ok-bytes-in-Ok-clause-entry c = λ s own is.
     let leaf = c.in-Ok.ticket in
     let drawn = leaf_drawn old.key old.leaves.next leaf old.leaves.leaf_count c.in-Ok.ensures.draws.given c.in-Ok.ensures.draws.within c.requires.leaves.count in
     forged_signed s client f c.args.t leaf c.in_ok-bytes-in-Ok.bytes.items _ drawn
-    (c.in_ok-bytes-in-Ok.ensures.entry s (c.in-Ok.ensures.key ∙ own) is ∙ ap (λ (random : List ℕ). signed_by s client f random leaf) c.random_of-random.ensures.value)
+    (c.in_ok-bytes-in-Ok.ensures.entry s (c.in-Ok.ensures.key ∙ own) is ∙ ap (λ (random : List ℕ). signed_by s client f random leaf) (c.random_of-random.ensures.value ∙ ap (λ (who : Device). random_of who c.args.t) c.first.ensures.value))
 
 pub returns-in-Err-Exhausted-clause-entry : goal.returns-in-Err-Exhausted-clause-entry
 returns-in-Err-Exhausted-clause-entry c = λ s own is.

@@ -1,11 +1,12 @@
 use Rattle.std.proofs.Common.{List, ℕ, ◌+◌, length, ap, sym, ◌∙◌}
 use Rattle.sporc_entry.specs.declared.genesis.Genesis.{Genesis}
-use Rattle.sporc_head.specs.History.{count_of, epoch_of}
+use Rattle.sporc_head.specs.History.{count_of, epoch_of, roster_of}
 use Rattle.sporc_member.specs.Device.{first_device}
+use Rattle.sporc_member.specs.Roster.{Roster}
 use Rattle.sporc_client.specs.ClientModel.{state_of}
 use Rattle.sporc_client.specs.PlainClient.{Opening}
 use Rattle.sporc_client.proofs.Calls.{replay_opening}
-use Rattle.sporc_play.specs.Forged.{base_by, epoch_by, number_by}
+use Rattle.sporc_play.specs.Forged.{base_by, epoch_by, number_by, version_by}
 use Rattle.sporc_play.proofs.Forgeries.{header_same}
 use Rattle.sporc_play.proofs.forging.forged_header.Goals as goal
 
@@ -15,7 +16,9 @@ returns c =
     let f = c.args.forgery.now in
     let e = c.heads-heads.ensures in
     let suffix = f.signed.suffix in
-    header_same (state_of client) f c.args.leaf _ _ _ _ _ _ _
+    header_same (state_of client) f c.args.leaf _ _ _ _ _ _ _ _ _
+    (c.version_by-version.ensures ∙ ap (version_by suffix) (c.upgraded.ensures.value ∙ ap (λ (r : Roster). r.upgraded) (c.roster.ensures.value ∙ ap (λ (o : Opening). roster_of o.genesis (state_of client).entries) (sym (replay_opening client.opening client.log)))))
+    c.device_in.ensures
     (ap (λ (g : Genesis). g.document) (c.genesis.ensures.value ∙ e.genesis) ∙ ap (λ (o : Opening). o.genesis.document) (sym (replay_opening client.opening client.log)))
     (c.number_by.ensures ∙ ap (λ (n : ℕ). number_by suffix (n + 1)) (c.count_of.ensures.value ∙ ap (count_of (first_device f.member)) e.entries))
     c.value_at.ensures

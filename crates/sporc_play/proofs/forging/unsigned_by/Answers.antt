@@ -3,7 +3,7 @@ use Rattle.sporc_entry.specs.declared.header.Header.{Header}
 use Rattle.sporc_entry.specs.Version.{fits_version}
 use Rattle.sporc_client.specs.ClientModel.{state_of}
 use Rattle.sporc_play.specs.Forged.{forged_body}
-use Rattle.sporc_play.proofs.Forgeries.{unsigned_same}
+use Rattle.sporc_play.proofs.Forgeries.{header_fits, unsigned_same}
 use Rattle.sporc_play.proofs.forging.unsigned_by.Goals as goal
 
 pub returns-clause-entry : goal.returns-clause-entry
@@ -17,7 +17,7 @@ returns-clause-entry c = λ s is.
     (c.new-3.ensures.value ∙ c.new-2.ensures.items)
 
 pub signed_part-requires-clause-version : goal.signed_part-requires-clause-version
-signed_part-requires-clause-version c = ap (λ (h : Header). fits_version h.version h.device) c.forged_header-header.ensures
+signed_part-requires-clause-version c = ap (λ (h : Header). fits_version h.version h.device) c.forged_header-header.ensures ∙ header_fits c.args.forgery.now.signed.suffix _
 
 pub returns-clause-version : goal.returns-clause-version
-returns-clause-version c = ap (λ (h : Header). fits_version h.version h.device) c.forged_header-header.ensures
+returns-clause-version c = ap (λ (h : Header). fits_version h.version h.device) c.forged_header-header.ensures ∙ header_fits c.args.forgery.now.signed.suffix _

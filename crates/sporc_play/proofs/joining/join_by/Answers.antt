@@ -8,7 +8,6 @@ use Rattle.sporc_play.proofs.joining.join_by.Goals as goal
 
 pub returns-in-Err-clause-line : goal.returns-in-Err-clause-line
 returns-in-Err-clause-line c =
-    let member = c.args.seat.now.device.member in
     on_both c.push_no_hints.result _ _ _
-    (λ line named. λ s is same. line s ∙ ap (λ (hints : Result Keys HintFault). string_bytes c.args.out.now ++ hints_line s member hints) (sym (c.in-Err.ensures s is named)))
+    (λ line named. λ s is same. line s ∙ ap (λ (hints : Result Keys HintFault). string_bytes c.args.out.now ++ hints_line s c.args.seat.now.device hints) (sym (c.in-Err.ensures s is named)))
     c.push_no_hints.ensures.line c.push_no_hints.ensures.named

@@ -12,4 +12,4 @@ pub returns-in-Ok-clause-line : goal.returns-in-Ok-clause-line
 returns-in-Ok-clause-line c =
     ok_then c.push_start.result _ _ c.push_start.ensures.ok (λ told s is same.
     let opens : first_of (open_checks s.genesis (get c.args.ring.keys 0)) ≡ None = subst (λ (g : Genesis). first_of (open_checks g (get c.args.ring.keys 0)) ≡ None) same c.in-Ok.ensures.fault in
-    told ∙ ap (λ (fault : Option LineOpenFault). string_bytes c.args.out.now ++ open_line c.args.seat.now.device.member fault) (sym opens))
+    told ∙ ap (λ (fault : Option LineOpenFault). string_bytes c.args.out.now ++ open_line c.args.seat.now.device fault) (sym opens))

@@ -1,12 +1,12 @@
 use Rattle.std.proofs.Common.{codes, string_bytes}
-use Rattle.std.specs.Fmt.{decimal}
 use Rattle.std.proofs.lemmas.Result.{on_ok_weaker}
 use Rattle.sporc_report.specs.Names.{hint_fault_name}
+use Rattle.sporc_script.specs.Spelling.{device_text}
 use Rattle.sporc_report.proofs.Parts.{told_in_parts}
 use Rattle.sporc_play.proofs.joining.push_no_hints.Goals as goal
 
 pub returns-clause-line : goal.returns-clause-line
 returns-clause-line c =
-    let line = told_in_parts c.push_str.result (string_bytes c.args.out.now) _ _ _ (decimal c.args.member) (codes " join refused ") (hint_fault_name c.args.fault) (codes "\n")
+    let line = told_in_parts c.push_str.result (string_bytes c.args.out.now) _ _ _ (device_text c.args.device) (codes " join refused ") (hint_fault_name c.args.fault) (codes "\n")
     c.in_ok-push_start.ensures.ok c.in_ok-push_hint_fault.ensures.name c.push_str.ensures.bytes in
     on_ok_weaker c.push_str.result (λ told. λ s. told) line

@@ -11,7 +11,7 @@ returns c =
       value = (
         c.seat_at-i.result,
         seat,
-        seat_read seats seats c.seat_at-i.result c.args.device c.args.device seat refl refl c.seat_at-i.ensures.value c.index-seats-i.is,
+        seat_read seats seats c.seat_at-i.result c.args.device seat refl c.seat_at-i.ensures.value c.index-seats-i.is,
         c.as_ref.ensures.value ∙ ap (λ (s : Seat). s.client) (sym c.index-seats-i.is),
       );
     }

@@ -1,4 +1,4 @@
-use Rattle.std.proofs.Common.{◌≡◌, ◌≤◌, ◌++◌, List, ℕ, length, string_bytes, ap, sym, ◌∙◌, append-nil, arith}
+use Rattle.std.proofs.Common.{◌≤◌, ◌++◌, List, ℕ, length, string_bytes, ap, sym, ◌∙◌, append-nil, arith}
 use Rattle.sporc_report.proofs.Committed.{no_lines}
 use Rattle.sporc_report.proofs.entries.push_entries.Goals as goal
 

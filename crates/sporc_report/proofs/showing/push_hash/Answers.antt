@@ -1,10 +1,11 @@
 use Rattle.std.proofs.Common.{◌≡◌, ◌++◌, ℕ, List, string_bytes, codes, ap, sym, ◌∙◌}
-use Rattle.std.specs.Fmt.{decimal}
 use Rattle.hex.specs.Hex.{encode_lower}
 use Rattle.sporc_client.specs.ClientModel.{state_of}
 use Rattle.sporc_client.specs.PlainClient.{Opening}
 use Rattle.sporc_client.proofs.Calls.{replay_opening}
 use Rattle.sporc_head.specs.History.{hash_of}
+use Rattle.sporc_member.specs.declared.device.Device.{Device}
+use Rattle.sporc_script.specs.Spelling.{device_text}
 use Rattle.sporc_report.proofs.Parts.{told_in_parts}
 use Rattle.sporc_report.proofs.showing.push_hash.Goals as goal
 
@@ -12,12 +13,12 @@ pub returns : goal.returns
 returns g c =
     let client = c.args.client.now in
     let old = string_bytes c.args.out.now in
-    let me = client.opening.kit.me.member in
+    let me = client.opening.kit.me in
     let state = state_of client in
     let hash = hash_of state.opening.genesis state.entries in
-    let start : string_bytes c.push_start.new.out ≡ old ++ (decimal me ++ codes " hash ") =
-    c.in_ok-push_start.ensures.ok ∙ ap (λ (m : ℕ). old ++ (decimal m ++ codes " hash ")) c.me.ensures.value in
+    let start : string_bytes c.push_start.new.out ≡ old ++ (device_text me ++ codes " hash ") =
+    c.in_ok-push_start.ensures.ok ∙ ap (λ (d : Device). old ++ (device_text d ++ codes " hash ")) c.device_of.ensures in
     let digits : string_bytes c.push_digits.new.out ≡ string_bytes c.push_start.new.out ++ encode_lower hash =
     c.in_ok-push_digits.ensures.ok ∙ ap (λ (bytes : List ℕ). string_bytes c.push_start.new.out ++ encode_lower bytes)
     (c.last_hash.ensures.value ∙ ap (λ (o : Opening). hash_of o.genesis state.entries) (sym (replay_opening client.opening client.log))) in
-    record { ok = told_in_parts c.push_str.result old _ _ _ (decimal me) (codes " hash ") (encode_lower hash) (codes "\n") start digits c.push_str.ensures.bytes }
+    record { ok = told_in_parts c.push_str.result old _ _ _ (device_text me) (codes " hash ") (encode_lower hash) (codes "\n") start digits c.push_str.ensures.bytes }

@@ -2,7 +2,7 @@ use Rattle.std.proofs.Common.{ℕ, List, ◌++◌, flat_map, string_bytes, subst
 use Rattle.std.specs.List.Sorted.{IsStrictlyIncreasing}
 use Rattle.std.proofs.lemmas.List.{take_all}
 use Rattle.sporc_member.specs.Roster.{Roster, member_at}
-use Rattle.sporc_report.specs.ClientLines.{member_text, text_of_member}
+use Rattle.sporc_report.specs.ClientLines.{members_text, text_of_member}
 use Rattle.sporc_report.proofs.Rosters.{numbered_texts}
 use Rattle.sporc_report.proofs.showing.push_roster.Goals as goal
 
@@ -11,8 +11,8 @@ returns g c =
     let roster = c.roster-roster.result.now.roster in
     let numbers = c.members-number-items.ensures in
     let out = string_bytes c.args.out.now in
-    let text = λ (number : ℕ). text_of_member (member_at roster number) in
+    let text = λ (number : ℕ). text_of_member roster (member_at roster number) in
     c.loop-number.invariant
     ∙ ap (λ (ns : List ℕ). out ++ flat_map text ns) (take_all c.loop-number.number-index c.members-number-items.result.now c.loop-number-test.false ∙ numbers.value)
-    ∙ ap (λ (t : List ℕ). out ++ t) (numbered_texts roster.members (subst IsStrictlyIncreasing numbers.value numbers.ascending))
-    ∙ ap (λ (r : Roster). out ++ flat_map member_text r.members) c.roster-roster.ensures.value
+    ∙ ap (λ (t : List ℕ). out ++ t) (numbered_texts roster roster.members (subst IsStrictlyIncreasing numbers.value numbers.ascending))
+    ∙ ap (λ (r : Roster). out ++ members_text r) c.roster-roster.ensures.value

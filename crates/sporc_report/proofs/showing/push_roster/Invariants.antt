@@ -5,4 +5,4 @@ use Rattle.sporc_report.proofs.showing.push_roster.Given as goal
 
 abbrev pub invariant-loop-number : goal.invariant-loop-number
 invariant-loop-number g l =
-    string_bytes l.out ≡ string_bytes l.initial.out ++ flat_map (λ number. text_of_member (member_at l.roster.roster number)) (take l.number-index l.number-items)
+    string_bytes l.out ≡ string_bytes l.initial.out ++ flat_map (λ number. text_of_member l.roster.roster (member_at l.roster.roster number)) (take l.number-index l.number-items)

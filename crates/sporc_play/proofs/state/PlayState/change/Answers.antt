@@ -8,11 +8,11 @@ index_mut-requires c = seat_within c.as_slice.result.now _ c.seat_at-i.result _ 
 pub returns-clause-state : goal.returns-clause-state
 returns-clause-state c =
     let old = c.args.self.now in
-    let at = seat_read c.as_slice.result.now old.seats.items c.seat_at-i.result _ _ c.index_mut.result.now c.as_slice.ensures.value c.first.ensures.value c.seat_at-i.ensures.value c.index_mut.ensures.value in
+    let at = seat_read c.as_slice.result.now old.seats.items c.seat_at-i.result _ c.index_mut.result.now c.as_slice.ensures.value c.seat_at-i.ensures.value c.index_mut.ensures.value in
     ok_then c.change.result _ _ c.change.ensures.seat (λ is. change_becomes old _ c.args.edit.now c.seat_at-i.result c.index_mut.result.now c.change.new.seat c.in_ok-change.change at (record { genesis = refl; cast = refl; rogues = refl; seats = refl }) refl c.in_ok-change.ensures.value is)
 
 pub returns-clause-line : goal.returns-clause-line
 returns-clause-line c =
     let old = c.args.self.now in
-    let at = seat_read c.as_slice.result.now old.seats.items c.seat_at-i.result _ _ c.index_mut.result.now c.as_slice.ensures.value c.first.ensures.value c.seat_at-i.ensures.value c.index_mut.ensures.value in
+    let at = seat_read c.as_slice.result.now old.seats.items c.seat_at-i.result _ c.index_mut.result.now c.as_slice.ensures.value c.seat_at-i.ensures.value c.index_mut.ensures.value in
     ok_then c.change.result _ _ c.change.ensures.line (λ is. change_tells old c.args.edit.now c.seat_at-i.result c.index_mut.result.now _ _ at is)

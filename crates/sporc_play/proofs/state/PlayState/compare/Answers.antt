@@ -1,6 +1,5 @@
 use Rattle.std.proofs.Common.{◌<◌, ℕ, List, length, ap, ◌∙◌, sym, subst}
 use Rattle.std.specs.Prelude.{slice_get}
-use Rattle.sporc_member.specs.Device.{first_device}
 use Rattle.sporc_report.specs.ClientLines.{Stands}
 use Rattle.sporc_play.specs.Report.{hashes_of}
 use Rattle.sporc_client.specs.ClientModel.{state_of}
@@ -15,7 +14,7 @@ pub compare-verdict-requires-clause-one_genesis : goal.compare-verdict-requires-
 compare-verdict-requires-clause-one_genesis c =
     let state = c.args.self.now in
     ap (λ (xs : List (List ℕ)). slice_get xs 0) c.hashes.ensures.value
-    ∙ one_beginning state (first_device c.args.pair.now.first) (first_device c.args.pair.now.second) c.in-Some.first.now c.in-Some-client.second.now c.requires.one_document (found_by state _ _ _ c.first.ensures.value c.in-Some.ensures.value) (found_by state _ _ _ c.first-2.ensures.value c.in-Some-client.ensures.value)
+    ∙ one_beginning state c.args.pair.now.first c.args.pair.now.second c.in-Some.first.now c.in-Some-client.second.now c.requires.one_document (found_by state _ _ c.in-Some.ensures.value) (found_by state _ _ c.in-Some-client.ensures.value)
     ∙ ap (λ (xs : List (List ℕ)). slice_get xs 0) (sym c.hashes-2.ensures.value)
 
 pub returns : goal.returns
@@ -29,15 +28,15 @@ returns c =
     subst (λ (xs : List (List ℕ)). Stands xs (hashes_of (state_of b)) v) (c.hashes.ensures.value ∙ chain_is a)
     (subst (λ (xs : List (List ℕ)). Stands c.hashes.result.now xs v) (c.hashes-2.ensures.value ∙ chain_is b) (stands c.hashes.result.now c.hashes-2.result.now v is.same is.prefix is.longer is.forked)) in
     ok_then c.push_verdict.result _ _ c.push_verdict.ensures.ok
-    (λ is. compare_tells state c.args.pair.now a b v _ _ (found_by state _ _ _ c.first.ensures.value c.in-Some.ensures.value) (found_by state _ _ _ c.first-2.ensures.value c.in-Some-client.ensures.value) stand is)
+    (λ is. compare_tells state c.args.pair.now a b v _ _ (found_by state _ _ c.in-Some.ensures.value) (found_by state _ _ c.in-Some-client.ensures.value) stand is)
 
 pub returns-in_default : goal.returns-in_default
 returns-in_default c =
     let state = c.args.self.now in
-    ok_then c.push_not_open.result _ _ c.push_not_open.ensures.ok (first_missing state c.args.pair.now _ _ (found_by state _ _ _ c.first.ensures.value c.in_default.ensures.value))
+    ok_then c.push_not_open.result _ _ c.push_not_open.ensures.ok (first_missing state c.args.pair.now _ _ (found_by state _ _ c.in_default.ensures.value))
 
 pub returns-in_default-client : goal.returns-in_default-client
 returns-in_default-client c =
     let state = c.args.self.now in
     ok_then c.push_not_open-in_default-client.result _ _ c.push_not_open-in_default-client.ensures.ok
-    (second_missing state c.args.pair.now c.in-Some.first.now _ _ (found_by state _ _ _ c.first.ensures.value c.in-Some.ensures.value) (found_by state _ _ _ c.first-2.ensures.value c.in_default-client.ensures.value))
+    (second_missing state c.args.pair.now c.in-Some.first.now _ _ (found_by state _ _ c.in-Some.ensures.value) (found_by state _ _ c.in_default-client.ensures.value))

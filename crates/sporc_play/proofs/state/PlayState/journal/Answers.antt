@@ -1,5 +1,4 @@
 use Rattle.std.proofs.Common.{◌++◌, List, ap, ◌∙◌, string_bytes}
-use Rattle.sporc_member.specs.Device.{first_device}
 use Rattle.sporc_client.specs.declared.event.Event.{Event}
 use Rattle.sporc_client.specs.Log.{journal_of}
 use Rattle.sporc_report.specs.JournalLines.{journal_lines}
@@ -12,11 +11,11 @@ returns-in-Some c =
     let state = c.args.self.now in
     let journal = ap (λ (events : List Event). string_bytes c.args.out.now ++ journal_lines events) c.journal.ensures.value in
     ok_then c.push_journal.result _ _ c.push_journal.ensures.ok
-    (λ is script scene stands. journal_there script scene state (first_device c.args.member) c.in-Some.client.now _ _ stands (found_by state _ _ _ c.first.ensures.value c.in-Some.ensures.value) (is ∙ journal))
+    (λ is script scene stands. journal_there script scene state c.args.device c.in-Some.client.now _ _ stands (found_by state _ _ c.in-Some.ensures.value) (is ∙ journal))
 
 pub returns-in-None : goal.returns-in-None
 returns-in-None c =
     let state = c.args.self.now in
     ok_then c.push_not_open.result _ _ c.push_not_open.ensures.ok
     (λ is script scene stands.
-    none_there script scene state (first_device c.args.member) (λ client. journal_lines (journal_of (scene.logs (first_device c.args.member)))) _ _ stands (found_by state _ _ _ c.first.ensures.value c.in-None.ensures.value) is)
+    none_there script scene state c.args.device (λ client. journal_lines (journal_of (scene.logs c.args.device))) _ _ stands (found_by state _ _ c.in-None.ensures.value) is)

@@ -1,16 +1,15 @@
 use Rattle.std.proofs.Common.{List, sym, subst}
 use Rattle.std.specs.Prelude.{Contains}
 use Rattle.sporc_member.specs.declared.device.Device.{Device}
-use Rattle.sporc_member.specs.Device.{first_device}
 use Rattle.sporc_entry.specs.declared.genesis.Genesis.{Genesis}
 use Rattle.sporc_entry.specs.Genesis.{IsGenesis}
-use Rattle.sporc_play.proofs.Openings.{opener_among}
+use Rattle.sporc_play.proofs.Openings.{device_there}
 use Rattle.sporc_play.proofs.state.PlayState.open_founders.Goals as goal
 
 pub open_by-requires-clause-seated : goal.open_by-requires-clause-seated
-open_by-requires-clause-seated c m is =
-    subst (λ (ds : List Device). Contains ds (first_device m.member)) (sym c.loop-line.invariant.stands.seated)
-    (opener_among c.args.lines.now c.loop-line.line-index c.line-item.result m c.loop-line-test.true c.line-item.is is)
+open_by-requires-clause-seated c who is =
+    subst (λ (ds : List Device). Contains ds who) (sym c.loop-line.invariant.stands.seated)
+    (device_there c.args.lines.now c.loop-line.line-index c.line-item.result who c.loop-line-test.true c.line-item.is is)
 
 pub loop-line-preserved : goal.loop-line-preserved
 loop-line-preserved c = record {

@@ -2,7 +2,6 @@ use Rattle.std.proofs.Common.{◌≡◌, ℕ, ◌+◌, ◌++◌, arith, ap, ◌�
 use Rattle.std.proofs.lemmas.List.{length-map}
 use Rattle.sporc_outside.specs.MemoryDisk.{MemoryDiskModel}
 use Rattle.sporc_client.specs.ClientModel.{ClientModel}
-use Rattle.sporc_member.specs.declared.device.Device.{Device}
 use Rattle.sporc_play.specs.declared.seat.Seat.{Seat}
 use Rattle.sporc_play.specs.Seats.{IsSeatAt}
 use Rattle.sporc_play.specs.Signing.{forged_by, signing_line}
@@ -34,7 +33,7 @@ returns-clause-state c =
     let f = c.args.forgery.now in
     let x = c.index_mut-rogue.result.now in
     let (k, seat, there, client) = c.client_of-client.ensures.value in
-    let from = subst (λ (who : Device). IsSeatAt old.seats.items k who seat) c.first-2.ensures.value (subst (λ (xs : List Seat). IsSeatAt xs k c.first-2.result seat) c.as_slice-2.ensures.value there) in
+    let from = subst (λ (xs : List Seat). IsSeatAt xs k f.from seat) c.as_slice-2.ensures.value there in
     let at = rogue_read c.as_slice.result.now old.rogues.items c.rogue_at-i.result _ _ x c.as_slice.ensures.value c.first.ensures.value c.rogue_at-i.ensures.value c.index_mut-rogue.ensures.value in
     ok_both c.keep_made.result _ _ _ c.keep_made.ensures.others c.keep_made.ensures.made (λ same grown.
     sign_becomes old c.keep_made.new.self f c.rogue_at-i.result k x c.sign.new.rogue seat (option_map (λ v. v.items) c.in_ok-made.made) at from
@@ -47,7 +46,7 @@ returns-clause-line c =
     let f = c.args.forgery.now in
     let x = c.index_mut-rogue.result.now in
     let (k, seat, there, client) = c.client_of-client.ensures.value in
-    let from = subst (λ (who : Device). IsSeatAt old.seats.items k who seat) c.first-2.ensures.value (subst (λ (xs : List Seat). IsSeatAt xs k c.first-2.result seat) c.as_slice-2.ensures.value there) in
+    let from = subst (λ (xs : List Seat). IsSeatAt xs k f.from seat) c.as_slice-2.ensures.value there in
     let at = rogue_read c.as_slice.result.now old.rogues.items c.rogue_at-i.result _ _ x c.as_slice.ensures.value c.first.ensures.value c.rogue_at-i.ensures.value c.index_mut-rogue.ensures.value in
     let number : c.len.result + 1 ≡ length (entries_of old) + 1 = omega (arith, c.len.ensures, length-map old.made.items (λ (b : Vec ℕ Global). b.items)) in
     ok_any c.keep_made.result _ (sign_tells old f c.rogue_at-i.result k (c.len.result + 1) x seat (string_bytes c.args.out.now) _ at from number

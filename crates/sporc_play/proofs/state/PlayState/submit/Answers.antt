@@ -12,28 +12,28 @@ pub submit-requires-clause-asked : goal.submit-requires-clause-asked
 submit-requires-clause-asked c =
     let old = c.args.self.now in
     let x = c.index_mut.result.now in
-    let at = seat_read c.as_slice.result.now old.seats.items c.seat_at-i.result _ _ x c.as_slice.ensures.value c.first.ensures.value c.seat_at-i.ensures.value c.index_mut.ensures.value in
+    let at = seat_read c.as_slice.result.now old.seats.items c.seat_at-i.result _ x c.as_slice.ensures.value c.seat_at-i.ensures.value c.index_mut.ensures.value in
     (at_place IsReadySeat old.seats.items c.seat_at-i.result x c.requires.can.seats at.there).asked
 
 pub submit-requires-clause-ready : goal.submit-requires-clause-ready
 submit-requires-clause-ready c =
     let old = c.args.self.now in
     let x = c.index_mut.result.now in
-    let at = seat_read c.as_slice.result.now old.seats.items c.seat_at-i.result _ _ x c.as_slice.ensures.value c.first.ensures.value c.seat_at-i.ensures.value c.index_mut.ensures.value in
+    let at = seat_read c.as_slice.result.now old.seats.items c.seat_at-i.result _ x c.as_slice.ensures.value c.seat_at-i.ensures.value c.index_mut.ensures.value in
     (at_place IsReadySeat old.seats.items c.seat_at-i.result x c.requires.can.seats at.there).ready
 
 pub returns-clause-state : goal.returns-clause-state
 returns-clause-state c =
     let old = c.args.self.now in
-    let at = seat_read c.as_slice.result.now old.seats.items c.seat_at-i.result _ _ c.index_mut.result.now c.as_slice.ensures.value c.first.ensures.value c.seat_at-i.ensures.value c.index_mut.ensures.value in
+    let at = seat_read c.as_slice.result.now old.seats.items c.seat_at-i.result _ c.index_mut.result.now c.as_slice.ensures.value c.seat_at-i.ensures.value c.index_mut.ensures.value in
     let number : c.len.result + 1 ≡ length (entries_of old) + 1 = omega (arith, c.len.ensures, length-map old.made.items (λ (b : Vec ℕ Global). b.items)) in
     ok_both c.keep_made.result _ _ _ c.keep_made.ensures.others c.keep_made.ensures.made (λ same grown.
-    submit_becomes old c.keep_made.new.self c.seat_at-i.result c.args.member _ c.index_mut.result.now c.submit.new.seat (option_map (λ v. v.items) c.in_ok-made.made) at
+    submit_becomes old c.keep_made.new.self c.seat_at-i.result c.args.device _ c.index_mut.result.now c.submit.new.seat (option_map (λ v. v.items) c.in_ok-made.made) at
     (record { genesis = same.genesis; cast = same.cast; rogues = same.rogues; seats = same.seats }) number grown c.in_ok-made.ensures.seat)
 
 pub returns-clause-line : goal.returns-clause-line
 returns-clause-line c =
     let old = c.args.self.now in
-    let at = seat_read c.as_slice.result.now old.seats.items c.seat_at-i.result _ _ c.index_mut.result.now c.as_slice.ensures.value c.first.ensures.value c.seat_at-i.ensures.value c.index_mut.ensures.value in
+    let at = seat_read c.as_slice.result.now old.seats.items c.seat_at-i.result _ c.index_mut.result.now c.as_slice.ensures.value c.seat_at-i.ensures.value c.index_mut.ensures.value in
     let number : c.len.result + 1 ≡ length (entries_of old) + 1 = omega (arith, c.len.ensures, length-map old.made.items (λ (b : Vec ℕ Global). b.items)) in
-    ok_any c.keep_made.result _ (submit_tells old c.seat_at-i.result c.args.member _ c.index_mut.result.now _ _ at number c.in_ok-made.ensures.line)
+    ok_any c.keep_made.result _ (submit_tells old c.seat_at-i.result c.args.device _ c.index_mut.result.now _ _ at number c.in_ok-made.ensures.line)
