@@ -5,6 +5,7 @@ use Rattle.std.specs.List.{Contains}
 use Rattle.std.proofs.lemmas.Bool.{cases_lt}
 use Rattle.std.proofs.lemmas.List.{map-append}
 use Rattle.std.proofs.lemmas.List.Elements.{All-contains, All-nil, All-push, Contains-append_left, Contains-append_right, Contains-push}
+use Rattle.sporc_member.specs.declared.device.Device.{Device}
 use Rattle.sporc_outside.specs.Told.{MayAppend}
 use Rattle.sporc_play.specs.Generated.{up_to}
 use Rattle.sporc_words.specs.declared.client.Client.{Client as Words}
@@ -63,28 +64,28 @@ module _ (names : FileNames) where
 
   -- ---- a member's files
 
-  module _ (member count : ℕ) where
-    pub asks_genesis : (a b : Option (List (List ℕ))) → AsksOnly (file_name names Genesis ∷ []) a b → AsksOnly (map (file_name names) (own_files member count)) a b
-    asks_genesis a b genesis = asks_first (Genesis ∷ []) (Key member ∷ Ring member ∷ script_files count) a b genesis
+  module _ (device : Device) (count : ℕ) where
+    pub asks_genesis : (a b : Option (List (List ℕ))) → AsksOnly (file_name names Genesis ∷ []) a b → AsksOnly (map (file_name names) (own_files device count)) a b
+    asks_genesis a b genesis = asks_first (Genesis ∷ []) (Key device ∷ Ring device.member ∷ script_files count) a b genesis
 
-    pub asks_key : (a b c : Option (List (List ℕ))) → AsksOnly (file_name names Genesis ∷ []) a b → AsksOnly (file_name names (Key member) ∷ []) b c
-        → AsksOnly (map (file_name names) (own_files member count)) a c
+    pub asks_key : (a b c : Option (List (List ℕ))) → AsksOnly (file_name names Genesis ∷ []) a b → AsksOnly (file_name names (Key device) ∷ []) b c
+        → AsksOnly (map (file_name names) (own_files device count)) a c
     asks_key a b c genesis key =
-        asks_first (Genesis ∷ Key member ∷ []) (Ring member ∷ script_files count) a c (asks_then (Genesis ∷ []) (Key member ∷ []) a b c genesis key)
+        asks_first (Genesis ∷ Key device ∷ []) (Ring device.member ∷ script_files count) a c (asks_then (Genesis ∷ []) (Key device ∷ []) a b c genesis key)
 
     -- those before the scripts
-    before_scripts : (a b c d : Option (List (List ℕ))) → AsksOnly (file_name names Genesis ∷ []) a b → AsksOnly (file_name names (Key member) ∷ []) b c
-        → AsksOnly (file_name names (Ring member) ∷ []) c d → AsksOnly (map (file_name names) (Genesis ∷ Key member ∷ Ring member ∷ [])) a d
-    before_scripts a b c d genesis key ring = asks_then (Genesis ∷ Key member ∷ []) (Ring member ∷ []) a c d (asks_then (Genesis ∷ []) (Key member ∷ []) a b c genesis key) ring
+    before_scripts : (a b c d : Option (List (List ℕ))) → AsksOnly (file_name names Genesis ∷ []) a b → AsksOnly (file_name names (Key device) ∷ []) b c
+        → AsksOnly (file_name names (Ring device.member) ∷ []) c d → AsksOnly (map (file_name names) (Genesis ∷ Key device ∷ Ring device.member ∷ [])) a d
+    before_scripts a b c d genesis key ring = asks_then (Genesis ∷ Key device ∷ []) (Ring device.member ∷ []) a c d (asks_then (Genesis ∷ []) (Key device ∷ []) a b c genesis key) ring
 
-    pub asks_ring : (a b c d : Option (List (List ℕ))) → AsksOnly (file_name names Genesis ∷ []) a b → AsksOnly (file_name names (Key member) ∷ []) b c
-        → AsksOnly (file_name names (Ring member) ∷ []) c d → AsksOnly (map (file_name names) (own_files member count)) a d
-    asks_ring a b c d genesis key ring = asks_first (Genesis ∷ Key member ∷ Ring member ∷ []) (script_files count) a d (before_scripts a b c d genesis key ring)
+    pub asks_ring : (a b c d : Option (List (List ℕ))) → AsksOnly (file_name names Genesis ∷ []) a b → AsksOnly (file_name names (Key device) ∷ []) b c
+        → AsksOnly (file_name names (Ring device.member) ∷ []) c d → AsksOnly (map (file_name names) (own_files device count)) a d
+    asks_ring a b c d genesis key ring = asks_first (Genesis ∷ Key device ∷ Ring device.member ∷ []) (script_files count) a d (before_scripts a b c d genesis key ring)
 
-    pub asks_scripts : (a b c d e : Option (List (List ℕ))) → AsksOnly (file_name names Genesis ∷ []) a b → AsksOnly (file_name names (Key member) ∷ []) b c
-        → AsksOnly (file_name names (Ring member) ∷ []) c d → AsksOnly (map (file_name names) (script_files count)) d e → AsksOnly (map (file_name names) (own_files member count)) a e
+    pub asks_scripts : (a b c d e : Option (List (List ℕ))) → AsksOnly (file_name names Genesis ∷ []) a b → AsksOnly (file_name names (Key device) ∷ []) b c
+        → AsksOnly (file_name names (Ring device.member) ∷ []) c d → AsksOnly (map (file_name names) (script_files count)) d e → AsksOnly (map (file_name names) (own_files device count)) a e
     asks_scripts a b c d e genesis key ring scripts =
-        asks_then (Genesis ∷ Key member ∷ Ring member ∷ []) (script_files count) a d e (before_scripts a b c d genesis key ring) scripts
+        asks_then (Genesis ∷ Key device ∷ Ring device.member ∷ []) (script_files count) a d e (before_scripts a b c d genesis key ring) scripts
 
 -- one name may have been asked for
 one_name : (name : List ℕ) (a b : Option (List (List ℕ))) → MayAppend a b name → AsksOnly (name ∷ []) a b
@@ -97,41 +98,41 @@ one_name name (Some x) (Some y) (inr same) = ([], same ∙ sym (append-nil x), A
 
 -- with other words for its names and for the count of its editors
 module _ (names : FileNames) (words : Words) (named : names ≡ names_of words) where
-  pub asks_history : (a b : Option (List (List ℕ))) → AsksOnly (file_name names (History words.member) ∷ []) a b → AsksOnly (file_name (names_of words) (History words.member) ∷ []) a b
-  asks_history a b history = subst (λ (n : FileNames). AsksOnly (file_name n (History words.member) ∷ []) a b) named history
+  pub asks_history : (a b : Option (List (List ℕ))) → AsksOnly (file_name names (History words.device) ∷ []) a b → AsksOnly (file_name (names_of words) (History words.device) ∷ []) a b
+  asks_history a b history = subst (λ (n : FileNames). AsksOnly (file_name n (History words.device) ∷ []) a b) named history
 
   -- it is read, and written under its name
-  pub asks_history_again : (name : List ℕ) (a b c : Option (List (List ℕ))) → name ≡ file_name names (History words.member)
-      → AsksOnly (file_name names (History words.member) ∷ []) a b → MayAppend b c name → AsksOnly (file_name (names_of words) (History words.member) ∷ []) a c
+  pub asks_history_again : (name : List ℕ) (a b c : Option (List (List ℕ))) → name ≡ file_name names (History words.device)
+      → AsksOnly (file_name names (History words.device) ∷ []) a b → MayAppend b c name → AsksOnly (file_name (names_of words) (History words.device) ∷ []) a c
   asks_history_again name a b c called history may =
       asks_history a c
-      (AsksOnly-trans (file_name names (History words.member) ∷ []) a b c history (one_name (file_name names (History words.member)) b c (subst (MayAppend b c) called may)))
+      (AsksOnly-trans (file_name names (History words.device) ∷ []) a b c history (one_name (file_name names (History words.device)) b c (subst (MayAppend b c) called may)))
 
   module _ (count : ℕ) (all : count ≡ length words.scripts) where
-    own : (a b : Option (List (List ℕ))) → AsksOnly (map (file_name names) (own_files words.member count)) a b
-        → AsksOnly (map (file_name (names_of words)) (own_files words.member (length words.scripts))) a b
+    own : (a b : Option (List (List ℕ))) → AsksOnly (map (file_name names) (own_files words.device count)) a b
+        → AsksOnly (map (file_name (names_of words)) (own_files words.device (length words.scripts))) a b
     own a b asks =
-        subst (λ (n : FileNames). AsksOnly (map (file_name n) (own_files words.member (length words.scripts))) a b) named
-        (subst (λ (k : ℕ). AsksOnly (map (file_name names) (own_files words.member k)) a b) all asks)
+        subst (λ (n : FileNames). AsksOnly (map (file_name n) (own_files words.device (length words.scripts))) a b) named
+        (subst (λ (k : ℕ). AsksOnly (map (file_name names) (own_files words.device k)) a b) all asks)
 
-    pub asks_member : (a b : Option (List (List ℕ))) → AsksOnly (map (file_name names) (own_files words.member count)) a b
-        → AsksOnly (map (file_name (names_of words)) (client_files words.member (length words.scripts))) a b
-    asks_member a b asks = asks_first (names_of words) (own_files words.member (length words.scripts)) (Leaf words.member ∷ History words.member ∷ []) a b (own a b asks)
+    pub asks_member : (a b : Option (List (List ℕ))) → AsksOnly (map (file_name names) (own_files words.device count)) a b
+        → AsksOnly (map (file_name (names_of words)) (client_files words.device (length words.scripts))) a b
+    asks_member a b asks = asks_first (names_of words) (own_files words.device (length words.scripts)) (Leaf words.device ∷ History words.device ∷ []) a b (own a b asks)
 
-    own_leaf : (a b : Option (List (List ℕ))) → AsksOnly (file_name names (Leaf words.member) ∷ []) a b → AsksOnly (file_name (names_of words) (Leaf words.member) ∷ []) a b
-    own_leaf a b leaf = subst (λ (n : FileNames). AsksOnly (file_name n (Leaf words.member) ∷ []) a b) named leaf
+    own_leaf : (a b : Option (List (List ℕ))) → AsksOnly (file_name names (Leaf words.device) ∷ []) a b → AsksOnly (file_name (names_of words) (Leaf words.device) ∷ []) a b
+    own_leaf a b leaf = subst (λ (n : FileNames). AsksOnly (file_name n (Leaf words.device) ∷ []) a b) named leaf
 
-    pub asks_leaf : (a b c : Option (List (List ℕ))) → AsksOnly (map (file_name names) (own_files words.member count)) a b → AsksOnly (file_name names (Leaf words.member) ∷ []) b c
-        → AsksOnly (map (file_name (names_of words)) (client_files words.member (length words.scripts))) a c
+    pub asks_leaf : (a b c : Option (List (List ℕ))) → AsksOnly (map (file_name names) (own_files words.device count)) a b → AsksOnly (file_name names (Leaf words.device) ∷ []) b c
+        → AsksOnly (map (file_name (names_of words)) (client_files words.device (length words.scripts))) a c
     asks_leaf a b c asks leaf =
-        asks_then (names_of words) (own_files words.member (length words.scripts)) (Leaf words.member ∷ History words.member ∷ []) a b c (own a b asks)
-        (asks_first (names_of words) (Leaf words.member ∷ []) (History words.member ∷ []) b c (own_leaf b c leaf))
+        asks_then (names_of words) (own_files words.device (length words.scripts)) (Leaf words.device ∷ History words.device ∷ []) a b c (own a b asks)
+        (asks_first (names_of words) (Leaf words.device ∷ []) (History words.device ∷ []) b c (own_leaf b c leaf))
 
-    pub asks_all : (a b c d : Option (List (List ℕ))) → AsksOnly (map (file_name names) (own_files words.member count)) a b → AsksOnly (file_name names (Leaf words.member) ∷ []) b c
-        → AsksOnly (file_name (names_of words) (History words.member) ∷ []) c d → AsksOnly (map (file_name (names_of words)) (client_files words.member (length words.scripts))) a d
+    pub asks_all : (a b c d : Option (List (List ℕ))) → AsksOnly (map (file_name names) (own_files words.device count)) a b → AsksOnly (file_name names (Leaf words.device) ∷ []) b c
+        → AsksOnly (file_name (names_of words) (History words.device) ∷ []) c d → AsksOnly (map (file_name (names_of words)) (client_files words.device (length words.scripts))) a d
     asks_all a b c d asks leaf history =
-        asks_then (names_of words) (own_files words.member (length words.scripts)) (Leaf words.member ∷ History words.member ∷ []) a b d (own a b asks)
-        (asks_then (names_of words) (Leaf words.member ∷ []) (History words.member ∷ []) b c d (own_leaf b c leaf) history)
+        asks_then (names_of words) (own_files words.device (length words.scripts)) (Leaf words.device ∷ History words.device ∷ []) a b d (own a b asks)
+        (asks_then (names_of words) (Leaf words.device ∷ []) (History words.device ∷ []) b c d (own_leaf b c leaf) history)
 
 -- ---- a disk that is lent
 

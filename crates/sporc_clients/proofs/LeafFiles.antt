@@ -1,6 +1,5 @@
 -- What an opening keeps of the leaf file.
-use Rattle.std.proofs.Common.{◌≡◌, ℕ, ◌≤◌, List, refl, sym, subst, arith}
-use Rattle.lms_leaf.specs.LeafFile.{IsPassed}
+use Rattle.std.proofs.Common.{◌≡◌, ℕ, List, sym, subst, arith}
 use Rattle.lms_leaf.specs.Leaves.{KeepsStable}
 use Rattle.sporc_clients.specs.LeafFile.{KeepsPassed}
 

@@ -7,6 +7,7 @@ use Rattle.sporc_outside.specs.declared.file_fault.TheConstants.{MAX_FILE}
 use Rattle.sporc_outside.specs.declared.named_file.NamedFile.{NamedFile}
 use Rattle.sporc_entry.specs.declared.genesis.Genesis.{Genesis}
 use Rattle.sporc_keys.specs.declared.ring_file.RingFile.{RingFile}
+use Rattle.sporc_member.specs.declared.device.Device.{Device}
 use Rattle.sporc_keys.specs.RingFile.{ring_file_of_member}
 use Rattle.sporc_script.specs.declared.editor_line.EditorLine.{EditorLine}
 use Rattle.sporc_script.specs.Grammar.{IsEditorFault}
@@ -68,18 +69,18 @@ one_longer scripts scripts' count script all is = ap length is ∙ length-append
 
 -- ---- a member's files
 
-module _ (told now : Option (List NamedFile)) (low mid high : ℕ) (names : FileNames) (member : ℕ) (fault : Fault) (same : now ≡ told) (more : low ≤ mid) where
+module _ (told now : Option (List NamedFile)) (low mid high : ℕ) (names : FileNames) (device : Device) (fault : Fault) (same : now ≡ told) (more : low ≤ mid) where
   pub key_unread : (genesis : Genesis) → SaysFile genesis_file told (file_name names GenesisFile) genesis
-      → IsFileFault (own_key_file genesis.founders member) now mid high names (Key member) fault → IsMemberFault told low high names member fault
-  key_unread genesis says why = no_key says (file_later (own_key_file genesis.founders member) told now low mid high names (Key member) fault same more why)
+      → IsFileFault (own_key_file genesis.founders device) now mid high names (Key device) fault → IsMemberFault told low high names device fault
+  key_unread genesis says why = no_key says (file_later (own_key_file genesis.founders device) told now low mid high names (Key device) fault same more why)
 
-  pub ring_unread : (genesis : Genesis) (key : LmsPrivate) → SayGenesisAndKey told names member genesis key
-      → IsFileFault (ring_file_of_member member) now mid high names (Ring member) fault → IsMemberFault told low high names member fault
-  ring_unread genesis key say why = no_ring say (file_later (ring_file_of_member member) told now low mid high names (Ring member) fault same more why)
+  pub ring_unread : (genesis : Genesis) (key : LmsPrivate) → SayGenesisAndKey told names device genesis key
+      → IsFileFault (ring_file_of_member device.member) now mid high names (Ring device.member) fault → IsMemberFault told low high names device fault
+  ring_unread genesis key say why = no_ring say (file_later (ring_file_of_member device.member) told now low mid high names (Ring device.member) fault same more why)
 
-  pub scripts_unread : (genesis : Genesis) (key : LmsPrivate) (ring : RingFile) → SayGenesisAndKey told names member genesis key
-      → SaysFile (ring_file_of_member member) told (file_name names (Ring member)) ring
-      → IsFirstScriptFault now mid high names fault → IsMemberFault told low high names member fault
+  pub scripts_unread : (genesis : Genesis) (key : LmsPrivate) (ring : RingFile) → SayGenesisAndKey told names device genesis key
+      → SaysFile (ring_file_of_member device.member) told (file_name names (Ring device.member)) ring
+      → IsFirstScriptFault now mid high names fault → IsMemberFault told low high names device fault
   scripts_unread genesis key ring say says why = no_scripts say says (record {
     read = why.read;
     each = subst (λ (o : Option (List NamedFile)). SayScripts o names 1 why.read) same why.each;

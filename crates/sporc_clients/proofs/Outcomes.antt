@@ -2,6 +2,7 @@
 use Rattle.std.proofs.Common.{◌≡◌, ℕ, ◌≤◌, List, ◌∷◌, length, Option, option_map, Result, Ok, Err, ap, subst, arith, ◌∙◌}
 use Rattle.std.specs.Prelude.{⊤}
 use Rattle.lms_tree.specs.LmsPrivate.{LmsPrivate}
+use Rattle.sporc_member.specs.declared.device.Device.{Device}
 use Rattle.sporc_outside.specs.Files.{IsDiskOf}
 use Rattle.sporc_outside.specs.declared.named_file.NamedFile.{NamedFile}
 use Rattle.sporc_words.specs.declared.client.Client.{Client as Words}
@@ -30,71 +31,71 @@ use Rattle.sporc_clients.specs.MemberFiles.{IsMemberFault, SayMember}
 use Rattle.sporc_clients.specs.Outcome.{ClientOutcome, ClientUse, DiskView, names_of}
 
 -- the disk was not lent by a folder whose count of faults had risen before
-lend_later : (told : Option (List NamedFile)) (low mid high : ℕ) (names : FileNames) (member : ℕ) (fault : Fault) → low ≤ mid
-    → IsLendFault told mid high names member fault → IsLendFault told low high names member fault
-lend_later told low mid high names member faults.Memory more any = tt
-lend_later told low mid high names member faults.Words more never = never
-lend_later told low mid high names member (faults.Missing f) more why = why
-lend_later told low mid high names member (faults.Exists f) more never = never
-lend_later told low mid high names member (faults.TooLong f) more why = why
-lend_later told low mid high names member (faults.Malformed f at) more never = never
-lend_later told low mid high names member (faults.Line l) more never = never
-lend_later told low mid high names member (faults.EditorLine e l) more never = never
-lend_later told low mid high names member faults.LongScript more never = never
-lend_later told low mid high names member (faults.Refused p r) more never = never
-lend_later told low mid high names member (faults.Rejected r) more never = never
-lend_later told low mid high names member (faults.Hints h) more never = never
-lend_later told low mid high names member (faults.Opening o) more never = never
-lend_later told low mid high names member (faults.Unsettled n p) more never = never
-lend_later told low mid high names member (faults.LinkEnded t) more never = never
-lend_later told low mid high names member faults.Outside more rose = omega (arith, rose, more)
-lend_later told low mid high names member (faults.Leaf n) more never = never
-lend_later told low mid high names member faults.FullHistory more never = never
-lend_later told low mid high names member faults.FullJournal more never = never
-lend_later told low mid high names member faults.FullFile more never = never
-lend_later told low mid high names member faults.Worn more never = never
-lend_later told low mid high names member (faults.Message at) more never = never
-lend_later told low mid high names member (faults.Edit e l f) more never = never
-lend_later told low mid high names member (faults.Ahead len) more never = never
+lend_later : (told : Option (List NamedFile)) (low mid high : ℕ) (names : FileNames) (device : Device) (fault : Fault) → low ≤ mid
+    → IsLendFault told mid high names device fault → IsLendFault told low high names device fault
+lend_later told low mid high names device faults.Memory more any = tt
+lend_later told low mid high names device faults.Words more never = never
+lend_later told low mid high names device (faults.Missing f) more why = why
+lend_later told low mid high names device (faults.Exists f) more never = never
+lend_later told low mid high names device (faults.TooLong f) more why = why
+lend_later told low mid high names device (faults.Malformed f at) more never = never
+lend_later told low mid high names device (faults.Line l) more never = never
+lend_later told low mid high names device (faults.EditorLine e l) more never = never
+lend_later told low mid high names device faults.LongScript more never = never
+lend_later told low mid high names device (faults.Refused p r) more never = never
+lend_later told low mid high names device (faults.Rejected r) more never = never
+lend_later told low mid high names device (faults.Hints h) more never = never
+lend_later told low mid high names device (faults.Opening o) more never = never
+lend_later told low mid high names device (faults.Unsettled n p) more never = never
+lend_later told low mid high names device (faults.LinkEnded t) more never = never
+lend_later told low mid high names device faults.Outside more rose = omega (arith, rose, more)
+lend_later told low mid high names device (faults.Leaf n) more never = never
+lend_later told low mid high names device faults.FullHistory more never = never
+lend_later told low mid high names device faults.FullJournal more never = never
+lend_later told low mid high names device faults.FullFile more never = never
+lend_later told low mid high names device faults.Worn more never = never
+lend_later told low mid high names device (faults.Message at) more never = never
+lend_later told low mid high names device (faults.Edit e l f) more never = never
+lend_later told low mid high names device (faults.Ahead len) more never = never
 
 -- with other words for its names, its files, and the count of the member's editors
 module _ (told now : Option (List NamedFile)) (names : FileNames) (words : Words) (same : now ≡ told) (named : names ≡ names_of words) where
-  pub lend_fault : (low mid high : ℕ) (fault : Fault) → low ≤ mid → IsLendFault now mid high names words.member fault → IsLendFault told low high (names_of words) words.member fault
+  pub lend_fault : (low mid high : ℕ) (fault : Fault) → low ≤ mid → IsLendFault now mid high names words.device fault → IsLendFault told low high (names_of words) words.device fault
   lend_fault low mid high fault more why =
-      lend_later told low mid high (names_of words) words.member fault more
-      (subst (λ (n : FileNames). IsLendFault told mid high n words.member fault) named
-      (subst (λ (o : Option (List NamedFile)). IsLendFault o mid high names words.member fault) same why))
+      lend_later told low mid high (names_of words) words.device fault more
+      (subst (λ (n : FileNames). IsLendFault told mid high n words.device fault) named
+      (subst (λ (o : Option (List NamedFile)). IsLendFault o mid high names words.device fault) same why))
 
-  pub disk_of : (stored : Option (List ℕ)) → IsDiskOf now (file_name names (Leaf words.member)) stored → IsDiskOf told (file_name (names_of words) (Leaf words.member)) stored
+  pub disk_of : (stored : Option (List ℕ)) → IsDiskOf now (file_name names (Leaf words.device)) stored → IsDiskOf told (file_name (names_of words) (Leaf words.device)) stored
   disk_of stored is =
-      subst (λ (n : FileNames). IsDiskOf told (file_name n (Leaf words.member)) stored) named
-      (subst (λ (o : Option (List NamedFile)). IsDiskOf o (file_name names (Leaf words.member)) stored) same is)
+      subst (λ (n : FileNames). IsDiskOf told (file_name n (Leaf words.device)) stored) named
+      (subst (λ (o : Option (List NamedFile)). IsDiskOf o (file_name names (Leaf words.device)) stored) same is)
 
 module _ (told : Option (List NamedFile)) (names : FileNames) (words : Words) (named : names ≡ names_of words) where
-  pub member_fault : (low high : ℕ) (fault : Fault) → IsMemberFault told low high names words.member fault → IsMemberFault told low high (names_of words) words.member fault
-  member_fault low high fault why = subst (λ (n : FileNames). IsMemberFault told low high n words.member fault) named why
+  pub member_fault : (low high : ℕ) (fault : Fault) → IsMemberFault told low high names words.device fault → IsMemberFault told low high (names_of words) words.device fault
+  member_fault low high fault why = subst (λ (n : FileNames). IsMemberFault told low high n words.device fault) named why
 
-  pub member_says : (count : ℕ) (m : MemberFiles) → count ≡ length words.scripts → SayMember told names words.member count m
-      → SayMember told (names_of words) words.member (length words.scripts) m
+  pub member_says : (count : ℕ) (m : MemberFiles) → count ≡ length words.scripts → SayMember told names words.device count m
+      → SayMember told (names_of words) words.device (length words.scripts) m
   member_says count m all say =
-      subst (λ (n : ℕ). SayMember told (names_of words) words.member n m) all
-      (subst (λ (n : FileNames). SayMember told n words.member count m) named say)
+      subst (λ (n : ℕ). SayMember told (names_of words) words.device n m) all
+      (subst (λ (n : FileNames). SayMember told n words.device count m) named say)
 
-  pub history_fault : (low high : ℕ) (fault : Fault) → IsFileFault any_bytes told low high names (History words.member) fault
-      → IsFileFault any_bytes told low high (names_of words) (History words.member) fault
-  history_fault low high fault why = subst (λ (n : FileNames). IsFileFault any_bytes told low high n (History words.member) fault) named why
+  pub history_fault : (low high : ℕ) (fault : Fault) → IsFileFault any_bytes told low high names (History words.device) fault
+      → IsFileFault any_bytes told low high (names_of words) (History words.device) fault
+  history_fault low high fault why = subst (λ (n : FileNames). IsFileFault any_bytes told low high n (History words.device) fault) named why
 
-  pub history_says : (history : Option (List ℕ)) → SaysFileIfThere any_bytes told (file_name names (History words.member)) history
-      → SaysFileIfThere any_bytes told (file_name (names_of words) (History words.member)) history
-  history_says history says = subst (λ (n : FileNames). SaysFileIfThere any_bytes told (file_name n (History words.member)) history) named says
+  pub history_says : (history : Option (List ℕ)) → SaysFileIfThere any_bytes told (file_name names (History words.device)) history
+      → SaysFileIfThere any_bytes told (file_name (names_of words) (History words.device)) history
+  history_says history says = subst (λ (n : FileNames). SaysFileIfThere any_bytes told (file_name n (History words.device)) history) named says
 
 -- the disk is out, of a folder that had lent as much as before
 pub lent_at : (last lends read first : Option (List (List ℕ))) (names : FileNames) (words : Words) → last ≡ lends
-    → lends ≡ option_map (λ lent. file_name names (Leaf words.member) ∷ lent) read → read ≡ first → names ≡ names_of words
-    → last ≡ option_map (λ lent. file_name (names_of words) (Leaf words.member) ∷ lent) first
+    → lends ≡ option_map (λ lent. file_name names (Leaf words.device) ∷ lent) read → read ≡ first → names ≡ names_of words
+    → last ≡ option_map (λ lent. file_name (names_of words) (Leaf words.device) ∷ lent) first
 lent_at last lends read first names words stays lent same named =
-    stays ∙ lent ∙ ap (λ (o : Option (List (List ℕ))). option_map (λ lent. file_name names (Leaf words.member) ∷ lent) o) same
-    ∙ ap (λ (n : FileNames). option_map (λ lent. file_name n (Leaf words.member) ∷ lent) first) named
+    stays ∙ lent ∙ ap (λ (o : Option (List (List ℕ))). option_map (λ lent. file_name names (Leaf words.device) ∷ lent) o) same
+    ∙ ap (λ (n : FileNames). option_map (λ lent. file_name n (Leaf words.device) ∷ lent) first) named
 
 -- the exit of a `?`
 pub ends_so : {L D : Type 0} (view : LinkView L) (disks : DiskView D) (words : Words) (did : ClientUse L) (r : Result ⊤ Fault) (y fault : Fault) → r ≡ Err y → y ≡ fault
@@ -104,26 +105,26 @@ ends_so view disks words did r y fault is same ended = rw (is, same) ended
 -- ---- a session
 
 -- with other words for the address, the editors and the key
-module _ {L : Type 0} (view : LinkView L) (genesis : Genesis) (member : ℕ) (ring : RingFile) (address told : List ℕ) (history : Option (List ℕ)) (old new : NetTold L) (same : told ≡ address) where
+module _ {L : Type 0} (view : LinkView L) (genesis : Genesis) (device : Device) (ring : RingFile) (address told : List ℕ) (history : Option (List ℕ)) (old new : NetTold L) (same : told ≡ address) where
   pub attended_at : (rounds until : ℕ) (editors shown : List (List EditorLine)) (key own : LmsPrivate) (leaf : ℕ) (past : Past) (chance chance' : ChanceTold) (session : Result ⊤ SessionFault)
       → shown ≡ editors → own ≡ key
-      → IsAttended view (record { genesis = genesis; member = member; ring = ring; address = told }) history old new (record { rounds = rounds; until = until; editors = shown })
+      → IsAttended view (record { genesis = genesis; device = device; ring = ring; address = told }) history old new (record { rounds = rounds; until = until; editors = shown })
       (record { key = own; first_leaf = leaf }) past chance chance' session
-      → IsAttended view (record { genesis = genesis; member = member; ring = ring; address = address }) history old new (record { rounds = rounds; until = until; editors = editors })
+      → IsAttended view (record { genesis = genesis; device = device; ring = ring; address = address }) history old new (record { rounds = rounds; until = until; editors = editors })
       (record { key = key; first_leaf = leaf }) past chance chance' session
   attended_at rounds until editors shown key own leaf past chance chance' session all signs attended =
-      subst (λ (a : List ℕ). IsAttended view (record { genesis = genesis; member = member; ring = ring; address = a }) history old new
+      subst (λ (a : List ℕ). IsAttended view (record { genesis = genesis; device = device; ring = ring; address = a }) history old new
       (record { rounds = rounds; until = until; editors = editors }) (record { key = key; first_leaf = leaf }) past chance chance' session) same
-      (subst (λ (es : List (List EditorLine)). IsAttended view (record { genesis = genesis; member = member; ring = ring; address = told }) history old new
+      (subst (λ (es : List (List EditorLine)). IsAttended view (record { genesis = genesis; device = device; ring = ring; address = told }) history old new
       (record { rounds = rounds; until = until; editors = es }) (record { key = key; first_leaf = leaf }) past chance chance' session) all
-      (subst (λ (k : LmsPrivate). IsAttended view (record { genesis = genesis; member = member; ring = ring; address = told }) history old new
+      (subst (λ (k : LmsPrivate). IsAttended view (record { genesis = genesis; device = device; ring = ring; address = told }) history old new
       (record { rounds = rounds; until = until; editors = shown }) (record { key = k; first_leaf = leaf }) past chance chance' session) signs attended))
 
   pub not_attended_at : (before after : ℕ) (fault : AttendFault)
-      → NotAttended view (record { genesis = genesis; member = member; ring = ring; address = told }) history old new before after fault
-      → NotAttended view (record { genesis = genesis; member = member; ring = ring; address = address }) history old new before after fault
+      → NotAttended view (record { genesis = genesis; device = device; ring = ring; address = told }) history old new before after fault
+      → NotAttended view (record { genesis = genesis; device = device; ring = ring; address = address }) history old new before after fault
   not_attended_at before after fault why =
-      subst (λ (a : List ℕ). NotAttended view (record { genesis = genesis; member = member; ring = ring; address = a }) history old new before after fault) same why
+      subst (λ (a : List ℕ). NotAttended view (record { genesis = genesis; device = device; ring = ring; address = a }) history old new before after fault) same why
 
 -- what was saved by a folder whose count of faults had risen before
 saved_later : (past : Past) (name : List ℕ) (told new : Option (List NamedFile)) (low mid high : ℕ) (result : Result ⊤ KeepFault) → low ≤ mid

@@ -1,6 +1,7 @@
 -- What the faults of the crates below are for the command.
 use Rattle.std.specs.Prelude.{ℕ, ◌==◌, Bool, true, false, ◌||◌, Result, Ok, Err, ⊤, if◌then◌else◌}
 use Rattle.lms_leaf.specs.declared.faults.LeafFault.TheVariants as leaves
+use Rattle.sporc_member.specs.declared.device.Device.{Device}
 use Rattle.sporc_store.specs.declared.stop.Stop.{Stop}
 use Rattle.sporc_store.specs.declared.stop.Stop.TheVariants as stops
 use Rattle.sporc_shared.specs.declared.fault.SessionFault.{SessionFault}
@@ -53,19 +54,19 @@ fault_of_opening (opening.Hints fault) = fault_of_joining fault
 fault_of_opening (opening.Line fault) = fault_of_line fault
 fault_of_opening opening.Memory = faults.Memory
 
--- where the loading of a member's saved history stopped; before its end, so that the end is none
-abbrev pub fault_of_stop : ℕ → Stop → Fault
-fault_of_stop member stops.End = faults.Memory
-fault_of_stop member stops.Foreign = faults.Malformed (History member) 0
-fault_of_stop member (stops.Cut at) = faults.Malformed (History member) at
-fault_of_stop member (stops.Refused position refusal) = faults.Refused position refusal
+-- where the loading of a device's saved history stopped; before its end, so that the end is none
+abbrev pub fault_of_stop : Device → Stop → Fault
+fault_of_stop device stops.End = faults.Memory
+fault_of_stop device stops.Foreign = faults.Malformed (History device) 0
+fault_of_stop device (stops.Cut at) = faults.Malformed (History device) at
+fault_of_stop device (stops.Refused position refusal) = faults.Refused position refusal
 
 -- why no session began
-abbrev pub fault_of_attending : ℕ → AttendFault → Fault
-fault_of_attending member (attending.Open fault) = fault_of_opening fault
-fault_of_attending member (attending.Stopped stop) = fault_of_stop member stop
-fault_of_attending member attending.Unreached = faults.Outside
-fault_of_attending member attending.Memory = faults.Memory
+abbrev pub fault_of_attending : Device → AttendFault → Fault
+fault_of_attending device (attending.Open fault) = fault_of_opening fault
+fault_of_attending device (attending.Stopped stop) = fault_of_stop device stop
+fault_of_attending device attending.Unreached = faults.Outside
+fault_of_attending device attending.Memory = faults.Memory
 
 -- why the history was not saved
 abbrev pub fault_of_keeping : KeepFault → Fault

@@ -1,9 +1,10 @@
--- What the files of a member say before a session.
+-- What the files of a member's device say before a session.
 use Rattle.std.specs.Prelude.{◌≡◌, ◌≤◌, ℕ, ◌+◌, List, [], ◌∷◌, length, map, Option, ⊤}
 use Rattle.sporc_outside.specs.Files.{HasFile}
 use Rattle.sporc_outside.specs.declared.file_fault.TheConstants.{MAX_FILE}
 use Rattle.sporc_outside.specs.declared.named_file.NamedFile.{NamedFile}
 use Rattle.lms_tree.specs.LmsPrivate.{LmsPrivate}
+use Rattle.sporc_member.specs.declared.device.Device.{Device}
 use Rattle.sporc_entry.specs.declared.genesis.Genesis.{Genesis}
 use Rattle.sporc_keys.specs.declared.ring_file.RingFile.{RingFile}
 use Rattle.sporc_keys.specs.RingFile.{ring_file_of_member}
@@ -51,31 +52,31 @@ pub record IsFirstScriptFault (files : Option (List NamedFile)) (before after : 
   pub each : SayScripts files names 1 read
   pub fault_is : IsScriptFault files before after names (length read + 1) fault
 
--- ---- a member's files
+-- ---- the files of a device
 
--- the genesis, the key and the ring of a member, and the scripts of so many editors
-abbrev pub own_files : ℕ → ℕ → List File
-own_files member count = GenesisFile ∷ Key member ∷ Ring member ∷ script_files count
+-- the genesis, the key of a device, the ring of its member, and the scripts of so many editors
+abbrev pub own_files : Device → ℕ → List File
+own_files device count = GenesisFile ∷ Key device ∷ Ring device.member ∷ script_files count
 
--- told files say this of a member, and of the scripts of so many editors
-pub record SayMember (files : Option (List NamedFile)) (names : FileNames) (member count : ℕ) (m : MemberFiles) : Type 0 where
+-- told files say this of a device, and of the scripts of so many editors
+pub record SayMember (files : Option (List NamedFile)) (names : FileNames) (device : Device) (count : ℕ) (m : MemberFiles) : Type 0 where
   pub genesis : SaysFile genesis_file files (file_name names GenesisFile) m.genesis
-  pub key : SaysFile (own_key_file m.genesis.founders member) files (file_name names (Key member)) m.tree
-  pub ring : SaysFile (ring_file_of_member member) files (file_name names (Ring member)) m.ring
+  pub key : SaysFile (own_key_file m.genesis.founders device) files (file_name names (Key device)) m.tree
+  pub ring : SaysFile (ring_file_of_member device.member) files (file_name names (Ring device.member)) m.ring
   pub editors : SayAllScripts files names count m.editors
 
--- what the genesis and the key of a member say
-pub record SayGenesisAndKey (files : Option (List NamedFile)) (names : FileNames) (member : ℕ) (genesis : Genesis) (key : LmsPrivate) : Type 0 where
+-- what the genesis and the key of a device say
+pub record SayGenesisAndKey (files : Option (List NamedFile)) (names : FileNames) (device : Device) (genesis : Genesis) (key : LmsPrivate) : Type 0 where
   pub genesis_says : SaysFile genesis_file files (file_name names GenesisFile) genesis
-  pub key_says : SaysFile (own_key_file genesis.founders member) files (file_name names (Key member)) key
+  pub key_says : SaysFile (own_key_file genesis.founders device) files (file_name names (Key device)) key
 
 -- the first file that was not read, behind those before it
-pub data IsMemberFault (files : Option (List NamedFile)) (before after : ℕ) (names : FileNames) (member : ℕ) (fault : Fault) : Type 0 where
-  no_genesis : IsFileFault genesis_file files before after names GenesisFile fault → IsMemberFault files before after names member fault
+pub data IsMemberFault (files : Option (List NamedFile)) (before after : ℕ) (names : FileNames) (device : Device) (fault : Fault) : Type 0 where
+  no_genesis : IsFileFault genesis_file files before after names GenesisFile fault → IsMemberFault files before after names device fault
   no_key : {genesis : Genesis} → SaysFile genesis_file files (file_name names GenesisFile) genesis
-      → IsFileFault (own_key_file genesis.founders member) files before after names (Key member) fault → IsMemberFault files before after names member fault
-  no_ring : {genesis : Genesis} {key : LmsPrivate} → SayGenesisAndKey files names member genesis key
-      → IsFileFault (ring_file_of_member member) files before after names (Ring member) fault → IsMemberFault files before after names member fault
-  no_scripts : {genesis : Genesis} {key : LmsPrivate} {ring : RingFile} → SayGenesisAndKey files names member genesis key
-      → SaysFile (ring_file_of_member member) files (file_name names (Ring member)) ring
-      → IsFirstScriptFault files before after names fault → IsMemberFault files before after names member fault
+      → IsFileFault (own_key_file genesis.founders device) files before after names (Key device) fault → IsMemberFault files before after names device fault
+  no_ring : {genesis : Genesis} {key : LmsPrivate} → SayGenesisAndKey files names device genesis key
+      → IsFileFault (ring_file_of_member device.member) files before after names (Ring device.member) fault → IsMemberFault files before after names device fault
+  no_scripts : {genesis : Genesis} {key : LmsPrivate} {ring : RingFile} → SayGenesisAndKey files names device genesis key
+      → SaysFile (ring_file_of_member device.member) files (file_name names (Ring device.member)) ring
+      → IsFirstScriptFault files before after names fault → IsMemberFault files before after names device fault

@@ -2,6 +2,7 @@
 use Rattle.std.specs.Prelude.{◌≡◌, ◌≤◌, ℕ, List, [], ◌∷◌, ◌++◌, length, Option, option_map, Result, Err, ⊤}
 use Rattle.lms_leaf.specs.Leaves.{LeavesModel}
 use Rattle.lms_tree.specs.LmsType.{height_of}
+use Rattle.sporc_member.specs.declared.device.Device.{Device}
 use Rattle.sporc_outside.specs.Counts.{count_of_both}
 use Rattle.sporc_outside.specs.Files.{IsDiskOf, TakesBack}
 use Rattle.sporc_outside.specs.Uses.{IsUnwritten, SinkUse}
@@ -99,15 +100,15 @@ chance_after did = record { given = did.chance.given_after; faults = did.chance.
 
 -- the names of its files
 abbrev pub names_of : Words → FileNames
-names_of words = record { document = words.name; scripts = words.scripts }
+names_of words = record { document = words.name; others = words.scripts }
 
--- the files that it asks its folder for, of a member and of so many editors
-abbrev pub client_files : ℕ → ℕ → List File
-client_files member scripts = own_files member scripts ++ Leaf member ∷ History member ∷ []
+-- the files that it asks its folder for, of a device and of so many editors
+abbrev pub client_files : Device → ℕ → List File
+client_files device scripts = own_files device scripts ++ Leaf device ∷ History device ∷ []
 
--- what the member's line is opened by
+-- what the line of the member's device is opened by
 abbrev pub begin_of : Words → MemberFiles → Begin
-begin_of words m = record { genesis = m.genesis; member = words.member; ring = m.ring; address = words.address }
+begin_of words m = record { genesis = m.genesis; device = words.device; ring = m.ring; address = words.address }
 
 -- the session
 abbrev pub plan_of : Words → MemberFiles → Plan
@@ -123,7 +124,7 @@ module _ {L D : Type 0} (view : LinkView L) (disks : DiskView D) (words : Words)
   -- The member's leaves go on behind the last block that is taken on this disk, and this is its saved history, if it has one
   pub record IsReady (first : D) (leaves : LeavesModel D) (history : Option (List ℕ)) : Type 0 where
     pub opened : IsOpened (disks.stored first) (disks.stored leaves.disk) leaves
-    pub says : SaysFileIfThere any_bytes did.folder.files_before (file_name (names_of words) (History words.member)) history
+    pub says : SaysFileIfThere any_bytes did.folder.files_before (file_name (names_of words) (History words.device)) history
 
   -- A session led the member's client from its saved history to a last past. However it ended, the history of that past was saved, and its journal
   -- and report were printed, and then the answer is the first fault: out of memory at one of these two, that of the session, of saving, or of printing
@@ -137,7 +138,7 @@ module _ {L D : Type 0} (view : LinkView L) (disks : DiskView D) (words : Words)
         (chance_before did) (chance_after did) session
     pub causes : RoseIfFailed (counts_of did) session
     pub saved : Result ⊤ KeepFault
-    pub saves : SaveOutcome past (file_name (names_of words) (History words.member)) (files_of did) saved
+    pub saves : SaveOutcome past (file_name (names_of words) (History words.device)) (files_of did) saved
     pub printed : Result ⊤ PrintFault
     pub prints : PrintOutcome past did.out printed
     pub taken : LeavesAreTaken (disks.images last) past
@@ -146,14 +147,14 @@ module _ {L D : Type 0} (view : LinkView L) (disks : DiskView D) (words : Words)
   -- why no session began: the leaf file is none of the key's; behind its opening, the saved history was not read; or the client could not go on
   -- with it
   pub data NotWorked (first last : D) (fault : Fault) : Type 0 where
-    no_leaves : IsLeafFileFault (disks.stored first) (disks.faults first) (disks.faults last) words.member (height_of m.tree.lms) fault
+    no_leaves : IsLeafFileFault (disks.stored first) (disks.faults first) (disks.faults last) words.device (height_of m.tree.lms) fault
         → did.net.after ≡ did.net.before → NotWorked first last fault
     no_history : {leaves : LeavesModel D} → IsOpened (disks.stored first) (disks.stored leaves.disk) leaves
-        → IsFileFault any_bytes did.folder.files_before did.folder.faults_before did.folder.faults_after (names_of words) (History words.member) fault
+        → IsFileFault any_bytes did.folder.files_before did.folder.faults_before did.folder.faults_after (names_of words) (History words.device) fault
         → did.net.after ≡ did.net.before → NotWorked first last fault
     no_session : {leaves : LeavesModel D} {history : Option (List ℕ)} {cause : AttendFault} → IsReady first leaves history
         → NotAttended view (begin_of words m) history did.net.before did.net.after did.net.faults_before did.net.faults_after cause
-        → fault ≡ fault_of_attending words.member cause → NotWorked first last fault
+        → fault ≡ fault_of_attending words.device cause → NotWorked first last fault
 
   -- by the answer
   pub data DiskOutcome (first last : D) : Result ⊤ Fault → Type 0 where
@@ -181,16 +182,16 @@ with_folder did during = record { out = did.out; folder = during; net = did.net;
 module _ {L D : Type 0} (view : LinkView L) (disks : DiskView D) (words : Words) (did : ClientUse L) where
   -- what told files say of the member and its editors
   abbrev pub Say : MemberFiles → Type 0
-  Say m = SayMember did.folder.files_before (names_of words) words.member (length words.scripts) m
+  Say m = SayMember did.folder.files_before (names_of words) words.device (length words.scripts) m
 
   -- What the command did, by its answer: a file of the member was the first that was not read, the disk of its leaf file was not lent, or the
   -- member worked over that disk
   pub data ClientOutcome : Result ⊤ Fault → Type 0 where
-    no_member : {fault : Fault} → IsMemberFault did.folder.files_before did.folder.faults_before did.folder.faults_after (names_of words) words.member fault
+    no_member : {fault : Fault} → IsMemberFault did.folder.files_before did.folder.faults_before did.folder.faults_after (names_of words) words.device fault
         → did.net.after ≡ did.net.before → IsUntouched did → ClientOutcome (Err fault)
     no_disk : {fault : Fault} (m : MemberFiles) → Say m
-        → IsLendFault did.folder.files_before did.folder.faults_before did.folder.faults_after (names_of words) words.member fault
+        → IsLendFault did.folder.files_before did.folder.faults_before did.folder.faults_after (names_of words) words.device fault
         → did.net.after ≡ did.net.before → IsUntouched did → ClientOutcome (Err fault)
     over_disk : {answer : Result ⊤ Fault} (m : MemberFiles) (first last : D) (during : FolderUse) → Say m
-        → LendsDisk disks (file_name (names_of words) (Leaf words.member)) did.folder during first last
+        → LendsDisk disks (file_name (names_of words) (Leaf words.device)) did.folder during first last
         → DiskOutcome view disks words m (with_folder did during) first last answer → ClientOutcome answer

@@ -5,6 +5,7 @@ ghost use Rattle.sporc_clients.specs.Causes.{fault_of_attending, fault_of_disk, 
 
 use lms_leaf::LeafFault;
 use sporc_files::{Fault, File};
+use sporc_member::Device;
 use sporc_sessions::{AttendFault, HintsFault, KeepFault, OpenFault, PrintFault};
 use sporc_shared::SessionFault;
 use sporc_store::Stop;
@@ -63,25 +64,25 @@ fn opening_fault(fault: OpenFault) -> Fault
     }
 }
 
-// What it is that the loading of a member's saved history stopped before its end.
-fn stop_fault(member: u16, stop: Stop) -> Fault
-    ensures value { result ≡ fault_of_stop member stop }
+// What it is that the loading of a device's saved history stopped before its end.
+fn stop_fault(device: Device, stop: Stop) -> Fault
+    ensures value { result ≡ fault_of_stop device stop }
 {
     match stop {
         Stop::End => Fault::Memory,
-        Stop::Foreign => Fault::Malformed(File::History(member), 0),
-        Stop::Cut(at) => Fault::Malformed(File::History(member), at as u64),
+        Stop::Foreign => Fault::Malformed(File::History(device), 0),
+        Stop::Cut(at) => Fault::Malformed(File::History(device), at as u64),
         Stop::Refused(position, refusal) => Fault::Refused(position, refusal),
     }
 }
 
 // What it is that no session began.
-pub(crate) fn attend_fault(member: u16, fault: AttendFault) -> Fault
-    ensures value { result ≡ fault_of_attending member fault }
+pub(crate) fn attend_fault(device: Device, fault: AttendFault) -> Fault
+    ensures value { result ≡ fault_of_attending device fault }
 {
     match fault {
         AttendFault::Open(fault) => opening_fault(fault),
-        AttendFault::Stopped(stop) => stop_fault(member, stop),
+        AttendFault::Stopped(stop) => stop_fault(device, stop),
         AttendFault::Unreached => Fault::Outside,
         AttendFault::Memory => Fault::Memory,
     }

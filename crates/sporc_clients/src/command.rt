@@ -20,6 +20,7 @@ use crate::leaf_file::{lend_disk, open_signer};
 use crate::member_files::{MemberFiles, read_member};
 use lms_sign::Signer;
 use sporc_files::{Fault, File, Names, read_if_there};
+use sporc_member::Device;
 use sporc_outside::{Chance, Counted, Dial, Folder, Gate, LeafDisk, Sink};
 use sporc_sessions::{Concluded, Member, attend, conclude};
 use sporc_words::Client as Words;
@@ -27,7 +28,7 @@ use std::alloc::Global;
 use std::sync::Wait;
 use std::thread::Threads;
 
-/// Has a member work with the server at an address, beside its editors, then saves its history, and prints its journal and
+/// Has a member's device work with the server at an address, beside its editors, then saves its history, and prints its journal and
 /// report.
 pub fn client<
     R: Threads + Wait + Sync,
@@ -60,7 +61,7 @@ where
           chance = chance_use C.given C.faults chance.old chance.new;
         })
         result }
-    ensures files_may_ask { AsksOnly (map (file_name (names_of words.now)) (client_files words.now.member (length words.now.scripts))) (F.asked files.old) (F.asked files.new) }
+    ensures files_may_ask { AsksOnly (map (file_name (names_of words.now)) (client_files words.now.device (length words.now.scripts))) (F.asked files.old) (F.asked files.new) }
     ensures lent { F.lent files.new ≡ F.lent files.old }
     ensures files_kept { F.faults files.old ≤ F.faults files.new }
     ensures net_may_ask { AsksAtMost 2 (N.asked net.old) (N.asked net.new) words.now.address }
@@ -73,8 +74,8 @@ where
 {
     let names = names_of(words);
     let editors = words.scripts.as_slice().len() as u32;
-    let member = read_member(rt, alloc, files, &names, words.member, editors)?;
-    let disk = lend_disk(alloc, files, &names, words.member)?;
+    let member = read_member(rt, alloc, files, &names, words.device, editors)?;
+    let disk = lend_disk(alloc, files, &names, words.device)?;
     let (result, disk) = with_disk(
         rt, alloc, words, member, disk, out, files, net, chance, gate,
     );
@@ -84,7 +85,7 @@ where
     result
 }
 
-// Has a member work, over the disk of its leaf file, which comes back.
+// Has a member's device work, over the disk of its leaf file, which comes back.
 fn with_disk<
     R: Threads + Wait + Sync,
     D: LeafDisk + Send,
@@ -120,7 +121,7 @@ where
           chance = chance_use C.given C.faults chance.old chance.new;
         })
         disk result.1 result.0 }
-    ensures files_may_ask { AsksOnly (file_name (names_of words.now) (File.History words.now.member) ∷ []) (F.asked files.old) (F.asked files.new) }
+    ensures files_may_ask { AsksOnly (file_name (names_of words.now) (File.History words.now.device) ∷ []) (F.asked files.old) (F.asked files.new) }
     ensures lent { F.lent files.new ≡ F.lent files.old }
     ensures files_kept { F.faults files.old ≤ F.faults files.new }
     ensures net_may_ask { AsksAtMost (links_for_hints member.ring + 1) (N.asked net.old) (N.asked net.new) words.now.address }
@@ -137,18 +138,18 @@ where
         ring,
         editors,
     } = member;
-    let number = words.member;
-    let signer = match open_signer(alloc, disk, tree, number) {
+    let device = words.device;
+    let signer = match open_signer(alloc, disk, tree, device) {
         Ok(signer) => signer,
         Err((fault, disk)) => return (Err(fault), disk),
     };
-    let (saved, name) = match history_of(alloc, files, &names_of(words), number) {
+    let (saved, name) = match history_of(alloc, files, &names_of(words), device) {
         Ok(both) => both,
         Err(fault) => return (Err(fault), signer.close()),
     };
     let member = Member {
         genesis,
-        number,
+        device,
         ring,
     };
     match attend(
@@ -174,7 +175,7 @@ where
             } = conclude(alloc, ended, out, files, name.as_str());
             (first_fault(disk.faults(), session, saved, printed), disk)
         }
-        Err((fault, signer)) => (Err(attend_fault(number, fault)), signer.close()),
+        Err((fault, signer)) => (Err(attend_fault(device, fault)), signer.close()),
     }
 }
 
@@ -185,23 +186,23 @@ fn names_of(words: &Words) -> Names<'_>
     Names::new(words.name.as_str(), words.scripts.as_slice())
 }
 
-// The bytes of a member's saved history, if there is such a file, and its name.
+// The bytes of a device's saved history, if there is such a file, and its name.
 fn history_of<F: Folder>(
     alloc: Global,
     files: &mut F,
     names: &Names<'_>,
-    member: u16,
+    device: Device,
 ) -> Result<(Option<Vec<u8>>, String), Fault>
-    ensures ok { IfOk result (λ both. SaysFileIfThere any_bytes (F.files files.old) (file_name names.now (File.History member))
+    ensures ok { IfOk result (λ both. SaysFileIfThere any_bytes (F.files files.old) (file_name names.now (File.History device))
         (option_map (λ bytes. bytes.items) both.0)) }
-    ensures name { IfOk result (λ both. string_bytes both.1 ≡ file_name names.now (File.History member)) }
-    ensures err { IfErr result (IsFileFault any_bytes (F.files files.old) (F.faults files.old) (F.faults files.new) names.now (File.History member)) }
+    ensures name { IfOk result (λ both. string_bytes both.1 ≡ file_name names.now (File.History device)) }
+    ensures err { IfErr result (IsFileFault any_bytes (F.files files.old) (F.faults files.old) (F.faults files.new) names.now (File.History device)) }
     ensures files { F.files files.new ≡ F.files files.old }
     ensures lent { F.lent files.new ≡ F.lent files.old }
-    ensures may_ask { AsksOnly (file_name names.now (File.History member) ∷ []) (F.asked files.old) (F.asked files.new) }
+    ensures may_ask { AsksOnly (file_name names.now (File.History device) ∷ []) (F.asked files.old) (F.asked files.new) }
     ensures kept { F.faults files.old ≤ F.faults files.new }
 {
-    let file = File::History(member);
+    let file = File::History(device);
     let saved = read_if_there(alloc, files, names, file)?;
     let name = file.name(alloc, names)?;
     Ok((saved, name))

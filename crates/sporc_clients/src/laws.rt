@@ -1,6 +1,6 @@
 //! What holds of a leaf file over runs. Its functions do nothing.
 
-ghost use Rattle.std.specs.Prelude.{ℕ, List, IsSome, Result, ⊤};
+ghost use Rattle.std.specs.Prelude.{IsSome, Result, ⊤};
 ghost use Rattle.lms_leaf.specs.Lives.{IsLife};
 ghost use Rattle.sporc_files.specs.declared.fault.Fault.{Fault};
 ghost use Rattle.sporc_sessions.specs.Nets.{link_view};

@@ -1,4 +1,4 @@
-//! The leaf file of a member.
+//! The leaf file of a device.
 
 ghost use Rattle.std.specs.Prelude.{◌≡◌, ◌≤◌, [], ◌∷◌, IfErr, IfOk, OnErr, OnOk, option_map};
 ghost use Rattle.lms_leaf.specs.LeafFile.{IsLeafHeight};
@@ -13,26 +13,27 @@ use lms_leaf::{LeafOpenFault, Leaves};
 use lms_sign::Signer;
 use lms_tree::Tree;
 use sporc_files::{Fault, File, Names};
+use sporc_member::Device;
 use sporc_outside::{FileFault, Folder, LeafDisk};
 use std::alloc::Global;
 
-/// The disk of a member's leaf file.
+/// The disk of a device's leaf file.
 pub(crate) fn lend_disk<F: Folder>(
     alloc: Global,
     files: &mut F,
     names: &Names<'_>,
-    member: u16,
+    device: Device,
 ) -> Result<F::Disk, Fault>
-    ensures ok { IfOk result (λ disk. IsDiskOf (F.files files.old) (file_name names.now (File.Leaf member)) (F.Disk.stored disk)) }
+    ensures ok { IfOk result (λ disk. IsDiskOf (F.files files.old) (file_name names.now (File.Leaf device)) (F.Disk.stored disk)) }
     ensures fresh { IfOk result (λ disk. F.Disk.faults disk ≡ 0) }
-    ensures err { IfErr result (IsLendFault (F.files files.old) (F.faults files.old) (F.faults files.new) names.now member) }
+    ensures err { IfErr result (IsLendFault (F.files files.old) (F.faults files.old) (F.faults files.new) names.now device) }
     ensures files { F.files files.new ≡ F.files files.old }
-    ensures lent { OnOk result (F.lent files.new ≡ option_map (λ lent. file_name names.now (File.Leaf member) ∷ lent) (F.lent files.old)) }
+    ensures lent { OnOk result (F.lent files.new ≡ option_map (λ lent. file_name names.now (File.Leaf device) ∷ lent) (F.lent files.old)) }
     ensures not_lent { OnErr result (F.lent files.new ≡ F.lent files.old) }
-    ensures may_ask { AsksOnly (file_name names.now (File.Leaf member) ∷ []) (F.asked files.old) (F.asked files.new) }
+    ensures may_ask { AsksOnly (file_name names.now (File.Leaf device) ∷ []) (F.asked files.old) (F.asked files.new) }
     ensures kept { F.faults files.old ≤ F.faults files.new }
 {
-    let file = File::Leaf(member);
+    let file = File::Leaf(device);
     let name = file.name(alloc, names)?;
     match files.leaf_disk(name.as_str()) {
         Ok(disk) => Ok(disk),
@@ -43,19 +44,19 @@ pub(crate) fn lend_disk<F: Folder>(
     }
 }
 
-/// The signer of a member over the disk of its leaf file. A disk of another length is malformed at its length.
+/// The signer of a device over the disk of its leaf file. A disk of another length is malformed at its length.
 #[tactic(auto, using(crate::proofs::LeafFiles::keeps_passed, crate::proofs::LeafFiles::kept_to))]
 pub(crate) fn open_signer<D: LeafDisk>(
     alloc: Global,
     disk: D,
     tree: Tree,
-    member: u16,
+    device: Device,
 ) -> Result<Signer<D>, (Fault, D)>
     requires height { IsLeafHeight (height_of tree.lms) }
     ensures ok { IfOk result (λ signer. IsOpened (D.stored disk) (D.stored signer.leaves.disk) signer.leaves) }
     ensures key { IfOk result (λ signer. signer.key ≡ tree) }
     ensures kept { IfOk result (λ signer. KeepsPassed (D.images disk (D.moment disk)) (D.images signer.leaves.disk (D.moment signer.leaves.disk))) }
-    ensures err { IfErr result (λ e. IsLeafFileFault (D.stored disk) (D.faults disk) (D.faults e.1) member (height_of tree.lms) e.0) }
+    ensures err { IfErr result (λ e. IsLeafFileFault (D.stored disk) (D.faults disk) (D.faults e.1) device (height_of tree.lms) e.0) }
     ensures unwritten { IfErr result (λ e. D.stored e.1 ≡ D.stored disk) }
     ensures kept_back { IfErr result (λ e. KeepsPassed (D.images disk (D.moment disk)) (D.images e.1 (D.moment e.1))) }
 {
@@ -63,7 +64,7 @@ pub(crate) fn open_signer<D: LeafDisk>(
     match Leaves::open(alloc, disk, height) {
         Ok(leaves) => Ok(Signer::open(tree, leaves)),
         Err((LeafOpenFault::BadLength(len), disk)) => {
-            Err((Fault::Malformed(File::Leaf(member), len), disk))
+            Err((Fault::Malformed(File::Leaf(device), len), disk))
         }
         Err((LeafOpenFault::DiskFault, disk)) => Err((Fault::Outside, disk)),
         Err((LeafOpenFault::Memory, disk)) => Err((Fault::Memory, disk)),

@@ -1,4 +1,5 @@
-//! The command `client`: a member works with a server, beside its editors, and its journal, report and history are kept.
+//! The command `client`: a member's device works with a server, beside its editors, and its journal, report and history are
+//! kept.
 //!
 //! ```text
 //! client plan 4 here:7 --rounds 2 --until 1 hello.script      // hello.script: insert 0 "hello"
@@ -9,14 +10,14 @@
 //! 4 hash 5e..
 //! ```
 //!
-//! Proved: [`client`] does what `ClientOutcome` says, by its answer. The genesis, key, ring and scripts are what the member's
-//! files say; its client goes on with its saved history, over the leaves behind the last block that is taken in its leaf file;
-//! its session is one of `sporc_shared` over a link of its own; journal, report and history are those of the client behind it,
-//! saved and printed however the session ended, and the session's fault comes first, unless memory ran out at one of these.
-//! Where no session began, nothing is printed, no file has changed, and no word of the chance is taken; the fault names its
-//! cause. Whatever came of it, the files asked for are the member's and its editors' scripts, and no others; links are asked
-//! for at the address alone, two at most; each disk is back, and each link, shut; and no count of faults has fallen. Over runs
-//! one behind another no leaf signs twice ([`laws`]).
+//! Proved: [`client`] does what `ClientOutcome` says, by its answer. The genesis, the device's key, the member's ring and the
+//! scripts are what their files say; the device's client goes on with its saved history, over the leaves behind the last block
+//! that is taken in its leaf file; its session is one of `sporc_shared` over a link of its own; journal, report and history are
+//! those of the client behind it, saved and printed however the session ended, and the session's fault comes first, unless
+//! memory ran out at one of these. Where no session began, nothing is printed, no file has changed, and no word of the chance is
+//! taken; the fault names its cause. Whatever came of it, the files asked for are those of the device, the ring, the genesis and
+//! the scripts, and no others; links are asked for at the address alone, two at most; each disk is back, and each link, shut;
+//! and no count of faults has fallen. Over runs one behind another no leaf signs twice ([`laws`]).
 //!
 //! Only tested: two members who work with a server, each status that a session ends with, and each call outside failing in
 //! turn (`sporc_commands_tests`). Neither: that the server answers.

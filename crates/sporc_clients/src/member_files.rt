@@ -1,4 +1,4 @@
-//! The files that say who a member is and what its editors do.
+//! The files that say who a member's device is and what its editors do.
 
 ghost use Rattle.std.specs.Prelude.{◌≡◌, ◌≤◌, [], ◌∷◌, map, IfErr, IfOk};
 ghost use Rattle.lms_leaf.specs.LeafFile.{IsLeafHeight};
@@ -16,43 +16,44 @@ use sporc_files::{
     Fault, File, Names, read_bytes, read_genesis_file, read_own_key, read_ring_file,
 };
 use sporc_keys::RingFile;
+use sporc_member::Device;
 use sporc_outside::Folder;
 use sporc_script::{EditorScript, LineFault, read_editor};
 use std::alloc::Global;
 use std::thread::Threads;
 
-/// What the files of a member say, and its editors' scripts.
+/// What the files of a member's device say, and its editors' scripts.
 #[derive(Drop)]
 pub struct MemberFiles {
     pub genesis: Genesis,
-    /// The private key, with its tree.
+    /// The private key of the device, with its tree.
     pub tree: Tree,
     pub ring: RingFile,
     pub editors: Items<EditorScript>,
 }
 
-/// Reads the files of a member and the scripts of so many editors: the genesis, the key, the ring, and then the scripts. The
+/// Reads the files of a device and the scripts of so many editors: the genesis, its key, its member's ring, and then the scripts. The
 /// first that fails decides.
 pub fn read_member<R: Threads + Sync, F: Folder>(
     rt: &R,
     alloc: Global,
     files: &mut F,
     names: &Names<'_>,
-    member: u16,
+    device: Device,
     editors: u32,
 ) -> Result<MemberFiles, Fault>
-    ensures ok { IfOk result (SayMember (F.files files.old) names.now member editors) }
+    ensures ok { IfOk result (SayMember (F.files files.old) names.now device editors) }
     ensures genesis { IfOk result (λ m. IsGenesis m.genesis) }
     ensures height { IfOk result (λ m. IsLeafHeight (height_of m.tree.lms)) }
-    ensures err { IfErr result (IsMemberFault (F.files files.old) (F.faults files.old) (F.faults files.new) names.now member) }
+    ensures err { IfErr result (IsMemberFault (F.files files.old) (F.faults files.old) (F.faults files.new) names.now device) }
     ensures files { F.files files.new ≡ F.files files.old }
     ensures lent { F.lent files.new ≡ F.lent files.old }
-    ensures may_ask { AsksOnly (map (file_name names.now) (own_files member editors)) (F.asked files.old) (F.asked files.new) }
+    ensures may_ask { AsksOnly (map (file_name names.now) (own_files device editors)) (F.asked files.old) (F.asked files.new) }
     ensures kept { F.faults files.old ≤ F.faults files.new }
 {
     let genesis = read_genesis_file(alloc, files, names)?;
-    let tree = read_own_key(rt, alloc, files, names, member, &genesis)?;
-    let ring = read_ring_file(alloc, files, names, member)?;
+    let tree = read_own_key(rt, alloc, files, names, device, &genesis)?;
+    let ring = read_ring_file(alloc, files, names, device.member)?;
     let editors = read_scripts(alloc, files, names, editors)?;
     Ok(MemberFiles {
         genesis,

@@ -17,8 +17,8 @@ fn is_stopped(status: u8, written: &[u8], line: &[u8]) -> bool {
     status == 3 && is_same(written, line)
 }
 
-// A command that is done: what it writes ends with this.
-fn does<R: Threads + Wait + Sync + Abort>(
+/// A command that is done: what it writes ends with this.
+pub fn does<R: Threads + Wait + Sync + Abort>(
     rt: &R,
     alloc: Global,
     place: &mut Place,
@@ -29,8 +29,8 @@ fn does<R: Threads + Wait + Sync + Abort>(
     check(rt, words, is_done(status, written.as_slice(), end));
 }
 
-// A command that is stopped by a fault with this line.
-fn fails<R: Threads + Wait + Sync + Abort>(
+/// A command that is stopped by a fault with this line.
+pub fn fails<R: Threads + Wait + Sync + Abort>(
     rt: &R,
     alloc: Global,
     place: &mut Place,
@@ -41,8 +41,8 @@ fn fails<R: Threads + Wait + Sync + Abort>(
     check(rt, words, is_stopped(status, written.as_slice(), line));
 }
 
-// A place with one file.
-fn place_with(rt: &impl Abort, alloc: Global, name: &str, bytes: &[u8]) -> Place {
+/// A place with one file.
+pub fn place_with(rt: &impl Abort, alloc: Global, name: &str, bytes: &[u8]) -> Place {
     let file = named(rt, alloc, name, bytes);
     let files = vec![in alloc; file].expect(rt, "memory");
     Place::new(rt, alloc, files)
@@ -68,16 +68,16 @@ fn faults_are_told<R: Threads + Wait + Sync + Abort>(rt: &R, alloc: Global, plac
     fails(rt, alloc, place, "client D 1 a T", b"fault missing T\n");
 }
 
-// Whether these bytes stand in what was written.
-fn has_line(written: &[u8], line: &[u8]) -> bool {
+/// Whether these bytes stand in what was written.
+pub fn has_line(written: &[u8], line: &[u8]) -> bool {
     if line.is_empty() {
         return false;
     }
     written.windows(line.len()).any(|w| w == line)
 }
 
-// Whether a session ends well, and writes this line.
-fn has_worked<R: Threads + Wait + Sync + Abort>(
+/// Whether a session ends well, and writes this line.
+pub fn has_worked<R: Threads + Wait + Sync + Abort>(
     rt: &R,
     alloc: Global,
     place: &mut Place,

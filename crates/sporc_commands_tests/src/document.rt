@@ -1,4 +1,4 @@
-//! The files of the sample document, by the name `D`.
+//! The files of the sample document, by the name `D`, and those of another one.
 
 use crate::bytes::{append, bytes_of};
 use crate::place::named;
@@ -9,6 +9,9 @@ use sporc_samples::{Cast, DOCUMENT, History, epoch_key, insertion};
 use sporc_store::save;
 use std::alloc::Global;
 use std::process::Abort;
+
+// The number of another document.
+const OTHER: [u8; 16] = [8; 16];
 
 // The key file of member 2: a tree of height 5 with four bits a coefficient.
 fn key_file(rt: &impl Abort, alloc: Global) -> Vec<u8> {
@@ -71,9 +74,10 @@ pub fn history_file(rt: &impl Abort, alloc: Global, entries: &[Vec<u8>]) -> Vec<
     save(alloc, &DOCUMENT, entries).expect(rt, "a file")
 }
 
-// The bytes of the genesis.
-fn genesis_bytes(rt: &impl Abort, alloc: Global, cast: &Cast) -> Vec<u8> {
-    let genesis = cast.genesis(alloc).expect(rt, "a genesis");
+// The bytes of the genesis, as that of this document.
+fn genesis_bytes(rt: &impl Abort, alloc: Global, cast: &Cast, document: [u8; 16]) -> Vec<u8> {
+    let mut genesis = cast.genesis(alloc).expect(rt, "a genesis");
+    genesis.document = document;
     let bytes = write_genesis(alloc, &genesis).expect(rt, "memory");
     drop(genesis);
     bytes
@@ -87,7 +91,7 @@ fn add(rt: &impl Abort, alloc: Global, files: &mut Vec<NamedFile>, name: &str, b
 }
 
 fn add_genesis(rt: &impl Abort, alloc: Global, cast: &Cast, files: &mut Vec<NamedFile>) {
-    let genesis = genesis_bytes(rt, alloc, cast);
+    let genesis = genesis_bytes(rt, alloc, cast, DOCUMENT);
     add(rt, alloc, files, "D.genesis", genesis.as_slice());
 }
 
@@ -102,6 +106,17 @@ fn add_keys(rt: &impl Abort, alloc: Global, files: &mut Vec<NamedFile>) {
 fn add_scripts(rt: &impl Abort, alloc: Global, files: &mut Vec<NamedFile>) {
     add(rt, alloc, files, "insert", b"insert 0 \"x\"\n");
     add(rt, alloc, files, "drop", b"drop 1\n");
+}
+
+/// The genesis of another document of the same founders, by the name `E`.
+pub fn other_genesis(rt: &impl Abort, alloc: Global, cast: &Cast) -> NamedFile {
+    let genesis = genesis_bytes(rt, alloc, cast, OTHER);
+    named(rt, alloc, "E.genesis", genesis.as_slice())
+}
+
+/// The file of no entries of that document.
+pub fn other_log(rt: &impl Abort, alloc: Global) -> Vec<u8> {
+    save(alloc, &OTHER, &[]).expect(rt, "a file")
 }
 
 /// The genesis and a log.

@@ -3,7 +3,7 @@
 
 use crate::checks::check_at;
 use crate::place::Object;
-use crate::{faults, servers, sessions};
+use crate::{faults, hosts, servers, sessions};
 use sporc_samples::count_calls;
 use std::alloc::Global;
 use std::process::Abort;
@@ -16,6 +16,7 @@ enum Command {
     Play,
     Serve(servers::Scene),
     Client(sessions::Scene),
+    ServeAll(hosts::Scene),
 }
 
 // Whether a run ends well where this call of an object is to fail, since it makes no such call. Else the fault is told, and what
@@ -31,6 +32,7 @@ fn ends_without<R: Threads + Wait + Sync + Abort>(
         Command::Play => faults::ends_without(rt, alloc, object, call),
         Command::Serve(scene) => servers::ends_without(rt, alloc, scene, object, call),
         Command::Client(scene) => sessions::ends_without(rt, alloc, scene, object, call),
+        Command::ServeAll(scene) => hosts::ends_without(rt, alloc, scene, object, call),
     }
 }
 
@@ -95,6 +97,19 @@ const CLIENT: [Row; 7] = [
     (Object::Source, 0, 0),
 ];
 
+const SERVE_ALL: [Row; 7] = [
+    // genesis and log of both documents are read, and both logs are written
+    (Object::Files, 6, 6),
+    // a line for each
+    (Object::Out, 2, 2),
+    // as of one document
+    (Object::Net, 2, 2),
+    (Object::Link, 6, 9),
+    (Object::Source, 0, 0),
+    (Object::Disk, 0, 0),
+    (Object::Chance, 0, 0),
+];
+
 #[test]
 fn each_call_of_a_play_that_fails_is_told(rt: HostRuntime) {
     tells_each(&rt, rt.alloc(), &Command::Play, &PLAY);
@@ -110,4 +125,10 @@ fn each_call_of_a_server_that_fails_is_told(rt: HostRuntime) {
 fn each_call_of_a_client_that_fails_is_told(rt: HostRuntime) {
     let member = Command::Client(sessions::Scene::new(&rt, rt.alloc()));
     tells_each(&rt, rt.alloc(), &member, &CLIENT);
+}
+
+#[test]
+fn each_call_of_a_server_of_documents_that_fails_is_told(rt: HostRuntime) {
+    let server = Command::ServeAll(hosts::Scene::new(&rt, rt.alloc()));
+    tells_each(&rt, rt.alloc(), &server, &SERVE_ALL);
 }

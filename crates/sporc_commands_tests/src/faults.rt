@@ -61,7 +61,7 @@ const OUTSIDE: [(&str, &str); 24] = [
 ];
 
 // Words that ask for nothing.
-const OTHER_WORDS: [&str; 13] = [
+const OTHER_WORDS: [&str; 16] = [
     "paly",
     "",
     "play play",
@@ -75,6 +75,9 @@ const OTHER_WORDS: [&str; 13] = [
     "play --x",
     "keygen D 1 5",
     "check D 1 2",
+    "serve-all a --sessions 1",
+    "serve-all a --sessions 0 D",
+    "serve-all a D",
 ];
 
 fn is_outside<R: Threads + Wait + Sync + Abort>(rt: &R, alloc: Global, script: &str, line: &str) {

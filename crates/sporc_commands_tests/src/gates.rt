@@ -1,7 +1,7 @@
 //! Runs with a gate that holds a line of an editor and an accept until the other was come to, and that keeps what it was told:
 //! of lines and their editors, of entries that are loaded or examined and who does so, and of accepts.
 
-use crate::checks::{check, check_at};
+use crate::checks::check;
 use crate::document::{entries, history_file, of_member, of_server};
 use crate::place::Place;
 use sporc_outside::{Gate, PipeNet};

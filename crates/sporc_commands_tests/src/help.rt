@@ -14,7 +14,7 @@ use std::thread::Threads;
 // A command line, and the page that it shows.
 type Row = (&'static str, Page);
 
-const ROWS: [Row; 27] = [
+const ROWS: [Row; 29] = [
     ("help", Page::Overview),
     ("--help", Page::Overview),
     ("-h", Page::Overview),
@@ -38,6 +38,8 @@ const ROWS: [Row; 27] = [
     ("text --help", Page::Of(Verb::Text)),
     ("help entries", Page::Of(Verb::Entries)),
     ("entries --help", Page::Of(Verb::Entries)),
+    ("help serve-all", Page::Of(Verb::ServeAll)),
+    ("serve-all --help", Page::Of(Verb::ServeAll)),
     ("help help", Page::Help),
     ("help --help", Page::Help),
     ("help version", Page::Version),

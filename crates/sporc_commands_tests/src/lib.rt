@@ -2,12 +2,13 @@
 //! chance and nets in memory. They stand in a crate of their own, since a crate with tests is proved twice. No program stands on
 //! it.
 //!
-//! [`failing`] lets each object that `play`, `serve` and `client` are handed fail at each of its calls in turn: the command's
-//! scene stands in [`faults`], [`servers`] and [`sessions`]. [`lies`] has a member beside servers that lie, a row for each lie, and
+//! [`failing`] lets each object that `play`, `serve`, `client` and `serve-all` are handed fail at each of its calls in turn: the
+//! command's scene stands in [`faults`], [`servers`], [`sessions`] and [`hosts`]. [`lies`] has a member beside servers that lie, a row for each lie, and
 //! [`histories`] one whose files are wrong. [`faults`] compares the lines of faults of plays too, and [`plays`] has the longest script
 //! and the generated run. Worked plays are scripts of `examples/`. [`commands`] runs commands one after the other, [`gates`] a member
-//! and a server with gates that hold them, [`statuses`] shows the statuses that a session ends with, and [`help`] each page of the
-//! help, and a public key that is shown again.
+//! and a server with gates that hold them, [`devices`] two devices of one member, [`hosting`] members of several documents on
+//! one server, [`statuses`] shows the statuses that a session ends with, and [`help`] each page of the help, and a public key
+//! that is shown again.
 #![tactic(auto)]
 
 #[cfg(test)]
@@ -18,6 +19,8 @@ mod bytes;
 mod checks;
 #[cfg(test)]
 mod commands;
+#[cfg(test)]
+mod devices;
 #[cfg(test)]
 mod document;
 #[cfg(test)]
@@ -30,6 +33,10 @@ mod gates;
 mod help;
 #[cfg(test)]
 mod histories;
+#[cfg(test)]
+mod hosting;
+#[cfg(test)]
+mod hosts;
 #[cfg(test)]
 mod lies;
 #[cfg(test)]

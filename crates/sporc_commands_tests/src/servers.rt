@@ -17,10 +17,10 @@ use std::thread::Threads;
 /// a client sends that submits the second one.
 #[derive(Drop)]
 pub struct Scene {
-    files: Vec<NamedFile>,
-    old: Vec<u8>,
-    new: Vec<u8>,
-    stream: Vec<u8>,
+    pub files: Vec<NamedFile>,
+    pub old: Vec<u8>,
+    pub new: Vec<u8>,
+    pub stream: Vec<u8>,
 }
 
 // Hello, an entry, and a pull.

@@ -2,4 +2,5 @@ pub mod Written
 pub mod FileFaults
 pub mod FaultCases
 pub mod Asking
+pub mod NamesApart
 mod Examples

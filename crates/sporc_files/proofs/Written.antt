@@ -1,5 +1,10 @@
 -- Lines that are written in parts.
-use Rattle.std.proofs.Common.{◌≡◌, ℕ, suc, ◌<◌, List, ◌∷◌, ◌++◌, length, get_or, take, drop, Option, Result, Ok, Err, ap, sym, ◌∙◌, subst}
+use Rattle.std.proofs.Common.{◌≡◌, ◌≢◌, ℕ, suc, ◌<◌, List, ◌∷◌, ◌++◌, codes, length, get_or, take, drop, Option, Result, Ok, Err, refl, ap, sym, ◌∙◌, subst}
+use Rattle.std.specs.Fmt.{decimal}
+use Rattle.std.proofs.lemmas.Bool.{ne_eqb}
+use Rattle.sporc_member.specs.declared.device.Device.{Device}
+use Rattle.sporc_member.specs.declared.device.TheConstants.{FIRST_DEVICE}
+use Rattle.sporc_script.specs.Spelling.{device_text}
 use Rattle.std.specs.Result.{OnOk, OnErr}
 use Rattle.std.specs.List.{flat_map}
 use Rattle.std.specs.Io.KnownBytes.{Appends}
@@ -36,6 +41,10 @@ said a b x y same written = subst (λ (t : List ℕ). Appends a b t) same writte
 
 pub cut_as : (a b : Option (List ℕ)) (x y : List ℕ) → x ≡ y → AppendsPrefix a b x → AppendsPrefix a b y
 cut_as a b x y same written = subst (λ (t : List ℕ). AppendsPrefix a b t) same written
+
+-- a further device's text
+pub further_text : (d : Device) → d.number ≢ FIRST_DEVICE → decimal d.member ++ (codes "." ++ decimal d.number) ≡ device_text d
+further_text d further = rw (ne_eqb d.number FIRST_DEVICE further) refl
 
 -- items whose texts are written one behind another, one of which was cut off
 pub cut_off : {X : Type 0} (f : X → List ℕ) (xs : List X) (i : ℕ) (x : X) (a b c : Option (List ℕ)) → i < length xs → Appends a b (flat_map f (take i xs))

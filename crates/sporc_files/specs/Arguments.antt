@@ -1,20 +1,24 @@
 -- The arguments of a fault's line.
-use Rattle.std.specs.Prelude.{ℕ, List, [], ◌∷◌, ◌++◌, Option, None, Some, codes}
+use Rattle.std.specs.Prelude.{ℕ, List, [], ◌∷◌, ◌++◌, codes}
 use Rattle.std.specs.Fmt.{decimal}
 use Rattle.sporc_head.specs.Refusal.{refusal_name}
+use Rattle.sporc_script.specs.Spelling.{device_text}
 use Rattle.sporc_report.specs.Names.{edit_fault_name, hint_fault_name, open_fault_name}
 use Rattle.sporc_files.specs.declared.argument.Argument.{Argument}
 use Rattle.sporc_files.specs.declared.argument.Argument.TheVariants.{Nothing, Number, Name, Refusal, Hints, Opening, Edit}
+use Rattle.sporc_files.specs.declared.text.Middle.{Middle}
+use Rattle.sporc_files.specs.declared.text.Middle.TheVariants as middles
 use Rattle.sporc_files.specs.declared.text.Text.{Text}
 use Rattle.sporc_files.specs.Names.{FileNames, stem_of, suffix_of}
 
--- a number, if there is one
-abbrev pub number_bytes : Option ℕ → List ℕ
-number_bytes None = []
-number_bytes (Some number) = decimal number
+-- a number or a device, or nothing
+abbrev pub middle_bytes : Middle → List ℕ
+middle_bytes middles.Nothing = []
+middle_bytes (middles.Number number) = decimal number
+middle_bytes (middles.Device device) = device_text device
 
 abbrev pub text_bytes : Text → List ℕ
-text_bytes text = text.before.now ++ (number_bytes text.number ++ text.behind.now)
+text_bytes text = text.before.now ++ (middle_bytes text.middle ++ text.behind.now)
 
 -- what an argument says; of a file's name, what stands behind its stem
 abbrev pub argument_text : Argument → List ℕ

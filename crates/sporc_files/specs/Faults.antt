@@ -125,6 +125,21 @@ IsOutsideFault before after faults.Memory = Unit {0}
 IsOutsideFault before after faults.Outside = Rose before after
 IsOutsideFault before after fault = ⊥
 
+-- ---- one of several documents
+
+-- a file of the document of this number, among those of several
+abbrev pub file_among : ℕ → File → File
+file_among number files.Genesis = files.GenesisOf number
+file_among number files.Log = files.LogOf number
+file_among number file = file
+
+-- a fault of the document of this number, among those of several
+abbrev pub fault_among : ℕ → Fault → Fault
+fault_among number (faults.Missing file) = faults.Missing (file_among number file)
+fault_among number (faults.TooLong file) = faults.TooLong (file_among number file)
+fault_among number (faults.Malformed file at) = faults.Malformed (file_among number file) at
+fault_among number fault = fault
+
 -- ---- the faults of the crates below
 
 -- what a fault of a folder's call on this file is

@@ -1,9 +1,11 @@
 -- What a file says.
-use Rattle.std.specs.Prelude.{◌≡◌, ℕ, ◌==◌, ◌≤◌, List, length, find, Bool, true, Option, None, Some, Result, Ok, Err, bytes_eq}
+use Rattle.std.specs.Prelude.{◌≡◌, ℕ, ◌==◌, ◌≤◌, List, length, find, Bool, true, Option, None, Some, Result, Ok, Err, bytes_eq, if◌then◌else◌}
 use Rattle.lms_tree.specs.LmsPrivate.{LmsPrivate, lms_public_of}
 use Rattle.lms_tree.specs.declared.public_key.LmsPublic.{LmsPublic}
 use Rattle.lms_tree.specs.LmsPublic.{public_key_bytes}
 use Rattle.sporc_bytes.specs.Fields.{◌>>=◌, fault_as, only_if}
+use Rattle.sporc_member.specs.declared.device.Device.{Device}
+use Rattle.sporc_member.specs.declared.device.TheConstants.{FIRST_DEVICE}
 use Rattle.sporc_member.specs.declared.founder.Founder.{Founder}
 use Rattle.sporc_outside.specs.Counts.{Rose}
 use Rattle.sporc_outside.specs.Files.{HasFile, HasNoFile, IsTooLong}
@@ -13,7 +15,7 @@ use Rattle.sporc_entry.specs.declared.fault.GenesisFault.{GenesisFault}
 use Rattle.sporc_entry.specs.declared.fault.GenesisFault.TheVariants as geneses
 use Rattle.sporc_entry.specs.declared.genesis.Genesis.{Genesis}
 use Rattle.sporc_entry.specs.Genesis.{genesis_of}
-use Rattle.sporc_keys.specs.KeyFile.{key_file_of_member, private_in}
+use Rattle.sporc_keys.specs.KeyFile.{key_file_of, private_in}
 use Rattle.sporc_files.specs.declared.fault.Fault.{Fault}
 use Rattle.sporc_files.specs.declared.fault.Fault.TheVariants as faults
 use Rattle.sporc_files.specs.declared.file.File.{File}
@@ -35,26 +37,31 @@ genesis_place geneses.Memory = 0
 abbrev pub genesis_file : List ℕ → Result Genesis ℕ
 genesis_file bytes = fault_as genesis_place (genesis_of bytes)
 
--- the private key of a member
-abbrev pub key_file : ℕ → List ℕ → Result LmsPrivate ℕ
-key_file member bytes = do
-  file ← key_file_of_member member bytes
+-- the private key of a device
+abbrev pub key_file : Device → List ℕ → Result LmsPrivate ℕ
+key_file device bytes = do
+  file ← key_file_of device bytes
   Ok (private_in file)
 
 -- the founder with this number
 abbrev pub founder_with : ℕ → List Founder → Option Founder
 founder_with member founders = find (λ f. f.member == member) founders
 
+-- the founder whose key a device has, which is its member's first
+abbrev pub founder_of : Device → List Founder → Option Founder
+founder_of device founders = if device.number == FIRST_DEVICE then founder_with device.member founders else None
+
 -- a key is that of a founder, if there is one
 abbrev pub is_key_of : Option Founder → LmsPublic → Bool
 is_key_of None key = true
 is_key_of (Some founder) key = bytes_eq founder.key (public_key_bytes key)
 
--- the private key of a member of a document: any other key than its founder's is forbidden where the member's number stands
-abbrev pub own_key_file : List Founder → ℕ → List ℕ → Result LmsPrivate ℕ
-own_key_file founders member bytes = do
-  key ← key_file member bytes
-  only_if (is_key_of (founder_with member founders) (lms_public_of key)) 4 key
+-- the private key of a device in a document: of a founder's first one any other key than the founder's is forbidden where the
+-- member's number stands
+abbrev pub own_key_file : List Founder → Device → List ℕ → Result LmsPrivate ℕ
+own_key_file founders device bytes = do
+  key ← key_file device bytes
+  only_if (is_key_of (founder_of device founders) (lms_public_of key)) 4 key
 
 -- ---- reading a file
 

@@ -6,7 +6,7 @@ ghost use Rattle.sporc_outside.specs.Counts.{CountsFaults};
 ghost use Rattle.sporc_outside.specs.Uses.{sink_use};
 ghost use Rattle.sporc_outside.specs.Writing.{AppendsPrefix};
 ghost use Rattle.sporc_files.specs.Arguments.{none, one, two};
-ghost use Rattle.sporc_files.specs.Faults.{WritesFaultLine, fault_arguments, fault_line, fault_words, status_of};
+ghost use Rattle.sporc_files.specs.Faults.{WritesFaultLine, fault_among, fault_arguments, fault_line, fault_words, status_of};
 
 use crate::argument::{Argument, Arguments, write_arguments};
 use crate::file::File;
@@ -106,6 +106,18 @@ impl Fault {
             Fault::FullHistory | Fault::FullJournal | Fault::FullFile | Fault::Worn => 8,
             Fault::Message(_) => 9,
             Fault::Edit(_, _, _) => 10,
+        }
+    }
+
+    /// The same fault of a document's genesis or log, as one of several documents, counted from 1.
+    pub fn among(self, number: u32) -> Fault
+        ensures value { result ≡ fault_among number self }
+    {
+        match self {
+            Fault::Missing(file) => Fault::Missing(file.among(number)),
+            Fault::TooLong(file) => Fault::TooLong(file.among(number)),
+            Fault::Malformed(file, at) => Fault::Malformed(file.among(number), at),
+            _ => self,
         }
     }
 

@@ -5,7 +5,7 @@ ghost use Rattle.sporc_head.specs.Refusal.{refusal_name};
 ghost use Rattle.sporc_report.specs.Names.{edit_fault_name, hint_fault_name, open_fault_name};
 ghost use Rattle.sporc_files.specs.Arguments.{text_bytes};
 
-use crate::text::Text;
+use crate::text::{Middle, Text};
 use sporc_client::EditFault;
 use sporc_epoch::HintFault;
 use sporc_head::Refusal;
@@ -20,7 +20,7 @@ pub(crate) fn refusal_text(refusal: Refusal) -> Text
         Refusal::Malformed(at) => Text::with_number("malformed ", at as u64, ""),
         Refusal::BadChange(fault) => Text {
             before: "bad-change ",
-            number: None,
+            middle: Middle::Nothing,
             behind: fault.name(),
         },
         _ => Text::of(refusal.word()),

@@ -2,11 +2,13 @@
 
 ghost use Rattle.std.specs.Prelude.{◌≡◌, IfOk, string_bytes};
 ghost use Rattle.sporc_files.specs.Arguments.{text_bytes};
+ghost use Rattle.sporc_files.specs.Faults.{file_among};
 ghost use Rattle.sporc_files.specs.Names.{file_name, suffix_of};
 
 use crate::names::Names;
 use crate::text::{Text, push_text};
 use sporc_base::Memory;
+use sporc_member::Device;
 use std::alloc::Global;
 
 /// A file of a command.
@@ -14,18 +16,24 @@ use std::alloc::Global;
 pub enum File {
     /// `NAME.genesis`: what the document begins with.
     Genesis,
-    /// `NAME.M.key`: the key of a member.
-    Key(u16),
-    /// `NAME.M.leaf`: which leaves of that key are taken.
-    Leaf(u16),
-    /// `NAME.M.ring`: the keys that a member has from the beginning.
+    /// `NAME.M.key` of a member's first device, `NAME.M.D.key` of a further one: the key of the device.
+    Key(Device),
+    /// `NAME.M.leaf`, or `NAME.M.D.leaf`: which leaves of that key are taken.
+    Leaf(Device),
+    /// `NAME.M.ring`: the keys that a member has from the beginning, the same for each of its devices.
     Ring(u16),
-    /// `NAME.M.history`: the history that a member saved.
-    History(u16),
+    /// `NAME.M.history`, or `NAME.M.D.history`: the history that a device saved.
+    History(Device),
     /// `NAME.log`: the history that a server saved.
     Log,
     /// The script of an editor, counted from 1: its name is the word itself.
     Script(u32),
+    /// `NAME.genesis` of one of several documents, counted from 1.
+    GenesisOf(u32),
+    /// `NAME.log` of one of several documents.
+    LogOf(u32),
+    /// One of several documents: its name is the word itself.
+    Document(u32),
 }
 
 impl File {
@@ -38,18 +46,32 @@ impl File {
         Ok(name)
     }
 
+    // The same file of the document of this number, among those of several.
+    pub(crate) fn among(self, number: u32) -> File
+        ensures { result ≡ file_among number self }
+    {
+        match self {
+            File::Genesis => File::GenesisOf(number),
+            File::Log => File::LogOf(number),
+            _ => self,
+        }
+    }
+
     // What stands behind the stem of its name.
     pub(crate) fn suffix(self) -> Text
         ensures { text_bytes result ≡ suffix_of self }
     {
         match self {
             File::Genesis => Text::of(".genesis"),
-            File::Key(member) => Text::with_number(".", u64::from(member), ".key"),
-            File::Leaf(member) => Text::with_number(".", u64::from(member), ".leaf"),
+            File::Key(device) => Text::with_device(".", device, ".key"),
+            File::Leaf(device) => Text::with_device(".", device, ".leaf"),
             File::Ring(member) => Text::with_number(".", u64::from(member), ".ring"),
-            File::History(member) => Text::with_number(".", u64::from(member), ".history"),
+            File::History(device) => Text::with_device(".", device, ".history"),
             File::Log => Text::of(".log"),
             File::Script(_) => Text::of(""),
+            File::GenesisOf(_) => Text::of(".genesis"),
+            File::LogOf(_) => Text::of(".log"),
+            File::Document(_) => Text::of(""),
         }
     }
 }

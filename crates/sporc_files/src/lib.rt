@@ -13,8 +13,8 @@
 //! fault.status()                                           // 3
 //! ```
 //!
-//! Proved: names, statuses and lines to the byte, which are written as far as the sink takes them and take no memory;
-//! what is read of which file, and which fault is answered; that a call asks for the names of its files alone. Only
+//! Proved: names, statuses and lines to the byte, which are written as far as the sink takes them and take no memory; that
+//! different files of a document have different names ([`laws`]); what is read of which file, and which fault is answered; that a call asks for the names of its files alone. Only
 //! tested: that reading and writing succeed with ample memory (`sporc_files_tests`, `sporc_commands_tests`). Neither:
 //! that a real folder keeps what is written.
 #![tactic(auto)]
@@ -24,6 +24,7 @@ mod causes;
 mod fault;
 mod fault_names;
 mod file;
+pub mod laws;
 mod names;
 mod reading;
 mod text;

@@ -1,17 +1,18 @@
 //! The names of a command's files.
 
 ghost use Rattle.std.specs.Prelude.{◌≡◌, ◌-◌};
-ghost use Rattle.sporc_files.specs.Names.{name_of_script, names_of_document, stem_of};
+ghost use Rattle.sporc_files.specs.Names.{name_of_other, names_of_document, names_of_documents, stem_of};
 
 use crate::file::File;
 use sporc_words::Word;
 use std::marker::Model;
 
-/// What a command's files are named by: the name of its document, and the words that name its editor scripts.
+/// What a command's files are named by: the name of its document, and the words that name its editor scripts, or several
+/// documents.
 #[derive(Drop)]
 pub struct Names<'a> {
     document: &'a str,
-    scripts: &'a [Word],
+    others: &'a [Word],
 }
 
 impl<'a> Model for Names<'a> {
@@ -19,15 +20,15 @@ impl<'a> Model for Names<'a> {
 
     ghost Value = { FileNames };
 
-    ghost view = { λ n. record { document = n.document.now; scripts = n.scripts.now } };
+    ghost view = { λ n. record { document = n.document.now; others = n.others.now } };
 }
 
 impl<'a> Names<'a> {
     /// Of a document, and of editor scripts.
-    pub fn new(document: &'a str, scripts: &'a [Word]) -> Names<'a>
-        ensures value { result ≡ record { document = document.now; scripts = scripts.now } }
+    pub fn new(document: &'a str, others: &'a [Word]) -> Names<'a>
+        ensures value { result ≡ record { document = document.now; others = others.now } }
     {
-        Names { document, scripts }
+        Names { document, others }
     }
 
     /// Of a document alone.
@@ -36,26 +37,39 @@ impl<'a> Names<'a> {
     {
         Names {
             document,
-            scripts: &[],
+            others: &[],
         }
     }
 
-    // The name of the script of this editor, counted from 1. There is no name if there is no such script.
-    fn script(&self, editor: u32) -> &'a str
-        ensures { result.now ≡ name_of_script self.now editor }
+    /// Of several documents.
+    pub fn of_documents(documents: &'a [Word]) -> Names<'a>
+        ensures value { result ≡ names_of_documents documents.now }
     {
-        match self.scripts.get((editor as usize).saturating_sub(1)) {
+        Names {
+            document: "",
+            others: documents,
+        }
+    }
+
+    // The word of this number, counted from 1. There is no name if there is no such word.
+    fn other(&self, number: u32) -> &'a str
+        ensures { result.now ≡ name_of_other self.now number }
+    {
+        match self.others.get((number as usize).saturating_sub(1)) {
             Some(word) => word.as_str(),
             None => "",
         }
     }
 
-    /// What the name of a file begins with: the name of the document, unless it is a script.
+    /// What the name of a file begins with: the name of the document, unless it is a script, or there are several documents.
     pub fn stem(&self, file: File) -> &'a str
         ensures value { result.now ≡ stem_of self.now file }
     {
         match file {
-            File::Script(editor) => self.script(editor),
+            File::Script(number)
+            | File::GenesisOf(number)
+            | File::LogOf(number)
+            | File::Document(number) => self.other(number),
             _ => self.document,
         }
     }

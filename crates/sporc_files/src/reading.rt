@@ -9,7 +9,7 @@ ghost use Rattle.sporc_keys.specs.RingFile.{IsRingFile, ring_file_of_member};
 ghost use Rattle.sporc_files.specs.declared.file.File.{File};
 ghost use Rattle.sporc_files.specs.Faults.{fault_of_file};
 ghost use Rattle.sporc_files.specs.Names.{file_name};
-ghost use Rattle.sporc_files.specs.Reading.{IsFileFault, SaysFile, SaysFileIfThere, any_bytes, founder_with, genesis_file, is_key_of, key_file, own_key_file};
+ghost use Rattle.sporc_files.specs.Reading.{IsFileFault, SaysFile, SaysFileIfThere, any_bytes, founder_of, founder_with, genesis_file, is_key_of, key_file, own_key_file};
 ghost use Rattle.sporc_files.specs.Uses.{AsksOnly};
 
 use crate::fault::Fault;
@@ -18,8 +18,8 @@ use crate::names::Names;
 use lms_tree::{LmsPublic, Tree};
 use sporc_base::is_same;
 use sporc_entry::{Genesis, GenesisFault, read_genesis};
-use sporc_keys::{Malformed, RingFile, RingFileFault, key_of_member, ring_of_member};
-use sporc_member::Founder;
+use sporc_keys::{Malformed, RingFile, RingFileFault, key_of_device, ring_of_member};
+use sporc_member::{Device, FIRST_DEVICE, Founder};
 use sporc_outside::{FileFault, Folder};
 use std::alloc::Global;
 use std::thread::Threads;
@@ -105,59 +105,71 @@ pub fn read_genesis_file<F: Folder>(
     }
 }
 
-/// The private key of a member, with its tree, which takes as long as building it. The file of another member is malformed
-/// at 4.
+/// The private key of a device, with its tree, which takes as long as building it. The file of another device is malformed,
+/// as [`key_of_device`] says.
 pub fn read_key_file<R: Threads + Sync, F: Folder>(
     rt: &R,
     alloc: Global,
     files: &mut F,
     names: &Names<'_>,
-    member: u16,
+    device: Device,
 ) -> Result<Tree, Fault>
-    ensures ok { IfOk result (SaysFile (key_file member) (F.files files.old) (file_name names.now (File.Key member))) }
+    ensures ok { IfOk result (SaysFile (key_file device) (F.files files.old) (file_name names.now (File.Key device))) }
     ensures height { IfOk result (λ key. IsLeafHeight (height_of key.lms)) }
     ensures width { IfOk result (λ key. IsKeyWidth key.ots) }
-    ensures err { IfErr result (IsFileFault (key_file member) (F.files files.old) (F.faults files.old) (F.faults files.new) names.now (File.Key member)) }
+    ensures err { IfErr result (IsFileFault (key_file device) (F.files files.old) (F.faults files.old) (F.faults files.new) names.now (File.Key device)) }
     ensures files { F.files files.new ≡ F.files files.old }
     ensures lent { F.lent files.new ≡ F.lent files.old }
-    ensures may_ask { AsksOnly (file_name names.now (File.Key member) ∷ []) (F.asked files.old) (F.asked files.new) }
+    ensures may_ask { AsksOnly (file_name names.now (File.Key device) ∷ []) (F.asked files.old) (F.asked files.new) }
     ensures kept { F.faults files.old ≤ F.faults files.new }
 {
-    let bytes = read_bytes(alloc, files, names, File::Key(member))?;
-    match key_of_member(bytes.as_slice(), member) {
+    let bytes = read_bytes(alloc, files, names, File::Key(device))?;
+    match key_of_device(bytes.as_slice(), device) {
         Ok(file) => {
             let tree = file.tree(rt, alloc)?;
             Ok(tree)
         }
-        Err(Malformed(at)) => Err(Fault::Malformed(File::Key(member), at as u64)),
+        Err(Malformed(at)) => Err(Fault::Malformed(File::Key(device), at as u64)),
     }
 }
 
-/// The private key of a member of a document, with its tree. The file of another member, or with another key than the member
-/// founded the document with, is malformed at 4.
+/// The private key of a device in a document, with its tree. The file of another device is malformed, as [`key_of_device`]
+/// says; that of a founder's first device with another key than the founder's is malformed at 4. The genesis says nothing of
+/// a further device's key.
 pub fn read_own_key<R: Threads + Sync, F: Folder>(
     rt: &R,
     alloc: Global,
     files: &mut F,
     names: &Names<'_>,
-    member: u16,
+    device: Device,
     genesis: &Genesis,
 ) -> Result<Tree, Fault>
-    ensures ok { IfOk result (SaysFile (own_key_file genesis.now.founders member) (F.files files.old) (file_name names.now (File.Key member))) }
+    ensures ok { IfOk result (SaysFile (own_key_file genesis.now.founders device) (F.files files.old) (file_name names.now (File.Key device))) }
     ensures height { IfOk result (λ key. IsLeafHeight (height_of key.lms)) }
     ensures width { IfOk result (λ key. IsKeyWidth key.ots) }
-    ensures err { IfErr result (IsFileFault (own_key_file genesis.now.founders member) (F.files files.old) (F.faults files.old) (F.faults files.new) names.now (File.Key member)) }
+    ensures err { IfErr result (IsFileFault (own_key_file genesis.now.founders device) (F.files files.old) (F.faults files.old) (F.faults files.new) names.now (File.Key device)) }
     ensures files { F.files files.new ≡ F.files files.old }
     ensures lent { F.lent files.new ≡ F.lent files.old }
-    ensures may_ask { AsksOnly (file_name names.now (File.Key member) ∷ []) (F.asked files.old) (F.asked files.new) }
+    ensures may_ask { AsksOnly (file_name names.now (File.Key device) ∷ []) (F.asked files.old) (F.asked files.new) }
     ensures kept { F.faults files.old ≤ F.faults files.new }
 {
-    let tree = read_key_file(rt, alloc, files, names, member)?;
-    let founder = founder_with(genesis.founders.as_slice(), member);
+    let tree = read_key_file(rt, alloc, files, names, device)?;
+    let founder = founder_of(genesis.founders.as_slice(), device);
     if !is_key_of(founder, &tree.public()) {
-        return Err(Fault::Malformed(File::Key(member), 4));
+        return Err(Fault::Malformed(File::Key(device), 4));
     }
     Ok(tree)
+}
+
+// The founder whose key a device has, which is its member's first.
+fn founder_of(founders: &[Founder], device: Device) -> Option<Founder>
+    ensures value { result ≡ founder_of device founders.now }
+{
+    if device.number == FIRST_DEVICE {
+        founder_with(founders, device.member)
+    } else {
+        None
+    }
 }
 
 // The founder with this number.

@@ -1,33 +1,44 @@
 //! Short texts, which are written without memory, or appended to a string.
 
-ghost use Rattle.std.specs.Prelude.{◌≡◌, ◌++◌, Some, None, OnOk, OnErr, string_bytes};
+ghost use Rattle.std.specs.Prelude.{◌≡◌, ◌++◌, OnOk, OnErr, string_bytes};
 ghost use Rattle.std.specs.Fmt.{decimal};
 ghost use Rattle.std.specs.Io.KnownBytes.{Appends};
 ghost use Rattle.sporc_outside.specs.Counts.{CountsFaults};
 ghost use Rattle.sporc_outside.specs.Writing.{AppendsPrefix};
-ghost use Rattle.sporc_files.specs.Arguments.{number_bytes, text_bytes};
+ghost use Rattle.sporc_script.specs.Spelling.{device_text};
+ghost use Rattle.sporc_files.specs.Arguments.{middle_bytes, text_bytes};
 
 use itoa::Buffer;
 use sporc_base::Memory;
+use sporc_member::{Device, FIRST_DEVICE};
 use sporc_outside::{Failed, Sink, write_all};
+use sporc_report::push_device;
 use std::fmt::Write;
 
-// A text that may have a number in it.
+// What may stand in the middle of a text.
+#[derive(Clone, Copy)]
+pub(crate) enum Middle {
+    Nothing,
+    Number(u64),
+    Device(Device),
+}
+
+// A text that may have a number or a device in it.
 #[derive(Clone, Copy)]
 pub(crate) struct Text {
     pub before: &'static str,
-    pub number: Option<u64>,
+    pub middle: Middle,
     pub behind: &'static str,
 }
 
 impl Text {
-    // A text without a number.
+    // A text with nothing in it.
     pub(crate) fn of(before: &'static str) -> Text
         ensures { text_bytes result ≡ before.now }
     {
         Text {
             before,
-            number: None,
+            middle: Middle::Nothing,
             behind: "",
         }
     }
@@ -38,7 +49,18 @@ impl Text {
     {
         Text {
             before,
-            number: Some(number),
+            middle: Middle::Number(number),
+            behind,
+        }
+    }
+
+    // A device between texts.
+    pub(crate) fn with_device(before: &'static str, device: Device, behind: &'static str) -> Text
+        ensures { text_bytes result ≡ before.now ++ (device_text device ++ behind.now) }
+    {
+        Text {
+            before,
+            middle: Middle::Device(device),
             behind,
         }
     }
@@ -49,17 +71,18 @@ pub(crate) fn push_text(string: &mut String, text: Text) -> Result<(), Memory>
     ensures { OnOk result (string_bytes string.new ≡ string_bytes string.old ++ text_bytes text) }
 {
     string.push_str(text.before)?;
-    push_number(string, text.number)?;
+    push_middle(string, text.middle)?;
     string.push_str(text.behind)
 }
 
-// Appends a number, if there is one.
-fn push_number(string: &mut String, number: Option<u64>) -> Result<(), Memory>
-    ensures { OnOk result (string_bytes string.new ≡ string_bytes string.old ++ number_bytes number) }
+// Appends a number or a device.
+fn push_middle(string: &mut String, middle: Middle) -> Result<(), Memory>
+    ensures { OnOk result (string_bytes string.new ≡ string_bytes string.old ++ middle_bytes middle) }
 {
-    match number {
-        Some(number) => write!(string, "{number}"),
-        None => Ok(()),
+    match middle {
+        Middle::Nothing => Ok(()),
+        Middle::Number(number) => write!(string, "{number}"),
+        Middle::Device(device) => push_device(string, device),
     }
 }
 
@@ -70,19 +93,43 @@ pub(crate) fn write_text<O: Sink>(out: &mut O, text: Text) -> Result<(), Failed>
     ensures count { CountsFaults (O.faults out.old) (O.faults out.new) result }
 {
     write_all(out, text.before.as_bytes())?;
-    write_number(out, text.number)?;
+    write_middle(out, text.middle)?;
     write_all(out, text.behind.as_bytes())
 }
 
-// Writes a number, if there is one.
-fn write_number<O: Sink>(out: &mut O, number: Option<u64>) -> Result<(), Failed>
-    ensures ok { OnOk result (Appends (O.written out.old) (O.written out.new) (number_bytes number)) }
-    ensures err { OnErr result (AppendsPrefix (O.written out.old) (O.written out.new) (number_bytes number)) }
+// Writes a number or a device.
+fn write_middle<O: Sink>(out: &mut O, middle: Middle) -> Result<(), Failed>
+    ensures ok { OnOk result (Appends (O.written out.old) (O.written out.new) (middle_bytes middle)) }
+    ensures err { OnErr result (AppendsPrefix (O.written out.old) (O.written out.new) (middle_bytes middle)) }
     ensures count { CountsFaults (O.faults out.old) (O.faults out.new) result }
 {
-    let Some(number) = number else {
-        return Ok(());
-    };
+    match middle {
+        Middle::Nothing => Ok(()),
+        Middle::Number(number) => write_number(out, number),
+        Middle::Device(device) => write_device(out, device),
+    }
+}
+
+// Writes a number.
+fn write_number<O: Sink>(out: &mut O, number: u64) -> Result<(), Failed>
+    ensures ok { OnOk result (Appends (O.written out.old) (O.written out.new) (decimal number)) }
+    ensures err { OnErr result (AppendsPrefix (O.written out.old) (O.written out.new) (decimal number)) }
+    ensures count { CountsFaults (O.faults out.old) (O.faults out.new) result }
+{
     let mut digits = Buffer::new();
     write_all(out, digits.format(number).as_bytes())
+}
+
+// Writes a device.
+fn write_device<O: Sink>(out: &mut O, device: Device) -> Result<(), Failed>
+    ensures ok { OnOk result (Appends (O.written out.old) (O.written out.new) (device_text device)) }
+    ensures err { OnErr result (AppendsPrefix (O.written out.old) (O.written out.new) (device_text device)) }
+    ensures count { CountsFaults (O.faults out.old) (O.faults out.new) result }
+{
+    write_number(out, u64::from(device.member))?;
+    if device.number == FIRST_DEVICE {
+        return Ok(());
+    }
+    write_all(out, b".")?;
+    write_number(out, u64::from(device.number))
 }

@@ -40,21 +40,21 @@ on_ok (Err e) P Q R then p q = tt
 
 -- both files were written
 module _ (names : FileNames) (key : NewKey) (before between after : Option (List NamedFile)) where
-  both : HasNoFile before (file_name names (files.Key key.file.member))
-      → Stores (file_with names (files.Key key.file.member) (key_file_bytes key.file) ∷ []) before between
-      → HasNoFile between (file_name names (files.Leaf key.file.member))
-      → Stores (file_with names (files.Leaf key.file.member) key.leaves ∷ []) between after → StoresKey names key before after
+  both : HasNoFile before (file_name names (files.Key key.file.device))
+      → Stores (file_with names (files.Key key.file.device) (key_file_bytes key.file) ∷ []) before between
+      → HasNoFile between (file_name names (files.Leaf key.file.device))
+      → Stores (file_with names (files.Leaf key.file.device) key.leaves ∷ []) between after → StoresKey names key before after
   both new stored newer last = record {
     new_key = new;
-    new_leaves = not_there_before before _ _ (file_name names (files.Leaf key.file.member))
-        (subst (λ (o : Option (List NamedFile)). HasNoFile o (file_name names (files.Leaf key.file.member))) stored newer);
+    new_leaves = not_there_before before _ _ (file_name names (files.Leaf key.file.device))
+        (subst (λ (o : Option (List NamedFile)). HasNoFile o (file_name names (files.Leaf key.file.device))) stored newer);
     stored = stored_both before between after _ _ stored last;
   }
 
   -- with bytes that are those
-  pub both_written : (bytes leaves : List ℕ) → bytes ≡ key_file_bytes key.file → leaves ≡ key.leaves → HasNoFile before (file_name names (files.Key key.file.member))
-      → Stores (file_with names (files.Key key.file.member) bytes ∷ []) before between → HasNoFile between (file_name names (files.Leaf key.file.member))
-      → Stores (file_with names (files.Leaf key.file.member) leaves ∷ []) between after → StoresKey names key before after
+  pub both_written : (bytes leaves : List ℕ) → bytes ≡ key_file_bytes key.file → leaves ≡ key.leaves → HasNoFile before (file_name names (files.Key key.file.device))
+      → Stores (file_with names (files.Key key.file.device) bytes ∷ []) before between → HasNoFile between (file_name names (files.Leaf key.file.device))
+      → Stores (file_with names (files.Leaf key.file.device) leaves ∷ []) between after → StoresKey names key before after
   both_written bytes leaves spelled blank new stored newer last =
-      both new (subst (λ (b : List ℕ). Stores (file_with names (files.Key key.file.member) b ∷ []) before between) spelled stored) newer
-      (subst (λ (b : List ℕ). Stores (file_with names (files.Leaf key.file.member) b ∷ []) between after) blank last)
+      both new (subst (λ (b : List ℕ). Stores (file_with names (files.Key key.file.device) b ∷ []) before between) spelled stored) newer
+      (subst (λ (b : List ℕ). Stores (file_with names (files.Leaf key.file.device) b ∷ []) between after) blank last)

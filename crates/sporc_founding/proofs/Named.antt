@@ -3,6 +3,7 @@ use Rattle.std.proofs.Common.{◌≡◌, ℕ, suc, ◌+◌, ◌<◌, ◌≤◌, 
 use Rattle.std.proofs.Math.Seq.{drop-cons, take-suc}
 use Rattle.std.proofs.lemmas.List.{take-append-drop}
 use Rattle.sporc_outside.specs.declared.named_file.NamedFile.{NamedFile}
+use Rattle.sporc_member.specs.Device.{first_device}
 use Rattle.sporc_keys.specs.declared.named.Named.{Named}
 use Rattle.sporc_words.specs.declared.standing.Standing.TheVariants.{Joiner}
 use Rattle.sporc_words.specs.declared.standing.Participant.{Participant}
@@ -30,7 +31,7 @@ around xs i d within = sym (ap (λ ys. take i xs ++ ys) (sym (drop-cons xs i d w
 
 pub first_bad : (told now : Option (List NamedFile)) (low mid high : ℕ) (names : FileNames) (all : List Participant) (i : ℕ) (d : Participant) (ns : List Named) (fault : Fault)
     → i < length all → now ≡ told → low ≤ mid → AreNamed told names (take i all) ns
-    → IsFileFault (key_file (get_or all i d).member) now mid high names (files.Key (get_or all i d).member) fault → FirstBadKey told low high names all fault
+    → IsFileFault (key_file (first_device (get_or all i d).member)) now mid high names (files.Key (first_device (get_or all i d).member)) fault → FirstBadKey told low high names all fault
 first_bad told now low mid high names all i d ns fault within same more read cause =
     record {
       before = take i all;
@@ -39,7 +40,7 @@ first_bad told now low mid high names all i d ns fault within same more read cau
       split = around all i d within;
       named = ns;
       read = read;
-      cause = file_later (key_file (get_or all i d).member) told now low mid high names (files.Key (get_or all i d).member) fault same more cause;
+      cause = file_later (key_file (first_device (get_or all i d).member)) told now low mid high names (files.Key (first_device (get_or all i d).member)) fault same more cause;
     }
 
 -- memory ran out after one was read

@@ -4,6 +4,7 @@ use Rattle.std.specs.List.{AllByRecursion, flat_map}
 use Rattle.lms_tree.specs.LmsPrivate.{LmsPrivate, lms_public_of}
 use Rattle.sporc_outside.specs.Counts.{Rose}
 use Rattle.sporc_outside.specs.declared.named_file.NamedFile.{NamedFile}
+use Rattle.sporc_member.specs.Device.{first_device}
 use Rattle.sporc_entry.specs.ChangeBody.{IsMember}
 use Rattle.sporc_entry.specs.Genesis.{genesis_bytes}
 use Rattle.sporc_keys.specs.declared.founding.Founding.{Founding}
@@ -34,10 +35,10 @@ pub record MayFound (asked : Found) : Type 0 where
 
 -- ---- those who are named
 
--- one who is named: a founder by the key of its key file, a joiner by its number alone
+-- one who is named: a founder by the key of its first device, a joiner by its number alone
 abbrev pub IsNamed : Option (List NamedFile) → FileNames → ℕ → Standing → Named → Type 0
 IsNamed told names member (standings.Founder role) one =
-    (key : LmsPrivate) × SaysFile (key_file member) told (file_name names (files.Key member)) key × (one ≡ named.Founder member role (lms_public_of key))
+    (key : LmsPrivate) × SaysFile (key_file (first_device member)) told (file_name names (files.Key (first_device member))) key × (one ≡ named.Founder member role (lms_public_of key))
 IsNamed told names member standings.Joiner one = one ≡ named.Joiner member
 
 -- all who are named, in the order of the words
@@ -55,7 +56,7 @@ pub record FirstBadKey (told : Option (List NamedFile)) (low high : ℕ) (names 
   pub split : all ≡ before ++ one ∷ behind
   pub named : List Named
   pub read : AreNamed told names before named
-  pub cause : IsFileFault (key_file one.member) told low high names (files.Key one.member) fault
+  pub cause : IsFileFault (key_file (first_device one.member)) told low high names (files.Key (first_device one.member)) fault
 
 -- ---- files
 
@@ -72,7 +73,7 @@ names_in files = map (λ f. f.name) files
 
 -- the key file that is read of one who is named: a founder's
 abbrev pub key_read : ℕ → Standing → List File
-key_read member (standings.Founder role) = files.Key member ∷ []
+key_read member (standings.Founder role) = files.Key (first_device member) ∷ []
 key_read member standings.Joiner = []
 
 -- the key files that are read, in the order of the words

@@ -1,4 +1,4 @@
--- What `keygen` does: it makes a member's key of two words of the chance.
+-- What `keygen` does: it makes a device's key of two words of the chance.
 use Rattle.std.specs.Prelude.{◌≡◌, ◌⊎◌, ℕ, List, [], ◌∷◌, ◌++◌, Option, Result, Ok, Err, codes}
 use Rattle.hex.specs.Hex.{encode_lower}
 use Rattle.std.specs.Io.KnownBytes.{Appends}
@@ -9,6 +9,7 @@ use Rattle.sporc_outside.specs.Files.{ChangesFile, HasNoFile, HasSomeFile}
 use Rattle.sporc_outside.specs.Uses.{SinkUse}
 use Rattle.sporc_outside.specs.Writing.{AppendsPrefix}
 use Rattle.sporc_outside.specs.declared.named_file.NamedFile.{NamedFile}
+use Rattle.sporc_member.specs.declared.device.Device.{Device}
 use Rattle.sporc_keys.specs.declared.new_key.NewKey.{NewKey}
 use Rattle.sporc_keys.specs.KeyFile.{key_file_bytes}
 use Rattle.sporc_keys.specs.NewKey.{IsKeygen}
@@ -23,14 +24,14 @@ use Rattle.sporc_files.specs.Writing.{Stores, file_with}
 use Rattle.sporc_words.specs.declared.keygen.Keygen.{Keygen}
 
 -- the names of the files of a key
-abbrev pub key_names : FileNames → ℕ → List (List ℕ)
-key_names names member = file_name names (files.Key member) ∷ file_name names (files.Leaf member) ∷ []
+abbrev pub key_names : FileNames → Device → List (List ℕ)
+key_names names device = file_name names (files.Key device) ∷ file_name names (files.Leaf device) ∷ []
 
 -- the key file, and then the leaf file
 abbrev pub key_files : FileNames → NewKey → List NamedFile
 key_files names key =
-    file_with names (files.Key key.file.member) (key_file_bytes key.file)
-    ∷ file_with names (files.Leaf key.file.member) key.leaves ∷ []
+    file_with names (files.Key key.file.device) (key_file_bytes key.file)
+    ∷ file_with names (files.Leaf key.file.device) key.leaves ∷ []
 
 -- `key`, and the 112 digits of the public key
 abbrev pub key_line : LmsPublic → List ℕ
@@ -40,28 +41,28 @@ key_line public = codes "key " ++ (encode_lower (public_key_bytes public) ++ cod
 
 -- both files are new, and were written
 pub record StoresKey (names : FileNames) (key : NewKey) (before after : Option (List NamedFile)) : Type 0 where
-  pub new_key : HasNoFile before (file_name names (files.Key key.file.member))
-  pub new_leaves : HasNoFile before (file_name names (files.Leaf key.file.member))
+  pub new_key : HasNoFile before (file_name names (files.Key key.file.device))
+  pub new_leaves : HasNoFile before (file_name names (files.Leaf key.file.device))
   pub stored : Stores (key_files names key) before after
 
 -- the key file is new, and was written, and nothing else was
 pub record StoresKeyFile (names : FileNames) (key : NewKey) (before after : Option (List NamedFile)) : Type 0 where
-  pub new_key : HasNoFile before (file_name names (files.Key key.file.member))
-  pub stored : Stores (file_with names (files.Key key.file.member) (key_file_bytes key.file) ∷ []) before after
+  pub new_key : HasNoFile before (file_name names (files.Key key.file.device))
+  pub stored : Stores (file_with names (files.Key key.file.device) (key_file_bytes key.file) ∷ []) before after
 
 -- there is a key file, and nothing was written; or there is a leaf file, and the key file alone was written
 abbrev pub IsThere : FileNames → NewKey → Option (List NamedFile) → Option (List NamedFile) → File → Type 0
-IsThere names key before after (files.Key member) =
-    (member ≡ key.file.member) × HasSomeFile before (file_name names (files.Key member)) × (after ≡ before)
-IsThere names key before after (files.Leaf member) =
-    (member ≡ key.file.member) × HasSomeFile after (file_name names (files.Leaf member)) × StoresKeyFile names key before after
+IsThere names key before after (files.Key device) =
+    (device ≡ key.file.device) × HasSomeFile before (file_name names (files.Key device)) × (after ≡ before)
+IsThere names key before after (files.Leaf device) =
+    (device ≡ key.file.device) × HasSomeFile after (file_name names (files.Leaf device)) × StoresKeyFile names key before after
 IsThere names key before after other = ⊥
 
 -- anything may stand of the key file, and nothing else changed; or the key file is new, and was written, and anything may stand of the leaf file
 abbrev pub StoresInPart : FileNames → NewKey → Option (List NamedFile) → Option (List NamedFile) → Type 0
 StoresInPart names key before after =
-    ChangesFile before after (file_name names (files.Key key.file.member))
-    ⊎ ((between : Option (List NamedFile)) × StoresKeyFile names key before between × ChangesFile between after (file_name names (files.Leaf key.file.member)))
+    ChangesFile before after (file_name names (files.Key key.file.device))
+    ⊎ ((between : Option (List NamedFile)) × StoresKeyFile names key before between × ChangesFile between after (file_name names (files.Leaf key.file.device)))
 
 -- why not both files were written, where the folder's count of faults went from `low` to `high`, and what stands: if memory ran out,
 -- what stood before, or the key file too
@@ -75,7 +76,7 @@ IsFilesFault names key before after low high fault = ⊥
 
 -- the key that was made
 abbrev pub Makes : Keygen → ChanceUse → NewKey → Type 0
-Makes asked chance key = IsKeygen chance.given_before chance.given_after asked.member asked.height asked.width key
+Makes asked chance key = IsKeygen chance.given_before chance.given_after asked.device asked.height asked.width key
 
 -- no file was written, and nothing was printed
 pub record WritesNothing (files : FolderUse) (out : SinkUse) : Type 0 where

@@ -15,10 +15,10 @@ use Rattle.sporc_files.specs.Reading.{IsFileFault, SaysFile, key_file}
 use Rattle.sporc_files.specs.Uses.{FolderUse}
 use Rattle.sporc_founding.specs.KeyMaking.{key_line}
 
--- the line of `keygen` for the key that a member's key file says
+-- the line of `keygen` for the key that a device's key file says
 pub record IsLineOf (asked : Public) (told : Option (List NamedFile)) (line : List ℕ) : Type 0 where
   pub key : LmsPrivate
-  pub says : SaysFile (key_file asked.member) told (file_name (names_of_document asked.name) (files.Key asked.member)) key
+  pub says : SaysFile (key_file asked.device) told (file_name (names_of_document asked.name) (files.Key asked.device)) key
   pub line_is : line ≡ key_line (lms_public_of key)
 
 -- it was written as this says
@@ -29,7 +29,7 @@ pub record ShowsLine (asked : Public) (told : Option (List NamedFile)) (Written 
 
 -- the key file says nothing, or memory ran out, and nothing was printed
 pub record FailsAtKey (asked : Public) (folder : FolderUse) (out : SinkUse) (fault : Fault) : Type 0 where
-  pub cause : IsFileFault (key_file asked.member) folder.files_before folder.faults_before folder.faults_after (names_of_document asked.name) (files.Key asked.member) fault
+  pub cause : IsFileFault (key_file asked.device) folder.files_before folder.faults_before folder.faults_after (names_of_document asked.name) (files.Key asked.device) fault
   pub unwritten : IsUnwritten out
 
 -- the sink failed, and a prefix of the line was printed

@@ -3,6 +3,7 @@
 ghost use Rattle.std.specs.Prelude.{◌≡◌, ◌≤◌, IfOk, IfErr, OnOk, map};
 ghost use Rattle.std.specs.List.{AllByRecursion};
 ghost use Rattle.sporc_entry.specs.Genesis.{IsGenesis};
+ghost use Rattle.sporc_member.specs.Device.{first_device};
 ghost use Rattle.sporc_keys.specs.Founding.{CanFound, IsFounding, in_order};
 ghost use Rattle.sporc_keys.specs.RingFile.{IsRingFile};
 ghost use Rattle.sporc_files.specs.declared.fault.Fault.TheVariants as faults;
@@ -17,14 +18,15 @@ ghost use Rattle.sporc_files.specs.Faults.{IsOutsideFault};
 use sporc_entry::write_genesis;
 use sporc_files::{Fault, File, Names, read_key_file, write_whole_file};
 use sporc_keys::{Founding, Named, RingFile, write_ring_file};
+use sporc_member::Device;
 use sporc_outside::{Chance, Folder};
 use sporc_words::{Found, Participant, Standing};
 use std::alloc::Global;
 use std::thread::Threads;
 
 /// Makes a document of its founders' keys and of words of the chance, and writes its genesis and the ring of each who is named,
-/// in ascending order of their numbers, in place of files with these names. The founders' key files are read in the order of
-/// the words; those of joiners are not.
+/// in ascending order of their numbers, in place of files with these names. The key files of the founders' first devices are
+/// read in the order of the words; those of joiners are not.
 pub fn found<R: Threads + Sync, F: Folder, C: Chance>(
     rt: &R,
     alloc: Global,
@@ -81,8 +83,8 @@ fn read_named<R: Threads + Sync, F: Folder>(
     participant: &Participant,
 ) -> Result<Named, Fault>
     ensures ok { IfOk result (IsNamed (F.files files.old) names.now participant.now.member participant.now.standing) }
-    ensures err { IfErr result (IsFileFault (key_file participant.now.member) (F.files files.old)
-        (F.faults files.old) (F.faults files.new) names.now (kinds.Key participant.now.member)) }
+    ensures err { IfErr result (IsFileFault (key_file (first_device participant.now.member)) (F.files files.old)
+        (F.faults files.old) (F.faults files.new) names.now (kinds.Key (first_device participant.now.member))) }
     ensures may_ask { AsksOnly (map (file_name names.now) (key_read participant.now.member participant.now.standing)) (F.asked files.old) (F.asked files.new) }
     ensures files { F.files files.new ≡ F.files files.old }
     ensures lent { F.lent files.new ≡ F.lent files.old }
@@ -92,7 +94,7 @@ fn read_named<R: Threads + Sync, F: Folder>(
     match participant.standing {
         Standing::Joiner => Ok(Named::Joiner { member }),
         Standing::Founder(role) => {
-            let tree = read_key_file(rt, alloc, files, names, member)?;
+            let tree = read_key_file(rt, alloc, files, names, Device::first(member))?;
             let key = tree.public();
             Ok(Named::Founder { member, role, key })
         }

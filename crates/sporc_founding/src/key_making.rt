@@ -20,7 +20,7 @@ use sporc_words::Keygen;
 use std::alloc::Global;
 use std::thread::Threads;
 
-/// Makes a member's key of two words of the chance, writes its files, and prints its public key. No file is overwritten:
+/// Makes a device's key of two words of the chance, writes its files, and prints its public key. No file is overwritten:
 /// if there is a key file, nothing is written, and if there is a leaf file alone, the key file is.
 pub fn keygen<R: Threads + Sync, F: Folder, C: Chance, O: Sink>(
     rt: &R,
@@ -37,7 +37,7 @@ pub fn keygen<R: Threads + Sync, F: Folder, C: Chance, O: Sink>(
         (chance_use C.given C.faults chance.old chance.new)
         (sink_use O.written O.faults out.old out.new)
         result }
-    ensures may_ask { AsksOnly (key_names (names_of_document asked.now.name) asked.now.member) (F.asked files.old) (F.asked files.new) }
+    ensures may_ask { AsksOnly (key_names (names_of_document asked.now.name) asked.now.device) (F.asked files.old) (F.asked files.new) }
     ensures lent { F.lent files.new ≡ F.lent files.old }
     ensures files_kept { F.faults files.old ≤ F.faults files.new }
     ensures chance_kept { C.faults chance.old ≤ C.faults chance.new }
@@ -61,12 +61,12 @@ fn make_key<R: Threads + Sync, C: Chance>(
     requires height { IsLeafHeight (height_of asked.now.height) }
     requires width { IsKeyWidth asked.now.width }
     ensures ok { IfOk result (λ key. IsKeygen (C.given chance.old) (C.given chance.new)
-        asked.now.member asked.now.height asked.now.width key) }
+        asked.now.device asked.now.height asked.now.width key) }
     ensures spelled { IfOk result (λ key. IsKeyFile key.file) }
     ensures err { IfErr result (IsOutsideFault (C.faults chance.old) (C.faults chance.new)) }
     ensures kept { C.faults chance.old ≤ C.faults chance.new }
 {
-    match sporc_keys::keygen(rt, alloc, chance, asked.member, asked.height, asked.width) {
+    match sporc_keys::keygen(rt, alloc, chance, asked.device, asked.height, asked.width) {
         Ok(key) => Ok(key),
         Err(fault) => Err(Fault::from(fault)),
     }
@@ -94,18 +94,18 @@ fn write_files<F: Folder>(
     ensures ok { OnOk result (StoresKey names.now key.now (F.files files.old) (F.files files.new)) }
     ensures err { IfErr result (IsFilesFault names.now key.now (F.files files.old) (F.files files.new)
         (F.faults files.old) (F.faults files.new)) }
-    ensures may_ask { AsksOnly (key_names names.now key.now.file.member) (F.asked files.old) (F.asked files.new) }
+    ensures may_ask { AsksOnly (key_names names.now key.now.file.device) (F.asked files.old) (F.asked files.new) }
     ensures lent { F.lent files.new ≡ F.lent files.old }
     ensures kept { F.faults files.old ≤ F.faults files.new }
 {
     let bytes = write_key_file(alloc, &key.file)?;
-    let member = key.file.member;
-    write_new_file(alloc, files, names, File::Key(member), bytes.as_slice())?;
+    let device = key.file.device;
+    write_new_file(alloc, files, names, File::Key(device), bytes.as_slice())?;
     write_new_file(
         alloc,
         files,
         names,
-        File::Leaf(member),
+        File::Leaf(device),
         key.leaves.as_slice(),
     )
 }

@@ -15,7 +15,7 @@ use sporc_words::Public;
 use std::alloc::Global;
 use std::thread::Threads;
 
-/// Prints the public key of a member's key file, as `keygen` did. The tree is built anew for that.
+/// Prints the public key of a device's key file, as `keygen` did. The tree is built anew for that.
 pub fn public<R: Threads + Sync, F: Folder, O: Sink>(
     rt: &R,
     alloc: Global,
@@ -27,7 +27,7 @@ pub fn public<R: Threads + Sync, F: Folder, O: Sink>(
         (folder_use F.files F.asked F.lent F.faults files.old files.new)
         (sink_use O.written O.faults out.old out.new)
         result }
-    ensures may_ask { AsksOnly (file_name (names_of_document asked.now.name) (kinds.Key asked.now.member) ∷ []) (F.asked files.old) (F.asked files.new) }
+    ensures may_ask { AsksOnly (file_name (names_of_document asked.now.name) (kinds.Key asked.now.device) ∷ []) (F.asked files.old) (F.asked files.new) }
     ensures files { F.files files.new ≡ F.files files.old }
     ensures lent { F.lent files.new ≡ F.lent files.old }
     ensures files_kept { F.faults files.old ≤ F.faults files.new }
@@ -38,7 +38,7 @@ pub fn public<R: Threads + Sync, F: Folder, O: Sink>(
     Ok(())
 }
 
-// The line of a member's key file.
+// The line of a device's key file.
 fn read_line<R: Threads + Sync, F: Folder>(
     rt: &R,
     alloc: Global,
@@ -46,15 +46,15 @@ fn read_line<R: Threads + Sync, F: Folder>(
     asked: &Public,
 ) -> Result<String, Fault>
     ensures ok { IfOk result (λ line. IsLineOf asked.now (F.files files.old) (string_bytes line)) }
-    ensures err { IfErr result (IsFileFault (key_file asked.now.member) (F.files files.old) (F.faults files.old) (F.faults files.new)
-        (names_of_document asked.now.name) (kinds.Key asked.now.member)) }
-    ensures may_ask { AsksOnly (file_name (names_of_document asked.now.name) (kinds.Key asked.now.member) ∷ []) (F.asked files.old) (F.asked files.new) }
+    ensures err { IfErr result (IsFileFault (key_file asked.now.device) (F.files files.old) (F.faults files.old) (F.faults files.new)
+        (names_of_document asked.now.name) (kinds.Key asked.now.device)) }
+    ensures may_ask { AsksOnly (file_name (names_of_document asked.now.name) (kinds.Key asked.now.device) ∷ []) (F.asked files.old) (F.asked files.new) }
     ensures files { F.files files.new ≡ F.files files.old }
     ensures lent { F.lent files.new ≡ F.lent files.old }
     ensures kept { F.faults files.old ≤ F.faults files.new }
 {
     let names = Names::of_document(asked.name.as_str());
-    let tree = read_key_file(rt, alloc, files, &names, asked.member)?;
+    let tree = read_key_file(rt, alloc, files, &names, asked.device)?;
     let line = key_line(alloc, &tree.public())?;
     Ok(line)
 }

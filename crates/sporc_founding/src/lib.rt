@@ -1,8 +1,10 @@
 //! The commands that make keys and documents.
 //!
-//! - [`keygen`] makes a member's key: `NAME.M.key`, then `NAME.M.leaf`, and prints the public key.
+//! - [`keygen`] makes a device's key: `NAME.M.key`, then `NAME.M.leaf`, or `NAME.M.D.key` and `NAME.M.D.leaf`, and prints the
+//!   public key.
 //! - [`public`] prints that line again, of a key file that is there.
-//! - [`found`] makes a document: `NAME.genesis`, then `NAME.M.ring` of each who is named, by the founders' key files.
+//! - [`found`] makes a document: `NAME.genesis`, then `NAME.M.ring` of each who is named, by the key files of the founders'
+//!   first devices.
 //!
 //! ```text
 //! keygen(alloc, &mut files, &mut chance, &mut out, &asked)?;     // plan.1.key, plan.1.leaf, and `key` with 112 digits

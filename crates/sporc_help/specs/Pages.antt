@@ -4,7 +4,7 @@ use Rattle.sporc_words.specs.declared.command.Verb.{Verb}
 use Rattle.sporc_words.specs.declared.command.Verb.TheVariants as verbs
 use Rattle.sporc_words.specs.declared.page.Page.{Page}
 use Rattle.sporc_words.specs.declared.page.Page.TheVariants as pages
-use Rattle.sporc_help.specs.declared.pages.TheConstants.{CHECK, CLIENT, COMPARE, ENTRIES, FOUND, HELP, KEYGEN, OVERVIEW, PLAY, PUBLIC, SERVE, TEXT, VERSION, VERSION_PAGE}
+use Rattle.sporc_help.specs.declared.pages.TheConstants.{CHECK, CLIENT, COMPARE, ENTRIES, FOUND, HELP, KEYGEN, OVERVIEW, PLAY, PUBLIC, SERVE, SERVE_ALL, TEXT, VERSION, VERSION_PAGE}
 
 -- of a command by its first word
 unfoldable pub command_text : Verb → List ℕ
@@ -18,6 +18,7 @@ command_text verbs.Compare = COMPARE.now
 command_text verbs.Public = PUBLIC.now
 command_text verbs.Text = TEXT.now
 command_text verbs.Entries = ENTRIES.now
+command_text verbs.ServeAll = SERVE_ALL.now
 
 -- of a page
 unfoldable pub page_text : Page → List ℕ

@@ -12,6 +12,7 @@ Commands, each behind the word sporc:
   keygen NAME M HEIGHT W                                    makes a member's key
   found NAME M:ROLE ..                                      founds a document
   serve NAME ADDRESS --sessions K                           serves a document
+  serve-all ADDRESS --sessions K NAME ..                    serves documents
   client NAME M ADDRESS [--rounds R] [--until P] SCRIPT ..  edits as a member
   check NAME M                                              checks a history
   text NAME M [--at POS]                                    prints a text
@@ -26,30 +27,35 @@ Commands, each behind the word sporc:
 sporc help COMMAND says what a command's words are, which files it reads and
 writes, and what its status means; sporc COMMAND --help says the same. Status 0
 is for a command that did all its work. Otherwise the last line begins with the
-word fault, and says why.
+word fault, and says why. M is a member's first device, M.D a further one.
 ";
 
 /// `keygen`.
 pub const KEYGEN: &str = "\
 sporc keygen NAME M HEIGHT W
 
-Makes a new key for a member of a document, and prints its public key,
-which an admin needs to add the member later. No file is replaced.
+Makes a new key for a device of a member, and prints its public key, which
+an admin needs to add the member, or a further device, later. No file is
+replaced.
 
   NAME    the document's name: the path that its files' names begin with
-  M       the member's number, 1 to 65535
+  M       the member's number, 1 to 65535, for its first device; M.D for a
+          further one, D from 1 to 255
   HEIGHT  the height of the key's tree, 5, 10 or 15: the key signs at most
           2^HEIGHT entries
   W       the Winternitz width, 4 or 8: with 8 a signature is about half as
           long, and takes about eight times as long to make
 
 Files: makes NAME.M.key, which is secret, and NAME.M.leaf, which tells what
-of the key is used: never copy it back from a backup, nor have it in two
-places.
+of the key is used; for a further device NAME.M.D.key and NAME.M.D.leaf.
+Make a key on the machine that is to sign with it. Never copy it to another
+one, nor a leaf file back from a backup: what is signed twice by one leaf
+gives the key away.
 
-Example:
+Examples:
 
   sporc keygen trip 2 10 4
+  sporc keygen trip 2.1 10 4
 
 Statuses:
 
@@ -72,8 +78,9 @@ of these names are replaced: found over a document in use makes another.
   ROLE  reader, editor, admin or joiner; at least one is an admin. A joiner
         has no right before an admin adds it, and needs no key yet
 
-Files: reads NAME.M.key of each founder; makes NAME.genesis, which everyone
-needs, and NAME.M.ring, a secret of M, for each number that is named.
+Files: reads NAME.M.key of each founder, the key of its first device; makes
+NAME.genesis, which everyone needs, and NAME.M.ring, a secret of M, for
+each number that is named.
 
 Example:
 
@@ -117,27 +124,63 @@ Statuses:
   8  the log is too long for a file, or a lock is worn
 ";
 
+/// `serve-all`.
+pub const SERVE_ALL: &str = "\
+sporc serve-all ADDRESS --sessions K NAME ..
+
+Serves K sessions of several documents at one address, all at once as they
+come, and ends as the last of them has. A session is of the document that
+its client names first; one that names none of these is closed. Then it
+saves the log of each document, and prints how many entries each has, in
+the order of the names.
+
+  ADDRESS  where it listens: a host and a port, as 127.0.0.1:4000
+  K        how many sessions, of all documents together, 1 to 1024
+  NAME     a document's name: the path that its files' names begin with; 1
+           to 64 of them, each of another document
+
+Files: reads NAME.genesis and, if it is there, NAME.log of each document;
+writes NAME.log of each.
+
+Example:
+
+  sporc serve-all 127.0.0.1:4000 --sessions 8 trip menu
+
+Statuses:
+
+  0  all sessions have ended, and each log is saved
+  1  memory ran out
+  2  the words are not these, or one is out of its range
+  3  a file is missing, too long or malformed, or a document named twice
+  4  an entry of a log fails a check
+  6  a file, standard output or the net failed
+  8  a log is too long for a file, or a lock is worn
+";
+
 /// `client`.
 pub const CLIENT: &str = "\
 sporc client NAME M ADDRESS [--rounds R] [--until P] SCRIPT ..
 
-Runs one session of a member with a server, beside an editor for each
-script. When the session has ended it prints the journal, the text and the
-last hash, and the history is saved, also after a fault. Run one client of
-a member at a time.
+Runs one session of a member's device with a server, beside an editor for
+each script. When the session has ended it prints the journal, the text and
+the last hash, and the history is saved, also after a fault. Run one client
+of a device at a time.
 
   NAME     the document's name: the path that its files' names begin with
-  M        the member's number, 1 to 65535
+  M        the member's number, 1 to 65535, for its first device; M.D for a
+           further one, D from 1 to 255
   ADDRESS  the server's host and port, as 127.0.0.1:4000
   R        rounds beside the editors, and at most so many after them; 64 if
            it is left out
   P        how many entries the history is to have; 0 if it is left out
   SCRIPT   the path of an editor script, at most eight. Its lines are
-           insert AT TEXT, remove AT COUNT, add M ROLE HEX, drop M and
-           role M ROLE
+           insert AT TEXT, remove AT COUNT, add M ROLE HEX, drop M,
+           role M ROLE, upgrade, device M D HEX and drop-device M D
 
 Files: reads NAME.genesis, NAME.M.key, NAME.M.ring, the scripts and, if it
-is there, NAME.M.history; marks NAME.M.leaf; writes NAME.M.history.
+is there, NAME.M.history; marks NAME.M.leaf; writes NAME.M.history. For M.D
+key, leaf file and history are NAME.M.D.key, NAME.M.D.leaf and
+NAME.M.D.history; the ring is the member's.
 
 Example:
 
@@ -164,13 +207,15 @@ Statuses:
 pub const CHECK: &str = "\
 sporc check NAME M
 
-Checks every entry of a member's saved history, signatures and keys too, as
-the member's client does, and prints how many entries there are.
+Checks every entry of a device's saved history, signatures and keys too, as
+the device's client does, and prints how many entries there are.
 
   NAME  the document's name: the path that its files' names begin with
-  M     the member's number, 1 to 65535
+  M     the member's number, 1 to 65535, for its first device; M.D for a
+        further one, D from 1 to 255
 
-Files: reads NAME.genesis, NAME.M.key, NAME.M.ring and NAME.M.history.
+Files: reads NAME.genesis, NAME.M.key, NAME.M.ring and NAME.M.history; for
+M.D NAME.M.D.key and NAME.M.D.history in place of the device's two.
 
 Example:
 
@@ -190,16 +235,18 @@ Statuses:
 pub const TEXT: &str = "\
 sporc text NAME M [--at POS]
 
-Checks every entry of a member's saved history, as check does, and prints
+Checks every entry of a device's saved history, as check does, and prints
 the text after all entries or after the first POS, as UTF-8, with nothing
 before or behind it. After a fault nothing of the text was printed, unless
 standard output failed.
 
   NAME  the document's name: the path that its files' names begin with
-  M     the member's number, 1 to 65535
+  M     the member's number, 1 to 65535, for its first device; M.D for a
+        further one, D from 1 to 255
   POS   after how many entries; after all if it is left out
 
-Files: reads NAME.genesis, NAME.M.key, NAME.M.ring and NAME.M.history.
+Files: reads NAME.genesis, NAME.M.key, NAME.M.ring and NAME.M.history; for
+M.D NAME.M.D.key and NAME.M.D.history in place of the device's two.
 
 Example:
 
@@ -220,16 +267,18 @@ Statuses:
 pub const ENTRIES: &str = "\
 sporc entries NAME M [--from POS]
 
-Checks every entry of a member's saved history, as check does, and prints a
-line for each, from the one at POS on: its position, its author, its number
-among the author's entries, how many entries the author had seen, and what
-it did, an edit as it came into the text.
+Checks every entry of a device's saved history, as check does, and prints a
+line for each, from the one at POS on: its position, the device that made
+it, its number among that device's entries, how many entries the device had
+seen, and what it did, an edit as it came into the text.
 
   NAME  the document's name: the path that its files' names begin with
-  M     the member's number, 1 to 65535
+  M     the member's number, 1 to 65535, for its first device; M.D for a
+        further one, D from 1 to 255
   POS   the position of the first line that is printed; 1 if left out
 
-Files: reads NAME.genesis, NAME.M.key, NAME.M.ring and NAME.M.history.
+Files: reads NAME.genesis, NAME.M.key, NAME.M.ring and NAME.M.history; for
+M.D NAME.M.D.key and NAME.M.D.history in place of the device's two.
 
 Example:
 
@@ -251,16 +300,19 @@ sporc compare NAME M N
 
 Prints how the saved history of M stands to that of N, without checking
 their entries: same, prefix, longer, or forked after so many entries, if a
-server told the two members two stories.
+server told the two of them two stories.
 
   NAME  the document's name: the path that its files' names begin with
-  M, N  the members' numbers, 1 to 65535
+  M, N  two members' numbers, 1 to 65535, for their first devices; M.D for
+        a further one, D from 1 to 255
 
-Files: reads NAME.genesis, NAME.M.history and NAME.N.history.
+Files: reads NAME.genesis, NAME.M.history and NAME.N.history, or
+NAME.M.D.history in place of each.
 
-Example:
+Examples:
 
   sporc compare trip 1 2
+  sporc compare trip 1 1.1
 
 Statuses:
 
@@ -279,9 +331,10 @@ Prints the public key of a key that is there, as keygen printed it. No file
 is changed.
 
   NAME  the document's name: the path that its files' names begin with
-  M     the member's number, 1 to 65535
+  M     the member's number, 1 to 65535, for its first device; M.D for a
+        further one, D from 1 to 255
 
-Files: reads NAME.M.key.
+Files: reads NAME.M.key, or NAME.M.D.key.
 
 Example:
 

@@ -6,8 +6,8 @@ ghost use Rattle.sporc_help.specs.Pages.{command_text, page_text, version_text};
 ghost use Rattle.sporc_help.specs.Telling.{TellsText};
 
 use crate::pages::{
-    CHECK, CLIENT, COMPARE, ENTRIES, FOUND, HELP, KEYGEN, OVERVIEW, PLAY, PUBLIC, SERVE, TEXT,
-    VERSION, VERSION_PAGE,
+    CHECK, CLIENT, COMPARE, ENTRIES, FOUND, HELP, KEYGEN, OVERVIEW, PLAY, PUBLIC, SERVE, SERVE_ALL,
+    TEXT, VERSION, VERSION_PAGE,
 };
 use sporc_files::Fault;
 use sporc_outside::{Sink, write_all};
@@ -58,6 +58,7 @@ fn text_of_command(verb: Verb) -> &'static str
         Verb::Public => PUBLIC,
         Verb::Text => TEXT,
         Verb::Entries => ENTRIES,
+        Verb::ServeAll => SERVE_ALL,
     }
 }
 

@@ -5,6 +5,7 @@ use Rattle.sporc_bytes.specs.Fields.{◌>>=◌}
 use Rattle.sporc_bytes.proofs.Fields.{bind_ok}
 use Rattle.sporc_outside.specs.Counts.{Rose}
 use Rattle.sporc_outside.specs.declared.named_file.NamedFile.{NamedFile}
+use Rattle.sporc_member.specs.declared.device.Device.{Device}
 use Rattle.sporc_hash.specs.Chain.{chain, chain_after, genesis_value, next_value}
 use Rattle.sporc_entry.specs.declared.genesis.Genesis.{Genesis}
 use Rattle.sporc_entry.specs.Genesis.{genesis_bytes}
@@ -21,7 +22,7 @@ use Rattle.sporc_histories.proofs.Found.{fails_first, is_there, reads_none, says
 abbrev pair_of : List (List ℕ) → List (List ℕ) → Chains
 pair_of a b = record { first = a; second = b }
 
-module _ (told : Option (List NamedFile)) (names : FileNames) (m n : ℕ) where
+module _ (told : Option (List NamedFile)) (names : FileNames) (m n : Device) where
   -- the second chain, where the genesis and the first one are read
   abbrev with_second : Genesis → Option (List ℕ) → List (List ℕ) → Result Chains Fault
   with_second g second a = chain_in g (files.History n) second >>= λ b. Ok (pair_of a b)
@@ -120,6 +121,6 @@ of_one_genesis told told' name name' c c' d d' g file file' one other first seco
     rw (is, is') (record { begun = omega arith; one_genesis = refl })
 
 -- a line about these chains
-pub verdict_says : (m n : ℕ) (a b a' b' : List (List ℕ)) (line line' : List ℕ) → a ≡ a' → b ≡ b' → line' ≡ line → IsVerdictLine m n (record { first = a; second = b }) line
+pub verdict_says : (m n : Device) (a b a' b' : List (List ℕ)) (line line' : List ℕ) → a ≡ a' → b ≡ b' → line' ≡ line → IsVerdictLine m n (record { first = a; second = b }) line
     → IsVerdictLine m n (record { first = a'; second = b' }) line'
 verdict_says m n a b a' b' line line' a_is b_is line_is says = rw (← a_is, ← b_is, line_is) says

@@ -5,6 +5,7 @@ use Rattle.sporc_outside.specs.Counts.{Rose}
 use Rattle.sporc_outside.specs.declared.named_file.NamedFile.{NamedFile}
 use Rattle.lms_tree.specs.LmsPrivate.{LmsPrivate}
 use Rattle.sporc_entry.specs.declared.genesis.Genesis.{Genesis}
+use Rattle.sporc_member.specs.declared.device.Device.{Device}
 use Rattle.sporc_line.specs.LineModel.{LineModel}
 use Rattle.sporc_keys.specs.RingFile.{ring_file_of_member}
 use Rattle.sporc_keys.specs.declared.ring_file.RingFile.{RingFile}
@@ -17,19 +18,19 @@ use Rattle.sporc_histories.specs.Contents.{AnswersUnlessOutside, IsFileAt, bytes
 use Rattle.sporc_histories.specs.Checking.{CheckedLine, FindsLine, checked_line, examined}
 use Rattle.sporc_histories.proofs.Found.{is_there, reads_none, reads_value, says, tells_behind, tells_later, there}
 
-module _ (told : Option (List NamedFile)) (names : FileNames) (m : ℕ) where
+module _ (told : Option (List NamedFile)) (names : FileNames) (m : Device) where
   -- what is answered of the files from one on
   abbrev with_history : Genesis → RingFile → Option (List ℕ) → Result CheckedLine Fault
   with_history g ring history = bytes_in (files.History m) history >>= λ bytes. examined g m ring bytes
 
   abbrev with_ring : Genesis → Option (List ℕ) → Option (List ℕ) → Result CheckedLine Fault
-  with_ring g ring history = said (ring_file_of_member m) (files.Ring m) ring >>= λ file. with_history g file history
+  with_ring g ring history = said (ring_file_of_member m.member) (files.Ring m.member) ring >>= λ file. with_history g file history
 
   abbrev with_key : Genesis → Option (List ℕ) → Option (List ℕ) → Option (List ℕ) → Result CheckedLine Fault
   with_key g key ring history = said (own_key_file g.founders m) (files.Key m) key >>= λ k. with_ring g ring history
 
   abbrev ring_there : Option (List ℕ)
-  ring_there = there told (file_name names (files.Ring m))
+  ring_there = there told (file_name names (files.Ring m.member))
 
   abbrev history_there : Option (List ℕ)
   history_there = there told (file_name names (files.History m))
@@ -40,7 +41,7 @@ module _ (told : Option (List NamedFile)) (names : FileNames) (m : ℕ) where
 
   -- the files before it say something
   module _ (g : Genesis) (says_g : SaysFile genesis_file told (file_name names files.Genesis) g) (c0 c1 c2 : ℕ) (r : Result LineModel Fault) (le : c0 ≤ c1) where
-    pub from_key : (ring history : Option (List ℕ)) → IsFileAt told (file_name names (files.Ring m)) ring → IsFileAt told (file_name names (files.History m)) history
+    pub from_key : (ring history : Option (List ℕ)) → IsFileAt told (file_name names (files.Ring m.member)) ring → IsFileAt told (file_name names (files.History m)) history
         → Holds (files.Key m) (λ key. with_key g key ring history) c1 c2 r → FindsLine told names m c0 c2 r
     from_key ring history ring_at history_at (key, key_at, tells) =
         let (gc, g_at, g_is) = says genesis_file told (file_name names files.Genesis) files.Genesis g says_g in
@@ -51,16 +52,16 @@ module _ (told : Option (List NamedFile)) (names : FileNames) (m : ℕ) where
         )
 
     pub from_ring : (key : LmsPrivate) → SaysFile (own_key_file g.founders m) told (file_name names (files.Key m)) key → (history : Option (List ℕ)) → IsFileAt told (file_name names (files.History m)) history
-        → Holds (files.Ring m) (λ ring. with_ring g ring history) c1 c2 r → FindsLine told names m c0 c2 r
+        → Holds (files.Ring m.member) (λ ring. with_ring g ring history) c1 c2 r → FindsLine told names m c0 c2 r
     from_ring key says_key history history_at (ring, ring_at, tells) =
         let (kc, k_at, k_is) = says (own_key_file g.founders m) told (file_name names (files.Key m)) (files.Key m) key says_key in
         from_key ring history ring_at history_at (kc, k_at, tells_behind checked_line (Rose c1 c2) r (said (own_key_file g.founders m) (files.Key m) kc) key (λ k. with_ring g ring history) k_is tells)
 
-    pub from_history : (key : LmsPrivate) (ring : RingFile) → SaysFile (own_key_file g.founders m) told (file_name names (files.Key m)) key → SaysFile (ring_file_of_member m) told (file_name names (files.Ring m)) ring
+    pub from_history : (key : LmsPrivate) (ring : RingFile) → SaysFile (own_key_file g.founders m) told (file_name names (files.Key m)) key → SaysFile (ring_file_of_member m.member) told (file_name names (files.Ring m.member)) ring
         → Holds (files.History m) (with_history g ring) c1 c2 r → FindsLine told names m c0 c2 r
     from_history key ring says_key says_ring (history, history_at, tells) =
-        let (rc, r_at, r_is) = says (ring_file_of_member m) told (file_name names (files.Ring m)) (files.Ring m) ring says_ring in
-        from_ring key says_key history history_at (rc, r_at, tells_behind checked_line (Rose c1 c2) r (said (ring_file_of_member m) (files.Ring m) rc) ring (λ file. with_history g file history) r_is tells)
+        let (rc, r_at, r_is) = says (ring_file_of_member m.member) told (file_name names (files.Ring m.member)) (files.Ring m.member) ring says_ring in
+        from_ring key says_key history history_at (rc, r_at, tells_behind checked_line (Rose c1 c2) r (said (ring_file_of_member m.member) (files.Ring m.member) rc) ring (λ file. with_history g file history) r_is tells)
 
   -- ---- one of the files fails
 
@@ -72,7 +73,7 @@ module _ (told : Option (List NamedFile)) (names : FileNames) (m : ℕ) where
         record {
           genesis = at;
           key = is_there told (file_name names (files.Key m));
-          ring = is_there told (file_name names (files.Ring m));
+          ring = is_there told (file_name names (files.Ring m.member));
           history = is_there told (file_name names (files.History m));
         },
         tells,
@@ -81,24 +82,24 @@ module _ (told : Option (List NamedFile)) (names : FileNames) (m : ℕ) where
   pub key_fails : (c0 c1 c2 : ℕ) (g : Genesis) (fault : Fault) (r : Result LineModel Fault) → c0 ≤ c1 → r ≡ Err fault → SaysFile genesis_file told (file_name names files.Genesis) g
       → IsFileFault (own_key_file g.founders m) told c1 c2 names (files.Key m) fault → FindsLine told names m c0 c2 r
   key_fails c0 c1 c2 g fault r le is says_g why =
-      from_key g says_g c0 c1 c2 r le ring_there history_there (is_there told (file_name names (files.Ring m))) (is_there told (file_name names (files.History m)))
+      from_key g says_g c0 c1 c2 r le ring_there history_there (is_there told (file_name names (files.Ring m.member))) (is_there told (file_name names (files.History m)))
       (reads_none (own_key_file g.founders m) checked_line told c1 c2 names (files.Key m) (λ k. with_ring g ring_there history_there) fault r is why)
 
   pub ring_fails : (c0 c1 c2 : ℕ) (g : Genesis) (key : LmsPrivate) (fault : Fault) (r : Result LineModel Fault) → c0 ≤ c1 → r ≡ Err fault → SaysFile genesis_file told (file_name names files.Genesis) g
-      → SaysFile (own_key_file g.founders m) told (file_name names (files.Key m)) key → IsFileFault (ring_file_of_member m) told c1 c2 names (files.Ring m) fault → FindsLine told names m c0 c2 r
+      → SaysFile (own_key_file g.founders m) told (file_name names (files.Key m)) key → IsFileFault (ring_file_of_member m.member) told c1 c2 names (files.Ring m.member) fault → FindsLine told names m c0 c2 r
   ring_fails c0 c1 c2 g key fault r le is says_g says_key why =
       from_ring g says_g c0 c1 c2 r le key says_key history_there (is_there told (file_name names (files.History m)))
-      (reads_none (ring_file_of_member m) checked_line told c1 c2 names (files.Ring m) (λ file. with_history g file history_there) fault r is why)
+      (reads_none (ring_file_of_member m.member) checked_line told c1 c2 names (files.Ring m.member) (λ file. with_history g file history_there) fault r is why)
 
   pub history_fails : (c0 c1 c2 : ℕ) (g : Genesis) (key : LmsPrivate) (ring : RingFile) (fault : Fault) (r : Result LineModel Fault) → c0 ≤ c1 → r ≡ Err fault
       → SaysFile genesis_file told (file_name names files.Genesis) g → SaysFile (own_key_file g.founders m) told (file_name names (files.Key m)) key
-      → SaysFile (ring_file_of_member m) told (file_name names (files.Ring m)) ring → IsFileFault any_bytes told c1 c2 names (files.History m) fault → FindsLine told names m c0 c2 r
+      → SaysFile (ring_file_of_member m.member) told (file_name names (files.Ring m.member)) ring → IsFileFault any_bytes told c1 c2 names (files.History m) fault → FindsLine told names m c0 c2 r
   history_fails c0 c1 c2 g key ring fault r le is says_g says_key says_ring why =
       from_history g says_g c0 c1 c2 r le key ring says_key says_ring (reads_none any_bytes checked_line told c1 c2 names (files.History m) (examined g m ring) fault r is why)
 
   pub all_read : (c0 c1 c2 : ℕ) (g : Genesis) (key : LmsPrivate) (ring : RingFile) (bytes : List ℕ) (r : Result LineModel Fault) → c0 ≤ c1
       → SaysFile genesis_file told (file_name names files.Genesis) g → SaysFile (own_key_file g.founders m) told (file_name names (files.Key m)) key
-      → SaysFile (ring_file_of_member m) told (file_name names (files.Ring m)) ring → SaysFile any_bytes told (file_name names (files.History m)) bytes
+      → SaysFile (ring_file_of_member m.member) told (file_name names (files.Ring m.member)) ring → SaysFile any_bytes told (file_name names (files.History m)) bytes
       → AnswersUnlessOutside checked_line ⊥ r (examined g m ring bytes) → FindsLine told names m c0 c2 r
   all_read c0 c1 c2 g key ring bytes r le says_g says_key says_ring says_bytes tells =
       from_history g says_g c0 c1 c2 r le key ring says_key says_ring (reads_value any_bytes checked_line told c1 c2 names (files.History m) (examined g m ring) bytes r says_bytes tells)

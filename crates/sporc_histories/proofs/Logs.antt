@@ -23,7 +23,7 @@ use Rattle.sporc_histories.proofs.Found.{has_at, is_there, none_at, reads_none, 
 -- ---- saving
 
 -- files that were read before the log was saved stayed, and so did the count of faults, or it rose
-module _ (names : FileNames) (late whole : FolderUse) (out : SinkUse) (order : OrderModel) (before : late.files_before ≡ whole.files_before) (after : late.files_after ≡ whole.files_after)
+module _ (names : FileNames) (late whole : FolderUse) (out : SinkUse) (order : OrderModel) (line : List ℕ) (before : late.files_before ≡ whole.files_before) (after : late.files_after ≡ whole.files_after)
     (rose : Rose late.faults_before late.faults_after → Rose whole.faults_before whole.faults_after) where
   saves : SavesLog names late order → SavesLog names whole order
   saves is = record {
@@ -39,11 +39,11 @@ module _ (names : FileNames) (late whole : FolderUse) (out : SinkUse) (order : O
   changes is = subst (λ (t : Option (List NamedFile)). ChangesFile t whole.files_after (file_name names files.Log)) before
       (subst (λ (t : Option (List NamedFile)). ChangesFile late.files_before t (file_name names files.Log)) after is)
 
-  fails_outside : KeepsLog names late out order {T = Unit {0}} (Err faults.Outside) → KeepsLog names whole out order {T = Unit {0}} (Err faults.Outside)
+  fails_outside : KeepsLog names late out order line {T = Unit {0}} (Err faults.Outside) → KeepsLog names whole out order line {T = Unit {0}} (Err faults.Outside)
   fails_outside (inl (failed, changed, none)) = inl (rose failed, changes changed, none)
   fails_outside (inr (saved, failed, written)) = inr (saves saved, failed, written)
 
-  pub keeps : (r : Result (Unit {0}) Fault) → KeepsLog names late out order r → KeepsLog names whole out order r
+  pub keeps : (r : Result (Unit {0}) Fault) → KeepsLog names late out order line r → KeepsLog names whole out order line r
   keeps (Ok done) kept = (saves kept.0, kept.1)
   keeps (Err faults.Memory) kept = (unchanged kept.0, kept.1)
   keeps (Err faults.FullFile) kept = (kept.0, unchanged kept.1, kept.2)

@@ -6,6 +6,7 @@ use Rattle.sporc_outside.specs.Counts.{Rose}
 use Rattle.sporc_outside.specs.Files.{ChangesFile, with_file}
 use Rattle.sporc_outside.specs.Uses.{IsUnwritten, SinkUse}
 use Rattle.sporc_outside.specs.Writing.{AppendsPrefix}
+use Rattle.sporc_member.specs.declared.device.Device.{Device}
 use Rattle.sporc_order.specs.OrderModel.{OrderModel}
 use Rattle.sporc_serve.specs.declared.fault.ServeFault.{ServeFault}
 use Rattle.sporc_serve.specs.Crowds.{Net}
@@ -23,36 +24,36 @@ use Rattle.sporc_histories.specs.Uses.{OnlyReads, WritesLine}
 
 -- ---- check
 
--- `check NAME M`: the genesis, the key, the ring and the history of the member are read, the history is examined, and the line of how many
--- entries it has is written
-pub record CheckOutcome {T : Type 0} (names : FileNames) (member : ℕ) (folder : FolderUse) (out : SinkUse) (answer : Result T Fault) : Type 0 where
+-- `check NAME M`: the genesis, the key of the device, the ring of its member and the history of the device are read, the history is examined,
+-- and the line of how many entries it has is written
+pub record CheckOutcome {T : Type 0} (names : FileNames) (device : Device) (folder : FolderUse) (out : SinkUse) (answer : Result T Fault) : Type 0 where
   pub content : CheckedFiles
-  pub are : AreCheckedFiles folder.files_before names member content
-  pub reads : OnlyReads names (files.Genesis ∷ files.Key member ∷ files.Ring member ∷ files.History member ∷ []) folder
-  pub writes : WritesLine IsCheckedLine folder out (checked_in member content) answer
+  pub are : AreCheckedFiles folder.files_before names device content
+  pub reads : OnlyReads names (files.Genesis ∷ files.Key device ∷ files.Ring device.member ∷ files.History device ∷ []) folder
+  pub writes : WritesLine IsCheckedLine folder out (checked_in device content) answer
 
 -- ---- text and entries
 
 -- `text NAME M --at POS`: the same files are read, the history is examined, and the committed text is written, after so many of its entries or
 -- after all
-pub record TextOutcome {T : Type 0} (names : FileNames) (member : ℕ) (at : Option ℕ) (folder : FolderUse) (out : SinkUse) (answer : Result T Fault) : Type 0 where
+pub record TextOutcome {T : Type 0} (names : FileNames) (device : Device) (at : Option ℕ) (folder : FolderUse) (out : SinkUse) (answer : Result T Fault) : Type 0 where
   pub content : CheckedFiles
-  pub are : AreCheckedFiles folder.files_before names member content
-  pub reads : OnlyReads names (files.Genesis ∷ files.Key member ∷ files.Ring member ∷ files.History member ∷ []) folder
-  pub writes : WritesLine IsJust folder out (text_in member at content) answer
+  pub are : AreCheckedFiles folder.files_before names device content
+  pub reads : OnlyReads names (files.Genesis ∷ files.Key device ∷ files.Ring device.member ∷ files.History device ∷ []) folder
+  pub writes : WritesLine IsJust folder out (text_in device at content) answer
 
 -- `entries NAME M --from POS`: the same, and the lines of the entries from that position on are written
-pub record EntriesOutcome {T : Type 0} (names : FileNames) (member from : ℕ) (folder : FolderUse) (out : SinkUse) (answer : Result T Fault) : Type 0 where
+pub record EntriesOutcome {T : Type 0} (names : FileNames) (device : Device) (from : ℕ) (folder : FolderUse) (out : SinkUse) (answer : Result T Fault) : Type 0 where
   pub content : CheckedFiles
-  pub are : AreCheckedFiles folder.files_before names member content
-  pub reads : OnlyReads names (files.Genesis ∷ files.Key member ∷ files.Ring member ∷ files.History member ∷ []) folder
-  pub writes : WritesLine IsJust folder out (lines_in member from content) answer
+  pub are : AreCheckedFiles folder.files_before names device content
+  pub reads : OnlyReads names (files.Genesis ∷ files.Key device ∷ files.Ring device.member ∷ files.History device ∷ []) folder
+  pub writes : WritesLine IsJust folder out (lines_in device from content) answer
 
 -- ---- compare
 
--- `compare NAME M N`: the genesis and then the histories of both members are read, whole, and the line of how the chain of the first
+-- `compare NAME M N`: the genesis and then the histories of both devices are read, whole, and the line of how the chain of the first
 -- stands to that of the second is written
-pub record CompareOutcome {T : Type 0} (names : FileNames) (m n : ℕ) (folder : FolderUse) (out : SinkUse) (answer : Result T Fault) : Type 0 where
+pub record CompareOutcome {T : Type 0} (names : FileNames) (m n : Device) (folder : FolderUse) (out : SinkUse) (answer : Result T Fault) : Type 0 where
   pub content : ComparedFiles
   pub are : AreComparedFiles folder.files_before names m n content
   pub reads : OnlyReads names (files.Genesis ∷ files.History m ∷ files.History n ∷ []) folder
@@ -70,16 +71,16 @@ pub record SavesLog (names : FileNames) (folder : FolderUse) (order : OrderModel
   pub saved : saved_log order ≡ Ok log
   pub files : folder.files_after ≡ option_map (λ old. with_file old (file_name names files.Log) log) folder.files_before
 
--- how an order's entries were saved and their number was told, by the answer
-module _ (names : FileNames) (folder : FolderUse) (out : SinkUse) (order : OrderModel) where
+-- how an order's entries were saved and this line was written, by the answer
+module _ (names : FileNames) (folder : FolderUse) (out : SinkUse) (order : OrderModel) (line : List ℕ) where
   abbrev pub KeepsLog : {T : Type 0} → Result T Fault → Type 0
-  KeepsLog (Ok done) = SavesLog names folder order × Appends out.written_before out.written_after (log_line (length order.entries))
+  KeepsLog (Ok done) = SavesLog names folder order × Appends out.written_before out.written_after line
   KeepsLog (Err faults.Memory) = (folder.files_after ≡ folder.files_before) × IsUnwritten out
   KeepsLog (Err faults.FullFile) = (saved_log order ≡ Err faults.FullFile) × (folder.files_after ≡ folder.files_before) × IsUnwritten out
   KeepsLog (Err faults.Outside) =
       (Rose folder.faults_before folder.faults_after × ChangesFile folder.files_before folder.files_after (file_name names files.Log) × IsUnwritten out)
       ⊎ (SavesLog names folder order × Rose out.faults_before out.faults_after
-      × AppendsPrefix out.written_before out.written_after (log_line (length order.entries)))
+      × AppendsPrefix out.written_before out.written_after line)
   KeepsLog (Err fault) = ⊥
 
 -- why nothing was served, where the folder's count of faults went from `before` to `after`
@@ -110,7 +111,7 @@ module _ {L : Type 0} (left written : L → Option (List ℕ)) (faults : L → �
     pub served : Result (Unit {0}) ServeFault
     pub serves : IsServed left written faults is_shut before after old new sessions served
     pub kept : Result (Unit {0}) Fault
-    pub keeps : KeepsLog names folder out after kept
+    pub keeps : KeepsLog names folder out after (log_line (length after.entries)) kept
     pub answer_is : answer ≡ ended served kept
 
   -- `serve NAME ADDRESS --sessions K`

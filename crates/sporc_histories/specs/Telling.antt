@@ -1,8 +1,9 @@
--- The text and the entries of a member's saved history.
+-- The text and the entries of a device's saved history.
 use Rattle.std.specs.Prelude.{◌≡◌, ℕ, nat_le, List, length, take, Option, None, Some, Result, Ok, Err, if◌then◌else◌}
 use Rattle.std.specs.Str.{encode_utf8_all}
 use Rattle.sporc_bytes.specs.Fields.{◌>>=◌}
 use Rattle.sporc_line.specs.Document.{text_of}
+use Rattle.sporc_member.specs.declared.device.Device.{Device}
 use Rattle.sporc_report.specs.EntryLines.{entry_lines}
 use Rattle.sporc_files.specs.declared.fault.Fault.{Fault}
 use Rattle.sporc_files.specs.declared.fault.Fault.TheVariants as faults
@@ -23,9 +24,9 @@ abbrev pub text_at : Option ℕ → CheckedLine → Result (List ℕ) Fault
 text_at None line = Ok (encode_utf8_all (text_of line.genesis line.kit line.entries))
 text_at (Some n) line = if nat_le n (length line.entries) then Ok (text_after_first n line) else Err (faults.Ahead (length line.entries))
 
--- the text of the history in a member's files
-abbrev pub text_in : ℕ → Option ℕ → CheckedFiles → Result (List ℕ) Fault
-text_in member at content = line_in member content >>= text_at at
+-- the text of the history in a device's files
+abbrev pub text_in : Device → Option ℕ → CheckedFiles → Result (List ℕ) Fault
+text_in device at content = line_in device content >>= text_at at
 
 -- ---- `entries`
 
@@ -33,6 +34,6 @@ text_in member at content = line_in member content >>= text_at at
 abbrev pub lines_from : ℕ → CheckedLine → Result (List ℕ) Fault
 lines_from from line = Ok (entry_lines from line.genesis line.kit line.entries)
 
--- those of the history in a member's files
-abbrev pub lines_in : ℕ → ℕ → CheckedFiles → Result (List ℕ) Fault
-lines_in member from content = line_in member content >>= lines_from from
+-- those of the history in a device's files
+abbrev pub lines_in : Device → ℕ → CheckedFiles → Result (List ℕ) Fault
+lines_in device from content = line_in device content >>= lines_from from

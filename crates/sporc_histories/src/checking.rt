@@ -9,13 +9,14 @@ ghost use Rattle.sporc_histories.specs.Outcomes.{CheckOutcome};
 use crate::reading::read_line;
 use sporc_base::Memory;
 use sporc_files::{Fault, Names};
+use sporc_member::Device;
 use sporc_outside::{Folder, Gate, Sink, write_all};
 use std::alloc::Global;
 use std::fmt::Write;
 use std::sync::Wait;
 use std::thread::Threads;
 
-/// `check NAME M` examines the saved history of a member of a document, entry by entry, with the member's own keys, and
+/// `check NAME M` examines the saved history of a member's device, entry by entry, with its own keys, and
 /// writes `checked LEN`, how many entries it has. Who is no founder takes the keys of earlier epochs from the history. The
 /// signatures are examined by [`LOADERS`](sporc_store::LOADERS) workers.
 pub fn check<R: Threads + Wait + Sync, F: Folder, O: Sink, G: Gate + Sync>(
@@ -24,16 +25,16 @@ pub fn check<R: Threads + Wait + Sync, F: Folder, O: Sink, G: Gate + Sync>(
     files: &mut F,
     out: &mut O,
     names: &Names<'_>,
-    member: u16,
+    device: Device,
     gate: &G,
 ) -> Result<(), Fault>
-    ensures outcome { CheckOutcome names.now member
+    ensures outcome { CheckOutcome names.now device
         (folder_use F.files F.asked F.lent F.faults files.old files.new)
         (sink_use O.written O.faults out.old out.new)
         result }
     ensures out_kept { O.faults out.old ≤ O.faults out.new }
 {
-    let line = read_line(rt, alloc, files, names, member, gate)?;
+    let line = read_line(rt, alloc, files, names, device, gate)?;
     let checked = checked_line(alloc, line.len())?;
     write_all(out, checked.as_bytes())?;
     Ok(())

@@ -11,19 +11,21 @@ use crate::chains::read_chain;
 use sporc_base::Memory;
 use sporc_files::{Fault, File, Names, read_genesis_file};
 use sporc_hash::{Digest32, compare as compare_chains};
+use sporc_member::Device;
 use sporc_outside::{Folder, Sink, write_all};
 use sporc_report::push_verdict;
 use std::alloc::Global;
 
-/// `compare NAME M N` writes how the saved history of one member of a document stands to that of another: `M N same`,
-/// `M N prefix`, `M N longer`, or `M N forked after K`. The histories are read unchecked, and compared by their hashes.
+/// `compare NAME M N` writes how the saved history of one device of a document stands to that of another, each named as it is
+/// in words, `M` or `M.D`: `M N same`, `M N prefix`, `M N longer`, or `M N forked after K`. The histories are read unchecked,
+/// and compared by their hashes.
 pub fn compare<F: Folder, O: Sink>(
     alloc: Global,
     files: &mut F,
     out: &mut O,
     names: &Names<'_>,
-    first: u16,
-    second: u16,
+    first: Device,
+    second: Device,
 ) -> Result<(), Fault>
     ensures outcome { CompareOutcome names.now first second
         (folder_use F.files F.asked F.lent F.faults files.old files.new)
@@ -48,8 +50,8 @@ fn read_chains<F: Folder>(
     alloc: Global,
     files: &mut F,
     names: &Names<'_>,
-    first: u16,
-    second: u16,
+    first: Device,
+    second: Device,
 ) -> Result<(Vec<Digest32>, Vec<Digest32>), Fault>
     ensures found { FindsChains (F.files files.old) names.now first second (F.faults files.old) (F.faults files.new) result }
     ensures one_genesis { IfOk result (λ chains. AreOfOneGenesis chains.0.items chains.1.items) }
@@ -68,8 +70,8 @@ fn read_chains<F: Folder>(
 // The line that says how one chain stands to another.
 fn verdict_line(
     alloc: Global,
-    first: u16,
-    second: u16,
+    first: Device,
+    second: Device,
     one: &[Digest32],
     other: &[Digest32],
 ) -> Result<String, Memory>

@@ -1,16 +1,18 @@
 //! The commands on saved histories, over a folder, a sink and a net.
 //!
-//! - [`check`]: examines a member's saved history with its own keys, entry by entry.
-//! - [`text`]: the committed text of a member's saved history, examined so, after all entries or the first of them.
+//! - [`check`]: examines a device's saved history with its own keys, entry by entry.
+//! - [`text`]: the committed text of a device's saved history, examined so, after all entries or the first of them.
 //! - [`list_entries`]: a line for each of its entries.
-//! - [`compare`]: how the saved history of one member stands to that of another.
-//! - [`serve`]: serves sessions from the log of a document, and saves the log.
+//! - [`compare`]: how the saved history of one device stands to that of another.
+//! - [`serve`]: serves sessions from the log of a document, and saves the log, by [`read_order`], [`save_log`] and [`end`].
 //!
 //! ```text
-//! check(rt, alloc, files, out, &names, 2, &OpenGate)    // `checked 3`, or Fault::Refused(2, Refusal::BadSignature)
-//! text(rt, alloc, files, out, &names, 2, Some(1), &OpenGate)      // `Buy bread.`, or Fault::Ahead(0)
-//! list_entries(rt, alloc, files, out, &names, 2, 1, &OpenGate)    // `1 1 1 0 edit i"Buy bread."`
-//! compare(alloc, files, out, &names, 1, 2)         // `1 2 forked after 3`
+//! let laptop = Device::first(2);
+//! let phone = Device { member: 2, number: 1 };
+//! check(rt, alloc, files, out, &names, laptop, &OpenGate)    // `checked 3`, or Fault::Refused(2, Refusal::BadSignature)
+//! text(rt, alloc, files, out, &names, phone, Some(1), &OpenGate)    // `Buy bread.`, or Fault::Ahead(0)
+//! list_entries(rt, alloc, files, out, &names, phone, 1, &OpenGate)    // `1 1 1 0 edit i"Buy bread."`
+//! compare(alloc, files, out, &names, laptop, phone)         // `2 2.1 forked after 3`
 //! serve(rt, alloc, files, net, out, &names, "localhost:4000", 8, &OpenGate)    // `log 12`
 //! ```
 //!
@@ -35,5 +37,6 @@ mod texts;
 pub use checking::check;
 pub use comparing::compare;
 pub use listing::list_entries;
-pub use serving::serve;
+pub use log::{read_order, save_log};
+pub use serving::{end, serve};
 pub use texts::text;

@@ -10,13 +10,14 @@ use crate::reading::read_line;
 use sporc_base::Memory;
 use sporc_files::{Fault, Names};
 use sporc_line::Line;
+use sporc_member::Device;
 use sporc_outside::{Folder, Gate, Sink, write_all};
 use sporc_report::push_entries;
 use std::alloc::Global;
 use std::sync::Wait;
 use std::thread::Threads;
 
-/// `entries NAME M --from POS` examines the saved history of a member of a document as [`check`](crate::check) does, all of
+/// `entries NAME M --from POS` examines the saved history of a member's device as [`check`](crate::check) does, all of
 /// it, and writes a line for each of its entries from position `from` on: its position, author, number and base, and what it
 /// did. Of an edit that is its form, by which the text can be followed. Behind the last entry there is no line.
 pub fn list_entries<R: Threads + Wait + Sync, F: Folder, O: Sink, G: Gate + Sync>(
@@ -25,17 +26,17 @@ pub fn list_entries<R: Threads + Wait + Sync, F: Folder, O: Sink, G: Gate + Sync
     files: &mut F,
     out: &mut O,
     names: &Names<'_>,
-    member: u16,
+    device: Device,
     from: u32,
     gate: &G,
 ) -> Result<(), Fault>
-    ensures outcome { EntriesOutcome names.now member from
+    ensures outcome { EntriesOutcome names.now device from
         (folder_use F.files F.asked F.lent F.faults files.old files.new)
         (sink_use O.written O.faults out.old out.new)
         result }
     ensures out_kept { O.faults out.old ≤ O.faults out.new }
 {
-    let line = read_line(rt, alloc, files, names, member, gate)?;
+    let line = read_line(rt, alloc, files, names, device, gate)?;
     let lines = entry_lines(alloc, &line, from)?;
     write_all(out, lines.as_bytes())?;
     Ok(())

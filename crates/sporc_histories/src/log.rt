@@ -1,6 +1,6 @@
 //! The log of a server: loaded before it serves, and saved behind that.
 
-ghost use Rattle.std.specs.Prelude.{◌≡◌, ◌≤◌, [], ◌∷◌, IfOk, string_bytes};
+ghost use Rattle.std.specs.Prelude.{◌≡◌, ◌≤◌, [], ◌∷◌, length, IfOk, string_bytes};
 ghost use Rattle.sporc_outside.specs.Uses.{sink_use};
 ghost use Rattle.sporc_entry.specs.Genesis.{IsGenesis};
 ghost use Rattle.sporc_store.specs.SavedFile.{read_to};
@@ -22,8 +22,8 @@ use std::fmt::Write;
 use std::sync::Wait;
 use std::thread::Threads;
 
-// The order in the log of a document, or an empty one if there is no log.
-pub(crate) fn read_order<R: Threads + Wait + Sync, F: Folder, G: Gate + Sync>(
+/// The order in the log of a document, or an empty one if there is no log.
+pub fn read_order<R: Threads + Wait + Sync, F: Folder, G: Gate + Sync>(
     rt: &R,
     alloc: Global,
     files: &mut F,
@@ -73,7 +73,7 @@ fn whole_order(order: Order, stop: Stop) -> Result<Order, Fault>
     Ok(order)
 }
 
-// Saves the log of an order, and tells how many entries it has.
+// Saves the log of an order, and writes `log LEN`, how many entries it has.
 pub(crate) fn keep_log<F: Folder, O: Sink>(
     alloc: Global,
     files: &mut F,
@@ -84,14 +84,35 @@ pub(crate) fn keep_log<F: Folder, O: Sink>(
     ensures keeps { KeepsLog names.now
         (folder_use F.files F.asked F.lent F.faults files.old files.new)
         (sink_use O.written O.faults out.old out.new)
-        order.now result }
+        order.now (log_line (length order.now.entries)) result }
+    ensures lent { F.lent files.new ≡ F.lent files.old }
+    ensures may_ask { AsksOnly (file_name names.now File.Log ∷ []) (F.asked files.old) (F.asked files.new) }
+    ensures kept { F.faults files.old ≤ F.faults files.new }
+    ensures out_kept { O.faults out.old ≤ O.faults out.new }
+{
+    let line = log_line(alloc, order.len())?;
+    save_log(alloc, files, out, names, order, line.as_str())
+}
+
+/// Saves the log of an order, and writes this line once it is saved.
+pub fn save_log<F: Folder, O: Sink>(
+    alloc: Global,
+    files: &mut F,
+    out: &mut O,
+    names: &Names<'_>,
+    order: &Order,
+    line: &str,
+) -> Result<(), Fault>
+    ensures keeps { KeepsLog names.now
+        (folder_use F.files F.asked F.lent F.faults files.old files.new)
+        (sink_use O.written O.faults out.old out.new)
+        order.now line.now result }
     ensures lent { F.lent files.new ≡ F.lent files.old }
     ensures may_ask { AsksOnly (file_name names.now File.Log ∷ []) (F.asked files.old) (F.asked files.new) }
     ensures kept { F.faults files.old ≤ F.faults files.new }
     ensures out_kept { O.faults out.old ≤ O.faults out.new }
 {
     let log = log_of(alloc, order)?;
-    let line = log_line(alloc, order.len())?;
     write_whole_file(alloc, files, names, File::Log, log.as_slice())?;
     write_all(out, line.as_bytes())?;
     Ok(())

@@ -1,4 +1,4 @@
-//! The saved history of a member, read and examined.
+//! The saved history of a device, read and examined.
 
 ghost use Rattle.std.specs.Prelude.{◌≡◌, ◌≤◌, [], ◌∷◌};
 ghost use Rattle.sporc_files.specs.Names.{file_name};
@@ -10,32 +10,33 @@ use sporc_files::{
     Fault, File, Names, read_bytes, read_genesis_file, read_own_key, read_ring_file,
 };
 use sporc_line::Line;
+use sporc_member::Device;
 use sporc_outside::{Folder, Gate};
 use std::alloc::Global;
 use std::sync::Wait;
 use std::thread::Threads;
 
-// The saved history of a member, all of which it accepts.
+// The saved history of a device, all of which it accepts.
 pub(crate) fn read_line<R: Threads + Wait + Sync, F: Folder, G: Gate + Sync>(
     rt: &R,
     alloc: Global,
     files: &mut F,
     names: &Names<'_>,
-    member: u16,
+    device: Device,
     gate: &G,
 ) -> Result<Line, Fault>
-    ensures found { FindsLine (F.files files.old) names.now member (F.faults files.old) (F.faults files.new) result }
+    ensures found { FindsLine (F.files files.old) names.now device (F.faults files.old) (F.faults files.new) result }
     ensures files { F.files files.new ≡ F.files files.old }
     ensures lent { F.lent files.new ≡ F.lent files.old }
     ensures may_ask { AsksOnly
-        (file_name names.now File.Genesis ∷ file_name names.now (File.Key member) ∷ file_name names.now (File.Ring member)
-        ∷ file_name names.now (File.History member) ∷ [])
+        (file_name names.now File.Genesis ∷ file_name names.now (File.Key device) ∷ file_name names.now (File.Ring device.member)
+        ∷ file_name names.now (File.History device) ∷ [])
         (F.asked files.old) (F.asked files.new) }
     ensures kept { F.faults files.old ≤ F.faults files.new }
 {
     let genesis = read_genesis_file(alloc, files, names)?;
-    read_own_key(rt, alloc, files, names, member, &genesis)?;
-    let ring = read_ring_file(alloc, files, names, member)?;
-    let history = read_bytes(alloc, files, names, File::History(member))?;
-    examine(rt, alloc, genesis, member, &ring, history.as_slice(), gate)
+    read_own_key(rt, alloc, files, names, device, &genesis)?;
+    let ring = read_ring_file(alloc, files, names, device.member)?;
+    let history = read_bytes(alloc, files, names, File::History(device))?;
+    examine(rt, alloc, genesis, device, &ring, history.as_slice(), gate)
 }

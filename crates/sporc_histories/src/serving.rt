@@ -56,8 +56,9 @@ where
     end(served, kept)
 }
 
-// A server's fault goes before one of saving its log, but for out of memory at that.
-fn end(served: Result<(), ServeFault>, kept: Result<(), Fault>) -> Result<(), Fault>
+/// What `serve` answers, by what came of the sessions and of saving the log: a server's fault goes before one of saving its
+/// log, but for out of memory at that.
+pub fn end(served: Result<(), ServeFault>, kept: Result<(), Fault>) -> Result<(), Fault>
     ensures value { result ≡ ended served kept }
 {
     let Err(fault) = served else {

@@ -15,13 +15,14 @@ use crate::reading::read_line;
 use sporc_base::Memory;
 use sporc_files::{Fault, Names};
 use sporc_line::Line;
+use sporc_member::Device;
 use sporc_outside::{Folder, Gate, Sink, write_all};
 use sporc_text::Doc;
 use std::alloc::Global;
 use std::sync::Wait;
 use std::thread::Threads;
 
-/// `text NAME M --at POS` examines the saved history of a member of a document as [`check`](crate::check) does, all of it,
+/// `text NAME M --at POS` examines the saved history of a member's device as [`check`](crate::check) does, all of it,
 /// and writes the committed text as UTF-8, after its first `at` entries or after all, with nothing before or behind it. If
 /// it has fewer entries, the fault is `Ahead` with their number.
 pub fn text<R: Threads + Wait + Sync, F: Folder, O: Sink, G: Gate + Sync>(
@@ -30,17 +31,17 @@ pub fn text<R: Threads + Wait + Sync, F: Folder, O: Sink, G: Gate + Sync>(
     files: &mut F,
     out: &mut O,
     names: &Names<'_>,
-    member: u16,
+    device: Device,
     at: Option<u32>,
     gate: &G,
 ) -> Result<(), Fault>
-    ensures outcome { TextOutcome names.now member at
+    ensures outcome { TextOutcome names.now device at
         (folder_use F.files F.asked F.lent F.faults files.old files.new)
         (sink_use O.written O.faults out.old out.new)
         result }
     ensures out_kept { O.faults out.old ≤ O.faults out.new }
 {
-    let line = read_line(rt, alloc, files, names, member, gate)?;
+    let line = read_line(rt, alloc, files, names, device, gate)?;
     let text = text_at(alloc, &line, at)?;
     write_all(out, text.as_bytes())?;
     Ok(())

@@ -3,18 +3,36 @@ use Rattle.std.proofs.Common.{◌≡◌, ℕ, ◌+◌, List, [], ◌∷◌, ◌+
 use Rattle.std.specs.Prelude.{codes, replicate}
 use Rattle.lms_ots.specs.declared.ots_type.OtsType.TheVariants.{W4}
 use Rattle.lms_tree.specs.declared.lms_type.LmsType.TheVariants.{H5}
+use Rattle.sporc_member.specs.declared.device.Device.{Device}
+use Rattle.sporc_member.specs.Device.{first_device}
 use Rattle.sporc_member.specs.declared.limits.TheConstants.{MAX_MEMBERS}
 use Rattle.sporc_keys.specs.declared.named.Named.TheVariants as named
 use Rattle.sporc_keys.specs.Founding.{epoch_key_of, in_order, pair_keys_of, pairs_of, row, shared_keys}
-use Rattle.sporc_keys.specs.KeyFile.{key_file_bytes}
+use Rattle.sporc_keys.specs.declared.key_file.KeyFile.{KeyFile}
+use Rattle.sporc_keys.specs.KeyFile.{key_file_bytes, place_of_other}
 use Rattle.sporc_keys.specs.RingFile.{ring_file_bytes}
 
 -- ---- key files
 
-key_of_member_3 : (id seed : List ℕ) → key_file_bytes (record { member = 3; lms = H5; ots = W4; id = id; seed = seed })
+-- a key of this device
+abbrev key_of : Device → List ℕ → List ℕ → KeyFile
+key_of device id seed = record { device = device; lms = H5; ots = W4; id = id; seed = seed }
+
+key_of_member_3 : (id seed : List ℕ) → key_file_bytes (key_of (first_device 3) id seed)
     ≡ 0x53 ∷ 0x50 ∷ 0x4b ∷ 0x31 ∷ 0 ∷ 3 ∷ 0 ∷ 0 ∷ 0 ∷ 5 ∷ 0 ∷ 0 ∷ 0 ∷ 3 ∷ id ++ seed
 unfolding key_file_bytes
 key_of_member_3 id seed = refl
+
+-- its format and a byte more
+key_of_its_device_255 : (id seed : List ℕ) → key_file_bytes (key_of (record { member = 3; number = 255 }) id seed)
+    ≡ 0x53 ∷ 0x50 ∷ 0x4b ∷ 0x32 ∷ 0 ∷ 3 ∷ 255 ∷ 0 ∷ 0 ∷ 0 ∷ 5 ∷ 0 ∷ 0 ∷ 0 ∷ 3 ∷ id ++ seed
+unfolding key_file_bytes
+key_of_its_device_255 id seed = refl
+
+-- of another member, of another further device, and of a further one in place of the first
+places_of_others : place_of_other (first_device 3) (first_device 2) ∷ place_of_other (record { member = 3; number = 1 }) (record { member = 3; number = 2 })
+    ∷ place_of_other (first_device 3) (record { member = 3; number = 1 }) ∷ [] ≡ 4 ∷ 6 ∷ 0 ∷ []
+places_of_others = refl
 
 -- ---- ring files
 

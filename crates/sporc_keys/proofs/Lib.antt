@@ -5,6 +5,7 @@ pub mod FileFields
 pub mod Foundings
 pub mod KeyFileLaws
 pub mod Naming
+pub mod OtherKeyFiles
 pub mod PairLoop
 pub mod RingFileLaws
 pub mod Sharing

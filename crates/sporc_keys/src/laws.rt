@@ -1,19 +1,26 @@
 //! Laws of the files, and of what a document begins with.
 
-ghost use Rattle.std.specs.Prelude.{◌≡◌, ℕ, List, length, Contains, Ok};
+ghost use Rattle.std.specs.Prelude.{◌≡◌, ℕ, List, length, Contains, Err, Ok, false};
 ghost use Rattle.std.specs.List.Sorted.{IsStrictlyIncreasing};
 ghost use Rattle.sporc_base.specs.Bytes.{IsBytes};
+ghost use Rattle.sporc_member.specs.Device.{same_device};
+ghost use Rattle.sporc_member.specs.declared.device.Device.{Device};
 ghost use Rattle.sporc_keys.specs.declared.key_file.KeyFile.{KeyFile};
 ghost use Rattle.sporc_keys.specs.declared.ring_file.RingFile.{RingFile};
 ghost use Rattle.sporc_keys.specs.declared.pair.SharedKey.{SharedKey};
 ghost use Rattle.sporc_keys.specs.Founding.{key_with, pair_keys_of, pairs_of, shared_keys};
-ghost use Rattle.sporc_keys.specs.KeyFile.{IsKeyFile, key_file_in, key_file_bytes};
+ghost use Rattle.sporc_keys.specs.KeyFile.{IsKeyFile, key_file_bytes, key_file_of, place_of_other};
 ghost use Rattle.sporc_keys.specs.RingFile.{IsRingFile, members_of, ring_file_in, ring_file_bytes};
 
-/// Each key file in range is read again from its bytes, and bytes that read are those of the file read.
+/// Each key file in range is read again from its bytes as that of its device, and bytes that read are those of the file read.
+/// The key file of another device is malformed: at 0 if the one device is a member's first and the other is not, at 4 if they
+/// are of different members, else at 6.
 pub fn key_file_and_its_bytes()
-    ensures read_again { (k : KeyFile) → IsKeyFile k → key_file_in (key_file_bytes k) ≡ Ok k }
-    ensures written_so { (bytes : List ℕ) (k : KeyFile) → IsBytes bytes → key_file_in bytes ≡ Ok k → IsKeyFile k × (bytes ≡ key_file_bytes k) }
+    ensures read_again { (k : KeyFile) → IsKeyFile k → key_file_of k.device (key_file_bytes k) ≡ Ok k }
+    ensures written_so { (device : Device) (bytes : List ℕ) (k : KeyFile) → IsBytes bytes → key_file_of device bytes ≡ Ok k
+        → IsKeyFile k × (k.device ≡ device) × (bytes ≡ key_file_bytes k) }
+    ensures others { (device : Device) (k : KeyFile) → IsKeyFile k → same_device device k.device ≡ false
+        → key_file_of device (key_file_bytes k) ≡ Err (place_of_other device k.device) }
 {}
 
 /// Each ring file in range is read again from its bytes, and bytes that read are those of the file read.

@@ -15,6 +15,7 @@ use lms_leaf::blank;
 use lms_ots::OtsType;
 use lms_tree::{LmsPublic, LmsType};
 use sporc_base::{Bytes, Memory};
+use sporc_member::Device;
 use sporc_outside::Chance;
 use std::alloc::Global;
 use std::thread::Threads;
@@ -27,19 +28,19 @@ pub struct NewKey {
     pub leaves: Bytes,
 }
 
-/// A new key of a member, made of two words of the chance: `I` is the first 16 bytes of the one, `SEED` the other. Its
+/// A new key of a device, made of two words of the chance: `I` is the first 16 bytes of the one, `SEED` the other. Its
 /// tree is built, as [`KeyFile::tree`] builds it.
 pub fn keygen<R: Threads + Sync, C: Chance>(
     rt: &R,
     alloc: Global,
     chance: &mut C,
-    member: u16,
+    device: Device,
     lms: LmsType,
     ots: OtsType,
 ) -> Result<NewKey, DrawFault>
     requires height { IsLeafHeight (height_of lms) }
     requires width { IsKeyWidth ots }
-    ensures ok { IfOk result (λ key. IsKeygen (C.given chance.old) (C.given chance.new) member lms ots key) }
+    ensures ok { IfOk result (λ key. IsKeygen (C.given chance.old) (C.given chance.new) device lms ots key) }
     ensures spelled { IfOk result (λ key. IsKeyFile key.file) }
     ensures chance { result ≡ Err DrawFault.Chance → Rose (C.faults chance.old) (C.faults chance.new) }
     ensures drawn { OnErr result (DrawsWordsUpTo 2 (C.given chance.old) (C.given chance.new)) }
@@ -48,7 +49,7 @@ pub fn keygen<R: Threads + Sync, C: Chance>(
     let first = chance.fill32()?;
     let seed = chance.fill32()?;
     let file = KeyFile {
-        member,
+        device,
         lms,
         ots,
         id: prefix_of(&first),

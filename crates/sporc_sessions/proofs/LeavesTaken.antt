@@ -1,5 +1,5 @@
 -- What stands of the leaf file of a client that was closed.
-use Rattle.std.proofs.Common.{◌≡◌, ℕ, ◌+◌, ◌-◌, ◌≤◌, List, Option, None, Some, length, ap, arith, sym, subst}
+use Rattle.std.proofs.Common.{◌≡◌, ℕ, ◌≤◌, List, Option, None, Some, ap, arith, sym, subst}
 use Rattle.lms_leaf.specs.LeafFile.{ArePassed, AreTaken}
 use Rattle.lms_leaf.specs.Leaves.{LeavesModel}
 use Rattle.sporc_client.specs.ClientModel.{ClientModel, Rise, first_leaf_of, kept_count, leaves_of}

@@ -11,7 +11,6 @@ use Rattle.sporc_line.specs.LineModel.{LineModel}
 use Rattle.sporc_line.specs.Openings.{open_checks}
 use Rattle.sporc_line.specs.declared.fault.LineOpenFault.{LineOpenFault}
 use Rattle.sporc_line.specs.declared.fault.LineOpenFault.TheVariants as line_faults
-use Rattle.sporc_member.specs.Device.{first_device}
 use Rattle.sporc_outside.specs.Counts.{Rose}
 use Rattle.sporc_shared.specs.declared.fault.SessionFault.{SessionFault}
 use Rattle.sporc_sessions.specs.declared.hinting.HintsFault.{HintsFault}
@@ -40,10 +39,10 @@ failed X fault = Err fault
 module _ {L : Type 0} (view : LinkView L) (begin : Begin) (old new : NetTold L) where
   -- the line was opened with keys
   pub opened_with : (keys pairs : Keys) → HasKeys view begin old new keys → pairs ≡ shared_of begin → (result : Result LineModel OpenFault)
-      → OnOk result (first_of (open_checks begin.genesis (get keys 0)) ≡ None) → IfOk result (λ line. line.genesis ≡ begin.genesis) → IfOk result (λ line. line.kit ≡ kit_of (first_device begin.member) keys pairs) → IfOk result (λ line. line.entries ≡ [])
+      → OnOk result (first_of (open_checks begin.genesis (get keys 0)) ≡ None) → IfOk result (λ line. line.genesis ≡ begin.genesis) → IfOk result (λ line. line.kit ≡ kit_of begin.device keys pairs) → IfOk result (λ line. line.entries ≡ [])
       → IfOk result (Opens view begin old new)
   opened_with keys pairs has same (Ok line) meets genesis kit empty =
-      record { keys = keys; has = has; meets = meets; genesis = genesis; kit = kit ∙ ap (kit_of (first_device begin.member) keys) same; empty = empty }
+      record { keys = keys; has = has; meets = meets; genesis = genesis; kit = kit ∙ ap (kit_of begin.device keys) same; empty = empty }
   opened_with keys pairs has same (Err fault) meets genesis kit empty = tt
 
   -- or it was not
@@ -56,23 +55,23 @@ module _ {L : Type 0} (view : LinkView L) (begin : Begin) (old new : NetTold L) 
 
   -- the hints of a joiner
   pub joined_by : (fetched : Result (List (List ℕ)) SessionFault) (keys pairs : Keys) → begin.ring.epoch_key ≡ None → pairs ≡ shared_of begin
-      → Fetches view begin old new fetched → hints_by begin.member pairs fetched ≡ Ok keys → HasKeys view begin old new keys
-  joined_by (Ok entries) keys pairs none same fetch is = joins none fetch (subst (λ (p : Keys). hints_by begin.member p (Ok entries) ≡ Ok keys) same is)
+      → Fetches view begin old new fetched → hints_by begin.device.member pairs fetched ≡ Ok keys → HasKeys view begin old new keys
+  joined_by (Ok entries) keys pairs none same fetch is = joins none fetch (subst (λ (p : Keys). hints_by begin.device.member p (Ok entries) ≡ Ok keys) same is)
   joined_by (Err fault) keys pairs none same fetch is = absurd (subst IsValue (sym is) tt)
 
   -- or why there are none
   pub not_joined : {X : Type 0} (seen : X → Keys) (pairs : Keys) (before after : ℕ) (fault : HintsFault) → begin.ring.epoch_key ≡ None → pairs ≡ shared_of begin
       → (failed X fault ≢ failed X hinting.Unreached → (fetched : Result (List (List ℕ)) SessionFault) × Fetches view begin old new fetched
-      × GivesUnless (hinting.Hints hint_faults.Memory) seen (failed X fault) (hints_by begin.member pairs fetched))
+      × GivesUnless (hinting.Hints hint_faults.Memory) seen (failed X fault) (hints_by begin.device.member pairs fetched))
       → (failed X fault ≡ failed X hinting.Unreached → MakesNoLink old new begin.address) → (failed X fault ≡ failed X hinting.Unreached → Rose before after)
       → IsOpenFault view begin old new before after (faults.Hints fault)
   not_joined seen pairs before after hinting.Unreached none same hints no_link rose = unreached none (no_link refl) (rose refl) refl
   not_joined seen pairs before after (hinting.Link fault) none same hints no_link rose =
       let (fetched, fetch, gives) = hints (λ e. subst WasReached e tt) in
-      no_hints none fetch refl (λ other. subst (λ (p : Keys). hints_by begin.member p fetched ≡ Err (hinting.Link fault)) same (gives other))
+      no_hints none fetch refl (λ other. subst (λ (p : Keys). hints_by begin.device.member p fetched ≡ Err (hinting.Link fault)) same (gives other))
   not_joined seen pairs before after (hinting.Hints fault) none same hints no_link rose =
       let (fetched, fetch, gives) = hints (λ e. subst WasReached e tt) in
-      no_hints none fetch refl (λ other. subst (λ (p : Keys). hints_by begin.member p fetched ≡ Err (hinting.Hints fault)) same (gives other))
+      no_hints none fetch refl (λ other. subst (λ (p : Keys). hints_by begin.device.member p fetched ≡ Err (hinting.Hints fault)) same (gives other))
 
 -- hints were found, so a link was made
 pub was_reached : {A : Type 0} (a : A) → Ok a ≢ Err hinting.Unreached

@@ -19,6 +19,7 @@ use crate::working::{WorkFault, work};
 use lms_sign::Signer;
 use sporc_entry::Genesis;
 use sporc_keys::RingFile;
+use sporc_member::Device;
 use sporc_outside::{Chance, Dial, Gate, LeafDisk};
 use sporc_script::EditorScript;
 use sporc_store::Stop;
@@ -26,12 +27,12 @@ use std::alloc::Global;
 use std::sync::Wait;
 use std::thread::Threads;
 
-/// A member of a document.
+/// A member of a document, at one of its devices.
 #[derive(Drop)]
 pub struct Member {
     pub genesis: Genesis,
-    pub number: u16,
-    /// The keys that it has from the beginning.
+    pub device: Device,
+    /// The keys that the member has from the beginning: its devices share them.
     pub ring: RingFile,
 }
 
@@ -75,7 +76,7 @@ where
     requires genesis { IsGenesis member.genesis }
     requires few { length editors.now ≤ MAX_EDITORS }
     ensures attended { IfOk result (λ ended. IsAttended (link_view N.Link.written N.Link.left N.Link.faults N.Link.is_shut)
-        (record { genesis = member.genesis; member = member.number; ring = member.ring; address = address.now })
+        (record { genesis = member.genesis; device = member.device; ring = member.ring; address = address.now })
         (option_map (λ bytes. bytes.items) saved)
         (net_told (N.asked net.old) (N.coming net.old) (N.returned net.old) (N.link_faults net.old))
         (net_told (N.asked net.new) (N.coming net.new) (N.returned net.new) (N.link_faults net.new))
@@ -88,7 +89,7 @@ where
     ensures leaves { IfOk result (λ ended. Rise (past_of ended.client).first_leaf ended.client.leaves.next (leaves_of ended.client.log)) }
     ensures causes { IfOk result (λ ended. RoseIfFailed (counts_around N.link_faults net.old net.new C.faults chance.old chance.new) ended.result) }
     ensures err { IfErr result (λ e. NotAttended (link_view N.Link.written N.Link.left N.Link.faults N.Link.is_shut)
-        (record { genesis = member.genesis; member = member.number; ring = member.ring; address = address.now })
+        (record { genesis = member.genesis; device = member.device; ring = member.ring; address = address.now })
         (option_map (λ bytes. bytes.items) saved)
         (net_told (N.asked net.old) (N.coming net.old) (N.returned net.old) (N.link_faults net.old))
         (net_told (N.asked net.new) (N.coming net.new) (N.returned net.new) (N.link_faults net.new))
@@ -104,13 +105,13 @@ where
 {
     let Member {
         genesis,
-        number,
+        device,
         ring,
     } = member;
     if let Some(stop) = broken_for(&ring, &genesis.document, &saved) {
         return Err((AttendFault::Stopped(stop), signer));
     }
-    let line = match open_line(rt, alloc, net, address, genesis, number, &ring) {
+    let line = match open_line(rt, alloc, net, address, genesis, device, &ring) {
         Ok(line) => line,
         Err(fault) => return Err((AttendFault::Open(fault), signer)),
     };

@@ -1,4 +1,4 @@
-//! The line of a member, opened.
+//! The line of a member's device, opened.
 
 ghost use Rattle.std.specs.Prelude.{◌≡◌, ◌≢◌, ◌≤◌, [], None, Some, IfErr, IfOk, OnOk};
 ghost use Rattle.std.specs.FinMap as map;
@@ -6,7 +6,6 @@ ghost use Rattle.sporc_base.specs.FirstFault.{first_of};
 ghost use Rattle.sporc_entry.specs.Genesis.{IsGenesis};
 ghost use Rattle.sporc_epoch.specs.Keys.{pairs_in};
 ghost use Rattle.sporc_line.specs.Kit.{kit_of};
-ghost use Rattle.sporc_member.specs.Device.{first_device};
 ghost use Rattle.sporc_line.specs.Openings.{open_checks};
 ghost use Rattle.sporc_outside.specs.Told.{AreShutBehind};
 ghost use Rattle.sporc_sessions.specs.Nets.{AsksAtMost, link_view, net_told};
@@ -18,7 +17,7 @@ use sporc_entry::Genesis;
 use sporc_epoch::{Pairs, Ring};
 use sporc_keys::RingFile;
 use sporc_line::{Line, LineOpenFault};
-use sporc_member::FIRST_DEVICE;
+use sporc_member::Device;
 use sporc_outside::Dial;
 use std::alloc::{AllocError, Global};
 use std::sync::Wait;
@@ -42,24 +41,24 @@ impl From<AllocError> for OpenFault {
     }
 }
 
-/// The empty line of a member, by what its ring file says. A joiner's file has no key of epoch 0: its keys are those that the
-/// entries of the server at an address give it.
+/// The empty line of a member's device, by what the member's ring file says. A joiner's file has no key of epoch 0: its keys are
+/// those that the entries of the server at an address give it.
 pub(crate) fn open_line<R: Wait, N: Dial>(
     rt: &R,
     alloc: Global,
     net: &mut N,
     address: &str,
     genesis: Genesis,
-    member: u16,
+    device: Device,
     ring: &RingFile,
 ) -> Result<Line, OpenFault>
     requires genesis { IsGenesis genesis }
     ensures ok { IfOk result (Opens (link_view N.Link.written N.Link.left N.Link.faults N.Link.is_shut)
-        (record { genesis = genesis; member = member; ring = ring.now; address = address.now })
+        (record { genesis = genesis; device = device; ring = ring.now; address = address.now })
         (net_told (N.asked net.old) (N.coming net.old) (N.returned net.old) (N.link_faults net.old))
         (net_told (N.asked net.new) (N.coming net.new) (N.returned net.new) (N.link_faults net.new))) }
     ensures err { IfErr result (IsOpenFault (link_view N.Link.written N.Link.left N.Link.faults N.Link.is_shut)
-        (record { genesis = genesis; member = member; ring = ring.now; address = address.now })
+        (record { genesis = genesis; device = device; ring = ring.now; address = address.now })
         (net_told (N.asked net.old) (N.coming net.old) (N.returned net.old) (N.link_faults net.old))
         (net_told (N.asked net.new) (N.coming net.new) (N.returned net.new) (N.link_faults net.new))
         (N.faults net.old) (N.faults net.new)) }
@@ -73,32 +72,40 @@ pub(crate) fn open_line<R: Wait, N: Dial>(
     match ring.epoch_key {
         Some(_) => {
             let keys = ring.ring(alloc)?;
-            open_with(alloc, genesis, member, keys, pairs)
+            open_with(alloc, genesis, device, keys, pairs)
         }
-        None => match fetch_hints(rt, alloc, net, address, &genesis.document, member, &pairs) {
-            Ok(keys) => open_with(alloc, genesis, member, keys, pairs),
+        None => match fetch_hints(
+            rt,
+            alloc,
+            net,
+            address,
+            &genesis.document,
+            device.member,
+            &pairs,
+        ) {
+            Ok(keys) => open_with(alloc, genesis, device, keys, pairs),
             Err(fault) => Err(OpenFault::Hints(fault)),
         },
     }
 }
 
-// The empty line of a member with these keys.
+// The empty line of a device with these keys.
 fn open_with(
     alloc: Global,
     genesis: Genesis,
-    member: u16,
+    device: Device,
     keys: Ring,
     pairs: Pairs,
 ) -> Result<Line, OpenFault>
     requires genesis { IsGenesis genesis }
     ensures meets { OnOk result (first_of (open_checks genesis (map.get keys.keys 0)) ≡ None) }
     ensures genesis { IfOk result (λ line. line.genesis ≡ genesis) }
-    ensures kit { IfOk result (λ line. line.kit ≡ kit_of (first_device member) keys.keys (pairs_in pairs)) }
+    ensures kit { IfOk result (λ line. line.kit ≡ kit_of device keys.keys (pairs_in pairs)) }
     ensures empty { IfOk result (λ line. line.entries ≡ []) }
     ensures err { IfErr result (λ fault. (cause : LineOpenFault) × (fault ≡ OpenFault.Line cause)
         × (cause ≢ LineOpenFault.Memory → first_of (open_checks genesis (map.get keys.keys 0)) ≡ Some cause)) }
 {
-    match Line::open(alloc, genesis, member, FIRST_DEVICE, keys, pairs) {
+    match Line::open(alloc, genesis, device.member, device.number, keys, pairs) {
         Ok(line) => Ok(line),
         Err(fault) => Err(OpenFault::Line(fault)),
     }

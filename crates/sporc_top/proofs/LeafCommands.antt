@@ -10,6 +10,7 @@ use Rattle.sporc_outside.specs.declared.named_file.NamedFile.{NamedFile}
 use Rattle.sporc_keys.specs.declared.founding.Founding.{Founding}
 use Rattle.sporc_keys.specs.declared.new_key.NewKey.{NewKey}
 use Rattle.sporc_keys.specs.KeyFile.{key_file_bytes}
+use Rattle.sporc_member.specs.declared.device.Device.{Device}
 use Rattle.sporc_order.specs.OrderModel.{OrderModel}
 use Rattle.sporc_serve.specs.Crowds.{Net}
 use Rattle.sporc_shared.specs.Items.{Past}
@@ -28,6 +29,8 @@ use Rattle.sporc_files.specs.Writing.{StoresFirst, StoresPrefix, file_with}
 use Rattle.sporc_founding.specs.Founding.{FoundOutcome, IsStoreFault, founding_files}
 use Rattle.sporc_founding.specs.KeyMaking.{IsFilesFault, IsThere, KeygenOutcome, Makes, StoresKey, StoresKeyFile, key_files}
 use Rattle.sporc_histories.specs.Outcomes.{KeepsLog, ServeOutcome}
+use Rattle.sporc_hosting.specs.Hosting.{ServeAllOutcome, at_end}
+use Rattle.sporc_hosting.specs.Saving.{KeepsLogs, Moment, folder_between, sink_between}
 use Rattle.sporc_sessions.specs.declared.concluding.KeepFault.{KeepFault}
 use Rattle.sporc_sessions.specs.declared.concluding.KeepFault.TheVariants as keeping
 use Rattle.sporc_sessions.specs.Concluding.{FilesUse, SaveOutcome}
@@ -59,34 +62,34 @@ one_lent : (lent : Option (List (List ℕ))) → IsSome lent → (rest : List (L
 one_lent None told = absurd cc
 one_lent (Some rest) told = (rest, refl)
 
-module _ (document : List ℕ) (member : ℕ) where
+module _ (document : List ℕ) (device : Device) where
   abbrev name : List ℕ
-  name = leaf_name document member
+  name = leaf_name document device
 
   -- ---- keygen
 
   -- what stood before, or the leaf file is made by this key, and there was none, or something outside failed
   abbrev pub KeysLeave : Keygen → Option (List NamedFile) → Option (List NamedFile) → Result ⊤ Fault → Type 0
   KeysLeave words before after answer =
-      Keeps name before after ⊎ ((leaf_name words.name words.member ≡ name) × (HasNoFile before name ⊎ (answer ≡ Err faults.Outside)))
+      Keeps name before after ⊎ ((leaf_name words.name words.device ≡ name) × (HasNoFile before name ⊎ (answer ≡ Err faults.Outside)))
 
   key_file_kept : (names : FileNames) (key : NewKey) (before after : Option (List NamedFile)) → StoresKeyFile names key before after → Keeps name before after
-  key_file_kept names key before after stores = kept_stores name before after (file_with names (files.Key key.file.member) (key_file_bytes key.file) ∷ []) (not_key names document member key.file.member, tt) stores.stored
+  key_file_kept names key before after stores = kept_stores name before after (file_with names (files.Key key.file.device) (key_file_bytes key.file) ∷ []) (not_key names document device key.file.device, tt) stores.stored
 
   -- by a name that is that of the key's leaf file, or not
-  module _ (words : Keygen) (key : NewKey) (before after : Option (List NamedFile)) (answer : Result ⊤ Fault) (same : key.file.member ≡ words.member) where
+  module _ (words : Keygen) (key : NewKey) (before after : Option (List NamedFile)) (answer : Result ⊤ Fault) (same : key.file.device ≡ words.device) where
     abbrev leaf_of_key : List ℕ
-    leaf_of_key = file_name (names_of_document words.name) (files.Leaf key.file.member)
+    leaf_of_key = file_name (names_of_document words.name) (files.Leaf key.file.device)
 
-    named : bytes_eq leaf_of_key name ≡ true → leaf_name words.name words.member ≡ name
-    named e = ap (λ (m : ℕ). leaf_name words.name m) (sym same) ∙ (bytes_eq-Decides leaf_of_key name).0 e
+    named : bytes_eq leaf_of_key name ≡ true → leaf_name words.name words.device ≡ name
+    named e = ap (λ (d : Device). leaf_name words.name d) (sym same) ∙ (bytes_eq-Decides leaf_of_key name).0 e
 
     keys_stored : StoresKey (names_of_document words.name) key before after → KeysLeave words before after answer
     keys_stored stores = go (bytes_eq leaf_of_key name) refl
       where
         go : (b : Bool) → bytes_eq leaf_of_key name ≡ b → KeysLeave words before after answer
         go true e = inr (named e, inl (subst (λ (n : List ℕ). HasNoFile before n) ((bytes_eq-Decides leaf_of_key name).0 e) stores.new_leaves))
-        go false e = inl (kept_stores name before after (key_files (names_of_document words.name) key) (not_key (names_of_document words.name) document member key.file.member, (e, tt)) stores.stored)
+        go false e = inl (kept_stores name before after (key_files (names_of_document words.name) key) (not_key (names_of_document words.name) document device key.file.device, (e, tt)) stores.stored)
 
     keys_failed : (between : Option (List NamedFile)) → IsSome before → answer ≡ Err faults.Outside → StoresKeyFile (names_of_document words.name) key before between
         → ChangesFile between after leaf_of_key → KeysLeave words before after answer
@@ -106,13 +109,16 @@ module _ (document : List ℕ) (member : ℕ) where
   there_kept names key before after (files.History m) never = absurd never
   there_kept names key before after files.Log never = absurd never
   there_kept names key before after (files.Script m) never = absurd never
+  there_kept names key before after (files.GenesisOf n) never = absurd never
+  there_kept names key before after (files.LogOf n) never = absurd never
+  there_kept names key before after (files.Document n) never = absurd never
 
-  keys_by_fault : (words : Keygen) (key : NewKey) (before after : Option (List NamedFile)) (low high : ℕ) → key.file.member ≡ words.member → IsSome before
+  keys_by_fault : (words : Keygen) (key : NewKey) (before after : Option (List NamedFile)) (low high : ℕ) → key.file.device ≡ words.device → IsSome before
       → (fault : Fault) → IsFilesFault (names_of_document words.name) key before after low high fault → KeysLeave words before after (Err fault)
   keys_by_fault words key before after low high same told faults.Memory (inl is) = inl (ap (file_at name) is)
   keys_by_fault words key before after low high same told faults.Memory (inr stores) = inl (key_file_kept (names_of_document words.name) key before after stores)
   keys_by_fault words key before after low high same told faults.Outside (rose, inl changes) =
-      inl (kept_changes name before after _ told (not_key (names_of_document words.name) document member key.file.member) changes)
+      inl (kept_changes name before after _ told (not_key (names_of_document words.name) document device key.file.device) changes)
   keys_by_fault words key before after low high same told faults.Outside (rose, inr (between, stores, changes)) =
       keys_failed words key before after (Err faults.Outside) same between told refl stores changes
   keys_by_fault words key before after low high same told (faults.Exists f) there = inl (there_kept (names_of_document words.name) key before after f there)
@@ -138,18 +144,18 @@ module _ (document : List ℕ) (member : ℕ) where
   keys_by_fault words key before after low high same told (faults.Edit e l f) never = absurd never
   keys_by_fault words key before after low high same told (faults.Ahead l) never = absurd never
 
-  same_member : (words : Keygen) (chance : ChanceUse) (key : NewKey) → Makes words chance key → key.file.member ≡ words.member
-  same_member words chance key (first, second, draws, is) = ap (λ (k : NewKey). k.file.member) is
+  of_its_device : (words : Keygen) (chance : ChanceUse) (key : NewKey) → Makes words chance key → key.file.device ≡ words.device
+  of_its_device words chance key (first, second, draws, is) = ap (λ (k : NewKey). k.file.device) is
 
   keygen_leaves : (words : Keygen) (folder : FolderUse) (chance : ChanceUse) (out : SinkUse) (answer : Result ⊤ Fault) → IsSome folder.files_before
       → KeygenOutcome words folder chance out answer → KeysLeave words folder.files_before folder.files_after answer
   keygen_leaves words folder chance out (Ok done) told made =
-      keys_stored words made.key folder.files_before folder.files_after (Ok done) (same_member words chance made.key made.makes) made.stores
+      keys_stored words made.key folder.files_before folder.files_after (Ok done) (of_its_device words chance made.key made.makes) made.stores
   keygen_leaves words folder chance out (Err fault) told (inl fails) = inl (ap (file_at name) fails.untouched.stand)
   keygen_leaves words folder chance out (Err fault) told (inr (inl fails)) =
-      keys_by_fault words fails.key folder.files_before folder.files_after _ _ (same_member words chance fails.key fails.makes) told fault fails.cause
+      keys_by_fault words fails.key folder.files_before folder.files_after _ _ (of_its_device words chance fails.key fails.makes) told fault fails.cause
   keygen_leaves words folder chance out (Err fault) told (inr (inr fails)) =
-      keys_stored words fails.key folder.files_before folder.files_after (Err fault) (same_member words chance fails.key fails.makes) fails.stores
+      keys_stored words fails.key folder.files_before folder.files_after (Err fault) (of_its_device words chance fails.key fails.makes) fails.stores
 
   -- ---- found
 
@@ -182,7 +188,7 @@ module _ (document : List ℕ) (member : ℕ) where
   stores_kept new before after low high told first prefix (faults.Ahead l) never = absurd never
 
   founding_others : (names : FileNames) (founding : Founding) → AllByRecursion (λ f. bytes_eq f.name name ≡ false) (founding_files names founding)
-  founding_others names founding = (not_genesis names document member, rings_others names document member founding.rings)
+  founding_others names founding = (not_genesis names document device, rings_others names document device founding.rings)
 
   found_keeps : (words : Found) (folder : FolderUse) (chance : ChanceUse) (answer : Result ⊤ Fault) → IsSome folder.files_before → FoundOutcome words folder chance answer
       → Keeps name folder.files_before folder.files_after
@@ -200,45 +206,73 @@ module _ (document : List ℕ) (member : ℕ) where
 
   -- ---- serve
 
-  log_kept : (names : FileNames) (folder : FolderUse) (out : SinkUse) (order : OrderModel) → IsSome folder.files_before
-      → (fault : Fault) → KeepsLog names folder out order {T = ⊤} (Err fault) → Keeps name folder.files_before folder.files_after
-  log_kept names folder out order told faults.Memory kept = ap (file_at name) kept.0
-  log_kept names folder out order told faults.FullFile (full, same, none) = ap (file_at name) same
-  log_kept names folder out order told faults.Outside (inl (rose, changes, none)) =
-      kept_changes name folder.files_before folder.files_after _ told (not_log names document member) changes
-  log_kept names folder out order told faults.Outside (inr (saves, rose, line)) = kept_with name folder.files_before folder.files_after _ _ (not_log names document member) saves.files
-  log_kept names folder out order told faults.Words never = absurd never
-  log_kept names folder out order told (faults.Missing f) never = absurd never
-  log_kept names folder out order told (faults.Exists f) never = absurd never
-  log_kept names folder out order told (faults.TooLong f) never = absurd never
-  log_kept names folder out order told (faults.Malformed f at) never = absurd never
-  log_kept names folder out order told (faults.Line l) never = absurd never
-  log_kept names folder out order told (faults.EditorLine e l) never = absurd never
-  log_kept names folder out order told faults.LongScript never = absurd never
-  log_kept names folder out order told (faults.Refused p r) never = absurd never
-  log_kept names folder out order told (faults.Rejected r) never = absurd never
-  log_kept names folder out order told (faults.Hints h) never = absurd never
-  log_kept names folder out order told (faults.Opening o) never = absurd never
-  log_kept names folder out order told (faults.Unsettled n p) never = absurd never
-  log_kept names folder out order told (faults.LinkEnded t) never = absurd never
-  log_kept names folder out order told (faults.Leaf n) never = absurd never
-  log_kept names folder out order told faults.FullHistory never = absurd never
-  log_kept names folder out order told faults.FullJournal never = absurd never
-  log_kept names folder out order told faults.Worn never = absurd never
-  log_kept names folder out order told (faults.Message at) never = absurd never
-  log_kept names folder out order told (faults.Edit e l f) never = absurd never
-  log_kept names folder out order told (faults.Ahead l) never = absurd never
+  log_kept : (names : FileNames) (folder : FolderUse) (out : SinkUse) (order : OrderModel) (line : List ℕ) → IsSome folder.files_before
+      → (fault : Fault) → KeepsLog names folder out order line {T = ⊤} (Err fault) → Keeps name folder.files_before folder.files_after
+  log_kept names folder out order line told faults.Memory kept = ap (file_at name) kept.0
+  log_kept names folder out order line told faults.FullFile (full, same, none) = ap (file_at name) same
+  log_kept names folder out order line told faults.Outside (inl (rose, changes, none)) =
+      kept_changes name folder.files_before folder.files_after _ told (not_log names document device) changes
+  log_kept names folder out order line told faults.Outside (inr (saves, rose, wrote)) = kept_with name folder.files_before folder.files_after _ _ (not_log names document device) saves.files
+  log_kept names folder out order line told faults.Words never = absurd never
+  log_kept names folder out order line told (faults.Missing f) never = absurd never
+  log_kept names folder out order line told (faults.Exists f) never = absurd never
+  log_kept names folder out order line told (faults.TooLong f) never = absurd never
+  log_kept names folder out order line told (faults.Malformed f at) never = absurd never
+  log_kept names folder out order line told (faults.Line l) never = absurd never
+  log_kept names folder out order line told (faults.EditorLine e l) never = absurd never
+  log_kept names folder out order line told faults.LongScript never = absurd never
+  log_kept names folder out order line told (faults.Refused p r) never = absurd never
+  log_kept names folder out order line told (faults.Rejected r) never = absurd never
+  log_kept names folder out order line told (faults.Hints h) never = absurd never
+  log_kept names folder out order line told (faults.Opening o) never = absurd never
+  log_kept names folder out order line told (faults.Unsettled n p) never = absurd never
+  log_kept names folder out order line told (faults.LinkEnded t) never = absurd never
+  log_kept names folder out order line told (faults.Leaf n) never = absurd never
+  log_kept names folder out order line told faults.FullHistory never = absurd never
+  log_kept names folder out order line told faults.FullJournal never = absurd never
+  log_kept names folder out order line told faults.Worn never = absurd never
+  log_kept names folder out order line told (faults.Message at) never = absurd never
+  log_kept names folder out order line told (faults.Edit e l f) never = absurd never
+  log_kept names folder out order line told (faults.Ahead l) never = absurd never
 
-  log_keeps : (names : FileNames) (folder : FolderUse) (out : SinkUse) (order : OrderModel) (kept : Result ⊤ Fault) → IsSome folder.files_before
-      → KeepsLog names folder out order kept → Keeps name folder.files_before folder.files_after
-  log_keeps names folder out order (Ok done) told (saves, line) = kept_with name folder.files_before folder.files_after _ _ (not_log names document member) saves.files
-  log_keeps names folder out order (Err fault) told keeps = log_kept names folder out order told fault keeps
+  log_keeps : (names : FileNames) (folder : FolderUse) (out : SinkUse) (order : OrderModel) (line : List ℕ) (kept : Result ⊤ Fault) → IsSome folder.files_before
+      → KeepsLog names folder out order line kept → Keeps name folder.files_before folder.files_after
+  log_keeps names folder out order line (Ok done) told (saves, wrote) = kept_with name folder.files_before folder.files_after _ _ (not_log names document device) saves.files
+  log_keeps names folder out order line (Err fault) told keeps = log_kept names folder out order line told fault keeps
 
   serve_keeps : {L : Type 0} (left written : L → Option (List ℕ)) (counts : L → ℕ) (is_shut : L → Option Bool) (names : FileNames) (sessions : ℕ) (folder : FolderUse) (out : SinkUse)
       (old new : Net L) (answer : Result ⊤ Fault) → IsSome folder.files_before → ServeOutcome left written counts is_shut names sessions folder out old new answer
       → Keeps name folder.files_before folder.files_after
   serve_keeps left written counts is_shut names sessions folder out old new answer told (inl none) = ap (file_at name) none.reads.unchanged
-  serve_keeps left written counts is_shut names sessions folder out old new answer told (inr served) = log_keeps names folder out served.after served.kept told served.keeps
+  serve_keeps left written counts is_shut names sessions folder out old new answer told (inr served) = log_keeps names folder out served.after _ served.kept told served.keeps
+
+  -- ---- serve-all
+
+  log_told : (names : FileNames) (folder : FolderUse) (out : SinkUse) (order : OrderModel) (line : List ℕ) (kept : Result ⊤ Fault) → IsSome folder.files_before
+      → KeepsLog names folder out order line kept → IsSome folder.files_after
+  log_told names folder out order line (Ok done) told (saves, wrote) = told_with folder.files_before folder.files_after _ _ told saves.files
+  log_told names folder out order line (Err faults.Memory) told kept = told_same folder.files_before folder.files_after told kept.0
+  log_told names folder out order line (Err faults.FullFile) told (full, same, none) = told_same folder.files_before folder.files_after told same
+  log_told names folder out order line (Err faults.Outside) told (inl (rose, changes, none)) = told_changes folder.files_before folder.files_after _ told changes
+  log_told names folder out order line (Err faults.Outside) told (inr (saves, rose, wrote)) = told_with folder.files_before folder.files_after _ _ told saves.files
+  log_told names folder out order line (Err fault) told never = absurd never
+
+  logs_keep : (names : List (List ℕ)) (orders : List OrderModel) (a b : Moment) (kept : Result ⊤ Fault) → IsSome a.files → KeepsLogs names orders a b kept
+      → Keeps name a.files b.files
+  logs_keep [] [] a b kept told (same, answer) = ap (λ (m : Moment). file_at name m.files) same
+  logs_keep [] (o ∷ os) a b kept told never = absurd never
+  logs_keep (n ∷ ns) [] a b kept told never = absurd never
+  logs_keep (n ∷ ns) (o ∷ os) a b kept told (mid, one, others, behind, keeps, rest, answer) =
+      logs_keep ns os mid b others (log_told (names_of_document n) (folder_between a mid) (sink_between a mid) o _ one told keeps) rest
+      ∙ log_keeps (names_of_document n) (folder_between a mid) (sink_between a mid) o _ one told keeps
+
+  serve_all_keeps : {L : Type 0} (left written : L → Option (List ℕ)) (counts : L → ℕ) (is_shut : L → Option Bool) (names : List (List ℕ)) (sessions : ℕ) (folder : FolderUse)
+      (out : SinkUse) (old new : Net L) (answer : Result ⊤ Fault) → IsSome folder.files_before
+      → ServeAllOutcome left written counts is_shut names sessions folder out old new answer → Keeps name folder.files_before folder.files_after
+  serve_all_keeps left written counts is_shut names sessions folder out old new answer told (inl none) = ap (file_at name) none.unchanged
+  serve_all_keeps left written counts is_shut names sessions folder out old new answer told (inr served) =
+      let told_then = subst (λ (o : Option (List NamedFile)). IsSome o) (sym served.as_read.files) told in
+      logs_keep names served.after served.read (at_end folder out) served.kept told_then served.keeps ∙ ap (file_at name) served.as_read.files
 
   -- ---- client
 
@@ -257,7 +291,7 @@ module _ (document : List ℕ) (member : ℕ) where
     over_stays : (words : Client) (m : MemberFiles) (did : ClientUse L) (first last : D) (answer : Result ⊤ Fault) → IsSome did.folder.files_before
         → DiskOutcome links disks words m did first last answer → Stays did.folder.files_before did.folder.files_after
     over_stays words m did first last answer told (worked w) =
-        saved_stays w.past (file_name (names_of words) (files.History words.member)) (files_of did) w.saved told (not_history (names_of words) document member words.member) w.saves
+        saved_stays w.past (file_name (names_of words) (files.History words.device)) (files_of did) w.saved told (not_history (names_of words) document device words.device) w.saves
     over_stays words m did first last answer told (not_worked why untouched same kept) =
         (told_same did.folder.files_before did.folder.files_after told untouched.files, ap (file_at name) untouched.files)
 
@@ -267,16 +301,16 @@ module _ (document : List ℕ) (member : ℕ) where
         → Keeps name did.folder.files_before did.folder.files_after
     client_keeps words did answer (no_member why same untouched) told lent none = ap (file_at name) untouched.files
     client_keeps words did answer (no_disk m say why same untouched) told lent none = ap (file_at name) untouched.files
-    client_keeps words did answer (over_disk m first last during say lends over) told lent none = go (bytes_eq (leaf_name words.name words.member) name) refl
+    client_keeps words did answer (over_disk m first last during say lends over) told lent none = go (bytes_eq (leaf_name words.name words.device) name) refl
       where
-        go : (b : Bool) → bytes_eq (leaf_name words.name words.member) name ≡ b → Keeps name did.folder.files_before did.folder.files_after
+        go : (b : Bool) → bytes_eq (leaf_name words.name words.device) name ≡ b → Keeps name did.folder.files_before did.folder.files_after
         go true e = let clash = rw e at none in absurd cc
         go false e =
             let (rest, is) = one_lent did.folder.lent_before lent in
             let told_then = subst (λ (o : Option (List NamedFile)). IsSome o) (sym lends.unchanged) told in
             let stays = over_stays words m (with_folder did during) first last answer told_then over in
-            kept_back name during.lent_after during.files_after did.folder.files_after (disks.stored last) (leaf_name words.name words.member) rest
-            (lends.lent ∙ ap (option_map (λ names. leaf_name words.name words.member ∷ names)) is) stays.0 e lends.back ∙ stays.1 ∙ ap (file_at name) lends.unchanged
+            kept_back name during.lent_after during.files_after did.folder.files_after (disks.stored last) (leaf_name words.name words.device) rest
+            (lends.lent ∙ ap (option_map (λ names. leaf_name words.name words.device ∷ names)) is) stays.0 e lends.back ∙ stays.1 ∙ ap (file_at name) lends.unchanged
 
     -- over this one: the disk that was handed out had the file's bytes, and the file those of the one that came back
     pub record HasBeenOver (before after : Option (List NamedFile)) (run : ClientRun links disks) : Type 0 where
@@ -289,12 +323,12 @@ module _ (document : List ℕ) (member : ℕ) where
         → HasBeenOver did.folder.files_before did.folder.files_after run
     client_has words did answer (no_member why same untouched) run told lent some = absurd cc
     client_has words did answer (no_disk m say why same untouched) run told lent some = absurd cc
-    client_has words did answer (over_disk m first last during say lends over) run told lent some = go (bytes_eq (leaf_name words.name words.member) name) refl
+    client_has words did answer (over_disk m first last during say lends over) run told lent some = go (bytes_eq (leaf_name words.name words.device) name) refl
       where
         own : ClientRun links disks
         own = record { words = words; member = m; did = with_folder did during; first = first; last = last; answer = answer; outcome = over }
 
-        has : leaf_name words.name words.member ≡ name → HasBeenOver did.folder.files_before did.folder.files_after own
+        has : leaf_name words.name words.device ≡ name → HasBeenOver did.folder.files_before did.folder.files_after own
         has called =
             let (rest, is) = one_lent did.folder.lent_before lent in
             let told_then = subst (λ (o : Option (List NamedFile)). IsSome o) (sym lends.unchanged) told in
@@ -304,14 +338,14 @@ module _ (document : List ℕ) (member : ℕ) where
               tells = own_tells name did.folder.files_before (disks.stored first) told is_disk;
               first = own_is name did.folder.files_before (disks.stored first) told is_disk;
               last = λ tells. own_back name during.lent_after during.files_after did.folder.files_after (disks.stored last) rest
-                  (lends.lent ∙ ap (option_map (λ names. leaf_name words.name words.member ∷ names)) is ∙ ap (λ (n : List ℕ). Some (n ∷ rest)) called) stays.0 tells lends.back;
+                  (lends.lent ∙ ap (option_map (λ names. leaf_name words.name words.device ∷ names)) is ∙ ap (λ (n : List ℕ). Some (n ∷ rest)) called) stays.0 tells lends.back;
             }
 
-        go : (b : Bool) → bytes_eq (leaf_name words.name words.member) name ≡ b → HasBeenOver did.folder.files_before did.folder.files_after run
+        go : (b : Bool) → bytes_eq (leaf_name words.name words.device) name ≡ b → HasBeenOver did.folder.files_before did.folder.files_after run
         go true e =
             let both = rw e at some in
             let same : own ≡ run = cc in
-            subst (HasBeenOver did.folder.files_before did.folder.files_after) same (has ((bytes_eq-Decides (leaf_name words.name words.member) name).0 e))
+            subst (HasBeenOver did.folder.files_before did.folder.files_after) same (has ((bytes_eq-Decides (leaf_name words.name words.device) name).0 e))
         go false e = let clash = rw e at some in absurd cc
 
     -- ---- commands
@@ -320,7 +354,7 @@ module _ (document : List ℕ) (member : ℕ) where
     abbrev pub CommandLeaves : Command → Option (List NamedFile) → Option (List NamedFile) → Result ⊤ Fault → Type 0
     CommandLeaves asked before after answer =
         Keeps name before after
-        ⊎ ((words : Keygen) × (asked ≡ commands.Keygen words) × (leaf_name words.name words.member ≡ name) × (HasNoFile before name ⊎ (answer ≡ Err faults.Outside)))
+        ⊎ ((words : Keygen) × (asked ≡ commands.Keygen words) × (leaf_name words.name words.device ≡ name) × (HasNoFile before name ⊎ (answer ≡ Err faults.Outside)))
 
     by_key : (words : Keygen) (before after : Option (List NamedFile)) (answer : Result ⊤ Fault) → KeysLeave words before after answer
         → CommandLeaves (commands.Keygen words) before after answer
@@ -346,6 +380,8 @@ module _ (document : List ℕ) (member : ℕ) where
     command_leaves (commands.Public words) outside answer did unused told lent none = inl (ap (file_at name) did.unchanged)
     command_leaves (commands.Text words) outside answer did unused told lent none = inl (ap (file_at name) did.reads.unchanged)
     command_leaves (commands.Entries words) outside answer did unused told lent none = inl (ap (file_at name) did.reads.unchanged)
+    command_leaves (commands.ServeAll words) outside answer did unused told lent none =
+        inl (serve_all_keeps _ _ _ _ words.names words.sessions outside.folder outside.out _ _ answer told did.outcome)
 
     pub command_has : (asked : Command) (outside : OutsideUse L) (answer : Result ⊤ Fault) (did : Performs links disks asked outside answer) (run : ClientRun links disks)
         → IsSome outside.folder.files_before → IsSome outside.folder.lent_before → if_over links disks name (by_command links disks asked outside answer did) ≡ Some run
@@ -363,3 +399,4 @@ module _ (document : List ℕ) (member : ℕ) where
     command_has (commands.Public words) outside answer did run told lent some = absurd cc
     command_has (commands.Text words) outside answer did run told lent some = absurd cc
     command_has (commands.Entries words) outside answer did run told lent some = absurd cc
+    command_has (commands.ServeAll words) outside answer did run told lent some = absurd cc

@@ -7,9 +7,12 @@ use Rattle.std.proofs.lemmas.Slice.Eq.{bytes_eq-Decides}
 use Rattle.sporc_outside.specs.Files.{ChangesFile, IsDiskOf, TakesBack, file_in, with_file}
 use Rattle.sporc_outside.specs.declared.named_file.NamedFile.{NamedFile}
 use Rattle.sporc_outside.proofs.Files.{file_in-other}
+use Rattle.sporc_member.specs.declared.device.Device.{Device}
 use Rattle.sporc_keys.specs.declared.ring_file.RingFile.{RingFile}
+use Rattle.sporc_script.specs.Spelling.{DeviceInRange, device_text}
 use Rattle.sporc_files.specs.declared.file.File.TheVariants as files
-use Rattle.sporc_files.specs.Names.{FileNames, file_name}
+use Rattle.sporc_files.specs.Names.{FileNames, file_name, names_of_document}
+use Rattle.sporc_files.proofs.NamesApart.{names_apart}
 use Rattle.sporc_files.specs.Writing.{Stores, StoresFirst, StoresPrefix, with_files, with_one}
 use Rattle.sporc_founding.specs.Founding.{ring_of_founding}
 use Rattle.sporc_top.specs.LeafFiles.{file_at, leaf_name}
@@ -27,35 +30,41 @@ last_more (x ∷ []) y ys = refl
 last_more (x ∷ z ∷ zs) y ys = last_more (z ∷ zs) y ys
 
 -- what stands between two dots
-last_dotted : (stem : List ℕ) (member : ℕ) (y : ℕ) (ys : List ℕ) → last_of (stem ++ (codes "." ++ (decimal member ++ y ∷ ys))) ≡ last_of (y ∷ ys)
-last_dotted stem member y ys = last_more stem 46 (decimal member ++ y ∷ ys) ∙ last_more (46 ∷ decimal member) y ys
+last_dotted : (stem : List ℕ) (text : List ℕ) (y : ℕ) (ys : List ℕ) → last_of (stem ++ (codes "." ++ (text ++ y ∷ ys))) ≡ last_of (y ∷ ys)
+last_dotted stem text y ys = last_more stem 46 (text ++ y ∷ ys) ∙ last_more (46 ∷ text) y ys
 
 -- a leaf file's name ends with `f`
-leaf_ends : (document : List ℕ) (member : ℕ) → last_of (leaf_name document member) ≡ 102
-leaf_ends document member = last_dotted document member 46 (codes "leaf")
+leaf_ends : (document : List ℕ) (device : Device) → last_of (leaf_name document device) ≡ 102
+leaf_ends document device = last_dotted document (device_text device) 46 (codes "leaf")
 
-apart : (other document : List ℕ) (member n : ℕ) → last_of other ≡ n → n ≢ 102 → bytes_eq other (leaf_name document member) ≡ false
-apart other document member n ends differs = go (bytes_eq other (leaf_name document member)) refl
+apart : (other document : List ℕ) (device : Device) (n : ℕ) → last_of other ≡ n → n ≢ 102 → bytes_eq other (leaf_name document device) ≡ false
+apart other document device n ends differs = go (bytes_eq other (leaf_name document device)) refl
   where
-    go : (b : Bool) → bytes_eq other (leaf_name document member) ≡ b → bytes_eq other (leaf_name document member) ≡ false
-    go true same = absurd (differs (sym ends ∙ ap last_of ((bytes_eq-Decides other (leaf_name document member)).0 same) ∙ leaf_ends document member))
+    go : (b : Bool) → bytes_eq other (leaf_name document device) ≡ b → bytes_eq other (leaf_name document device) ≡ false
+    go true same = absurd (differs (sym ends ∙ ap last_of ((bytes_eq-Decides other (leaf_name document device)).0 same) ∙ leaf_ends document device))
     go false is = is
 
-module _ (names : FileNames) (document : List ℕ) (member : ℕ) where
-  pub not_genesis : bytes_eq (file_name names files.Genesis) (leaf_name document member) ≡ false
-  not_genesis = apart _ document member 115 (last_more names.document 46 (codes "genesis")) (λ e. omega (arith, e))
+module _ (names : FileNames) (document : List ℕ) (device : Device) where
+  pub not_genesis : bytes_eq (file_name names files.Genesis) (leaf_name document device) ≡ false
+  not_genesis = apart _ document device 115 (last_more names.document 46 (codes "genesis")) (λ e. omega (arith, e))
 
-  pub not_log : bytes_eq (file_name names files.Log) (leaf_name document member) ≡ false
-  not_log = apart _ document member 103 (last_more names.document 46 (codes "log")) (λ e. omega (arith, e))
+  pub not_log : bytes_eq (file_name names files.Log) (leaf_name document device) ≡ false
+  not_log = apart _ document device 103 (last_more names.document 46 (codes "log")) (λ e. omega (arith, e))
 
-  pub not_key : (m : ℕ) → bytes_eq (file_name names (files.Key m)) (leaf_name document member) ≡ false
-  not_key m = apart _ document member 121 (last_dotted names.document m 46 (codes "key")) (λ e. omega (arith, e))
+  pub not_key : (m : Device) → bytes_eq (file_name names (files.Key m)) (leaf_name document device) ≡ false
+  not_key m = apart _ document device 121 (last_dotted names.document (device_text m) 46 (codes "key")) (λ e. omega (arith, e))
 
-  pub not_ring : (m : ℕ) → bytes_eq (file_name names (files.Ring m)) (leaf_name document member) ≡ false
-  not_ring m = apart _ document member 103 (last_dotted names.document m 46 (codes "ring")) (λ e. omega (arith, e))
+  pub not_ring : (m : ℕ) → bytes_eq (file_name names (files.Ring m)) (leaf_name document device) ≡ false
+  not_ring m = apart _ document device 103 (last_dotted names.document (decimal m) 46 (codes "ring")) (λ e. omega (arith, e))
 
-  pub not_history : (m : ℕ) → bytes_eq (file_name names (files.History m)) (leaf_name document member) ≡ false
-  not_history m = apart _ document member 121 (last_dotted names.document m 46 (codes "history")) (λ e. omega (arith, e))
+  pub not_history : (m : Device) → bytes_eq (file_name names (files.History m)) (leaf_name document device) ≡ false
+  not_history m = apart _ document device 121 (last_dotted names.document (device_text m) 46 (codes "history")) (λ e. omega (arith, e))
+
+-- two devices have two leaf files
+pub leaf_names_apart : (document : List ℕ) (one other : Device) → DeviceInRange one → DeviceInRange other → leaf_name document one ≡ leaf_name document other → one ≡ other
+leaf_names_apart document one other is is_other same =
+    let leaves : files.Leaf one ≡ files.Leaf other = names_apart (names_of_document document) (files.Leaf one) (files.Leaf other) is is_other same in
+    cc
 
 -- ---- what stands at a name
 
@@ -141,7 +150,7 @@ module _ (name : List ℕ) where
       ap (file_at name) (subst (λ (l : Option (List (List ℕ))). TakesBack l (Some fs) after (Some bytes)) is back) ∙ file_in-own fs bytes
 
 -- the rings of a founding are no leaf file
-pub rings_others : (names : FileNames) (document : List ℕ) (member : ℕ) (rings : List RingFile)
-    → AllByRecursion (λ f. bytes_eq f.name (leaf_name document member) ≡ false) (map (ring_of_founding names) rings)
-rings_others names document member [] = tt
-rings_others names document member (r ∷ rs) = (not_ring names document member r.member, rings_others names document member rs)
+pub rings_others : (names : FileNames) (document : List ℕ) (device : Device) (rings : List RingFile)
+    → AllByRecursion (λ f. bytes_eq f.name (leaf_name document device) ≡ false) (map (ring_of_founding names) rings)
+rings_others names document device [] = tt
+rings_others names document device (r ∷ rs) = (not_ring names document device r.member, rings_others names document device rs)

@@ -5,6 +5,7 @@ use Rattle.lms_leaf.specs.Lives.{GoesOn}
 use Rattle.sporc_outside.specs.Files.{HasNoFile}
 use Rattle.sporc_outside.specs.LeafDisk.{IsFound}
 use Rattle.sporc_outside.specs.declared.named_file.NamedFile.{NamedFile}
+use Rattle.sporc_member.specs.declared.device.Device.{Device}
 use Rattle.sporc_words.specs.declared.command.Command.{Command}
 use Rattle.sporc_words.specs.declared.command.Command.TheVariants as commands
 use Rattle.sporc_words.specs.declared.keygen.Keygen.{Keygen}
@@ -23,9 +24,9 @@ use Rattle.sporc_top.specs.Performing.{Performs, names_of}
 use Rattle.sporc_top.specs.Uses.{OutsideUse}
 use Rattle.sporc_top.proofs.LeafCommands.{CommandLeaves, HasBeenOver, command_has, command_leaves}
 
-module _ (document : List ℕ) (member : ℕ) where
+module _ (document : List ℕ) (device : Device) where
   abbrev name : List ℕ
-  name = leaf_name document member
+  name = leaf_name document device
 
   -- ---- one run
 
@@ -34,11 +35,11 @@ module _ (document : List ℕ) (member : ℕ) where
     abbrev Leaves : List (List ℕ) → OutsideUse L → ℕ → Type 0
     Leaves words outside status =
         (file_at name outside.folder.files_after ≡ file_at name outside.folder.files_before)
-        ⊎ ((asked : Keygen) × (command_of words ≡ Some (commands.Keygen asked)) × (leaf_name asked.name asked.member ≡ name)
+        ⊎ ((asked : Keygen) × (command_of words ≡ Some (commands.Keygen asked)) × (leaf_name asked.name asked.device ≡ name)
         × (HasNoFile outside.folder.files_before name ⊎ (status ≡ 6)))
 
     by_answer : (words : List (List ℕ)) (outside : OutsideUse L) (status : ℕ) (asked : Command) (answer : Result ⊤ Fault) → command_of words ≡ Some asked
-        → (answer ≡ Err faults.Outside → status ≡ 6) → CommandLeaves document member links disks asked outside.folder.files_before outside.folder.files_after answer
+        → (answer ≡ Err faults.Outside → status ≡ 6) → CommandLeaves document device links disks asked outside.folder.files_before outside.folder.files_after answer
         → Leaves words outside status
     by_answer words outside status asked answer asks six (inl kept) = inl kept
     by_answer words outside status asked answer asks six (inr (key, is, called, inl none)) = inr (key, asks ∙ ap (λ (c : Command). Some c) is, called, inl none)
@@ -58,17 +59,17 @@ module _ (document : List ℕ) (member : ℕ) where
         → IsSome outside.folder.files_before → IsSome outside.folder.lent_before → if_over links disks name (by_end links disks asked outside status ends) ≡ None
         → Leaves words outside status
     end_leaves words outside status asked asks (done did) unused told lent none =
-        by_answer words outside status asked (Ok tt) asks ok_is_none (command_leaves document member links disks asked outside (Ok tt) did unused told lent none)
+        by_answer words outside status asked (Ok tt) asks ok_is_none (command_leaves document device links disks asked outside (Ok tt) did unused told lent none)
     end_leaves words outside status asked asks (stopped {fault} {written} {count} did since line till) unused told lent none =
-        by_answer words outside status asked (Err fault) asks (outside_is_six fault) (command_leaves document member links disks asked _ (Err fault) did unused told lent none)
+        by_answer words outside status asked (Err fault) asks (outside_is_six fault) (command_leaves document device links disks asked _ (Err fault) did unused told lent none)
 
     end_has : (outside : OutsideUse L) (status : ℕ) (asked : Command) (run : ClientRun links disks)
         → (ends : Ends (λ out. Performs links disks asked (record outside { out = out })) (names_of asked) outside.out status)
         → IsSome outside.folder.files_before → IsSome outside.folder.lent_before → if_over links disks name (by_end links disks asked outside status ends) ≡ Some run
-        → HasBeenOver document member links disks outside.folder.files_before outside.folder.files_after run
-    end_has outside status asked run (done did) told lent some = command_has document member links disks asked outside (Ok tt) did run told lent some
+        → HasBeenOver document device links disks outside.folder.files_before outside.folder.files_after run
+    end_has outside status asked run (done did) told lent some = command_has document device links disks asked outside (Ok tt) did run told lent some
     end_has outside status asked run (stopped {fault} {written} {count} did since line till) told lent some =
-        command_has document member links disks asked _ (Err fault) did run told lent some
+        command_has document device links disks asked _ (Err fault) did run told lent some
 
     outcome_leaves : (words : List (List ℕ)) (outside : OutsideUse L) (status : ℕ) (outcome : RunOutcome links disks words outside status)
         → ((needs_by (command_of words)).files ≡ false → outside.folder.files_after ≡ outside.folder.files_before)
@@ -82,7 +83,7 @@ module _ (document : List ℕ) (member : ℕ) where
 
     outcome_has : (words : List (List ℕ)) (outside : OutsideUse L) (status : ℕ) (outcome : RunOutcome links disks words outside status) (run : ClientRun links disks)
         → IsSome outside.folder.files_before → IsSome outside.folder.lent_before → if_over links disks name (by_outcome links disks words outside status outcome) ≡ Some run
-        → HasBeenOver document member links disks outside.folder.files_before outside.folder.files_after run
+        → HasBeenOver document device links disks outside.folder.files_before outside.folder.files_after run
     outcome_has words outside status (no_command asks unused line) run told lent some = absurd cc
     outcome_has words outside status (unread unused line) run told lent some = absurd cc
     outcome_has words outside status (command {asked} asks ends) run told lent some = end_has outside status asked run ends told lent some

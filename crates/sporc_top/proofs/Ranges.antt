@@ -14,10 +14,11 @@ use Rattle.lms_tree.specs.LmsType.{height_of}
 use Rattle.sporc_entry.specs.ChangeBody.{IsMember}
 use Rattle.sporc_keys.specs.KeyFile.{IsKeyWidth}
 use Rattle.sporc_script.specs.declared.limits.TheConstants.{MAX_EDITORS, MAX_GENERATED}
-use Rattle.sporc_script.specs.Readers.{is_member, passing, then_read, member_of, u32_of}
+use Rattle.sporc_script.specs.Readers.{device_of, is_member, passing, then_read, member_of, u32_of}
 use Rattle.sporc_script.specs.Words.{number_of}
 use Rattle.sporc_script.proofs.Exact.{map_some, then_some}
 use Rattle.sporc_serve.specs.declared.limits.TheConstants.{MAX_SESSIONS}
+use Rattle.sporc_docs.specs.declared.limits.TheConstants.{MAX_DOCUMENTS}
 use Rattle.sporc_words.specs.declared.client.Client.{Client}
 use Rattle.sporc_words.specs.declared.command.Command.{Command}
 use Rattle.sporc_words.specs.declared.command.Command.TheVariants as commands
@@ -27,9 +28,10 @@ use Rattle.sporc_words.specs.declared.found.Found.{Found}
 use Rattle.sporc_words.specs.declared.standing.Participant.{Participant}
 use Rattle.sporc_words.specs.declared.keygen.Keygen.{Keygen}
 use Rattle.sporc_words.specs.declared.serve.Serve.{Serve}
+use Rattle.sporc_words.specs.declared.serve_all.ServeAll.{ServeAll}
 use Rattle.sporc_words.specs.declared.defaults.TheConstants.{DEFAULT_ROUNDS, DEFAULT_UNTIL}
-use Rattle.sporc_words.specs.Arguments.{check_app, client_app, compare_app, entries_app, found_app, keygen_app, play_app, public_app, serve_app, taken, text_app}
-use Rattle.sporc_words.specs.Commands.{check_in, client_in, command_by, command_of, compare_in, entries_in, found_in, found_or, keygen_in, play_by, play_in, public_in, scripts_of, serve_in, text_in, work_in}
+use Rattle.sporc_words.specs.Arguments.{check_app, client_app, compare_app, entries_app, found_app, keygen_app, play_app, public_app, serve_all_app, serve_app, taken, text_app}
+use Rattle.sporc_words.specs.Commands.{check_in, client_in, command_by, command_of, compare_in, documents_of, entries_in, found_in, found_or, keygen_in, play_by, play_in, public_in, scripts_of, serve_all_in, serve_in, text_in, work_in}
 use Rattle.sporc_words.specs.Help.{help_in}
 use Rattle.sporc_words.specs.Verbs.{verb_of}
 use Rattle.sporc_words.proofs.HelpLines.{told_by_help}
@@ -97,10 +99,10 @@ key_width word t is =
 keygen_ranges : (rows : List Row) (asked : Keygen) → keygen_in rows ≡ Some asked → IsLeafHeight (height_of asked.height) × IsKeyWidth asked.width
 keygen_ranges rows asked is =
     let name = then_some (first_of (codes "NAME") rows) _ asked is in
-    let member = then_some (value_of (codes "M") member_of rows) _ asked name.2 in
-    let height = then_some (value_of (codes "HEIGHT") tree_of rows) _ asked member.2 in
+    let device = then_some (value_of (codes "M") device_of rows) _ asked name.2 in
+    let height = then_some (value_of (codes "HEIGHT") tree_of rows) _ asked device.2 in
     let width = then_some (value_of (codes "W") width_named rows) _ asked height.2 in
-    let whole : Keygen = record { name = name.0; member = member.0; height = height.0; width = width.0 } in
+    let whole : Keygen = record { name = name.0; device = device.0; height = height.0; width = width.0 } in
     let same : whole ≡ asked = same_Some whole asked width.2 in
     let tree = then_some (first_of (codes "HEIGHT") rows) tree_of height.0 height.1 in
     let bits = then_some (first_of (codes "W") rows) width_named width.0 width.1 in (
@@ -118,6 +120,24 @@ serve_ranges rows asked is =
     let number = then_some (first_of (codes "sessions") rows) (number_between 1 MAX_SESSIONS) sessions.0 sessions.1 in
     subst (λ (s : Serve). (1 ≤ s.sessions) × (s.sessions ≤ MAX_SESSIONS)) same (in_bounds 1 MAX_SESSIONS sessions.0 number.0 number.2)
 
+few_documents : (words names : List Text) → documents_of words ≡ Some names → length names ≤ MAX_DOCUMENTS
+few_documents words names is =
+    let kept = cond_some (is_between 1 MAX_DOCUMENTS (length words)) words names is in
+    subst (λ (w : List Text). length w ≤ MAX_DOCUMENTS) kept.1 (within 1 MAX_DOCUMENTS (length words) kept.0).1
+
+serve_all_ranges : (rows : List Row) (asked : ServeAll) → serve_all_in rows ≡ Some asked
+    → (length asked.names ≤ MAX_DOCUMENTS) × (1 ≤ asked.sessions) × (asked.sessions ≤ MAX_SESSIONS)
+serve_all_ranges rows asked is =
+    let address = then_some (first_of (codes "ADDRESS") rows) _ asked is in
+    let sessions = then_some (value_of (codes "sessions") (number_between 1 MAX_SESSIONS) rows) _ asked address.2 in
+    let names = then_some (documents_of (values_of (codes "NAME") rows)) _ asked sessions.2 in
+    let whole : ServeAll = record { address = address.0; sessions = sessions.0; names = names.0 } in
+    let same : whole ≡ asked = same_Some whole asked names.2 in
+    let number = then_some (first_of (codes "sessions") rows) (number_between 1 MAX_SESSIONS) sessions.0 sessions.1 in
+    let bounds = in_bounds 1 MAX_SESSIONS sessions.0 number.0 number.2 in
+    subst (λ (s : ServeAll). (length s.names ≤ MAX_DOCUMENTS) × (1 ≤ s.sessions) × (s.sessions ≤ MAX_SESSIONS)) same
+    (few_documents (values_of (codes "NAME") rows) names.0 names.1, bounds.0, bounds.1)
+
 few_scripts : (words scripts : List Text) → scripts_of words ≡ Some scripts → length scripts ≤ MAX_EDITORS
 few_scripts words scripts is =
     let kept = cond_some (nat_le (length words) MAX_EDITORS) words scripts is in
@@ -126,12 +146,12 @@ few_scripts words scripts is =
 client_ranges : (rows : List Row) (asked : Client) → client_in rows ≡ Some asked → length asked.scripts ≤ MAX_EDITORS
 client_ranges rows asked is =
     let name = then_some (first_of (codes "NAME") rows) _ asked is in
-    let member = then_some (value_of (codes "M") member_of rows) _ asked name.2 in
-    let address = then_some (first_of (codes "ADDRESS") rows) _ asked member.2 in
+    let device = then_some (value_of (codes "M") device_of rows) _ asked name.2 in
+    let address = then_some (first_of (codes "ADDRESS") rows) _ asked device.2 in
     let rounds = then_some (value_or (codes "rounds") DEFAULT_ROUNDS u32_of rows) _ asked address.2 in
     let until = then_some (value_or (codes "until") DEFAULT_UNTIL u32_of rows) _ asked rounds.2 in
     let scripts = then_some (scripts_of (values_of (codes "SCRIPT") rows)) _ asked until.2 in
-    let whole : Client = record { name = name.0; member = member.0; address = address.0; rounds = rounds.0; until = until.0; scripts = scripts.0 } in
+    let whole : Client = record { name = name.0; device = device.0; address = address.0; rounds = rounds.0; until = until.0; scripts = scripts.0 } in
     let same : whole ≡ asked = same_Some whole asked scripts.2 in
     subst (λ (c : Client). length c.scripts ≤ MAX_EDITORS) same (few_scripts (values_of (codes "SCRIPT") rows) scripts.0 scripts.1)
 
@@ -196,6 +216,7 @@ verb_ranges verbs.Compare words c is = read_ranges compare_in commands.Compare (
 verb_ranges verbs.Public words c is = read_ranges public_in commands.Public (λ rows asked read. tt) (taken public_app words) c (unfold command_by in is)
 verb_ranges verbs.Text words c is = read_ranges text_in commands.Text (λ rows asked read. tt) (taken text_app words) c (unfold command_by in is)
 verb_ranges verbs.Entries words c is = read_ranges entries_in commands.Entries (λ rows asked read. tt) (taken entries_app words) c (unfold command_by in is)
+verb_ranges verbs.ServeAll words c is = read_ranges serve_all_in commands.ServeAll serve_all_ranges (taken serve_all_app words) c (unfold command_by in is)
 
 -- the command that the first word names
 work_ranges : (words : List Text) (c : Command) → work_in words ≡ Some c → IsInRange c

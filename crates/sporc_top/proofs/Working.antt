@@ -5,10 +5,11 @@ use Rattle.sporc_words.specs.declared.client.Client.{Client}
 use Rattle.sporc_words.specs.declared.command.Command.{Command}
 use Rattle.sporc_words.specs.declared.command.Command.TheVariants as commands
 use Rattle.sporc_words.specs.declared.serve.Serve.{Serve}
+use Rattle.sporc_words.specs.declared.serve_all.ServeAll.{ServeAll}
 use Rattle.sporc_files.specs.declared.fault.Fault.{Fault}
 use Rattle.sporc_sessions.specs.Nets.{LinkView}
 use Rattle.sporc_clients.specs.Outcome.{DiskView}
-use Rattle.sporc_top.specs.Performing.{Performs, ServesDocument, WorksAsMember}
+use Rattle.sporc_top.specs.Performing.{Performs, ServesDocument, ServesDocuments, WorksAsMember}
 use Rattle.sporc_top.specs.Uses.{OutsideUse, client_use}
 
 module _ {L D : Type 0} (links : LinkView L) (disks : DiskView D) (outside : OutsideUse L) where
@@ -19,3 +20,7 @@ module _ {L D : Type 0} (links : LinkView L) (disks : DiskView D) (outside : Out
   pub by_client : (asked : Command) (words : Client) (answer : Result ⊤ Fault) → asked ≡ commands.Client words → WorksAsMember links disks words (client_use outside) answer
       → Performs links disks asked outside answer
   by_client asked words answer is works = subst (λ (c : Command). Performs links disks c outside answer) (sym is) works
+
+  pub by_serve_all : (asked : Command) (words : ServeAll) (answer : Result ⊤ Fault) → asked ≡ commands.ServeAll words
+      → ServesDocuments links words outside.folder outside.out outside.net answer → Performs links disks asked outside answer
+  by_serve_all asked words answer is serves = subst (λ (c : Command). Performs links disks c outside answer) (sym is) serves

@@ -1,7 +1,8 @@
--- Which leaves sign in runs of the program, over the leaf file of a member, and what else is done to that file.
+-- Which leaves sign in runs of the program, over the leaf file of a device, and what else is done to that file.
 use Rattle.std.specs.Prelude.{◌≡◌, ◌≢◌, ◌⊎◌, ◌<◌, ℕ, List, [], ◌∷◌, ◌++◌, false, Option, None, Some, IsSome, AllPairs, Result, Ok, Err, ⊤, bytes_eq, if◌then◌else◌}
 use Rattle.sporc_outside.specs.Files.{HasNoFile, file_in}
 use Rattle.sporc_outside.specs.declared.named_file.NamedFile.{NamedFile}
+use Rattle.sporc_member.specs.declared.device.Device.{Device}
 use Rattle.sporc_words.specs.declared.client.Client.{Client}
 use Rattle.sporc_words.specs.declared.command.Command.{Command}
 use Rattle.sporc_words.specs.declared.command.Command.TheVariants as commands
@@ -18,9 +19,9 @@ use Rattle.sporc_top.specs.Outcome.{Ends, RunOutcome, command, done, no_command,
 use Rattle.sporc_top.specs.Performing.{Performs, names_of}
 use Rattle.sporc_top.specs.Uses.{OutsideUse, client_use}
 
--- the name of the leaf file of a member of a document
-abbrev pub leaf_name : List ℕ → ℕ → List ℕ
-leaf_name document member = file_name (names_of_document document) (Leaf member)
+-- the name of the leaf file of a device of a document
+abbrev pub leaf_name : List ℕ → Device → List ℕ
+leaf_name document device = file_name (names_of_document document) (Leaf device)
 
 -- what told files have at a name
 abbrev pub file_at : List ℕ → Option (List NamedFile) → Option (List ℕ)
@@ -60,6 +61,7 @@ module _ {L D : Type 0} (links : LinkView L) (disks : DiskView D) where
   by_command (commands.Public words) outside answer did = None
   by_command (commands.Text words) outside answer did = None
   by_command (commands.Entries words) outside answer did = None
+  by_command (commands.ServeAll words) outside answer did = None
 
   abbrev pub by_end : (asked : Command) (outside : OutsideUse L) (status : ℕ)
       → Ends (λ out. Performs links disks asked (record outside { out = out })) (names_of asked) outside.out status → Option (ClientRun links disks)
@@ -74,7 +76,7 @@ module _ {L D : Type 0} (links : LinkView L) (disks : DiskView D) where
   -- those over the leaf file with this name
   abbrev pub if_over : List ℕ → Option (ClientRun links disks) → Option (ClientRun links disks)
   if_over name None = None
-  if_over name (Some run) = if bytes_eq (leaf_name run.words.name run.words.member) name then Some run else None
+  if_over name (Some run) = if bytes_eq (leaf_name run.words.name run.words.device) name then Some run else None
 
   -- what a run of the program did over the disk of the leaf file with a name, if it had it handed out: then it is one of `client`
   abbrev pub over_leaf_file : List ℕ → ProgramRun → Option (ClientRun links disks)
@@ -94,7 +96,7 @@ module _ {L D : Type 0} (links : LinkView L) (disks : DiskView D) where
   pub record MakesLeafFile (name : List ℕ) (run : ProgramRun) : Type 0 where
     pub words : Keygen
     pub asks : command_of run.words ≡ Some (commands.Keygen words)
-    pub named : leaf_name words.name words.member ≡ name
+    pub named : leaf_name words.name words.device ≡ name
 
   -- What stands of a leaf file behind a run that did not have its disk handed out: what stood before. Or it is a `keygen` that makes this file, and there
   -- was none, or something outside failed, and then anything may stand there

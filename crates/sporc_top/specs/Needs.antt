@@ -27,6 +27,7 @@ needs_of commands.Version = needs false false false false
 needs_of (commands.Public words) = needs false true false false
 needs_of (commands.Text words) = needs false true false false
 needs_of (commands.Entries words) = needs false true false false
+needs_of (commands.ServeAll words) = needs false true true false
 
 -- words that ask for no command need nothing
 abbrev pub needs_by : Option Command → Needs

@@ -9,6 +9,7 @@ use Rattle.sporc_words.specs.declared.found.Found.{Found}
 use Rattle.sporc_words.specs.declared.keygen.Keygen.{Keygen}
 use Rattle.sporc_words.specs.declared.public.Public.{Public}
 use Rattle.sporc_words.specs.declared.serve.Serve.{Serve}
+use Rattle.sporc_words.specs.declared.serve_all.ServeAll.{ServeAll}
 use Rattle.sporc_serve.specs.Crowds.{Net, net_of}
 use Rattle.sporc_play.specs.declared.fault.PlayFault.{PlayFault}
 use Rattle.sporc_play.specs.Playing.{GeneratedFault, PlayOutcome, PlaysGenerated}
@@ -16,7 +17,7 @@ use Rattle.sporc_files.specs.declared.fault.Fault.{Fault}
 use Rattle.sporc_files.specs.declared.file.File.{File}
 use Rattle.sporc_files.specs.declared.file.File.TheVariants as files
 use Rattle.sporc_files.specs.Faults.{fault_of_play}
-use Rattle.sporc_files.specs.Names.{FileNames, file_name, names_of_document}
+use Rattle.sporc_files.specs.Names.{FileNames, file_name, names_of_document, names_of_documents}
 use Rattle.sporc_files.specs.Uses.{AsksOnly, ChanceUse, FolderUse}
 use Rattle.sporc_founding.specs.Founding.{FoundOutcome, found_files}
 use Rattle.sporc_founding.specs.KeyMaking.{KeygenOutcome}
@@ -24,6 +25,8 @@ use Rattle.sporc_founding.specs.KeyShowing.{PublicOutcome}
 use Rattle.sporc_help.specs.Pages.{page_text, version_text}
 use Rattle.sporc_help.specs.Telling.{TellsText}
 use Rattle.sporc_histories.specs.Outcomes.{CheckOutcome, CompareOutcome, EntriesOutcome, ServeOutcome, TextOutcome}
+use Rattle.sporc_hosting.specs.Hosting.{ServeAllOutcome}
+use Rattle.sporc_hosting.specs.Loading.{files_of_all}
 use Rattle.sporc_sessions.specs.Nets.{AsksAtMost, LinkView}
 use Rattle.sporc_clients.specs.Outcome.{ClientOutcome, ClientUse, DiskView, NetUse, client_files, names_of as names_of_client}
 use Rattle.sporc_top.specs.Uses.{OutsideUse, client_use}
@@ -49,6 +52,7 @@ names_of commands.Version = no_files
 names_of (commands.Public words) = names_of_document words.name
 names_of (commands.Text words) = names_of_document words.name
 names_of (commands.Entries words) = names_of_document words.name
+names_of (commands.ServeAll words) = names_of_documents words.names
 
 -- of all files, the names of these alone were asked for
 abbrev pub AsksFor : FileNames → List File → FolderUse → Type 0
@@ -83,13 +87,13 @@ pub record PlaysEdits (edits : ℕ) (out : SinkUse) (answer : Result ⊤ Fault) 
 -- a key was made, of two files alone
 pub record MakesKey (words : Keygen) (folder : FolderUse) (chance : ChanceUse) (out : SinkUse) (answer : Result ⊤ Fault) : Type 0 where
   pub outcome : KeygenOutcome words folder chance out answer
-  pub may_ask : AsksFor (names_of_document words.name) (files.Key words.member ∷ files.Leaf words.member ∷ []) folder
+  pub may_ask : AsksFor (names_of_document words.name) (files.Key words.device ∷ files.Leaf words.device ∷ []) folder
 
 -- the public key of a key that is there was printed, of one file alone, and none was changed
 pub record ShowsKey (words : Public) (folder : FolderUse) (out : SinkUse) (answer : Result ⊤ Fault) : Type 0 where
   pub outcome : PublicOutcome words folder out answer
   pub unchanged : folder.files_after ≡ folder.files_before
-  pub may_ask : AsksFor (names_of_document words.name) (files.Key words.member ∷ []) folder
+  pub may_ask : AsksFor (names_of_document words.name) (files.Key words.device ∷ []) folder
 
 -- a document was founded, of the files alone that its words name, and nothing was written of that
 pub record FoundsDocument (words : Found) (folder : FolderUse) (chance : ChanceUse) (out : SinkUse) (answer : Result ⊤ Fault) : Type 0 where
@@ -114,11 +118,19 @@ pub record ServesDocument {L : Type 0} (links : LinkView L) (words : Serve) (fol
   pub net_may_ask : MayAppend net.before.asked net.after.asked words.address
   pub shut : AreShutBehind links.is_shut net.before.returned net.after.returned
 
--- a member worked from its own files and its editors' scripts alone, with the server at the address alone, over at most two links, each of which
+-- sessions of several documents were served at the address alone, from two files of each alone, and each link that came back is shut
+pub record ServesDocuments {L : Type 0} (links : LinkView L) (words : ServeAll) (folder : FolderUse) (out : SinkUse) (net : NetUse L) (answer : Result ⊤ Fault) : Type 0 where
+  pub outcome : ServeAllOutcome (λ l. (links.told l).left) (λ l. (links.told l).written) (λ l. (links.told l).faults) links.is_shut words.names words.sessions folder out
+      (net_before net) (net_after net) answer
+  pub files_may_ask : AsksOnly (files_of_all words.names) folder.asked_before folder.asked_after
+  pub net_may_ask : MayAppend net.before.asked net.after.asked words.address
+  pub shut : AreShutBehind links.is_shut net.before.returned net.after.returned
+
+-- a member's device worked from its own files and its editors' scripts alone, with the server at the address alone, over at most two links, each of which
 -- came back shut
 pub record WorksAsMember {L D : Type 0} (links : LinkView L) (disks : DiskView D) (words : Client) (did : ClientUse L) (answer : Result ⊤ Fault) : Type 0 where
   pub outcome : ClientOutcome links disks words did answer
-  pub files_may_ask : AsksFor (names_of_client words) (client_files words.member (length words.scripts)) did.folder
+  pub files_may_ask : AsksFor (names_of_client words) (client_files words.device (length words.scripts)) did.folder
   pub net_may_ask : AsksAtMost 2 did.net.before.asked did.net.after.asked words.address
   pub shut : AreShutBehind links.is_shut did.net.before.returned did.net.after.returned
   pub links_kept : did.net.before.link_faults ≤ did.net.after.link_faults
@@ -134,10 +146,11 @@ module _ {L D : Type 0} (links : LinkView L) (disks : DiskView D) where
   Performs (commands.Found words) outside answer = FoundsDocument words outside.folder outside.chance outside.out answer
   Performs (commands.Serve words) outside answer = ServesDocument links words outside.folder outside.out outside.net answer
   Performs (commands.Client words) outside answer = WorksAsMember links disks words (client_use outside) answer
-  Performs (commands.Check words) outside answer = CheckOutcome (names_of_document words.name) words.member outside.folder outside.out answer
+  Performs (commands.Check words) outside answer = CheckOutcome (names_of_document words.name) words.device outside.folder outside.out answer
   Performs (commands.Compare words) outside answer = CompareOutcome (names_of_document words.name) words.first words.second outside.folder outside.out answer
   Performs (commands.Help page) outside answer = TellsText (page_text page) outside.out answer
   Performs commands.Version outside answer = TellsText version_text outside.out answer
   Performs (commands.Public words) outside answer = ShowsKey words outside.folder outside.out answer
-  Performs (commands.Text words) outside answer = TextOutcome (names_of_document words.name) words.member words.at outside.folder outside.out answer
-  Performs (commands.Entries words) outside answer = EntriesOutcome (names_of_document words.name) words.member words.from outside.folder outside.out answer
+  Performs (commands.Text words) outside answer = TextOutcome (names_of_document words.name) words.device words.at outside.folder outside.out answer
+  Performs (commands.Entries words) outside answer = EntriesOutcome (names_of_document words.name) words.device words.from outside.folder outside.out answer
+  Performs (commands.ServeAll words) outside answer = ServesDocuments links words outside.folder outside.out outside.net answer

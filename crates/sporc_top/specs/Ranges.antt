@@ -5,6 +5,7 @@ use Rattle.lms_tree.specs.LmsType.{height_of}
 use Rattle.sporc_keys.specs.KeyFile.{IsKeyWidth}
 use Rattle.sporc_script.specs.declared.limits.TheConstants.{MAX_EDITORS, MAX_GENERATED}
 use Rattle.sporc_serve.specs.declared.limits.TheConstants.{MAX_SESSIONS}
+use Rattle.sporc_docs.specs.declared.limits.TheConstants.{MAX_DOCUMENTS}
 use Rattle.sporc_words.specs.declared.command.Command.{Command}
 use Rattle.sporc_words.specs.declared.command.Command.TheVariants as commands
 use Rattle.sporc_founding.specs.Founding.{MayFound}
@@ -23,3 +24,4 @@ IsInRange commands.Version = Unit {0}
 IsInRange (commands.Public asked) = Unit {0}
 IsInRange (commands.Text asked) = Unit {0}
 IsInRange (commands.Entries asked) = Unit {0}
+IsInRange (commands.ServeAll asked) = (length asked.names ≤ MAX_DOCUMENTS) × (1 ≤ asked.sessions) × (asked.sessions ≤ MAX_SESSIONS)

@@ -1,7 +1,9 @@
 //! Laws over what a run did, whatever its links and disks tell. Their functions do nothing.
 
 ghost use Rattle.std.specs.Prelude.{◌≡◌, ◌<◌, ◌≤◌, ℕ, true, List, IsSome, None, Some, length};
+ghost use Rattle.sporc_member.specs.declared.device.Device.{Device};
 ghost use Rattle.sporc_script.specs.Grammar.{IsPlayFault, IsPlayScript};
+ghost use Rattle.sporc_script.specs.Spelling.{DeviceInRange};
 ghost use Rattle.sporc_script.specs.declared.play_line.PlayLine.{PlayLine};
 ghost use Rattle.sporc_client.specs.Genuine.{Genuine};
 ghost use Rattle.sporc_client.specs.Run.{start};
@@ -75,25 +77,28 @@ pub fn generated_runs_are_played<L: Link, D: LeafDisk>()
         → command_of words ≡ Some (commands.Generate n) → UnlessCutOff status ((status ≡ 0) × PlaysGenerated n outside.out) }
 {}
 
-/// Behind a run of the program that did not have the disk of a member's leaf file handed out, whatever its words and its end, that
+/// Behind a run of the program that did not have the disk of a device's leaf file handed out, whatever its words and its end, that
 /// file stands as before. Or the run is a `keygen` that makes it, where there was none, or where something outside failed.
 ///
 /// This speaks of a folder that tells its files.
 pub fn leaf_files_stay<L: Link, D: LeafDisk>()
-    ensures { (document : List ℕ) (member : ℕ)
+    ensures { (document : List ℕ) (device : Device)
         (run : ProgramRun (link_view L.written L.left L.faults L.is_shut) (disk_view D.stored D.images D.moment D.faults))
         → IsSome run.outside.folder.files_before → IsSome run.outside.folder.lent_before
-        → over_leaf_file (link_view L.written L.left L.faults L.is_shut) (disk_view D.stored D.images D.moment D.faults) (leaf_name document member) run ≡ None
-        → LeavesLeafFile (link_view L.written L.left L.faults L.is_shut) (disk_view D.stored D.images D.moment D.faults) (leaf_name document member) run }
+        → over_leaf_file (link_view L.written L.left L.faults L.is_shut) (disk_view D.stored D.images D.moment D.faults) (leaf_name document device) run ≡ None
+        → LeavesLeafFile (link_view L.written L.left L.faults L.is_shut) (disk_view D.stored D.images D.moment D.faults) (leaf_name document device) run }
 {}
 
-/// Over runs of the program one behind another, whatever their words and their ends, the leaves that sign over one member's leaf
+/// Over runs of the program one behind another, whatever their words and their ends, the leaves that sign over one device's leaf
 /// file rise, so none signs twice. Between two runs that file stays as it was, or a crash leaves of it what it may leave of its
 /// disk; as long as it is there no `keygen` that makes it meets a call outside that fails. A run that a crash cuts off answers
 /// nothing, and is none of these.
 ///
-/// This speaks of a folder that tells its files, and of disks that tell their bytes and behave as [`LeafDisk`] says.
+/// This speaks of a folder that tells its files, and of disks that tell their bytes and behave as [`LeafDisk`] says. Two devices of
+/// a document have two leaf files.
 pub fn no_leaf_signs_twice_over_runs<L: Link, D: LeafDisk>()
-    ensures rise { (document : List ℕ) (member : ℕ)
-        → SignOnceOverRuns (link_view L.written L.left L.faults L.is_shut) D.stored D.moment D.images D.faults (leaf_name document member) }
+    ensures own { (document : List ℕ) (one other : Device) → DeviceInRange one → DeviceInRange other
+        → leaf_name document one ≡ leaf_name document other → one ≡ other }
+    ensures rise { (document : List ℕ) (device : Device)
+        → SignOnceOverRuns (link_view L.written L.left L.faults L.is_shut) D.stored D.moment D.images D.faults (leaf_name document device) }
 {}

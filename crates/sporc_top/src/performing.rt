@@ -1,10 +1,11 @@
 //! What each command does.
 
-ghost use Rattle.std.specs.Prelude.{◌≡◌, ◌+◌, ◌≤◌, false};
+ghost use Rattle.std.specs.Prelude.{◌≡◌, ◌+◌, ◌≤◌, false, length};
 ghost use Rattle.sporc_outside.specs.Uses.{sink_use, source_use};
 ghost use Rattle.sporc_reading.specs.Reading.{ConsumesAtMost};
 ghost use Rattle.sporc_script.specs.declared.limits.TheConstants.{MAX_GENERATED};
 ghost use Rattle.sporc_serve.specs.declared.limits.TheConstants.{MAX_SESSIONS};
+ghost use Rattle.sporc_docs.specs.declared.limits.TheConstants.{MAX_DOCUMENTS};
 ghost use Rattle.sporc_play.specs.declared.playing.TheConstants.{MAX_SCRIPT};
 ghost use Rattle.sporc_files.specs.Names.{names_of_document};
 ghost use Rattle.sporc_files.specs.Uses.{chance_use, folder_use};
@@ -12,7 +13,7 @@ ghost use Rattle.sporc_histories.specs.Outcomes.{CheckOutcome, CompareOutcome, E
 ghost use Rattle.sporc_sessions.specs.Nets.{link_view};
 ghost use Rattle.sporc_clients.specs.Outcome.{disk_view, net_use};
 ghost use Rattle.sporc_top.specs.Needs.{needs_of};
-ghost use Rattle.sporc_top.specs.Performing.{Performs, PlaysEdits, PlaysSource, ServesDocument, names_of};
+ghost use Rattle.sporc_top.specs.Performing.{Performs, PlaysEdits, PlaysSource, ServesDocument, ServesDocuments, names_of};
 ghost use Rattle.sporc_top.specs.Ranges.{IsInRange};
 
 use sporc_clients::client;
@@ -20,9 +21,10 @@ use sporc_files::{Fault, Names};
 use sporc_founding::{found, keygen, public};
 use sporc_help::{help, version};
 use sporc_histories::{check, compare, list_entries, serve, text};
+use sporc_hosting::serve_all;
 use sporc_outside::{Chance, Dial, Folder, Gate, Listen, Sink, Source};
 use sporc_play::{play, play_generated};
-use sporc_words::{Check, Command, Compare, EntriesFrom, Serve, TextAt};
+use sporc_words::{Check, Command, Compare, EntriesFrom, Serve, ServeAll, TextAt};
 use std::alloc::Global;
 use std::sync::Wait;
 use std::thread::Threads;
@@ -43,6 +45,7 @@ pub(crate) fn names_of(command: &Command) -> Names<'_>
         Command::Public(words) => Names::of_document(words.name.as_str()),
         Command::Text(words) => Names::of_document(words.name.as_str()),
         Command::Entries(words) => Names::of_document(words.name.as_str()),
+        Command::ServeAll(words) => Names::of_documents(words.names.as_slice()),
     }
 }
 
@@ -96,7 +99,39 @@ where
     serve(rt, alloc, files, net, out, &names, address, sessions, gate)
 }
 
-// Examines the history of a member.
+// Serves sessions of several documents from their logs.
+fn serve_documents<R: Threads + Wait + Sync, O: Sink, F: Folder, N: Listen, G: Gate + Sync>(
+    rt: &R,
+    alloc: Global,
+    words: &ServeAll,
+    out: &mut O,
+    files: &mut F,
+    net: &mut N,
+    gate: &G,
+) -> Result<(), Fault>
+where
+    N::Link: Send,
+    requires documents { length words.now.names ≤ MAX_DOCUMENTS }
+    requires some { 1 ≤ words.now.sessions }
+    requires limit { words.now.sessions ≤ MAX_SESSIONS }
+    ensures outcome { ServesDocuments (link_view N.Link.written N.Link.left N.Link.faults N.Link.is_shut) words.now
+        (folder_use F.files F.asked F.lent F.faults files.old files.new)
+        (sink_use O.written O.faults out.old out.new)
+        (net_use N.asked N.coming N.returned N.link_faults N.faults net.old net.new)
+        result }
+    ensures links_out { N.out net.new ≡ N.out net.old }
+    ensures lent { F.lent files.new ≡ F.lent files.old }
+    ensures files_kept { F.faults files.old ≤ F.faults files.new }
+    ensures net_kept { N.faults net.old ≤ N.faults net.new }
+    ensures out_kept { O.faults out.old ≤ O.faults out.new }
+{
+    let names = words.names.as_slice();
+    let address = words.address.as_str();
+    let sessions = words.sessions;
+    serve_all(rt, alloc, files, net, out, names, address, sessions, gate)
+}
+
+// Examines the history of a device.
 fn check_history<R: Threads + Wait + Sync, O: Sink, F: Folder, G: Gate + Sync>(
     rt: &R,
     alloc: Global,
@@ -105,7 +140,7 @@ fn check_history<R: Threads + Wait + Sync, O: Sink, F: Folder, G: Gate + Sync>(
     files: &mut F,
     gate: &G,
 ) -> Result<(), Fault>
-    ensures outcome { CheckOutcome (names_of_document words.now.name) words.now.member
+    ensures outcome { CheckOutcome (names_of_document words.now.name) words.now.device
         (folder_use F.files F.asked F.lent F.faults files.old files.new)
         (sink_use O.written O.faults out.old out.new)
         result }
@@ -114,10 +149,10 @@ fn check_history<R: Threads + Wait + Sync, O: Sink, F: Folder, G: Gate + Sync>(
     ensures out_kept { O.faults out.old ≤ O.faults out.new }
 {
     let names = Names::of_document(words.name.as_str());
-    check(rt, alloc, files, out, &names, words.member, gate)
+    check(rt, alloc, files, out, &names, words.device, gate)
 }
 
-// Compares the histories of two members.
+// Compares the histories of two devices.
 fn compare_histories<O: Sink, F: Folder>(
     alloc: Global,
     words: &Compare,
@@ -136,7 +171,7 @@ fn compare_histories<O: Sink, F: Folder>(
     compare(alloc, files, out, &names, words.first, words.second)
 }
 
-// Tells the committed text of a member's history.
+// Tells the committed text of a device's history.
 fn tell_text<R: Threads + Wait + Sync, O: Sink, F: Folder, G: Gate + Sync>(
     rt: &R,
     alloc: Global,
@@ -145,7 +180,7 @@ fn tell_text<R: Threads + Wait + Sync, O: Sink, F: Folder, G: Gate + Sync>(
     files: &mut F,
     gate: &G,
 ) -> Result<(), Fault>
-    ensures outcome { TextOutcome (names_of_document words.now.name) words.now.member words.now.at
+    ensures outcome { TextOutcome (names_of_document words.now.name) words.now.device words.now.at
         (folder_use F.files F.asked F.lent F.faults files.old files.new)
         (sink_use O.written O.faults out.old out.new)
         result }
@@ -154,10 +189,10 @@ fn tell_text<R: Threads + Wait + Sync, O: Sink, F: Folder, G: Gate + Sync>(
     ensures out_kept { O.faults out.old ≤ O.faults out.new }
 {
     let names = Names::of_document(words.name.as_str());
-    text(rt, alloc, files, out, &names, words.member, words.at, gate)
+    text(rt, alloc, files, out, &names, words.device, words.at, gate)
 }
 
-// Lists the entries of a member's history.
+// Lists the entries of a device's history.
 fn list_history<R: Threads + Wait + Sync, O: Sink, F: Folder, G: Gate + Sync>(
     rt: &R,
     alloc: Global,
@@ -166,7 +201,7 @@ fn list_history<R: Threads + Wait + Sync, O: Sink, F: Folder, G: Gate + Sync>(
     files: &mut F,
     gate: &G,
 ) -> Result<(), Fault>
-    ensures outcome { EntriesOutcome (names_of_document words.now.name) words.now.member words.now.from
+    ensures outcome { EntriesOutcome (names_of_document words.now.name) words.now.device words.now.from
         (folder_use F.files F.asked F.lent F.faults files.old files.new)
         (sink_use O.written O.faults out.old out.new)
         result }
@@ -181,7 +216,7 @@ fn list_history<R: Threads + Wait + Sync, O: Sink, F: Folder, G: Gate + Sync>(
         files,
         out,
         &names,
-        words.member,
+        words.device,
         words.from,
         gate,
     )
@@ -248,5 +283,6 @@ where
         Command::Public(words) => public(rt, alloc, files, out, words),
         Command::Text(words) => tell_text(rt, alloc, words, out, files, gate),
         Command::Entries(words) => list_history(rt, alloc, words, out, files, gate),
+        Command::ServeAll(words) => serve_documents(rt, alloc, words, out, files, net, gate),
     }
 }

@@ -28,7 +28,7 @@ use std::thread::Threads;
 /// | `play` | `source` |
 /// | `play --generate` | nothing |
 /// | `keygen`, `found` | `files` and `chance` |
-/// | `serve` | `files`, `net` and `gate` |
+/// | `serve`, `serve-all` | `files`, `net` and `gate` |
 /// | `client` | `files`, `net`, `chance` and `gate` |
 /// | `check`, `text`, `entries` | `files` and `gate` |
 /// | `compare` | `files` |
@@ -42,11 +42,11 @@ use std::thread::Threads;
 /// | 0 | none: the command did all its work |
 /// | 1 | memory ran out |
 /// | 2 | the words ask for nothing |
-/// | 3 | a file is missing, there already, too long or malformed, a script has a line that is not valid, or is too long, or a history has fewer entries than the words ask for |
+/// | 3 | a file is missing, there already, too long or malformed, two names are of one document, a script has a line that is not valid, or is too long, or a history has fewer entries than the words ask for |
 /// | 4 | an entry was refused by a check or rejected by the server, or a member's keys do not open the document |
 /// | 5 | the rounds of a session are over, and edits wait or the history is shorter than was asked for |
 /// | 6 | something outside failed, or the link ended before an answer |
-/// | 7 | the member's key has no leaf left |
+/// | 7 | the device's key has no leaf left |
 /// | 8 | a history, a journal or a file is full, or the tickets of a lock are used up |
 /// | 9 | what the server sent is no message |
 /// | 10 | an edit of an editor's script was refused |

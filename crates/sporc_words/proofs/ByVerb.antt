@@ -5,8 +5,8 @@ use Rattle.sporc_script.specs.Readers.{then_read}
 use Rattle.sporc_words.specs.declared.command.Command.TheVariants as commands
 use Rattle.sporc_words.specs.declared.command.Verb.{Verb}
 use Rattle.sporc_words.specs.declared.command.Verb.TheVariants as verbs
-use Rattle.sporc_words.specs.Arguments.{check_app, client_app, compare_app, entries_app, found_app, keygen_app, public_app, serve_app, taken, text_app}
-use Rattle.sporc_words.specs.Commands.{app_for, check_in, client_in, command_by, command_in, compare_in, entries_in, found_in, keygen_in, public_in, serve_in, text_in}
+use Rattle.sporc_words.specs.Arguments.{check_app, client_app, compare_app, entries_app, found_app, keygen_app, public_app, serve_all_app, serve_app, taken, text_app}
+use Rattle.sporc_words.specs.Commands.{app_for, check_in, client_in, command_by, command_in, compare_in, entries_in, found_in, keygen_in, public_in, serve_all_in, serve_in, text_in}
 
 inside : {A B C : Type 0} (o : Option A) (f : A → Option B) (g : B → C) → option_map g (then_read o f) ≡ then_read o (λ a. option_map g (f a))
 inside None f g = refl
@@ -24,3 +24,4 @@ by_verb verbs.Compare words = inside (taken compare_app words) compare_in comman
 by_verb verbs.Public words = inside (taken public_app words) public_in commands.Public
 by_verb verbs.Text words = inside (taken text_app words) text_in commands.Text
 by_verb verbs.Entries words = inside (taken entries_app words) entries_in commands.Entries
+by_verb verbs.ServeAll words = inside (taken serve_all_app words) serve_all_in commands.ServeAll

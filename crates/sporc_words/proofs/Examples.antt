@@ -2,8 +2,9 @@
 use Rattle.std.proofs.Common.{◌≡◌, [], ◌∷◌, None, Some, codes, refl}
 use Rattle.lms_ots.specs.declared.ots_type.OtsType.TheVariants.{W4}
 use Rattle.lms_tree.specs.declared.lms_type.LmsType.TheVariants.{H10}
+use Rattle.sporc_member.specs.Device.{first_device}
 use Rattle.sporc_member.specs.declared.role.Role.TheVariants.{Admin, Editor}
-use Rattle.sporc_words.specs.declared.command.Command.TheVariants.{Check, Client, Compare, Entries, Found, Generate, Help, Keygen, Play, Public, Serve, Text, Version}
+use Rattle.sporc_words.specs.declared.command.Command.TheVariants.{Check, Client, Compare, Entries, Found, Generate, Help, Keygen, Play, Public, Serve, ServeAll, Text, Version}
 use Rattle.sporc_words.specs.declared.command.Verb.TheVariants as verbs
 use Rattle.sporc_words.specs.declared.page.Page.TheVariants as pages
 use Rattle.sporc_words.specs.declared.standing.Standing.TheVariants.{Founder, Joiner}
@@ -26,9 +27,27 @@ too_long_a_run = refl
 
 -- `keygen plan 7 10 4`
 a_key : command_of (codes "keygen" ∷ codes "plan" ∷ codes "7" ∷ codes "10" ∷ codes "4" ∷ [])
-    ≡ Some (Keygen (record { name = codes "plan"; member = 7; height = H10; width = W4 }))
+    ≡ Some (Keygen (record { name = codes "plan"; device = first_device 7; height = H10; width = W4 }))
 unfolding words_on_literals
 a_key = refl
+
+-- `keygen plan 7.2 10 4`
+a_key_of_a_further_device : command_of (codes "keygen" ∷ codes "plan" ∷ codes "7.2" ∷ codes "10" ∷ codes "4" ∷ [])
+    ≡ Some (Keygen (record { name = codes "plan"; device = record { member = 7; number = 2 }; height = H10; width = W4 }))
+unfolding words_on_literals
+a_key_of_a_further_device = refl
+
+a_first_device_by_its_number : command_of (codes "keygen" ∷ codes "plan" ∷ codes "7.0" ∷ codes "10" ∷ codes "4" ∷ []) ≡ None
+unfolding words_on_literals
+a_first_device_by_its_number = refl
+
+a_zero_in_front : command_of (codes "keygen" ∷ codes "plan" ∷ codes "7.02" ∷ codes "10" ∷ codes "4" ∷ []) ≡ None
+unfolding words_on_literals
+a_zero_in_front = refl
+
+too_high_a_device : command_of (codes "keygen" ∷ codes "plan" ∷ codes "7.256" ∷ codes "10" ∷ codes "4" ∷ []) ≡ None
+unfolding words_on_literals
+too_high_a_device = refl
 
 no_such_height : command_of (codes "keygen" ∷ codes "plan" ∷ codes "7" ∷ codes "20" ∷ codes "4" ∷ []) ≡ None
 unfolding words_on_literals
@@ -58,7 +77,7 @@ a_server = refl
 a_client : command_of (codes "client" ∷ codes "plan" ∷ codes "7" ∷ codes "host:80" ∷ codes "--until" ∷ codes "5" ∷ codes "a" ∷ codes "b" ∷ [])
     ≡ Some (Client (record {
       name = codes "plan";
-      member = 7;
+      device = first_device 7;
       address = codes "host:80";
       rounds = 64;
       until = 5;
@@ -68,15 +87,21 @@ unfolding words_on_literals
 a_client = refl
 
 -- `check plan 7`
-a_check : command_of (codes "check" ∷ codes "plan" ∷ codes "7" ∷ []) ≡ Some (Check (record { name = codes "plan"; member = 7 }))
+a_check : command_of (codes "check" ∷ codes "plan" ∷ codes "7" ∷ []) ≡ Some (Check (record { name = codes "plan"; device = first_device 7 }))
 unfolding words_on_literals
 a_check = refl
 
 -- `compare plan 7 9`
 a_comparison : command_of (codes "compare" ∷ codes "plan" ∷ codes "7" ∷ codes "9" ∷ [])
-    ≡ Some (Compare (record { name = codes "plan"; first = 7; second = 9 }))
+    ≡ Some (Compare (record { name = codes "plan"; first = first_device 7; second = first_device 9 }))
 unfolding words_on_literals
 a_comparison = refl
+
+-- `compare plan 7.1 7`
+two_devices_compared : command_of (codes "compare" ∷ codes "plan" ∷ codes "7.1" ∷ codes "7" ∷ [])
+    ≡ Some (Compare (record { name = codes "plan"; first = record { member = 7; number = 1 }; second = first_device 7 }))
+unfolding words_on_literals
+two_devices_compared = refl
 
 zero_is_no_member : command_of (codes "check" ∷ codes "plan" ∷ codes "0" ∷ []) ≡ None
 unfolding words_on_literals
@@ -87,7 +112,7 @@ unfolding words_on_literals
 no_command = refl
 
 -- `public plan 7`
-a_public_key : command_of (codes "public" ∷ codes "plan" ∷ codes "7" ∷ []) ≡ Some (Public (record { name = codes "plan"; member = 7 }))
+a_public_key : command_of (codes "public" ∷ codes "plan" ∷ codes "7" ∷ []) ≡ Some (Public (record { name = codes "plan"; device = first_device 7 }))
 unfolding words_on_literals
 a_public_key = refl
 
@@ -140,7 +165,7 @@ unfolding words_on_literals
 a_word_behind_it = refl
 
 -- what stands for a name is one
-named_help : command_of (codes "check" ∷ codes "help" ∷ codes "7" ∷ []) ≡ Some (Check (record { name = codes "help"; member = 7 }))
+named_help : command_of (codes "check" ∷ codes "help" ∷ codes "7" ∷ []) ≡ Some (Check (record { name = codes "help"; device = first_device 7 }))
 unfolding words_on_literals
 named_help = refl
 
@@ -149,13 +174,13 @@ unfolding words_on_literals
 no_words = refl
 
 -- `text plan 7`
-a_text : command_of (codes "text" ∷ codes "plan" ∷ codes "7" ∷ []) ≡ Some (Text (record { name = codes "plan"; member = 7; at = None }))
+a_text : command_of (codes "text" ∷ codes "plan" ∷ codes "7" ∷ []) ≡ Some (Text (record { name = codes "plan"; device = first_device 7; at = None }))
 unfolding words_on_literals
 a_text = refl
 
 -- `text plan 7 --at 0`
 no_text : command_of (codes "text" ∷ codes "plan" ∷ codes "7" ∷ codes "--at" ∷ codes "0" ∷ [])
-    ≡ Some (Text (record { name = codes "plan"; member = 7; at = Some 0 }))
+    ≡ Some (Text (record { name = codes "plan"; device = first_device 7; at = Some 0 }))
 unfolding words_on_literals
 no_text = refl
 
@@ -164,12 +189,28 @@ unfolding words_on_literals
 at_no_number = refl
 
 -- `entries plan 7`
-all_entries : command_of (codes "entries" ∷ codes "plan" ∷ codes "7" ∷ []) ≡ Some (Entries (record { name = codes "plan"; member = 7; from = 1 }))
+all_entries : command_of (codes "entries" ∷ codes "plan" ∷ codes "7" ∷ []) ≡ Some (Entries (record { name = codes "plan"; device = first_device 7; from = 1 }))
 unfolding words_on_literals
 all_entries = refl
 
 -- `entries plan 7 --from=18`
 some_entries : command_of (codes "entries" ∷ codes "plan" ∷ codes "7" ∷ codes "--from=18" ∷ [])
-    ≡ Some (Entries (record { name = codes "plan"; member = 7; from = 18 }))
+    ≡ Some (Entries (record { name = codes "plan"; device = first_device 7; from = 18 }))
 unfolding words_on_literals
 some_entries = refl
+
+-- `serve-all host:80 --sessions 9 plan menu`
+two_documents : command_of (codes "serve-all" ∷ codes "host:80" ∷ codes "--sessions" ∷ codes "9" ∷ codes "plan" ∷ codes "menu" ∷ [])
+    ≡ Some (ServeAll (record { address = codes "host:80"; sessions = 9; names = codes "plan" ∷ codes "menu" ∷ [] }))
+unfolding words_on_literals
+two_documents = refl
+
+-- `serve-all --sessions=9 host:80 plan`
+one_document : command_of (codes "serve-all" ∷ codes "--sessions=9" ∷ codes "host:80" ∷ codes "plan" ∷ [])
+    ≡ Some (ServeAll (record { address = codes "host:80"; sessions = 9; names = codes "plan" ∷ [] }))
+unfolding words_on_literals
+one_document = refl
+
+no_document : command_of (codes "serve-all" ∷ codes "host:80" ∷ codes "--sessions" ∷ codes "9" ∷ []) ≡ None
+unfolding words_on_literals
+no_document = refl

@@ -37,6 +37,7 @@ no_command verbs.Compare = refl
 no_command verbs.Public = refl
 no_command verbs.Text = refl
 no_command verbs.Entries = refl
+no_command verbs.ServeAll = refl
 
 -- ---- by the words
 

@@ -18,6 +18,7 @@ each_is_simple verbs.Compare = refl
 each_is_simple verbs.Public = refl
 each_is_simple verbs.Text = refl
 each_is_simple verbs.Entries = refl
+each_is_simple verbs.ServeAll = refl
 
 pub simple : (verb : Verb) (app : App) → app ≡ app_for verb → is_simple_and_free app ≡ true
 simple verb app is = ap is_simple_and_free is ∙ each_is_simple verb

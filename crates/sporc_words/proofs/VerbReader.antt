@@ -8,5 +8,5 @@ use Rattle.sporc_script.proofs.Exact.{IsExact, named_exact}
 pub verb_exact : IsExact Verb (λ _. Unit {0}) verb_name verb_of
 unfolding verb_of
 verb_exact = named_exact Verb verb_name
-    (verbs.Play ∷ verbs.Keygen ∷ verbs.Found ∷ verbs.Serve ∷ verbs.Client ∷ verbs.Check ∷ verbs.Compare ∷ verbs.Public ∷ verbs.Text ∷ verbs.Entries ∷ [])
-    (λ v. elim v as (λ v. verb_of (verb_name v) ≡ Some v) [ verbs.Play ↦ refl | verbs.Keygen ↦ refl | verbs.Found ↦ refl | verbs.Serve ↦ refl | verbs.Client ↦ refl | verbs.Check ↦ refl | verbs.Compare ↦ refl | verbs.Public ↦ refl | verbs.Text ↦ refl | verbs.Entries ↦ refl ])
+    (verbs.Play ∷ verbs.Keygen ∷ verbs.Found ∷ verbs.Serve ∷ verbs.Client ∷ verbs.Check ∷ verbs.Compare ∷ verbs.Public ∷ verbs.Text ∷ verbs.Entries ∷ verbs.ServeAll ∷ [])
+    (λ v. elim v as (λ v. verb_of (verb_name v) ≡ Some v) [ verbs.Play ↦ refl | verbs.Keygen ↦ refl | verbs.Found ↦ refl | verbs.Serve ↦ refl | verbs.Client ↦ refl | verbs.Check ↦ refl | verbs.Compare ↦ refl | verbs.Public ↦ refl | verbs.Text ↦ refl | verbs.Entries ↦ refl | verbs.ServeAll ↦ refl ])

@@ -98,6 +98,12 @@ text_app = with_all (named (codes "text")) (positional (codes "NAME") ∷ positi
 unfoldable pub entries_app : App
 entries_app = with_all (named (codes "entries")) (positional (codes "NAME") ∷ positional (codes "M") ∷ optional (codes "from") ∷ [])
 
+-- `serve-all ADDRESS --sessions K NAME ..`
+unfoldable pub serve_all_app : App
+serve_all_app =
+    with_all (named (codes "serve-all"))
+    (positional (codes "ADDRESS") ∷ needed (codes "sessions") ∷ repeated (codes "NAME") ∷ [])
+
 -- ---- words
 
 -- clap's definition of such a command takes the words, or finds no fault in them

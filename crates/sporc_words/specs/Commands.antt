@@ -3,8 +3,9 @@ use Rattle.std.specs.Prelude.{nat_le, List, length, codes, Option, None, Some, o
 use Rattle.clap.specs.Simple.{App}
 use Rattle.clap.specs.Walk.{Row, Text, first_of}
 use Rattle.sporc_script.specs.declared.limits.TheConstants.{MAX_EDITORS, MAX_GENERATED}
-use Rattle.sporc_script.specs.Readers.{member_of, then_read, u32_of}
+use Rattle.sporc_script.specs.Readers.{device_of, then_read, u32_of}
 use Rattle.sporc_serve.specs.declared.limits.TheConstants.{MAX_SESSIONS}
+use Rattle.sporc_docs.specs.declared.limits.TheConstants.{MAX_DOCUMENTS}
 use Rattle.sporc_words.specs.declared.check.Check.{Check}
 use Rattle.sporc_words.specs.declared.client.Client.{Client}
 use Rattle.sporc_words.specs.declared.command.Command.{Command}
@@ -18,9 +19,10 @@ use Rattle.sporc_words.specs.declared.found.Found.{Found}
 use Rattle.sporc_words.specs.declared.keygen.Keygen.{Keygen}
 use Rattle.sporc_words.specs.declared.public.Public.{Public}
 use Rattle.sporc_words.specs.declared.serve.Serve.{Serve}
-use Rattle.sporc_words.specs.Arguments.{check_app, client_app, compare_app, entries_app, found_app, keygen_app, play_app, public_app, serve_app, taken, text_app}
+use Rattle.sporc_words.specs.declared.serve_all.ServeAll.{ServeAll}
+use Rattle.sporc_words.specs.Arguments.{check_app, client_app, compare_app, entries_app, found_app, keygen_app, play_app, public_app, serve_all_app, serve_app, taken, text_app}
 use Rattle.sporc_words.specs.Help.{help_in}
-use Rattle.sporc_words.specs.Values.{number_between, number_if, participants_of, tree_of, value_of, value_or, values_of, width_named}
+use Rattle.sporc_words.specs.Values.{is_between, number_between, number_if, participants_of, tree_of, value_of, value_or, values_of, width_named}
 use Rattle.sporc_words.specs.Verbs.{verb_of}
 use Rattle.sporc_words.specs.declared.text.TextAt.{TextAt}
 
@@ -36,9 +38,9 @@ play_in rows = play_by (first_of (codes "generate") rows)
 
 abbrev pub keygen_in : List Row → Option Keygen
 keygen_in rows =
-    then_read (first_of (codes "NAME") rows) (λ name. then_read (value_of (codes "M") member_of rows) (λ member.
+    then_read (first_of (codes "NAME") rows) (λ name. then_read (value_of (codes "M") device_of rows) (λ device.
     then_read (value_of (codes "HEIGHT") tree_of rows) (λ height. then_read (value_of (codes "W") width_named rows) (λ width.
-    Some (record { name = name; member = member; height = height; width = width })))))
+    Some (record { name = name; device = device; height = height; width = width })))))
 
 abbrev pub found_in : List Row → Option Found
 found_in rows =
@@ -57,36 +59,45 @@ scripts_of words = if nat_le (length words) MAX_EDITORS then Some words else Non
 
 abbrev pub client_in : List Row → Option Client
 client_in rows =
-    then_read (first_of (codes "NAME") rows) (λ name. then_read (value_of (codes "M") member_of rows) (λ member.
+    then_read (first_of (codes "NAME") rows) (λ name. then_read (value_of (codes "M") device_of rows) (λ device.
     then_read (first_of (codes "ADDRESS") rows) (λ address. then_read (value_or (codes "rounds") DEFAULT_ROUNDS u32_of rows) (λ rounds.
     then_read (value_or (codes "until") DEFAULT_UNTIL u32_of rows) (λ until. then_read (scripts_of (values_of (codes "SCRIPT") rows)) (λ scripts.
-    Some (record { name = name; member = member; address = address; rounds = rounds; until = until; scripts = scripts })))))))
+    Some (record { name = name; device = device; address = address; rounds = rounds; until = until; scripts = scripts })))))))
 
 abbrev pub check_in : List Row → Option Check
 check_in rows =
-    then_read (first_of (codes "NAME") rows) (λ name. then_read (value_of (codes "M") member_of rows) (λ member.
-    Some (record { name = name; member = member })))
+    then_read (first_of (codes "NAME") rows) (λ name. then_read (value_of (codes "M") device_of rows) (λ device.
+    Some (record { name = name; device = device })))
 
 abbrev pub public_in : List Row → Option Public
 public_in rows =
-    then_read (first_of (codes "NAME") rows) (λ name. then_read (value_of (codes "M") member_of rows) (λ member.
-    Some (record { name = name; member = member })))
+    then_read (first_of (codes "NAME") rows) (λ name. then_read (value_of (codes "M") device_of rows) (λ device.
+    Some (record { name = name; device = device })))
 
 abbrev pub compare_in : List Row → Option Compare
 compare_in rows =
-    then_read (first_of (codes "NAME") rows) (λ name. then_read (value_of (codes "M") member_of rows) (λ first.
-    then_read (value_of (codes "N") member_of rows) (λ second.
+    then_read (first_of (codes "NAME") rows) (λ name. then_read (value_of (codes "M") device_of rows) (λ first.
+    then_read (value_of (codes "N") device_of rows) (λ second.
     Some (record { name = name; first = first; second = second }))))
 
 abbrev pub text_in : List Row → Option TextAt
 text_in rows =
-    then_read (first_of (codes "NAME") rows) (λ name. then_read (value_of (codes "M") member_of rows) (λ member.
-    then_read (number_if (codes "at") rows) (λ at. Some (record { name = name; member = member; at = at }))))
+    then_read (first_of (codes "NAME") rows) (λ name. then_read (value_of (codes "M") device_of rows) (λ device.
+    then_read (number_if (codes "at") rows) (λ at. Some (record { name = name; device = device; at = at }))))
 
 abbrev pub entries_in : List Row → Option EntriesFrom
 entries_in rows =
-    then_read (first_of (codes "NAME") rows) (λ name. then_read (value_of (codes "M") member_of rows) (λ member.
-    then_read (value_or (codes "from") DEFAULT_FROM u32_of rows) (λ from. Some (record { name = name; member = member; from = from }))))
+    then_read (first_of (codes "NAME") rows) (λ name. then_read (value_of (codes "M") device_of rows) (λ device.
+    then_read (value_or (codes "from") DEFAULT_FROM u32_of rows) (λ from. Some (record { name = name; device = device; from = from }))))
+
+-- the names of documents, if they are from one to as many as a server may have
+abbrev pub documents_of : List Text → Option (List Text)
+documents_of words = if is_between 1 MAX_DOCUMENTS (length words) then Some words else None
+
+abbrev pub serve_all_in : List Row → Option ServeAll
+serve_all_in rows =
+    then_read (first_of (codes "ADDRESS") rows) (λ address. then_read (value_of (codes "sessions") (number_between 1 MAX_SESSIONS) rows) (λ sessions.
+    then_read (documents_of (values_of (codes "NAME") rows)) (λ names. Some (record { address = address; sessions = sessions; names = names }))))
 
 -- ---- the first word
 
@@ -102,6 +113,7 @@ app_for verbs.Compare = compare_app
 app_for verbs.Public = public_app
 app_for verbs.Text = text_app
 app_for verbs.Entries = entries_app
+app_for verbs.ServeAll = serve_all_app
 
 -- its command, by the values of the arguments
 abbrev pub command_in : Verb → List Row → Option Command
@@ -115,6 +127,7 @@ command_in verbs.Compare rows = option_map commands.Compare (compare_in rows)
 command_in verbs.Public rows = option_map commands.Public (public_in rows)
 command_in verbs.Text rows = option_map commands.Text (text_in rows)
 command_in verbs.Entries rows = option_map commands.Entries (entries_in rows)
+command_in verbs.ServeAll rows = option_map commands.ServeAll (serve_all_in rows)
 
 -- ---- all words
 
@@ -130,6 +143,7 @@ command_by verbs.Compare words = option_map commands.Compare (then_read (taken c
 command_by verbs.Public words = option_map commands.Public (then_read (taken public_app words) public_in)
 command_by verbs.Text words = option_map commands.Text (then_read (taken text_app words) text_in)
 command_by verbs.Entries words = option_map commands.Entries (then_read (taken entries_app words) entries_in)
+command_by verbs.ServeAll words = option_map commands.ServeAll (then_read (taken serve_all_app words) serve_all_in)
 
 -- what they ask for, by the command that the first names
 unfoldable pub work_in : List Text → Option Command

@@ -16,9 +16,10 @@ verb_name verbs.Compare = codes "compare"
 verb_name verbs.Public = codes "public"
 verb_name verbs.Text = codes "text"
 verb_name verbs.Entries = codes "entries"
+verb_name verbs.ServeAll = codes "serve-all"
 
 -- the command that a word names
 unfoldable pub verb_of : Text → Option Verb
 verb_of word =
     named_of verb_name
-    (verbs.Play ∷ verbs.Keygen ∷ verbs.Found ∷ verbs.Serve ∷ verbs.Client ∷ verbs.Check ∷ verbs.Compare ∷ verbs.Public ∷ verbs.Text ∷ verbs.Entries ∷ []) word
+    (verbs.Play ∷ verbs.Keygen ∷ verbs.Found ∷ verbs.Serve ∷ verbs.Client ∷ verbs.Check ∷ verbs.Compare ∷ verbs.Public ∷ verbs.Text ∷ verbs.Entries ∷ verbs.ServeAll ∷ []) word

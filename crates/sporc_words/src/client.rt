@@ -8,10 +8,11 @@ ghost use Rattle.sporc_words.specs.Commands.{client_in};
 use crate::arguments::{Kind, command_with};
 use crate::defaults::{DEFAULT_ROUNDS, DEFAULT_UNTIL};
 use crate::matches::value;
-use crate::values::{member_value, scripts_value, value_or};
+use crate::values::{device_value, scripts_value, value_or};
 use crate::word::Word;
 use clap::{ArgMatches, Command};
 use sporc_base::{Items, Memory};
+use sporc_member::Device;
 use std::alloc::Global;
 
 /// What `client` is asked for.
@@ -19,8 +20,8 @@ use std::alloc::Global;
 pub struct Client {
     /// The document's name.
     pub name: Word,
-    /// The member's number, from 1 to 65,535.
-    pub member: u16,
+    /// The device.
+    pub device: Device,
     /// Where the server listens.
     pub address: Word,
     /// How many rounds the session has beside the editors, and at most after them.
@@ -57,7 +58,7 @@ pub fn client_from(alloc: Global, matches: &ArgMatches<'_>) -> Result<Option<Cli
     let Some(name) = value(matches, "NAME") else {
         return Ok(None);
     };
-    let Some(member) = member_value(matches, "M") else {
+    let Some(device) = device_value(matches, "M") else {
         return Ok(None);
     };
     let Some(address) = value(matches, "ADDRESS") else {
@@ -76,7 +77,7 @@ pub fn client_from(alloc: Global, matches: &ArgMatches<'_>) -> Result<Option<Cli
     let address = Word::new(alloc, address)?;
     Ok(Some(Client {
         name,
-        member,
+        device,
         address,
         rounds,
         until,

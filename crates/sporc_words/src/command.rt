@@ -9,6 +9,7 @@ use crate::keygen::Keygen;
 use crate::page::Page;
 use crate::public::Public;
 use crate::serve::Serve;
+use crate::serve_all::ServeAll;
 use crate::text::TextAt;
 
 /// What a command line asks for.
@@ -40,6 +41,8 @@ pub enum Command {
     Text(TextAt),
     /// `entries NAME M --from POS` lists the entries of a member's history.
     Entries(EntriesFrom),
+    /// `serve-all ADDRESS --sessions K NAME ..` serves sessions of several documents.
+    ServeAll(ServeAll),
 }
 
 /// The first word of a command line, but for `help` and `version`.
@@ -55,4 +58,5 @@ pub enum Verb {
     Public,
     Text,
     Entries,
+    ServeAll,
 }

@@ -7,21 +7,22 @@ ghost use Rattle.sporc_words.specs.Commands.{compare_in};
 
 use crate::arguments::{Kind, command_with};
 use crate::matches::value;
-use crate::values::member_value;
+use crate::values::device_value;
 use crate::word::Word;
 use clap::{ArgMatches, Command};
 use sporc_base::Memory;
+use sporc_member::Device;
 use std::alloc::Global;
 
-/// What `compare` is asked for. The two numbers may be the same.
+/// What `compare` is asked for. The two devices may be the same.
 #[derive(Drop)]
 pub struct Compare {
     /// The document's name.
     pub name: Word,
-    /// The one member's number, from 1 to 65,535.
-    pub first: u16,
-    /// The other member's number, from 1 to 65,535.
-    pub second: u16,
+    /// The one device.
+    pub first: Device,
+    /// The other device.
+    pub second: Device,
 }
 
 /// The command `compare`.
@@ -47,10 +48,10 @@ pub fn compare_from(alloc: Global, matches: &ArgMatches<'_>) -> Result<Option<Co
     let Some(name) = value(matches, "NAME") else {
         return Ok(None);
     };
-    let Some(first) = member_value(matches, "M") else {
+    let Some(first) = device_value(matches, "M") else {
         return Ok(None);
     };
-    let Some(second) = member_value(matches, "N") else {
+    let Some(second) = device_value(matches, "N") else {
         return Ok(None);
     };
     let name = Word::new(alloc, name)?;

@@ -8,10 +8,11 @@ ghost use Rattle.sporc_words.specs.Commands.{entries_in};
 use crate::arguments::{Kind, command_with};
 use crate::defaults::DEFAULT_FROM;
 use crate::matches::value;
-use crate::values::{member_value, value_or};
+use crate::values::{device_value, value_or};
 use crate::word::Word;
 use clap::{ArgMatches, Command};
 use sporc_base::Memory;
+use sporc_member::Device;
 use std::alloc::Global;
 
 /// What `entries` is asked for.
@@ -19,8 +20,8 @@ use std::alloc::Global;
 pub struct EntriesFrom {
     /// The document's name.
     pub name: Word,
-    /// The member's number, from 1 to 65,535.
-    pub member: u16,
+    /// The device.
+    pub device: Device,
     /// The position of the first entry that is listed.
     pub from: u32,
 }
@@ -48,12 +49,12 @@ pub fn entries_from(alloc: Global, matches: &ArgMatches<'_>) -> Result<Option<En
     let Some(name) = value(matches, "NAME") else {
         return Ok(None);
     };
-    let Some(member) = member_value(matches, "M") else {
+    let Some(device) = device_value(matches, "M") else {
         return Ok(None);
     };
     let Some(from) = value_or(matches, "from", DEFAULT_FROM) else {
         return Ok(None);
     };
     let name = Word::new(alloc, name)?;
-    Ok(Some(EntriesFrom { name, member, from }))
+    Ok(Some(EntriesFrom { name, device, from }))
 }

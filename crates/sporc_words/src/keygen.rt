@@ -7,12 +7,13 @@ ghost use Rattle.sporc_words.specs.Commands.{keygen_in};
 
 use crate::arguments::{Kind, command_with};
 use crate::matches::value;
-use crate::values::{member_value, tree_value, width_value};
+use crate::values::{device_value, tree_value, width_value};
 use crate::word::Word;
 use clap::{ArgMatches, Command};
 use lms_ots::OtsType;
 use lms_tree::LmsType;
 use sporc_base::Memory;
+use sporc_member::Device;
 use std::alloc::Global;
 
 /// What `keygen` is asked for.
@@ -20,8 +21,8 @@ use std::alloc::Global;
 pub struct Keygen {
     /// The document's name.
     pub name: Word,
-    /// The member's number, from 1 to 65,535.
-    pub member: u16,
+    /// The device.
+    pub device: Device,
     /// The type of the tree, of height 5, 10 or 15.
     pub height: LmsType,
     /// The type of the one-time signatures, with 4 or 8 bits a coefficient.
@@ -52,7 +53,7 @@ pub fn keygen_from(alloc: Global, matches: &ArgMatches<'_>) -> Result<Option<Key
     let Some(name) = value(matches, "NAME") else {
         return Ok(None);
     };
-    let Some(member) = member_value(matches, "M") else {
+    let Some(device) = device_value(matches, "M") else {
         return Ok(None);
     };
     let Some(height) = tree_value(matches, "HEIGHT") else {
@@ -64,7 +65,7 @@ pub fn keygen_from(alloc: Global, matches: &ArgMatches<'_>) -> Result<Option<Key
     let name = Word::new(alloc, name)?;
     Ok(Some(Keygen {
         name,
-        member,
+        device,
         height,
         width,
     }))

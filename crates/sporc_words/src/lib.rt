@@ -1,7 +1,7 @@
 //! What a command line asks for.
 //!
 //! [`read_words`] reads the words after the program's name, by `clap` with one simple command for each first word, and then
-//! the numbers, members and roles among the values. The lines of the last two rows are read word for word:
+//! the numbers, members and roles among the values. The lines with `help` and `version` are read word for word:
 //!
 //! ```text
 //! play                                               play --generate N
@@ -12,9 +12,11 @@
 //! help, --help, -h                                   version, --version
 //! help COMMAND                                       COMMAND --help
 //! text NAME M --at POS                               entries NAME M --from POS
+//! serve-all ADDRESS --sessions K NAME ..
 //! ```
 //!
-//! Numbers are decimal, with no sign and no zero in front. ROLE is `reader`, `editor`, `admin` or `joiner`.
+//! Numbers are decimal, with no sign and no zero in front. ROLE is `reader`, `editor`, `admin` or `joiner`. M and N name a
+//! member's first device by its number alone, and a further one as `M.D`, with D from 1 to 255; in M:ROLE M is a member.
 //!
 //! Proved: words ask for exactly one command or for none, which `specs/Commands.antt` defines by `clap`'s own definition
 //! of what a simple command takes, and `read_words` answers which. Only tested: that reading does not run out of memory
@@ -39,6 +41,7 @@ mod participants;
 mod play;
 mod public;
 mod serve;
+mod serve_all;
 mod standing;
 mod text;
 mod values;
@@ -57,6 +60,7 @@ pub use keygen::Keygen;
 pub use page::Page;
 pub use public::Public;
 pub use serve::Serve;
+pub use serve_all::ServeAll;
 pub use standing::{Participant, Standing};
 pub use text::TextAt;
 pub use word::Word;

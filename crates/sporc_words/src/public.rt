@@ -7,10 +7,11 @@ ghost use Rattle.sporc_words.specs.Commands.{public_in};
 
 use crate::arguments::{Kind, command_with};
 use crate::matches::value;
-use crate::values::member_value;
+use crate::values::device_value;
 use crate::word::Word;
 use clap::{ArgMatches, Command};
 use sporc_base::Memory;
+use sporc_member::Device;
 use std::alloc::Global;
 
 /// What `public` is asked for.
@@ -18,8 +19,8 @@ use std::alloc::Global;
 pub struct Public {
     /// The document's name.
     pub name: Word,
-    /// The member's number, from 1 to 65,535.
-    pub member: u16,
+    /// The device.
+    pub device: Device,
 }
 
 /// The command `public`.
@@ -41,9 +42,9 @@ pub fn public_from(alloc: Global, matches: &ArgMatches<'_>) -> Result<Option<Pub
     let Some(name) = value(matches, "NAME") else {
         return Ok(None);
     };
-    let Some(member) = member_value(matches, "M") else {
+    let Some(device) = device_value(matches, "M") else {
         return Ok(None);
     };
     let name = Word::new(alloc, name)?;
-    Ok(Some(Public { name, member }))
+    Ok(Some(Public { name, device }))
 }

@@ -7,10 +7,11 @@ ghost use Rattle.sporc_words.specs.Commands.{text_in};
 
 use crate::arguments::{Kind, command_with};
 use crate::matches::value;
-use crate::values::{member_value, number_if};
+use crate::values::{device_value, number_if};
 use crate::word::Word;
 use clap::{ArgMatches, Command};
 use sporc_base::Memory;
+use sporc_member::Device;
 use std::alloc::Global;
 
 /// What `text` is asked for.
@@ -18,8 +19,8 @@ use std::alloc::Global;
 pub struct TextAt {
     /// The document's name.
     pub name: Word,
-    /// The member's number, from 1 to 65,535.
-    pub member: u16,
+    /// The device.
+    pub device: Device,
     /// After how many entries, if not after all.
     pub at: Option<u32>,
 }
@@ -47,12 +48,12 @@ pub fn text_from(alloc: Global, matches: &ArgMatches<'_>) -> Result<Option<TextA
     let Some(name) = value(matches, "NAME") else {
         return Ok(None);
     };
-    let Some(member) = member_value(matches, "M") else {
+    let Some(device) = device_value(matches, "M") else {
         return Ok(None);
     };
     let Some(at) = number_if(matches, "at") else {
         return Ok(None);
     };
     let name = Word::new(alloc, name)?;
-    Ok(Some(TextAt { name, member, at }))
+    Ok(Some(TextAt { name, device, at }))
 }

@@ -3,8 +3,8 @@
 ghost use Rattle.std.specs.Prelude.{◌≡◌, IfOk};
 ghost use Rattle.clap.specs.Walk.{texts};
 ghost use Rattle.clap.specs.Words.{found_of, rows_of};
-ghost use Rattle.sporc_script.specs.Readers.{member_of, u32_of};
-ghost use Rattle.sporc_words.specs.Commands.{scripts_of};
+ghost use Rattle.sporc_script.specs.Readers.{device_of, u32_of};
+ghost use Rattle.sporc_words.specs.Commands.{documents_of, scripts_of};
 ghost use Rattle.sporc_words.specs.Values.{number_between, number_if, tree_of, value_of, value_or, values_of, width_named};
 
 use crate::matches::{value, values};
@@ -13,15 +13,17 @@ use clap::ArgMatches;
 use lms_ots::OtsType;
 use lms_tree::LmsType;
 use sporc_base::{Items, Memory};
-use sporc_script::{MAX_EDITORS, parse_member, parse_u32, parse_u64};
+use sporc_docs::MAX_DOCUMENTS;
+use sporc_member::Device;
+use sporc_script::{MAX_EDITORS, parse_device, parse_u32, parse_u64};
 use std::alloc::Global;
 
-/// The member's number that is the value of an argument.
-pub fn member_value(matches: &ArgMatches<'_>, id: &str) -> Option<u16>
-    ensures value { result ≡ value_of id.now member_of (rows_of (found_of matches.now)) }
+/// The device that is the value of an argument.
+pub fn device_value(matches: &ArgMatches<'_>, id: &str) -> Option<Device>
+    ensures value { result ≡ value_of id.now device_of (rows_of (found_of matches.now)) }
 {
     let word = value(matches, id)?;
-    parse_member(word.as_bytes())
+    parse_device(word.as_bytes())
 }
 
 /// The number in these bounds that is the value of an argument.
@@ -92,6 +94,31 @@ fn read_scripts(alloc: Global, words: &[&str]) -> Result<Option<Items<Word>>, Me
     }
     let scripts = copied(alloc, words)?;
     Ok(Some(scripts))
+}
+
+/// The words that are the values of an argument, if they may name the documents of a server: at least one, and not too many.
+pub fn documents_value(
+    alloc: Global,
+    matches: &ArgMatches<'_>,
+    id: &str,
+) -> Result<Option<Items<Word>>, Memory>
+    ensures ok { IfOk result (λ found. found ≡ documents_of (values_of id.now (rows_of (found_of matches.now)))) }
+{
+    let Some(words) = values(matches, id) else {
+        return Ok(None);
+    };
+    read_documents(alloc, words)
+}
+
+// The names of documents, if they are from one to as many as may be.
+fn read_documents(alloc: Global, words: &[&str]) -> Result<Option<Items<Word>>, Memory>
+    ensures ok { IfOk result (λ found. found ≡ documents_of (texts words.now)) }
+{
+    if words.is_empty() || words.len() > MAX_DOCUMENTS {
+        return Ok(None);
+    }
+    let names = copied(alloc, words)?;
+    Ok(Some(names))
 }
 
 fn copied(alloc: Global, words: &[&str]) -> Result<Items<Word>, Memory>

@@ -22,6 +22,7 @@ use crate::matches::read_matches;
 use crate::play::{play_command, play_from};
 use crate::public::{public_command, public_from};
 use crate::serve::{serve_command, serve_from};
+use crate::serve_all::{serve_all_command, serve_all_from};
 use crate::text::{text_command, text_from};
 use clap::ArgMatches;
 use sporc_base::Memory;
@@ -97,6 +98,7 @@ fn command_for<'a>(alloc: Global, verb: Verb) -> Result<clap::Command<'a>, Memor
         Verb::Public => public_command(alloc),
         Verb::Text => text_command(alloc),
         Verb::Entries => entries_command(alloc),
+        Verb::ServeAll => serve_all_command(alloc),
     }
 }
 
@@ -119,6 +121,7 @@ fn command_from(
         Verb::Public => Ok(public_from(alloc, matches)?.map(Command::Public)),
         Verb::Text => Ok(text_from(alloc, matches)?.map(Command::Text)),
         Verb::Entries => Ok(entries_from(alloc, matches)?.map(Command::Entries)),
+        Verb::ServeAll => Ok(serve_all_from(alloc, matches)?.map(Command::ServeAll)),
     }
 }
 
@@ -143,6 +146,7 @@ fn verb_named(word: &str) -> Option<Verb>
         "public" => Some(Verb::Public),
         "text" => Some(Verb::Text),
         "entries" => Some(Verb::Entries),
+        "serve-all" => Some(Verb::ServeAll),
         _ => None,
     }
 }

@@ -6,6 +6,7 @@ use crate::bytes::spelled;
 use crate::checks::check_answer;
 use crate::memory::add_file;
 use sporc_files::Fault;
+use sporc_member::Device;
 use sporc_outside::NamedFile;
 use std::alloc::Global;
 use std::process::Abort;
@@ -29,7 +30,7 @@ fn keygen_answers<R: Abort + Threads + Sync>(
     answer: Result<(), Fault>,
 ) {
     let mut room = Room::new(rt, alloc, Vec::new(alloc), failing);
-    let found = room.make_key(rt, alloc, 1);
+    let found = room.make_key(rt, alloc, Device::first(1));
     check_answer(rt, "keygen", found, answer);
 }
 

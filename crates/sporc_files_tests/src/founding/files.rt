@@ -5,6 +5,7 @@ use crate::bytes::spelled;
 use crate::checks::{check, check_answer, check_same};
 use crate::memory::empty_sink;
 use sporc_files::{Fault, File, Names};
+use sporc_member::Device;
 use sporc_outside::{DiskBytes, NamedFile};
 use std::alloc::Global;
 use std::process::Abort;
@@ -17,6 +18,19 @@ pub const FIRST_KEY: &str =
 /// The key file of member 2.
 pub const SECOND_KEY: &str =
     "53504b3100020000000500000003333333333333333333333333333333334444444444444444444444444444444444444444444444444444444444444444";
+
+// The key file of member 1's device 7, of the same words as that of its first.
+const FURTHER_KEY: &str =
+    "53504b32000107000000050000000305a7ca4e14a784c0e0daa5e6dd970959ea27ffea029dc2328007e05d3a1dfd83f357b2404bcc4061c787f0d0a3ed91df";
+
+const FURTHER_FILES: [(&str, &str); 2] = [
+    ("D.1.7.key", FURTHER_KEY),
+    ("D.1.7.leaf", "0000000000000000"),
+];
+
+// What is printed of either.
+const FIRST_LINE: &str =
+    "key 000000050000000305a7ca4e14a784c0e0daa5e6dd9709592f29e7467c09c25915bbfd16beab83d48525fc049982054d4ab9a5e6f98e8a9c\n";
 
 // The lines that are printed of the keys.
 const LINES: &str =
@@ -104,17 +118,42 @@ fn key_is_made<R: Abort + Threads + Sync>(
     room: &mut Room,
     answer: Result<(), Fault>,
 ) {
-    let found = room.make_key(rt, alloc, 1);
+    let found = room.make_key(rt, alloc, Device::first(1));
     check_answer(rt, "key 1", found, answer);
 }
 
 fn key_is_made_once<R: Abort + Threads + Sync>(rt: &R, alloc: Global) {
     let mut room = Room::new(rt, alloc, Vec::new(alloc), NONE);
     key_is_made(rt, alloc, &mut room, Ok(()));
-    let exists = Fault::Exists(File::Key(1));
+    let exists = Fault::Exists(File::Key(Device::first(1)));
     key_is_made(rt, alloc, &mut room, Err(exists));
     is_told(rt, alloc, exists, b"fault exists D.1.key\n");
     are_the_files(rt, alloc, room.folder.files(), 2);
+}
+
+// A further device has files of its own, of which a founding reads none: it looks for the key of member 1's first device.
+fn key_of_a_further_device<R: Abort + Threads + Sync>(rt: &R, alloc: Global) {
+    let mut room = Room::new(rt, alloc, Vec::new(alloc), NONE);
+    let device = Device {
+        member: 1,
+        number: 7,
+    };
+    let made = room.make_key(rt, alloc, device);
+    check_answer(rt, "key 1.7", made, Ok(()));
+    check_same(rt, "line", room.sink.as_slice(), FIRST_LINE.as_bytes());
+    are_of_device_7(rt, alloc, room.folder.files());
+    let second = room.make_key(rt, alloc, Device::first(2));
+    check_answer(rt, "key 2", second, Ok(()));
+    let found = room.make_document(rt, alloc);
+    let missing = Fault::Missing(File::Key(Device::first(1)));
+    check_answer(rt, "no key of the first device", found, Err(missing));
+}
+
+fn are_of_device_7(rt: &impl Abort, alloc: Global, files: &[NamedFile]) {
+    check(rt, "two files", files.len() == 2);
+    for (file, (name, bytes)) in files.iter().zip(&FURTHER_FILES) {
+        is_the_file(rt, alloc, file, name, bytes);
+    }
 }
 
 // A key file is not overwritten.
@@ -122,4 +161,5 @@ fn key_is_made_once<R: Abort + Threads + Sync>(rt: &R, alloc: Global) {
 fn keys_and_a_document_are_made_once(rt: HostRuntime) {
     all_are_made(&rt, rt.alloc());
     key_is_made_once(&rt, rt.alloc());
+    key_of_a_further_device(&rt, rt.alloc());
 }

@@ -6,6 +6,7 @@ use hex::FromHex;
 use lms_ots::OtsType;
 use lms_tree::LmsType;
 use sporc_keys::{NewKey, keygen};
+use sporc_member::Device;
 use sporc_outside::ListedChance;
 use std::alloc::Global;
 use std::process::Abort;
@@ -30,21 +31,37 @@ fn is_the_key(rt: &impl Abort, key: &NewKey) {
     let public = <[u8; 56]>::from_hex(PUBLIC).expect(rt, "bytes");
     let seed = <[u8; 32]>::from_hex(SEED).expect(rt, "bytes");
     check_same(rt, "public key", &key.public.to_bytes(), &public);
-    check(rt, "member", key.file.member == 3);
+    check(rt, "device", key.file.device == Device::first(3));
     check_same(rt, "seed", &key.file.seed, &seed);
     check_same(rt, "leaves", key.leaves.as_slice(), &[0; 8]);
 }
 
 fn two_words_give_the_key<R: Abort + Threads + Sync>(rt: &R, alloc: Global) {
     let mut chance = two_words(rt, alloc, 0);
-    let key = keygen(rt, alloc, &mut *chance, 3, LmsType::H5, OtsType::W4).expect(rt, "a key");
+    let key = keygen(
+        rt,
+        alloc,
+        &mut *chance,
+        Device::first(3),
+        LmsType::H5,
+        OtsType::W4,
+    )
+    .expect(rt, "a key");
     is_the_key(rt, &key);
 }
 
 // Whether there is no new key, since this call fails.
 fn is_refused<R: Abort + Threads + Sync>(rt: &R, alloc: Global, call: u64) -> bool {
     let mut chance = two_words(rt, alloc, call);
-    is_chance(keygen(rt, alloc, &mut *chance, 3, LmsType::H5, OtsType::W4).err())
+    is_chance(keygen(
+        rt,
+        alloc,
+        &mut *chance,
+        Device::first(3),
+        LmsType::H5,
+        OtsType::W4,
+    )
+    .err())
 }
 
 /// Two words give a key, unless a call of the chance fails.

@@ -10,7 +10,7 @@ use lms_tree::LmsType;
 use sporc_base::{Items, Memory};
 use sporc_files::Fault;
 use sporc_founding::{found, keygen};
-use sporc_member::Role;
+use sporc_member::{Device, Role};
 use sporc_outside::{ListedChance, MemoryFolder, MemorySink, NamedFile};
 use sporc_words::{Found, Keygen, Participant, Standing, Word};
 use std::alloc::Global;
@@ -80,11 +80,11 @@ impl Room {
         &mut self,
         rt: &R,
         alloc: Global,
-        member: u16,
+        device: Device,
     ) -> Result<(), Fault> {
         let asked = Keygen {
             name: Word::new(alloc, "D").expect(rt, "memory"),
-            member,
+            device,
             height: LmsType::H5,
             width: OtsType::W4,
         };
@@ -114,8 +114,8 @@ impl Room {
         rt: &R,
         alloc: Global,
     ) -> Result<(), Fault> {
-        self.make_key(rt, alloc, 1)?;
-        self.make_key(rt, alloc, 2)?;
+        self.make_key(rt, alloc, Device::first(1))?;
+        self.make_key(rt, alloc, Device::first(2))?;
         self.make_document(rt, alloc)
     }
 }

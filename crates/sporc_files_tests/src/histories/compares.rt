@@ -4,6 +4,7 @@ use super::folder::{Files, Room};
 use crate::checks::{check_answer, check_same};
 use sporc_files::Names;
 use sporc_histories::compare;
+use sporc_member::Device;
 use sporc_samples::{Cast, History, forked_history};
 use std::alloc::Global;
 use std::process::Abort;
@@ -33,7 +34,15 @@ fn compared(
 ) {
     let mut room = two_histories(rt, alloc, cast, first, second);
     let names = Names::of_document("D");
-    let answer = compare(alloc, &mut *room.folder, &mut *room.out, &names, 1, 2);
+    let (admin, editor) = (Device::first(1), Device::first(2));
+    let answer = compare(
+        alloc,
+        &mut *room.folder,
+        &mut *room.out,
+        &names,
+        admin,
+        editor,
+    );
     check_answer(rt, "compare", answer, Ok(()));
     check_same(rt, "line of compare", room.out.as_slice(), line);
 }

@@ -1,8 +1,9 @@
-//! The history of a document that another program upgraded: this one reads it, as member 2's first device.
+//! The history of an upgraded document: both devices of member 2 read it, also if the second one is dropped at its end.
 
 use super::folder::{Files, Room};
 use crate::checks::{check_answer, check_same};
-use sporc_files::Names;
+use sporc_files::{Fault, Names};
+use sporc_head::Refusal;
 use sporc_histories::{check, list_entries, text};
 use sporc_member::{Change, Device, Role};
 use sporc_outside::OpenGate;
@@ -19,7 +20,7 @@ const MEMBERS: [u16; 5] = [1, 2, 3, 4, 5];
 const BEFORE: &str = "1 2 1 0 edit i\"ab\"\n2 1 1 1 change upgrade\n3 1 2 2 change device 2 1 ";
 
 const BEHIND: &str =
-    "\n4 2 1 3 edit k2 i\"c\"\n5 2 2 4 edit k3 i\"d\"\n6 1 3 5 change drop-device 2 1\n";
+    "\n4 2.1 1 3 edit k2 i\"c\"\n5 2 2 4 edit k3 i\"d\"\n6 1 3 5 change drop-device 2 1\n";
 
 // Appends an edit by a device, which inserts a text behind so many characters.
 fn add_edit(
@@ -67,14 +68,30 @@ fn upgraded(rt: &impl Abort, alloc: Global, cast: &Cast, second: &Member) -> His
     sample
 }
 
-// The room of member 2 with a history.
-fn room(rt: &impl Abort, alloc: Global, cast: &Cast, sample: &History) -> Room {
-    let mut files = Files::of_member(rt, alloc, cast);
-    files.add_history(rt, alloc, "D.2.history", sample.entries());
+// The first device of member 2, or the second one.
+fn device(number: u8) -> Device {
+    Device { member: 2, number }
+}
+
+// The room of this device with a history.
+fn room(rt: &impl Abort, alloc: Global, cast: &Cast, number: u8, entries: &[Vec<u8>]) -> Room {
+    let (mut files, name) = match number {
+        0 => (Files::of_member(rt, alloc, cast), "D.2.history"),
+        _ => (Files::of_second_device(rt, alloc, cast), "D.2.1.history"),
+    };
+    files.add_history(rt, alloc, name, entries);
     files.room(rt, alloc, 0)
 }
 
-fn is_checked<R: Threads + Wait + Sync + Abort>(rt: &R, alloc: Global, mut room: Room) {
+// What `check` answers and writes of this device's history.
+fn is_checked<R: Threads + Wait + Sync + Abort>(
+    rt: &R,
+    alloc: Global,
+    mut room: Room,
+    number: u8,
+    wanted: Result<(), Fault>,
+    line: &[u8],
+) {
     let names = Names::of_document("D");
     let answer = check(
         rt,
@@ -82,14 +99,14 @@ fn is_checked<R: Threads + Wait + Sync + Abort>(rt: &R, alloc: Global, mut room:
         &mut *room.folder,
         &mut *room.out,
         &names,
-        2,
+        device(number),
         &OpenGate,
     );
-    check_answer(rt, "check", answer, Ok(()));
-    check_same(rt, "check", room.out.as_slice(), b"checked 6\n");
+    check_answer(rt, "check", answer, wanted);
+    check_same(rt, "check", room.out.as_slice(), line);
 }
 
-fn is_told<R: Threads + Wait + Sync + Abort>(rt: &R, alloc: Global, mut room: Room) {
+fn is_told<R: Threads + Wait + Sync + Abort>(rt: &R, alloc: Global, mut room: Room, number: u8) {
     let names = Names::of_document("D");
     let answer = text(
         rt,
@@ -97,7 +114,7 @@ fn is_told<R: Threads + Wait + Sync + Abort>(rt: &R, alloc: Global, mut room: Ro
         &mut *room.folder,
         &mut *room.out,
         &names,
-        2,
+        device(number),
         None,
         &OpenGate,
     );
@@ -109,6 +126,7 @@ fn is_listed<R: Threads + Wait + Sync + Abort>(
     rt: &R,
     alloc: Global,
     mut room: Room,
+    number: u8,
     lines: &[u8],
 ) {
     let names = Names::of_document("D");
@@ -118,7 +136,7 @@ fn is_listed<R: Threads + Wait + Sync + Abort>(
         &mut *room.folder,
         &mut *room.out,
         &names,
-        2,
+        device(number),
         0,
         &OpenGate,
     );
@@ -136,27 +154,59 @@ fn lines_with(rt: &impl Abort, alloc: Global, key: &[u8; 56]) -> String {
     lines
 }
 
-// What the commands say of the history.
-fn is_read<R: Threads + Wait + Sync + Abort>(rt: &R, alloc: Global, cast: &Cast, second: &Member) {
-    let sample = upgraded(rt, alloc, cast, second);
-    is_checked(rt, alloc, room(rt, alloc, cast, &sample));
-    is_told(rt, alloc, room(rt, alloc, cast, &sample));
-    let lines = lines_with(rt, alloc, &second.key());
-    is_listed(rt, alloc, room(rt, alloc, cast, &sample), lines.as_bytes());
+// What the commands say of this device's history.
+fn is_read<R: Threads + Wait + Sync + Abort>(
+    rt: &R,
+    alloc: Global,
+    cast: &Cast,
+    number: u8,
+    entries: &[Vec<u8>],
+    lines: &[u8],
+) {
+    let checked = room(rt, alloc, cast, number, entries);
+    is_checked(rt, alloc, checked, number, Ok(()), b"checked 6\n");
+    is_told(rt, alloc, room(rt, alloc, cast, number, entries), number);
+    let listed = room(rt, alloc, cast, number, entries);
+    is_listed(rt, alloc, listed, number, lines);
+}
+
+// Of an entry behind its end the second device is told that it is none.
+fn ends_when_dropped<R: Threads + Wait + Sync + Abort>(
+    rt: &R,
+    alloc: Global,
+    cast: &Cast,
+    sample: &mut History,
+) {
+    let first = cast.member(2).expect(rt, "member 2");
+    add_edit(rt, alloc, sample, first, 4, "e");
+    let whole = room(rt, alloc, cast, 0, sample.entries());
+    is_checked(rt, alloc, whole, 0, Ok(()), b"checked 7\n");
+    let removed = Err(Fault::Refused(7, Refusal::Removed));
+    let behind = room(rt, alloc, cast, 1, sample.entries());
+    is_checked(rt, alloc, behind, 1, removed, b"");
 }
 
 // The second device of member 2.
 fn second_device(rt: &impl Abort, alloc: Global) -> Member {
-    let device = Device {
-        member: 2,
-        number: 1,
-    };
-    Member::by_device(alloc, device, Role::Editor).expect(rt, "a device")
+    Member::by_device(alloc, device(1), Role::Editor).expect(rt, "a device")
 }
 
 #[test]
 fn the_history_of_an_upgraded_document_is_read(rt: HostRuntime) {
-    let cast = Cast::new(rt.alloc()).expect(&rt, "a cast");
-    let second = second_device(&rt, rt.alloc());
-    is_read(&rt, rt.alloc(), &cast, &second);
+    let alloc = rt.alloc();
+    let cast = Cast::new(alloc).expect(&rt, "a cast");
+    let second = second_device(&rt, alloc);
+    let mut sample = upgraded(&rt, alloc, &cast, &second);
+    let lines = lines_with(&rt, alloc, &second.key());
+    for number in 0..2u8 {
+        is_read(
+            &rt,
+            alloc,
+            &cast,
+            number,
+            sample.entries(),
+            lines.as_bytes(),
+        );
+    }
+    ends_when_dropped(&rt, alloc, &cast, &mut sample);
 }

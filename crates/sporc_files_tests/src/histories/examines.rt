@@ -6,6 +6,7 @@ use crate::checks::{check_answer, check_same};
 use sporc_files::{Fault, File, Names};
 use sporc_head::Refusal;
 use sporc_histories::check;
+use sporc_member::Device;
 use sporc_outside::OpenGate;
 use sporc_samples::{Cast, History};
 use std::alloc::Global;
@@ -28,7 +29,7 @@ fn examines<R: Threads + Wait + Sync + Abort>(
         &mut *room.folder,
         &mut *room.out,
         &names,
-        2,
+        Device::first(2),
         &OpenGate,
     );
     check_answer(rt, "check", found, answer);
@@ -61,7 +62,10 @@ fn three_entries<R: Threads + Wait + Sync + Abort>(
     let mut file = history_file(rt, alloc, three);
     examined(rt, alloc, cast, file.as_slice(), Ok(()), b"checked 3\n");
     file.pop();
-    let cut = Fault::Malformed(File::History(2), last.saturating_add(4) as u64);
+    let cut = Fault::Malformed(
+        File::History(Device::first(2)),
+        last.saturating_add(4) as u64,
+    );
     examined(rt, alloc, cast, file.as_slice(), Err(cut), b"");
 }
 
@@ -89,7 +93,7 @@ fn spoilt_entries<R: Threads + Wait + Sync + Abort>(
 ) {
     let refused = Fault::Refused(2, Refusal::BadSignature);
     spoilt(rt, alloc, cast, three, last.saturating_sub(1), refused);
-    let foreign = Fault::Malformed(File::History(2), 0);
+    let foreign = Fault::Malformed(File::History(Device::first(2)), 0);
     spoilt(rt, alloc, cast, three, 4, foreign);
 }
 
@@ -110,7 +114,13 @@ fn each_failing_call_is_told<R: Threads + Wait + Sync + Abort>(rt: &R, alloc: Gl
     for call in 1..=4 {
         failing(rt, alloc, cast, call, Fault::Outside);
     }
-    failing(rt, alloc, cast, 5, Fault::Missing(File::History(2)));
+    failing(
+        rt,
+        alloc,
+        cast,
+        5,
+        Fault::Missing(File::History(Device::first(2))),
+    );
 }
 
 /// A history is examined, and a folder's failing call is told.

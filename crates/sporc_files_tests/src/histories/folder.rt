@@ -41,6 +41,14 @@ impl Files {
         files
     }
 
+    /// The genesis, the ring of member 2, and the key of its second device.
+    pub fn of_second_device(rt: &impl Abort, alloc: Global, cast: &Cast) -> Files {
+        let mut files = Files::new(rt, alloc, cast);
+        files.put(rt, alloc, "D.2.1.key", second_key_file(rt, alloc));
+        files.put(rt, alloc, "D.2.ring", ring_file(rt, alloc));
+        files
+    }
+
     fn put(&mut self, rt: &impl Abort, alloc: Global, name: &str, bytes: Vec<u8>) {
         add_file(rt, alloc, &mut self.files, name, bytes);
     }
@@ -74,6 +82,16 @@ fn key_file(rt: &impl Abort, alloc: Global) -> Vec<u8> {
     let mut bytes = bytes_of(rt, alloc, b"SPK1\0\x02\0\0\0\x05\0\0\0\x03");
     append(rt, &mut bytes, &[2; 16]);
     append(rt, &mut bytes, &[2; 32]);
+    bytes
+}
+
+// That of its second device.
+fn second_key_file(rt: &impl Abort, alloc: Global) -> Vec<u8> {
+    let mut bytes = bytes_of(rt, alloc, b"SPK2\0\x02\x01\0\0\0\x05\0\0\0\x03");
+    append(rt, &mut bytes, &[2; 15]);
+    append(rt, &mut bytes, &[3]);
+    append(rt, &mut bytes, &[2; 31]);
+    append(rt, &mut bytes, &[3]);
     bytes
 }
 

@@ -9,7 +9,7 @@ use sporc_entry::Header;
 use sporc_files::{Fault, Names};
 use sporc_head::Refusal;
 use sporc_histories::{list_entries, text};
-use sporc_member::Change;
+use sporc_member::{Change, Device};
 use sporc_outside::{MemorySink, OpenGate};
 use sporc_samples::{Cast, Draft, EDIT, History, edit_body, insertion};
 use std::alloc::Global;
@@ -142,7 +142,7 @@ fn text_answer<R: Threads + Wait + Sync + Abort>(
         &mut *room.folder,
         &mut *room.out,
         &names,
-        2,
+        Device::first(2),
         at,
         gate,
     )
@@ -234,7 +234,7 @@ fn are_listed<R: Threads + Wait + Sync + Abort>(
         &mut *room.folder,
         &mut *room.out,
         &names,
-        2,
+        Device::first(2),
         from,
         &OpenGate,
     );

@@ -2,17 +2,18 @@
 
 use crate::bytes::{push, text_of};
 use crate::checks::check;
-use sporc_member::Role;
+use sporc_member::{Device, Role};
+use sporc_report::push_device;
 use sporc_words::{
-    Check, Client, Command, Compare, EntriesFrom, Found, Keygen, Page, Public, Serve, Standing,
-    TextAt, Verb, Word, WordsFault, read_words,
+    Check, Client, Command, Compare, EntriesFrom, Found, Keygen, Page, Public, Serve, ServeAll,
+    Standing, TextAt, Verb, Word, WordsFault, read_words,
 };
 use std::alloc::Global;
 use std::fmt::Write;
 use std::process::Abort;
 
 // Command lines, with one space between two words, and what they ask for in one line.
-const ROWS: [(&str, &str); 35] = [
+const ROWS: [(&str, &str); 45] = [
     ("play", "play"),
     ("play --generate 1", "generate 1"),
     ("play --generate=3000", "generate 3000"),
@@ -55,6 +56,14 @@ const ROWS: [(&str, &str); 35] = [
         "client doc 1 a 3 5 b",
     ),
     ("serve doc a --sessions=64", "serve doc a 64"),
+    (
+        "serve-all host:80 --sessions 1024 doc",
+        "serve-all host:80 1024 doc",
+    ),
+    (
+        "serve-all --sessions=1 host:80 b a b",
+        "serve-all host:80 1 b a b",
+    ),
     ("found doc 65535:admin", "found doc 65535 admin"),
     ("text doc 7", "text doc 7"),
     ("text --at=0 doc 7", "text doc 7 0"),
@@ -69,10 +78,21 @@ const ROWS: [(&str, &str); 35] = [
     ("help --help", "help help"),
     ("--version", "version"),
     ("public doc 7", "public doc 7"),
+    ("keygen doc 1.1 5 4", "keygen doc 1.1 5 4"),
+    (
+        "client doc 65535.255 host:80",
+        "client doc 65535.255 host:80 64 0",
+    ),
+    ("check doc 7.10", "check doc 7.10"),
+    ("compare doc 1.2 1", "compare doc 1.2 1"),
+    ("compare doc 1 1.2", "compare doc 1 1.2"),
+    ("public doc 7.1", "public doc 7.1"),
+    ("text doc 7.1", "text doc 7.1"),
+    ("entries doc 7.1", "entries doc 7.1 1"),
 ];
 
 // Command lines that ask for nothing.
-const OTHERS: [&str; 54] = [
+const OTHERS: [&str; 67] = [
     "text doc",
     "text doc 7 --at -1",
     "text doc 7 --from 1",
@@ -117,6 +137,9 @@ const OTHERS: [&str; 54] = [
     "serve doc host:80 --sessions 0",
     "serve doc host:80 --sessions 1025",
     "serve doc --sessions 1",
+    "serve-all host:80 --sessions 1",
+    "serve-all host:80 doc",
+    "serve-all host:80 --sessions 1025 doc",
     "client doc host:80",
     "client doc 0 host:80",
     "client doc 3 host:80 --rounds 4294967296",
@@ -127,6 +150,16 @@ const OTHERS: [&str; 54] = [
     "compare doc 1",
     "compare doc 1 2x",
     "public doc",
+    "keygen doc 1.0 10 4",
+    "keygen doc 1.01 10 4",
+    "keygen doc 1. 10 4",
+    "keygen doc .1 10 4",
+    "keygen doc 1.256 10 4",
+    "client doc 0.1 host:80",
+    "check doc 7.1.1",
+    "compare doc 1 2.0",
+    "text doc 7.+1",
+    "found doc 1.1:admin",
 ];
 
 #[test]
@@ -212,6 +245,7 @@ fn show(rt: &impl Abort, line: &mut String, command: &Command) {
         Command::Help(page) => show_help(rt, line, *page),
         Command::Version => push(rt, line, "version"),
         Command::Public(public) => show_public(rt, line, public),
+        Command::ServeAll(serve) => show_serve_all(rt, line, serve),
     }
 }
 
@@ -222,7 +256,7 @@ fn show_generate(rt: &impl Abort, line: &mut String, edits: u32) {
 
 fn show_keygen(rt: &impl Abort, line: &mut String, keygen: &Keygen) {
     push_named(rt, line, "keygen", &keygen.name);
-    push_number(rt, line, u32::from(keygen.member));
+    push_device_word(rt, line, keygen.device);
     push_number(rt, line, keygen.height.height());
     push_number(rt, line, keygen.width.w());
 }
@@ -250,9 +284,18 @@ fn show_serve(rt: &impl Abort, line: &mut String, serve: &Serve) {
     push_number(rt, line, serve.sessions);
 }
 
+fn show_serve_all(rt: &impl Abort, line: &mut String, serve: &ServeAll) {
+    push(rt, line, "serve-all");
+    push_word(rt, line, serve.address.as_str());
+    push_number(rt, line, serve.sessions);
+    for name in serve.names.as_slice() {
+        push_word(rt, line, name.as_str());
+    }
+}
+
 fn show_client(rt: &impl Abort, line: &mut String, client: &Client) {
     push_named(rt, line, "client", &client.name);
-    push_number(rt, line, u32::from(client.member));
+    push_device_word(rt, line, client.device);
     push_word(rt, line, client.address.as_str());
     push_number(rt, line, client.rounds);
     push_number(rt, line, client.until);
@@ -263,18 +306,18 @@ fn show_client(rt: &impl Abort, line: &mut String, client: &Client) {
 
 fn show_check(rt: &impl Abort, line: &mut String, check: &Check) {
     push_named(rt, line, "check", &check.name);
-    push_number(rt, line, u32::from(check.member));
+    push_device_word(rt, line, check.device);
 }
 
 fn show_compare(rt: &impl Abort, line: &mut String, compare: &Compare) {
     push_named(rt, line, "compare", &compare.name);
-    push_number(rt, line, u32::from(compare.first));
-    push_number(rt, line, u32::from(compare.second));
+    push_device_word(rt, line, compare.first);
+    push_device_word(rt, line, compare.second);
 }
 
 fn show_text(rt: &impl Abort, line: &mut String, text: &TextAt) {
     push_named(rt, line, "text", &text.name);
-    push_number(rt, line, u32::from(text.member));
+    push_device_word(rt, line, text.device);
     if let Some(at) = text.at {
         push_number(rt, line, at);
     }
@@ -282,7 +325,7 @@ fn show_text(rt: &impl Abort, line: &mut String, text: &TextAt) {
 
 fn show_entries(rt: &impl Abort, line: &mut String, entries: &EntriesFrom) {
     push_named(rt, line, "entries", &entries.name);
-    push_number(rt, line, u32::from(entries.member));
+    push_device_word(rt, line, entries.device);
     push_number(rt, line, entries.from);
 }
 
@@ -308,12 +351,13 @@ fn verb_name(verb: Verb) -> &'static str {
         Verb::Public => "public",
         Verb::Text => "text",
         Verb::Entries => "entries",
+        Verb::ServeAll => "serve-all",
     }
 }
 
 fn show_public(rt: &impl Abort, line: &mut String, public: &Public) {
     push_named(rt, line, "public", &public.name);
-    push_number(rt, line, u32::from(public.member));
+    push_device_word(rt, line, public.device);
 }
 
 // Appends a verb, and the document's name.
@@ -326,6 +370,12 @@ fn push_named(rt: &impl Abort, line: &mut String, verb: &str, name: &Word) {
 fn push_word(rt: &impl Abort, line: &mut String, word: &str) {
     push(rt, line, " ");
     push(rt, line, word);
+}
+
+// Appends a device behind a space.
+fn push_device_word(rt: &impl Abort, line: &mut String, device: Device) {
+    push(rt, line, " ");
+    push_device(line, device).expect(rt, "memory");
 }
 
 // Appends a number behind a space.

@@ -2,12 +2,14 @@
 
 use crate::bytes::{push, text_of};
 use crate::checks::check;
+use sporc_member::Device;
 use sporc_script::{EditorCommand, EditorLine, LineFault, read_editor, read_play};
 use std::alloc::Global;
 use std::process::Abort;
 
+// What most plays below begin with: 8 lines.
 const PREAMBLE: &str =
-    "tree 10 8\nmember 1 admin\nmember 2 reader\nrogue 3 editor\njoiner 4\nunpaired 1 2\n";
+    "tree 10 8\nmember 1 admin\nmember 2 reader\nrogue 3 editor\njoiner 4\nunpaired 1 2\ndevice 2 255\ndevice 4 1\n";
 
 // Every kind of line, and every suffix, once.
 const LINES: &[&str] = &[
@@ -39,6 +41,29 @@ const LINES: &[&str] = &[
     "sign 3 from 1 role 2 admin with drop 1",
     "sign 3 from 1 remove 2 with commit",
     "sign 3 from 1 remove 2 with previous",
+    "device 1 1",
+    "device 2 1",
+    "edit 2.255 seen 0 insert 0 \"a\"",
+    "change 2.255 upgrade",
+    "change 1 device 4 0",
+    "change 4.1 device 3 255",
+    "change 1 drop-device 1 7",
+    "discard 4.1",
+    "submit 2.255",
+    "give 2.255 1 1",
+    "restart 4.1 0",
+    "join 4.1 1 2",
+    "show 2.255",
+    "members 2.255",
+    "hash 2.255",
+    "journal 2.255",
+    "compare 2.255 2",
+    "sign 3 from 2.255 upgrade",
+    "sign 3 from 1 upgrade with version 1",
+    "sign 3 from 1 device 1 0 with device 0",
+    "sign 3 from 1 drop-device 1 255 with wrap 4",
+    "sign 3 from 1 insert 0 \"x\" with version 2",
+    "sign 3 from 1 raw 00 with device 255",
 ];
 
 // Lines that are outside the grammar behind the preamble.
@@ -74,11 +99,67 @@ const OUTSIDE: &[&str] = &[
     "sign 3 from 1 insert 0 \"x\" with commit",
     "sign 3 from 1 raw 00 with number 1 with base 1",
     "sign 3 from 1 remove 2 with wrap 5",
+    "device 2 255",
+    "device 1 0",
+    "device 1 01",
+    "device 1 256",
+    "device 1.1 2",
+    "device 3 1",
+    "device 5 1",
+    "device 0 1",
+    "edit 2.0 insert 0 \"a\"",
+    "submit 2.01",
+    "submit 2.256",
+    "submit 2.",
+    "submit .1",
+    "submit 2.2.1",
+    "submit 2.7",
+    "show 3.1",
+    "compare 1 2.7",
+    "join 2.255 1",
+    "join 4.2 1",
+    "unpaired 1 2.255",
+    "change 1 upgrade 2",
+    "change 1 upgrades",
+    "change 1 device 5 1",
+    "change 1 device 2.1",
+    "change 1 device 2",
+    "change 1 device 2 256",
+    "change 1 drop-device 2 00",
+    "sign 3.1 from 1 upgrade",
+    "sign 3 from 2.7 upgrade",
+    "sign 3 from 1 upgrade 1",
+    "sign 3 from 1 device 5 1",
+    "sign 3 from 1 drop-device 1",
+    "sign 3 from 1 upgrade with version 0",
+    "sign 3 from 1 upgrade with version 3",
+    "sign 3 from 1 upgrade with device 256",
+    "sign 3 from 1 upgrade with device",
+    "sign 3 from 1 upgrade with version 1 with device 1",
+    "sign 3 from 1 raw 00 with version 2 with version 2",
 ];
 
-// An editor's lines, one of each kind, of which the last goes on with a key.
+// An editor's lines, one of each kind, of which two go on with a key.
 const EDITOR_LINES: &str =
-    "insert 0 \"a\"\n# more\n\nremove 0 1\ndrop 2\nrole 3 admin\nadd 4 editor ";
+    "insert 0 \"a\"\n# more\n\nremove 0 1\ndrop 2\nrole 3 admin\nupgrade\ndrop-device 2 0\nadd 4 editor ";
+
+const DEVICE_LINE: &str = "\ndevice 2 255 ";
+
+// Lines of an editor that are outside its grammar.
+const EDITOR_OUTSIDE: &[&str] = &[
+    "add 4 editor 00",
+    "upgrade ",
+    "upgrade 1",
+    "upgrades",
+    "drop-device 2",
+    "drop-device 2.1",
+    "drop-device 2 256",
+    "drop-device 0 1",
+    "device 2 1",
+    "device 2 1 00",
+    "device 2 01 0123456789abcdef0123456789abcdef0123456789abcdef0123456789abcdef0123456789abcdef0123456789abcdef0123456789abcdef",
+    "submit",
+];
 
 // The digits of a key.
 const KEY: &str =
@@ -112,18 +193,44 @@ fn inserts_at_start(line: &EditorLine) -> bool {
     }
 }
 
-// Whether an editor's line is the seventh, and adds member 4.
-fn adds_member(line: &EditorLine) -> bool {
+// Whether an editor's line drops device 0 of member 2, and its number is 8.
+fn drops_device(line: &EditorLine) -> bool {
     match &line.command {
-        EditorCommand::Add(founder) => line.number == 7 && founder.member == 4,
+        EditorCommand::DropDevice(device) => line.number == 8 && device.is(Device::first(2)),
         _ => false,
     }
 }
 
-// Whether five lines were read, of which the first inserts, and the last adds a member.
+// Whether an editor's line is the ninth, and adds member 4.
+fn adds_member(line: &EditorLine) -> bool {
+    match &line.command {
+        EditorCommand::Add(founder) => line.number == 9 && founder.member == 4,
+        _ => false,
+    }
+}
+
+// Whether an editor's line adds device 255 of member 2, with a key that starts with 1, 35.
+fn adds_device(line: &EditorLine) -> bool {
+    match &line.command {
+        EditorCommand::AddDevice(live) => {
+            live.device.member == 2
+                && live.device.number == 255
+                && live.key[0] == 1
+                && live.key[1] == 0x23
+        }
+        _ => false,
+    }
+}
+
+// Whether eight lines were read, of which the first inserts, and the last three change devices and members.
 fn are_read(lines: &[EditorLine]) -> bool {
     match lines {
-        [first, _, _, _, last] => inserts_at_start(first) && adds_member(last),
+        [first, _, _, _, _, dropped, added, last] => {
+            inserts_at_start(first)
+                && drops_device(dropped)
+                && adds_member(added)
+                && adds_device(last)
+        }
         _ => false,
     }
 }
@@ -137,9 +244,13 @@ fn is_read(rt: &impl Abort, alloc: Global, script: &[u8]) -> bool {
     are_read
 }
 
-// Whether the second line of an editor's script is outside.
-fn is_second_outside(alloc: Global) -> bool {
-    match read_editor(alloc, b"drop 2\nadd 4 editor 00") {
+// Whether a line behind another one of an editor's script is the first outside.
+fn is_second_outside(rt: &impl Abort, alloc: Global, line: &str) -> bool {
+    let mut text = text_of(rt, alloc, "drop 2\n");
+    push(rt, &mut text, line);
+    let script = text.as_bytes();
+    assert!(rt; script.len() <= 1 << 10);
+    match read_editor(alloc, script) {
         Err(LineFault::Line { line }) => line == 2,
         _ => false,
     }
@@ -148,12 +259,16 @@ fn is_second_outside(alloc: Global) -> bool {
 fn editor_scripts_are_read(rt: &impl Abort, alloc: Global) {
     let mut text = text_of(rt, alloc, EDITOR_LINES);
     push(rt, &mut text, KEY);
+    push(rt, &mut text, DEVICE_LINE);
+    push(rt, &mut text, KEY);
     check(
         rt,
         "lines of an editor",
         is_read(rt, alloc, text.as_bytes()),
     );
-    check(rt, "second line outside", is_second_outside(alloc));
+    for line in EDITOR_OUTSIDE {
+        check(rt, line, is_second_outside(rt, alloc, line));
+    }
 }
 
 #[test]
@@ -162,7 +277,9 @@ fn each_kind_of_line_is_read_and_each_rule_is_kept(rt: HostRuntime) {
         check(&rt, line, outside_behind(&rt, rt.alloc(), line) == 0);
     }
     for line in OUTSIDE {
-        check(&rt, line, outside_behind(&rt, rt.alloc(), line) == 7);
+        check(&rt, line, outside_behind(&rt, rt.alloc(), line) == 9);
     }
+    let late = outside_behind(&rt, rt.alloc(), "submit 1\ndevice 1 1");
+    check(&rt, "a declaration behind a command", late == 10);
     editor_scripts_are_read(&rt, rt.alloc());
 }

@@ -69,7 +69,7 @@ pub returns-clause-files_may_ask : goal.returns-clause-files_may_ask
 returns-clause-files_may_ask g c =
     let all = asks_all c.names_of-names.result c.args.words.now c.names_of-names.ensures.value _ (ap (λ l. length l) c.as_slice.ensures.value) _ _ _ _ c.read_member.ensures.may_ask
     c.lend_disk.ensures.may_ask c.with_disk-result.ensures.files_may_ask in
-    subst (λ (o : Option (List (List ℕ))). AsksOnly (map (file_name (names_of c.args.words.now)) (client_files c.args.words.now.member (length c.args.words.now.scripts)))
+    subst (λ (o : Option (List (List ℕ))). AsksOnly (map (file_name (names_of c.args.words.now)) (client_files c.args.words.now.device (length c.args.words.now.scripts)))
     (g.F.Folder.asked c.args.files.now) o) (sym c.take_back.ensures.asked) all
 
 pub returns-clause-lent : goal.returns-clause-lent

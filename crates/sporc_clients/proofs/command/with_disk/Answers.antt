@@ -38,13 +38,13 @@ returns-in-Ok-attend-clause-outcome g c =
       };
       past = past;
       session = c.in-Ok-attend.ended.result;
-      attended = attended_at _ m.genesis c.args.words.now.member m.ring c.args.words.now.address c.as_str.result.now _ _ _ c.as_str.ensures.value
+      attended = attended_at _ m.genesis c.args.words.now.device m.ring c.args.words.now.address c.as_str.result.now _ _ _ c.as_str.ensures.value
           c.args.words.now.rounds c.args.words.now.until m.editors c.as_slice.result.now m.tree c.in-Ok.signer.key _ past _ _ c.in-Ok-attend.ended.result
           c.as_slice.ensures.value c.in-Ok.ensures.key c.in-Ok-attend.ensures.attended;
       causes = c.in-Ok-attend.ensures.causes;
       saved = c.conclude-session.result.saved;
       saves = saved_as past _ c.as_str-in-Ok-attend.result.now _ _ _ _ _ _ c.conclude-session.result.saved
-          (c.as_str-in-Ok-attend.ensures.value ∙ c.in-Ok-history_of.ensures.name ∙ ap (λ n. file_name n (History c.args.words.now.member)) c.names_of.ensures.value)
+          (c.as_str-in-Ok-attend.ensures.value ∙ c.in-Ok-history_of.ensures.name ∙ ap (λ n. file_name n (History c.args.words.now.device)) c.names_of.ensures.value)
           c.history_of.ensures.files c.history_of.ensures.kept c.conclude-session.ensures.saved;
       printed = c.conclude-session.result.printed;
       prints = c.conclude-session.ensures.printed;
@@ -62,7 +62,7 @@ returns-clause-outcome g c =
       opened = c.in-Ok.ensures.ok;
       says = history_says _ c.names_of.result c.args.words.now c.names_of.ensures.value (option_map (λ bytes. bytes.items) c.in-Ok-history_of.both.0) c.in-Ok-history_of.ensures.ok;
     })
-    (not_attended_at _ m.genesis c.args.words.now.member m.ring c.args.words.now.address c.as_str.result.now _ _ _ c.as_str.ensures.value _ _ c.in-Err-attend.fault
+    (not_attended_at _ m.genesis c.args.words.now.device m.ring c.args.words.now.address c.as_str.result.now _ _ _ c.as_str.ensures.value _ _ c.in-Err-attend.fault
     c.in-Err-attend.ensures.err)
     c.attend_fault.ensures.value)
     (record { out = record { written = refl; faults = refl }; files = c.history_of.ensures.files; words = ap g.C.Chance.given c.in-Err-attend.ensures.chance })
@@ -72,7 +72,7 @@ returns-clause-outcome g c =
 -- ---- files
 
 pub returns-in-Err-clause-files_may_ask : goal.returns-in-Err-clause-files_may_ask
-returns-in-Err-clause-files_may_ask g c = AsksOnly-none (file_name (names_of c.args.words.now) (History c.args.words.now.member) ∷ []) (g.F.Folder.asked c.args.files.now)
+returns-in-Err-clause-files_may_ask g c = AsksOnly-none (file_name (names_of c.args.words.now) (History c.args.words.now.device) ∷ []) (g.F.Folder.asked c.args.files.now)
 
 pub returns-in-Err-history_of-clause-files_may_ask : goal.returns-in-Err-history_of-clause-files_may_ask
 returns-in-Err-history_of-clause-files_may_ask g c = asks_history c.names_of.result c.args.words.now c.names_of.ensures.value _ _ c.history_of.ensures.may_ask

@@ -7,7 +7,7 @@ use Rattle.sporc_founding.proofs.key_making.write_files.Goals as goal
 
 pub returns-in_err-write_new_file-clause-may_ask : goal.returns-in_err-write_new_file-clause-may_ask
 returns-in_err-write_new_file-clause-may_ask g c =
-    asks_first (file_name c.args.names.now (files.Key c.args.key.now.file.member) ∷ []) (file_name c.args.names.now (files.Leaf c.args.key.now.file.member) ∷ []) _ _
+    asks_first (file_name c.args.names.now (files.Key c.args.key.now.file.device) ∷ []) (file_name c.args.names.now (files.Leaf c.args.key.now.file.device) ∷ []) _ _
     c.write_new_file.ensures.may_ask
 
 pub returns-clause-ok : goal.returns-clause-ok
@@ -17,5 +17,5 @@ returns-clause-ok g c =
 
 pub returns-clause-may_ask : goal.returns-clause-may_ask
 returns-clause-may_ask g c =
-    asks_then (file_name c.args.names.now (files.Key c.args.key.now.file.member) ∷ []) (file_name c.args.names.now (files.Leaf c.args.key.now.file.member) ∷ []) _ _ _
+    asks_then (file_name c.args.names.now (files.Key c.args.key.now.file.device) ∷ []) (file_name c.args.names.now (files.Leaf c.args.key.now.file.device) ∷ []) _ _ _
     c.write_new_file.ensures.may_ask c.write_new_file-2.ensures.may_ask

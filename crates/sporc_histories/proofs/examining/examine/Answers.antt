@@ -12,7 +12,7 @@ returns g c =
     let document = c.args.genesis.document in
     let keys = c.in_ok-keys.keys.keys in
     record {
-      value = tells_behind checked_line ⊥ c.accept.result (keys_in c.args.member c.args.ring.now.epoch_key own document c.args.history.now) keys (accepted_in c.args.genesis c.args.member own c.args.history.now)
-          (subst (λ (pairs : Keys). keys_in c.args.member c.args.ring.now.epoch_key pairs document c.args.history.now ≡ Ok keys) c.in_ok-pairs.ensures.value c.in_ok-keys.ensures.value)
-          (subst (λ (pairs : Keys). AnswersUnlessOutside checked_line ⊥ c.accept.result (accepted_in c.args.genesis c.args.member pairs c.args.history.now keys)) c.in_ok-pairs.ensures.value c.accept.ensures.value);
+      value = tells_behind checked_line ⊥ c.accept.result (keys_in c.args.device c.args.ring.now.epoch_key own document c.args.history.now) keys (accepted_in c.args.genesis c.args.device own c.args.history.now)
+          (subst (λ (pairs : Keys). keys_in c.args.device c.args.ring.now.epoch_key pairs document c.args.history.now ≡ Ok keys) c.in_ok-pairs.ensures.value c.in_ok-keys.ensures.value)
+          (subst (λ (pairs : Keys). AnswersUnlessOutside checked_line ⊥ c.accept.result (accepted_in c.args.genesis c.args.device pairs c.args.history.now keys)) c.in_ok-pairs.ensures.value c.accept.ensures.value);
     }

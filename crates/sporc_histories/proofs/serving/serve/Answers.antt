@@ -55,6 +55,6 @@ returns-clause-outcome g c =
       served = c.serve-order.result.1;
       serves = c.serve-order.ensures.served;
       kept = c.keep_log-kept.result;
-      keeps = keeps c.args.names.now late whole _ _ c.in_ok-order.ensures.files refl (λ rose. omega (arith, rose, c.in_ok-order.ensures.kept)) _ c.keep_log-kept.ensures.keeps;
+      keeps = keeps c.args.names.now late whole _ _ _ c.in_ok-order.ensures.files refl (λ rose. omega (arith, rose, c.in_ok-order.ensures.kept)) _ c.keep_log-kept.ensures.keeps;
       answer_is = c.end.ensures.value;
     })

@@ -1,6 +1,5 @@
-use Rattle.std.proofs.Common.{◌≡◌, ◌-◌, ◌+◌, ℕ, Some, subst, ◌∙◌, arith}
-use Rattle.std.specs.List.{slice_get}
-use Rattle.sporc_line.specs.Document.{forms_from, forms_of}
+use Rattle.std.proofs.Common.{◌-◌, ◌∙◌}
+use Rattle.sporc_line.specs.Document.{forms_from}
 use Rattle.sporc_histories.proofs.Prefixes.{form_applied, form_fits}
 use Rattle.sporc_histories.proofs.texts.text_after_first.Goals as goal
 

@@ -13,7 +13,7 @@ returns-clause-ok g c =
       first,
       seed,
       draws_two (g.C.Chance.given c.args.chance.now) (g.C.Chance.given c.fill32.new.self) (g.C.Chance.given c.fill32-2.new.self) first seed len_first len_seed c.in_ok-first.ensures.ok c.in_ok-seed.ensures.ok,
-      c.in_ok-key.ensures ∙ ap (λ (id : List ℕ). made_of (record { member = c.args.member; lms = c.args.lms; ots = c.args.ots; id = id; seed = seed })) c.prefix_of.ensures,
+      c.in_ok-key.ensures ∙ ap (λ (id : List ℕ). made_of (record { device = c.args.device; lms = c.args.lms; ots = c.args.ots; id = id; seed = seed })) c.prefix_of.ensures,
     )
 
 pub returns-in_err-first-clause-drawn : goal.returns-in_err-first-clause-drawn

@@ -1,4 +1,4 @@
-use Rattle.sporc_top.proofs.Working.{by_client, by_serve}
+use Rattle.sporc_top.proofs.Working.{by_client, by_serve, by_serve_all}
 use Rattle.sporc_top.proofs.performing.perform.Goals as goal
 
 pub returns-in-Serve-clause-outcome : goal.returns-in-Serve-clause-outcome
@@ -13,3 +13,7 @@ returns-in-Client-clause-outcome g c =
       shut = c.client.ensures.shut;
       links_kept = c.client.ensures.links_kept;
     })
+
+pub returns-in-ServeAll-clause-outcome : goal.returns-in-ServeAll-clause-outcome
+returns-in-ServeAll-clause-outcome g c =
+    by_serve_all _ _ _ c.args.command.now c.in-ServeAll.words c.serve_documents.result c.in-ServeAll.is c.serve_documents.ensures.outcome

@@ -1,0 +1,4 @@
+pub mod Hosted
+pub mod Loaded
+pub mod Rooms
+pub mod Saved

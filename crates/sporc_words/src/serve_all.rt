@@ -1,0 +1,63 @@
+//! `serve-all ADDRESS --sessions K NAME ..`.
+
+ghost use Rattle.std.specs.Prelude.{◌≡◌, IfOk};
+ghost use Rattle.clap.specs.Words.{found_of, rows_of};
+ghost use Rattle.sporc_words.specs.Arguments.{grammar_of, serve_all_app};
+ghost use Rattle.sporc_words.specs.Commands.{serve_all_in};
+
+use crate::arguments::{Kind, command_with};
+use crate::matches::value;
+use crate::values::{between_value, documents_value};
+use crate::word::Word;
+use clap::{ArgMatches, Command};
+use sporc_base::{Items, Memory};
+use sporc_serve::MAX_SESSIONS;
+use std::alloc::Global;
+
+/// What `serve-all` is asked for.
+#[derive(Drop)]
+pub struct ServeAll {
+    /// Where it listens.
+    pub address: Word,
+    /// How many sessions it serves, from 1 to `sporc_serve::MAX_SESSIONS`.
+    pub sessions: u32,
+    /// The documents' names, in the order of the words: from 1 to `sporc_docs::MAX_DOCUMENTS`.
+    pub names: Items<Word>,
+}
+
+/// The command `serve-all`.
+#[tactic(auto, unfolding(crate::specs::Arguments::serve_all_app))]
+pub fn serve_all_command<'a>(alloc: Global) -> Result<Command<'a>, Memory>
+    ensures ok { IfOk result (λ c. grammar_of c ≡ serve_all_app) }
+{
+    command_with(
+        alloc,
+        "serve-all",
+        &[
+            (Kind::Positional, "ADDRESS"),
+            (Kind::Needed, "sessions"),
+            (Kind::Repeated, "NAME"),
+        ],
+    )
+}
+
+/// What is asked for, by the values of the arguments.
+pub fn serve_all_from(alloc: Global, matches: &ArgMatches<'_>) -> Result<Option<ServeAll>, Memory>
+    ensures ok { IfOk result (λ found. found ≡ serve_all_in (rows_of (found_of matches.now))) }
+{
+    let Some(address) = value(matches, "ADDRESS") else {
+        return Ok(None);
+    };
+    let Some(sessions) = between_value(matches, "sessions", 1, MAX_SESSIONS) else {
+        return Ok(None);
+    };
+    let Some(names) = documents_value(alloc, matches, "NAME")? else {
+        return Ok(None);
+    };
+    let address = Word::new(alloc, address)?;
+    Ok(Some(ServeAll {
+        address,
+        sessions,
+        names,
+    }))
+}
