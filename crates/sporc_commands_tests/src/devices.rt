@@ -15,7 +15,7 @@ use std::thread::{Threads, join};
 type Session = (&'static str, u8, &'static [u8]);
 
 // Sessions of the admin and of both devices of member 2, one behind the other.
-const SESSIONS: [Session; 10] = [
+const SESSIONS: [Session; 11] = [
     (
         "client D 1 a --rounds 3 add",
         0,
@@ -45,6 +45,11 @@ const SESSIONS: [Session; 10] = [
         "client D 2.1 a --rounds 3 insert",
         0,
         b"\n2.1 at 3 pending 0 text \"x\"\n",
+    ),
+    (
+        "client D 2 a --rounds 3",
+        0,
+        b"\n2 at 3 pending 0 text \"x\"\n2 hash ",
     ),
     (
         "client D 2 a --rounds 3 insert",
@@ -134,7 +139,7 @@ fn work<R: Threads + Wait + Sync + Abort>(
     let mut count = 0u64;
     for session in &SESSIONS {
         let ends = ends_so(rt, alloc, place, net, session);
-        if ends && count < 10 {
+        if ends && count < 11 {
             count += 1;
         }
     }
@@ -148,7 +153,7 @@ fn has_served<R: Threads + Wait + Sync + Abort>(
     place: &mut Place,
     net: &mut PipeNet<&R>,
 ) -> bool {
-    let (status, written) = place.run_piped(rt, alloc, net, "serve D a --sessions 10");
+    let (status, written) = place.run_piped(rt, alloc, net, "serve D a --sessions 11");
     status == 0 && is_same(written.as_slice(), b"log 5\n")
 }
 
@@ -169,7 +174,7 @@ fn work_with_a_server<R: Threads + Wait + Sync + Abort>(
     drop(near);
     drop(net);
     check(rt, "server", served);
-    check_at(rt, "sessions that ended so:", worked, worked == 10);
+    check_at(rt, "sessions that ended so:", worked, worked == 11);
 }
 
 // What each device saved is its own.
