@@ -102,10 +102,10 @@ founders_of script = fold (λ founders m. insert_by (λ f. f.member) (founder_of
 abbrev pub has_admin : List PlayLine → Bool
 has_admin script = list_any (λ f. is_admin f.role) (founders_of script)
 
--- the devices that have a client from the beginning, if a founder is an admin: those of founders
 abbrev pub is_founder : List Founder → ℕ → Bool
 is_founder founders member = list_any (λ f. f.member == member) founders
 
+-- the devices that have a client from the beginning, if a founder is an admin: those of founders
 abbrev pub opener_by : List Founder → Command → Option Device
 opener_by founders (commands.Member m) = Some (first_device m.member)
 opener_by founders (commands.Device device) = if is_founder founders device.member then Some device else None

@@ -1,4 +1,4 @@
--- Members with their clients as the code keeps them, and what a call does to one.
+-- Devices with their clients as the code keeps them, and what a call does to one.
 use Rattle.std.specs.Prelude.{◌≡◌, ℕ, ◌+◌, ◌≤◌, ◌^◌, false, List, ◌++◌, length, map, slice_get, Option, None, Some, option_map, Result}
 use Rattle.std.specs.Option.{option_to_list}
 use Rattle.lms_leaf.specs.Leaves.{LeavesModel}

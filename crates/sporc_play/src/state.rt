@@ -28,7 +28,7 @@ use sporc_script::{
 use std::alloc::Global;
 use std::fmt::Write;
 
-/// The members with their clients, the rogues, and all entries that were made, in order.
+/// The devices with their clients, the rogues, and all entries that were made, in order.
 #[derive(Drop)]
 pub struct PlayState {
     cast: Cast,

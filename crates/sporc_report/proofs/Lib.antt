@@ -2,3 +2,4 @@ pub mod Committed
 mod Examples
 pub mod Parts
 pub mod Rosters
+pub mod Beginnings

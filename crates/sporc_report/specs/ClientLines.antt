@@ -22,10 +22,11 @@ abbrev pub if_removed : Bool → List ℕ
 if_removed true = codes " removed"
 if_removed false = []
 
+abbrev pub place_text : Device → PlainClient → List ℕ
+place_text device c = device_text device ++ (codes " at " ++ (decimal (length c.entries) ++ (codes " pending " ++ decimal (length c.pending))))
+
 abbrev pub show_line : Device → PlainClient → List ℕ
-show_line device c =
-    device_text device ++ (codes " at " ++ (decimal (length c.entries) ++ (codes " pending " ++ (decimal (length c.pending) ++ (codes " text "
-    ++ (quoted (shown_of c) ++ (if_removed (is_out c) ++ codes "\n")))))))
+show_line device c = place_text device c ++ (codes " text " ++ (quoted (shown_of c) ++ (if_removed (is_out c) ++ codes "\n")))
 
 abbrev pub further_text : ℕ → List ℕ
 further_text number = codes "," ++ decimal number

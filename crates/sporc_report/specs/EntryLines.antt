@@ -2,6 +2,7 @@
 use Rattle.std.specs.Prelude.{ℕ, suc, ◌-◌, List, [], ◌∷◌, ◌++◌, codes, drop, Option, None, Some, Result, Ok, Err}
 use Rattle.std.specs.Fmt.{decimal}
 use Rattle.sporc_delta.specs.Marks.{Mark, apply}
+use Rattle.sporc_member.specs.declared.device.Device.{Device}
 use Rattle.sporc_member.specs.Device.{first_device}
 use Rattle.sporc_entry.specs.declared.entry.Entry.{Entry}
 use Rattle.sporc_entry.specs.declared.change.ChangeBody.{ChangeBody}
@@ -52,11 +53,14 @@ what_text (Edited marks) = codes "edit " ++ delta_text marks
 what_text (Changed c) = codes "change " ++ change_text c
 what_text Unread = []
 
--- position, author's device, number, base, and what the entry did
+-- position, author's device, number and base
+abbrev pub origin_text : ℕ → Device → ℕ → ℕ → List ℕ
+origin_text position author number base =
+    decimal position ++ (codes " " ++ (device_text author ++ (codes " " ++ (decimal number ++ (codes " " ++ decimal base)))))
+
+-- these, and what the entry did
 abbrev pub entry_line : ℕ → Operation → List ℕ
-entry_line position o =
-    decimal position ++ (codes " " ++ (device_text o.author ++ (codes " " ++ (decimal o.number ++ (codes " " ++ (decimal o.base
-    ++ (codes " " ++ (what_text o.what ++ codes "\n"))))))))
+entry_line position o = origin_text position o.author o.number o.base ++ (codes " " ++ (what_text o.what ++ codes "\n"))
 
 -- a line for each operation, of which the first stands behind so many
 unfoldable pub lines_after : ℕ → List Operation → List ℕ

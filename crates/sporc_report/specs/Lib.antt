@@ -2,3 +2,4 @@ pub mod ClientLines
 pub mod JournalLines
 pub mod Names
 pub mod EntryLines
+pub mod Appending

@@ -1,25 +1,27 @@
 //! The lines of a history's entries.
 
-ghost use Rattle.std.specs.Prelude.{◌≡◌, ◌-◌, ◌≤◌, ◌++◌, length, Ok, IsOk, OnOk, string_bytes};
+ghost use Rattle.std.specs.Prelude.{◌≡◌, ◌-◌, ◌≤◌, ◌++◌, length, Ok, IsOk, OnErr, OnOk, string_bytes};
 ghost use Rattle.std.specs.Option.{option_copied};
-ghost use Rattle.sporc_entry.specs.Entry.{entry_of};
+ghost use Rattle.sporc_entry.specs.Entry.{author_device, entry_of};
 ghost use Rattle.sporc_line.specs.Good.{Good};
-ghost use Rattle.sporc_report.specs.EntryLines.{committed, committed_by, done_by, entry_line, entry_lines, lines_behind, what_text};
+ghost use Rattle.sporc_report.specs.Appending.{BeginsWith};
+ghost use Rattle.sporc_report.specs.EntryLines.{committed, committed_by, done_by, entry_line, entry_lines, lines_behind, origin_text, what_text};
 
+use crate::appending::{push_counted, push_decimal, push_word};
 use crate::journal::{push_change, push_delta};
 use crate::showing::push_device;
 use sporc_base::Memory;
 use sporc_delta::Delta;
-use sporc_entry::{ChangeBody, EntryFault, EntryView};
+use sporc_entry::{ChangeBody, EntryFault, EntryView, Header};
 use sporc_line::Line;
 use std::alloc::{AllocError, Global};
-use std::fmt::Write;
 
 /// Appends a line for each entry of a history from a position on: its position, its author's device, number and base, and what
 /// it did.
 /// Of an edit that is its form, so that the text can be followed by the lines alone.
 pub fn push_entries(alloc: Global, out: &mut String, line: &Line, from: u32) -> Result<(), Memory>
     ensures ok { OnOk result (string_bytes out.new ≡ string_bytes out.old ++ entry_lines from line.now.genesis line.now.kit line.now.entries) }
+    ensures memory { OnErr result (BeginsWith (string_bytes out.new) (string_bytes out.old)) }
 {
     let mut behind = from.saturating_sub(1);
     'lines: while behind < line.len() {
@@ -34,9 +36,10 @@ fn push_at(alloc: Global, out: &mut String, line: &Line, position: u32) -> Resul
     requires first { 1 ≤ position }
     requires within { position ≤ length line.now.entries }
     requires good { Good line.now.genesis line.now.kit line.now.entries }
-    ensures { OnOk result (
+    ensures ok { OnOk result (
         string_bytes out.new ++ lines_behind position (committed line.now.genesis line.now.kit line.now.entries)
         ≡ string_bytes out.old ++ lines_behind (position - 1) (committed line.now.genesis line.now.kit line.now.entries)) }
+    ensures grows { BeginsWith (string_bytes out.new) (string_bytes out.old) }
 {
     let entry = line.entries()[position as usize - 1].as_slice();
     push_entry(alloc, out, position, entry, line.form(position))
@@ -51,7 +54,8 @@ fn push_entry(
     form: &Delta,
 ) -> Result<(), Memory>
     requires { IsOk (entry_of bytes.now) }
-    ensures { OnOk result (string_bytes out.new ≡ string_bytes out.old ++ entry_line position (committed_by (entry_of bytes.now) form.now)) }
+    ensures ok { OnOk result (string_bytes out.new ≡ string_bytes out.old ++ entry_line position (committed_by (entry_of bytes.now) form.now)) }
+    ensures memory { OnErr result (BeginsWith (string_bytes out.new) (string_bytes out.old)) }
 {
     match EntryView::read(alloc, bytes) {
         Ok(entry) => push_view(alloc, out, position, &entry, form),
@@ -67,16 +71,25 @@ fn push_view(
     entry: &EntryView<'_>,
     form: &Delta,
 ) -> Result<(), Memory>
-    ensures { OnOk result (string_bytes out.new ≡ string_bytes out.old ++ entry_line position (committed_by (Ok entry.now.entry) form.now)) }
+    ensures ok { OnOk result (string_bytes out.new ≡ string_bytes out.old ++ entry_line position (committed_by (Ok entry.now.entry) form.now)) }
+    ensures memory { OnErr result (BeginsWith (string_bytes out.new) (string_bytes out.old)) }
 {
-    let header = entry.header();
-    let number = header.number;
-    let base = header.base;
-    write!(out, "{position} ")?;
-    push_device(out, header.author_device())?;
-    write!(out, " {number} {base} ")?;
+    push_origin(out, position, entry.header())?;
+    push_word(out, " ")?;
     push_done(alloc, out, entry.change(), form)?;
-    out.push_str("\n")
+    push_word(out, "\n")
+}
+
+// Appends where an entry stands, whose it is, and behind how many it was made.
+fn push_origin(out: &mut String, position: u32, header: &Header) -> Result<(), Memory>
+    ensures ok { OnOk result (string_bytes out.new ≡ string_bytes out.old ++ origin_text position (author_device header.now) header.now.number header.now.base) }
+    ensures memory { OnErr result (BeginsWith (string_bytes out.new) (string_bytes out.old)) }
+{
+    push_decimal(out, u64::from(position))?;
+    push_word(out, " ")?;
+    push_device(out, header.author_device())?;
+    push_counted(out, " ", u64::from(header.number))?;
+    push_counted(out, " ", u64::from(header.base))
 }
 
 // Appends what an entry with this form did.
@@ -86,15 +99,16 @@ fn push_done(
     change: Option<&ChangeBody>,
     form: &Delta,
 ) -> Result<(), Memory>
-    ensures { OnOk result (string_bytes out.new ≡ string_bytes out.old ++ what_text (done_by (option_copied change.entry) form.now)) }
+    ensures ok { OnOk result (string_bytes out.new ≡ string_bytes out.old ++ what_text (done_by (option_copied change.entry) form.now)) }
+    ensures memory { OnErr result (BeginsWith (string_bytes out.new) (string_bytes out.old)) }
 {
     match change {
         Some(body) => {
-            out.push_str("change ")?;
+            push_word(out, "change ")?;
             push_change(alloc, out, &body.change)
         }
         None => {
-            out.push_str("edit ")?;
+            push_word(out, "edit ")?;
             push_delta(out, form)
         }
     }

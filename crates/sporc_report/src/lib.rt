@@ -1,6 +1,6 @@
 //! The lines that tell of a client: its journal, what it shows, its members, the last value of its chain, how its history
-//! stands to another's; those of a history's entries; and the names of faults. What is named `push_` appends to a text. If it runs out of memory, the text
-//! is to be let go: nothing is said of what it then holds, since `write!` says nothing of it.
+//! stands to another's; those of a history's entries; and the names of faults. What is named `push_` appends to a text. If it
+//! runs out of memory, the text begins with what it was before, and may have a part of the line behind it.
 //!
 //! ```text
 //! push_journal(alloc, &mut out, client.journal())?;   // edit 0 0 i"abc"
@@ -11,10 +11,12 @@
 //! ```
 //!
 //! Proved: a call that succeeds appends the line or the name of the definitions in `specs/`, and names no `Memory` of the
-//! faults that it takes; that the text of a history can be followed by the lines of its entries ([`laws`]). Only tested: that the calls succeed with ample memory (`sporc_commands_tests`). Neither: what a
-//! text holds after out of memory.
-#![tactic(auto)]
+//! faults that it takes; after out of memory the text begins with what it was; the text of a history can be followed by the
+//! lines of its entries ([`laws`]). Only tested: that the calls succeed with ample memory (`sporc_commands_tests`). Neither:
+//! how long they take.
+#![tactic(auto, using(crate::proofs::Beginnings::begins_then, crate::proofs::Beginnings::begins_last, crate::proofs::Beginnings::begins_more))]
 
+mod appending;
 mod entries;
 mod journal;
 pub mod laws;

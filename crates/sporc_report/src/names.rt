@@ -1,14 +1,15 @@
 //! The names of faults. A fault of memory has none.
 
-ghost use Rattle.std.specs.Prelude.{◌≡◌, ◌≢◌, ◌++◌, IfSome, OnOk, string_bytes};
+ghost use Rattle.std.specs.Prelude.{◌≡◌, ◌≢◌, ◌++◌, IfSome, OnErr, OnOk, string_bytes};
+ghost use Rattle.sporc_report.specs.Appending.{BeginsWith};
 ghost use Rattle.sporc_report.specs.Names.{accept_fault_name, edit_fault_name, hint_fault_name, open_fault_name, submit_fault_name};
 
+use crate::appending::{push_counted, push_word};
 use sporc_base::Memory;
 use sporc_client::{AcceptFault, EditFault, SubmitFault};
 use sporc_epoch::HintFault;
 use sporc_line::LineOpenFault;
 use std::alloc::{AllocError, Global};
-use std::fmt::Write;
 
 /// The name of why an edit, a change or a discard is refused: no text for a fault of memory.
 pub fn edit_fault_name(fault: EditFault) -> &'static str
@@ -30,10 +31,11 @@ pub fn edit_fault_name(fault: EditFault) -> &'static str
 pub fn push_edit_fault(out: &mut String, fault: EditFault) -> Result<(), Memory>
     ensures name { OnOk result (string_bytes out.new ≡ string_bytes out.old ++ edit_fault_name fault) }
     ensures named { OnOk result (fault ≢ EditFault.Memory) }
+    ensures memory { OnErr result (BeginsWith (string_bytes out.new) (string_bytes out.old)) }
 {
     match fault {
         EditFault::Memory => Err(AllocError),
-        _ => out.push_str(edit_fault_name(fault)),
+        _ => push_word(out, edit_fault_name(fault)),
     }
 }
 
@@ -41,13 +43,14 @@ pub fn push_edit_fault(out: &mut String, fault: EditFault) -> Result<(), Memory>
 pub fn push_submit_fault(out: &mut String, fault: SubmitFault) -> Result<(), Memory>
     ensures name { OnOk result (string_bytes out.new ≡ string_bytes out.old ++ submit_fault_name fault) }
     ensures named { OnOk result (fault ≢ SubmitFault.Memory) }
+    ensures memory { OnErr result (BeginsWith (string_bytes out.new) (string_bytes out.old)) }
 {
     if let Some(name) = submit_fault_name(fault) {
-        return out.push_str(name);
+        return push_word(out, name);
     }
     match fault {
-        SubmitFault::HeadTooLong(len) => write!(out, "head-too-long {len}"),
-        SubmitFault::NoPairKey(member) => write!(out, "no-pair-key {member}"),
+        SubmitFault::HeadTooLong(len) => push_counted(out, "head-too-long ", len),
+        SubmitFault::NoPairKey(member) => { push_counted(out, "no-pair-key ", u64::from(member)) }
         _ => Err(AllocError),
     }
 }
@@ -72,13 +75,14 @@ fn submit_fault_name(fault: SubmitFault) -> Option<&'static str>
 pub fn push_accept_fault(alloc: Global, out: &mut String, fault: AcceptFault) -> Result<(), Memory>
     ensures name { OnOk result (string_bytes out.new ≡ string_bytes out.old ++ accept_fault_name fault) }
     ensures named { OnOk result (fault ≢ AcceptFault.Memory) }
+    ensures memory { OnErr result (BeginsWith (string_bytes out.new) (string_bytes out.old)) }
 {
     match fault {
         AcceptFault::Refused(refusal) => {
             let name = refusal.name(alloc)?;
-            out.push_str(name.as_str())
+            push_word(out, name.as_str())
         }
-        AcceptFault::JournalFull => out.push_str("journal-full"),
+        AcceptFault::JournalFull => push_word(out, "journal-full"),
         AcceptFault::Memory => Err(AllocError),
     }
 }
@@ -87,11 +91,12 @@ pub fn push_accept_fault(alloc: Global, out: &mut String, fault: AcceptFault) ->
 pub fn push_hint_fault(out: &mut String, fault: HintFault) -> Result<(), Memory>
     ensures name { OnOk result (string_bytes out.new ≡ string_bytes out.old ++ hint_fault_name fault) }
     ensures named { OnOk result (fault ≢ HintFault.Memory) }
+    ensures memory { OnErr result (BeginsWith (string_bytes out.new) (string_bytes out.old)) }
 {
     match fault {
-        HintFault::NotAdded => out.push_str("not-added"),
-        HintFault::NoPairKey(member) => write!(out, "no-pair-key {member}"),
-        HintFault::WrongKey(_) => out.push_str("wrong-key"),
+        HintFault::NotAdded => push_word(out, "not-added"),
+        HintFault::NoPairKey(member) => push_counted(out, "no-pair-key ", u64::from(member)),
+        HintFault::WrongKey(_) => push_word(out, "wrong-key"),
         HintFault::Memory => Err(AllocError),
     }
 }
@@ -111,9 +116,10 @@ pub fn open_fault_name(fault: LineOpenFault) -> &'static str
 pub fn push_open_fault(out: &mut String, fault: LineOpenFault) -> Result<(), Memory>
     ensures name { OnOk result (string_bytes out.new ≡ string_bytes out.old ++ open_fault_name fault) }
     ensures named { OnOk result (fault ≢ LineOpenFault.Memory) }
+    ensures memory { OnErr result (BeginsWith (string_bytes out.new) (string_bytes out.old)) }
 {
     match fault {
         LineOpenFault::Memory => Err(AllocError),
-        _ => out.push_str(open_fault_name(fault)),
+        _ => push_word(out, open_fault_name(fault)),
     }
 }

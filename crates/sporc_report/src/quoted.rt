@@ -1,22 +1,26 @@
 //! Texts in double quotes.
 
-ghost use Rattle.std.specs.Prelude.{◌≡◌, ◌++◌, OnOk, flat_map, string_bytes};
+ghost use Rattle.std.specs.Prelude.{◌≡◌, ◌++◌, OnErr, OnOk, flat_map, string_bytes};
 ghost use Rattle.std.specs.Str.{chars};
 ghost use Rattle.sporc_script.specs.Quoted.{escape, quoted};
+ghost use Rattle.sporc_report.specs.Appending.{BeginsWith};
 
+use crate::appending::push_word;
 use sporc_base::Memory;
 
 /// Appends a text in quotes, with its escapes.
 pub fn push_quoted(out: &mut String, text: &str) -> Result<(), Memory>
     ensures ok { OnOk result (string_bytes out.new ≡ string_bytes out.old ++ quoted (chars text.now)) }
+    ensures memory { OnErr result (BeginsWith (string_bytes out.new) (string_bytes out.old)) }
 {
-    out.push_str("\"")?;
+    push_word(out, "\"")?;
     push_all_escaped(out, text)?;
-    out.push_str("\"")
+    push_word(out, "\"")
 }
 
 fn push_all_escaped(out: &mut String, text: &str) -> Result<(), Memory>
-    ensures { OnOk result (string_bytes out.new ≡ string_bytes out.old ++ flat_map escape (chars text.now)) }
+    ensures ok { OnOk result (string_bytes out.new ≡ string_bytes out.old ++ flat_map escape (chars text.now)) }
+    ensures memory { OnErr result (BeginsWith (string_bytes out.new) (string_bytes out.old)) }
 {
     for c in text.chars() {
         push_escaped(out, c)?;
@@ -25,12 +29,13 @@ fn push_all_escaped(out: &mut String, text: &str) -> Result<(), Memory>
 }
 
 fn push_escaped(out: &mut String, c: char) -> Result<(), Memory>
-    ensures { OnOk result (string_bytes out.new ≡ string_bytes out.old ++ escape c) }
+    ensures ok { OnOk result (string_bytes out.new ≡ string_bytes out.old ++ escape c) }
+    ensures memory { OnErr result (BeginsWith (string_bytes out.new) (string_bytes out.old)) }
 {
     match c {
-        '\\' => out.push_str("\\\\"),
-        '"' => out.push_str("\\\""),
-        '\n' => out.push_str("\\n"),
+        '\\' => push_word(out, "\\\\"),
+        '"' => push_word(out, "\\\""),
+        '\n' => push_word(out, "\\n"),
         _ => out.push(c),
     }
 }

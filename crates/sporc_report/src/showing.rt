@@ -1,16 +1,18 @@
 //! The lines that show a client.
 
-ghost use Rattle.std.specs.Prelude.{◌≡◌, ◌∷◌, ◌++◌, codes, OnOk, flat_map, string_bytes};
+ghost use Rattle.std.specs.Prelude.{◌≡◌, ◌∷◌, ◌++◌, codes, OnErr, OnOk, flat_map, string_bytes};
 ghost use Rattle.std.specs.Fmt.{decimal};
 ghost use Rattle.hex.specs.Hex.{encode_lower};
 ghost use Rattle.sporc_client.specs.ClientModel.{state_of};
 ghost use Rattle.sporc_client.specs.PlainClient.{shown_of};
 ghost use Rattle.sporc_head.specs.History.{hash_of, roster_of};
-ghost use Rattle.sporc_member.specs.Roster.{devices_of, member_at};
+ghost use Rattle.sporc_member.specs.Roster.{member_at};
 ghost use Rattle.sporc_script.specs.Spelling.{device_text, role_name};
-ghost use Rattle.sporc_report.specs.ClientLines.{compare_line, devices_text, further_text, hash_line, if_removed, members_line, members_text, show_line, text_of_member};
+ghost use Rattle.sporc_report.specs.Appending.{BeginsWith};
+ghost use Rattle.sporc_report.specs.ClientLines.{compare_line, devices_text, further_text, hash_line, if_removed, members_line, members_text, place_text, show_line, text_of_member};
 ghost use Rattle.sporc_script.specs.Quoted.{quoted};
 
+use crate::appending::{push_counted, push_decimal, push_word};
 use crate::quoted::push_quoted;
 use sporc_base::Memory;
 use sporc_client::Client;
@@ -19,24 +21,33 @@ use sporc_member::{Device, FIRST_DEVICE, Role, Roster};
 use sporc_outside::LeafDisk;
 use sporc_script::role_name;
 use std::alloc::Global;
-use std::fmt::Write;
 
 /// Appends what a client shows.
 pub fn push_show<D: LeafDisk>(out: &mut String, client: &Client<D>) -> Result<(), Memory>
     ensures ok { OnOk result (string_bytes out.new ≡ string_bytes out.old ++ show_line client.now.opening.kit.me (state_of client.now)) }
+    ensures memory { OnErr result (BeginsWith (string_bytes out.new) (string_bytes out.old)) }
 {
-    let at = client.entries().len();
-    let pending = client.pending();
-    push_device(out, device_of(client))?;
-    write!(out, " at {at} pending {pending} text ")?;
+    push_place(out, client)?;
+    push_word(out, " text ")?;
     push_shown(out, client)?;
     push_removed(out, client.removed())?;
-    out.push_str("\n")
+    push_word(out, "\n")
+}
+
+// Appends how many entries a client has accepted, and how many of its items are pending.
+fn push_place<D: LeafDisk>(out: &mut String, client: &Client<D>) -> Result<(), Memory>
+    ensures ok { OnOk result (string_bytes out.new ≡ string_bytes out.old ++ place_text client.now.opening.kit.me (state_of client.now)) }
+    ensures memory { OnErr result (BeginsWith (string_bytes out.new) (string_bytes out.old)) }
+{
+    push_device(out, device_of(client))?;
+    push_counted(out, " at ", client.entries().len() as u64)?;
+    push_counted(out, " pending ", u64::from(client.pending()))
 }
 
 // Appends the text that a client shows, in quotes.
 fn push_shown<D: LeafDisk>(out: &mut String, client: &Client<D>) -> Result<(), Memory>
-    ensures { OnOk result (string_bytes out.new ≡ string_bytes out.old ++ quoted (shown_of (state_of client.now))) }
+    ensures ok { OnOk result (string_bytes out.new ≡ string_bytes out.old ++ quoted (shown_of (state_of client.now))) }
+    ensures memory { OnErr result (BeginsWith (string_bytes out.new) (string_bytes out.old)) }
 {
     let text = client.shown()?;
     push_quoted(out, text.as_str())
@@ -44,10 +55,11 @@ fn push_shown<D: LeafDisk>(out: &mut String, client: &Client<D>) -> Result<(), M
 
 // Appends whether a member is removed.
 fn push_removed(out: &mut String, removed: bool) -> Result<(), Memory>
-    ensures { OnOk result (string_bytes out.new ≡ string_bytes out.old ++ if_removed removed) }
+    ensures ok { OnOk result (string_bytes out.new ≡ string_bytes out.old ++ if_removed removed) }
+    ensures memory { OnErr result (BeginsWith (string_bytes out.new) (string_bytes out.old)) }
 {
     if removed {
-        out.push_str(" removed")
+        push_word(out, " removed")
     } else {
         Ok(())
     }
@@ -56,30 +68,32 @@ fn push_removed(out: &mut String, removed: bool) -> Result<(), Memory>
 /// Appends a device as a word: `M`, its member's number, for the first one; `M.D` for a further one.
 pub fn push_device(out: &mut String, device: Device) -> Result<(), Memory>
     ensures ok { OnOk result (string_bytes out.new ≡ string_bytes out.old ++ device_text device) }
+    ensures memory { OnErr result (BeginsWith (string_bytes out.new) (string_bytes out.old)) }
 {
-    let member = device.member;
-    let number = device.number;
-    if number == FIRST_DEVICE {
-        write!(out, "{member}")
-    } else {
-        write!(out, "{member}.{number}")
+    push_decimal(out, u64::from(device.member))?;
+    if device.number == FIRST_DEVICE {
+        return Ok(());
     }
+    push_counted(out, ".", u64::from(device.number))
 }
 
 /// Appends what a client's line starts with.
 pub fn push_start(out: &mut String, device: Device, words: &str) -> Result<(), Memory>
     ensures ok { OnOk result (string_bytes out.new ≡ string_bytes out.old ++ (device_text device ++ words.now)) }
+    ensures memory { OnErr result (BeginsWith (string_bytes out.new) (string_bytes out.old)) }
 {
     push_device(out, device)?;
-    out.push_str(words)
+    push_word(out, words)
 }
 
 /// Appends a client's line that ends in a number.
 pub fn push_number(out: &mut String, device: Device, words: &str, number: u64) -> Result<(), Memory>
     ensures ok { OnOk result (string_bytes out.new ≡ string_bytes out.old ++ (device_text device ++ (words.now ++ (decimal number ++ codes "\n")))) }
+    ensures memory { OnErr result (BeginsWith (string_bytes out.new) (string_bytes out.old)) }
 {
     push_start(out, device, words)?;
-    writeln!(out, "{number}")
+    push_decimal(out, number)?;
+    push_word(out, "\n")
 }
 
 // The device that a client is of.
@@ -95,15 +109,17 @@ fn device_of<D: LeafDisk>(client: &Client<D>) -> Device
 /// Appends the members, in ascending order of their numbers, with their roles and live devices.
 pub fn push_members<D: LeafDisk>(out: &mut String, client: &Client<D>) -> Result<(), Memory>
     ensures ok { OnOk result (string_bytes out.new ≡ string_bytes out.old ++ members_line client.now.opening.kit.me (state_of client.now)) }
+    ensures memory { OnErr result (BeginsWith (string_bytes out.new) (string_bytes out.old)) }
 {
     push_start(out, device_of(client), " members")?;
     push_roster(out, client)?;
-    out.push_str("\n")
+    push_word(out, "\n")
 }
 
 // Appends each member with its role and devices.
 fn push_roster<D: LeafDisk>(out: &mut String, client: &Client<D>) -> Result<(), Memory>
-    ensures { OnOk result (string_bytes out.new ≡ string_bytes out.old ++ members_text (roster_of client.now.opening.genesis (state_of client.now).entries)) }
+    ensures ok { OnOk result (string_bytes out.new ≡ string_bytes out.old ++ members_text (roster_of client.now.opening.genesis (state_of client.now).entries)) }
+    ensures memory { OnErr result (BeginsWith (string_bytes out.new) (string_bytes out.old)) }
 {
     let roster = client.roster();
     for number in roster.members() {
@@ -114,7 +130,8 @@ fn push_roster<D: LeafDisk>(out: &mut String, client: &Client<D>) -> Result<(), 
 
 // Appends the member with this number, if there is one.
 fn push_numbered(out: &mut String, roster: &Roster, number: u16) -> Result<(), Memory>
-    ensures { OnOk result (string_bytes out.new ≡ string_bytes out.old ++ text_of_member roster.now.roster (member_at roster.now.roster number)) }
+    ensures ok { OnOk result (string_bytes out.new ≡ string_bytes out.old ++ text_of_member roster.now.roster (member_at roster.now.roster number)) }
+    ensures memory { OnErr result (BeginsWith (string_bytes out.new) (string_bytes out.old)) }
 {
     match roster.member(number) {
         Some(member) => {
@@ -126,15 +143,18 @@ fn push_numbered(out: &mut String, roster: &Roster, number: u16) -> Result<(), M
 }
 
 fn push_member(out: &mut String, number: u16, role: Role) -> Result<(), Memory>
-    ensures { OnOk result (string_bytes out.new ≡ string_bytes out.old ++ (codes " " ++ (decimal number ++ (codes "=" ++ role_name role)))) }
+    ensures ok { OnOk result (string_bytes out.new ≡ string_bytes out.old ++ (codes " " ++ (decimal number ++ (codes "=" ++ role_name role)))) }
+    ensures memory { OnErr result (BeginsWith (string_bytes out.new) (string_bytes out.old)) }
 {
-    let name = role_name(role);
-    write!(out, " {number}={name}")
+    push_counted(out, " ", u64::from(number))?;
+    push_word(out, "=")?;
+    push_word(out, role_name(role))
 }
 
 // Appends the numbers of a member's live devices, unless there is the first one alone.
 fn push_devices(out: &mut String, devices: &[u8]) -> Result<(), Memory>
-    ensures { OnOk result (string_bytes out.new ≡ string_bytes out.old ++ devices_text devices.now) }
+    ensures ok { OnOk result (string_bytes out.new ≡ string_bytes out.old ++ devices_text devices.now) }
+    ensures memory { OnErr result (BeginsWith (string_bytes out.new) (string_bytes out.old)) }
 {
     match devices {
         [] => Ok(()),
@@ -143,20 +163,22 @@ fn push_devices(out: &mut String, devices: &[u8]) -> Result<(), Memory>
 }
 
 fn push_listed(out: &mut String, first: u8, more: &[u8]) -> Result<(), Memory>
-    ensures { OnOk result (string_bytes out.new ≡ string_bytes out.old ++ devices_text (first ∷ more.now)) }
+    ensures ok { OnOk result (string_bytes out.new ≡ string_bytes out.old ++ devices_text (first ∷ more.now)) }
+    ensures memory { OnErr result (BeginsWith (string_bytes out.new) (string_bytes out.old)) }
 {
     if first == FIRST_DEVICE && more.is_empty() {
         return Ok(());
     }
-    write!(out, ":{first}")?;
+    push_counted(out, ":", u64::from(first))?;
     push_further(out, more)
 }
 
 fn push_further(out: &mut String, numbers: &[u8]) -> Result<(), Memory>
-    ensures { OnOk result (string_bytes out.new ≡ string_bytes out.old ++ flat_map further_text numbers.now) }
+    ensures ok { OnOk result (string_bytes out.new ≡ string_bytes out.old ++ flat_map further_text numbers.now) }
+    ensures memory { OnErr result (BeginsWith (string_bytes out.new) (string_bytes out.old)) }
 {
     for number in numbers {
-        write!(out, ",{number}")?;
+        push_counted(out, ",", u64::from(*number))?;
     }
     Ok(())
 }
@@ -168,10 +190,11 @@ pub fn push_hash<D: LeafDisk>(
     client: &Client<D>,
 ) -> Result<(), Memory>
     ensures ok { OnOk result (string_bytes out.new ≡ string_bytes out.old ++ hash_line client.now.opening.kit.me (state_of client.now)) }
+    ensures memory { OnErr result (BeginsWith (string_bytes out.new) (string_bytes out.old)) }
 {
     push_start(out, device_of(client), " hash ")?;
     push_digits(alloc, out, &last_hash(client))?;
-    out.push_str("\n")
+    push_word(out, "\n")
 }
 
 /// The last value of the chain.
@@ -185,9 +208,10 @@ pub fn last_hash<D: LeafDisk>(client: &Client<D>) -> Digest32
 /// Appends bytes as hexadecimal digits.
 pub fn push_digits(alloc: Global, out: &mut String, bytes: &[u8]) -> Result<(), Memory>
     ensures ok { OnOk result (string_bytes out.new ≡ string_bytes out.old ++ encode_lower bytes.now) }
+    ensures memory { OnErr result (BeginsWith (string_bytes out.new) (string_bytes out.old)) }
 {
     let digits = hex::encode(alloc, bytes)?;
-    out.push_str(digits.as_str())
+    push_word(out, digits.as_str())
 }
 
 /// Appends how the history of one client stands to another's.
@@ -198,6 +222,7 @@ pub fn push_verdict(
     verdict: Verdict,
 ) -> Result<(), Memory>
     ensures ok { OnOk result (string_bytes out.new ≡ string_bytes out.old ++ compare_line (record { first = first; second = second }) verdict) }
+    ensures memory { OnErr result (BeginsWith (string_bytes out.new) (string_bytes out.old)) }
 {
     push_start(out, first, " ")?;
     match verdict {

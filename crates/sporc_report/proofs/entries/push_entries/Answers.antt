@@ -2,12 +2,10 @@ use Rattle.std.proofs.Common.{◌≤◌, ◌++◌, List, ℕ, length, string_byt
 use Rattle.sporc_report.proofs.Committed.{no_lines}
 use Rattle.sporc_report.proofs.entries.push_entries.Goals as goal
 
-pub returns : goal.returns
-returns c =
+pub returns-clause-ok : goal.returns-clause-ok
+returns-clause-ok c =
     let past : length c.args.line.now.entries ≤ c.lines.behind = omega (arith, c.lines-test.false, c.len.ensures.value) in
     let out = string_bytes c.lines.out in
-    record {
-      ok = sym (append-nil out)
-          ∙ ap (λ (t : List ℕ). out ++ t) (sym (no_lines c.args.line.now.genesis c.args.line.now.kit c.args.line.now.entries c.lines.behind past))
-          ∙ c.lines.invariant;
-    }
+    sym (append-nil out)
+    ∙ ap (λ (t : List ℕ). out ++ t) (sym (no_lines c.args.line.now.genesis c.args.line.now.kit c.args.line.now.entries c.lines.behind past))
+    ∙ c.lines.invariant.told

@@ -11,10 +11,10 @@ loop-c-preserved c =
     let told = flat_map escape c.loop-c.yielded in
     let more : flat_map escape (c.loop-c.yielded ++ c.in-Some.c ∷ []) ≡ told ++ escape c.in-Some.c =
     flat_map-append escape c.loop-c.yielded (c.in-Some.c ∷ []) ∙ ap (λ (t : List ℕ). told ++ t) (append-nil (escape c.in-Some.c)) in
-    c.in_ok-push_escaped.ensures ∙ ap (λ (t : List ℕ). t ++ escape c.in-Some.c) c.loop-c.invariant ∙ append_assoc old told (escape c.in-Some.c)
+    c.in_ok-push_escaped.ensures.ok ∙ ap (λ (t : List ℕ). t ++ escape c.in-Some.c) c.loop-c.invariant ∙ append_assoc old told (escape c.in-Some.c)
     ∙ ap (λ (t : List ℕ). old ++ t) (sym more)
 
-pub returns : goal.returns
-returns c =
+pub returns-clause-ok : goal.returns-clause-ok
+returns-clause-ok c =
     let all = YieldsList-end (YieldsList-from_chars c.args.text.now c.utf8.text cc) c.loop-c.yielded _ c.loop-c.yielded_by _ _ c.in-None.is c.next.ensures.steps in
     c.loop-c.invariant ∙ ap (λ cs. string_bytes c.args.out.now ++ flat_map escape cs) (sym (map-id c.loop-c.yielded) ∙ all.0)

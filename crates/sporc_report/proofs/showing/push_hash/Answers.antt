@@ -6,11 +6,11 @@ use Rattle.sporc_client.proofs.Calls.{replay_opening}
 use Rattle.sporc_head.specs.History.{hash_of}
 use Rattle.sporc_member.specs.declared.device.Device.{Device}
 use Rattle.sporc_script.specs.Spelling.{device_text}
-use Rattle.sporc_report.proofs.Parts.{told_in_parts}
+use Rattle.sporc_report.proofs.Parts.{told_by_last}
 use Rattle.sporc_report.proofs.showing.push_hash.Goals as goal
 
-pub returns : goal.returns
-returns g c =
+pub returns-clause-ok : goal.returns-clause-ok
+returns-clause-ok g c =
     let client = c.args.client.now in
     let old = string_bytes c.args.out.now in
     let me = client.opening.kit.me in
@@ -21,4 +21,4 @@ returns g c =
     let digits : string_bytes c.push_digits.new.out ≡ string_bytes c.push_start.new.out ++ encode_lower hash =
     c.in_ok-push_digits.ensures.ok ∙ ap (λ (bytes : List ℕ). string_bytes c.push_start.new.out ++ encode_lower bytes)
     (c.last_hash.ensures.value ∙ ap (λ (o : Opening). hash_of o.genesis state.entries) (sym (replay_opening client.opening client.log))) in
-    record { ok = told_in_parts c.push_str.result old _ _ _ (device_text me) (codes " hash ") (encode_lower hash) (codes "\n") start digits c.push_str.ensures.bytes }
+    told_by_last c.push_word.result old _ _ _ (device_text me) (codes " hash ") (encode_lower hash) (codes "\n") start digits c.push_word.ensures.ok

@@ -6,11 +6,11 @@ use Rattle.sporc_head.specs.History.{roster_of}
 use Rattle.sporc_member.specs.declared.device.Device.{Device}
 use Rattle.sporc_script.specs.Spelling.{device_text}
 use Rattle.sporc_report.specs.ClientLines.{members_text}
-use Rattle.sporc_report.proofs.Parts.{told_in_parts}
+use Rattle.sporc_report.proofs.Parts.{told_by_last}
 use Rattle.sporc_report.proofs.showing.push_members.Goals as goal
 
-pub returns : goal.returns
-returns g c =
+pub returns-clause-ok : goal.returns-clause-ok
+returns-clause-ok g c =
     let client = c.args.client.now in
     let old = string_bytes c.args.out.now in
     let me = client.opening.kit.me in
@@ -18,9 +18,7 @@ returns g c =
     c.in_ok-push_start.ensures.ok ∙ ap (λ (d : Device). old ++ (device_text d ++ codes " members")) c.device_of.ensures in
     let state = state_of client in
     let members : string_bytes c.push_roster.new.out ≡ string_bytes c.push_start.new.out ++ members_text (roster_of state.opening.genesis state.entries) =
-    c.in_ok-push_roster.ensures
+    c.in_ok-push_roster.ensures.ok
     ∙ ap (λ (o : Opening). string_bytes c.push_start.new.out ++ members_text (roster_of o.genesis state.entries)) (sym (replay_opening client.opening client.log)) in
-    record {
-      ok = told_in_parts c.push_str.result old _ _ _ (device_text me) (codes " members") (members_text (roster_of state.opening.genesis state.entries)) (codes "\n")
-          start members c.push_str.ensures.bytes;
-    }
+    told_by_last c.push_word.result old _ _ _ (device_text me) (codes " members") (members_text (roster_of state.opening.genesis state.entries)) (codes "\n")
+    start members c.push_word.ensures.ok

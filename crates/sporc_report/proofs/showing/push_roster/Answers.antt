@@ -6,8 +6,8 @@ use Rattle.sporc_report.specs.ClientLines.{members_text, text_of_member}
 use Rattle.sporc_report.proofs.Rosters.{numbered_texts}
 use Rattle.sporc_report.proofs.showing.push_roster.Goals as goal
 
-pub returns : goal.returns
-returns g c =
+pub returns-clause-ok : goal.returns-clause-ok
+returns-clause-ok g c =
     let roster = c.roster-roster.result.now.roster in
     let numbers = c.members-number-items.ensures in
     let out = string_bytes c.args.out.now in
