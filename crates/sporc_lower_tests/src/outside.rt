@@ -1,5 +1,6 @@
 //! The outside in memory.
 
+mod appends;
 mod disks;
 mod folders;
 mod nets;

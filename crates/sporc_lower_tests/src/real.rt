@@ -1,5 +1,6 @@
 //! The outside of this machine.
 
+mod appends;
 mod files;
 mod keeping;
 mod leaves;

@@ -1,17 +1,16 @@
 -- What a crash of a disk in memory may leave, over one call.
-use Rattle.std.proofs.Common.{◌≡◌, ℕ, ◌+◌, ◌-◌, ◌<◌, ◌≤◌, ◌⊎◌, inl, inr, Bool, true, false, Ok, Err, List, [], ◌∷◌, ◌++◌, length, take, drop, slice_index, Some, refl, ap, sym, subst, ◌∙◌, arith, length-append, length-drop, length-take-le, get_or-take}
+use Rattle.std.proofs.Common.{◌≡◌, ℕ, ◌+◌, ◌-◌, ◌<◌, ◌≤◌, ◌⊎◌, inl, inr, Bool, true, false, Ok, Err, List, [], ◌∷◌, ◌++◌, length, take, drop, slice_index, Some, refl, ap, sym, subst, ◌∙◌, arith, length-drop, length-take-le, get_or-take}
 use Rattle.std.specs.Prelude.{Result, OnOk}
 use Rattle.std.proofs.Math.Seq.{get_or-drop}
 use Rattle.sporc_outside.specs.CallsModel.{CallsModel}
-use Rattle.std.proofs.lemmas.List.{take-append-le, take_all, ext_get_or}
-use Rattle.std.proofs.Math.Nat.{eq-or-lt_of_le}
+use Rattle.std.proofs.lemmas.List.{take_all, ext_get_or}
 use Rattle.std.proofs.lemmas.Bool.{cases_lt}
-use Rattle.std.proofs.lemmas.List.Sums.{fold-append}
 use Rattle.sporc_outside.specs.declared.disk_call.DiskCall.{DiskCall}
 use Rattle.sporc_outside.specs.declared.disk_call.DiskRequest.{DiskRequest}
 use Rattle.sporc_outside.specs.declared.disk_call.DiskRequest.TheVariants.{Len, Read, Write, Sync}
 use Rattle.sporc_outside.specs.LeafDisk.{overwrite, IsSame, IsSameOutside, CrashStep}
 use Rattle.sporc_outside.specs.MemoryDisk.{DiskState, state_after, MemoryDiskModel, after_call, after_request, IsUnsynced, IsImage, IsWrite, LogsCall, bytes_of, images_of}
+use Rattle.sporc_outside.proofs.LoggedImages.{Steps, fold-more, passes_none, passes_one}
 use Rattle.sporc_outside.proofs.Overwrites.{length-overwrite, slice_index-overwrite_outside, slice_index-overwrite_inside}
 
 -- what a crash after the first m of these calls may leave
@@ -20,43 +19,11 @@ images_in first log m image = IsImage (state_after first (take m log)) image
 
 pub state_after-more : (first : List ℕ) (log : List DiskCall) (call : DiskCall)
     → state_after first (log ++ call ∷ []) ≡ after_call (state_after first log) call
-state_after-more first log call = fold-append after_call (record { bytes = first; unsynced = [] }) log (call ∷ [])
-
--- no call more
-passes_none : (first : List ℕ) (log : List DiskCall) (step : List ℕ → List ℕ → Type 0) → ((image : List ℕ) → step image image)
-    → CrashStep (length log) (length log) (images_in first log) (images_in first log) step
-passes_none first log step stays = record {
-  later = omega arith;
-  earlier = λ m image le. (λ h. h, λ h. h);
-  during = λ m image low high h.
-      let now : m ≡ length log = omega arith in
-      (image, subst (λ (n : ℕ). images_in first log n image) now h, stays image);
-}
+state_after-more first log call = fold-more after_call IsImage (record { bytes = first; unsynced = [] }) log call
 
 -- what each image that a call may leave was before it
-abbrev pub Steps : DiskState → DiskCall → (List ℕ → List ℕ → Type 0) → Type 0
-Steps s call step = (image : List ℕ) → IsImage (after_call s call) image → (before : List ℕ) × IsImage s before × step before image
-
--- one call more
-passes_one : (first : List ℕ) (log : List DiskCall) (call : DiskCall) (step : List ℕ → List ℕ → Type 0)
-    → ((image : List ℕ) → step image image) → Steps (state_after first log) call step
-    → CrashStep (length log) (length (log ++ call ∷ [])) (images_in first log) (images_in first (log ++ call ∷ [])) step
-passes_one first log call step stays steps =
-    let all = log ++ call ∷ [] in
-    let len : length all ≡ length log + 1 = length-append log (call ∷ []) in
-    let kept : (m : ℕ) → m ≤ length log → take m all ≡ take m log = λ m le. take-append-le m log (call ∷ []) le in
-    record {
-      later = omega arith;
-      earlier = λ m image le. rw (kept m le) (λ h. h, λ h. h);
-      during = λ m image low high h.
-          elim (eq-or-lt_of_le low) [
-            | inl now ↦ (image, subst (λ (n : ℕ). images_in first log n image) (sym now) (rw (kept m (omega arith)) at h), stays image)
-            | inr later ↦
-                let whole : length all ≤ m = omega arith in
-                let got = steps image (rw (take_all m all whole, state_after-more first log call) at h) in
-                (got.0, rw (take_all (length log) log (omega arith)) got.1, got.2)
-          ];
-    }
+abbrev pub StepsAt : DiskState → DiskCall → (List ℕ → List ℕ → Type 0) → Type 0
+StepsAt s call step = Steps after_call IsImage s call step
 
 -- the same over what a disk holds: its first bytes, its log, and its calls
 pub passes_unlogged : (old : MemoryDiskModel) (first : List ℕ) (log new : List DiskCall) (calls : CallsModel) (step : List ℕ → List ℕ → Type 0)
@@ -65,16 +32,17 @@ pub passes_unlogged : (old : MemoryDiskModel) (first : List ℕ) (log new : List
 passes_unlogged old first log new calls step is same stays =
     let P : MemoryDiskModel → List DiskCall → Type 0 = λ d l. CrashStep (length d.log) (length l) (images_of d) (images_in first l) step in
     subst (λ (d : MemoryDiskModel). P d new) is
-    (subst (P (record { first = first; log = log; calls = calls })) (sym same) (passes_none first log step stays))
+    (subst (P (record { first = first; log = log; calls = calls })) (sym same) (passes_none after_call IsImage (record { bytes = first; unsynced = [] }) log step stays))
 
 passes_logged : (old : MemoryDiskModel) (first : List ℕ) (log new : List DiskCall) (calls : CallsModel) (call : DiskCall)
     (step : List ℕ → List ℕ → Type 0) → ◌≡◌ {A = MemoryDiskModel} (record { first = first; log = log; calls = calls }) old
-    → new ≡ log ++ call ∷ [] → ((image : List ℕ) → step image image) → Steps (state_after first log) call step
+    → new ≡ log ++ call ∷ [] → ((image : List ℕ) → step image image) → StepsAt (state_after first log) call step
     → CrashStep (length old.log) (length new) (images_of old) (images_in first new) step
 passes_logged old first log new calls call step is more stays steps =
     let P : MemoryDiskModel → List DiskCall → Type 0 = λ d l. CrashStep (length d.log) (length l) (images_of d) (images_in first l) step in
     subst (λ (d : MemoryDiskModel). P d new) is
-    (subst (P (record { first = first; log = log; calls = calls })) (sym more) (passes_one first log call step stays steps))
+    (subst (P (record { first = first; log = log; calls = calls })) (sym more)
+    (passes_one after_call IsImage (record { bytes = first; unsynced = [] }) log call step stays steps))
 
 -- after a sync an image is what a read gives
 pub synced_bytes : (bytes image : List ℕ) → IsImage (record { bytes = bytes; unsynced = [] }) image → image ≡ bytes
@@ -94,7 +62,7 @@ image_synced : (s : DiskState) (image : List ℕ) → IsImage (record s { unsync
 image_synced s image h = record { length = h.length; synced = λ i. elim (h.synced i) [ inl unsynced ↦ absurd unsynced | inr same ↦ inr same ] }
 
 -- a call that writes nothing
-steps_same : (s : DiskState) (done : Bool) (request : DiskRequest) → (IsWrite request → ⊥) → Steps s (record { request = request; done = done }) IsSame
+steps_same : (s : DiskState) (done : Bool) (request : DiskRequest) → (IsWrite request → ⊥) → StepsAt s (record { request = request; done = done }) IsSame
 steps_same s done Len quiet image h = (image, h, refl)
 steps_same s done (Read at len) quiet image h = (image, h, refl)
 steps_same s true Sync quiet image h = (image, image_synced s image h, refl)
@@ -186,7 +154,7 @@ before_write s at bytes now image fits outside h =
     )
 
 steps_write : (s : DiskState) (at : ℕ) (bytes : List ℕ) (done : Bool) → at + length bytes ≤ length s.bytes
-    → Steps s (record { request = Write at bytes; done = done }) (IsSameOutside at (length bytes))
+    → StepsAt s (record { request = Write at bytes; done = done }) (IsSameOutside at (length bytes))
 steps_write s at bytes true fits image h = before_write s at bytes (overwrite s.bytes at bytes) image fits (overwrite_outside s.bytes at bytes fits) h
 steps_write s at bytes false fits image h = before_write s at bytes s.bytes image fits (same_outside at (length bytes) s.bytes) h
 

@@ -1,5 +1,5 @@
 -- Files by name, as a folder tells them.
-use Rattle.std.specs.Prelude.{◌≡◌, ◌≤◌, ◌<◌, ℕ, List, [], ◌∷◌, length, Option, None, Some, IsSome, false, slice_set, slice_index_or, if◌then◌else◌}
+use Rattle.std.specs.Prelude.{◌≡◌, ◌≤◌, ◌<◌, ℕ, suc, List, [], ◌∷◌, ◌++◌, length, take, drop, Option, None, Some, IsSome, false, slice_set, slice_index_or, if◌then◌else◌}
 use Rattle.std.specs.Str.{bytes_eq}
 use Rattle.sporc_outside.specs.Counts.{Rose}
 use Rattle.sporc_outside.specs.declared.file_fault.FileFault.{FileFault}
@@ -98,6 +98,56 @@ IsAbsence files name (TooLong len) = IsTooLong (Some files) name len
 IsAbsence files name Exists = ⊥
 IsAbsence files name Memory = ⊥
 
+-- ---- files that are appended to, and that are removed
+
+-- why a file is not handed out to be appended to
+abbrev pub IsAppendFault : Option (List NamedFile) → List ℕ → ℕ → ℕ → FileFault → Type 0
+IsAppendFault files name before after Missing = ⊥
+IsAppendFault files name before after Failed = Rose before after
+IsAppendFault files name before after (TooLong len) = IsTooLong files name len
+IsAppendFault files name before after Exists = ⊥
+IsAppendFault files name before after Memory = ⊥
+
+-- no bytes, if there are none
+abbrev pub or_empty : Option (List ℕ) → List ℕ
+or_empty None = []
+or_empty (Some bytes) = bytes
+
+-- the same files, and one of no bytes with this name unless there is one
+abbrev pub made_unless : Option (List ℕ) → List NamedFile → List ℕ → List NamedFile
+made_unless None files name = with_file files name []
+made_unless (Some bytes) files name = files
+
+abbrev pub made_in : List NamedFile → List ℕ → List NamedFile
+made_in files name = made_unless (file_in files name) files name
+
+-- a file to be appended to tells the bytes of a told file, or none where there is no such file
+abbrev pub IsAppendedTo : Option (List NamedFile) → List ℕ → Option (List ℕ) → Type 0
+IsAppendedTo None name stored = Unit {0}
+IsAppendedTo (Some files) name None = ⊥
+IsAppendedTo (Some files) name (Some bytes) = (bytes ≡ or_empty (file_in files name)) × (length bytes ≤ MAX_FILE)
+
+-- the same files, with these bytes in the one with this name if there is one
+abbrev pub with_bytes : Option (List ℕ) → List NamedFile → List ℕ → List ℕ → List NamedFile
+with_bytes None files name bytes = files
+with_bytes (Some old) files name bytes = with_file files name bytes
+
+-- the file with this name is back, and these bytes, where it tells them, are its own if there still is one
+abbrev pub TakesFile : List ℕ → Option (List ℕ) → Option (List NamedFile) → Option (List NamedFile) → Type 0
+TakesFile name stored None new = new ≡ None
+TakesFile name None (Some files) new = new ≡ Some files
+TakesFile name (Some bytes) (Some files) new = new ≡ Some (with_bytes (file_in files name) files name bytes)
+
+-- the files without the first one with this name
+abbrev pub without_file : List NamedFile → List ℕ → List NamedFile
+without_file [] name = []
+without_file (f ∷ fs) name = if bytes_eq f.name name then fs else f ∷ without_file fs name
+
+-- the file with this name is gone
+abbrev pub RemovesFile : List ℕ → Option (List NamedFile) → Option (List NamedFile) → Type 0
+RemovesFile name None new = new ≡ None
+RemovesFile name (Some files) new = new ≡ Some (without_file files name)
+
 -- the first file with this name stands at a place
 pub record IsPlaceOf (files : List NamedFile) (name : List ℕ) (place : ℕ) : Type 0 where
   pub within : place < length files
@@ -105,3 +155,4 @@ pub record IsPlaceOf (files : List NamedFile) (name : List ℕ) (place : ℕ) : 
   pub is : (other : NamedFile) → slice_index_or files place other ≡ file
   pub found : file_in files name ≡ Some file.bytes
   pub others : (bytes : List ℕ) → with_file files name bytes ≡ slice_set files place (record file { bytes = bytes })
+  pub without : without_file files name ≡ take place files ++ drop (suc place) files

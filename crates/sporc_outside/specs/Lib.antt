@@ -11,3 +11,5 @@ pub mod LeafDisk
 pub mod MemoryDisk
 pub mod Files
 pub mod MemoryFolderModel
+pub mod AppendFile
+pub mod MemoryAppendFile

@@ -71,6 +71,19 @@ impl Calls {
         Failed
     }
 
+    // Counts one more call, which fails.
+    pub(crate) fn refuse(&mut self) -> Failed
+        ensures failing { self.new.failing ≡ self.old.failing }
+        ensures made { self.new.made ≡ next_count self.old.made }
+        ensures rose { Rose self.old.faults self.new.faults }
+        ensures kept { self.old.faults ≤ self.new.faults }
+    {
+        match self.begin() {
+            Ok(()) => self.fail(),
+            Err(failed) => failed,
+        }
+    }
+
     /// Counts the faults of an object that was taken back.
     pub fn add_faults(&mut self, faults: u64)
         ensures counted { self.new ≡ record self.old { faults = count_of_both self.old.faults faults } }

@@ -2,13 +2,13 @@
 //!
 //! - [`Source`] and [`Sink`] give and take bytes, and a [`Link`] does both for one connection; [`write_all`] goes to the
 //!   end. [`Dial`] and [`Listen`] make links.
-//! - [`Chance`] gives random words, a [`Folder`] keeps files, a [`LeafDisk`] keeps a key's state, and a [`Gate`] is called
-//!   between the steps of threads.
+//! - [`Chance`] gives random words, a [`Folder`] keeps files, a [`LeafDisk`] keeps a key's state, an [`AppendFile`] is
+//!   appended to, and a [`Gate`] is called between the steps of threads.
 //! - [`Counted`]: each object counts its faults, and a call answers [`Failed`] only where that count rose.
 //!
 //! An object may tell its content to contracts, as those in memory do ([`MemorySource`], [`MemorySink`], [`MemoryLink`],
-//! [`MemoryNet`], [`MemoryFolder`], [`MemoryDisk`], [`ListedChance`], each with a list of the calls that are to fail), or not
-//! tell it, as a real file or terminal does, and as the links of a [`PipeNet`] do, which join two threads.
+//! [`MemoryNet`], [`MemoryFolder`], [`MemoryDisk`], [`MemoryAppendFile`], [`ListedChance`], each with a list of the calls that
+//! are to fail), or not tell it, as a real file or terminal does, and as the links of a [`PipeNet`] do, which join two threads.
 //!
 //! ```text
 //! let mut sink = MemorySink::new(alloc, 2, Calls::failing(Vec::new(alloc)));
@@ -20,6 +20,8 @@
 //! nothing else is claimed.
 #![tactic(auto)]
 
+mod append_call;
+mod append_file;
 mod asked;
 mod calls;
 mod chance;
@@ -33,6 +35,7 @@ mod leaf_disk;
 mod link;
 mod links;
 mod listed_chance;
+mod memory_append_file;
 mod memory_disk;
 mod memory_folder;
 mod memory_link;
@@ -47,6 +50,8 @@ mod sink;
 mod source;
 mod stream;
 
+pub use crate::append_call::{AppendCall, AppendRequest};
+pub use crate::append_file::AppendFile;
 pub use crate::calls::Calls;
 pub use crate::chance::Chance;
 pub use crate::counted::{Counted, Failed};
@@ -58,6 +63,7 @@ pub use crate::leaf_disk::LeafDisk;
 pub use crate::link::Link;
 pub use crate::links::{Dial, Links, Listen};
 pub use crate::listed_chance::ListedChance;
+pub use crate::memory_append_file::MemoryAppendFile;
 pub use crate::memory_disk::MemoryDisk;
 pub use crate::memory_folder::MemoryFolder;
 pub use crate::memory_link::MemoryLink;

@@ -3,7 +3,7 @@
 ghost use Rattle.std.specs.Prelude.{◌≡◌, ℕ, List, take, drop, ◌+◌, ◌≤◌, [], Some, length, IfOk, OnOk, IsTrue, ◌↔◌, ◌<◌};
 ghost use Rattle.sporc_outside.specs.CallsModel.{CountsCall};
 ghost use Rattle.sporc_outside.specs.LeafDisk.{overwrite, IsSame, IsSameOutside, KeepsOutside, CrashStep};
-ghost use Rattle.sporc_outside.specs.Counts.{CountsFaults, Rose, next_count};
+ghost use Rattle.sporc_outside.specs.Counts.{CountsFaults};
 ghost use Rattle.sporc_outside.specs.MemoryDisk.{DiskState, IsSpoilt, IsUnsynced, LogsCall, after_call, state_after};
 
 use crate::calls::Calls;
@@ -179,7 +179,7 @@ impl LeafDisk for MemoryDisk {
         ensures count { CountsFaults self.old.calls.faults self.new.calls.faults result }
     {
         let Ok(kept) = Vec::from_slice(self.alloc, bytes) else {
-            return Err(refuse(&mut self.calls));
+            return Err(self.calls.refuse());
         };
         let request = DiskRequest::Write {
             at,
@@ -267,17 +267,4 @@ fn log_call(calls: &mut Calls, log: &mut Vec<DiskCall>, request: DiskRequest) ->
         return Err(calls.fail());
     };
     answer
-}
-
-// Counts a call that fails.
-fn refuse(calls: &mut Calls) -> Failed
-    ensures failing { calls.new.failing ≡ calls.old.failing }
-    ensures made { calls.new.made ≡ next_count calls.old.made }
-    ensures rose { Rose calls.old.faults calls.new.faults }
-    ensures kept { calls.old.faults ≤ calls.new.faults }
-{
-    match calls.begin() {
-        Ok(()) => calls.fail(),
-        Err(failed) => failed,
-    }
 }

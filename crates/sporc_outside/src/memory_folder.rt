@@ -1,10 +1,12 @@
 //! Folders in memory.
 
-ghost use Rattle.std.specs.Prelude.{◌≡◌, ◌≢◌, ◌≤◌, ◌++◌, ◌∷◌, [], length, Some, None, IsSome, IfOk, IfErr, IfSome, IfNone, OnOk, OnErr};
+ghost use Rattle.std.specs.Prelude.{◌≡◌, ◌≢◌, ◌≤◌, ◌⊎◌, ◌++◌, ◌∷◌, [], false, length, Some, None, IsSome, IfOk, IfErr, IfSome, IfNone, OnOk, OnErr};
+ghost use Rattle.std.specs.List.{All};
 ghost use Rattle.std.specs.Str.{bytes_eq};
 ghost use Rattle.sporc_outside.specs.CallsModel.{CountsCall};
-ghost use Rattle.sporc_outside.specs.Counts.{CountsFaults, Rose};
-ghost use Rattle.sporc_outside.specs.Files.{file_in, with_file, ChangesFile, HasNoFile, IsPlaceOf, IsAbsence, IsDiskFault, IsDiskOf, IsNewFault, IsReadFault};
+ghost use Rattle.sporc_outside.specs.Counts.{CountsFaults, Rose, count_of_both};
+ghost use Rattle.sporc_outside.specs.Files.{file_in, made_in, with_bytes, with_file, without_file, ChangesFile, HasNoFile, IsAbsence, IsAppendFault, IsAppendedTo, IsDiskFault, IsDiskOf, IsNewFault, IsPlaceOf, IsReadFault, RemovesFile, TakesFile};
+ghost use Rattle.sporc_outside.specs.MemoryAppendFile.{bytes_of as bytes_in};
 ghost use Rattle.sporc_outside.specs.Told.{AppendsItem, MayAppend};
 ghost use Rattle.sporc_outside.specs.declared.file_fault.FileFault.TheVariants as faults;
 ghost use Rattle.sporc_outside.specs.declared.file_fault.TheConstants.{MAX_FILE};
@@ -15,6 +17,7 @@ use crate::counted::{Counted, Failed};
 use crate::disk_call::DiskBytes;
 use crate::file_fault::{FileFault, MAX_FILE};
 use crate::folder::Folder;
+use crate::memory_append_file::MemoryAppendFile;
 use crate::memory_disk::MemoryDisk;
 use crate::named_file::NamedFile;
 use std::alloc::{AllocError, Global};
@@ -29,6 +32,7 @@ pub struct MemoryFolder {
     lent: Vec<DiskBytes>,
     calls: Calls,
     disk_calls: Vec<u64>,
+    append_calls: Vec<u64>,
 }
 
 impl Model for MemoryFolder {
@@ -37,7 +41,7 @@ impl Model for MemoryFolder {
 
     ghost Value = { MemoryFolderModel };
 
-    ghost view = { λ f. record { files = f.files.items; asked = f.asked.items; lent = reverse f.lent.items; calls = f.calls; disk_calls = f.disk_calls.items } };
+    ghost view = { λ f. record { files = f.files.items; asked = f.asked.items; lent = reverse f.lent.items; calls = f.calls; disk_calls = f.disk_calls.items; append_calls = f.append_calls.items } };
 
     ghost invariant = { λ f. HasEach f.files.items f.lent.items };
 }
@@ -45,7 +49,7 @@ impl Model for MemoryFolder {
 impl MemoryFolder {
     /// Holds these files. The listed calls fail.
     pub fn new(alloc: Global, files: Vec<NamedFile>, calls: Calls) -> MemoryFolder
-        ensures value { result ≡ record { files = files.items; asked = []; lent = []; calls = calls; disk_calls = [] } }
+        ensures value { result ≡ record { files = files.items; asked = []; lent = []; calls = calls; disk_calls = []; append_calls = [] } }
     {
         MemoryFolder {
             alloc,
@@ -54,6 +58,7 @@ impl MemoryFolder {
             lent: Vec::new(alloc),
             calls,
             disk_calls: Vec::new(alloc),
+            append_calls: Vec::new(alloc),
         }
     }
 
@@ -62,6 +67,13 @@ impl MemoryFolder {
         ensures value { self.new ≡ record self.old { disk_calls = failing.items } }
     {
         self.disk_calls = failing;
+    }
+
+    /// Of the next file that is handed out to be appended to, the calls with these numbers fail.
+    pub fn fail_append_calls(&mut self, failing: Vec<u64>)
+        ensures value { self.new ≡ record self.old { append_calls = failing.items } }
+    {
+        self.append_calls = failing;
     }
 
     /// The files.
@@ -89,6 +101,8 @@ impl Counted for MemoryFolder {
 
 impl Folder for MemoryFolder {
     type Disk = MemoryDisk;
+
+    type Appended = MemoryAppendFile;
 
     ghost use Rattle.std.specs.Prelude.{Some};
     ghost use Rattle.sporc_outside.specs.MemoryDisk.{bytes_of};
@@ -202,13 +216,79 @@ impl Folder for MemoryFolder {
             put(&mut self.files, name.as_slice(), disk.into_bytes());
         }
     }
+
+    fn append_to(&mut self, name: &str) -> Result<MemoryAppendFile, FileFault>
+        ensures ok { IfOk result (λ file. IsAppendedTo (Some self.old.files) name.now (Some (bytes_in file))) }
+        ensures made { OnOk result (Some self.new.files ≡ Some (made_in self.old.files name.now)) }
+        ensures name { IfOk result (λ file. file.name ≡ name.now) }
+        ensures fresh { IfOk result (λ file. file.calls.faults ≡ 0) }
+        ensures err { IfErr result (IsAppendFault (Some self.old.files) name.now self.old.calls.faults self.new.calls.faults) }
+        ensures changes { OnErr result (ChangesFile (Some self.old.files) (Some self.new.files) name.now) }
+        ensures lent { Some self.new.lent ≡ Some self.old.lent }
+        ensures asked { OnOk result (AppendsItem (Some self.old.asked) (Some self.new.asked) name.now) }
+        ensures answered { IfErr result (λ fault. fault ≢ faults.Failed
+            → self.new.asked ≡ self.old.asked ++ name.now ∷ []) }
+        ensures may_ask { MayAppend (Some self.old.asked) (Some self.new.asked) name.now }
+        ensures count { self.old.calls.faults ≤ self.new.calls.faults }
+        ensures call { CountsCall self.old.calls self.new.calls result }
+        ensures failing { IfOk result (λ file. file.calls.failing ≡ self.old.append_calls) }
+        ensures taken { OnOk result (self.new.append_calls ≡ []) }
+    {
+        ask(self.alloc, &mut self.calls, &mut self.asked, name)?;
+        let failing = std::mem::replace(&mut self.append_calls, Vec::new(self.alloc));
+        appended(
+            self.alloc,
+            &mut self.calls,
+            &mut self.files,
+            name.as_bytes(),
+            failing,
+        )
+    }
+
+    fn take_file(&mut self, name: &str, file: MemoryAppendFile)
+        ensures back { TakesFile name.now (Some (bytes_in file)) (Some self.old.files) (Some self.new.files) }
+        ensures lent { Some self.new.lent ≡ Some self.old.lent }
+        ensures asked { Some self.new.asked ≡ Some self.old.asked }
+        ensures count { count_of_both self.old.calls.faults file.calls.faults ≤ self.new.calls.faults }
+    {
+        self.calls.add_faults(file.faults());
+        let (_, bytes) = file.into_parts();
+        put_if_there(&mut self.files, name.as_bytes(), bytes);
+    }
+
+    fn remove(&mut self, name: &str, file: MemoryAppendFile) -> Result<(), Failed>
+        ensures gone { OnOk result (RemovesFile name.now (Some self.old.files) (Some self.new.files)) }
+        ensures err { OnErr result (RemovesFile name.now (Some self.old.files) (Some self.new.files)
+            ⊎ TakesFile name.now (Some (bytes_in file)) (Some self.old.files) (Some self.new.files)) }
+        ensures lent { Some self.new.lent ≡ Some self.old.lent }
+        ensures asked { Some self.new.asked ≡ Some self.old.asked }
+        ensures count { CountsFaults (count_of_both self.old.calls.faults file.calls.faults) self.new.calls.faults result }
+        ensures call { CountsCall self.old.calls self.new.calls result }
+    {
+        self.calls.add_faults(file.faults());
+        let (_, bytes) = file.into_parts();
+        remove_named(
+            &mut self.calls,
+            &mut self.files,
+            &self.lent,
+            name.as_bytes(),
+            bytes,
+        )
+    }
 }
 
 // Whether a file has this name.
 fn is_named(file: &NamedFile, name: &[u8]) -> bool
     ensures { result ≡ bytes_eq file.now.name name.now }
 {
-    file.name.as_slice() == name
+    is_name(&file.name, name)
+}
+
+// Whether these bytes are the name.
+fn is_name(bytes: &DiskBytes, name: &[u8]) -> bool
+    ensures { result ≡ bytes_eq bytes.now name.now }
+{
+    bytes.as_slice() == name
 }
 
 // Where the file with this name stands.
@@ -332,4 +412,119 @@ fn open(
     let disk = MemoryDisk::new(alloc, bytes, Calls::failing(failing))?;
     lent.push(name)?;
     Ok(disk)
+}
+
+// Hands out a file to be appended to, which is made if there is none.
+fn appended(
+    alloc: Global,
+    calls: &mut Calls,
+    files: &mut Vec<NamedFile>,
+    name: &[u8],
+    failing: Vec<u64>,
+) -> Result<MemoryAppendFile, FileFault>
+    ensures ok { IfOk result (λ file. IsAppendedTo (Some files.old.items) name.now (Some (bytes_in file))) }
+    ensures made { OnOk result (files.new.items ≡ made_in files.old.items name.now) }
+    ensures file { IfOk result (λ file. file ≡ record { name = name.now; first = bytes_in file; log = []; calls = record { failing = failing.items; made = 0; faults = 0 } }) }
+    ensures err { IfErr result (IsAppendFault (Some files.old.items) name.now calls.old.faults calls.new.faults) }
+    ensures unchanged { OnErr result (files.new.items ≡ files.old.items) }
+    ensures calls { calls.new ≡ record calls.old { faults = calls.new.faults } }
+    ensures count { calls.old.faults ≤ calls.new.faults }
+{
+    let place = place_of(files, name);
+    let bytes = match place {
+        Some(place) => files[place].bytes.as_slice(),
+        None => &[],
+    };
+    let len = bytes.len() as u64;
+    if len > MAX_FILE {
+        return Err(FileFault::TooLong(len));
+    }
+    let Ok(file) = open_appended(alloc, name, bytes, failing) else {
+        return Err(FileFault::from(calls.fail()));
+    };
+    if place.is_none() && write(alloc, files, name, &[]).is_err() {
+        return Err(FileFault::from(calls.fail()));
+    }
+    Ok(file)
+}
+
+// A file of this name over a copy of these bytes.
+fn open_appended(
+    alloc: Global,
+    name: &[u8],
+    bytes: &[u8],
+    failing: Vec<u64>,
+) -> Result<MemoryAppendFile, AllocError>
+    ensures { IfOk result (λ file. file ≡ record { name = name.now; first = bytes.now; log = []; calls = record { failing = failing.items; made = 0; faults = 0 } }) }
+{
+    let name = DiskBytes::new(Vec::from_slice(alloc, name)?);
+    let bytes = Vec::from_slice(alloc, bytes)?;
+    MemoryAppendFile::new(alloc, name, bytes, Calls::failing(failing))
+}
+
+// Puts these bytes in the file with this name, if there is one.
+fn put_if_there(files: &mut Vec<NamedFile>, name: &[u8], bytes: Vec<u8>)
+    ensures { files.new.items ≡ with_bytes (file_in files.old.items name.now) files.old.items name.now bytes.items }
+{
+    if place_of(files, name).is_some() {
+        put(files, name, bytes);
+    }
+}
+
+// Removes the file with this name, or puts these bytes in it where the call fails.
+fn remove_named(
+    calls: &mut Calls,
+    files: &mut Vec<NamedFile>,
+    lent: &[DiskBytes],
+    name: &[u8],
+    bytes: Vec<u8>,
+) -> Result<(), Failed>
+    ensures gone { OnOk result (files.new.items ≡ without_file files.old.items name.now) }
+    ensures back { OnErr result
+        (files.new.items ≡ with_bytes (file_in files.old.items name.now) files.old.items name.now bytes.items) }
+    ensures free { OnOk result (All (λ other. bytes_eq other name.now ≡ false) lent.now) }
+    ensures count { CountsFaults calls.old.faults calls.new.faults result }
+    ensures call { CountsCall calls.old calls.new result }
+{
+    if let Err(failed) = begin_removal(calls, lent, name) {
+        put_if_there(files, name, bytes);
+        return Err(failed);
+    }
+    remove_first(files, name);
+    Ok(())
+}
+
+// Counts the call that removes the file with this name, which fails where its disk is out.
+fn begin_removal(calls: &mut Calls, lent: &[DiskBytes], name: &[u8]) -> Result<(), Failed>
+    ensures count { CountsFaults calls.old.faults calls.new.faults result }
+    ensures call { CountsCall calls.old calls.new result }
+    ensures free { OnOk result (All (λ other. bytes_eq other name.now ≡ false) lent.now) }
+{
+    calls.begin()?;
+    if is_listed(lent, name) {
+        return Err(calls.fail());
+    }
+    Ok(())
+}
+
+// Whether one of these is the name.
+fn is_listed(names: &[DiskBytes], name: &[u8]) -> bool
+    ensures { result ≡ false → All (λ other. bytes_eq other name.now ≡ false) names.now }
+{
+    for i in 0..names.len() {
+        if is_name(&names[i], name) {
+            return true;
+        }
+    }
+    false
+}
+
+// Removes the first file with this name.
+#[tactic(auto, using(crate::proofs::Files::without_none))]
+fn remove_first(files: &mut Vec<NamedFile>, name: &[u8])
+    ensures { files.new.items ≡ without_file files.old.items name.now }
+{
+    if let Some(place) = place_of(files, name) {
+        files.remove(place);
+    }
 }

@@ -1,8 +1,8 @@
 //! The outside of `sporc_outside` as the system gives it: standard input and output, files, TCP, and random words.
 //!
 //! - [`StandardInput`] and [`StandardOutput`] are a source and a sink over a reader and a writer of the system.
-//! - [`RealFolder`] keeps files; a name is a path from the current directory. Its [`RealDisk`]s are leaf files, each of which
-//!   has the system's lock on its file.
+//! - [`RealFolder`] keeps files; a name is a path from the current directory. Its [`RealDisk`]s are leaf files, and its
+//!   [`RealAppendFile`]s files that are appended to, each of which has the system's lock on its file.
 //! - [`TcpNet`] dials and listens, and gives up peers that say nothing for too long; its links are [`TcpLink`]s.
 //! - [`RandomWords`] takes words from the system's random bytes.
 //!
@@ -16,13 +16,15 @@
 //!
 //! Proved: that each adapter meets its trait; as none tells its content, that is what its count does and which answers come
 //! with it. Only tested: that bytes written are read again, that a file with keys or leaves is its owner's alone, that a save
-//! keeps modes, links and the old file, that locks keep programs apart, that links connect, and that silent peers are given
-//! up. Neither: what the system does with the bytes, above all if it stops.
+//! keeps modes, links and the old file, that locks keep programs apart, that what is appended is read again and a file is gone
+//! once it is removed, that links connect, that a net goes on listening at its address, and that silent peers are given up.
+//! Neither: what the system does with the bytes, above all if it stops.
 #![tactic(auto)]
 
 mod counting;
 mod pieces;
 mod random_words;
+mod real_append_file;
 mod real_disk;
 mod real_folder;
 mod saving;
@@ -32,6 +34,7 @@ mod tcp_link;
 mod tcp_net;
 
 pub use crate::random_words::RandomWords;
+pub use crate::real_append_file::RealAppendFile;
 pub use crate::real_disk::RealDisk;
 pub use crate::real_folder::RealFolder;
 pub use crate::standard_input::StandardInput;

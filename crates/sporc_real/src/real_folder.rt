@@ -1,18 +1,20 @@
 //! Files of the system.
 
 ghost use Rattle.std.specs.Prelude.{◌≡◌, ◌≤◌, None, IfOk, IfErr};
-ghost use Rattle.sporc_outside.specs.Files.{IsDiskFault};
+ghost use Rattle.sporc_outside.specs.Files.{IsAppendFault, IsDiskFault};
 ghost use Rattle.sporc_outside.specs.declared.file_fault.TheConstants.{MAX_FILE};
 
 use crate::counting::{counted, fail};
+use crate::real_append_file::RealAppendFile;
 use crate::real_disk::RealDisk;
-use crate::saving::{save, save_new};
+use crate::saving::{save, save_new, sync_folder};
 use sporc_outside::{Counted, Failed, FileFault, Folder, LeafDisk, MAX_FILE};
 use std::alloc::Global;
 use std::fs::{File, OpenOptions};
-use std::io;
 use std::io::{ErrorKind, Read};
+use std::os::unix::fs::MetadataExt;
 use std::rt::Files;
+use std::{fs, io};
 
 /// Files by their paths from the current directory.
 ///
@@ -26,6 +28,7 @@ use std::rt::Files;
 /// `.leaf` is made readable by its owner alone.
 ///
 /// A disk has the system's lock on its leaf file until it is dropped: one that another program has taken is a call that fails.
+/// So has a file that is appended to, up to where it is taken back or gone.
 #[derive(Drop)]
 pub struct RealFolder<R: Files<File = File> + AllocGlobal + Drop> {
     rt: R,
@@ -91,6 +94,47 @@ fn read_whole(alloc: Global, opened: OpenedFile) -> io::Result<Vec<u8>>
     Ok(bytes)
 }
 
+// Opens a file to append to it, which is made if there is none, with the system's lock on it, and says how many bytes it has.
+// Another program may have removed it before the lock was taken.
+fn open_appended<R: Files<File = File>>(rt: &R, name: &str) -> io::Result<OpenedFile> {
+    let mut options = OpenOptions::new();
+    options.read(true).append(true).create(true);
+    let file = options.open(rt, name)?;
+    lock(&file)?;
+    let found = file.metadata()?;
+    if !found.is_file() || found.nlink() == 0 {
+        return Err(io::Error::from(ErrorKind::NotFound));
+    }
+    sync_folder(rt, name)?;
+    let len = found.len();
+    Ok(OpenedFile { file, len })
+}
+
+// The same file, as the folder hands it out.
+fn appended<R: Files<File = File> + AllocGlobal>(
+    rt: &R,
+    faults: &mut u64,
+    name: &str,
+) -> Result<RealAppendFile, FileFault>
+    ensures fresh { IfOk result (λ file. file.faults ≡ 0) }
+    ensures err { IfErr result (IsAppendFault None name.now faults.old faults.new) }
+    ensures kept { faults.old ≤ faults.new }
+{
+    let Ok(opened) = open_appended(rt, name) else {
+        return Err(fail(faults).into());
+    };
+    if opened.len > MAX_FILE {
+        return Err(FileFault::TooLong(opened.len));
+    }
+    Ok(RealAppendFile::new(opened.file))
+}
+
+// Removes a file, and brings that to the disk.
+fn remove_name<R: Files<File = File>>(rt: &R, path: &str) -> io::Result<()> {
+    fs::remove_file(rt, path)?;
+    sync_folder(rt, path)
+}
+
 impl<R: Files<File = File> + AllocGlobal + Drop> Counted for RealFolder<R> {
     ghost faults = { λ f. f.faults };
 
@@ -101,6 +145,8 @@ impl<R: Files<File = File> + AllocGlobal + Drop> Counted for RealFolder<R> {
 
 impl<R: Files<File = File> + AllocGlobal + Drop> Folder for RealFolder<R> {
     type Disk = RealDisk;
+
+    type Appended = RealAppendFile;
 
     ghost files = { λ _. None };
 
@@ -153,5 +199,20 @@ impl<R: Files<File = File> + AllocGlobal + Drop> Folder for RealFolder<R> {
 
     fn take_back(&mut self, disk: RealDisk) {
         self.faults = self.faults.saturating_add(disk.faults());
+    }
+
+    fn append_to(&mut self, name: &str) -> Result<RealAppendFile, FileFault> {
+        appended(&self.rt, &mut self.faults, name)
+    }
+
+    fn take_file(&mut self, _: &str, file: RealAppendFile) {
+        self.faults = self.faults.saturating_add(file.faults());
+    }
+
+    fn remove(&mut self, name: &str, file: RealAppendFile) -> Result<(), Failed> {
+        self.faults = self.faults.saturating_add(file.faults());
+        // The file, and the lock on it, is held until its name is gone.
+        let answer = remove_name(&self.rt, name);
+        counted(&mut self.faults, answer)
     }
 }

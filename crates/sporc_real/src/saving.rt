@@ -49,7 +49,7 @@ fn fill(mut file: File, bytes: &[u8]) -> io::Result<()> {
 }
 
 // Brings the names in the folder of this path to the disk.
-fn sync_folder<R: Files<File = File>>(rt: &R, path: &str) -> io::Result<()> {
+pub(crate) fn sync_folder<R: Files<File = File>>(rt: &R, path: &str) -> io::Result<()> {
     let folder = match Path::new(path).parent() {
         Some(folder) if !folder.as_str().is_empty() => folder,
         _ => Path::new("."),

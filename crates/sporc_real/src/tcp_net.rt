@@ -105,6 +105,24 @@ fn dial<R: Net<Stream = TcpStream>>(
     Ok(link)
 }
 
+// Whether the listener is at one of the addresses that this names.
+fn is_at<R: Net>(rt: &R, listener: &TcpListener, address: &str) -> io::Result<bool> {
+    let here = listener.local_addr()?;
+    for each in address.to_socket_addrs(rt)? {
+        if each == here {
+            return Ok(true);
+        }
+    }
+    Ok(false)
+}
+
+fn is_listening<R: Net>(rt: &R, listener: &Option<TcpListener>, address: &str) -> bool {
+    match listener {
+        Some(listener) => is_at(rt, listener, address).unwrap_or(false),
+        None => false,
+    }
+}
+
 fn accept_once(listener: &TcpListener, limit: Option<Duration>) -> io::Result<TcpLink>
     ensures { IfOk result (λ link. link.faults ≡ 0) }
 {
@@ -167,7 +185,12 @@ impl<R: Net<Stream = TcpStream, Listener = TcpListener> + Clock + Drop> Dial for
 }
 
 impl<R: Net<Stream = TcpStream, Listener = TcpListener> + Clock + Drop> Listen for TcpNet<R> {
+    /// At an address where it listens already it goes on, and no call that came there is lost. Else it listens at that one
+    /// alone.
     fn listen(&mut self, address: &str) -> Result<(), Failed> {
+        if is_listening(&self.rt, &self.listener, address) {
+            return Ok(());
+        }
         let answer = TcpListener::bind(&self.rt, address);
         let listener = counted(&mut self.faults, answer)?;
         self.listener = Some(listener);

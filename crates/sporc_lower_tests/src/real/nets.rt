@@ -87,3 +87,23 @@ fn a_call_that_nobody_takes_fails(rt: HostRuntime) {
     check(&rt, "no call", net.accept(&rt).is_err());
     check(&rt, "the faults", net.faults() == 2);
 }
+
+// A call that came before the net was told its address again is taken afterwards, by another thread. At another address it
+// listens alone.
+#[test]
+fn a_net_goes_on_listening(rt: HostRuntime) {
+    let address = free_address(&rt);
+    let mut net = TcpNet::new(&rt);
+    let mut there = TcpNet::new(&rt);
+    net.listen(address.as_str()).expect(&rt, "a listener");
+    let mut caller = there.connect(&rt, address.as_str()).expect(&rt, "a link");
+    net.listen(address.as_str()).expect(&rt, "the listener");
+    let (called, ()) = join(&rt, || net.accept(&rt), || says(&rt, &mut caller, b"hi"));
+    let mut called = called.expect(&rt, "a link");
+    hears(&rt, &mut called, 2);
+    let other = free_address(&rt);
+    net.listen(other.as_str()).expect(&rt, "a listener");
+    let answer = there.connect(&rt, address.as_str());
+    check(&rt, "nobody at the first address", answer.is_err());
+    check(&rt, "the faults", net.faults() == 0);
+}
