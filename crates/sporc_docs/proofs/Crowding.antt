@@ -1,5 +1,5 @@
 -- Sessions of many documents beside one another.
-use Rattle.std.proofs.Common.{◌≡◌, ℕ, suc, ◌+◌, ◌≤◌, Bool, true, false, List, [], ◌∷◌, length, cond, Option, Some, None, Result, Ok, Err, slice_get, refl, sym, subst, arith, bytes_eq}
+use Rattle.std.proofs.Common.{◌≡◌, ◌∙◌, ℕ, suc, ◌+◌, ◌≤◌, Bool, true, false, List, [], ◌∷◌, length, cond, Option, Some, None, Result, Ok, Err, slice_get, refl, sym, subst, arith, bytes_eq}
 use Rattle.std.specs.List.{position_from}
 use Rattle.sporc_outside.specs.Counts.{Rose}
 use Rattle.sporc_outside.specs.Told.{AppendsItem, TakesItem, IsFalseIfTold}
@@ -9,9 +9,10 @@ use Rattle.sporc_turn.specs.Passes.{known_of}
 use Rattle.sporc_wire.specs.Messages.{stream_of}
 use Rattle.sporc_wire.specs.declared.to_server.ToServer.{ToServer}
 use Rattle.sporc_wire.specs.declared.to_server.ToServer.TheVariants.{Hello, Submit, Pull}
+use Rattle.sporc_order.specs.declared.tail.Tail.{Ghosts}
 use Rattle.sporc_serve.specs.declared.desk.Desk.{Desk}
 use Rattle.sporc_serve.specs.declared.end.SessionEnd.{SessionEnd}
-use Rattle.sporc_serve.specs.declared.end.SessionEnd.TheVariants.{Closed, LinkEnded, LinkFault, BadFrame, Worn, Memory}
+use Rattle.sporc_serve.specs.declared.end.SessionEnd.TheVariants.{Closed, LinkEnded, LinkFault, BadFrame, Worn, Memory, Unkept}
 use Rattle.sporc_serve.specs.declared.fault.ServeFault.{ServeFault}
 use Rattle.sporc_serve.specs.declared.fault.ServeFault.TheVariants as faults
 use Rattle.sporc_serve.specs.declared.item.Item.{Item}
@@ -19,7 +20,7 @@ use Rattle.sporc_serve.specs.Courses.{stand}
 use Rattle.sporc_serve.specs.Crowds.{Net}
 use Rattle.sporc_serve.specs.Endings.{Inlet, inlet, IsFirst}
 use Rattle.sporc_serve.specs.Visits.{visit, came, went, AreFrom, AreBehind, TellsOf, with_end}
-use Rattle.sporc_serve.proofs.Crowding.{IsLastTicket, last_ticket, tells_more, from_more, from_none, behind_more, behind_none}
+use Rattle.sporc_serve.proofs.Crowding.{IsLastTicket, last_ticket, tells_more, kept_more, from_more, from_none, behind_more, behind_none}
 use Rattle.sporc_docs.specs.declared.hands.Hand.{Hand}
 use Rattle.sporc_docs.specs.Crowds.{IsCrowd}
 use Rattle.sporc_docs.specs.Hands.{AllHands, Both, HasPass, HavePasses, LogsBegin, MayHave, pass_at}
@@ -46,11 +47,11 @@ named_within documents (Hello d member) place h =
     let at : place ≡ found.0 = omega (arith, from) in
     (found.2, subst (λ (j : ℕ). slice_get documents j ≡ Some found.2) (sym at) found.3)
 
-has_is : (t : Turn Desk Item) (q : Option (Pass Item)) → HasPass t q → (p : Pass Item) × (q ≡ Some p)
+has_is : {T : Type 0} {gs : Ghosts T} (t : Turn (Desk T gs) Item) (q : Option (Pass Item)) → HasPass t q → (p : Pass Item) × (q ≡ Some p)
 has_is t None h = absurd h
 has_is t (Some p) h = (p, refl)
 
-module _ {L : Type 0} (left written : L → Option (List ℕ)) (faults' : L → ℕ) (is_shut : L → Option Bool) (turns : List (Turn Desk Item)) (documents : List (List ℕ)) where
+module _ {L T : Type 0} {gs : Ghosts T} (left written : L → Option (List ℕ)) (faults' : L → ℕ) (is_shut : L → Option Bool) (turns : List (Turn (Desk T gs) Item)) (documents : List (List ℕ)) where
   first_last : (a b : Inlet) (r : Result ToServer SessionEnd) (end : SessionEnd) → IsFirst a b r
       → IsUnboundEnd left written faults' is_shut (named_by documents) r end → IsLastTicket end
   first_last a b (Ok m) end first is = subst IsLastTicket (sym is.1) tt
@@ -63,6 +64,7 @@ module _ {L : Type 0} (left written : L → Option (List ℕ)) (faults' : L → 
       at LinkFault first = tt
       at BadFrame first = tt
       at Memory first = tt
+      at Unkept first = tt
 
   -- a session that ended for want of a ticket did so for want of the last
   sits_last : (h h' : List (Option (Pass Item))) (b a : L) (end : SessionEnd) → HavePasses turns h → HavePasses turns h'
@@ -83,7 +85,7 @@ module _ {L : Type 0} (left written : L → Option (List ℕ)) (faults' : L → 
   -- no session
   pub crowd_none : (hs : List Hand) (old : Net L) → length hs ≡ 0 → IsCrowd left written faults' is_shut turns documents hs hs old old (Ok tt)
   crowd_none hs old none =
-      ([], record { sit = refl; came_open = tt; coming = from_none old.coming; returned = behind_none old.returned; result_is = (sym none, tt) })
+      ([], record { sit = refl; came_open = tt; coming = from_none old.coming; returned = behind_none old.returned; result_is = (sym none, tt); kept = λ told. tt })
 
   -- no link came
   pub crowd_failed : (hs hs' : List Hand) (old new : Net L) → hs' ≡ hs → new.coming ≡ old.coming → new.returned ≡ old.returned → Rose old.faults new.faults
@@ -96,6 +98,7 @@ module _ {L : Type 0} (left written : L → Option (List ℕ)) (faults' : L → 
       coming = subst (λ (c : Option (List L)). AreFrom old.coming c []) (sym coming) (from_none old.coming);
       returned = subst (λ (c : Option (List L)). AreBehind old.returned c []) (sym returned) (behind_none old.returned);
       result_is = rose;
+      kept = λ told. tt;
     },
   )
 
@@ -118,21 +121,22 @@ module _ {L : Type 0} (left written : L → Option (List ℕ)) (faults' : L → 
           result_is = subst (λ (z : ℕ × Result (Unit {0}) ServeFault). TellsOf (suc (length hs)) old.faults z.0 (visit b a end ∷ vs) z.1) (λ i. (sym count i, sym ended i))
               (tells_more (length hs) old.faults mid.faults low.faults b a end vs result le c.result_is
               (sits_last h.passes.items h'.passes.items b a end have have' size logs sits));
+          kept = λ told. kept_more b a end vs result c.kept (λ is. told (ended ∙ is));
         },
       )
 
   -- memory ran out before the first link was taken
   pub crowd_memory : (hs : List Hand) (old : Net L) → IsCrowd left written faults' is_shut turns documents hs hs old old (Err faults.Memory)
-  crowd_memory hs old = ([], record { sit = refl; came_open = tt; coming = from_none old.coming; returned = behind_none old.returned; result_is = tt })
+  crowd_memory hs old = ([], record { sit = refl; came_open = tt; coming = from_none old.coming; returned = behind_none old.returned; result_is = tt; kept = λ told. tt })
 
 -- hands with passes may have them
-pub may_have : (ts : List (Turn Desk Item)) (ps : List (Option (Pass Item))) → HavePasses ts ps → Both MayHave ts ps
+pub may_have : {T : Type 0} {gs : Ghosts T} (ts : List (Turn (Desk T gs) Item)) (ps : List (Option (Pass Item))) → HavePasses ts ps → Both MayHave ts ps
 may_have [] [] h = tt
 may_have [] (p ∷ ps) h = absurd h
 may_have (t ∷ ts) [] h = absurd h
 may_have (t ∷ ts) (None ∷ ps) h = absurd h.0
 may_have (t ∷ ts) (Some p ∷ ps) h = (h.0, may_have ts ps h.1)
 
-pub all_may_have : (ts : List (Turn Desk Item)) (hs : List Hand) → AllHands (HavePasses ts) hs → AllHands (Both MayHave ts) hs
+pub all_may_have : {T : Type 0} {gs : Ghosts T} (ts : List (Turn (Desk T gs) Item)) (hs : List Hand) → AllHands (HavePasses ts) hs → AllHands (Both MayHave ts) hs
 all_may_have ts [] h = tt
 all_may_have ts (x ∷ hs) h = (may_have ts x.passes.items h.0, all_may_have ts hs h.1)

@@ -1,5 +1,5 @@
 -- The sessions of many documents, once their passes were joined back.
-use Rattle.std.proofs.Common.{◌≡◌, ◌∙◌, ℕ, zero, suc, Bool, List, [], ◌∷◌, length, map, reverse, Option, Some, None, Result, slice_get, refl, ap, sym, subst, arith}
+use Rattle.std.proofs.Common.{◌≡◌, ◌≢◌, ◌∙◌, ℕ, zero, suc, Bool, List, [], ◌∷◌, length, map, reverse, Option, Some, None, Result, Err, slice_get, refl, ap, sym, subst, arith}
 use Rattle.std.proofs.lemmas.List.{length-map}
 use Rattle.sporc_turn.specs.declared.known.Known.{Known}
 use Rattle.sporc_turn.specs.declared.pass.Pass.{Pass}
@@ -7,12 +7,14 @@ use Rattle.sporc_turn.specs.declared.turn.Turn.{Turn}
 use Rattle.sporc_turn.specs.Knowing.{splitting}
 use Rattle.sporc_turn.specs.Passes.{known_of}
 use Rattle.sporc_order.specs.OrderModel.{OrderModel}
+use Rattle.sporc_order.specs.declared.tail.Tail.{Ghosts}
 use Rattle.sporc_serve.specs.declared.desk.Desk.{Desk}
 use Rattle.sporc_serve.specs.declared.item.Item.{Item}
 use Rattle.sporc_serve.specs.Served.{log_at_first}
 use Rattle.sporc_serve.specs.declared.fault.ServeFault.{ServeFault}
+use Rattle.sporc_serve.specs.declared.fault.ServeFault.TheVariants as faults'
 use Rattle.sporc_serve.specs.Crowds.{Net}
-use Rattle.sporc_serve.specs.Visits.{Visit, CameOpen, came, went, AreFrom, AreBehind, TellsOf}
+use Rattle.sporc_serve.specs.Visits.{Visit, CameOpen, came, went, AreFrom, AreBehind, NoneUnkept, TellsOf}
 use Rattle.sporc_docs.specs.declared.hands.Hand.{Hand}
 use Rattle.sporc_docs.specs.Crowds.{AllSit, IsCrowd}
 use Rattle.sporc_docs.specs.Hands.{Both, AllHands, HasFirst, HasPass, MayHave, LogsBegin, Splits, SplitsAt, JoinsAt, column, pass_at}
@@ -92,7 +94,7 @@ seen_later : (log : List Item) (q : Option (Pass Item)) (qs : List (Option (Pass
 seen_later log None qs h = h
 seen_later log (Some q) qs h = h.1
 
-pub logs_begin : (os : List OrderModel) (ts : List (Turn Desk Item)) → length ts ≡ length os → (hs : List Hand) → AllHands (Both MayHave ts) hs
+pub logs_begin : {T : Type 0} {gs : Ghosts T} (os : List OrderModel) (ts : List (Turn (Desk T gs) Item)) → length ts ≡ length os → (hs : List Hand) → AllHands (Both MayHave ts) hs
     → ((i : ℕ) (o : OrderModel) → slice_get os i ≡ Some o → AllSeen (log_at_first o) (column i hs)) → AllHands LogsBegin hs
 logs_begin os ts size [] have seen = tt
 logs_begin os ts size (x ∷ hs) have seen = (
@@ -106,7 +108,7 @@ logs_begin os ts size (x ∷ hs) have seen = (
 
 -- ---- the sessions of a crowd
 
-module _ {L : Type 0} (left written : L → Option (List ℕ)) (faults : L → ℕ) (is_shut : L → Option Bool) (turns : List (Turn Desk Item))
+module _ {L T : Type 0} {gs : Ghosts T} (left written : L → Option (List ℕ)) (faults : L → ℕ) (is_shut : L → Option Bool) (turns : List (Turn (Desk T gs) Item))
     (documents : List (List ℕ)) where
   abbrev pub seats_of : (vs : List (Visit L)) (hs hs' : List Hand) → AllSit left written faults is_shut turns documents vs hs hs' → List (Seat L)
   seats_of [] hs hs' sit = []
@@ -121,7 +123,7 @@ module _ {L : Type 0} (left written : L → Option (List ℕ)) (faults : L → �
   seats_visits (v ∷ vs) (h ∷ hs) [] sit = absurd sit
   seats_visits (v ∷ vs) (h ∷ hs) (h' ∷ hs') sit = ap (λ (l : List (Visit L)). v ∷ l) (seats_visits vs hs hs' sit.3)
 
-  module _ (i : ℕ) (t : Turn Desk Item) (there : slice_get turns i ≡ Some t) where
+  module _ (i : ℕ) (t : Turn (Desk T gs) Item) (there : slice_get turns i ≡ Some t) where
     serve_more : (s : Seat L) (ss : List (Seat L)) (q q' : Option (Pass Item)) (c c' : List (Option (Pass Item))) → HasPass t q → HasPass t q'
         → ((p p' : Pass Item) → q ≡ Some p → q' ≡ Some p' → Serves left written faults is_shut s.visit s.place i p p') → AllServe left written faults is_shut i ss c c'
         → AllServe left written faults is_shut i (s ∷ ss) (q ∷ c) (q' ∷ c')
@@ -140,7 +142,7 @@ module _ {L : Type 0} (left written : L → Option (List ℕ)) (faults : L → �
         (both_at HasPass turns h.passes.items sit.0 i t there) (both_at HasPass turns h'.passes.items sit.1 i t there) (sit.2.1.serves i) (all_serve vs hs hs' sit.3)
 
 -- each session is bound to the document that its first message names
-pub all_bound : {L : Type 0} (left written : L → Option (List ℕ)) (faults : L → ℕ) (is_shut : L → Option Bool) (turns : List (Turn Desk Item)) (orders : List OrderModel) (vs : List (Visit L)) (hs hs' : List Hand)
+pub all_bound : {L T : Type 0} {gs : Ghosts T} (left written : L → Option (List ℕ)) (faults : L → ℕ) (is_shut : L → Option Bool) (turns : List (Turn (Desk T gs) Item)) (orders : List OrderModel) (vs : List (Visit L)) (hs hs' : List Hand)
     (sit : AllSit left written faults is_shut turns (documents_of (reverse orders)) vs hs hs')
     → AreBound left written faults is_shut orders (map (session_of (documents_of (reverse orders))) (seats_of left written faults is_shut turns (documents_of (reverse orders)) vs hs hs' sit))
 all_bound left written faults is_shut turns orders [] hs hs' sit = tt
@@ -185,7 +187,7 @@ places_end left written faults is_shut os apart ss hs hs' serves fs0 fs1 fs2 kno
     )
 
 -- the sessions of locks, once their passes were joined back
-pub ending : {L : Type 0} (left written : L → Option (List ℕ)) (faults : L → ℕ) (is_shut : L → Option Bool) (turns : List (Turn Desk Item)) (documents : List (List ℕ))
+pub ending : {L T : Type 0} {gs : Ghosts T} (left written : L → Option (List ℕ)) (faults : L → ℕ) (is_shut : L → Option Bool) (turns : List (Turn (Desk T gs) Item)) (documents : List (List ℕ))
     (orders : List OrderModel) → AreApart orders → documents ≡ documents_of (reverse orders) → length documents ≡ length turns → (hs hs' : List Hand)
     (fs0 fs1 fs2 : List (Option (Pass Item))) → Both KnowsFirst (reverse orders) fs0 → AllHands (Both MayHave turns) hs → Both HasFirst turns fs2
     → ((i : ℕ) → SplitsAt (pass_at i fs0) (column i hs) (pass_at i fs1)) → ((i : ℕ) → JoinsAt (pass_at i fs1) (column i hs') (pass_at i fs2)) → (old new : Net L) (n : ℕ)
@@ -217,5 +219,6 @@ ending {L} left written faults is_shut turns documents orders apart documents_ar
         returned = subst (λ (x : List (Visit L)). AreBehind old.returned new.returned (went x)) visits c.returned;
         result_is = subst (λ (x : List (Visit L)). TellsOf n old.faults new.faults x result) visits
             (subst (λ (m : ℕ). TellsOf m old.faults new.faults vs result) (sym count) c.result_is);
+        kept = subst (λ (x : List (Visit L)). result ≢ Err faults'.Unkept → NoneUnkept x) visits c.kept;
       },
     )

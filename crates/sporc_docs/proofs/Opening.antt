@@ -1,5 +1,5 @@
 -- Locks, and lists with one item more or less at their ends.
-use Rattle.std.proofs.Common.{◌≡◌, ◌∙◌, ℕ, List, [], ◌∷◌, ◌++◌, length, reverse, replicate, suc, Option, Some, None, refl, ap, sym, subst, subst₂, append_assoc}
+use Rattle.std.proofs.Common.{◌≡◌, ◌∙◌, ℕ, List, [], ◌∷◌, ◌++◌, length, reverse, replicate, suc, Option, Some, None, refl, ap, sym, subst, subst₂, append_assoc, arith}
 use Rattle.std.proofs.lemmas.List.{reverse-append, map-append}
 use Rattle.std.specs.Prelude.{IsSome}
 use Rattle.sporc_turn.specs.declared.pass.Pass.{Pass}
@@ -8,6 +8,7 @@ use Rattle.sporc_turn.specs.declared.known.Known.{Known}
 use Rattle.sporc_turn.specs.Knowing.{first_known}
 use Rattle.sporc_turn.specs.Passes.{known_of, IsPassOf}
 use Rattle.sporc_order.specs.OrderModel.{OrderModel}
+use Rattle.sporc_order.specs.declared.tail.Tail.{Ghosts}
 use Rattle.sporc_serve.specs.declared.desk.Desk.{Desk}
 use Rattle.sporc_serve.specs.declared.item.Item.{Item}
 use Rattle.sporc_serve.specs.Served.{log_at_first}
@@ -15,6 +16,7 @@ use Rattle.sporc_docs.specs.declared.hands.Hand.{Hand}
 use Rattle.sporc_docs.specs.declared.locks.Locks.{Locks}
 use Rattle.sporc_docs.specs.Hands.{Both, AllHands, IsEmpty, HasFirst}
 use Rattle.sporc_docs.specs.Locks.{KnowsFirst, AreOpen, AreBack, IsBack}
+use Rattle.sporc_docs.specs.Served.{AreKept}
 
 module _ {A B : Type 0} (R : A → B → Type 0) where
   pub both_more : (xs : List A) (ys : List B) (x : A) (y : B) → Both R xs ys → R x y → Both R (xs ++ x ∷ []) (ys ++ y ∷ [])
@@ -36,6 +38,10 @@ module _ {A B : Type 0} (R : A → B → Type 0) where
   both_less [] (y' ∷ ys) x y h = absurd (no_end ys y h.1)
   both_less (x' ∷ xs) [] x y h = absurd (no_end' xs x h.1)
   both_less (x' ∷ xs) (y' ∷ ys) x y h = let less = both_less xs ys x y h.1 in ((h.0, less.0), less.1)
+
+  -- the last items of both
+  pub last_both : (xs less : List A) (ys less' : List B) (x : A) (y : B) → Both R xs ys → xs ≡ less ++ x ∷ [] → ys ≡ less' ++ y ∷ [] → Both R less less' × R x y
+  last_both xs less ys less' x y h xs_is ys_is = both_less less less' x y (subst₂ (λ (l : List A) (l' : List B). Both R l l') xs_is ys_is h)
 
   pub both_append : (xs xs' : List A) (ys ys' : List B) → Both R xs ys → Both R xs' ys' → Both R (xs ++ xs') (ys ++ ys')
   both_append [] xs' [] ys' h more = more
@@ -71,16 +77,38 @@ reversed_behind {A} all before after x xs is last =
 pub shifted : {A : Type 0} (all left less : List A) (x : A) (xs : List A) → all ≡ left ++ xs → left ≡ less ++ x ∷ [] → all ≡ less ++ (x ∷ xs)
 shifted {A} all left less x xs is last = is ∙ ap (λ (l : List A). l ++ xs) last ∙ append_assoc less (x ∷ []) xs
 
+-- an order and its tail more, and less
+pub kept_more : {T : Type 0} (keeps : T → List (List ℕ) → Type 0) (ts ts' : List T) (os os' : List OrderModel) (t : T) (o : OrderModel) → AreKept keeps ts os
+    → ∥ keeps t o.entries ∥₁ → ts' ≡ ts ++ t ∷ [] → os' ≡ os ++ o ∷ [] → AreKept keeps ts' os'
+kept_more {T} keeps ts ts' os os' t o kept one ts_is os_is =
+    subst₂ (λ (l : List T) (l' : List OrderModel). AreKept keeps l l') (sym ts_is) (sym os_is)
+    (both_more (λ (t : T) (o : OrderModel). ∥ keeps t o.entries ∥₁) ts os t o kept one)
+
+pub last_kept : {T : Type 0} (keeps : T → List (List ℕ) → Type 0) (ts less : List T) (os less' : List OrderModel) (t : T) (o : OrderModel) → AreKept keeps ts os
+    → ts ≡ less ++ t ∷ [] → os ≡ less' ++ o ∷ [] → AreKept keeps less less' × ∥ keeps t o.entries ∥₁
+last_kept {T} keeps ts less os less' t o kept ts_is os_is =
+    last_both (λ (t : T) (o : OrderModel). ∥ keeps t o.entries ∥₁) ts less os less' t o kept ts_is os_is
+
+pub kept_length : {T : Type 0} (keeps : T → List (List ℕ) → Type 0) (ts : List T) (os : List OrderModel) → AreKept keeps ts os → length ts ≡ length os
+kept_length {T} keeps ts os kept = both_length (λ (t : T) (o : OrderModel). ∥ keeps t o.entries ∥₁) ts os kept
+
+-- what keeps nothing, as many times as there are orders
+pub none_kept : {T : Type 0} (ts : List T) (os : List OrderModel) → length ts ≡ length os → AreKept (λ t es. Unit {0}) ts os
+none_kept [] [] size = tt
+none_kept [] (o ∷ os) size = absurd (omega (arith, size))
+none_kept (t ∷ ts) [] size = absurd (omega (arith, size))
+none_kept (t ∷ ts) (o ∷ os) size = (∣ tt ∣₁, none_kept ts os (omega (arith, size)))
+
 -- a lock more
-pub open_more : (os : List OrderModel) (o : OrderModel) (locks locks' : Locks) (t : Turn Desk Item) (d : List ℕ) (p : Pass Item) → AreOpen os locks
+pub open_more : {T : Type 0} {gs : Ghosts T} (os : List OrderModel) (o : OrderModel) (locks locks' : Locks T gs) (t : Turn (Desk T gs) Item) (d : List ℕ) (p : Pass Item) → AreOpen os locks
     → locks'.turns.items ≡ locks.turns.items ++ t ∷ [] → locks'.documents.items ≡ locks.documents.items ++ d ∷ []
     → locks'.firsts.items ≡ locks.firsts.items ++ Some p ∷ [] → IsPassOf t p → d ≡ o.genesis.document → known_of p ≡ first_known (log_at_first o)
     → AreOpen (os ++ o ∷ []) locks'
-open_more os o locks locks' t d p are turns documents firsts pass document known =
+open_more {T} {gs} os o locks locks' t d p are turns documents firsts pass document known =
     let more : Both HasFirst (locks.turns.items ++ t ∷ []) (locks.firsts.items ++ Some p ∷ []) =
     both_more HasFirst locks.turns.items locks.firsts.items t (Some p) are.firsts (pass, ap (λ (k : Known Item). k.number) known) in
     record {
-      firsts = subst (λ (l : List (Turn Desk Item)). Both HasFirst l locks'.firsts.items) (sym turns)
+      firsts = subst (λ (l : List (Turn (Desk T gs) Item)). Both HasFirst l locks'.firsts.items) (sym turns)
           (subst (λ (l : List (Option (Pass Item))). Both HasFirst (locks.turns.items ++ t ∷ []) l) (sym firsts) more);
       documents_are = documents ∙ (λ i. are.documents_are i ++ document i ∷ []) ∙ sym (map-append (λ (x : OrderModel). x.genesis.document) os (o ∷ []));
       known = subst (λ (l : List (Option (Pass Item))). Both KnowsFirst (os ++ o ∷ []) l) (sym firsts)
@@ -93,7 +121,7 @@ back_less [] p h = (tt, h.0)
 back_less (q ∷ qs) p h = let less = back_less qs p h.1 in ((h.0, less.0), less.1)
 
 -- hands without a pass
-empty_each : (ts : List (Turn Desk Item)) (ps : List (Option (Pass Item))) → ps ≡ replicate (length ts) None → Both IsEmpty ts ps
+empty_each : {T : Type 0} {gs : Ghosts T} (ts : List (Turn (Desk T gs) Item)) (ps : List (Option (Pass Item))) → ps ≡ replicate (length ts) None → Both IsEmpty ts ps
 empty_each [] [] is = tt
 empty_each [] (p ∷ ps) is = absurd cc
 empty_each (t ∷ ts) [] is = absurd cc
@@ -105,7 +133,7 @@ empty_each (t ∷ ts) (p ∷ ps) is = (head is, empty_each ts ps (tail is))
     tail : (p ∷ ps) ≡ None ∷ replicate (length ts) None → ps ≡ replicate (length ts) None
     tail h = cc
 
-pub empty_all : (ts : List (Turn Desk Item)) (n : ℕ) (hs : List Hand) → length ts ≡ n → AllHands (λ ps. ps ≡ replicate n None) hs → AllHands (Both IsEmpty ts) hs
+pub empty_all : {T : Type 0} {gs : Ghosts T} (ts : List (Turn (Desk T gs) Item)) (n : ℕ) (hs : List Hand) → length ts ≡ n → AllHands (λ ps. ps ≡ replicate n None) hs → AllHands (Both IsEmpty ts) hs
 empty_all ts n [] size h = tt
 empty_all ts n (x ∷ hs) size h =
     (empty_each ts x.passes.items (h.0 ∙ ap (λ (m : ℕ). replicate m None) (sym size)), empty_all ts n hs size h.1)
@@ -114,15 +142,9 @@ pub hands_more : (holds : List (Option (Pass Item)) → Type 0) (hs : List Hand)
 hands_more holds [] h all one = (one, tt)
 hands_more holds (x ∷ hs) h all one = (all.0, hands_more holds hs h all.1 one)
 
--- the last lock and its pass
-pub last_both : (ts less : List (Turn Desk Item)) (ps less' : List (Option (Pass Item))) (t : Turn Desk Item) (p : Option (Pass Item)) → Both HasFirst ts ps
-    → ts ≡ less ++ t ∷ [] → ps ≡ less' ++ p ∷ [] → Both HasFirst less less' × HasFirst t p
-last_both ts less ps less' t p h turns passes =
-    both_less HasFirst less less' t p (subst₂ (λ (x : List (Turn Desk Item)) (y : List (Option (Pass Item))). Both HasFirst x y) turns passes h)
-
 pub last_back : (ps less : List (Option (Pass Item))) (p : Option (Pass Item)) → AreBack ps → ps ≡ less ++ p ∷ [] → AreBack less × IsBack p
 last_back ps less p h is = back_less less p (subst AreBack is h)
 
-pub has_some : (t : Turn Desk Item) (q : Option (Pass Item)) → HasFirst t q → IsSome q
+pub has_some : {T : Type 0} {gs : Ghosts T} (t : Turn (Desk T gs) Item) (q : Option (Pass Item)) → HasFirst t q → IsSome q
 has_some t None h = absurd h
 has_some t (Some p) h = refl

@@ -5,6 +5,7 @@ use Rattle.sporc_turn.specs.declared.known.Known.{Known}
 use Rattle.sporc_turn.specs.declared.pass.Pass.{Pass}
 use Rattle.sporc_turn.specs.declared.turn.Turn.{Turn}
 use Rattle.sporc_turn.specs.Passes.{known_of}
+use Rattle.sporc_order.specs.declared.tail.Tail.{Ghosts}
 use Rattle.sporc_serve.specs.declared.desk.Desk.{Desk}
 use Rattle.sporc_serve.specs.declared.item.Item.{Item}
 use Rattle.sporc_docs.specs.Hands.{Both, HasFirst, Joins, JoinsAt, Splits, SplitsAt, HasRoom, HaveRoom, pass_at}
@@ -39,13 +40,13 @@ pub have_less : (m n : ℕ) (ps : List (Option (Pass Item))) → m ≤ n → Hav
 have_less m n [] le h = tt
 have_less m n (p ∷ ps) le h = (room_less m n p le h.0, have_less m n ps le h.1)
 
-room_left : (n : ℕ) (t : Turn Desk Item) (p q p' : Option (Pass Item)) → HasFirst t p → HasRoom (suc n) p → SplitsAt p (q ∷ []) p' → HasRoom n p'
+room_left : {T : Type 0} {gs : Ghosts T} (n : ℕ) (t : Turn (Desk T gs) Item) (p q p' : Option (Pass Item)) → HasFirst t p → HasRoom (suc n) p → SplitsAt p (q ∷ []) p' → HasRoom n p'
 room_left n t None q p' first room splits = absurd first
 room_left n t (Some p) q None first room splits = tt
 room_left n t (Some p) None (Some p') first room splits = subst (λ (x : Known Item). x.splits + n < 2 ^ 32) (sym splits) (omega (arith, room))
 room_left n t (Some p) (Some q) (Some p') first room splits = subst (λ (x : Known Item). x.splits + n < 2 ^ 32) (sym splits.1) (omega (arith, room))
 
-pub have_left : (n : ℕ) (ts : List (Turn Desk Item)) (ps ps' : List (Option (Pass Item))) (q : ℕ → Option (Pass Item)) → Both HasFirst ts ps → Both HasFirst ts ps'
+pub have_left : {T : Type 0} {gs : Ghosts T} (n : ℕ) (ts : List (Turn (Desk T gs) Item)) (ps ps' : List (Option (Pass Item))) (q : ℕ → Option (Pass Item)) → Both HasFirst ts ps → Both HasFirst ts ps'
     → HaveRoom (suc n) ps → ((i : ℕ) → SplitsAt (pass_at i ps) (q i ∷ []) (pass_at i ps')) → HaveRoom n ps'
 have_left n [] [] [] q first first' room splits = tt
 have_left n [] (p ∷ ps) ps' q first first' room splits = absurd first

@@ -6,6 +6,7 @@ use Rattle.sporc_turn.specs.declared.known.Known.{Known}
 use Rattle.sporc_turn.specs.declared.pass.Pass.{Pass}
 use Rattle.sporc_turn.specs.Passes.{known_of}
 use Rattle.sporc_order.specs.OrderModel.{OrderModel}
+use Rattle.sporc_order.specs.declared.tail.Tail.{Ghosts}
 use Rattle.sporc_serve.specs.declared.fault.ServeFault.{ServeFault}
 use Rattle.sporc_serve.specs.declared.item.Item.{Item}
 use Rattle.sporc_serve.specs.Crowds.{Net}
@@ -42,7 +43,7 @@ room_first (o ∷ os) (Some p ∷ ps) n few h =
     (omega (arith, none, few), room_first os ps n few h.1)
 
 -- as many of each
-pub open_lengths : (os : List OrderModel) (locks : Locks) → AreOpen os locks → (length locks.documents.items ≡ length os) × (length locks.turns.items ≡ length os)
+pub open_lengths : {T : Type 0} {gs : Ghosts T} (os : List OrderModel) (locks : Locks T gs) → AreOpen os locks → (length locks.documents.items ≡ length os) × (length locks.turns.items ≡ length os)
 open_lengths os locks are =
     let firsts = both_length HasFirst locks.turns.items locks.firsts.items are.firsts in
     let known = both_length KnowsFirst os locks.firsts.items are.known in
@@ -86,6 +87,7 @@ module _ {L : Type 0} (left written : L → Option (List ℕ)) (faults : L → �
         coming = subst (λ (c : Option (List L)). AreFrom old.coming c []) (sym coming) (from_none old.coming);
         returned = subst (λ (c : Option (List L)). AreBehind old.returned c []) (sym returned) (behind_none old.returned);
         result_is = tells;
+        kept = λ told. tt;
       },
     )
 
@@ -95,7 +97,7 @@ module _ {L : Type 0} (left written : L → Option (List ℕ)) (faults : L → �
     serves_none os coming returned tells = none_served os os (all_unserved os) coming returned tells
 
     -- some locks were opened, and closed again
-    pub serves_opened : (all all' rest opened back : List OrderModel) (locks : Locks) → AreOpen opened locks → all ≡ rest ++ reverse opened → all' ≡ rest ++ reverse back
+    pub serves_opened : {T : Type 0} {gs : Ghosts T} (all all' rest opened back : List OrderModel) (locks : Locks T gs) → AreOpen opened locks → all ≡ rest ++ reverse opened → all' ≡ rest ++ reverse back
         → Both Closes locks.firsts.items back → new.coming ≡ old.coming → new.returned ≡ old.returned → TellsOf {L = L} n old.faults new.faults [] result
         → AreServed left written faults is_shut all all' old new n result
     serves_opened all all' rest opened back locks are is is' closes coming returned tells =
@@ -122,6 +124,7 @@ module _ {L : Type 0} (left written : L → Option (List ℕ)) (faults : L → �
             coming = e.coming;
             returned = e.returned;
             result_is = e.result_is;
+            kept = e.kept;
           },
         )
 
@@ -140,6 +143,7 @@ serves_before {L} left written faults is_shut old mid new n result os os' served
         coming = subst (λ (x : Option (List L)). AreFrom x new.coming (came vs)) coming s.coming;
         returned = subst (λ (x : Option (List L)). AreBehind x new.returned (went vs)) returned s.returned;
         result_is = tells_before n old.faults mid.faults new.faults vs result le s.result_is;
+        kept = s.kept;
       },
     )
 
@@ -161,7 +165,7 @@ opened_all all rest opened none is =
     (sym (reverse-reverse opened) ∙ ap (λ (l : List OrderModel). reverse l) (sym turned), sym (length-reverse opened) ∙ sym (ap (λ (l : List OrderModel). length l) turned))
 
 -- there is room for the orders that come back
-pub room_back : (all rest opened : List OrderModel) (locks : Locks) → all ≡ rest ++ reverse opened → AreOpen opened locks → (n m k cap cap' : ℕ) → n ≡ length all → m ≡ length rest
+pub room_back : {T : Type 0} {gs : Ghosts T} (all rest opened : List OrderModel) (locks : Locks T gs) → all ≡ rest ++ reverse opened → AreOpen opened locks → (n m k cap cap' : ℕ) → n ≡ length all → m ≡ length rest
     → k ≡ length locks.turns.items → n ≤ cap → cap' ≡ cap → m + k ≤ cap'
 room_back all rest opened locks is are n m k cap cap' all_n rest_m turns_k within same =
     let total : length all ≡ length rest + length (reverse opened) = ap (λ (l : List OrderModel). length l) is ∙ length-append rest (reverse opened) in

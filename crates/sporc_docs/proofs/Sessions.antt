@@ -7,6 +7,7 @@ use Rattle.sporc_turn.specs.declared.known.Known.{Known}
 use Rattle.sporc_wire.specs.declared.to_server.ToServer.{ToServer}
 use Rattle.sporc_wire.specs.Messages.{Unread, stream_of, next}
 use Rattle.sporc_wire.specs.ToServer.{to_server_of}
+use Rattle.sporc_order.specs.declared.tail.Tail.{Ghosts}
 use Rattle.sporc_serve.specs.declared.end.SessionEnd.{SessionEnd}
 use Rattle.sporc_serve.specs.Endings.{inlet, IsFirst}
 use Rattle.sporc_serve.specs.Logs.{IsLogOf}
@@ -24,25 +25,25 @@ use Rattle.sporc_docs.specs.Sessions.{Became}
 
 -- ---- passes of many locks
 
-pub have_length : (ts : List (Turn Desk Item)) (ps : List (Option (Pass Item))) → HavePasses ts ps → length ps ≡ length ts
+pub have_length : {T : Type 0} {gs : Ghosts T} (ts : List (Turn (Desk T gs) Item)) (ps : List (Option (Pass Item))) → HavePasses ts ps → length ps ≡ length ts
 have_length [] [] h = refl
 have_length [] (p ∷ ps) h = absurd h
 have_length (t ∷ ts) [] h = absurd h
 have_length (t ∷ ts) (p ∷ ps) h = ap suc (have_length ts ps h.1)
 
-pub have_at : (ts : List (Turn Desk Item)) (ps : List (Option (Pass Item))) (i : ℕ) (t : Turn Desk Item) (p : Option (Pass Item)) → HavePasses ts ps → i < length ts
+pub have_at : {T : Type 0} {gs : Ghosts T} (ts : List (Turn (Desk T gs) Item)) (ps : List (Option (Pass Item))) (i : ℕ) (t : Turn (Desk T gs) Item) (p : Option (Pass Item)) → HavePasses ts ps → i < length ts
     → t ≡ slice_index_or ts i t → p ≡ slice_index_or ps i p → HasPass t p
 have_at [] ps i t p h within t_is p_is = absurd (omega (arith, within))
 have_at (t0 ∷ ts) [] i t p h within t_is p_is = absurd h
-have_at (t0 ∷ ts) (p0 ∷ ps) zero t p h within t_is p_is =
-    subst (λ (x : Turn Desk Item). HasPass x p) (sym t_is) (subst (λ (x : Option (Pass Item)). HasPass t0 x) (sym p_is) h.0)
+have_at {T} {gs} (t0 ∷ ts) (p0 ∷ ps) zero t p h within t_is p_is =
+    subst (λ (x : Turn (Desk T gs) Item). HasPass x p) (sym t_is) (subst (λ (x : Option (Pass Item)). HasPass t0 x) (sym p_is) h.0)
 have_at (t0 ∷ ts) (p0 ∷ ps) (suc i) t p h within t_is p_is = have_at ts ps i t p h.1 (omega (arith, within)) t_is p_is
 
-pub have_set : (ts : List (Turn Desk Item)) (ps : List (Option (Pass Item))) (i : ℕ) (t : Turn Desk Item) (p : Option (Pass Item)) → HavePasses ts ps → i < length ts
+pub have_set : {T : Type 0} {gs : Ghosts T} (ts : List (Turn (Desk T gs) Item)) (ps : List (Option (Pass Item))) (i : ℕ) (t : Turn (Desk T gs) Item) (p : Option (Pass Item)) → HavePasses ts ps → i < length ts
     → t ≡ slice_index_or ts i t → HasPass t p → HavePasses ts (set ps i p)
 have_set [] ps i t p h within t_is new = absurd (omega (arith, within))
 have_set (t0 ∷ ts) [] i t p h within t_is new = absurd h
-have_set (t0 ∷ ts) (p0 ∷ ps) zero t p h within t_is new = (subst (λ (x : Turn Desk Item). HasPass x p) t_is new, h.1)
+have_set {T} {gs} (t0 ∷ ts) (p0 ∷ ps) zero t p h within t_is new = (subst (λ (x : Turn (Desk T gs) Item). HasPass x p) t_is new, h.1)
 have_set (t0 ∷ ts) (p0 ∷ ps) (suc i) t p h within t_is new = (h.0, have_set ts ps i t p h.1 (omega (arith, within)) t_is new)
 
 -- what a hand has at a place

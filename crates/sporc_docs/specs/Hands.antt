@@ -7,6 +7,7 @@ use Rattle.sporc_turn.specs.Knowing.{splitting, copied, joined_with}
 use Rattle.sporc_turn.specs.Log.{StartsWith}
 use Rattle.sporc_turn.specs.Passes.{known_of, read_of, IsPassOf}
 use Rattle.sporc_entry.specs.declared.genesis.Genesis.{Genesis}
+use Rattle.sporc_order.specs.declared.tail.Tail.{Ghosts}
 use Rattle.sporc_serve.specs.declared.desk.Desk.{Desk}
 use Rattle.sporc_serve.specs.declared.item.Item.{Item}
 use Rattle.sporc_serve.specs.Logs.{IsLogOf}
@@ -20,26 +21,26 @@ Both holds (x ∷ xs) [] = ⊥
 Both holds (x ∷ xs) (y ∷ ys) = holds x y × Both holds xs ys
 
 -- the pass of this lock with number 0
-abbrev pub HasFirst : Turn Desk Item → Option (Pass Item) → Type 0
+abbrev pub HasFirst : {T : Type 0} {tail : Ghosts T} → Turn (Desk T tail) Item → Option (Pass Item) → Type 0
 HasFirst turn None = ⊥
 HasFirst turn (Some p) = IsPassOf turn p × ((known_of p).number ≡ 0)
 
 -- a pass of this lock with another number
-abbrev pub HasPass : Turn Desk Item → Option (Pass Item) → Type 0
+abbrev pub HasPass : {T : Type 0} {tail : Ghosts T} → Turn (Desk T tail) Item → Option (Pass Item) → Type 0
 HasPass turn None = ⊥
 HasPass turn (Some p) = IsPassOf turn p × ((known_of p).number ≢ 0)
 
 -- the same, or none
-abbrev pub MayHave : Turn Desk Item → Option (Pass Item) → Type 0
+abbrev pub MayHave : {T : Type 0} {tail : Ghosts T} → Turn (Desk T tail) Item → Option (Pass Item) → Type 0
 MayHave turn None = Unit {0}
 MayHave turn (Some p) = IsPassOf turn p × ((known_of p).number ≢ 0)
 
 -- no pass of this lock
-abbrev pub IsEmpty : Turn Desk Item → Option (Pass Item) → Type 0
+abbrev pub IsEmpty : {T : Type 0} {tail : Ghosts T} → Turn (Desk T tail) Item → Option (Pass Item) → Type 0
 IsEmpty turn place = place ≡ None
 
 -- a pass with another number of each of these locks, in their order
-abbrev pub HavePasses : List (Turn Desk Item) → List (Option (Pass Item)) → Type 0
+abbrev pub HavePasses : {T : Type 0} {tail : Ghosts T} → List (Turn (Desk T tail) Item) → List (Option (Pass Item)) → Type 0
 HavePasses turns hand = Both HasPass turns hand
 
 -- the pass of a hand at a place, if it has one

@@ -1,17 +1,19 @@
 -- Orders under locks of their own, for inner contracts.
-use Rattle.std.specs.Prelude.{◌≡◌, ℕ, Bool, List, [], ◌∷◌, map, reverse, Option, Some, None, Result}
+use Rattle.std.specs.Prelude.{◌≡◌, ◌≢◌, ℕ, Bool, List, [], ◌∷◌, map, reverse, Option, Some, None, Result, Err}
 use Rattle.sporc_turn.specs.Knowing.{first_known}
 use Rattle.sporc_turn.specs.Log.{Agrees}
 use Rattle.sporc_turn.specs.Passes.{known_of, out_of}
 use Rattle.sporc_turn.specs.declared.pass.Pass.{Pass}
 use Rattle.sporc_entry.specs.declared.genesis.Genesis.{Genesis}
 use Rattle.sporc_order.specs.OrderModel.{OrderModel}
+use Rattle.sporc_order.specs.declared.tail.Tail.{Ghosts}
 use Rattle.sporc_serve.specs.declared.item.Item.{Item}
 use Rattle.sporc_serve.specs.Logs.{by_of, order_at, IsLogOf}
 use Rattle.sporc_serve.specs.Served.{log_at_first}
 use Rattle.sporc_serve.specs.Crowds.{Net}
-use Rattle.sporc_serve.specs.Visits.{CameOpen, came, went, AreFrom, AreBehind, TellsOf}
+use Rattle.sporc_serve.specs.Visits.{CameOpen, came, went, AreFrom, AreBehind, NoneUnkept, TellsOf}
 use Rattle.sporc_serve.specs.declared.fault.ServeFault.{ServeFault}
+use Rattle.sporc_serve.specs.declared.fault.ServeFault.TheVariants.{Unkept}
 use Rattle.sporc_docs.specs.declared.locks.Locks.{Locks}
 use Rattle.sporc_docs.specs.Hands.{Both, HasFirst}
 use Rattle.sporc_docs.specs.Served.{Session, visits_of, AreBound, IsServedDocument}
@@ -22,7 +24,7 @@ KnowsFirst o None = ⊥
 KnowsFirst o (Some p) = known_of p ≡ first_known (log_at_first o)
 
 -- locks round these orders, in their order
-pub record AreOpen (orders : List OrderModel) (locks : Locks) : Type 0 where
+pub record AreOpen {T : Type 0} {tail : Ghosts T} (orders : List OrderModel) (locks : Locks T tail) : Type 0 where
   pub firsts : Both HasFirst locks.turns.items locks.firsts.items
   pub documents_are : locks.documents.items ≡ map (λ o. o.genesis.document) orders
   pub known : Both KnowsFirst orders locks.firsts.items
@@ -57,6 +59,7 @@ pub record Ending {L : Type 0} (left written : L → Option (List ℕ)) (faults 
   pub coming : AreFrom old.coming new.coming (came (visits_of sessions))
   pub returned : AreBehind old.returned new.returned (went (visits_of sessions))
   pub result_is : TellsOf count old.faults new.faults (visits_of sessions) result
+  pub kept : result ≢ Err Unkept → NoneUnkept (visits_of sessions)
 
 abbrev pub AreEnding : {L : Type 0} → (L → Option (List ℕ)) → (L → Option (List ℕ)) → (L → ℕ) → (L → Option Bool) → List OrderModel → List (Option (Pass Item))
     → Net L → Net L → ℕ → Result (Unit {0}) ServeFault → Type 0

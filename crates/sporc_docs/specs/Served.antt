@@ -1,5 +1,5 @@
 -- What a server of many documents did: for each document what a server of it alone does, with the sessions bound to it.
-use Rattle.std.specs.Prelude.{◌≡◌, ◌⊎◌, ◌+◌, ℕ, Bool, List, [], ◌∷◌, length, drop, map, Option, Some, Result, Ok, Err}
+use Rattle.std.specs.Prelude.{◌≡◌, ◌≢◌, ◌⊎◌, ◌+◌, ℕ, Bool, List, [], ◌∷◌, length, drop, map, Option, Some, Result, Ok, Err}
 use Rattle.std.specs.List.{All}
 use Rattle.sporc_turn.specs.declared.known.Known.{Known}
 use Rattle.sporc_turn.specs.Log.{StartsWith}
@@ -10,7 +10,7 @@ use Rattle.sporc_serve.specs.declared.fault.ServeFault.{ServeFault}
 use Rattle.sporc_serve.specs.declared.fault.ServeFault.TheVariants as faults
 use Rattle.sporc_serve.specs.declared.item.Item.{Item}
 use Rattle.sporc_serve.specs.Logs.{by_of, order_at}
-use Rattle.sporc_serve.specs.Visits.{Visit, CameOpen, came, went, AreFrom, AreBehind, TellsOf}
+use Rattle.sporc_serve.specs.Visits.{Visit, CameOpen, came, went, AreFrom, AreBehind, NoneUnkept, TellsOf}
 use Rattle.sporc_serve.specs.Crowds.{Net}
 use Rattle.sporc_serve.specs.Served.{Attends, IsWornAt, log_at_first}
 use Rattle.sporc_docs.specs.declared.fault.DocsServeFault.{DocsServeFault}
@@ -19,12 +19,17 @@ use Rattle.sporc_docs.specs.Hands.{Both}
 use Rattle.sporc_docs.specs.Machine.{bound_by}
 use Rattle.sporc_docs.specs.Sessions.{IsBound}
 
+-- each of these tails keeps the entries of the order at its place
+abbrev pub AreKept : {T : Type 0} → (T → List (List ℕ) → Type 0) → List T → List OrderModel → Type 0
+AreKept keeps tails orders = Both (λ tail o. ∥ keeps tail o.entries ∥₁) tails orders
+
 -- what a server of many documents answers, as the server of one says it
 abbrev pub as_served : Result (Unit {0}) DocsServeFault → Result (Unit {0}) ServeFault
 as_served (Ok done) = Ok done
 as_served (Err faults'.ListenFault) = Err faults.ListenFault
 as_served (Err (faults'.Worn ticket)) = Err (faults.Worn ticket)
 as_served (Err faults'.Memory) = Err faults.Memory
+as_served (Err faults'.Unkept) = Err faults.Unkept
 
 -- a session, and the document that its first message names, if that is held
 pub record Session (L : Type 0) : Type 0 where
@@ -69,7 +74,7 @@ module _ {L : Type 0} (left written : L → Option (List ℕ)) (faults_of : L �
   abbrev pub IsServedDocument : List (Session L) → OrderModel → OrderModel → Type 0
   IsServedDocument sessions before after = (log : List Item) × ServedDocument before after sessions log
 
-  -- so many sessions at a net, of which this is answered
+  -- so many sessions at a net, of which this is answered; unless it is that an entry was not kept, no session ended so
   pub record ServesDocuments (before after : List OrderModel) (old new : Net L) (count : ℕ) (result : Result (Unit {0}) ServeFault)
       (sessions : List (Session L)) : Type 0 where
     pub bound : AreBound before sessions
@@ -78,6 +83,7 @@ module _ {L : Type 0} (left written : L → Option (List ℕ)) (faults_of : L �
     pub coming : AreFrom old.coming new.coming (came (visits_of sessions))
     pub returned : AreBehind old.returned new.returned (went (visits_of sessions))
     pub result_is : TellsOf count old.faults new.faults (visits_of sessions) result
+    pub kept : result ≢ Err faults.Unkept → NoneUnkept (visits_of sessions)
 
   abbrev pub AreServed : List OrderModel → List OrderModel → Net L → Net L → ℕ → Result (Unit {0}) ServeFault → Type 0
   AreServed before after old new count result = (sessions : List (Session L)) × ServesDocuments before after old new count result sessions

@@ -1,6 +1,6 @@
 //! The sessions of a server of many documents, each in a thread of its own where one can be made.
 
-ghost use Rattle.std.specs.Prelude.{◌≡◌, ◌≤◌, length, OnOk};
+ghost use Rattle.std.specs.Prelude.{◌≡◌, ◌≤◌, Err, length, OnOk};
 ghost use Rattle.std.specs.Thread.{IsSync, IsSend};
 ghost use Rattle.sporc_outside.specs.Told.{AreShutBehind, IsTrueIfTold};
 ghost use Rattle.sporc_serve.specs.Crowds.{net_of};
@@ -12,6 +12,7 @@ ghost use Rattle.sporc_docs.specs.Sessions.{Sits};
 use crate::hands::Hand;
 use crate::session::serve_hand;
 use sporc_base::Memory;
+use sporc_order::Tail;
 use sporc_outside::{Gate, Listen};
 use sporc_serve::{Desk, ServeFault, SessionEnd, with_end};
 use sporc_turn::Turn;
@@ -19,17 +20,19 @@ use std::alloc::Global;
 use std::sync::Wait;
 use std::thread::{Threads, join_mut};
 
-// Takes a link for each of these hands, and serves it with its passes.
-pub(crate) fn crowd<R: Threads + Wait + Sync, N: Listen, G: Gate + Sync>(
+// Takes a link for each of these hands, and serves it with its passes: in this thread, while a new one takes the links behind
+// it; where none can be made, this one takes them after its session.
+pub(crate) fn crowd<R: Threads + Wait + Sync, N: Listen, G: Gate + Sync, T: Tail + Send>(
     rt: &R,
     alloc: Global,
     net: &mut N,
-    turns: &[Turn<Desk>],
+    turns: &[Turn<Desk<T>>],
     documents: &[[u8; 16]],
     gate: &G,
     hands: &mut [Hand],
 ) -> Result<(), ServeFault>
 where
+    N: Send,
     N::Link: Send,
     requires locks { AllHands (HavePasses turns.now) hands.old }
     requires documents { length documents.now ≡ length turns.now }
@@ -41,6 +44,7 @@ where
     ensures asked { N.asked net.new ≡ N.asked net.old }
     ensures links_out { N.out net.new ≡ N.out net.old }
     ensures kept { N.faults net.old ≤ N.faults net.new }
+    ensures unkept { result ≡ Err ServeFault.Unkept → T.may_fail }
 {
     let Some((hand, others)) = hands.split_first_mut() else {
         return Ok(());
@@ -48,41 +52,44 @@ where
     let Ok(mut link) = net.accept(rt) else {
         return Err(ServeFault::ListenFault);
     };
-    let (end, rest) = join_mut(
+    let (rest, end) = join_mut(
         rt,
-        &mut || -> SessionEnd
-            requires { IsSync R.row × IsSync G.row × HavePasses turns.now hand.now.passes.items × (length documents.now ≡ length turns.now) }
-            ensures { HavePasses turns.entry.now hand.exit.now.passes.items
-                × Sits N.Link.left N.Link.written N.Link.faults N.Link.is_shut documents.entry.now (visit link.entry link.exit result)
-                hand.entry.now.passes.items hand.exit.now.passes.items
-                × IsTrueIfTold (N.Link.is_shut link.exit) }
-        { serve_hand(rt, alloc, turns, documents, gate, &mut link, hand) },
         &mut || -> Result<(), ServeFault>
-            requires { IsSync R.row × IsSync G.row × IsSend N.Link.row × AllHands (HavePasses turns.now) others.now × (length documents.now ≡ length turns.now) }
+            requires { IsSync R.row × IsSync G.row × IsSend N.row × IsSend N.Link.row × IsSend T.row
+                × AllHands (HavePasses turns.now) others.now × (length documents.now ≡ length turns.now) }
             ensures { AllHands (HavePasses turns.entry.now) others.exit.now
                 × (AllHands LogsBegin others.entry.now
                 → IsCrowd N.Link.left N.Link.written N.Link.faults N.Link.is_shut turns.entry.now documents.entry.now others.entry.now others.exit.now
                 (net_of (N.coming net.entry.now) (N.returned net.entry.now) (N.faults net.entry.now)) (net_of (N.coming net.exit.now) (N.returned net.exit.now) (N.faults net.exit.now)) result)
                 × AreShutBehind N.Link.is_shut (N.returned net.entry.now) (N.returned net.exit.now) × (N.asked net.exit.now ≡ N.asked net.entry.now)
-                × (N.out net.exit.now ≡ N.out net.entry.now) × (N.faults net.entry.now ≤ N.faults net.exit.now) }
+                × (N.out net.exit.now ≡ N.out net.entry.now) × (N.faults net.entry.now ≤ N.faults net.exit.now)
+                × (result ≡ Err ServeFault.Unkept → T.may_fail) }
         { crowd(rt, alloc, net, turns, documents, gate, others) },
+        &mut || -> SessionEnd
+            requires { IsSync R.row × IsSync G.row × IsSend T.row × HavePasses turns.now hand.now.passes.items × (length documents.now ≡ length turns.now) }
+            ensures { HavePasses turns.entry.now hand.exit.now.passes.items
+                × Sits N.Link.left N.Link.written N.Link.faults N.Link.is_shut documents.entry.now (visit link.entry link.exit result)
+                hand.entry.now.passes.items hand.exit.now.passes.items
+                × IsTrueIfTold (N.Link.is_shut link.exit) × (result ≡ SessionEnd.Unkept → T.may_fail) }
+        { serve_hand(rt, alloc, turns, documents, gate, &mut link, hand) },
     );
     net.take_back(link);
     with_end(rest, end)
 }
 
 // The same, unless memory ran out as the hands' passes were split.
-pub(crate) fn crowd_if<R: Threads + Wait + Sync, N: Listen, G: Gate + Sync>(
+pub(crate) fn crowd_if<R: Threads + Wait + Sync, N: Listen, G: Gate + Sync, T: Tail + Send>(
     rt: &R,
     alloc: Global,
     net: &mut N,
-    turns: &[Turn<Desk>],
+    turns: &[Turn<Desk<T>>],
     documents: &[[u8; 16]],
     gate: &G,
     split: Result<(), Memory>,
     hands: &mut [Hand],
 ) -> Result<(), ServeFault>
 where
+    N: Send,
     N::Link: Send,
     requires hands { AllHands (Both MayHave turns.now) hands.old }
     requires locks { OnOk split (AllHands (HavePasses turns.now) hands.old) }
@@ -95,6 +102,7 @@ where
     ensures asked { N.asked net.new ≡ N.asked net.old }
     ensures links_out { N.out net.new ≡ N.out net.old }
     ensures kept { N.faults net.old ≤ N.faults net.new }
+    ensures unkept { result ≡ Err ServeFault.Unkept → T.may_fail }
 {
     match split {
         Ok(()) => crowd(rt, alloc, net, turns, documents, gate, hands),

@@ -52,6 +52,13 @@ impl Docs {
         Docs { orders }
     }
 
+    // How many documents there are.
+    pub(crate) fn len(&self) -> usize
+        ensures value { result ≡ length self.now }
+    {
+        self.orders.len()
+    }
+
     /// Adds the order of a document, unless one of it is held already, or as many as may be.
     pub fn add(&mut self, order: Order) -> Result<(), (DocsFault, Order)>
         ensures ok { OnOk result (self.new ≡ self.old ++ order ∷ []) }
@@ -83,6 +90,13 @@ impl Docs {
             ToServer::Hello { document, .. } => place_in(&self.orders, document),
             ToServer::Submit { .. } | ToServer::Pull { .. } => None,
         }
+    }
+
+    /// The orders, as they were added.
+    pub fn orders(&self) -> &[Order]
+        ensures value { result.now ≡ self.now }
+    {
+        self.orders.as_slice()
     }
 
     /// The orders, as they were added.

@@ -40,4 +40,7 @@ pub enum DocsServeFault {
     /// Memory ran out, of the server or in a session.
     #[error("out of memory")]
     Memory,
+    /// A tail did not keep an entry.
+    #[error("an entry is not kept")]
+    Unkept,
 }

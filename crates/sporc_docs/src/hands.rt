@@ -5,6 +5,7 @@ ghost use Rattle.sporc_turn.specs.declared.pass.Pass.{Pass};
 ghost use Rattle.sporc_docs.specs.Hands.{AllHands, Both, HasFirst, HasPass, HasRoom, HavePasses, HaveRoom, IsEmpty, JoinsAt, MayHave, SplitsAt, column, pass_at};
 
 use sporc_base::Memory;
+use sporc_order::Tail;
 use sporc_serve::{Desk, Item};
 use sporc_turn::{Pass, Turn};
 use std::alloc::Global;
@@ -28,9 +29,9 @@ impl Hand {
     }
 
     // Splits the passes, each from number 0 of its lock, as far as memory goes.
-    fn split(
+    fn split<T: Tail>(
         &mut self,
-        turns: &[Turn<Desk>],
+        turns: &[Turn<Desk<T>>],
         firsts: &mut [Option<Pass<Item>>],
     ) -> Result<(), Memory>
         requires firsts { Both HasFirst turns.now firsts.old }
@@ -45,7 +46,7 @@ impl Hand {
     }
 
     // Joins the passes back, each to number 0 of its lock.
-    fn join(&mut self, turns: &[Turn<Desk>], firsts: &mut [Option<Pass<Item>>])
+    fn join<T: Tail>(&mut self, turns: &[Turn<Desk<T>>], firsts: &mut [Option<Pass<Item>>])
         requires firsts { Both HasFirst turns.now firsts.old }
         requires hand { Both MayHave turns.now self.old.passes.items }
         ensures firsts { Both HasFirst turns.now firsts.new }
@@ -69,8 +70,8 @@ pub(crate) fn empty_hands(alloc: Global, sessions: u32, len: usize) -> Result<Ve
 }
 
 // Splits a pass from number 0.
-fn split_at(
-    turn: &Turn<Desk>,
+fn split_at<T: Tail>(
+    turn: &Turn<Desk<T>>,
     first: &mut Option<Pass<Item>>,
     place: &mut Option<Pass<Item>>,
 ) -> Result<(), Memory>
@@ -97,8 +98,8 @@ fn split_at(
 }
 
 // Splits a pass from each number 0, as far as memory goes.
-fn split_each(
-    turns: &[Turn<Desk>],
+fn split_each<T: Tail>(
+    turns: &[Turn<Desk<T>>],
     firsts: &mut [Option<Pass<Item>>],
     hand: &mut [Option<Pass<Item>>],
 ) -> Result<(), Memory>
@@ -125,8 +126,8 @@ fn split_each(
 }
 
 // Splits the passes of these hands, as far as memory goes.
-pub(crate) fn split_hands(
-    turns: &[Turn<Desk>],
+pub(crate) fn split_hands<T: Tail>(
+    turns: &[Turn<Desk<T>>],
     firsts: &mut [Option<Pass<Item>>],
     hands: &mut [Hand],
 ) -> Result<(), Memory>
@@ -147,7 +148,11 @@ pub(crate) fn split_hands(
 }
 
 // Joins a pass back to number 0, if it is there.
-fn join_at(turn: &Turn<Desk>, first: &mut Option<Pass<Item>>, place: &mut Option<Pass<Item>>)
+fn join_at<T: Tail>(
+    turn: &Turn<Desk<T>>,
+    first: &mut Option<Pass<Item>>,
+    place: &mut Option<Pass<Item>>,
+)
     requires first { HasFirst turn.now first.old }
     requires place { MayHave turn.now place.old }
     ensures first { HasFirst turn.now first.new }
@@ -161,8 +166,8 @@ fn join_at(turn: &Turn<Desk>, first: &mut Option<Pass<Item>>, place: &mut Option
 }
 
 // Joins passes back, each to number 0 of its lock.
-fn join_each(
-    turns: &[Turn<Desk>],
+fn join_each<T: Tail>(
+    turns: &[Turn<Desk<T>>],
     firsts: &mut [Option<Pass<Item>>],
     hand: &mut [Option<Pass<Item>>],
 )
@@ -185,8 +190,8 @@ fn join_each(
 }
 
 // Joins the passes of these hands back.
-pub(crate) fn join_hands(
-    turns: &[Turn<Desk>],
+pub(crate) fn join_hands<T: Tail>(
+    turns: &[Turn<Desk<T>>],
     firsts: &mut [Option<Pass<Item>>],
     hands: &mut [Hand],
 )

@@ -11,12 +11,13 @@
 //! docs.route(&ToServer::Hello { document, member: 1 })     // its place, from 0 on
 //! let (docs, answer) = serve_docs(&rt, alloc, &mut net, "localhost:4000", docs, 2, &OpenGate);
 //! docs.into_orders()                                       // as they were added
+//! serve_docs_kept(.., docs, tails, 2, &OpenGate)           // the same, with a tail for each document
 //! ```
 //!
 //! Proved: which orders are held, no two of one document, and which of them a message names; of the machine of many
 //! documents that the sessions of each are answered as by the machine that holds it alone ([`laws::documents_are_isolated`]);
-//! and of the server that what `sporc_serve::serve` promises holds for each document with the sessions bound to it. Only
-//! tested: that 64 documents are taken and served at once, with ample memory (`sporc_thread_tests`). Neither: that one
+//! and of the server that what `sporc_serve::serve` promises holds for each document with the sessions bound to it, and that
+//! each tail keeps its document's entries to the end. Only tested: that 64 documents are taken and served at once, with ample memory (`sporc_thread_tests`). Neither: that one
 //! document is served while another one's order is held.
 #![tactic(auto)]
 
@@ -34,4 +35,4 @@ mod session;
 pub use crate::docs::Docs;
 pub use crate::fault::{DocsFault, DocsServeFault};
 pub use crate::limits::MAX_DOCUMENTS;
-pub use crate::server::serve_docs;
+pub use crate::server::{serve_docs, serve_docs_kept};

@@ -1,6 +1,6 @@
 //! Orders under locks of their own, and taken out again.
 
-ghost use Rattle.std.specs.Prelude.{◌≡◌, ◌≤◌, ◌<◌, ◌+◌, ◌∷◌, ◌++◌, List, [], Some, length, map, reverse, IfOk, OnOk};
+ghost use Rattle.std.specs.Prelude.{◌≡◌, ◌≤◌, ◌<◌, ◌+◌, ◌∷◌, ◌++◌, List, [], Some, Err, length, map, reverse, IfOk, OnOk};
 ghost use Rattle.std.specs.Vec.{vec_len, vec_capacity};
 ghost use Rattle.sporc_order.specs.OrderModel.{OrderModel};
 ghost use Rattle.sporc_outside.specs.Told.{AreShutBehind};
@@ -8,37 +8,38 @@ ghost use Rattle.sporc_serve.specs.Crowds.{net_of};
 ghost use Rattle.sporc_docs.specs.Hands.{AllHands, Both, HasFirst, HaveRoom, IsEmpty};
 ghost use Rattle.sporc_docs.specs.Lists.{AreApart};
 ghost use Rattle.sporc_docs.specs.Locks.{AreBack, AreEnding, AreOpen, Closes, KnowsFirst};
+ghost use Rattle.sporc_docs.specs.Served.{AreKept};
 
 use crate::hands::Hand;
 use crate::serving::serve_hands;
 use sporc_base::Memory;
-use sporc_order::Order;
+use sporc_order::{Order, Tail};
 use sporc_outside::{Gate, Listen};
-use sporc_serve::{Desk, Item, ServeFault, close_desk, open_desk};
+use sporc_serve::{Desk, Item, ServeFault, close_kept, open_kept};
 use sporc_turn::{Pass, Turn};
-use std::alloc::Global;
+use std::alloc::{AllocError, Global};
 use std::sync::Wait;
 use std::thread::Threads;
 
 // For each order its lock, its document, and the pass with number 0.
 #[derive(Drop)]
-pub(crate) struct Locks {
-    pub(crate) turns: Vec<Turn<Desk>>,
+pub(crate) struct Locks<T: Tail> {
+    pub(crate) turns: Vec<Turn<Desk<T>>>,
     pub(crate) documents: Vec<[u8; 16]>,
     pub(crate) firsts: Vec<Option<Pass<Item>>>,
 }
 
-impl Locks {
+impl<T: Tail> Locks<T> {
     // No lock, and room for so many.
-    pub(crate) fn with_capacity(alloc: Global, len: usize) -> Result<Locks, Memory>
+    pub(crate) fn with_capacity(alloc: Global, len: usize) -> Result<Locks<T>, Memory>
         ensures none { IfOk result (AreOpen []) }
         ensures turns { IfOk result (λ l. vec_len l.turns + len ≤ vec_capacity l.turns) }
         ensures documents { IfOk result (λ l. vec_len l.documents + len ≤ vec_capacity l.documents) }
         ensures firsts { IfOk result (λ l. vec_len l.firsts + len ≤ vec_capacity l.firsts) }
     {
-        let turns = Vec::with_capacity(alloc, len)?;
         let documents = Vec::with_capacity(alloc, len)?;
         let firsts = Vec::with_capacity(alloc, len)?;
+        let turns = Vec::with_capacity(alloc, len)?;
         Ok(Locks {
             turns,
             documents,
@@ -46,23 +47,32 @@ impl Locks {
         })
     }
 
-    // Puts orders under locks, the last one first, as far as memory goes.
-    pub(crate) fn open(&mut self, alloc: Global, orders: &mut Vec<Order>) -> Result<(), Memory>
+    // Puts orders under locks with their tails, the last one first, as far as memory goes.
+    pub(crate) fn open(
+        &mut self,
+        alloc: Global,
+        orders: &mut Vec<Order>,
+        tails: &mut Vec<T>,
+    ) -> Result<(), Memory>
         requires none { AreOpen [] self.old }
+        requires kept { AreKept T.keeps tails.old.items orders.old.items }
         requires turns { vec_len self.old.turns + vec_len orders.old ≤ vec_capacity self.old.turns }
         requires documents { vec_len self.old.documents + vec_len orders.old ≤ vec_capacity self.old.documents }
         requires firsts { vec_len self.old.firsts + vec_len orders.old ≤ vec_capacity self.old.firsts }
         ensures open { (os : List OrderModel) × (orders.old.items ≡ orders.new.items ++ reverse os) × AreOpen os self.new }
         ensures ok { OnOk result (orders.new.items ≡ []) }
-        ensures room { vec_capacity orders.new ≡ vec_capacity orders.old }
+        ensures kept { AreKept T.keeps tails.new.items orders.new.items }
+        ensures room { (vec_capacity orders.new ≡ vec_capacity orders.old) × (vec_capacity tails.new ≡ vec_capacity tails.old) }
     {
         while let Some(order) = orders.pop() {
+            let tail = tails.pop().unwrap();
             let document = *order.document();
-            match open_desk(alloc, order) {
+            match open_kept(alloc, order, tail) {
                 Ok((turn, first)) => self.push(turn, document, first),
-                Err((order, memory)) => {
+                Err((order, tail)) => {
                     orders.push_reserved(order);
-                    return Err(memory);
+                    tails.push_reserved(tail);
+                    return Err(AllocError);
                 }
             }
         }
@@ -70,7 +80,7 @@ impl Locks {
     }
 
     // One lock more.
-    fn push(&mut self, turn: Turn<Desk>, document: [u8; 16], first: Pass<Item>)
+    fn push(&mut self, turn: Turn<Desk<T>>, document: [u8; 16], first: Pass<Item>)
         requires turns { vec_len self.old.turns < vec_capacity self.old.turns }
         requires documents { vec_len self.old.documents < vec_capacity self.old.documents }
         requires firsts { vec_len self.old.firsts < vec_capacity self.old.firsts }
@@ -97,7 +107,9 @@ impl Locks {
         hands: &mut [Hand],
     ) -> Result<(), ServeFault>
     where
+        N: Send,
         N::Link: Send,
+        T: Send,
         requires firsts { Both HasFirst self.old.turns.items self.old.firsts.items }
         requires room { HaveRoom (length hands.old) self.old.firsts.items }
         requires empty { AllHands (Both IsEmpty self.old.turns.items) hands.old }
@@ -112,6 +124,7 @@ impl Locks {
         ensures asked { N.asked net.new ≡ N.asked net.old }
         ensures links_out { N.out net.new ≡ N.out net.old }
         ensures kept { N.faults net.old ≤ N.faults net.new }
+        ensures unkept { result ≡ Err ServeFault.Unkept → T.may_fail }
     {
         serve_hands(
             rt,
@@ -125,12 +138,15 @@ impl Locks {
         )
     }
 
-    // Takes the orders out of their locks, the last lock's first.
-    pub(crate) fn close(self, orders: &mut Vec<Order>)
+    // Takes the orders and their tails out of their locks, the last lock's first.
+    pub(crate) fn close(self, orders: &mut Vec<Order>, tails: &mut Vec<T>)
         requires firsts { Both HasFirst self.turns.items self.firsts.items }
         requires back { AreBack self.firsts.items }
+        requires kept { AreKept T.keeps tails.old.items orders.old.items }
         requires room { vec_len orders.old + vec_len self.turns ≤ vec_capacity orders.old }
+        requires tails_room { vec_len tails.old + vec_len self.turns ≤ vec_capacity tails.old }
         ensures closed { (os : List OrderModel) × (orders.new.items ≡ orders.old.items ++ reverse os) × Both Closes self.firsts.items os }
+        ensures kept { AreKept T.keeps tails.new.items orders.new.items }
     {
         let Locks {
             mut turns,
@@ -139,10 +155,14 @@ impl Locks {
         } = self;
         while let Some(turn) = turns.pop() {
             let first = firsts.pop().unwrap().unwrap();
-            match close_desk(turn, first) {
-                Ok(order) => orders.push_reserved(order),
+            match close_kept(turn, first) {
+                Ok((order, tail)) => {
+                    orders.push_reserved(order);
+                    tails.push_reserved(tail);
+                }
                 Err(_) => unreachable!(),
             }
         }
+        turns.destroy_empty();
     }
 }

@@ -1,62 +1,71 @@
 //! A server of many documents.
 
-ghost use Rattle.std.specs.Prelude.{◌≡◌, ◌≢◌, ◌≤◌, Err};
+ghost use Rattle.std.specs.Prelude.{◌≡◌, ◌≢◌, ◌≤◌, ℕ, List, Err};
 ghost use Rattle.sporc_outside.specs.Told.{AppendsItem, AreShutBehind, MayAppend};
+ghost use Rattle.sporc_order.specs.OrderModel.{OrderModel};
 ghost use Rattle.sporc_serve.specs.Crowds.{net_of};
 ghost use Rattle.sporc_serve.specs.declared.limits.TheConstants.{MAX_SESSIONS};
 ghost use Rattle.sporc_docs.specs.Lists.{AreApart};
-ghost use Rattle.sporc_docs.specs.Served.{AreServed, as_served};
+ghost use Rattle.sporc_docs.specs.Served.{AreKept, AreServed, as_served};
 
 use crate::docs::Docs;
 use crate::fault::DocsServeFault;
 use crate::hands::empty_hands;
 use crate::locks::Locks;
-use sporc_order::Order;
+use sporc_order::{NoTail, Order, Tail};
 use sporc_outside::{Gate, Listen};
 use sporc_serve::ServeFault;
 use std::alloc::Global;
 use std::sync::Wait;
 use std::thread::Threads;
 
-// Serves these orders, and leaves them as they then are.
-fn serve_orders<R: Threads + Wait + Sync, N: Listen, G: Gate + Sync>(
+// Serves these orders with their tails, and leaves both as they then are.
+fn serve_orders<R: Threads + Wait + Sync, N: Listen, G: Gate + Sync, T: Tail + Send>(
     rt: &R,
     alloc: Global,
     net: &mut N,
     orders: &mut Vec<Order>,
+    tails: &mut Vec<T>,
     sessions: u32,
     gate: &G,
 ) -> Result<(), ServeFault>
 where
+    N: Send,
     N::Link: Send,
     requires apart { AreApart orders.old.items }
+    requires tails { AreKept T.keeps tails.old.items orders.old.items }
     requires limit { sessions ≤ MAX_SESSIONS }
     ensures served { AreServed N.Link.left N.Link.written N.Link.faults N.Link.is_shut orders.old.items orders.new.items
         (net_of (N.coming net.old) (N.returned net.old) (N.faults net.old)) (net_of (N.coming net.new) (N.returned net.new) (N.faults net.new)) sessions result }
+    ensures tails { AreKept T.keeps tails.new.items orders.new.items }
+    ensures unkept { result ≡ Err ServeFault.Unkept → T.may_fail }
     ensures shut { AreShutBehind N.Link.is_shut (N.returned net.old) (N.returned net.new) }
     ensures asked { N.asked net.new ≡ N.asked net.old }
     ensures links_out { N.out net.new ≡ N.out net.old }
     ensures kept { N.faults net.old ≤ N.faults net.new }
 {
     let count = orders.len();
-    let Ok(mut locks) = Locks::with_capacity(alloc, count) else {
-        return Err(ServeFault::Memory);
-    };
     let Ok(mut hands) = empty_hands(alloc, sessions, count) else {
         return Err(ServeFault::Memory);
     };
-    if locks.open(alloc, orders).is_err() {
-        locks.close(orders);
+    let Ok(mut locks) = Locks::with_capacity(alloc, count) else {
+        return Err(ServeFault::Memory);
+    };
+    if locks.open(alloc, orders, tails).is_err() {
+        locks.close(orders, tails);
         return Err(ServeFault::Memory);
     }
     let answer = locks.serve(rt, alloc, net, gate, &mut hands);
-    locks.close(orders);
+    locks.close(orders, tails);
     answer
 }
 
 /// Listens at the address, takes so many links, and answers the messages of each from the order of the document that its first
 /// message names, for good: a session each, in a thread of its own where one can be made. A first message that is no Hello, or
 /// names a document that isn't held, ends its session. Each link is shut as its session ends, and handed back to the net.
+///
+/// Where no thread can be made, the session of the link that was taken last is served to its end before the next link is
+/// taken. A thread ends once those of all links behind its own have ended.
 ///
 /// Each document has a lock of its own. All that the sessions need of the locks is made before the first link is taken.
 ///
@@ -73,6 +82,7 @@ pub fn serve_docs<R: Threads + Wait + Sync, N: Listen, G: Gate + Sync>(
     gate: &G,
 ) -> (Docs, Result<(), DocsServeFault>)
 where
+    N: Send,
     N::Link: Send,
     requires some { 1 ≤ sessions }
     requires limit { sessions ≤ MAX_SESSIONS }
@@ -84,13 +94,70 @@ where
     ensures shut { AreShutBehind N.Link.is_shut (N.returned net.old) (N.returned net.new) }
     ensures links_out { N.out net.new ≡ N.out net.old }
     ensures kept { N.faults net.old ≤ N.faults net.new }
+    ensures none_unkept { result.1 ≢ Err DocsServeFault.Unkept }
+{
+    let Ok(tails) = vec![in alloc; NoTail; docs.len()] else {
+        return (docs, unserved(net, address));
+    };
+    let (docs, _, answer) = serve_docs_kept(rt, alloc, net, address, docs, tails, sessions, gate);
+    (docs, answer)
+}
+
+/// Serves as [`serve_docs`] does, with a tail for each document, in their order. A tail keeps each entry of its document before
+/// the order takes it, and so before anything of it is answered or handed out. An entry that is not kept is not ordered, and
+/// its session ends.
+pub fn serve_docs_kept<R: Threads + Wait + Sync, N: Listen, G: Gate + Sync, T: Tail + Send>(
+    rt: &R,
+    alloc: Global,
+    net: &mut N,
+    address: &str,
+    docs: Docs,
+    tails: Vec<T>,
+    sessions: u32,
+    gate: &G,
+) -> (Docs, Vec<T>, Result<(), DocsServeFault>)
+where
+    N: Send,
+    N::Link: Send,
+    requires some { 1 ≤ sessions }
+    requires limit { sessions ≤ MAX_SESSIONS }
+    requires tails { AreKept T.keeps tails.items docs }
+    ensures served { AreServed N.Link.left N.Link.written N.Link.faults N.Link.is_shut docs result.0
+        (net_of (N.coming net.old) (N.returned net.old) (N.faults net.old)) (net_of (N.coming net.new) (N.returned net.new) (N.faults net.new)) sessions
+        (as_served result.2) }
+    ensures tails { AreKept T.keeps result.1.items result.0 }
+    ensures unkept { result.2 ≡ Err DocsServeFault.Unkept → T.may_fail }
+    ensures asked { result.2 ≢ Err DocsServeFault.ListenFault → AppendsItem (N.asked net.old) (N.asked net.new) address.now }
+    ensures may_ask { MayAppend (N.asked net.old) (N.asked net.new) address.now }
+    ensures shut { AreShutBehind N.Link.is_shut (N.returned net.old) (N.returned net.new) }
+    ensures links_out { N.out net.new ≡ N.out net.old }
+    ensures kept { N.faults net.old ≤ N.faults net.new }
 {
     let Ok(()) = net.listen(address) else {
-        return (docs, Err(DocsServeFault::ListenFault));
+        return (docs, tails, Err(DocsServeFault::ListenFault));
     };
     let mut orders = docs.into_orders();
-    let answer = serve_orders(rt, alloc, net, &mut orders, sessions, gate);
-    (Docs::of(orders), told(answer))
+    let mut tails = tails;
+    let answer = serve_orders(rt, alloc, net, &mut orders, &mut tails, sessions, gate);
+    (Docs::of(orders), tails, told(answer))
+}
+
+// What is answered where memory ran out before a link could be taken.
+fn unserved<N: Listen>(net: &mut N, address: &str) -> Result<(), DocsServeFault>
+    ensures served { (os : List OrderModel) (sessions : ℕ) → AreServed N.Link.left N.Link.written N.Link.faults N.Link.is_shut os os
+        (net_of (N.coming net.old) (N.returned net.old) (N.faults net.old)) (net_of (N.coming net.new) (N.returned net.new) (N.faults net.new)) sessions
+        (as_served result) }
+    ensures asked { result ≢ Err DocsServeFault.ListenFault → AppendsItem (N.asked net.old) (N.asked net.new) address.now }
+    ensures may_ask { MayAppend (N.asked net.old) (N.asked net.new) address.now }
+    ensures shut { AreShutBehind N.Link.is_shut (N.returned net.old) (N.returned net.new) }
+    ensures links_out { N.out net.new ≡ N.out net.old }
+    ensures kept { N.faults net.old ≤ N.faults net.new }
+    ensures none_unkept { result ≢ Err DocsServeFault.Unkept }
+{
+    match net.listen(address) {
+        Ok(()) => Err(DocsServeFault::Memory),
+        Err(_) => Err(DocsServeFault::ListenFault),
+    }
 }
 
 // What is answered of many documents.
@@ -102,5 +169,6 @@ fn told(answer: Result<(), ServeFault>) -> Result<(), DocsServeFault>
         Err(ServeFault::ListenFault) => Err(DocsServeFault::ListenFault),
         Err(ServeFault::Worn(ticket)) => Err(DocsServeFault::Worn(ticket)),
         Err(ServeFault::Memory) => Err(DocsServeFault::Memory),
+        Err(ServeFault::Unkept) => Err(DocsServeFault::Unkept),
     }
 }

@@ -1,6 +1,6 @@
 //! The sessions of many documents, with passes that are split before them and joined back behind.
 
-ghost use Rattle.std.specs.Prelude.{◌≡◌, ◌≤◌, List, length, map, reverse};
+ghost use Rattle.std.specs.Prelude.{◌≡◌, ◌≤◌, Err, List, length, map, reverse};
 ghost use Rattle.sporc_outside.specs.Told.{AreShutBehind};
 ghost use Rattle.sporc_order.specs.OrderModel.{OrderModel};
 ghost use Rattle.sporc_serve.specs.Crowds.{net_of};
@@ -10,6 +10,7 @@ ghost use Rattle.sporc_docs.specs.Locks.{AreEnding, KnowsFirst};
 
 use crate::crowd::crowd_if;
 use crate::hands::{Hand, join_hands, split_hands};
+use sporc_order::Tail;
 use sporc_outside::{Gate, Listen};
 use sporc_serve::{Desk, Item, ServeFault};
 use sporc_turn::{Pass, Turn};
@@ -19,17 +20,18 @@ use std::thread::Threads;
 
 // Serves the documents of these locks: all passes are split before the first link is taken, and joined back behind the last
 // session.
-pub(crate) fn serve_hands<R: Threads + Wait + Sync, N: Listen, G: Gate + Sync>(
+pub(crate) fn serve_hands<R: Threads + Wait + Sync, N: Listen, G: Gate + Sync, T: Tail + Send>(
     rt: &R,
     alloc: Global,
     net: &mut N,
-    turns: &[Turn<Desk>],
+    turns: &[Turn<Desk<T>>],
     documents: &[[u8; 16]],
     firsts: &mut [Option<Pass<Item>>],
     gate: &G,
     hands: &mut [Hand],
 ) -> Result<(), ServeFault>
 where
+    N: Send,
     N::Link: Send,
     requires firsts { Both HasFirst turns.now firsts.old }
     requires room { HaveRoom (length hands.old) firsts.old }
@@ -44,6 +46,7 @@ where
     ensures asked { N.asked net.new ≡ N.asked net.old }
     ensures links_out { N.out net.new ≡ N.out net.old }
     ensures kept { N.faults net.old ≤ N.faults net.new }
+    ensures unkept { result ≡ Err ServeFault.Unkept → T.may_fail }
 {
     let split = split_hands(turns, firsts, hands);
     let answer = crowd_if(rt, alloc, net, turns, documents, gate, split, hands);

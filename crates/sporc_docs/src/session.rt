@@ -18,6 +18,7 @@ ghost use Rattle.sporc_docs.specs.Sessions.{Became, Sits, named_by};
 
 use crate::hands::Hand;
 use sporc_base::is_same;
+use sporc_order::Tail;
 use sporc_outside::{Gate, Link};
 use sporc_serve::{Desk, Item, SessionEnd, first_message, serve_from};
 use sporc_turn::{Pass, Turn};
@@ -26,10 +27,10 @@ use std::alloc::Global;
 use std::sync::Wait;
 
 // The session over a link from its first message on, by the pass that is kept for the document which that names.
-fn serve_at<R: Wait, L: Link, G: Gate>(
+fn serve_at<R: Wait, L: Link, G: Gate, T: Tail>(
     rt: &R,
     alloc: Global,
-    turn: &Turn<Desk>,
+    turn: &Turn<Desk<T>>,
     gate: &G,
     link: &mut L,
     frames: &mut Frames,
@@ -42,6 +43,7 @@ fn serve_at<R: Wait, L: Link, G: Gate>(
     ensures number { Became (λ p p'. (known_of p').number ≡ (known_of p).number) pass.old pass.new }
     ensures worn { Became (λ p p'. HasReadLast (read_of p') result) pass.old pass.new }
     ensures as_shut { L.is_shut link.new ≡ L.is_shut link.old }
+    ensures unkept { result ≡ SessionEnd.Unkept → T.may_fail }
     ensures goes { Became (λ p p'. (unread : Unread) → (next to_server_of unread).answer ≡ Ok (Some first.now)
         → frames.old ≡ (next to_server_of unread).after
         → Leads (stand (known_of p) (L.left link.old) (L.written link.old) (L.faults link.old) unread false)
@@ -79,10 +81,10 @@ fn place_among(documents: &[[u8; 16]], document: &[u8; 16]) -> Option<usize>
 
 // A session over a link. Its first message names its document, for good, and a first message that names none ends it. A
 // hand has a pass for each document.
-fn serve_one<R: Wait, L: Link, G: Gate>(
+fn serve_one<R: Wait, L: Link, G: Gate, T: Tail>(
     rt: &R,
     alloc: Global,
-    turns: &[Turn<Desk>],
+    turns: &[Turn<Desk<T>>],
     documents: &[[u8; 16]],
     gate: &G,
     link: &mut L,
@@ -92,6 +94,7 @@ fn serve_one<R: Wait, L: Link, G: Gate>(
     requires documents { length documents.now ≡ length turns.now }
     ensures locks { HavePasses turns.now hand.new }
     ensures session { Sits L.left L.written L.faults L.is_shut documents.now (visit link.old link.new result) hand.old hand.new }
+    ensures unkept { result ≡ SessionEnd.Unkept → T.may_fail }
     ensures shut { IsTrueIfTold (L.is_shut link.new) }
 {
     let mut frames = Frames::new(alloc);
@@ -121,10 +124,10 @@ fn serve_one<R: Wait, L: Link, G: Gate>(
 }
 
 // The same with a hand.
-pub(crate) fn serve_hand<R: Wait, L: Link, G: Gate>(
+pub(crate) fn serve_hand<R: Wait, L: Link, G: Gate, T: Tail>(
     rt: &R,
     alloc: Global,
-    turns: &[Turn<Desk>],
+    turns: &[Turn<Desk<T>>],
     documents: &[[u8; 16]],
     gate: &G,
     link: &mut L,
@@ -134,6 +137,7 @@ pub(crate) fn serve_hand<R: Wait, L: Link, G: Gate>(
     requires documents { length documents.now ≡ length turns.now }
     ensures locks { HavePasses turns.now hand.new.passes.items }
     ensures session { Sits L.left L.written L.faults L.is_shut documents.now (visit link.old link.new result) hand.old.passes.items hand.new.passes.items }
+    ensures unkept { result ≡ SessionEnd.Unkept → T.may_fail }
     ensures shut { IsTrueIfTold (L.is_shut link.new) }
 {
     serve_one(rt, alloc, turns, documents, gate, link, &mut hand.passes)

@@ -2,3 +2,4 @@ pub mod Batches
 pub mod OrderModel
 pub mod Replies
 pub mod Sessions
+pub mod Tails

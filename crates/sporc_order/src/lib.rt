@@ -10,11 +10,13 @@
 //! order.submit_examined(&examined)?;        // answers as submit does
 //! order.pull(0)                             // the longest batch from the first entry on that its limits allow
 //! session.step(&mut order, &message)        // what is sent, nothing, or that the session ends
+//! session.reply_kept(.., &mut tail)         // the same, where a tail keeps each entry before the order takes it
 //! ```
 //!
 //! Proved: an entry is appended exactly if no check fails, whatever is known of its signature; an answer is the longest batch
-//! within its limits, empty exactly if there are no more entries; and each answer of a session is the order's at its
-//! entries. Only tested: that the calls succeed with ample memory. Neither: that a client gets an answer, and that a
+//! within its limits, empty exactly if there are no more entries; each answer of a session is the order's at its entries;
+//! and a tail that keeps an order's entries keeps those after each call, and what it does not keep is neither taken nor
+//! answered. Only tested: that the calls succeed with ample memory. Neither: that a client gets an answer, and that a
 //! signature whose verdict is known is not verified again.
 #![tactic(auto)]
 
@@ -22,9 +24,11 @@ pub mod laws;
 mod order;
 mod reply;
 mod session;
+mod tail;
 
 pub use order::{MAX_PULLED_BYTES, Order};
 pub use reply::Reply;
 pub use session::{Answer, Session};
 pub use sporc_base::Memory;
 pub use sporc_wire::MAX_PULLED;
+pub use tail::{NoTail, Tail, Unanswered, Unkept, Untaken};

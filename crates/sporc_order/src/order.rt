@@ -10,7 +10,9 @@ ghost use Rattle.sporc_head.specs.History.{roster_of};
 ghost use Rattle.sporc_wire.specs.declared.to_client.TheConstants.{MAX_PULLED};
 ghost use Rattle.sporc_order.specs.declared.order.TheConstants.{MAX_PULLED_BYTES};
 ghost use Rattle.sporc_order.specs.Batches.{batch_after, longest_batch};
+ghost use Rattle.sporc_order.specs.Tails.{TakesUnless};
 
+use crate::tail::{NoTail, Tail, Untaken};
 use sporc_base::Memory;
 use sporc_entry::Genesis;
 use sporc_head::{Examined, Heads, Refusal, Verdict};
@@ -112,11 +114,42 @@ impl Order {
         ensures ok { OnOk result (self.new.entries ≡ self.old.entries ++ entry.now ∷ []) }
         ensures unchanged { OnErr result (self.new.entries ≡ self.old.entries) }
     {
+        match self.submit_kept(entry, known, &mut NoTail) {
+            Ok(position) => Ok(position),
+            Err(Untaken::Refused(refusal)) => Err(refusal),
+            Err(Untaken::Unkept) => unreachable!(),
+        }
+    }
+
+    /// The same of an entry that a tail keeps first. If it does not, the order is unchanged.
+    pub fn submit_kept<T: Tail>(
+        &mut self,
+        entry: &[u8],
+        known: Option<&Verdict>,
+        tail: &mut T,
+    ) -> Result<u32, Untaken>
+        requires exact { IfSome known (λ v. IsExact v.now entry.now) }
+        ensures genesis { self.new.genesis ≡ self.old.genesis }
+        ensures fault { TakesUnless T.may_fail result (head_fault self.old.genesis None self.old.entries (length self.old.entries + 1) entry.now) }
+        ensures position { IfOk result (λ position. position ≡ length self.old.entries + 1) }
+        ensures ok { OnOk result (self.new.entries ≡ self.old.entries ++ entry.now ∷ []) }
+        ensures unchanged { OnErr result (self.new.entries ≡ self.old.entries) }
+        ensures kept { T.keeps tail.old self.old.entries → T.keeps tail.new self.new.entries }
+    {
         let position = self.heads.len() + 1;
-        let checked = self.heads.check_known(None, position, entry, known)?;
+        let checked = match self.heads.check_known(None, position, entry, known) {
+            Ok(checked) => checked,
+            Err(refusal) => return Err(Untaken::Refused(refusal)),
+        };
+        if self.heads.reserve().is_err() {
+            return Err(Untaken::Refused(Refusal::Memory));
+        }
+        if tail.put(position, entry).is_err() {
+            return Err(Untaken::Unkept);
+        }
         match self.heads.push(checked) {
             Ok(()) => Ok(position),
-            Err(_) => Err(Refusal::Memory),
+            Err(_) => unreachable!(),
         }
     }
 

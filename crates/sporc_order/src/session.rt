@@ -1,16 +1,18 @@
 //! Sessions of one client with an order.
 
-ghost use Rattle.std.specs.Prelude.{◌≡◌, ◌+◌, true, false, map, length, None, IfOk, IfSome, OnOk, OnErr};
+ghost use Rattle.std.specs.Prelude.{◌≡◌, ◌+◌, true, false, map, length, None, Ok, Err, IfOk, IfErr, IfSome, IsErr, OnOk, OnErr};
 ghost use Rattle.std.specs.Option.{option_copied};
 ghost use Rattle.sporc_wire.specs.declared.to_client.ToClient.{ToClient};
 ghost use Rattle.sporc_order.specs.Batches.{batch_after};
 ghost use Rattle.sporc_order.specs.Replies.{Says};
 ghost use Rattle.sporc_order.specs.Sessions.{step_of, greeted, submitted, entries_after, entry_in, IsExactFor};
+ghost use Rattle.sporc_order.specs.Tails.{IsUnanswered};
 ghost use Rattle.sporc_head.specs.Examined.{IsExact};
 ghost use Rattle.sporc_head.specs.HeadChecks.{head_fault};
 
 use crate::order::Order;
 use crate::reply::{Reply, reply_of};
+use crate::tail::{NoTail, Tail, Unanswered, Untaken};
 use sporc_base::{Bytes, Items, Memory, is_same};
 use sporc_head::{Refusal, Verdict};
 use sporc_wire::{FrameFault, ToClient, ToServer, write_entries};
@@ -66,23 +68,26 @@ impl Session {
         ensures memory { OnErr result (order.new ≡ order.old) }
         ensures unchanged { OnErr result (self.new ≡ self.old) }
     {
-        self.step_known(alloc, order, message, None)
+        answered(self.step_kept(alloc, order, message, None, &mut NoTail))
     }
 
-    // Answers a message as `step` does, where a verdict of its entry may be known.
-    fn step_known(
+    // Answers a message as `step` does, where a verdict of its entry may be known, and a tail keeps it first.
+    fn step_kept<T: Tail>(
         &mut self,
         alloc: Global,
         order: &mut Order,
         message: &ToServer,
         known: Option<&Verdict>,
-    ) -> Result<Answer, Memory>
+        tail: &mut T,
+    ) -> Result<Answer, Unanswered>
         requires exact { IfSome known (λ v. IsExactFor v.now message.now) }
         ensures answer { IfOk result (λ answer. answer ≡ (step_of order.old self.old message.now).answer) }
         ensures order { OnOk result (order.new ≡ (step_of order.old self.old message.now).order) }
         ensures greeted { OnOk result (self.new ≡ (step_of order.old self.old message.now).is_greeted) }
-        ensures memory { OnErr result (order.new ≡ order.old) }
+        ensures unanswered { IfErr result (IsUnanswered T.may_fail) }
+        ensures err { OnErr result (order.new ≡ order.old) }
         ensures unchanged { OnErr result (self.new ≡ self.old) }
+        ensures kept { T.keeps tail.old order.old.entries → T.keeps tail.new order.new.entries }
     {
         match message {
             ToServer::Hello { document, .. } => Ok(self.greet(order, document)),
@@ -90,13 +95,13 @@ impl Session {
                 if !self.is_greeted {
                     return Ok(Answer::Close);
                 }
-                submit(order, entry.as_slice(), known)
+                submit(order, entry.as_slice(), known, tail)
             }
             ToServer::Pull { from } => {
                 if !self.is_greeted {
                     return Ok(Answer::Close);
                 }
-                pull(alloc, order, *from)
+                Ok(pull(alloc, order, *from)?)
             }
         }
     }
@@ -132,15 +137,36 @@ impl Session {
         ensures memory { OnErr result (order.new ≡ order.old) }
         ensures unchanged { OnErr result (self.new ≡ self.old) }
     {
+        answered(self.reply_kept(alloc, order, message, known, &mut NoTail))
+    }
+
+    /// Answers a message as [`Session::reply_known`] does, where a tail keeps its entry before the order takes it.
+    pub fn reply_kept<T: Tail>(
+        &mut self,
+        alloc: Global,
+        order: &mut Order,
+        message: &ToServer,
+        known: Option<&Verdict>,
+        tail: &mut T,
+    ) -> Result<Reply, Unanswered>
+        requires exact { IfSome known (λ v. IsExactFor v.now message.now) }
+        ensures reply { IfOk result (Says (step_of order.old self.old message.now).answer) }
+        ensures order { OnOk result (order.new ≡ (step_of order.old self.old message.now).order) }
+        ensures greeted { OnOk result (self.new ≡ (step_of order.old self.old message.now).is_greeted) }
+        ensures unanswered { IfErr result (IsUnanswered T.may_fail) }
+        ensures err { OnErr result (order.new ≡ order.old) }
+        ensures unchanged { OnErr result (self.new ≡ self.old) }
+        ensures kept { T.keeps tail.old order.old.entries → T.keeps tail.new order.new.entries }
+    {
         match message {
             ToServer::Pull { from } => {
                 if !self.is_greeted {
                     return Ok(Reply::Close);
                 }
-                pull_framed(alloc, order, *from)
+                Ok(pull_framed(alloc, order, *from)?)
             }
             ToServer::Hello { .. } | ToServer::Submit { .. } => {
-                let answer = self.step_known(alloc, order, message, known)?;
+                let answer = self.step_kept(alloc, order, message, known, tail)?;
                 Ok(reply_of(answer))
             }
         }
@@ -171,19 +197,40 @@ impl Session {
     }
 }
 
-// Answers a Submit of an entry of which a verdict may be known.
-fn submit(order: &mut Order, entry: &[u8], known: Option<&Verdict>) -> Result<Answer, Memory>
+// What is answered where every entry is kept.
+fn answered<A>(answer: Result<A, Unanswered>) -> Result<A, Memory>
+    requires { IfErr answer (IsUnanswered ⊥) }
+    ensures ok { IfOk answer (λ a. result ≡ Ok a) }
+    ensures err { OnErr answer (IsErr result) }
+{
+    match answer {
+        Ok(answer) => Ok(answer),
+        Err(Unanswered::Memory) => Err(AllocError),
+        Err(Unanswered::Unkept) => unreachable!(),
+    }
+}
+
+// Answers a Submit of an entry of which a verdict may be known, and which a tail keeps first.
+fn submit<T: Tail>(
+    order: &mut Order,
+    entry: &[u8],
+    known: Option<&Verdict>,
+    tail: &mut T,
+) -> Result<Answer, Unanswered>
     requires exact { IfSome known (λ v. IsExact v.now entry.now) }
     ensures answer { IfOk result (λ answer. answer ≡ (submitted order.old entry.now
         (head_fault order.old.genesis None order.old.entries (length order.old.entries + 1) entry.now)).answer) }
     ensures order { OnOk result (order.new ≡ (submitted order.old entry.now
         (head_fault order.old.genesis None order.old.entries (length order.old.entries + 1) entry.now)).order) }
-    ensures memory { OnErr result (order.new ≡ order.old) }
+    ensures unanswered { IfErr result (IsUnanswered T.may_fail) }
+    ensures err { OnErr result (order.new ≡ order.old) }
+    ensures kept { T.keeps tail.old order.old.entries → T.keeps tail.new order.new.entries }
 {
-    match order.submit_known(entry, known) {
+    match order.submit_kept(entry, known, tail) {
         Ok(pos) => Ok(Answer::Send(ToClient::Ordered { pos })),
-        Err(Refusal::Memory) => Err(AllocError),
-        Err(refusal) => Ok(Answer::Send(ToClient::Rejected { refusal })),
+        Err(Untaken::Refused(Refusal::Memory)) => Err(Unanswered::Memory),
+        Err(Untaken::Refused(refusal)) => Ok(Answer::Send(ToClient::Rejected { refusal })),
+        Err(Untaken::Unkept) => Err(Unanswered::Unkept),
     }
 }
 

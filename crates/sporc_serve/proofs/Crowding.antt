@@ -1,5 +1,5 @@
 -- Sessions beside one another.
-use Rattle.std.proofs.Common.{◌≡◌, ℕ, max, Bool, false, suc, ◌≤◌, List, [], ◌∷◌, ◌++◌, Option, Some, None, Result, Ok, Err, refl, ap, sym, subst, ◌∙◌, append_assoc, append-nil, arith, inl, inr, ⊎_elim}
+use Rattle.std.proofs.Common.{◌≡◌, ◌≢◌, ℕ, max, Bool, false, suc, ◌≤◌, List, [], ◌∷◌, ◌++◌, Option, Some, None, Result, Ok, Err, refl, ap, sym, subst, ◌∙◌, append_assoc, append-nil, arith, inl, inr, ⊎_elim}
 use Rattle.sporc_outside.specs.Counts.{Rose}
 use Rattle.sporc_outside.specs.Told.{AppendsItem, TakesItem, IsFalseIfTold}
 use Rattle.sporc_entry.specs.declared.genesis.Genesis.{Genesis}
@@ -9,14 +9,14 @@ use Rattle.sporc_turn.specs.Log.{StartsWith, Agrees}
 use Rattle.sporc_turn.specs.Knowing.{splitting, copied, joined_with}
 use Rattle.sporc_wire.specs.Messages.{stream_of}
 use Rattle.sporc_serve.specs.declared.end.SessionEnd.{SessionEnd}
-use Rattle.sporc_serve.specs.declared.end.SessionEnd.TheVariants.{Closed, LinkEnded, LinkFault, BadFrame, Worn, Memory}
+use Rattle.sporc_serve.specs.declared.end.SessionEnd.TheVariants.{Closed, LinkEnded, LinkFault, BadFrame, Worn, Memory, Unkept}
 use Rattle.sporc_serve.specs.declared.fault.ServeFault.{ServeFault}
 use Rattle.sporc_serve.specs.declared.fault.ServeFault.TheVariants as faults
 use Rattle.sporc_serve.specs.declared.item.Item.{Item}
 use Rattle.sporc_serve.specs.Logs.{by_of, IsLogOf, OfDocument}
 use Rattle.sporc_serve.specs.Courses.{ServerStand, stand, IsEnd}
 use Rattle.sporc_serve.specs.Turns.{HasReadLast}
-use Rattle.sporc_serve.specs.Visits.{Visit, visit, Shuts, IsServedSession, came, went, AreFrom, AreBehind, TellsOf, with_end}
+use Rattle.sporc_serve.specs.Visits.{Visit, visit, Shuts, IsServedSession, came, went, AreFrom, AreBehind, NoneUnkept, TellsOf, with_end}
 use Rattle.sporc_serve.specs.Crowds.{Net, IsCrowd}
 use Rattle.sporc_serve.proofs.Going.{rose_before}
 
@@ -28,6 +28,7 @@ IsLastTicket LinkEnded = Unit {0}
 IsLastTicket LinkFault = Unit {0}
 IsLastTicket BadFrame = Unit {0}
 IsLastTicket Memory = Unit {0}
+IsLastTicket Unkept = Unit {0}
 
 pub last_ticket : (g : Genesis) (a b : ServerStand) (end : SessionEnd) → IsEnd g a b end → IsLastTicket end
 last_ticket g a b (Worn ticket) h = h.2.3
@@ -36,12 +37,36 @@ last_ticket g a b LinkEnded h = tt
 last_ticket g a b LinkFault h = tt
 last_ticket g a b BadFrame h = tt
 last_ticket g a b Memory h = tt
+last_ticket g a b Unkept h = tt
+
+-- what was told of the rest
+rest_told : (end : SessionEnd) (rest : Result (Unit {0}) ServeFault) → with_end rest end ≢ Err faults.Unkept → end ≢ Unkept → rest ≢ Err faults.Unkept
+rest_told end (Err faults.Unkept) told other is = told refl
+rest_told end (Err faults.ListenFault) told other is = absurd cc
+rest_told end (Err (faults.Worn t)) told other is = absurd cc
+rest_told end (Err faults.Memory) told other is = absurd cc
+rest_told end (Ok done) told other is = absurd cc
 
 module _ {L : Type 0} where
   pub tells_more : (n f0 f1 f2 : ℕ) (b a : L) (end : SessionEnd) (vs : List (Visit L)) (rest : Result (Unit {0}) ServeFault) → f0 ≤ f1 → TellsOf n f1 f2 vs rest
       → IsLastTicket end → TellsOf (suc n) f0 f2 (record { before = b; after = a; end = end } ∷ vs) (with_end rest end)
-  tells_more n f0 f1 f2 b a end vs (Err faults.ListenFault) le h last = rose_before f0 f1 f2 le h
-  tells_more n f0 f1 f2 b a end vs (Err (faults.Worn t)) le h last = (h.0, inr h.1)
+  tells_more n f0 f1 f2 b a end vs (Err faults.Unkept) le h last = inr h
+  tells_more n f0 f1 f2 b a Unkept vs (Err faults.ListenFault) le h last = inl refl
+  tells_more n f0 f1 f2 b a Closed vs (Err faults.ListenFault) le h last = rose_before f0 f1 f2 le h
+  tells_more n f0 f1 f2 b a LinkEnded vs (Err faults.ListenFault) le h last = rose_before f0 f1 f2 le h
+  tells_more n f0 f1 f2 b a LinkFault vs (Err faults.ListenFault) le h last = rose_before f0 f1 f2 le h
+  tells_more n f0 f1 f2 b a BadFrame vs (Err faults.ListenFault) le h last = rose_before f0 f1 f2 le h
+  tells_more n f0 f1 f2 b a (Worn t) vs (Err faults.ListenFault) le h last = rose_before f0 f1 f2 le h
+  tells_more n f0 f1 f2 b a Memory vs (Err faults.ListenFault) le h last = rose_before f0 f1 f2 le h
+  tells_more n f0 f1 f2 b a Unkept vs (Err (faults.Worn t)) le h last = inl refl
+  tells_more n f0 f1 f2 b a Closed vs (Err (faults.Worn t)) le h last = (h.0, inr h.1)
+  tells_more n f0 f1 f2 b a LinkEnded vs (Err (faults.Worn t)) le h last = (h.0, inr h.1)
+  tells_more n f0 f1 f2 b a LinkFault vs (Err (faults.Worn t)) le h last = (h.0, inr h.1)
+  tells_more n f0 f1 f2 b a BadFrame vs (Err (faults.Worn t)) le h last = (h.0, inr h.1)
+  tells_more n f0 f1 f2 b a (Worn u) vs (Err (faults.Worn t)) le h last = (h.0, inr h.1)
+  tells_more n f0 f1 f2 b a Memory vs (Err (faults.Worn t)) le h last = (h.0, inr h.1)
+  tells_more n f0 f1 f2 b a Unkept vs (Err faults.Memory) le h last = inl refl
+  tells_more n f0 f1 f2 b a Unkept vs (Ok done) le h last = inl refl
   tells_more n f0 f1 f2 b a (Worn t) vs (Err faults.Memory) le h last = (last, inl refl)
   tells_more n f0 f1 f2 b a Closed vs (Err faults.Memory) le h last = tt
   tells_more n f0 f1 f2 b a LinkEnded vs (Err faults.Memory) le h last = tt
@@ -54,6 +79,21 @@ module _ {L : Type 0} where
   tells_more n f0 f1 f2 b a LinkEnded vs (Ok done) le h last = (ap suc h.0, ((λ w. elim w [ inl e ↦ absurd cc | inr e ↦ absurd cc ]), h.1))
   tells_more n f0 f1 f2 b a LinkFault vs (Ok done) le h last = (ap suc h.0, ((λ w. elim w [ inl e ↦ absurd cc | inr e ↦ absurd cc ]), h.1))
   tells_more n f0 f1 f2 b a BadFrame vs (Ok done) le h last = (ap suc h.0, ((λ w. elim w [ inl e ↦ absurd cc | inr e ↦ absurd cc ]), h.1))
+
+  -- where none is told to be unkept, none was
+  pub kept_more : (b a : L) (end : SessionEnd) (vs : List (Visit L)) (rest : Result (Unit {0}) ServeFault) → (rest ≢ Err faults.Unkept → NoneUnkept vs)
+      → with_end rest end ≢ Err faults.Unkept → NoneUnkept (record { before = b; after = a; end = end } ∷ vs)
+  kept_more b a Unkept vs (Err faults.Unkept) h told = absurd (told refl)
+  kept_more b a Unkept vs (Err faults.ListenFault) h told = absurd (told refl)
+  kept_more b a Unkept vs (Err (faults.Worn t)) h told = absurd (told refl)
+  kept_more b a Unkept vs (Err faults.Memory) h told = absurd (told refl)
+  kept_more b a Unkept vs (Ok done) h told = absurd (told refl)
+  kept_more b a Closed vs rest h told = ((λ e. absurd cc), h (rest_told Closed rest told (λ e. absurd cc)))
+  kept_more b a LinkEnded vs rest h told = ((λ e. absurd cc), h (rest_told LinkEnded rest told (λ e. absurd cc)))
+  kept_more b a LinkFault vs rest h told = ((λ e. absurd cc), h (rest_told LinkFault rest told (λ e. absurd cc)))
+  kept_more b a BadFrame vs rest h told = ((λ e. absurd cc), h (rest_told BadFrame rest told (λ e. absurd cc)))
+  kept_more b a (Worn t) vs rest h told = ((λ e. absurd cc), h (rest_told (Worn t) rest told (λ e. absurd cc)))
+  kept_more b a Memory vs rest h told = ((λ e. absurd cc), h (rest_told Memory rest told (λ e. absurd cc)))
 
   pub from_more : (old mid new : Option (List L)) (l : L) (ls : List L) → TakesItem old mid l → AreFrom mid new ls → AreFrom old new (l ∷ ls)
   from_more None mid new l ls first more = tt
@@ -79,7 +119,7 @@ module _ {L : Type 0} where
     -- no session
     pub crowd_none : (k : Known Item) (read : ℕ) (old : Net L) (n : ℕ) → n ≡ 0 → IsCrowd left written faults' is_shut g k k read old old n (Ok tt)
     crowd_none k read old n none =
-        ([], record { visits_are = refl; came_open = tt; coming = from_none old.coming; returned = behind_none old.returned; result_is = (sym none, tt); worn = λ ticket h. absurd h })
+        ([], record { visits_are = refl; came_open = tt; coming = from_none old.coming; returned = behind_none old.returned; result_is = (sym none, tt); worn = λ ticket h. absurd h; kept = λ told. tt })
 
     -- no link came
     pub crowd_failed : (k : Known Item) (read : ℕ) (old new : Net L) (n : ℕ) → new.coming ≡ old.coming → new.returned ≡ old.returned → Rose old.faults new.faults
@@ -93,6 +133,7 @@ module _ {L : Type 0} where
         returned = subst (λ (c : Option (List L)). AreBehind old.returned c []) (sym returned) (behind_none old.returned);
         result_is = rose;
         worn = λ ticket h. absurd h;
+        kept = λ told. tt;
       },
     )
 
@@ -111,6 +152,7 @@ module _ {L : Type 0} where
             returned = behind_more old.returned mid.returned new.returned a [] first back;
             result_is = tt;
             worn = λ ticket h. absurd (⊎_elim (λ e. absurd cc) (λ e. e) h);
+            kept = λ told. ((λ e. absurd cc), tt);
           },
         )
 
@@ -138,6 +180,7 @@ module _ {L : Type 0} where
                 (tells_more n old.faults mid.faults low.faults b a end vs result le c.result_is (last_ticket g (stand (copied k) (left b) (written b) (faults' b) (stream_of []) false)
                 (stand last (left session.0) (written session.0) (faults' session.0) (stream_of []) false) end session.1.ends));
             worn = λ ticket h. ⊎_elim (λ e. (let w = subst (HasReadLast r2) e here in omega (arith, w, both))) (λ later. (let w = c.worn ticket later in omega (arith, w, both))) h;
+            kept = kept_more b a end vs result c.kept;
           },
         )
 

@@ -13,7 +13,7 @@ use Rattle.sporc_wire.specs.ToServer.{to_server_of}
 use Rattle.sporc_order.specs.declared.session.Answer.{Answer}
 use Rattle.sporc_order.specs.declared.session.Answer.TheVariants.{Close}
 use Rattle.sporc_serve.specs.declared.end.SessionEnd.{SessionEnd}
-use Rattle.sporc_serve.specs.declared.end.SessionEnd.TheVariants.{Closed, LinkEnded, LinkFault, BadFrame, Worn, Memory}
+use Rattle.sporc_serve.specs.declared.end.SessionEnd.TheVariants.{Closed, LinkEnded, LinkFault, BadFrame, Worn, Memory, Unkept}
 use Rattle.sporc_serve.specs.declared.item.Item.{Item}
 use Rattle.sporc_serve.specs.Sending.{bytes_of, sent_of}
 use Rattle.sporc_serve.specs.Turns.{IsAnswered, TakesTurn}
@@ -108,6 +108,7 @@ module _ (g : Genesis) (a b : ServerStand) (bytes : List ℕ) (xs : List Exchang
       )
   goes_no_further d written Closed h same more = absurd h
   goes_no_further d written (Worn ticket) h same more = absurd h
+  goes_no_further d written Unkept h same more = absurd h
 
   -- a turn without an answer
   pub goes_unanswered : (m : ToServer) (known : Known Item) (s : Bool) (end : SessionEnd) (unread : Unread)
@@ -116,6 +117,8 @@ module _ (g : Genesis) (a b : ServerStand) (bytes : List ℕ) (xs : List Exchang
       (b.unread, b.greeted, (bytes, xs, course_unanswered g a b bytes xs known s h.0 c h.1, h.2))
   goes_unanswered m known s Memory unread h =
       (b.unread, b.greeted, (bytes, xs, inl (course_unanswered g a b bytes xs known s h.0 c h.1)))
+  goes_unanswered m known s Unkept unread h =
+      (b.unread, b.greeted, (bytes, xs, course_unanswered g a b bytes xs known s h.0 c h.1))
   goes_unanswered m known s Closed unread h = absurd h.2
   goes_unanswered m known s LinkEnded unread h = absurd h.2
   goes_unanswered m known s LinkFault unread h = absurd h.2
@@ -189,6 +192,7 @@ module _ (g : Genesis) (a b : ServerStand) (bytes : List ℕ) (xs : List Exchang
     goes_cut LinkEnded e = absurd e
     goes_cut BadFrame e = absurd e
     goes_cut (Worn ticket) e = absurd e
+    goes_cut Unkept e = absurd e
 
     -- whatever became of the answer
     pub sent_goes : (left : Option (List ℕ)) (e : Option SessionEnd) → left ≡ b.left → IfNone e (Appends b.written written (bytes_of answer))

@@ -130,6 +130,7 @@ tells_before n x y z vs (Ok done) le h = h
 tells_before n x y z vs (Err faults'.ListenFault) le h = rose_before x y z le h
 tells_before n x y z vs (Err (faults'.Worn ticket)) le h = h
 tells_before n x y z vs (Err faults'.Memory) le h = h
+tells_before n x y z vs (Err faults'.Unkept) le h = h
 
 module _ {L : Type 0} (left written : L → Option (List ℕ)) (faults : L → ℕ) (is_shut : L → Option Bool) (o : OrderModel) where
   -- no session began
@@ -152,6 +153,7 @@ module _ {L : Type 0} (left written : L → Option (List ℕ)) (faults : L → �
       returned = subst (λ (c : Option (List L)). AreBehind old.returned c []) (sym returned) (behind_none old.returned);
       result_is = tells;
       worn = λ ticket h. absurd h;
+      kept = λ told. tt;
     },
   )
 
@@ -192,6 +194,7 @@ module _ {L : Type 0} (left written : L → Option (List ℕ)) (faults : L → �
             coming = subst (λ (x : Option (List L)). AreFrom x new.coming (came vs)) coming c.coming;
             returned = subst (λ (x : Option (List L)). AreBehind x new.returned (went vs)) returned c.returned;
             result_is = tells_before n old.faults mid.faults new.faults vs result le c.result_is;
+            kept = c.kept;
             worn = λ ticket w. (let t = worn (c.worn ticket w) in (t.0, ap (λ (x : Known Item). x.seen) (sym t.1), t.2));
           },
         )

@@ -1,5 +1,5 @@
 -- A step of a session: a message that is answered, or a piece more of its stream.
-use Rattle.std.proofs.Common.{◌≡◌, ◌≢◌, ◌∙◌, ℕ, ◌≤◌, Bool, false, List, [], Option, Some, None, Result, Ok, Err, IfOk, OnErr, IfNone, IfSome, MatchOption, IsOkUnless, refl, sym, subst}
+use Rattle.std.proofs.Common.{◌≡◌, ◌≢◌, ◌∙◌, ℕ, ◌≤◌, Bool, false, List, [], Option, Some, None, Result, Ok, Err, IfOk, IfErr, IfNone, IfSome, MatchOption, IsOkUnless, refl, sym, subst}
 use Rattle.std.specs.Io.KnownBytes.{Consumes, Appends}
 use Rattle.std.proofs.KnownBytes.{Consumes-nil}
 use Rattle.sporc_entry.specs.declared.genesis.Genesis.{Genesis}
@@ -15,13 +15,14 @@ use Rattle.sporc_order.specs.declared.session.Answer.TheVariants as answers
 use Rattle.sporc_order.specs.declared.reply.Reply.{Reply}
 use Rattle.sporc_order.specs.declared.reply.Reply.TheVariants.{Message, Frame, Silent, Close}
 use Rattle.sporc_order.specs.Replies.{Says}
+use Rattle.sporc_order.specs.declared.tail.Unanswered.{Unanswered}
 use Rattle.sporc_order.specs.Sessions.{IsFramed}
 use Rattle.sporc_serve.specs.declared.end.SessionEnd.{SessionEnd}
-use Rattle.sporc_serve.specs.declared.end.SessionEnd.TheVariants.{Closed, LinkEnded, LinkFault, BadFrame, Worn, Memory}
+use Rattle.sporc_serve.specs.declared.end.SessionEnd.TheVariants.{Closed, LinkEnded, LinkFault, BadFrame, Worn, Memory, Unkept}
 use Rattle.sporc_serve.specs.declared.item.Item.{Item}
 use Rattle.sporc_serve.specs.Logs.{IsLogOf, OfDocument}
 use Rattle.sporc_serve.specs.Sending.{bytes_of, CanBeSent}
-use Rattle.sporc_serve.specs.Turns.{HasReadLast, TakesTurn}
+use Rattle.sporc_serve.specs.Turns.{HasReadLast, TakesTurn, end_of}
 use Rattle.sporc_serve.specs.Endings.{IsSendEnd, Inlet, inlet, TakesMessage, IsNextEnd, IsNext}
 use Rattle.sporc_serve.specs.Courses.{ServerStand, stand, GoesOn, Carries, Leads}
 use Rattle.sporc_serve.specs.Visits.{visit, Shuts, IsServedSession}
@@ -33,8 +34,8 @@ use Rattle.sporc_serve.proofs.Going.{next_waits, kept, goes_fed, goes_no_further
 -- ---- one turn
 
 -- what a turn answers can be sent
-pub turn_sendable : {E : Type 0} (r : Result Reply E) (result : Result Reply SessionEnd) → IfOk r CanBeSent → IfOk r (λ a. result ≡ Ok a)
-    → OnErr r (result ≡ Err Memory) → IfOk result CanBeSent
+pub turn_sendable : (r : Result Reply Unanswered) (result : Result Reply SessionEnd) → IfOk r CanBeSent → IfOk r (λ a. result ≡ Ok a)
+    → IfErr r (λ why. result ≡ Err (end_of why)) → IfOk result CanBeSent
 turn_sendable (Ok a) result sendable ok err = subst (λ (x : Result Reply SessionEnd). IfOk x CanBeSent) (sym ok) sendable
 turn_sendable (Err e) result sendable ok err = subst (λ (x : Result Reply SessionEnd). IfOk x CanBeSent) (sym err) tt
 
@@ -48,6 +49,7 @@ next_unworn a b LinkEnded read h = tt
 next_unworn a b LinkFault read h = tt
 next_unworn a b BadFrame read h = tt
 next_unworn a b Memory read h = tt
+next_unworn a b Unkept read h = absurd h
 
 pub found_unworn : (a b : Inlet) (r : Result (Option ToServer) SessionEnd) (end : SessionEnd) (read : ℕ) → r ≡ Err end → IsNext a b r → HasReadLast read end
 found_unworn a b r end read is found = next_unworn a b end read (subst (λ (x : Result (Option ToServer) SessionEnd). IsNext a b x) is found)

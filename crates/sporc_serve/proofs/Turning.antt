@@ -1,5 +1,5 @@
 -- One turn of a session.
-use Rattle.std.proofs.Common.{◌≡◌, ℕ, Bool, List, [], ◌∷◌, ◌++◌, length, drop, Result, Ok, Err, OnOk, OnErr, IfOk, refl, ap, sym, subst, ◌∙◌, append-nil, All}
+use Rattle.std.proofs.Common.{◌≡◌, ℕ, Bool, List, [], ◌∷◌, ◌++◌, length, drop, Result, Ok, Err, OnOk, OnErr, IfOk, IfErr, refl, ap, sym, subst, ◌∙◌, append-nil, All}
 use Rattle.std.proofs.lemmas.List.{drop_at}
 use Rattle.std.proofs.lemmas.List.Elements.{All-nil, All-cons}
 use Rattle.sporc_entry.specs.declared.genesis.Genesis.{Genesis}
@@ -8,6 +8,8 @@ use Rattle.sporc_order.specs.OrderModel.{OrderModel}
 use Rattle.sporc_order.specs.Sessions.{step_of}
 use Rattle.sporc_order.specs.declared.reply.Reply.{Reply}
 use Rattle.sporc_order.specs.Replies.{Says}
+use Rattle.sporc_order.specs.declared.tail.Unanswered.{Unanswered}
+use Rattle.sporc_order.specs.declared.tail.Unanswered.TheVariants as unanswered
 use Rattle.sporc_turn.specs.declared.known.Known.{Known}
 use Rattle.sporc_turn.specs.declared.limits.TheConstants.{MAX_TICKETS}
 use Rattle.sporc_turn.specs.declared.kept.Kept.{Ghosts}
@@ -16,11 +18,11 @@ use Rattle.sporc_turn.specs.Passes.{known_held, IsSameTurn}
 use Rattle.sporc_turn.specs.Log.{StartsWith, Agrees, Extends}
 use Rattle.sporc_turn.specs.Knowing.{adding, seeing}
 use Rattle.sporc_serve.specs.declared.end.SessionEnd.{SessionEnd}
-use Rattle.sporc_serve.specs.declared.end.SessionEnd.TheVariants.{Worn, Memory}
+use Rattle.sporc_serve.specs.declared.end.SessionEnd.TheVariants.{Worn}
 use Rattle.sporc_serve.specs.declared.item.Item.{Item}
 use Rattle.sporc_serve.specs.declared.item.Item.TheVariants.{Placed}
 use Rattle.sporc_serve.specs.Logs.{by_of, log_of, order_at, placed_by, added_of, if_answered, IsLogOf}
-use Rattle.sporc_serve.specs.Turns.{SeesAndAdds, TakesTurn}
+use Rattle.sporc_serve.specs.Turns.{IsTurnEnd, SeesAndAdds, TakesTurn, end_of}
 use Rattle.sporc_serve.proofs.Logs.{order_is}
 
 pub starts_log : (g : Genesis) (log seen : List Item) → StartsWith log seen → IsLogOf g seen → IsLogOf g log
@@ -65,9 +67,13 @@ turn_answers g k k' s s' m r o ns log seen agrees same says greeted more is =
     )
 
 pub turn_unanswered : (g : Genesis) (k k' : Known Item) (s s' : Bool) (m : ToServer) (found log : List Item)
-    → Agrees by_of k found → s' ≡ s → log ≡ found → k' ≡ adding (seeing k found) log → TakesTurn g k k' s s' m (Err Memory)
-turn_unanswered g k k' s s' m found log agrees same more is =
-    (found, record { greeted_is = same; adds = adds_items k k' found log [] agrees.begins (more ∙ sym (append-nil found)) is }, tt)
+    (why : Unanswered) → Agrees by_of k found → s' ≡ s → log ≡ found → k' ≡ adding (seeing k found) log → TakesTurn g k k' s s' m (Err (end_of why))
+turn_unanswered g k k' s s' m found log why agrees same more is =
+    (found, record { greeted_is = same; adds = adds_items k k' found log [] agrees.begins (more ∙ sym (append-nil found)) is }, ends why)
+  where
+    ends : (why : Unanswered) → IsTurnEnd (end_of why)
+    ends unanswered.Memory = tt
+    ends unanswered.Unkept = tt
 
 -- no turn was taken
 pub adds_none : (k k' : Known Item) → k' ≡ k → SeesAndAdds k k' k.seen []
@@ -91,18 +97,18 @@ extends_after k kh found log n es held is more =
     (extends_placed k found log es (more ∙ ap (λ (m : ℕ). found ++ placed_by m es) is))
 
 -- a turn, with or without an answer
-pub turn_done : (g : Genesis) (k kh k' : Known Item) (s s' : Bool) (m : ToServer) (o : OrderModel) (ns : List ℕ) (log : List Item) (n : ℕ) {E : Type 0}
-    (r : Result Reply E) (result : Result Reply SessionEnd) → IsLogOf g k.seen → Agrees by_of k (log_of o ns) → length ns ≡ length o.entries
+pub turn_done : (g : Genesis) (k kh k' : Known Item) (s s' : Bool) (m : ToServer) (o : OrderModel) (ns : List ℕ) (log : List Item) (n : ℕ)
+    (r : Result Reply Unanswered) (result : Result Reply SessionEnd) → IsLogOf g k.seen → Agrees by_of k (log_of o ns) → length ns ≡ length o.entries
     → n ≡ k.number → IfOk r (Says (step_of o s m).answer) → OnOk r (s' ≡ (step_of o s m).is_greeted) → OnErr r (s' ≡ s)
     → log ≡ log_of o ns ++ placed_by n (if_answered r (added_of o s m)) → kh ≡ seeing k (log_of o ns) → k' ≡ adding kh log
-    → IfOk r (λ a. result ≡ Ok a) → OnErr r (result ≡ Err Memory) → TakesTurn g k k' s s' m result
+    → IfOk r (λ a. result ≡ Ok a) → IfErr r (λ why. result ≡ Err (end_of why)) → TakesTurn g k k' s s' m result
 turn_done g k kh k' s s' m o ns log n (Ok a) result seen agrees same number says greeted kept more held is ok err =
     subst (λ (x : Result Reply SessionEnd). TakesTurn g k k' s s' m x) (sym ok)
     (turn_answers g k k' s s' m a o ns log seen agrees same says greeted
     (more ∙ ap (λ (x : ℕ). log_of o ns ++ placed_by x (added_of o s m)) number) (is ∙ ap (λ (x : Known Item). adding x log) held))
 turn_done g k kh k' s s' m o ns log n (Err e) result seen agrees same number says greeted kept more held is ok err =
     subst (λ (x : Result Reply SessionEnd). TakesTurn g k k' s s' m x) (sym err)
-    (turn_unanswered g k k' s s' m (log_of o ns) log agrees kept (more ∙ append-nil (log_of o ns)) (is ∙ ap (λ (x : Known Item). adding x log) held))
+    (turn_unanswered g k k' s s' m (log_of o ns) log e agrees kept (more ∙ append-nil (log_of o ns)) (is ∙ ap (λ (x : Known Item). adding x log) held))
 
 -- what is known of a pass in the same turn
 pub held_is : {S E : Type 0} {gs : Ghosts S E} {k : Known E} (h h' : Held S E gs) → IsSameTurn h h' → known_held h ≡ k → known_held h' ≡ k

@@ -14,7 +14,7 @@ use Rattle.sporc_order.specs.declared.session.Answer.{Answer}
 use Rattle.sporc_order.specs.declared.session.Answer.TheVariants.{Close}
 use Rattle.sporc_order.specs.Sessions.{Step, step_of}
 use Rattle.sporc_serve.specs.declared.end.SessionEnd.{SessionEnd}
-use Rattle.sporc_serve.specs.declared.end.SessionEnd.TheVariants.{Closed, LinkEnded, LinkFault, BadFrame, Worn, Memory}
+use Rattle.sporc_serve.specs.declared.end.SessionEnd.TheVariants.{Closed, LinkEnded, LinkFault, BadFrame, Worn, Memory, Unkept}
 use Rattle.sporc_serve.specs.declared.item.Item.{Item}
 use Rattle.sporc_serve.specs.Logs.{order_at, added_of, placed_by, IsLogOf}
 use Rattle.sporc_serve.specs.Sending.{bytes_of, sent_of}
@@ -111,6 +111,7 @@ module _ (genesis : Genesis) where
       × ((next to_server_of b.unread).answer ≡ Err fault)
   EndsAs a b (Worn ticket) = (bytes : List ℕ) × (xs : List Exchange) × ServerCourse a b bytes xs × (ticket ≡ MAX_TICKETS)
   EndsAs a b Memory = (bytes : List ℕ) × (xs : List Exchange) × (ServerCourse a b bytes xs ⊎ IsCut a b bytes xs)
+  EndsAs a b Unkept = (bytes : List ℕ) × (xs : List Exchange) × ServerCourse a b bytes xs
 
 -- a stand of these
 abbrev pub stand : Known Item → Option (List ℕ) → Option (List ℕ) → ℕ → Unread → Bool → ServerStand

@@ -1,15 +1,17 @@
 -- Sessions that a server runs beside one another, for inner contracts.
-use Rattle.std.specs.Prelude.{◌≡◌, ◌≢◌, ◌+◌, ◌<◌, ◌≤◌, ◌^◌, ℕ, Bool, List, Option, Some, None, Result}
+use Rattle.std.specs.Prelude.{◌≡◌, ◌≢◌, ◌+◌, ◌<◌, ◌≤◌, ◌^◌, ℕ, Bool, List, Option, Some, None, Result, Err}
 use Rattle.sporc_turn.specs.declared.known.Known.{Known}
 use Rattle.sporc_turn.specs.declared.pass.Pass.{Pass}
 use Rattle.sporc_turn.specs.declared.turn.Turn.{Turn}
 use Rattle.sporc_turn.specs.declared.limits.TheConstants.{MAX_TICKETS}
 use Rattle.sporc_turn.specs.Passes.{known_of, IsPassOf}
 use Rattle.sporc_entry.specs.declared.genesis.Genesis.{Genesis}
+use Rattle.sporc_order.specs.declared.tail.Tail.{Ghosts}
 use Rattle.sporc_serve.specs.declared.desk.Desk.{Desk}
 use Rattle.sporc_serve.specs.declared.fault.ServeFault.{ServeFault}
+use Rattle.sporc_serve.specs.declared.fault.ServeFault.TheVariants.{Unkept}
 use Rattle.sporc_serve.specs.declared.item.Item.{Item}
-use Rattle.sporc_serve.specs.Visits.{Visit, Visits, CameOpen, came, went, AreFrom, AreBehind, SomeWorn, TellsOf}
+use Rattle.sporc_serve.specs.Visits.{Visit, Visits, CameOpen, came, went, AreFrom, AreBehind, SomeWorn, NoneUnkept, TellsOf}
 
 -- what a net tells of the links that are to come and of those that came back, and its count of faults
 pub record Net (L : Type 0) : Type 0 where
@@ -29,6 +31,7 @@ pub record Crowd {L : Type 0} (left written : L → Option (List ℕ)) (faults :
   pub returned : AreBehind old.returned new.returned (went visits)
   pub result_is : TellsOf sessions old.faults new.faults visits result
   pub worn : (ticket : ℕ) → SomeWorn ticket visits → MAX_TICKETS ≤ read
+  pub kept : result ≢ Err Unkept → NoneUnkept visits
 
 abbrev pub IsCrowd : {L : Type 0} → (L → Option (List ℕ)) → (L → Option (List ℕ)) → (L → ℕ) → (L → Option Bool) → Genesis → Known Item → Known Item
     → ℕ → Net L → Net L → ℕ → Result (Unit {0}) ServeFault → Type 0
@@ -36,11 +39,11 @@ IsCrowd {L} left written faults is_shut genesis before after read old new sessio
     (visits : List (Visit L)) × Crowd left written faults is_shut genesis before after read old new sessions result visits
 
 -- a pass of this lock with number 0, which has room for so many splits
-abbrev pub IsFirst : Turn Desk Item → Option (Pass Item) → ℕ → Type 0
+abbrev pub IsFirst : {T : Type 0} {tail : Ghosts T} → Turn (Desk T tail) Item → Option (Pass Item) → ℕ → Type 0
 IsFirst turn None sessions = ⊥
 IsFirst turn (Some p) sessions = IsPassOf turn p × ((known_of p).number ≡ 0) × ((known_of p).splits + sessions < 2 ^ 32)
 
 -- a pass of this lock with another number
-abbrev pub IsOther : Turn Desk Item → Option (Pass Item) → Type 0
+abbrev pub IsOther : {T : Type 0} {tail : Ghosts T} → Turn (Desk T tail) Item → Option (Pass Item) → Type 0
 IsOther turn None = ⊥
 IsOther turn (Some p) = IsPassOf turn p × ((known_of p).number ≢ 0)

@@ -10,7 +10,7 @@ use Rattle.sporc_wire.specs.ToServer.{to_server_of}
 use Rattle.sporc_order.specs.declared.session.Answer.{Answer}
 use Rattle.sporc_order.specs.declared.session.Answer.TheVariants.{Close}
 use Rattle.sporc_serve.specs.declared.end.SessionEnd.{SessionEnd}
-use Rattle.sporc_serve.specs.declared.end.SessionEnd.TheVariants.{Closed, LinkEnded, LinkFault, BadFrame, Worn, Memory}
+use Rattle.sporc_serve.specs.declared.end.SessionEnd.TheVariants.{Closed, LinkEnded, LinkFault, BadFrame, Worn, Memory, Unkept}
 use Rattle.sporc_serve.specs.Sending.{bytes_of}
 
 -- why no answer is to follow, where a link was given these bytes and its count went from `before` to `after`
@@ -21,6 +21,7 @@ IsSendEnd answer written written' before after Memory = Appends written written'
 IsSendEnd answer written written' before after LinkEnded = ⊥
 IsSendEnd answer written written' before after BadFrame = ⊥
 IsSendEnd answer written written' before after (Worn ticket) = ⊥
+IsSendEnd answer written written' before after Unkept = ⊥
 
 -- a link that has this left, its count of faults, and the bytes of it that are no message yet
 pub record Inlet : Type 0 where
@@ -44,6 +45,7 @@ IsNextEnd a b BadFrame = Consumes a.left b.left [] × (fault : FrameFault) × ((
 IsNextEnd a b Memory = (piece : List ℕ) × Consumes a.left b.left piece
 IsNextEnd a b Closed = ⊥
 IsNextEnd a b (Worn ticket) = ⊥
+IsNextEnd a b Unkept = ⊥
 
 -- the next message was taken
 pub record TakesMessage (a b : Inlet) (message : ToServer) : Type 0 where

@@ -1,5 +1,5 @@
 -- What a server did, whole.
-use Rattle.std.specs.Prelude.{◌≡◌, ◌⊎◌, ◌+◌, ◌≤◌, ◌<◌, ℕ, Bool, List, [], ◌∷◌, length, drop, replicate, Option, Result}
+use Rattle.std.specs.Prelude.{◌≡◌, ◌≢◌, ◌⊎◌, ◌+◌, ◌≤◌, ◌<◌, ℕ, Bool, List, [], ◌∷◌, length, drop, replicate, Option, Result, Err}
 use Rattle.std.specs.List.{All}
 use Rattle.sporc_turn.specs.declared.known.Known.{Known}
 use Rattle.sporc_turn.specs.declared.pass.Pass.{Pass}
@@ -10,7 +10,8 @@ use Rattle.sporc_order.specs.OrderModel.{OrderModel}
 use Rattle.sporc_serve.specs.declared.item.Item.{Item}
 use Rattle.sporc_serve.specs.Logs.{by_of, log_of, order_at}
 use Rattle.sporc_serve.specs.declared.fault.ServeFault.{ServeFault}
-use Rattle.sporc_serve.specs.Visits.{Visit, IsServedSession, IsUnserved, CameOpen, came, went, AreFrom, AreBehind, SomeWorn, TellsOf}
+use Rattle.sporc_serve.specs.declared.fault.ServeFault.TheVariants.{Unkept}
+use Rattle.sporc_serve.specs.Visits.{Visit, IsServedSession, IsUnserved, CameOpen, came, went, AreFrom, AreBehind, SomeWorn, NoneUnkept, TellsOf}
 use Rattle.sporc_serve.specs.Crowds.{Net}
 
 -- the log of an order that is handed in
@@ -60,6 +61,7 @@ pub record ServesAt {L : Type 0} (left written : L → Option (List ℕ)) (fault
   pub returned : AreBehind old.returned new.returned (went visits)
   pub result_is : TellsOf sessions old.faults new.faults visits result
   pub worn : (ticket : ℕ) → SomeWorn ticket visits → IsWornAt log
+  pub kept : result ≢ Err Unkept → NoneUnkept visits
 
 abbrev pub IsServed : {L : Type 0} → (L → Option (List ℕ)) → (L → Option (List ℕ)) → (L → ℕ) → (L → Option Bool) → OrderModel → OrderModel
     → Net L → Net L → ℕ → Result (Unit {0}) ServeFault → Type 0

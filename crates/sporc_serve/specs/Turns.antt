@@ -8,9 +8,11 @@ use Rattle.sporc_wire.specs.declared.to_server.ToServer.{ToServer}
 use Rattle.sporc_order.specs.declared.session.Answer.{Answer}
 use Rattle.sporc_order.specs.declared.reply.Reply.{Reply}
 use Rattle.sporc_order.specs.Replies.{Says}
+use Rattle.sporc_order.specs.declared.tail.Unanswered.{Unanswered}
+use Rattle.sporc_order.specs.declared.tail.Unanswered.TheVariants as unanswered
 use Rattle.sporc_order.specs.Sessions.{step_of}
 use Rattle.sporc_serve.specs.declared.end.SessionEnd.{SessionEnd}
-use Rattle.sporc_serve.specs.declared.end.SessionEnd.TheVariants.{Closed, LinkEnded, LinkFault, BadFrame, Worn, Memory}
+use Rattle.sporc_serve.specs.declared.end.SessionEnd.TheVariants.{Closed, LinkEnded, LinkFault, BadFrame, Worn, Memory, Unkept}
 use Rattle.sporc_serve.specs.declared.item.Item.{Item}
 use Rattle.sporc_serve.specs.Logs.{order_at, added_of, placed_by}
 
@@ -34,6 +36,11 @@ pub record IsUnanswered (before after : Known Item) (greeted greeted' : Bool) (f
   pub greeted_is : greeted' ≡ greeted
   pub adds : SeesAndAdds before after found []
 
+-- how a session ends whose message is not answered
+abbrev pub end_of : Unanswered → SessionEnd
+end_of unanswered.Memory = Memory
+end_of unanswered.Unkept = Unkept
+
 -- why a turn has no answer
 abbrev pub IsTurnEnd : SessionEnd → Type 0
 IsTurnEnd Closed = ⊥
@@ -42,6 +49,7 @@ IsTurnEnd LinkFault = ⊥
 IsTurnEnd BadFrame = ⊥
 IsTurnEnd (Worn ticket) = ticket ≡ MAX_TICKETS
 IsTurnEnd Memory = Unit {0}
+IsTurnEnd Unkept = Unit {0}
 
 -- a session that ended for want of a ticket has read that every ticket was drawn, where its pass read this as the next one
 abbrev pub HasReadLast : ℕ → SessionEnd → Type 0
@@ -51,6 +59,7 @@ HasReadLast read LinkEnded = Unit {0}
 HasReadLast read LinkFault = Unit {0}
 HasReadLast read BadFrame = Unit {0}
 HasReadLast read Memory = Unit {0}
+HasReadLast read Unkept = Unit {0}
 
 -- a turn that was taken to look at the log, or was not taken, and changed nothing
 abbrev pub Looks : {A : Type 0} → Known Item → Known Item → Result A SessionEnd → Type 0

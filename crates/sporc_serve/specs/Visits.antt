@@ -1,5 +1,5 @@
 -- The sessions of a server, and what they did to the log together.
-use Rattle.std.specs.Prelude.{◌≡◌, ◌⊎◌, ℕ, Bool, false, List, [], ◌∷◌, ◌++◌, length, Option, Some, None, Result, Ok, Err}
+use Rattle.std.specs.Prelude.{◌≡◌, ◌≢◌, ◌⊎◌, ℕ, Bool, false, List, [], ◌∷◌, ◌++◌, length, Option, Some, None, Result, Ok, Err}
 use Rattle.sporc_outside.specs.Counts.{Rose}
 use Rattle.sporc_outside.specs.Told.{IsTrueIfTold, IsFalseIfTold}
 use Rattle.sporc_turn.specs.declared.known.Known.{Known}
@@ -9,7 +9,7 @@ use Rattle.sporc_turn.specs.Knowing.{splitting, copied, joined_with}
 use Rattle.sporc_entry.specs.declared.genesis.Genesis.{Genesis}
 use Rattle.sporc_wire.specs.Messages.{stream_of}
 use Rattle.sporc_serve.specs.declared.end.SessionEnd.{SessionEnd}
-use Rattle.sporc_serve.specs.declared.end.SessionEnd.TheVariants.{Worn, Memory}
+use Rattle.sporc_serve.specs.declared.end.SessionEnd.TheVariants.{Worn, Memory, Unkept}
 use Rattle.sporc_serve.specs.declared.fault.ServeFault.{ServeFault}
 use Rattle.sporc_serve.specs.declared.fault.ServeFault.TheVariants as faults
 use Rattle.sporc_serve.specs.declared.item.Item.{Item}
@@ -100,19 +100,36 @@ module _ {L : Type 0} where
   SomeWorn ticket [] = ⊥
   SomeWorn ticket (v ∷ vs) = (v.end ≡ Worn ticket) ⊎ SomeWorn ticket vs
 
+  -- a session ended since its entry was not kept
+  abbrev pub SomeUnkept : List (Visit L) → Type 0
+  SomeUnkept [] = ⊥
+  SomeUnkept (v ∷ vs) = (v.end ≡ Unkept) ⊎ SomeUnkept vs
+
+  -- none of them did
+  abbrev pub NoneUnkept : List (Visit L) → Type 0
+  NoneUnkept [] = Unit {0}
+  NoneUnkept (v ∷ vs) = (v.end ≢ Unkept) × NoneUnkept vs
+
   -- what is answered of these sessions, of so many, where the net's count went from `before` to `after`
   abbrev pub TellsOf : ℕ → ℕ → ℕ → List (Visit L) → Result (Unit {0}) ServeFault → Type 0
   TellsOf sessions before after visits (Ok done) = (length visits ≡ sessions) × NoneWants visits
   TellsOf sessions before after visits (Err faults.ListenFault) = Rose before after
   TellsOf sessions before after visits (Err (faults.Worn ticket)) = (ticket ≡ MAX_TICKETS) × SomeWorn ticket visits
   TellsOf sessions before after visits (Err faults.Memory) = Unit {0}
+  TellsOf sessions before after visits (Err faults.Unkept) = SomeUnkept visits
 
--- what is answered once one session more has ended: a fault of the net goes before a ticket's, and that before running out of memory
+-- what is answered once one session more has ended: that an entry was not kept goes before a fault of the net, that before a ticket's,
+-- and that before running out of memory
 abbrev pub with_end : Result (Unit {0}) ServeFault → SessionEnd → Result (Unit {0}) ServeFault
+with_end (Err faults.Unkept) end = Err faults.Unkept
+with_end (Err faults.ListenFault) Unkept = Err faults.Unkept
 with_end (Err faults.ListenFault) end = Err faults.ListenFault
+with_end (Err (faults.Worn ticket)) Unkept = Err faults.Unkept
 with_end (Err (faults.Worn ticket)) end = Err (faults.Worn ticket)
+with_end (Err faults.Memory) Unkept = Err faults.Unkept
 with_end (Err faults.Memory) (Worn ticket) = Err (faults.Worn ticket)
 with_end (Err faults.Memory) end = Err faults.Memory
+with_end (Ok done) Unkept = Err faults.Unkept
 with_end (Ok done) (Worn ticket) = Err (faults.Worn ticket)
 with_end (Ok done) Memory = Err faults.Memory
 with_end (Ok done) end = Ok done

@@ -1,6 +1,6 @@
 //! The sessions of a server, each in a thread of its own where one can be made.
 
-ghost use Rattle.std.specs.Prelude.{◌≡◌, ◌≢◌, ◌+◌, ◌-◌, ◌^◌, ◌<◌, ◌≤◌, max, IfSome};
+ghost use Rattle.std.specs.Prelude.{◌≡◌, ◌≢◌, ◌+◌, ◌-◌, ◌^◌, ◌<◌, ◌≤◌, Err, max, IfSome};
 ghost use Rattle.std.specs.Thread.{IsSync, IsSend};
 ghost use Rattle.sporc_outside.specs.Told.{AreShutBehind, IsTrueIfTold};
 ghost use Rattle.sporc_turn.specs.Knowing.{joined_with};
@@ -16,14 +16,15 @@ use crate::end::SessionEnd;
 use crate::fault::ServeFault;
 use crate::item::Item;
 use crate::session::serve_link;
+use sporc_order::Tail;
 use sporc_outside::{Gate, Link, Listen};
 use sporc_turn::{Pass, Turn};
 use std::alloc::Global;
 use std::sync::Wait;
 use std::thread::{Threads, join_mut};
 
-/// What a server answers, once a session more has ended: a fault of the net goes before a ticket's, and that before running out
-/// of memory.
+/// What a server answers, once a session more has ended: a fault of the tail goes before one of the net, that before a ticket's,
+/// and that before running out of memory.
 pub fn with_end(rest: Result<(), ServeFault>, end: SessionEnd) -> Result<(), ServeFault>
     ensures { result ≡ with_end rest end }
 {
@@ -33,6 +34,7 @@ pub fn with_end(rest: Result<(), ServeFault>, end: SessionEnd) -> Result<(), Ser
             Ok(()) => Err(ServeFault::Memory),
             Err(fault) => Err(fault),
         },
+        SessionEnd::Unkept => Err(ServeFault::Unkept),
         SessionEnd::Closed | SessionEnd::LinkEnded | SessionEnd::LinkFault | SessionEnd::BadFrame =>
             rest,
     }
@@ -45,14 +47,14 @@ fn with_worn(rest: Result<(), ServeFault>, ticket: u64) -> Result<(), ServeFault
         Ok(()) => Err(ServeFault::Worn(ticket)),
         Err(fault) => match fault {
             ServeFault::Memory => Err(ServeFault::Worn(ticket)),
-            ServeFault::ListenFault | ServeFault::Worn(_) => Err(fault),
+            ServeFault::ListenFault | ServeFault::Worn(_) | ServeFault::Unkept => Err(fault),
         },
     }
 }
 
 // Joins a session that has ended to the rest: what the server answers, and number 0's pass, which keeps the items of both.
-fn joined(
-    turn: &Turn<Desk>,
+fn joined<T: Tail>(
+    turn: &Turn<Desk<T>>,
     rest: (Result<(), ServeFault>, Pass<Item>),
     session: (SessionEnd, Pass<Item>),
 ) -> (Result<(), ServeFault>, Pass<Item>)
@@ -71,17 +73,20 @@ fn joined(
     (with_end(answer, end), turn.join(first, second))
 }
 
-// Takes so many links, and serves each with a pass that is split from number 0 and joined back.
-pub(crate) fn crowd<R: Threads + Wait + Sync, N: Listen, G: Gate + Sync>(
+// Takes so many links, and serves each with a pass that is split from number 0 and joined back. The session of a link runs in
+// this thread, and a new one takes the links behind it; where none can be made, this one takes them after its session. So no
+// thread's stack has more than one session, but in that case.
+pub(crate) fn crowd<R: Threads + Wait + Sync, N: Listen, G: Gate + Sync, T: Tail + Send>(
     rt: &R,
     alloc: Global,
     net: &mut N,
-    turn: &Turn<Desk>,
+    turn: &Turn<Desk<T>>,
     gate: &G,
     first: Pass<Item>,
     sessions: u32,
 ) -> (Result<(), ServeFault>, Pass<Item>)
 where
+    N: Send,
     N::Link: Send,
     requires lock { IsPassOf turn.now first }
     requires first { (known_of first).number ≡ 0 }
@@ -95,6 +100,7 @@ where
     ensures asked { N.asked net.new ≡ N.asked net.old }
     ensures links_out { N.out net.new ≡ N.out net.old }
     ensures kept { N.faults net.old ≤ N.faults net.new }
+    ensures unkept { result.0 ≡ Err ServeFault.Unkept → T.may_fail }
 {
     if sessions == 0 {
         return (Ok(()), first);
@@ -113,24 +119,25 @@ where
     let others = sessions - 1;
     let mut first = Some(first);
     let mut second = Some(second);
-    let (session, rest) = join_mut(
+    let (rest, session) = join_mut(
         rt,
-        &mut || -> (SessionEnd, Pass<Item>)
-            requires { IsSync R.row × IsSync G.row × IsOther turn.now second }
-            ensures { IfSome second.entry (λ p. IsPassOf turn.entry.now result.1 × ((known_of result.1).number ≡ (known_of p).number)
-                × OfDocument (known_of p).seen
-                (λ genesis. IsServedSession N.Link.left N.Link.written N.Link.faults N.Link.is_shut genesis (known_of p) (known_of result.1) (visit link.entry link.exit result.0))
-                × IsTrueIfTold (N.Link.is_shut link.exit) × HasReadLast (read_of result.1) result.0) }
-        { serve_link(rt, alloc, turn, gate, &mut link, second.take().unwrap()) },
         &mut || -> (Result<(), ServeFault>, Pass<Item>)
-            requires { IsSync R.row × IsSync G.row × IsSend N.Link.row × IsFirst turn.now first others }
+            requires { IsSync R.row × IsSync G.row × IsSend N.row × IsSend N.Link.row × IsSend T.row × IsFirst turn.now first others }
             ensures { IfSome first.entry (λ p. IsPassOf turn.entry.now result.1 × ((known_of result.1).number ≡ 0)
                 × OfDocument (known_of p).seen
                 (λ genesis. IsCrowd N.Link.left N.Link.written N.Link.faults N.Link.is_shut genesis (known_of p) (known_of result.1) (read_of result.1)
                 (net_of (N.coming net.entry.now) (N.returned net.entry.now) (N.faults net.entry.now)) (net_of (N.coming net.exit.now) (N.returned net.exit.now) (N.faults net.exit.now)) others result.0)
                 × AreShutBehind N.Link.is_shut (N.returned net.entry.now) (N.returned net.exit.now) × (N.asked net.exit.now ≡ N.asked net.entry.now)
-                × (N.out net.exit.now ≡ N.out net.entry.now) × (N.faults net.entry.now ≤ N.faults net.exit.now)) }
+                × (N.out net.exit.now ≡ N.out net.entry.now) × (N.faults net.entry.now ≤ N.faults net.exit.now)
+                × (result.0 ≡ Err ServeFault.Unkept → T.may_fail)) }
         { crowd(rt, alloc, net, turn, gate, first.take().unwrap(), others) },
+        &mut || -> (SessionEnd, Pass<Item>)
+            requires { IsSync R.row × IsSync G.row × IsSend T.row × IsOther turn.now second }
+            ensures { IfSome second.entry (λ p. IsPassOf turn.entry.now result.1 × ((known_of result.1).number ≡ (known_of p).number)
+                × OfDocument (known_of p).seen
+                (λ genesis. IsServedSession N.Link.left N.Link.written N.Link.faults N.Link.is_shut genesis (known_of p) (known_of result.1) (visit link.entry link.exit result.0))
+                × IsTrueIfTold (N.Link.is_shut link.exit) × HasReadLast (read_of result.1) result.0 × (result.0 ≡ SessionEnd.Unkept → T.may_fail)) }
+        { serve_link(rt, alloc, turn, gate, &mut link, second.take().unwrap()) },
     );
     net.take_back(link);
     joined(turn, rest, session)

@@ -5,23 +5,26 @@ ghost use Rattle.sporc_head.specs.Examined.{key_for};
 ghost use Rattle.sporc_head.specs.History.{roster_of};
 ghost use Rattle.sporc_order.specs.Replies.{Says};
 ghost use Rattle.sporc_order.specs.Sessions.{step_of, IsExactFor, IsFramed};
+ghost use Rattle.sporc_order.specs.Tails.{IsUnanswered};
 ghost use Rattle.sporc_serve.specs.Logs.{log_of, added_of, placed_by};
 ghost use Rattle.sporc_serve.specs.Sending.{CanBeSent};
 
 use crate::item::Item;
-use sporc_base::Memory;
 use sporc_head::Verdict;
-use sporc_order::{Order, Reply, Session};
+use sporc_order::{Order, Reply, Session, Tail, Unanswered};
 use sporc_turn::Kept;
 use sporc_wire::ToServer;
-use std::alloc::{AllocError, Global};
+use std::alloc::Global;
 
-/// An order, and the number of the pass that submitted each entry.
+/// An order, the number of the pass that submitted each entry, and what keeps each entry before the order takes it: at each
+/// moment at which nobody has a turn, it keeps all of the order's.
 #[derive(Drop)]
-pub struct Desk {
+pub struct Desk<T: Tail> {
     order: Order,
     numbers: Vec<u32>,
+    tail: T,
     ghost matched: { length numbers.items ≡ length order.entries },
+    ghost kept: { ∥ T.keeps tail order.entries ∥₁ },
 }
 
 // What the examination of an entry asks of the order: the key of its author, if there is one, and the position that the
@@ -32,7 +35,7 @@ pub(crate) struct Sought {
     pub(crate) position: u32,
 }
 
-impl Kept for Desk {
+impl<T: Tail> Kept for Desk<T> {
     type Item = Item;
 
     ghost use Rattle.sporc_serve.specs.Logs.{by_of, log_of};
@@ -47,16 +50,21 @@ impl Kept for Desk {
     }
 }
 
-impl Desk {
+impl<T: Tail> Desk<T> {
     // The order, whose entries have number 0.
-    pub(crate) fn new(alloc: Global, order: Order) -> Result<Desk, (Order, Memory)>
+    pub(crate) fn new(alloc: Global, order: Order, tail: T) -> Result<Desk<T>, (Order, T)>
+        requires kept { ∥ T.keeps tail order.entries ∥₁ }
         ensures order { IfOk result (λ desk. desk.order ≡ order) }
         ensures numbers { IfOk result (λ desk. desk.numbers.items ≡ replicate (length order.entries) 0) }
-        ensures err { IfErr result (λ e. e.0 ≡ order) }
+        ensures err { IfErr result (λ e. (e.0 ≡ order) × (e.1 ≡ tail)) }
     {
         match vec![in alloc; 0; order.len() as usize] {
-            Ok(numbers) => Ok(Desk { order, numbers }),
-            Err(_) => Err((order, AllocError)),
+            Ok(numbers) => Ok(Desk {
+                order,
+                numbers,
+                tail,
+            }),
+            Err(_) => Err((order, tail)),
         }
     }
 
@@ -71,7 +79,8 @@ impl Desk {
         }
     }
 
-    // Answers a message of the session that has the pass with this number, where a verdict of its entry may be known.
+    // Answers a message of the session that has the pass with this number, where a verdict of its entry may be known. The tail
+    // keeps the entry before the order takes it.
     pub(crate) fn step(
         &mut self,
         alloc: Global,
@@ -79,7 +88,7 @@ impl Desk {
         session: &mut Session,
         message: &ToServer,
         known: Option<&Verdict>,
-    ) -> Result<Reply, Memory>
+    ) -> Result<Reply, Unanswered>
         requires exact { IfSome known (λ v. IsExactFor v.now message.now) }
         ensures sendable { IsFramed message.now → IfOk result CanBeSent }
         ensures reply { IfOk result (Says (step_of self.old.order session.old message.now).answer) }
@@ -87,21 +96,24 @@ impl Desk {
         ensures log { OnOk result (log_of self.new.order self.new.numbers.items ≡ log_of self.old.order self.old.numbers.items
             ++ placed_by number (added_of self.old.order session.old message.now)) }
         ensures unchanged { OnErr result (session.new ≡ session.old) }
-        ensures memory { OnErr result (log_of self.new.order self.new.numbers.items ≡ log_of self.old.order self.old.numbers.items) }
+        ensures unanswered { IfErr result (IsUnanswered T.may_fail) }
+        ensures err { OnErr result (log_of self.new.order self.new.numbers.items ≡ log_of self.old.order self.old.numbers.items) }
     {
         self.numbers.reserve(1)?;
         let before = self.order.len();
-        let reply = session.reply_known(alloc, &mut self.order, message, known)?;
+        let reply = session.reply_kept(alloc, &mut self.order, message, known, &mut self.tail)?;
         if self.order.len() > before {
             self.numbers.push_reserved(number);
         }
         Ok(reply)
     }
 
-    // The order.
-    pub(crate) fn into_order(self) -> Order
-        ensures { result ≡ self.order }
+    // The order, and what keeps its entries.
+    pub(crate) fn into_parts(self) -> (Order, T)
+        ensures order { result.0 ≡ self.order }
+        ensures tail { result.1 ≡ self.tail }
+        ensures kept { ∥ T.keeps result.1 result.0.entries ∥₁ }
     {
-        self.order
+        (self.order, self.tail)
     }
 }

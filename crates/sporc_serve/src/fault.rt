@@ -15,6 +15,9 @@ pub enum ServeFault {
     /// Memory ran out, of the server or in a session.
     #[error("out of memory")]
     Memory,
+    /// The tail did not keep an entry.
+    #[error("an entry is not kept")]
+    Unkept,
 }
 
 impl From<AllocError> for ServeFault {

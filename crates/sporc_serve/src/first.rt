@@ -1,6 +1,6 @@
 //! The first message of a session.
 
-ghost use Rattle.std.specs.Prelude.{◌≡◌, ◌≤◌, []};
+ghost use Rattle.std.specs.Prelude.{◌≡◌, ◌≢◌, ◌≤◌, [], Err};
 ghost use Rattle.sporc_wire.specs.Messages.{stream_of};
 ghost use Rattle.sporc_serve.specs.Endings.{inlet, IsFirst};
 
@@ -21,6 +21,7 @@ pub fn first_message<R: Wait, L: Link>(
     ensures written { L.written link.new ≡ L.written link.old }
     ensures as_shut { L.is_shut link.new ≡ L.is_shut link.old }
     ensures kept { L.faults link.old ≤ L.faults link.new }
+    ensures unkept { result ≢ Err SessionEnd.Unkept }
 {
     for _ in rt.forever() {
         let found = match next_message(link, frames) {

@@ -10,41 +10,47 @@ ghost use Rattle.sporc_serve.specs.Served.{log_at_first};
 
 use crate::desk::Desk;
 use crate::item::Item;
-use sporc_base::Memory;
-use sporc_order::Order;
+use sporc_order::{Order, Tail};
 use sporc_turn::{Away, Pass, Turn};
 use std::alloc::Global;
 
-/// The lock round an order, with the pass of number 0.
-pub fn open_desk(alloc: Global, order: Order) -> Result<(Turn<Desk>, Pass<Item>), (Order, Memory)>
+/// The lock round an order and the tail that keeps its entries, with the pass of number 0. It fails if memory runs out.
+pub fn open_kept<T: Tail>(
+    alloc: Global,
+    order: Order,
+    tail: T,
+) -> Result<(Turn<Desk<T>>, Pass<Item>), (Order, T)>
+    requires kept { ∥ T.keeps tail order.entries ∥₁ }
     ensures lock { IfOk result (λ t. IsPassOf t.0 t.1) }
     ensures first { IfOk result (λ t. known_of t.1 ≡ first_known (log_at_first order)) }
     ensures returned { IfErr result (λ e. e.0 ≡ order) }
+    ensures still_kept { IfErr result (λ e. ∥ T.keeps e.1 e.0.entries ∥₁) }
 {
-    let desk = match Desk::new(alloc, order) {
+    let desk = match Desk::new(alloc, order, tail) {
         Ok(desk) => desk,
         Err(refused) => return Err(refused),
     };
     match Turn::open(alloc, desk) {
         Ok(both) => Ok(both),
-        Err((desk, memory)) => Err((desk.into_order(), memory)),
+        Err((desk, _)) => Err(desk.into_parts()),
     }
 }
 
-/// The order under a lock, if each pass that was split was joined back: that of all that number 0 has seen.
-pub fn close_desk(
-    turn: Turn<Desk>,
+/// The order under a lock, and its tail, if each pass that was split was joined back: that of all that number 0 has seen.
+pub fn close_kept<T: Tail>(
+    turn: Turn<Desk<T>>,
     first: Pass<Item>,
-) -> Result<Order, (Turn<Desk>, Pass<Item>, Away)>
+) -> Result<(Order, T), (Turn<Desk<T>>, Pass<Item>, Away)>
     requires lock { IsPassOf turn first }
     requires first { (known_of first).number ≡ 0 }
     ensures all { OnOk result (out_of first ≡ 0) }
-    ensures order { IfOk result (λ order. (genesis : Genesis) → IsLogOf genesis (known_of first).seen → order ≡ order_at genesis (known_of first).seen) }
+    ensures order { IfOk result (λ both. (genesis : Genesis) → IsLogOf genesis (known_of first).seen → both.0 ≡ order_at genesis (known_of first).seen) }
+    ensures kept { IfOk result (λ both. ∥ T.keeps both.1 both.0.entries ∥₁) }
     ensures agrees { OnOk result (Agrees by_of (known_of first) (known_of first).seen) }
     ensures away { IfErr result (λ e. (e.2.out ≡ out_of first) × (e.2.out ≢ 0)) }
 {
     match turn.close(first) {
-        Ok(desk) => Ok(desk.into_order()),
+        Ok(desk) => Ok(desk.into_parts()),
         Err(out) => Err(out),
     }
 }

@@ -1,6 +1,6 @@
 //! Answering a message, in a turn or two.
 
-ghost use Rattle.std.specs.Prelude.{◌≡◌, IfOk, IfErr, IfSome};
+ghost use Rattle.std.specs.Prelude.{◌≡◌, Err, IfOk, IfErr, IfSome};
 ghost use Rattle.sporc_head.specs.Examined.{IsExact};
 ghost use Rattle.sporc_order.specs.Sessions.{IsFramed};
 ghost use Rattle.sporc_turn.specs.Passes.{known_of, read_of, IsPassOf};
@@ -13,7 +13,7 @@ use crate::end::SessionEnd;
 use crate::item::Item;
 use crate::turns::{take_look, take_turn};
 use sporc_head::Verdict;
-use sporc_order::{Reply, Session};
+use sporc_order::{Reply, Session, Tail};
 use sporc_outside::Gate;
 use sporc_turn::{Pass, Turn};
 use sporc_wire::ToServer;
@@ -22,10 +22,10 @@ use std::sync::Wait;
 
 // Answers a message in a turn. The signature of a submitted entry is examined before it, while no turn is held: under the
 // key that a turn before looked up.
-pub(crate) fn reply_to<R: Wait, G: Gate>(
+pub(crate) fn reply_to<R: Wait, G: Gate, T: Tail>(
     rt: &R,
     alloc: Global,
-    turn: &Turn<Desk>,
+    turn: &Turn<Desk<T>>,
     gate: &G,
     pass: Pass<Item>,
     session: &mut Session,
@@ -39,6 +39,7 @@ pub(crate) fn reply_to<R: Wait, G: Gate>(
     ensures worn { IfErr result.0 (HasReadLast (read_of result.1)) }
     ensures turn { OfDocument (known_of pass).seen
         (λ genesis. TakesTurn genesis (known_of pass) (known_of result.1) session.old session.new message.now result.0) }
+    ensures unkept { result.0 ≡ Err SessionEnd.Unkept → T.may_fail }
 {
     let Some(entry) = session.entry_in(message) else {
         return take_turn(rt, alloc, turn, pass, session, message, None);

@@ -1,6 +1,6 @@
 //! Sending an answer.
 
-ghost use Rattle.std.specs.Prelude.{◌≡◌, ◌≤◌, ℕ, Some, IfNone, IfSome};
+ghost use Rattle.std.specs.Prelude.{◌≡◌, ◌≢◌, ◌≤◌, ℕ, Some, IfNone, IfSome};
 ghost use Rattle.std.specs.Io.KnownBytes.{Appends};
 ghost use Rattle.sporc_outside.specs.Counts.{Rose};
 ghost use Rattle.sporc_outside.specs.Writing.{AppendsLess};
@@ -32,6 +32,7 @@ pub(crate) fn send<R: Wait, L: Link, G: Gate>(
     ensures some { (answer : Answer) → Says answer reply.now
         → IfSome result (IsSendEnd answer (L.written link.old) (L.written link.new) (L.faults link.old) (L.faults link.new)) }
     ensures worn { (read : ℕ) → IfSome result (HasReadLast read) }
+    ensures unkept { result ≢ Some SessionEnd.Unkept }
     ensures close { reply.now ≡ Reply.Close → result ≡ Some SessionEnd.Closed }
     ensures left { L.left link.new ≡ L.left link.old }
     ensures as_shut { L.is_shut link.new ≡ L.is_shut link.old }

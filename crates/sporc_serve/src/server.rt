@@ -8,8 +8,8 @@ ghost use Rattle.sporc_serve.specs.Served.{IsServed};
 
 use crate::crowd::crowd;
 use crate::fault::ServeFault;
-use crate::opening::{close_desk, open_desk};
-use sporc_order::Order;
+use crate::opening::{close_kept, open_kept};
+use sporc_order::{NoTail, Order, Tail};
 use sporc_outside::{Gate, Listen};
 use std::alloc::Global;
 use std::sync::Wait;
@@ -17,6 +17,9 @@ use std::thread::Threads;
 
 /// Listens at the address, takes so many links, and answers the messages of each from one order: a session each, in a
 /// thread of its own where one can be made. Each link is shut as its session ends, and handed back to the net.
+///
+/// Where no thread can be made, the session of the link that was taken last is served to its end before the next link is
+/// taken. A thread ends once those of all links behind its own have ended.
 ///
 /// A fault of a link or of its frames ends that session alone, and so does running out of memory in it.
 ///
@@ -33,6 +36,7 @@ pub fn serve<R: Threads + Wait + Sync, N: Listen, G: Gate + Sync>(
     gate: &G,
 ) -> (Order, Result<(), ServeFault>)
 where
+    N: Send,
     N::Link: Send,
     requires some { 1 ≤ sessions }
     requires limit { sessions ≤ MAX_SESSIONS }
@@ -43,17 +47,50 @@ where
     ensures shut { AreShutBehind N.Link.is_shut (N.returned net.old) (N.returned net.new) }
     ensures links_out { N.out net.new ≡ N.out net.old }
     ensures kept { N.faults net.old ≤ N.faults net.new }
+    ensures none_unkept { result.1 ≢ Err ServeFault.Unkept }
+{
+    let (order, _, answer) = serve_kept(rt, alloc, net, address, order, NoTail, sessions, gate);
+    (order, answer)
+}
+
+/// Serves as [`serve`] does, with a tail that keeps each entry before the order takes it, and so before it is answered or
+/// handed out. An entry that is not kept is not ordered, and its session ends.
+pub fn serve_kept<R: Threads + Wait + Sync, N: Listen, G: Gate + Sync, T: Tail + Send>(
+    rt: &R,
+    alloc: Global,
+    net: &mut N,
+    address: &str,
+    order: Order,
+    tail: T,
+    sessions: u32,
+    gate: &G,
+) -> (Order, T, Result<(), ServeFault>)
+where
+    N: Send,
+    N::Link: Send,
+    requires some { 1 ≤ sessions }
+    requires limit { sessions ≤ MAX_SESSIONS }
+    requires tail { ∥ T.keeps tail order.entries ∥₁ }
+    ensures served { IsServed N.Link.left N.Link.written N.Link.faults N.Link.is_shut order result.0
+        (net_of (N.coming net.old) (N.returned net.old) (N.faults net.old)) (net_of (N.coming net.new) (N.returned net.new) (N.faults net.new)) sessions result.2 }
+    ensures tail { ∥ T.keeps result.1 result.0.entries ∥₁ }
+    ensures unkept { result.2 ≡ Err ServeFault.Unkept → T.may_fail }
+    ensures asked { result.2 ≢ Err ServeFault.ListenFault → AppendsItem (N.asked net.old) (N.asked net.new) address.now }
+    ensures may_ask { MayAppend (N.asked net.old) (N.asked net.new) address.now }
+    ensures shut { AreShutBehind N.Link.is_shut (N.returned net.old) (N.returned net.new) }
+    ensures links_out { N.out net.new ≡ N.out net.old }
+    ensures kept { N.faults net.old ≤ N.faults net.new }
 {
     let Ok(()) = net.listen(address) else {
-        return (order, Err(ServeFault::ListenFault));
+        return (order, tail, Err(ServeFault::ListenFault));
     };
-    let (turn, first) = match open_desk(alloc, order) {
+    let (turn, first) = match open_kept(alloc, order, tail) {
         Ok(both) => both,
-        Err((order, _)) => return (order, Err(ServeFault::Memory)),
+        Err((order, tail)) => return (order, tail, Err(ServeFault::Memory)),
     };
     let (answer, first) = crowd(rt, alloc, net, &turn, gate, first, sessions);
-    match close_desk(turn, first) {
-        Ok(order) => (order, answer),
+    match close_kept(turn, first) {
+        Ok((order, tail)) => (order, tail, answer),
         Err(_) => unreachable!(),
     }
 }

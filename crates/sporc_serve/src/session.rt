@@ -17,7 +17,7 @@ use crate::end::SessionEnd;
 use crate::item::Item;
 use crate::replying::reply_to;
 use crate::sending::send;
-use sporc_order::Session;
+use sporc_order::{Session, Tail};
 use sporc_outside::{Gate, Link};
 use sporc_turn::{Pass, Turn};
 use sporc_wire::{FrameFault, Frames, ToServer};
@@ -35,6 +35,7 @@ fn take_piece<L: Link>(link: &mut L, frames: &mut Frames) -> Result<(), SessionE
     ensures written { L.written link.new ≡ L.written link.old }
     ensures as_shut { L.is_shut link.new ≡ L.is_shut link.old }
     ensures kept { L.faults link.old ≤ L.faults link.new }
+    ensures unkept { result ≢ Err SessionEnd.Unkept }
 {
     let mut buffer = [0u8; PIECE];
     let Ok(n) = link.read(&mut buffer) else {
@@ -71,6 +72,7 @@ pub(crate) fn next_message<L: Link>(
     ensures written { L.written link.new ≡ L.written link.old }
     ensures as_shut { L.is_shut link.new ≡ L.is_shut link.old }
     ensures kept { L.faults link.old ≤ L.faults link.new }
+    ensures unkept { result ≢ Err SessionEnd.Unkept }
 {
     let found = match frames.next_to_server() {
         Ok(found) => found,
@@ -84,10 +86,10 @@ pub(crate) fn next_message<L: Link>(
 }
 
 // Answers a message, and says why the session ends, if it does.
-fn answer<R: Wait, L: Link, G: Gate>(
+fn answer<R: Wait, L: Link, G: Gate, T: Tail>(
     rt: &R,
     alloc: Global,
-    turn: &Turn<Desk>,
+    turn: &Turn<Desk<T>>,
     gate: &G,
     link: &mut L,
     session: &mut Session,
@@ -100,6 +102,7 @@ fn answer<R: Wait, L: Link, G: Gate>(
     ensures number { (known_of result.1).number ≡ (known_of pass).number }
     ensures as_shut { L.is_shut link.new ≡ L.is_shut link.old }
     ensures worn { IfSome result.0 (HasReadLast (read_of result.1)) }
+    ensures unkept { result.0 ≡ Some SessionEnd.Unkept → T.may_fail }
     ensures goes { (unread : Unread) → (next to_server_of unread).answer ≡ Ok (Some message.now)
         → Carries (stand (known_of pass) (L.left link.old) (L.written link.old) (L.faults link.old) unread session.old)
         (stand (known_of result.1) (L.left link.new) (L.written link.new) (L.faults link.new) (next to_server_of unread).after session.new) result.0 }
@@ -112,10 +115,10 @@ fn answer<R: Wait, L: Link, G: Gate>(
 }
 
 // Takes the next message and answers it, or takes a piece more of the link's bytes.
-fn step<R: Wait, L: Link, G: Gate>(
+fn step<R: Wait, L: Link, G: Gate, T: Tail>(
     rt: &R,
     alloc: Global,
-    turn: &Turn<Desk>,
+    turn: &Turn<Desk<T>>,
     gate: &G,
     link: &mut L,
     frames: &mut Frames,
@@ -127,6 +130,7 @@ fn step<R: Wait, L: Link, G: Gate>(
     ensures number { (known_of result.1).number ≡ (known_of pass).number }
     ensures as_shut { L.is_shut link.new ≡ L.is_shut link.old }
     ensures worn { IfSome result.0 (HasReadLast (read_of result.1)) }
+    ensures unkept { result.0 ≡ Some SessionEnd.Unkept → T.may_fail }
     ensures goes { Carries (stand (known_of pass) (L.left link.old) (L.written link.old) (L.faults link.old) frames.old session.old)
         (stand (known_of result.1) (L.left link.new) (L.written link.new) (L.faults link.new) frames.new session.new) result.0 }
 {
@@ -141,10 +145,10 @@ fn step<R: Wait, L: Link, G: Gate>(
 }
 
 // Answers the messages that are to come, up to the session's end.
-fn go_on<R: Wait, L: Link, G: Gate>(
+fn go_on<R: Wait, L: Link, G: Gate, T: Tail>(
     rt: &R,
     alloc: Global,
-    turn: &Turn<Desk>,
+    turn: &Turn<Desk<T>>,
     gate: &G,
     link: &mut L,
     frames: &mut Frames,
@@ -156,6 +160,7 @@ fn go_on<R: Wait, L: Link, G: Gate>(
     ensures number { (known_of result.1).number ≡ (known_of pass).number }
     ensures as_shut { L.is_shut link.new ≡ L.is_shut link.old }
     ensures worn { HasReadLast (read_of result.1) result.0 }
+    ensures unkept { result.0 ≡ SessionEnd.Unkept → T.may_fail }
     ensures goes { Leads (stand (known_of pass) (L.left link.old) (L.written link.old) (L.faults link.old) frames.old session.old)
         (stand (known_of result.1) (L.left link.new) (L.written link.new) (L.faults link.new) (stream_of []) false) (Some result.0) }
 {
@@ -172,10 +177,10 @@ fn go_on<R: Wait, L: Link, G: Gate>(
 
 /// The session over a link from its first message on, at the order under this lock. The message is the first that was taken
 /// of the frames. The link is left open.
-pub fn serve_from<R: Wait, L: Link, G: Gate>(
+pub fn serve_from<R: Wait, L: Link, G: Gate, T: Tail>(
     rt: &R,
     alloc: Global,
-    turn: &Turn<Desk>,
+    turn: &Turn<Desk<T>>,
     gate: &G,
     link: &mut L,
     frames: &mut Frames,
@@ -188,6 +193,7 @@ pub fn serve_from<R: Wait, L: Link, G: Gate>(
     ensures number { (known_of result.1).number ≡ (known_of pass).number }
     ensures as_shut { L.is_shut link.new ≡ L.is_shut link.old }
     ensures worn { HasReadLast (read_of result.1) result.0 }
+    ensures unkept { result.0 ≡ SessionEnd.Unkept → T.may_fail }
     ensures goes { (unread : Unread) → (next to_server_of unread).answer ≡ Ok (Some first.now) → frames.old ≡ (next to_server_of unread).after
         → Leads (stand (known_of pass) (L.left link.old) (L.written link.old) (L.faults link.old) unread false)
         (stand (known_of result.1) (L.left link.new) (L.written link.new) (L.faults link.new) (stream_of []) false) (Some result.0) }
@@ -201,10 +207,10 @@ pub fn serve_from<R: Wait, L: Link, G: Gate>(
 }
 
 // A session over a link, at a lock that was chosen before its first message.
-pub(crate) fn serve_link<R: Wait, L: Link, G: Gate>(
+pub(crate) fn serve_link<R: Wait, L: Link, G: Gate, T: Tail>(
     rt: &R,
     alloc: Global,
-    turn: &Turn<Desk>,
+    turn: &Turn<Desk<T>>,
     gate: &G,
     link: &mut L,
     pass: Pass<Item>,
@@ -215,6 +221,7 @@ pub(crate) fn serve_link<R: Wait, L: Link, G: Gate>(
     ensures session { OfDocument (known_of pass).seen
         (λ genesis. IsServedSession L.left L.written L.faults L.is_shut genesis (known_of pass) (known_of result.1) (visit link.old link.new result.0)) }
     ensures worn { HasReadLast (read_of result.1) result.0 }
+    ensures unkept { result.0 ≡ SessionEnd.Unkept → T.may_fail }
     ensures shut { IsTrueIfTold (L.is_shut link.new) }
 {
     let mut frames = Frames::new(alloc);

@@ -1,33 +1,33 @@
 //! One turn of a session at the order.
 
-ghost use Rattle.std.specs.Prelude.{◌≡◌, ◌++◌, Ok, Err, IfOk, IfErr, IfSome, OnOk, OnErr};
+ghost use Rattle.std.specs.Prelude.{◌≡◌, ◌≢◌, ◌++◌, Ok, Err, IfOk, IfErr, IfSome, OnOk, OnErr};
 ghost use Rattle.sporc_order.specs.Replies.{Says};
 ghost use Rattle.sporc_order.specs.Sessions.{step_of, IsExactFor, IsFramed};
+ghost use Rattle.sporc_order.specs.Tails.{IsUnanswered};
 ghost use Rattle.sporc_turn.specs.Passes.{known_of, read_of, value_of, IsPassOf, IsSameTurn};
 ghost use Rattle.sporc_serve.specs.Logs.{log_of, added_of, placed_by, if_answered, OfDocument};
 ghost use Rattle.sporc_serve.specs.Sending.{CanBeSent};
-ghost use Rattle.sporc_serve.specs.Turns.{HasReadLast, Looks, TakesTurn};
+ghost use Rattle.sporc_serve.specs.Turns.{HasReadLast, Looks, TakesTurn, end_of};
 
 use crate::desk::{Desk, Sought};
 use crate::end::SessionEnd;
 use crate::item::Item;
-use sporc_base::Memory;
 use sporc_head::Verdict;
-use sporc_order::{Reply, Session};
+use sporc_order::{Reply, Session, Tail, Unanswered};
 use sporc_turn::{Held, Pass, Turn};
 use sporc_wire::ToServer;
 use std::alloc::Global;
 use std::sync::Wait;
 
 // Answers a message at the order that is held, where a verdict of its entry may be known.
-fn step_held(
-    held: &mut Held<Desk>,
+fn step_held<T: Tail>(
+    held: &mut Held<Desk<T>>,
     alloc: Global,
     number: u32,
     session: &mut Session,
     message: &ToServer,
     known: Option<&Verdict>,
-) -> Result<Reply, Memory>
+) -> Result<Reply, Unanswered>
     requires exact { IfSome known (λ v. IsExactFor v.now message.now) }
     ensures turn { IsSameTurn held.old held.new }
     ensures sendable { IsFramed message.now → IfOk result CanBeSent }
@@ -37,13 +37,14 @@ fn step_held(
         ≡ log_of (value_of held.old).order (value_of held.old).numbers.items
         ++ placed_by number (if_answered result (added_of (value_of held.old).order session.old message.now)) }
     ensures unchanged { OnErr result (session.new ≡ session.old) }
+    ensures unanswered { IfErr result (IsUnanswered T.may_fail) }
 {
     let desk = held.value();
     desk.step(alloc, number, session, message, known)
 }
 
 // What the examination of an entry asks of the order that is held.
-fn seek_held(held: &mut Held<Desk>, entry: &[u8]) -> Sought
+fn seek_held<T: Tail>(held: &mut Held<Desk<T>>, entry: &[u8]) -> Sought
     ensures turn { IsSameTurn held.old held.new }
     ensures log { log_of (value_of held.new).order (value_of held.new).numbers.items
         ≡ log_of (value_of held.old).order (value_of held.old).numbers.items }
@@ -53,9 +54,9 @@ fn seek_held(held: &mut Held<Desk>, entry: &[u8]) -> Sought
 }
 
 // Takes a turn, and finds in it what the examination of an entry asks.
-pub(crate) fn take_look<R: Wait>(
+pub(crate) fn take_look<R: Wait, T: Tail>(
     rt: &R,
-    turn: &Turn<Desk>,
+    turn: &Turn<Desk<T>>,
     pass: Pass<Item>,
     entry: &[u8],
 ) -> (Result<Sought, SessionEnd>, Pass<Item>)
@@ -64,6 +65,7 @@ pub(crate) fn take_look<R: Wait>(
     ensures number { (known_of result.1).number ≡ (known_of pass).number }
     ensures worn { IfErr result.0 (HasReadLast (read_of result.1)) }
     ensures looks { Looks (known_of pass) (known_of result.1) result.0 }
+    ensures unkept { IfErr result.0 (λ end. end ≢ SessionEnd.Unkept) }
 {
     match turn.take(rt, pass) {
         Ok(mut held) => {
@@ -75,10 +77,10 @@ pub(crate) fn take_look<R: Wait>(
 }
 
 // Takes a turn, and answers a message in it, where a verdict of its entry may be known.
-pub(crate) fn take_turn<R: Wait>(
+pub(crate) fn take_turn<R: Wait, T: Tail>(
     rt: &R,
     alloc: Global,
-    turn: &Turn<Desk>,
+    turn: &Turn<Desk<T>>,
     pass: Pass<Item>,
     session: &mut Session,
     message: &ToServer,
@@ -93,6 +95,7 @@ pub(crate) fn take_turn<R: Wait>(
     ensures worn { IfErr result.0 (HasReadLast (read_of result.1)) }
     ensures turn { OfDocument (known_of pass).seen
         (λ genesis. TakesTurn genesis (known_of pass) (known_of result.1) session.old session.new message.now result.0) }
+    ensures unkept { result.0 ≡ Err SessionEnd.Unkept → T.may_fail }
 {
     let number = pass.number();
     match turn.take(rt, pass) {
@@ -104,13 +107,14 @@ pub(crate) fn take_turn<R: Wait>(
     }
 }
 
-// The reply, if there was memory for it.
-fn answered(reply: Result<Reply, Memory>) -> Result<Reply, SessionEnd>
+// The reply, or how the session ends without one.
+fn answered(reply: Result<Reply, Unanswered>) -> Result<Reply, SessionEnd>
     ensures ok { IfOk reply (λ r. result ≡ Ok r) }
-    ensures err { OnErr reply (result ≡ Err SessionEnd.Memory) }
+    ensures err { IfErr reply (λ why. result ≡ Err (end_of why)) }
 {
     match reply {
         Ok(reply) => Ok(reply),
-        Err(_) => Err(SessionEnd::Memory),
+        Err(Unanswered::Memory) => Err(SessionEnd::Memory),
+        Err(Unanswered::Unkept) => Err(SessionEnd::Unkept),
     }
 }

@@ -10,13 +10,13 @@ use Rattle.sporc_store.specs.SavedFile.{read_to, entries_at, count_at, opened, s
 use Rattle.sporc_store.specs.Loading.{an_order, fault_behind, accepted_behind, loaded}
 
 -- a document, and two entries: "ab" and "c"
-abbrev document : List ℕ
+abbrev pub document : List ℕ
 document = 1 ∷ 2 ∷ 3 ∷ 4 ∷ 5 ∷ 6 ∷ 7 ∷ 8 ∷ 9 ∷ 10 ∷ 11 ∷ 12 ∷ 13 ∷ 14 ∷ 15 ∷ 16 ∷ []
 
-abbrev ab : List ℕ
+abbrev pub ab : List ℕ
 ab = 97 ∷ 98 ∷ []
 
-abbrev c : List ℕ
+abbrev pub c : List ℕ
 c = 99 ∷ []
 
 -- their file, "SPH1" first

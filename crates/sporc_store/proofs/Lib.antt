@@ -5,3 +5,12 @@ pub mod Prefixes
 pub mod SavedLaws
 pub mod SavedLengths
 pub mod Taking
+pub mod TailExamples
+pub mod TailOpens
+pub mod TailPuts
+pub mod TailReads
+pub mod TailRecords
+pub mod TailRunning
+pub mod TailSettles
+pub mod TailSteps
+pub mod TailWrites

@@ -1,11 +1,12 @@
 //! The entries of a saved history, appended one after another.
 
-ghost use Rattle.std.specs.Prelude.{◌≡◌, ◌+◌, ◌≤◌, ◌<◌, ◌^◌, [], length, vec_len, IfOk, IfNone, OnErr};
+ghost use Rattle.std.specs.Prelude.{◌≡◌, ◌+◌, ◌≤◌, ◌<◌, ◌^◌, [], length, vec_len, IfOk, IfNone, IfSome, OnErr};
 ghost use Rattle.std.specs.Thread.{IsSync};
 ghost use Rattle.sporc_entry.specs.Genesis.{IsGenesis};
 ghost use Rattle.sporc_store.specs.declared.limits.TheConstants.{MAX_WORKERS};
 ghost use Rattle.sporc_store.specs.SavedFile.{read_to, saved_in, IsPrefix};
 ghost use Rattle.sporc_store.specs.Loading.{accepted, accepted_from, loaded, AppendsPart, AppendsSome, NamesCheck};
+ghost use Rattle.sporc_store.specs.TailFiles.{IsRefused};
 ghost use Rattle.sporc_store.specs.Verdicts.{AreExact};
 
 use crate::foretelling::foretell;
@@ -258,7 +259,7 @@ fn append_entries<H: History>(
 }
 
 // Appends entries behind so many others, up to the first that is refused.
-fn append_part<H: History>(
+pub(crate) fn append_part<H: History>(
     alloc: Global,
     history: &mut H,
     before: usize,
@@ -267,6 +268,7 @@ fn append_part<H: History>(
     requires count { length (H.entries history.old) ≡ before }
     requires room { before + length entries.now < 2 ^ 32 }
     ensures ok { IfOk result (λ refused. AppendsPart (H.checker history.old) (H.entries history.old) entries.now refused (H.entries history.new)) }
+    ensures refused { IfOk result (λ refused. IfSome refused IsRefused) }
     ensures memory { OnErr result (AppendsSome (H.checker history.old) (H.entries history.old) entries.now (H.entries history.new)) }
     ensures checker { H.checker history.new ≡ H.checker history.old }
 {

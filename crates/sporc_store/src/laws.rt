@@ -1,6 +1,6 @@
 //! Laws of saved histories: what was saved is read again, and what is loaded is the longest prefix that is accepted.
 
-ghost use Rattle.std.specs.Prelude.{◌≡◌, ℕ, ◌+◌, ◌≤◌, ◌<◌, ◌^◌, List, length, take, Some, None, slice_get, IsSomeAnd};
+ghost use Rattle.std.specs.Prelude.{◌≡◌, ℕ, ◌+◌, ◌++◌, ◌≤◌, ◌<◌, ◌^◌, List, length, take, drop, Ok, Some, None, slice_get, IsSomeAnd};
 ghost use Rattle.std.specs.List.{All};
 ghost use Rattle.sporc_base.specs.Bytes.{IsBytes};
 ghost use Rattle.sporc_entry.specs.declared.genesis.Genesis.{Genesis};
@@ -12,8 +12,11 @@ ghost use Rattle.sporc_line.specs.Kit.{Kit};
 ghost use Rattle.sporc_line.specs.Good.{Good};
 ghost use Rattle.sporc_store.specs.SavedFile.{saved_bytes, saved_in, read_to, IsPrefix};
 ghost use Rattle.sporc_store.specs.Loading.{Checker, an_order, a_member, fault_behind, loaded};
+ghost use Rattle.sporc_store.specs.TailBytes.{Agree, FitsRecord, record_bytes, tail_behind, tail_bytes, taken_to};
+ghost use Rattle.sporc_store.specs.TailRuns.{IsFoundAgain, NothingIsLost};
 
 use crate::stop::Stop;
+use sporc_outside::AppendFile;
 
 /// The file of a history is read as that history, to its end, and no other file is.
 pub fn history_and_its_file()
@@ -50,4 +53,24 @@ pub fn saved_history_is_loaded()
         → ((i : ℕ) (e : List ℕ) → slice_get entries i ≡ Some e → head_fault genesis None (take i entries) (i + 1) e ≡ None)
         → length entries ≤ MAX_ENTRIES → All (λ e. length e ≤ MAX_ENTRY) entries
         → loaded (an_order genesis) genesis.document (saved_bytes genesis.document entries) ≡ read_to entries Stop.End }
+{}
+
+/// What a tail of entries is read as behind a log: a last record that is cut counts as none, and what the log has is skipped.
+pub fn tails_are_read_again()
+    ensures again { (log all : List (List ℕ)) (document : List ℕ) (from : ℕ) (next : List ℕ) (k : ℕ) → length document ≡ 16 → from ≤ length log
+        → Agree (drop from log) all → All FitsRecord all → FitsRecord next → from + length all + 1 < 2 ^ 32
+        → k < length (record_bytes (from + length all + 1) next)
+        → tail_behind log document (tail_bytes document from all ++ take k (record_bytes (from + length all + 1) next))
+        ≡ Ok (taken_to (drop (length (drop from log)) all) (length (tail_bytes document from all))) }
+{}
+
+/// Over any run of openings, entries that are put, calls that fail, logs that are saved, and stops at any moment, each order
+/// begins with all that any order had before: nothing that was answered or handed out is lost, and it stays where it was. What
+/// a stop leaves of the file is always read behind the saved log, and never malformed.
+///
+/// The tail is on a file that tells its bytes, and behaves as [`AppendFile`] says. Of a file that tells none, as a real one, this
+/// says nothing.
+pub fn nothing_ordered_is_lost<A: AppendFile>()
+    ensures kept { (genesis : Genesis) → NothingIsLost A.stored A.moment A.images genesis }
+    ensures found { (genesis : Genesis) → IsFoundAgain A.stored A.moment A.images genesis }
 {}

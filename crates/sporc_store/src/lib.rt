@@ -11,12 +11,16 @@
 //!   one block while the entries of the block before are taken.
 //! - [`Stop`]: where reading stops: at the end, at another document's file, at a place that is cut short or forbidden, or
 //!   before an entry that a check refuses.
-//! - [`laws`]: what was saved is read and loaded again, whole, and what is loaded is the longest prefix that is accepted.
+//! - [`TailFile`]: the tail of a log, on a file that is appended to: the entries that were ordered since the log was saved, each
+//!   of them on the disk before the order takes it. Opening it takes the entries that the log lacks through the order's checks.
+//! - [`laws`]: what was saved is read and loaded again, whole, what is loaded is the longest prefix that is accepted, and nothing
+//!   that was ordered is lost, whatever a crash leaves of a tail.
 //!
 //! ```text
 //! let file = save(alloc, &document, line.entries())?;          // TooLong
 //! let (entries, stop) = read_saved(alloc, &document, file.as_slice())?;
 //! let (line, stop) = load(alloc, file.as_slice(), empty_line)?;   // Stop::Refused(2, Refusal::BadSignature)
+//! let tail = TailFile::open(alloc, file, &mut order);             // Err((TailFault::Malformed(20), file))
 //! ```
 //!
 //! Each entry is copied once, out of the bytes as they stand there, as it is appended. A number of entries takes no memory
@@ -24,7 +28,8 @@
 //! has checked then; where the author has another key, the check verifies the signature anew.
 //!
 //! Proved: the bytes that `save` gives, and when they are too many; what each call takes of any bytes, and where it
-//! stops; that line and order keep the entries taken if memory runs out; the laws. Only tested: the loading of entries
+//! stops; that line and order keep the entries taken if memory runs out; what is read of a tail, what a crash at any moment of
+//! its calls leaves, and what is found of that; the laws. Only tested: the loading of entries
 //! with real signatures and of files cut at each byte, and that the calls succeed with ample memory
 //! (`sporc_files_tests`), and that workers examine at the same time. Neither: how long a call takes, that no signature is
 //! verified twice, and that a block is examined while another is taken.
@@ -42,6 +47,10 @@ mod reading;
 mod saved_entry;
 mod saving;
 mod stop;
+mod tail_fault;
+mod tail_file;
+mod tail_head;
+mod tail_reading;
 mod workers;
 
 pub use fault::SaveFault;
@@ -50,3 +59,5 @@ pub use loading::{load, load_many, load_order, load_order_many, read_saved, save
 pub use saving::save;
 pub use sporc_base::Memory;
 pub use stop::Stop;
+pub use tail_fault::TailFault;
+pub use tail_file::TailFile;

@@ -10,14 +10,16 @@
 //! - `shared/session_faults`: each fault that ends a session but `Worn`, which takes 2^62 calls, and `Memory`; with each call
 //!   of the leaf file, the link and the chance that may fail.
 //! - `docs`: as many documents as a server may hold, and what a server of many documents answers: sessions of two documents
-//!   beside one of none, entries of the other document, a link that fails beside one that doesn't, and 64 documents at once.
-//! - `serve`: what a server answers over links in memory. Answers are compared with bytes that are spelled out by hand.
+//!   beside one of none, entries of the other document, a link that fails beside one that doesn't, 64 documents at once, and
+//!   a tail for each document, which has its entries alone.
+//! - `serve`: what a server answers over links in memory. Answers are compared with bytes that are spelled out by hand. A tail
+//!   that fails at an entry, and one that has each entry before it is answered.
 //!
 //! Those of the lock are built of `lock/tally` (a value under the lock) and `lock/work` (a turn, rounds of turns, and a crowd
 //! of threads); those of the shared client of `shared/scene` (clients and histories), `shared/order_link` (a link in memory to
 //! an order) and `shared/staging` (a session from its client to what it leaves); those of the server of `serve/streams` (what
-//! clients send), `serve/replies` (what servers send) and `serve/server` (a server over links in memory). `objects` has what
-//! both make their sessions of, and `checks` what stops a test.
+//! clients send), `serve/replies` (what servers send), `serve/notes` (a tail in memory) and `serve/server` (a server over links
+//! in memory). `objects` has what both make their sessions of, and `checks` what stops a test.
 #![tactic(auto)]
 
 #[cfg(test)]

@@ -6,6 +6,8 @@ mod conversation;
 mod crowd;
 mod failing_links;
 mod held_sessions;
+pub mod notes;
 pub mod replies;
 pub mod server;
 pub mod streams;
+mod unkept;

@@ -101,6 +101,13 @@ pub fn hello(rt: &impl Abort, alloc: Global, number: u8) -> Vec<u8> {
     write_to_server(alloc, &hello).expect(rt, "memory")
 }
 
+/// A Hello with the document of this number, and then a Submit.
+pub fn hello_and_submit(rt: &impl Abort, alloc: Global, number: u8, entry: &[u8]) -> Vec<u8> {
+    let hello = hello(rt, alloc, number);
+    let submission = submit(rt, alloc, entry);
+    joined(rt, alloc, &[hello.as_slice(), submission.as_slice()])
+}
+
 /// A Hello, a Submit, and then a Pull.
 pub fn hello_submit_and_pull(rt: &impl Abort, alloc: Global, number: u8, entry: &[u8]) -> Vec<u8> {
     let hello = hello(rt, alloc, number);

@@ -2,7 +2,9 @@
 
 use crate::checks::{check, check_at};
 use crate::docs::empty_order;
-use crate::docs::serving::{Outcome, entry_of, hello, hello_submit_and_pull, served};
+use crate::docs::serving::{
+    Outcome, entry_of, hello, hello_and_submit, hello_submit_and_pull, served,
+};
 use crate::objects::joined;
 use crate::serve::replies::{EMPTY, ORDERED_FIRST, are_of_submit_and_pull};
 use crate::serve::server::{Outcome as Alone, Peers, served_order};
@@ -17,13 +19,6 @@ use std::thread::Threads;
 
 // A Rejected of an entry of another document.
 const WRONG_DOCUMENT: [u8; 10] = [0, 0, 0, 6, 2, 2, 0, 0, 0, 0];
-
-// A Hello with this document, and then a Submit.
-fn hello_and_submit(rt: &impl Abort, alloc: Global, number: u8, entry: &[u8]) -> Vec<u8> {
-    let hello = hello(rt, alloc, number);
-    let submission = submit(rt, alloc, entry);
-    joined(rt, alloc, &[hello.as_slice(), submission.as_slice()])
-}
 
 // A Hello with this document, a Pull, and then a Submit.
 fn hello_pull_and_submit(rt: &impl Abort, alloc: Global, number: u8, entry: &[u8]) -> Vec<u8> {

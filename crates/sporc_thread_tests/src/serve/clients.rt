@@ -144,6 +144,7 @@ fn serves_two<R: Threads + Wait + Sync, N: Listen>(
     order: Box<Order>,
 ) -> bool
 where
+    N: Send,
     N::Link: Send,
 {
     let order = Box::into_inner(order);

@@ -1,6 +1,7 @@
 use crate::checks::check;
+use crate::serve::notes::Notes;
 use crate::serve::replies::are_of_submit_and_pull;
-use crate::serve::server::{Outcome, Peers, served};
+use crate::serve::server::{Outcome, Peers, served_kept};
 use crate::serve::streams::{first_entry, hello_submit_and_pull};
 use sporc_outside::Gate;
 use sporc_samples::Cast;
@@ -16,9 +17,14 @@ const TURNS: u32 = 100_000_000;
 // Of the first entry and of the second it was told once: a byte counts each number.
 const BOTH: u64 = 0x01_01_00;
 
-// Holds a session whose entry was examined until two were, and one whose entry was accepted until both were.
+// Holds a session whose entry was examined until two were, and one whose entry was accepted until both were. Before an entry is
+// answered it looks whether the tail keeps it.
 #[derive(Drop)]
-struct Pairing {
+struct Pairing<'a> {
+    // How many entries the tail keeps.
+    kept: &'a AtomicU64,
+    // How many entries were accepted that it did not keep.
+    early: AtomicU64,
     examined: AtomicU64,
     // The sum of the positions at which the entries were to stand as they were examined.
     positions: AtomicU64,
@@ -26,9 +32,11 @@ struct Pairing {
     given_up: AtomicU64,
 }
 
-impl Pairing {
-    fn new() -> Pairing {
+impl<'a> Pairing<'a> {
+    fn new(kept: &'a AtomicU64) -> Pairing<'a> {
         Pairing {
+            kept,
+            early: AtomicU64::new(0),
             examined: AtomicU64::new(0),
             positions: AtomicU64::new(0),
             told: AtomicU64::new(0),
@@ -53,16 +61,17 @@ impl Pairing {
         self.given_up.fetch_add(1, Ordering::SeqCst);
     }
 
-    // Whether both sessions examined their entries before either of these was ordered, it was told of each entry once, and
-    // nobody waited in vain.
+    // Whether both sessions examined their entries before either of these was ordered, each was kept before it was answered, it
+    // was told of each once, and nobody waited in vain.
     fn went_well(&self) -> bool {
         self.positions.load(Ordering::SeqCst) == 2
+            && self.early.load(Ordering::SeqCst) == 0
             && self.told.load(Ordering::SeqCst) == BOTH
             && self.given_up.load(Ordering::SeqCst) == 0
     }
 }
 
-impl Gate for Pairing {
+impl<'a> Gate for Pairing<'a> {
     fn before_line<R: Wait>(&self, _rt: &R, _session: u32, position: u32) {
         self.positions
             .fetch_add(u64::from(position), Ordering::SeqCst);
@@ -71,6 +80,9 @@ impl Gate for Pairing {
     }
 
     fn after_accept<R: Wait>(&self, _rt: &R, entries: u32) {
+        if self.kept.load(Ordering::SeqCst) < u64::from(entries) {
+            self.early.fetch_add(1, Ordering::SeqCst);
+        }
         self.tell(entries);
         self.hold(&self.told, BOTH);
     }
@@ -102,9 +114,12 @@ fn are_answered(rt: &impl Abort, alloc: Global, outcome: &Outcome) {
 #[test]
 fn a_session_goes_on_while_another_is_held(rt: HostRuntime) {
     let cast = Cast::new(rt.alloc()).expect(&rt, "the cast");
-    let gate = Pairing::new();
+    let kept = AtomicU64::new(0);
+    let gate = Pairing::new(&kept);
+    let notes = Notes::new(rt.alloc(), &kept, 0);
     let peers = peers(&rt, rt.alloc(), &cast);
-    let outcome = served(&rt, rt.alloc(), &cast, peers, 2, &gate);
+    let (outcome, notes) = served_kept(&rt, rt.alloc(), &cast, peers, notes, 2, &gate);
     check(&rt, "the gate", gate.went_well());
+    check(&rt, "the tail", outcome.has_entries(notes.entries()));
     are_answered(&rt, rt.alloc(), &outcome);
 }

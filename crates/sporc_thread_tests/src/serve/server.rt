@@ -5,11 +5,12 @@ ghost use Rattle.sporc_outside.specs.MemoryNetModel.{AreFresh};
 ghost use Rattle.sporc_serve.specs.declared.limits.TheConstants.{MAX_SESSIONS};
 
 use crate::objects::{calls, empty_order, listed_link};
+use crate::serve::notes::Notes;
 use sporc_base::is_same;
 use sporc_order::Order;
 use sporc_outside::{Gate, MemoryLink, MemoryNet};
 use sporc_samples::Cast;
-use sporc_serve::{ServeFault, serve};
+use sporc_serve::{ServeFault, serve, serve_kept};
 use std::alloc::Global;
 use std::process::Abort;
 use std::sync::Wait;
@@ -127,4 +128,26 @@ pub fn served_order<R: Threads + Wait + Sync + Abort, G: Gate + Sync>(
     let mut net = peers.into_net(rt, alloc);
     let (order, answer) = serve(rt, alloc, &mut net, "address", order, sessions, gate);
     Box::new(alloc, Outcome { order, net, answer }).expect(rt, "memory")
+}
+
+/// Serves so many links from the empty order of the cast's document, with this tail, which is handed back.
+pub fn served_kept<'a, R: Threads + Wait + Sync + Abort, G: Gate + Sync>(
+    rt: &R,
+    alloc: Global,
+    cast: &Cast,
+    peers: Peers,
+    notes: Notes<'a>,
+    sessions: u32,
+    gate: &G,
+) -> (Box<Outcome>, Notes<'a>)
+    requires some { 1 ≤ sessions }
+    requires limit { sessions ≤ MAX_SESSIONS }
+{
+    let order = Box::into_inner(empty_order(rt, alloc, cast));
+    let mut net = peers.into_net(rt, alloc);
+    let (order, notes, answer) = serve_kept(
+        rt, alloc, &mut net, "address", order, notes, sessions, gate,
+    );
+    let outcome = Outcome { order, net, answer };
+    (Box::new(alloc, outcome).expect(rt, "memory"), notes)
 }

@@ -5,7 +5,7 @@ use Rattle.sporc_docs.proofs.Passes.{joins_then}
 use Rattle.sporc_docs.proofs.hands.+join_hands.Goals as goal
 
 pub returns-clause-joins : goal.returns-clause-joins
-returns-clause-joins t c i =
+returns-clause-joins g t c i =
     let first = c.args.firsts.now in
     let mid = c.join.new.firsts in
     let last = c.join_hands.new.firsts in

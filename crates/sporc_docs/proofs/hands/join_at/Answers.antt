@@ -5,7 +5,7 @@ use Rattle.sporc_docs.specs.Hands.{JoinsAt}
 use Rattle.sporc_docs.proofs.hands.join_at.Goals as goal
 
 pub returns-clause-joins : goal.returns-clause-joins
-returns-clause-joins c =
+returns-clause-joins g c =
     let taken = c.take-2.ensures.value in
     let some = c.unwrap-pass.ensures in
     let taken' = c.take.ensures.value in

@@ -1,38 +1,13 @@
-use Rattle.std.proofs.Common.{List, Result, Err, subst, sym, arith}
-use Rattle.sporc_order.specs.OrderModel.{OrderModel}
-use Rattle.sporc_serve.specs.declared.fault.ServeFault.{ServeFault}
-use Rattle.sporc_serve.specs.declared.fault.ServeFault.TheVariants as faults
-use Rattle.sporc_serve.specs.Crowds.{net_of}
-use Rattle.sporc_docs.specs.Served.{IsServedDocument, AreServed}
-use Rattle.sporc_docs.proofs.Opening.{both_length}
-use Rattle.sporc_docs.proofs.Served.{serves_none, serves_before, apart_kept}
+use Rattle.std.proofs.Common.{arith}
+use Rattle.sporc_docs.proofs.Opening.{none_kept}
 use Rattle.sporc_docs.proofs.server.serve_docs.Goals as goal
 
 pub returns-in_default-clause-served : goal.returns-in_default-clause-served
-returns-in_default-clause-served g c =
-    serves_none g.N.Link.Source.left g.N.Link.Sink.written g.N.Link.Counted.faults g.N.Link.Stream.is_shut (net_of (g.N.Links.coming c.args.net.now) (g.N.Links.returned c.args.net.now) (g.N.Counted.faults c.args.net.now))
-    (net_of (g.N.Links.coming c.listen.new.self) (g.N.Links.returned c.listen.new.self) (g.N.Counted.faults c.listen.new.self)) c.args.sessions (Err faults.ListenFault)
-    c.args.docs c.listen.ensures.coming c.listen.ensures.returned c.in_default.ensures.count.failed
+returns-in_default-clause-served g c = c.unserved.ensures.served c.args.docs c.args.sessions
 
-pub of-requires-clause-apart : goal.of-requires-clause-apart
-of-requires-clause-apart g c =
-    let served = c.serve_orders-answer.ensures.served in
-    apart_kept g.N.Link.Source.left g.N.Link.Sink.written g.N.Link.Counted.faults g.N.Link.Stream.is_shut served.0 c.into_orders-orders.result.items c.serve_orders-answer.new.orders.items served.1.served c.into_orders-orders.ensures.apart
-
-pub of-requires-clause-within : goal.of-requires-clause-within
-of-requires-clause-within g c =
-    let served = c.serve_orders-answer.ensures.served in
-    let same = both_length (IsServedDocument g.N.Link.Source.left g.N.Link.Sink.written g.N.Link.Counted.faults g.N.Link.Stream.is_shut served.0) c.into_orders-orders.result.items c.serve_orders-answer.new.orders.items served.1.served in
-    let few = c.into_orders-orders.ensures.within in
-    omega (arith, same, few)
-
-pub returns-clause-served : goal.returns-clause-served
-returns-clause-served g c =
-    let old = net_of (g.N.Links.coming c.args.net.now) (g.N.Links.returned c.args.net.now) (g.N.Counted.faults c.args.net.now) in
-    let mid = net_of (g.N.Links.coming c.listen.new.self) (g.N.Links.returned c.listen.new.self) (g.N.Counted.faults c.listen.new.self) in
-    let new = net_of (g.N.Links.coming c.serve_orders-answer.new.net) (g.N.Links.returned c.serve_orders-answer.new.net) (g.N.Counted.faults c.serve_orders-answer.new.net) in
-    subst (λ (z : List OrderModel × List OrderModel × Result (Unit {0}) ServeFault). AreServed g.N.Link.Source.left g.N.Link.Sink.written g.N.Link.Counted.faults g.N.Link.Stream.is_shut z.0 z.1 old new
-    c.args.sessions z.2) (λ i. (c.into_orders-orders.ensures.value i, sym c.of.ensures.value i, sym c.told.ensures i))
-    (serves_before g.N.Link.Source.left g.N.Link.Sink.written g.N.Link.Counted.faults g.N.Link.Stream.is_shut old mid new c.args.sessions
-    c.serve_orders-answer.result c.into_orders-orders.result.items c.serve_orders-answer.new.orders.items c.serve_orders-answer.ensures.served c.listen.ensures.coming
-    c.listen.ensures.returned c.listen.ensures.count.kept)
+pub serve_docs_kept-docs-requires-clause-tails : goal.serve_docs_kept-docs-requires-clause-tails
+serve_docs_kept-docs-requires-clause-tails g c κs within =
+    let made = c.in-Ok.ensures.len in
+    let count = c.len.ensures.value in
+    let size = c.in-Ok.tails.ok.0 in
+    none_kept c.in-Ok.tails.items c.args.docs (omega (arith, made, count, size))

@@ -5,7 +5,7 @@ use Rattle.sporc_serve.specs.Crowds.{net_of}
 use Rattle.sporc_docs.specs.declared.hands.Hand.{Hand}
 use Rattle.sporc_docs.specs.Hands.{AllHands, Both, IsEmpty}
 use Rattle.sporc_docs.specs.Locks.{KnowsFirst, AreEnding}
-use Rattle.sporc_docs.proofs.Opening.{empty_all}
+use Rattle.sporc_docs.proofs.Opening.{empty_all, kept_length}
 use Rattle.sporc_docs.proofs.Served.{serves_none, serves_opened, serves_all, room_first, open_lengths, opened_back, opened_all, room_back, ok_then}
 use Rattle.sporc_docs.proofs.server.serve_orders.Goals as goal
 
@@ -13,8 +13,8 @@ pub returns-in_default-clause-served : goal.returns-in_default-clause-served
 returns-in_default-clause-served g c =
     serves_none g.N.Link.Source.left g.N.Link.Sink.written g.N.Link.Counted.faults g.N.Link.Stream.is_shut (net_of (g.N.Links.coming c.args.net.now) (g.N.Links.returned c.args.net.now) (g.N.Counted.faults c.args.net.now)) (net_of (g.N.Links.coming c.args.net.now) (g.N.Links.returned c.args.net.now) (g.N.Counted.faults c.args.net.now)) c.args.sessions (Err faults.Memory) c.args.orders.now.items refl refl tt
 
-pub returns-in_default-empty_hands-clause-served : goal.returns-in_default-empty_hands-clause-served
-returns-in_default-empty_hands-clause-served g c =
+pub returns-in_default-with_capacity-clause-served : goal.returns-in_default-with_capacity-clause-served
+returns-in_default-with_capacity-clause-served g c =
     serves_none g.N.Link.Source.left g.N.Link.Sink.written g.N.Link.Counted.faults g.N.Link.Stream.is_shut (net_of (g.N.Links.coming c.args.net.now) (g.N.Links.returned c.args.net.now) (g.N.Counted.faults c.args.net.now)) (net_of (g.N.Links.coming c.args.net.now) (g.N.Links.returned c.args.net.now) (g.N.Counted.faults c.args.net.now)) c.args.sessions (Err faults.Memory) c.args.orders.now.items refl refl tt
 
 pub close-requires-clause-back : goal.close-requires-clause-back
@@ -23,7 +23,14 @@ close-requires-clause-back g c = opened_back c.open.ensures.open.0 c.open.new.se
 pub close-requires-clause-room : goal.close-requires-clause-room
 close-requires-clause-room g c =
     room_back c.args.orders.now.items c.open.new.orders.items c.open.ensures.open.0 c.open.new.self c.open.ensures.open.1 c.open.ensures.open.2 _ _ _ _ _
-    c.args.orders.now.ok.0 c.open.new.orders.ok.0 c.open.new.self.turns.ok.0 c.args.orders.now.ok.1 c.open.ensures.room
+    c.args.orders.now.ok.0 c.open.new.orders.ok.0 c.open.new.self.turns.ok.0 c.args.orders.now.ok.1 c.open.ensures.room.0
+
+pub close-requires-clause-tails_room : goal.close-requires-clause-tails_room
+close-requires-clause-tails_room g c =
+    room_back c.args.orders.now.items c.open.new.orders.items c.open.ensures.open.0 c.open.new.self c.open.ensures.open.1 c.open.ensures.open.2 _ _ _ _ _
+    (c.args.tails.now.ok.0 ∙ kept_length g.T.Tail.keeps c.args.tails.now.items c.args.orders.now.items c.requires.tails)
+    (c.open.new.tails.ok.0 ∙ kept_length g.T.Tail.keeps c.open.new.tails.items c.open.new.orders.items c.open.ensures.kept) c.open.new.self.turns.ok.0
+    c.args.tails.now.ok.1 c.open.ensures.room.1
 
 pub returns-then-is_err-clause-served : goal.returns-then-is_err-clause-served
 returns-then-is_err-clause-served g c =
@@ -35,7 +42,7 @@ returns-then-is_err-clause-served g c =
 pub serve-answer-requires-clause-room : goal.serve-answer-requires-clause-room
 serve-answer-requires-clause-room g c κs within =
     let count = ap length c.deref_mut.ensures.value in
-    let size = c.in-Ok-empty_hands.ensures.len in
+    let size = c.in-Ok.ensures.len in
     let few = c.requires.limit in
     room_first c.open.ensures.open.0 c.open.new.self.firsts.items (length c.deref_mut.result.now) (omega (arith, count, size, few)) c.open.ensures.open.2.known
 
@@ -48,7 +55,7 @@ serve-answer-requires-clause-empty g c κs within =
     let ok = c.args.orders.now.ok in
     let size : length c.open.new.self.turns.items ≡ c.len-count.result = omega (arith, all.1, turns, count, ok) in
     subst (λ (hs : List Hand). AllHands (Both IsEmpty c.open.new.self.turns.items) hs) (sym c.deref_mut.ensures.value)
-    (empty_all c.open.new.self.turns.items c.len-count.result c.in-Ok-empty_hands.hands.items size c.in-Ok-empty_hands.ensures.empty)
+    (empty_all c.open.new.self.turns.items c.len-count.result c.in-Ok.hands.items size c.in-Ok.ensures.empty)
 
 pub serve-answer-requires-clause-documents : goal.serve-answer-requires-clause-documents
 serve-answer-requires-clause-documents g c κs within =
@@ -66,7 +73,16 @@ pub close-requires-2-clause-room : goal.close-requires-2-clause-room
 close-requires-2-clause-room g c =
     let same = ap (λ v. v.len) c.serve-answer.ensures.turns in
     let room = room_back c.args.orders.now.items c.open.new.orders.items c.open.ensures.open.0 c.open.new.self c.open.ensures.open.1 c.open.ensures.open.2 _ _ _ _ _
-    c.args.orders.now.ok.0 c.open.new.orders.ok.0 c.open.new.self.turns.ok.0 c.args.orders.now.ok.1 c.open.ensures.room in
+    c.args.orders.now.ok.0 c.open.new.orders.ok.0 c.open.new.self.turns.ok.0 c.args.orders.now.ok.1 c.open.ensures.room.0 in
+    omega (arith, same, room)
+
+pub close-requires-2-clause-tails_room : goal.close-requires-2-clause-tails_room
+close-requires-2-clause-tails_room g c =
+    let same = ap (λ v. v.len) c.serve-answer.ensures.turns in
+    let room = room_back c.args.orders.now.items c.open.new.orders.items c.open.ensures.open.0 c.open.new.self c.open.ensures.open.1 c.open.ensures.open.2 _ _ _ _ _
+    (c.args.tails.now.ok.0 ∙ kept_length g.T.Tail.keeps c.args.tails.now.items c.args.orders.now.items c.requires.tails)
+    (c.open.new.tails.ok.0 ∙ kept_length g.T.Tail.keeps c.open.new.tails.items c.open.new.orders.items c.open.ensures.kept) c.open.new.self.turns.ok.0
+    c.args.tails.now.ok.1 c.open.ensures.room.1 in
     omega (arith, same, room)
 
 pub returns-clause-served : goal.returns-clause-served
@@ -77,7 +93,7 @@ returns-clause-served g c =
     let documents = c.open.ensures.open.2.documents_are ∙ ap (λ (os : List OrderModel). map (λ (o : OrderModel). o.genesis.document) os) all.0 in
     let ending = c.serve-answer.ensures.ending c.args.orders.now.items c.requires.apart documents known in
     let hands = ap length c.deref_mut.ensures.value in
-    let size = c.in-Ok-empty_hands.ensures.len in
+    let size = c.in-Ok.ensures.len in
     let count : length c.deref_mut.result.now ≡ c.args.sessions = hands ∙ size in
     let closed = c.close-2.ensures.closed in
     serves_all g.N.Link.Source.left g.N.Link.Sink.written g.N.Link.Counted.faults g.N.Link.Stream.is_shut (net_of (g.N.Links.coming c.args.net.now) (g.N.Links.returned c.args.net.now) (g.N.Counted.faults c.args.net.now)) (net_of (g.N.Links.coming c.serve-answer.new.net) (g.N.Links.returned c.serve-answer.new.net) (g.N.Counted.faults c.serve-answer.new.net)) c.args.sessions c.serve-answer.result c.args.orders.now.items c.close-2.new.orders.items closed.0 c.serve-answer.new.self.firsts.items

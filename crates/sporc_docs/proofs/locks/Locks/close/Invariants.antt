@@ -4,16 +4,19 @@ use Rattle.sporc_order.specs.OrderModel.{OrderModel}
 use Rattle.sporc_serve.specs.declared.item.Item.{Item}
 use Rattle.sporc_docs.specs.Hands.{Both, HasFirst}
 use Rattle.sporc_docs.specs.Locks.{AreBack, Closes}
+use Rattle.sporc_docs.specs.Served.{AreKept}
 use Rattle.sporc_docs.proofs.locks.Locks.close.Given as goal
 
 abbrev pub invariant-loop-turn : goal.invariant-loop-turn
-invariant-loop-turn l = record {
+invariant-loop-turn g l = record {
   first : Both HasFirst l.turns.items l.firsts.items;
   back : AreBack l.firsts.items;
   closed : (done : List (Option (Pass Item))) × (os : List OrderModel) × (l.fn.self.firsts.items ≡ l.firsts.items ++ done)
       × (l.orders.items ≡ l.initial.orders.items ++ reverse os) × Both Closes done os;
+  kept : AreKept g.T.Tail.keeps l.tails.items l.orders.items;
   room : vec_len l.orders + vec_len l.turns ≤ vec_capacity l.orders;
+  tails_room : vec_len l.tails + vec_len l.turns ≤ vec_capacity l.tails;
 }
 
 abbrev pub decreases-loop-turn : goal.decreases-loop-turn
-decreases-loop-turn l = vec_len l.turns
+decreases-loop-turn g l = vec_len l.turns

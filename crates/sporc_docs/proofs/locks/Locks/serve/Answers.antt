@@ -7,4 +7,4 @@ use Rattle.sporc_docs.proofs.locks.Locks.serve.Goals as goal
 
 pub serve_hands-requires-clause-empty : goal.serve_hands-requires-clause-empty
 serve_hands-requires-clause-empty g c κs within =
-    subst (λ (ts : List (Turn Desk Item)). AllHands (Both IsEmpty ts) c.args.hands.now) (sym c.deref.ensures.value) c.requires.empty
+    subst (λ (ts : List (Turn (Desk g.row.T.Denot g.T.Tail) Item)). AllHands (Both IsEmpty ts) c.args.hands.now) (sym c.deref.ensures.value) c.requires.empty

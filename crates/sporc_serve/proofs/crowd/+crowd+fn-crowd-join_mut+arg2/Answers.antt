@@ -6,7 +6,7 @@ use Rattle.sporc_serve.specs.Logs.{OfDocument}
 use Rattle.sporc_serve.specs.Visits.{visit, IsServedSession}
 use Rattle.sporc_serve.specs.Crowds.{net_of, IsCrowd}
 use Rattle.sporc_serve.proofs.Crowding.{crowd_none, crowd_failed, crowd_unserved, crowd_joined}
-use Rattle.sporc_serve.proofs.crowd.+crowd+fn-crowd-join_mut+arg3.Goals as goal
+use Rattle.sporc_serve.proofs.crowd.+crowd+fn-crowd-join_mut+arg2.Goals as goal
 
 pub returns-then-sessions-eq0-clause-crowd : goal.returns-then-sessions-eq0-clause-crowd
 returns-then-sessions-eq0-clause-crowd g t c genesis log =
@@ -32,7 +32,7 @@ returns-in-Err-clause-crowd g t c genesis log =
 
 pub returns-clause-crowd : goal.returns-clause-crowd
 returns-clause-crowd g t c genesis log =
-    let r = c.join_mut-session.result in
+    let r = c.join_mut-rest.result in
     let link = c.link-3-1.given.0 in
     let net = c.net-1.given.0 in
     let k0 = known_of c.in-Ok-split.both.0 in
@@ -40,16 +40,16 @@ returns-clause-crowd g t c genesis log =
     let others = c.args.sessions - 1 in
     let came = net_of (g.N.Links.coming c.accept.new.self) (g.N.Links.returned c.accept.new.self) (g.N.Counted.faults c.accept.new.self) in
     let left = net_of (g.N.Links.coming net) (g.N.Links.returned net) (g.N.Counted.faults net) in
-    let same_link : link ≡ c.join_mut-session.new.f.4.now = search rules in
-    let same_net : net ≡ c.join_mut-session.new.g.2.now = search rules in
-    let session = subst (λ (l : g.row.N-Link.Denot). OfDocument (known_of c.in-Ok-split.both.1).seen (λ h. IsServedSession g.N.Link.Source.left g.N.Link.Sink.written g.N.Link.Counted.faults g.N.Link.Stream.is_shut h (known_of c.in-Ok-split.both.1) (known_of r.0.1) (visit c.in-Ok.link l r.0.0))) (sym same_link) c.join_mut-session.ensures.0.met.1.2 in
-    let number : (known_of r.0.1).number ≡ (known_of c.in-Ok-split.both.1).number = search rules in
-    let crowd = subst (λ (n : g.row.N.Denot). OfDocument (known_of c.in-Ok-split.both.0).seen (λ h. IsCrowd g.N.Link.Source.left g.N.Link.Sink.written g.N.Link.Counted.faults g.N.Link.Stream.is_shut h (known_of c.in-Ok-split.both.0) (known_of r.1.1) (read_of r.1.1) came (net_of (g.N.Links.coming n) (g.N.Links.returned n) (g.N.Counted.faults n)) others r.1.0)) (sym same_net) c.join_mut-session.ensures.1.met.1.2 in
+    let same_link : link ≡ c.join_mut-rest.new.g.4.now = search rules in
+    let same_net : net ≡ c.join_mut-rest.new.f.2.now = search rules in
+    let session = subst (λ (l : g.row.N-Link.Denot). OfDocument (known_of c.in-Ok-split.both.1).seen (λ h. IsServedSession g.N.Link.Source.left g.N.Link.Sink.written g.N.Link.Counted.faults g.N.Link.Stream.is_shut h (known_of c.in-Ok-split.both.1) (known_of r.1.1) (visit c.in-Ok.link l r.1.0))) (sym same_link) c.join_mut-rest.ensures.1.met.1.2 in
+    let number : (known_of r.1.1).number ≡ (known_of c.in-Ok-split.both.1).number = search rules in
+    let crowd = subst (λ (n : g.row.N.Denot). OfDocument (known_of c.in-Ok-split.both.0).seen (λ h. IsCrowd g.N.Link.Source.left g.N.Link.Sink.written g.N.Link.Counted.faults g.N.Link.Stream.is_shut h (known_of c.in-Ok-split.both.0) (known_of r.0.1) (read_of r.0.1) came (net_of (g.N.Links.coming n) (g.N.Links.returned n) (g.N.Counted.faults n)) others r.0.0)) (sym same_net) c.join_mut-rest.ensures.0.met.1.2 in
     let size : c.args.sessions ≡ suc (c.args.sessions - 1) = omega (arith, c.if-sessions-eq0.false) in
-    crowd_joined g.N.Link.Source.left g.N.Link.Sink.written g.N.Link.Counted.faults g.N.Link.Stream.is_shut genesis (known_of c.args.first) k0 k1 (known_of r.1.1) (known_of r.0.1) (known_of c.joined.result.1) (read_of c.joined.result.1) (read_of r.1.1) (read_of r.0.1)
+    crowd_joined g.N.Link.Source.left g.N.Link.Sink.written g.N.Link.Counted.faults g.N.Link.Stream.is_shut genesis (known_of c.args.first) k0 k1 (known_of r.0.1) (known_of r.1.1) (known_of c.joined.result.1) (read_of c.joined.result.1) (read_of r.0.1) (read_of r.1.1)
     (net_of (g.N.Links.coming c.args.net.now) (g.N.Links.returned c.args.net.now) (g.N.Counted.faults c.args.net.now)) came left
     (net_of (g.N.Links.coming c.take_back-2.new.self) (g.N.Links.returned c.take_back-2.new.self) (g.N.Counted.faults c.take_back-2.new.self)) others c.args.sessions
-    c.in-Ok.link link r.0.0 r.1.0 c.joined.result.0 log c.in-Ok-split.ensures.old c.in-Ok-split.ensures.new session crowd c.join_mut-session.ensures.0.met.1.4 c.joined.ensures.read number c.joined.ensures.known
+    c.in-Ok.link link r.1.0 r.0.0 c.joined.result.0 log c.in-Ok-split.ensures.old c.in-Ok-split.ensures.new session crowd c.join_mut-rest.ensures.1.met.1.4 c.joined.ensures.read number c.joined.ensures.known
     c.joined.ensures.begins.0 c.joined.ensures.begins.1 c.joined.ensures.agrees c.in-Ok.ensures.next c.in-Ok.ensures.open c.accept.ensures.returned c.accept.ensures.count.kept
     c.take_back-2.ensures.coming c.take_back-2.ensures.returned c.take_back-2.ensures.count size c.joined.ensures.answer
 
@@ -70,10 +70,10 @@ pub returns-clause-shut : goal.returns-clause-shut
 returns-clause-shut g t c =
     let link = c.link-3-1.given.0 in
     let net = c.net-1.given.0 in
-    let same_link : link ≡ c.join_mut-session.new.f.4.now = search rules in
-    let same_net : net ≡ c.join_mut-session.new.g.2.now = search rules in
-    let shut = subst (λ (l : g.row.N-Link.Denot). IsTrueIfTold (g.N.Link.Stream.is_shut l)) (sym same_link) c.join_mut-session.ensures.0.met.1.3 in
-    let rest = subst (λ (n : g.row.N.Denot). AreShutBehind g.N.Link.Stream.is_shut (g.N.Links.returned c.accept.new.self) (g.N.Links.returned n)) (sym same_net) c.join_mut-session.ensures.1.met.1.3 in
+    let same_link : link ≡ c.join_mut-rest.new.g.4.now = search rules in
+    let same_net : net ≡ c.join_mut-rest.new.f.2.now = search rules in
+    let shut = subst (λ (l : g.row.N-Link.Denot). IsTrueIfTold (g.N.Link.Stream.is_shut l)) (sym same_link) c.join_mut-rest.ensures.1.met.1.3 in
+    let rest = subst (λ (n : g.row.N.Denot). AreShutBehind g.N.Link.Stream.is_shut (g.N.Links.returned c.accept.new.self) (g.N.Links.returned n)) (sym same_net) c.join_mut-rest.ensures.0.met.1.3 in
     let before = subst (λ (r : Option (List g.row.N-Link.Denot)). AreShutBehind g.N.Link.Stream.is_shut r (g.N.Links.returned net)) c.accept.ensures.returned rest in
     shut_more g.N.Link.Stream.is_shut (g.N.Links.returned c.args.net.now) (g.N.Links.returned net) (g.N.Links.returned c.take_back-2.new.self) link before
     c.take_back-2.ensures.returned shut

@@ -1,8 +1,0 @@
-use Rattle.std.proofs.Common.{◌*◌, ◌+◌, length}
-use Rattle.sporc_docs.proofs.crowd.+crowd+fn-crowd-join_mut+arg3.Given as goal
-
-abbrev pub decreases-crowd : goal.decreases-crowd
-decreases-crowd g l = 2 * length l.hands.now
-
-abbrev pub decreases-join_mut+arg3 : goal.decreases-join_mut+arg3
-decreases-join_mut+arg3 g l = 2 * length l.others.now + 1

@@ -1,0 +1,117 @@
+-- What is read of a tail's file and taken behind an order's entries, and why it is not.
+use Rattle.std.proofs.Common.{◌≡◌, ℕ, zero, suc, ◌+◌, ◌<◌, ◌≤◌, List, [], ◌∷◌, ◌++◌, length, Option, Some, None, Result, Ok, Err, refl, sym, ap, ◌∙◌, subst, arith, append-nil, length-append}
+use Rattle.std.specs.Prelude.{IfSome, IsSome, OnErr}
+use Rattle.std.proofs.lemmas.List.{take_all}
+use Rattle.sporc_entry.specs.declared.genesis.Genesis.{Genesis}
+use Rattle.sporc_outside.specs.AppendFile.{IsWholeFault}
+use Rattle.sporc_outside.specs.declared.file_fault.FileFault.TheVariants as files
+use Rattle.sporc_outside.specs.declared.file_fault.TheConstants.{MAX_FILE}
+use Rattle.sporc_store.specs.declared.stop.Stop.{Stop}
+use Rattle.sporc_store.specs.declared.stop.Stop.TheVariants.{End, Foreign, Cut, Refused as RefusedAt}
+use Rattle.sporc_store.specs.declared.tail_fault.TailFault.{TailFault}
+use Rattle.sporc_store.specs.declared.tail_fault.TailFault.TheVariants.{Failed, TooLong, Malformed, Refused, Memory}
+use Rattle.sporc_store.specs.Loading.{AppendsPart, Checker, accepted_behind, accepted_from, an_order}
+use Rattle.sporc_store.specs.SavedFile.{Taken, read_to}
+use Rattle.sporc_store.specs.TailBytes.{IsUnread, Recovers, TailTaken, tail_behind}
+use Rattle.sporc_store.specs.TailFiles.{AreSynced, IsFaultOf, IsRefusal, IsTakingFault, RecoversAt, StaysFound, TellsStill}
+use Rattle.sporc_store.specs.TailReadings.{AreTold, IsFaultOfRead, IsReadingFault, StaysTold}
+use Rattle.sporc_store.proofs.Prefixes.{is_longest}
+use Rattle.sporc_store.proofs.Taking.{ends_empty}
+
+-- ---- entries that are taken
+
+pub parts_end : (checker : Checker) (before part after : List (List ℕ)) → AppendsPart checker before part None after → accepted_from checker before part End ≡ read_to after End
+parts_end checker before part after a =
+    ap (λ (l : List (List ℕ)). accepted_from checker before l End) (sym (append-nil part)) ∙ a.taken [] End ∙ sym (ends_empty checker after [] End refl)
+
+pub takes_all : (checker : Checker) (before part after : List (List ℕ)) → AppendsPart checker before part None after → after ≡ before ++ part
+takes_all checker before part after a =
+    let behind = accepted_behind checker before part End in
+    let whole : before ++ behind.entries ≡ after = ap (λ (t : Taken). t.entries) (parts_end checker before part after a) in
+    let size : length behind.entries ≡ length part = omega (arith, ap length whole, length-append before behind.entries, a.count) in
+    let all : behind.entries ≡ part = (is_longest checker before part End).prefix ∙ take_all (length behind.entries) part (omega (arith, size)) in
+    sym whole ∙ ap (λ (l : List (List ℕ)). before ++ l) all
+
+pub refused_at : (checker : Checker) (before part after : List (List ℕ)) (refused : Option Stop) (stop : Stop) (fault : TailFault) → refused ≡ Some stop
+    → AppendsPart checker before part refused after → IsFaultOf stop fault → IsRefusal (accepted_from checker before part End) fault
+refused_at checker before part after refused (RefusedAt position refusal) fault is a same =
+    let stopped : (accepted_from checker before part End).stop ≡ RefusedAt position refusal =
+    ap (λ (l : List (List ℕ)). (accepted_from checker before l End).stop) (sym (append-nil part))
+    ∙ ap (λ (t : Taken). t.stop) ((subst (λ (r : Option Stop). AppendsPart checker before part r after) is a).taken [] End) in
+    subst (IsRefusal (accepted_from checker before part End)) (sym same) stopped
+refused_at checker before part after refused End fault is a same = absurd same
+refused_at checker before part after refused Foreign fault is a same = absurd same
+refused_at checker before part after refused (Cut at) fault is a same = absurd same
+
+-- ---- faults
+
+some_long : (n : ℕ) → (bytes : List ℕ) × (n < length bytes)
+some_long zero = (0 ∷ [], omega arith)
+some_long (suc n) =
+    let shorter = some_long n in
+    (0 ∷ shorter.0, omega (arith, shorter.1))
+
+pub too_long : (stored : Option (List ℕ)) (before after len : ℕ) → IsWholeFault stored before after (files.TooLong len) → IsReadingFault stored before after (TooLong len)
+too_long None before after len h = let long = some_long MAX_FILE in (long.0, tt, long.1)
+too_long (Some bytes) before after len h = (bytes, refl, omega (arith, h.0, h.1))
+
+-- the same after a call that failed less often, where the bytes told are the same
+pub reading_later : (old stored : Option (List ℕ)) (before mid after : ℕ) (fault : TailFault) → stored ≡ old → before ≤ mid → IsReadingFault stored mid after fault
+    → IsReadingFault old before after fault
+reading_later old stored before mid after Failed same le h = omega (arith, le, h)
+reading_later old stored before mid after (TooLong len) same le (bytes, told, long) = (bytes, subst (λ (o : Option (List ℕ)). AreTold o bytes) same told, long)
+reading_later old stored before mid after Memory same le h = tt
+reading_later old stored before mid after (Malformed at) same le h = absurd h
+reading_later old stored before mid after (Refused position refusal) same le h = absurd h
+
+pub reading_why : (genesis : Genesis) (log : List (List ℕ)) (stored : Option (List ℕ)) (before after : ℕ) (fault : TailFault) → IsReadingFault stored before after fault
+    → IsFaultOfRead genesis log stored before after fault
+reading_why genesis log stored before after Failed h = h
+reading_why genesis log stored before after (TooLong len) h = h
+reading_why genesis log stored before after Memory h = tt
+reading_why genesis log stored before after (Malformed at) h = absurd h
+reading_why genesis log stored before after (Refused position refusal) h = absurd h
+
+pub unread_why : (genesis : Genesis) (log : List (List ℕ)) (tail : Result TailTaken TailFault) (fault : TailFault) → IsUnread tail fault → IsTakingFault genesis log tail fault
+unread_why genesis log tail Failed h = absurd h
+unread_why genesis log tail (TooLong len) h = absurd h
+unread_why genesis log tail Memory h = tt
+unread_why genesis log tail (Malformed at) h = h
+unread_why genesis log tail (Refused position refusal) h = absurd h
+
+pub refusal_why : (genesis : Genesis) (log : List (List ℕ)) (tail : Result TailTaken TailFault) (taken : TailTaken) (fault : TailFault) → tail ≡ Ok taken
+    → IsRefusal (accepted_from (an_order genesis) log taken.entries End) fault → IsTakingFault genesis log tail fault
+refusal_why genesis log tail taken Failed is h = absurd h
+refusal_why genesis log tail taken (TooLong len) is h = absurd h
+refusal_why genesis log tail taken Memory is h = tt
+refusal_why genesis log tail taken (Malformed at) is h = absurd h
+refusal_why genesis log tail taken (Refused position refusal) is h = (taken, is, h)
+
+pub taking_why : (genesis : Genesis) (log : List (List ℕ)) (stored : Option (List ℕ)) (before after : ℕ) (bytes : List ℕ) (fault : TailFault) → AreTold stored bytes
+    → length bytes ≤ MAX_FILE → IsTakingFault genesis log (tail_behind log genesis.document bytes) fault → IsFaultOfRead genesis log stored before after fault
+taking_why genesis log stored before after bytes Failed told small h = absurd h
+taking_why genesis log stored before after bytes (TooLong len) told small h = absurd h
+taking_why genesis log stored before after bytes Memory told small h = tt
+taking_why genesis log stored before after bytes (Malformed at) told small h = (bytes, told, small, h)
+taking_why genesis log stored before after bytes (Refused position refusal) told small (taken, reads, stop) = (bytes, told, small, taken, reads, stop)
+
+-- ---- what is told
+
+pub told_still : {D : Type 0} (stored : D → Option (List ℕ)) (moment : D → ℕ) (images : D → ℕ → List ℕ → Type 0)
+    (is_image : (file : D) → IfSome (stored file) (images file (moment file))) (log : List (List ℕ)) (document bytes : List ℕ) (old new : D) (first : Option (List ℕ))
+    → stored old ≡ first → AreTold first bytes → AreSynced moment images old bytes → TellsStill (stored old) (stored new) → StaysFound moment images log document old new
+    → StaysTold log document first (stored new)
+told_still stored moment images is_image log document bytes old new None is told synced still stays = tt
+told_still stored moment images is_image log document bytes old new (Some first) is told synced still stays =
+    by (stored new) refl (subst (λ (o : Option (List ℕ)). TellsStill o (stored new)) is still refl)
+  where
+    by : (o : Option (List ℕ)) → stored new ≡ o → IsSome (stored new) → StaysTold log document (Some first) o
+    by None none some = let clash : IsSome {T = List ℕ} None = subst IsSome none some in absurd cc
+    by (Some last) there some = λ entries found.
+        let all : RecoversAt moment images log document old (moment old) entries = λ image here.
+        subst (λ (l : List ℕ). Recovers log document l entries) (told ∙ sym (synced image here)) found in
+        stays.during entries all (moment new) stays.later (omega arith) last (subst (λ (o : Option (List ℕ)). IfSome o (images new (moment new))) there (is_image new))
+
+pub on_err : {T E : Type 0} {P : Type 0} (r : Result T E) → P → OnErr r P
+on_err (Ok x) p = tt
+on_err (Err e) p = p

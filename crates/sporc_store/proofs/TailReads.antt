@@ -1,0 +1,213 @@
+-- A tail that was written is read again behind a log, also where its last record is cut.
+use Rattle.std.proofs.Common.{◌≡◌, ℕ, zero, suc, ◌+◌, ◌-◌, ◌^◌, ◌<◌, ◌≤◌, ◌⊎◌, inl, inr, Bool, true, false, leb, eqb, List, [], ◌∷◌, ◌++◌, length, take, drop, Result, Ok, refl, sym, ap, ◌∙◌, subst, arith, append-nil, append_assoc}
+use Rattle.std.proofs.lemmas.Bool.{le-leb, cases_lt}
+use Rattle.std.proofs.lemmas.Bool.Decides.{Decides-eqb}
+use Rattle.std.proofs.lemmas.List.{length-append, length-take, take_all, take_at, drop_at, take-append-drop}
+use Rattle.std.proofs.lemmas.List.Elements.{All-append, All-cons, All-nil}
+use Rattle.std.proofs.lemmas.Slice.Eq.{starts_is}
+use Rattle.std.proofs.Math.Seq.{take-append-add}
+use Rattle.std.specs.List.{All, starts_with}
+use Rattle.std.specs.Int.{w32, to_be_bytes}
+use Rattle.sporc_bytes.specs.Fields.{number_at}
+use Rattle.sporc_bytes.proofs.Fields.{u32_again}
+use Rattle.sporc_store.specs.declared.tail_fault.TailFault.{TailFault}
+use Rattle.sporc_store.specs.declared.tail_head.TheConstants.{TAIL_HEAD_LEN}
+use Rattle.sporc_store.specs.SavedFile.{IsPrefix}
+use Rattle.sporc_store.specs.TailBytes.{Agree, FitsRecord, IsTail, Recovers, TailTaken, record_bytes, records_bytes, records_of, tail_behind, tail_bytes, tail_head, taken_to}
+use Rattle.sporc_store.specs.TailFiles.{Between}
+use Rattle.sporc_store.proofs.TailRecords.{number_short, reading, record_len, records_again, records_few, records_more}
+
+pub head_len : (document : List ℕ) → length document ≡ 16 → length (tail_head document) ≡ TAIL_HEAD_LEN
+head_len document is = omega (arith, is)
+
+begins : (xs rest : List ℕ) → starts_with eqb (xs ++ rest) xs ≡ true
+begins xs rest = (starts_is Decides-eqb (xs ++ rest) xs (starts_with eqb (xs ++ rest) xs) refl).1 rest refl
+
+-- the records of these entries, and a prefix of the next
+abbrev pub records_and : ℕ → List (List ℕ) → List ℕ → ℕ → List ℕ
+records_and position all next k = records_bytes position all ++ take k (record_bytes (position + length all) next)
+
+-- such bytes begin with their first position, unless they end before it does
+first_number : (position : ℕ) (all : List (List ℕ)) (next : List ℕ) (k : ℕ)
+    → ((length (records_and position all next k) < 4) × (all ≡ [])) ⊎ ((rest : List ℕ) × (records_and position all next k ≡ to_be_bytes w32 position ++ rest))
+first_number position (e ∷ es) next k =
+    let more = take k (record_bytes (position + length (e ∷ es)) next) in
+    let entry = to_be_bytes w32 (length e) ++ e in
+    inr (
+      entry ++ (records_bytes (position + 1) es ++ more),
+      append_assoc (record_bytes position e) (records_bytes (position + 1) es) more
+          ∙ append_assoc (to_be_bytes w32 position) entry (records_bytes (position + 1) es ++ more),
+    )
+first_number position [] next k = by (cases_lt k 4)
+  where
+    same : position + 0 ≡ position
+    same = omega arith
+
+    by : (k < 4) ⊎ (4 ≤ k) → ((length (records_and position [] next k) < 4) × (◌≡◌ {A = List (List ℕ)} [] [])) ⊎ ((rest : List ℕ) × (records_and position [] next k ≡ to_be_bytes w32 position ++ rest))
+    by (inl few) = inl (omega (arith, length-take k (record_bytes (position + 0) next), few), refl)
+    by (inr four) =
+        let entry = to_be_bytes w32 (length next) ++ next in
+        let split : k ≡ 4 + (k - 4) = omega (arith, four) in
+        inr (
+          take (k - 4) entry,
+          ap (λ (n : ℕ). take k (record_bytes n next)) same ∙ ap (λ (n : ℕ). take n (record_bytes position next)) split
+              ∙ take-append-add (to_be_bytes w32 position) entry (k - 4),
+        )
+
+-- what is behind the head
+records_found : (log all : List (List ℕ)) (from : ℕ) (next : List ℕ) (k : ℕ) → from ≤ length log → Agree (drop from log) all → All FitsRecord all → FitsRecord next
+    → from + length all + 1 < 2 ^ 32 → k < length (record_bytes (from + 1 + length all) next)
+    → records_of log (reading (records_and (from + 1) all next k) TAIL_HEAD_LEN) (number_at w32 (reading (records_and (from + 1) all next k) TAIL_HEAD_LEN))
+    ≡ Ok (taken_to (drop (length (drop from log)) all) (TAIL_HEAD_LEN + length (records_bytes (from + 1) all)))
+records_found log all from next k within agree fit next_fits below short = by (first_number (from + 1) all next k)
+  where
+    bytes : List ℕ
+    bytes = records_and (from + 1) all next k
+
+    result : Result TailTaken TailFault
+    result = Ok (taken_to (drop (length (drop from log)) all) (TAIL_HEAD_LEN + length (records_bytes (from + 1) all)))
+
+    none : (ahead : List (List ℕ)) → ◌≡◌ {A = List (List ℕ)} [] (drop (length ahead) [])
+    none [] = refl
+    none (a ∷ others) = refl
+
+    by : ((length bytes < 4) × (all ≡ [])) ⊎ ((rest : List ℕ) × (bytes ≡ to_be_bytes w32 (from + 1) ++ rest))
+        → records_of log (reading bytes TAIL_HEAD_LEN) (number_at w32 (reading bytes TAIL_HEAD_LEN)) ≡ result
+    by (inl few) =
+        rw (number_short bytes TAIL_HEAD_LEN few.0) (
+        ap (λ (l : List (List ℕ)). Ok (taken_to l TAIL_HEAD_LEN)) (none (drop from log))
+        ∙ ap (λ (l : List (List ℕ)). Ok (taken_to (drop (length (drop from log)) l) (TAIL_HEAD_LEN + length (records_bytes (from + 1) l)))) (sym few.1)
+        )
+    by (inr first) =
+        let size : length all ≤ length bytes = omega (arith, records_few (from + 1) all, length-append (records_bytes (from + 1) all) (take k (record_bytes (from + 1 + length all) next))) in
+        let number : number_at w32 (reading bytes TAIL_HEAD_LEN) ≡ Ok (from + 1, reading first.0 (TAIL_HEAD_LEN + 4)) =
+        ap (λ (bs : List ℕ). number_at w32 (reading bs TAIL_HEAD_LEN)) first.1 ∙ u32_again (from + 1) TAIL_HEAD_LEN first.0 (omega (arith, below)) in
+        let back : from + 1 - 1 ≡ from = omega arith in
+        rw (number, le-leb 1 (from + 1) (omega arith), le-leb (from + 1) (length log + 1) (omega (arith, within)), back)
+        (records_again all (drop from log) (length bytes) (from + 1) TAIL_HEAD_LEN next k agree fit next_fits (omega (arith, below)) short size)
+
+pub tail_again : (log all : List (List ℕ)) (document : List ℕ) (from : ℕ) (next : List ℕ) (k : ℕ) → length document ≡ 16 → from ≤ length log
+    → Agree (drop from log) all → All FitsRecord all → FitsRecord next → from + length all + 1 < 2 ^ 32 → k < length (record_bytes (from + length all + 1) next)
+    → tail_behind log document (tail_bytes document from all ++ take k (record_bytes (from + length all + 1) next))
+    ≡ Ok (taken_to (drop (length (drop from log)) all) (length (tail_bytes document from all)))
+unfolding tail_behind tail_bytes
+tail_again log all document from next k is within agree fit next_fits below short =
+    let place : from + length all + 1 ≡ from + 1 + length all = omega arith in
+    let short' : k < length (record_bytes (from + 1 + length all) next) = subst (λ (p : ℕ). k < length (record_bytes p next)) place short in
+    let bytes = records_and (from + 1) all next k in
+    let grouped : (tail_head document ++ records_bytes (from + 1) all) ++ take k (record_bytes (from + length all + 1) next) ≡ tail_head document ++ bytes =
+    append_assoc (tail_head document) (records_bytes (from + 1) all) (take k (record_bytes (from + length all + 1) next))
+    ∙ ap (λ (p : ℕ). tail_head document ++ (records_bytes (from + 1) all ++ take k (record_bytes p next))) place in
+    let size : TAIL_HEAD_LEN + length (records_bytes (from + 1) all) ≡ length (tail_head document ++ records_bytes (from + 1) all) =
+    omega (arith, length-append (tail_head document) (records_bytes (from + 1) all), head_len document is) in
+    ap (tail_behind log document) grouped
+    ∙ rw (begins (tail_head document) bytes, drop_at (tail_head document) bytes TAIL_HEAD_LEN (head_len document is))
+    (records_found log all from next k within agree fit next_fits below short'
+    ∙ ap (λ (w : ℕ). Ok (taken_to (drop (length (drop from log)) all) w)) size)
+
+-- ---- what is found again
+
+-- what a list begins with agrees with it
+pub prefix_agrees : (front more : List (List ℕ)) → Agree front (front ++ more)
+prefix_agrees [] more = tt
+prefix_agrees (e ∷ es) more = (refl, prefix_agrees es more)
+
+pub is_prefix : (es more : List (List ℕ)) → IsPrefix es (es ++ more)
+is_prefix es more = sym (take_at es more (length es) refl)
+
+recovers_short : (log before behind front more : List (List ℕ)) (document next : List ℕ) (kept : ℕ) (image : List ℕ) → length document ≡ 16
+    → Between log before behind front more → image ≡ tail_bytes document (length before) behind ++ take kept (record_bytes (length before + length behind + 1) next)
+    → All FitsRecord behind → FitsRecord next → length before + length behind + 1 < 2 ^ 32
+    → kept < length (record_bytes (length before + length behind + 1) next) → Recovers log document image (before ++ behind)
+recovers_short log before behind front more document next kept image is b bytes fit next_fits below short =
+    let from = length before in
+    let rest : drop from log ≡ front = ap (drop from) b.log_is ∙ drop_at before front from refl in
+    let within : from ≤ length log = omega (arith, ap length b.log_is, length-append before front) in
+    let agree : Agree (drop from log) behind = subst (λ (l : List (List ℕ)). Agree l behind) (sym rest) (subst (Agree front) (sym b.behind_is) (prefix_agrees front more)) in
+    let lacking : drop (length (drop from log)) behind ≡ more =
+    ap (λ (l : List (List ℕ)). drop (length l) behind) rest ∙ ap (drop (length front)) b.behind_is ∙ drop_at front more (length front) refl in
+    let read = ap (tail_behind log document) bytes ∙ tail_again log behind document from next kept is within agree fit next_fits below short in
+    let all : log ++ more ≡ before ++ behind =
+    ap (λ (l : List (List ℕ)). l ++ more) b.log_is ∙ append_assoc before front more ∙ ap (λ (l : List (List ℕ)). before ++ l) (sym b.behind_is) in
+    record {
+      taken = taken_to (drop (length (drop from log)) behind) (length (tail_bytes document from behind));
+      reads = read;
+      all =
+          sym (take_all (length (before ++ behind)) (before ++ behind) (omega arith))
+          ∙ ap (take (length (before ++ behind))) (sym (ap (λ (l : List (List ℕ)). log ++ l) lacking ∙ all));
+    }
+
+-- a shorter prefix
+pub shorter_take : (n m : ℕ) (all : List (List ℕ)) → n ≤ m → take n (take m all) ≡ take n all
+shorter_take zero m all le = refl
+shorter_take (suc n) zero all le = absurd (omega (arith, le))
+shorter_take (suc n) (suc m) [] le = refl
+shorter_take (suc n) (suc m) (e ∷ es) le = ap (λ (l : List (List ℕ)). e ∷ l) (shorter_take n m es (omega (arith, le)))
+
+shorter_by : (es last all : List (List ℕ)) → IsPrefix (es ++ last) all → IsPrefix es all
+shorter_by es last all whole =
+    let n = length es in
+    sym (take_at es last n refl) ∙ ap (take n) whole ∙ shorter_take n (length (es ++ last)) all (omega (arith, length-append es last))
+
+-- a record that is whole is one entry more
+pub tail_more : (document : List ℕ) (from : ℕ) (entries : List (List ℕ)) (next : List ℕ)
+    → tail_bytes document from (entries ++ next ∷ []) ≡ tail_bytes document from entries ++ record_bytes (from + length entries + 1) next
+unfolding tail_bytes
+tail_more document from entries next =
+    let place : from + 1 + length entries ≡ from + length entries + 1 = omega arith in
+    ap (λ (l : List ℕ). tail_head document ++ l) (records_more (from + 1) entries next)
+    ∙ sym (append_assoc (tail_head document) (records_bytes (from + 1) entries) (record_bytes (from + 1 + length entries) next))
+    ∙ ap (λ (p : ℕ). (tail_head document ++ records_bytes (from + 1) entries) ++ record_bytes p next) place
+
+pub recovers : (log before behind front more : List (List ℕ)) (document next : List ℕ) (kept : ℕ) (image : List ℕ) → length document ≡ 16
+    → Between log before behind front more → IsTail document (length before) behind next kept image → Recovers log document image (before ++ behind)
+recovers log before behind front more document next kept image is b t = by (cases_lt kept (length (record_bytes (length before + length behind + 1) next)))
+  where
+    from : ℕ
+    from = length before
+
+    by : (kept < length (record_bytes (from + length behind + 1) next)) ⊎ (length (record_bytes (from + length behind + 1) next) ≤ kept)
+        → Recovers log document image (before ++ behind)
+    by (inl short) = recovers_short log before behind front more document next kept image is b t.bytes_are t.fit t.next_fits (omega (arith, t.positions)) short
+    by (inr whole) =
+        let all = behind ++ next ∷ [] in
+        let size : length all ≡ length behind + 1 = length-append behind (next ∷ []) in
+        let bytes : image ≡ tail_bytes document from all ++ take 0 (record_bytes (from + length all + 1) []) =
+        t.bytes_are ∙ ap (λ (l : List ℕ). tail_bytes document from behind ++ l) (take_all kept (record_bytes (from + length behind + 1) next) whole)
+        ∙ sym (tail_more document from behind next) ∙ sym (append-nil (tail_bytes document from all)) in
+        let fit : All FitsRecord all = All-append FitsRecord behind (next ∷ []) t.fit (All-cons FitsRecord next [] t.next_fits (All-nil FitsRecord)) in
+        let between : Between log before all front (more ++ next ∷ []) = record {
+          log_is = b.log_is;
+          behind_is = ap (λ (l : List (List ℕ)). l ++ next ∷ []) b.behind_is ∙ append_assoc front more (next ∷ []);
+        } in
+        let found = recovers_short log before all front (more ++ next ∷ []) document [] 0 image is between bytes fit (omega arith) (omega (arith, t.positions, size))
+        (omega (arith, record_len (from + length all + 1) [])) in
+        let longer : before ++ all ≡ (before ++ behind) ++ next ∷ [] = sym (append_assoc before behind (next ∷ [])) in
+        record { taken = found.taken; reads = found.reads; all = shorter_by (before ++ behind) (next ∷ []) (log ++ found.taken.entries) (rw longer at found.all) }
+
+-- ---- a head that is cut
+
+no_start : (xs head : List ℕ) → length xs < length head → starts_with eqb xs head ≡ false
+no_start xs head short = by (starts_with eqb xs head) refl
+  where
+    by : (b : Bool) → starts_with eqb xs head ≡ b → starts_with eqb xs head ≡ false
+    by false is = is
+    by true is =
+        let parts = (starts_is Decides-eqb xs head (starts_with eqb xs head) refl).0 is in
+        absurd (omega (arith, short, ap length parts, length-append head (drop (length head) xs)))
+
+pub head_reads : (log : List (List ℕ)) (document : List ℕ) (k : ℕ) → length document ≡ 16 → k < TAIL_HEAD_LEN
+    → tail_behind log document (take k (tail_head document)) ≡ Ok (taken_to [] 0)
+unfolding tail_behind
+head_reads log document k is short =
+    let head = tail_head document in
+    let part = take k head in
+    let size : length part < length head = omega (arith, length-take k head, head_len document is, short) in
+    rw (no_start part head size, ap (λ (l : List ℕ). starts_with eqb l part) (sym (take-append-drop k head)) ∙ begins part (drop k head)) refl
+
+pub recovers_head : (log : List (List ℕ)) (document : List ℕ) (k : ℕ) → length document ≡ 16 → k < TAIL_HEAD_LEN → Recovers log document (take k (tail_head document)) log
+recovers_head log document k is short = record {
+  taken = taken_to [] 0;
+  reads = head_reads log document k is short;
+  all = sym (take_all (length log) log (omega arith)) ∙ ap (take (length log)) (sym (append-nil log));
+}

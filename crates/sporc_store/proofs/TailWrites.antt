@@ -1,0 +1,67 @@
+-- What a call and the sync behind it do together to what a crash may leave.
+use Rattle.std.proofs.Common.{◌≡◌, ◌⊎◌, inl, inr, ℕ, ◌<◌, ◌≤◌, List, ◌++◌, take, Option, Some, None, Result, Ok, Err, refl, sym, ap, ◌∙◌, subst, arith}
+use Rattle.std.specs.Prelude.{IfSome, OnOk, option_map}
+use Rattle.std.proofs.lemmas.Bool.{cases_lt}
+use Rattle.sporc_outside.specs.AppendFile.{GrowsBy, MayBeCut}
+use Rattle.sporc_outside.specs.LeafDisk.{CrashStep, IsSame}
+use Rattle.sporc_store.specs.TailFiles.{Cuts, Writes}
+
+-- a step, and then one that leaves all as it is
+pub step_then : (a b c : ℕ) (past mid images : ℕ → List ℕ → Type 0) (step : List ℕ → List ℕ → Type 0) → CrashStep a b past mid step → CrashStep b c mid images IsSame
+    → CrashStep a c past images step
+step_then a b c past mid images step one two = record {
+  later = omega (arith, one.later, two.later);
+  earlier = λ m image le.
+      let inner = one.earlier m image le in
+      let outer = two.earlier m image (omega (arith, le, one.later)) in
+      (λ h. inner.0 (outer.0 h), λ h. outer.1 (inner.1 h));
+  during = λ m image low high h. by m image low high h (cases_lt m b);
+}
+  where
+    by : (m : ℕ) (image : List ℕ) → a ≤ m → m ≤ c → images m image → (m < b) ⊎ (b ≤ m) → (old : List ℕ) × past a old × step old image
+    by m image low high h (inl early) = one.during m image low (omega (arith, early)) ((two.earlier m image (omega (arith, early))).0 h)
+    by m image low high h (inr late) =
+        let got = two.during m image late high h in
+        let was = one.during b got.0 one.later (omega arith) got.1 in
+        (was.0, was.1, subst (step was.0) (sym got.2) was.2)
+
+module _ {D : Type 0} (stored : D → Option (List ℕ)) (moment : D → ℕ) (images : D → ℕ → List ℕ → Type 0)
+    (is_image : (file : D) → IfSome (stored file) (images file (moment file))) where
+  -- what a synced file stores is what one before it stored, changed so
+  from_stored : (f : List ℕ → List ℕ) (old new : D) → stored new ≡ option_map f (stored old) → ((image : List ℕ) → images new (moment new) image → stored new ≡ Some image)
+      → (image : List ℕ) → images new (moment new) image → (before : List ℕ) × images old (moment old) before × (image ≡ f before)
+  from_stored f old new told durable image there = by (stored old) refl (is_image old)
+    where
+      by : (o : Option (List ℕ)) → stored old ≡ o → IfSome (stored old) (images old (moment old)) → (before : List ℕ) × images old (moment old) before × (image ≡ f before)
+      by (Some before) is has =
+          let same : Some (f before) ≡ Some image = sym (told ∙ ap (option_map f) is) ∙ durable image there in
+          (before, subst (λ (o : Option (List ℕ)). IfSome o (images old (moment old))) is has, cc)
+      by None is has =
+          let clash : None ≡ Some image = sym (told ∙ ap (option_map f) is) ∙ durable image there in
+          absurd cc
+
+  -- what a call left, and then a sync that succeeded or failed
+  module _ {E : Type 0} (old mid new : D) (kept : stored new ≡ stored mid) (same : CrashStep (moment mid) (moment new) (images mid) (images new) IsSame) where
+    pub writes_then : (bytes : List ℕ) (result : Result (Unit {0}) E) → CrashStep (moment old) (moment mid) (images old) (images mid) (GrowsBy bytes)
+        → stored mid ≡ option_map (λ l. l ++ bytes) (stored old) → OnOk result ((image : List ℕ) → images new (moment new) image → stored new ≡ Some image)
+        → Writes moment images bytes old new result
+    writes_then bytes (Ok done) step told durable = record {
+      step = step_then (moment old) (moment mid) (moment new) (images old) (images mid) (images new) (GrowsBy bytes) step same;
+      all = from_stored (λ l. l ++ bytes) old new (kept ∙ told) durable;
+    }
+    writes_then bytes (Err e) step told durable = record {
+      step = step_then (moment old) (moment mid) (moment new) (images old) (images mid) (images new) (GrowsBy bytes) step same;
+      all = tt;
+    }
+
+    pub cuts_then : (len : ℕ) (result : Result (Unit {0}) E) → CrashStep (moment old) (moment mid) (images old) (images mid) (MayBeCut len)
+        → stored mid ≡ option_map (λ l. take len l) (stored old) → OnOk result ((image : List ℕ) → images new (moment new) image → stored new ≡ Some image)
+        → Cuts moment images len old new result
+    cuts_then len (Ok done) step told durable = record {
+      step = step_then (moment old) (moment mid) (moment new) (images old) (images mid) (images new) (MayBeCut len) step same;
+      all = from_stored (λ l. take len l) old new (kept ∙ told) durable;
+    }
+    cuts_then len (Err e) step told durable = record {
+      step = step_then (moment old) (moment mid) (moment new) (images old) (images mid) (images new) (MayBeCut len) step same;
+      all = tt;
+    }

@@ -1,0 +1,54 @@
+//! Why the tail of a log is not opened.
+
+use sporc_head::Refusal;
+use sporc_outside::{Failed, FileFault};
+use std::alloc::{AllocError, AllocFailed};
+
+/// Why the tail of a log is not opened.
+#[derive(Clone, Copy, PartialEq, Eq)]
+pub enum TailFault {
+    /// A call on its file failed, which counts it.
+    Failed,
+    /// It has so many bytes, which is more than a file may have, 1,073,741,824.
+    TooLong(u64),
+    /// At this place of the file: it is the tail of another document, or of no log that begins as this one does, or what stands
+    /// there is no record of the position that is next.
+    Malformed(usize),
+    /// The entry at this position, which the log lacks, fails this check.
+    Refused(u32, Refusal),
+    /// Out of memory.
+    Memory,
+}
+
+impl From<AllocError> for TailFault {
+    ghost use Rattle.std.specs.Prelude.{◌≡◌};
+    ghost use Rattle.sporc_store.specs.declared.tail_fault.TailFault.TheVariants as faults;
+
+    ghost from_gives = { λ _ e. e ≡ faults.Memory };
+
+    fn from(_: AllocError) -> TailFault {
+        TailFault::Memory
+    }
+}
+
+impl<T: Drop> From<AllocFailed<T>> for TailFault {
+    ghost use Rattle.std.specs.Prelude.{◌≡◌};
+    ghost use Rattle.sporc_store.specs.declared.tail_fault.TailFault.TheVariants as faults;
+
+    ghost from_gives = { λ _ e. e ≡ faults.Memory };
+
+    fn from(_: AllocFailed<T>) -> TailFault {
+        TailFault::Memory
+    }
+}
+
+impl From<Failed> for TailFault {
+    ghost use Rattle.std.specs.Prelude.{◌≡◌};
+    ghost use Rattle.sporc_store.specs.declared.tail_fault.TailFault.TheVariants as faults;
+
+    ghost from_gives = { λ _ e. e ≡ faults.Failed };
+
+    fn from(_: Failed) -> TailFault {
+        TailFault::Failed
+    }
+}
