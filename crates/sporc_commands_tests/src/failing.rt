@@ -69,9 +69,11 @@ const PLAY: [Row; 2] = [
     (Object::Out, 12, 12),
 ];
 
-const SERVE: [Row; 7] = [
-    // genesis and log are read, and the log is written
-    (Object::Files, 3, 3),
+const SERVE: [Row; 8] = [
+    // genesis and log are read, the tail is opened before the log, the log is written, and the tail removed
+    (Object::Files, 5, 5),
+    // the empty tail is synced, read, cut and synced; its head is appended and synced, and so is the entry
+    (Object::Tail, 8, 8),
     (Object::Out, 1, 1),
     // it listens, and takes the link
     (Object::Net, 2, 2),
@@ -97,9 +99,11 @@ const CLIENT: [Row; 7] = [
     (Object::Source, 0, 0),
 ];
 
-const SERVE_ALL: [Row; 7] = [
-    // genesis and log of both documents are read, and both logs are written
-    (Object::Files, 6, 6),
+const SERVE_ALL: [Row; 8] = [
+    // genesis and log of both documents are read and both tails opened, both logs are written, and both tails removed
+    (Object::Files, 10, 10),
+    // the tail of the first one, as of one document
+    (Object::Tail, 8, 8),
     // a line for each
     (Object::Out, 2, 2),
     // as of one document

@@ -25,9 +25,10 @@ n n n n n n n n n n n n n n n n \
 n n n n n n n n n n n n n n n n \
 n";
 
-// Names that are at fault, of a folder with the genesis of one document as `D` and as `E`, and a bad log of `E`.
-const FAULTS: [(&str, &[u8]); 5] = [
+// Names that are at fault, of a folder with the genesis of one document as `D`, as `E` and as `G`, and a bad log of `E`.
+const FAULTS: [(&str, &[u8]); 6] = [
     ("serve-all a --sessions 1 D D", b"fault exists D\n"),
+    ("serve-all a --sessions 1 D G E", b"fault exists G\n"),
     (
         "serve-all a --sessions 1 D F E",
         b"fault missing F.genesis\n",
@@ -59,6 +60,7 @@ fn at_fault(rt: &impl Abort, alloc: Global, members: &Place) -> Vec<NamedFile> {
     let mut files = Vec::new(alloc);
     add_copy(rt, alloc, &mut files, members, "D.genesis", "D.genesis");
     add_copy(rt, alloc, &mut files, members, "D.genesis", "E.genesis");
+    add_copy(rt, alloc, &mut files, members, "D.genesis", "G.genesis");
     add_copy(rt, alloc, &mut files, members, "S", "E.log");
     files
 }

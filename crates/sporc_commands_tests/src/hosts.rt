@@ -41,12 +41,14 @@ const WELL: &[u8] = b"log D 2\nlog E 0\n";
 // Those where the session brings nothing.
 const NOTHING: &[u8] = b"log D 1\nlog E 0\n";
 
-// What is written where this call of an object fails. Four files are read first, and one of these that fails is told alone.
-// Then each log is saved and told, also if the one before it was not, and the fault comes last.
+// What is written where this call of an object fails. Of each document genesis, tail and log are opened first, and one of these
+// that fails is told alone. Then each log is saved and told, also if the one before it was not, and both tails are removed; the
+// fault comes last.
 fn fault_lines(object: Object, call: u64) -> &'static [u8] {
     match object {
-        Object::Files if call <= 4 => b"fault outside\n",
-        Object::Files if call == 5 => b"log E 0\nfault outside\n",
+        Object::Files | Object::Tail if call <= 6 => b"fault outside\n",
+        Object::Files if call == 7 => b"log E 0\nfault outside\n",
+        Object::Files if call >= 9 => b"log D 2\nlog E 0\nfault outside\n",
         Object::Out if call == 1 => b"log E 0\nfault outside\n",
         Object::Files | Object::Out => b"log D 2\nfault outside\n",
         _ => b"log D 1\nlog E 0\nfault outside\n",

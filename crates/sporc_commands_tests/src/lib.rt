@@ -3,12 +3,12 @@
 //! it.
 //!
 //! [`failing`] lets each object that `play`, `serve`, `client` and `serve-all` are handed fail at each of its calls in turn: the
-//! command's scene stands in [`faults`], [`servers`], [`sessions`] and [`hosts`]. [`lies`] has a member beside servers that lie, a row for each lie, and
-//! [`histories`] one whose files are wrong. [`faults`] compares the lines of faults of plays too, and [`plays`] has the longest script
+//! command's scene stands in [`faults`], [`servers`], [`sessions`] and [`hosts`]. [`lies`] has a member beside servers that lie,
+//! a row for each lie, and [`histories`] one whose files are wrong. [`faults`] compares the lines of faults of plays too, and [`plays`] has the longest script
 //! and the generated run. Worked plays are scripts of `examples/`. [`commands`] runs commands one after the other, [`gates`] a member
 //! and a server with gates that hold them, [`devices`] two devices of one member, [`hosting`] members of several documents on
-//! one server, [`statuses`] shows the statuses that a session ends with, and [`help`] each page of the help, and a public key
-//! that is shown again.
+//! one server, [`statuses`] shows the
+//! statuses that a session ends with, and [`help`] each page of the help, and a public key that is shown again.
 #![tactic(auto)]
 
 #[cfg(test)]

@@ -24,6 +24,8 @@ pub enum Object {
     Files,
     /// A disk that the folder hands out.
     Disk,
+    /// The first file that the folder hands out to be appended to.
+    Tail,
     Out,
     Chance,
     Net,
@@ -37,6 +39,7 @@ pub struct Failing {
     pub source: u64,
     pub files: u64,
     pub disk: u64,
+    pub tail: u64,
     pub out: u64,
     pub chance: u64,
     pub net: u64,
@@ -48,6 +51,7 @@ pub const NONE: Failing = Failing {
     source: 0,
     files: 0,
     disk: 0,
+    tail: 0,
     out: 0,
     chance: 0,
     net: 0,
@@ -67,6 +71,7 @@ impl Failing {
                 ..NONE
             },
             Object::Disk => Failing { disk: call, ..NONE },
+            Object::Tail => Failing { tail: call, ..NONE },
             Object::Out => Failing { out: call, ..NONE },
             Object::Chance => Failing {
                 chance: call,
@@ -234,7 +239,7 @@ fn chance_of(rt: &impl Abort, alloc: Global, failing: u64) -> Box<ListedChance> 
     Box::new(alloc, chance).expect(rt, "memory")
 }
 
-// A folder with these files, of whose calls, and of those of its disks, these fail.
+// A folder with these files, of whose calls, and of those of its disks and of its tail, these fail.
 fn folder_of(
     rt: &impl Abort,
     alloc: Global,
@@ -244,6 +249,7 @@ fn folder_of(
     let folder = MemoryFolder::new(alloc, files, calls_of(rt, alloc, failing.files));
     let mut folder = Box::new(alloc, folder).expect(rt, "memory");
     folder.fail_disk_calls([failing.disk].to_vec(alloc).expect(rt, "memory"));
+    folder.fail_append_calls([failing.tail].to_vec(alloc).expect(rt, "memory"));
     folder
 }
 
@@ -270,7 +276,7 @@ impl Place {
     }
 
     // The status of a run over these.
-    fn status<R: Threads + Wait + Sync, N: Dial + Listen, G: Gate + Sync>(
+    fn status<R: Threads + Wait + Sync, N: Dial + Listen + Send, G: Gate + Sync>(
         &mut self,
         rt: &R,
         alloc: Global,
@@ -296,7 +302,7 @@ impl Place {
     }
 
     /// What a run over these answers, if the words are those of a line.
-    pub fn run<R: Threads + Wait + Sync + Abort, N: Dial + Listen>(
+    pub fn run<R: Threads + Wait + Sync + Abort, N: Dial + Listen + Send>(
         &mut self,
         rt: &R,
         alloc: Global,
@@ -310,7 +316,7 @@ impl Place {
     }
 
     /// The same with this gate.
-    pub fn run_held<R: Threads + Wait + Sync + Abort, N: Dial + Listen, G: Gate + Sync>(
+    pub fn run_held<R: Threads + Wait + Sync + Abort, N: Dial + Listen + Send, G: Gate + Sync>(
         &mut self,
         rt: &R,
         alloc: Global,

@@ -98,6 +98,28 @@ fn is_whole(scene: &Scene, place: &Place) -> bool {
     }
 }
 
+// Whether a server over what is left, to which a client comes that sends nothing, has what was ordered: both entries where the
+// log has them, or where it could not be written, since the tail has the second one then.
+fn keeps<R: Threads + Wait + Sync + Abort>(
+    rt: &R,
+    alloc: Global,
+    left: &[NamedFile],
+    has_both: bool,
+) -> bool {
+    let mut place = Place::new(rt, alloc, copied(rt, alloc, left));
+    let words = "serve D a --sessions 1";
+    let ((status, written), _) = run_listed(rt, alloc, &mut place, words, b"", NONE);
+    drop(place);
+    let line: &[u8] = if has_both { b"log 2\n" } else { b"log 1\n" };
+    status == 0 && is_same(written.as_slice(), line)
+}
+
+// Whether both entries are in the log, or the call that failed was the one that writes it.
+fn has_both(scene: &Scene, place: &Place, object: Object, call: u64) -> bool {
+    let is_unsaved = matches!(object, Object::Files) && call == 4;
+    is_unsaved || place.file("D.log") == Some(scene.new.as_slice())
+}
+
 // Whether a server over what is left has both entries at the end.
 fn goes_on<R: Threads + Wait + Sync + Abort>(
     rt: &R,
@@ -117,16 +139,25 @@ fn is_well(ended: &Ended) -> bool {
     ended.status == 0 && ended.is_quiet
 }
 
-// Whether this is how a server ends one of whose calls failed. A link that fails ends its session alone; and whatever came of
-// the sessions, the log is saved, and told before the fault.
-fn is_told(object: Object, ended: &Ended) -> bool {
+// What is written where this call of an object fails. Once the tail is open, the log is saved and told before the fault,
+// whatever came of the sessions, and the tail is removed behind that.
+fn fault_lines(object: Object, call: u64) -> &'static [u8] {
+    match object {
+        Object::Files if call == 5 => b"log 2\nfault outside\n",
+        Object::Tail if call <= 6 => b"fault outside\n",
+        Object::Tail | Object::Net => b"log 1\nfault outside\n",
+        _ => b"fault outside\n",
+    }
+}
+
+// Whether this is how a server ends one of whose calls failed. A link that fails ends its session alone.
+fn is_told(object: Object, call: u64, ended: &Ended) -> bool {
     let written = ended.written.as_slice();
     match object {
         Object::Link => {
             ended.status == 0 && (is_same(written, b"log 1\n") || is_same(written, b"log 2\n"))
         }
-        Object::Net => ended.status == 6 && is_same(written, b"log 1\nfault outside\n"),
-        _ => ended.status == 6 && is_same(written, b"fault outside\n"),
+        _ => ended.status == 6 && is_same(written, fault_lines(object, call)),
     }
 }
 
@@ -141,10 +172,13 @@ fn ends_well<R: Threads + Wait + Sync + Abort>(
 ) -> bool {
     let ended = served(rt, alloc, scene, place, Failing::at(object, call));
     check_at(rt, "whole after call", call, is_whole(scene, place));
+    let has_both = has_both(scene, place, object, call);
+    let keeps = keeps(rt, alloc, place.files.files(), has_both);
+    check_at(rt, "kept after call", call, keeps);
     let goes_on = goes_on(rt, alloc, scene, place.files.files());
     check_at(rt, "on after call", call, goes_on);
     let is_well = is_well(&ended);
-    let is_told = is_told(object, &ended);
+    let is_told = is_told(object, call, &ended);
     check_at(rt, "told of call", call, is_well || is_told);
     is_well
 }

@@ -51,6 +51,9 @@ history_of_a_last_device = refl
 log_of_trip : file_name trip files.Log ≡ codes "/home/ann/trip.log"
 log_of_trip = refl
 
+tail_of_trip : file_name trip files.Tail ≡ codes "/home/ann/trip.tail"
+tail_of_trip = refl
+
 -- the word itself, of an editor that has one
 second_script : file_name trip (files.Script 2) ≡ codes "more things"
 second_script = refl
@@ -180,3 +183,7 @@ a_document_named_twice = refl
 a_log_of_several : fault_line plan_and_menu (fault_among 2 (faults.Malformed files.Log 0)) ≡ codes "fault malformed menu.log 0\n"
 unfolding digits
 a_log_of_several = refl
+
+a_tail_of_several : fault_line plan_and_menu (fault_among 2 (faults.Malformed files.Tail 0)) ≡ codes "fault malformed menu.tail 0\n"
+unfolding digits
+a_tail_of_several = refl

@@ -2,5 +2,6 @@ pub mod Written
 pub mod FileFaults
 pub mod FaultCases
 pub mod Asking
+pub mod Appendable
 pub mod NamesApart
 mod Examples

@@ -42,6 +42,7 @@ file_with_end end suffix =
     else if bytes_eq end (codes "gn") then option_map (λ d. files.Ring d.member) (device_of (middle 5 suffix))
     else if bytes_eq end (codes "yr") then option_map files.History (device_of (middle 8 suffix))
     else if bytes_eq end (codes "si") then Some files.Genesis
+    else if bytes_eq end (codes "li") then Some files.Tail
     else Some files.Log
 
 abbrev file_told : List ℕ → Option File
@@ -60,6 +61,7 @@ device_read d back f range =
 told_again : (file : File) → IsOfDocument file → file_told (suffix_of file) ≡ Some file
 told_again files.Genesis range = refl
 told_again files.Log range = refl
+told_again files.Tail range = refl
 told_again (files.Key d) range =
     ap (λ (end : List ℕ). file_with_end end (suffix_of (files.Key d))) (ends (device_text d) (codes ".key")) ∙ device_read d (codes ".key") files.Key range
 told_again (files.Leaf d) range =
@@ -73,6 +75,7 @@ told_again (files.Script n) never = absurd never
 told_again (files.GenesisOf n) never = absurd never
 told_again (files.LogOf n) never = absurd never
 told_again (files.Document n) never = absurd never
+told_again (files.TailOf n) never = absurd never
 
 stem_is : (names : FileNames) (file : File) → IsOfDocument file → stem_of names file ≡ names.document
 stem_is names files.Genesis range = refl
@@ -81,10 +84,12 @@ stem_is names (files.Leaf d) range = refl
 stem_is names (files.Ring m) range = refl
 stem_is names (files.History d) range = refl
 stem_is names files.Log range = refl
+stem_is names files.Tail range = refl
 stem_is names (files.Script n) never = absurd never
 stem_is names (files.GenesisOf n) never = absurd never
 stem_is names (files.LogOf n) never = absurd never
 stem_is names (files.Document n) never = absurd never
+stem_is names (files.TailOf n) never = absurd never
 
 pub names_apart : (names : FileNames) (one other : File) → IsOfDocument one → IsOfDocument other → file_name names one ≡ file_name names other → one ≡ other
 names_apart names one other is is_other same =

@@ -131,6 +131,7 @@ IsOutsideFault before after fault = ⊥
 abbrev pub file_among : ℕ → File → File
 file_among number files.Genesis = files.GenesisOf number
 file_among number files.Log = files.LogOf number
+file_among number files.Tail = files.TailOf number
 file_among number file = file
 
 -- a fault of the document of this number, among those of several

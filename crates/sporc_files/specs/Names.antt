@@ -34,6 +34,8 @@ stem_of names (files.Script editor) = name_of_other names editor
 stem_of names (files.GenesisOf number) = name_of_other names number
 stem_of names (files.LogOf number) = name_of_other names number
 stem_of names (files.Document number) = name_of_other names number
+stem_of names files.Tail = names.document
+stem_of names (files.TailOf number) = name_of_other names number
 
 -- what stands behind that
 abbrev pub suffix_of : File → List ℕ
@@ -47,6 +49,8 @@ suffix_of (files.Script editor) = []
 suffix_of (files.GenesisOf number) = codes ".genesis"
 suffix_of (files.LogOf number) = codes ".log"
 suffix_of (files.Document number) = []
+suffix_of files.Tail = codes ".tail"
+suffix_of (files.TailOf number) = codes ".tail"
 
 -- the name of a file
 abbrev pub file_name : FileNames → File → List ℕ
@@ -60,4 +64,5 @@ IsOfDocument (files.Leaf device) = DeviceInRange device
 IsOfDocument (files.Ring member) = IsMember member
 IsOfDocument (files.History device) = DeviceInRange device
 IsOfDocument files.Log = Unit {0}
+IsOfDocument files.Tail = Unit {0}
 IsOfDocument other = ⊥

@@ -80,6 +80,13 @@ IsFileFault parse files before after names file (faults.Malformed other at) =
     (other ≡ file) × (bytes : List ℕ) × (length bytes ≤ MAX_FILE) × HasFile files (file_name names file) bytes × (parse bytes ≡ Err at)
 IsFileFault parse files before after names file fault = ⊥
 
+-- why a file is not handed out to be appended to: memory ran out, a call failed, or it is too long
+abbrev pub IsAppendingFault : Option (List NamedFile) → ℕ → ℕ → FileNames → File → Fault → Type 0
+IsAppendingFault files before after names file faults.Memory = Unit {0}
+IsAppendingFault files before after names file faults.Outside = Rose before after
+IsAppendingFault files before after names file (faults.TooLong other) = (other ≡ file) × (len : ℕ) × IsTooLong files (file_name names file) len
+IsAppendingFault files before after names file fault = ⊥
+
 -- what a file that may be missing says: something, or it is not there
 abbrev pub SaysFileIfThere : {A : Type 0} → (List ℕ → Result A ℕ) → Option (List NamedFile) → List ℕ → Option A → Type 0
 SaysFileIfThere parse files name None = HasNoFile files name

@@ -34,6 +34,10 @@ pub enum File {
     LogOf(u32),
     /// One of several documents: its name is the word itself.
     Document(u32),
+    /// `NAME.tail`: the entries that a server ordered since it saved the log.
+    Tail,
+    /// `NAME.tail` of one of several documents.
+    TailOf(u32),
 }
 
 impl File {
@@ -53,6 +57,7 @@ impl File {
         match self {
             File::Genesis => File::GenesisOf(number),
             File::Log => File::LogOf(number),
+            File::Tail => File::TailOf(number),
             _ => self,
         }
     }
@@ -72,6 +77,8 @@ impl File {
             File::GenesisOf(_) => Text::of(".genesis"),
             File::LogOf(_) => Text::of(".log"),
             File::Document(_) => Text::of(""),
+            File::Tail => Text::of(".tail"),
+            File::TailOf(_) => Text::of(".tail"),
         }
     }
 }

@@ -2,7 +2,8 @@
 //!
 //! - [`Names`]: the names of a command's files; [`File`]: one of them.
 //! - [`read_genesis_file`], [`read_key_file`], [`read_own_key`], [`read_ring_file`]: what a file says; [`read_bytes`] and
-//!   [`read_if_there`]: its bytes. [`write_new_file`], [`write_whole_file`]: files are written.
+//!   [`read_if_there`]: its bytes. [`write_new_file`], [`write_whole_file`]: files are written. [`append_to_file`]: one that is
+//!   appended to, with its name.
 //! - [`Fault`]: why a command did not do all its work, with its exit status and its line.
 //! - `specs/Uses.antt`: a folder and a chance as a call found and left them.
 //!
@@ -19,6 +20,7 @@
 //! that a real folder keeps what is written.
 #![tactic(auto)]
 
+mod appending;
 mod argument;
 mod causes;
 mod fault;
@@ -30,6 +32,7 @@ mod reading;
 mod text;
 mod writing;
 
+pub use appending::{Appended, append_to_file};
 pub use fault::Fault;
 pub use file::File;
 pub use names::Names;

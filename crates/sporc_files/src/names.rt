@@ -69,7 +69,8 @@ impl<'a> Names<'a> {
             File::Script(number)
             | File::GenesisOf(number)
             | File::LogOf(number)
-            | File::Document(number) => self.other(number),
+            | File::Document(number)
+            | File::TailOf(number) => self.other(number),
             _ => self.document,
         }
     }

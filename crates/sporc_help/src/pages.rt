@@ -11,8 +11,8 @@ Commands, each behind the word sporc:
 
   keygen NAME M HEIGHT W                                    makes a member's key
   found NAME M:ROLE ..                                      founds a document
-  serve NAME ADDRESS --sessions K                           serves a document
-  serve-all ADDRESS --sessions K NAME ..                    serves documents
+  serve NAME ADDRESS --sessions K [--times T]               serves a document
+  serve-all ADDRESS --sessions K [--times T] NAME ..        serves documents
   client NAME M ADDRESS [--rounds R] [--until P] SCRIPT ..  edits as a member
   check NAME M                                              checks a history
   text NAME M [--at POS]                                    prints a text
@@ -97,21 +97,26 @@ Statuses:
 
 /// `serve`.
 pub const SERVE: &str = "\
-sporc serve NAME ADDRESS --sessions K
+sporc serve NAME ADDRESS --sessions K [--times T]
 
-Serves K sessions of a document, all at once as they come, and ends as the
-last of them has. Then it saves the log, and prints how many entries that
-has.
+Serves K sessions of a document, all at once as they come. As the last of
+them has ended, it saves the log, and prints how many entries that has. It
+does so T times, and then ends. It writes each entry to the disk before it
+tells anybody of it, so it may be stopped at any moment, and started again.
 
   NAME     the document's name: the path that its files' names begin with
   ADDRESS  where it listens: a host and a port, as 127.0.0.1:4000
-  K        how many sessions, 1 to 1024
+  K        how many sessions each time, 1 to 1024
+  T        how many times, 1 to 4294967295; once if it is left out
 
-Files: reads NAME.genesis and, if it is there, NAME.log; writes NAME.log.
+Files: reads NAME.genesis and, if they are there, NAME.log and NAME.tail;
+appends each entry to NAME.tail; writes NAME.log, and at the end removes
+NAME.tail.
 
-Example:
+Examples:
 
   sporc serve trip 127.0.0.1:4000 --sessions 8
+  sporc serve trip 127.0.0.1:4000 --sessions 8 --times 1000000
 
 Statuses:
 
@@ -119,32 +124,38 @@ Statuses:
   1  memory ran out
   2  the words are not these, or one is out of its range
   3  a file is missing, too long or malformed
-  4  an entry of the log fails a check
-  6  a file, standard output or the net failed
+  4  an entry of the log or of the tail fails a check
+  6  a file, standard output or the net failed, or another server has the
+     tail
   8  the log is too long for a file, or a lock is worn
 ";
 
 /// `serve-all`.
 pub const SERVE_ALL: &str = "\
-sporc serve-all ADDRESS --sessions K NAME ..
+sporc serve-all ADDRESS --sessions K [--times T] NAME ..
 
 Serves K sessions of several documents at one address, all at once as they
-come, and ends as the last of them has. A session is of the document that
-its client names first; one that names none of these is closed. Then it
-saves the log of each document, and prints how many entries each has, in
-the order of the names.
+come. A session is of the document that its client names first; one that
+names none of these is closed. As the last of them has ended, it saves the
+log of each document, and prints how many entries each has, in the order of
+the names. It does so T times, and then ends. It may be stopped at any
+moment, and started again, as serve may.
 
   ADDRESS  where it listens: a host and a port, as 127.0.0.1:4000
-  K        how many sessions, of all documents together, 1 to 1024
+  K        how many sessions each time, of all documents together, 1 to
+           1024
+  T        how many times, 1 to 4294967295; once if it is left out
   NAME     a document's name: the path that its files' names begin with; 1
            to 64 of them, each of another document
 
-Files: reads NAME.genesis and, if it is there, NAME.log of each document;
-writes NAME.log of each.
+Files: reads NAME.genesis and, if they are there, NAME.log and NAME.tail of
+each document; appends each entry to its document's NAME.tail; writes
+NAME.log of each, and at the end removes each NAME.tail.
 
-Example:
+Examples:
 
   sporc serve-all 127.0.0.1:4000 --sessions 8 trip menu
+  sporc serve-all 127.0.0.1:4000 --sessions 8 --times 1000000 trip menu
 
 Statuses:
 
@@ -152,8 +163,9 @@ Statuses:
   1  memory ran out
   2  the words are not these, or one is out of its range
   3  a file is missing, too long or malformed, or a document named twice
-  4  an entry of a log fails a check
-  6  a file, standard output or the net failed
+  4  an entry of a log or of a tail fails a check
+  6  a file, standard output or the net failed, or another server has a
+     tail
   8  a log is too long for a file, or a lock is worn
 ";
 

@@ -1,5 +1,5 @@
 -- Worked examples of the definitions: the lines of `check`, `compare` and `serve`, as docs/MANUAL.md has them, and which fault comes first.
-use Rattle.std.proofs.Common.{◌≡◌, ◌≢◌, List, ℕ, [], ◌∷◌, None, Some, Ok, Err, codes, refl, arith}
+use Rattle.std.proofs.Common.{◌≡◌, ◌≢◌, List, ℕ, [], ◌∷◌, None, Some, Ok, Err, codes, refl, ap, append-nil, arith}
 use Rattle.std.specs.Fmt.{digits}
 use Rattle.sporc_entry.specs.declared.genesis.Genesis.{Genesis}
 use Rattle.sporc_hash.specs.Chain.{chain, chain_after, last_value, next_value, value_after}
@@ -17,7 +17,11 @@ use Rattle.sporc_member.specs.declared.device.Device.{Device}
 use Rattle.sporc_histories.specs.Checking.{IsCheckedLine, checked_in, line_of_whole}
 use Rattle.sporc_histories.specs.Telling.{text_at, text_in}
 use Rattle.sporc_histories.specs.Comparing.{Chains, IsVerdictLine, chains_in}
-use Rattle.sporc_histories.specs.Serving.{ended, logged, order_of_whole, order_with}
+use Rattle.sporc_order.specs.OrderModel.{OrderModel}
+use Rattle.sporc_store.specs.Loading.{accepted_behind}
+use Rattle.sporc_store.specs.TailBytes.{tail_behind}
+use Rattle.sporc_histories.specs.Serving.{ended, logged, order_of_whole, order_with, with_tail}
+use Rattle.sporc_histories.specs.Tails.{after_last}
 use Rattle.sporc_histories.specs.Outcomes.{log_line}
 
 -- the second device of member 2
@@ -107,8 +111,20 @@ one_entry_saved = refl
 no_log : (genesis : Genesis) → logged genesis None ≡ Ok (order_with genesis [])
 no_log genesis = refl
 
-a_cut_log : (genesis : Genesis) (a : List ℕ) → order_of_whole genesis (read_to (a ∷ []) (Cut 34)) ≡ Err (faults.Malformed files.Log 34)
+a_cut_log : (genesis : Genesis) (a : List ℕ) → order_of_whole files.Log genesis (read_to (a ∷ []) (Cut 34)) ≡ Err (faults.Malformed files.Log 34)
 a_cut_log genesis a = refl
+
+-- a tail without bytes, as one that is not there, adds nothing
+no_tail : (order : OrderModel) → with_tail order [] ≡ Ok order
+unfolding tail_behind accepted_behind
+no_tail order = ap (λ (es : List (List ℕ)). Ok (order_with order.genesis es)) (append-nil order.entries)
+
+-- a removal that fails is told behind a time that ended well, and not behind a fault of that
+a_tail_left : after_last (Ok tt) (Err faults.Outside) ≡ Err faults.Outside
+a_tail_left = refl
+
+a_fault_before : after_last (Err faults.Worn) (Err faults.Outside) ≡ Err faults.Worn
+a_fault_before = refl
 
 -- it could not listen, and saved its log: `fault outside` is told
 no_sessions : ended (Err serving.ListenFault) (Ok tt) ≡ Err faults.Outside

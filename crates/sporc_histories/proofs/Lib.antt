@@ -6,3 +6,7 @@ pub mod Lines
 pub mod Logs
 pub mod Prefixes
 pub mod Taken
+pub mod Tails
+pub mod Opened
+pub mod Roundabout
+pub mod Given

@@ -4,4 +4,8 @@ pub mod Telling
 pub mod Comparing
 pub mod Serving
 pub mod Uses
+pub mod Moments
+pub mod Tails
+pub mod Opening
+pub mod Rounds
 pub mod Outcomes

@@ -1,9 +1,9 @@
 -- What each command did: what it read, what it wrote and saved, and why it did not do all its work.
-use Rattle.std.specs.Prelude.{◌≡◌, ◌⊎◌, ℕ, Bool, List, [], ◌∷◌, ◌++◌, codes, length, Option, option_map, Result, Ok, Err}
+use Rattle.std.specs.Prelude.{◌≡◌, ◌⊎◌, ◌≤◌, ℕ, Bool, List, [], ◌∷◌, ◌++◌, codes, length, Option, option_map, Result, Ok, Err}
 use Rattle.std.specs.Fmt.{decimal}
 use Rattle.std.specs.Io.KnownBytes.{Appends}
 use Rattle.sporc_outside.specs.Counts.{Rose}
-use Rattle.sporc_outside.specs.Files.{ChangesFile, with_file}
+use Rattle.sporc_outside.specs.Files.{ChangesFile, made_in, with_file}
 use Rattle.sporc_outside.specs.Uses.{IsUnwritten, SinkUse}
 use Rattle.sporc_outside.specs.Writing.{AppendsPrefix}
 use Rattle.sporc_member.specs.declared.device.Device.{Device}
@@ -19,7 +19,10 @@ use Rattle.sporc_files.specs.Names.{FileNames, file_name}
 use Rattle.sporc_histories.specs.Checking.{AreCheckedFiles, CheckedFiles, IsCheckedLine, checked_in}
 use Rattle.sporc_histories.specs.Comparing.{AreComparedFiles, ComparedFiles, IsVerdictLine, chains_in}
 use Rattle.sporc_histories.specs.Telling.{IsJust, lines_in, text_in}
-use Rattle.sporc_histories.specs.Serving.{AreServedFiles, ServedFiles, ended, order_in, saved_log}
+use Rattle.sporc_histories.specs.Moments.{ChangesFolderAlone, IsBehind, Moment, at_end, folder_between, sink_between}
+use Rattle.sporc_histories.specs.Rounds.{GoRounds, Round, Standing}
+use Rattle.sporc_histories.specs.Serving.{AreServedFiles, HasLogged, ServedFiles, ended, order_in, saved_log}
+use Rattle.sporc_histories.specs.Tails.{GivesBack, after_last}
 use Rattle.sporc_histories.specs.Uses.{OnlyReads, WritesLine}
 
 -- ---- check
@@ -90,30 +93,52 @@ FailsToBegin before after found (Err faults.Memory) = Unit {0}
 FailsToBegin before after found (Err faults.Outside) = Rose before after
 FailsToBegin before after found (Err fault) = found ≡ Err fault
 
-module _ {L : Type 0} (left written : L → Option (List ℕ)) (faults : L → ℕ) (is_shut : L → Option Bool) (names : FileNames) (sessions : ℕ)
-    (folder : FolderUse) (out : SinkUse) (old new : Net L) where
-  -- nothing was served: a file failed, memory ran out, or the folder failed
-  pub record NotServed {T : Type 0} (answer : Result T Fault) : Type 0 where
-    pub content : ServedFiles
-    pub are : AreServedFiles folder.files_before names content
-    pub reads : OnlyReads names (files.Genesis ∷ files.Log ∷ []) folder
-    pub fails : FailsToBegin folder.faults_before folder.faults_after (order_in content) answer
-    pub net : new ≡ old
-    pub unwritten : IsUnwritten out
+-- the files were read, of which the tail's was made if there was none, and nothing else was done
+pub record IsOpened (names : FileNames) (folder : FolderUse) (out : SinkUse) (opened : Moment) : Type 0 where
+  pub files : opened.files ≡ option_map (λ told. made_in told (file_name names files.Tail)) folder.files_before
+  pub since : folder.faults_before ≤ opened.folder_faults
+  pub written : opened.written ≡ out.written_before
+  pub sink_faults : opened.sink_faults ≡ out.faults_before
 
-  -- sessions were served from the order in the files, and what came of it was saved
-  pub record ServedAndKept (answer : Result (Unit {0}) Fault) : Type 0 where
-    pub content : ServedFiles
-    pub are : AreServedFiles folder.files_before names content
-    pub before : OrderModel
-    pub after : OrderModel
-    pub begins : order_in content ≡ Ok before
+module _ {L : Type 0} (left written : L → Option (List ℕ)) (counts : L → ℕ) (is_shut : L → Option Bool) (names : FileNames) (sessions : ℕ) where
+  -- one round: sessions were served from an order, and what came of it was saved
+  pub record IsRound (a : Standing OrderModel L) (r : Round OrderModel L) : Type 0 where
     pub served : Result (Unit {0}) ServeFault
-    pub serves : IsServed left written faults is_shut before after old new sessions served
-    pub kept : Result (Unit {0}) Fault
-    pub keeps : KeepsLog names folder out after (log_line (length after.entries)) kept
-    pub answer_is : answer ≡ ended served kept
+    pub serves : IsServed left written counts is_shut a.held r.after.held a.net r.after.net sessions served
+    pub keeps : KeepsLog names (folder_between a.moment r.after.moment) (sink_between a.moment r.after.moment) r.after.held (log_line (length r.after.held.entries)) r.saved
+    pub answer_is : r.answer ≡ ended served r.saved
+    pub behind : IsBehind a.moment r.after.moment
 
-  -- `serve NAME ADDRESS --sessions K`
-  abbrev pub ServeOutcome : Result (Unit {0}) Fault → Type 0
-  ServeOutcome answer = NotServed answer ⊎ ServedAndKept answer
+  module _ (times : ℕ) (folder : FolderUse) (out : SinkUse) (old new : Net L) where
+    -- nothing was served: a file failed, memory ran out, or the folder failed; no file but the tail's may have changed
+    pub record NotServed {T : Type 0} (answer : Result T Fault) : Type 0 where
+      pub content : ServedFiles
+      pub are : AreServedFiles folder.files_before names content
+      pub changes : ChangesFile folder.files_before folder.files_after (file_name names files.Tail)
+      pub fails : FailsToBegin folder.faults_before folder.faults_after (order_in content) answer
+      pub net : new ≡ old
+      pub unwritten : IsUnwritten out
+
+    -- Sessions were served from the order in the files, so many times at the most, and what came of each time was saved. Then the tail is gone if the
+    -- log has all entries, and else it gives them
+    pub record ServedAndKept (answer : Result (Unit {0}) Fault) : Type 0 where
+      pub content : ServedFiles
+      pub are : AreServedFiles folder.files_before names content
+      pub before : OrderModel
+      pub begins : order_in content ≡ Ok before
+      pub logged : ℕ
+      pub has_logged : HasLogged content logged
+      pub opened : Moment
+      pub is_opened : IsOpened names folder out opened
+      pub last : Round OrderModel L
+      pub rounds : GoRounds IsRound times (record { held = before; moment = opened; net = old }) last
+      pub net : new ≡ last.after.net
+      pub given : Result (Unit {0}) Fault
+      pub gives : GivesBack (file_name names files.Tail) (folder_between last.after.moment (at_end folder out)) logged last.after.held.genesis.document
+          last.after.held.entries last.saved given
+      pub alone : ChangesFolderAlone last.after.moment (at_end folder out)
+      pub answer_is : answer ≡ after_last last.answer given
+
+    -- `serve NAME ADDRESS --sessions K --times T`
+    abbrev pub ServeOutcome : Result (Unit {0}) Fault → Type 0
+    ServeOutcome answer = NotServed answer ⊎ ServedAndKept answer

@@ -4,7 +4,7 @@
 //! - [`text`]: the committed text of a device's saved history, examined so, after all entries or the first of them.
 //! - [`list_entries`]: a line for each of its entries.
 //! - [`compare`]: how the saved history of one device stands to that of another.
-//! - [`serve`]: serves sessions from the log of a document, and saves the log, by [`read_order`], [`save_log`] and [`end`].
+//! - [`serve`]: serves sessions from the log of a document, and saves the log, by [`open_order`], [`save_log`] and [`end`].
 //!
 //! ```text
 //! let laptop = Device::first(2);
@@ -30,13 +30,18 @@ mod entries;
 mod examining;
 mod listing;
 mod log;
+mod opening;
 mod reading;
+mod rounds;
 mod serving;
+mod tail;
 mod texts;
 
 pub use checking::check;
 pub use comparing::compare;
 pub use listing::list_entries;
-pub use log::{read_order, save_log};
-pub use serving::{end, serve};
+pub use log::{read_log, save_log};
+pub use opening::{KeptOrder, OpenedOrder, open_order, open_order_behind};
+pub use serving::{after_last, end, keep_tail, remove_tail, serve};
+pub use tail::LogTail;
 pub use texts::text;

@@ -6,14 +6,14 @@ ghost use Rattle.sporc_entry.specs.Genesis.{IsGenesis};
 ghost use Rattle.sporc_store.specs.SavedFile.{read_to};
 ghost use Rattle.sporc_files.specs.Names.{file_name};
 ghost use Rattle.sporc_files.specs.Uses.{AsksOnly, folder_use};
-ghost use Rattle.sporc_histories.specs.Contents.{AnswersUnlessOutside};
-ghost use Rattle.sporc_histories.specs.Serving.{FindsOrder, logged_in, order_of_whole, saved_log};
+ghost use Rattle.sporc_histories.specs.Contents.{AnswersOfFile, AnswersUnlessOutside};
+ghost use Rattle.sporc_histories.specs.Serving.{logged, logged_in, order_of_whole, saved_log};
 ghost use Rattle.sporc_histories.specs.Outcomes.{KeepsLog, log_line};
 
 use crate::entries::stopped;
 use sporc_base::Memory;
 use sporc_entry::Genesis;
-use sporc_files::{Fault, File, Names, read_genesis_file, read_if_there, write_whole_file};
+use sporc_files::{Fault, File, Names, read_if_there, write_whole_file};
 use sporc_order::Order;
 use sporc_outside::{Folder, Gate, Sink, write_all};
 use sporc_store::{LOADERS, Stop, load_order_many, save};
@@ -22,21 +22,22 @@ use std::fmt::Write;
 use std::sync::Wait;
 use std::thread::Threads;
 
-/// The order in the log of a document, or an empty one if there is no log.
-pub fn read_order<R: Threads + Wait + Sync, F: Folder, G: Gate + Sync>(
+/// The order in the log of a document, behind its genesis, or an empty one if there is no log.
+pub fn read_log<R: Threads + Wait + Sync, F: Folder, G: Gate + Sync>(
     rt: &R,
     alloc: Global,
     files: &mut F,
     names: &Names<'_>,
+    genesis: Genesis,
     gate: &G,
 ) -> Result<Order, Fault>
-    ensures found { FindsOrder (F.files files.old) names.now (F.faults files.old) (F.faults files.new) result }
+    requires { IsGenesis genesis }
+    ensures found { AnswersOfFile (λ order. order) (F.files files.old) (file_name names.now File.Log) (F.faults files.old) (F.faults files.new) result (logged genesis) }
     ensures files { F.files files.new ≡ F.files files.old }
     ensures lent { F.lent files.new ≡ F.lent files.old }
-    ensures may_ask { AsksOnly (file_name names.now File.Genesis ∷ file_name names.now File.Log ∷ []) (F.asked files.old) (F.asked files.new) }
+    ensures may_ask { AsksOnly (file_name names.now File.Log ∷ []) (F.asked files.old) (F.asked files.new) }
     ensures kept { F.faults files.old ≤ F.faults files.new }
 {
-    let genesis = read_genesis_file(alloc, files, names)?;
     let log = read_if_there(alloc, files, names, File::Log)?;
     match log {
         Some(bytes) => order_of(rt, alloc, genesis, bytes.as_slice(), gate),
@@ -67,7 +68,7 @@ fn order_of<R: Threads + Wait + Sync, G: Gate + Sync>(
 
 // An order, if it was loaded to the end of its log.
 fn whole_order(order: Order, stop: Stop) -> Result<Order, Fault>
-    ensures value { AnswersUnlessOutside (λ order. order) ⊥ result (order_of_whole order.genesis (read_to order.entries stop)) }
+    ensures value { AnswersUnlessOutside (λ order. order) ⊥ result (order_of_whole File.Log order.genesis (read_to order.entries stop)) }
 {
     stopped(File::Log, stop)?;
     Ok(order)

@@ -1,7 +1,7 @@
-//! `serve NAME ADDRESS --sessions K`.
+//! `serve NAME ADDRESS --sessions K --times T`.
 
-ghost use Rattle.std.specs.Prelude.{◌≡◌, ◌≤◌, [], ◌∷◌, Err};
-ghost use Rattle.sporc_outside.specs.Told.{AreShutBehind, MayAppend};
+ghost use Rattle.std.specs.Prelude.{◌≡◌, ◌≤◌, [], ◌∷◌, Result};
+ghost use Rattle.sporc_outside.specs.Told.{AreShutBehind};
 ghost use Rattle.sporc_outside.specs.Uses.{sink_use};
 ghost use Rattle.sporc_serve.specs.Crowds.{net_of};
 ghost use Rattle.sporc_serve.specs.declared.limits.TheConstants.{MAX_SESSIONS};
@@ -9,11 +9,17 @@ ghost use Rattle.sporc_files.specs.Names.{file_name};
 ghost use Rattle.sporc_files.specs.Uses.{AsksOnly, folder_use};
 ghost use Rattle.sporc_histories.specs.Serving.{ended, serve_fault};
 ghost use Rattle.sporc_histories.specs.Outcomes.{ServeOutcome};
+ghost use Rattle.sporc_histories.specs.Rounds.{AsksAgain};
+ghost use Rattle.sporc_histories.specs.Tails.{GivesBack, KeepsBehind, KeepsTail, RemovesTail, after_last};
+ghost use Rattle.sporc_files.specs.declared.fault.Fault.{Fault};
 
-use crate::log::{keep_log, read_order};
+use crate::opening::{KeptOrder, OpenedOrder, open_order};
+use crate::rounds::{RoundEnd, serve_rounds};
+use crate::tail::LogTail;
 use sporc_files::{Fault, File, Names};
-use sporc_outside::{Folder, Gate, Listen, Sink};
-use sporc_serve::{ServeFault, serve as serve_sessions};
+use sporc_order::Order;
+use sporc_outside::{AppendFile, Counted, Folder, Gate, Listen, Sink};
+use sporc_serve::ServeFault;
 use std::alloc::Global;
 use std::sync::Wait;
 use std::thread::Threads;
@@ -21,7 +27,7 @@ use std::thread::Threads;
 /// `serve NAME ADDRESS --sessions K` serves so many sessions from the log of a document, or from an empty one if there is
 /// none, saves the log and writes `log LEN`, how many entries it then has, whatever came of the sessions. A fault of the
 /// server goes before one of saving, but out of memory at the saving before it.
-pub fn serve<R: Threads + Wait + Sync, F: Folder, N: Listen, O: Sink, G: Gate + Sync>(
+pub fn serve<R: Threads + Wait + Sync, F: Folder, N: Listen + Send, O: Sink, G: Gate + Sync>(
     rt: &R,
     alloc: Global,
     files: &mut F,
@@ -30,30 +36,117 @@ pub fn serve<R: Threads + Wait + Sync, F: Folder, N: Listen, O: Sink, G: Gate + 
     names: &Names<'_>,
     address: &str,
     sessions: u32,
+    times: u32,
     gate: &G,
 ) -> Result<(), Fault>
 where
+    F::Appended: Send,
     N::Link: Send,
     requires some { 1 ≤ sessions }
     requires limit { sessions ≤ MAX_SESSIONS }
-    ensures outcome { ServeOutcome N.Link.left N.Link.written N.Link.faults N.Link.is_shut names.now sessions
+    requires times { 1 ≤ times }
+    ensures outcome { ServeOutcome N.Link.left N.Link.written N.Link.faults N.Link.is_shut names.now sessions times
         (folder_use F.files F.asked F.lent F.faults files.old files.new)
         (sink_use O.written O.faults out.old out.new)
         (net_of (N.coming net.old) (N.returned net.old) (N.faults net.old)) (net_of (N.coming net.new) (N.returned net.new) (N.faults net.new))
         result }
     ensures lent { F.lent files.new ≡ F.lent files.old }
-    ensures files_may_ask { AsksOnly (file_name names.now File.Genesis ∷ file_name names.now File.Log ∷ []) (F.asked files.old) (F.asked files.new) }
+    ensures files_may_ask { AsksOnly (file_name names.now File.Genesis ∷ file_name names.now File.Tail ∷ file_name names.now File.Log ∷ [])
+        (F.asked files.old) (F.asked files.new) }
     ensures files_kept { F.faults files.old ≤ F.faults files.new }
-    ensures net_may_ask { MayAppend (N.asked net.old) (N.asked net.new) address.now }
+    ensures net_may_ask { AsksAgain times (N.asked net.old) (N.asked net.new) address.now }
     ensures shut { AreShutBehind N.Link.is_shut (N.returned net.old) (N.returned net.new) }
     ensures links_out { N.out net.new ≡ N.out net.old }
     ensures net_kept { N.faults net.old ≤ N.faults net.new }
     ensures out_kept { O.faults out.old ≤ O.faults out.new }
 {
-    let order = read_order(rt, alloc, files, names, gate)?;
-    let (order, served) = serve_sessions(rt, alloc, net, address, order, sessions, gate);
-    let kept = keep_log(alloc, files, out, names, &order);
-    end(served, kept)
+    let opened = open_order(rt, alloc, files, names, gate)?;
+    let OpenedOrder { kept, name, logged } = opened;
+    let last = serve_rounds(
+        rt, alloc, files, net, out, names, address, kept, sessions, times, gate,
+    );
+    give_back(files, name.as_str(), logged, last)
+}
+
+// Gives the tail's file back behind the last round, and answers.
+fn give_back<F: Folder>(
+    files: &mut F,
+    name: &str,
+    logged: u32,
+    last: RoundEnd<F::Appended>,
+) -> Result<(), Fault>
+    requires tail { ∥ KeepsBehind F.Appended.moment F.Appended.images last.kept.tail last.kept.order.entries ∥₁ }
+    ensures given { (given : Result (Unit {0}) Fault)
+        × GivesBack name.now (folder_use F.files F.asked F.lent F.faults files.old files.new) logged last.kept.order.genesis.document last.kept.order.entries
+        last.saved given
+        × (result ≡ after_last last.answer given) }
+    ensures lent { F.lent files.new ≡ F.lent files.old }
+    ensures asked { F.asked files.new ≡ F.asked files.old }
+    ensures kept { F.faults files.old ≤ F.faults files.new }
+{
+    let KeptOrder { order, tail } = last.kept;
+    let given = match last.saved {
+        Ok(()) => remove_tail(files, name, tail),
+        Err(_) => keep_tail(files, name, &order, logged, tail),
+    };
+    after_last(last.answer, given)
+}
+
+/// Removes the file of a tail whose log has all entries.
+pub fn remove_tail<F: Folder>(
+    files: &mut F,
+    name: &str,
+    tail: LogTail<F::Appended>,
+) -> Result<(), Fault>
+    ensures removes { RemovesTail name.now (folder_use F.files F.asked F.lent F.faults files.old files.new) result }
+    ensures lent { F.lent files.new ≡ F.lent files.old }
+    ensures asked { F.asked files.new ≡ F.asked files.old }
+    ensures kept { F.faults files.old ≤ F.faults files.new }
+{
+    // No call: that the count of the folder can be told here is what `kept` rests on.
+    let _faults = files.faults();
+    match files.remove(name, tail.close()) {
+        Ok(()) => Ok(()),
+        Err(_) => Err(Fault::Outside),
+    }
+}
+
+/// Gives the file of a tail back, which keeps the entries of this order behind a log that has at least so many.
+pub fn keep_tail<F: Folder>(
+    files: &mut F,
+    name: &str,
+    order: &Order,
+    logged: u32,
+    tail: LogTail<F::Appended>,
+) -> Result<(), Fault>
+    requires tail { ∥ KeepsBehind F.Appended.moment F.Appended.images tail order.now.entries ∥₁ }
+    ensures keeps { KeepsTail name.now (folder_use F.files F.asked F.lent F.faults files.old files.new) logged order.now.genesis.document order.now.entries result }
+    ensures lent { F.lent files.new ≡ F.lent files.old }
+    ensures asked { F.asked files.new ≡ F.asked files.old }
+    ensures kept { F.faults files.old ≤ F.faults files.new }
+{
+    // A lock hands back the tail that it was handed, but no contract says that.
+    let is_own = tail.is_behind(order.document(), logged);
+    // No call: that the count of the folder can be told here is what `kept` rests on.
+    let _faults = files.faults();
+    files.take_file(name, tail.close());
+    if is_own {
+        return Ok(());
+    }
+    Err(Fault::Malformed(File::Tail, 0))
+}
+
+/// What is answered behind the last round, by its answer and by what came of giving the tail back.
+pub fn after_last(answer: Result<(), Fault>, given: Result<(), Fault>) -> Result<(), Fault>
+    ensures value { result ≡ after_last answer given }
+{
+    let Err(fault) = answer else {
+        return given;
+    };
+    match given {
+        Err(Fault::Malformed(_, _)) => given,
+        Ok(()) | Err(_) => Err(fault),
+    }
 }
 
 /// What `serve` answers, by what came of the sessions and of saving the log: a server's fault goes before one of saving its
@@ -78,5 +171,6 @@ fn fault_of(fault: ServeFault) -> Fault
         ServeFault::ListenFault => Fault::Outside,
         ServeFault::Worn(_) => Fault::Worn,
         ServeFault::Memory => Fault::Memory,
+        ServeFault::Unkept => Fault::Outside,
     }
 }

@@ -1,75 +1,54 @@
--- What became of several documents, by what came of their files, their sessions and their logs.
-use Rattle.std.proofs.Common.{◌≡◌, inl, inr, ℕ, ◌+◌, Bool, List, [], ◌∷◌, length, Option, Result, Ok, Err, sym, ap, subst, arith}
+-- What is open as a server of several documents begins, and which files it asked for.
+use Rattle.std.proofs.Common.{◌≡◌, ◌≤◌, inl, inr, ℕ, List, [], ◌∷◌, length, Option, Result, Err, refl, ◌∙◌, subst, arith}
 use Rattle.std.specs.List.{Contains}
 use Rattle.std.proofs.lemmas.List.Elements.{Contains-append_cases, Contains-append_left, Contains-append_right}
-use Rattle.sporc_outside.specs.Uses.{IsUnwritten, SinkUse}
+use Rattle.sporc_outside.specs.Counts.{Rose}
+use Rattle.sporc_outside.specs.declared.named_file.NamedFile.{NamedFile}
 use Rattle.sporc_order.specs.OrderModel.{OrderModel}
-use Rattle.sporc_serve.specs.Crowds.{Net}
-use Rattle.sporc_docs.specs.declared.fault.DocsServeFault.{DocsServeFault}
 use Rattle.sporc_docs.specs.Hands.{Both}
-use Rattle.sporc_docs.specs.Served.{AreServed, as_served}
 use Rattle.sporc_files.specs.declared.fault.Fault.{Fault}
+use Rattle.sporc_files.specs.declared.fault.Fault.TheVariants as faults
 use Rattle.sporc_files.specs.declared.file.File.TheVariants as files
 use Rattle.sporc_files.specs.Names.{file_name, names_of_document}
-use Rattle.sporc_files.specs.Uses.{AsksOnly, FolderUse}
+use Rattle.sporc_files.specs.Uses.{AsksOnly}
 use Rattle.sporc_files.proofs.Asking.{AsksOnly-among, AsksOnly-trans}
-use Rattle.sporc_histories.specs.Serving.{ended}
-use Rattle.sporc_hosting.specs.Hosting.{IsAsRead, ServeAllOutcome, at_end}
-use Rattle.sporc_hosting.specs.Loading.{FindsDocuments, files_of_all, files_of_one}
-use Rattle.sporc_hosting.specs.Saving.{KeepsLogs, Moment, logs_of}
+use Rattle.sporc_histories.specs.Contents.{AnswersUnlessOutside}
+use Rattle.sporc_histories.specs.Serving.{HasLogged, ServedFiles}
+use Rattle.sporc_histories.specs.Tails.{LogTailModel}
+use Rattle.sporc_hosting.specs.Loading.{AreOpen, OpenLogModel, OpensMore, files_of_all, files_of_one}
+use Rattle.sporc_hosting.specs.Saving.{logs_of}
 use Rattle.sporc_hosting.proofs.Saved.{as_many}
 
-module _ {L : Type 0} (left written : L → Option (List ℕ)) (faults : L → ℕ) (is_shut : L → Option Bool) (names : List (List ℕ)) (sessions : ℕ)
-    (folder : FolderUse) (out : SinkUse) (old new : Net L) where
-  pub none_served : (held : List OrderModel) (fault : Fault) (answer : Result (Unit {0}) Fault) → held ≡ [] → answer ≡ Err fault
-      → FindsDocuments folder.files_before names 1 held folder.faults_before folder.faults_after (Err fault)
-      → folder.files_after ≡ folder.files_before → new ≡ old → IsUnwritten out
-      → ServeAllOutcome left written faults is_shut names sessions folder out old new answer
-  none_served held fault answer none is found same net unwritten =
-      let (contents, are, tells) =
-      subst (λ (h : List OrderModel). FindsDocuments folder.files_before names 1 h folder.faults_before folder.faults_after (Err fault)) none found in
-      inl (record {
-        contents = contents;
-        are = are;
-        fault = fault;
-        answer_is = is;
-        fails = tells;
-        unchanged = same;
-        net = net;
-        unwritten = unwritten;
-      })
+module _ {D : Type 0} (moment : D → ℕ) (images : D → ℕ → List ℕ → Type 0) where
+  -- what is opened where nothing was open
+  pub opened_first : (told : Option (List NamedFile)) (names : List (List ℕ)) (c0 c1 : ℕ) (r : Result (Unit {0}) Fault) (old new : List OrderModel)
+      (tails tails' : List (LogTailModel D)) (logs logs' : List OpenLogModel) → old ≡ [] → tails ≡ [] → logs ≡ []
+      → ((first : List (List ℕ)) (begun : List ServedFiles) → AreOpen moment images first begun old tails logs
+      → OpensMore moment images told names 1 c0 c1 r old new tails' logs' first begun)
+      → OpensMore moment images told names 1 c0 c1 r [] new tails' logs' [] []
+  opened_first told names c0 c1 r old new tails tails' logs logs' no_order no_tail no_log opens =
+      let none : AreOpen moment images [] [] old tails logs = rw (no_order, no_tail, no_log) record { kept = tt; logged = tt; named = tt; each = refl } in
+      subst (λ (os : List OrderModel). OpensMore moment images told names 1 c0 c1 r os new tails' logs' [] []) no_order (opens [] [] none)
 
-  pub all_served : (held before after now : List OrderModel) (served : Result (Unit {0}) DocsServeFault) (read : Moment) (kept answer : Result (Unit {0}) Fault) → held ≡ []
-      → now ≡ after → FindsDocuments folder.files_before names 1 held folder.faults_before read.folder_faults (Ok before)
-      → AreServed left written faults is_shut before after old new sessions (as_served served) → IsAsRead folder out read
-      → KeepsLogs names now read (at_end folder out) kept → answer ≡ ended (as_served served) kept
-      → ServeAllOutcome left written faults is_shut names sessions folder out old new answer
-  all_served held before after now served read kept answer none now_is found serves as_read keeps is =
-      let (contents, are, begins) =
-      subst (λ (h : List OrderModel). FindsDocuments folder.files_before names 1 h folder.faults_before read.folder_faults (Ok before)) none found in
-      inr (record {
-        contents = contents;
-        are = are;
-        before = before;
-        after = now;
-        begins = begins;
-        served = served;
-        serves = subst (λ (os : List OrderModel). AreServed left written faults is_shut before os old new sessions (as_served served)) (sym now_is) serves;
-        read = read;
-        as_read = as_read;
-        kept = kept;
-        keeps = keeps;
-        answer_is = is;
-      })
+  -- all of them are open
+  pub all_open : (names opened : List (List ℕ)) (held contents : List ServedFiles) (orders : List OrderModel) (tails : List (LogTailModel D)) (logs : List OpenLogModel)
+      → (opened ≡ names) × (held ≡ contents) → AreOpen moment images opened held orders tails logs
+      → (length names ≡ length orders) × Both (λ content log. HasLogged content log.logged) contents logs
+      × Both (λ name log. log.name ≡ file_name (names_of_document name) files.Tail) names logs
+  all_open names opened held contents orders tails logs (names_are, contents_are) opens =
+      let named : Both (λ (n : List ℕ) (l : OpenLogModel). l.name ≡ file_name (names_of_document n) files.Tail) names logs =
+      subst (λ (ns : List (List ℕ)). Both (λ (n : List ℕ) (l : OpenLogModel). l.name ≡ file_name (names_of_document n) files.Tail) ns logs) names_are opens.named in (
+        as_many (λ (n : List ℕ) (l : OpenLogModel). l.name ≡ file_name (names_of_document n) files.Tail) names logs named ∙ opens.each,
+        subst (λ (cs : List ServedFiles). Both (λ (c : ServedFiles) (l : OpenLogModel). HasLogged c l.logged) cs logs) contents_are opens.logged,
+        named,
+      )
 
--- each document that was named has its order
-pub each_saved : (P : OrderModel → OrderModel → Type 0) (names : List (List ℕ)) (held before after now : List OrderModel) → held ≡ [] → length before ≡ length held + length names
-    → Both P before after → now ≡ after → length names ≡ length now
-each_saved P names held before after now none each both now_is =
-    let begun : length held ≡ 0 = ap (λ (os : List OrderModel). length os) none in
-    let same : length before ≡ length after = as_many P before after both in
-    let last : length now ≡ length after = ap (λ (os : List OrderModel). length os) now_is in
-    omega (arith, begun, each, same, last)
+-- a count that rose rose over a longer time
+pub tells_longer : (c0 c1 c2 : ℕ) (fault : Fault) (r : Result (List OrderModel) Fault) → c1 ≤ c2 → AnswersUnlessOutside (λ (os : List OrderModel). os) (Rose c0 c1) (Err fault) r
+    → AnswersUnlessOutside (λ (os : List OrderModel). os) (Rose c0 c2) (Err fault) r
+tells_longer c0 c1 c2 faults.Memory r low told = tt
+tells_longer c0 c1 c2 faults.Outside r low told = omega (arith, low, told)
+tells_longer c0 c1 c2 fault r low told = told
 
 -- logs are among the files
 logs_among : (names : List (List ℕ)) (name : List ℕ) → Contains (logs_of names) name → Contains (files_of_all names) name
@@ -78,7 +57,7 @@ logs_among (n ∷ ns) name is =
     let log = file_name (names_of_document n) files.Log in
     elim (Contains-append_cases (log ∷ []) (logs_of ns) name is) [
       | inl here ↦ Contains-append_left (files_of_one n) (files_of_all ns) name
-          (Contains-append_right (file_name (names_of_document n) files.Genesis ∷ []) (log ∷ []) name here)
+          (Contains-append_right (file_name (names_of_document n) files.Genesis ∷ file_name (names_of_document n) files.Tail ∷ []) (log ∷ []) name here)
       | inr there ↦ Contains-append_right (files_of_one n) (files_of_all ns) name (logs_among ns name there)
     ]
 

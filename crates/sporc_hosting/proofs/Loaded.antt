@@ -1,8 +1,10 @@
--- What is found in the files of several documents.
-use Rattle.std.proofs.Common.{◌≡◌, ◌≢◌, ℕ, ◌+◌, ◌≤◌, List, [], ◌∷◌, ◌++◌, length, Option, Some, None, Result, Ok, Err, refl, sym, ap, ◌∙◌, subst}
+-- What is found in the files of a document among several.
+use Rattle.std.proofs.Common.{◌≡◌, ◌≢◌, ℕ, ◌≤◌, Bool, true, false, List, [], ◌∷◌, ◌++◌, length, Option, Some, None, Result, Ok, Err, refl, sym, ap, ◌∙◌, subst}
+use Rattle.std.specs.Str.{bytes_eq}
 use Rattle.sporc_bytes.specs.Fields.{◌>>=◌, fault_as}
 use Rattle.sporc_outside.specs.Counts.{Rose}
 use Rattle.sporc_outside.specs.declared.named_file.NamedFile.{NamedFile}
+use Rattle.sporc_entry.specs.declared.genesis.Genesis.{Genesis}
 use Rattle.sporc_order.specs.OrderModel.{OrderModel}
 use Rattle.sporc_docs.specs.Lists.{place_of}
 use Rattle.sporc_docs.specs.declared.fault.DocsFault.{DocsFault}
@@ -11,45 +13,115 @@ use Rattle.sporc_files.specs.declared.fault.Fault.{Fault}
 use Rattle.sporc_files.specs.declared.fault.Fault.TheVariants as faults
 use Rattle.sporc_files.specs.declared.file.File.TheVariants as files
 use Rattle.sporc_files.specs.Faults.{fault_among}
-use Rattle.sporc_files.specs.Names.{FileNames, file_name, names_of_document}
-use Rattle.sporc_histories.specs.Contents.{AnswersUnlessOutside}
-use Rattle.sporc_histories.specs.Serving.{AreServedFiles, FindsOrder, ServedFiles, order_in}
-use Rattle.sporc_histories.proofs.Found.{fails_first, is_there, tells_alone, tells_behind, tells_later, there}
-use Rattle.sporc_hosting.specs.Loading.{AreFilesOfAll, FindsDocument, FindsDocuments, added, fault_of_adding, orders_in, unless_held, with_document}
+use Rattle.sporc_files.specs.Names.{FileNames, file_name}
+use Rattle.sporc_files.specs.Reading.{IsFileFault, SaysFile, genesis_file}
+use Rattle.sporc_histories.specs.Contents.{AnswersOfFile, AnswersUnlessOutside, genesis_in}
+use Rattle.sporc_histories.specs.Serving.{FindsOrderBehind, ServedFiles, log_in, logged, order_behind}
+use Rattle.sporc_histories.proofs.Found.{fails, fails_first, is_there, says, tells_behind, tells_later, there}
+use Rattle.sporc_histories.proofs.Opened.{has_logged}
+use Rattle.sporc_hosting.specs.Loading.{FindsHeld, FindsUnlessHeld, added, fault_of_adding, is_held, opened_in, order_unless_held, unless_held}
+
+-- ---- whether a document is held
+
+module _ (orders : List OrderModel) (document : List ℕ) where
+  pub none_held : length orders ≡ 0 → false ≡ is_held orders document
+  none_held none = by orders none
+    where
+      by : (os : List OrderModel) → length os ≡ 0 → false ≡ is_held os document
+      by [] none = refl
+      by (o ∷ os) none = absurd cc
+
+  pub first_held : (o : OrderModel) (os : List OrderModel) → orders ≡ o ∷ os → bytes_eq document o.genesis.document ≡ true → true ≡ is_held orders document
+  first_held o os is here = rw (is, here) refl
+
+  pub later_held : (o : OrderModel) (os : List OrderModel) (b : Bool) → orders ≡ o ∷ os → bytes_eq document o.genesis.document ≡ false → b ≡ is_held os document
+      → b ≡ is_held orders document
+  later_held o os b is other rest = rw (is, other) rest
 
 -- ---- one document
 
+-- a fault tells the same of any value
+other_view : {X Y Z : Type 0} (one : X → Z) (other : Y → Z) (P : Type 0) (fault : Fault) (r : Result Z Fault) → AnswersUnlessOutside one P (Err fault) r
+    → AnswersUnlessOutside other P (Err fault) r
+other_view one other P faults.Memory r told = tt
+other_view one other P faults.Outside r told = told
+other_view one other P fault r told = told
+
 -- a fault of it is one among several
-among_tells : (P : Type 0) (number : ℕ) (fault : Fault) (r : Result OrderModel Fault) → AnswersUnlessOutside (λ (o : OrderModel). o) P (Err fault) r
+pub among_tells : {X : Type 0} (view : X → OrderModel) (P : Type 0) (number : ℕ) (fault : Fault) (r : Result OrderModel Fault) → AnswersUnlessOutside view P (Err fault) r
     → AnswersUnlessOutside (λ (o : OrderModel). o) P (Err (fault_among number fault)) (fault_as (fault_among number) r)
-among_tells P number faults.Memory r told = tt
-among_tells P number faults.Outside r told = told
-among_tells P number (faults.Missing file) r told = ap (fault_as (fault_among number)) told
-among_tells P number (faults.TooLong file) r told = ap (fault_as (fault_among number)) told
-among_tells P number (faults.Malformed file at) r told = ap (fault_as (fault_among number)) told
-among_tells P number fault r told = ap (fault_as (fault_among number)) told
+among_tells view P number faults.Memory r told = tt
+among_tells view P number faults.Outside r told = told
+among_tells view P number (faults.Missing file) r told = ap (fault_as (fault_among number)) told
+among_tells view P number (faults.TooLong file) r told = ap (fault_as (fault_among number)) told
+among_tells view P number (faults.Malformed file at) r told = ap (fault_as (fault_among number)) told
+among_tells view P number fault r told = ap (fault_as (fault_among number)) told
 
--- its files are found by its own names
-module _ (told : Option (List NamedFile)) (name : List ℕ) (names : FileNames) (number : ℕ) (held : List OrderModel) (before after : ℕ)
-    (same : names ≡ names_of_document name) where
-  pub document_fails : (fault among : Fault) → among ≡ fault_among number fault → FindsOrder told names before after (Err fault)
-      → FindsDocument told name number held before after (Err among)
-  document_fails fault among is (content, are, tells) = (
-    content,
-    subst (λ (n : FileNames). AreServedFiles told n content) same are,
-    subst (λ (f : Fault). AnswersUnlessOutside (λ (os : List OrderModel). os) (Rose before after) (Err f) (with_document number held content)) (sym is)
-        (fails_first (λ (o : OrderModel). o) (λ (os : List OrderModel). os) (Rose before after) (fault_among number fault) (fault_as (fault_among number) (order_in content))
-        (added number held) (among_tells (Rose before after) number fault (order_in content) tells)),
+module _ (told : Option (List NamedFile)) (name : List ℕ) (c0 c1 number : ℕ) (g : Genesis) where
+  -- that it is held is the fault once its log was loaded
+  pub held_last : (order : OrderModel) → AnswersOfFile (λ (o : OrderModel). o) told name c0 c1 (Ok order) (logged g) → FindsHeld told name c0 c1 number g (faults.Exists (files.Document number))
+  held_last order (log, at, is) =
+      (log, at, ap (λ (x : Result OrderModel Fault). ◌>>=◌ {B = OrderModel} x (λ (o : OrderModel). Err (faults.Exists (files.Document number)))) is)
+
+  pub log_first : (fault : Fault) → AnswersOfFile (λ (o : OrderModel). o) told name c0 c1 (Err fault) (logged g) → FindsHeld told name c0 c1 number g fault
+  log_first fault (log, at, tells) = (
+    log,
+    at,
+    fails_first (λ (o : OrderModel). o) (λ (o : OrderModel). o) (Rose c0 c1) fault (logged g log) (λ (o : OrderModel). Err (faults.Exists (files.Document number))) tells,
   )
 
-  pub document_adds : (order : OrderModel) (r : Result (List OrderModel) Fault) → FindsOrder told names before after (Ok order)
-      → AnswersUnlessOutside (λ (os : List OrderModel). os) ⊥ r (added number held order) → FindsDocument told name number held before after r
-  document_adds order r (content, are, tells) value = (
-    content,
-    subst (λ (n : FileNames). AreServedFiles told n content) same are,
-    tells_behind (λ (os : List OrderModel). os) (Rose before after) r (fault_as (fault_among number) (order_in content)) order (added number held)
-        (ap (fault_as (fault_among number)) tells) (tells_alone (λ (os : List OrderModel). os) (Rose before after) r (added number held order) value),
-  )
+-- what is found of it
+module _ {X : Type 0} (view : X → OrderModel) (len : X → ℕ) (told : Option (List NamedFile)) (names : FileNames) (number : ℕ) (held : List OrderModel) where
+  pub genesis_fails : (c0 c1 : ℕ) (fault : Fault) (r : Result X Fault) → r ≡ Err fault → IsFileFault genesis_file told c0 c1 names files.Genesis fault
+      → FindsUnlessHeld view len told names number held c0 c1 r
+  genesis_fails c0 c1 fault r is why =
+      let log = there told (file_name names files.Log) in
+      let tail = there told (file_name names files.Tail) in
+      let (gc, at, tells) = fails genesis_file (λ (g : Genesis). g) told c0 c1 names files.Genesis fault why in
+      let content : ServedFiles = record { genesis = gc; log = log; tail = tail } in
+      subst (λ (o : Result X Fault). FindsUnlessHeld view len told names number held c0 c1 o) (sym is) (
+        content,
+        record { genesis = at; log = is_there told (file_name names files.Log); tail = is_there told (file_name names files.Tail) },
+        fails_first (λ (g : Genesis). g) view (Rose c0 c1) fault (genesis_in gc) (λ (g : Genesis). order_unless_held number (is_held held g.document) content) tells,
+        tt,
+      )
+
+  module _ (now : Option (List NamedFile)) (c0 c1 c2 : ℕ) (g : Genesis) (same : now ≡ told) (low : c0 ≤ c1) (says_g : SaysFile genesis_file told (file_name names files.Genesis) g) where
+    -- behind its genesis
+    behind : (r : Result X Fault) (gc log tail : Option (List ℕ)) (b : Bool) → genesis_in gc ≡ Ok g → is_held held g.document ≡ b
+        → AnswersUnlessOutside view (Rose c1 c2) r (order_unless_held number b (record { genesis = gc; log = log; tail = tail }))
+        → AnswersUnlessOutside view (Rose c0 c2) r (opened_in number held (record { genesis = gc; log = log; tail = tail }))
+    behind r gc log tail b g_is is tells =
+        let content : ServedFiles = record { genesis = gc; log = log; tail = tail } in
+        tells_later view c0 c1 c2 r (opened_in number held content) low
+        (tells_behind view (Rose c1 c2) r (genesis_in gc) g (λ (h : Genesis). order_unless_held number (is_held held h.document) content) g_is
+        (subst (λ (o : Bool). AnswersUnlessOutside view (Rose c1 c2) r (order_unless_held number o content)) (sym is) tells))
+
+    pub held_found : (fault : Fault) → is_held held g.document ≡ true → FindsHeld now (file_name names files.Log) c1 c2 number g fault
+        → FindsUnlessHeld view len told names number held c0 c2 (Err fault)
+    held_found fault is found =
+        let (log, at, tells) = subst (λ (t : Option (List NamedFile)). FindsHeld t (file_name names files.Log) c1 c2 number g fault) same found in
+        let tail = there told (file_name names files.Tail) in
+        let (gc, g_at, g_is) = says genesis_file told (file_name names files.Genesis) files.Genesis g says_g in
+        let logs : log_in (record { genesis = gc; log = log; tail = tail }) ≡ logged g log = ap (λ (x : Result Genesis Fault). x >>= λ (h : Genesis). logged h log) g_is in (
+          record { genesis = gc; log = log; tail = tail },
+          record { genesis = g_at; log = at; tail = is_there told (file_name names files.Tail) },
+          behind (Err fault) gc log tail true g_is is
+              (subst (λ (x : Result OrderModel Fault). AnswersUnlessOutside view (Rose c1 c2) (Err fault) (x >>= λ (o : OrderModel). Err (faults.Exists (files.Document number)))) (sym logs)
+              (other_view (λ (o : OrderModel). o) view (Rose c1 c2) fault (logged g log >>= λ (o : OrderModel). Err (faults.Exists (files.Document number))) tells)),
+          tt,
+        )
+
+    pub free_found : (r : Result X Fault) → is_held held g.document ≡ false → FindsOrderBehind view len now names g c1 c2 r → FindsUnlessHeld view len told names number held c0 c2 r
+    free_found r is found =
+        let (log, tail, log_at, tail_at, tells, has) = subst (λ (t : Option (List NamedFile)). FindsOrderBehind view len t names g c1 c2 r) same found in
+        let (gc, g_at, g_is) = says genesis_file told (file_name names files.Genesis) files.Genesis g says_g in (
+          record { genesis = gc; log = log; tail = tail },
+          record { genesis = g_at; log = log_at; tail = tail_at },
+          behind r gc log tail false g_is is
+              (tells_behind view (Rose c1 c2) r (genesis_in gc) g (λ (h : Genesis). order_behind h log tail) g_is tells),
+          has_logged view len told names gc log tail g r g_is has,
+        )
 
 -- ---- adding
 
@@ -71,46 +143,3 @@ add_fails number held order cause fault is some room =
     by adding.Exists some room = held_there number (place_of held order.genesis.document) (held ++ order ∷ []) (some refl)
     by adding.Full some room = absurd (room refl)
     by adding.Memory some room = tt
-
--- ---- several documents
-
--- what the files of documents hold that were not read
-abbrev contents_there : Option (List NamedFile) → List (List ℕ) → List ServedFiles
-contents_there told [] = []
-contents_there told (n ∷ ns) =
-    record { genesis = there told (file_name (names_of_document n) files.Genesis); log = there told (file_name (names_of_document n) files.Log) } ∷ contents_there told ns
-
-are_there : (told : Option (List NamedFile)) (names : List (List ℕ)) → AreFilesOfAll told names (contents_there told names)
-are_there told [] = tt
-are_there told (n ∷ ns) =
-    (record { genesis = is_there told (file_name (names_of_document n) files.Genesis); log = is_there told (file_name (names_of_document n) files.Log) }, are_there told ns)
-
-pub none_found : (told : Option (List NamedFile)) (names : List (List ℕ)) (number : ℕ) (held : List OrderModel) (c0 c1 : ℕ) → length names ≡ 0
-    → FindsDocuments told names number held c0 c1 (Ok held)
-none_found told [] number held c0 c1 none = ([], tt, refl)
-none_found told (n ∷ ns) number held c0 c1 none = absurd cc
-
-module _ (told : Option (List NamedFile)) (names : List (List ℕ)) (number : ℕ) (held : List OrderModel) (c0 c1 : ℕ) where
-  pub first_fails : (name : List ℕ) (others : List (List ℕ)) (fault : Fault) (r : Result (List OrderModel) Fault) → names ≡ name ∷ others → r ≡ Err fault
-      → FindsDocument told name number held c0 c1 (Err fault) → FindsDocuments told names number held c0 c1 r
-  first_fails name others fault r is failed (content, are, tells) =
-      subst (λ (ns : List (List ℕ)). FindsDocuments told ns number held c0 c1 r) (sym is)
-      (subst (λ (o : Result (List OrderModel) Fault). FindsDocuments told (name ∷ others) number held c0 c1 o) (sym failed) (
-        content ∷ contents_there told others,
-        (are, are_there told others),
-        fails_first (λ (os : List OrderModel). os) (λ (os : List OrderModel). os) (Rose c0 c1) fault (with_document number held content)
-            (λ (more : List OrderModel). orders_in (number + 1) more (contents_there told others)) tells,
-      ))
-
-  pub others_found : (c2 : ℕ) (now : Option (List NamedFile)) (name : List ℕ) (others : List (List ℕ)) (more : List OrderModel) (r : Result (List OrderModel) Fault)
-      → names ≡ name ∷ others → now ≡ told → c0 ≤ c1 → FindsDocument told name number held c0 c1 (Ok more)
-      → FindsDocuments now others (number + 1) more c1 c2 r → FindsDocuments told names number held c0 c2 r
-  others_found c2 now name others more r is same low (content, are, first) rest =
-      let (contents, all, tells) = subst (λ (t : Option (List NamedFile)). FindsDocuments t others (number + 1) more c1 c2 r) same rest in
-      subst (λ (ns : List (List ℕ)). FindsDocuments told ns number held c0 c2 r) (sym is) (
-        content ∷ contents,
-        (are, all),
-        tells_later (λ (os : List OrderModel). os) c0 c1 c2 r (with_document number held content >>= λ (ms : List OrderModel). orders_in (number + 1) ms contents) low
-            (tells_behind (λ (os : List OrderModel). os) (Rose c1 c2) r (with_document number held content) more
-            (λ (ms : List OrderModel). orders_in (number + 1) ms contents) first tells),
-      )

@@ -1,7 +1,9 @@
 -- Documents that are read one after another: how many are held, and which names were asked for.
-use Rattle.std.proofs.Common.{◌≡◌, ℕ, suc, ◌+◌, ◌≤◌, ◌<◌, List, ◌∷◌, length, Option, Result, Ok, Err, sym, ap, subst, arith}
-use Rattle.std.specs.Result.{IfOk}
-use Rattle.sporc_order.specs.OrderModel.{OrderModel}
+use Rattle.std.proofs.Common.{◌≡◌, ℕ, suc, ◌+◌, ◌≤◌, ◌<◌, List, [], ◌∷◌, ◌++◌, length, Option, Result, Ok, Err, sym, ap, subst, ◌∙◌, arith}
+use Rattle.std.specs.Prelude.{OnOk}
+use Rattle.std.proofs.lemmas.List.{length-append}
+use Rattle.sporc_files.specs.declared.file.File.TheVariants as files
+use Rattle.sporc_files.specs.Names.{FileNames, file_name, names_of_document}
 use Rattle.sporc_files.specs.declared.fault.Fault.{Fault}
 use Rattle.sporc_files.specs.Uses.{AsksOnly}
 use Rattle.sporc_files.proofs.Asking.{AsksOnly-none, asks_first, asks_then}
@@ -25,11 +27,6 @@ module _ (names : List (List ℕ)) where
     pub number_left : (number most : ℕ) → number + length names < most → number + 1 < most
     number_left number most low = let size = longer in omega (arith, size, low)
 
-    pub each_left : (held more : ℕ) (r : Result (List OrderModel) Fault) → more ≡ held + 1 → IfOk r (λ (os : List OrderModel). length os ≡ more + length others)
-        → IfOk r (λ (os : List OrderModel). length os ≡ held + length names)
-    each_left held more (Ok os) one all = let size = longer in omega (arith, size, one, all)
-    each_left held more (Err fault) one all = tt
-
     pub first_asked : (a b : Option (List (List ℕ))) → AsksOnly (files_of_one name) a b → AsksOnly (files_of_all names) a b
     first_asked a b asked =
         subst (λ (ns : List (List ℕ)). AsksOnly (files_of_all ns) a b) (sym is) (asks_first (files_of_one name) (files_of_all others) a b asked)
@@ -39,8 +36,18 @@ module _ (names : List (List ℕ)) where
         subst (λ (ns : List (List ℕ)). AsksOnly (files_of_all ns) a c) (sym is) (asks_then (files_of_one name) (files_of_all others) a b c first then)
 
   -- no name
-  pub none_left : (held : ℕ) → length names ≡ 0 → held ≡ held + length names
-  none_left held none = omega (arith, none)
-
   pub none_asked : (a : Option (List (List ℕ))) → AsksOnly (files_of_all names) a a
   none_asked a = AsksOnly-none (files_of_all names) a
+
+-- one document was added
+pub one_added : {A : Type 0} (r : Result (Unit {0}) Fault) (old mid new : List A) (x : A) → mid ≡ old → OnOk r (new ≡ mid ++ x ∷ []) → OnOk r (length new ≡ length old + 1)
+one_added {A} (Ok done) old mid new x same is =
+    ap (λ (l : List A). length l) is ∙ length-append mid (x ∷ []) ∙ ap (λ (l : List A). length l + 1) same
+one_added (Err fault) old mid new x same is = tt
+
+-- the files of a document, by its own names
+pub own_asked : (name : List ℕ) (names : FileNames) (a b c : Option (List (List ℕ))) → names ≡ names_of_document name → c ≡ b
+    → AsksOnly (file_name names files.Genesis ∷ file_name names files.Tail ∷ file_name names files.Log ∷ []) a b → AsksOnly (files_of_one name) a c
+own_asked name names a b c same is asked =
+    subst (λ (o : Option (List (List ℕ))). AsksOnly (files_of_one name) a o) (sym is)
+    (subst (λ (n : FileNames). AsksOnly (file_name n files.Genesis ∷ file_name n files.Tail ∷ file_name n files.Log ∷ []) a b) same asked)

@@ -13,8 +13,10 @@
 //! written, and that a client gets an answer.
 #![tactic(auto)]
 
+mod giving;
 mod hosting;
 mod loading;
+mod rounds;
 mod saving;
 
 pub use hosting::serve_all;

@@ -1,84 +1,246 @@
-//! The orders in the logs of several documents.
+//! The orders in the logs and the tails of several documents.
 
-ghost use Rattle.std.specs.Prelude.{◌≡◌, ◌≢◌, ◌≤◌, ◌<◌, ◌+◌, ◌^◌, length, IfOk};
+ghost use Rattle.std.specs.Prelude.{◌≡◌, ◌≢◌, ◌≤◌, ◌<◌, ◌+◌, ◌^◌, ◌∷◌, ◌++◌, [], ℕ, List, length, IfOk, OnOk, OnErr, option_map, string_bytes};
+ghost use Rattle.std.specs.Vec.{vec_len, vec_capacity};
+ghost use Rattle.sporc_entry.specs.Genesis.{IsGenesis};
+ghost use Rattle.sporc_outside.specs.Files.{ChangesFile, made_in};
 ghost use Rattle.sporc_docs.specs.declared.limits.TheConstants.{MAX_DOCUMENTS};
 ghost use Rattle.sporc_docs.specs.declared.fault.DocsFault.TheVariants as docs_faults;
-ghost use Rattle.sporc_files.specs.Uses.{AsksOnly};
+ghost use Rattle.sporc_files.specs.Names.{file_name};
+ghost use Rattle.sporc_files.specs.Uses.{AsksOnly, folder_use};
 ghost use Rattle.sporc_histories.specs.Contents.{AnswersUnlessOutside};
-ghost use Rattle.sporc_hosting.specs.Loading.{FindsDocument, FindsDocuments, added, fault_of_adding, files_of_one, files_of_all};
+ghost use Rattle.sporc_histories.specs.Serving.{ServedFiles};
+ghost use Rattle.sporc_histories.specs.Tails.{KeepsBehind, TakesTail};
+ghost use Rattle.sporc_hosting.specs.Loading.{AreOpen, ChangesTails, FindsHeld, FindsUnlessHeld, OpensMore, OpensOne, added, fault_of_adding, files_of_all, files_of_one, is_held, opened_to, with_tail_made, with_tails_made};
 
+use sporc_base::{Memory, is_same};
 use sporc_docs::{Docs, DocsFault};
-use sporc_files::{Fault, File, Names};
-use sporc_histories::read_order;
+use sporc_entry::Genesis;
+use sporc_files::{Fault, File, Names, read_genesis_file};
+use sporc_histories::{KeptOrder, LogTail, OpenedOrder, open_order_behind, read_log};
 use sporc_order::Order;
-use sporc_outside::{Folder, Gate};
+use sporc_outside::{AppendFile, Counted, Folder, Gate};
 use sporc_words::Word;
 use std::alloc::Global;
+use std::marker::Model;
 use std::sync::Wait;
 use std::thread::Threads;
 
-// Adds the orders in the logs of these documents to those that are held, of which the first has this number among all.
-pub(crate) fn read_documents<R: Threads + Wait + Sync, F: Folder, G: Gate + Sync>(
+// The log of a document as it was opened: the name of its tail's file, and how many entries it had.
+#[derive(Drop)]
+pub(crate) struct OpenLog {
+    name: String,
+    logged: u32,
+}
+
+impl Model for OpenLog {
+    ghost use Rattle.std.specs.String.{string_bytes};
+    ghost use Rattle.sporc_hosting.specs.Loading.{OpenLogModel};
+
+    ghost Value = { OpenLogModel };
+
+    ghost view = { λ l. record { name = string_bytes l.name; logged = l.logged } };
+}
+
+impl OpenLog {
+    // The name of the tail's file.
+    pub(crate) fn name(&self) -> &str
+        ensures { result.now ≡ self.now.name }
+    {
+        self.name.as_str()
+    }
+
+    // How many entries the log had.
+    pub(crate) fn logged(&self) -> u32
+        ensures { result ≡ self.now.logged }
+    {
+        self.logged
+    }
+}
+
+// The documents that a server has open, with the tail of each, and how each log was opened.
+#[derive(Drop)]
+pub(crate) struct OpenDocs<A: AppendFile> {
+    pub(crate) docs: Docs,
+    pub(crate) tails: Vec<LogTail<A>>,
+    pub(crate) logs: Vec<OpenLog>,
+}
+
+// Opens the documents of these names behind those that are open, of which the first has this number among all. If that fails,
+// those that were opened are.
+pub(crate) fn open_documents<R: Threads + Wait + Sync, F: Folder, G: Gate + Sync>(
     rt: &R,
     alloc: Global,
     files: &mut F,
     names: &[Word],
     number: u32,
-    held: Docs,
+    held: &mut OpenDocs<F::Appended>,
     gate: &G,
-) -> Result<Docs, Fault>
-    requires room { length held + length names.now ≤ MAX_DOCUMENTS }
+) -> Result<(), Fault>
+    requires room { length held.old.docs + length names.now ≤ MAX_DOCUMENTS }
     requires numbers { number + length names.now < 2 ^ 32 }
-    ensures found { FindsDocuments (F.files files.old) names.now number held (F.faults files.old) (F.faults files.new) result }
-    ensures each { IfOk result (λ docs. length docs ≡ length held + length names.now) }
-    ensures files { F.files files.new ≡ F.files files.old }
+    ensures opens { (first : List (List ℕ)) (begun : List ServedFiles)
+        → AreOpen F.Appended.moment F.Appended.images first begun held.old.docs held.old.tails.items held.old.logs.items
+        → OpensMore F.Appended.moment F.Appended.images (F.files files.old) names.now number (F.faults files.old) (F.faults files.new) result
+        held.old.docs held.new.docs held.new.tails.items held.new.logs.items first begun }
+    ensures made { OnOk result (F.files files.new ≡ with_tails_made names.now (F.files files.old)) }
+    ensures changes { ChangesTails names.now (F.files files.old) (F.files files.new) }
     ensures lent { F.lent files.new ≡ F.lent files.old }
     ensures may_ask { AsksOnly (files_of_all names.now) (F.asked files.old) (F.asked files.new) }
     ensures kept { F.faults files.old ≤ F.faults files.new }
 {
     let Some((name, others)) = names.split_first() else {
-        return Ok(held);
+        return Ok(());
     };
-    let docs = read_document(rt, alloc, files, name, number, held, gate)?;
-    read_documents(rt, alloc, files, others, number + 1, docs, gate)
+    open_document(rt, alloc, files, name, number, held, gate)?;
+    open_documents(rt, alloc, files, others, number + 1, held, gate)
 }
 
-// Adds the order in the log of one document.
-fn read_document<R: Threads + Wait + Sync, F: Folder, G: Gate + Sync>(
+// Opens one document. If that fails, those that are open stay as they are.
+fn open_document<R: Threads + Wait + Sync, F: Folder, G: Gate + Sync>(
     rt: &R,
     alloc: Global,
     files: &mut F,
     name: &Word,
     number: u32,
-    held: Docs,
+    held: &mut OpenDocs<F::Appended>,
     gate: &G,
-) -> Result<Docs, Fault>
-    requires room { length held < MAX_DOCUMENTS }
-    ensures found { FindsDocument (F.files files.old) name.now number held (F.faults files.old) (F.faults files.new) result }
-    ensures one { IfOk result (λ docs. length docs ≡ length held + 1) }
-    ensures files { F.files files.new ≡ F.files files.old }
+) -> Result<(), Fault>
+    requires room { length held.old.docs < MAX_DOCUMENTS }
+    ensures opens { (first : List (List ℕ)) (begun : List ServedFiles)
+        → AreOpen F.Appended.moment F.Appended.images first begun held.old.docs held.old.tails.items held.old.logs.items
+        → OpensOne F.Appended.moment F.Appended.images (F.files files.old) name.now number (F.faults files.old) (F.faults files.new) result
+        held.old.docs held.new.docs held.new.tails.items held.new.logs.items first begun }
+    ensures one { OnOk result (length held.new.docs ≡ length held.old.docs + 1) }
+    ensures made { OnOk result (F.files files.new ≡ with_tail_made name.now (F.files files.old)) }
+    ensures changes { ChangesTails (name.now ∷ []) (F.files files.old) (F.files files.new) }
     ensures lent { F.lent files.new ≡ F.lent files.old }
     ensures may_ask { AsksOnly (files_of_one name.now) (F.asked files.old) (F.asked files.new) }
     ensures kept { F.faults files.old ≤ F.faults files.new }
 {
+    make_room(held)?;
     let names = Names::of_document(name.as_str());
-    match read_order(rt, alloc, files, &names, gate) {
-        Ok(order) => add(held, order, number),
+    match open_unless_held(rt, alloc, files, &names, held.docs.orders(), number, gate) {
+        Ok(opened) => add(files, held, opened, number),
         Err(fault) => Err(fault.among(number)),
     }
 }
 
-// Adds an order, unless one of its document is held.
-#[tactic(auto, using(crate::proofs::Loaded::adds, crate::proofs::Loaded::add_fails))]
-fn add(held: Docs, order: Order, number: u32) -> Result<Docs, Fault>
-    requires room { length held < MAX_DOCUMENTS }
-    ensures value { AnswersUnlessOutside (λ docs. docs) ⊥ result (added number held order) }
-    ensures one { IfOk result (λ docs. length docs ≡ length held + 1) }
+// Opens a document, unless one of these orders is of it: then its log is loaded for its faults, and its tail is left alone.
+fn open_unless_held<R: Threads + Wait + Sync, F: Folder, G: Gate + Sync>(
+    rt: &R,
+    alloc: Global,
+    files: &mut F,
+    names: &Names<'_>,
+    orders: &[Order],
+    number: u32,
+    gate: &G,
+) -> Result<OpenedOrder<F::Appended>, Fault>
+    ensures found { FindsUnlessHeld (λ it. it.kept.order) (λ it. it.logged) (F.files files.old) names.now number orders.now (F.faults files.old)
+        (F.faults files.new) result }
+    ensures tail { IfOk result (λ it. KeepsBehind F.Appended.moment F.Appended.images it.kept.tail it.kept.order.entries) }
+    ensures name { IfOk result (λ it. string_bytes it.name ≡ file_name names.now File.Tail) }
+    ensures made { OnOk result (F.files files.new ≡ option_map (λ told. made_in told (file_name names.now File.Tail)) (F.files files.old)) }
+    ensures changes { OnErr result (ChangesFile (F.files files.old) (F.files files.new) (file_name names.now File.Tail)) }
+    ensures lent { F.lent files.new ≡ F.lent files.old }
+    ensures may_ask { AsksOnly (file_name names.now File.Genesis ∷ file_name names.now File.Tail ∷ file_name names.now File.Log ∷ [])
+        (F.asked files.old) (F.asked files.new) }
+    ensures kept { F.faults files.old ≤ F.faults files.new }
 {
-    let mut docs = held;
-    match docs.add(order) {
-        Ok(()) => Ok(docs),
-        Err((fault, _)) => Err(fault_of(fault, number)),
+    let genesis = read_genesis_file(alloc, files, names)?;
+    if is_held(orders, &genesis.document) {
+        return Err(fault_of_held(rt, alloc, files, names, genesis, number, gate));
+    }
+    open_order_behind(rt, alloc, files, names, genesis, gate)
+}
+
+// The fault of a document that is held: the first one of its log, or that it is held.
+fn fault_of_held<R: Threads + Wait + Sync, F: Folder, G: Gate + Sync>(
+    rt: &R,
+    alloc: Global,
+    files: &mut F,
+    names: &Names<'_>,
+    genesis: Genesis,
+    number: u32,
+    gate: &G,
+) -> Fault
+    requires genesis { IsGenesis genesis }
+    ensures found { FindsHeld (F.files files.old) (file_name names.now File.Log) (F.faults files.old) (F.faults files.new) number genesis result }
+    ensures files { F.files files.new ≡ F.files files.old }
+    ensures lent { F.lent files.new ≡ F.lent files.old }
+    ensures may_ask { AsksOnly (file_name names.now File.Log ∷ []) (F.asked files.old) (F.asked files.new) }
+    ensures kept { F.faults files.old ≤ F.faults files.new }
+{
+    match read_log(rt, alloc, files, names, genesis, gate) {
+        Ok(order) => {
+            drop(order);
+            Fault::Exists(File::Document(number))
+        }
+        Err(fault) => fault,
+    }
+}
+
+// Whether one of these orders is of this document.
+fn is_held(orders: &[Order], document: &[u8; 16]) -> bool
+    ensures value { result ≡ is_held orders.now document.now }
+{
+    let Some((first, others)) = orders.split_first() else {
+        return false;
+    };
+    if is_same(document, first.document()) {
+        return true;
+    }
+    is_held(others, document)
+}
+
+// Makes room for one document more.
+fn make_room<A: AppendFile>(held: &mut OpenDocs<A>) -> Result<(), Memory>
+    ensures docs { held.new.docs ≡ held.old.docs }
+    ensures tails { held.new.tails.items ≡ held.old.tails.items }
+    ensures logs { held.new.logs.items ≡ held.old.logs.items }
+    ensures ok { OnOk result ((vec_len held.new.tails < vec_capacity held.new.tails) × (vec_len held.new.logs < vec_capacity held.new.logs)) }
+{
+    held.tails.reserve(1)?;
+    held.logs.reserve(1)?;
+    Ok(())
+}
+
+// Adds a document that was opened, unless it is held: then its tail's file goes back, and those that are open stay as they are.
+fn add<F: Folder>(
+    files: &mut F,
+    held: &mut OpenDocs<F::Appended>,
+    opened: OpenedOrder<F::Appended>,
+    number: u32,
+) -> Result<(), Fault>
+    requires room { length held.old.docs < MAX_DOCUMENTS }
+    requires tails { vec_len held.old.tails < vec_capacity held.old.tails }
+    requires logs { vec_len held.old.logs < vec_capacity held.old.logs }
+    ensures value { AnswersUnlessOutside (λ docs. docs) ⊥ (opened_to result held.new.docs) (added number held.old.docs opened.kept.order) }
+    ensures docs { OnOk result (held.new.docs ≡ held.old.docs ++ opened.kept.order ∷ []) }
+    ensures tails { OnOk result (held.new.tails.items ≡ held.old.tails.items ++ opened.kept.tail ∷ []) }
+    ensures logs { OnOk result (held.new.logs.items ≡ held.old.logs.items ++ record { name = string_bytes opened.name; logged = opened.logged } ∷ []) }
+    ensures unchanged { OnErr result ((held.new.docs ≡ held.old.docs) × (held.new.tails.items ≡ held.old.tails.items)
+        × (held.new.logs.items ≡ held.old.logs.items)) }
+    ensures files { OnOk result (F.files files.new ≡ F.files files.old) }
+    ensures back { OnErr result (TakesTail (string_bytes opened.name) (folder_use F.files F.asked F.lent F.faults files.old files.new)) }
+    ensures lent { F.lent files.new ≡ F.lent files.old }
+    ensures asked { F.asked files.new ≡ F.asked files.old }
+    ensures kept { F.faults files.old ≤ F.faults files.new }
+{
+    let OpenedOrder { kept, name, logged } = opened;
+    let KeptOrder { order, tail } = kept;
+    match held.docs.add(order) {
+        Ok(()) => {
+            held.tails.push_reserved(tail);
+            held.logs.push_reserved(OpenLog { name, logged });
+            Ok(())
+        }
+        Err((fault, _)) => {
+            // No call: that the count of the folder can be told here is what `kept` rests on.
+            let _faults = files.faults();
+            files.take_file(name.as_str(), tail.close());
+            Err(fault_of(fault, number))
+        }
     }
 }
 

@@ -5,7 +5,8 @@ ghost use Rattle.sporc_outside.specs.Uses.{sink_use};
 ghost use Rattle.sporc_files.specs.Names.{file_name, names_of_document};
 ghost use Rattle.sporc_files.specs.Uses.{AsksOnly, folder_use};
 ghost use Rattle.sporc_histories.specs.Outcomes.{KeepsLog};
-ghost use Rattle.sporc_hosting.specs.Saving.{KeepsLogs, document_line, first_fault, logs_of, moment_of};
+ghost use Rattle.sporc_histories.specs.Moments.{moment_of};
+ghost use Rattle.sporc_hosting.specs.Saving.{KeepsLogs, document_line, first_fault, logs_of};
 
 use sporc_base::Memory;
 use sporc_files::{Fault, File, Names};
@@ -78,7 +79,7 @@ fn document_line(alloc: Global, name: &str, len: u32) -> Result<String, Memory>
 }
 
 // The first of two faults, but for out of memory at the second.
-fn first_fault(first: Result<(), Fault>, second: Result<(), Fault>) -> Result<(), Fault>
+pub(crate) fn first_fault(first: Result<(), Fault>, second: Result<(), Fault>) -> Result<(), Fault>
     ensures { result ≡ first_fault first second }
 {
     let Err(fault) = first else {

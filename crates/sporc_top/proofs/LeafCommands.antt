@@ -4,7 +4,7 @@ use Rattle.std.specs.Bool.{⊤}
 use Rattle.std.specs.List.{AllByRecursion}
 use Rattle.std.specs.Str.{bytes_eq}
 use Rattle.std.proofs.lemmas.Slice.Eq.{bytes_eq-Decides}
-use Rattle.sporc_outside.specs.Files.{ChangesFile, HasNoFile, IsDiskOf, with_file}
+use Rattle.sporc_outside.specs.Files.{ChangesFile, HasNoFile, IsDiskOf, made_in, with_file}
 use Rattle.sporc_outside.specs.Uses.{SinkUse}
 use Rattle.sporc_outside.specs.declared.named_file.NamedFile.{NamedFile}
 use Rattle.sporc_keys.specs.declared.founding.Founding.{Founding}
@@ -28,9 +28,14 @@ use Rattle.sporc_files.specs.Uses.{ChanceUse, FolderUse}
 use Rattle.sporc_files.specs.Writing.{StoresFirst, StoresPrefix, file_with}
 use Rattle.sporc_founding.specs.Founding.{FoundOutcome, IsStoreFault, founding_files}
 use Rattle.sporc_founding.specs.KeyMaking.{IsFilesFault, IsThere, KeygenOutcome, Makes, StoresKey, StoresKeyFile, key_files}
-use Rattle.sporc_histories.specs.Outcomes.{KeepsLog, ServeOutcome}
-use Rattle.sporc_hosting.specs.Hosting.{ServeAllOutcome, at_end}
-use Rattle.sporc_hosting.specs.Saving.{KeepsLogs, Moment, folder_between, sink_between}
+use Rattle.sporc_docs.specs.Hands.{Both}
+use Rattle.sporc_histories.specs.Moments.{Moment, at_end, folder_between, sink_between}
+use Rattle.sporc_histories.specs.Outcomes.{IsRound, KeepsLog, ServeOutcome}
+use Rattle.sporc_histories.specs.Rounds.{GoWell, Round, Standing}
+use Rattle.sporc_histories.specs.Tails.{GivesBack, KeepsTail, RemovesTail}
+use Rattle.sporc_hosting.specs.Hosting.{GivesAllBack, IsRoundOfAll, ServeAllOutcome}
+use Rattle.sporc_hosting.specs.Loading.{ChangesTails, IsNoTail, OpenLogModel, with_tail_made, with_tails_made}
+use Rattle.sporc_hosting.specs.Saving.{KeepsLogs}
 use Rattle.sporc_sessions.specs.declared.concluding.KeepFault.{KeepFault}
 use Rattle.sporc_sessions.specs.declared.concluding.KeepFault.TheVariants as keeping
 use Rattle.sporc_sessions.specs.Concluding.{FilesUse, SaveOutcome}
@@ -42,13 +47,17 @@ use Rattle.sporc_top.specs.LeafFiles.{by_command, file_at, if_over, leaf_name, o
 use Rattle.sporc_top.specs.Needs.{needs_of}
 use Rattle.sporc_top.specs.Performing.{Performs}
 use Rattle.sporc_top.specs.Uses.{OutsideUse, client_use}
-use Rattle.sporc_top.proofs.LeafFiles.{Keeps, kept_back, kept_changes, kept_first, kept_prefix, kept_stores, kept_with, not_genesis, not_history, not_key, not_log, own_back, own_is, own_tells, rings_others}
+use Rattle.sporc_top.proofs.LeafFiles.{Keeps, kept_back, kept_changes, kept_first, kept_made, kept_prefix, kept_removed, kept_stores, kept_taken, kept_with, not_genesis, not_history, not_key, not_log, not_tail, own_back, own_is, own_tells, rings_others}
 
 -- ---- told files stay told
 
 told_with : (before after : Option (List NamedFile)) (name bytes : List ℕ) → IsSome before → after ≡ option_map (λ old. with_file old name bytes) before → IsSome after
 told_with None after name bytes told is = absurd cc
 told_with (Some fs) after name bytes told is = rw is refl
+
+told_made : (before after : Option (List NamedFile)) (name : List ℕ) → IsSome before → after ≡ option_map (λ old. made_in old name) before → IsSome after
+told_made None after name told is = absurd cc
+told_made (Some fs) after name told is = rw is refl
 
 told_changes : (before after : Option (List NamedFile)) (name : List ℕ) → IsSome before → ChangesFile before after name → IsSome after
 told_changes None after name told changes = absurd cc
@@ -112,6 +121,8 @@ module _ (document : List ℕ) (device : Device) where
   there_kept names key before after (files.GenesisOf n) never = absurd never
   there_kept names key before after (files.LogOf n) never = absurd never
   there_kept names key before after (files.Document n) never = absurd never
+  there_kept names key before after files.Tail never = absurd never
+  there_kept names key before after (files.TailOf n) never = absurd never
 
   keys_by_fault : (words : Keygen) (key : NewKey) (before after : Option (List NamedFile)) (low high : ℕ) → key.file.device ≡ words.device → IsSome before
       → (fault : Fault) → IsFilesFault (names_of_document words.name) key before after low high fault → KeysLeave words before after (Err fault)
@@ -240,14 +251,6 @@ module _ (document : List ℕ) (device : Device) where
   log_keeps names folder out order line (Ok done) told (saves, wrote) = kept_with name folder.files_before folder.files_after _ _ (not_log names document device) saves.files
   log_keeps names folder out order line (Err fault) told keeps = log_kept names folder out order line told fault keeps
 
-  serve_keeps : {L : Type 0} (left written : L → Option (List ℕ)) (counts : L → ℕ) (is_shut : L → Option Bool) (names : FileNames) (sessions : ℕ) (folder : FolderUse) (out : SinkUse)
-      (old new : Net L) (answer : Result ⊤ Fault) → IsSome folder.files_before → ServeOutcome left written counts is_shut names sessions folder out old new answer
-      → Keeps name folder.files_before folder.files_after
-  serve_keeps left written counts is_shut names sessions folder out old new answer told (inl none) = ap (file_at name) none.reads.unchanged
-  serve_keeps left written counts is_shut names sessions folder out old new answer told (inr served) = log_keeps names folder out served.after _ served.kept told served.keeps
-
-  -- ---- serve-all
-
   log_told : (names : FileNames) (folder : FolderUse) (out : SinkUse) (order : OrderModel) (line : List ℕ) (kept : Result ⊤ Fault) → IsSome folder.files_before
       → KeepsLog names folder out order line kept → IsSome folder.files_after
   log_told names folder out order line (Ok done) told (saves, wrote) = told_with folder.files_before folder.files_after _ _ told saves.files
@@ -257,22 +260,124 @@ module _ (document : List ℕ) (device : Device) where
   log_told names folder out order line (Err faults.Outside) told (inr (saves, rose, wrote)) = told_with folder.files_before folder.files_after _ _ told saves.files
   log_told names folder out order line (Err fault) told never = absurd never
 
+  module _ {L : Type 0} (left written : L → Option (List ℕ)) (counts : L → ℕ) (is_shut : L → Option Bool) (names : FileNames) (sessions : ℕ) where
+    round_keeps : (a : Standing OrderModel L) (r : Round OrderModel L) → IsSome a.moment.files → IsRound left written counts is_shut names sessions a r
+        → Keeps name a.moment.files r.after.moment.files × IsSome r.after.moment.files
+    round_keeps a r told is =
+        let folder = folder_between a.moment r.after.moment in
+        let out = sink_between a.moment r.after.moment in
+        (log_keeps names folder out r.after.held _ r.saved told is.keeps, log_told names folder out r.after.held _ r.saved told is.keeps)
+
+    rounds_keep : (a : Standing OrderModel L) (rs : List (Round OrderModel L)) (b : Standing OrderModel L) → IsSome a.moment.files
+        → GoWell (IsRound left written counts is_shut names sessions) a rs b → Keeps name a.moment.files b.moment.files × IsSome b.moment.files
+    rounds_keep a [] b told same = (ap (λ (s : Standing OrderModel L). file_at name s.moment.files) same, subst (λ (s : Standing OrderModel L). IsSome s.moment.files) (sym same) told)
+    rounds_keep a (r ∷ rs) b told (is, good, others) =
+        let one = round_keeps a r told is in
+        let rest = rounds_keep r.after rs b one.1 others in
+        (rest.0 ∙ one.0, rest.1)
+
+  tail_removed : (names : FileNames) (folder : FolderUse) (given : Result ⊤ Fault) → RemovesTail (file_name names files.Tail) folder given → Keeps name folder.files_before folder.files_after
+  tail_removed names folder (Ok done) gone = kept_removed name folder.files_before folder.files_after _ (not_tail names document device) gone
+  tail_removed names folder (Err faults.Outside) (rose, inl gone) = kept_removed name folder.files_before folder.files_after _ (not_tail names document device) gone
+  tail_removed names folder (Err faults.Outside) (rose, inr (stored, back)) = kept_taken name folder.files_before folder.files_after stored _ (not_tail names document device) back
+  tail_removed names folder (Err fault) never = absurd never
+
+  tail_kept : (names : FileNames) (folder : FolderUse) (logged : ℕ) (bytes : List ℕ) (entries : List (List ℕ)) (given : Result ⊤ Fault)
+      → KeepsTail (file_name names files.Tail) folder logged bytes entries given → Keeps name folder.files_before folder.files_after
+  tail_kept names folder logged bytes entries (Ok done) (stored, back, gives) = kept_taken name folder.files_before folder.files_after stored _ (not_tail names document device) back
+  tail_kept names folder logged bytes entries (Err (faults.Malformed file at)) (same, zero, (stored, back)) =
+      kept_taken name folder.files_before folder.files_after stored _ (not_tail names document device) back
+  tail_kept names folder logged bytes entries (Err fault) never = absurd never
+
+  tail_given : (names : FileNames) (folder : FolderUse) (logged : ℕ) (bytes : List ℕ) (entries : List (List ℕ)) (saved given : Result ⊤ Fault)
+      → GivesBack (file_name names files.Tail) folder logged bytes entries saved given → Keeps name folder.files_before folder.files_after
+  tail_given names folder logged bytes entries (Ok done) given gone = tail_removed names folder given gone
+  tail_given names folder logged bytes entries (Err fault) given kept = tail_kept names folder logged bytes entries given kept
+
+  serve_keeps : {L : Type 0} (left written : L → Option (List ℕ)) (counts : L → ℕ) (is_shut : L → Option Bool) (names : FileNames) (sessions times : ℕ) (folder : FolderUse) (out : SinkUse)
+      (old new : Net L) (answer : Result ⊤ Fault) → IsSome folder.files_before → ServeOutcome left written counts is_shut names sessions times folder out old new answer
+      → Keeps name folder.files_before folder.files_after
+  serve_keeps left written counts is_shut names sessions times folder out old new answer told (inl none) =
+      kept_changes name folder.files_before folder.files_after _ told (not_tail names document device) none.changes
+  serve_keeps {L} left written counts is_shut names sessions times folder out old new answer told (inr served) =
+      let start : Standing OrderModel L = record { held = served.before; moment = served.opened; net = old } in
+      let made = kept_made name folder.files_before served.opened.files _ (not_tail names document device) served.is_opened.files in
+      let told_then = told_made folder.files_before served.opened.files _ told served.is_opened.files in
+      let rounds = rounds_keep left written counts is_shut names sessions start served.rounds.rounds served.rounds.before told_then served.rounds.well in
+      let last = round_keeps left written counts is_shut names sessions served.rounds.before served.last rounds.1 served.rounds.last_is in
+      tail_given names (folder_between served.last.after.moment (at_end folder out)) served.logged served.last.after.held.genesis.document served.last.after.held.entries
+      served.last.saved served.given served.gives
+      ∙ last.0 ∙ rounds.0 ∙ made
+
+  -- ---- serve-all
+
   logs_keep : (names : List (List ℕ)) (orders : List OrderModel) (a b : Moment) (kept : Result ⊤ Fault) → IsSome a.files → KeepsLogs names orders a b kept
-      → Keeps name a.files b.files
-  logs_keep [] [] a b kept told (same, answer) = ap (λ (m : Moment). file_at name m.files) same
+      → Keeps name a.files b.files × IsSome b.files
+  logs_keep [] [] a b kept told (same, answer) = (ap (λ (m : Moment). file_at name m.files) same, subst (λ (m : Moment). IsSome m.files) (sym same) told)
   logs_keep [] (o ∷ os) a b kept told never = absurd never
   logs_keep (n ∷ ns) [] a b kept told never = absurd never
   logs_keep (n ∷ ns) (o ∷ os) a b kept told (mid, one, others, behind, keeps, rest, answer) =
-      logs_keep ns os mid b others (log_told (names_of_document n) (folder_between a mid) (sink_between a mid) o _ one told keeps) rest
-      ∙ log_keeps (names_of_document n) (folder_between a mid) (sink_between a mid) o _ one told keeps
+      let told_then = log_told (names_of_document n) (folder_between a mid) (sink_between a mid) o _ one told keeps in
+      let left = logs_keep ns os mid b others told_then rest in
+      (left.0 ∙ log_keeps (names_of_document n) (folder_between a mid) (sink_between a mid) o _ one told keeps, left.1)
 
-  serve_all_keeps : {L : Type 0} (left written : L → Option (List ℕ)) (counts : L → ℕ) (is_shut : L → Option Bool) (names : List (List ℕ)) (sessions : ℕ) (folder : FolderUse)
+  -- no tail is a leaf file
+  no_tail : (names : List (List ℕ)) → IsNoTail names name
+  no_tail [] = tt
+  no_tail (n ∷ ns) = (not_tail (names_of_document n) document device, no_tail ns)
+
+  tails_changed : (names : List (List ℕ)) (before after : Option (List NamedFile)) → IsSome before → ChangesTails names before after → Keeps name before after
+  tails_changed names None after told changes = absurd cc
+  tails_changed names (Some fs) None told changes = absurd changes
+  tails_changed names (Some fs) (Some more) told changes = changes name (no_tail names)
+
+  tails_made : (names : List (List ℕ)) (before after : Option (List NamedFile)) → IsSome before → after ≡ with_tails_made names before → Keeps name before after × IsSome after
+  tails_made [] before after told is = (ap (file_at name) is, told_same before after told is)
+  tails_made (n ∷ ns) before after told is =
+      let one = kept_made name before (with_tail_made n before) _ (not_tail (names_of_document n) document device) refl in
+      let told_then = told_made before (with_tail_made n before) _ told refl in
+      let rest = tails_made ns (with_tail_made n before) after told_then is in
+      (rest.0 ∙ one, rest.1)
+
+  tails_given : (names : List (List ℕ)) (logs : List OpenLogModel) (orders : List OrderModel) (saved given : Result ⊤ Fault) (a b : Moment)
+      → Both (λ n log. log.name ≡ file_name (names_of_document n) files.Tail) names logs
+      → GivesAllBack (λ (m : Moment). m.files) (λ (m : Moment). m.asked) (λ (m : Moment). m.lent) (λ (m : Moment). m.folder_faults) logs orders saved a b given → Keeps name a.files b.files
+  tails_given [] [] [] saved given a b named (same, answer) = ap (λ (m : Moment). file_at name m.files) same
+  tails_given [] [] (o ∷ os) saved given a b named never = absurd never
+  tails_given [] (l ∷ ls) orders saved given a b named gives = absurd named
+  tails_given (n ∷ ns) [] orders saved given a b named gives = absurd named
+  tails_given (n ∷ ns) (l ∷ ls) [] saved given a b named never = absurd never
+  tails_given (n ∷ ns) (l ∷ ls) (o ∷ os) saved given a b named (mid, others, one, rest, gives, answer) =
+      tail_given (names_of_document n) (folder_between mid b) l.logged o.genesis.document o.entries saved one
+      (subst (λ (m : List ℕ). GivesBack m (folder_between mid b) l.logged o.genesis.document o.entries saved one) named.0 gives)
+      ∙ tails_given ns ls os saved others a mid named.1 rest
+
+  module _ {L : Type 0} (left written : L → Option (List ℕ)) (counts : L → ℕ) (is_shut : L → Option Bool) (names : List (List ℕ)) (sessions : ℕ) where
+    all_keeps : (a : Standing (List OrderModel) L) (r : Round (List OrderModel) L) → IsSome a.moment.files → IsRoundOfAll left written counts is_shut names sessions a r
+        → Keeps name a.moment.files r.after.moment.files × IsSome r.after.moment.files
+    all_keeps a r told is = logs_keep names r.after.held a.moment r.after.moment r.saved told is.keeps
+
+    all_rounds_keep : (a : Standing (List OrderModel) L) (rs : List (Round (List OrderModel) L)) (b : Standing (List OrderModel) L) → IsSome a.moment.files
+        → GoWell (IsRoundOfAll left written counts is_shut names sessions) a rs b → Keeps name a.moment.files b.moment.files × IsSome b.moment.files
+    all_rounds_keep a [] b told same =
+        (ap (λ (s : Standing (List OrderModel) L). file_at name s.moment.files) same, subst (λ (s : Standing (List OrderModel) L). IsSome s.moment.files) (sym same) told)
+    all_rounds_keep a (r ∷ rs) b told (is, good, others) =
+        let one = all_keeps a r told is in
+        let rest = all_rounds_keep r.after rs b one.1 others in
+        (rest.0 ∙ one.0, rest.1)
+
+  serve_all_keeps : {L : Type 0} (left written : L → Option (List ℕ)) (counts : L → ℕ) (is_shut : L → Option Bool) (names : List (List ℕ)) (sessions times : ℕ) (folder : FolderUse)
       (out : SinkUse) (old new : Net L) (answer : Result ⊤ Fault) → IsSome folder.files_before
-      → ServeAllOutcome left written counts is_shut names sessions folder out old new answer → Keeps name folder.files_before folder.files_after
-  serve_all_keeps left written counts is_shut names sessions folder out old new answer told (inl none) = ap (file_at name) none.unchanged
-  serve_all_keeps left written counts is_shut names sessions folder out old new answer told (inr served) =
-      let told_then = subst (λ (o : Option (List NamedFile)). IsSome o) (sym served.as_read.files) told in
-      logs_keep names served.after served.read (at_end folder out) served.kept told_then served.keeps ∙ ap (file_at name) served.as_read.files
+      → ServeAllOutcome left written counts is_shut names sessions times folder out old new answer → Keeps name folder.files_before folder.files_after
+  serve_all_keeps left written counts is_shut names sessions times folder out old new answer told (inl none) =
+      tails_changed names folder.files_before folder.files_after told none.changes
+  serve_all_keeps {L} left written counts is_shut names sessions times folder out old new answer told (inr served) =
+      let start : Standing (List OrderModel) L = record { held = served.before; moment = served.opened; net = old } in
+      let made = tails_made names folder.files_before served.opened.files told served.is_opened.files in
+      let rounds = all_rounds_keep left written counts is_shut names sessions start served.rounds.rounds served.rounds.before made.1 served.rounds.well in
+      let last = all_keeps left written counts is_shut names sessions served.rounds.before served.last rounds.1 served.rounds.last_is in
+      tails_given names served.logs served.last.after.held served.last.saved served.given served.last.after.moment (at_end folder out) served.named served.gives
+      ∙ last.0 ∙ rounds.0 ∙ made.0
 
   -- ---- client
 
@@ -371,7 +476,7 @@ module _ (document : List ℕ) (device : Device) where
         by_key words outside.folder.files_before outside.folder.files_after answer (keygen_leaves words outside.folder outside.chance outside.out answer told did.outcome)
     command_leaves (commands.Found words) outside answer did unused told lent none = inl (found_keeps words outside.folder outside.chance answer told did.outcome)
     command_leaves (commands.Serve words) outside answer did unused told lent none =
-        inl (serve_keeps _ _ _ _ (names_of_document words.name) words.sessions outside.folder outside.out _ _ answer told did.outcome)
+        inl (serve_keeps _ _ _ _ (names_of_document words.name) words.sessions words.times outside.folder outside.out _ _ answer told did.outcome)
     command_leaves (commands.Client words) outside answer did unused told lent none = inl (client_keeps words (client_use outside) answer did.outcome told lent none)
     command_leaves (commands.Check words) outside answer did unused told lent none = inl (ap (file_at name) did.reads.unchanged)
     command_leaves (commands.Compare words) outside answer did unused told lent none = inl (ap (file_at name) did.reads.unchanged)
@@ -381,7 +486,7 @@ module _ (document : List ℕ) (device : Device) where
     command_leaves (commands.Text words) outside answer did unused told lent none = inl (ap (file_at name) did.reads.unchanged)
     command_leaves (commands.Entries words) outside answer did unused told lent none = inl (ap (file_at name) did.reads.unchanged)
     command_leaves (commands.ServeAll words) outside answer did unused told lent none =
-        inl (serve_all_keeps _ _ _ _ words.names words.sessions outside.folder outside.out _ _ answer told did.outcome)
+        inl (serve_all_keeps _ _ _ _ words.names words.sessions words.times outside.folder outside.out _ _ answer told did.outcome)
 
     pub command_has : (asked : Command) (outside : OutsideUse L) (answer : Result ⊤ Fault) (did : Performs links disks asked outside answer) (run : ClientRun links disks)
         → IsSome outside.folder.files_before → IsSome outside.folder.lent_before → if_over links disks name (by_command links disks asked outside answer did) ≡ Some run

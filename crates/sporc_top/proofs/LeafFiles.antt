@@ -1,10 +1,10 @@
 -- What commands leave of a leaf file.
-use Rattle.std.proofs.Common.{◌≡◌, ◌≢◌, inl, inr, ℕ, List, [], ◌∷◌, ◌++◌, Bool, true, false, map, Option, Some, None, IsSome, option_map, refl, ap, sym, subst, ◌∙◌, arith, codes}
+use Rattle.std.proofs.Common.{◌≡◌, ◌≢◌, inl, inr, ℕ, List, [], ◌∷◌, ◌++◌, Bool, true, false, map, Option, Some, None, IsSome, option_map, refl, ap, sym, subst, ◌∙◌, arith, codes, if◌then◌else◌}
 use Rattle.std.specs.Fmt.{decimal}
 use Rattle.std.specs.List.{AllByRecursion}
 use Rattle.std.specs.Str.{bytes_eq}
 use Rattle.std.proofs.lemmas.Slice.Eq.{bytes_eq-Decides}
-use Rattle.sporc_outside.specs.Files.{ChangesFile, IsDiskOf, TakesBack, file_in, with_file}
+use Rattle.sporc_outside.specs.Files.{ChangesFile, IsDiskOf, RemovesFile, TakesBack, TakesFile, file_in, made_in, with_file, without_file}
 use Rattle.sporc_outside.specs.declared.named_file.NamedFile.{NamedFile}
 use Rattle.sporc_outside.proofs.Files.{file_in-other}
 use Rattle.sporc_member.specs.declared.device.Device.{Device}
@@ -15,6 +15,7 @@ use Rattle.sporc_files.specs.Names.{FileNames, file_name, names_of_document}
 use Rattle.sporc_files.proofs.NamesApart.{names_apart}
 use Rattle.sporc_files.specs.Writing.{Stores, StoresFirst, StoresPrefix, with_files, with_one}
 use Rattle.sporc_founding.specs.Founding.{ring_of_founding}
+use Rattle.sporc_histories.proofs.Opened.{made_other, put_other}
 use Rattle.sporc_top.specs.LeafFiles.{file_at, leaf_name}
 
 -- ---- names that end otherwise
@@ -50,6 +51,9 @@ module _ (names : FileNames) (document : List ℕ) (device : Device) where
 
   pub not_log : bytes_eq (file_name names files.Log) (leaf_name document device) ≡ false
   not_log = apart _ document device 103 (last_more names.document 46 (codes "log")) (λ e. omega (arith, e))
+
+  pub not_tail : bytes_eq (file_name names files.Tail) (leaf_name document device) ≡ false
+  not_tail = apart _ document device 108 (last_more names.document 46 (codes "tail")) (λ e. omega (arith, e))
 
   pub not_key : (m : Device) → bytes_eq (file_name names (files.Key m)) (leaf_name document device) ≡ false
   not_key m = apart _ document device 121 (last_dotted names.document (device_text m) 46 (codes "key")) (λ e. omega (arith, e))
@@ -110,6 +114,34 @@ module _ (name : List ℕ) where
   kept_prefix before after (f ∷ new) told others (inl changes) = kept_changes before after f.name told others.0 changes
   kept_prefix before after (f ∷ new) told others (inr more) =
       kept_prefix (option_map (λ files. with_one files f) before) after new (told_one before f told) others.1 more ∙ kept_one before f others.0
+
+  -- ---- a file that is appended to
+
+  -- another one was made
+  pub kept_made : (before after : Option (List NamedFile)) (other : List ℕ) → bytes_eq other name ≡ false → after ≡ option_map (λ old. made_in old other) before → Keeps before after
+  kept_made None after other differs is = ap (file_at name) is
+  kept_made (Some fs) after other differs is = ap (file_at name) is ∙ made_other fs other name differs
+
+  -- was taken back
+  pub kept_taken : (before after : Option (List NamedFile)) (stored : Option (List ℕ)) (other : List ℕ) → bytes_eq other name ≡ false → TakesFile other stored before after → Keeps before after
+  kept_taken None after stored other differs back = ap (file_at name) back
+  kept_taken (Some fs) after None other differs back = ap (file_at name) back
+  kept_taken (Some fs) after (Some bytes) other differs back = ap (file_at name) back ∙ put_other fs other bytes name differs
+
+  file_in-without : (fs : List NamedFile) (other : List ℕ) → bytes_eq other name ≡ false → file_in (without_file fs other) name ≡ file_in fs name
+  file_in-without [] other differs = refl
+  file_in-without (f ∷ fs) other differs = go (bytes_eq f.name other) refl (file_in-without fs other differs)
+    where
+      go : (b : Bool) → bytes_eq f.name other ≡ b → file_in (without_file fs other) name ≡ file_in fs name → file_in (without_file (f ∷ fs) other) name ≡ file_in (f ∷ fs) name
+      go true e more =
+          let apart : bytes_eq f.name name ≡ false = subst (λ (n : List ℕ). bytes_eq n name ≡ false) (sym ((bytes_eq-Decides f.name other).0 e)) differs in
+          rw (e, apart) refl
+      go false e more = rw e (ap (λ (r : Option (List ℕ)). if bytes_eq f.name name then Some f.bytes else r) more)
+
+  -- was removed
+  pub kept_removed : (before after : Option (List NamedFile)) (other : List ℕ) → bytes_eq other name ≡ false → RemovesFile other before after → Keeps before after
+  kept_removed None after other differs gone = ap (file_at name) gone
+  kept_removed (Some fs) after other differs gone = ap (file_at name) gone ∙ file_in-without fs other differs
 
   -- ---- the disk of a file
 

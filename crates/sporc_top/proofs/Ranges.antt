@@ -1,5 +1,5 @@
 -- The values of a command are in their ranges.
-use Rattle.std.proofs.Common.{◌≡◌, ◌≤◌, ◌==◌, ℕ, Bool, true, false, nat_le, nat_lt, ◌^◌, List, [], ◌∷◌, length, Option, Some, None, find, option_map, refl, sym, ap, ◌∙◌, subst, inl, inr, if◌then◌else◌, codes, slice_get}
+use Rattle.std.proofs.Common.{◌≡◌, ◌≤◌, ◌==◌, ℕ, Bool, true, false, nat_le, nat_lt, ◌^◌, List, [], ◌∷◌, length, Option, Some, None, find, option_map, refl, sym, ap, ◌∙◌, subst, inl, inr, if◌then◌else◌, codes, arith, slice_get}
 use Rattle.std.specs.List.{AllByRecursion, after_first, before_first}
 use Rattle.std.proofs.lemmas.Bool.{and_parts, leb-true, ltb-true}
 use Rattle.std.proofs.lemmas.Option.{cond_some, same_Some}
@@ -29,13 +29,13 @@ use Rattle.sporc_words.specs.declared.standing.Participant.{Participant}
 use Rattle.sporc_words.specs.declared.keygen.Keygen.{Keygen}
 use Rattle.sporc_words.specs.declared.serve.Serve.{Serve}
 use Rattle.sporc_words.specs.declared.serve_all.ServeAll.{ServeAll}
-use Rattle.sporc_words.specs.declared.defaults.TheConstants.{DEFAULT_ROUNDS, DEFAULT_UNTIL}
+use Rattle.sporc_words.specs.declared.defaults.TheConstants.{DEFAULT_ROUNDS, DEFAULT_TIMES, DEFAULT_UNTIL}
 use Rattle.sporc_words.specs.Arguments.{check_app, client_app, compare_app, entries_app, found_app, keygen_app, play_app, public_app, serve_all_app, serve_app, taken, text_app}
 use Rattle.sporc_words.specs.Commands.{check_in, client_in, command_by, command_of, compare_in, documents_of, entries_in, found_in, found_or, keygen_in, play_by, play_in, public_in, scripts_of, serve_all_in, serve_in, text_in, work_in}
 use Rattle.sporc_words.specs.Help.{help_in}
 use Rattle.sporc_words.specs.Verbs.{verb_of}
 use Rattle.sporc_words.proofs.HelpLines.{told_by_help}
-use Rattle.sporc_words.specs.Values.{all_participants, is_between, is_colon, may_found, number_between, participant_by, participant_of, participants_of, standing_of, tree_of, value_of, value_or, values_of, width_named}
+use Rattle.sporc_words.specs.Values.{all_participants, is_between, is_colon, may_found, number_between, participant_by, participant_of, participants_of, standing_of, read_or, times_of, tree_of, value_of, value_or, values_of, width_named}
 use Rattle.sporc_founding.specs.Founding.{MayFound}
 use Rattle.sporc_top.specs.Ranges.{IsInRange}
 
@@ -110,15 +110,24 @@ keygen_ranges rows asked is =
       subst (λ (k : Keygen). IsKeyWidth k.width) same (key_width bits.0 width.0 bits.2),
     )
 
-serve_ranges : (rows : List Row) (asked : Serve) → serve_in rows ≡ Some asked → (1 ≤ asked.sessions) × (asked.sessions ≤ MAX_SESSIONS)
+-- one time at least
+some_times : (found : Option Text) (n : ℕ) → read_or DEFAULT_TIMES times_of found ≡ Some n → 1 ≤ n
+some_times None n is =
+    let same : n ≡ DEFAULT_TIMES = cc in
+    omega (arith, same)
+some_times (Some word) n is = leb-true 1 n (passed_of (nat_le 1) (u32_of word) n is).1
+
+serve_ranges : (rows : List Row) (asked : Serve) → serve_in rows ≡ Some asked → (1 ≤ asked.sessions) × (asked.sessions ≤ MAX_SESSIONS) × (1 ≤ asked.times)
 serve_ranges rows asked is =
     let name = then_some (first_of (codes "NAME") rows) _ asked is in
     let address = then_some (first_of (codes "ADDRESS") rows) _ asked name.2 in
     let sessions = then_some (value_of (codes "sessions") (number_between 1 MAX_SESSIONS) rows) _ asked address.2 in
-    let whole : Serve = record { name = name.0; address = address.0; sessions = sessions.0 } in
-    let same : whole ≡ asked = same_Some whole asked sessions.2 in
+    let times = then_some (value_or (codes "times") DEFAULT_TIMES times_of rows) _ asked sessions.2 in
+    let whole : Serve = record { name = name.0; address = address.0; sessions = sessions.0; times = times.0 } in
+    let same : whole ≡ asked = same_Some whole asked times.2 in
     let number = then_some (first_of (codes "sessions") rows) (number_between 1 MAX_SESSIONS) sessions.0 sessions.1 in
-    subst (λ (s : Serve). (1 ≤ s.sessions) × (s.sessions ≤ MAX_SESSIONS)) same (in_bounds 1 MAX_SESSIONS sessions.0 number.0 number.2)
+    let bounds = in_bounds 1 MAX_SESSIONS sessions.0 number.0 number.2 in
+    subst (λ (s : Serve). (1 ≤ s.sessions) × (s.sessions ≤ MAX_SESSIONS) × (1 ≤ s.times)) same (bounds.0, bounds.1, some_times (first_of (codes "times") rows) times.0 times.1)
 
 few_documents : (words names : List Text) → documents_of words ≡ Some names → length names ≤ MAX_DOCUMENTS
 few_documents words names is =
@@ -126,17 +135,18 @@ few_documents words names is =
     subst (λ (w : List Text). length w ≤ MAX_DOCUMENTS) kept.1 (within 1 MAX_DOCUMENTS (length words) kept.0).1
 
 serve_all_ranges : (rows : List Row) (asked : ServeAll) → serve_all_in rows ≡ Some asked
-    → (length asked.names ≤ MAX_DOCUMENTS) × (1 ≤ asked.sessions) × (asked.sessions ≤ MAX_SESSIONS)
+    → (length asked.names ≤ MAX_DOCUMENTS) × (1 ≤ asked.sessions) × (asked.sessions ≤ MAX_SESSIONS) × (1 ≤ asked.times)
 serve_all_ranges rows asked is =
     let address = then_some (first_of (codes "ADDRESS") rows) _ asked is in
     let sessions = then_some (value_of (codes "sessions") (number_between 1 MAX_SESSIONS) rows) _ asked address.2 in
-    let names = then_some (documents_of (values_of (codes "NAME") rows)) _ asked sessions.2 in
-    let whole : ServeAll = record { address = address.0; sessions = sessions.0; names = names.0 } in
+    let times = then_some (value_or (codes "times") DEFAULT_TIMES times_of rows) _ asked sessions.2 in
+    let names = then_some (documents_of (values_of (codes "NAME") rows)) _ asked times.2 in
+    let whole : ServeAll = record { address = address.0; sessions = sessions.0; times = times.0; names = names.0 } in
     let same : whole ≡ asked = same_Some whole asked names.2 in
     let number = then_some (first_of (codes "sessions") rows) (number_between 1 MAX_SESSIONS) sessions.0 sessions.1 in
     let bounds = in_bounds 1 MAX_SESSIONS sessions.0 number.0 number.2 in
-    subst (λ (s : ServeAll). (length s.names ≤ MAX_DOCUMENTS) × (1 ≤ s.sessions) × (s.sessions ≤ MAX_SESSIONS)) same
-    (few_documents (values_of (codes "NAME") rows) names.0 names.1, bounds.0, bounds.1)
+    subst (λ (s : ServeAll). (length s.names ≤ MAX_DOCUMENTS) × (1 ≤ s.sessions) × (s.sessions ≤ MAX_SESSIONS) × (1 ≤ s.times)) same
+    (few_documents (values_of (codes "NAME") rows) names.0 names.1, bounds.0, bounds.1, some_times (first_of (codes "times") rows) times.0 times.1)
 
 few_scripts : (words scripts : List Text) → scripts_of words ≡ Some scripts → length scripts ≤ MAX_EDITORS
 few_scripts words scripts is =

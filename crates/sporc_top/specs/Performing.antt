@@ -1,6 +1,6 @@
 -- What each command does.
 use Rattle.std.specs.Prelude.{◌≡◌, ◌≤◌, ℕ, List, [], ◌∷◌, length, map, Result, Ok, Err, ⊤}
-use Rattle.sporc_outside.specs.Told.{AreShutBehind, MayAppend}
+use Rattle.sporc_outside.specs.Told.{AreShutBehind}
 use Rattle.sporc_outside.specs.Uses.{IsUnwritten, SinkUse, SourceUse}
 use Rattle.sporc_words.specs.declared.client.Client.{Client}
 use Rattle.sporc_words.specs.declared.command.Command.{Command}
@@ -25,6 +25,7 @@ use Rattle.sporc_founding.specs.KeyShowing.{PublicOutcome}
 use Rattle.sporc_help.specs.Pages.{page_text, version_text}
 use Rattle.sporc_help.specs.Telling.{TellsText}
 use Rattle.sporc_histories.specs.Outcomes.{CheckOutcome, CompareOutcome, EntriesOutcome, ServeOutcome, TextOutcome}
+use Rattle.sporc_histories.specs.Rounds.{AsksAgain}
 use Rattle.sporc_hosting.specs.Hosting.{ServeAllOutcome}
 use Rattle.sporc_hosting.specs.Loading.{files_of_all}
 use Rattle.sporc_sessions.specs.Nets.{AsksAtMost, LinkView}
@@ -110,20 +111,20 @@ net_before net = net_of net.before.coming net.before.returned net.faults_before
 abbrev pub net_after : {L : Type 0} → NetUse L → Net L
 net_after net = net_of net.after.coming net.after.returned net.faults_after
 
--- sessions were served at the address alone, from two files alone, and each link that came back is shut
+-- sessions were served at the address alone, from three files alone, and each link that came back is shut
 pub record ServesDocument {L : Type 0} (links : LinkView L) (words : Serve) (folder : FolderUse) (out : SinkUse) (net : NetUse L) (answer : Result ⊤ Fault) : Type 0 where
-  pub outcome : ServeOutcome (λ l. (links.told l).left) (λ l. (links.told l).written) (λ l. (links.told l).faults) links.is_shut (names_of_document words.name) words.sessions
+  pub outcome : ServeOutcome (λ l. (links.told l).left) (λ l. (links.told l).written) (λ l. (links.told l).faults) links.is_shut (names_of_document words.name) words.sessions words.times
       folder out (net_before net) (net_after net) answer
-  pub files_may_ask : AsksFor (names_of_document words.name) (files.Genesis ∷ files.Log ∷ []) folder
-  pub net_may_ask : MayAppend net.before.asked net.after.asked words.address
+  pub files_may_ask : AsksFor (names_of_document words.name) (files.Genesis ∷ files.Tail ∷ files.Log ∷ []) folder
+  pub net_may_ask : AsksAgain words.times net.before.asked net.after.asked words.address
   pub shut : AreShutBehind links.is_shut net.before.returned net.after.returned
 
--- sessions of several documents were served at the address alone, from two files of each alone, and each link that came back is shut
+-- sessions of several documents were served at the address alone, from three files of each alone, and each link that came back is shut
 pub record ServesDocuments {L : Type 0} (links : LinkView L) (words : ServeAll) (folder : FolderUse) (out : SinkUse) (net : NetUse L) (answer : Result ⊤ Fault) : Type 0 where
-  pub outcome : ServeAllOutcome (λ l. (links.told l).left) (λ l. (links.told l).written) (λ l. (links.told l).faults) links.is_shut words.names words.sessions folder out
+  pub outcome : ServeAllOutcome (λ l. (links.told l).left) (λ l. (links.told l).written) (λ l. (links.told l).faults) links.is_shut words.names words.sessions words.times folder out
       (net_before net) (net_after net) answer
   pub files_may_ask : AsksOnly (files_of_all words.names) folder.asked_before folder.asked_after
-  pub net_may_ask : MayAppend net.before.asked net.after.asked words.address
+  pub net_may_ask : AsksAgain words.times net.before.asked net.after.asked words.address
   pub shut : AreShutBehind links.is_shut net.before.returned net.after.returned
 
 -- a member's device worked from its own files and its editors' scripts alone, with the server at the address alone, over at most two links, each of which

@@ -69,7 +69,7 @@ fn play_edits<O: Sink>(alloc: Global, edits: u32, out: &mut O) -> Result<(), Fau
 }
 
 // Serves sessions from the log of a document.
-fn serve_document<R: Threads + Wait + Sync, O: Sink, F: Folder, N: Listen, G: Gate + Sync>(
+fn serve_document<R: Threads + Wait + Sync, O: Sink, F: Folder, N: Listen + Send, G: Gate + Sync>(
     rt: &R,
     alloc: Global,
     words: &Serve,
@@ -79,9 +79,11 @@ fn serve_document<R: Threads + Wait + Sync, O: Sink, F: Folder, N: Listen, G: Ga
     gate: &G,
 ) -> Result<(), Fault>
 where
+    F::Appended: Drop + Send,
     N::Link: Send,
     requires some { 1 ≤ words.now.sessions }
     requires limit { words.now.sessions ≤ MAX_SESSIONS }
+    requires times { 1 ≤ words.now.times }
     ensures outcome { ServesDocument (link_view N.Link.written N.Link.left N.Link.faults N.Link.is_shut) words.now
         (folder_use F.files F.asked F.lent F.faults files.old files.new)
         (sink_use O.written O.faults out.old out.new)
@@ -96,11 +98,22 @@ where
     let names = Names::of_document(words.name.as_str());
     let address = words.address.as_str();
     let sessions = words.sessions;
-    serve(rt, alloc, files, net, out, &names, address, sessions, gate)
+    serve(
+        rt,
+        alloc,
+        files,
+        net,
+        out,
+        &names,
+        address,
+        sessions,
+        words.times,
+        gate,
+    )
 }
 
 // Serves sessions of several documents from their logs.
-fn serve_documents<R: Threads + Wait + Sync, O: Sink, F: Folder, N: Listen, G: Gate + Sync>(
+fn serve_documents<R: Threads + Wait + Sync, O: Sink, F: Folder, N: Listen + Send, G: Gate + Sync>(
     rt: &R,
     alloc: Global,
     words: &ServeAll,
@@ -110,10 +123,12 @@ fn serve_documents<R: Threads + Wait + Sync, O: Sink, F: Folder, N: Listen, G: G
     gate: &G,
 ) -> Result<(), Fault>
 where
+    F::Appended: Drop + Send,
     N::Link: Send,
     requires documents { length words.now.names ≤ MAX_DOCUMENTS }
     requires some { 1 ≤ words.now.sessions }
     requires limit { words.now.sessions ≤ MAX_SESSIONS }
+    requires times { 1 ≤ words.now.times }
     ensures outcome { ServesDocuments (link_view N.Link.written N.Link.left N.Link.faults N.Link.is_shut) words.now
         (folder_use F.files F.asked F.lent F.faults files.old files.new)
         (sink_use O.written O.faults out.old out.new)
@@ -128,7 +143,18 @@ where
     let names = words.names.as_slice();
     let address = words.address.as_str();
     let sessions = words.sessions;
-    serve_all(rt, alloc, files, net, out, names, address, sessions, gate)
+    serve_all(
+        rt,
+        alloc,
+        files,
+        net,
+        out,
+        names,
+        address,
+        sessions,
+        words.times,
+        gate,
+    )
 }
 
 // Examines the history of a device.
@@ -228,7 +254,7 @@ pub(crate) fn perform<
     S: Source,
     O: Sink,
     F: Folder,
-    N: Dial + Listen,
+    N: Dial + Listen + Send,
     C: Chance + Send,
     G: Gate + Sync,
 >(
@@ -244,6 +270,7 @@ pub(crate) fn perform<
 ) -> Result<(), Fault>
 where
     F::Disk: Send,
+    F::Appended: Drop + Send,
     N::Link: Send,
     requires { IsInRange command.now }
     ensures outcome { Performs (link_view N.Link.written N.Link.left N.Link.faults N.Link.is_shut)

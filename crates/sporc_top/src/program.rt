@@ -55,7 +55,7 @@ pub fn run<
     S: Source,
     O: Sink,
     F: Folder,
-    N: Dial + Listen,
+    N: Dial + Listen + Send,
     C: Chance + Send,
     G: Gate + Sync,
 >(
@@ -71,6 +71,7 @@ pub fn run<
 ) -> u8
 where
     F::Disk: Send,
+    F::Appended: Drop + Send,
     N::Link: Send,
     ensures outcome { RunOutcome (link_view N.Link.written N.Link.left N.Link.faults N.Link.is_shut)
         (disk_view F.Disk.stored F.Disk.images F.Disk.moment F.Disk.faults)

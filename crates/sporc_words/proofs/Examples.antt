@@ -69,9 +69,23 @@ no_admin = refl
 
 -- `serve plan host:80 --sessions 3`
 a_server : command_of (codes "serve" ∷ codes "plan" ∷ codes "host:80" ∷ codes "--sessions" ∷ codes "3" ∷ [])
-    ≡ Some (Serve (record { name = codes "plan"; address = codes "host:80"; sessions = 3 }))
+    ≡ Some (Serve (record { name = codes "plan"; address = codes "host:80"; sessions = 3; times = 1 }))
 unfolding words_on_literals
 a_server = refl
+
+-- `serve plan host:80 --sessions 3 --times 4294967295`
+the_longest_server : command_of (codes "serve" ∷ codes "plan" ∷ codes "host:80" ∷ codes "--sessions" ∷ codes "3" ∷ codes "--times" ∷ codes "4294967295" ∷ [])
+    ≡ Some (Serve (record { name = codes "plan"; address = codes "host:80"; sessions = 3; times = 4294967295 }))
+unfolding words_on_literals
+the_longest_server = refl
+
+too_many_times : command_of (codes "serve" ∷ codes "plan" ∷ codes "host:80" ∷ codes "--sessions" ∷ codes "3" ∷ codes "--times" ∷ codes "4294967296" ∷ []) ≡ None
+unfolding words_on_literals
+too_many_times = refl
+
+no_time : command_of (codes "serve" ∷ codes "plan" ∷ codes "host:80" ∷ codes "--sessions" ∷ codes "3" ∷ codes "--times" ∷ codes "0" ∷ []) ≡ None
+unfolding words_on_literals
+no_time = refl
 
 -- `client plan 7 host:80 --until 5 a b`
 a_client : command_of (codes "client" ∷ codes "plan" ∷ codes "7" ∷ codes "host:80" ∷ codes "--until" ∷ codes "5" ∷ codes "a" ∷ codes "b" ∷ [])
@@ -201,13 +215,13 @@ some_entries = refl
 
 -- `serve-all host:80 --sessions 9 plan menu`
 two_documents : command_of (codes "serve-all" ∷ codes "host:80" ∷ codes "--sessions" ∷ codes "9" ∷ codes "plan" ∷ codes "menu" ∷ [])
-    ≡ Some (ServeAll (record { address = codes "host:80"; sessions = 9; names = codes "plan" ∷ codes "menu" ∷ [] }))
+    ≡ Some (ServeAll (record { address = codes "host:80"; sessions = 9; times = 1; names = codes "plan" ∷ codes "menu" ∷ [] }))
 unfolding words_on_literals
 two_documents = refl
 
--- `serve-all --sessions=9 host:80 plan`
-one_document : command_of (codes "serve-all" ∷ codes "--sessions=9" ∷ codes "host:80" ∷ codes "plan" ∷ [])
-    ≡ Some (ServeAll (record { address = codes "host:80"; sessions = 9; names = codes "plan" ∷ [] }))
+-- `serve-all --sessions=9 host:80 plan --times=2`
+one_document : command_of (codes "serve-all" ∷ codes "--sessions=9" ∷ codes "host:80" ∷ codes "plan" ∷ codes "--times=2" ∷ [])
+    ≡ Some (ServeAll (record { address = codes "host:80"; sessions = 9; times = 2; names = codes "plan" ∷ [] }))
 unfolding words_on_literals
 one_document = refl
 

@@ -66,11 +66,11 @@ keygen_app =
 unfoldable pub found_app : App
 found_app = with_all (named (codes "found")) (positional (codes "NAME") ∷ repeated (codes "M:ROLE") ∷ [])
 
--- `serve NAME ADDRESS --sessions K`
+-- `serve NAME ADDRESS --sessions K --times T`
 unfoldable pub serve_app : App
 serve_app =
     with_all (named (codes "serve"))
-    (positional (codes "NAME") ∷ positional (codes "ADDRESS") ∷ needed (codes "sessions") ∷ [])
+    (positional (codes "NAME") ∷ positional (codes "ADDRESS") ∷ needed (codes "sessions") ∷ optional (codes "times") ∷ [])
 
 -- `client NAME M ADDRESS --rounds R --until P SCRIPT ..`
 unfoldable pub client_app : App
@@ -98,11 +98,11 @@ text_app = with_all (named (codes "text")) (positional (codes "NAME") ∷ positi
 unfoldable pub entries_app : App
 entries_app = with_all (named (codes "entries")) (positional (codes "NAME") ∷ positional (codes "M") ∷ optional (codes "from") ∷ [])
 
--- `serve-all ADDRESS --sessions K NAME ..`
+-- `serve-all ADDRESS --sessions K --times T NAME ..`
 unfoldable pub serve_all_app : App
 serve_all_app =
     with_all (named (codes "serve-all"))
-    (positional (codes "ADDRESS") ∷ needed (codes "sessions") ∷ repeated (codes "NAME") ∷ [])
+    (positional (codes "ADDRESS") ∷ needed (codes "sessions") ∷ optional (codes "times") ∷ repeated (codes "NAME") ∷ [])
 
 -- ---- words
 

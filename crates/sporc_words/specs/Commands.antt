@@ -13,7 +13,7 @@ use Rattle.sporc_words.specs.declared.command.Command.TheVariants as commands
 use Rattle.sporc_words.specs.declared.command.Verb.{Verb}
 use Rattle.sporc_words.specs.declared.command.Verb.TheVariants as verbs
 use Rattle.sporc_words.specs.declared.compare.Compare.{Compare}
-use Rattle.sporc_words.specs.declared.defaults.TheConstants.{DEFAULT_FROM, DEFAULT_ROUNDS, DEFAULT_UNTIL}
+use Rattle.sporc_words.specs.declared.defaults.TheConstants.{DEFAULT_FROM, DEFAULT_ROUNDS, DEFAULT_TIMES, DEFAULT_UNTIL}
 use Rattle.sporc_words.specs.declared.entries.EntriesFrom.{EntriesFrom}
 use Rattle.sporc_words.specs.declared.found.Found.{Found}
 use Rattle.sporc_words.specs.declared.keygen.Keygen.{Keygen}
@@ -22,7 +22,7 @@ use Rattle.sporc_words.specs.declared.serve.Serve.{Serve}
 use Rattle.sporc_words.specs.declared.serve_all.ServeAll.{ServeAll}
 use Rattle.sporc_words.specs.Arguments.{check_app, client_app, compare_app, entries_app, found_app, keygen_app, play_app, public_app, serve_all_app, serve_app, taken, text_app}
 use Rattle.sporc_words.specs.Help.{help_in}
-use Rattle.sporc_words.specs.Values.{is_between, number_between, number_if, participants_of, tree_of, value_of, value_or, values_of, width_named}
+use Rattle.sporc_words.specs.Values.{is_between, number_between, number_if, participants_of, times_of, tree_of, value_of, value_or, values_of, width_named}
 use Rattle.sporc_words.specs.Verbs.{verb_of}
 use Rattle.sporc_words.specs.declared.text.TextAt.{TextAt}
 
@@ -51,7 +51,8 @@ abbrev pub serve_in : List Row → Option Serve
 serve_in rows =
     then_read (first_of (codes "NAME") rows) (λ name. then_read (first_of (codes "ADDRESS") rows) (λ address.
     then_read (value_of (codes "sessions") (number_between 1 MAX_SESSIONS) rows) (λ sessions.
-    Some (record { name = name; address = address; sessions = sessions }))))
+    then_read (value_or (codes "times") DEFAULT_TIMES times_of rows) (λ times.
+    Some (record { name = name; address = address; sessions = sessions; times = times })))))
 
 -- the scripts of editors, unless they are too many
 abbrev pub scripts_of : List Text → Option (List Text)
@@ -97,7 +98,8 @@ documents_of words = if is_between 1 MAX_DOCUMENTS (length words) then Some word
 abbrev pub serve_all_in : List Row → Option ServeAll
 serve_all_in rows =
     then_read (first_of (codes "ADDRESS") rows) (λ address. then_read (value_of (codes "sessions") (number_between 1 MAX_SESSIONS) rows) (λ sessions.
-    then_read (documents_of (values_of (codes "NAME") rows)) (λ names. Some (record { address = address; sessions = sessions; names = names }))))
+    then_read (value_or (codes "times") DEFAULT_TIMES times_of rows) (λ times. then_read (documents_of (values_of (codes "NAME") rows)) (λ names.
+    Some (record { address = address; sessions = sessions; times = times; names = names })))))
 
 -- ---- the first word
 

@@ -50,6 +50,10 @@ is_between least most n = nat_le least n && nat_le n most
 abbrev pub number_between : ℕ → ℕ → Text → Option ℕ
 number_between least most word = passing (is_between least most) (number_of word)
 
+-- how often: a number from 1 on
+abbrev pub times_of : Text → Option ℕ
+times_of word = passing (nat_le 1) (u32_of word)
+
 -- the type of the tree of this height: 5, 10 or 15
 abbrev pub tree_of : Text → Option LmsType
 tree_of word = then_read (number_of word) (λ n. find (λ t. height_of t == n) (H5 ∷ H10 ∷ H15 ∷ []))

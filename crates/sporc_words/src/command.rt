@@ -23,7 +23,7 @@ pub enum Command {
     Keygen(Keygen),
     /// `found NAME M:ROLE ..` makes a document.
     Found(Found),
-    /// `serve NAME ADDRESS --sessions K` serves sessions.
+    /// `serve NAME ADDRESS --sessions K --times T` serves sessions.
     Serve(Serve),
     /// `client NAME M ADDRESS --rounds R --until P SCRIPT ..` runs a member's session.
     Client(Client),
@@ -41,7 +41,7 @@ pub enum Command {
     Text(TextAt),
     /// `entries NAME M --from POS` lists the entries of a member's history.
     Entries(EntriesFrom),
-    /// `serve-all ADDRESS --sessions K NAME ..` serves sessions of several documents.
+    /// `serve-all ADDRESS --sessions K --times T NAME ..` serves sessions of several documents.
     ServeAll(ServeAll),
 }
 

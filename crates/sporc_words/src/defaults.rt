@@ -8,3 +8,6 @@ pub const DEFAULT_UNTIL: u32 = 0;
 
 /// The position of `entries`, where none is named.
 pub const DEFAULT_FROM: u32 = 1;
+
+/// The times of `serve` and `serve-all`, where none are named.
+pub const DEFAULT_TIMES: u32 = 1;

@@ -4,13 +4,14 @@ ghost use Rattle.std.specs.Prelude.{◌≡◌, ℕ, List, Some};
 ghost use Rattle.sporc_words.specs.declared.command.Command.{Command};
 ghost use Rattle.sporc_words.specs.Commands.{command_of, work_in};
 
-use crate::defaults::{DEFAULT_FROM, DEFAULT_ROUNDS, DEFAULT_UNTIL};
+use crate::defaults::{DEFAULT_FROM, DEFAULT_ROUNDS, DEFAULT_TIMES, DEFAULT_UNTIL};
 
 /// The numbers behind the names.
 pub fn defaults()
     ensures rounds { DEFAULT_ROUNDS ≡ 64 }
     ensures until { DEFAULT_UNTIL ≡ 0 }
     ensures from { DEFAULT_FROM ≡ 1 }
+    ensures times { DEFAULT_TIMES ≡ 1 }
 {}
 
 /// Words that a command reads as its own ask for that command, also where they ask for help.

@@ -6,13 +6,13 @@
 //! ```text
 //! play                                               play --generate N
 //! keygen NAME M HEIGHT W                             found NAME M:ROLE ..
-//! serve NAME ADDRESS --sessions K                    client NAME M ADDRESS --rounds R --until P SCRIPT ..
+//! serve NAME ADDRESS --sessions K --times T          client NAME M ADDRESS --rounds R --until P SCRIPT ..
 //! check NAME M                                       compare NAME M N
 //! public NAME M
 //! help, --help, -h                                   version, --version
 //! help COMMAND                                       COMMAND --help
 //! text NAME M --at POS                               entries NAME M --from POS
-//! serve-all ADDRESS --sessions K NAME ..
+//! serve-all ADDRESS --sessions K --times T NAME ..
 //! ```
 //!
 //! Numbers are decimal, with no sign and no zero in front. ROLE is `reader`, `editor`, `admin` or `joiner`. M and N name a
@@ -52,7 +52,7 @@ pub use check::Check;
 pub use client::Client;
 pub use command::{Command, Verb};
 pub use compare::Compare;
-pub use defaults::{DEFAULT_FROM, DEFAULT_ROUNDS, DEFAULT_UNTIL};
+pub use defaults::{DEFAULT_FROM, DEFAULT_ROUNDS, DEFAULT_TIMES, DEFAULT_UNTIL};
 pub use entries::EntriesFrom;
 pub use fault::WordsFault;
 pub use found::Found;

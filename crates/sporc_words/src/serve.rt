@@ -1,4 +1,4 @@
-//! `serve NAME ADDRESS --sessions K`.
+//! `serve NAME ADDRESS --sessions K --times T`.
 
 ghost use Rattle.std.specs.Prelude.{◌≡◌, IfOk};
 ghost use Rattle.clap.specs.Words.{found_of, rows_of};
@@ -6,8 +6,9 @@ ghost use Rattle.sporc_words.specs.Arguments.{grammar_of, serve_app};
 ghost use Rattle.sporc_words.specs.Commands.{serve_in};
 
 use crate::arguments::{Kind, command_with};
+use crate::defaults::DEFAULT_TIMES;
 use crate::matches::value;
-use crate::values::between_value;
+use crate::values::{between_value, times_or};
 use crate::word::Word;
 use clap::{ArgMatches, Command};
 use sporc_base::Memory;
@@ -21,8 +22,10 @@ pub struct Serve {
     pub name: Word,
     /// Where it listens.
     pub address: Word,
-    /// How many sessions it serves, from 1 to `sporc_serve::MAX_SESSIONS`.
+    /// How many sessions it serves each time, from 1 to `sporc_serve::MAX_SESSIONS`.
     pub sessions: u32,
+    /// How often it serves so many: at least once.
+    pub times: u32,
 }
 
 /// The command `serve`.
@@ -37,6 +40,7 @@ pub fn serve_command<'a>(alloc: Global) -> Result<Command<'a>, Memory>
             (Kind::Positional, "NAME"),
             (Kind::Positional, "ADDRESS"),
             (Kind::Needed, "sessions"),
+            (Kind::Optional, "times"),
         ],
     )
 }
@@ -54,11 +58,15 @@ pub fn serve_from(alloc: Global, matches: &ArgMatches<'_>) -> Result<Option<Serv
     let Some(sessions) = between_value(matches, "sessions", 1, MAX_SESSIONS) else {
         return Ok(None);
     };
+    let Some(times) = times_or(matches, "times", DEFAULT_TIMES) else {
+        return Ok(None);
+    };
     let name = Word::new(alloc, name)?;
     let address = Word::new(alloc, address)?;
     Ok(Some(Serve {
         name,
         address,
         sessions,
+        times,
     }))
 }

@@ -1,4 +1,4 @@
-//! `serve-all ADDRESS --sessions K NAME ..`.
+//! `serve-all ADDRESS --sessions K --times T NAME ..`.
 
 ghost use Rattle.std.specs.Prelude.{◌≡◌, IfOk};
 ghost use Rattle.clap.specs.Words.{found_of, rows_of};
@@ -6,8 +6,9 @@ ghost use Rattle.sporc_words.specs.Arguments.{grammar_of, serve_all_app};
 ghost use Rattle.sporc_words.specs.Commands.{serve_all_in};
 
 use crate::arguments::{Kind, command_with};
+use crate::defaults::DEFAULT_TIMES;
 use crate::matches::value;
-use crate::values::{between_value, documents_value};
+use crate::values::{between_value, documents_value, times_or};
 use crate::word::Word;
 use clap::{ArgMatches, Command};
 use sporc_base::{Items, Memory};
@@ -19,8 +20,10 @@ use std::alloc::Global;
 pub struct ServeAll {
     /// Where it listens.
     pub address: Word,
-    /// How many sessions it serves, from 1 to `sporc_serve::MAX_SESSIONS`.
+    /// How many sessions it serves each time, from 1 to `sporc_serve::MAX_SESSIONS`.
     pub sessions: u32,
+    /// How often it serves so many: at least once.
+    pub times: u32,
     /// The documents' names, in the order of the words: from 1 to `sporc_docs::MAX_DOCUMENTS`.
     pub names: Items<Word>,
 }
@@ -36,6 +39,7 @@ pub fn serve_all_command<'a>(alloc: Global) -> Result<Command<'a>, Memory>
         &[
             (Kind::Positional, "ADDRESS"),
             (Kind::Needed, "sessions"),
+            (Kind::Optional, "times"),
             (Kind::Repeated, "NAME"),
         ],
     )
@@ -51,6 +55,9 @@ pub fn serve_all_from(alloc: Global, matches: &ArgMatches<'_>) -> Result<Option<
     let Some(sessions) = between_value(matches, "sessions", 1, MAX_SESSIONS) else {
         return Ok(None);
     };
+    let Some(times) = times_or(matches, "times", DEFAULT_TIMES) else {
+        return Ok(None);
+    };
     let Some(names) = documents_value(alloc, matches, "NAME")? else {
         return Ok(None);
     };
@@ -58,6 +65,7 @@ pub fn serve_all_from(alloc: Global, matches: &ArgMatches<'_>) -> Result<Option<
     Ok(Some(ServeAll {
         address,
         sessions,
+        times,
         names,
     }))
 }

@@ -5,7 +5,7 @@ ghost use Rattle.clap.specs.Walk.{texts};
 ghost use Rattle.clap.specs.Words.{found_of, rows_of};
 ghost use Rattle.sporc_script.specs.Readers.{device_of, u32_of};
 ghost use Rattle.sporc_words.specs.Commands.{documents_of, scripts_of};
-ghost use Rattle.sporc_words.specs.Values.{number_between, number_if, tree_of, value_of, value_or, values_of, width_named};
+ghost use Rattle.sporc_words.specs.Values.{number_between, number_if, times_of, tree_of, value_of, value_or, values_of, width_named};
 
 use crate::matches::{value, values};
 use crate::word::Word;
@@ -40,6 +40,16 @@ pub fn value_or(matches: &ArgMatches<'_>, id: &str, default: u32) -> Option<u32>
 {
     match value(matches, id) {
         Some(word) => parse_u32(word.as_bytes()),
+        None => Some(default),
+    }
+}
+
+/// The number from 1 on that is the value of an argument, or the default where it has none.
+pub fn times_or(matches: &ArgMatches<'_>, id: &str, default: u32) -> Option<u32>
+    ensures value { result ≡ value_or id.now default times_of (rows_of (found_of matches.now)) }
+{
+    match value(matches, id) {
+        Some(word) => parse_times(word),
         None => Some(default),
     }
 }
@@ -140,6 +150,16 @@ pub fn parse_between(word: &str, least: u32, most: u32) -> Option<u32>
         return Some(number as u32);
     }
     None
+}
+
+fn parse_times(word: &str) -> Option<u32>
+    ensures value { result ≡ times_of word.now }
+{
+    let number = parse_u32(word.as_bytes())?;
+    if number == 0 {
+        return None;
+    }
+    Some(number)
 }
 
 fn parse_tree(word: &str) -> Option<LmsType>

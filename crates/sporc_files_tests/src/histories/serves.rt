@@ -63,6 +63,7 @@ fn is_served<R: Threads + Wait + Sync + Abort>(
         &names,
         "address",
         1,
+        1,
         &OpenGate,
     );
     check_answer(rt, "serve", answer, Ok(()));

@@ -13,7 +13,7 @@ use std::fmt::Write;
 use std::process::Abort;
 
 // Command lines, with one space between two words, and what they ask for in one line.
-const ROWS: [(&str, &str); 45] = [
+const ROWS: [(&str, &str); 49] = [
     ("play", "play"),
     ("play --generate 1", "generate 1"),
     ("play --generate=3000", "generate 3000"),
@@ -27,9 +27,9 @@ const ROWS: [(&str, &str); 45] = [
     ),
     (
         "serve doc host:80 --sessions 1024",
-        "serve doc host:80 1024",
+        "serve doc host:80 1024 1",
     ),
-    ("serve --sessions 1 doc host:80", "serve doc host:80 1"),
+    ("serve --sessions 1 doc host:80", "serve doc host:80 1 1"),
     ("client doc 3 host:80", "client doc 3 host:80 64 0"),
     (
         "client doc 3 host:80 --rounds 0 --until 4294967295",
@@ -55,14 +55,14 @@ const ROWS: [(&str, &str); 45] = [
         "client --until 5 doc 1 --rounds 3 a b",
         "client doc 1 a 3 5 b",
     ),
-    ("serve doc a --sessions=64", "serve doc a 64"),
+    ("serve doc a --sessions=64", "serve doc a 64 1"),
     (
         "serve-all host:80 --sessions 1024 doc",
-        "serve-all host:80 1024 doc",
+        "serve-all host:80 1024 1 doc",
     ),
     (
         "serve-all --sessions=1 host:80 b a b",
-        "serve-all host:80 1 b a b",
+        "serve-all host:80 1 1 b a b",
     ),
     ("found doc 65535:admin", "found doc 65535 admin"),
     ("text doc 7", "text doc 7"),
@@ -89,10 +89,23 @@ const ROWS: [(&str, &str); 45] = [
     ("public doc 7.1", "public doc 7.1"),
     ("text doc 7.1", "text doc 7.1"),
     ("entries doc 7.1", "entries doc 7.1 1"),
+    ("serve doc a --sessions 2 --times 1", "serve doc a 2 1"),
+    (
+        "serve --times=4294967295 doc --sessions 2 a",
+        "serve doc a 2 4294967295",
+    ),
+    (
+        "serve-all a --sessions 2 --times 1 doc",
+        "serve-all a 2 1 doc",
+    ),
+    (
+        "serve-all a --sessions 2 doc --times 4294967295 b",
+        "serve-all a 2 4294967295 doc b",
+    ),
 ];
 
 // Command lines that ask for nothing.
-const OTHERS: [&str; 67] = [
+const OTHERS: [&str; 79] = [
     "text doc",
     "text doc 7 --at -1",
     "text doc 7 --from 1",
@@ -160,6 +173,18 @@ const OTHERS: [&str; 67] = [
     "compare doc 1 2.0",
     "text doc 7.+1",
     "found doc 1.1:admin",
+    "serve doc a --sessions 1 --times 0",
+    "serve doc a --sessions 1 --times 4294967296",
+    "serve doc a --sessions 1 --times 1 --times 1",
+    "serve doc a --sessions 1 --times",
+    "serve doc a --times 1",
+    "serve-all a --sessions 1 --times 0 doc",
+    "serve-all a --sessions 1 --times 4294967296 doc",
+    "serve-all a --sessions 1 --times 1 doc --times 2",
+    "serve-all a --sessions 1 doc --times",
+    "serve-all a doc --times 1",
+    "client doc 1 a --times 1",
+    "serve doc a --sessions 1 --times 01",
 ];
 
 #[test]
@@ -282,12 +307,14 @@ fn show_serve(rt: &impl Abort, line: &mut String, serve: &Serve) {
     push_named(rt, line, "serve", &serve.name);
     push_word(rt, line, serve.address.as_str());
     push_number(rt, line, serve.sessions);
+    push_number(rt, line, serve.times);
 }
 
 fn show_serve_all(rt: &impl Abort, line: &mut String, serve: &ServeAll) {
     push(rt, line, "serve-all");
     push_word(rt, line, serve.address.as_str());
     push_number(rt, line, serve.sessions);
+    push_number(rt, line, serve.times);
     for name in serve.names.as_slice() {
         push_word(rt, line, name.as_str());
     }

@@ -1,0 +1,28 @@
+-- Why a file is not handed out to be appended to, as a fault of the program.
+use Rattle.std.proofs.Common.{◌≡◌, ℕ, List, Option, Some, None, refl}
+use Rattle.sporc_outside.specs.Files.{ChangesFile, IsAppendFault}
+use Rattle.sporc_outside.specs.declared.file_fault.FileFault.{FileFault}
+use Rattle.sporc_outside.specs.declared.file_fault.FileFault.TheVariants.{Missing, Failed, TooLong, Exists, Memory}
+use Rattle.sporc_outside.specs.declared.named_file.NamedFile.{NamedFile}
+use Rattle.sporc_files.specs.declared.fault.Fault.{Fault}
+use Rattle.sporc_files.specs.declared.file.File.{File}
+use Rattle.sporc_files.specs.Faults.{fault_of_file}
+use Rattle.sporc_files.specs.Names.{FileNames, file_name}
+use Rattle.sporc_files.specs.Reading.{IsAppendingFault}
+
+of_append : (files : Option (List NamedFile)) (before after : ℕ) (names : FileNames) (file : File) (cause : FileFault) → IsAppendFault files (file_name names file) before after cause
+    → IsAppendingFault files before after names file (fault_of_file file cause)
+of_append files before after names file Missing never = absurd never
+of_append files before after names file Failed rose = rose
+of_append files before after names file (TooLong len) long = (refl, len, long)
+of_append files before after names file Exists never = absurd never
+of_append files before after names file Memory any = tt
+
+pub append_fault : (files : Option (List NamedFile)) (before after : ℕ) (names : FileNames) (file : File) (name : List ℕ) (cause : FileFault) (fault : Fault) → name ≡ file_name names file
+    → fault ≡ fault_of_file file cause → IsAppendFault files name before after cause → IsAppendingFault files before after names file fault
+append_fault files before after names file name cause fault called is why = rw is (of_append files before after names file cause (rw called at why))
+
+-- nothing was changed
+pub changes_none : (files : Option (List NamedFile)) (name : List ℕ) → ChangesFile files files name
+changes_none None name = tt
+changes_none (Some told) name = λ other apart. refl
