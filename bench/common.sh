@@ -49,15 +49,42 @@ least() {
     done
 }
 
-# serve NAME SESSIONS: a server in the background, with its process in `server`, once it listens at `address`.
+# serve NAME SESSIONS [FOLDER [PROGRAM]]: a server in the background, with its process in `server`, once it listens at `address`;
+# of the files of another folder, or of another program, if these are given.
 serve() {
+    local out=$PWD/server.out
     address=127.0.0.1:$(free_port)
-    "$program" serve "$1" "$address" --sessions "$2" >server.out 2>&1 &
+    (cd "${3:-.}" && exec "${4:-$program}" serve "$1" "$address" --sessions "$2") >"$out" 2>&1 &
     server=$!
     until listens "${address##*:}"; do
         kill -0 "$server"
         sleep 0.05
     done
+}
+
+# four_members NAME: a document of four members with keys of height 10.
+four_members() {
+    local m
+    for m in 1 2 3 4; do "$program" keygen "$1" "$m" 10 4 >out; done
+    "$program" found "$1" 1:admin 2:editor 3:editor 4:editor
+}
+
+# in_turn NAME SCRIPT..: the sessions of the four, one after another.
+in_turn() {
+    local name=$1 m
+    shift
+    for m in 1 2 3 4; do "$program" client "$name" "$m" "$address" --rounds 5000 "$@" >"out$m"; done
+}
+
+# side_by_side NAME SCRIPT..: all at once.
+side_by_side() {
+    local name=$1 m clients=()
+    shift
+    for m in 1 2 3 4; do
+        "$program" client "$name" "$m" "$address" --rounds 5000 "$@" >"out$m" &
+        clients+=($!)
+    done
+    for m in "${clients[@]}"; do wait "$m"; done
 }
 
 # peak PID: the most memory that a process has had, in kilobytes; nothing once it has ended.

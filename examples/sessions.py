@@ -1,14 +1,19 @@
 """The program in a folder, and its honest sessions, for the scripts that speak to it as a peer. Those are in Python,
 which the toolchain's commands need too, since bash can't listen at a port."""
 
+import collections
+import contextlib
 import os
 import pathlib
+import random
 import re
 import socket
 import subprocess
 import tempfile
 import time
 
+# How long one thing may take, on a machine that does much else.
+SECONDS = 60
 BUILT = pathlib.Path(__file__).resolve().parent.parent / "crates" / "sporc" / "out" / "sporc"
 
 
@@ -18,10 +23,46 @@ def new_folder():
     return tempfile.TemporaryDirectory(dir=memory if os.access(memory, os.W_OK) else None)
 
 
+# The addresses that were given last.
+given = collections.deque(maxlen=1_000)
+
+
 def free_address():
-    """An address of this machine where nobody listens."""
-    with socket.create_server(("127.0.0.1", 0)) as listener:
-        return f"127.0.0.1:{listener.getsockname()[1]}"
+    """An address of this machine where nobody listens, and that was not given lately. Its port is none that the system takes for
+    the near end of a connection."""
+    while True:
+        port = random.randrange(20_000, 30_000)
+        with socket.socket() as link, contextlib.suppress(OSError):
+            link.bind(("127.0.0.1", port))
+            if port not in given:
+                given.append(port)
+                return f"127.0.0.1:{port}"
+
+
+def listens(address):
+    """Whether somebody listens at an address of this machine."""
+    port = int(address.split(":")[1])
+    return re.search(f":{port:04X} 0+:0000 0A", pathlib.Path("/proc/net/tcp").read_text()) is not None
+
+
+def call(address, *said):
+    """The connection of a peer that comes to a server and says this."""
+    host, port = address.split(":")
+    link = socket.create_connection((host, int(port)), timeout=SECONDS)
+    for piece in said:
+        link.sendall(piece)
+    return link
+
+
+def ended(process, seconds=None):
+    """The status of a process and its last line, once it has ended."""
+    try:
+        out = process.communicate(timeout=seconds or SECONDS)[0] or ""
+    except subprocess.TimeoutExpired:
+        process.kill()
+        return None, "no end"
+    lines = out.splitlines()
+    return process.returncode, lines[-1] if lines else ""
 
 
 def counted(data):
@@ -43,6 +84,57 @@ def history(document, entries):
     """The saved history of these entries."""
     count = len(entries).to_bytes(4, "big")
     return b"SPH1" + document + count + b"".join(counted(entry) for entry in entries)
+
+
+def tail(document, first, entries):
+    """The tail of a log with these entries, of which the first has this position."""
+    records = [position.to_bytes(4, "big") + counted(entry) for position, entry in enumerate(entries, first)]
+    return b"SPT1" + document + b"".join(records)
+
+
+def frames(data):
+    """The bodies of the frames that are whole."""
+    at, bodies = 0, []
+    while len(data) - at >= 4 and len(data) - at >= 4 + int.from_bytes(data[at : at + 4], "big"):
+        length = int.from_bytes(data[at : at + 4], "big")
+        bodies.append(bytes(data[at + 4 : at + 4 + length]))
+        at += 4 + length
+    return bodies
+
+
+def handed_out(body):
+    """The entries of an answer to a Pull, by their positions."""
+    if body[:1] != b"\3":
+        return {}
+    entries, at = {}, 6
+    for position in range(int.from_bytes(body[1:5], "big"), int.from_bytes(body[1:5], "big") + body[5]):
+        length = int.from_bytes(body[at : at + 4], "big")
+        entries[position] = body[at + 4 : at + 4 + length]
+        at += 4 + length
+    return entries
+
+
+def answer(link):
+    """The body of the next frame that comes."""
+    data = b""
+    while not frames(data):
+        piece = link.recv(65_536)
+        if not piece:
+            raise EOFError(data)
+        data += piece
+    return frames(data)[0]
+
+
+def pulled(address, document):
+    """All entries of a server, as a peer gets them."""
+    entries = []
+    with call(address, counted(b"\1" + document + b"\0\1")) as link:
+        while True:
+            link.sendall(counted(b"\3" + len(entries).to_bytes(4, "big")))
+            more = handed_out(answer(link))
+            if not more:
+                return entries
+            entries += more.values()
 
 
 class Program:
@@ -67,15 +159,18 @@ class Program:
     def serve(self, name, sessions, **options):
         """A server, once it listens, and its address. If it ends before, an EOFError with its status and its lines."""
         address = free_address()
-        words = [self.path, "serve", name, address, "--sessions", str(sessions)]
+        return self.start(address, ["serve", name, address, "--sessions", str(sessions)], **options), address
+
+    def start(self, address, words, before=(), **options):
+        """The same of these words, behind those of a program that runs it."""
+        words = [*before, self.path, *words]
         server = subprocess.Popen(words, cwd=self.folder, stdout=subprocess.PIPE, text=True, **options)
         # Its sessions are counted, so nobody calls it to find out whether it listens.
-        line = re.compile(f":{int(address.split(':')[1]):04X} 0+:0000 0A")
-        while not line.search(pathlib.Path("/proc/net/tcp").read_text()):
+        while not listens(address):
             if server.poll() is not None:
                 raise EOFError(server.returncode, server.stdout.read().splitlines(keepends=True))
             time.sleep(0.002)
-        return server, address
+        return server
 
     def found(self, name, *members):
         """A document of members with keys of height 5, and their public keys."""
