@@ -10,6 +10,7 @@ import re
 import socket
 import subprocess
 import tempfile
+import threading
 import time
 
 # How long one thing may take, on a machine that does much else.
@@ -23,18 +24,21 @@ def new_folder():
     return tempfile.TemporaryDirectory(dir=memory if os.access(memory, os.W_OK) else None)
 
 
-# The addresses that were given last.
+# The addresses that were given last. One is looked for at a time.
 given = collections.deque(maxlen=1_000)
+looking = threading.Lock()
 
 
 def free_address():
     """An address of this machine where nobody listens, and that was not given lately. Its port is none that the system takes for
-    the near end of a connection."""
-    while True:
-        port = random.randrange(20_000, 30_000)
-        with socket.socket() as link, contextlib.suppress(OSError):
-            link.bind(("127.0.0.1", port))
-            if port not in given:
+    the near end of a connection. One that was given is not tried: a server may be about to listen there."""
+    with looking:
+        while True:
+            port = random.randrange(20_000, 30_000)
+            if port in given:
+                continue
+            with socket.socket() as link, contextlib.suppress(OSError):
+                link.bind(("127.0.0.1", port))
                 given.append(port)
                 return f"127.0.0.1:{port}"
 
