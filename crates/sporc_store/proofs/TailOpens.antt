@@ -12,8 +12,8 @@ use Rattle.sporc_store.specs.declared.tail_fault.TailFault.{TailFault}
 use Rattle.sporc_store.specs.declared.tail_fault.TailFault.TheVariants.{Failed, TooLong, Malformed, Refused, Memory}
 use Rattle.sporc_store.specs.Loading.{AppendsPart, Checker, accepted_behind, accepted_from, an_order}
 use Rattle.sporc_store.specs.SavedFile.{Taken, read_to}
-use Rattle.sporc_store.specs.TailBytes.{IsUnread, Recovers, TailTaken, tail_behind}
-use Rattle.sporc_store.specs.TailFiles.{AreSynced, IsFaultOf, IsRefusal, IsTakingFault, RecoversAt, StaysFound, TellsStill}
+use Rattle.sporc_store.specs.TailBytes.{Gives, IsUnread, TailTaken, tail_behind}
+use Rattle.sporc_store.specs.TailFiles.{AreSynced, IsFaultOf, IsRefusal, IsTakingFault, StaysFound, TellsStill}
 use Rattle.sporc_store.specs.TailReadings.{AreTold, IsFaultOfRead, IsReadingFault, StaysTold}
 use Rattle.sporc_store.proofs.Prefixes.{is_longest}
 use Rattle.sporc_store.proofs.Taking.{ends_empty}
@@ -108,9 +108,9 @@ told_still stored moment images is_image log document bytes old new (Some first)
     by : (o : Option (List ℕ)) → stored new ≡ o → IsSome (stored new) → StaysTold log document (Some first) o
     by None none some = let clash : IsSome {T = List ℕ} None = subst IsSome none some in absurd cc
     by (Some last) there some = λ entries found.
-        let all : RecoversAt moment images log document old (moment old) entries = λ image here.
-        subst (λ (l : List ℕ). Recovers log document l entries) (told ∙ sym (synced image here)) found in
-        stays.during entries all (moment new) stays.later (omega arith) last (subst (λ (o : Option (List ℕ)). IfSome o (images new (moment new))) there (is_image new))
+        let here : images new (moment new) last = subst (λ (o : Option (List ℕ)). IfSome o (images new (moment new))) there (is_image new) in
+        let was = stays.during (moment new) last stays.later (omega arith) here in
+        was.2 entries (subst (λ (l : List ℕ). Gives log document l entries) (told ∙ sym (synced was.0 was.1)) found)
 
 pub on_err : {T E : Type 0} {P : Type 0} (r : Result T E) → P → OnErr r P
 on_err (Ok x) p = tt

@@ -13,7 +13,7 @@ use Rattle.sporc_bytes.proofs.Fields.{u32_again}
 use Rattle.sporc_store.specs.declared.tail_fault.TailFault.{TailFault}
 use Rattle.sporc_store.specs.declared.tail_head.TheConstants.{TAIL_HEAD_LEN}
 use Rattle.sporc_store.specs.SavedFile.{IsPrefix}
-use Rattle.sporc_store.specs.TailBytes.{Agree, FitsRecord, IsTail, Recovers, TailTaken, record_bytes, records_bytes, records_of, tail_behind, tail_bytes, tail_head, taken_to}
+use Rattle.sporc_store.specs.TailBytes.{Agree, FitsRecord, Gives, IsTail, Recovers, TailTaken, record_bytes, records_bytes, records_of, tail_behind, tail_bytes, tail_head, taken_to}
 use Rattle.sporc_store.specs.TailFiles.{Between}
 use Rattle.sporc_store.proofs.TailRecords.{number_short, reading, record_len, records_again, records_few, records_more}
 
@@ -115,11 +115,22 @@ prefix_agrees (e ∷ es) more = (refl, prefix_agrees es more)
 pub is_prefix : (es more : List (List ℕ)) → IsPrefix es (es ++ more)
 is_prefix es more = sym (take_at es more (length es) refl)
 
-recovers_short : (log before behind front more : List (List ℕ)) (document next : List ℕ) (kept : ℕ) (image : List ℕ) → length document ≡ 16
+pub prefix_same : (es : List (List ℕ)) → IsPrefix es es
+prefix_same es = sym (take_all (length es) es (omega arith))
+
+-- of bytes that give these entries
+pub at_least : (log entries all : List (List ℕ)) (document bytes : List ℕ) → Gives log document bytes all → IsPrefix entries all → Recovers log document bytes entries
+at_least log entries all document bytes found prefix = record {
+  taken = found.taken;
+  reads = found.reads;
+  all = subst (IsPrefix entries) (sym found.all) prefix;
+}
+
+gives_short : (log before behind front more : List (List ℕ)) (document next : List ℕ) (kept : ℕ) (image : List ℕ) → length document ≡ 16
     → Between log before behind front more → image ≡ tail_bytes document (length before) behind ++ take kept (record_bytes (length before + length behind + 1) next)
     → All FitsRecord behind → FitsRecord next → length before + length behind + 1 < 2 ^ 32
-    → kept < length (record_bytes (length before + length behind + 1) next) → Recovers log document image (before ++ behind)
-recovers_short log before behind front more document next kept image is b bytes fit next_fits below short =
+    → kept < length (record_bytes (length before + length behind + 1) next) → Gives log document image (before ++ behind)
+gives_short log before behind front more document next kept image is b bytes fit next_fits below short =
     let from = length before in
     let rest : drop from log ≡ front = ap (drop from) b.log_is ∙ drop_at before front from refl in
     let within : from ≤ length log = omega (arith, ap length b.log_is, length-append before front) in
@@ -132,9 +143,7 @@ recovers_short log before behind front more document next kept image is b bytes 
     record {
       taken = taken_to (drop (length (drop from log)) behind) (length (tail_bytes document from behind));
       reads = read;
-      all =
-          sym (take_all (length (before ++ behind)) (before ++ behind) (omega arith))
-          ∙ ap (take (length (before ++ behind))) (sym (ap (λ (l : List (List ℕ)). log ++ l) lacking ∙ all));
+      all = ap (λ (l : List (List ℕ)). log ++ l) lacking ∙ all;
     }
 
 -- a shorter prefix
@@ -143,11 +152,6 @@ shorter_take zero m all le = refl
 shorter_take (suc n) zero all le = absurd (omega (arith, le))
 shorter_take (suc n) (suc m) [] le = refl
 shorter_take (suc n) (suc m) (e ∷ es) le = ap (λ (l : List (List ℕ)). e ∷ l) (shorter_take n m es (omega (arith, le)))
-
-shorter_by : (es last all : List (List ℕ)) → IsPrefix (es ++ last) all → IsPrefix es all
-shorter_by es last all whole =
-    let n = length es in
-    sym (take_at es last n refl) ∙ ap (take n) whole ∙ shorter_take n (length (es ++ last)) all (omega (arith, length-append es last))
 
 -- a record that is whole is one entry more
 pub tail_more : (document : List ℕ) (from : ℕ) (entries : List (List ℕ)) (next : List ℕ)
@@ -159,16 +163,18 @@ tail_more document from entries next =
     ∙ sym (append_assoc (tail_head document) (records_bytes (from + 1) entries) (record_bytes (from + 1 + length entries) next))
     ∙ ap (λ (p : ℕ). (tail_head document ++ records_bytes (from + 1) entries) ++ record_bytes p next) place
 
-pub recovers : (log before behind front more : List (List ℕ)) (document next : List ℕ) (kept : ℕ) (image : List ℕ) → length document ≡ 16
-    → Between log before behind front more → IsTail document (length before) behind next kept image → Recovers log document image (before ++ behind)
-recovers log before behind front more document next kept image is b t = by (cases_lt kept (length (record_bytes (length before + length behind + 1) next)))
+-- they give what the tail is of, and the next entry as well if its record is whole
+pub gives : (log before behind front more : List (List ℕ)) (document next : List ℕ) (kept : ℕ) (image : List ℕ) → length document ≡ 16
+    → Between log before behind front more → IsTail document (length before) behind next kept image
+    → Gives log document image (before ++ behind) ⊎ ((0 < kept) × Gives log document image ((before ++ behind) ++ next ∷ []))
+gives log before behind front more document next kept image is b t = by (cases_lt kept (length (record_bytes (length before + length behind + 1) next)))
   where
     from : ℕ
     from = length before
 
     by : (kept < length (record_bytes (from + length behind + 1) next)) ⊎ (length (record_bytes (from + length behind + 1) next) ≤ kept)
-        → Recovers log document image (before ++ behind)
-    by (inl short) = recovers_short log before behind front more document next kept image is b t.bytes_are t.fit t.next_fits (omega (arith, t.positions)) short
+        → Gives log document image (before ++ behind) ⊎ ((0 < kept) × Gives log document image ((before ++ behind) ++ next ∷ []))
+    by (inl short) = inl (gives_short log before behind front more document next kept image is b t.bytes_are t.fit t.next_fits (omega (arith, t.positions)) short)
     by (inr whole) =
         let all = behind ++ next ∷ [] in
         let size : length all ≡ length behind + 1 = length-append behind (next ∷ []) in
@@ -180,10 +186,28 @@ recovers log before behind front more document next kept image is b t = by (case
           log_is = b.log_is;
           behind_is = ap (λ (l : List (List ℕ)). l ++ next ∷ []) b.behind_is ∙ append_assoc front more (next ∷ []);
         } in
-        let found = recovers_short log before all front (more ++ next ∷ []) document [] 0 image is between bytes fit (omega arith) (omega (arith, t.positions, size))
+        let found = gives_short log before all front (more ++ next ∷ []) document [] 0 image is between bytes fit (omega arith) (omega (arith, t.positions, size))
         (omega (arith, record_len (from + length all + 1) [])) in
         let longer : before ++ all ≡ (before ++ behind) ++ next ∷ [] = sym (append_assoc before behind (next ∷ [])) in
-        record { taken = found.taken; reads = found.reads; all = shorter_by (before ++ behind) (next ∷ []) (log ++ found.taken.entries) (rw longer at found.all) }
+        inr (omega (arith, whole, record_len (from + length behind + 1) next), subst (Gives log document image) longer found)
+
+-- a tail with nothing behind it
+pub gives_whole : (log before behind front more : List (List ℕ)) (document image : List ℕ) → length document ≡ 16
+    → Between log before behind front more → IsTail document (length before) behind [] 0 image → Gives log document image (before ++ behind)
+gives_whole log before behind front more document image is b t =
+    gives_short log before behind front more document [] 0 image is b t.bytes_are t.fit t.next_fits (omega (arith, t.positions))
+    (omega (arith, record_len (length before + length behind + 1) []))
+
+pub recovers : (log before behind front more : List (List ℕ)) (document next : List ℕ) (kept : ℕ) (image : List ℕ) → length document ≡ 16
+    → Between log before behind front more → IsTail document (length before) behind next kept image → Recovers log document image (before ++ behind)
+recovers log before behind front more document next kept image is b t = by (gives log before behind front more document next kept image is b t)
+  where
+    entries : List (List ℕ)
+    entries = before ++ behind
+
+    by : Gives log document image entries ⊎ ((0 < kept) × Gives log document image (entries ++ next ∷ [])) → Recovers log document image entries
+    by (inl found) = at_least log entries entries document image found (prefix_same entries)
+    by (inr (some, found)) = at_least log entries (entries ++ next ∷ []) document image found (is_prefix entries (next ∷ []))
 
 -- ---- a head that is cut
 
@@ -205,9 +229,5 @@ head_reads log document k is short =
     let size : length part < length head = omega (arith, length-take k head, head_len document is, short) in
     rw (no_start part head size, ap (λ (l : List ℕ). starts_with eqb l part) (sym (take-append-drop k head)) ∙ begins part (drop k head)) refl
 
-pub recovers_head : (log : List (List ℕ)) (document : List ℕ) (k : ℕ) → length document ≡ 16 → k < TAIL_HEAD_LEN → Recovers log document (take k (tail_head document)) log
-recovers_head log document k is short = record {
-  taken = taken_to [] 0;
-  reads = head_reads log document k is short;
-  all = sym (take_all (length log) log (omega arith)) ∙ ap (take (length log)) (sym (append-nil log));
-}
+pub head_gives : (log : List (List ℕ)) (document : List ℕ) (k : ℕ) → length document ≡ 16 → k < TAIL_HEAD_LEN → Gives log document (take k (tail_head document)) log
+head_gives log document k is short = record { taken = taken_to [] 0; reads = head_reads log document k is short; all = append-nil log }

@@ -1,22 +1,21 @@
--- Nothing that was ordered is lost in a run of a server over one log and its tail.
-use Rattle.std.proofs.Common.{◌≡◌, ℕ, ◌+◌, ◌^◌, ◌<◌, ◌≤◌, ◌⊎◌, inl, inr, false, List, [], ◌∷◌, ◌++◌, length, take, Option, Some, None, Result, Ok, Err, refl, sym, ap, ◌∙◌, subst, arith, append-nil, append_assoc}
+-- Nothing that was ordered is lost in a run of a server over one log and its tail, and an order can always begin again.
+use Rattle.std.proofs.Common.{◌≡◌, ℕ, zero, suc, ◌+◌, ◌^◌, ◌<◌, ◌≤◌, ◌⊎◌, inl, inr, false, List, [], ◌∷◌, ◌++◌, length, take, Option, Some, None, Result, Ok, Err, refl, sym, ap, ◌∙◌, subst, arith, append-nil, append_assoc}
 use Rattle.std.specs.Prelude.{IfSome}
-use Rattle.std.proofs.lemmas.List.{length-append, length-take, take_all}
+use Rattle.std.proofs.lemmas.List.{length-append, length-take}
 use Rattle.sporc_bytes.proofs.Fields.{ok_is}
 use Rattle.sporc_entry.specs.declared.genesis.Genesis.{Genesis}
 use Rattle.sporc_order.specs.declared.tail.Unkept.{Unkept}
 use Rattle.sporc_outside.specs.LeafDisk.{IsFound}
-use Rattle.sporc_store.specs.declared.tail_fault.TailFault.{TailFault}
+use Rattle.sporc_store.specs.Loading.{AreAccepted}
 use Rattle.sporc_store.specs.SavedFile.{IsPrefix}
-use Rattle.sporc_store.specs.TailBytes.{FitsRecord, IsTail, Recovers, TailTaken, record_bytes, tail_bytes}
-use Rattle.sporc_store.specs.TailFiles.{Between, OpensBehind, Puts, RecoversAt, StaysFound, TailFileModel}
-use Rattle.sporc_store.specs.TailRuns.{TailMove, Open, OpenFailed, OpenCut, Put, PutCut, Save, End, Remake, Stop, TailState, after_move, after_moves, held_then, MayOpen, MayMove, IsTailRun, Begins}
-use Rattle.sporc_store.proofs.TailReads.{is_prefix, recovers, recovers_head, shorter_take}
+use Rattle.sporc_store.specs.TailBytes.{FitsRecord, Gives, GivesSame, IsTail, Recovers, TailTaken, record_bytes, tail_behind, tail_bytes}
+use Rattle.sporc_store.specs.TailFiles.{Between, Keeps, OpensBehind, Puts, RecoversAt, StaysFound, TailFileModel, TakesTail}
+use Rattle.sporc_store.specs.TailRuns.{TailMove, Open, OpenFailed, OpenCut, Put, PutCut, Save, End, Remake, Stop, TailState, after_move, after_moves, held_then, MayOpen, MayMove, IsTailRun, IsChecked, IsCheckedRun, CanBegin, Begins}
+use Rattle.sporc_store.proofs.Loads.{accepted_more, takes_behind}
+use Rattle.sporc_store.proofs.TailReads.{at_least, gives, head_gives, is_prefix, prefix_same, shorter_take, tail_more}
+use Rattle.sporc_store.proofs.TailRecords.{record_len}
 
 -- ---- prefixes
-
-pub prefix_same : (es : List (List ℕ)) → IsPrefix es es
-prefix_same es = sym (take_all (length es) es (omega arith))
 
 prefix_fits : (xs ys : List (List ℕ)) → IsPrefix xs ys → length xs ≤ length ys
 prefix_fits xs ys h = omega (arith, ap length h, length-take (length xs) ys)
@@ -24,38 +23,96 @@ prefix_fits xs ys h = omega (arith, ap length h, length-take (length xs) ys)
 pub prefix_then : (xs ys zs : List (List ℕ)) → IsPrefix xs ys → IsPrefix ys zs → IsPrefix xs zs
 prefix_then xs ys zs h k = h ∙ ap (take (length xs)) k ∙ shorter_take (length xs) (length ys) zs (prefix_fits xs ys h)
 
-pub taken_same : (a b : TailTaken) (r : Result TailTaken TailFault) → r ≡ Ok a → r ≡ Ok b → a ≡ b
-taken_same a b r x y = ok_is a b (sym x ∙ y)
+-- what is given is what is read
+pub gives_taken : (log entries : List (List ℕ)) (document bytes : List ℕ) (taken : TailTaken) → Gives log document bytes entries → tail_behind log document bytes ≡ Ok taken
+    → log ++ taken.entries ≡ entries
+gives_taken log entries document bytes taken found reads =
+    ap (λ (t : TailTaken). log ++ t.entries) (ok_is taken found.taken (sym reads ∙ found.reads)) ∙ found.all
 
-module _ {D : Type 0} (stored : D → Option (List ℕ)) (moment : D → ℕ) (images : D → ℕ → List ℕ → Type 0) (genesis : Genesis)
+-- ---- bytes that grow by a call, whatever a crash leaves
+
+-- if they are what they were, there are none
+none_left : (images : List ℕ → Type 0) (more : List ℕ) → 0 < length more → ((image : List ℕ) → images image → (before : List ℕ) × images before × (image ≡ before ++ more))
+    → (n : ℕ) (image : List ℕ) → length image ≤ n → images image → ⊥
+none_left images more some grows zero image le there =
+    let was = grows image there in
+    absurd (omega (arith, le, some, ap length was.2, length-append was.0 more))
+none_left images more some grows (suc n) image le there =
+    let was = grows image there in
+    none_left images more some grows n was.0 (omega (arith, le, some, ap length was.2, length-append was.0 more)) was.1
+
+-- ---- what is put goes on what an order has
+
+module _ {D : Type 0} (P : List (List ℕ) → Type 0) where
+  -- if P holds of what the order has, it does so with the entry that is put
+  abbrev pub GoesOn : TailState D → TailMove D → Type 0
+  GoesOn s (Put entry result t) = P s.held → P (s.held ++ entry ∷ [])
+  GoesOn s (PutCut entry result t at found) = P s.held → P (s.held ++ entry ∷ [])
+  GoesOn s move = Unit {0}
+
+  abbrev pub AllGoOn : TailState D → List (TailMove D) → Type 0
+  AllGoOn s [] = Unit {0}
+  AllGoOn s (move ∷ moves) = GoesOn s move × AllGoOn (after_move s move) moves
+
+module _ {D : Type 0} (stored : D → Option (List ℕ)) (moment : D → ℕ) (images : D → ℕ → List ℕ → Type 0) (genesis : Genesis) (P : List (List ℕ) → Type 0)
     (is_image : (file : D) → IfSome (stored file) (images file (moment file))) (is16 : length genesis.document ≡ 16) where
+  -- behind a log the bytes give what begins with these entries, and P holds of it
+  abbrev Starts : List (List ℕ) → List (List ℕ) → List ℕ → Type 0
+  Starts log held bytes = (entries : List (List ℕ)) × Gives log genesis.document bytes entries × IsPrefix held entries × P entries
+
+  abbrev pub StartsAt : List (List ℕ) → List (List ℕ) → D → ℕ → Type 0
+  StartsAt log held file at = (image : List ℕ) → images file at image → Starts log held image
+
+  -- the tail of these entries, and of nothing behind them, or of one more with which P holds, or a part of it
+  abbrev HoldsNext : List (List ℕ) → ℕ → List (List ℕ) → List ℕ → Type 0
+  HoldsNext held from behind image =
+      (next : List ℕ) × (kept : ℕ) × IsTail genesis.document from behind next kept image × ((kept ≡ 0) ⊎ P (held ++ next ∷ []))
+
+  -- a tail that is open
+  record HoldsAll (t : TailFileModel D) (log held : List (List ℕ)) : Type 0 where
+    before : List (List ℕ)
+    behind : List (List ℕ)
+    front : List (List ℕ)
+    more : List (List ℕ)
+    keeps : Keeps moment images t held before behind
+    between : Between log before behind front more
+    next : (image : List ℕ) → images t.file (moment t.file) image → HoldsNext held (length before) behind image
+    has : P held
+    document : t.document ≡ genesis.document
+
   -- what is found again now is all that any order had
   abbrev SoundBy : Option (TailFileModel D) → List (List ℕ) → List (List ℕ) → D → Type 0
-  SoundBy None log held file = RecoversAt moment images log genesis.document file (moment file) held
-  SoundBy (Some t) log held file = OpensBehind moment images log t held × (t.document ≡ genesis.document) × (file ≡ t.file)
+  SoundBy None log held file = StartsAt log held file (moment file)
+  SoundBy (Some t) log held file = HoldsAll t log held × (file ≡ t.file)
 
   abbrev Sound : TailState D → Type 0
-  Sound s = SoundBy s.tail s.log s.held s.file
+  Sound s = P s.log × SoundBy s.tail s.log s.held s.file
 
-  -- of a tail that is open
-  found_open : (t : TailFileModel D) (log held : List (List ℕ)) → OpensBehind moment images log t held → t.document ≡ genesis.document
-      → RecoversAt moment images log genesis.document t.file (moment t.file) held
-  found_open t log held (before, behind, front, more, keeps, between) same image is =
-      let tail = keeps.holds image is in
-      let own : IsTail genesis.document (length before) behind tail.0 tail.1 image =
-      subst (λ (d : List ℕ). IsTail d (length before) behind tail.0 tail.1 image) same tail.2 in
-      subst (Recovers log genesis.document image) (sym keeps.parts) (recovers log before behind front more genesis.document tail.0 tail.1 image is16 between own)
+  -- of such a tail
+  starts_tail : (log held before behind front more : List (List ℕ)) (image : List ℕ) → held ≡ before ++ behind → Between log before behind front more → P held
+      → HoldsNext held (length before) behind image → Starts log held image
+  starts_tail log held before behind front more image parts between has (next, kept, tail, more_has) =
+      by (gives log before behind front more genesis.document next kept image is16 between tail) more_has
+    where
+      by : Gives log genesis.document image (before ++ behind) ⊎ ((0 < kept) × Gives log genesis.document image ((before ++ behind) ++ next ∷ []))
+          → (kept ≡ 0) ⊎ P (held ++ next ∷ []) → Starts log held image
+      by (inl found) more_has = (held, subst (Gives log genesis.document image) (sym parts) found, prefix_same held, has)
+      by (inr (some, found)) (inl none) = absurd (omega (arith, some, none))
+      by (inr (some, found)) (inr more_has) =
+          (held ++ next ∷ [], subst (λ (l : List (List ℕ)). Gives log genesis.document image (l ++ next ∷ [])) (sym parts) found, is_prefix held (next ∷ []), more_has)
 
-  found_by : (o : Option (TailFileModel D)) (log held : List (List ℕ)) (file : D) → SoundBy o log held file
-      → RecoversAt moment images log genesis.document file (moment file) held
+  found_by : (o : Option (TailFileModel D)) (log held : List (List ℕ)) (file : D) → SoundBy o log held file → StartsAt log held file (moment file)
   found_by None log held file h = h
-  found_by (Some t) log held file (opens, same, is) =
-      subst (λ (f : D). RecoversAt moment images log genesis.document f (moment f) held) (sym is) (found_open t log held opens same)
+  found_by (Some t) log held file (h, is) =
+      subst (λ (f : D). StartsAt log held f (moment f)) (sym is)
+      (λ image there. starts_tail log held h.before h.behind h.front h.more image h.keeps.parts h.between h.has (h.next image there))
 
   -- after a stop
   found_after : (log held : List (List ℕ)) (file found : D) (at : ℕ) → IsFound stored moment images file at found
-      → RecoversAt moment images log genesis.document file at held → RecoversAt moment images log genesis.document found (moment found) held
+      → StartsAt log held file at → StartsAt log held found (moment found)
   found_after log held file found at is h image there = h image (is.among image there)
+
+  -- ---- an entry that is put
 
   -- one entry more behind a log
   between_more : (log before behind front more : List (List ℕ)) (entry : List ℕ) → Between log before behind front more
@@ -65,104 +122,248 @@ module _ {D : Type 0} (stored : D → Option (List ℕ)) (moment : D → ℕ) (i
     behind_is = ap (λ (l : List (List ℕ)). l ++ entry ∷ []) b.behind_is ∙ append_assoc front more (entry ∷ []);
   }
 
-  -- an entry that was put
-  put_sound : (log held : List (List ℕ)) (entry : List ℕ) (result : Result (Unit {0}) Unkept) (old new : TailFileModel D)
-      → Puts moment images old (length held + 1) entry result new → OpensBehind moment images log old held
-      → OpensBehind moment images log new (held_then result entry held) × IsPrefix held (held_then result entry held)
-  put_sound log held entry (Ok done) old new puts (before, behind, front, more, keeps, between) =
-      ((before, behind ++ entry ∷ [], front, more ++ entry ∷ [], puts.ok held before behind keeps refl, between_more log before behind front more entry between), is_prefix held (entry ∷ []))
-  put_sound log held entry (Err e) old new puts (before, behind, front, more, keeps, between) =
-      ((before, behind, front, more, puts.err held before behind keeps refl, between), prefix_same held)
+  module _ (log held : List (List ℕ)) (entry : List ℕ) (result : Result (Unit {0}) Unkept) (old new : TailFileModel D)
+      (puts : Puts moment images old (length held + 1) entry result new) (h : HoldsAll old log held) where
+    place : length held + 1 ≡ length h.before + length h.behind + 1
+    place = omega (arith, ap length h.keeps.parts, length-append h.before h.behind)
+
+    -- what a crash leaves behind what was kept: a part of the record
+    part_tail : old.is_faulty ≡ false → FitsRecord entry → length held + 1 < 2 ^ 31 → (was image : List ℕ) (k : ℕ) → images old.file (moment old.file) was
+        → image ≡ was ++ take k (record_bytes (length held + 1) entry) → IsTail genesis.document (length h.before) h.behind entry k image
+    part_tail sound fits below was image k there is =
+        let from = length h.before in
+        let whole : was ≡ tail_bytes old.document from h.behind = h.keeps.whole sound was there in
+        record {
+          bytes_are =
+              is ∙ (λ i. whole i ++ take k (record_bytes (place i) entry))
+              ∙ ap (λ (d : List ℕ). tail_bytes d from h.behind ++ take k (record_bytes (from + length h.behind + 1) entry)) h.document;
+          fit = (h.keeps.holds was there).2.fit;
+          next_fits = fits;
+          positions = omega (arith, below, place);
+        }
+
+    -- or all of it
+    whole_tail : old.is_faulty ≡ false → Keeps moment images new (held ++ entry ∷ []) h.before (h.behind ++ entry ∷ []) → (was image : List ℕ)
+        → images old.file (moment old.file) was → images new.file (moment new.file) image → image ≡ was ++ record_bytes (length held + 1) entry
+        → IsTail genesis.document (length h.before) (h.behind ++ entry ∷ []) [] 0 image
+    whole_tail sound keeps was image old_there there is =
+        let from = length h.before in
+        let all = h.behind ++ entry ∷ [] in
+        let whole : was ≡ tail_bytes old.document from h.behind = h.keeps.whole sound was old_there in
+        let tail = (keeps.holds image there).2 in
+        record {
+          bytes_are =
+              is ∙ (λ i. whole i ++ record_bytes (place i) entry) ∙ sym (tail_more old.document from h.behind entry)
+              ∙ ap (λ (d : List ℕ). tail_bytes d from all) h.document ∙ sym (append-nil (tail_bytes genesis.document from all));
+          fit = tail.fit;
+          next_fits = omega arith;
+          positions = tail.positions;
+        }
+
+    -- at each moment of the put
+    put_found : (P held → P (held ++ entry ∷ [])) → (at : ℕ) → moment old.file ≤ at → at ≤ moment new.file → (image : List ℕ) → images new.file at image
+        → HoldsNext held (length h.before) h.behind image
+    put_found goes at low high image there = by puts.acts
+      where
+        by : (new ≡ old) ⊎ ((old.is_faulty ≡ false) × FitsRecord entry × (length held + 1 < 2 ^ 31)) → HoldsNext held (length h.before) h.behind image
+        by (inl unmoved) =
+            let end : moment new.file ≡ moment old.file = ap (λ (t : TailFileModel D). moment t.file) unmoved in
+            let now : at ≡ moment old.file = omega (arith, low, high, end) in
+            h.next image (subst (λ (m : ℕ). images old.file m image) now (subst (λ (t : TailFileModel D). images t.file at image) unmoved there))
+        by (inr (sound, fits, below)) =
+            let step = puts.writes.step.during at image low high there in
+            (entry, step.2.0, part_tail sound fits below step.0 image step.2.0 step.1 step.2.1, inr (goes h.has))
+
+  put_holds : (log held : List (List ℕ)) (entry : List ℕ) (result : Result (Unit {0}) Unkept) (old new : TailFileModel D) → (P held → P (held ++ entry ∷ []))
+      → Puts moment images old (length held + 1) entry result new → HoldsAll old log held → HoldsAll new log (held_then result entry held) × IsPrefix held (held_then result entry held)
+  put_holds log held entry (Ok done) old new goes puts h = (
+    record {
+      before = h.before;
+      behind = h.behind ++ entry ∷ [];
+      front = h.front;
+      more = h.more ++ entry ∷ [];
+      keeps = keeps;
+      between = between_more log h.before h.behind h.front h.more entry h.between;
+      next = λ image there. ([], 0, by puts.acts image there, inl refl);
+      has = goes h.has;
+      document = puts.document ∙ h.document;
+    },
+    is_prefix held (entry ∷ []),
+  )
+    where
+      keeps : Keeps moment images new (held ++ entry ∷ []) h.before (h.behind ++ entry ∷ [])
+      keeps = puts.ok held h.before h.behind h.keeps refl
+
+      by : (new ≡ old) ⊎ ((old.is_faulty ≡ false) × FitsRecord entry × (length held + 1 < 2 ^ 31)) → (image : List ℕ) → images new.file (moment new.file) image
+          → IsTail genesis.document (length h.before) (h.behind ++ entry ∷ []) [] 0 image
+      by (inl unmoved) image there =
+          let bytes = record_bytes (length held + 1) entry in
+          let grows : (image : List ℕ) → images old.file (moment old.file) image → (before : List ℕ) × images old.file (moment old.file) before × (image ≡ before ++ bytes) =
+          subst (λ (t : TailFileModel D). (image : List ℕ) → images t.file (moment t.file) image → (before : List ℕ) × images old.file (moment old.file) before × (image ≡ before ++ bytes))
+          unmoved puts.writes.all in
+          absurd (none_left (images old.file (moment old.file)) bytes (omega (arith, record_len (length held + 1) entry)) grows (length image) image (omega arith)
+          (subst (λ (t : TailFileModel D). images t.file (moment t.file) image) unmoved there))
+      by (inr (sound, fits, below)) image there =
+          let was = puts.writes.all image there in
+          whole_tail log held entry (Ok done) old new puts h sound keeps was.0 image was.1 there was.2
+  put_holds log held entry (Err e) old new goes puts h = (
+    record {
+      before = h.before;
+      behind = h.behind;
+      front = h.front;
+      more = h.more;
+      keeps = puts.err held h.before h.behind h.keeps refl;
+      between = h.between;
+      next = put_found log held entry (Err e) old new puts h goes (moment new.file) puts.writes.step.later (omega arith);
+      has = h.has;
+      document = puts.document ∙ h.document;
+    },
+    prefix_same held,
+  )
 
   -- a put that was cut off
-  cut_found : (log held : List (List ℕ)) (entry : List ℕ) (result : Result (Unit {0}) Unkept) (old new : TailFileModel D) (at : ℕ)
-      → Puts moment images old (length held + 1) entry result new → OpensBehind moment images log old held → old.document ≡ genesis.document
-      → moment old.file ≤ at → at ≤ moment new.file → RecoversAt moment images log genesis.document new.file at held
-  cut_found log held entry result old new at puts opens same low high image there = by puts.acts
-    where
-      from_old : (new ≡ old) → Recovers log genesis.document image held
-      from_old unmoved =
-          let end : moment new.file ≡ moment old.file = ap (λ (t : TailFileModel D). moment t.file) unmoved in
-          let now : at ≡ moment old.file = omega (arith, low, high, end) in
-          found_open old log held opens same image
-          (subst (λ (m : ℕ). images old.file m image) now (subst (λ (t : TailFileModel D). images t.file at image) unmoved there))
-
-      by : (new ≡ old) ⊎ ((old.is_faulty ≡ false) × FitsRecord entry × (length held + 1 < 2 ^ 31)) → Recovers log genesis.document image held
-      by (inl unmoved) = from_old unmoved
-      by (inr (sound, fits, below)) = grown opens
-        where
-          grown : OpensBehind moment images log old held → Recovers log genesis.document image held
-          grown (before, behind, front, more, keeps, between) =
-              let step = puts.writes.step.during at image low high there in
-              let o = step.0 in
-              let whole : o ≡ tail_bytes old.document (length before) behind = keeps.whole sound o step.1 in
-              let tail = (keeps.holds o step.1).2 in
-              let place : length held + 1 ≡ length before + length behind + 1 = omega (arith, ap length keeps.parts, length-append before behind) in
-              let bytes : image ≡ tail_bytes genesis.document (length before) behind ++ take step.2.0 (record_bytes (length before + length behind + 1) entry) =
-              step.2.1 ∙ (λ i. whole i ++ take step.2.0 (record_bytes (place i) entry))
-              ∙ ap (λ (d : List ℕ). tail_bytes d (length before) behind ++ take step.2.0 (record_bytes (length before + length behind + 1) entry)) same in
-              subst (Recovers log genesis.document image) (sym keeps.parts)
-              (recovers log before behind front more genesis.document entry step.2.0 image is16 between
-              (record { bytes_are = bytes; fit = tail.fit; next_fits = fits; positions = omega (arith, below, place) }))
+  cut_found : (log held : List (List ℕ)) (entry : List ℕ) (result : Result (Unit {0}) Unkept) (old new : TailFileModel D) (at : ℕ) → (P held → P (held ++ entry ∷ []))
+      → Puts moment images old (length held + 1) entry result new → HoldsAll old log held → moment old.file ≤ at → at ≤ moment new.file → StartsAt log held new.file at
+  cut_found log held entry result old new at goes puts h low high image there =
+      starts_tail log held h.before h.behind h.front h.more image h.keeps.parts h.between h.has (put_found log held entry result old new puts h goes at low high image there)
 
   -- ---- each move
 
-  opened : (s : TailState D) (t : TailFileModel D) (entries : List (List ℕ)) → Sound s → MayOpen stored moment images genesis s t entries → IsPrefix s.held entries
-  opened s t entries sound may =
-      let here : images s.file (moment s.file) may.bytes = subst (λ (o : Option (List ℕ)). IfSome o (images s.file (moment s.file))) may.told (is_image s.file) in
-      let found = found_by s.tail s.log s.held s.file sound may.bytes here in
-      let same : found.taken ≡ may.takes.taken = taken_same found.taken may.takes.taken _ found.reads may.takes.reads in
-      subst (IsPrefix s.held) (ap (λ (k : TailTaken). s.log ++ k.entries) same ∙ sym may.takes.all) found.all
+  -- a tail that was opened
+  open_holds : (t : TailFileModel D) (log entries : List (List ℕ)) → OpensBehind moment images log t entries → t.document ≡ genesis.document → t.is_faulty ≡ false → P entries
+      → HoldsAll t log entries
+  open_holds t log entries (before, behind, front, more, keeps, between) same sound has = record {
+    before = before;
+    behind = behind;
+    front = front;
+    more = more;
+    keeps = keeps;
+    between = between;
+    next = λ image there.
+        let tail = (keeps.holds image there).2 in (
+          [],
+          0,
+          record {
+            bytes_are =
+                keeps.whole sound image there ∙ ap (λ (d : List ℕ). tail_bytes d (length before) behind) same
+                ∙ sym (append-nil (tail_bytes genesis.document (length before) behind));
+            fit = tail.fit;
+            next_fits = omega arith;
+            positions = tail.positions;
+          },
+          inl refl,
+        );
+    has = has;
+    document = same;
+  }
+
+  opened : (s : TailState D) (t : TailFileModel D) (entries : List (List ℕ)) → Sound s → MayOpen stored moment images genesis s t entries
+      → HoldsAll t s.log entries × IsPrefix s.held entries
+  opened s t entries sound may = by (found_by s.tail s.log s.held s.file sound.1 may.bytes here)
+    where
+      here : images s.file (moment s.file) may.bytes
+      here = subst (λ (o : Option (List ℕ)). IfSome o (images s.file (moment s.file))) may.told (is_image s.file)
+
+      by : Starts s.log s.held may.bytes → HoldsAll t s.log entries × IsPrefix s.held entries
+      by (all, found, prefix, has) =
+          let same : all ≡ entries = sym (gives_taken s.log all genesis.document may.bytes may.takes.taken found may.takes.reads) ∙ sym may.takes.all in
+          (open_holds t s.log entries may.behind may.document may.sound (subst P same has), subst (IsPrefix s.held) same prefix)
+
+  starts_as : (log held : List (List ℕ)) (old new : List ℕ) → GivesSame log genesis.document old new → Starts log held old → Starts log held new
+  starts_as log held old new same (entries, found, prefix, has) = (entries, same entries found, prefix, has)
 
   stays : (s : TailState D) (file : D) (at : ℕ) → Sound s → StaysFound moment images s.log genesis.document s.file file → moment s.file ≤ at → at ≤ moment file
-      → RecoversAt moment images s.log genesis.document file at s.held
-  stays s file at sound keep low high = keep.during s.held (found_by s.tail s.log s.held s.file sound) at low high
+      → StartsAt s.log s.held file at
+  stays s file at sound keep low high image there =
+      let was = keep.during at image low high there in
+      starts_as s.log s.held was.0 image was.2 (found_by s.tail s.log s.held s.file sound.1 was.0 was.1)
+
+  -- a file with nothing in it, behind a log that has all
+  new_starts : (log held : List (List ℕ)) (image : List ℕ) → log ≡ held → P log → image ≡ [] → Starts log held image
+  new_starts log held image all has none = (
+    log,
+    subst (λ (i : List ℕ). Gives log genesis.document i log) (sym none) (head_gives log genesis.document 0 is16 (omega arith)),
+    subst (λ (l : List (List ℕ)). IsPrefix l log) all (prefix_same log),
+    has,
+  )
 
   -- the tail that is open
   open_is : (o : Option (TailFileModel D)) (t : TailFileModel D) (log held : List (List ℕ)) (file : D) → o ≡ Some t → SoundBy o log held file
-      → OpensBehind moment images log t held × (t.document ≡ genesis.document) × (file ≡ t.file)
+      → HoldsAll t log held × (file ≡ t.file)
   open_is o t log held file is h = subst (λ (x : Option (TailFileModel D)). SoundBy x log held file) is h
 
-  moves : (s : TailState D) (move : TailMove D) → Sound s → MayMove stored moment images genesis s move
+  -- its log is saved
+  saved : (t : TailFileModel D) (log held : List (List ℕ)) (file : D) → SoundBy (Some t) log held file → P held × SoundBy (Some t) held held file
+  saved t log held file (h, is) = (
+    h.has,
+    (
+      record {
+        before = h.before;
+        behind = h.behind;
+        front = h.behind;
+        more = [];
+        keeps = h.keeps;
+        between = record { log_is = h.keeps.parts; behind_is = sym (append-nil h.behind) };
+        next = h.next;
+        has = h.has;
+        document = h.document;
+      },
+      is,
+    ),
+  )
+
+  moves : (s : TailState D) (move : TailMove D) → Sound s → GoesOn P s move → MayMove stored moment images genesis s move
       → Sound (after_move s move) × IsPrefix s.held (after_move s move).held
-  moves s (Open t entries) sound may = ((may.behind, may.document, refl), opened s t entries sound may)
-  moves s (OpenFailed file) sound (rests, keep) = (stays s file (moment file) sound keep keep.later (omega arith), prefix_same s.held)
-  moves s (OpenCut file at found) sound (rests, keep, stop) =
-      (found_after s.log s.held file found at stop.is_found (stays s file at sound keep stop.begun stop.before_end), prefix_same s.held)
-  moves s (Put entry result t) sound (old, is, puts) =
-      let was = open_is s.tail old s.log s.held s.file is sound in
-      let put = put_sound s.log s.held entry result old t puts was.0 in
-      ((put.0, puts.document ∙ was.1, refl), put.1)
-  moves s (PutCut entry result t at found) sound (old, is, puts, stop) =
-      let was = open_is s.tail old s.log s.held s.file is sound in
-      (found_after s.log s.held t.file found at stop.is_found (cut_found s.log s.held entry result old t at puts was.0 was.1 stop.begun stop.before_end), prefix_same s.held)
-  moves s Save sound (t, is) = (saved s.tail t is sound, prefix_same s.held)
-    where
-      saved : (o : Option (TailFileModel D)) (t : TailFileModel D) → o ≡ Some t → SoundBy o s.log s.held s.file → SoundBy o s.held s.held s.file
-      saved o t is h =
-          subst (λ (x : Option (TailFileModel D)). SoundBy x s.log s.held s.file → SoundBy x s.held s.held s.file) (sym is) (again t) h
-        where
-          again : (t : TailFileModel D) → SoundBy (Some t) s.log s.held s.file → SoundBy (Some t) s.held s.held s.file
-          again t ((before, behind, front, more, keeps, between), same, file) =
-              ((before, behind, behind, [], keeps, record { log_is = keeps.parts; behind_is = sym (append-nil behind) }), same, file)
-  moves s End sound may = (found_by s.tail s.log s.held s.file sound, prefix_same s.held)
-  moves s (Remake file) sound (all, fresh) = (
-    (λ image there.
-        subst (λ (held : List (List ℕ)). Recovers s.log genesis.document image held) all
-        (subst (λ (i : List ℕ). Recovers s.log genesis.document i s.log) (sym (fresh.only image there)) (recovers_head s.log genesis.document 0 is16 (omega arith)))),
+  moves s (Open t entries) sound goes may = let now = opened s t entries sound may in ((sound.0, (now.0, refl)), now.1)
+  moves s (OpenFailed file) sound goes (rests, keep) = ((sound.0, stays s file (moment file) sound keep keep.later (omega arith)), prefix_same s.held)
+  moves s (OpenCut file at found) sound goes (rests, keep, stop) =
+      ((sound.0, found_after s.log s.held file found at stop.is_found (stays s file at sound keep stop.begun stop.before_end)), prefix_same s.held)
+  moves s (Put entry result t) sound goes (old, is, puts) =
+      let was = open_is s.tail old s.log s.held s.file is sound.1 in
+      let put = put_holds s.log s.held entry result old t goes puts was.0 in
+      ((sound.0, (put.0, refl)), put.1)
+  moves s (PutCut entry result t at found) sound goes (old, is, puts, stop) =
+      let was = open_is s.tail old s.log s.held s.file is sound.1 in (
+        (sound.0, found_after s.log s.held t.file found at stop.is_found (cut_found s.log s.held entry result old t at goes puts was.0 stop.begun stop.before_end)),
+        prefix_same s.held,
+      )
+  moves s Save sound goes (t, is) = (
+    subst (λ (x : Option (TailFileModel D)). SoundBy x s.log s.held s.file → P s.held × SoundBy x s.held s.held s.file) (sym is)
+        (saved t s.log s.held s.file) sound.1,
     prefix_same s.held,
   )
-  moves s (Stop found) sound is = (found_after s.log s.held s.file found (moment s.file) is (found_by s.tail s.log s.held s.file sound), prefix_same s.held)
+  moves s End sound goes may = ((sound.0, found_by s.tail s.log s.held s.file sound.1), prefix_same s.held)
+  moves s (Remake file) sound goes (all, fresh) = (
+    (sound.0, λ image there. new_starts s.log s.held image all sound.0 (fresh.only image there)),
+    prefix_same s.held,
+  )
+  moves s (Stop found) sound goes is =
+      ((sound.0, found_after s.log s.held s.file found (moment s.file) is (found_by s.tail s.log s.held s.file sound.1)), prefix_same s.held)
 
   -- ---- and all of them
 
-  runs : (s : TailState D) (run : List (TailMove D)) → Sound s → IsTailRun stored moment images genesis s run
+  runs : (s : TailState D) (run : List (TailMove D)) → Sound s → AllGoOn P s run → IsTailRun stored moment images genesis s run
       → Sound (after_moves s run) × IsPrefix s.held (after_moves s run).held
-  runs s [] sound may = (sound, prefix_same s.held)
-  runs s (move ∷ run) sound (may, more) =
-      let one = moves s move sound may in
-      let rest = runs (after_move s move) run one.0 more in
+  runs s [] sound goes may = (sound, prefix_same s.held)
+  runs s (move ∷ run) sound (goes, all) (may, more) =
+      let one = moves s move sound goes may in
+      let rest = runs (after_move s move) run one.0 all more in
       (rest.0, prefix_then s.held (after_move s move).held (after_moves (after_move s move) run).held one.1 rest.1)
+
+  begun : (s : TailState D) → Begins stored moment images genesis s → P s.log → Sound s
+  begun s b has = (
+    has,
+    subst (λ (o : Option (TailFileModel D)). SoundBy o s.log s.held s.file) (sym b.rests) (λ image there.
+        new_starts s.log s.held image (sym b.saved) has (b.is_new.only image there)),
+  )
+
+  -- what is found at the end of a run
+  pub run_starts : (s : TailState D) (run : List (TailMove D)) → Begins stored moment images genesis s → P s.log → AllGoOn P s run → IsTailRun stored moment images genesis s run
+      → P (after_moves s run).log × StartsAt (after_moves s run).log (after_moves s run).held (after_moves s run).file (moment (after_moves s run).file)
+  run_starts s run b has goes may =
+      let end = after_moves s run in
+      let sound = (runs s run (begun s b has) goes may).0 in
+      (sound.0, found_by end.tail end.log end.held end.file sound.1)
 
   -- a run in two parts
   parts : (s : TailState D) (before after : List (TailMove D)) → IsTailRun stored moment images genesis s (before ++ after)
@@ -173,22 +374,86 @@ module _ {D : Type 0} (stored : D → Option (List ℕ)) (moment : D → ℕ) (i
       let rest = parts (after_move s move) before after run in
       ((may, rest.0), rest.1, rest.2)
 
-  begun : (s : TailState D) → Begins stored moment images genesis s → Sound s
-  begun s b =
-      subst (λ (o : Option (TailFileModel D)). SoundBy o s.log s.held s.file) (sym b.rests) (λ image there.
-      subst (Recovers s.log genesis.document image) (sym b.saved)
-      (subst (λ (i : List ℕ). Recovers s.log genesis.document i s.log) (sym (b.is_new.only image there)) (recovers_head s.log genesis.document 0 is16 (omega arith))))
+  pub run_keeps : (s : TailState D) (before after : List (TailMove D)) → Begins stored moment images genesis s → P s.log → AllGoOn P s before → AllGoOn P (after_moves s before) after
+      → IsTailRun stored moment images genesis s (before ++ after) → IsPrefix (after_moves s before).held (after_moves s (before ++ after)).held
+  run_keeps s before after b has goes later_goes run =
+      let both = parts s before after run in
+      let first = runs s before (begun s b has) goes both.0 in
+      let later = runs (after_moves s before) after first.0 later_goes both.1 in
+      subst (λ (z : TailState D). IsPrefix (after_moves s before).held z.held) (sym both.2) later.1
+
+-- ---- the law
+
+-- what holds of any entries goes on
+abbrev Any : List (List ℕ) → Type 0
+Any entries = Unit {0}
+
+any_goes : {D : Type 0} (s : TailState D) (run : List (TailMove D)) → AllGoOn Any s run
+any_goes s [] = tt
+any_goes {D} s (move ∷ run) = (one move, any_goes (after_move s move) run)
+  where
+    one : (move : TailMove D) → GoesOn Any s move
+    one (Open t entries) = tt
+    one (OpenFailed file) = tt
+    one (OpenCut file at found) = tt
+    one (Put entry result t) = λ held. tt
+    one (PutCut entry result t at found) = λ held. tt
+    one Save = tt
+    one End = tt
+    one (Remake file) = tt
+    one (Stop found) = tt
+
+module _ {D : Type 0} (stored : D → Option (List ℕ)) (moment : D → ℕ) (images : D → ℕ → List ℕ → Type 0) (genesis : Genesis)
+    (is_image : (file : D) → IfSome (stored file) (images file (moment file))) (is16 : length genesis.document ≡ 16) where
+  checked_goes : (s : TailState D) (run : List (TailMove D)) → IsCheckedRun stored moment images genesis s run → AllGoOn (AreAccepted genesis) s run
+  checked_goes s [] checked = tt
+  checked_goes s (move ∷ run) (checked, more) = (one move checked, checked_goes (after_move s move) run more)
+    where
+      one : (move : TailMove D) → IsChecked stored moment images genesis s move → GoesOn (AreAccepted genesis) s move
+      one (Open t entries) checked = tt
+      one (OpenFailed file) checked = tt
+      one (OpenCut file at found) checked = tt
+      one (Put entry result t) checked = λ held. accepted_more genesis s.held entry held checked
+      one (PutCut entry result t at found) checked = λ held. accepted_more genesis s.held entry held checked
+      one Save checked = tt
+      one End checked = tt
+      one (Remake file) checked = tt
+      one (Stop found) checked = tt
 
   pub nothing_lost : (s : TailState D) (before after : List (TailMove D)) → Begins stored moment images genesis s → IsTailRun stored moment images genesis s (before ++ after)
       → IsPrefix (after_moves s before).held (after_moves s (before ++ after)).held
   nothing_lost s before after b run =
-      let both = parts s before after run in
-      let first = runs s before (begun s b) both.0 in
-      let later = runs (after_moves s before) after first.0 both.1 in
-      subst (λ (z : TailState D). IsPrefix (after_moves s before).held z.held) (sym both.2) later.1
+      run_keeps stored moment images genesis Any is_image is16 s before after b tt (any_goes s before) (any_goes (after_moves s before) after) run
 
   pub found_again : (s : TailState D) (run : List (TailMove D)) → Begins stored moment images genesis s → IsTailRun stored moment images genesis s run
       → RecoversAt moment images (after_moves s run).log genesis.document (after_moves s run).file (moment (after_moves s run).file) (after_moves s run).held
-  found_again s run b may =
-      let end = after_moves s run in
-      found_by end.tail end.log end.held end.file (runs s run (begun s b) may).0
+  found_again s run b may image there = by ((run_starts stored moment images genesis Any is_image is16 s run b tt (any_goes s run) may).1 image there)
+    where
+      end : TailState D
+      end = after_moves s run
+
+      by : (entries : List (List ℕ)) × Gives end.log genesis.document image entries × IsPrefix end.held entries × Any entries → Recovers end.log genesis.document image end.held
+      by (entries, found, prefix, any) = at_least end.log end.held entries genesis.document image found prefix
+
+  pub begins_again : (s : TailState D) (run : List (TailMove D)) → Begins stored moment images genesis s → AreAccepted genesis s.log → IsTailRun stored moment images genesis s run
+      → IsCheckedRun stored moment images genesis s run → CanBegin stored moment images genesis (after_moves s run)
+  begins_again s run b accepted may checked = record { log = starts.0; tail = λ image there. by image (starts.1 image there) }
+    where
+      end : TailState D
+      end = after_moves s run
+
+      starts : AreAccepted genesis end.log × StartsAt stored moment images genesis (AreAccepted genesis) is_image is16 end.log end.held end.file (moment end.file)
+      starts = run_starts stored moment images genesis (AreAccepted genesis) is_image is16 s run b accepted (checked_goes s run checked) may
+
+      by : (image : List ℕ) → (entries : List (List ℕ)) × Gives end.log genesis.document image entries × IsPrefix end.held entries × AreAccepted genesis entries
+          → (entries : List (List ℕ)) × TakesTail genesis end.log image entries × IsPrefix end.held entries
+      by image (entries, found, prefix, all) = (
+        entries,
+        record {
+          taken = found.taken;
+          reads = found.reads;
+          accepted = takes_behind genesis end.log found.taken.entries entries found.all all;
+          all = sym found.all;
+        },
+        prefix,
+      )

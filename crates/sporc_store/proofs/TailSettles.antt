@@ -20,41 +20,32 @@ use Rattle.sporc_outside.specs.declared.file_fault.TheConstants.{MAX_FILE}
 use Rattle.sporc_store.specs.declared.tail_fault.TailFault.{TailFault}
 use Rattle.sporc_store.specs.declared.tail_fault.TailFault.TheVariants.{Malformed}
 use Rattle.sporc_store.specs.declared.tail_head.TheConstants.{TAIL_HEAD_LEN}
-use Rattle.sporc_store.specs.SavedFile.{IsPrefix}
-use Rattle.sporc_store.specs.TailBytes.{Agree, FitsRecord, IsTail, Recovers, TailTaken, behind_head, records_behind, records_bytes, records_of, tail_behind, tail_bytes, tail_head, taken_to}
-use Rattle.sporc_store.specs.TailFiles.{AreSynced, Between, Cuts, OpensBehind, RecoversAt, Settles, StaysFound, Writes, counting, counting_of, head_behind, tail_on}
-use Rattle.sporc_store.proofs.TailReads.{head_len, head_reads, recovers, recovers_head}
+use Rattle.sporc_store.specs.TailBytes.{Agree, FitsRecord, Gives, GivesSame, IsTail, TailTaken, behind_head, records_behind, records_bytes, records_of, tail_behind, tail_bytes, tail_head, taken_to}
+use Rattle.sporc_store.specs.TailFiles.{AreSynced, Between, Cuts, OpensBehind, Settles, StaysFound, Writes, counting, counting_of, head_behind, tail_on}
+use Rattle.sporc_store.proofs.TailReads.{gives_whole, head_gives, head_len, head_reads}
 use Rattle.sporc_store.proofs.TailRecords.{TakesRecords, records_few, records_take}
-use Rattle.sporc_store.proofs.TailRunning.{prefix_then, taken_same}
+use Rattle.sporc_store.proofs.TailRunning.{gives_taken}
 
 -- ---- what stays found from one moment to another
 
 -- bytes that give all that others gave
-pub found_more : (log entries : List (List ℕ)) (document old new : List ℕ) (taken : TailTaken) → tail_behind log document old ≡ Ok taken
-    → Recovers log document new (log ++ taken.entries) → Recovers log document old entries → Recovers log document new entries
-found_more log entries document old new taken reads found was =
-    let same : was.taken ≡ taken = taken_same was.taken taken _ was.reads reads in
-    record {
-      taken = found.taken;
-      reads = found.reads;
-      all =
-          prefix_then entries (log ++ taken.entries) (log ++ found.taken.entries) (subst (λ (t : TailTaken). IsPrefix entries (log ++ t.entries)) same was.all) found.all;
-    }
+pub gives_more : (log : List (List ℕ)) (document old new : List ℕ) (taken : TailTaken) → tail_behind log document old ≡ Ok taken
+    → Gives log document new (log ++ taken.entries) → GivesSame log document old new
+gives_more log document old new taken reads found entries was = subst (Gives log document new) (gives_taken log entries document old taken was reads) found
 
 module _ {D : Type 0} (moment : D → ℕ) (images : D → ℕ → List ℕ → Type 0) (log : List (List ℕ)) (document : List ℕ) where
   pub step_stays : (old new : D) (step : List ℕ → List ℕ → Type 0) → CrashStep (moment old) (moment new) (images old) (images new) step
-      → ((before after : List ℕ) → images old (moment old) before → step before after → (entries : List (List ℕ)) → Recovers log document before entries
-      → Recovers log document after entries) → StaysFound moment images log document old new
-  step_stays old new step crash found = record {
+      → ((before after : List ℕ) → images old (moment old) before → step before after → GivesSame log document before after) → StaysFound moment images log document old new
+  step_stays old new step crash same = record {
     later = crash.later;
     earlier = crash.earlier;
-    during = λ entries was m low high image there.
+    during = λ m image low high there.
         let before = crash.during m image low high there in
-        found before.0 image before.1 before.2 entries (was before.0 before.1);
+        (before.0, before.1, same before.0 image before.1 before.2);
   }
 
   pub same_stays : (old new : D) → CrashStep (moment old) (moment new) (images old) (images new) IsSame → StaysFound moment images log document old new
-  same_stays old new crash = step_stays old new IsSame crash (λ before after there same entries found. subst (λ (l : List ℕ). Recovers log document l entries) (sym same) found)
+  same_stays old new crash = step_stays old new IsSame crash (λ before after there same entries found. subst (λ (l : List ℕ). Gives log document l entries) (sym same) found)
 
   pub stays_then : (a b c : D) → StaysFound moment images log document a b → StaysFound moment images log document b c → StaysFound moment images log document a c
   stays_then a b c one two = record {
@@ -63,14 +54,16 @@ module _ {D : Type 0} (moment : D → ℕ) (images : D → ℕ → List ℕ → 
         let inner = one.earlier m image le in
         let outer = two.earlier m image (omega (arith, le, one.later)) in
         (λ h. inner.0 (outer.0 h), λ h. outer.1 (inner.1 h));
-    during = λ entries was m low high image there. by entries was m low high image there (cases_lt m (moment b));
+    during = λ m image low high there. by m image low high there (cases_lt m (moment b));
   }
     where
-      by : (entries : List (List ℕ)) → RecoversAt moment images log document a (moment a) entries → (m : ℕ) → moment a ≤ m → m ≤ moment c → (image : List ℕ) → images c m image
-          → (m < moment b) ⊎ (moment b ≤ m) → Recovers log document image entries
-      by entries was m low high image there (inl early) =
-          one.during entries was m low (omega (arith, early)) image ((two.earlier m image (omega (arith, early))).0 there)
-      by entries was m low high image there (inr late) = two.during entries (one.during entries was (moment b) one.later (omega arith)) m late high image there
+      by : (m : ℕ) (image : List ℕ) → moment a ≤ m → m ≤ moment c → images c m image → (m < moment b) ⊎ (moment b ≤ m)
+          → (before : List ℕ) × images a (moment a) before × GivesSame log document before image
+      by m image low high there (inl early) = one.during m image low (omega (arith, early)) ((two.earlier m image (omega (arith, early))).0 there)
+      by m image low high there (inr late) =
+          let got = two.during m image late high there in
+          let was = one.during (moment b) got.0 one.later (omega arith) got.1 in
+          (was.0, was.1, λ entries found. got.2 entries (was.2 entries found))
 
 -- ---- a file that begins behind a part of a log
 
@@ -99,11 +92,11 @@ stands_between : (log : List (List ℕ)) (document bytes : List ℕ) (taken : Ta
     → Between log s.before (s.front ++ taken.entries) s.front taken.entries
 stands_between log document bytes taken s = record { log_is = s.log_is; behind_is = refl }
 
-pub stands_found : (log : List (List ℕ)) (document bytes : List ℕ) (taken : TailTaken) → length document ≡ 16 → Stands log document taken bytes
-    → Recovers log document bytes (log ++ taken.entries)
-stands_found log document bytes taken is s =
-    subst (Recovers log document bytes) (sym (stands_all log document bytes taken s))
-    (recovers log s.before (s.front ++ taken.entries) s.front taken.entries document [] 0 bytes is (stands_between log document bytes taken s) (stands_tail log document bytes taken s))
+pub stands_gives : (log : List (List ℕ)) (document bytes : List ℕ) (taken : TailTaken) → length document ≡ 16 → Stands log document taken bytes
+    → Gives log document bytes (log ++ taken.entries)
+stands_gives log document bytes taken is s =
+    subst (Gives log document bytes) (sym (stands_all log document bytes taken s))
+    (gives_whole log s.before (s.front ++ taken.entries) s.front taken.entries document bytes is (stands_between log document bytes taken s) (stands_tail log document bytes taken s))
 
 pub stands_opens : {D : Type 0} (moment : D → ℕ) (images : D → ℕ → List ℕ → Type 0) (file : D) (log : List (List ℕ)) (document bytes : List ℕ) (taken : TailTaken)
     → AreSynced moment images file bytes → Stands log document taken bytes → OpensBehind moment images log (tail_on file document) (log ++ taken.entries)
@@ -133,15 +126,15 @@ head_stands log document taken none few = record {
 }
 
 -- any first part of it
-pub part_found : (log : List (List ℕ)) (document : List ℕ) (k : ℕ) → length document ≡ 16 → length log ≤ MAX_ENTRIES
-    → Recovers log document (take k (tail_head document)) (log ++ [])
-part_found log document k is few = by (cases_lt k TAIL_HEAD_LEN)
+pub part_gives : (log : List (List ℕ)) (document : List ℕ) (k : ℕ) → length document ≡ 16 → length log ≤ MAX_ENTRIES
+    → Gives log document (take k (tail_head document)) (log ++ [])
+part_gives log document k is few = by (cases_lt k TAIL_HEAD_LEN)
   where
-    by : (k < TAIL_HEAD_LEN) ⊎ (TAIL_HEAD_LEN ≤ k) → Recovers log document (take k (tail_head document)) (log ++ [])
-    by (inl short) = subst (Recovers log document (take k (tail_head document))) (sym (append-nil log)) (recovers_head log document k is short)
+    by : (k < TAIL_HEAD_LEN) ⊎ (TAIL_HEAD_LEN ≤ k) → Gives log document (take k (tail_head document)) (log ++ [])
+    by (inl short) = subst (Gives log document (take k (tail_head document))) (sym (append-nil log)) (head_gives log document k is short)
     by (inr all) =
-        subst (λ (l : List ℕ). Recovers log document l (log ++ [])) (sym (take_all k (tail_head document) (omega (arith, head_len document is, all))))
-        (stands_found log document (tail_head document) (taken_to [] 0) is (head_stands log document (taken_to [] 0) refl few))
+        subst (λ (l : List ℕ). Gives log document l (log ++ [])) (sym (take_all k (tail_head document) (omega (arith, head_len document is, all))))
+        (stands_gives log document (tail_head document) (taken_to [] 0) is (head_stands log document (taken_to [] 0) refl few))
 
 -- ---- what is kept of a file that was read
 
@@ -260,10 +253,10 @@ module _ (log : List (List ℕ)) (document bytes : List ℕ) (is16 : length docu
       subst (Stands log document taken) (sym (ap (λ (l : List ℕ). take (counting taken) bytes ++ l) nothing ∙ append-nil (take (counting taken) bytes))) stands
 
   -- and before the head is there
-  kept_found : (taken : TailTaken) → Counted log document bytes taken → Recovers log document (take (counting taken) bytes) (log ++ taken.entries)
-  kept_found taken (inl (none, all)) =
-      rw (none, all) (part_found log document 0 is16 few)
-  kept_found taken (inr (n, some, stands)) = stands_found log document (take (counting taken) bytes) taken is16 stands
+  kept_gives : (taken : TailTaken) → Counted log document bytes taken → Gives log document (take (counting taken) bytes) (log ++ taken.entries)
+  kept_gives taken (inl (none, all)) =
+      rw (none, all) (part_gives log document 0 is16 few)
+  kept_gives taken (inr (n, some, stands)) = stands_gives log document (take (counting taken) bytes) taken is16 stands
 
   module _ {D : Type 0} (moment : D → ℕ) (images : D → ℕ → List ℕ → Type 0) where
     pub cut_stays : (taken : TailTaken) (old new : D) → tail_behind log document bytes ≡ Ok taken → AreSynced moment images old bytes
@@ -271,29 +264,29 @@ module _ (log : List (List ℕ)) (document bytes : List ℕ) (is16 : length docu
     cut_stays taken old new reads synced crash = step_stays moment images log document old new (MayBeCut (counting taken)) crash by
       where
         by : (before after : List ℕ) → images old (moment old) before → (after ≡ before) ⊎ (after ≡ take (counting taken) before) → (entries : List (List ℕ))
-            → Recovers log document before entries → Recovers log document after entries
-        by before after there (inl same) entries found = subst (λ (l : List ℕ). Recovers log document l entries) (sym same) found
+            → Gives log document before entries → Gives log document after entries
+        by before after there (inl same) entries found = subst (λ (l : List ℕ). Gives log document l entries) (sym same) found
         by before after there (inr cut) entries found =
             let was : before ≡ bytes = synced before there in
             let now : after ≡ take (counting taken) bytes = cut ∙ ap (take (counting taken)) was in
-            subst (λ (l : List ℕ). Recovers log document l entries) (sym now)
-            (found_more log entries document bytes (take (counting taken) bytes) taken reads (kept_found taken (counted taken reads))
-            (subst (λ (l : List ℕ). Recovers log document l entries) was found))
+            subst (λ (l : List ℕ). Gives log document l entries) (sym now)
+            (gives_more log document bytes (take (counting taken) bytes) taken reads (kept_gives taken (counted taken reads)) entries
+            (subst (λ (l : List ℕ). Gives log document l entries) was found))
 
     pub head_stays : (kept : ℕ) (mid new : D) → AreSynced moment images mid (take kept bytes)
         → CrashStep (moment mid) (moment new) (images mid) (images new) (GrowsBy (head_behind document kept)) → StaysFound moment images log document mid new
     head_stays (suc n) mid new synced crash = step_stays moment images log document mid new (GrowsBy []) crash
         (λ before after there grown entries found.
         let same : after ≡ before = grown.1 ∙ ap (λ (l : List ℕ). before ++ l) (take-nil grown.0) ∙ append-nil before in
-        subst (λ (l : List ℕ). Recovers log document l entries) (sym same) found)
+        subst (λ (l : List ℕ). Gives log document l entries) (sym same) found)
     head_stays zero mid new synced crash = step_stays moment images log document mid new (GrowsBy (tail_head document)) crash
         (λ before after there grown entries found.
         let was : before ≡ [] = synced before there in
         let now : after ≡ take grown.0 (tail_head document) = grown.1 ∙ ap (λ (l : List ℕ). l ++ take grown.0 (tail_head document)) was in
         let none : tail_behind log document [] ≡ Ok (taken_to [] 0) = head_reads log document 0 is16 (omega arith) in
-        subst (λ (l : List ℕ). Recovers log document l entries) (sym now)
-        (found_more log entries document [] (take grown.0 (tail_head document)) (taken_to [] 0) none (part_found log document grown.0 is16 few)
-        (subst (λ (l : List ℕ). Recovers log document l entries) was found)))
+        subst (λ (l : List ℕ). Gives log document l entries) (sym now)
+        (gives_more log document [] (take grown.0 (tail_head document)) (taken_to [] 0) none (part_gives log document grown.0 is16 few) entries
+        (subst (λ (l : List ℕ). Gives log document l entries) was found)))
 
     pub settled : {E : Type 0} (taken : TailTaken) (old mid new : D) (result : Result (Unit {0}) E) → tail_behind log document bytes ≡ Ok taken → AreSynced moment images old bytes
         → (done : Unit {0}) → Cuts moment images {E = E} (counting taken) old mid (Ok done) → Writes moment images (head_behind document (counting taken)) mid new result

@@ -1,5 +1,5 @@
 -- What is loaded of a saved history: its entries, one after another, until one is refused.
-use Rattle.std.specs.Prelude.{◌≡◌, ◌≢◌, ℕ, ◌+◌, List, [], ◌∷◌, ◌++◌, length, Option, None, Some, IfNone, IfSome}
+use Rattle.std.specs.Prelude.{◌≡◌, ◌≢◌, ℕ, ◌+◌, List, [], ◌∷◌, ◌++◌, length, take, Option, None, Some, IfNone, IfSome, slice_get}
 use Rattle.sporc_entry.specs.declared.genesis.Genesis.{Genesis}
 use Rattle.sporc_head.specs.declared.refusal.Refusal.{Refusal}
 use Rattle.sporc_head.specs.declared.refusal.Refusal.TheVariants.{Memory}
@@ -21,6 +21,10 @@ unfoldable pub fault_behind : Checker → List (List ℕ) → List ℕ → Optio
 fault_behind nobody entries bytes = None
 fault_behind (an_order genesis) entries bytes = head_fault genesis None entries (length entries + 1) bytes
 fault_behind (a_member genesis kit) entries bytes = first_fault genesis kit entries (length entries + 1) bytes
+
+-- each of these entries fails no check of an order where it stands
+abbrev pub AreAccepted : Genesis → List (List ℕ) → Type 0
+AreAccepted genesis entries = (i : ℕ) (e : List ℕ) → slice_get entries i ≡ Some e → head_fault genesis None (take i entries) (i + 1) e ≡ None
 
 -- entries, and one more unless it is refused
 abbrev pub appended : Option Refusal → List ℕ → List (List ℕ) → List (List ℕ)

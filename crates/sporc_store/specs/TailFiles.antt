@@ -1,5 +1,5 @@
 -- Tails on their files, and what their calls do to what a crash may leave of these.
-use Rattle.std.specs.Prelude.{◌≡◌, ◌↔◌, ◌⊎◌, ◌+◌, ◌^◌, ◌<◌, ◌≤◌, ℕ, zero, suc, Bool, false, min, List, [], ◌∷◌, ◌++◌, length, take, Option, IsSome, Result, Ok, Err, OnOk, OnErr}
+use Rattle.std.specs.Prelude.{◌≡◌, ◌⊎◌, ◌+◌, ◌^◌, ◌<◌, ℕ, zero, suc, Bool, false, min, List, [], ◌∷◌, ◌++◌, length, take, Option, IsSome, Result, Ok, Err, OnOk, OnErr}
 use Rattle.sporc_entry.specs.declared.genesis.Genesis.{Genesis}
 use Rattle.sporc_outside.specs.AppendFile.{GrowsBy, MayBeCut}
 use Rattle.sporc_outside.specs.LeafDisk.{CrashStep}
@@ -10,7 +10,7 @@ use Rattle.sporc_store.specs.declared.tail_fault.TailFault.TheVariants.{Malforme
 use Rattle.sporc_store.specs.declared.tail_head.TheConstants.{TAIL_HEAD_LEN}
 use Rattle.sporc_store.specs.SavedFile.{Taken, read_to}
 use Rattle.sporc_store.specs.Loading.{an_order, accepted_from}
-use Rattle.sporc_store.specs.TailBytes.{FitsRecord, IsTail, Recovers, TailTaken, record_bytes, tail_bytes, tail_behind, tail_head}
+use Rattle.sporc_store.specs.TailBytes.{FitsRecord, GivesSame, IsTail, Recovers, TailTaken, record_bytes, tail_bytes, tail_behind, tail_head}
 
 -- the file, the document, and whether a call of the file failed
 pub record TailFileModel (D : Type 0) : Type 0 where
@@ -66,12 +66,9 @@ module _ {D : Type 0} (moment : D → ℕ) (images : D → ℕ → List ℕ → 
   abbrev pub RecoversAt : List (List ℕ) → List ℕ → D → ℕ → List (List ℕ) → Type 0
   RecoversAt log document file at entries = (image : List ℕ) → images file at image → Recovers log document image entries
 
-  -- from one moment to another, what was found again behind a log still is
-  pub record StaysFound (log : List (List ℕ)) (document : List ℕ) (old new : D) : Type 0 where
-    pub later : moment old ≤ moment new
-    pub earlier : (m : ℕ) (image : List ℕ) → m ≤ moment old → images new m image ↔ images old m image
-    pub during : (entries : List (List ℕ)) → RecoversAt log document old (moment old) entries
-        → (m : ℕ) → moment old ≤ m → m ≤ moment new → RecoversAt log document new m entries
+  -- from one moment to another, what a crash leaves gives behind a log what something gives that it could have left at first
+  abbrev pub StaysFound : List (List ℕ) → List ℕ → D → D → Type 0
+  StaysFound log document old new = CrashStep (moment old) (moment new) (images old) (images new) (GivesSame log document)
 
 -- an order's entries, once it took those that its log lacks of a tail
 pub record TakesTail (genesis : Genesis) (log : List (List ℕ)) (bytes : List ℕ) (entries : List (List ℕ)) : Type 0 where

@@ -7,7 +7,7 @@ use Rattle.sporc_store.specs.declared.stop.Stop.TheVariants.{End, Refused as Ref
 use Rattle.sporc_store.specs.declared.tail_fault.TailFault.{TailFault}
 use Rattle.sporc_store.specs.declared.tail_fault.TailFault.TheVariants.{Failed, TooLong, Malformed, Refused, Memory}
 use Rattle.sporc_store.specs.Loading.{an_order, accepted_from}
-use Rattle.sporc_store.specs.TailBytes.{Recovers, TailTaken, tail_behind}
+use Rattle.sporc_store.specs.TailBytes.{GivesSame, TailTaken, tail_behind}
 use Rattle.sporc_store.specs.TailFiles.{TakesTail}
 
 -- these are the bytes that a file tells, if it tells any
@@ -44,4 +44,4 @@ IsFaultOfRead genesis log stored before after Memory = Unit {0}
 abbrev pub StaysTold : List (List ℕ) → List ℕ → Option (List ℕ) → Option (List ℕ) → Type 0
 StaysTold log document None new = Unit {0}
 StaysTold log document (Some old) None = ⊥
-StaysTold log document (Some old) (Some new) = (entries : List (List ℕ)) → Recovers log document old entries → Recovers log document new entries
+StaysTold log document (Some old) (Some new) = GivesSame log document old new

@@ -1,8 +1,10 @@
 -- Runs of a server over one log and its tail: openings, entries that are put, logs that are saved, and stops at any moment.
-use Rattle.std.specs.Prelude.{◌≡◌, ◌+◌, ◌≤◌, ℕ, List, [], ◌∷◌, ◌++◌, length, Option, Some, None, Result, Ok, Err}
+use Rattle.std.specs.Prelude.{◌≡◌, ◌+◌, ◌≤◌, ℕ, false, List, [], ◌∷◌, ◌++◌, length, Option, Some, None, Result, Ok, Err}
 use Rattle.sporc_entry.specs.declared.genesis.Genesis.{Genesis}
+use Rattle.sporc_head.specs.HeadChecks.{head_fault}
 use Rattle.sporc_order.specs.declared.tail.Unkept.{Unkept}
 use Rattle.sporc_outside.specs.LeafDisk.{IsFound}
+use Rattle.sporc_store.specs.Loading.{AreAccepted}
 use Rattle.sporc_store.specs.SavedFile.{IsPrefix}
 use Rattle.sporc_store.specs.TailFiles.{OpensBehind, Puts, RecoversAt, StaysFound, TailFileModel, TakesTail}
 
@@ -68,6 +70,7 @@ module _ {D : Type 0} (stored : D → Option (List ℕ)) (moment : D → ℕ) (i
     pub takes : TakesTail genesis s.log bytes entries
     pub behind : OpensBehind moment images s.log t entries
     pub document : t.document ≡ genesis.document
+    pub sound : t.is_faulty ≡ false
     pub stays : StaysFound moment images s.log genesis.document s.file t.file
 
   -- a stop in the middle of a call that would have left this file finds that one
@@ -99,6 +102,23 @@ module _ {D : Type 0} (stored : D → Option (List ℕ)) (moment : D → ℕ) (i
   IsTailRun s [] = Unit {0}
   IsTailRun s (move ∷ moves) = MayMove s move × IsTailRun (after_move s move) moves
 
+  -- an entry that is put has failed no check of the order, behind all that it has: its `submit_kept` checks before it puts
+  abbrev pub IsChecked : TailState D → TailMove D → Type 0
+  IsChecked s (Put entry result t) = head_fault genesis None s.held (length s.held + 1) entry ≡ None
+  IsChecked s (PutCut entry result t at found) = head_fault genesis None s.held (length s.held + 1) entry ≡ None
+  IsChecked s move = Unit {0}
+
+  abbrev pub IsCheckedRun : TailState D → List (TailMove D) → Type 0
+  IsCheckedRun s [] = Unit {0}
+  IsCheckedRun s (move ∷ moves) = IsChecked s move × IsCheckedRun (after_move s move) moves
+
+  -- An order can begin again, whatever a stop leaves of the file now: its checks accept the saved log, and all that is read behind it, and it has all that
+  -- any order had
+  pub record CanBegin (s : TailState D) : Type 0 where
+    pub log : AreAccepted genesis s.log
+    pub tail : (image : List ℕ) → images s.file (moment s.file) image
+        → (entries : List (List ℕ)) × TakesTail genesis s.log image entries × IsPrefix s.held entries
+
   -- a server that was never started: no tail, and a log that is all that anybody saw
   pub record Begins (s : TailState D) : Type 0 where
     pub rests : s.tail ≡ None
@@ -116,3 +136,9 @@ module _ {D : Type 0} (stored : D → Option (List ℕ)) (moment : D → ℕ) (i
   IsFoundAgain =
       (s : TailState D) (run : List (TailMove D)) → length genesis.document ≡ 16 → Begins s → IsTailRun s run
       → RecoversAt moment images (after_moves s run).log genesis.document (after_moves s run).file (moment (after_moves s run).file) (after_moves s run).held
+
+  -- and if all that was put was checked, and the first log was accepted, an order can always begin again
+  abbrev pub BeginsAgain : Type 0
+  BeginsAgain =
+      (s : TailState D) (run : List (TailMove D)) → length genesis.document ≡ 16 → Begins s → AreAccepted genesis s.log → IsTailRun s run → IsCheckedRun s run
+      → CanBegin (after_moves s run)

@@ -7,13 +7,12 @@ ghost use Rattle.sporc_entry.specs.declared.genesis.Genesis.{Genesis};
 ghost use Rattle.sporc_entry.specs.declared.limits.TheConstants.{MAX_ENTRY};
 ghost use Rattle.sporc_entry.specs.Genesis.{IsGenesis};
 ghost use Rattle.sporc_head.specs.declared.limits.TheConstants.{MAX_ENTRIES};
-ghost use Rattle.sporc_head.specs.HeadChecks.{head_fault};
 ghost use Rattle.sporc_line.specs.Kit.{Kit};
 ghost use Rattle.sporc_line.specs.Good.{Good};
 ghost use Rattle.sporc_store.specs.SavedFile.{saved_bytes, saved_in, read_to, IsPrefix};
-ghost use Rattle.sporc_store.specs.Loading.{Checker, an_order, a_member, fault_behind, loaded};
+ghost use Rattle.sporc_store.specs.Loading.{AreAccepted, Checker, an_order, a_member, fault_behind, loaded};
 ghost use Rattle.sporc_store.specs.TailBytes.{Agree, FitsRecord, record_bytes, tail_behind, tail_bytes, taken_to};
-ghost use Rattle.sporc_store.specs.TailRuns.{IsFoundAgain, NothingIsLost};
+ghost use Rattle.sporc_store.specs.TailRuns.{BeginsAgain, IsFoundAgain, NothingIsLost};
 
 use crate::stop::Stop;
 use sporc_outside::AppendFile;
@@ -50,8 +49,7 @@ pub fn saved_history_is_loaded()
         → length entries ≤ MAX_ENTRIES → All (λ e. length e ≤ MAX_ENTRY) entries
         → loaded (a_member genesis kit) genesis.document (saved_bytes genesis.document entries) ≡ read_to entries Stop.End }
     ensures by_an_order { (genesis : Genesis) (entries : List (List ℕ)) → IsGenesis genesis
-        → ((i : ℕ) (e : List ℕ) → slice_get entries i ≡ Some e → head_fault genesis None (take i entries) (i + 1) e ≡ None)
-        → length entries ≤ MAX_ENTRIES → All (λ e. length e ≤ MAX_ENTRY) entries
+        → AreAccepted genesis entries → length entries ≤ MAX_ENTRIES → All (λ e. length e ≤ MAX_ENTRY) entries
         → loaded (an_order genesis) genesis.document (saved_bytes genesis.document entries) ≡ read_to entries Stop.End }
 {}
 
@@ -66,11 +64,14 @@ pub fn tails_are_read_again()
 
 /// Over any run of openings, entries that are put, calls that fail, logs that are saved, and stops at any moment, each order
 /// begins with all that any order had before: nothing that was answered or handed out is lost, and it stays where it was. What
-/// a stop leaves of the file is always read behind the saved log, and never malformed.
+/// a stop leaves of the file is always read behind the saved log, and never malformed. And if the first log was accepted, and each
+/// entry was checked before it was put, as [`sporc_order::Order::submit_kept`] does, the next order can begin: its checks accept
+/// the saved log, and behind it all that is read of the file, and it begins with all that any order had.
 ///
 /// The tail is on a file that tells its bytes, and behaves as [`AppendFile`] says. Of a file that tells none, as a real one, this
 /// says nothing.
 pub fn nothing_ordered_is_lost<A: AppendFile>()
     ensures kept { (genesis : Genesis) → NothingIsLost A.stored A.moment A.images genesis }
     ensures found { (genesis : Genesis) → IsFoundAgain A.stored A.moment A.images genesis }
+    ensures begins_again { (genesis : Genesis) → BeginsAgain A.stored A.moment A.images genesis }
 {}

@@ -1,4 +1,4 @@
-use Rattle.sporc_store.proofs.TailRunning.{found_again, nothing_lost}
+use Rattle.sporc_store.proofs.TailRunning.{begins_again, found_again, nothing_lost}
 use Rattle.sporc_store.proofs.laws.nothing_ordered_is_lost.Goals as goal
 
 pub returns : goal.returns
@@ -7,4 +7,6 @@ returns g c = record {
       nothing_lost g.A.AppendFile.stored g.A.AppendFile.moment g.A.AppendFile.images genesis g.met.A.AppendFile.stored_is_image is16 s before after begins run;
   found = λ genesis s run is16 begins may.
       found_again g.A.AppendFile.stored g.A.AppendFile.moment g.A.AppendFile.images genesis g.met.A.AppendFile.stored_is_image is16 s run begins may;
+  begins_again = λ genesis s run is16 begins accepted may checked.
+      begins_again g.A.AppendFile.stored g.A.AppendFile.moment g.A.AppendFile.images genesis g.met.A.AppendFile.stored_is_image is16 s run begins accepted may checked;
 }
