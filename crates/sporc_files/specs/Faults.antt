@@ -13,8 +13,6 @@ use Rattle.sporc_keys.specs.declared.fault.DrawFault.{DrawFault}
 use Rattle.sporc_keys.specs.declared.fault.DrawFault.TheVariants as drawing
 use Rattle.sporc_line.specs.declared.fault.LineOpenFault.{LineOpenFault}
 use Rattle.sporc_line.specs.declared.fault.LineOpenFault.TheVariants as lines
-use Rattle.sporc_play.specs.declared.fault.PlayFault.{PlayFault}
-use Rattle.sporc_play.specs.declared.fault.PlayFault.TheVariants as playing
 use Rattle.sporc_store.specs.declared.fault.SaveFault.{SaveFault}
 use Rattle.sporc_store.specs.declared.fault.SaveFault.TheVariants as saving
 use Rattle.sporc_words.specs.declared.fault.WordsFault.{WordsFault}
@@ -159,13 +157,6 @@ fault_of_words reading.Words = faults.Words
 abbrev pub fault_of_draw : DrawFault → Fault
 fault_of_draw drawing.Chance = faults.Outside
 fault_of_draw drawing.Memory = faults.Memory
-
-abbrev pub fault_of_play : PlayFault → Fault
-fault_of_play playing.Memory = faults.Memory
-fault_of_play playing.ReadFault = faults.Outside
-fault_of_play playing.WriteFault = faults.Outside
-fault_of_play (playing.LineFault line) = faults.Line line
-fault_of_play playing.TooLong = faults.LongScript
 
 abbrev pub fault_of_saving : SaveFault → Fault
 fault_of_saving saving.Memory = faults.Memory

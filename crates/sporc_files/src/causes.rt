@@ -1,7 +1,7 @@
 //! What the faults of the crates below are for the program.
 
 ghost use Rattle.std.specs.Prelude.{◌≡◌};
-ghost use Rattle.sporc_files.specs.Faults.{fault_of_draw, fault_of_hints, fault_of_line, fault_of_play, fault_of_saving, fault_of_words};
+ghost use Rattle.sporc_files.specs.Faults.{fault_of_draw, fault_of_hints, fault_of_line, fault_of_saving, fault_of_words};
 ghost use Rattle.sporc_files.specs.declared.fault.Fault.TheVariants as faults;
 
 use crate::fault::Fault;
@@ -9,7 +9,6 @@ use sporc_epoch::HintFault;
 use sporc_keys::DrawFault;
 use sporc_line::LineOpenFault;
 use sporc_outside::Failed;
-use sporc_play::PlayFault;
 use sporc_store::SaveFault;
 use sporc_words::WordsFault;
 use std::alloc::{AllocError, AllocFailed};
@@ -45,19 +44,6 @@ impl From<DrawFault> for Fault {
         match cause {
             DrawFault::Chance => Fault::Outside,
             DrawFault::Memory => Fault::Memory,
-        }
-    }
-}
-
-impl From<PlayFault> for Fault {
-    ghost from_gives = { λ cause fault. fault ≡ fault_of_play cause };
-
-    fn from(cause: PlayFault) -> Fault {
-        match cause {
-            PlayFault::Memory => Fault::Memory,
-            PlayFault::ReadFault | PlayFault::WriteFault => Fault::Outside,
-            PlayFault::LineFault(line) => Fault::Line(line),
-            PlayFault::TooLong => Fault::LongScript,
         }
     }
 }

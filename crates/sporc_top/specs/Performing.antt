@@ -12,11 +12,12 @@ use Rattle.sporc_words.specs.declared.serve.Serve.{Serve}
 use Rattle.sporc_words.specs.declared.serve_all.ServeAll.{ServeAll}
 use Rattle.sporc_serve.specs.Crowds.{Net, net_of}
 use Rattle.sporc_play.specs.declared.fault.PlayFault.{PlayFault}
+use Rattle.sporc_play.specs.declared.fault.PlayFault.TheVariants as playing
 use Rattle.sporc_play.specs.Playing.{GeneratedFault, PlayOutcome, PlaysGenerated}
 use Rattle.sporc_files.specs.declared.fault.Fault.{Fault}
+use Rattle.sporc_files.specs.declared.fault.Fault.TheVariants as faults
 use Rattle.sporc_files.specs.declared.file.File.{File}
 use Rattle.sporc_files.specs.declared.file.File.TheVariants as files
-use Rattle.sporc_files.specs.Faults.{fault_of_play}
 use Rattle.sporc_files.specs.Names.{FileNames, file_name, names_of_document, names_of_documents}
 use Rattle.sporc_files.specs.Uses.{AsksOnly, ChanceUse, FolderUse}
 use Rattle.sporc_founding.specs.Founding.{FoundOutcome, found_files}
@@ -60,6 +61,14 @@ abbrev pub AsksFor : FileNames → List File → FolderUse → Type 0
 AsksFor names asked folder = AsksOnly (map (file_name names) asked) folder.asked_before folder.asked_after
 
 -- ---- plays
+
+-- what the fault of a play is for the program
+abbrev pub fault_of_play : PlayFault → Fault
+fault_of_play playing.Memory = faults.Memory
+fault_of_play playing.ReadFault = faults.Outside
+fault_of_play playing.WriteFault = faults.Outside
+fault_of_play (playing.LineFault line) = faults.Line line
+fault_of_play playing.TooLong = faults.LongScript
 
 -- the answer of a play, as the program's
 abbrev pub as_program : Result ⊤ PlayFault → Result ⊤ Fault

@@ -13,7 +13,7 @@ ghost use Rattle.sporc_histories.specs.Outcomes.{CheckOutcome, CompareOutcome, E
 ghost use Rattle.sporc_sessions.specs.Nets.{link_view};
 ghost use Rattle.sporc_clients.specs.Outcome.{disk_view, net_use};
 ghost use Rattle.sporc_top.specs.Needs.{needs_of};
-ghost use Rattle.sporc_top.specs.Performing.{Performs, PlaysEdits, PlaysSource, ServesDocument, ServesDocuments, names_of};
+ghost use Rattle.sporc_top.specs.Performing.{Performs, PlaysEdits, PlaysSource, ServesDocument, ServesDocuments, fault_of_play, names_of};
 ghost use Rattle.sporc_top.specs.Ranges.{IsInRange};
 
 use sporc_clients::client;
@@ -23,7 +23,7 @@ use sporc_help::{help, version};
 use sporc_histories::{check, compare, list_entries, serve, text};
 use sporc_hosting::serve_all;
 use sporc_outside::{Chance, Dial, Folder, Gate, Listen, Sink, Source};
-use sporc_play::{play, play_generated};
+use sporc_play::{PlayFault, play, play_generated};
 use sporc_words::{Check, Command, Compare, EntriesFrom, Serve, ServeAll, TextAt};
 use std::alloc::Global;
 use std::sync::Wait;
@@ -56,7 +56,7 @@ fn play_source<S: Source, O: Sink>(alloc: Global, source: &mut S, out: &mut O) -
     ensures source_kept { S.faults source.old ≤ S.faults source.new }
     ensures out_kept { O.faults out.old ≤ O.faults out.new }
 {
-    Ok(play(alloc, source, out)?)
+    play(alloc, source, out).map_err(fault_of_play)
 }
 
 // Plays the generated run of so many edits.
@@ -65,7 +65,19 @@ fn play_edits<O: Sink>(alloc: Global, edits: u32, out: &mut O) -> Result<(), Fau
     ensures outcome { PlaysEdits edits (sink_use O.written O.faults out.old out.new) result }
     ensures kept { O.faults out.old ≤ O.faults out.new }
 {
-    Ok(play_generated(alloc, edits, out)?)
+    play_generated(alloc, edits, out).map_err(fault_of_play)
+}
+
+// What the fault of a play is for the program.
+fn fault_of_play(cause: PlayFault) -> Fault
+    ensures value { result ≡ fault_of_play cause }
+{
+    match cause {
+        PlayFault::Memory => Fault::Memory,
+        PlayFault::ReadFault | PlayFault::WriteFault => Fault::Outside,
+        PlayFault::LineFault(line) => Fault::Line(line),
+        PlayFault::TooLong => Fault::LongScript,
+    }
 }
 
 // Serves sessions from the log of a document.
