@@ -7,7 +7,6 @@ use Rattle.sporc_entry.specs.declared.genesis.Genesis.{Genesis}
 use Rattle.sporc_order.specs.OrderModel.{OrderModel}
 use Rattle.sporc_store.specs.TailReadings.{AreTold}
 use Rattle.sporc_files.specs.declared.fault.Fault.{Fault}
-use Rattle.sporc_files.specs.declared.fault.Fault.TheVariants as faults
 use Rattle.sporc_files.specs.declared.file.File.TheVariants as files
 use Rattle.sporc_histories.specs.Contents.{AnswersUnlessOutside, IsFileAt, bytes_in}
 use Rattle.sporc_histories.specs.Serving.{logged, with_tail}

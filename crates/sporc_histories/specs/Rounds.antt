@@ -1,5 +1,5 @@
 -- Rounds of a server: sessions that are served, and logs that are saved, one time after another.
-use Rattle.std.specs.Prelude.{◌≡◌, ◌≤◌, ◌<◌, ◌+◌, ◌++◌, ℕ, List, [], ◌∷◌, length, replicate, Option, None, Some, Result, Ok, Err}
+use Rattle.std.specs.Prelude.{◌≡◌, ◌≤◌, ◌<◌, ◌+◌, ◌++◌, ℕ, List, [], ◌∷◌, length, replicate, Option, None, Some, Result, Ok}
 use Rattle.sporc_serve.specs.Crowds.{Net}
 use Rattle.sporc_files.specs.declared.fault.Fault.{Fault}
 use Rattle.sporc_histories.specs.Moments.{Moment}

@@ -1,4 +1,4 @@
-use Rattle.std.proofs.Common.{◌∙◌, List, ℕ, subst, sym}
+use Rattle.std.proofs.Common.{◌∙◌, subst, sym}
 use Rattle.sporc_histories.specs.declared.opening.LoggedOrder.{LoggedOrder}
 use Rattle.sporc_histories.specs.Tails.{KeepsBehind, LogTailModel}
 use Rattle.sporc_histories.proofs.Opened.{tail_fails, tail_taken}

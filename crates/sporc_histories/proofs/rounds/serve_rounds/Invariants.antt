@@ -1,13 +1,12 @@
 use Rattle.std.proofs.Common.{◌≡◌, ◌≤◌, ◌-◌, [], ◌∷◌}
 use Rattle.sporc_outside.specs.Told.{AreShutBehind}
-use Rattle.sporc_order.specs.OrderModel.{OrderModel}
 use Rattle.sporc_serve.specs.Crowds.{net_of}
 use Rattle.sporc_files.specs.declared.file.File.TheVariants as kinds
 use Rattle.sporc_files.specs.Names.{file_name}
 use Rattle.sporc_files.specs.Uses.{AsksOnly}
 use Rattle.sporc_histories.specs.Moments.{moment_of}
 use Rattle.sporc_histories.specs.Outcomes.{IsRound}
-use Rattle.sporc_histories.specs.Rounds.{AsksAgain, Round, Standing}
+use Rattle.sporc_histories.specs.Rounds.{AsksAgain}
 use Rattle.sporc_histories.specs.Tails.{KeepsBehind}
 use Rattle.sporc_histories.proofs.Roundabout.{RoundsSoFar}
 use Rattle.sporc_histories.proofs.rounds.serve_rounds.Given as goal
