@@ -9,6 +9,10 @@ use std::process::Abort;
 use std::sync::Wait;
 use std::thread::{Threads, join};
 
+// The public key of member 1, whose identifier is 16 bytes 0 and whose seed 32 bytes 1, by a Python program.
+const FIRST_KEY: &[u8] =
+    b"key 00000005000000030000000000000000000000000000000021619ca96c7979649f4b1f489a20433d225d7fcd457b4f7b3e8fb37b84b0c6ed\n";
+
 fn is_done(status: u8, written: &[u8], end: &[u8]) -> bool {
     status == 0 && written.ends_with(end)
 }
@@ -17,8 +21,8 @@ fn is_stopped(status: u8, written: &[u8], line: &[u8]) -> bool {
     status == 3 && is_same(written, line)
 }
 
-/// A command that is done: what it writes ends with this.
-pub fn does<R: Threads + Wait + Sync + Abort>(
+// A command that is done: what it writes ends with this.
+fn does<R: Threads + Wait + Sync + Abort>(
     rt: &R,
     alloc: Global,
     place: &mut Place,
@@ -29,8 +33,8 @@ pub fn does<R: Threads + Wait + Sync + Abort>(
     check(rt, words, is_done(status, written.as_slice(), end));
 }
 
-/// A command that is stopped by a fault with this line.
-pub fn fails<R: Threads + Wait + Sync + Abort>(
+// A command that is stopped by a fault with this line.
+fn fails<R: Threads + Wait + Sync + Abort>(
     rt: &R,
     alloc: Global,
     place: &mut Place,
@@ -41,8 +45,8 @@ pub fn fails<R: Threads + Wait + Sync + Abort>(
     check(rt, words, is_stopped(status, written.as_slice(), line));
 }
 
-/// A place with one file.
-pub fn place_with(rt: &impl Abort, alloc: Global, name: &str, bytes: &[u8]) -> Place {
+// A place with one file.
+fn place_with(rt: &impl Abort, alloc: Global, name: &str, bytes: &[u8]) -> Place {
     let file = named(rt, alloc, name, bytes);
     let files = vec![in alloc; file].expect(rt, "memory");
     Place::new(rt, alloc, files)
@@ -50,8 +54,9 @@ pub fn place_with(rt: &impl Abort, alloc: Global, name: &str, bytes: &[u8]) -> P
 
 // Two keys, and the document of their members.
 fn founded<R: Threads + Wait + Sync + Abort>(rt: &R, alloc: Global, place: &mut Place) {
-    does(rt, alloc, place, "keygen D 1 5 4", b"\n");
+    does(rt, alloc, place, "keygen D 1 5 4", FIRST_KEY);
     does(rt, alloc, place, "keygen D 2 5 4", b"\n");
+    does(rt, alloc, place, "public D 1", FIRST_KEY);
     does(rt, alloc, place, "found D 1:admin 2:editor", b"");
 }
 
@@ -68,16 +73,16 @@ fn faults_are_told<R: Threads + Wait + Sync + Abort>(rt: &R, alloc: Global, plac
     fails(rt, alloc, place, "client D 1 a T", b"fault missing T\n");
 }
 
-/// Whether these bytes stand in what was written.
-pub fn has_line(written: &[u8], line: &[u8]) -> bool {
+// Whether these bytes stand in what was written.
+fn has_line(written: &[u8], line: &[u8]) -> bool {
     if line.is_empty() {
         return false;
     }
     written.windows(line.len()).any(|w| w == line)
 }
 
-/// Whether a session ends well, and writes this line.
-pub fn has_worked<R: Threads + Wait + Sync + Abort>(
+// Whether a session ends well, and writes this line.
+fn has_worked<R: Threads + Wait + Sync + Abort>(
     rt: &R,
     alloc: Global,
     place: &mut Place,
@@ -104,15 +109,17 @@ fn have_worked<R: Threads + Wait + Sync + Abort>(
     has_worked(rt, alloc, place, net, second, line) && has_first
 }
 
-// Whether a server of two sessions ends well, with one entry.
+// Whether a server ends well, and writes these lines.
 fn has_served<R: Threads + Wait + Sync + Abort>(
     rt: &R,
     alloc: Global,
     place: &mut Place,
     net: &mut PipeNet<&R>,
+    words: &str,
+    lines: &[u8],
 ) -> bool {
-    let (status, written) = place.run_piped(rt, alloc, net, "serve D a --sessions 2");
-    status == 0 && is_same(written.as_slice(), b"log 1\n")
+    let (status, written) = place.run_piped(rt, alloc, net, words);
+    status == 0 && is_same(written.as_slice(), lines)
 }
 
 // Both members work with the server, one after the other.
@@ -124,9 +131,10 @@ fn work_together<R: Threads + Wait + Sync + Abort>(
 ) {
     let mut net = PipeNet::new(rt, alloc).expect(rt, "memory");
     let mut near = net.another().expect(rt, "memory");
+    let words = "serve D a --sessions 2";
     let (served, worked) = join(
         rt,
-        || has_served(rt, alloc, server, &mut net),
+        || has_served(rt, alloc, server, &mut net, words, b"log 1\n"),
         || have_worked(rt, alloc, members, &mut near),
     );
     drop(near);

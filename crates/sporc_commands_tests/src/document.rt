@@ -83,8 +83,8 @@ fn genesis_bytes(rt: &impl Abort, alloc: Global, cast: &Cast, document: [u8; 16]
     bytes
 }
 
-// Adds a file.
-fn add(rt: &impl Abort, alloc: Global, files: &mut Vec<NamedFile>, name: &str, bytes: &[u8]) {
+/// Adds a file.
+pub fn add(rt: &impl Abort, alloc: Global, files: &mut Vec<NamedFile>, name: &str, bytes: &[u8]) {
     files
         .push(named(rt, alloc, name, bytes))
         .expect(rt, "memory");

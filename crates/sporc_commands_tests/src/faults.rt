@@ -1,4 +1,4 @@
-//! The lines of faults of plays, and what is told if a read or a write fails.
+//! Words that ask for nothing, and what is told if a read or a write of a play fails.
 
 use crate::answers::{answer, answers};
 use crate::checks::{check_answer, check_at};
@@ -13,52 +13,6 @@ const THIN: &str = "member 1 admin\nedit 1 insert 0 \"abc\"\nsubmit 1\ngive 1 1 
 
 const THIN_REPORT: &str =
     "1 edit event 1\n1 submit entry 1\n1 accept 1 ok\n1 at 1 pending 0 text \"abc\"\n";
-
-// Scripts with a line outside the grammar, and the line that tells it.
-const OUTSIDE: [(&str, &str); 24] = [
-    ("member 1 admin\nedit 1 insert x \"a\"\n", "fault line 2\n"),
-    ("show 1\n", "fault line 1\n"),
-    ("# a\n\nmember 1 admin\nshow 2\n", "fault line 4\n"),
-    ("member 1 editor\nshow 1\n", "fault line 2\n"),
-    ("member 1 admin\nmember 1 editor\n", "fault line 2\n"),
-    (
-        "member 1 admin\nshow 1\nmember 2 editor\n",
-        "fault line 3\n",
-    ),
-    ("member 1 admin\ntree 5 4\n", "fault line 2\n"),
-    ("tree 6 4\n", "fault line 1\n"),
-    (
-        "member 1 admin\nrogue 3 editor\nsubmit 3\n",
-        "fault line 3\n",
-    ),
-    ("member 1 admin\nsign 1 from 1 remove 1\n", "fault line 2\n"),
-    ("member 1 admin\njoin 1 1\n", "fault line 2\n"),
-    ("member 1 admin\njoiner 4\njoin 4\n", "fault line 3\n"),
-    ("member 1 admin\nunpaired 1 1\n", "fault line 2\n"),
-    (
-        "member 1 admin\nrogue 3 admin\nsign 3 from 1 raw 0\n",
-        "fault line 3\n",
-    ),
-    (
-        "member 1 admin\nrogue 3 admin\nsign 3 from 1 insert 0 \"\" with commit\n",
-        "fault line 3\n",
-    ),
-    ("member 0 admin\n", "fault line 1\n"),
-    ("member 65536 admin\n", "fault line 1\n"),
-    ("member 01 admin\n", "fault line 1\n"),
-    ("member  1 admin\n", "fault line 1\n"),
-    ("member 1 admin \n", "fault line 1\n"),
-    ("member 1 admin\r\n", "fault line 1\n"),
-    ("member 1 admin\ngive 1 4294967296 1\n", "fault line 2\n"),
-    (
-        "member 1 admin\nedit 1 insert 0 \"a\\q\"\n",
-        "fault line 2\n",
-    ),
-    (
-        "member 1 admin\nedit 1 insert 0 \"a\"b\"\n",
-        "fault line 2\n",
-    ),
-];
 
 // Words that ask for nothing.
 const OTHER_WORDS: [&str; 16] = [
@@ -80,19 +34,6 @@ const OTHER_WORDS: [&str; 16] = [
     "serve-all a D",
 ];
 
-fn is_outside<R: Threads + Wait + Sync + Abort>(rt: &R, alloc: Global, script: &str, line: &str) {
-    let report = line.as_bytes();
-    answers(rt, alloc, script, "play", script.as_bytes(), 3, report);
-}
-
-fn lines_outside_the_grammar_are_told<R: Threads + Wait + Sync + Abort>(rt: &R, alloc: Global) {
-    for (script, report) in &OUTSIDE {
-        is_outside(rt, alloc, script, report);
-    }
-    let script = b"# \xff\n";
-    answers(rt, alloc, "no UTF-8", "play", script, 3, b"fault line 1\n");
-}
-
 fn other_words_ask_for_nothing<R: Threads + Wait + Sync + Abort>(rt: &R, alloc: Global) {
     for words in &OTHER_WORDS {
         let script = THIN.as_bytes();
@@ -113,8 +54,7 @@ fn keeps<R: Threads + Wait + Sync + Abort>(
 }
 
 #[test]
-fn plays_have_lines_for_their_faults(rt: HostRuntime) {
-    lines_outside_the_grammar_are_told(&rt, rt.alloc());
+fn words_ask_for_nothing_and_statuses_stay(rt: HostRuntime) {
     other_words_ask_for_nothing(&rt, rt.alloc());
     keeps(&rt, rt.alloc(), "paly", b"", 2);
     keeps(&rt, rt.alloc(), "play", b"x", 3);

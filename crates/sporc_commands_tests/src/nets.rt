@@ -1,9 +1,10 @@
 //! Nets some of whose calls fail.
 
 ghost use Rattle.std.specs.Prelude.{◌<◌, None, refl};
+ghost use Rattle.sporc_outside.specs.MemoryNetModel.{IsFresh};
 
 use crate::bytes::bytes_of;
-use crate::place::{Answer, Failing, Place, calls, calls_of};
+use crate::place::{Answer, Failing, NONE, Place, calls, calls_of};
 use sporc_outside::{
     Calls, Counted, Dial, Failed, Link, Links, Listen, MemoryLink, MemoryNet, PipeLink, PipeNet,
     Sink, Source, Stream,
@@ -16,12 +17,44 @@ use std::thread::Threads;
 // The most bytes that a listed link moves at once.
 const PIECE: usize = 1_000;
 
+// A link that brings these bytes.
+fn listed_link(rt: &impl Abort, alloc: Global, sent: &[u8], failing: Failing) -> MemoryLink
+    ensures { IsFresh result }
+{
+    let sent = bytes_of(rt, alloc, sent);
+    MemoryLink::new(alloc, sent, PIECE, calls_of(rt, alloc, failing.link))
+}
+
 // A net with one link, which brings these bytes.
 fn listed_net(rt: &impl Abort, alloc: Global, sent: &[u8], failing: Failing) -> MemoryNet {
-    let sent = bytes_of(rt, alloc, sent);
-    let link = MemoryLink::new(alloc, sent, PIECE, calls_of(rt, alloc, failing.link));
+    let link = listed_link(rt, alloc, sent, failing);
     let links = vec![in alloc; link].expect(rt, "memory");
     MemoryNet::new(alloc, links, calls_of(rt, alloc, failing.net))
+}
+
+// A net with links that bring these, in a box: a function that owns the net itself is slow to prove.
+fn net_of_all(rt: &impl Abort, alloc: Global, sent: &[Vec<u8>]) -> Box<MemoryNet> {
+    let mut links = Vec::new(alloc);
+    for stream in sent {
+        let link = listed_link(rt, alloc, stream, NONE);
+        links.push(link).expect(rt, "memory");
+    }
+    let net = MemoryNet::new(alloc, links, calls_of(rt, alloc, 0));
+    Box::new(alloc, net).expect(rt, "memory")
+}
+
+/// What a run answers over a net to which clients come that send these, the last one first.
+pub fn run_all<R: Threads + Wait + Sync + Abort>(
+    rt: &R,
+    alloc: Global,
+    place: &mut Place,
+    words: &str,
+    sent: &[Vec<u8>],
+) -> Answer {
+    let mut net = net_of_all(rt, alloc, sent);
+    let answer = place.run(rt, alloc, &mut *net, words);
+    drop(net);
+    answer
 }
 
 /// What a run over such a net answers, and whether no call of its link failed.

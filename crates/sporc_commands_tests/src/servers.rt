@@ -23,8 +23,8 @@ pub struct Scene {
     pub stream: Vec<u8>,
 }
 
-// Hello, an entry, and a pull.
-fn stream(rt: &impl Abort, alloc: Global, entry: &[u8]) -> Vec<u8> {
+/// Hello, an entry, and a pull.
+pub fn stream(rt: &impl Abort, alloc: Global, entry: &[u8]) -> Vec<u8> {
     let len = u32::try_from(entry.len().saturating_add(1)).unwrap_or(u32::MAX);
     let mut stream = bytes_of(rt, alloc, b"\0\0\0\x13\x01");
     append(rt, &mut stream, &[7; 16]);

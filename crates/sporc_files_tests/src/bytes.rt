@@ -1,4 +1,4 @@
-//! Bytes and texts that tests spell out and change.
+//! Bytes that tests spell out and change.
 
 use std::alloc::Global;
 use std::process::Abort;
@@ -35,14 +35,4 @@ pub fn turn_bit(bytes: &mut [u8], place: usize) {
     if let Some(byte) = bytes.get_mut(place) {
         *byte ^= 1;
     }
-}
-
-/// The same text.
-pub fn text_of(rt: &impl Abort, alloc: Global, text: &str) -> String {
-    String::from_str(alloc, text).expect(rt, "memory")
-}
-
-/// Appends a text.
-pub fn push(rt: &impl Abort, text: &mut String, more: &str) {
-    text.push_str(more).expect(rt, "memory");
 }

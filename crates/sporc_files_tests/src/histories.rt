@@ -1,32 +1,22 @@
 //! A history of four entries, and what is done with it once it is saved.
 
-use compares::histories_are_compared;
-use examines::histories_are_examined;
-use loads::histories_are_loaded;
+use examines::each_failing_call_is_told;
 use many::histories_are_loaded_by_many;
-use serves::logs_are_saved;
 use sporc_samples::{Cast, History, short_history};
 use std::alloc::Global;
 use std::process::Abort;
 use std::sync::Wait;
 use std::thread::Threads;
 
-mod compares;
-mod devices;
 mod examines;
 mod files;
 mod folder;
-mod loads;
 mod many;
-mod serves;
 mod tells;
 
 fn is_used<R: Threads + Wait + Sync + Abort>(rt: &R, alloc: Global, cast: &Cast, sample: &History) {
-    histories_are_loaded(rt, alloc, cast, sample);
     histories_are_loaded_by_many(rt, alloc, cast, sample);
-    histories_are_examined(rt, alloc, cast, sample);
-    histories_are_compared(rt, alloc, cast, sample);
-    logs_are_saved(rt, alloc, cast, sample);
+    each_failing_call_is_told(rt, alloc, cast);
 }
 
 fn short_history_is_used<R: Threads + Wait + Sync + Abort>(rt: &R, alloc: Global, cast: &Cast) {
@@ -36,7 +26,7 @@ fn short_history_is_used<R: Threads + Wait + Sync + Abort>(rt: &R, alloc: Global
 }
 
 #[test]
-fn a_history_is_loaded_examined_compared_and_served(rt: HostRuntime) {
+fn a_history_is_loaded_and_examined(rt: HostRuntime) {
     let cast = Cast::new(rt.alloc()).expect(&rt, "a cast");
     short_history_is_used(&rt, rt.alloc(), &cast);
 }

@@ -1,15 +1,15 @@
 //! The bytes are spelled out by hand, field by field, from the tables of the formats.
 
-ghost use Rattle.std.specs.Prelude.{◌≡◌, ◌≤◌, true, length};
+ghost use Rattle.std.specs.Prelude.{◌≡◌, true, length};
 ghost use Rattle.sporc_entry.specs.Version.{fits_version};
 
 use crate::checks::{check, check_at, check_bytes};
 use sporc_base::is_same;
 use sporc_entry::{
-    Bytes, ChangeBody, Entry, EntryFault, Genesis, GenesisFault, Header, Wrap, Wraps, read_change,
-    read_entry, read_genesis, signed_part, write_change, write_entry, write_genesis,
+    Bytes, ChangeBody, Entry, EntryFault, Header, Wrap, read_change, read_entry, signed_part,
+    write_change, write_entry,
 };
-use sporc_member::{Change, Founder, Role};
+use sporc_member::{Change, Role};
 use std::alloc::Global;
 use std::process::Abort;
 
@@ -49,17 +49,6 @@ const CHANGE: &str = "01000302\
     0002\
     0001a1a1a1a1a1a1a1a1a1a1a1a1a1a1a1a1a1a1a1a1a1a1a1a1a1a1a1a1a1a1a1a1\
     0003a3a3a3a3a3a3a3a3a3a3a3a3a3a3a3a3a3a3a3a3a3a3a3a3a3a3a3a3a3a3a3a3";
-
-// A genesis of member 2, an editor, and member 7, an admin, with keys of height 5 and width 4: version, document,
-// commitment, and the founders with their roles and keys.
-const GENESIS: &str = "01\
-    d0d0d0d0d0d0d0d0d0d0d0d0d0d0d0d0\
-    c0c0c0c0c0c0c0c0c0c0c0c0c0c0c0c0c0c0c0c0c0c0c0c0c0c0c0c0c0c0c0c0\
-    0002\
-    0002020000000500000003\
-    777777777777777777777777777777777777777777777777777777777777777777777777777777777777777777777777\
-    0007030000000500000003\
-    888888888888888888888888888888888888888888888888888888888888888888888888888888888888888888888888";
 
 // So many bytes of one value.
 fn repeated(rt: &impl Abort, alloc: Global, value: u8, count: usize) -> Vec<u8>
@@ -382,217 +371,15 @@ fn reads_as_spelled(rt: &impl Abort, alloc: Global, bytes: &[u8]) -> bool {
     is_spelled(&body)
 }
 
-const REMOVE: Change = Change::Remove { member: 3 };
-
-const SET_ROLE: Change = Change::SetRole {
-    member: 3,
-    role: Role::Reader,
-};
-
-// The bytes of a change without a sealed key.
-fn without_wraps(rt: &impl Abort, alloc: Global, change: Change) -> Vec<u8> {
-    let body = ChangeBody {
-        change,
-        commitment: [0xc0; 32],
-        previous: [0xe0; 32],
-        wraps: Wraps::new(Vec::new(alloc)),
-    };
-    write_change(alloc, &body).expect(rt, "memory")
-}
-
-const ADD_DEVICE: Change = Change::AddDevice {
-    member: 3,
-    device: 9,
-    key: [0x77; 56],
-};
-
-const DROP_DEVICE: Change = Change::DropDevice {
-    member: 3,
-    device: 255,
-};
-
-// Whether bytes are read as this change in an entry of a version, or are malformed at the kind.
-fn is_read_in(alloc: Global, version: u8, bytes: &[u8], change: Change) -> bool
-    requires { (1 ≤ version) × (version ≤ 2) }
-{
-    match read_change(alloc, version, bytes) {
-        Ok(body) => body.change == change,
-        Err(_) => false,
-    }
-}
-
-fn is_no_kind_of(alloc: Global, version: u8, bytes: &[u8]) -> bool
-    requires { (1 ≤ version) × (version ≤ 2) }
-{
-    read_change(alloc, version, bytes).err() == Some(EntryFault::Malformed(0))
-}
-
-// A change that entries of both versions may be.
-fn comes_back(rt: &impl Abort, alloc: Global, change: Change) {
-    let bytes = without_wraps(rt, alloc, change);
-    let one = is_read_in(alloc, 1, bytes.as_slice(), change);
-    let two = is_read_in(alloc, 2, bytes.as_slice(), change);
-    check(rt, "comes back", one && two);
-}
-
-// Changes of devices are of version 2 alone, and the Upgrade of version 1.
-fn comes_back_in_one(rt: &impl Abort, alloc: Global, change: Change, version: u8)
-    requires { (1 ≤ version) × (version ≤ 2) }
-{
-    let bytes = without_wraps(rt, alloc, change);
-    let read = is_read_in(alloc, version, bytes.as_slice(), change);
-    check(rt, "comes back", read);
-    check(
-        rt,
-        "is none of the other",
-        is_no_kind_of(alloc, 3 - version, bytes.as_slice()),
-    );
-}
-
-// The place of a byte, its new value, and where the entry is malformed then.
-const CHANGE_FAULTS: [(usize, u8, usize); 12] = [
-    (69, 1, 68),
-    (70, 1, 72),
-    (71, 193, 234),
-    (71, 195, 266),
-    (72, 4, 72),
-    (72, 5, 72),
-    (74, 0, 73),
-    (75, 0, 75),
-    (75, 4, 75),
-    (197, 65, 196),
-    (197, 3, 266),
-    (197, 1, 232),
-];
-
-fn is_change_malformed(alloc: Global, bytes: &[u8], at: usize) -> bool {
-    read_change(alloc, 1, bytes).err() == Some(EntryFault::Malformed(at))
-}
-
-// The body alone, and with a role that is none.
 fn body_is_read(rt: &impl Abort, alloc: Global) {
-    let mut body = hex::decode(alloc, CHANGE).expect(rt, "hex digits");
+    let body = hex::decode(alloc, CHANGE).expect(rt, "hex digits");
     check(rt, "change", reads_as_spelled(rt, alloc, body.as_slice()));
-    if let Some(role) = body.get_mut(3) {
-        *role = 0;
-    }
-    check(rt, "role", is_change_malformed(alloc, body.as_slice(), 3));
 }
 
 #[test]
-fn a_change_is_read_unless_it_has_a_fault(rt: HostRuntime) {
+fn a_change_is_read(rt: HostRuntime) {
     let bytes = change_entry_bytes(&rt, rt.alloc());
     is_written_again(&rt, rt.alloc(), bytes.as_slice());
     change_is_written_again(&rt, rt.alloc(), bytes.as_slice());
-    each_altered_is_malformed(&rt, rt.alloc(), bytes.as_slice(), &CHANGE_FAULTS);
     body_is_read(&rt, rt.alloc());
-    comes_back(&rt, rt.alloc(), REMOVE);
-    comes_back(&rt, rt.alloc(), SET_ROLE);
-    comes_back_in_one(&rt, rt.alloc(), ADD_DEVICE, 2);
-    comes_back_in_one(&rt, rt.alloc(), DROP_DEVICE, 2);
-    comes_back_in_one(&rt, rt.alloc(), Change::Upgrade, 1);
-}
-
-fn are_two_and_seven(founders: &[Founder]) -> bool {
-    match founders {
-        [one, other] => one.member == 2 && other.member == 7,
-        _ => false,
-    }
-}
-
-fn is_of_two_and_seven(genesis: &Genesis) -> bool {
-    is_same(&genesis.document, &[0xd0; 16])
-        && is_same(&genesis.commitment, &[0xc0; 32])
-        && are_two_and_seven(genesis.founders.as_slice())
-}
-
-// The bytes of a copy of the genesis that is read from these.
-fn copied(rt: &impl Abort, alloc: Global, bytes: &[u8]) -> Vec<u8> {
-    let genesis = read_genesis(alloc, bytes).expect(rt, "a genesis");
-    check(rt, "genesis", is_of_two_and_seven(&genesis));
-    let copy = genesis.copy().expect(rt, "memory");
-    write_genesis(alloc, &copy).expect(rt, "memory")
-}
-
-// A genesis reads, and its copy is written.
-fn founds(rt: &impl Abort, alloc: Global, bytes: &[u8]) {
-    let written = copied(rt, alloc, bytes);
-    check_bytes(rt, "copy written", written.as_slice(), bytes);
-}
-
-fn is_fault(alloc: Global, bytes: &[u8], fault: GenesisFault) -> bool {
-    read_genesis(alloc, bytes).err() == Some(fault)
-}
-
-// The place of a byte, its new value, and the fault then.
-const NO_ADMIN: (usize, u8, GenesisFault) = (112, 2, GenesisFault::NoAdmin);
-
-const GENESIS_FAULTS: [(usize, u8, GenesisFault); 11] = [
-    (0, 2, GenesisFault::Malformed(0)),
-    (50, 0, GenesisFault::Malformed(49)),
-    (50, 65, GenesisFault::Malformed(49)),
-    (50, 3, GenesisFault::Malformed(169)),
-    (50, 1, GenesisFault::Malformed(110)),
-    (52, 0, GenesisFault::Malformed(51)),
-    (53, 4, GenesisFault::Malformed(53)),
-    (111, 2, GenesisFault::Malformed(110)),
-    NO_ADMIN,
-    (57, 4, GenesisFault::BadKey(2)),
-    (120, 5, GenesisFault::BadKey(7)),
-];
-
-// The length of a prefix of the genesis, or of the genesis and zeros, and the fault then.
-const GENESIS_LENGTHS: [(usize, GenesisFault); 3] = [
-    (170, GenesisFault::Malformed(169)),
-    (168, GenesisFault::Malformed(113)),
-    (0, GenesisFault::Malformed(0)),
-];
-
-fn is_refused_altered(
-    rt: &impl Abort,
-    alloc: Global,
-    genesis: &[u8],
-    row: &(usize, u8, GenesisFault),
-) {
-    let (place, value, fault) = *row;
-    let other = altered(rt, alloc, genesis, place, value);
-    check_at(
-        rt,
-        "altered at",
-        place as u64,
-        is_fault(alloc, other.as_slice(), fault),
-    );
-}
-
-fn is_refused_resized(rt: &impl Abort, alloc: Global, genesis: &[u8], row: &(usize, GenesisFault)) {
-    let (len, fault) = *row;
-    let mut other = Vec::from_slice(alloc, genesis).expect(rt, "memory");
-    other.push(0).expect(rt, "memory");
-    other.truncate(len);
-    check_at(
-        rt,
-        "of length",
-        len as u64,
-        is_fault(alloc, other.as_slice(), fault),
-    );
-}
-
-// A genesis is refused for its first fault.
-fn is_refused(rt: &impl Abort, alloc: Global, bytes: &[u8]) {
-    for row in &GENESIS_FAULTS {
-        is_refused_altered(rt, alloc, bytes, row);
-    }
-    for row in &GENESIS_LENGTHS {
-        is_refused_resized(rt, alloc, bytes, row);
-    }
-    // No admin comes before a bad key.
-    let bytes = altered(rt, alloc, bytes, 57, 4);
-    is_refused_altered(rt, alloc, bytes.as_slice(), &NO_ADMIN);
-}
-
-#[test]
-fn a_genesis_reads_unless_it_has_a_fault(rt: HostRuntime) {
-    let bytes = hex::decode(rt.alloc(), GENESIS).expect(&rt, "hex digits");
-    founds(&rt, rt.alloc(), bytes.as_slice());
-    is_refused(&rt, rt.alloc(), bytes.as_slice());
 }

@@ -1,22 +1,13 @@
 use crate::checks::{check, check_bytes};
-use sporc_base::Bytes;
-use sporc_entry::{ChangeBody, Entry, Header, Wrap, Wraps, write_change, write_entry};
-use sporc_epoch::{
-    HintFault, MAX_EPOCH, Pairs, Ring, SealFault, hints_from, open_previous, open_wrap, seal_change,
-};
-use sporc_member::{Change, Role};
+use sporc_entry::{ChangeBody, Wrap, Wraps};
+use sporc_epoch::{Pairs, Ring, SealFault, open_previous, open_wrap, seal_change};
+use sporc_member::Change;
 use std::alloc::Global;
 use std::process::Abort;
 
 const DOCUMENT: [u8; 16] = [9; 16];
 
 const REMOVE: Change = Change::Remove { member: 7 };
-
-const ADD: Change = Change::Add {
-    member: 4,
-    role: Role::Editor,
-    key: [0; 56],
-};
 
 // SHA-256, by Python's hashlib, of 4, the document, epoch 1 and the key.
 const COMMITMENT: [u8; 32] = [
@@ -77,63 +68,6 @@ fn sealed(rt: &impl Abort, alloc: Global, change: &Change, epoch: u8) -> ChangeB
         &pairs,
     )
     .expect(rt, "a sealed change")
-}
-
-// The bytes of an entry that holds a change, without a signature.
-fn entry_bytes(rt: &impl Abort, alloc: Global, epoch: u32, body: &ChangeBody) -> Vec<u8> {
-    assert!(rt; body.wraps.as_slice().len() < 65_536);
-    let body = write_change(alloc, body).expect(rt, "memory");
-    assert!(rt; body.len() < 4_294_967_296);
-    let header = Header {
-        version: 1,
-        document: DOCUMENT,
-        author: 1,
-        device: 0,
-        number: 1,
-        base: 0,
-        base_hash: [0; 32],
-        epoch,
-        leaf: 5,
-        kind: 2,
-    };
-    let entry = Entry {
-        header,
-        body: Bytes::new(body),
-        signature: Bytes::new(Vec::new(alloc)),
-    };
-    write_entry(alloc, &entry).expect(rt, "memory")
-}
-
-// Bytes that are no entry, and three changes that start epochs 1 to 3, the last of which adds member 4. The one that
-// starts the epoch `spoilt` commits to another key.
-fn history(rt: &impl Abort, alloc: Global, spoilt: u8) -> Vec<Vec<u8>> {
-    let mut entries = Vec::new(alloc);
-    entries
-        .push(Vec::from_slice(alloc, b"no entry").expect(rt, "memory"))
-        .expect(rt, "memory");
-    for epoch in 0..3u8 {
-        let mut body = sealed(rt, alloc, if epoch == 2 { &ADD } else { &REMOVE }, epoch);
-        if epoch + 1 == spoilt {
-            body.commitment = [0; 32];
-        }
-        entries
-            .push(entry_bytes(rt, alloc, u32::from(epoch), &body))
-            .expect(rt, "memory");
-    }
-    entries
-}
-
-// The keys that member 4 finds in a history, under a key with one other member.
-fn hints(
-    rt: &impl Abort,
-    alloc: Global,
-    spoilt: u8,
-    other: u16,
-    me: u16,
-) -> Result<Ring, HintFault> {
-    let entries = history(rt, alloc, spoilt);
-    let mine = pairs_of(rt, alloc, &[(other, 104)]);
-    hints_from(alloc, entries.as_slice(), me, &mine)
 }
 
 fn check_key(rt: &impl Abort, what: &str, found: Option<[u8; 32]>, wanted: Option<[u8; 32]>) {
@@ -214,64 +148,10 @@ fn change_is_sealed_and_opened(rt: &impl Abort, alloc: Global) {
     is_opened(rt, alloc, &body);
 }
 
-// The keys of four epochs are found backwards.
-fn four_are_found(rt: &impl Abort, alloc: Global) {
-    let ring = hints(rt, alloc, 0, 1, 4).expect(rt, "keys");
-    for epoch in 0..4u8 {
-        let key = ring.key(u32::from(epoch)).copied();
-        check_key(rt, "found", key, Some([10 + epoch; 32]));
-    }
-    check_key(rt, "a fifth", ring.key(4).copied(), None);
-}
-
-// A row's name, the epoch that a history spoils, whom the member holds a key with, the member, and the fault.
-const FAULTS: [(&str, u8, u16, u16, HintFault); 5] = [
-    ("not added", 0, 1, 3, HintFault::NotAdded),
-    ("no pairwise key", 0, 2, 4, HintFault::NoPairKey(1)),
-    ("third spoilt", 3, 1, 4, HintFault::WrongKey(3)),
-    ("second spoilt", 2, 1, 4, HintFault::WrongKey(2)),
-    ("first spoilt", 1, 1, 4, HintFault::WrongKey(1)),
-];
-
-fn hint_fault(
-    rt: &impl Abort,
-    alloc: Global,
-    spoilt: u8,
-    other: u16,
-    me: u16,
-) -> Option<HintFault> {
-    hints(rt, alloc, spoilt, other, me).err()
-}
-
-fn each_fault_is_found(rt: &impl Abort, alloc: Global) {
-    for (name, spoilt, other, me, fault) in &FAULTS {
-        let found = hint_fault(rt, alloc, *spoilt, *other, *me);
-        check(rt, *name, found == Some(*fault));
-    }
-}
-
-// An entry that adds member 4 and would start an epoch behind the last one.
-fn behind_the_last(rt: &impl Abort, alloc: Global) -> Vec<Vec<u8>> {
-    let body = sealed(rt, alloc, &ADD, 0);
-    let last = entry_bytes(rt, alloc, MAX_EPOCH, &body);
-    Vec::from_array(alloc, [last]).expect(rt, "memory")
-}
-
-// No epoch follows the last.
-fn none_follows(rt: &impl Abort, alloc: Global) {
-    let entries = behind_the_last(rt, alloc);
-    let mine = pairs_of(rt, alloc, &[(1, 104)]);
-    let fault = hints_from(alloc, entries.as_slice(), 4, &mine).err();
-    check(rt, "behind the last", fault == Some(HintFault::NotAdded));
-}
-
-// A ring gives the keys that were put, changes are sealed and opened, and keys are found by hints.
+// A ring gives the keys that were put, and changes are sealed and opened.
 #[test]
-fn keys_are_put_sealed_and_found(rt: HostRuntime) {
+fn keys_are_put_and_sealed(rt: HostRuntime) {
     ring_gives_keys(&rt, rt.alloc());
     least_is_named(&rt, rt.alloc());
     change_is_sealed_and_opened(&rt, rt.alloc());
-    four_are_found(&rt, rt.alloc());
-    each_fault_is_found(&rt, rt.alloc());
-    none_follows(&rt, rt.alloc());
 }

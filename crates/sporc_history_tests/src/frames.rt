@@ -1,10 +1,8 @@
 ghost use Rattle.std.specs.Prelude.{◌≤◌, length};
 
-use crate::checks::{check, check_at, check_bytes};
-use sporc_base::{Bytes, Items, is_same};
-use sporc_head::Refusal;
-use sporc_member::ChangeFault;
-use sporc_wire::{FrameFault, Frames, ToClient, ToServer, write_to_client, write_to_server};
+use crate::checks::{check, check_at};
+use sporc_base::is_same;
+use sporc_wire::{FrameFault, Frames, ToServer};
 use std::alloc::Global;
 use std::process::Abort;
 
@@ -265,118 +263,4 @@ fn frames_are_read(rt: HostRuntime) {
     frames_come_up_to_a_limit(&rt, rt.alloc());
     bad_bodies_are_refused(&rt, rt.alloc());
     prefixes_give_nothing(&rt, rt.alloc());
-}
-
-fn is_written_to_server(rt: &impl Abort, alloc: Global, message: &ToServer, wanted: &[u8]) {
-    let written = write_to_server(alloc, message).expect(rt, "a frame");
-    check_bytes(rt, "to a server", written.as_slice(), wanted);
-}
-
-fn submission(rt: &impl Abort, alloc: Global) -> ToServer {
-    let entry = Bytes::copy_of(alloc, &[8, 9]).expect(rt, "memory");
-    ToServer::Submit { entry }
-}
-
-const LAST_ADMIN: Refusal = Refusal::BadChange(ChangeFault::LastAdmin);
-
-fn are_written_to_server(rt: &impl Abort, alloc: Global) {
-    let (document, member) = ([7u8; 16], 9);
-    is_written_to_server(rt, alloc, &ToServer::Hello { document, member }, &HELLO);
-    is_written_to_server(rt, alloc, &ToServer::Pull { from: 65_538 }, &PULL);
-    is_written_to_server(rt, alloc, &submission(rt, alloc), &SUBMIT);
-}
-
-fn are_written_to_client(rt: &impl Abort, alloc: Global) {
-    let refusal = LAST_ADMIN;
-    let ordered = write_to_client(alloc, &ToClient::Ordered { pos: 8 }).expect(rt, "a frame");
-    check_bytes(rt, "ordered", ordered.as_slice(), &ORDERED);
-    let rejected = write_to_client(alloc, &ToClient::Rejected { refusal }).expect(rt, "a frame");
-    check_bytes(rt, "rejected", rejected.as_slice(), &REJECTED);
-    let empty = write_to_client(alloc, &ToClient::Empty).expect(rt, "a frame");
-    check_bytes(rt, "empty", empty.as_slice(), &EMPTY);
-}
-
-// A refusal, the number of its check, and its detail.
-const REJECTIONS: [(Refusal, u8, u8); 6] = [
-    (Refusal::Malformed(9), 1, 9),
-    (Refusal::WrongKey, 21, 0),
-    (Refusal::WrongVersion, 22, 0),
-    (Refusal::UnknownDevice, 23, 0),
-    (Refusal::BadChange(ChangeFault::DeviceUsed), 18, 7),
-    (Refusal::BadChange(ChangeFault::AlreadyUpgraded), 18, 12),
-];
-
-fn is_rejected(found: &Option<ToClient>, wanted: Refusal) -> bool {
-    match found {
-        Some(ToClient::Rejected { refusal }) => *refusal == wanted,
-        _ => false,
-    }
-}
-
-fn reads_as_rejected(rt: &impl Abort, alloc: Global, frame: &[u8], wanted: Refusal) -> bool {
-    let mut frames = Frames::new(alloc);
-    frames.feed(frame).expect(rt, "good frames");
-    is_rejected(&frames.next_to_client().expect(rt, "good frames"), wanted)
-}
-
-fn rejections_are_written(rt: &impl Abort, alloc: Global) {
-    for (refusal, code, detail) in &REJECTIONS {
-        let refusal = *refusal;
-        let frame = [0, 0, 0, 6, 2, *code, 0, 0, 0, *detail];
-        check(
-            rt,
-            refusal.word(),
-            reads_as_rejected(rt, alloc, &frame, refusal),
-        );
-        let written = write_to_client(alloc, &ToClient::Rejected { refusal }).expect(rt, "a frame");
-        check_bytes(rt, refusal.word(), written.as_slice(), &frame);
-    }
-}
-
-fn entries_are_written(rt: &impl Abort, alloc: Global) {
-    let mut entries = Vec::new(alloc);
-    entries
-        .push(Bytes::copy_of(alloc, &[8, 9]).expect(rt, "memory"))
-        .expect(rt, "memory");
-    entries
-        .push(Bytes::copy_of(alloc, &[]).expect(rt, "memory"))
-        .expect(rt, "memory");
-    let entries = Items::new(entries);
-    let message = ToClient::Entries { first: 3, entries };
-    let written = write_to_client(alloc, &message).expect(rt, "a frame");
-    check_bytes(rt, "entries", written.as_slice(), &ENTRIES);
-}
-
-// The length of the frame that submits an entry of so many bytes, unless it is too long.
-fn submission_len(rt: &impl Abort, alloc: Global, len: usize) -> Result<usize, FrameFault> {
-    let entry = Bytes::new(vec![in alloc; 0; len].expect(rt, "memory"));
-    frame_len(alloc, &ToServer::Submit { entry })
-}
-
-fn frame_len(alloc: Global, message: &ToServer) -> Result<usize, FrameFault> {
-    let frame = write_to_server(alloc, message)?;
-    Ok(frame.len())
-}
-
-fn lengths_are_limited(rt: &impl Abort, alloc: Global) {
-    check(
-        rt,
-        "longest",
-        submission_len(rt, alloc, 4_194_303) == Ok(4_194_308),
-    );
-    check(
-        rt,
-        "too long",
-        submission_len(rt, alloc, 4_194_304) == Err(TOO_LONG),
-    );
-}
-
-// A body above the limit is not written.
-#[test]
-fn messages_are_written(rt: HostRuntime) {
-    are_written_to_server(&rt, rt.alloc());
-    are_written_to_client(&rt, rt.alloc());
-    rejections_are_written(&rt, rt.alloc());
-    entries_are_written(&rt, rt.alloc());
-    lengths_are_limited(&rt, rt.alloc());
 }

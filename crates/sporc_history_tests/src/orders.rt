@@ -1,6 +1,6 @@
-use crate::checks::{check, check_at};
+use crate::checks::check;
 use crate::samples::empty_sample;
-use sporc_base::{Bytes, is_same};
+use sporc_base::Bytes;
 use sporc_head::{Examined, Refusal};
 use sporc_order::{Answer, Order, Session};
 use sporc_samples::{Cast, DOCUMENT, History};
@@ -12,64 +12,6 @@ use std::process::Abort;
 fn opened(rt: &impl Abort, alloc: Global, cast: &Cast) -> Box<Order> {
     let genesis = cast.genesis(alloc).expect(rt, "a genesis");
     Box::new(alloc, Order::open(alloc, genesis).expect(rt, "memory")).expect(rt, "memory")
-}
-
-// Whether an entry is ordered at this position, and refused if it is submitted again.
-fn is_ordered_once(order: &mut Order, entry: &[u8], position: u32) -> bool {
-    order.submit(entry) == Ok(position) && order.submit(entry) == Err(Refusal::WrongNumber)
-}
-
-// Submits so many entries of one author.
-fn grow(
-    rt: &impl Abort,
-    alloc: Global,
-    cast: &Cast,
-    order: &mut Order,
-    sample: &mut History,
-    count: u32,
-) {
-    for before in 0..count {
-        sample.edit(alloc, cast, 2, b"").expect(rt, "an edit");
-        let entry = sample.entries().last().expect(rt, "an entry");
-        let position = before.wrapping_add(1);
-        let ordered = is_ordered_once(order, entry.as_slice(), position);
-        check_at(rt, "ordered at", u64::from(position), ordered);
-    }
-}
-
-fn is_pulled(order: &Order) -> bool {
-    is_same(order.document(), &DOCUMENT)
-        && order.len() == 18
-        && order.pull(0).len() == 16
-        && order.pull(5).len() == 13
-        && order.pull(18).len() == 0
-}
-
-// Whether the entry at this place, from 0 on, is pulled as it was submitted.
-fn is_pulled_at(order: &Order, entries: &[Vec<u8>], place: usize) -> bool {
-    match (order.pull(0).get(place), entries.get(place)) {
-        (Some(pulled), Some(entry)) => is_same(pulled.as_slice(), entry.as_slice()),
-        _ => false,
-    }
-}
-
-fn are_pulled(rt: &impl Abort, order: &Order, entries: &[Vec<u8>]) {
-    check(rt, "lengths", is_pulled(order));
-    for place in 0..16 {
-        check_at(
-            rt,
-            "pulled at",
-            place as u64,
-            is_pulled_at(order, entries, place),
-        );
-    }
-}
-
-fn sixteen_are_pulled(rt: &impl Abort, alloc: Global, cast: &Cast) {
-    let mut order = opened(rt, alloc, cast);
-    let mut sample = empty_sample(rt, alloc, cast);
-    grow(rt, alloc, cast, &mut order, &mut sample, 18);
-    are_pulled(rt, &order, sample.entries());
 }
 
 // What a session answers.
@@ -188,12 +130,10 @@ fn examined_are_ordered(rt: &impl Abort, alloc: Global, cast: &Cast) {
     orders_examined(rt, alloc, &mut order, sample.entries());
 }
 
-// A session is greeted and orders an entry once, entries that were examined are ordered, and sixteen entries are pulled at
-// once.
+// A session is greeted and orders an entry once, and entries that were examined are ordered.
 #[test]
-fn entries_are_ordered_and_pulled(rt: HostRuntime) {
+fn entries_are_ordered(rt: HostRuntime) {
     let cast = Cast::new(rt.alloc()).expect(&rt, "a cast");
     session_orders_once(&rt, rt.alloc(), &cast);
     examined_are_ordered(&rt, rt.alloc(), &cast);
-    sixteen_are_pulled(&rt, rt.alloc(), &cast);
 }

@@ -2,6 +2,7 @@
 
 mod serving;
 mod sessions;
+mod tails;
 
 use crate::checks::{check, check_at};
 use sporc_docs::{Docs, DocsFault, MAX_DOCUMENTS};

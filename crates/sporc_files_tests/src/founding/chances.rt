@@ -3,7 +3,6 @@
 use crate::memory::calls;
 use hex::FromHex;
 use sporc_base::put_at;
-use sporc_keys::DrawFault;
 use sporc_outside::ListedChance;
 use std::alloc::Global;
 use std::process::Abort;
@@ -34,9 +33,4 @@ pub fn push_eight(rt: &impl Abort, words: &mut Words) {
 pub fn chance(rt: &impl Abort, alloc: Global, words: Words, failing: u64) -> Box<ListedChance> {
     let chance = ListedChance::new(words, calls(rt, alloc, failing));
     Box::new(alloc, chance).expect(rt, "memory")
-}
-
-/// Whether nothing was made, since a call of the chance failed.
-pub fn is_chance(found: Option<DrawFault>) -> bool {
-    found == Some(DrawFault::Chance)
 }

@@ -24,38 +24,19 @@ pub struct Room {
 }
 
 impl Files {
-    /// The genesis alone.
-    pub fn new(rt: &impl Abort, alloc: Global, cast: &Cast) -> Files {
+    /// The genesis, and the key and the ring of member 2.
+    pub fn of_member(rt: &impl Abort, alloc: Global, cast: &Cast) -> Files {
         let mut files = Files {
             files: Vec::new(alloc),
         };
         files.put(rt, alloc, "D.genesis", genesis(rt, alloc, cast));
-        files
-    }
-
-    /// The genesis, and the key and the ring of member 2.
-    pub fn of_member(rt: &impl Abort, alloc: Global, cast: &Cast) -> Files {
-        let mut files = Files::new(rt, alloc, cast);
         files.put(rt, alloc, "D.2.key", key_file(rt, alloc));
-        files.put(rt, alloc, "D.2.ring", ring_file(rt, alloc));
-        files
-    }
-
-    /// The genesis, the ring of member 2, and the key of its second device.
-    pub fn of_second_device(rt: &impl Abort, alloc: Global, cast: &Cast) -> Files {
-        let mut files = Files::new(rt, alloc, cast);
-        files.put(rt, alloc, "D.2.1.key", second_key_file(rt, alloc));
         files.put(rt, alloc, "D.2.ring", ring_file(rt, alloc));
         files
     }
 
     fn put(&mut self, rt: &impl Abort, alloc: Global, name: &str, bytes: Vec<u8>) {
         add_file(rt, alloc, &mut self.files, name, bytes);
-    }
-
-    /// One file more.
-    pub fn add(&mut self, rt: &impl Abort, alloc: Global, name: &str, bytes: &[u8]) {
-        self.put(rt, alloc, name, bytes_of(rt, alloc, bytes));
     }
 
     /// The file of these entries.
@@ -82,16 +63,6 @@ fn key_file(rt: &impl Abort, alloc: Global) -> Vec<u8> {
     let mut bytes = bytes_of(rt, alloc, b"SPK1\0\x02\0\0\0\x05\0\0\0\x03");
     append(rt, &mut bytes, &[2; 16]);
     append(rt, &mut bytes, &[2; 32]);
-    bytes
-}
-
-// That of its second device.
-fn second_key_file(rt: &impl Abort, alloc: Global) -> Vec<u8> {
-    let mut bytes = bytes_of(rt, alloc, b"SPK2\0\x02\x01\0\0\0\x05\0\0\0\x03");
-    append(rt, &mut bytes, &[2; 15]);
-    append(rt, &mut bytes, &[3]);
-    append(rt, &mut bytes, &[2; 31]);
-    append(rt, &mut bytes, &[3]);
     bytes
 }
 

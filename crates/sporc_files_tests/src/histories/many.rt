@@ -1,13 +1,16 @@
 //! Files of signed entries, loaded by several workers.
 
+ghost use Rattle.std.specs.Prelude.{◌≡◌, []};
+
 use super::folder::{history_file, place_behind};
-use super::loads::founded;
 use crate::bytes::turn_bit;
 use crate::checks::{check, check_at, check_stop};
+use sporc_epoch::{Pairs, Ring};
 use sporc_head::Refusal;
-use sporc_member::{Change, Role};
+use sporc_line::Line;
+use sporc_member::{Change, FIRST_DEVICE, Role};
 use sporc_outside::{Gate, OpenGate};
-use sporc_samples::{Cast, History, insertion, short_history};
+use sporc_samples::{Cast, History, epoch_key, insertion, pair_key, short_history};
 use sporc_store::{Stop, load_many};
 use std::alloc::Global;
 use std::process::Abort;
@@ -44,6 +47,26 @@ impl Gate for Holding {
     }
 
     fn after_accept<R: Wait>(&self, _rt: &R, _entries: u32) {}
+}
+
+// A ring with the key of epoch 0.
+fn founder_ring(rt: &impl Abort, alloc: Global) -> Ring {
+    let mut ring = Ring::new(alloc);
+    ring.put(0, epoch_key(0)).expect(rt, "memory");
+    ring
+}
+
+// The empty line of a founder who shares a key with the admin, in a box: a function that owns a line itself is slow to prove.
+fn founded(rt: &impl Abort, alloc: Global, cast: &Cast, me: u16) -> Box<Line>
+    ensures { result.value.entries ≡ [] }
+{
+    let ring = founder_ring(rt, alloc);
+    let mut pairs = Pairs::new(alloc);
+    let inserted: Result<_, _> = pairs.insert(1, pair_key(me, 1));
+    inserted.expect(rt, "memory");
+    let genesis = cast.genesis(alloc).expect(rt, "a genesis");
+    let line = Line::open(alloc, genesis, me, FIRST_DEVICE, ring, pairs).expect(rt, "a line");
+    Box::new(alloc, line).expect(rt, "memory")
 }
 
 // Member 2's line takes so many entries of a file that so many workers load.

@@ -1,7 +1,5 @@
 //! A tail in memory.
 
-ghost use Rattle.std.specs.Prelude.{◌≡◌, ◌+◌, ◌++◌, ◌∷◌, ℕ, [], List, length, OnOk, OnErr};
-
 use sporc_order::{Tail, Unkept};
 use std::alloc::Global;
 use std::sync::atomic::{AtomicU64, Ordering};

@@ -1,4 +1,0 @@
-//! Command lines, and lines of scripts.
-
-mod rows;
-mod scripts;
