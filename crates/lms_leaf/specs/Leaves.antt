@@ -1,7 +1,7 @@
 -- What a value that numbers leaves holds, and what its calls do to the disk and to the next number.
 use Rattle.std.specs.Prelude.{◌≡◌, ◌≢◌, ◌↔◌, ◌⊎◌, ℕ, ◌+◌, ◌*◌, ◌/◌, ◌%◌, ◌<◌, ◌≤◌, Bool, List, length, slice_index, Option, Some, Result, Ok, Err, is_ok, IsTrue, IfOk, IfSome, if◌then◌else◌}
 use Rattle.sporc_outside.specs.Counts.{Rose}
-use Rattle.sporc_outside.specs.LeafDisk.{IsStable, KeepsOutside}
+use Rattle.sporc_outside.specs.LeafDisk.{DiskTold, IsStable, KeepsOutside, disk_images}
 use Rattle.lms_leaf.specs.LeafFile.{IsTaken, taken_blocks}
 use Rattle.lms_leaf.specs.declared.leaf_file.TheConstants.{LEAVES_PER_BLOCK}
 use Rattle.lms_leaf.specs.declared.faults.LeafFault.{LeafFault}
@@ -21,15 +21,15 @@ pub record LeavesModel (D : Type 0) : Type 0 where
 
 -- At each moment from the old disk to the new one, a byte that was stable is stable. What a crash could have
 -- left before stays as it was.
-pub record KeepsStable {D : Type 0} (moment : D → ℕ) (images : D → ℕ → List ℕ → Type 0) (old new : D) : Type 0 where
-  pub later : moment old ≤ moment new
-  pub earlier : (m : ℕ) (image : List ℕ) → m ≤ moment old → images new m image ↔ images old m image
-  pub each : (at : ℕ) → IsStable (images old (moment old)) at
-      → (m : ℕ) → moment old ≤ m → m ≤ moment new → IsStable (images new m) at
+pub record KeepsStable {D : Type 0} (disk_told : D → DiskTold) (old new : D) : Type 0 where
+  pub later : (disk_told old).moment ≤ (disk_told new).moment
+  pub earlier : (m : ℕ) (image : List ℕ) → m ≤ (disk_told old).moment → (disk_told new).images m image ↔ (disk_told old).images m image
+  pub each : (at : ℕ) → IsStable (disk_images (disk_told old)) at
+      → (m : ℕ) → (disk_told old).moment ≤ m → m ≤ (disk_told new).moment → IsStable ((disk_told new).images m) at
 
 -- a draw gives the next number, one from the opening's on, and goes on to the one after it; its block is marked by a
 -- one, which is stable then, and no other byte changes
-pub record Draws {D : Type 0} (stored : D → Option (List ℕ)) (moment : D → ℕ) (images : D → ℕ → List ℕ → Type 0)
+pub record Draws {D : Type 0} (disk_told : D → DiskTold)
     (old : LeavesModel D) (result : Result ℕ LeafFault) (new : LeavesModel D) : Type 0 where
   pub given : IfOk result (λ leaf. leaf ≡ old.next)
   pub forward : IfOk result (λ leaf. old.next_at_open ≤ leaf)
@@ -37,39 +37,39 @@ pub record Draws {D : Type 0} (stored : D → Option (List ℕ)) (moment : D →
   pub next : new.next ≡ (if is_ok result then old.next + 1 else old.next)
   pub next_at_open : new.next_at_open ≡ old.next_at_open
   pub leaf_count : new.leaf_count ≡ old.leaf_count
-  pub stable : KeepsStable moment images old.disk new.disk
-  pub taken : IfOk result (λ leaf. IsTaken (images new.disk (moment new.disk)) leaf)
+  pub stable : KeepsStable disk_told old.disk new.disk
+  pub taken : IfOk result (λ leaf. IsTaken (disk_images (disk_told new.disk)) leaf)
   pub marked : IfOk result (λ leaf. leaf % LEAVES_PER_BLOCK ≡ 0
-      → IfSome (stored new.disk) (λ bytes. slice_index bytes (leaf / LEAVES_PER_BLOCK) ≡ 1))
-  pub others : KeepsOutside (old.next / LEAVES_PER_BLOCK) 1 (stored old.disk) (stored new.disk)
+      → IfSome (disk_told new.disk).stored (λ bytes. slice_index bytes (leaf / LEAVES_PER_BLOCK) ≡ 1))
+  pub others : KeepsOutside (old.next / LEAVES_PER_BLOCK) 1 (disk_told old.disk).stored (disk_told new.disk).stored
   -- a draw inside a block, or after a fault, writes nothing
-  pub unwritten : old.next % LEAVES_PER_BLOCK ≢ 0 → stored new.disk ≡ stored old.disk
-  pub unwritten_faulty : IsTrue old.faulty → stored new.disk ≡ stored old.disk
+  pub unwritten : old.next % LEAVES_PER_BLOCK ≢ 0 → (disk_told new.disk).stored ≡ (disk_told old.disk).stored
+  pub unwritten_faulty : IsTrue old.faulty → (disk_told new.disk).stored ≡ (disk_told old.disk).stored
 
 -- when a draw gives no number: `Exhausted` exactly where all are drawn, and `DiskFault` only where the disk's count
 -- of faults rose, in this draw or in an earlier one since the opening
-pub record DrawFaults {D : Type 0} (faults : D → ℕ)
+pub record DrawFaults {D : Type 0} (disk_told : D → DiskTold)
     (old : LeavesModel D) (result : Result ℕ LeafFault) (new : LeavesModel D) : Type 0 where
   pub exhausted : (next : ℕ) → (result ≡ Err (Exhausted next)) ↔ ((old.next ≡ old.leaf_count) × (next ≡ old.next))
-  pub now : result ≡ Err DiskFault → IsTrue old.faulty ⊎ Rose (faults old.disk) (faults new.disk)
-  pub since_open : result ≡ Err DiskFault → Rose old.faults_at_open (faults new.disk)
+  pub now : result ≡ Err DiskFault → IsTrue old.faulty ⊎ Rose (disk_told old.disk).faults (disk_told new.disk).faults
+  pub since_open : result ≡ Err DiskFault → Rose old.faults_at_open (disk_told new.disk).faults
   -- and then until the next opening
   pub still : IsTrue old.faulty → result ≡ Err DiskFault
   pub faulty : IsTrue new.faulty ↔ (result ≡ Err DiskFault)
   pub faults_at_open : new.faults_at_open ≡ old.faults_at_open
-  pub count : faults old.disk ≤ faults new.disk
+  pub count : (disk_told old.disk).faults ≤ (disk_told new.disk).faults
 
 -- a crash leaves what a read gives
 abbrev pub IsSynced : Option (List ℕ) → (List ℕ → Type 0) → Type 0
 IsSynced stored images = (image : List ℕ) → images image → stored ≡ Some image
 
 -- at a moment with two calls more to come, the length and the read, a crash left what a read gives
-pub record IsSyncedFirst {D : Type 0} (stored : D → Option (List ℕ)) (moment : D → ℕ) (images : D → ℕ → List ℕ → Type 0)
+pub record IsSyncedFirst {D : Type 0} (disk_told : D → DiskTold)
     (old new : D) : Type 0 where
   pub at : ℕ
-  pub after : moment old ≤ at
-  pub before : at + 2 ≤ moment new
-  pub synced : IsSynced (stored old) (images new at)
+  pub after : (disk_told old).moment ≤ at
+  pub before : at + 2 ≤ (disk_told new).moment
+  pub synced : IsSynced (disk_told old).stored ((disk_told new).images at)
 
 -- the disk that an opening gives, in the leaves or back
 abbrev pub disk_after : {D : Type 0} → Result (LeavesModel D) (LeafOpenFault × D) → D
@@ -78,20 +78,20 @@ disk_after (Err fault) = fault.1
 
 -- an opening goes on behind the last block that is taken, and leaves what the disk stores; no crash takes any of
 -- it away then
-pub record Opens {D : Type 0} (stored : D → Option (List ℕ)) (moment : D → ℕ) (images : D → ℕ → List ℕ → Type 0)
+pub record Opens {D : Type 0} (disk_told : D → DiskTold)
     (disk : D) (result : Result (LeavesModel D) (LeafOpenFault × D)) : Type 0 where
-  pub next : IfOk result (λ leaves. IfSome (stored disk) (λ bytes. leaves.next ≡ LEAVES_PER_BLOCK * taken_blocks bytes))
-  pub stable : KeepsStable moment images disk (disk_after result)
-  pub synced : IfOk result (λ leaves. IsSynced (stored leaves.disk) (images leaves.disk (moment leaves.disk)))
+  pub next : IfOk result (λ leaves. IfSome (disk_told disk).stored (λ bytes. leaves.next ≡ LEAVES_PER_BLOCK * taken_blocks bytes))
+  pub stable : KeepsStable disk_told disk (disk_after result)
+  pub synced : IfOk result (λ leaves. IsSynced (disk_told leaves.disk).stored (disk_images (disk_told leaves.disk)))
   -- the sync stands before all that is read
-  pub synced_first : IfOk result (λ leaves. IfSome (stored disk) (λ bytes. IsSyncedFirst stored moment images disk leaves.disk))
-  pub unwritten : stored (disk_after result) ≡ stored disk
+  pub synced_first : IfOk result (λ leaves. IfSome (disk_told disk).stored (λ bytes. IsSyncedFirst disk_told disk leaves.disk))
+  pub unwritten : (disk_told (disk_after result)).stored ≡ (disk_told disk).stored
 
 -- why a disk that should have so many blocks was not opened, and what came back: `DiskFault` only where the disk's
 -- count of faults rose, `BadLength` with another length, and out of memory before any call of the disk
-pub record OpenFaults {D : Type 0} (stored : D → Option (List ℕ)) (faults : D → ℕ)
+pub record OpenFaults {D : Type 0} (disk_told : D → DiskTold)
     (blocks : ℕ) (disk : D) (fault : LeafOpenFault) (back : D) : Type 0 where
-  pub disk_fault : fault ≡ open_faults.DiskFault → Rose (faults disk) (faults back)
+  pub disk_fault : fault ≡ open_faults.DiskFault → Rose (disk_told disk).faults (disk_told back).faults
   pub bad_length : (len : ℕ) → fault ≡ open_faults.BadLength len
-      → (len ≢ blocks) × IfSome (stored disk) (λ bytes. len ≡ length bytes)
+      → (len ≢ blocks) × IfSome (disk_told disk).stored (λ bytes. len ≡ length bytes)
   pub memory : fault ≡ open_faults.Memory → back ≡ disk

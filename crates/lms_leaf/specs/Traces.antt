@@ -1,6 +1,6 @@
 -- Traces of a leaf file: openings, draws, failed calls, and crashes at any moment, in any order.
-use Rattle.std.specs.Prelude.{ℕ, ◌≤◌, List, [], ◌∷◌, Option, Result, Ok, Err}
-use Rattle.sporc_outside.specs.LeafDisk.{IsFound}
+use Rattle.std.specs.Prelude.{ℕ, ◌≤◌, List, [], ◌∷◌, Result, Ok, Err}
+use Rattle.sporc_outside.specs.LeafDisk.{DiskTold, IsDiskFound}
 use Rattle.lms_leaf.specs.Leaves.{LeavesModel, Draws, Opens, disk_after}
 use Rattle.lms_leaf.specs.declared.faults.LeafFault.{LeafFault}
 use Rattle.lms_leaf.specs.declared.faults.LeafOpenFault.{LeafOpenFault}
@@ -40,25 +40,25 @@ state_after state (Close ∷ moves) = state_after (AtRest (disk_of state)) moves
 state_after state (Crash found ∷ moves) = state_after (AtRest found) moves
 
 -- a moment of a call
-abbrev pub IsDuring : {D : Type 0} → (D → ℕ) → D → D → ℕ → Type 0
-IsDuring moment old new at = (moment old ≤ at) × (at ≤ moment new)
+abbrev pub IsDuring : {D : Type 0} → (D → DiskTold) → D → D → ℕ → Type 0
+IsDuring disk_told old new at = ((disk_told old).moment ≤ at) × (at ≤ (disk_told new).moment)
 
-module _ {D : Type 0} (stored : D → Option (List ℕ)) (moment : D → ℕ) (images : D → ℕ → List ℕ → Type 0) where
+module _ {D : Type 0} (disk_told : D → DiskTold) where
   -- these moves can happen, one after another
   abbrev pub IsTrace : FileState D → List (LeafMove D) → Type 0
   IsTrace state [] = Unit {0}
   IsTrace state (Crash found ∷ moves) =
-      IsFound stored moment images (disk_of state) (moment (disk_of state)) found × IsTrace (AtRest found) moves
-  IsTrace (AtRest disk) (Open result ∷ moves) = Opens stored moment images disk result × IsTrace (state_opened result) moves
+      IsDiskFound disk_told (disk_of state) (disk_told (disk_of state)).moment found × IsTrace (AtRest found) moves
+  IsTrace (AtRest disk) (Open result ∷ moves) = Opens disk_told disk result × IsTrace (state_opened result) moves
   IsTrace (AtRest disk) (OpenCut result at found ∷ moves) =
-      Opens stored moment images disk result × IsDuring moment disk (disk_after result) at
-      × IsFound stored moment images (disk_after result) at found × IsTrace (AtRest found) moves
+      Opens disk_told disk result × IsDuring disk_told disk (disk_after result) at
+      × IsDiskFound disk_told (disk_after result) at found × IsTrace (AtRest found) moves
   IsTrace (AtRest disk) (move ∷ moves) = ⊥
   IsTrace (InUse leaves) (Draw result after ∷ moves) =
-      Draws stored moment images leaves result after × IsTrace (InUse after) moves
+      Draws disk_told leaves result after × IsTrace (InUse after) moves
   IsTrace (InUse leaves) (DrawCut result after at found ∷ moves) =
-      Draws stored moment images leaves result after × IsDuring moment leaves.disk after.disk at
-      × IsFound stored moment images after.disk at found × IsTrace (AtRest found) moves
+      Draws disk_told leaves result after × IsDuring disk_told leaves.disk after.disk at
+      × IsDiskFound disk_told after.disk at found × IsTrace (AtRest found) moves
   IsTrace (InUse leaves) (Close ∷ moves) = IsTrace (AtRest leaves.disk) moves
   IsTrace (InUse leaves) (move ∷ moves) = ⊥
 

@@ -2,7 +2,7 @@
 
 ghost use Rattle.std.specs.Prelude.{◌≡◌, ◌≢◌, ◌^◌, ◌<◌, ◌*◌, ◌/◌, ◌%◌, ◌≤◌, length, slice_index, replicate, IfOk, IfSome, OnOk};
 ghost use Rattle.sporc_outside.specs.Counts.{CountsFaults};
-ghost use Rattle.sporc_outside.specs.LeafDisk.{IsStable, KeepsOutside};
+ghost use Rattle.sporc_outside.specs.LeafDisk.{IsStable, KeepsOutside, disk_images};
 ghost use Rattle.lms_leaf.specs.LeafFile.{IsLeafHeight, IsTaken, block_count, taken_blocks};
 ghost use Rattle.lms_leaf.specs.Leaves.{KeepsStable};
 ghost use Rattle.lms_leaf.specs.declared.leaf_file.TheConstants.{LEAVES_PER_BLOCK};
@@ -50,18 +50,18 @@ pub(crate) fn taken_of(bytes: &[u8]) -> usize
 
 // Takes the block of a leaf, if that leaf is its first.
 pub(crate) fn begin_block<D: LeafDisk>(disk: &mut D, leaf: u32) -> Result<(), Failed>
-    requires free { leaf % LEAVES_PER_BLOCK ≡ 0 → IfSome (D.stored disk.old) (λ bytes.
+    requires free { leaf % LEAVES_PER_BLOCK ≡ 0 → IfSome (D.told disk.old).stored (λ bytes.
         (leaf / LEAVES_PER_BLOCK < length bytes)
         × (slice_index bytes (leaf / LEAVES_PER_BLOCK) ≡ 0)) }
     requires begun { leaf % LEAVES_PER_BLOCK ≢ 0
-        → IsTaken (D.images disk.old (D.moment disk.old)) leaf }
-    ensures taken { OnOk result (IsTaken (D.images disk.new (D.moment disk.new)) leaf) }
-    ensures stable { KeepsStable D.moment D.images disk.old disk.new }
-    ensures one { OnOk result (leaf % LEAVES_PER_BLOCK ≡ 0 → IfSome (D.stored disk.new) (λ bytes.
+        → IsTaken (disk_images (D.told disk.old)) leaf }
+    ensures taken { OnOk result (IsTaken (disk_images (D.told disk.new)) leaf) }
+    ensures stable { KeepsStable D.told disk.old disk.new }
+    ensures one { OnOk result (leaf % LEAVES_PER_BLOCK ≡ 0 → IfSome (D.told disk.new).stored (λ bytes.
         slice_index bytes (leaf / LEAVES_PER_BLOCK) ≡ 1)) }
-    ensures others { KeepsOutside (leaf / LEAVES_PER_BLOCK) 1 (D.stored disk.old) (D.stored disk.new) }
-    ensures unwritten { leaf % LEAVES_PER_BLOCK ≢ 0 → D.stored disk.new ≡ D.stored disk.old }
-    ensures count { CountsFaults (D.faults disk.old) (D.faults disk.new) result }
+    ensures others { KeepsOutside (leaf / LEAVES_PER_BLOCK) 1 (D.told disk.old).stored (D.told disk.new).stored }
+    ensures unwritten { leaf % LEAVES_PER_BLOCK ≢ 0 → (D.told disk.new).stored ≡ (D.told disk.old).stored }
+    ensures count { CountsFaults (D.told disk.old).faults (D.told disk.new).faults result }
 {
     if leaf % LEAVES_PER_BLOCK != 0 {
         return Ok(());
@@ -71,13 +71,13 @@ pub(crate) fn begin_block<D: LeafDisk>(disk: &mut D, leaf: u32) -> Result<(), Fa
 
 // Takes a block that is free.
 fn take_block<D: LeafDisk>(disk: &mut D, block: u32) -> Result<(), Failed>
-    requires { IfSome (D.stored disk.old) (λ bytes.
+    requires { IfSome (D.told disk.old).stored (λ bytes.
         (block < length bytes) × (slice_index bytes block ≡ 0)) }
-    ensures taken { OnOk result (IsStable (D.images disk.new (D.moment disk.new)) block) }
-    ensures stable { KeepsStable D.moment D.images disk.old disk.new }
-    ensures one { OnOk result (IfSome (D.stored disk.new) (λ bytes. slice_index bytes block ≡ 1)) }
-    ensures others { KeepsOutside block 1 (D.stored disk.old) (D.stored disk.new) }
-    ensures count { CountsFaults (D.faults disk.old) (D.faults disk.new) result }
+    ensures taken { OnOk result (IsStable (disk_images (D.told disk.new)) block) }
+    ensures stable { KeepsStable D.told disk.old disk.new }
+    ensures one { OnOk result (IfSome (D.told disk.new).stored (λ bytes. slice_index bytes block ≡ 1)) }
+    ensures others { KeepsOutside block 1 (D.told disk.old).stored (D.told disk.new).stored }
+    ensures count { CountsFaults (D.told disk.old).faults (D.told disk.new).faults result }
 {
     disk.write_at(u64::from(block), &[1])?;
     disk.sync()

@@ -1,6 +1,7 @@
 //! The leaves of a key, drawn in order.
 
 ghost use Rattle.std.specs.Prelude.{◌≡◌, ℕ, ◌*◌, ◌^◌, ◌≤◌, false, length, OnOk, IfOk, IfErr, IfSome};
+ghost use Rattle.sporc_outside.specs.LeafDisk.{disk_images};
 ghost use Rattle.lms_leaf.specs.LeafFile.{IsLeafHeight, ArePassed, AreTaken, block_count, taken_blocks};
 ghost use Rattle.lms_leaf.specs.Leaves.{KeepsStable, IsSynced, IsSyncedFirst, Draws, DrawFaults, Opens, OpenFaults, disk_after};
 ghost use Rattle.lms_leaf.specs.declared.leaf_file.TheConstants.{LEAVES_PER_BLOCK};
@@ -38,7 +39,7 @@ impl<D: LeafDisk> Model for Leaves<D> {
       faults_at_open = l.faults_at_open;
     } };
 
-    ghost invariant = { LeavesInvariant D.stored D.moment D.images D.faults };
+    ghost invariant = { LeavesInvariant D.told };
 }
 
 impl<D: LeafDisk> Leaves<D> {
@@ -47,15 +48,15 @@ impl<D: LeafDisk> Leaves<D> {
     pub fn open(alloc: Global, mut disk: D, height: u32) -> Result<Leaves<D>, (LeafOpenFault, D)>
         requires { IsLeafHeight height }
 
-        ensures opens { Opens D.stored D.moment D.images disk result }
+        ensures opens { Opens D.told disk result }
         ensures leaf_count { IfOk result (λ leaves. leaves.leaf_count ≡ 2 ^ height) }
         ensures fresh { IfOk result (λ leaves. (leaves.next_at_open ≡ leaves.next)
-            × (leaves.faulty ≡ false) × (leaves.faults_at_open ≡ D.faults leaves.disk)) }
-        ensures right_length { OnOk result (IfSome (D.stored disk) (λ bytes.
+            × (leaves.faulty ≡ false) × (leaves.faults_at_open ≡ (D.told leaves.disk).faults)) }
+        ensures right_length { OnOk result (IfSome (D.told disk).stored (λ bytes.
             length bytes ≡ block_count height)) }
         ensures err { IfErr result (λ fault.
-            OpenFaults D.stored D.faults (block_count height) disk fault.0 fault.1) }
-        ensures count { D.faults disk ≤ D.faults (disk_after result) }
+            OpenFaults D.told (block_count height) disk fault.0 fault.1) }
+        ensures count { (D.told disk).faults ≤ (D.told (disk_after result)).faults }
     {
         match find_next(alloc, &mut disk, height) {
             Ok(next) => {
@@ -77,8 +78,8 @@ impl<D: LeafDisk> Leaves<D> {
     /// Gives the next number, and takes its block first where it begins one. After a disk fault
     /// each draw answers a disk fault until the file is opened again.
     pub fn draw(&mut self) -> Result<u32, LeafFault>
-        ensures draws { Draws D.stored D.moment D.images self.old result self.new }
-        ensures faults { DrawFaults D.faults self.old result self.new }
+        ensures draws { Draws D.told self.old result self.new }
+        ensures faults { DrawFaults D.told self.old result self.new }
     {
         if self.next == self.leaf_count {
             return Err(LeafFault::Exhausted(self.next));
@@ -102,8 +103,8 @@ impl<D: LeafDisk> Leaves<D> {
         ensures value { result ≡ self.now.next }
         ensures forward { self.now.next_at_open ≤ result }
         ensures within { result ≤ self.now.leaf_count }
-        ensures taken { AreTaken (D.images self.now.disk (D.moment self.now.disk)) self.now.next_at_open result }
-        ensures passed { ArePassed (D.images self.now.disk (D.moment self.now.disk)) result }
+        ensures taken { AreTaken (disk_images (D.told self.now.disk)) self.now.next_at_open result }
+        ensures passed { ArePassed (disk_images (D.told self.now.disk)) result }
     {
         self.next
     }
@@ -112,8 +113,8 @@ impl<D: LeafDisk> Leaves<D> {
     /// later opening goes on at the next number or above it.
     pub fn close(self) -> D
         ensures value { result ≡ self.disk }
-        ensures taken { AreTaken (D.images result (D.moment result)) self.next_at_open self.next }
-        ensures passed { ArePassed (D.images result (D.moment result)) self.next }
+        ensures taken { AreTaken (disk_images (D.told result)) self.next_at_open self.next }
+        ensures passed { ArePassed (disk_images (D.told result)) self.next }
     {
         self.disk
     }
@@ -122,21 +123,21 @@ impl<D: LeafDisk> Leaves<D> {
 // Syncs the disk, and gives the number behind the last block that is taken.
 fn find_next<D: LeafDisk>(alloc: Global, disk: &mut D, height: u32) -> Result<u32, LeafOpenFault>
     requires { IsLeafHeight height }
-    ensures next { IfOk result (λ next. IfSome (D.stored disk.old) (λ bytes.
+    ensures next { IfOk result (λ next. IfSome (D.told disk.old).stored (λ bytes.
         next ≡ LEAVES_PER_BLOCK * taken_blocks bytes)) }
     ensures first_of_block { IfOk result (λ next. (blocks : ℕ)
         × (next ≡ LEAVES_PER_BLOCK * blocks) × (blocks ≤ block_count height)) }
-    ensures right_length { OnOk result (IfSome (D.stored disk.old) (λ bytes.
+    ensures right_length { OnOk result (IfSome (D.told disk.old).stored (λ bytes.
         length bytes ≡ block_count height)) }
     ensures err { IfErr result (λ fault.
-        OpenFaults D.stored D.faults (block_count height) disk.old fault disk.new) }
-    ensures stable { KeepsStable D.moment D.images disk.old disk.new }
+        OpenFaults D.told (block_count height) disk.old fault disk.new) }
+    ensures stable { KeepsStable D.told disk.old disk.new }
     ensures synced { OnOk result
-        (IsSynced (D.stored disk.new) (D.images disk.new (D.moment disk.new))) }
-    ensures synced_first { OnOk result (IfSome (D.stored disk.old) (λ bytes.
-        IsSyncedFirst D.stored D.moment D.images disk.old disk.new)) }
-    ensures stored { D.stored disk.new ≡ D.stored disk.old }
-    ensures count { D.faults disk.old ≤ D.faults disk.new }
+        (IsSynced (D.told disk.new).stored (disk_images (D.told disk.new))) }
+    ensures synced_first { OnOk result (IfSome (D.told disk.old).stored (λ bytes.
+        IsSyncedFirst D.told disk.old disk.new)) }
+    ensures stored { (D.told disk.new).stored ≡ (D.told disk.old).stored }
+    ensures count { (D.told disk.old).faults ≤ (D.told disk.new).faults }
 {
     let blocks = blocks_of(height);
     let mut bytes = vec![in alloc; 0u8; blocks]?;

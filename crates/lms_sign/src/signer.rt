@@ -1,6 +1,7 @@
 //! Signers.
 
 ghost use Rattle.std.specs.Prelude.{◌≡◌, ◌^◌, ◌<◌, ◌≤◌, IfOk, IfErr};
+ghost use Rattle.sporc_outside.specs.LeafDisk.{disk_images};
 ghost use Rattle.lms_tree.specs.LmsType.{height_of};
 ghost use Rattle.lms_tree.specs.LmsPrivate.{lms_public_of};
 ghost use Rattle.lms_tree.specs.Signatures.{lms_signature_of};
@@ -47,8 +48,8 @@ impl<D: LeafDisk> Signer<D> {
 
     /// Draws the next leaf.
     pub fn draw(&mut self) -> Result<Ticket, LeafFault>
-        ensures draws { Draws D.stored D.moment D.images self.old.leaves result self.new.leaves }
-        ensures faults { DrawFaults D.faults self.old.leaves result self.new.leaves }
+        ensures draws { Draws D.told self.old.leaves result self.new.leaves }
+        ensures faults { DrawFaults D.told self.old.leaves result self.new.leaves }
         ensures can_sign { IfOk result (λ ticket. ticket < 2 ^ height_of self.old.key.lms) }
         ensures key { self.new.key ≡ self.old.key }
     {
@@ -97,9 +98,9 @@ impl<D: LeafDisk> Signer<D> {
         ensures forward { self.now.leaves.next_at_open ≤ result }
         ensures within { result ≤ self.now.leaves.leaf_count }
         ensures all { self.now.leaves.leaf_count ≡ 2 ^ height_of self.now.key.lms }
-        ensures taken { AreTaken (D.images self.now.leaves.disk (D.moment self.now.leaves.disk))
+        ensures taken { AreTaken (disk_images (D.told self.now.leaves.disk))
             self.now.leaves.next_at_open result }
-        ensures passed { ArePassed (D.images self.now.leaves.disk (D.moment self.now.leaves.disk)) result }
+        ensures passed { ArePassed (disk_images (D.told self.now.leaves.disk)) result }
     {
         self.leaves.next()
     }
@@ -108,9 +109,9 @@ impl<D: LeafDisk> Signer<D> {
     /// opening free again, and a later opening goes on at the next leaf or above it.
     pub fn close(self) -> D
         ensures value { result ≡ self.leaves.disk }
-        ensures taken { AreTaken (D.images result (D.moment result))
+        ensures taken { AreTaken (disk_images (D.told result))
             self.leaves.next_at_open self.leaves.next }
-        ensures passed { ArePassed (D.images result (D.moment result)) self.leaves.next }
+        ensures passed { ArePassed (disk_images (D.told result)) self.leaves.next }
     {
         self.leaves.close()
     }

@@ -1,3 +1,4 @@
 pub mod Bytes
 pub mod FirstFault
+pub mod Numbers
 pub mod Outcome

@@ -1,6 +1,5 @@
 //! What every crate of `sporc` would write again: the error of a call that is out of memory, lists, bytes, and the words
-//! that say what
-//! a call answers.
+//! that say what a call answers.
 //!
 //! - [`Memory`]: out of memory.
 //! - [`Items`]: a `Vec` that contracts see as the list of its items; [`Bytes`] is one of bytes.
@@ -11,6 +10,7 @@
 //!   memory runs out (`GivesUnless`).
 //! - `specs/FirstFault.antt`: a call answers the first fault of a list of checks: exactly that (`Answers`), or that unless
 //!   memory runs out (`AnswersUnless`).
+//! - `specs/Numbers.antt`: the numbers from 1 to another (`up_to`).
 //! - `specs/Bytes.antt`: numbers that are bytes (`IsBytes`); `proofs/ByteLemmas.antt` has their laws,
 //!   `proofs/ListLemmas.antt` those of lists that several crates need.
 //!

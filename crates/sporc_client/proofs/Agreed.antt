@@ -1,6 +1,9 @@
 -- Every run keeps the headline.
 use Rattle.std.proofs.Common.{◌≡◌, ℕ, ◌+◌, ◌≤◌, Bool, true, false, cond, List, ◌++◌, length, take, refl, ap, sym, ◌∙◌, subst, arith, Option, None, Some}
-use Rattle.std.specs.Prelude.{fold, is_some, slice_get}
+use Rattle.std.specs.Prelude.{◌↔◌, fold, slice_get, IsSome, IsSomeAnd, Ok}
+use Rattle.lms_tree.specs.declared.public_key.LmsPublic.{LmsPublic}
+use Rattle.lms_tree.specs.LmsPublic.{public_key_in}
+use Rattle.lms_tree.specs.Verification.{verifies}
 use Rattle.sporc_member.specs.Device.{same_device}
 use Rattle.sporc_member.proofs.SameDevice.{same_one}
 use Rattle.std.proofs.lemmas.List.{take_all}
@@ -10,11 +13,10 @@ use Rattle.sporc_member.specs.declared.member.Member.{Member}
 use Rattle.sporc_member.specs.Roster.{key_of as key_of_device, member_at}
 use Rattle.sporc_entry.specs.declared.entry.Entry.{Entry}
 use Rattle.sporc_entry.specs.declared.genesis.Genesis.{Genesis}
-use Rattle.sporc_entry.specs.Entry.{author_device, signed_string}
-use Rattle.sporc_entry.specs.Version.{version_of}
+use Rattle.sporc_entry.specs.Entry.{author_device, entry_of, signed_string}
 use Rattle.sporc_head.specs.declared.refusal.Refusal.{Refusal}
-use Rattle.sporc_head.specs.HeadChecks.{allows_member, verifies_device}
-use Rattle.sporc_head.specs.History.{changes, count_of, epoch_of, hash_of, roster_of}
+use Rattle.sporc_head.specs.HeadChecks.{allows, allows_member, verifies_device, verifies_under}
+use Rattle.sporc_head.specs.History.{changes, epoch_of, hash_of, roster_of}
 use Rattle.sporc_line.specs.Keys.{key_of}
 use Rattle.sporc_line.specs.LineChecks.{first_fault}
 use Rattle.sporc_line.specs.LineStrings.{line_strings}
@@ -28,15 +30,17 @@ use Rattle.sporc_line.proofs.SameKeys.{has_left, has_right, keys_meet, one_readi
 use Rattle.sporc_client.specs.declared.fault.AcceptFault.TheVariants.{Refused}
 use Rattle.sporc_client.specs.PlainClient.{PlainClient, after_pending, committed_of}
 use Rattle.sporc_client.specs.Answers.{accept_fault, is_out, journal_has_room, or_full, refusal_of}
-use Rattle.sporc_client.specs.Run.{Setup, World, Signing, Move, start, IsRun, given, gives_to, with_client, world_at}
-use Rattle.sporc_client.specs.Genuine.{IsSignedUnder, IsUnderRunKey}
-use Rattle.sporc_client.specs.Agree.{Agree, HistoriesCollisionFree, IsClient, IsRightful, IsSameWorld, RefusesFor, SameHistoryAndText, StandsBehind, key_at}
+use Rattle.sporc_client.specs.Run.{Setup, World, Signing, Move, start, IsRun, given, with_client, world_at}
+use Rattle.sporc_client.specs.Genuine.{HasSigned}
+use Rattle.sporc_client.specs.Agree.{Agree, HistoriesCollisionFree, IsClient, IsRightful, SameHistoryAndText, StandsBehind}
 use Rattle.sporc_client.specs.Reached.{IsReached}
+use Rattle.sporc_client.specs.Step.{accepted}
 use Rattle.sporc_client.specs.WellFormed.{IsWellFormed}
+use Rattle.sporc_client.proofs.Worlds.{gives_to}
 use Rattle.sporc_client.proofs.InHistories.{named_prefix, one_hash, one_place, one_prefix, same_base}
-use Rattle.sporc_client.proofs.Reached.{reached_at, run_front}
-use Rattle.sporc_client.proofs.SignedEntries.{AllSignings, IsSigning, signing_at}
-use Rattle.sporc_client.proofs.Sourced.{all_genuine, genuine_front}
+use Rattle.sporc_client.proofs.Reached.{reached_at}
+use Rattle.sporc_client.proofs.SignedEntries.{AllSignings, IsSigning, signing_at, signing_in}
+use Rattle.sporc_client.proofs.Sourced.{genuine_at}
 
 -- ---- what a client of a run knows, over the genesis of the run
 
@@ -94,7 +98,8 @@ same_history s i j c d one two free h =
 -- ---- one key
 
 one_key : (s : Setup) (i j : Device) (c d : PlainClient) (epoch : ℕ) → IsReached s i c → IsReached s j d → HistoriesCollisionFree c d → is_out c ≡ false → is_out d ≡ false
-    → epoch ≤ epoch_of c.entries → epoch ≤ epoch_of d.entries → commitment_at s.genesis (changes c.entries) epoch ≡ commitment_at s.genesis (changes d.entries) epoch → key_at c epoch ≡ key_at d epoch
+    → epoch ≤ epoch_of c.entries → epoch ≤ epoch_of d.entries → commitment_at s.genesis (changes c.entries) epoch ≡ commitment_at s.genesis (changes d.entries) epoch
+    → key_of c.opening.genesis c.opening.kit c.entries epoch ≡ key_of d.opening.genesis d.opening.kit d.entries epoch
 one_key s i j c d epoch one two free there there' le le' same =
     let g = s.genesis in
     let mine = line_strings g c.opening.kit c.entries in
@@ -130,46 +135,48 @@ authors_base s i x c signing e one told free stands =
 
 -- ---- in order
 
-rightful_by : (s : Setup) (entries : List (List ℕ)) (x : ℕ) (e : Entry) (o : Option Member) (k : Option (List ℕ)) → member_at (roster_of s.genesis (take x entries)) e.header.author ≡ o
-    → key_of_device (roster_of s.genesis (take x entries)) (author_device e.header) ≡ k → e.header.version ≡ version_of (roster_of s.genesis (take x entries)).upgraded
-    → is_some o ≡ true → is_some k ≡ true → allows_member e.header.kind o ≡ true → verifies_device (signed_string e) e.signature k ≡ true
-    → e.header.number ≡ count_of (author_device e.header) (take x entries) + 1 → IsRightful s x entries e
-rightful_by s entries x e None k is its version some live right verifies number = absurd cc
-rightful_by s entries x e (Some member) None is its version some live right verifies number = absurd cc
-rightful_by s entries x e (Some member) (Some key) is its version some live right verifies number = record {
-  version = version;
-  member = member;
-  is_member = is;
-  role = right;
-  key = key;
-  is_key = its;
-  signature = verifies;
-  number = number;
-}
+right_of : (kind : ℕ) (o : Option Member) → allows_member kind o ≡ true → IsSomeAnd o (λ m. allows m.role kind ≡ true)
+right_of kind None right = absurd cc
+right_of kind (Some m) right = right
 
-in_order : (s : Setup) (i : Device) (x : ℕ) (c : PlainClient) (bytes : List ℕ) → IsReached s i c → slice_get c.entries x ≡ Some bytes → (e : Entry) × StandsBehind x c.entries bytes e × IsRightful s x c.entries e
+verified_by : (message signature : List ℕ) (o : Option (List ℕ)) → verifies_device message signature o ≡ true
+    → IsSomeAnd o (λ bytes. IsSomeAnd (public_key_in bytes) (λ key. verifies key message signature ≡ true))
+verified_by message signature None verified = absurd cc
+verified_by message signature (Some bytes) verified = go (public_key_in bytes) verified
+  where
+    go : (o : Option LmsPublic) → verifies_under message signature o ≡ true → IsSomeAnd o (λ key. verifies key message signature ≡ true)
+    go None verified = absurd cc
+    go (Some key) verified = verified
+
+in_order : (s : Setup) (i : Device) (x : ℕ) (c : PlainClient) (bytes : List ℕ) → IsReached s i c → slice_get c.entries x ≡ Some bytes
+    → (e : Entry) × StandsBehind x c.entries bytes e × IsRightful s (take x c.entries) e
 in_order s i x c bytes reached at =
     let g = s.genesis in
+    let roster = roster_of g (take x c.entries) in
     let p = good_entry g c.opening.kit c.entries x bytes (good_of s i c reached) at in
     let q : Passes g c.opening.kit (take x c.entries) (x + 1) p.0 = p.2 in (
       p.0,
       record { at = at; reads = p.1 },
-      rightful_by s c.entries x p.0 (member_at (roster_of g (take x c.entries)) p.0.header.author) (key_of_device (roster_of g (take x c.entries)) (author_device p.0.header))
-          refl refl q.version q.member q.device q.right q.signature q.number,
+      record {
+        version = q.version;
+        role = right_of p.0.header.kind (member_at roster p.0.header.author) q.right;
+        signature = verified_by (signed_string p.0) p.0.signature (key_of_device roster (author_device p.0.header)) q.signature;
+        number = q.number;
+      },
     )
 
 -- ---- by its author
 
 -- who signed an entry of clients of the run is its author
-by_author : (s : Setup) (w : World) (entries : List (List ℕ)) (bytes : List ℕ) → AllSignings s w → (under : IsUnderRunKey s entries bytes) → IsSignedUnder s w under.key bytes
-    → (by : IsSignedUnder s w under.key bytes) × (author_device under.entry.header ≡ by.signing.who)
-by_author s w entries bytes all under by =
+by_author : (s : Setup) (w : World) (owner : Device) (bytes : List ℕ) (e : Entry) → AllSignings s w → entry_of bytes ≡ Ok e → (signer : Device) × HasSigned s w owner signer bytes
+    → HasSigned s w owner (author_device e.header) bytes
+by_author s w owner bytes e all is (signer, by) =
     let told = all by.signing by.signed in
     let read = told.reads in
-    let same = by.bytes_are in
-    let is = under.reads in
-    let entry : told.entry ≡ under.entry = cc in
-    (by, ap (λ (e : Entry). author_device e.header) (sym entry) ∙ told.author)
+    let same = by.entry in
+    let entry : told.entry ≡ e = cc in
+    let author : author_device e.header ≡ signer = ap (λ (e : Entry). author_device e.header) (sym entry) ∙ told.author ∙ by.by in
+    subst (λ (who : Device). HasSigned s w owner who bytes) (sym author) by
 
 -- ---- refusals
 
@@ -177,6 +184,17 @@ refused_only : (room : Bool) (o : Option Refusal) (refusal : Refusal) → or_ful
 refused_only room (Some other) refusal h = cc
 refused_only true None refusal h = absurd cc
 refused_only false None refusal h = absurd cc
+
+refuses_at : (s : Setup) (i : Device) (position : ℕ) (c : PlainClient) (bytes : List ℕ) (refusal : Refusal) → IsReached s i c
+    → (accept_fault c position bytes ≡ Some (Refused refusal)) ↔ (first_fault s.genesis c.opening.kit c.entries position bytes ≡ Some refusal)
+unfolding accept_fault
+refuses_at s i position c bytes refusal reached = (
+  λ answer. sym here ∙ refused_only (journal_has_room c) (refusal_of c position bytes) refusal answer,
+  λ fails. ap (or_full (journal_has_room c)) (here ∙ fails),
+)
+  where
+    here : refusal_of c position bytes ≡ first_fault s.genesis c.opening.kit c.entries position bytes
+    here = ap (λ (g : Genesis). first_fault g c.opening.kit c.entries position bytes) (genesis_of s i c reached)
 
 -- the clients with one in the place that it has
 put_back : (clients : Device → Option PlainClient) (i : Device) (c : PlainClient) (other : Device) → clients i ≡ Some c → with_client clients i c other ≡ clients other
@@ -186,27 +204,21 @@ put_back clients i c other at = go (same_device other i) refl
     go true is = sym (ap clients (same_one other i is) ∙ at)
     go false is = refl
 
-refuses_at : (s : Setup) (w : World) (i : Device) (position : ℕ) (c : PlainClient) (bytes : List ℕ) (refusal : Refusal) → IsReached s i c → w.clients i ≡ Some c → RefusesFor s w i position c bytes refusal
-unfolding accept_fault
-refuses_at s w i position c bytes refusal reached at = record {
-  first = (
-    λ answer. sym here ∙ refused_only (journal_has_room c) (refusal_of c position bytes) refusal answer,
-    λ fails. ap (or_full (journal_has_room c)) (here ∙ fails),
-  );
-  unchanged = λ answer. unchanged (refused_only (journal_has_room c) (refusal_of c position bytes) refusal answer);
-}
+not_given : (c : PlainClient) (bytes : List ℕ) (o : Option Refusal) → IsSome (or_full (journal_has_room c) o) → given c bytes o ≡ c
+not_given c bytes (Some refusal) fails = refl
+not_given c bytes None fails = go (journal_has_room c) fails
   where
-    here : refusal_of c position bytes ≡ first_fault s.genesis c.opening.kit c.entries position bytes
-    here = ap (λ (g : Genesis). first_fault g c.opening.kit c.entries position bytes) (genesis_of s i c reached)
+    go : (room : Bool) → IsSome (or_full room None) → cond room (accepted c bytes) c ≡ c
+    go true fails = absurd cc
+    go false fails = refl
 
-    stays : refusal_of c position bytes ≡ Some refusal → given c bytes (refusal_of c position bytes) ≡ c
-    stays is = ap (given c bytes) is
-
-    unchanged : refusal_of c position bytes ≡ Some refusal → IsSameWorld w (gives_to w i position bytes (w.clients i))
-    unchanged is = subst (λ (o : Option PlainClient). IsSameWorld w (gives_to w i position bytes o)) (sym at) (record {
-      clients = λ who. ap (λ (d : PlainClient). with_client w.clients i d who) (stays is) ∙ put_back w.clients i c who at;
-      signed = refl;
-    })
+unchanged_at : (w : World) (i : Device) (position : ℕ) (c : PlainClient) (bytes : List ℕ) → w.clients i ≡ Some c → IsSome (accept_fault c position bytes)
+    → (other : Device) → (gives_to w i position bytes (w.clients i)).clients other ≡ w.clients other
+unfolding accept_fault
+unchanged_at w i position c bytes at fails other =
+    ap (λ (o : Option PlainClient). (gives_to w i position bytes o).clients other) at
+    ∙ ap (λ (d : PlainClient). with_client w.clients i d other) (not_given c bytes (refusal_of c position bytes) fails)
+    ∙ put_back w.clients i c other at
 
 -- ---- the headline
 
@@ -218,14 +230,15 @@ agree s moves well run = record {
       let one = reached c mine in
       let two = reached d yours in
       same_base s.genesis c.opening.kit d.opening.kit c.entries d.entries x y bytes e (good_of s mine.1 c one) (good_of s yours.1 d two) (free_of s mine.1 yours.1 c d one two free) here.at there.at here.reads;
-  authors_base = λ c x n signing e mine signed. authors_base s mine.1 x c signing e (reached c mine) (signing_at s moves n signing well run signed);
+  authors_base = λ c x signing e mine signed. authors_base s mine.1 x c signing e (reached c mine) (signing_in s moves signing well run signed);
   in_order = λ c x bytes mine. in_order s mine.1 x c bytes (reached c mine);
   once_each = λ c x y b b' e e' mine here there.
       one_place s.genesis c.opening.kit c.entries x y b b' e e' (good_of s mine.1 c (reached c mine)) here.at there.at here.reads there.reads;
-  by_signer = λ genuine n x who c bytes at in_c under.
-      by_author s (world_at s moves n) (take x c.entries) bytes (λ signing. signing_at s moves n signing well run) under
-      (all_genuine s (take n moves) (run_front s start moves n run) (genuine_front s start moves n genuine) who c at x bytes in_c under);
-  refuses = λ n position who c bytes refusal at. refuses_at s (world_at s moves n) who position c bytes refusal (reached_at s moves n who c run at) at;
+  by_signer = λ genuine n x who owner c bytes e at stands under.
+      by_author s (world_at s moves n) owner bytes e (λ signing. signing_at s moves n signing well run) stands.reads
+      (genuine_at s moves n run genuine who c at x bytes stands.at owner e stands.reads under);
+  refuses = λ c position bytes refusal mine. refuses_at s mine.1 position c bytes refusal (reached c mine);
+  unchanged = λ n position who c bytes at. unchanged_at (world_at s moves n) who position c bytes at;
 }
   where
     reached : (c : PlainClient) → (mine : IsClient s moves c) → IsReached s mine.1 c

@@ -1,7 +1,8 @@
 -- No one forges in a run in which a server hands out only what clients of the run signed.
-use Rattle.std.proofs.Common.{◌≡◌, ℕ, zero, suc, Bool, true, false, cond, List, [], ◌∷◌, ◌++◌, map, take, drop, refl, ap, sym, ◌∙◌, subst, arith, Option, None, Some, IfSome, Ok, inl, inr}
+use Rattle.std.proofs.Common.{◌≡◌, ℕ, zero, suc, ◌≤◌, Bool, true, false, cond, List, [], ◌∷◌, ◌++◌, length, map, take, drop, refl, ap, sym, ◌∙◌, subst, arith, Option, None, Some, IfSome, Ok, ◌⊎◌, inl, inr}
 use Rattle.std.specs.Prelude.{Contains, IsSomeAnd, find, fold, is_some, not, option_map, ⊤, ◌==◌}
 use Rattle.std.specs.List.{AllByRecursion, cons_option}
+use Rattle.std.proofs.lemmas.List.{length-take, length_push, same_from_push}
 use Rattle.std.proofs.lemmas.List.Elements.{Contains-append_cases}
 use Rattle.sporc_delta.specs.Marks.{Mark}
 use Rattle.sporc_delta.specs.Transforms.{earlier}
@@ -28,18 +29,21 @@ use Rattle.sporc_client.specs.Log as events
 use Rattle.sporc_client.specs.PlainClient.{PlainClient, opened}
 use Rattle.sporc_client.specs.Reached.{IsReached}
 use Rattle.sporc_client.specs.Rebasing.{rebased}
-use Rattle.sporc_client.specs.Run.{Setup, World, Signing, Move, Open, Happen, Give, Restart, IsRun, May, after, given, gives_to, happens_to, key_of_device, opening_of, restarted, restarts, signings, start, with_client}
-use Rattle.sporc_client.specs.Genuine.{Adds, Genuine, IsGenuine}
+use Rattle.sporc_client.specs.Run.{Setup, World, Signing, Move, Open, Happen, Give, Restart, IsRun, May, after, given, key_of_device, opening_of, signings, start, with_client}
+use Rattle.sporc_client.specs.Genuine.{Genuine, IsGenuine}
 use Rattle.sporc_client.specs.Soundness.{IsOfFirst}
 use Rattle.sporc_client.specs.Step.{accepted, change_comes, edit_comes, form_coming, is_flight, log_of_entries, own_comes, replay, replay_from, restated, step}
 use Rattle.sporc_client.specs.Typed.{IsTypedEvent, IsTypedMove, IsTypedRun}
 use Rattle.sporc_client.specs.WellFormed.{IsWellFormed}
-use Rattle.sporc_client.proofs.AcceptedHistories.{accepted_as}
+use Rattle.sporc_client.proofs.Worlds.{gives_to, happens_to, restarted, restarts}
+use Rattle.sporc_client.proofs.AcceptedHistories.{accepted_as, accepts_all}
 use Rattle.sporc_client.proofs.Reached.{AllReached, reached_after, reached_start, with_client_cases}
 use Rattle.sporc_client.proofs.RosterFacts.{all_filter, all_inserted}
 use Rattle.sporc_client.proofs.SignedEntries.{AllSignings, IsSigning, none_signed, signings_after}
 use Rattle.sporc_client.proofs.SoundClients.{IsSoundAndTyped, made_in_flight}
 use Rattle.sporc_client.proofs.SoundRuns.{AllSound, sound_after}
+use Rattle.sporc_client.proofs.Sourced.{AddGenuine}
+use Rattle.sporc_line.proofs.Goods.{good_take}
 use Rattle.sporc_client.proofs.Submitting.{made_by_submission}
 
 -- ---- pending items and histories whose changes add devices under their own keys
@@ -238,50 +242,107 @@ own_after s w (Restart who k) well reached sound typed may closed all = go (w.cl
     go None is = all
     go (Some c) is = own_with s w who (restarted c k) w.signed all (restarted_own s c k (all.clients who c is)) all.signed
 
+-- ---- what a move adds to a history was signed
+
+not_more : (xs ys : List (List ℕ)) (bytes : List ℕ) → length xs ≤ length ys → xs ≡ ys ++ bytes ∷ [] → ⊥
+not_more xs ys bytes low more = omega (arith, low, length_push ys bytes, ap length more)
+
+-- a client that is as it was
+no_more : (c d : PlainClient) (bytes : List ℕ) (o : Option PlainClient) → o ≡ Some c → o ≡ Some d → d.entries ≡ c.entries ++ bytes ∷ [] → ⊥
+no_more c d bytes o was is more =
+    let same : d ≡ c = cc in
+    not_more d.entries c.entries bytes (subst (λ (x : PlainClient). length x.entries ≤ length c.entries) (sym same) (omega arith)) more
+
+-- a client with more than it had is that of the device that moves
+mover_more : (w : World) (i who : Device) (b c d moved : PlainClient) (bytes : List ℕ) → w.clients i ≡ Some b → w.clients who ≡ Some c → with_client w.clients i moved who ≡ Some d
+    → d.entries ≡ c.entries ++ bytes ∷ [] → moved.entries ≡ b.entries ++ bytes ∷ []
+mover_more w i who b c d moved bytes its was is more = go (with_client_cases w.clients i who moved d is)
+  where
+    go : ((who ≡ i) × (moved ≡ d)) ⊎ (w.clients who ≡ Some d) → moved.entries ≡ b.entries ++ bytes ∷ []
+    go (inl p) =
+        let had : w.clients i ≡ Some c = subst (λ (j : Device). w.clients j ≡ Some c) p.0 was in
+        let same : c ≡ b = cc in
+        ap (λ (x : PlainClient). x.entries) p.1 ∙ more ∙ ap (λ (x : PlainClient). x.entries ++ bytes ∷ []) same
+    go (inr p) = absurd (no_more c d bytes (w.clients who) was p more)
+
+accepts_signed : (s : Setup) (w : World) (b : PlainClient) (entry bytes : List ℕ) → IsSigned w entry → (accepted b entry).entries ≡ b.entries ++ bytes ∷ [] → IsSigned w bytes
+accepts_signed s w b entry bytes signed more =
+    subst (IsSigned w) (same_from_push b.entries b.entries entry bytes (sym (accepted_as b entry).entries ∙ more)).1 signed
+
+event_signed : (s : Setup) (w : World) (i : Device) (b : PlainClient) (event : Logged) (bytes : List ℕ) → IsClosedMove s w (Happen i event) → (step b event).entries ≡ b.entries ++ bytes ∷ [] → IsSigned w bytes
+event_signed s w i b (events.Edit by seen marks) bytes closed more = absurd (not_more b.entries b.entries bytes (omega arith) more)
+event_signed s w i b (events.Change by change) bytes closed more = absurd (not_more b.entries b.entries bytes (omega arith) more)
+event_signed s w i b (events.Submit by entry) bytes closed more = absurd (not_more b.entries b.entries bytes (omega arith) more)
+event_signed s w i b (events.Dropped by fault) bytes closed more = absurd (not_more b.entries b.entries bytes (omega arith) more)
+event_signed s w i b (events.Accept by entry) bytes closed more = accepts_signed s w b entry bytes closed more
+event_signed s w i b (events.Discard by) bytes closed more = absurd (not_more b.entries b.entries bytes (omega arith) more)
+
+given_signed : (s : Setup) (w : World) (b : PlainClient) (entry bytes : List ℕ) (refusal : Option Refusal) → IsSigned w entry → (given b entry refusal).entries ≡ b.entries ++ bytes ∷ [] → IsSigned w bytes
+given_signed s w b entry bytes (Some refusal) signed more = absurd (not_more b.entries b.entries bytes (omega arith) more)
+given_signed s w b entry bytes None signed more = go (journal_has_room b) more
+  where
+    go : (room : Bool) → (cond room (accepted b entry) b).entries ≡ b.entries ++ bytes ∷ [] → IsSigned w bytes
+    go true more = accepts_signed s w b entry bytes signed more
+    go false more = absurd (not_more b.entries b.entries bytes (omega arith) more)
+
+restarted_less : (s : Setup) (who : Device) (b : PlainClient) (k : ℕ) (bytes : List ℕ) → IsReached s who b → (restarted b k).entries ≡ b.entries ++ bytes ∷ [] → ⊥
+restarted_less s who b k bytes reached more =
+    let good = good_take b.opening.genesis b.opening.kit b.entries k reached.good in
+    not_more (take k b.entries) b.entries bytes (omega (arith, length-take k b.entries)) (sym (accepts_all b.opening (take k b.entries) good).entries_are ∙ more)
+
+adds_signed : (s : Setup) (w : World) (move : Move) (who : Device) (c d : PlainClient) (bytes : List ℕ) → AllReached s w → IsClosedMove s w move → w.clients who ≡ Some c → (after s w move).clients who ≡ Some d
+    → d.entries ≡ c.entries ++ bytes ∷ [] → IsSigned w bytes
+adds_signed s w (Open i ring) who c d bytes reached closed was is more = elim (with_client_cases w.clients i who (opened (opening_of s i ring)) d is) [
+  | inl p ↦ absurd (not_more [] c.entries bytes (omega arith) (ap (λ (x : PlainClient). x.entries) p.1 ∙ more))
+  | inr p ↦ absurd (no_more c d bytes (w.clients who) was p more)
+]
+adds_signed s w (Happen i event) who c d bytes reached closed was is more = go (w.clients i) refl is
+  where
+    go : (o : Option PlainClient) → w.clients i ≡ o → (happens_to w i event o).clients who ≡ Some d → IsSigned w bytes
+    go None its is = absurd (no_more c d bytes (w.clients who) was is more)
+    go (Some b) its is = event_signed s w i b event bytes closed (mover_more w i who b c d (step b event) bytes its was is more)
+adds_signed s w (Give i position entry) who c d bytes reached closed was is more = go (w.clients i) refl is
+  where
+    go : (o : Option PlainClient) → w.clients i ≡ o → (gives_to w i position entry o).clients who ≡ Some d → IsSigned w bytes
+    go None its is = absurd (no_more c d bytes (w.clients who) was is more)
+    go (Some b) its is =
+        let r = refusal_of b position entry in given_signed s w b entry bytes r closed (mover_more w i who b c d (given b entry r) bytes its was is more)
+adds_signed s w (Restart i k) who c d bytes reached closed was is more = go (w.clients i) refl is
+  where
+    go : (o : Option PlainClient) → w.clients i ≡ o → (restarts w i k o).clients who ≡ Some d → IsSigned w bytes
+    go None its is = absurd (no_more c d bytes (w.clients who) was is more)
+    go (Some b) its is = absurd (restarted_less s i b k bytes (reached i b its) (mover_more w i who b c d (restarted b k) bytes its was is more))
+
 -- ---- no one forges
 
 is_genuine : (s : Setup) (w : World) (who : Device) (c : PlainClient) (bytes : List ℕ) → AllByRecursion (HasItsKey s) s.genesis.founders → AllSignings s w → AllOwn s w → w.clients who ≡ Some c → IsSigned w bytes
     → IsGenuine s w c.entries bytes
-is_genuine s w who c bytes founders signings all at signed under =
+is_genuine s w who c bytes founders signings all at signed owner e is under =
     let told : IsSigning s signed.0 = signings signed.0 signed.1 in
     let read = told.reads in
-    let is = under.reads in
     let same_bytes = signed.2 in
-    let entry : told.entry ≡ under.entry = cc in
-    let device = author_device under.entry.header in
+    let entry : told.entry ≡ e = cc in
+    let device = author_device e.header in
     let author : device ≡ signed.0.who = ap (λ (e : Entry). author_device e.header) (sym entry) ∙ told.author in
-    let its : under.key ≡ key_of_device s device =
-    own_found s device (roster_of s.genesis c.entries).devices under.key (own_roster s c.entries founders (all.clients who c at).entries) under.is_key
+    let its : key_of_device s owner ≡ key_of_device s device =
+    own_found s device (roster_of s.genesis c.entries).devices (key_of_device s owner) (own_roster s c.entries founders (all.clients who c at).entries) under.key
     (subst (Contains s.devices) (sym author) told.signer.is_device) in
-    record { signing = signed.0; signed = signed.1; bytes_are = same_bytes; key_is = sym (its ∙ ap (key_of_device s) author) }
-
-adds_genuine : (s : Setup) (w : World) (move : Move) → AllByRecursion (HasItsKey s) s.genesis.founders → AllSignings s w → AllOwn s w → IsClosedMove s w move
-    → (who : Device) (c : PlainClient) (bytes : List ℕ) → Adds w move who c bytes → IsGenuine s w c.entries bytes
-adds_genuine s w (Open i ring) founders signings all closed who c bytes adds = absurd adds
-adds_genuine s w (Happen i (events.Edit by seen marks)) founders signings all closed who c bytes adds = absurd adds
-adds_genuine s w (Happen i (events.Change by change)) founders signings all closed who c bytes adds = absurd adds
-adds_genuine s w (Happen i (events.Submit by entry)) founders signings all closed who c bytes adds = absurd adds
-adds_genuine s w (Happen i (events.Dropped by fault)) founders signings all closed who c bytes adds = absurd adds
-adds_genuine s w (Happen i (events.Accept by entry)) founders signings all closed who c bytes adds =
-    is_genuine s w i c bytes founders signings all adds.1 (subst (IsSigned w) adds.2 closed)
-adds_genuine s w (Happen i (events.Discard by)) founders signings all closed who c bytes adds = absurd adds
-adds_genuine s w (Give i position entry) founders signings all closed who c bytes adds =
-    is_genuine s w i c bytes founders signings all adds.1 (subst (IsSigned w) adds.2 closed)
-adds_genuine s w (Restart i k) founders signings all closed who c bytes adds = absurd adds
+    (signed.0.who, record { signing = signed.0; signed = signed.1; by = refl; entry = same_bytes; key = sym (its ∙ ap (key_of_device s) author) })
 
 genuine_from : (s : Setup) (w : World) (moves : List Move) → IsWellFormed s → AllByRecursion IsTypedMove moves → AllByRecursion (HasItsKey s) s.genesis.founders → AllReached s w → AllSound w → AllSignings s w → AllOwn s w
-    → IsRun s w moves → AreClosed s w moves → Genuine s w moves
-genuine_from s w [] well typed founders reached sound signings all run closed = tt
-genuine_from s w (move ∷ moves) well typed founders reached sound signings all run closed = (
-  adds_genuine s w move founders signings all closed.0,
-  genuine_from s (after s w move) moves well typed.1 founders
-      (reached_after s w move reached run.0)
-      (sound_after s w move well reached sound typed.0 run.0)
-      (signings_after s w move well reached signings run.0)
-      (own_after s w move well reached sound typed.0 run.0 closed.0 all)
-      run.1 closed.1,
-)
+    → IsRun s w moves → AreClosed s w moves → AddGenuine s w moves
+genuine_from s w [] well typed founders reached sound signings all run closed zero who c d bytes was is more = absurd (no_more c d bytes (w.clients who) was is more)
+genuine_from s w [] well typed founders reached sound signings all run closed (suc n) who c d bytes was is more = absurd (no_more c d bytes (w.clients who) was is more)
+genuine_from s w (move ∷ moves) well typed founders reached sound signings all run closed zero who c d bytes was is more =
+    is_genuine s w who c bytes founders signings all was (adds_signed s w move who c d bytes reached closed.0 was is more)
+genuine_from s w (move ∷ moves) well typed founders reached sound signings all run closed (suc n) who c d bytes was is more =
+    genuine_from s (after s w move) moves well typed.1 founders
+    (reached_after s w move reached run.0)
+    (sound_after s w move well reached sound typed.0 run.0)
+    (signings_after s w move well reached signings run.0)
+    (own_after s w move well reached sound typed.0 run.0 closed.0 all)
+    run.1 closed.1 n who c d bytes was is more
 
-pub closed_runs_are_genuine : (s : Setup) (moves : List Move) → IsTypedRun s moves → IsClosed s moves → Genuine s start moves
+pub closed_runs_are_genuine : (s : Setup) (moves : List Move) → IsTypedRun s moves → IsClosed s moves → Genuine s moves
 closed_runs_are_genuine s moves run closed =
     genuine_from s start moves run.setup run.typed closed.founders (reached_start s) (λ who c at. absurd cc) (none_signed s) (record { clients = λ who c at. absurd cc; signed = none_own s }) run.run closed.closed

@@ -12,6 +12,7 @@ pub mod Accepting
 pub mod Comings
 pub mod InOne
 pub mod InHistories
+pub mod Worlds
 pub mod Reached
 pub mod Submitting
 pub mod SignedEntries

@@ -30,9 +30,10 @@ use Rattle.sporc_client.specs.Log.{Logged}
 use Rattle.sporc_client.specs.Log as events
 use Rattle.sporc_client.specs.PlainClient.{PlainClient, me_of}
 use Rattle.sporc_client.specs.Allowed.{allows}
-use Rattle.sporc_client.specs.Run.{Setup, World, Signing, Move, Open, Happen, Give, Restart, start, after, after_all, May, IsRun, gives_to, happens_to, restarts, signings}
+use Rattle.sporc_client.specs.Run.{Setup, World, Signing, Move, Open, Happen, Give, Restart, start, after, after_all, May, IsRun, signings}
 use Rattle.sporc_client.specs.Reached.{IsReached}
 use Rattle.sporc_client.specs.WellFormed.{IsWellFormed}
+use Rattle.sporc_client.proofs.Worlds.{gives_to, happens_to, restarts}
 use Rattle.sporc_client.proofs.Reached.{AllReached, reached_after, reached_start, run_front}
 use Rattle.sporc_client.proofs.SubmitRosters.{few_members, live_fits}
 use Rattle.sporc_client.proofs.Submitting.{IsMadeBy, chosen_in, made_by_submission}
@@ -201,5 +202,9 @@ signings_all s w [] well reached all run = all
 signings_all s w (move ∷ moves) well reached all run =
     signings_all s (after s w move) moves well (reached_after s w move reached run.0) (signings_after s w move well reached all run.0) run.1
 
+-- what was signed when a run ends, and at each moment
+pub signing_in : (s : Setup) (moves : List Move) (x : Signing) → IsWellFormed s → IsRun s start moves → Contains (after_all s start moves).signed x → IsSigning s x
+signing_in s moves x well run at = signings_all s start moves well (reached_start s) (none_signed s) run x at
+
 pub signing_at : (s : Setup) (moves : List Move) (n : ℕ) (x : Signing) → IsWellFormed s → IsRun s start moves → Contains (after_all s start (take n moves)).signed x → IsSigning s x
-signing_at s moves n x well run at = signings_all s start (take n moves) well (reached_start s) (none_signed s) (run_front s start moves n run) x at
+signing_at s moves n x well run at = signing_in s (take n moves) x well (run_front s start moves n run) at

@@ -49,12 +49,13 @@ use Rattle.sporc_client.specs.Log.{Logged}
 use Rattle.sporc_client.specs.Log as events
 use Rattle.sporc_client.specs.PlainClient.{Opening, PlainClient, committed_of, me_of, opened, shown_after}
 use Rattle.sporc_client.specs.Rebasing.{AreStated}
-use Rattle.sporc_client.specs.Run.{Setup, restarted}
+use Rattle.sporc_client.specs.Run.{Setup}
 use Rattle.sporc_client.specs.Reached.{IsReached}
 use Rattle.sporc_client.specs.Soundness.{IsChangeOf, IsEditOf, IsEntryOf, IsInFlight, IsOfFirst, IsSound}
 use Rattle.sporc_client.specs.Step.{accepted, change_comes, edit_comes, form_coming, is_flight, log_of_entries, own_comes, replay, replay_from, restated, step}
 use Rattle.sporc_client.specs.Typed.{AreEpochKeys, IsTypedChange, IsTypedEvent}
 use Rattle.sporc_client.specs.WellFormed.{IsWellFormed}
+use Rattle.sporc_client.proofs.Worlds.{restarted}
 use Rattle.sporc_client.proofs.SameSpelling.{body_change_same, change_read_of, entry_same, typed_of}
 use Rattle.sporc_client.proofs.SignedEntries.{header_made}
 use Rattle.sporc_client.proofs.AcceptedHistories.{accept_passes, accepted_as, accepts_all}

@@ -1,5 +1,5 @@
 -- If no one forges, each entry of each history comes from a client that holds its author's key.
-use Rattle.std.proofs.Common.{◌≡◌, ℕ, zero, suc, ◌<◌, ◌≤◌, Bool, true, false, cond, List, [], ◌∷◌, ◌++◌, length, take, refl, sym, subst, arith, Option, None, Some, ◌⊎◌, inl, inr}
+use Rattle.std.proofs.Common.{◌≡◌, ℕ, zero, suc, ◌<◌, ◌≤◌, Bool, true, false, cond, List, [], ◌∷◌, ◌++◌, length, take, refl, sym, ap, ◌∙◌, subst, arith, Option, None, Some, ◌⊎◌, inl, inr}
 use Rattle.std.specs.Prelude.{Contains, slice_get}
 use Rattle.std.proofs.lemmas.List.{take-take, take-append-le}
 use Rattle.std.proofs.lemmas.List.Elements.{Contains-append_left}
@@ -10,10 +10,11 @@ use Rattle.sporc_client.specs.Log.{Logged, Edit, Change, Submit, Dropped, Accept
 use Rattle.sporc_client.specs.PlainClient.{PlainClient, opened}
 use Rattle.sporc_client.specs.Answers.{journal_has_room, refusal_of}
 use Rattle.sporc_client.specs.Step.{accepted, step}
-use Rattle.sporc_client.specs.Run.{Setup, World, Signing, Move, Open, Happen, Give, Restart, start, after, after_all, IsRun, given, gives_to, happens_to, opening_of, restarted, restarts, signings, with_client}
-use Rattle.sporc_client.specs.Genuine.{Adds, Genuine, IsGenuine}
+use Rattle.sporc_client.specs.Run.{Setup, World, Signing, Move, Open, Happen, Give, Restart, start, after, after_all, IsRun, given, opening_of, signings, with_client, world_at}
+use Rattle.sporc_client.specs.Genuine.{Genuine, IsGenuine}
+use Rattle.sporc_client.proofs.Worlds.{gives_to, happens_to, restarted, restarts}
 use Rattle.sporc_client.proofs.AcceptedHistories.{accepted_as, accepts_all}
-use Rattle.sporc_client.proofs.Reached.{AllReached, reached_after, reached_start, with_client_cases}
+use Rattle.sporc_client.proofs.Reached.{AllReached, put_same, reached_after, reached_start, with_client_cases}
 use Rattle.sporc_line.proofs.Goods.{good_take}
 
 -- each entry of a history is genuine where it stands
@@ -28,9 +29,10 @@ abbrev StaySigned : World → World → Type 0
 StaySigned v w = (x : Signing) → Contains v.signed x → Contains w.signed x
 
 genuine_more : (s : Setup) (v w : World) (entries : List (List ℕ)) (bytes : List ℕ) → StaySigned v w → IsGenuine s v entries bytes → IsGenuine s w entries bytes
-genuine_more s v w entries bytes more genuine under =
-    let by = genuine under in
-    record { signing = by.signing; signed = more by.signing by.signed; bytes_are = by.bytes_are; key_is = by.key_is }
+genuine_more s v w entries bytes more genuine owner e reads under =
+    let found = genuine owner e reads under in
+    let by = found.1 in
+    (found.0, record { signing = by.signing; signed = more by.signing by.signed; by = by.by; entry = by.entry; key = by.key })
 
 all_more : (s : Setup) (v w : World) (entries : List (List ℕ)) → StaySigned v w → AreGenuine s v entries → AreGenuine s w entries
 all_more s v w entries more genuine x bytes at = genuine_more s v w (take x entries) bytes more (genuine x bytes at)
@@ -59,7 +61,8 @@ genuine_with s w i c signed all more genuine j d at = elim (with_client_cases w.
 
 -- what the premise says of a move
 abbrev AddsGenuine : Setup → World → Move → Type 0
-AddsGenuine s w move = (who : Device) (c : PlainClient) (bytes : List ℕ) → Adds w move who c bytes → IsGenuine s w c.entries bytes
+AddsGenuine s w move = (who : Device) (c d : PlainClient) (bytes : List ℕ) → w.clients who ≡ Some c → (after s w move).clients who ≡ Some d → d.entries ≡ c.entries ++ bytes ∷ []
+    → IsGenuine s w c.entries bytes
 
 -- an accepted entry
 accepted_genuine : (s : Setup) (w v : World) (c : PlainClient) (bytes : List ℕ) → StaySigned w v → IsGenuine s w c.entries bytes → AreGenuine s w c.entries → AreGenuine s v (accepted c bytes).entries
@@ -72,7 +75,10 @@ step_genuine s w v who c (Edit by seen marks) is more adds genuine = all_more s 
 step_genuine s w v who c (Change by change) is more adds genuine = all_more s w v c.entries more genuine
 step_genuine s w v who c (Submit by bytes) is more adds genuine = all_more s w v c.entries more genuine
 step_genuine s w v who c (Dropped by fault) is more adds genuine = all_more s w v c.entries more genuine
-step_genuine s w v who c (Accept by bytes) is more adds genuine = accepted_genuine s w v c bytes more (adds who c bytes (refl, is, refl)) genuine
+step_genuine s w v who c (Accept by bytes) is more adds genuine =
+    let there : (happens_to w who (Accept by bytes) (w.clients who)).clients who ≡ Some (accepted c bytes) =
+    ap (λ (o : Option PlainClient). (happens_to w who (Accept by bytes) o).clients who) is ∙ put_same w.clients who (accepted c bytes) in
+    accepted_genuine s w v c bytes more (adds who c (accepted c bytes) bytes is there (accepted_as c bytes).entries) genuine
 step_genuine s w v who c (Discard by) is more adds genuine = all_more s w v c.entries more genuine
 
 given_genuine : (s : Setup) (w v : World) (who : Device) (position : ℕ) (c : PlainClient) (bytes : List ℕ) → w.clients who ≡ Some c → StaySigned w v → AddsGenuine s w (Give who position bytes) → AreGenuine s w c.entries
@@ -80,7 +86,11 @@ given_genuine : (s : Setup) (w v : World) (who : Device) (position : ℕ) (c : P
 given_genuine s w v who position c bytes is more adds genuine = go (refusal_of c position bytes) refl
   where
     room : (has : Bool) → journal_has_room c ≡ has → refusal_of c position bytes ≡ None → AreGenuine s v (cond has (accepted c bytes) c).entries
-    room true has none = accepted_genuine s w v c bytes more (adds who c bytes (refl, is, refl, none, has)) genuine
+    room true has none =
+        let there : (gives_to w who position bytes (w.clients who)).clients who ≡ Some (accepted c bytes) =
+        ap (λ (o : Option PlainClient). (gives_to w who position bytes o).clients who) is ∙ put_same w.clients who (given c bytes (refusal_of c position bytes))
+        ∙ ap (λ (r : Option Refusal). Some (given c bytes r)) none ∙ ap (λ (has : Bool). Some (cond has (accepted c bytes) c)) has in
+        accepted_genuine s w v c bytes more (adds who c (accepted c bytes) bytes is there (accepted_as c bytes).entries) genuine
     room false has none = all_more s w v c.entries more genuine
 
     go : (r : Option Refusal) → refusal_of c position bytes ≡ r → AreGenuine s v (given c bytes r).entries
@@ -113,19 +123,20 @@ genuine_after s w (Restart who k) reached all adds = go (w.clients who) refl
         genuine_with s w who (restarted c k) w.signed all (λ x h. h)
         (subst (AreGenuine s v) (sym (accepts_all c.opening (take k c.entries) good).entries_are) (all_more s w v (take k c.entries) (λ x h. h) (genuine_take s w c.entries k (all who c is))))
 
-genuine_all : (s : Setup) (w : World) (moves : List Move) → AllReached s w → AllGenuine s w → IsRun s w moves → Genuine s w moves → AllGenuine s (after_all s w moves)
-genuine_all s w [] reached all run genuine = all
-genuine_all s w (move ∷ moves) reached all run genuine =
-    genuine_all s (after s w move) moves (reached_after s w move reached run.0) (genuine_after s w move reached all genuine.0) run.1 genuine.1
+-- what the premise says of moves from a world on
+abbrev pub AddGenuine : Setup → World → List Move → Type 0
+AddGenuine s w moves = (n : ℕ) (who : Device) (c d : PlainClient) (bytes : List ℕ) → (after_all s w (take n moves)).clients who ≡ Some c
+    → (after_all s w (take (suc n) moves)).clients who ≡ Some d → d.entries ≡ c.entries ++ bytes ∷ [] → IsGenuine s (after_all s w (take n moves)) c.entries bytes
+
+all_genuine : (s : Setup) (w : World) (moves : List Move) (n : ℕ) → AllReached s w → AllGenuine s w → IsRun s w moves → AddGenuine s w moves → AllGenuine s (after_all s w (take n moves))
+all_genuine s w moves zero reached all run adds = all
+all_genuine s w [] (suc n) reached all run adds = all
+all_genuine s w (move ∷ moves) (suc n) reached all run adds =
+    all_genuine s (after s w move) moves n (reached_after s w move reached run.0) (genuine_after s w move reached all (adds zero)) run.1 (λ n. adds (suc n))
 
 genuine_start : (s : Setup) → AllGenuine s start
 genuine_start s who c at = absurd cc
 
 -- at each moment of a run in which no one forges
-pub all_genuine : (s : Setup) (moves : List Move) → IsRun s start moves → Genuine s start moves → AllGenuine s (after_all s start moves)
-all_genuine s moves run genuine = genuine_all s start moves (reached_start s) (genuine_start s) run genuine
-
-pub genuine_front : (s : Setup) (w : World) (moves : List Move) (n : ℕ) → Genuine s w moves → Genuine s w (take n moves)
-genuine_front s w moves zero genuine = tt
-genuine_front s w [] (suc n) genuine = tt
-genuine_front s w (move ∷ moves) (suc n) genuine = (genuine.0, genuine_front s (after s w move) moves n genuine.1)
+pub genuine_at : (s : Setup) (moves : List Move) (n : ℕ) → IsRun s start moves → Genuine s moves → AllGenuine s (world_at s moves n)
+genuine_at s moves n run genuine = all_genuine s start moves n (reached_start s) (genuine_start s) run genuine

@@ -3,6 +3,7 @@ use Rattle.std.proofs.Common.{◌≡◌, ℕ, ◌+◌, ◌^◌, ◌<◌, ◌≤�
 use Rattle.std.specs.Prelude.{IfSome, IsSomeAnd, ◌==◌}
 use Rattle.std.specs.Result.{result_ok}
 use Rattle.std.proofs.lemmas.Bool.{eq-eqb, eqb-false, eqb-true}
+use Rattle.sporc_outside.specs.LeafDisk.{DiskTold}
 use Rattle.lms_tree.specs.LmsType.{height_of}
 use Rattle.lms_leaf.specs.Leaves.{DrawFaults, Draws, LeavesModel}
 use Rattle.lms_leaf.specs.declared.faults.LeafFault.{LeafFault}
@@ -17,11 +18,11 @@ use Rattle.sporc_client.specs.Workspace.{WorkspaceModel}
 
 -- ---- what a draw answered is read off the leaf numbers
 
-module _ {D : Type 0} (stored : D → Option (List ℕ)) (moment : D → ℕ) (images : D → ℕ → List ℕ → Type 0) (faults : D → ℕ) (old new : LeavesModel D) where
+module _ {D : Type 0} (disk_told : D → DiskTold) (old new : LeavesModel D) where
   abbrev by_tests : Bool → Bool → Result ℕ LeafFault
   by_tests full faulty = cond full (Err (Exhausted old.next)) (cond faulty (Err DiskFault) (Ok old.next))
 
-  pub drawn_is : (r : Result ℕ LeafFault) → Draws stored moment images old r new → DrawFaults faults old r new → drawn old new ≡ r
+  pub drawn_is : (r : Result ℕ LeafFault) → Draws disk_told old r new → DrawFaults disk_told old r new → drawn old new ≡ r
   drawn_is (Ok leaf) d f = go (old.next == old.leaf_count) new.faulty refl refl
     where
       go : (full faulty : Bool) → (old.next == old.leaf_count) ≡ full → new.faulty ≡ faulty → by_tests full faulty ≡ Ok leaf
@@ -43,7 +44,7 @@ module _ {D : Type 0} (stored : D → Option (List ℕ)) (moment : D → ℕ) (i
       go false false e g = let no : new.faulty ≡ true = f.faulty.1 refl in absurd cc
 
   -- and so is the leaf that it gave
-  pub drawn_at_hand : (r : Result ℕ LeafFault) → Draws stored moment images old r new → at_hand None old new ≡ result_ok r
+  pub drawn_at_hand : (r : Result ℕ LeafFault) → Draws disk_told old r new → at_hand None old new ≡ result_ok r
   drawn_at_hand (Ok leaf) d = go (new.next == old.next) refl
     where
       go : (same : Bool) → (new.next == old.next) ≡ same → cond same None (Some old.next) ≡ Some leaf
@@ -51,12 +52,12 @@ module _ {D : Type 0} (stored : D → Option (List ℕ)) (moment : D → ℕ) (i
       go false e = ap Some (sym d.given)
   drawn_at_hand (Err fault) d = ap (λ (same : Bool). cond same None (Some old.next)) (eq-eqb new.next old.next d.next)
 
-  pub is_draw : (r : Result ℕ LeafFault) → Draws stored moment images old r new → DrawFaults faults old r new → IsDraw stored moment images faults old new
+  pub is_draw : (r : Result ℕ LeafFault) → Draws disk_told old r new → DrawFaults disk_told old r new → IsDraw disk_told old new
   is_draw r d f =
       let same = sym (drawn_is r d f) in
       record {
-        leaf = subst (λ (r : Result ℕ LeafFault). Draws stored moment images old r new) same d;
-        fault = subst (λ (r : Result ℕ LeafFault). DrawFaults faults old r new) same f;
+        leaf = subst (λ (r : Result ℕ LeafFault). Draws disk_told old r new) same d;
+        fault = subst (λ (r : Result ℕ LeafFault). DrawFaults disk_told old r new) same f;
       }
 
 -- what may be drawn, where the leaves are those of the key and a kept ticket has one of them
@@ -128,8 +129,8 @@ order_begun first end forward = record { base = end; opened = forward; all = ome
 -- ---- after a submission
 
 -- the leaf at hand comes after all that signed
-module _ {D : Type 0} (stored : D → Option (List ℕ)) (moment : D → ℕ) (images : D → ℕ → List ℕ → Type 0) (faults : D → ℕ) (old new : LeavesModel D) (signed : List ℕ) where
-  order_drawn : (r : Result ℕ LeafFault) → AreInOrder old.next_at_open old.next None signed → Draws stored moment images old r new → AreInOrder new.next_at_open new.next (result_ok r) signed
+module _ {D : Type 0} (disk_told : D → DiskTold) (old new : LeavesModel D) (signed : List ℕ) where
+  order_drawn : (r : Result ℕ LeafFault) → AreInOrder old.next_at_open old.next None signed → Draws disk_told old r new → AreInOrder new.next_at_open new.next (result_ok r) signed
   order_drawn (Ok leaf) order d =
       let kept = kept_drawn old.next_at_open old.next new.next leaf signed order d.given d.forward d.next in
       subst (λ (first : ℕ). AreInOrder first new.next (Some leaf) signed) (sym d.next_at_open) kept
@@ -137,13 +138,13 @@ module _ {D : Type 0} (stored : D → Option (List ℕ)) (moment : D → ℕ) (i
       let same = subst (λ (end : ℕ). AreInOrder old.next_at_open end None signed) (sym d.next) order in
       subst (λ (first : ℕ). AreInOrder first new.next None signed) (sym d.next_at_open) same
 
-  pub order_at_hand : (ticket : Option ℕ) → AreInOrder old.next_at_open old.next ticket signed → ((leaf : ℕ) → ticket ≡ Some leaf → new ≡ old) → (ticket ≡ None → IsDraw stored moment images faults old new)
+  pub order_at_hand : (ticket : Option ℕ) → AreInOrder old.next_at_open old.next ticket signed → ((leaf : ℕ) → ticket ≡ Some leaf → new ≡ old) → (ticket ≡ None → IsDraw disk_told old new)
       → AreInOrder new.next_at_open new.next (at_hand ticket old new) signed
   order_at_hand (Some leaf) order same draw = subst (λ (l : LeavesModel D). AreInOrder l.next_at_open l.next (Some leaf) signed) (sym (same leaf refl)) order
   order_at_hand None order same draw =
       let is = draw refl in
       let d = is.leaf in
-      subst (λ (t : Option ℕ). AreInOrder new.next_at_open new.next t signed) (sym (drawn_at_hand stored moment images faults old new (drawn old new) d)) (order_drawn (drawn old new) order d)
+      subst (λ (t : Option ℕ). AreInOrder new.next_at_open new.next t signed) (sym (drawn_at_hand disk_told old new (drawn old new) d)) (order_drawn (drawn old new) order d)
 
 -- the leaf, where there is one
 pub leaf_there : (P : ℕ → Type 0) (o : Option ℕ) → IsSomeAnd o P → (leaf : ℕ) × (o ≡ Some leaf) × P leaf

@@ -1,14 +1,15 @@
 -- What all clients of a run agree on: the headline.
-use Rattle.std.specs.Prelude.{◌≡◌, ◌↔◌, ℕ, ◌+◌, ◌≤◌, true, false, List, [], ◌++◌, take, Option, Some, Contains, Ok, slice_get}
+use Rattle.std.specs.Prelude.{◌≡◌, ◌↔◌, ℕ, ◌+◌, ◌≤◌, true, false, List, [], ◌++◌, take, Some, IsSome, IsSomeAnd, Contains, Ok, slice_get}
+use Rattle.lms_tree.specs.LmsPublic.{public_key_in}
+use Rattle.lms_tree.specs.Verification.{verifies}
 use Rattle.sporc_hash.specs.Strings.{CollisionFree}
 use Rattle.sporc_member.specs.declared.device.Device.{Device}
-use Rattle.sporc_member.specs.declared.member.Member.{Member}
-use Rattle.sporc_member.specs.Roster.{key_of as key_of_device, member_at}
+use Rattle.sporc_member.specs.Roster.{key_of as live_key_of, member_at}
 use Rattle.sporc_entry.specs.declared.entry.Entry.{Entry}
 use Rattle.sporc_entry.specs.Entry.{author_device, entry_of, signed_string}
 use Rattle.sporc_entry.specs.Version.{version_of}
 use Rattle.sporc_head.specs.declared.refusal.Refusal.{Refusal}
-use Rattle.sporc_head.specs.HeadChecks.{allows as role_allows, verifies_device}
+use Rattle.sporc_head.specs.HeadChecks.{allows as role_allows}
 use Rattle.sporc_head.specs.History.{changes, count_of, epoch_of, hash_of, roster_of}
 use Rattle.sporc_line.specs.Commitments.{commitment_at}
 use Rattle.sporc_line.specs.Keys.{key_of}
@@ -18,8 +19,8 @@ use Rattle.sporc_line.specs.Operations.{operations}
 use Rattle.sporc_client.specs.declared.fault.AcceptFault.TheVariants.{Refused}
 use Rattle.sporc_client.specs.PlainClient.{PlainClient, committed_of, shown_of}
 use Rattle.sporc_client.specs.Answers.{accept_fault, is_out}
-use Rattle.sporc_client.specs.Run.{Setup, World, Signing, Move, Give, start, after, world_at, IsAt}
-use Rattle.sporc_client.specs.Genuine.{Genuine, IsSignedUnder, IsUnderRunKey}
+use Rattle.sporc_client.specs.Run.{Setup, Signing, Move, Give, start, after, after_all, world_at, IsAt}
+use Rattle.sporc_client.specs.Genuine.{Genuine, HasSigned, IsUnderKeyOf}
 
 -- every string that is hashed for a client's history
 abbrev pub strings_of : PlainClient → List (List ℕ)
@@ -28,10 +29,6 @@ strings_of c = line_strings c.opening.genesis c.opening.kit c.entries
 -- no two different strings that are hashed for two clients' histories have one digest
 abbrev pub HistoriesCollisionFree : PlainClient → PlainClient → Type 0
 HistoriesCollisionFree c d = CollisionFree (strings_of c ++ strings_of d)
-
--- a client's key of an epoch
-abbrev pub key_at : PlainClient → ℕ → Option (List ℕ)
-key_at c epoch = key_of c.opening.genesis c.opening.kit c.entries epoch
 
 -- two clients hold one history, and what follows from it; with nothing pending they show one text
 pub record SameHistoryAndText (c d : PlainClient) : Type 0 where
@@ -46,28 +43,14 @@ pub record StandsBehind (x : ℕ) (entries : List (List ℕ)) (bytes : List ℕ)
   pub at : slice_get entries x ≡ Some bytes
   pub reads : entry_of bytes ≡ Ok e
 
--- what holds of an entry behind the first x of a history: it is of the version there, its author is a member there, whose
--- role allows it, with a live device under whose key it verifies and that has so many entries before it
-pub record IsRightful (s : Setup) (x : ℕ) (entries : List (List ℕ)) (e : Entry) : Type 0 where
-  pub version : e.header.version ≡ version_of (roster_of s.genesis (take x entries)).upgraded
-  pub member : Member
-  pub is_member : member_at (roster_of s.genesis (take x entries)) e.header.author ≡ Some member
-  pub role : role_allows member.role e.header.kind ≡ true
-  pub key : List ℕ
-  pub is_key : key_of_device (roster_of s.genesis (take x entries)) (author_device e.header) ≡ Some key
-  pub signature : verifies_device (signed_string e) e.signature (Some key) ≡ true
-  pub number : e.header.number ≡ count_of (author_device e.header) (take x entries) + 1
-
--- a world that is as it was
-pub record IsSameWorld (before after : World) : Type 0 where
-  pub clients : (who : Device) → after.clients who ≡ before.clients who
-  pub signed : after.signed ≡ before.signed
-
--- a client refuses bytes, by the answer of `accept`, exactly for the first check that they fail, and then nothing changes
-pub record RefusesFor (s : Setup) (w : World) (who : Device) (position : ℕ) (c : PlainClient) (bytes : List ℕ) (refusal : Refusal) : Type 0 where
-  pub first : (accept_fault c position bytes ≡ Some (Refused refusal))
-      ↔ (first_fault s.genesis c.opening.kit c.entries position bytes ≡ Some refusal)
-  pub unchanged : accept_fault c position bytes ≡ Some (Refused refusal) → IsSameWorld w (after s w (Give who position bytes))
+-- what holds of an entry behind these ones: it is of the version there, its author is a member there, whose role allows it,
+-- with a live device under whose key it verifies and that has so many entries before it
+pub record IsRightful (s : Setup) (before : List (List ℕ)) (e : Entry) : Type 0 where
+  pub version : e.header.version ≡ version_of (roster_of s.genesis before).upgraded
+  pub role : IsSomeAnd (member_at (roster_of s.genesis before) e.header.author) (λ m. role_allows m.role e.header.kind ≡ true)
+  pub signature : IsSomeAnd (live_key_of (roster_of s.genesis before) (author_device e.header))
+      (λ bytes. IsSomeAnd (public_key_in bytes) (λ key. verifies key (signed_string e) e.signature ≡ true))
+  pub number : e.header.number ≡ count_of (author_device e.header) before + 1
 
 module _ (s : Setup) (moves : List Move) where
   -- a client that a device of the run had at some moment
@@ -82,25 +65,28 @@ module _ (s : Setup) (moves : List Move) where
     pub one_key : (c d : PlainClient) (epoch : ℕ) → IsClient c → IsClient d → HistoriesCollisionFree c d
         → is_out c ≡ false → is_out d ≡ false → epoch ≤ epoch_of c.entries → epoch ≤ epoch_of d.entries
         → commitment_at s.genesis (changes c.entries) epoch ≡ commitment_at s.genesis (changes d.entries) epoch
-        → key_at c epoch ≡ key_at d epoch
+        → key_of c.opening.genesis c.opening.kit c.entries epoch ≡ key_of d.opening.genesis d.opening.kit d.entries epoch
     -- clients that accepted one entry agree up to its base
     pub one_base : (c d : PlainClient) (x y : ℕ) (bytes : List ℕ) (e : Entry) → IsClient c → IsClient d → HistoriesCollisionFree c d
         → StandsBehind x c.entries bytes e → StandsBehind y d.entries bytes e → take e.header.base c.entries ≡ take e.header.base d.entries
     -- and on all that its author had committed when it signed, if that was a client of the run
-    pub authors_base : (c : PlainClient) (x n : ℕ) (signing : Signing) (e : Entry) → IsClient c
-        → Contains (world_at s moves n).signed signing → HistoriesCollisionFree c signing.client
+    pub authors_base : (c : PlainClient) (x : ℕ) (signing : Signing) (e : Entry) → IsClient c
+        → Contains (after_all s start moves).signed signing → HistoriesCollisionFree c signing.client
         → StandsBehind x c.entries signing.entry e → signing.client.entries ≡ take e.header.base c.entries
     -- every accepted entry verifies under its author's key there, in order, under a right held there
     pub in_order : (c : PlainClient) (x : ℕ) (bytes : List ℕ) → IsClient c → slice_get c.entries x ≡ Some bytes
-        → (e : Entry) × StandsBehind x c.entries bytes e × IsRightful s x c.entries e
+        → (e : Entry) × StandsBehind x c.entries bytes e × IsRightful s (take x c.entries) e
     -- once per history
     pub once_each : (c : PlainClient) (x y : ℕ) (b b' : List ℕ) (e e' : Entry) → IsClient c
         → StandsBehind x c.entries b e → StandsBehind y c.entries b' e'
         → author_device e.header ≡ author_device e'.header → e.header.number ≡ e'.header.number → x ≡ y
-    -- if no one forges, an entry under the key of devices of the run was signed by then by one of them, which is its author
-    pub by_signer : Genuine s start moves → (n x : ℕ) (who : Device) (c : PlainClient) (bytes : List ℕ) → IsAt s moves n who c
-        → slice_get c.entries x ≡ Some bytes → (under : IsUnderRunKey s (take x c.entries) bytes)
-        → (by : IsSignedUnder s (world_at s moves n) under.key bytes) × (author_device under.entry.header ≡ by.signing.who)
-    -- at each moment a refusal is the first check that fails
-    pub refuses : (n position : ℕ) (who : Device) (c : PlainClient) (bytes : List ℕ) (refusal : Refusal) → IsAt s moves n who c
-        → RefusesFor s (world_at s moves n) who position c bytes refusal
+    -- if no one forges, an entry under the key of a device of the run was signed by then, with this key, by its author
+    pub by_signer : Genuine s moves → (n x : ℕ) (who owner : Device) (c : PlainClient) (bytes : List ℕ) (e : Entry) → IsAt s moves n who c
+        → StandsBehind x c.entries bytes e → IsUnderKeyOf s owner (take x c.entries) e
+        → HasSigned s (world_at s moves n) owner (author_device e.header) bytes
+    -- what a client refuses by `accept` it refuses for the first check that fails
+    pub refuses : (c : PlainClient) (position : ℕ) (bytes : List ℕ) (refusal : Refusal) → IsClient c
+        → (accept_fault c position bytes ≡ Some (Refused refusal)) ↔ (first_fault s.genesis c.opening.kit c.entries position bytes ≡ Some refusal)
+    -- and bytes that it doesn't accept change no client
+    pub unchanged : (n position : ℕ) (who : Device) (c : PlainClient) (bytes : List ℕ) → IsAt s moves n who c → IsSome (accept_fault c position bytes)
+        → (other : Device) → (after s (world_at s moves n) (Give who position bytes)).clients other ≡ (world_at s moves n).clients other

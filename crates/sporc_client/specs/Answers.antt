@@ -1,5 +1,6 @@
 -- What the calls of a client answer: edits, changes, entries that come, and going back.
-use Rattle.std.specs.Prelude.{ℕ, ◌==◌, nat_le, nat_lt, Bool, not, ◌&&◌, is_some, List, [], ◌∷◌, length, Option, None, Some, Result, Ok, Err}
+use Rattle.std.specs.Prelude.{ℕ, ◌==◌, nat_le, nat_lt, Bool, not, ◌&&◌, is_some, List, [], ◌∷◌, length, Option, None, Some, option_map, Result, Ok, Err, if◌then◌else◌}
+use Rattle.std.specs.Option.{option_or}
 use Rattle.sporc_base.specs.FirstFault.{unless, first_of}
 use Rattle.sporc_delta.specs.Format.{delta_bytes}
 use Rattle.sporc_delta.specs.Marks.{Mark, base_len}
@@ -20,7 +21,7 @@ use Rattle.sporc_client.specs.PlainClient.{PlainClient, me_of, shown_after}
 
 -- whether the history removes the client's member, or drops its device
 abbrev pub is_out : PlainClient → Bool
-is_out c = is_removed (me_of c) c.entries
+is_out c = is_removed c.opening.kit.me c.entries
 
 -- whether the client's device is live and its member may make entries of this kind, 1 for edits and 2 for changes
 abbrev pub has_right : PlainClient → ℕ → Bool
@@ -68,8 +69,7 @@ discard_fault c = unless (journal_has_room c) edits.JournalFull
 
 -- an entry's first failed check, or else that the journal is full
 abbrev pub or_full : Bool → Option Refusal → Option AcceptFault
-or_full room (Some refusal) = Some (accepts.Refused refusal)
-or_full room None = unless room accepts.JournalFull
+or_full room refusal = option_or (option_map accepts.Refused refusal) (if room then None else Some accepts.JournalFull)
 
 abbrev pub refusal_of : PlainClient → ℕ → List ℕ → Option Refusal
 refusal_of c position bytes = first_fault c.opening.genesis c.opening.kit c.entries position bytes

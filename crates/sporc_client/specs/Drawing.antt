@@ -1,5 +1,6 @@
 -- The leaf of a submission: that of the ticket that is kept, or else one that is drawn.
-use Rattle.std.specs.Prelude.{◌≡◌, ℕ, ◌^◌, ◌<◌, ◌==◌, Bool, true, false, ◌&&◌, is_none, List, if◌then◌else◌, Option, None, Some, Result, Ok, Err, ⊤}
+use Rattle.std.specs.Prelude.{◌≡◌, ℕ, ◌^◌, ◌<◌, ◌==◌, Bool, true, false, ◌&&◌, is_none, if◌then◌else◌, Option, None, Some, Result, Ok, Err, ⊤}
+use Rattle.sporc_outside.specs.LeafDisk.{DiskTold}
 use Rattle.lms_tree.specs.LmsType.{height_of}
 use Rattle.lms_leaf.specs.Leaves.{DrawFaults, Draws, LeavesModel}
 use Rattle.lms_leaf.specs.declared.faults.LeafFault.{LeafFault}
@@ -25,10 +26,10 @@ MayDraw c (Err (Exhausted next)) = next ≡ 2 ^ height_of c.opening.key.lms
 MayDraw c (Err DiskFault) = ⊤
 
 -- a draw made these of the leaf numbers
-pub record IsDraw {D : Type 0} (stored : D → Option (List ℕ)) (moment : D → ℕ) (images : D → ℕ → List ℕ → Type 0) (faults : D → ℕ)
+pub record IsDraw {D : Type 0} (disk_told : D → DiskTold)
     (old new : LeavesModel D) : Type 0 where
-  pub leaf : Draws stored moment images old (drawn old new) new
-  pub fault : DrawFaults faults old (drawn old new) new
+  pub leaf : Draws disk_told old (drawn old new) new
+  pub fault : DrawFaults disk_told old (drawn old new) new
 
 -- the leaf for a submission: the kept ticket's, or what a draw answered
 abbrev pub leaf_for : {D : Type 0} → Option ℕ → LeavesModel D → LeavesModel D → Result ℕ LeafFault

@@ -1,5 +1,6 @@
 -- Clients of one document, under a server that hands any bytes to anyone.
-use Rattle.std.specs.Prelude.{◌≡◌, ℕ, ◌≤◌, true, List, [], ◌∷◌, ◌++◌, length, take, Option, None, Some, if◌then◌else◌, IsSomeAnd, Contains, ⊤}
+use Rattle.std.specs.Prelude.{◌≡◌, ℕ, ◌≤◌, true, List, [], ◌∷◌, ◌++◌, length, take, Option, None, Some, if◌then◌else◌, IsSomeAnd, Contains, fold, ⊤}
+use Rattle.std.specs.Option.{option_map_or}
 use Rattle.std.specs.FinMap.{get}
 use Rattle.lms_tree.specs.LmsPrivate.{LmsPrivate, lms_public_of}
 use Rattle.lms_tree.specs.LmsPublic.{public_key_bytes}
@@ -68,38 +69,22 @@ abbrev pub signings : Device → PlainClient → Logged → List Signing
 signings who c (Submit by bytes) = record { who = who; entry = bytes; client = c } ∷ []
 signings who c event = []
 
-abbrev pub happens_to : World → Device → Logged → Option PlainClient → World
-happens_to w who event None = w
-happens_to w who event (Some c) = record { clients = with_client w.clients who (step c event); signed = w.signed ++ signings who c event }
-
 -- a client after bytes were handed to it: as it was if it refuses them, or if its journal is full
 abbrev pub given : PlainClient → List ℕ → Option Refusal → PlainClient
 given c bytes (Some refusal) = c
 given c bytes None = if journal_has_room c then accepted c bytes else c
 
-abbrev pub gives_to : World → Device → ℕ → List ℕ → Option PlainClient → World
-gives_to w who position bytes None = w
-gives_to w who position bytes (Some c) = put w who (given c bytes (refusal_of c position bytes))
-
--- a client that went back to its first k entries
-abbrev pub restarted : PlainClient → ℕ → PlainClient
-restarted c k = replay c.opening (log_of_entries (take k c.entries))
-
-abbrev pub restarts : World → Device → ℕ → Option PlainClient → World
-restarts w who k None = w
-restarts w who k (Some c) = put w who (restarted c k)
-
--- the world after a move
+-- the world after a move, which changes nothing if it is of a client that is not there
 abbrev pub after : Setup → World → Move → World
 after s w (Open who ring) = put w who (opened (opening_of s who ring))
-after s w (Happen who event) = happens_to w who event (w.clients who)
-after s w (Give who position bytes) = gives_to w who position bytes (w.clients who)
-after s w (Restart who k) = restarts w who k (w.clients who)
+after s w (Happen who event) =
+    option_map_or (λ c. put (record w { signed = w.signed ++ signings who c event }) who (step c event)) (w.clients who) w
+after s w (Give who position bytes) = option_map_or (λ c. put w who (given c bytes (refusal_of c position bytes))) (w.clients who) w
+after s w (Restart who k) = option_map_or (λ c. put w who (replay c.opening (log_of_entries (take k c.entries)))) (w.clients who) w
 
 -- after moves in order
 abbrev pub after_all : Setup → World → List Move → World
-after_all s w [] = w
-after_all s w (move ∷ moves) = after_all s (after s w move) moves
+after_all s w moves = fold (after s) w moves
 
 -- a move may happen
 abbrev pub May : Setup → World → Move → Type 0

@@ -2,6 +2,7 @@
 
 ghost use Rattle.std.specs.Prelude.{◌≡◌, ◌≢◌, ◌+◌, ◌<◌, ◌≤◌, ◌∷◌, ◌++◌, ◌&&◌, [], map as map_, drop, take, length, is_some, true, None, Some, IfOk, IfErr, OnOk, OnErr, option_copied};
 ghost use Rattle.std.specs.FinMap as map;
+ghost use Rattle.sporc_outside.specs.LeafDisk.{disk_images};
 ghost use Rattle.sporc_hash.specs.Chain.{chain};
 ghost use Rattle.sporc_entry.specs.Genesis.{IsGenesis, genesis_bytes};
 ghost use Rattle.sporc_epoch.specs.Keys.{pairs_in};
@@ -128,8 +129,8 @@ impl<D: LeafDisk> Client<D> {
         ensures leaves { Rise self.now.leaves.next_at_open self.now.leaves.next (leaves_of self.now.log) }
         ensures drawn { Rise (first_leaf_of self.now) self.now.leaves.next (leaves_of self.now.log) }
         ensures since_open { self.now.leaves.next_at_open ≤ first_leaf_of self.now }
-        ensures taken { AreTaken (D.images self.now.leaves.disk (D.moment self.now.leaves.disk)) self.now.leaves.next_at_open self.now.leaves.next }
-        ensures passed { ArePassed (D.images self.now.leaves.disk (D.moment self.now.leaves.disk)) self.now.leaves.next }
+        ensures taken { AreTaken (disk_images (D.told self.now.leaves.disk)) self.now.leaves.next_at_open self.now.leaves.next }
+        ensures passed { ArePassed (disk_images (D.told self.now.leaves.disk)) self.now.leaves.next }
         ensures few { length result.now ≤ MAX_EVENTS }
     {
         let _taken = self.signer.next_leaf();
@@ -224,8 +225,8 @@ impl<D: LeafDisk> Client<D> {
         ensures leaves { Rise result.leaves.next_at_open result.leaves.next (leaves_of self.log) }
         ensures drawn { Rise (first_leaf_of self) result.leaves.next (leaves_of self.log) }
         ensures since_open { result.leaves.next_at_open ≤ first_leaf_of self }
-        ensures taken { AreTaken (D.images result.leaves.disk (D.moment result.leaves.disk)) result.leaves.next_at_open result.leaves.next }
-        ensures passed { ArePassed (D.images result.leaves.disk (D.moment result.leaves.disk)) result.leaves.next }
+        ensures taken { AreTaken (disk_images (D.told result.leaves.disk)) result.leaves.next_at_open result.leaves.next }
+        ensures passed { ArePassed (disk_images (D.told result.leaves.disk)) result.leaves.next }
     {
         let _taken = self.signer.next_leaf();
         let Client {

@@ -57,7 +57,7 @@ pub fn honest_entries_pass()
 /// No one forges in a run in which a server hands out only what clients of the run signed, and each of their devices has its
 /// own key wherever it is live.
 pub fn closed_runs_are_genuine()
-    ensures genuine { (s : Setup) (moves : List Move) → IsTypedRun s moves → IsClosed s moves → Genuine s start moves }
+    ensures genuine { (s : Setup) (moves : List Move) → IsTypedRun s moves → IsClosed s moves → Genuine s moves }
 {}
 
 /// Every call of a client is moves of that client, or changes nothing. What it did is what its contract says of the log: a

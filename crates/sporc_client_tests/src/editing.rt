@@ -125,7 +125,7 @@ fn pending_is_limited(rt: &impl Abort, alloc: Global, cast: &Cast) {
 #[test]
 fn edits_are_pending(rt: HostRuntime) {
     let cast = Cast::new(rt.alloc()).expect(&rt, "a cast");
-    plays(&rt, rt.alloc(), &cast, 2, REBASED);
-    plays(&rt, rt.alloc(), &cast, 2, GIVEN_UP);
+    plays(&rt, rt.alloc(), &cast, REBASED);
+    plays(&rt, rt.alloc(), &cast, GIVEN_UP);
     pending_is_limited(&rt, rt.alloc(), &cast);
 }

@@ -5,8 +5,6 @@
 #![tactic(auto)]
 
 #[cfg(test)]
-mod changing;
-#[cfg(test)]
 mod checks;
 #[cfg(test)]
 mod devices;

@@ -6,7 +6,7 @@
 //! | `M insert AT TEXT` | edits the shown text: `event N` |
 //! | `M append SEEN LEN TEXT` | inserts at the end of a text of LEN characters, as shown after SEEN events: `event N` |
 //! | `M remove AT COUNT` | edits the shown text: `event N` |
-//! | `M edits N`, `M reads N`, `M drops N` | changes the role of member N, or removes it: `event K` |
+//! | `M edits N`, `M reads N` | changes the role of member N: `event K` |
 //! | `M upgrade`, `M device N D`, `M drops-device N D` | upgrades the document, adds or drops a device of member N: `event K` |
 //! | `M submit` | `entry`, `waiting`, `nothing` or `dropped FAULT`. Entries are counted from 1 |
 //! | `M give POSITION ENTRY` | accepts an entry at a position: `event N` |
@@ -200,9 +200,9 @@ fn entry_at<'a>(rt: &impl Abort, entries: &'a [Bytes], number: u32) -> &'a [u8] 
     entries.get(place).expect(rt, "an entry").as_slice()
 }
 
-/// Opens the clients of the first members, who come to hold "abc", and does what the rows say.
-pub(crate) fn plays(rt: &impl Abort, alloc: Global, cast: &Cast, members: u16, rows: &str) {
-    let mut room = Room::new(rt, alloc, cast, members);
+/// Opens the clients of members 1 and 2, who come to hold "abc", and does what the rows say.
+pub(crate) fn plays(rt: &impl Abort, alloc: Global, cast: &Cast, rows: &str) {
+    let mut room = Room::new(rt, alloc, cast, 2);
     room.tries(rt, alloc, ABC);
     room.tries(rt, alloc, rows);
 }
@@ -324,7 +324,6 @@ fn change_of_member(rt: &impl Abort, act: &str, words: &mut SplitWhitespace<'_>)
             member,
             role: Role::Reader,
         },
-        "drops" => Change::Remove { member },
         _ => panic!(rt; "no such act"),
     }
 }

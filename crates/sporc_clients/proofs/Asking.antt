@@ -7,7 +7,7 @@ use Rattle.std.proofs.lemmas.List.{map-append}
 use Rattle.std.proofs.lemmas.List.Elements.{All-contains, All-nil, All-push, Contains-append_left, Contains-append_right, Contains-push}
 use Rattle.sporc_member.specs.declared.device.Device.{Device}
 use Rattle.sporc_outside.specs.Told.{MayAppend}
-use Rattle.sporc_play.specs.Generated.{up_to}
+use Rattle.sporc_base.specs.Numbers.{up_to}
 use Rattle.sporc_words.specs.declared.client.Client.{Client as Words}
 use Rattle.sporc_files.specs.declared.file.File.{File}
 use Rattle.sporc_files.specs.declared.file.File.TheVariants.{Genesis, Key, Ring, Script, Leaf, History}

@@ -1,6 +1,16 @@
+pub mod Addresses
 pub mod Asking
-pub mod Scripts
-pub mod Members
-pub mod Outcomes
+pub mod Counting
+pub mod CountsRose
+mod Examples
+pub mod Fetched
 pub mod LeafFiles
+pub mod LeavesTaken
 pub mod Lives
+pub mod Members
+pub mod OpenedLines
+pub mod Outcomes
+pub mod Resumed
+pub mod Scripts
+pub mod Sessioning
+pub mod WorkedFrom

@@ -1,8 +1,9 @@
 -- A run over a leaf file is a life of it.
-use Rattle.std.proofs.Common.{◌≡◌, ℕ, ◌+◌, ◌*◌, ◌<◌, ◌≤◌, List, [], ◌∷◌, map, Option, IfSome, IsSome, All, AllPairs, ap, sym, subst, arith}
+use Rattle.std.proofs.Common.{◌≡◌, ℕ, ◌+◌, ◌*◌, ◌<◌, ◌≤◌, List, [], ◌∷◌, map, IfSome, IsSome, All, AllPairs, ap, sym, subst, arith}
 use Rattle.std.proofs.lemmas.List.Elements.{All-cons, All-nil, All-weaker}
 use Rattle.std.proofs.lemmas.List.Kept.{AllPairs-cons}
 use Rattle.std.specs.Prelude.{Result, ⊤}
+use Rattle.sporc_outside.specs.LeafDisk.{DiskTold, disk_images}
 use Rattle.lms_leaf.specs.LeafFile.{taken_blocks}
 use Rattle.lms_leaf.specs.Lives.{AreLives, IsLife}
 use Rattle.lms_leaf.specs.declared.leaf_file.TheConstants.{LEAVES_PER_BLOCK}
@@ -11,10 +12,9 @@ use Rattle.sporc_client.specs.ClientModel.{Rise, leaves_of}
 use Rattle.sporc_words.specs.declared.client.Client.{Client as Words}
 use Rattle.sporc_files.specs.declared.fault.Fault.{Fault}
 use Rattle.sporc_shared.specs.Items.{Past}
-use Rattle.sporc_sessions.specs.Nets.{LinkView}
 use Rattle.sporc_clients.specs.declared.member_files.MemberFiles.{MemberFiles}
 use Rattle.sporc_clients.specs.Lives.{AreRuns, ClientRun, SignOnce, life_of, signed_in}
-use Rattle.sporc_clients.specs.Outcome.{ClientUse, DiskOutcome, disk_view, not_worked, worked}
+use Rattle.sporc_clients.specs.Outcome.{ClientUse, DiskOutcome, not_worked, worked}
 
 -- ---- numbers that rise
 
@@ -35,17 +35,17 @@ rise_pairs first end (n ∷ ns) rise =
 
 -- ---- a run
 
-module _ {L D : Type 0} (view : LinkView L) (stored : D → Option (List ℕ)) (images : D → ℕ → List ℕ → Type 0) (moment faults : D → ℕ)
-    (is_image : (disk : D) → IfSome (stored disk) (images disk (moment disk))) where
-  pub run_is_life : (words : Words) (m : MemberFiles) (did : ClientUse L) (first last : D) (answer : Result ⊤ Fault)
-      (outcome : DiskOutcome view (disk_view stored images moment faults) words m did first last answer) → IsSome (stored first)
-      → IsLife moment images (record { lent = first; last = last; given = signed_in view (disk_view stored images moment faults) words m did outcome })
+module _ {D : Type 0} (disk_told : D → DiskTold)
+    (is_image : (disk : D) → IfSome (disk_told disk).stored (disk_images (disk_told disk))) where
+  pub run_is_life : (words : Words) (m : MemberFiles) (did : ClientUse) (first last : D) (answer : Result ⊤ Fault)
+      (outcome : DiskOutcome disk_told words m did first last answer) → IsSome (disk_told first).stored
+      → IsLife disk_told (record { lent = first; last = last; given = signed_in disk_told words m did outcome })
   run_is_life words m did first last answer (worked w) told =
       let signed = leaves_of w.past.log in
       let same : w.past.first_leaf ≡ w.leaves.next = ap (λ (p : Past). p.first_leaf) w.attended.work.session.goes_on in
-      let from : IfSome (stored first) (λ bytes. w.past.first_leaf ≡ LEAVES_PER_BLOCK * taken_blocks bytes) =
-      subst (λ (n : ℕ). IfSome (stored first) (λ bytes. n ≡ LEAVES_PER_BLOCK * taken_blocks bytes)) (sym same) w.ready.opened.next in
-      session_is_life stored moment images (record { lent = first; last = last; given = signed }) w.past.first_leaf w.taken.next told (is_image first) from w.taken.forward
+      let from : IfSome (disk_told first).stored (λ bytes. w.past.first_leaf ≡ LEAVES_PER_BLOCK * taken_blocks bytes) =
+      subst (λ (n : ℕ). IfSome (disk_told first).stored (λ bytes. n ≡ LEAVES_PER_BLOCK * taken_blocks bytes)) (sym same) w.ready.opened.next in
+      session_is_life disk_told (record { lent = first; last = last; given = signed }) w.past.first_leaf w.taken.next told (is_image first) from w.taken.forward
       (rise_pairs w.past.first_leaf w.taken.next signed w.taken.rise) (rise_above w.past.first_leaf w.taken.next signed w.taken.rise)
       (rise_below w.past.first_leaf w.taken.next signed w.taken.rise) w.taken.passed
   run_is_life words m did first last answer (not_worked why untouched same kept) told = record {
@@ -55,10 +55,10 @@ module _ {L D : Type 0} (view : LinkView L) (stored : D → Option (List ℕ)) (
     kept = kept;
   }
 
-  are_lives : (runs : List (ClientRun view (disk_view stored images moment faults))) → AreRuns view stored moment images faults runs
-      → AreLives stored moment images (map (life_of view (disk_view stored images moment faults)) runs)
+  are_lives : (runs : List (ClientRun disk_told)) → AreRuns disk_told runs
+      → AreLives disk_told (map (life_of disk_told) runs)
   are_lives [] are = tt
   are_lives (run ∷ runs) are = (run_is_life run.words run.member run.did run.first run.last run.answer run.outcome are.0, are.1, are_lives runs are.2)
 
-  pub sign_once : SignOnce view stored moment images faults
-  sign_once runs are = leaves_rise stored moment images (map (life_of view (disk_view stored images moment faults)) runs) (are_lives runs are)
+  pub sign_once : SignOnce disk_told
+  sign_once runs are = leaves_rise disk_told (map (life_of disk_told) runs) (are_lives runs are)

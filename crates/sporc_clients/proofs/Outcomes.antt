@@ -5,6 +5,9 @@ use Rattle.lms_tree.specs.LmsPrivate.{LmsPrivate}
 use Rattle.sporc_member.specs.declared.device.Device.{Device}
 use Rattle.sporc_outside.specs.Files.{IsDiskOf}
 use Rattle.sporc_outside.specs.declared.named_file.NamedFile.{NamedFile}
+use Rattle.sporc_outside.specs.Chances.{ChanceTold}
+use Rattle.sporc_outside.specs.Nets.{NetTold}
+use Rattle.sporc_outside.specs.LeafDisk.{DiskTold}
 use Rattle.sporc_words.specs.declared.client.Client.{Client as Words}
 use Rattle.sporc_files.specs.declared.fault.Fault.{Fault}
 use Rattle.sporc_files.specs.declared.fault.Fault.TheVariants as faults
@@ -16,47 +19,22 @@ use Rattle.sporc_keys.specs.declared.ring_file.RingFile.{RingFile}
 use Rattle.sporc_script.specs.declared.editor_line.EditorLine.{EditorLine}
 use Rattle.sporc_shared.specs.declared.fault.SessionFault.{SessionFault}
 use Rattle.sporc_shared.specs.Items.{Past}
-use Rattle.sporc_sessions.specs.declared.attending.AttendFault.{AttendFault}
-use Rattle.sporc_sessions.specs.declared.concluding.KeepFault.{KeepFault}
-use Rattle.sporc_sessions.specs.declared.concluding.KeepFault.TheVariants as keeping
-use Rattle.sporc_sessions.specs.declared.concluding.PrintFault.{PrintFault}
-use Rattle.sporc_sessions.specs.Attending.{IsAttended, NotAttended}
-use Rattle.sporc_sessions.specs.Concluding.{SaveOutcome}
-use Rattle.sporc_sessions.specs.Nets.{LinkView, NetTold}
-use Rattle.sporc_sessions.specs.Sessions.{ChanceTold}
+use Rattle.sporc_clients.specs.Attending.{IsAttended, NotAttended}
+use Rattle.sporc_clients.specs.Concluding.{SaveOutcome}
 use Rattle.sporc_clients.specs.declared.member_files.MemberFiles.{MemberFiles}
-use Rattle.sporc_clients.specs.Causes.{first_fault}
+use Rattle.sporc_clients.specs.Causes.{ended}
 use Rattle.sporc_clients.specs.LeafFile.{IsLendFault}
 use Rattle.sporc_clients.specs.MemberFiles.{IsMemberFault, SayMember}
-use Rattle.sporc_clients.specs.Outcome.{ClientOutcome, ClientUse, DiskView, names_of}
+use Rattle.sporc_clients.specs.Outcome.{ClientOutcome, ClientUse, names_of}
 
 -- the disk was not lent by a folder whose count of faults had risen before
 lend_later : (told : Option (List NamedFile)) (low mid high : ℕ) (names : FileNames) (device : Device) (fault : Fault) → low ≤ mid
     → IsLendFault told mid high names device fault → IsLendFault told low high names device fault
 lend_later told low mid high names device faults.Memory more any = tt
-lend_later told low mid high names device faults.Words more never = never
 lend_later told low mid high names device (faults.Missing f) more why = why
-lend_later told low mid high names device (faults.Exists f) more never = never
 lend_later told low mid high names device (faults.TooLong f) more why = why
-lend_later told low mid high names device (faults.Malformed f at) more never = never
-lend_later told low mid high names device (faults.Line l) more never = never
-lend_later told low mid high names device (faults.EditorLine e l) more never = never
-lend_later told low mid high names device faults.LongScript more never = never
-lend_later told low mid high names device (faults.Refused p r) more never = never
-lend_later told low mid high names device (faults.Rejected r) more never = never
-lend_later told low mid high names device (faults.Hints h) more never = never
-lend_later told low mid high names device (faults.Opening o) more never = never
-lend_later told low mid high names device (faults.Unsettled n p) more never = never
-lend_later told low mid high names device (faults.LinkEnded t) more never = never
 lend_later told low mid high names device faults.Outside more rose = omega (arith, rose, more)
-lend_later told low mid high names device (faults.Leaf n) more never = never
-lend_later told low mid high names device faults.FullHistory more never = never
-lend_later told low mid high names device faults.FullJournal more never = never
-lend_later told low mid high names device faults.FullFile more never = never
-lend_later told low mid high names device faults.Worn more never = never
-lend_later told low mid high names device (faults.Message at) more never = never
-lend_later told low mid high names device (faults.Edit e l f) more never = never
-lend_later told low mid high names device (faults.Ahead len) more never = never
+lend_later told low mid high names device fault more never = absurd never
 
 -- with other words for its names, its files, and the count of the member's editors
 module _ (told now : Option (List NamedFile)) (names : FileNames) (words : Words) (same : now ≡ told) (named : names ≡ names_of words) where
@@ -98,45 +76,46 @@ lent_at last lends read first names words stays lent same named =
     ∙ ap (λ (n : FileNames). option_map (λ lent. file_name n (Leaf words.device) ∷ lent) first) named
 
 -- the exit of a `?`
-pub ends_so : {L D : Type 0} (view : LinkView L) (disks : DiskView D) (words : Words) (did : ClientUse L) (r : Result ⊤ Fault) (y fault : Fault) → r ≡ Err y → y ≡ fault
-    → ClientOutcome view disks words did (Err fault) → ClientOutcome view disks words did r
-ends_so view disks words did r y fault is same ended = rw (is, same) ended
+pub ends_so : {D : Type 0} (disks : D → DiskTold) (words : Words) (did : ClientUse) (r : Result ⊤ Fault) (y fault : Fault) → r ≡ Err y → y ≡ fault
+    → ClientOutcome disks words did (Err fault) → ClientOutcome disks words did r
+ends_so disks words did r y fault is same ended = rw (is, same) ended
 
 -- ---- a session
 
 -- with other words for the address, the editors and the key
-module _ {L : Type 0} (view : LinkView L) (genesis : Genesis) (device : Device) (ring : RingFile) (address told : List ℕ) (history : Option (List ℕ)) (old new : NetTold L) (same : told ≡ address) where
+module _ (genesis : Genesis) (device : Device) (ring : RingFile) (address told : List ℕ) (history : Option (List ℕ)) (old new : NetTold) (same : told ≡ address) where
   pub attended_at : (rounds until : ℕ) (editors shown : List (List EditorLine)) (key own : LmsPrivate) (leaf : ℕ) (past : Past) (chance chance' : ChanceTold) (session : Result ⊤ SessionFault)
       → shown ≡ editors → own ≡ key
-      → IsAttended view (record { genesis = genesis; device = device; ring = ring; address = told }) history old new (record { rounds = rounds; until = until; editors = shown })
+      → IsAttended (record { genesis = genesis; device = device; ring = ring; address = told }) history old new (record { rounds = rounds; until = until; editors = shown })
       (record { key = own; first_leaf = leaf }) past chance chance' session
-      → IsAttended view (record { genesis = genesis; device = device; ring = ring; address = address }) history old new (record { rounds = rounds; until = until; editors = editors })
+      → IsAttended (record { genesis = genesis; device = device; ring = ring; address = address }) history old new (record { rounds = rounds; until = until; editors = editors })
       (record { key = key; first_leaf = leaf }) past chance chance' session
   attended_at rounds until editors shown key own leaf past chance chance' session all signs attended =
-      subst (λ (a : List ℕ). IsAttended view (record { genesis = genesis; device = device; ring = ring; address = a }) history old new
+      subst (λ (a : List ℕ). IsAttended (record { genesis = genesis; device = device; ring = ring; address = a }) history old new
       (record { rounds = rounds; until = until; editors = editors }) (record { key = key; first_leaf = leaf }) past chance chance' session) same
-      (subst (λ (es : List (List EditorLine)). IsAttended view (record { genesis = genesis; device = device; ring = ring; address = told }) history old new
+      (subst (λ (es : List (List EditorLine)). IsAttended (record { genesis = genesis; device = device; ring = ring; address = told }) history old new
       (record { rounds = rounds; until = until; editors = es }) (record { key = key; first_leaf = leaf }) past chance chance' session) all
-      (subst (λ (k : LmsPrivate). IsAttended view (record { genesis = genesis; device = device; ring = ring; address = told }) history old new
+      (subst (λ (k : LmsPrivate). IsAttended (record { genesis = genesis; device = device; ring = ring; address = told }) history old new
       (record { rounds = rounds; until = until; editors = shown }) (record { key = k; first_leaf = leaf }) past chance chance' session) signs attended))
 
-  pub not_attended_at : (before after : ℕ) (fault : AttendFault)
-      → NotAttended view (record { genesis = genesis; device = device; ring = ring; address = told }) history old new before after fault
-      → NotAttended view (record { genesis = genesis; device = device; ring = ring; address = address }) history old new before after fault
+  pub not_attended_at : (before after : ℕ) (fault : Fault)
+      → NotAttended (record { genesis = genesis; device = device; ring = ring; address = told }) history old new before after fault
+      → NotAttended (record { genesis = genesis; device = device; ring = ring; address = address }) history old new before after fault
   not_attended_at before after fault why =
-      subst (λ (a : List ℕ). NotAttended view (record { genesis = genesis; device = device; ring = ring; address = a }) history old new before after fault) same why
+      subst (λ (a : List ℕ). NotAttended (record { genesis = genesis; device = device; ring = ring; address = a }) history old new before after fault) same why
 
 -- what was saved by a folder whose count of faults had risen before
-saved_later : (past : Past) (name : List ℕ) (told new : Option (List NamedFile)) (low mid high : ℕ) (result : Result ⊤ KeepFault) → low ≤ mid
+saved_later : (past : Past) (name : List ℕ) (told new : Option (List NamedFile)) (low mid high : ℕ) (result : Result ⊤ Fault) → low ≤ mid
     → SaveOutcome past name (record { before = told; after = new; faults_before = mid; faults_after = high }) result
     → SaveOutcome past name (record { before = told; after = new; faults_before = low; faults_after = high }) result
 saved_later past name told new low mid high (Ok done) more is = is
-saved_later past name told new low mid high (Err keeping.Folder) more (rose, changes) = (omega (arith, rose, more), changes)
-saved_later past name told new low mid high (Err keeping.TooLong) more is = is
-saved_later past name told new low mid high (Err keeping.Memory) more is = is
+saved_later past name told new low mid high (Err faults.Outside) more (rose, changes) = (omega (arith, rose, more), changes)
+saved_later past name told new low mid high (Err faults.FullFile) more is = is
+saved_later past name told new low mid high (Err faults.Memory) more is = is
+saved_later past name told new low mid high (Err fault) more never = absurd never
 
 -- with other words for its name and its files
-pub saved_as : (past : Past) (name shown : List ℕ) (told now new : Option (List NamedFile)) (low mid high : ℕ) (result : Result ⊤ KeepFault) → shown ≡ name → now ≡ told → low ≤ mid
+pub saved_as : (past : Past) (name shown : List ℕ) (told now new : Option (List NamedFile)) (low mid high : ℕ) (result : Result ⊤ Fault) → shown ≡ name → now ≡ told → low ≤ mid
     → SaveOutcome past shown (record { before = now; after = new; faults_before = mid; faults_after = high }) result
     → SaveOutcome past name (record { before = told; after = new; faults_before = low; faults_after = high }) result
 saved_as past name shown told now new low mid high result called same more is =
@@ -145,7 +124,7 @@ saved_as past name shown told now new low mid high result called same more is =
     (subst (λ (o : Option (List NamedFile)). SaveOutcome past shown (record { before = o; after = new; faults_before = mid; faults_after = high }) result) same is))
 
 -- the answer, with other words for the disk's count and for the session's fault
-pub answers_so : (answer : Result ⊤ Fault) (n count : ℕ) (ended session : Result ⊤ SessionFault) (saved : Result ⊤ KeepFault) (printed : Result ⊤ PrintFault) → n ≡ count → ended ≡ session
-    → answer ≡ first_fault n ended saved printed → answer ≡ first_fault count session saved printed
-answers_so answer n count ended session saved printed counted same is =
-    is ∙ ap (λ (k : ℕ). first_fault k ended saved printed) counted ∙ ap (λ (s : Result ⊤ SessionFault). first_fault count s saved printed) same
+pub answers_so : (answer : Result ⊤ Fault) (n count : ℕ) (shown session : Result ⊤ SessionFault) (saved : Result ⊤ Fault) (printed : Result ⊤ Fault) → n ≡ count → shown ≡ session
+    → answer ≡ ended n shown saved printed → answer ≡ ended count session saved printed
+answers_so answer n count shown session saved printed counted same is =
+    is ∙ ap (λ (k : ℕ). ended k shown saved printed) counted ∙ ap (λ (s : Result ⊤ SessionFault). ended count s saved printed) same

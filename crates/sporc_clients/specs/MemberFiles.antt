@@ -10,7 +10,7 @@ use Rattle.sporc_keys.specs.declared.ring_file.RingFile.{RingFile}
 use Rattle.sporc_keys.specs.RingFile.{ring_file_of_member}
 use Rattle.sporc_script.specs.declared.editor_line.EditorLine.{EditorLine}
 use Rattle.sporc_script.specs.Grammar.{IsEditorFault, IsEditorScript}
-use Rattle.sporc_play.specs.Generated.{up_to}
+use Rattle.sporc_base.specs.Numbers.{up_to}
 use Rattle.sporc_files.specs.declared.fault.Fault.{Fault}
 use Rattle.sporc_files.specs.declared.fault.Fault.TheVariants as faults
 use Rattle.sporc_files.specs.declared.file.File.{File}

@@ -1,14 +1,13 @@
-//! What the faults of the crates below are for the command.
+//! What a fault of a session is for the program, and which fault is answered.
 
-ghost use Rattle.std.specs.Prelude.{◌≡◌};
-ghost use Rattle.sporc_clients.specs.Causes.{fault_of_attending, fault_of_disk, fault_of_joining, fault_of_keeping, fault_of_opening, fault_of_printing, fault_of_session, fault_of_stop, first_fault, printing_ran_out, saving_ran_out};
+ghost use Rattle.std.specs.Prelude.{◌≡◌, ◌≢◌, ℕ};
+ghost use Rattle.lms_leaf.specs.declared.faults.LeafFault.TheVariants as leaf_faults;
+ghost use Rattle.sporc_bytes.specs.Fields.{fault_as};
+ghost use Rattle.sporc_clients.specs.Causes.{ended, fault_of_disk, fault_of_session};
 
 use lms_leaf::LeafFault;
-use sporc_files::{Fault, File};
-use sporc_member::Device;
-use sporc_sessions::{AttendFault, HintsFault, KeepFault, OpenFault, PrintFault};
+use sporc_files::{Fault, first_fault};
 use sporc_shared::SessionFault;
-use sporc_store::Stop;
 
 // A disk that failed has counted it, so its count is not 0.
 fn disk_fault(disk_faults: u64) -> Fault
@@ -42,106 +41,37 @@ fn session_fault(fault: SessionFault, disk_faults: u64) -> Fault
     }
 }
 
-// What it is that a joiner has no hints.
-fn joining_fault(fault: HintsFault) -> Fault
-    ensures value { result ≡ fault_of_joining fault }
+// What a fault of a fetch is: the same whatever a disk counted, since none is asked for a leaf.
+pub(crate) fn fetch_fault(fault: SessionFault) -> Fault
+    requires no_disk { fault ≢ SessionFault.Leaf leaf_faults.DiskFault }
+    ensures value { (disk_faults : ℕ) → result ≡ fault_of_session disk_faults fault }
 {
     match fault {
-        HintsFault::Unreached => Fault::Outside,
-        HintsFault::Link(fault) => session_fault(fault, 0),
-        HintsFault::Hints(fault) => Fault::from(fault),
+        SessionFault::Leaf(LeafFault::DiskFault) => unreachable!(),
+        fault => session_fault(fault, 0),
     }
 }
 
-// What it is that a member's line is not opened.
-fn opening_fault(fault: OpenFault) -> Fault
-    ensures value { result ≡ fault_of_opening fault }
+// How a session ended, for the program.
+fn session_end(session: Result<(), SessionFault>, disk_faults: u64) -> Result<(), Fault>
+    ensures value { result ≡ fault_as (fault_of_session disk_faults) session }
 {
-    match fault {
-        OpenFault::Hints(fault) => joining_fault(fault),
-        OpenFault::Line(fault) => Fault::from(fault),
-        OpenFault::Memory => Fault::Memory,
+    match session {
+        Ok(()) => Ok(()),
+        Err(fault) => Err(session_fault(fault, disk_faults)),
     }
 }
 
-// What it is that the loading of a device's saved history stopped before its end.
-fn stop_fault(device: Device, stop: Stop) -> Fault
-    ensures value { result ≡ fault_of_stop device stop }
-{
-    match stop {
-        Stop::End => Fault::Memory,
-        Stop::Foreign => Fault::Malformed(File::History(device), 0),
-        Stop::Cut(at) => Fault::Malformed(File::History(device), at as u64),
-        Stop::Refused(position, refusal) => Fault::Refused(position, refusal),
-    }
-}
-
-// What it is that no session began.
-pub(crate) fn attend_fault(device: Device, fault: AttendFault) -> Fault
-    ensures value { result ≡ fault_of_attending device fault }
-{
-    match fault {
-        AttendFault::Open(fault) => opening_fault(fault),
-        AttendFault::Stopped(stop) => stop_fault(device, stop),
-        AttendFault::Unreached => Fault::Outside,
-        AttendFault::Memory => Fault::Memory,
-    }
-}
-
-fn keep_fault(fault: KeepFault) -> Fault
-    ensures value { result ≡ fault_of_keeping fault }
-{
-    match fault {
-        KeepFault::TooLong => Fault::FullFile,
-        KeepFault::Folder => Fault::Outside,
-        KeepFault::Memory => Fault::Memory,
-    }
-}
-
-fn print_fault(fault: PrintFault) -> Fault
-    ensures value { result ≡ fault_of_printing fault }
-{
-    match fault {
-        PrintFault::Sink => Fault::Outside,
-        PrintFault::Memory => Fault::Memory,
-    }
-}
-
-fn saving_ran_out(saved: Result<(), KeepFault>) -> bool
-    ensures value { result ≡ saving_ran_out saved }
-{
-    match saved {
-        Err(KeepFault::Memory) => true,
-        Err(KeepFault::TooLong | KeepFault::Folder) | Ok(()) => false,
-    }
-}
-
-fn printing_ran_out(printed: Result<(), PrintFault>) -> bool
-    ensures value { result ≡ printing_ran_out printed }
-{
-    match printed {
-        Err(PrintFault::Memory) => true,
-        Err(PrintFault::Sink) | Ok(()) => false,
-    }
-}
-
-// The first fault: that of a session, of saving, or of printing. But out of memory at saving or printing comes before all of them, so
-// that neither is left out unseen behind another fault.
-pub(crate) fn first_fault(
+// What the command answers, by what came of its session, of saving and of printing: the first fault, but for out of memory at a
+// later one.
+pub(crate) fn end(
     disk_faults: u64,
     session: Result<(), SessionFault>,
-    saved: Result<(), KeepFault>,
-    printed: Result<(), PrintFault>,
+    saved: Result<(), Fault>,
+    printed: Result<(), Fault>,
 ) -> Result<(), Fault>
-    ensures value { result ≡ first_fault disk_faults session saved printed }
+    ensures value { result ≡ ended disk_faults session saved printed }
 {
-    if saving_ran_out(saved) || printing_ran_out(printed) {
-        return Err(Fault::Memory);
-    }
-    match (session, saved, printed) {
-        (Err(fault), _, _) => Err(session_fault(fault, disk_faults)),
-        (Ok(()), Err(fault), _) => Err(keep_fault(fault)),
-        (Ok(()), Ok(()), Err(fault)) => Err(print_fault(fault)),
-        (Ok(()), Ok(()), Ok(())) => Ok(()),
-    }
+    let kept = first_fault(saved, printed);
+    first_fault(session_end(session, disk_faults), kept)
 }

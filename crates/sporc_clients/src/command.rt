@@ -1,8 +1,8 @@
 //! The command.
 
 ghost use Rattle.std.specs.Prelude.{◌≡◌, ◌+◌, ◌≤◌, [], ◌∷◌, length, map, option_map, string_bytes, IfErr, IfOk};
-ghost use Rattle.sporc_outside.specs.Told.{AreShutBehind};
-ghost use Rattle.sporc_outside.specs.Uses.{sink_use};
+ghost use Rattle.sporc_outside.specs.Uses.{use_of};
+ghost use Rattle.sporc_outside.specs.Nets.{AreShutBehind};
 ghost use Rattle.lms_leaf.specs.LeafFile.{IsLeafHeight};
 ghost use Rattle.lms_tree.specs.LmsType.{height_of};
 ghost use Rattle.sporc_entry.specs.Genesis.{IsGenesis};
@@ -10,19 +10,20 @@ ghost use Rattle.sporc_script.specs.declared.limits.TheConstants.{MAX_EDITORS};
 ghost use Rattle.sporc_files.specs.declared.file.File.{File};
 ghost use Rattle.sporc_files.specs.Names.{file_name};
 ghost use Rattle.sporc_files.specs.Reading.{IsFileFault, SaysFileIfThere, any_bytes};
-ghost use Rattle.sporc_files.specs.Uses.{AsksOnly, chance_use, folder_use};
-ghost use Rattle.sporc_sessions.specs.Nets.{AsksAtMost, link_view};
-ghost use Rattle.sporc_sessions.specs.Opening.{links_for_hints};
-ghost use Rattle.sporc_clients.specs.Outcome.{ClientOutcome, DiskOutcome, client_files, disk_view, names_of, net_use};
+ghost use Rattle.sporc_files.specs.Uses.{AsksOnly};
+ghost use Rattle.sporc_clients.specs.Nets.{AsksAtMost};
+ghost use Rattle.sporc_clients.specs.Opening.{links_for_hints};
+ghost use Rattle.sporc_clients.specs.Outcome.{ClientOutcome, DiskOutcome, client_files, names_of};
 
-use crate::causes::{attend_fault, first_fault};
+use crate::attending::{Member, attend};
+use crate::causes::end;
+use crate::concluding::{Concluded, conclude};
 use crate::leaf_file::{lend_disk, open_signer};
 use crate::member_files::{MemberFiles, read_member};
 use lms_sign::Signer;
 use sporc_files::{Fault, File, Names, read_if_there};
 use sporc_member::Device;
 use sporc_outside::{Chance, Counted, Dial, Folder, Gate, LeafDisk, Sink};
-use sporc_sessions::{Concluded, Member, attend, conclude};
 use sporc_words::Client as Words;
 use std::alloc::Global;
 use std::sync::Wait;
@@ -51,26 +52,24 @@ where
     F::Disk: Send,
     N::Link: Send,
     requires few { length words.now.scripts ≤ MAX_EDITORS }
-    ensures outcome { ClientOutcome (link_view N.Link.written N.Link.left N.Link.faults N.Link.is_shut)
-        (disk_view F.Disk.stored F.Disk.images F.Disk.moment F.Disk.faults)
-        words.now
+    ensures outcome { ClientOutcome F.Disk.told words.now
         (record {
-          out = sink_use O.written O.faults out.old out.new;
-          folder = folder_use F.files F.asked F.lent F.faults files.old files.new;
-          net = net_use N.asked N.coming N.returned N.link_faults N.faults net.old net.new;
-          chance = chance_use C.given C.faults chance.old chance.new;
+          out = use_of O.told out.old out.new;
+          folder = use_of F.told files.old files.new;
+          net = use_of N.told net.old net.new;
+          chance = use_of C.told chance.old chance.new;
         })
         result }
-    ensures files_may_ask { AsksOnly (map (file_name (names_of words.now)) (client_files words.now.device (length words.now.scripts))) (F.asked files.old) (F.asked files.new) }
-    ensures lent { F.lent files.new ≡ F.lent files.old }
-    ensures files_kept { F.faults files.old ≤ F.faults files.new }
-    ensures net_may_ask { AsksAtMost 2 (N.asked net.old) (N.asked net.new) words.now.address }
-    ensures out_kept { O.faults out.old ≤ O.faults out.new }
-    ensures shut { AreShutBehind N.Link.is_shut (N.returned net.old) (N.returned net.new) }
-    ensures links_out { N.out net.new ≡ N.out net.old }
-    ensures net_kept { N.faults net.old ≤ N.faults net.new }
-    ensures links_kept { N.link_faults net.old ≤ N.link_faults net.new }
-    ensures chance_kept { C.faults chance.old ≤ C.faults chance.new }
+    ensures files_may_ask { AsksOnly (map (file_name (names_of words.now)) (client_files words.now.device (length words.now.scripts))) (F.told files.old).asked (F.told files.new).asked }
+    ensures lent { (F.told files.new).lent ≡ (F.told files.old).lent }
+    ensures files_kept { (F.told files.old).faults ≤ (F.told files.new).faults }
+    ensures net_may_ask { AsksAtMost 2 (N.told net.old).asked (N.told net.new).asked words.now.address }
+    ensures out_kept { (O.told out.old).faults ≤ (O.told out.new).faults }
+    ensures shut { AreShutBehind (N.told net.old).returned (N.told net.new).returned }
+    ensures links_out { (N.told net.new).out ≡ (N.told net.old).out }
+    ensures net_kept { (N.told net.old).faults ≤ (N.told net.new).faults }
+    ensures links_kept { (N.told net.old).link_faults ≤ (N.told net.new).link_faults }
+    ensures chance_kept { (C.told chance.old).faults ≤ (C.told chance.new).faults }
 {
     let names = names_of(words);
     let editors = words.scripts.as_slice().len() as u32;
@@ -111,26 +110,24 @@ where
     requires few { length member.editors ≤ MAX_EDITORS }
     requires genesis { IsGenesis member.genesis }
     requires height { IsLeafHeight (height_of member.tree.lms) }
-    ensures outcome { DiskOutcome (link_view N.Link.written N.Link.left N.Link.faults N.Link.is_shut)
-        (disk_view D.stored D.images D.moment D.faults)
-        words.now member
+    ensures outcome { DiskOutcome D.told words.now member
         (record {
-          out = sink_use O.written O.faults out.old out.new;
-          folder = folder_use F.files F.asked F.lent F.faults files.old files.new;
-          net = net_use N.asked N.coming N.returned N.link_faults N.faults net.old net.new;
-          chance = chance_use C.given C.faults chance.old chance.new;
+          out = use_of O.told out.old out.new;
+          folder = use_of F.told files.old files.new;
+          net = use_of N.told net.old net.new;
+          chance = use_of C.told chance.old chance.new;
         })
         disk result.1 result.0 }
-    ensures files_may_ask { AsksOnly (file_name (names_of words.now) (File.History words.now.device) ∷ []) (F.asked files.old) (F.asked files.new) }
-    ensures lent { F.lent files.new ≡ F.lent files.old }
-    ensures files_kept { F.faults files.old ≤ F.faults files.new }
-    ensures net_may_ask { AsksAtMost (links_for_hints member.ring + 1) (N.asked net.old) (N.asked net.new) words.now.address }
-    ensures out_kept { O.faults out.old ≤ O.faults out.new }
-    ensures shut { AreShutBehind N.Link.is_shut (N.returned net.old) (N.returned net.new) }
-    ensures links_out { N.out net.new ≡ N.out net.old }
-    ensures net_kept { N.faults net.old ≤ N.faults net.new }
-    ensures links_kept { N.link_faults net.old ≤ N.link_faults net.new }
-    ensures chance_kept { C.faults chance.old ≤ C.faults chance.new }
+    ensures files_may_ask { AsksOnly (file_name (names_of words.now) (File.History words.now.device) ∷ []) (F.told files.old).asked (F.told files.new).asked }
+    ensures lent { (F.told files.new).lent ≡ (F.told files.old).lent }
+    ensures files_kept { (F.told files.old).faults ≤ (F.told files.new).faults }
+    ensures net_may_ask { AsksAtMost (links_for_hints member.ring + 1) (N.told net.old).asked (N.told net.new).asked words.now.address }
+    ensures out_kept { (O.told out.old).faults ≤ (O.told out.new).faults }
+    ensures shut { AreShutBehind (N.told net.old).returned (N.told net.new).returned }
+    ensures links_out { (N.told net.new).out ≡ (N.told net.old).out }
+    ensures net_kept { (N.told net.old).faults ≤ (N.told net.new).faults }
+    ensures links_kept { (N.told net.old).link_faults ≤ (N.told net.new).link_faults }
+    ensures chance_kept { (C.told chance.old).faults ≤ (C.told chance.new).faults }
 {
     let MemberFiles {
         genesis,
@@ -173,9 +170,9 @@ where
                 printed,
                 disk,
             } = conclude(alloc, ended, out, files, name.as_str());
-            (first_fault(disk.faults(), session, saved, printed), disk)
+            (end(disk.faults(), session, saved, printed), disk)
         }
-        Err((fault, signer)) => (Err(attend_fault(device, fault)), signer.close()),
+        Err((fault, signer)) => (Err(fault), signer.close()),
     }
 }
 
@@ -193,14 +190,14 @@ fn history_of<F: Folder>(
     names: &Names<'_>,
     device: Device,
 ) -> Result<(Option<Vec<u8>>, String), Fault>
-    ensures ok { IfOk result (λ both. SaysFileIfThere any_bytes (F.files files.old) (file_name names.now (File.History device))
+    ensures ok { IfOk result (λ both. SaysFileIfThere any_bytes (F.told files.old).files (file_name names.now (File.History device))
         (option_map (λ bytes. bytes.items) both.0)) }
     ensures name { IfOk result (λ both. string_bytes both.1 ≡ file_name names.now (File.History device)) }
-    ensures err { IfErr result (IsFileFault any_bytes (F.files files.old) (F.faults files.old) (F.faults files.new) names.now (File.History device)) }
-    ensures files { F.files files.new ≡ F.files files.old }
-    ensures lent { F.lent files.new ≡ F.lent files.old }
-    ensures may_ask { AsksOnly (file_name names.now (File.History device) ∷ []) (F.asked files.old) (F.asked files.new) }
-    ensures kept { F.faults files.old ≤ F.faults files.new }
+    ensures err { IfErr result (IsFileFault any_bytes (F.told files.old).files (F.told files.old).faults (F.told files.new).faults names.now (File.History device)) }
+    ensures files { (F.told files.new).files ≡ (F.told files.old).files }
+    ensures lent { (F.told files.new).lent ≡ (F.told files.old).lent }
+    ensures may_ask { AsksOnly (file_name names.now (File.History device) ∷ []) (F.told files.old).asked (F.told files.new).asked }
+    ensures kept { (F.told files.old).faults ≤ (F.told files.new).faults }
 {
     let file = File::History(device);
     let saved = read_if_there(alloc, files, names, file)?;

@@ -3,32 +3,31 @@
 ghost use Rattle.std.specs.Prelude.{IsSome, Result, ⊤};
 ghost use Rattle.lms_leaf.specs.Lives.{IsLife};
 ghost use Rattle.sporc_files.specs.declared.fault.Fault.{Fault};
-ghost use Rattle.sporc_sessions.specs.Nets.{link_view};
 ghost use Rattle.sporc_words.specs.declared.client.Client.{Client as Words};
 ghost use Rattle.sporc_clients.specs.declared.member_files.MemberFiles.{MemberFiles};
 ghost use Rattle.sporc_clients.specs.Lives.{SignOnce, signed_in};
-ghost use Rattle.sporc_clients.specs.Outcome.{ClientUse, DiskOutcome, disk_view};
+ghost use Rattle.sporc_clients.specs.Outcome.{ClientUse, DiskOutcome};
 
-use sporc_outside::{LeafDisk, Link};
+use sporc_outside::LeafDisk;
 
 /// What `client` did over the disk of a leaf file is a life of that file, whatever came of it, and the leaves given in it are
 /// those that signed.
 ///
 /// The disk is one that tells its bytes, and behaves as [`LeafDisk`] says. Of a disk that tells none, as a real file, this
 /// says nothing.
-pub fn runs_are_lives<L: Link, D: LeafDisk>()
-    ensures life { (words : Words) (m : MemberFiles) (did : ClientUse L) (first last : D) (answer : Result ⊤ Fault)
-        (outcome : DiskOutcome (link_view L.written L.left L.faults L.is_shut) (disk_view D.stored D.images D.moment D.faults) words m did first last answer)
-        → IsSome (D.stored first)
-        → IsLife D.moment D.images (record {
+pub fn runs_are_lives<D: LeafDisk>()
+    ensures life { (words : Words) (m : MemberFiles) (did : ClientUse) (first last : D) (answer : Result ⊤ Fault)
+        (outcome : DiskOutcome D.told words m did first last answer)
+        → IsSome (D.told first).stored
+        → IsLife D.told (record {
           lent = first;
           last = last;
-          given = signed_in (link_view L.written L.left L.faults L.is_shut) (disk_view D.stored D.images D.moment D.faults) words m did outcome;
+          given = signed_in D.told words m did outcome;
         }) }
 {}
 
 /// So over runs of `client` one behind another, whatever came of each, the leaves that sign rise, and none signs twice. Each run
 /// begins with what a read gives of the disk that the one before it left, or with what a crash leaves of that.
-pub fn no_leaf_signs_twice<L: Link, D: LeafDisk>()
-    ensures rise { SignOnce (link_view L.written L.left L.faults L.is_shut) D.stored D.moment D.images D.faults }
+pub fn no_leaf_signs_twice<D: LeafDisk>()
+    ensures rise { SignOnce D.told }
 {}

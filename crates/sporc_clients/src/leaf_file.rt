@@ -4,6 +4,7 @@ ghost use Rattle.std.specs.Prelude.{◌≡◌, ◌≤◌, [], ◌∷◌, IfErr, 
 ghost use Rattle.lms_leaf.specs.LeafFile.{IsLeafHeight};
 ghost use Rattle.lms_tree.specs.LmsType.{height_of};
 ghost use Rattle.sporc_outside.specs.Files.{IsDiskOf};
+ghost use Rattle.sporc_outside.specs.LeafDisk.{disk_images};
 ghost use Rattle.sporc_files.specs.declared.file.File.{File};
 ghost use Rattle.sporc_files.specs.Names.{file_name};
 ghost use Rattle.sporc_files.specs.Uses.{AsksOnly};
@@ -24,14 +25,14 @@ pub(crate) fn lend_disk<F: Folder>(
     names: &Names<'_>,
     device: Device,
 ) -> Result<F::Disk, Fault>
-    ensures ok { IfOk result (λ disk. IsDiskOf (F.files files.old) (file_name names.now (File.Leaf device)) (F.Disk.stored disk)) }
-    ensures fresh { IfOk result (λ disk. F.Disk.faults disk ≡ 0) }
-    ensures err { IfErr result (IsLendFault (F.files files.old) (F.faults files.old) (F.faults files.new) names.now device) }
-    ensures files { F.files files.new ≡ F.files files.old }
-    ensures lent { OnOk result (F.lent files.new ≡ option_map (λ lent. file_name names.now (File.Leaf device) ∷ lent) (F.lent files.old)) }
-    ensures not_lent { OnErr result (F.lent files.new ≡ F.lent files.old) }
-    ensures may_ask { AsksOnly (file_name names.now (File.Leaf device) ∷ []) (F.asked files.old) (F.asked files.new) }
-    ensures kept { F.faults files.old ≤ F.faults files.new }
+    ensures ok { IfOk result (λ disk. IsDiskOf (F.told files.old).files (file_name names.now (File.Leaf device)) (F.Disk.told disk).stored) }
+    ensures fresh { IfOk result (λ disk. (F.Disk.told disk).faults ≡ 0) }
+    ensures err { IfErr result (IsLendFault (F.told files.old).files (F.told files.old).faults (F.told files.new).faults names.now device) }
+    ensures files { (F.told files.new).files ≡ (F.told files.old).files }
+    ensures lent { OnOk result ((F.told files.new).lent ≡ option_map (λ lent. file_name names.now (File.Leaf device) ∷ lent) (F.told files.old).lent) }
+    ensures not_lent { OnErr result ((F.told files.new).lent ≡ (F.told files.old).lent) }
+    ensures may_ask { AsksOnly (file_name names.now (File.Leaf device) ∷ []) (F.told files.old).asked (F.told files.new).asked }
+    ensures kept { (F.told files.old).faults ≤ (F.told files.new).faults }
 {
     let file = File::Leaf(device);
     let name = file.name(alloc, names)?;
@@ -53,12 +54,12 @@ pub(crate) fn open_signer<D: LeafDisk>(
     device: Device,
 ) -> Result<Signer<D>, (Fault, D)>
     requires height { IsLeafHeight (height_of tree.lms) }
-    ensures ok { IfOk result (λ signer. IsOpened (D.stored disk) (D.stored signer.leaves.disk) signer.leaves) }
+    ensures ok { IfOk result (λ signer. IsOpened (D.told disk).stored (D.told signer.leaves.disk).stored signer.leaves) }
     ensures key { IfOk result (λ signer. signer.key ≡ tree) }
-    ensures kept { IfOk result (λ signer. KeepsPassed (D.images disk (D.moment disk)) (D.images signer.leaves.disk (D.moment signer.leaves.disk))) }
-    ensures err { IfErr result (λ e. IsLeafFileFault (D.stored disk) (D.faults disk) (D.faults e.1) device (height_of tree.lms) e.0) }
-    ensures unwritten { IfErr result (λ e. D.stored e.1 ≡ D.stored disk) }
-    ensures kept_back { IfErr result (λ e. KeepsPassed (D.images disk (D.moment disk)) (D.images e.1 (D.moment e.1))) }
+    ensures kept { IfOk result (λ signer. KeepsPassed (disk_images (D.told disk)) (disk_images (D.told signer.leaves.disk))) }
+    ensures err { IfErr result (λ e. IsLeafFileFault (D.told disk).stored (D.told disk).faults (D.told e.1).faults device (height_of tree.lms) e.0) }
+    ensures unwritten { IfErr result (λ e. (D.told e.1).stored ≡ (D.told disk).stored) }
+    ensures kept_back { IfErr result (λ e. KeepsPassed (disk_images (D.told disk)) (disk_images (D.told e.1))) }
 {
     let height = tree.public().lms.height();
     match Leaves::open(alloc, disk, height) {

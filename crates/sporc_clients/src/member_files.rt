@@ -42,14 +42,14 @@ pub fn read_member<R: Threads + Sync, F: Folder>(
     device: Device,
     editors: u32,
 ) -> Result<MemberFiles, Fault>
-    ensures ok { IfOk result (SayMember (F.files files.old) names.now device editors) }
+    ensures ok { IfOk result (SayMember (F.told files.old).files names.now device editors) }
     ensures genesis { IfOk result (λ m. IsGenesis m.genesis) }
     ensures height { IfOk result (λ m. IsLeafHeight (height_of m.tree.lms)) }
-    ensures err { IfErr result (IsMemberFault (F.files files.old) (F.faults files.old) (F.faults files.new) names.now device) }
-    ensures files { F.files files.new ≡ F.files files.old }
-    ensures lent { F.lent files.new ≡ F.lent files.old }
-    ensures may_ask { AsksOnly (map (file_name names.now) (own_files device editors)) (F.asked files.old) (F.asked files.new) }
-    ensures kept { F.faults files.old ≤ F.faults files.new }
+    ensures err { IfErr result (IsMemberFault (F.told files.old).files (F.told files.old).faults (F.told files.new).faults names.now device) }
+    ensures files { (F.told files.new).files ≡ (F.told files.old).files }
+    ensures lent { (F.told files.new).lent ≡ (F.told files.old).lent }
+    ensures may_ask { AsksOnly (map (file_name names.now) (own_files device editors)) (F.told files.old).asked (F.told files.new).asked }
+    ensures kept { (F.told files.old).faults ≤ (F.told files.new).faults }
 {
     let genesis = read_genesis_file(alloc, files, names)?;
     let tree = read_own_key(rt, alloc, files, names, device, &genesis)?;
@@ -70,12 +70,12 @@ fn read_scripts<F: Folder>(
     names: &Names<'_>,
     editors: u32,
 ) -> Result<Vec<EditorScript>, Fault>
-    ensures ok { IfOk result (λ scripts. SayAllScripts (F.files files.old) names.now editors scripts.items) }
-    ensures err { IfErr result (IsFirstScriptFault (F.files files.old) (F.faults files.old) (F.faults files.new) names.now) }
-    ensures files { F.files files.new ≡ F.files files.old }
-    ensures lent { F.lent files.new ≡ F.lent files.old }
-    ensures may_ask { AsksOnly (map (file_name names.now) (script_files editors)) (F.asked files.old) (F.asked files.new) }
-    ensures kept { F.faults files.old ≤ F.faults files.new }
+    ensures ok { IfOk result (λ scripts. SayAllScripts (F.told files.old).files names.now editors scripts.items) }
+    ensures err { IfErr result (IsFirstScriptFault (F.told files.old).files (F.told files.old).faults (F.told files.new).faults names.now) }
+    ensures files { (F.told files.new).files ≡ (F.told files.old).files }
+    ensures lent { (F.told files.new).lent ≡ (F.told files.old).lent }
+    ensures may_ask { AsksOnly (map (file_name names.now) (script_files editors)) (F.told files.old).asked (F.told files.new).asked }
+    ensures kept { (F.told files.old).faults ≤ (F.told files.new).faults }
 {
     let mut scripts = Vec::new(alloc);
     for read in 0..editors {
@@ -92,12 +92,12 @@ fn read_script<F: Folder>(
     names: &Names<'_>,
     editor: u32,
 ) -> Result<EditorScript, Fault>
-    ensures ok { IfOk result (SaysScript (F.files files.old) (file_name names.now (File.Script editor))) }
-    ensures err { IfErr result (IsScriptFault (F.files files.old) (F.faults files.old) (F.faults files.new) names.now editor) }
-    ensures files { F.files files.new ≡ F.files files.old }
-    ensures lent { F.lent files.new ≡ F.lent files.old }
-    ensures may_ask { AsksOnly (file_name names.now (File.Script editor) ∷ []) (F.asked files.old) (F.asked files.new) }
-    ensures kept { F.faults files.old ≤ F.faults files.new }
+    ensures ok { IfOk result (SaysScript (F.told files.old).files (file_name names.now (File.Script editor))) }
+    ensures err { IfErr result (IsScriptFault (F.told files.old).files (F.told files.old).faults (F.told files.new).faults names.now editor) }
+    ensures files { (F.told files.new).files ≡ (F.told files.old).files }
+    ensures lent { (F.told files.new).lent ≡ (F.told files.old).lent }
+    ensures may_ask { AsksOnly (file_name names.now (File.Script editor) ∷ []) (F.told files.old).asked (F.told files.new).asked }
+    ensures kept { (F.told files.old).faults ≤ (F.told files.new).faults }
 {
     let text = read_bytes(alloc, files, names, File::Script(editor))?;
     match read_editor(alloc, text.as_slice()) {

@@ -1,6 +1,6 @@
 //! Nets some of whose calls fail.
 
-ghost use Rattle.std.specs.Prelude.{◌<◌, None, refl};
+ghost use Rattle.std.specs.Prelude.{◌<◌};
 ghost use Rattle.sporc_outside.specs.MemoryNetModel.{IsFresh};
 
 use crate::bytes::bytes_of;
@@ -122,15 +122,12 @@ impl<R: Wait + Copy + Drop> Counted for FaultyNet<R> {
 impl<R: Wait + Copy + Drop> Links for FaultyNet<R> {
     type Link = FaultyLink<R>;
 
-    ghost link_faults = { λ n. n.link_faults };
+    ghost use Rattle.std.specs.Prelude.{refl};
+    ghost use Rattle.sporc_outside.specs.Nets.{silent_net};
 
-    ghost asked = { λ _. None };
+    ghost told = { λ n. silent_net n.link_faults n.calls.faults };
 
-    ghost coming = { λ _. None };
-
-    ghost out = { λ _. None };
-
-    ghost returned = { λ _. None };
+    ghost faults_are_told = { λ _. refl };
 
     fn link_faults(&self) -> u64 {
         self.link_faults
@@ -173,13 +170,16 @@ impl<R: Wait + Copy + Drop> Counted for FaultyLink<R> {
     }
 }
 
-impl<R: Wait + Copy + Drop> Stream for FaultyLink<R> {}
+impl<R: Wait + Copy + Drop> Stream for FaultyLink<R> {
+    ghost use Rattle.std.specs.Prelude.{refl};
+    ghost use Rattle.sporc_outside.specs.Streams.{silent_stream};
+
+    ghost told = { λ l. silent_stream l.calls.faults };
+
+    ghost faults_are_told = { λ _. refl };
+}
 
 impl<R: Wait + Copy + Drop> Source for FaultyLink<R> {
-    ghost left = { λ _. None };
-
-    ghost sent = { λ _. None };
-
     fn read(&mut self, buf: &mut [u8]) -> Result<usize, Failed> {
         self.calls.begin()?;
         match self.link.read(buf) {
@@ -190,10 +190,6 @@ impl<R: Wait + Copy + Drop> Source for FaultyLink<R> {
 }
 
 impl<R: Wait + Copy + Drop> Sink for FaultyLink<R> {
-    ghost written = { λ _. None };
-
-    ghost pending = { λ _. None };
-
     fn write(&mut self, bytes: &[u8]) -> Result<usize, Failed> {
         self.calls.begin()?;
         match self.link.write(bytes) {
@@ -204,10 +200,6 @@ impl<R: Wait + Copy + Drop> Sink for FaultyLink<R> {
 }
 
 impl<R: Wait + Copy + Drop> Link for FaultyLink<R> {
-    ghost sent_is = { λ _. refl };
-
-    ghost pending_is = { λ _. refl };
-
     fn shut(&mut self) {
         self.link.shut();
     }

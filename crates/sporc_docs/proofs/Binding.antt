@@ -153,18 +153,17 @@ module _ (orders : List OrderModel) where
       go false is none = ap (λ (b : Bool). cond b (Some d) None) is
       go true is none = let held = any_reverse (is_of d) orders is in absurd cc
 
-  module _ {L : Type 0} (left written : L → Option (List ℕ)) (faults : L → ℕ) (is_shut : L → Option Bool) where
-    unbound_end : (r : Result ToServer SessionEnd) (end : SessionEnd) → IsUnboundEnd left written faults is_shut (named_by (documents_of (reverse orders))) r end
-        → IsUnboundEnd left written faults is_shut (bound_by orders) r end
-    unbound_end (Ok m) end h = (bound_none m h.0, h.1)
-    unbound_end (Err why) end h = h
+  unbound_end : (r : Result ToServer SessionEnd) (end : SessionEnd) → IsUnboundEnd (named_by (documents_of (reverse orders))) r end
+      → IsUnboundEnd (bound_by orders) r end
+  unbound_end (Ok m) end h = (bound_none m h.0, h.1)
+  unbound_end (Err why) end h = h
 
-    pub bound_to : (v : Visit L) (place : Option ℕ) → IsBound left written faults is_shut (named_by (documents_of (reverse orders))) v place
-        → IsBound left written faults is_shut (bound_by orders) v (document_at (documents_of (reverse orders)) place)
-    bound_to v None h =
-        let u = h.3 in
-        (h.0, h.1, h.2, record { first_is = u.first_is; end_is = unbound_end h.2 v.end u.end_is; written_is = u.written_is; as_shut = u.as_shut; shuts = u.shuts })
-    bound_to v (Some place) h =
-        let found = bound_some h.2 place h.3.names in
-        subst (λ (d : Option (List ℕ)). IsBound left written faults is_shut (bound_by orders) v d) (sym found.1)
-        (h.0, h.1, h.2, record { first_is = h.3.first_is; names = found.2 })
+  pub bound_to : (v : Visit) (place : Option ℕ) → IsBound (named_by (documents_of (reverse orders))) v place
+      → IsBound (bound_by orders) v (document_at (documents_of (reverse orders)) place)
+  bound_to v None h =
+      let u = h.3 in
+      (h.0, h.1, h.2, record { first_is = u.first_is; end_is = unbound_end h.2 v.end u.end_is; written_is = u.written_is; as_shut = u.as_shut; shuts = u.shuts })
+  bound_to v (Some place) h =
+      let found = bound_some h.2 place h.3.names in
+      subst (λ (d : Option (List ℕ)). IsBound (bound_by orders) v d) (sym found.1)
+      (h.0, h.1, h.2, record { first_is = h.3.first_is; names = found.2 })

@@ -139,8 +139,8 @@ module _ (start log : List Item) where
 -- ---- the sessions
 
 -- a session, and the place that its first message names
-pub record Seat (L : Type 0) : Type 0 where
-  pub visit : Visit L
+pub record Seat : Type 0 where
+  pub visit : Visit
   pub place : Option ℕ
 
 -- the document at a place
@@ -148,20 +148,20 @@ abbrev pub document_at : List (List ℕ) → Option ℕ → Option (List ℕ)
 document_at documents None = None
 document_at documents (Some place) = slice_get documents place
 
-abbrev pub session_of : {L : Type 0} → List (List ℕ) → Seat L → Session L
+abbrev pub session_of : List (List ℕ) → Seat → Session
 session_of documents s = record { visit = s.visit; document = document_at documents s.place }
 
-module _ {L : Type 0} (left written : L → Option (List ℕ)) (faults : L → ℕ) (is_shut : L → Option Bool) (i : ℕ) where
+module _ (i : ℕ) where
   -- what became of the passes for the document at this place
-  abbrev pub AllServe : List (Seat L) → List (Option (Pass Item)) → List (Option (Pass Item)) → Type 0
+  abbrev pub AllServe : List Seat → List (Option (Pass Item)) → List (Option (Pass Item)) → Type 0
   AllServe [] c c' = c' ≡ c
   AllServe (s ∷ ss) [] c' = ⊥
   AllServe (s ∷ ss) (None ∷ c) c' = ⊥
   AllServe (s ∷ ss) (Some p ∷ c) [] = ⊥
   AllServe (s ∷ ss) (Some p ∷ c) (None ∷ c') = ⊥
-  AllServe (s ∷ ss) (Some p ∷ c) (Some p' ∷ c') = Serves left written faults is_shut s.visit s.place i p p' × AllServe ss c c'
+  AllServe (s ∷ ss) (Some p ∷ c) (Some p' ∷ c') = Serves s.visit s.place i p p' × AllServe ss c c'
 
-  pub serve_somes : (ss : List (Seat L)) (c c' : List (Option (Pass Item))) → AllServe ss c c' → somes c' ≡ somes c
+  pub serve_somes : (ss : List Seat) (c c' : List (Option (Pass Item))) → AllServe ss c c' → somes c' ≡ somes c
   serve_somes [] c c' is = ap somes is
   serve_somes (s ∷ ss) [] c' h = absurd h
   serve_somes (s ∷ ss) (None ∷ c) c' h = absurd h
@@ -175,8 +175,8 @@ module _ {L : Type 0} (left written : L → Option (List ℕ)) (faults : L → �
     start = log_at_first o
 
     -- each session that is bound to the document
-    attend_all : (ss : List (Seat L)) (c c' : List (Option (Pass Item))) (k k' : Known Item) → AllServe ss c c' → Splits k c k' → k.seen ≡ start → AreIn start log c'
-        → AttendAll left written faults is_shut o.genesis start log (k.splits + 1) (map (session_of documents) ss)
+    attend_all : (ss : List Seat) (c c' : List (Option (Pass Item))) (k k' : Known Item) → AllServe ss c c' → Splits k c k' → k.seen ≡ start → AreIn start log c'
+        → AttendAll o.genesis start log (k.splits + 1) (map (session_of documents) ss)
     attend_all [] c c' k k' serves splits seen are = tt
     attend_all (s ∷ ss) [] c' k k' serves splits seen are = absurd serves
     attend_all (s ∷ ss) (None ∷ c) c' k k' serves splits seen are = absurd serves
@@ -185,8 +185,8 @@ module _ {L : Type 0} (left written : L → Option (List ℕ)) (faults : L → �
     attend_all (s ∷ ss) (Some p ∷ c) (Some p' ∷ c') k k' serves splits seen are =
         (attends s.place serves.0, attend_all ss c c' (splitting k) k' serves.1 splits.1 seen are.1)
       where
-        attends : (place : Option ℕ) → Serves left written faults is_shut s.visit place i p p' → document_at documents place ≡ Some o.genesis.document
-            → (first : Known Item) × (last : Known Item) × AttendsDocument left written faults is_shut o.genesis start log (k.splits + 1) first last s.visit
+        attends : (place : Option ℕ) → Serves s.visit place i p p' → document_at documents place ≡ Some o.genesis.document
+            → (first : Known Item) × (last : Known Item) × AttendsDocument o.genesis start log (k.splits + 1) first last s.visit
         attends None h bound = absurd cc
         attends (Some place) h bound =
             let served = h.0 (apart place bound) in
@@ -210,7 +210,7 @@ module _ {L : Type 0} (left written : L → Option (List ℕ)) (faults : L → �
             )
 
     -- each number that an item has is of a session that is bound to the document
-    one_of : (ss : List (Seat L)) (c c' : List (Option (Pass Item))) (k k' : Known Item) → AllServe ss c c' → Splits k c k' → AreIn start log c' → (n : ℕ) → k.splits < n
+    one_of : (ss : List Seat) (c c' : List (Option (Pass Item))) (k k' : Known Item) → AllServe ss c c' → Splits k c k' → AreIn start log c' → (n : ℕ) → k.splits < n
         → n ≤ k'.splits → own by_of n (length start) log ≢ [] → IsOneOf o.genesis.document (k.splits + 1) (map (session_of documents) ss) n
     one_of [] c c' k k' is splits are n low high some =
         absurd (some (idle start log c k k' splits (subst (AreIn start log) is are) n low high))
@@ -227,7 +227,7 @@ module _ {L : Type 0} (left written : L → Option (List ℕ)) (faults : L → �
             subst (λ (m : ℕ). own by_of m (length start) log ≡ []) number
             (are.0.own_are ∙ ap (λ (x : Pass Item). (known_of x).mine) same ∙ ap (λ (x : Known Item). x.mine) splits.0)
 
-        bound : (place : Option ℕ) → Serves left written faults is_shut s.visit place i p p' → n ≡ k.splits + 1
+        bound : (place : Option ℕ) → Serves s.visit place i p p' → n ≡ k.splits + 1
             → document_at documents place ≡ Some o.genesis.document
         bound None h here = absurd (some (none h here))
         bound (Some place) h here = at (place == i) refl
@@ -243,7 +243,7 @@ module _ {L : Type 0} (left written : L → Option (List ℕ)) (faults : L → �
 
   -- number 0 of a lock, once its passes were joined back
   module _ (documents : List (List ℕ)) (o : OrderModel) (there : slice_get documents i ≡ Some o.genesis.document)
-      (apart : (j : ℕ) → slice_get documents j ≡ Some o.genesis.document → j ≡ i) (ss : List (Seat L)) (c c' : List (Option (Pass Item))) (p0 p1 p2 : Pass Item)
+      (apart : (j : ℕ) → slice_get documents j ≡ Some o.genesis.document → j ≡ i) (ss : List Seat) (c c' : List (Option (Pass Item))) (p0 p1 p2 : Pass Item)
       (first : known_of p0 ≡ first_known (log_at_first o)) (splits : Splits (known_of p0) c (known_of p1)) (serves : AllServe ss c c') (joins : Joins p1 c' p2) where
     pub back : IsBack (Some p2)
     back =
@@ -257,7 +257,7 @@ module _ {L : Type 0} (left written : L → Option (List ℕ)) (faults : L → �
         let joined = j.4 in
         omega (arith, none, some, same, split, kept, joined)
 
-    pub ends : Ends left written faults is_shut (map (session_of documents) ss) o (Some p2)
+    pub ends : Ends (map (session_of documents) ss) o (Some p2)
     ends after closes =
         let start' = log_at_first o in
         let log = (known_of p2).seen in
@@ -281,7 +281,7 @@ module _ {L : Type 0} (left written : L → Option (List ℕ)) (faults : L → �
           record {
             order_is = closes.1 o.genesis (starts_log o.genesis log start' begins (placed (replicate (length o.entries) 0) o.entries, refl));
             begins = begins;
-            attend = subst (λ (n : ℕ). AttendAll left written faults is_shut o.genesis start' log (n + 1) (map (session_of documents) ss)) zero'
+            attend = subst (λ (n : ℕ). AttendAll o.genesis start' log (n + 1) (map (session_of documents) ss)) zero'
                 (attend_all documents o there apart log ss c c' (known_of p0) (known_of p1) serves splits seen0 are);
             numbered = λ x d lt.
                 (let n = by_of (get_or items x d) in

@@ -3,6 +3,8 @@ use Rattle.std.proofs.Common.{◌≡◌, ◌∙◌, ℕ, suc, ◌+◌, ◌≤◌
 use Rattle.std.specs.List.{position_from}
 use Rattle.sporc_outside.specs.Counts.{Rose}
 use Rattle.sporc_outside.specs.Told.{AppendsItem, TakesItem, IsFalseIfTold}
+use Rattle.sporc_outside.specs.Nets.{NetTold}
+use Rattle.sporc_outside.specs.Streams.{StreamTold}
 use Rattle.sporc_turn.specs.declared.pass.Pass.{Pass}
 use Rattle.sporc_turn.specs.declared.turn.Turn.{Turn}
 use Rattle.sporc_turn.specs.Passes.{known_of}
@@ -16,9 +18,8 @@ use Rattle.sporc_serve.specs.declared.end.SessionEnd.TheVariants.{Closed, LinkEn
 use Rattle.sporc_serve.specs.declared.fault.ServeFault.{ServeFault}
 use Rattle.sporc_serve.specs.declared.fault.ServeFault.TheVariants as faults
 use Rattle.sporc_serve.specs.declared.item.Item.{Item}
-use Rattle.sporc_serve.specs.Courses.{stand}
-use Rattle.sporc_serve.specs.Crowds.{Net}
-use Rattle.sporc_serve.specs.Endings.{Inlet, inlet, IsFirst}
+use Rattle.sporc_serve.specs.Courses.{stand_at}
+use Rattle.sporc_serve.specs.Endings.{Inlet, inlet_at, IsFirst}
 use Rattle.sporc_serve.specs.Visits.{visit, came, went, AreFrom, AreBehind, TellsOf, with_end}
 use Rattle.sporc_serve.proofs.Crowding.{IsLastTicket, last_ticket, tells_more, kept_more, from_more, from_none, behind_more, behind_none}
 use Rattle.sporc_docs.specs.declared.hands.Hand.{Hand}
@@ -51,9 +52,9 @@ has_is : {T : Type 0} {gs : Ghosts T} (t : Turn (Desk T gs) Item) (q : Option (P
 has_is t None h = absurd h
 has_is t (Some p) h = (p, refl)
 
-module _ {L T : Type 0} {gs : Ghosts T} (left written : L → Option (List ℕ)) (faults' : L → ℕ) (is_shut : L → Option Bool) (turns : List (Turn (Desk T gs) Item)) (documents : List (List ℕ)) where
+module _ {T : Type 0} {gs : Ghosts T} (turns : List (Turn (Desk T gs) Item)) (documents : List (List ℕ)) where
   first_last : (a b : Inlet) (r : Result ToServer SessionEnd) (end : SessionEnd) → IsFirst a b r
-      → IsUnboundEnd left written faults' is_shut (named_by documents) r end → IsLastTicket end
+      → IsUnboundEnd (named_by documents) r end → IsLastTicket end
   first_last a b (Ok m) end first is = subst IsLastTicket (sym is.1) tt
   first_last a b (Err why) end first is = subst IsLastTicket (sym is) (at why first)
     where
@@ -67,11 +68,11 @@ module _ {L T : Type 0} {gs : Ghosts T} (left written : L → Option (List ℕ))
       at Unkept first = tt
 
   -- a session that ended for want of a ticket did so for want of the last
-  sits_last : (h h' : List (Option (Pass Item))) (b a : L) (end : SessionEnd) → HavePasses turns h → HavePasses turns h'
-      → length documents ≡ length turns → LogsBegin h → Sits left written faults' is_shut documents (visit b a end) h h' → IsLastTicket end
+  sits_last : (h h' : List (Option (Pass Item))) (b a : StreamTold) (end : SessionEnd) → HavePasses turns h → HavePasses turns h'
+      → length documents ≡ length turns → LogsBegin h → Sits documents (visit b a end) h h' → IsLastTicket end
   sits_last h h' b a end have have' size logs (None, sits) =
       let u = sits.bound in
-      first_last (inlet (left b) (faults' b) (stream_of [])) (inlet (left u.0) (faults' u.0) u.1) u.2 end u.3.first_is u.3.end_is
+      first_last (inlet_at b (stream_of [])) (inlet_at u.0 u.1) u.2 end u.3.first_is u.3.end_is
   sits_last h h' b a end have have' size logs (Some place, sits) =
       let d = named_within documents sits.bound.2 place sits.bound.3.names in
       let t = same_place documents turns place d.0 size d.1 in
@@ -79,36 +80,36 @@ module _ {L T : Type 0} {gs : Ghosts T} (left written : L → Option (List ℕ))
       let p' = has_is t.0 (pass_at place h') (both_at HasPass turns h' have' place t.0 t.1) in
       let log = logs place p.0 p.1 in
       let session = ((sits.serves place p.0 p'.0 p.1 p'.1).0 refl).2 log.0 log.1 in
-      last_ticket log.0 (stand (known_of p.0) (left b) (written b) (faults' b) (stream_of []) false)
-      (stand (known_of p'.0) (left session.0) (written session.0) (faults' session.0) (stream_of []) false) end session.1.ends
+      last_ticket log.0 (stand_at (known_of p.0) b (stream_of []) false)
+      (stand_at (known_of p'.0) session.0 (stream_of []) false) end session.1.ends
 
   -- no session
-  pub crowd_none : (hs : List Hand) (old : Net L) → length hs ≡ 0 → IsCrowd left written faults' is_shut turns documents hs hs old old (Ok tt)
+  pub crowd_none : (hs : List Hand) (old : NetTold) → length hs ≡ 0 → IsCrowd turns documents hs hs old old (Ok tt)
   crowd_none hs old none =
       ([], record { sit = refl; came_open = tt; coming = from_none old.coming; returned = behind_none old.returned; result_is = (sym none, tt); kept = λ told. tt })
 
   -- no link came
-  pub crowd_failed : (hs hs' : List Hand) (old new : Net L) → hs' ≡ hs → new.coming ≡ old.coming → new.returned ≡ old.returned → Rose old.faults new.faults
-      → IsCrowd left written faults' is_shut turns documents hs hs' old new (Err faults.ListenFault)
+  pub crowd_failed : (hs hs' : List Hand) (old new : NetTold) → hs' ≡ hs → new.coming ≡ old.coming → new.returned ≡ old.returned → Rose old.faults new.faults
+      → IsCrowd turns documents hs hs' old new (Err faults.ListenFault)
   crowd_failed hs hs' old new same coming returned rose = (
     [],
     record {
       sit = same;
       came_open = tt;
-      coming = subst (λ (c : Option (List L)). AreFrom old.coming c []) (sym coming) (from_none old.coming);
-      returned = subst (λ (c : Option (List L)). AreBehind old.returned c []) (sym returned) (behind_none old.returned);
+      coming = subst (λ (c : Option (List StreamTold)). AreFrom old.coming c []) (sym coming) (from_none old.coming);
+      returned = subst (λ (c : Option (List StreamTold)). AreBehind old.returned c []) (sym returned) (behind_none old.returned);
       result_is = rose;
       kept = λ told. tt;
     },
   )
 
   -- a link came and was served beside the others
-  pub crowd_more : (h h' : Hand) (hs hs' : List Hand) (b a : L) (end : SessionEnd) (old mid low new : Net L)
+  pub crowd_more : (h h' : Hand) (hs hs' : List Hand) (b a : StreamTold) (end : SessionEnd) (old mid low new : NetTold)
       (result result' : Result (Unit {0}) ServeFault) → HavePasses turns h.passes.items → HavePasses turns h'.passes.items → length documents ≡ length turns
-      → LogsBegin h.passes.items → Sits left written faults' is_shut documents (visit b a end) h.passes.items h'.passes.items
-      → IsCrowd left written faults' is_shut turns documents hs hs' mid low result → TakesItem old.coming mid.coming b → IsFalseIfTold (is_shut b)
+      → LogsBegin h.passes.items → Sits documents (visit b a end) h.passes.items h'.passes.items
+      → IsCrowd turns documents hs hs' mid low result → TakesItem old.coming mid.coming b → IsFalseIfTold b.is_shut
       → mid.returned ≡ old.returned → old.faults ≤ mid.faults → new.coming ≡ low.coming → AppendsItem low.returned new.returned a → new.faults ≡ low.faults
-      → result' ≡ with_end result end → IsCrowd left written faults' is_shut turns documents (h ∷ hs) (h' ∷ hs') old new result'
+      → result' ≡ with_end result end → IsCrowd turns documents (h ∷ hs) (h' ∷ hs') old new result'
   crowd_more h h' hs hs' b a end old mid low new result result' have have' size logs sits crowd took is_open back le coming returned count ended =
       let vs = crowd.0 in
       let c = crowd.1 in (
@@ -116,8 +117,8 @@ module _ {L T : Type 0} {gs : Ghosts T} (left written : L → Option (List ℕ))
         record {
           sit = (have, have', sits, c.sit);
           came_open = (is_open, c.came_open);
-          coming = from_more old.coming mid.coming new.coming b (came vs) took (subst (λ (x : Option (List L)). AreFrom mid.coming x (came vs)) (sym coming) c.coming);
-          returned = behind_more old.returned low.returned new.returned a (went vs) (subst (λ (x : Option (List L)). AreBehind x low.returned (went vs)) back c.returned) returned;
+          coming = from_more old.coming mid.coming new.coming b (came vs) took (subst (λ (x : Option (List StreamTold)). AreFrom mid.coming x (came vs)) (sym coming) c.coming);
+          returned = behind_more old.returned low.returned new.returned a (went vs) (subst (λ (x : Option (List StreamTold)). AreBehind x low.returned (went vs)) back c.returned) returned;
           result_is = subst (λ (z : ℕ × Result (Unit {0}) ServeFault). TellsOf (suc (length hs)) old.faults z.0 (visit b a end ∷ vs) z.1) (λ i. (sym count i, sym ended i))
               (tells_more (length hs) old.faults mid.faults low.faults b a end vs result le c.result_is
               (sits_last h.passes.items h'.passes.items b a end have have' size logs sits));
@@ -126,7 +127,7 @@ module _ {L T : Type 0} {gs : Ghosts T} (left written : L → Option (List ℕ))
       )
 
   -- memory ran out before the first link was taken
-  pub crowd_memory : (hs : List Hand) (old : Net L) → IsCrowd left written faults' is_shut turns documents hs hs old old (Err faults.Memory)
+  pub crowd_memory : (hs : List Hand) (old : NetTold) → IsCrowd turns documents hs hs old old (Err faults.Memory)
   crowd_memory hs old = ([], record { sit = refl; came_open = tt; coming = from_none old.coming; returned = behind_none old.returned; result_is = tt; kept = λ told. tt })
 
 -- hands with passes may have them

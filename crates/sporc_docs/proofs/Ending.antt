@@ -1,6 +1,7 @@
 -- The sessions of many documents, once their passes were joined back.
-use Rattle.std.proofs.Common.{◌≡◌, ◌≢◌, ◌∙◌, ℕ, zero, suc, Bool, List, [], ◌∷◌, length, map, reverse, Option, Some, None, Result, Err, slice_get, refl, ap, sym, subst, arith}
+use Rattle.std.proofs.Common.{◌≡◌, ◌≢◌, ◌∙◌, ℕ, zero, suc, List, [], ◌∷◌, length, map, reverse, Option, Some, None, Result, Err, slice_get, refl, ap, sym, subst, arith}
 use Rattle.std.proofs.lemmas.List.{length-map}
+use Rattle.sporc_outside.specs.Nets.{NetTold}
 use Rattle.sporc_turn.specs.declared.known.Known.{Known}
 use Rattle.sporc_turn.specs.declared.pass.Pass.{Pass}
 use Rattle.sporc_turn.specs.declared.turn.Turn.{Turn}
@@ -13,7 +14,6 @@ use Rattle.sporc_serve.specs.declared.item.Item.{Item}
 use Rattle.sporc_serve.specs.Served.{log_at_first}
 use Rattle.sporc_serve.specs.declared.fault.ServeFault.{ServeFault}
 use Rattle.sporc_serve.specs.declared.fault.ServeFault.TheVariants as faults'
-use Rattle.sporc_serve.specs.Crowds.{Net}
 use Rattle.sporc_serve.specs.Visits.{Visit, CameOpen, came, went, AreFrom, AreBehind, NoneUnkept, TellsOf}
 use Rattle.sporc_docs.specs.declared.hands.Hand.{Hand}
 use Rattle.sporc_docs.specs.Crowds.{AllSit, IsCrowd}
@@ -108,32 +108,32 @@ logs_begin os ts size (x ∷ hs) have seen = (
 
 -- ---- the sessions of a crowd
 
-module _ {L T : Type 0} {gs : Ghosts T} (left written : L → Option (List ℕ)) (faults : L → ℕ) (is_shut : L → Option Bool) (turns : List (Turn (Desk T gs) Item))
+module _ {T : Type 0} {gs : Ghosts T} (turns : List (Turn (Desk T gs) Item))
     (documents : List (List ℕ)) where
-  abbrev pub seats_of : (vs : List (Visit L)) (hs hs' : List Hand) → AllSit left written faults is_shut turns documents vs hs hs' → List (Seat L)
+  abbrev pub seats_of : (vs : List Visit) (hs hs' : List Hand) → AllSit turns documents vs hs hs' → List Seat
   seats_of [] hs hs' sit = []
   seats_of (v ∷ vs) [] hs' sit = absurd sit
   seats_of (v ∷ vs) (h ∷ hs) [] sit = absurd sit
   seats_of (v ∷ vs) (h ∷ hs) (h' ∷ hs') sit = record { visit = v; place = sit.2.0 } ∷ seats_of vs hs hs' sit.3
 
-  pub seats_visits : (vs : List (Visit L)) (hs hs' : List Hand) (sit : AllSit left written faults is_shut turns documents vs hs hs')
+  pub seats_visits : (vs : List Visit) (hs hs' : List Hand) (sit : AllSit turns documents vs hs hs')
       → visits_of (map (session_of documents) (seats_of vs hs hs' sit)) ≡ vs
   seats_visits [] hs hs' sit = refl
   seats_visits (v ∷ vs) [] hs' sit = absurd sit
   seats_visits (v ∷ vs) (h ∷ hs) [] sit = absurd sit
-  seats_visits (v ∷ vs) (h ∷ hs) (h' ∷ hs') sit = ap (λ (l : List (Visit L)). v ∷ l) (seats_visits vs hs hs' sit.3)
+  seats_visits (v ∷ vs) (h ∷ hs) (h' ∷ hs') sit = ap (λ (l : List Visit). v ∷ l) (seats_visits vs hs hs' sit.3)
 
   module _ (i : ℕ) (t : Turn (Desk T gs) Item) (there : slice_get turns i ≡ Some t) where
-    serve_more : (s : Seat L) (ss : List (Seat L)) (q q' : Option (Pass Item)) (c c' : List (Option (Pass Item))) → HasPass t q → HasPass t q'
-        → ((p p' : Pass Item) → q ≡ Some p → q' ≡ Some p' → Serves left written faults is_shut s.visit s.place i p p') → AllServe left written faults is_shut i ss c c'
-        → AllServe left written faults is_shut i (s ∷ ss) (q ∷ c) (q' ∷ c')
+    serve_more : (s : Seat) (ss : List Seat) (q q' : Option (Pass Item)) (c c' : List (Option (Pass Item))) → HasPass t q → HasPass t q'
+        → ((p p' : Pass Item) → q ≡ Some p → q' ≡ Some p' → Serves s.visit s.place i p p') → AllServe i ss c c'
+        → AllServe i (s ∷ ss) (q ∷ c) (q' ∷ c')
     serve_more s ss None q' c c' has has' serves more = absurd has
     serve_more s ss (Some p) None c c' has has' serves more = absurd has'
     serve_more s ss (Some p) (Some p') c c' has has' serves more = (serves p p' refl refl, more)
 
     -- what became of the passes at a place
-    pub all_serve : (vs : List (Visit L)) (hs hs' : List Hand) (sit : AllSit left written faults is_shut turns documents vs hs hs')
-        → AllServe left written faults is_shut i (seats_of vs hs hs' sit) (column i hs) (column i hs')
+    pub all_serve : (vs : List Visit) (hs hs' : List Hand) (sit : AllSit turns documents vs hs hs')
+        → AllServe i (seats_of vs hs hs' sit) (column i hs) (column i hs')
     all_serve [] hs hs' sit = ap (column i) sit
     all_serve (v ∷ vs) [] hs' sit = absurd sit
     all_serve (v ∷ vs) (h ∷ hs) [] sit = absurd sit
@@ -142,19 +142,19 @@ module _ {L T : Type 0} {gs : Ghosts T} (left written : L → Option (List ℕ))
         (both_at HasPass turns h.passes.items sit.0 i t there) (both_at HasPass turns h'.passes.items sit.1 i t there) (sit.2.1.serves i) (all_serve vs hs hs' sit.3)
 
 -- each session is bound to the document that its first message names
-pub all_bound : {L T : Type 0} {gs : Ghosts T} (left written : L → Option (List ℕ)) (faults : L → ℕ) (is_shut : L → Option Bool) (turns : List (Turn (Desk T gs) Item)) (orders : List OrderModel) (vs : List (Visit L)) (hs hs' : List Hand)
-    (sit : AllSit left written faults is_shut turns (documents_of (reverse orders)) vs hs hs')
-    → AreBound left written faults is_shut orders (map (session_of (documents_of (reverse orders))) (seats_of left written faults is_shut turns (documents_of (reverse orders)) vs hs hs' sit))
-all_bound left written faults is_shut turns orders [] hs hs' sit = tt
-all_bound left written faults is_shut turns orders (v ∷ vs) [] hs' sit = absurd sit
-all_bound left written faults is_shut turns orders (v ∷ vs) (h ∷ hs) [] sit = absurd sit
-all_bound left written faults is_shut turns orders (v ∷ vs) (h ∷ hs) (h' ∷ hs') sit =
-    (bound_to orders left written faults is_shut v sit.2.0 sit.2.1.bound, all_bound left written faults is_shut turns orders vs hs hs' sit.3)
+pub all_bound : {T : Type 0} {gs : Ghosts T} (turns : List (Turn (Desk T gs) Item)) (orders : List OrderModel) (vs : List Visit) (hs hs' : List Hand)
+    (sit : AllSit turns (documents_of (reverse orders)) vs hs hs')
+    → AreBound orders (map (session_of (documents_of (reverse orders))) (seats_of turns (documents_of (reverse orders)) vs hs hs' sit))
+all_bound turns orders [] hs hs' sit = tt
+all_bound turns orders (v ∷ vs) [] hs' sit = absurd sit
+all_bound turns orders (v ∷ vs) (h ∷ hs) [] sit = absurd sit
+all_bound turns orders (v ∷ vs) (h ∷ hs) (h' ∷ hs') sit =
+    (bound_to orders v sit.2.0 sit.2.1.bound, all_bound turns orders vs hs hs' sit.3)
 
 -- ---- number 0 at a place
 
-module _ {L : Type 0} (left written : L → Option (List ℕ)) (faults : L → ℕ) (is_shut : L → Option Bool) (os : List OrderModel) (apart : AreApart os) (i : ℕ) (o : OrderModel)
-    (there : slice_get os i ≡ Some o) (ss : List (Seat L)) (c c' : List (Option (Pass Item))) (serves : AllServe left written faults is_shut i ss c c') where
+module _ (os : List OrderModel) (apart : AreApart os) (i : ℕ) (o : OrderModel)
+    (there : slice_get os i ≡ Some o) (ss : List Seat) (c c' : List (Option (Pass Item))) (serves : AllServe i ss c c') where
   at_place : slice_get (documents_of os) i ≡ Some o.genesis.document
   at_place = document_there os i o there
 
@@ -162,63 +162,63 @@ module _ {L : Type 0} (left written : L → Option (List ℕ)) (faults : L → �
   only_there j at = one_place os apart o.genesis.document i j at_place at
 
   pub place_ends : (f0 f1 f2 : Option (Pass Item)) → KnowsFirst o f0 → SplitsAt f0 c f1 → JoinsAt f1 c' f2
-      → IsBack f2 × Ends left written faults is_shut (map (session_of (documents_of os)) ss) o f2
+      → IsBack f2 × Ends (map (session_of (documents_of os)) ss) o f2
   place_ends None f1 f2 known splits joins = absurd known
   place_ends (Some p0) None f2 known splits joins = absurd splits
   place_ends (Some p0) (Some p1) None known splits joins = absurd joins
   place_ends (Some p0) (Some p1) (Some p2) known splits joins = (
-    back left written faults is_shut i (documents_of os) o at_place only_there ss c c' p0 p1 p2 known splits serves joins,
-    ends left written faults is_shut i (documents_of os) o at_place only_there ss c c' p0 p1 p2 known splits serves joins,
+    back i (documents_of os) o at_place only_there ss c c' p0 p1 p2 known splits serves joins,
+    ends i (documents_of os) o at_place only_there ss c c' p0 p1 p2 known splits serves joins,
   )
 
 -- number 0 at all places
-pub places_end : {L : Type 0} (left written : L → Option (List ℕ)) (faults : L → ℕ) (is_shut : L → Option Bool) (os : List OrderModel) → AreApart os → (ss : List (Seat L))
-    (hs hs' : List Hand) → ((i : ℕ) (o : OrderModel) → slice_get os i ≡ Some o → AllServe left written faults is_shut i ss (column i hs) (column i hs'))
+pub places_end : (os : List OrderModel) → AreApart os → (ss : List Seat)
+    (hs hs' : List Hand) → ((i : ℕ) (o : OrderModel) → slice_get os i ≡ Some o → AllServe i ss (column i hs) (column i hs'))
     → (fs0 fs1 fs2 : List (Option (Pass Item))) → Both KnowsFirst os fs0 → ((i : ℕ) → SplitsAt (pass_at i fs0) (column i hs) (pass_at i fs1))
     → ((i : ℕ) → JoinsAt (pass_at i fs1) (column i hs') (pass_at i fs2)) → length os ≡ length fs2
-    → AreBack fs2 × Both (Ends left written faults is_shut (map (session_of (documents_of os)) ss)) os fs2
-places_end left written faults is_shut os apart ss hs hs' serves fs0 fs1 fs2 known splits joins size =
+    → AreBack fs2 × Both (Ends (map (session_of (documents_of os)) ss)) os fs2
+places_end os apart ss hs hs' serves fs0 fs1 fs2 known splits joins size =
     let at : (i : ℕ) (o : OrderModel) → slice_get os i ≡ Some o
-    → IsBack (pass_at i fs2) × Ends left written faults is_shut (map (session_of (documents_of os)) ss) o (pass_at i fs2) =
-    λ i o there. place_ends left written faults is_shut os apart i o there ss (column i hs) (column i hs') (serves i o there) (pass_at i fs0) (pass_at i fs1) (pass_at i fs2)
+    → IsBack (pass_at i fs2) × Ends (map (session_of (documents_of os)) ss) o (pass_at i fs2) =
+    λ i o there. place_ends os apart i o there ss (column i hs) (column i hs') (serves i o there) (pass_at i fs0) (pass_at i fs1) (pass_at i fs2)
     (both_at KnowsFirst os fs0 known i o there) (splits i) (joins i) in (
       all_back os fs2 (both_of (λ o p. IsBack p) os fs2 size (λ i o there. (at i o there).0)),
-      both_of (Ends left written faults is_shut (map (session_of (documents_of os)) ss)) os fs2 size (λ i o there. (at i o there).1),
+      both_of (Ends (map (session_of (documents_of os)) ss)) os fs2 size (λ i o there. (at i o there).1),
     )
 
 -- the sessions of locks, once their passes were joined back
-pub ending : {L T : Type 0} {gs : Ghosts T} (left written : L → Option (List ℕ)) (faults : L → ℕ) (is_shut : L → Option Bool) (turns : List (Turn (Desk T gs) Item)) (documents : List (List ℕ))
+pub ending : {T : Type 0} {gs : Ghosts T} (turns : List (Turn (Desk T gs) Item)) (documents : List (List ℕ))
     (orders : List OrderModel) → AreApart orders → documents ≡ documents_of (reverse orders) → length documents ≡ length turns → (hs hs' : List Hand)
     (fs0 fs1 fs2 : List (Option (Pass Item))) → Both KnowsFirst (reverse orders) fs0 → AllHands (Both MayHave turns) hs → Both HasFirst turns fs2
-    → ((i : ℕ) → SplitsAt (pass_at i fs0) (column i hs) (pass_at i fs1)) → ((i : ℕ) → JoinsAt (pass_at i fs1) (column i hs') (pass_at i fs2)) → (old new : Net L) (n : ℕ)
-    (result : Result (Unit {0}) ServeFault) → n ≡ length hs → (AllHands LogsBegin hs → IsCrowd left written faults is_shut turns documents hs hs' old new result)
-    → AreEnding left written faults is_shut orders fs2 old new n result
-ending {L} left written faults is_shut turns documents orders apart documents_are size hs hs' fs0 fs1 fs2 known may first splits joins old new n result count crowd =
+    → ((i : ℕ) → SplitsAt (pass_at i fs0) (column i hs) (pass_at i fs1)) → ((i : ℕ) → JoinsAt (pass_at i fs1) (column i hs') (pass_at i fs2)) → (old new : NetTold) (n : ℕ)
+    (result : Result (Unit {0}) ServeFault) → n ≡ length hs → (AllHands LogsBegin hs → IsCrowd turns documents hs hs' old new result)
+    → AreEnding orders fs2 old new n result
+ending turns documents orders apart documents_are size hs hs' fs0 fs1 fs2 known may first splits joins old new n result count crowd =
     let os = reverse orders in
     let same : length documents ≡ length os = ap (λ (l : List (List ℕ)). length l) documents_are ∙ length-map os (λ (o : OrderModel). o.genesis.document) in
     let size' : length turns ≡ length os = omega (arith, size, same) in
     let both = both_length HasFirst turns fs2 first in
     let size2 : length os ≡ length fs2 = omega (arith, size', both) in
     let seen = logs_begin os turns size' hs may (λ i o at. seen_first o (pass_at i fs0) (pass_at i fs1) (column i hs) (both_at KnowsFirst os fs0 known i o at) (splits i)) in
-    let there = subst (λ (ds : List (List ℕ)). IsCrowd left written faults is_shut turns ds hs hs' old new result) documents_are (crowd seen) in
+    let there = subst (λ (ds : List (List ℕ)). IsCrowd turns ds hs hs' old new result) documents_are (crowd seen) in
     let vs = there.0 in
     let c = there.1 in
-    let ss = seats_of left written faults is_shut turns (documents_of os) vs hs hs' c.sit in
+    let ss = seats_of turns (documents_of os) vs hs hs' c.sit in
     let sessions = map (session_of (documents_of os)) ss in
-    let visits : vs ≡ visits_of sessions = sym (seats_visits left written faults is_shut turns (documents_of os) vs hs hs' c.sit) in
-    let end = places_end left written faults is_shut os (apart_reverse orders apart) ss hs hs'
-    (λ i o at. (let t = same_place os turns i o (sym size') at in all_serve left written faults is_shut turns (documents_of os) i t.0 t.1 vs hs hs' c.sit)) fs0 fs1 fs2 known
+    let visits : vs ≡ visits_of sessions = sym (seats_visits turns (documents_of os) vs hs hs' c.sit) in
+    let end = places_end os (apart_reverse orders apart) ss hs hs'
+    (λ i o at. (let t = same_place os turns i o (sym size') at in all_serve turns (documents_of os) i t.0 t.1 vs hs hs' c.sit)) fs0 fs1 fs2 known
     splits joins size2 in (
       sessions,
       record {
-        bound = all_bound left written faults is_shut turns orders vs hs hs' c.sit;
+        bound = all_bound turns orders vs hs hs' c.sit;
         back = end.0;
         ends = end.1;
-        came_open = subst (λ (x : List (Visit L)). CameOpen is_shut x) visits c.came_open;
-        coming = subst (λ (x : List (Visit L)). AreFrom old.coming new.coming (came x)) visits c.coming;
-        returned = subst (λ (x : List (Visit L)). AreBehind old.returned new.returned (went x)) visits c.returned;
-        result_is = subst (λ (x : List (Visit L)). TellsOf n old.faults new.faults x result) visits
+        came_open = subst (λ (x : List Visit). CameOpen x) visits c.came_open;
+        coming = subst (λ (x : List Visit). AreFrom old.coming new.coming (came x)) visits c.coming;
+        returned = subst (λ (x : List Visit). AreBehind old.returned new.returned (went x)) visits c.returned;
+        result_is = subst (λ (x : List Visit). TellsOf n old.faults new.faults x result) visits
             (subst (λ (m : ℕ). TellsOf m old.faults new.faults vs result) (sym count) c.result_is);
-        kept = subst (λ (x : List (Visit L)). result ≢ Err faults'.Unkept → NoneUnkept x) visits c.kept;
+        kept = subst (λ (x : List Visit). result ≢ Err faults'.Unkept → NoneUnkept x) visits c.kept;
       },
     )

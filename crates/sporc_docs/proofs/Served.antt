@@ -2,6 +2,8 @@
 use Rattle.std.proofs.Common.{◌≡◌, ◌∙◌, ℕ, ◌+◌, ◌<◌, ◌≤◌, ◌^◌, Bool, List, [], ◌∷◌, ◌++◌, length, reverse, replicate, cond, find, true, false, length-append, ◌-◌, is_err, Ok, Err, OnOk, All, Option, Some, None, Result, refl, ap, sym, subst, arith}
 use Rattle.std.proofs.lemmas.List.{drop_all, reverse-reverse, length-reverse, length-map}
 use Rattle.std.proofs.lemmas.List.Elements.{All-nil}
+use Rattle.sporc_outside.specs.Nets.{NetTold}
+use Rattle.sporc_outside.specs.Streams.{StreamTold}
 use Rattle.sporc_turn.specs.declared.known.Known.{Known}
 use Rattle.sporc_turn.specs.declared.pass.Pass.{Pass}
 use Rattle.sporc_turn.specs.Passes.{known_of}
@@ -9,7 +11,6 @@ use Rattle.sporc_order.specs.OrderModel.{OrderModel}
 use Rattle.sporc_order.specs.declared.tail.Tail.{Ghosts}
 use Rattle.sporc_serve.specs.declared.fault.ServeFault.{ServeFault}
 use Rattle.sporc_serve.specs.declared.item.Item.{Item}
-use Rattle.sporc_serve.specs.Crowds.{Net}
 use Rattle.sporc_serve.specs.Logs.{by_of, order_at, placed}
 use Rattle.sporc_serve.specs.Served.{log_at_first}
 use Rattle.sporc_serve.specs.Visits.{came, went, AreFrom, AreBehind, TellsOf}
@@ -49,90 +50,89 @@ open_lengths os locks are =
     let known = both_length KnowsFirst os locks.firsts.items are.known in
     (ap (λ (l : List (List ℕ)). length l) are.documents_are ∙ length-map os (λ (o : OrderModel). o.genesis.document), firsts ∙ sym known)
 
-module _ {L : Type 0} (left written : L → Option (List ℕ)) (faults : L → ℕ) (is_shut : L → Option Bool) where
-  unserved : (o : OrderModel) → IsServedDocument left written faults is_shut [] o o
-  unserved o = (
-    log_at_first o,
+unserved : (o : OrderModel) → IsServedDocument [] o o
+unserved o = (
+  log_at_first o,
+  record {
+    order_is = first_is o;
+    begins = starts_same (log_at_first o);
+    attend = tt;
+    numbered = subst (λ (l : List Item). All (λ e. IsOneOf o.genesis.document 1 [] (by_of e)) l) (sym (drop_all (length (log_at_first o)) (log_at_first o) (omega arith)))
+        (All-nil (λ e. IsOneOf o.genesis.document 1 [] (by_of e)));
+  },
+)
+
+all_unserved : (os : List OrderModel) → Both (IsServedDocument []) os os
+all_unserved [] = tt
+all_unserved (o ∷ os) = (unserved o, all_unserved os)
+
+-- a lock that is closed as it was opened
+closed_unserved : (o : OrderModel) (p : Option (Pass Item)) (o' : OrderModel) → KnowsFirst o p → Closes p o' → IsServedDocument [] o o'
+closed_unserved o None o' known closes = absurd known
+closed_unserved o (Some p) o' known closes =
+    let seen : (known_of p).seen ≡ log_at_first o = ap (λ (k : Known Item). k.seen) known in
+    let is : o' ≡ order_at o.genesis (known_of p).seen = closes.1 o.genesis (placed (replicate (length o.entries) 0) o.entries, seen) in
+    let same : o' ≡ o = is ∙ ap (order_at o.genesis) seen ∙ sym (first_is o) in
+    subst (λ (x : OrderModel). IsServedDocument [] o x) (sym same) (unserved o)
+
+module _ (old new : NetTold) (n : ℕ) (result : Result (Unit {0}) ServeFault) where
+  none_served : (os os' : List OrderModel) → Both (IsServedDocument []) os os' → new.coming ≡ old.coming → new.returned ≡ old.returned
+      → TellsOf n old.faults new.faults [] result → AreServed os os' old new n result
+  none_served os os' served coming returned tells = (
+    [],
     record {
-      order_is = first_is o;
-      begins = starts_same (log_at_first o);
-      attend = tt;
-      numbered = subst (λ (l : List Item). All (λ e. IsOneOf {L = L} o.genesis.document 1 [] (by_of e)) l) (sym (drop_all (length (log_at_first o)) (log_at_first o) (omega arith)))
-          (All-nil (λ e. IsOneOf {L = L} o.genesis.document 1 [] (by_of e)));
+      bound = tt;
+      served = served;
+      came_open = tt;
+      coming = subst (λ (c : Option (List StreamTold)). AreFrom old.coming c []) (sym coming) (from_none old.coming);
+      returned = subst (λ (c : Option (List StreamTold)). AreBehind old.returned c []) (sym returned) (behind_none old.returned);
+      result_is = tells;
+      kept = λ told. tt;
     },
   )
 
-  all_unserved : (os : List OrderModel) → Both (IsServedDocument left written faults is_shut []) os os
-  all_unserved [] = tt
-  all_unserved (o ∷ os) = (unserved o, all_unserved os)
+  -- no lock was opened
+  pub serves_none : (os : List OrderModel) → new.coming ≡ old.coming → new.returned ≡ old.returned → TellsOf n old.faults new.faults [] result
+      → AreServed os os old new n result
+  serves_none os coming returned tells = none_served os os (all_unserved os) coming returned tells
 
-  -- a lock that is closed as it was opened
-  closed_unserved : (o : OrderModel) (p : Option (Pass Item)) (o' : OrderModel) → KnowsFirst o p → Closes p o' → IsServedDocument left written faults is_shut [] o o'
-  closed_unserved o None o' known closes = absurd known
-  closed_unserved o (Some p) o' known closes =
-      let seen : (known_of p).seen ≡ log_at_first o = ap (λ (k : Known Item). k.seen) known in
-      let is : o' ≡ order_at o.genesis (known_of p).seen = closes.1 o.genesis (placed (replicate (length o.entries) 0) o.entries, seen) in
-      let same : o' ≡ o = is ∙ ap (order_at o.genesis) seen ∙ sym (first_is o) in
-      subst (λ (x : OrderModel). IsServedDocument left written faults is_shut [] o x) (sym same) (unserved o)
+  -- some locks were opened, and closed again
+  pub serves_opened : {T : Type 0} {gs : Ghosts T} (all all' rest opened back : List OrderModel) (locks : Locks T gs) → AreOpen opened locks → all ≡ rest ++ reverse opened → all' ≡ rest ++ reverse back
+      → Both Closes locks.firsts.items back → new.coming ≡ old.coming → new.returned ≡ old.returned → TellsOf n old.faults new.faults [] result
+      → AreServed all all' old new n result
+  serves_opened all all' rest opened back locks are is is' closes coming returned tells =
+      let R = IsServedDocument [] in
+      let each = both_join KnowsFirst Closes R (λ o p o' k c. closed_unserved o p o' k c) opened locks.firsts.items back are.known closes in
+      none_served all all'
+      (subst (λ (z : List OrderModel × List OrderModel). Both R z.0 z.1) (λ i. (sym is i, sym is' i))
+      (both_append R rest (reverse opened) rest (reverse back) (all_unserved rest) (both_reverse R opened back each))) coming returned tells
 
-  module _ (old new : Net L) (n : ℕ) (result : Result (Unit {0}) ServeFault) where
-    none_served : (os os' : List OrderModel) → Both (IsServedDocument left written faults is_shut []) os os' → new.coming ≡ old.coming → new.returned ≡ old.returned
-        → TellsOf {L = L} n old.faults new.faults [] result → AreServed left written faults is_shut os os' old new n result
-    none_served os os' served coming returned tells = (
-      [],
-      record {
-        bound = tt;
-        served = served;
-        came_open = tt;
-        coming = subst (λ (c : Option (List L)). AreFrom old.coming c []) (sym coming) (from_none old.coming);
-        returned = subst (λ (c : Option (List L)). AreBehind old.returned c []) (sym returned) (behind_none old.returned);
-        result_is = tells;
-        kept = λ told. tt;
-      },
-    )
-
-    -- no lock was opened
-    pub serves_none : (os : List OrderModel) → new.coming ≡ old.coming → new.returned ≡ old.returned → TellsOf {L = L} n old.faults new.faults [] result
-        → AreServed left written faults is_shut os os old new n result
-    serves_none os coming returned tells = none_served os os (all_unserved os) coming returned tells
-
-    -- some locks were opened, and closed again
-    pub serves_opened : {T : Type 0} {gs : Ghosts T} (all all' rest opened back : List OrderModel) (locks : Locks T gs) → AreOpen opened locks → all ≡ rest ++ reverse opened → all' ≡ rest ++ reverse back
-        → Both Closes locks.firsts.items back → new.coming ≡ old.coming → new.returned ≡ old.returned → TellsOf {L = L} n old.faults new.faults [] result
-        → AreServed left written faults is_shut all all' old new n result
-    serves_opened all all' rest opened back locks are is is' closes coming returned tells =
-        let R = IsServedDocument left written faults is_shut [] in
-        let each = both_join KnowsFirst Closes R (λ o p o' k c. closed_unserved o p o' k c) opened locks.firsts.items back are.known closes in
-        none_served all all'
-        (subst (λ (z : List OrderModel × List OrderModel). Both R z.0 z.1) (λ i. (sym is i, sym is' i))
-        (both_append R rest (reverse opened) rest (reverse back) (all_unserved rest) (both_reverse R opened back each))) coming returned tells
-
-    -- all were opened, and served
-    pub serves_all : (all all' back : List OrderModel) (firsts : List (Option (Pass Item))) → AreEnding left written faults is_shut all firsts old new n result
-        → all' ≡ reverse back → Both Closes firsts back → AreServed left written faults is_shut all all' old new n result
-    serves_all all all' back firsts ending is closes =
-        let ss = ending.0 in
-        let e = ending.1 in
-        let R = IsServedDocument left written faults is_shut ss in
-        let each = both_join (Ends left written faults is_shut ss) Closes R (λ o p o' h c. h o' c) (reverse all) firsts back e.ends closes in
-        let turned = subst (λ (l : List OrderModel). Both R l (reverse back)) (reverse-reverse all) (both_reverse R (reverse all) back each) in (
-          ss,
-          record {
-            bound = e.bound;
-            served = subst (λ (l : List OrderModel). Both R all l) (sym is) turned;
-            came_open = e.came_open;
-            coming = e.coming;
-            returned = e.returned;
-            result_is = e.result_is;
-            kept = e.kept;
-          },
-        )
+  -- all were opened, and served
+  pub serves_all : (all all' back : List OrderModel) (firsts : List (Option (Pass Item))) → AreEnding all firsts old new n result
+      → all' ≡ reverse back → Both Closes firsts back → AreServed all all' old new n result
+  serves_all all all' back firsts ending is closes =
+      let ss = ending.0 in
+      let e = ending.1 in
+      let R = IsServedDocument ss in
+      let each = both_join (Ends ss) Closes R (λ o p o' h c. h o' c) (reverse all) firsts back e.ends closes in
+      let turned = subst (λ (l : List OrderModel). Both R l (reverse back)) (reverse-reverse all) (both_reverse R (reverse all) back each) in (
+        ss,
+        record {
+          bound = e.bound;
+          served = subst (λ (l : List OrderModel). Both R all l) (sym is) turned;
+          came_open = e.came_open;
+          coming = e.coming;
+          returned = e.returned;
+          result_is = e.result_is;
+          kept = e.kept;
+        },
+      )
 
 -- and so it is of the net before it listened
-pub serves_before : {L : Type 0} (left written : L → Option (List ℕ)) (faults : L → ℕ) (is_shut : L → Option Bool) (old mid new : Net L) (n : ℕ)
-    (result : Result (Unit {0}) ServeFault) (os os' : List OrderModel) → AreServed left written faults is_shut os os' mid new n result → mid.coming ≡ old.coming
-    → mid.returned ≡ old.returned → old.faults ≤ mid.faults → AreServed left written faults is_shut os os' old new n result
-serves_before {L} left written faults is_shut old mid new n result os os' served coming returned le =
+pub serves_before : (old mid new : NetTold) (n : ℕ)
+    (result : Result (Unit {0}) ServeFault) (os os' : List OrderModel) → AreServed os os' mid new n result → mid.coming ≡ old.coming
+    → mid.returned ≡ old.returned → old.faults ≤ mid.faults → AreServed os os' old new n result
+serves_before old mid new n result os os' served coming returned le =
     let s = served.1 in
     let vs = visits_of served.0 in (
       served.0,
@@ -140,8 +140,8 @@ serves_before {L} left written faults is_shut old mid new n result os os' served
         bound = s.bound;
         served = s.served;
         came_open = s.came_open;
-        coming = subst (λ (x : Option (List L)). AreFrom x new.coming (came vs)) coming s.coming;
-        returned = subst (λ (x : Option (List L)). AreBehind x new.returned (went vs)) returned s.returned;
+        coming = subst (λ (x : Option (List StreamTold)). AreFrom x new.coming (came vs)) coming s.coming;
+        returned = subst (λ (x : Option (List StreamTold)). AreBehind x new.returned (went vs)) returned s.returned;
         result_is = tells_before n old.faults mid.faults new.faults vs result le s.result_is;
         kept = s.kept;
       },
@@ -180,8 +180,8 @@ ok_then (Err e) b A is fine h = absurd cc
 
 -- ---- the documents stay the same
 
-module _ {L : Type 0} (left written : L → Option (List ℕ)) (faults : L → ℕ) (is_shut : L → Option Bool) (ss : List (Session L)) where
-  none_kept : (os os' : List OrderModel) → Both (IsServedDocument left written faults is_shut ss) os os' → (d : List ℕ) → list_of os d ≡ None → list_of os' d ≡ None
+module _ (ss : List Session) where
+  none_kept : (os os' : List OrderModel) → Both (IsServedDocument ss) os os' → (d : List ℕ) → list_of os d ≡ None → list_of os' d ≡ None
   none_kept [] [] h d none = refl
   none_kept [] (o' ∷ os') h d none = absurd h
   none_kept (o ∷ os) [] h d none = absurd h
@@ -193,7 +193,7 @@ module _ {L : Type 0} (left written : L → Option (List ℕ)) (faults : L → �
       go false true same none rest = absurd cc
       go false false same none rest = rest none
 
-  pub apart_kept : (os os' : List OrderModel) → Both (IsServedDocument left written faults is_shut ss) os os' → AreApart os → AreApart os'
+  pub apart_kept : (os os' : List OrderModel) → Both (IsServedDocument ss) os os' → AreApart os → AreApart os'
   apart_kept [] [] h are = tt
   apart_kept [] (o' ∷ os') h are = absurd h
   apart_kept (o ∷ os) [] h are = absurd h

@@ -1,7 +1,8 @@
 -- A session of many documents.
-use Rattle.std.proofs.Common.{◌≡◌, ◌∙◌, ℕ, zero, suc, ◌<◌, Bool, false, List, [], ◌∷◌, length, set, Option, Some, Ok, slice_index_or, refl, ap, sym, subst, subst₂, arith}
+use Rattle.std.proofs.Common.{◌≡◌, ◌∙◌, ℕ, zero, suc, ◌<◌, false, List, [], ◌∷◌, length, set, Option, Some, Ok, slice_index_or, refl, ap, sym, subst, subst₂, arith}
 use Rattle.std.specs.Io.KnownBytes.{Consumes}
 use Rattle.std.proofs.KnownBytes.{Consumes-nil}
+use Rattle.sporc_outside.specs.Streams.{Shuts, StreamTold}
 use Rattle.sporc_entry.specs.declared.genesis.Genesis.{Genesis}
 use Rattle.sporc_turn.specs.declared.known.Known.{Known}
 use Rattle.sporc_wire.specs.declared.to_server.ToServer.{ToServer}
@@ -9,10 +10,10 @@ use Rattle.sporc_wire.specs.Messages.{Unread, stream_of, next}
 use Rattle.sporc_wire.specs.ToServer.{to_server_of}
 use Rattle.sporc_order.specs.declared.tail.Tail.{Ghosts}
 use Rattle.sporc_serve.specs.declared.end.SessionEnd.{SessionEnd}
-use Rattle.sporc_serve.specs.Endings.{inlet, IsFirst}
+use Rattle.sporc_serve.specs.Endings.{inlet_at, IsFirst}
 use Rattle.sporc_serve.specs.Logs.{IsLogOf}
-use Rattle.sporc_serve.specs.Courses.{ServerStand, stand, Leads}
-use Rattle.sporc_serve.specs.Visits.{visit, Shuts, IsServedSession}
+use Rattle.sporc_serve.specs.Courses.{ServerStand, stand, stand_at, Leads}
+use Rattle.sporc_serve.specs.Visits.{visit, IsServedSession}
 use Rattle.sporc_serve.proofs.Going.{kept}
 use Rattle.sporc_serve.proofs.Stepping.{session_ended}
 use Rattle.sporc_serve.proofs.Waiting.{course_waits}
@@ -78,20 +79,20 @@ kept_elsewhere ps i j new p p' apart at_old at_new = let same = at_set_elsewhere
 
 -- ---- a session whose first message names its document
 
-module _ {L : Type 0} (left written : L → Option (List ℕ)) (faults : L → ℕ) (is_shut : L → Option Bool) (before mid link after : L) (unread unread' : Unread) (m : ToServer)
-    (first : IsFirst (inlet (left before) (faults before) unread) (inlet (left mid) (faults mid) unread') (Ok m)) (same : written mid ≡ written before)
-    (as_shut : is_shut mid ≡ is_shut before) (as_shut' : is_shut link ≡ is_shut mid) (shuts : Shuts left written faults is_shut link after) where
+module _ (before mid link after : StreamTold) (unread unread' : Unread) (m : ToServer)
+    (first : IsFirst (inlet_at before unread) (inlet_at mid unread') (Ok m)) (same : mid.written ≡ before.written)
+    (as_shut : mid.is_shut ≡ before.is_shut) (as_shut' : link.is_shut ≡ mid.is_shut) (shuts : Shuts (record { before = link; after = after })) where
   pub serves_from : (g : Genesis) (k k' : Known Item) (end : SessionEnd) → IsLogOf g k.seen
       → ((u : Unread) → (next to_server_of u).answer ≡ Ok (Some m) → unread' ≡ (next to_server_of u).after
-      → Leads (stand k (left mid) (written mid) (faults mid) u false) (stand k' (left link) (written link) (faults link) (stream_of []) false) (Some end))
-      → IsServedSession left written faults is_shut g k k' (visit before after end)
+      → Leads (stand_at k mid u false) (stand_at k' link (stream_of []) false) (Some end))
+      → IsServedSession g k k' (visit before after end)
   serves_from g k k' end log goes =
       let came = first.0 in
       let bytes = first.1 in
       let found = first.4 in
-      let a : ServerStand = stand k (left before) (written before) (faults before) (stream_of []) false in
-      let b : ServerStand = stand k came.left (written before) came.faults came.unread false in
-      let course = kept g a b bytes [] (course_waits g k (written before) (inlet (left before) (faults before) unread) came bytes first.2) (left mid) (faults mid) (written mid)
+      let a : ServerStand = stand_at k before (stream_of []) false in
+      let b : ServerStand = stand k came.left before.written came.faults came.unread false in
+      let course = kept g a b bytes [] (course_waits g k before.written (inlet_at before unread) came bytes first.2) mid.left mid.faults mid.written
       (subst (λ (l : Option (List ℕ)). Consumes came.left l []) (sym found.left) (Consumes-nil came.left)) first.3 same in
-      session_ended left written faults is_shut g k k' before link after (stream_of []) false end
+      session_ended g k k' before link after (stream_of []) false end
       (goes came.unread found.answer found.unread g a bytes [] log course) (as_shut' ∙ as_shut) shuts

@@ -1,5 +1,6 @@
 -- Orders under locks of their own, for inner contracts.
-use Rattle.std.specs.Prelude.{◌≡◌, ◌≢◌, ℕ, Bool, List, [], ◌∷◌, map, reverse, Option, Some, None, Result, Err}
+use Rattle.std.specs.Prelude.{◌≡◌, ◌≢◌, ℕ, List, [], ◌∷◌, map, reverse, Option, Some, None, Result, Err}
+use Rattle.sporc_outside.specs.Nets.{NetTold}
 use Rattle.sporc_turn.specs.Knowing.{first_known}
 use Rattle.sporc_turn.specs.Log.{Agrees}
 use Rattle.sporc_turn.specs.Passes.{known_of, out_of}
@@ -10,7 +11,6 @@ use Rattle.sporc_order.specs.declared.tail.Tail.{Ghosts}
 use Rattle.sporc_serve.specs.declared.item.Item.{Item}
 use Rattle.sporc_serve.specs.Logs.{by_of, order_at, IsLogOf}
 use Rattle.sporc_serve.specs.Served.{log_at_first}
-use Rattle.sporc_serve.specs.Crowds.{Net}
 use Rattle.sporc_serve.specs.Visits.{CameOpen, came, went, AreFrom, AreBehind, NoneUnkept, TellsOf}
 use Rattle.sporc_serve.specs.declared.fault.ServeFault.{ServeFault}
 use Rattle.sporc_serve.specs.declared.fault.ServeFault.TheVariants.{Unkept}
@@ -45,23 +45,23 @@ Closes (Some p) o =
     Agrees by_of (known_of p) (known_of p).seen × ((genesis : Genesis) → IsLogOf genesis (known_of p).seen → o ≡ order_at genesis (known_of p).seen)
 
 -- number 0 of the lock round an order, once these sessions have ended
-abbrev pub Ends : {L : Type 0} → (L → Option (List ℕ)) → (L → Option (List ℕ)) → (L → ℕ) → (L → Option Bool) → List (Session L) → OrderModel → Option (Pass Item)
+abbrev pub Ends : List Session → OrderModel → Option (Pass Item)
     → Type 0
-Ends left written faults is_shut sessions o p = (o' : OrderModel) → Closes p o' → IsServedDocument left written faults is_shut sessions o o'
+Ends sessions o p = (o' : OrderModel) → Closes p o' → IsServedDocument sessions o o'
 
 -- number 0 of the locks round these orders, the last order's first, once so many sessions at a net have ended
-pub record Ending {L : Type 0} (left written : L → Option (List ℕ)) (faults : L → ℕ) (is_shut : L → Option Bool) (orders : List OrderModel)
-    (firsts : List (Option (Pass Item))) (old new : Net L) (count : ℕ) (result : Result (Unit {0}) ServeFault) (sessions : List (Session L)) : Type 0 where
-  pub bound : AreBound left written faults is_shut orders sessions
+pub record Ending (orders : List OrderModel)
+    (firsts : List (Option (Pass Item))) (old new : NetTold) (count : ℕ) (result : Result (Unit {0}) ServeFault) (sessions : List Session) : Type 0 where
+  pub bound : AreBound orders sessions
   pub back : AreBack firsts
-  pub ends : Both (Ends left written faults is_shut sessions) (reverse orders) firsts
-  pub came_open : CameOpen is_shut (visits_of sessions)
+  pub ends : Both (Ends sessions) (reverse orders) firsts
+  pub came_open : CameOpen (visits_of sessions)
   pub coming : AreFrom old.coming new.coming (came (visits_of sessions))
   pub returned : AreBehind old.returned new.returned (went (visits_of sessions))
   pub result_is : TellsOf count old.faults new.faults (visits_of sessions) result
   pub kept : result ≢ Err Unkept → NoneUnkept (visits_of sessions)
 
-abbrev pub AreEnding : {L : Type 0} → (L → Option (List ℕ)) → (L → Option (List ℕ)) → (L → ℕ) → (L → Option Bool) → List OrderModel → List (Option (Pass Item))
-    → Net L → Net L → ℕ → Result (Unit {0}) ServeFault → Type 0
-AreEnding {L} left written faults is_shut orders firsts old new count result =
-    (sessions : List (Session L)) × Ending left written faults is_shut orders firsts old new count result sessions
+abbrev pub AreEnding : List OrderModel → List (Option (Pass Item))
+    → NetTold → NetTold → ℕ → Result (Unit {0}) ServeFault → Type 0
+AreEnding orders firsts old new count result =
+    (sessions : List Session) × Ending orders firsts old new count result sessions

@@ -2,8 +2,8 @@
 
 ghost use Rattle.std.specs.Prelude.{◌≡◌, ◌≤◌, Err, length, OnOk};
 ghost use Rattle.std.specs.Thread.{IsSync, IsSend};
-ghost use Rattle.sporc_outside.specs.Told.{AreShutBehind, IsTrueIfTold};
-ghost use Rattle.sporc_serve.specs.Crowds.{net_of};
+ghost use Rattle.sporc_outside.specs.Told.{IsTrueIfTold};
+ghost use Rattle.sporc_outside.specs.Nets.{AreShutBehind};
 ghost use Rattle.sporc_serve.specs.Visits.{visit};
 ghost use Rattle.sporc_docs.specs.Crowds.{IsCrowd};
 ghost use Rattle.sporc_docs.specs.Hands.{AllHands, Both, HavePasses, LogsBegin, MayHave};
@@ -38,12 +38,11 @@ where
     requires documents { length documents.now ≡ length turns.now }
     ensures locks { AllHands (HavePasses turns.now) hands.new }
     ensures crowd { AllHands LogsBegin hands.old
-        → IsCrowd N.Link.left N.Link.written N.Link.faults N.Link.is_shut turns.now documents.now hands.old hands.new
-        (net_of (N.coming net.old) (N.returned net.old) (N.faults net.old)) (net_of (N.coming net.new) (N.returned net.new) (N.faults net.new)) result }
-    ensures shut { AreShutBehind N.Link.is_shut (N.returned net.old) (N.returned net.new) }
-    ensures asked { N.asked net.new ≡ N.asked net.old }
-    ensures links_out { N.out net.new ≡ N.out net.old }
-    ensures kept { N.faults net.old ≤ N.faults net.new }
+        → IsCrowd turns.now documents.now hands.old hands.new (N.told net.old) (N.told net.new) result }
+    ensures shut { AreShutBehind (N.told net.old).returned (N.told net.new).returned }
+    ensures asked { (N.told net.new).asked ≡ (N.told net.old).asked }
+    ensures links_out { (N.told net.new).out ≡ (N.told net.old).out }
+    ensures kept { (N.told net.old).faults ≤ (N.told net.new).faults }
     ensures unkept { result ≡ Err ServeFault.Unkept → T.may_fail }
 {
     let Some((hand, others)) = hands.split_first_mut() else {
@@ -59,18 +58,18 @@ where
                 × AllHands (HavePasses turns.now) others.now × (length documents.now ≡ length turns.now) }
             ensures { AllHands (HavePasses turns.entry.now) others.exit.now
                 × (AllHands LogsBegin others.entry.now
-                → IsCrowd N.Link.left N.Link.written N.Link.faults N.Link.is_shut turns.entry.now documents.entry.now others.entry.now others.exit.now
-                (net_of (N.coming net.entry.now) (N.returned net.entry.now) (N.faults net.entry.now)) (net_of (N.coming net.exit.now) (N.returned net.exit.now) (N.faults net.exit.now)) result)
-                × AreShutBehind N.Link.is_shut (N.returned net.entry.now) (N.returned net.exit.now) × (N.asked net.exit.now ≡ N.asked net.entry.now)
-                × (N.out net.exit.now ≡ N.out net.entry.now) × (N.faults net.entry.now ≤ N.faults net.exit.now)
+                → IsCrowd turns.entry.now documents.entry.now others.entry.now others.exit.now
+                (N.told net.entry.now) (N.told net.exit.now) result)
+                × AreShutBehind (N.told net.entry.now).returned (N.told net.exit.now).returned × ((N.told net.exit.now).asked ≡ (N.told net.entry.now).asked)
+                × ((N.told net.exit.now).out ≡ (N.told net.entry.now).out) × ((N.told net.entry.now).faults ≤ (N.told net.exit.now).faults)
                 × (result ≡ Err ServeFault.Unkept → T.may_fail) }
         { crowd(rt, alloc, net, turns, documents, gate, others) },
         &mut || -> SessionEnd
             requires { IsSync R.row × IsSync G.row × IsSend T.row × HavePasses turns.now hand.now.passes.items × (length documents.now ≡ length turns.now) }
             ensures { HavePasses turns.entry.now hand.exit.now.passes.items
-                × Sits N.Link.left N.Link.written N.Link.faults N.Link.is_shut documents.entry.now (visit link.entry link.exit result)
+                × Sits documents.entry.now (visit (N.Link.told link.entry) (N.Link.told link.exit) result)
                 hand.entry.now.passes.items hand.exit.now.passes.items
-                × IsTrueIfTold (N.Link.is_shut link.exit) × (result ≡ SessionEnd.Unkept → T.may_fail) }
+                × IsTrueIfTold (N.Link.told link.exit).is_shut × (result ≡ SessionEnd.Unkept → T.may_fail) }
         { serve_hand(rt, alloc, turns, documents, gate, &mut link, hand) },
     );
     net.take_back(link);
@@ -96,12 +95,11 @@ where
     requires documents { length documents.now ≡ length turns.now }
     ensures hands { AllHands (Both MayHave turns.now) hands.new }
     ensures crowd { AllHands LogsBegin hands.old
-        → IsCrowd N.Link.left N.Link.written N.Link.faults N.Link.is_shut turns.now documents.now hands.old hands.new
-        (net_of (N.coming net.old) (N.returned net.old) (N.faults net.old)) (net_of (N.coming net.new) (N.returned net.new) (N.faults net.new)) result }
-    ensures shut { AreShutBehind N.Link.is_shut (N.returned net.old) (N.returned net.new) }
-    ensures asked { N.asked net.new ≡ N.asked net.old }
-    ensures links_out { N.out net.new ≡ N.out net.old }
-    ensures kept { N.faults net.old ≤ N.faults net.new }
+        → IsCrowd turns.now documents.now hands.old hands.new (N.told net.old) (N.told net.new) result }
+    ensures shut { AreShutBehind (N.told net.old).returned (N.told net.new).returned }
+    ensures asked { (N.told net.new).asked ≡ (N.told net.old).asked }
+    ensures links_out { (N.told net.new).out ≡ (N.told net.old).out }
+    ensures kept { (N.told net.old).faults ≤ (N.told net.new).faults }
     ensures unkept { result ≡ Err ServeFault.Unkept → T.may_fail }
 {
     match split {

@@ -2,13 +2,12 @@
 
 ghost use Rattle.std.specs.Prelude.{◌≡◌, ◌≢◌, ◌≤◌, ◌<◌, ◌∷◌, ◌++◌, [], length, None, Err, IfErr, OnOk, OnErr};
 ghost use Rattle.sporc_docs.specs.Lists.{place_of, route_of, AreApart};
-ghost use Rattle.sporc_docs.specs.declared.limits.TheConstants.{MAX_DOCUMENTS};
+ghost use Rattle.sporc_wire.specs.declared.limits.TheConstants.{MAX_DOCUMENTS};
 
 use crate::fault::DocsFault;
-use crate::limits::MAX_DOCUMENTS;
 use sporc_base::is_same;
 use sporc_order::Order;
-use sporc_wire::ToServer;
+use sporc_wire::{MAX_DOCUMENTS, ToServer};
 use std::alloc::{AllocFailed, Global};
 use std::marker::Model;
 
@@ -24,7 +23,7 @@ impl Model for Docs {
     ghost use Rattle.std.specs.Prelude.{◌≤◌, List, length};
     ghost use Rattle.sporc_order.specs.OrderModel.{OrderModel};
     ghost use Rattle.sporc_docs.specs.Lists.{AreApart};
-    ghost use Rattle.sporc_docs.specs.declared.limits.TheConstants.{MAX_DOCUMENTS};
+    ghost use Rattle.sporc_wire.specs.declared.limits.TheConstants.{MAX_DOCUMENTS};
 
     ghost Value = { List OrderModel };
 

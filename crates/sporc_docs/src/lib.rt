@@ -26,7 +26,6 @@ mod docs;
 mod fault;
 mod hands;
 pub mod laws;
-mod limits;
 mod locks;
 mod server;
 mod serving;
@@ -34,5 +33,5 @@ mod session;
 
 pub use crate::docs::Docs;
 pub use crate::fault::{DocsFault, DocsServeFault};
-pub use crate::limits::MAX_DOCUMENTS;
 pub use crate::server::{serve_docs, serve_docs_kept};
+pub use sporc_wire::MAX_DOCUMENTS;

@@ -2,9 +2,8 @@
 
 ghost use Rattle.std.specs.Prelude.{◌≡◌, ◌≤◌, ◌<◌, ◌+◌, ◌∷◌, ◌++◌, List, [], Some, Err, length, map, reverse, IfOk, OnOk};
 ghost use Rattle.std.specs.Vec.{vec_len, vec_capacity};
+ghost use Rattle.sporc_outside.specs.Nets.{AreShutBehind};
 ghost use Rattle.sporc_order.specs.OrderModel.{OrderModel};
-ghost use Rattle.sporc_outside.specs.Told.{AreShutBehind};
-ghost use Rattle.sporc_serve.specs.Crowds.{net_of};
 ghost use Rattle.sporc_docs.specs.Hands.{AllHands, Both, HasFirst, HaveRoom, IsEmpty};
 ghost use Rattle.sporc_docs.specs.Lists.{AreApart};
 ghost use Rattle.sporc_docs.specs.Locks.{AreBack, AreEnding, AreOpen, Closes, KnowsFirst};
@@ -118,12 +117,11 @@ impl<T: Tail> Locks<T> {
         ensures firsts { Both HasFirst self.new.turns.items self.new.firsts.items }
         ensures ending { (orders : List OrderModel) → AreApart orders → self.old.documents.items ≡ map (λ o. o.genesis.document) (reverse orders)
             → Both KnowsFirst (reverse orders) self.old.firsts.items
-            → AreEnding N.Link.left N.Link.written N.Link.faults N.Link.is_shut orders self.new.firsts.items
-            (net_of (N.coming net.old) (N.returned net.old) (N.faults net.old)) (net_of (N.coming net.new) (N.returned net.new) (N.faults net.new)) (length hands.old) result }
-        ensures shut { AreShutBehind N.Link.is_shut (N.returned net.old) (N.returned net.new) }
-        ensures asked { N.asked net.new ≡ N.asked net.old }
-        ensures links_out { N.out net.new ≡ N.out net.old }
-        ensures kept { N.faults net.old ≤ N.faults net.new }
+            → AreEnding orders self.new.firsts.items (N.told net.old) (N.told net.new) (length hands.old) result }
+        ensures shut { AreShutBehind (N.told net.old).returned (N.told net.new).returned }
+        ensures asked { (N.told net.new).asked ≡ (N.told net.old).asked }
+        ensures links_out { (N.told net.new).out ≡ (N.told net.old).out }
+        ensures kept { (N.told net.old).faults ≤ (N.told net.new).faults }
         ensures unkept { result ≡ Err ServeFault.Unkept → T.may_fail }
     {
         serve_hands(

@@ -1,10 +1,10 @@
 //! A server of many documents.
 
 ghost use Rattle.std.specs.Prelude.{◌≡◌, ◌≢◌, ◌≤◌, ℕ, List, Err};
-ghost use Rattle.sporc_outside.specs.Told.{AppendsItem, AreShutBehind, MayAppend};
+ghost use Rattle.sporc_outside.specs.Told.{AppendsItem, MayAppend};
+ghost use Rattle.sporc_outside.specs.Nets.{AreShutBehind};
 ghost use Rattle.sporc_order.specs.OrderModel.{OrderModel};
-ghost use Rattle.sporc_serve.specs.Crowds.{net_of};
-ghost use Rattle.sporc_serve.specs.declared.limits.TheConstants.{MAX_SESSIONS};
+ghost use Rattle.sporc_wire.specs.declared.limits.TheConstants.{MAX_SESSIONS};
 ghost use Rattle.sporc_docs.specs.Lists.{AreApart};
 ghost use Rattle.sporc_docs.specs.Served.{AreKept, AreServed, as_served};
 
@@ -35,14 +35,13 @@ where
     requires apart { AreApart orders.old.items }
     requires tails { AreKept T.keeps tails.old.items orders.old.items }
     requires limit { sessions ≤ MAX_SESSIONS }
-    ensures served { AreServed N.Link.left N.Link.written N.Link.faults N.Link.is_shut orders.old.items orders.new.items
-        (net_of (N.coming net.old) (N.returned net.old) (N.faults net.old)) (net_of (N.coming net.new) (N.returned net.new) (N.faults net.new)) sessions result }
+    ensures served { AreServed orders.old.items orders.new.items (N.told net.old) (N.told net.new) sessions result }
     ensures tails { AreKept T.keeps tails.new.items orders.new.items }
     ensures unkept { result ≡ Err ServeFault.Unkept → T.may_fail }
-    ensures shut { AreShutBehind N.Link.is_shut (N.returned net.old) (N.returned net.new) }
-    ensures asked { N.asked net.new ≡ N.asked net.old }
-    ensures links_out { N.out net.new ≡ N.out net.old }
-    ensures kept { N.faults net.old ≤ N.faults net.new }
+    ensures shut { AreShutBehind (N.told net.old).returned (N.told net.new).returned }
+    ensures asked { (N.told net.new).asked ≡ (N.told net.old).asked }
+    ensures links_out { (N.told net.new).out ≡ (N.told net.old).out }
+    ensures kept { (N.told net.old).faults ≤ (N.told net.new).faults }
 {
     let count = orders.len();
     let Ok(mut hands) = empty_hands(alloc, sessions, count) else {
@@ -86,14 +85,12 @@ where
     N::Link: Send,
     requires some { 1 ≤ sessions }
     requires limit { sessions ≤ MAX_SESSIONS }
-    ensures served { AreServed N.Link.left N.Link.written N.Link.faults N.Link.is_shut docs result.0
-        (net_of (N.coming net.old) (N.returned net.old) (N.faults net.old)) (net_of (N.coming net.new) (N.returned net.new) (N.faults net.new)) sessions
-        (as_served result.1) }
-    ensures asked { result.1 ≢ Err DocsServeFault.ListenFault → AppendsItem (N.asked net.old) (N.asked net.new) address.now }
-    ensures may_ask { MayAppend (N.asked net.old) (N.asked net.new) address.now }
-    ensures shut { AreShutBehind N.Link.is_shut (N.returned net.old) (N.returned net.new) }
-    ensures links_out { N.out net.new ≡ N.out net.old }
-    ensures kept { N.faults net.old ≤ N.faults net.new }
+    ensures served { AreServed docs result.0 (N.told net.old) (N.told net.new) sessions (as_served result.1) }
+    ensures asked { result.1 ≢ Err DocsServeFault.ListenFault → AppendsItem (N.told net.old).asked (N.told net.new).asked address.now }
+    ensures may_ask { MayAppend (N.told net.old).asked (N.told net.new).asked address.now }
+    ensures shut { AreShutBehind (N.told net.old).returned (N.told net.new).returned }
+    ensures links_out { (N.told net.new).out ≡ (N.told net.old).out }
+    ensures kept { (N.told net.old).faults ≤ (N.told net.new).faults }
     ensures none_unkept { result.1 ≢ Err DocsServeFault.Unkept }
 {
     let Ok(tails) = vec![in alloc; NoTail; docs.len()] else {
@@ -122,16 +119,14 @@ where
     requires some { 1 ≤ sessions }
     requires limit { sessions ≤ MAX_SESSIONS }
     requires tails { AreKept T.keeps tails.items docs }
-    ensures served { AreServed N.Link.left N.Link.written N.Link.faults N.Link.is_shut docs result.0
-        (net_of (N.coming net.old) (N.returned net.old) (N.faults net.old)) (net_of (N.coming net.new) (N.returned net.new) (N.faults net.new)) sessions
-        (as_served result.2) }
+    ensures served { AreServed docs result.0 (N.told net.old) (N.told net.new) sessions (as_served result.2) }
     ensures tails { AreKept T.keeps result.1.items result.0 }
     ensures unkept { result.2 ≡ Err DocsServeFault.Unkept → T.may_fail }
-    ensures asked { result.2 ≢ Err DocsServeFault.ListenFault → AppendsItem (N.asked net.old) (N.asked net.new) address.now }
-    ensures may_ask { MayAppend (N.asked net.old) (N.asked net.new) address.now }
-    ensures shut { AreShutBehind N.Link.is_shut (N.returned net.old) (N.returned net.new) }
-    ensures links_out { N.out net.new ≡ N.out net.old }
-    ensures kept { N.faults net.old ≤ N.faults net.new }
+    ensures asked { result.2 ≢ Err DocsServeFault.ListenFault → AppendsItem (N.told net.old).asked (N.told net.new).asked address.now }
+    ensures may_ask { MayAppend (N.told net.old).asked (N.told net.new).asked address.now }
+    ensures shut { AreShutBehind (N.told net.old).returned (N.told net.new).returned }
+    ensures links_out { (N.told net.new).out ≡ (N.told net.old).out }
+    ensures kept { (N.told net.old).faults ≤ (N.told net.new).faults }
 {
     let Ok(()) = net.listen(address) else {
         return (docs, tails, Err(DocsServeFault::ListenFault));
@@ -144,14 +139,13 @@ where
 
 // What is answered where memory ran out before a link could be taken.
 fn unserved<N: Listen>(net: &mut N, address: &str) -> Result<(), DocsServeFault>
-    ensures served { (os : List OrderModel) (sessions : ℕ) → AreServed N.Link.left N.Link.written N.Link.faults N.Link.is_shut os os
-        (net_of (N.coming net.old) (N.returned net.old) (N.faults net.old)) (net_of (N.coming net.new) (N.returned net.new) (N.faults net.new)) sessions
+    ensures served { (os : List OrderModel) (sessions : ℕ) → AreServed os os (N.told net.old) (N.told net.new) sessions
         (as_served result) }
-    ensures asked { result ≢ Err DocsServeFault.ListenFault → AppendsItem (N.asked net.old) (N.asked net.new) address.now }
-    ensures may_ask { MayAppend (N.asked net.old) (N.asked net.new) address.now }
-    ensures shut { AreShutBehind N.Link.is_shut (N.returned net.old) (N.returned net.new) }
-    ensures links_out { N.out net.new ≡ N.out net.old }
-    ensures kept { N.faults net.old ≤ N.faults net.new }
+    ensures asked { result ≢ Err DocsServeFault.ListenFault → AppendsItem (N.told net.old).asked (N.told net.new).asked address.now }
+    ensures may_ask { MayAppend (N.told net.old).asked (N.told net.new).asked address.now }
+    ensures shut { AreShutBehind (N.told net.old).returned (N.told net.new).returned }
+    ensures links_out { (N.told net.new).out ≡ (N.told net.old).out }
+    ensures kept { (N.told net.old).faults ≤ (N.told net.new).faults }
     ensures none_unkept { result ≢ Err DocsServeFault.Unkept }
 {
     match net.listen(address) {

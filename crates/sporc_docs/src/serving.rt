@@ -1,9 +1,8 @@
 //! The sessions of many documents, with passes that are split before them and joined back behind.
 
 ghost use Rattle.std.specs.Prelude.{◌≡◌, ◌≤◌, Err, List, length, map, reverse};
-ghost use Rattle.sporc_outside.specs.Told.{AreShutBehind};
+ghost use Rattle.sporc_outside.specs.Nets.{AreShutBehind};
 ghost use Rattle.sporc_order.specs.OrderModel.{OrderModel};
-ghost use Rattle.sporc_serve.specs.Crowds.{net_of};
 ghost use Rattle.sporc_docs.specs.Hands.{AllHands, Both, HasFirst, HaveRoom, IsEmpty};
 ghost use Rattle.sporc_docs.specs.Lists.{AreApart};
 ghost use Rattle.sporc_docs.specs.Locks.{AreEnding, KnowsFirst};
@@ -40,12 +39,11 @@ where
     ensures firsts { Both HasFirst turns.now firsts.new }
     ensures ending { (orders : List OrderModel) → AreApart orders → documents.now ≡ map (λ o. o.genesis.document) (reverse orders)
         → Both KnowsFirst (reverse orders) firsts.old
-        → AreEnding N.Link.left N.Link.written N.Link.faults N.Link.is_shut orders firsts.new
-        (net_of (N.coming net.old) (N.returned net.old) (N.faults net.old)) (net_of (N.coming net.new) (N.returned net.new) (N.faults net.new)) (length hands.old) result }
-    ensures shut { AreShutBehind N.Link.is_shut (N.returned net.old) (N.returned net.new) }
-    ensures asked { N.asked net.new ≡ N.asked net.old }
-    ensures links_out { N.out net.new ≡ N.out net.old }
-    ensures kept { N.faults net.old ≤ N.faults net.new }
+        → AreEnding orders firsts.new (N.told net.old) (N.told net.new) (length hands.old) result }
+    ensures shut { AreShutBehind (N.told net.old).returned (N.told net.new).returned }
+    ensures asked { (N.told net.new).asked ≡ (N.told net.old).asked }
+    ensures links_out { (N.told net.new).out ≡ (N.told net.old).out }
+    ensures kept { (N.told net.old).faults ≤ (N.told net.new).faults }
     ensures unkept { result ≡ Err ServeFault.Unkept → T.may_fail }
 {
     let split = split_hands(turns, firsts, hands);

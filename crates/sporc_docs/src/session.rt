@@ -8,7 +8,7 @@ ghost use Rattle.sporc_turn.specs.Passes.{known_of, read_of};
 ghost use Rattle.sporc_wire.specs.Messages.{Unread, next, stream_of};
 ghost use Rattle.sporc_wire.specs.ToServer.{to_server_of};
 ghost use Rattle.sporc_order.specs.Sessions.{IsFramed};
-ghost use Rattle.sporc_serve.specs.Courses.{stand, Leads};
+ghost use Rattle.sporc_serve.specs.Courses.{stand_at, Leads};
 ghost use Rattle.sporc_serve.specs.Turns.{HasReadLast};
 ghost use Rattle.std.specs.List.{position_from};
 ghost use Rattle.std.specs.Str.{bytes_eq};
@@ -42,12 +42,12 @@ fn serve_at<R: Wait, L: Link, G: Gate, T: Tail>(
     ensures lock { HasPass turn.now pass.new }
     ensures number { Became (λ p p'. (known_of p').number ≡ (known_of p).number) pass.old pass.new }
     ensures worn { Became (λ p p'. HasReadLast (read_of p') result) pass.old pass.new }
-    ensures as_shut { L.is_shut link.new ≡ L.is_shut link.old }
+    ensures as_shut { (L.told link.new).is_shut ≡ (L.told link.old).is_shut }
     ensures unkept { result ≡ SessionEnd.Unkept → T.may_fail }
     ensures goes { Became (λ p p'. (unread : Unread) → (next to_server_of unread).answer ≡ Ok (Some first.now)
         → frames.old ≡ (next to_server_of unread).after
-        → Leads (stand (known_of p) (L.left link.old) (L.written link.old) (L.faults link.old) unread false)
-        (stand (known_of p') (L.left link.new) (L.written link.new) (L.faults link.new) (stream_of []) false) (Some result)) pass.old pass.new }
+        → Leads (stand_at (known_of p) (L.told link.old) unread false)
+        (stand_at (known_of p') (L.told link.new) (stream_of []) false) (Some result)) pass.old pass.new }
 {
     let taken = pass.take().unwrap();
     let (end, after) = serve_from(rt, alloc, turn, gate, link, frames, first, taken);
@@ -93,9 +93,9 @@ fn serve_one<R: Wait, L: Link, G: Gate, T: Tail>(
     requires locks { HavePasses turns.now hand.old }
     requires documents { length documents.now ≡ length turns.now }
     ensures locks { HavePasses turns.now hand.new }
-    ensures session { Sits L.left L.written L.faults L.is_shut documents.now (visit link.old link.new result) hand.old hand.new }
+    ensures session { Sits documents.now (visit (L.told link.old) (L.told link.new) result) hand.old hand.new }
     ensures unkept { result ≡ SessionEnd.Unkept → T.may_fail }
-    ensures shut { IsTrueIfTold (L.is_shut link.new) }
+    ensures shut { IsTrueIfTold (L.told link.new).is_shut }
 {
     let mut frames = Frames::new(alloc);
     let first = match first_message(rt, link, &mut frames) {
@@ -136,9 +136,9 @@ pub(crate) fn serve_hand<R: Wait, L: Link, G: Gate, T: Tail>(
     requires locks { HavePasses turns.now hand.old.passes.items }
     requires documents { length documents.now ≡ length turns.now }
     ensures locks { HavePasses turns.now hand.new.passes.items }
-    ensures session { Sits L.left L.written L.faults L.is_shut documents.now (visit link.old link.new result) hand.old.passes.items hand.new.passes.items }
+    ensures session { Sits documents.now (visit (L.told link.old) (L.told link.new) result) hand.old.passes.items hand.new.passes.items }
     ensures unkept { result ≡ SessionEnd.Unkept → T.may_fail }
-    ensures shut { IsTrueIfTold (L.is_shut link.new) }
+    ensures shut { IsTrueIfTold (L.told link.new).is_shut }
 {
     serve_one(rt, alloc, turns, documents, gate, link, &mut hand.passes)
 }

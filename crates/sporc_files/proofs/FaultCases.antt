@@ -25,29 +25,11 @@ pub data ReadCase {A : Type 0} (parse : List ℕ → Result A ℕ) (files : Opti
 module _ {A : Type 0} (parse : List ℕ → Result A ℕ) (files : Option (List NamedFile)) (before after : ℕ) (names : FileNames) (file : File) where
   pub read_case : (fault : Fault) → IsFileFault parse files before after names file fault → ReadCase parse files before after names file fault
   read_case faults.Memory any = ReadMemory
-  read_case faults.Words never = absurd never
   read_case (faults.Missing f) (is, gone) = subst (λ (g : File). ReadCase parse files before after names file (faults.Missing g)) (sym is) (ReadMissing gone)
-  read_case (faults.Exists f) never = absurd never
   read_case (faults.TooLong f) (is, len, long) = subst (λ (g : File). ReadCase parse files before after names file (faults.TooLong g)) (sym is) (ReadTooLong len long)
   read_case (faults.Malformed f at) (is, bytes, within, has, bad) = subst (λ (g : File). ReadCase parse files before after names file (faults.Malformed g at)) (sym is) (ReadMalformed at bytes within has bad)
-  read_case (faults.Line l) never = absurd never
-  read_case (faults.EditorLine e l) never = absurd never
-  read_case faults.LongScript never = absurd never
-  read_case (faults.Refused p r) never = absurd never
-  read_case (faults.Rejected r) never = absurd never
-  read_case (faults.Hints h) never = absurd never
-  read_case (faults.Opening o) never = absurd never
-  read_case (faults.Unsettled n p) never = absurd never
-  read_case (faults.LinkEnded t) never = absurd never
   read_case faults.Outside rose = ReadFailed rose
-  read_case (faults.Leaf n) never = absurd never
-  read_case faults.FullHistory never = absurd never
-  read_case faults.FullJournal never = absurd never
-  read_case faults.FullFile never = absurd never
-  read_case faults.Worn never = absurd never
-  read_case (faults.Message at) never = absurd never
-  read_case (faults.Edit e l f) never = absurd never
-  read_case (faults.Ahead len) never = absurd never
+  read_case fault never = absurd never
 
 -- of a folder whose count of faults had risen before
 later : {A : Type 0} (parse : List ℕ → Result A ℕ) (told : Option (List NamedFile)) (low mid high : ℕ) (names : FileNames) (file : File) (fault : Fault) → low ≤ mid
@@ -76,26 +58,5 @@ pub data WriteCase (before after : ℕ) : Fault → Type 0 where
 
 pub write_case : (before after : ℕ) (fault : Fault) → IsOutsideFault before after fault → WriteCase before after fault
 write_case before after faults.Memory any = WriteMemory
-write_case before after faults.Words never = absurd never
-write_case before after (faults.Missing f) never = absurd never
-write_case before after (faults.Exists f) never = absurd never
-write_case before after (faults.TooLong f) never = absurd never
-write_case before after (faults.Malformed f at) never = absurd never
-write_case before after (faults.Line l) never = absurd never
-write_case before after (faults.EditorLine e l) never = absurd never
-write_case before after faults.LongScript never = absurd never
-write_case before after (faults.Refused p r) never = absurd never
-write_case before after (faults.Rejected r) never = absurd never
-write_case before after (faults.Hints h) never = absurd never
-write_case before after (faults.Opening o) never = absurd never
-write_case before after (faults.Unsettled n p) never = absurd never
-write_case before after (faults.LinkEnded t) never = absurd never
 write_case before after faults.Outside rose = WriteFailed rose
-write_case before after (faults.Leaf n) never = absurd never
-write_case before after faults.FullHistory never = absurd never
-write_case before after faults.FullJournal never = absurd never
-write_case before after faults.FullFile never = absurd never
-write_case before after faults.Worn never = absurd never
-write_case before after (faults.Message at) never = absurd never
-write_case before after (faults.Edit e l f) never = absurd never
-write_case before after (faults.Ahead len) never = absurd never
+write_case before after fault never = absurd never

@@ -2,6 +2,7 @@ pub mod Written
 pub mod FileFaults
 pub mod FaultCases
 pub mod Asking
+pub mod Answering
 pub mod Appendable
 pub mod NamesApart
 mod Examples

@@ -12,17 +12,18 @@ use Rattle.std.proofs.Math.Seq.{drop-cons}
 use Rattle.std.proofs.lemmas.Grind.{flat_map-append}
 use Rattle.std.proofs.lemmas.List.{take-append-drop}
 use Rattle.sporc_outside.specs.Counts.{CountsFaults}
-use Rattle.sporc_outside.specs.Uses.{SinkUse}
 use Rattle.sporc_outside.specs.Writing.{AppendsPrefix}
 use Rattle.sporc_outside.proofs.Prefixes.{AppendsPrefix-all, AppendsPrefix-first, AppendsPrefix-then}
+use Rattle.sporc_outside.specs.Uses.{Use}
+use Rattle.sporc_outside.specs.Streams.{StreamTold}
 use Rattle.sporc_files.specs.declared.fault.Fault.{Fault}
 use Rattle.sporc_files.specs.Names.{FileNames}
 use Rattle.sporc_files.specs.Faults.{WritesFaultLine, fault_line}
 
 -- what a line that was written as far as the sink took it tells
-pub tells : {T E : Type 0} → (r : Result T E) (out : SinkUse) (names : FileNames) (fault : Fault) → OnOk r (Appends out.written_before out.written_after (fault_line names fault))
-    → OnErr r (AppendsPrefix out.written_before out.written_after (fault_line names fault)) → CountsFaults out.faults_before out.faults_after r → WritesFaultLine out names fault
-tells (Ok x) out names fault ok err count = record { line = AppendsPrefix-all out.written_before out.written_after (fault_line names fault) ok; whole = λ none. ok }
+pub tells : {T E : Type 0} → (r : Result T E) (out : Use StreamTold) (names : FileNames) (fault : Fault) → OnOk r (Appends out.before.written out.after.written (fault_line names fault))
+    → OnErr r (AppendsPrefix out.before.written out.after.written (fault_line names fault)) → CountsFaults out.before.faults out.after.faults r → WritesFaultLine out names fault
+tells (Ok x) out names fault ok err count = record { line = AppendsPrefix-all out.before.written out.after.written (fault_line names fault) ok; whole = λ none. ok }
 tells (Err e) out names fault ok err count = record { line = err; whole = λ none. absurd (none count.failed) }
 
 -- of two results, both told or neither

@@ -1,11 +1,12 @@
 -- The program's faults: their statuses and lines.
-use Rattle.std.specs.Prelude.{ℕ, List, ◌++◌, codes}
+use Rattle.std.specs.Prelude.{◌≡◌, ℕ, List, ◌++◌, codes, Result, Ok, Err}
 use Rattle.std.specs.List.{flat_map}
 use Rattle.std.specs.Io.KnownBytes.{Appends}
 use Rattle.sporc_outside.specs.Counts.{Rose}
-use Rattle.sporc_outside.specs.Uses.{SinkUse}
 use Rattle.sporc_outside.specs.Writing.{AppendsPrefix}
 use Rattle.sporc_outside.specs.declared.file_fault.FileFault.{FileFault}
+use Rattle.sporc_outside.specs.Uses.{Use}
+use Rattle.sporc_outside.specs.Streams.{StreamTold}
 use Rattle.sporc_outside.specs.declared.file_fault.FileFault.TheVariants as filing
 use Rattle.sporc_epoch.specs.declared.fault.HintFault.{HintFault}
 use Rattle.sporc_epoch.specs.declared.fault.HintFault.TheVariants as hints
@@ -15,6 +16,9 @@ use Rattle.sporc_line.specs.declared.fault.LineOpenFault.{LineOpenFault}
 use Rattle.sporc_line.specs.declared.fault.LineOpenFault.TheVariants as lines
 use Rattle.sporc_store.specs.declared.fault.SaveFault.{SaveFault}
 use Rattle.sporc_store.specs.declared.fault.SaveFault.TheVariants as saving
+use Rattle.sporc_store.specs.declared.stop.Stop.{Stop}
+use Rattle.sporc_store.specs.declared.stop.Stop.TheVariants as stops
+use Rattle.sporc_store.specs.SavedFile.{Taken}
 use Rattle.sporc_words.specs.declared.fault.WordsFault.{WordsFault}
 use Rattle.sporc_words.specs.declared.fault.WordsFault.TheVariants as reading
 use Rattle.sporc_files.specs.declared.fault.Fault.{Fault}
@@ -113,15 +117,28 @@ abbrev pub fault_line : FileNames → Fault → List ℕ
 fault_line names fault = codes "fault " ++ (fault_words fault ++ (flat_map (argument_bytes names) (fault_arguments fault) ++ codes "\n"))
 
 -- the line of a fault was written, or a prefix of it, the sink's count of faults having risen
-pub record WritesFaultLine (out : SinkUse) (names : FileNames) (fault : Fault) : Type 0 where
-  pub line : AppendsPrefix out.written_before out.written_after (fault_line names fault)
-  pub whole : ¬ (Rose out.faults_before out.faults_after) → Appends out.written_before out.written_after (fault_line names fault)
+pub record WritesFaultLine (out : Use StreamTold) (names : FileNames) (fault : Fault) : Type 0 where
+  pub line : AppendsPrefix out.before.written out.after.written (fault_line names fault)
+  pub whole : ¬ (Rose out.before.faults out.after.faults) → Appends out.before.written out.after.written (fault_line names fault)
 
 -- why a call failed if nothing of it can but memory and an object outside, whose count of faults went from `before` to `after`
 abbrev pub IsOutsideFault : ℕ → ℕ → Fault → Type 0
 IsOutsideFault before after faults.Memory = Unit {0}
 IsOutsideFault before after faults.Outside = Rose before after
 IsOutsideFault before after fault = ⊥
+
+-- an answer is this value or this fault, unless memory ran out, or something outside failed, as `Failed` says
+abbrev pub AnswersUnlessOutside : {X Y : Type 0} → (X → Y) → Type 0 → Result X Fault → Result Y Fault → Type 0
+AnswersUnlessOutside view Failed (Ok x) says = says ≡ Ok (view x)
+AnswersUnlessOutside view Failed (Err faults.Memory) says = Unit {0}
+AnswersUnlessOutside view Failed (Err faults.Outside) says = Failed
+AnswersUnlessOutside view Failed (Err fault) says = says ≡ Err fault
+
+-- the first of two faults, but for out of memory at the second
+abbrev pub first_fault : Result (Unit {0}) Fault → Result (Unit {0}) Fault → Result (Unit {0}) Fault
+first_fault (Ok done) second = second
+first_fault (Err fault) (Err faults.Memory) = Err faults.Memory
+first_fault (Err fault) second = Err fault
 
 -- ---- one of several documents
 
@@ -167,6 +184,17 @@ abbrev pub fault_of_line : LineOpenFault → Fault
 fault_of_line lines.NoKey = faults.Opening lines.NoKey
 fault_of_line lines.WrongKey = faults.Opening lines.WrongKey
 fault_of_line lines.Memory = faults.Memory
+
+-- what is read or loaded of a history's file, if that is all of it
+abbrev pub unless_stopped : {A : Type 0} → File → Stop → A → Result A Fault
+unless_stopped file stops.End x = Ok x
+unless_stopped file stops.Foreign x = Err (faults.Malformed file 0)
+unless_stopped file (stops.Cut at) x = Err (faults.Malformed file at)
+unless_stopped file (stops.Refused position refusal) x = Err (faults.Refused position refusal)
+
+-- the entries that were taken of a history's file, if they are all of it
+abbrev pub whole : File → Taken → Result (List (List ℕ)) Fault
+whole file taken = unless_stopped file taken.stop taken.entries
 
 -- why entries give no hints
 abbrev pub fault_of_hints : HintFault → Fault

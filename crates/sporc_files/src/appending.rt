@@ -28,14 +28,14 @@ pub fn append_to_file<F: Folder>(
     names: &Names<'_>,
     file: File,
 ) -> Result<Appended<F::Appended>, Fault>
-    ensures ok { IfOk result (λ it. IsAppendedTo (F.files files.old) (file_name names.now file) (F.Appended.stored it.file)) }
-    ensures made { OnOk result (F.files files.new ≡ option_map (λ old. made_in old (file_name names.now file)) (F.files files.old)) }
+    ensures ok { IfOk result (λ it. IsAppendedTo (F.told files.old).files (file_name names.now file) (F.Appended.told it.file).stored) }
+    ensures made { OnOk result ((F.told files.new).files ≡ option_map (λ old. made_in old (file_name names.now file)) (F.told files.old).files) }
     ensures name { IfOk result (λ it. string_bytes it.name ≡ file_name names.now file) }
-    ensures err { IfErr result (IsAppendingFault (F.files files.old) (F.faults files.old) (F.faults files.new) names.now file) }
-    ensures left { OnErr result (ChangesFile (F.files files.old) (F.files files.new) (file_name names.now file)) }
-    ensures lent { F.lent files.new ≡ F.lent files.old }
-    ensures may_ask { AsksOnly (file_name names.now file ∷ []) (F.asked files.old) (F.asked files.new) }
-    ensures kept { F.faults files.old ≤ F.faults files.new }
+    ensures err { IfErr result (IsAppendingFault (F.told files.old).files (F.told files.old).faults (F.told files.new).faults names.now file) }
+    ensures left { OnErr result (ChangesFile (F.told files.old).files (F.told files.new).files (file_name names.now file)) }
+    ensures lent { (F.told files.new).lent ≡ (F.told files.old).lent }
+    ensures may_ask { AsksOnly (file_name names.now file ∷ []) (F.told files.old).asked (F.told files.new).asked }
+    ensures kept { (F.told files.old).faults ≤ (F.told files.new).faults }
 {
     let name = file.name(alloc, names)?;
     match files.append_to(name.as_str()) {

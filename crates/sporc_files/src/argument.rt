@@ -75,9 +75,9 @@ pub(crate) fn write_arguments<O: Sink>(
     names: &Names<'_>,
     arguments: &[Argument],
 ) -> Result<(), Failed>
-    ensures ok { OnOk result (Appends (O.written out.old) (O.written out.new) (flat_map (argument_bytes names.now) arguments.now)) }
-    ensures err { OnErr result (AppendsPrefix (O.written out.old) (O.written out.new) (flat_map (argument_bytes names.now) arguments.now)) }
-    ensures count { CountsFaults (O.faults out.old) (O.faults out.new) result }
+    ensures ok { OnOk result (Appends (O.told out.old).written (O.told out.new).written (flat_map (argument_bytes names.now) arguments.now)) }
+    ensures err { OnErr result (AppendsPrefix (O.told out.old).written (O.told out.new).written (flat_map (argument_bytes names.now) arguments.now)) }
+    ensures count { CountsFaults (O.told out.old).faults (O.told out.new).faults result }
 {
     for argument in arguments {
         write_argument(out, names, *argument)?;
@@ -87,9 +87,9 @@ pub(crate) fn write_arguments<O: Sink>(
 
 // Writes an argument behind a space.
 fn write_argument<O: Sink>(out: &mut O, names: &Names<'_>, argument: Argument) -> Result<(), Failed>
-    ensures ok { OnOk result (Appends (O.written out.old) (O.written out.new) (argument_bytes names.now argument)) }
-    ensures err { OnErr result (AppendsPrefix (O.written out.old) (O.written out.new) (argument_bytes names.now argument)) }
-    ensures count { CountsFaults (O.faults out.old) (O.faults out.new) result }
+    ensures ok { OnOk result (Appends (O.told out.old).written (O.told out.new).written (argument_bytes names.now argument)) }
+    ensures err { OnErr result (AppendsPrefix (O.told out.old).written (O.told out.new).written (argument_bytes names.now argument)) }
+    ensures count { CountsFaults (O.told out.old).faults (O.told out.new).faults result }
 {
     write_all(out, argument.space().as_bytes())?;
     write_all(out, stem_before(argument, names).as_bytes())?;

@@ -1,15 +1,17 @@
 //! What the faults of the crates below are for the program.
 
 ghost use Rattle.std.specs.Prelude.{◌≡◌};
-ghost use Rattle.sporc_files.specs.Faults.{fault_of_draw, fault_of_hints, fault_of_line, fault_of_saving, fault_of_words};
+ghost use Rattle.sporc_base.specs.Outcome.{Gives};
+ghost use Rattle.sporc_files.specs.Faults.{fault_of_draw, fault_of_hints, fault_of_line, fault_of_saving, fault_of_words, first_fault, unless_stopped};
 ghost use Rattle.sporc_files.specs.declared.fault.Fault.TheVariants as faults;
 
 use crate::fault::Fault;
+use crate::file::File;
 use sporc_epoch::HintFault;
 use sporc_keys::DrawFault;
 use sporc_line::LineOpenFault;
 use sporc_outside::Failed;
-use sporc_store::SaveFault;
+use sporc_store::{SaveFault, Stop};
 use sporc_words::WordsFault;
 use std::alloc::{AllocError, AllocFailed};
 
@@ -92,5 +94,30 @@ impl From<HintFault> for Fault {
             HintFault::WrongKey(epoch) => Fault::Hints(HintFault::WrongKey(epoch)),
             HintFault::Memory => Fault::Memory,
         }
+    }
+}
+
+/// Whether a saved history was read or loaded to its end; if not, why.
+pub fn stopped(file: File, stop: Stop) -> Result<(), Fault>
+    ensures value { Gives (λ done. done) result (unless_stopped file stop tt) }
+{
+    match stop {
+        Stop::End => Ok(()),
+        Stop::Foreign => Err(Fault::Malformed(file, 0)),
+        Stop::Cut(at) => Err(Fault::Malformed(file, at as u64)),
+        Stop::Refused(position, refusal) => Err(Fault::Refused(position, refusal)),
+    }
+}
+
+/// The first of two faults, but for out of memory at the second: this is told, so that nothing is lost unseen behind another fault.
+pub fn first_fault(first: Result<(), Fault>, second: Result<(), Fault>) -> Result<(), Fault>
+    ensures value { result ≡ first_fault first second }
+{
+    let Err(fault) = first else {
+        return second;
+    };
+    match second {
+        Err(Fault::Memory) => second,
+        Ok(()) | Err(_) => Err(fault),
     }
 }

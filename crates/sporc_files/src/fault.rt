@@ -3,8 +3,8 @@
 ghost use Rattle.std.specs.Prelude.{◌≡◌, ◌≤◌, OnOk, OnErr};
 ghost use Rattle.std.specs.Io.KnownBytes.{Appends};
 ghost use Rattle.sporc_outside.specs.Counts.{CountsFaults};
-ghost use Rattle.sporc_outside.specs.Uses.{sink_use};
 ghost use Rattle.sporc_outside.specs.Writing.{AppendsPrefix};
+ghost use Rattle.sporc_outside.specs.Uses.{use_of};
 ghost use Rattle.sporc_files.specs.Arguments.{none, one, two};
 ghost use Rattle.sporc_files.specs.Faults.{WritesFaultLine, fault_among, fault_arguments, fault_line, fault_words, status_of};
 
@@ -123,17 +123,17 @@ impl Fault {
 
     /// Writes the line of the fault, as far as the sink takes it. It takes no memory.
     pub fn tell<O: Sink>(self, names: &Names<'_>, out: &mut O)
-        ensures line { WritesFaultLine (sink_use O.written O.faults out.old out.new) names.now self }
-        ensures kept { O.faults out.old ≤ O.faults out.new }
+        ensures line { WritesFaultLine (use_of O.told out.old out.new) names.now self }
+        ensures kept { (O.told out.old).faults ≤ (O.told out.new).faults }
     {
         let _ = self.write_line(names, out);
     }
 
     // Writes the line.
     fn write_line<O: Sink>(self, names: &Names<'_>, out: &mut O) -> Result<(), Failed>
-        ensures ok { OnOk result (Appends (O.written out.old) (O.written out.new) (fault_line names.now self)) }
-        ensures err { OnErr result (AppendsPrefix (O.written out.old) (O.written out.new) (fault_line names.now self)) }
-        ensures count { CountsFaults (O.faults out.old) (O.faults out.new) result }
+        ensures ok { OnOk result (Appends (O.told out.old).written (O.told out.new).written (fault_line names.now self)) }
+        ensures err { OnErr result (AppendsPrefix (O.told out.old).written (O.told out.new).written (fault_line names.now self)) }
+        ensures count { CountsFaults (O.told out.old).faults (O.told out.new).faults result }
     {
         write_all(out, b"fault ")?;
         write_all(out, self.words().as_bytes())?;

@@ -4,7 +4,9 @@
 //! - [`read_genesis_file`], [`read_key_file`], [`read_own_key`], [`read_ring_file`]: what a file says; [`read_bytes`] and
 //!   [`read_if_there`]: its bytes. [`write_new_file`], [`write_whole_file`]: files are written. [`append_to_file`]: one that is
 //!   appended to, with its name.
-//! - [`Fault`]: why a command did not do all its work, with its exit status and its line.
+//! - [`Fault`]: why a command did not do all its work, with its exit status and its line. [`stopped`]: that of a history's file
+//!   that is not whole.
+//! - [`open_line`]: the line of a member's device, by what the member's ring file says, or by hints.
 //! - `specs/Uses.antt`: a folder and a chance as a call found and left them.
 //!
 //! ```text
@@ -28,14 +30,17 @@ mod fault_names;
 mod file;
 pub mod laws;
 mod names;
+mod opening;
 mod reading;
 mod text;
 mod writing;
 
 pub use appending::{Appended, append_to_file};
+pub use causes::{first_fault, stopped};
 pub use fault::Fault;
 pub use file::File;
 pub use names::Names;
+pub use opening::open_line;
 pub use reading::{
     read_bytes, read_genesis_file, read_if_there, read_key_file, read_own_key, read_ring_file,
 };

@@ -44,12 +44,12 @@ pub fn read_bytes<F: Folder>(
     names: &Names<'_>,
     file: File,
 ) -> Result<Vec<u8>, Fault>
-    ensures ok { IfOk result (λ bytes. SaysFile any_bytes (F.files files.old) (file_name names.now file) bytes.items) }
-    ensures err { IfErr result (IsFileFault any_bytes (F.files files.old) (F.faults files.old) (F.faults files.new) names.now file) }
-    ensures files { F.files files.new ≡ F.files files.old }
-    ensures lent { F.lent files.new ≡ F.lent files.old }
-    ensures may_ask { AsksOnly (file_name names.now file ∷ []) (F.asked files.old) (F.asked files.new) }
-    ensures kept { F.faults files.old ≤ F.faults files.new }
+    ensures ok { IfOk result (λ bytes. SaysFile any_bytes (F.told files.old).files (file_name names.now file) bytes.items) }
+    ensures err { IfErr result (IsFileFault any_bytes (F.told files.old).files (F.told files.old).faults (F.told files.new).faults names.now file) }
+    ensures files { (F.told files.new).files ≡ (F.told files.old).files }
+    ensures lent { (F.told files.new).lent ≡ (F.told files.old).lent }
+    ensures may_ask { AsksOnly (file_name names.now file ∷ []) (F.told files.old).asked (F.told files.new).asked }
+    ensures kept { (F.told files.old).faults ≤ (F.told files.new).faults }
 {
     let name = file.name(alloc, names)?;
     match files.read_file(alloc, name.as_str()) {
@@ -65,13 +65,13 @@ pub fn read_if_there<F: Folder>(
     names: &Names<'_>,
     file: File,
 ) -> Result<Option<Vec<u8>>, Fault>
-    ensures ok { IfOk result (λ found. SaysFileIfThere any_bytes (F.files files.old) (file_name names.now file) (option_map (λ bytes. bytes.items) found)) }
-    ensures err { IfErr result (IsFileFault any_bytes (F.files files.old) (F.faults files.old) (F.faults files.new) names.now file) }
+    ensures ok { IfOk result (λ found. SaysFileIfThere any_bytes (F.told files.old).files (file_name names.now file) (option_map (λ bytes. bytes.items) found)) }
+    ensures err { IfErr result (IsFileFault any_bytes (F.told files.old).files (F.told files.old).faults (F.told files.new).faults names.now file) }
     ensures there { (other : File) → result ≢ Err (Fault.Missing other) }
-    ensures files { F.files files.new ≡ F.files files.old }
-    ensures lent { F.lent files.new ≡ F.lent files.old }
-    ensures may_ask { AsksOnly (file_name names.now file ∷ []) (F.asked files.old) (F.asked files.new) }
-    ensures kept { F.faults files.old ≤ F.faults files.new }
+    ensures files { (F.told files.new).files ≡ (F.told files.old).files }
+    ensures lent { (F.told files.new).lent ≡ (F.told files.old).lent }
+    ensures may_ask { AsksOnly (file_name names.now file ∷ []) (F.told files.old).asked (F.told files.new).asked }
+    ensures kept { (F.told files.old).faults ≤ (F.told files.new).faults }
 {
     match read_bytes(alloc, files, names, file) {
         Ok(bytes) => Ok(Some(bytes)),
@@ -86,13 +86,13 @@ pub fn read_genesis_file<F: Folder>(
     files: &mut F,
     names: &Names<'_>,
 ) -> Result<Genesis, Fault>
-    ensures ok { IfOk result (SaysFile genesis_file (F.files files.old) (file_name names.now File.Genesis)) }
+    ensures ok { IfOk result (SaysFile genesis_file (F.told files.old).files (file_name names.now File.Genesis)) }
     ensures genesis { IfOk result IsGenesis }
-    ensures err { IfErr result (IsFileFault genesis_file (F.files files.old) (F.faults files.old) (F.faults files.new) names.now File.Genesis) }
-    ensures files { F.files files.new ≡ F.files files.old }
-    ensures lent { F.lent files.new ≡ F.lent files.old }
-    ensures may_ask { AsksOnly (file_name names.now File.Genesis ∷ []) (F.asked files.old) (F.asked files.new) }
-    ensures kept { F.faults files.old ≤ F.faults files.new }
+    ensures err { IfErr result (IsFileFault genesis_file (F.told files.old).files (F.told files.old).faults (F.told files.new).faults names.now File.Genesis) }
+    ensures files { (F.told files.new).files ≡ (F.told files.old).files }
+    ensures lent { (F.told files.new).lent ≡ (F.told files.old).lent }
+    ensures may_ask { AsksOnly (file_name names.now File.Genesis ∷ []) (F.told files.old).asked (F.told files.new).asked }
+    ensures kept { (F.told files.old).faults ≤ (F.told files.new).faults }
 {
     let bytes = read_bytes(alloc, files, names, File::Genesis)?;
     match read_genesis(alloc, bytes.as_slice()) {
@@ -114,14 +114,14 @@ pub fn read_key_file<R: Threads + Sync, F: Folder>(
     names: &Names<'_>,
     device: Device,
 ) -> Result<Tree, Fault>
-    ensures ok { IfOk result (SaysFile (key_file device) (F.files files.old) (file_name names.now (File.Key device))) }
+    ensures ok { IfOk result (SaysFile (key_file device) (F.told files.old).files (file_name names.now (File.Key device))) }
     ensures height { IfOk result (λ key. IsLeafHeight (height_of key.lms)) }
     ensures width { IfOk result (λ key. IsKeyWidth key.ots) }
-    ensures err { IfErr result (IsFileFault (key_file device) (F.files files.old) (F.faults files.old) (F.faults files.new) names.now (File.Key device)) }
-    ensures files { F.files files.new ≡ F.files files.old }
-    ensures lent { F.lent files.new ≡ F.lent files.old }
-    ensures may_ask { AsksOnly (file_name names.now (File.Key device) ∷ []) (F.asked files.old) (F.asked files.new) }
-    ensures kept { F.faults files.old ≤ F.faults files.new }
+    ensures err { IfErr result (IsFileFault (key_file device) (F.told files.old).files (F.told files.old).faults (F.told files.new).faults names.now (File.Key device)) }
+    ensures files { (F.told files.new).files ≡ (F.told files.old).files }
+    ensures lent { (F.told files.new).lent ≡ (F.told files.old).lent }
+    ensures may_ask { AsksOnly (file_name names.now (File.Key device) ∷ []) (F.told files.old).asked (F.told files.new).asked }
+    ensures kept { (F.told files.old).faults ≤ (F.told files.new).faults }
 {
     let bytes = read_bytes(alloc, files, names, File::Key(device))?;
     match key_of_device(bytes.as_slice(), device) {
@@ -144,14 +144,14 @@ pub fn read_own_key<R: Threads + Sync, F: Folder>(
     device: Device,
     genesis: &Genesis,
 ) -> Result<Tree, Fault>
-    ensures ok { IfOk result (SaysFile (own_key_file genesis.now.founders device) (F.files files.old) (file_name names.now (File.Key device))) }
+    ensures ok { IfOk result (SaysFile (own_key_file genesis.now.founders device) (F.told files.old).files (file_name names.now (File.Key device))) }
     ensures height { IfOk result (λ key. IsLeafHeight (height_of key.lms)) }
     ensures width { IfOk result (λ key. IsKeyWidth key.ots) }
-    ensures err { IfErr result (IsFileFault (own_key_file genesis.now.founders device) (F.files files.old) (F.faults files.old) (F.faults files.new) names.now (File.Key device)) }
-    ensures files { F.files files.new ≡ F.files files.old }
-    ensures lent { F.lent files.new ≡ F.lent files.old }
-    ensures may_ask { AsksOnly (file_name names.now (File.Key device) ∷ []) (F.asked files.old) (F.asked files.new) }
-    ensures kept { F.faults files.old ≤ F.faults files.new }
+    ensures err { IfErr result (IsFileFault (own_key_file genesis.now.founders device) (F.told files.old).files (F.told files.old).faults (F.told files.new).faults names.now (File.Key device)) }
+    ensures files { (F.told files.new).files ≡ (F.told files.old).files }
+    ensures lent { (F.told files.new).lent ≡ (F.told files.old).lent }
+    ensures may_ask { AsksOnly (file_name names.now (File.Key device) ∷ []) (F.told files.old).asked (F.told files.new).asked }
+    ensures kept { (F.told files.old).faults ≤ (F.told files.new).faults }
 {
     let tree = read_key_file(rt, alloc, files, names, device)?;
     let founder = founder_of(genesis.founders.as_slice(), device);
@@ -196,13 +196,13 @@ pub fn read_ring_file<F: Folder>(
     names: &Names<'_>,
     member: u16,
 ) -> Result<RingFile, Fault>
-    ensures ok { IfOk result (SaysFile (ring_file_of_member member) (F.files files.old) (file_name names.now (File.Ring member))) }
+    ensures ok { IfOk result (SaysFile (ring_file_of_member member) (F.told files.old).files (file_name names.now (File.Ring member))) }
     ensures ring { IfOk result IsRingFile }
-    ensures err { IfErr result (IsFileFault (ring_file_of_member member) (F.files files.old) (F.faults files.old) (F.faults files.new) names.now (File.Ring member)) }
-    ensures files { F.files files.new ≡ F.files files.old }
-    ensures lent { F.lent files.new ≡ F.lent files.old }
-    ensures may_ask { AsksOnly (file_name names.now (File.Ring member) ∷ []) (F.asked files.old) (F.asked files.new) }
-    ensures kept { F.faults files.old ≤ F.faults files.new }
+    ensures err { IfErr result (IsFileFault (ring_file_of_member member) (F.told files.old).files (F.told files.old).faults (F.told files.new).faults names.now (File.Ring member)) }
+    ensures files { (F.told files.new).files ≡ (F.told files.old).files }
+    ensures lent { (F.told files.new).lent ≡ (F.told files.old).lent }
+    ensures may_ask { AsksOnly (file_name names.now (File.Ring member) ∷ []) (F.told files.old).asked (F.told files.new).asked }
+    ensures kept { (F.told files.old).faults ≤ (F.told files.new).faults }
 {
     let bytes = read_bytes(alloc, files, names, File::Ring(member))?;
     match ring_of_member(alloc, bytes.as_slice(), member) {

@@ -88,9 +88,9 @@ fn push_middle(string: &mut String, middle: Middle) -> Result<(), Memory>
 
 // Writes a text.
 pub(crate) fn write_text<O: Sink>(out: &mut O, text: Text) -> Result<(), Failed>
-    ensures ok { OnOk result (Appends (O.written out.old) (O.written out.new) (text_bytes text)) }
-    ensures err { OnErr result (AppendsPrefix (O.written out.old) (O.written out.new) (text_bytes text)) }
-    ensures count { CountsFaults (O.faults out.old) (O.faults out.new) result }
+    ensures ok { OnOk result (Appends (O.told out.old).written (O.told out.new).written (text_bytes text)) }
+    ensures err { OnErr result (AppendsPrefix (O.told out.old).written (O.told out.new).written (text_bytes text)) }
+    ensures count { CountsFaults (O.told out.old).faults (O.told out.new).faults result }
 {
     write_all(out, text.before.as_bytes())?;
     write_middle(out, text.middle)?;
@@ -99,9 +99,9 @@ pub(crate) fn write_text<O: Sink>(out: &mut O, text: Text) -> Result<(), Failed>
 
 // Writes a number or a device.
 fn write_middle<O: Sink>(out: &mut O, middle: Middle) -> Result<(), Failed>
-    ensures ok { OnOk result (Appends (O.written out.old) (O.written out.new) (middle_bytes middle)) }
-    ensures err { OnErr result (AppendsPrefix (O.written out.old) (O.written out.new) (middle_bytes middle)) }
-    ensures count { CountsFaults (O.faults out.old) (O.faults out.new) result }
+    ensures ok { OnOk result (Appends (O.told out.old).written (O.told out.new).written (middle_bytes middle)) }
+    ensures err { OnErr result (AppendsPrefix (O.told out.old).written (O.told out.new).written (middle_bytes middle)) }
+    ensures count { CountsFaults (O.told out.old).faults (O.told out.new).faults result }
 {
     match middle {
         Middle::Nothing => Ok(()),
@@ -112,9 +112,9 @@ fn write_middle<O: Sink>(out: &mut O, middle: Middle) -> Result<(), Failed>
 
 // Writes a number.
 fn write_number<O: Sink>(out: &mut O, number: u64) -> Result<(), Failed>
-    ensures ok { OnOk result (Appends (O.written out.old) (O.written out.new) (decimal number)) }
-    ensures err { OnErr result (AppendsPrefix (O.written out.old) (O.written out.new) (decimal number)) }
-    ensures count { CountsFaults (O.faults out.old) (O.faults out.new) result }
+    ensures ok { OnOk result (Appends (O.told out.old).written (O.told out.new).written (decimal number)) }
+    ensures err { OnErr result (AppendsPrefix (O.told out.old).written (O.told out.new).written (decimal number)) }
+    ensures count { CountsFaults (O.told out.old).faults (O.told out.new).faults result }
 {
     let mut digits = Buffer::new();
     write_all(out, digits.format(number).as_bytes())
@@ -122,9 +122,9 @@ fn write_number<O: Sink>(out: &mut O, number: u64) -> Result<(), Failed>
 
 // Writes a device.
 fn write_device<O: Sink>(out: &mut O, device: Device) -> Result<(), Failed>
-    ensures ok { OnOk result (Appends (O.written out.old) (O.written out.new) (device_text device)) }
-    ensures err { OnErr result (AppendsPrefix (O.written out.old) (O.written out.new) (device_text device)) }
-    ensures count { CountsFaults (O.faults out.old) (O.faults out.new) result }
+    ensures ok { OnOk result (Appends (O.told out.old).written (O.told out.new).written (device_text device)) }
+    ensures err { OnErr result (AppendsPrefix (O.told out.old).written (O.told out.new).written (device_text device)) }
+    ensures count { CountsFaults (O.told out.old).faults (O.told out.new).faults result }
 {
     write_number(out, u64::from(device.member))?;
     if device.number == FIRST_DEVICE {

@@ -1,5 +1,5 @@
-//! The tests of foundings and key rings (`sporc_keys`, `sporc_founding`), and of saved histories (`sporc_store`,
-//! `sporc_histories`). They stand in a crate of their own, since a crate with tests is proved twice. No program stands on it.
+//! The tests of foundings and key rings (`sporc_keys`, `sporc_commands`), and of saved histories (`sporc_store`,
+//! `sporc_commands`). They stand in a crate of their own, since a crate with tests is proved twice. No program stands on it.
 //!
 //! - [`founding`]: files of rings, and commands over a folder, a chance and a sink in memory. Files are spelled out by hand.
 //!   The first public key is one that Bouncy Castle made. The second is of a Python program that makes the first too, and

@@ -1,7 +1,7 @@
 //! `help`, `help COMMAND` and `version`.
 
 ghost use Rattle.std.specs.Prelude.{◌≡◌, ◌≤◌};
-ghost use Rattle.sporc_outside.specs.Uses.{sink_use};
+ghost use Rattle.sporc_outside.specs.Uses.{use_of};
 ghost use Rattle.sporc_help.specs.Pages.{command_text, page_text, version_text};
 ghost use Rattle.sporc_help.specs.Telling.{TellsText};
 
@@ -15,16 +15,16 @@ use sporc_words::{Page, Verb};
 
 /// Prints a page.
 pub fn help<O: Sink>(out: &mut O, page: Page) -> Result<(), Fault>
-    ensures outcome { TellsText (page_text page) (sink_use O.written O.faults out.old out.new) result }
-    ensures kept { O.faults out.old ≤ O.faults out.new }
+    ensures outcome { TellsText (page_text page) (use_of O.told out.old out.new) result }
+    ensures kept { (O.told out.old).faults ≤ (O.told out.new).faults }
 {
     tell(out, text_of(page))
 }
 
 /// Prints the program's name and its version.
 pub fn version<O: Sink>(out: &mut O) -> Result<(), Fault>
-    ensures outcome { TellsText version_text (sink_use O.written O.faults out.old out.new) result }
-    ensures kept { O.faults out.old ≤ O.faults out.new }
+    ensures outcome { TellsText version_text (use_of O.told out.old out.new) result }
+    ensures kept { (O.told out.old).faults ≤ (O.told out.new).faults }
 {
     tell(out, version_of())
 }
@@ -71,8 +71,8 @@ fn version_of() -> &'static str
 
 // Writes a text.
 fn tell<O: Sink>(out: &mut O, text: &str) -> Result<(), Fault>
-    ensures outcome { TellsText text.now (sink_use O.written O.faults out.old out.new) result }
-    ensures kept { O.faults out.old ≤ O.faults out.new }
+    ensures outcome { TellsText text.now (use_of O.told out.old out.new) result }
+    ensures kept { (O.told out.old).faults ≤ (O.told out.new).faults }
 {
     write_all(out, text.as_bytes())?;
     Ok(())

@@ -3,16 +3,16 @@ use Rattle.std.proofs.Common.{◌≡◌, ℕ, List, [], ◌∷◌, ◌++◌, len
 use Rattle.std.specs.Prelude.{OnErr, OnOk, option_map}
 use Rattle.sporc_outside.specs.Files.{ChangesFile, TakesFile, made_in}
 use Rattle.sporc_outside.specs.declared.named_file.NamedFile.{NamedFile}
+use Rattle.sporc_outside.specs.Uses.{Use}
+use Rattle.sporc_outside.specs.Folders.{FolderTold}
 use Rattle.sporc_order.specs.OrderModel.{OrderModel}
 use Rattle.sporc_docs.specs.Hands.{Both}
 use Rattle.sporc_files.specs.declared.fault.Fault.{Fault}
 use Rattle.sporc_files.specs.declared.fault.Fault.TheVariants as faults
 use Rattle.sporc_files.specs.declared.file.File.TheVariants as files
 use Rattle.sporc_files.specs.Names.{FileNames, file_name, names_of_document}
-use Rattle.sporc_files.specs.Uses.{FolderUse, folder_use}
-use Rattle.sporc_histories.specs.Moments.{Moment}
-use Rattle.sporc_histories.specs.Tails.{KeepsTail, TakesTail}
-use Rattle.sporc_histories.proofs.Opened.{changes_back, made_other, put_other}
+use Rattle.sporc_commands.specs.Tails.{KeepsTail, TakesTail}
+use Rattle.sporc_commands.proofs.Opened.{changes_back, made_other, put_other}
 use Rattle.sporc_hosting.specs.Hosting.{GivesAllBack}
 use Rattle.sporc_hosting.specs.Loading.{ChangesTails, IsNoTail, OpenLogModel, with_tail_made, with_tails_made}
 
@@ -76,11 +76,11 @@ taken_changes name None (Some fs) b takes = subst (λ (t : Option (List NamedFil
 taken_changes name (Some bytes) (Some fs) b takes =
     subst (λ (t : Option (List NamedFile)). ChangesFile (Some fs) t name) (sym takes) (λ other apart. put_other fs name bytes other apart)
 
-kept_changes : (name : List ℕ) (folder : FolderUse) (logged : ℕ) (document : List ℕ) (entries : List (List ℕ)) (one : Result (Unit {0}) Fault)
-    → KeepsTail name folder logged document entries one → ChangesFile folder.files_before folder.files_after name
-kept_changes name folder logged document entries (Ok done) (stored, takes, gives) = taken_changes name stored folder.files_before folder.files_after takes
+kept_changes : (name : List ℕ) (folder : Use FolderTold) (logged : ℕ) (document : List ℕ) (entries : List (List ℕ)) (one : Result (Unit {0}) Fault)
+    → KeepsTail name folder logged document entries one → ChangesFile folder.before.files folder.after.files name
+kept_changes name folder logged document entries (Ok done) (stored, takes, gives) = taken_changes name stored folder.before.files folder.after.files takes
 kept_changes name folder logged document entries (Err (faults.Malformed file at)) (is, zero, back) =
-    taken_changes name back.0 folder.files_before folder.files_after back.1
+    taken_changes name back.0 folder.before.files folder.after.files back.1
 kept_changes name folder logged document entries (Err fault) none = absurd none
 
 -- a document was opened, and then added or its tail given back
@@ -96,7 +96,7 @@ module _ (name : List ℕ) (names : FileNames) (same : names ≡ names_of_docume
       by (Ok done) stays = stays ∙ own_made
       by (Err fault) stays = tt
 
-  pub added_changes : (own : List ℕ) (folder : FolderUse) → own ≡ file_name names files.Tail → folder.files_before ≡ mid → folder.files_after ≡ now → OnErr r (TakesTail own folder)
+  pub added_changes : (own : List ℕ) (folder : Use FolderTold) → own ≡ file_name names files.Tail → folder.before.files ≡ mid → folder.after.files ≡ now → OnErr r (TakesTail own folder)
       → ChangesTails (name ∷ []) told now
   added_changes own folder own_is before after back = by r stays back
     where
@@ -106,8 +106,8 @@ module _ (name : List ℕ) (names : FileNames) (same : names ≡ names_of_docume
           one_changes name told now
           (changes_back told mid now (file_name (names_of_document name) files.Tail) stored own_made
           (subst (λ (t : Option (List NamedFile)). TakesFile (file_name (names_of_document name) files.Tail) stored mid t) after
-          (subst (λ (t : Option (List NamedFile)). TakesFile (file_name (names_of_document name) files.Tail) stored t folder.files_after) before
-          (subst (λ (n : List ℕ). TakesFile n stored folder.files_before folder.files_after) (own_is ∙ ap (λ (n : FileNames). file_name n files.Tail) same) takes))))
+          (subst (λ (t : Option (List NamedFile)). TakesFile (file_name (names_of_document name) files.Tail) stored t folder.after.files) before
+          (subst (λ (n : List ℕ). TakesFile n stored folder.before.files folder.after.files) (own_is ∙ ap (λ (n : FileNames). file_name n files.Tail) same) takes))))
 
 -- it was not opened
 pub failed_changes : (name : List ℕ) (names : FileNames) (a b : Option (List NamedFile)) → names ≡ names_of_document name → ChangesFile a b (file_name names files.Tail)
@@ -127,38 +127,17 @@ more_made names name others told mid now (Err fault) is first then = tt
 
 -- ---- all tails given back
 
-module _ {F : Type 0} (files_of : F → Option (List NamedFile)) (asked lent : F → Option (List (List ℕ))) (faults_of : F → ℕ) where
-  pub back_changes : (names : List (List ℕ)) (logs : List OpenLogModel) (orders : List OrderModel) (fault : Fault) (a b : F) (given : Result (Unit {0}) Fault)
-      → Both (λ name log. log.name ≡ file_name (names_of_document name) files.Tail) names logs
-      → GivesAllBack files_of asked lent faults_of logs orders (Err fault) a b given → ChangesTails names (files_of a) (files_of b)
-  back_changes [] [] [] fault a b given named (same, is) = tails_same [] (files_of a) (files_of b) (ap files_of same)
-  back_changes [] [] (o ∷ os) fault a b given named gives = absurd gives
-  back_changes [] (l ∷ ls) os fault a b given named gives = absurd named
-  back_changes (n ∷ ns) [] os fault a b given named gives = absurd named
-  back_changes (n ∷ ns) (l ∷ ls) [] fault a b given named gives = absurd gives
-  back_changes (n ∷ ns) (l ∷ ls) (o ∷ os) fault a b given (named, more) (mid, others, one, rest, gives, is) =
-      let changed = kept_changes l.name (folder_use files_of asked lent faults_of mid b) l.logged o.genesis.document o.entries one gives in
-      tails_then (n ∷ ns) (files_of a) (files_of mid) (files_of b)
-      (tails_among ns (n ∷ ns) (files_of a) (files_of mid) (λ other apart. apart.1) (back_changes ns ls os fault a mid others more rest))
-      (tails_among (n ∷ []) (n ∷ ns) (files_of mid) (files_of b) (λ other apart. (apart.0, tt))
-      (one_changes n (files_of mid) (files_of b) (subst (λ (m : List ℕ). ChangesFile (files_of mid) (files_of b) m) named changed)))
-
-  module _ (written : Option (List ℕ)) (sink_faults : ℕ) where
-    -- what a folder tells, beside a sink that stays as it is
-    abbrev pub moment_at : F → Moment
-    moment_at folder = record {
-      files = files_of folder;
-      asked = asked folder;
-      lent = lent folder;
-      folder_faults = faults_of folder;
-      written = written;
-      sink_faults = sink_faults;
-    }
-
-    pub back_at : (logs : List OpenLogModel) (orders : List OrderModel) (saved : Result (Unit {0}) Fault) (a b : F) (given : Result (Unit {0}) Fault)
-        → GivesAllBack files_of asked lent faults_of logs orders saved a b given
-        → GivesAllBack (λ (m : Moment). m.files) (λ (m : Moment). m.asked) (λ (m : Moment). m.lent) (λ (m : Moment). m.folder_faults) logs orders saved (moment_at a) (moment_at b) given
-    back_at [] [] saved a b given (same, is) = (ap moment_at same, is)
-    back_at [] (o ∷ os) saved a b given gives = absurd gives
-    back_at (l ∷ ls) [] saved a b given gives = absurd gives
-    back_at (l ∷ ls) (o ∷ os) saved a b given (mid, others, one, rest, gives, is) = (moment_at mid, others, one, back_at ls os saved a mid others rest, gives, is)
+pub back_changes : (names : List (List ℕ)) (logs : List OpenLogModel) (orders : List OrderModel) (fault : Fault) (a b : FolderTold) (given : Result (Unit {0}) Fault)
+    → Both (λ name log. log.name ≡ file_name (names_of_document name) files.Tail) names logs
+    → GivesAllBack logs orders (Err fault) a b given → ChangesTails names a.files b.files
+back_changes [] [] [] fault a b given named (same, is) = tails_same [] a.files b.files (ap (λ (t : FolderTold). t.files) same)
+back_changes [] [] (o ∷ os) fault a b given named gives = absurd gives
+back_changes [] (l ∷ ls) os fault a b given named gives = absurd named
+back_changes (n ∷ ns) [] os fault a b given named gives = absurd named
+back_changes (n ∷ ns) (l ∷ ls) [] fault a b given named gives = absurd gives
+back_changes (n ∷ ns) (l ∷ ls) (o ∷ os) fault a b given (named, more) (mid, others, one, rest, gives, is) =
+    let changed = kept_changes l.name (record { before = mid; after = b }) l.logged o.genesis.document o.entries one gives in
+    tails_then (n ∷ ns) a.files mid.files b.files
+    (tails_among ns (n ∷ ns) a.files mid.files (λ other apart. apart.1) (back_changes ns ls os fault a mid others more rest))
+    (tails_among (n ∷ []) (n ∷ ns) mid.files b.files (λ other apart. (apart.0, tt))
+    (one_changes n mid.files b.files (subst (λ (m : List ℕ). ChangesFile mid.files b.files m) named changed)))

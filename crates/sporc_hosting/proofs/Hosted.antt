@@ -4,6 +4,7 @@ use Rattle.std.specs.List.{Contains}
 use Rattle.std.proofs.lemmas.List.Elements.{Contains-append_cases, Contains-append_left, Contains-append_right}
 use Rattle.sporc_outside.specs.Counts.{Rose}
 use Rattle.sporc_outside.specs.declared.named_file.NamedFile.{NamedFile}
+use Rattle.sporc_outside.specs.AppendFile.{AppendTold}
 use Rattle.sporc_order.specs.OrderModel.{OrderModel}
 use Rattle.sporc_docs.specs.Hands.{Both}
 use Rattle.sporc_files.specs.declared.fault.Fault.{Fault}
@@ -12,27 +13,27 @@ use Rattle.sporc_files.specs.declared.file.File.TheVariants as files
 use Rattle.sporc_files.specs.Names.{file_name, names_of_document}
 use Rattle.sporc_files.specs.Uses.{AsksOnly}
 use Rattle.sporc_files.proofs.Asking.{AsksOnly-among, AsksOnly-trans}
-use Rattle.sporc_histories.specs.Contents.{AnswersUnlessOutside}
-use Rattle.sporc_histories.specs.Serving.{HasLogged, ServedFiles}
-use Rattle.sporc_histories.specs.Tails.{LogTailModel}
+use Rattle.sporc_files.specs.Faults.{AnswersUnlessOutside}
+use Rattle.sporc_commands.specs.Serving.{HasLogged, ServedFiles}
+use Rattle.sporc_commands.specs.Tails.{LogTailModel}
 use Rattle.sporc_hosting.specs.Loading.{AreOpen, OpenLogModel, OpensMore, files_of_all, files_of_one}
 use Rattle.sporc_hosting.specs.Saving.{logs_of}
 use Rattle.sporc_hosting.proofs.Saved.{as_many}
 
-module _ {D : Type 0} (moment : D → ℕ) (images : D → ℕ → List ℕ → Type 0) where
+module _ {D : Type 0} (file_told : D → AppendTold) where
   -- what is opened where nothing was open
   pub opened_first : (told : Option (List NamedFile)) (names : List (List ℕ)) (c0 c1 : ℕ) (r : Result (Unit {0}) Fault) (old new : List OrderModel)
       (tails tails' : List (LogTailModel D)) (logs logs' : List OpenLogModel) → old ≡ [] → tails ≡ [] → logs ≡ []
-      → ((first : List (List ℕ)) (begun : List ServedFiles) → AreOpen moment images first begun old tails logs
-      → OpensMore moment images told names 1 c0 c1 r old new tails' logs' first begun)
-      → OpensMore moment images told names 1 c0 c1 r [] new tails' logs' [] []
+      → ((first : List (List ℕ)) (begun : List ServedFiles) → AreOpen file_told first begun old tails logs
+      → OpensMore file_told told names 1 c0 c1 r old new tails' logs' first begun)
+      → OpensMore file_told told names 1 c0 c1 r [] new tails' logs' [] []
   opened_first told names c0 c1 r old new tails tails' logs logs' no_order no_tail no_log opens =
-      let none : AreOpen moment images [] [] old tails logs = rw (no_order, no_tail, no_log) record { kept = tt; logged = tt; named = tt; each = refl } in
-      subst (λ (os : List OrderModel). OpensMore moment images told names 1 c0 c1 r os new tails' logs' [] []) no_order (opens [] [] none)
+      let none : AreOpen file_told [] [] old tails logs = rw (no_order, no_tail, no_log) record { kept = tt; logged = tt; named = tt; each = refl } in
+      subst (λ (os : List OrderModel). OpensMore file_told told names 1 c0 c1 r os new tails' logs' [] []) no_order (opens [] [] none)
 
   -- all of them are open
   pub all_open : (names opened : List (List ℕ)) (held contents : List ServedFiles) (orders : List OrderModel) (tails : List (LogTailModel D)) (logs : List OpenLogModel)
-      → (opened ≡ names) × (held ≡ contents) → AreOpen moment images opened held orders tails logs
+      → (opened ≡ names) × (held ≡ contents) → AreOpen file_told opened held orders tails logs
       → (length names ≡ length orders) × Both (λ content log. HasLogged content log.logged) contents logs
       × Both (λ name log. log.name ≡ file_name (names_of_document name) files.Tail) names logs
   all_open names opened held contents orders tails logs (names_are, contents_are) opens =

@@ -12,13 +12,14 @@ use Rattle.sporc_docs.specs.declared.fault.DocsFault.TheVariants as adding
 use Rattle.sporc_files.specs.declared.fault.Fault.{Fault}
 use Rattle.sporc_files.specs.declared.fault.Fault.TheVariants as faults
 use Rattle.sporc_files.specs.declared.file.File.TheVariants as files
-use Rattle.sporc_files.specs.Faults.{fault_among}
+use Rattle.sporc_files.specs.Faults.{AnswersUnlessOutside, fault_among}
 use Rattle.sporc_files.specs.Names.{FileNames, file_name}
 use Rattle.sporc_files.specs.Reading.{IsFileFault, SaysFile, genesis_file}
-use Rattle.sporc_histories.specs.Contents.{AnswersOfFile, AnswersUnlessOutside, genesis_in}
-use Rattle.sporc_histories.specs.Serving.{FindsOrderBehind, ServedFiles, log_in, logged, order_behind}
-use Rattle.sporc_histories.proofs.Found.{fails, fails_first, is_there, says, tells_behind, tells_later, there}
-use Rattle.sporc_histories.proofs.Opened.{has_logged}
+use Rattle.sporc_commands.specs.Contents.{AnswersOfFile, genesis_in}
+use Rattle.sporc_commands.specs.Serving.{FindsOrderBehind, ServedFiles, log_in, logged, order_behind}
+use Rattle.sporc_files.proofs.Answering.{fails_first, tells_behind, tells_later}
+use Rattle.sporc_commands.proofs.ReadFiles.{fails, is_there, says, there}
+use Rattle.sporc_commands.proofs.Opened.{has_logged}
 use Rattle.sporc_hosting.specs.Loading.{FindsHeld, FindsUnlessHeld, added, fault_of_adding, is_held, opened_in, order_unless_held, unless_held}
 
 -- ---- whether a document is held

@@ -5,17 +5,18 @@ use Rattle.std.proofs.lemmas.List.{length-append}
 use Rattle.sporc_bytes.specs.Fields.{◌>>=◌, fault_as}
 use Rattle.sporc_outside.specs.Counts.{Rose}
 use Rattle.sporc_outside.specs.declared.named_file.NamedFile.{NamedFile}
+use Rattle.sporc_outside.specs.AppendFile.{AppendTold}
 use Rattle.sporc_order.specs.OrderModel.{OrderModel}
 use Rattle.sporc_docs.specs.Hands.{Both}
 use Rattle.sporc_files.specs.declared.fault.Fault.{Fault}
 use Rattle.sporc_files.specs.declared.fault.Fault.TheVariants as faults
 use Rattle.sporc_files.specs.declared.file.File.TheVariants as files
-use Rattle.sporc_files.specs.Faults.{fault_among}
+use Rattle.sporc_files.specs.Faults.{AnswersUnlessOutside, fault_among}
 use Rattle.sporc_files.specs.Names.{FileNames, file_name, names_of_document}
-use Rattle.sporc_histories.specs.Contents.{AnswersUnlessOutside}
-use Rattle.sporc_histories.specs.Serving.{AreServedFiles, HasLogged, ServedFiles}
-use Rattle.sporc_histories.specs.Tails.{KeepsBehind, LogTailModel}
-use Rattle.sporc_histories.proofs.Found.{fails_first, is_there, tells_alone, tells_behind, tells_later, there}
+use Rattle.sporc_commands.specs.Serving.{AreServedFiles, HasLogged, ServedFiles}
+use Rattle.sporc_commands.specs.Tails.{KeepsBehind, LogTailModel}
+use Rattle.sporc_files.proofs.Answering.{fails_first, tells_alone, tells_behind, tells_later}
+use Rattle.sporc_commands.proofs.ReadFiles.{is_there, there}
 use Rattle.sporc_hosting.specs.Loading.{AreFilesOfAll, AreOpen, AreOpenTo, FindsUnlessHeld, OpenLogModel, OpensMore, OpensOne, added, opened_in, opened_to, orders_in, with_document, with_tail_made}
 use Rattle.sporc_hosting.proofs.Loaded.{among_tells}
 
@@ -52,14 +53,14 @@ both_more P [] (z ∷ ys) x y both one = absurd both
 both_more P (z ∷ xs) [] x y both one = absurd both
 both_more P (z ∷ xs) (w ∷ ys) x y both one = (both.0, both_more P xs ys x y both.1 one)
 
-module _ {D : Type 0} (moment : D → ℕ) (images : D → ℕ → List ℕ → Type 0) where
+module _ {D : Type 0} (file_told : D → AppendTold) where
   pub one_more : (names : List (List ℕ)) (contents : List ServedFiles) (orders : List OrderModel) (tails : List (LogTailModel D)) (logs : List OpenLogModel) (name : List ℕ)
       (content : ServedFiles) (order : OrderModel) (tail : LogTailModel D) (log : OpenLogModel)
-      → AreOpen moment images names contents orders tails logs → KeepsBehind moment images tail order.entries → HasLogged content log.logged
+      → AreOpen file_told names contents orders tails logs → KeepsBehind file_told tail order.entries → HasLogged content log.logged
       → log.name ≡ file_name (names_of_document name) files.Tail
-      → AreOpen moment images (names ++ name ∷ []) (contents ++ content ∷ []) (orders ++ order ∷ []) (tails ++ tail ∷ []) (logs ++ log ∷ [])
+      → AreOpen file_told (names ++ name ∷ []) (contents ++ content ∷ []) (orders ++ order ∷ []) (tails ++ tail ∷ []) (logs ++ log ∷ [])
   one_more names contents orders tails logs name content order tail log opens keeps has named = record {
-    kept = both_more (λ (t : LogTailModel D) (o : OrderModel). ∥ KeepsBehind moment images t o.entries ∥₁) tails orders tail order opens.kept (∣ keeps ∣₁);
+    kept = both_more (λ (t : LogTailModel D) (o : OrderModel). ∥ KeepsBehind file_told t o.entries ∥₁) tails orders tail order opens.kept (∣ keeps ∣₁);
     logged = both_more (λ (c : ServedFiles) (l : OpenLogModel). HasLogged c l.logged) contents logs content log opens.logged has;
     named = both_more (λ (n : List ℕ) (l : OpenLogModel). l.name ≡ file_name (names_of_document n) files.Tail) names logs name log opens.named named;
     each = length-append logs (log ∷ []) ∙ ap (λ (n : ℕ). n + 1) opens.each ∙ sym (length-append orders (order ∷ []));
@@ -67,15 +68,15 @@ module _ {D : Type 0} (moment : D → ℕ) (images : D → ℕ → List ℕ → 
 
   -- nothing changed
   pub still_open : (names : List (List ℕ)) (contents : List ServedFiles) (orders now : List OrderModel) (tails tails' : List (LogTailModel D)) (logs logs' : List OpenLogModel)
-      → now ≡ orders → tails' ≡ tails → logs' ≡ logs → AreOpen moment images names contents orders tails logs → AreOpen moment images names contents now tails' logs'
+      → now ≡ orders → tails' ≡ tails → logs' ≡ logs → AreOpen file_told names contents orders tails logs → AreOpen file_told names contents now tails' logs'
   still_open names contents orders now tails tails' logs logs' now_is tails_are logs_are opens = rw (now_is, tails_are, logs_are) opens
 
   -- it is open if it was added
   pub added_open : (r : Result (Unit {0}) Fault) (old new : List OrderModel) (tails tails' : List (LogTailModel D)) (logs logs' : List OpenLogModel) (order : OrderModel)
       (tail : LogTailModel D) (log : OpenLogModel) (name : List ℕ) (first : List (List ℕ)) (begun : List ServedFiles) → OnOk r (new ≡ old ++ order ∷ [])
       → OnOk r (tails' ≡ tails ++ tail ∷ []) → OnOk r (logs' ≡ logs ++ log ∷ []) → OnErr r ((new ≡ old) × (tails' ≡ tails) × (logs' ≡ logs))
-      → AreOpen moment images first begun old tails logs → KeepsBehind moment images tail order.entries → log.name ≡ file_name (names_of_document name) files.Tail
-      → (content : ServedFiles) → HasLogged content log.logged → AreOpenTo moment images r name content new tails' logs' first begun
+      → AreOpen file_told first begun old tails logs → KeepsBehind file_told tail order.entries → log.name ≡ file_name (names_of_document name) files.Tail
+      → (content : ServedFiles) → HasLogged content log.logged → AreOpenTo file_told r name content new tails' logs' first begun
   added_open (Ok done) old new tails tails' logs logs' order tail log name first begun docs_are tails_are logs_are same opens keeps named content has =
       rw (docs_are, tails_are, logs_are) (one_more first begun old tails logs name content order tail log opens keeps has named)
   added_open (Err fault) old new tails tails' logs logs' order tail log name first begun docs_are tails_are logs_are (docs_same, tails_same, logs_same) opens keeps named content has =
@@ -84,10 +85,10 @@ module _ {D : Type 0} (moment : D → ℕ) (images : D → ℕ → List ℕ → 
   module _ (told : Option (List NamedFile)) (name : List ℕ) (number : ℕ) (c0 c2 : ℕ) (old new : List OrderModel) (tails : List (LogTailModel D)) (logs : List OpenLogModel)
       (first : List (List ℕ)) (begun : List ServedFiles) where
     -- memory ran out first
-    pub none_tried : (r : Result (Unit {0}) Fault) → r ≡ Err faults.Memory → AreOpen moment images first begun new tails logs
-        → OpensOne moment images told name number c0 c2 r old new tails logs first begun
+    pub none_tried : (r : Result (Unit {0}) Fault) → r ≡ Err faults.Memory → AreOpen file_told first begun new tails logs
+        → OpensOne file_told told name number c0 c2 r old new tails logs first begun
     none_tried r is opens =
-        subst (λ (o : Result (Unit {0}) Fault). OpensOne moment images told name number c0 c2 o old new tails logs first begun) (sym is) (record {
+        subst (λ (o : Result (Unit {0}) Fault). OpensOne file_told told name number c0 c2 o old new tails logs first begun) (sym is) (record {
           content = content_there told name;
           are = is_content told name;
           found = tt;
@@ -102,14 +103,14 @@ module _ {D : Type 0} (moment : D → ℕ) (images : D → ℕ → List ℕ → 
           (subst (λ (h : List OrderModel). FindsUnlessHeld view len told names number h c0 c1 o) held_is found)
 
       pub document_fails : (fault among : Fault) (r : Result (Unit {0}) Fault) → r ≡ Err among → among ≡ fault_among number fault
-          → FindsUnlessHeld view len told names number held c0 c2 (Err fault) → AreOpen moment images first begun new tails logs
-          → OpensOne moment images told name number c0 c2 r old new tails logs first begun
+          → FindsUnlessHeld view len told names number held c0 c2 (Err fault) → AreOpen file_told first begun new tails logs
+          → OpensOne file_told told name number c0 c2 r old new tails logs first begun
       document_fails fault among r failed is found opens =
           let (content, are, tells, none) = own c2 (Err fault) found in
           let why : AnswersUnlessOutside (λ (os : List OrderModel). os) (Rose c0 c2) (Err (fault_among number fault)) (with_document number old content) =
           fails_first (λ (o : OrderModel). o) (λ (os : List OrderModel). os) (Rose c0 c2) (fault_among number fault) (fault_as (fault_among number) (opened_in number old content))
           (added number old) (among_tells view (Rose c0 c2) number fault (opened_in number old content) tells) in
-          subst (λ (o : Result (Unit {0}) Fault). OpensOne moment images told name number c0 c2 o old new tails logs first begun) (sym (failed ∙ ap Err is)) (record {
+          subst (λ (o : Result (Unit {0}) Fault). OpensOne file_told told name number c0 c2 o old new tails logs first begun) (sym (failed ∙ ap Err is)) (record {
             content = content;
             are = are;
             found = why;
@@ -118,8 +119,8 @@ module _ {D : Type 0} (moment : D → ℕ) (images : D → ℕ → List ℕ → 
 
       pub document_adds : (c1 : ℕ) (it : X) (r : Result (Unit {0}) Fault) → c1 ≤ c2 → FindsUnlessHeld view len told names number held c0 c1 (Ok it)
           → AnswersUnlessOutside (λ (os : List OrderModel). os) ⊥ (opened_to r new) (added number old (view it))
-          → ((content : ServedFiles) → HasLogged content (len it) → AreOpenTo moment images r name content new tails logs first begun)
-          → OpensOne moment images told name number c0 c2 r old new tails logs first begun
+          → ((content : ServedFiles) → HasLogged content (len it) → AreOpenTo file_told r name content new tails logs first begun)
+          → OpensOne file_told told name number c0 c2 r old new tails logs first begun
       document_adds c1 it r low found value opens =
           let (content, are, tells, has) = own c1 (Ok it) found in
           record {
@@ -135,11 +136,11 @@ module _ {D : Type 0} (moment : D → ℕ) (images : D → ℕ → List ℕ → 
   -- ---- several documents
 
   module _ (told : Option (List NamedFile)) (names : List (List ℕ)) (number : ℕ) (old : List OrderModel) (first : List (List ℕ)) (begun : List ServedFiles) where
-    pub none_opened : (c0 c1 : ℕ) (tails : List (LogTailModel D)) (logs : List OpenLogModel) → length names ≡ 0 → AreOpen moment images first begun old tails logs
-        → OpensMore moment images told names number c0 c1 (Ok tt) old old tails logs first begun
+    pub none_opened : (c0 c1 : ℕ) (tails : List (LogTailModel D)) (logs : List OpenLogModel) → length names ≡ 0 → AreOpen file_told first begun old tails logs
+        → OpensMore file_told told names number c0 c1 (Ok tt) old old tails logs first begun
     none_opened c0 c1 tails logs none opens = by names none
       where
-        by : (ns : List (List ℕ)) → length ns ≡ 0 → OpensMore moment images told ns number c0 c1 (Ok tt) old old tails logs first begun
+        by : (ns : List (List ℕ)) → length ns ≡ 0 → OpensMore file_told told ns number c0 c1 (Ok tt) old old tails logs first begun
         by [] none = record {
           contents = [];
           are = tt;
@@ -154,11 +155,11 @@ module _ {D : Type 0} (moment : D → ℕ) (images : D → ℕ → List ℕ → 
         by (n ∷ ns) none = absurd cc
 
     pub first_fails : (c0 c1 : ℕ) (new : List OrderModel) (tails : List (LogTailModel D)) (logs : List OpenLogModel) (name : List ℕ) (others : List (List ℕ)) (fault : Fault)
-        (r : Result (Unit {0}) Fault) → names ≡ name ∷ others → r ≡ Err fault → OpensOne moment images told name number c0 c1 (Err fault) old new tails logs first begun
-        → OpensMore moment images told names number c0 c1 r old new tails logs first begun
+        (r : Result (Unit {0}) Fault) → names ≡ name ∷ others → r ≡ Err fault → OpensOne file_told told name number c0 c1 (Err fault) old new tails logs first begun
+        → OpensMore file_told told names number c0 c1 r old new tails logs first begun
     first_fails c0 c1 new tails logs name others fault r is failed one =
-        subst (λ (ns : List (List ℕ)). OpensMore moment images told ns number c0 c1 r old new tails logs first begun) (sym is)
-        (subst (λ (o : Result (Unit {0}) Fault). OpensMore moment images told (name ∷ others) number c0 c1 o old new tails logs first begun) (sym failed) (record {
+        subst (λ (ns : List (List ℕ)). OpensMore file_told told ns number c0 c1 r old new tails logs first begun) (sym is)
+        (subst (λ (o : Result (Unit {0}) Fault). OpensMore file_told told (name ∷ others) number c0 c1 o old new tails logs first begun) (sym failed) (record {
           contents = one.content ∷ contents_there (with_tail_made name told) others;
           are = (one.are, are_there (with_tail_made name told) others);
           found =
@@ -179,18 +180,18 @@ module _ {D : Type 0} (moment : D → ℕ) (images : D → ℕ → List ℕ → 
 
     pub others_opened : (c0 c1 c2 : ℕ) (mid new : List OrderModel) (tails tails' : List (LogTailModel D)) (logs logs' : List OpenLogModel) (now : Option (List NamedFile))
         (name : List ℕ) (others : List (List ℕ)) (r : Result (Unit {0}) Fault) → names ≡ name ∷ others → now ≡ with_tail_made name told → c0 ≤ c1
-        → OpensOne moment images told name number c0 c1 (Ok tt) old mid tails logs first begun
-        → ((f : List (List ℕ)) (b : List ServedFiles) → AreOpen moment images f b mid tails logs
-        → OpensMore moment images now others (number + 1) c1 c2 r mid new tails' logs' f b)
-        → OpensMore moment images told names number c0 c2 r old new tails' logs' first begun
+        → OpensOne file_told told name number c0 c1 (Ok tt) old mid tails logs first begun
+        → ((f : List (List ℕ)) (b : List ServedFiles) → AreOpen file_told f b mid tails logs
+        → OpensMore file_told now others (number + 1) c1 c2 r mid new tails' logs' f b)
+        → OpensMore file_told told names number c0 c2 r old new tails' logs' first begun
     others_opened c0 c1 c2 mid new tails tails' logs logs' now name others r is same low one then =
-        let more : OpensMore moment images (with_tail_made name told) others (number + 1) c1 c2 r mid new tails' logs' (first ++ name ∷ []) (begun ++ one.content ∷ []) =
-        subst (λ (t : Option (List NamedFile)). OpensMore moment images t others (number + 1) c1 c2 r mid new tails' logs' (first ++ name ∷ []) (begun ++ one.content ∷ [])) same
+        let more : OpensMore file_told (with_tail_made name told) others (number + 1) c1 c2 r mid new tails' logs' (first ++ name ∷ []) (begun ++ one.content ∷ []) =
+        subst (λ (t : Option (List NamedFile)). OpensMore file_told t others (number + 1) c1 c2 r mid new tails' logs' (first ++ name ∷ []) (begun ++ one.content ∷ [])) same
         (then (first ++ name ∷ []) (begun ++ one.content ∷ []) one.are_open) in
-        let opens : AreOpen moment images (first ++ name ∷ more.opened) (begun ++ one.content ∷ more.held) new tails' logs' =
-        subst (λ (ns : List (List ℕ)). AreOpen moment images ns (begun ++ one.content ∷ more.held) new tails' logs') (append_assoc first (name ∷ []) more.opened)
-        (subst (λ (cs : List ServedFiles). AreOpen moment images ((first ++ name ∷ []) ++ more.opened) cs new tails' logs') (append_assoc begun (one.content ∷ []) more.held) more.are_open) in
-        subst (λ (ns : List (List ℕ)). OpensMore moment images told ns number c0 c2 r old new tails' logs' first begun) (sym is) (record {
+        let opens : AreOpen file_told (first ++ name ∷ more.opened) (begun ++ one.content ∷ more.held) new tails' logs' =
+        subst (λ (ns : List (List ℕ)). AreOpen file_told ns (begun ++ one.content ∷ more.held) new tails' logs') (append_assoc first (name ∷ []) more.opened)
+        (subst (λ (cs : List ServedFiles). AreOpen file_told ((first ++ name ∷ []) ++ more.opened) cs new tails' logs') (append_assoc begun (one.content ∷ []) more.held) more.are_open) in
+        subst (λ (ns : List (List ℕ)). OpensMore file_told told ns number c0 c2 r old new tails' logs' first begun) (sym is) (record {
           contents = one.content ∷ more.contents;
           are = (one.are, more.are);
           found =

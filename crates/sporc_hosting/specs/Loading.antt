@@ -3,7 +3,9 @@ use Rattle.std.specs.Prelude.{◌≡◌, ℕ, ◌+◌, Bool, true, false, option
 use Rattle.sporc_bytes.specs.Fields.{◌>>=◌, fault_as}
 use Rattle.sporc_outside.specs.Counts.{Rose}
 use Rattle.sporc_outside.specs.Files.{file_in, made_in}
+use Rattle.sporc_outside.specs.Told.{IfBoth}
 use Rattle.sporc_outside.specs.declared.named_file.NamedFile.{NamedFile}
+use Rattle.sporc_outside.specs.AppendFile.{AppendTold}
 use Rattle.sporc_entry.specs.declared.genesis.Genesis.{Genesis}
 use Rattle.sporc_order.specs.OrderModel.{OrderModel}
 use Rattle.sporc_docs.specs.Hands.{Both}
@@ -14,11 +16,11 @@ use Rattle.sporc_docs.specs.declared.fault.DocsFault.TheVariants as adding
 use Rattle.sporc_files.specs.declared.fault.Fault.{Fault}
 use Rattle.sporc_files.specs.declared.fault.Fault.TheVariants as faults
 use Rattle.sporc_files.specs.declared.file.File.TheVariants as files
-use Rattle.sporc_files.specs.Faults.{fault_among}
+use Rattle.sporc_files.specs.Faults.{AnswersUnlessOutside, fault_among}
 use Rattle.sporc_files.specs.Names.{FileNames, file_name, names_of_document}
-use Rattle.sporc_histories.specs.Contents.{AnswersOfFile, AnswersUnlessOutside, genesis_in}
-use Rattle.sporc_histories.specs.Serving.{AreServedFiles, HasLogged, ServedFiles, log_in, logged, order_in}
-use Rattle.sporc_histories.specs.Tails.{KeepsBehind, LogTailModel}
+use Rattle.sporc_commands.specs.Contents.{AnswersOfFile, genesis_in}
+use Rattle.sporc_commands.specs.Serving.{AreServedFiles, HasLogged, ServedFiles, log_in, logged, order_in}
+use Rattle.sporc_commands.specs.Tails.{KeepsBehind, LogTailModel}
 
 -- ---- names
 
@@ -52,9 +54,8 @@ IsNoTail (name ∷ names) other = (bytes_eq (file_name (names_of_document name) 
 
 -- told files became these, where only the tails of documents with these names may have changed
 abbrev pub ChangesTails : List (List ℕ) → Option (List NamedFile) → Option (List NamedFile) → Type 0
-ChangesTails names None after = Unit {0}
-ChangesTails names (Some told) None = ⊥
-ChangesTails names (Some told) (Some more) = (other : List ℕ) → IsNoTail names other → file_in more other ≡ file_in told other
+ChangesTails names before after =
+    IfBoth before after (λ files more. (other : List ℕ) → IsNoTail names other → file_in more other ≡ file_in files other)
 
 -- ---- what they hold
 
@@ -124,18 +125,18 @@ pub record OpenLogModel : Type 0 where
   pub logged : ℕ
 
 -- of each document with one of these names and what its files held: its order, the tail that keeps its entries, and its log as it was opened
-pub record AreOpen {D : Type 0} (moment : D → ℕ) (images : D → ℕ → List ℕ → Type 0) (names : List (List ℕ)) (contents : List ServedFiles) (orders : List OrderModel)
+pub record AreOpen {D : Type 0} (file_told : D → AppendTold) (names : List (List ℕ)) (contents : List ServedFiles) (orders : List OrderModel)
     (tails : List (LogTailModel D)) (logs : List OpenLogModel) : Type 0 where
-  pub kept : AreKept (KeepsBehind moment images) tails orders
+  pub kept : AreKept (KeepsBehind file_told) tails orders
   pub logged : Both (λ content log. HasLogged content log.logged) contents logs
   pub named : Both (λ name log. log.name ≡ file_name (names_of_document name) files.Tail) names logs
   pub each : length logs ≡ length orders
 
-module _ {D : Type 0} (moment : D → ℕ) (images : D → ℕ → List ℕ → Type 0) where
+module _ {D : Type 0} (file_told : D → AppendTold) where
   -- one document more is open if that succeeded
   abbrev pub AreOpenTo : Result (Unit {0}) Fault → List ℕ → ServedFiles → List OrderModel → List (LogTailModel D) → List OpenLogModel → List (List ℕ) → List ServedFiles → Type 0
-  AreOpenTo (Ok done) name content new tails logs first begun = AreOpen moment images (first ++ name ∷ []) (begun ++ content ∷ []) new tails logs
-  AreOpenTo (Err fault) name content new tails logs first begun = AreOpen moment images first begun new tails logs
+  AreOpenTo (Ok done) name content new tails logs first begun = AreOpen file_told (first ++ name ∷ []) (begun ++ content ∷ []) new tails logs
+  AreOpenTo (Err fault) name content new tails logs first begun = AreOpen file_told first begun new tails logs
 
   -- the document with this name was opened behind those that were open
   pub record OpensOne (told : Option (List NamedFile)) (name : List ℕ) (number : ℕ) (before after : ℕ) (result : Result (Unit {0}) Fault) (old new : List OrderModel)
@@ -155,5 +156,5 @@ module _ {D : Type 0} (moment : D → ℕ) (images : D → ℕ → List ℕ → 
     pub held : List ServedFiles
     pub rest : List (List ℕ)
     pub names_are : names ≡ opened ++ rest
-    pub are_open : AreOpen moment images (first ++ opened) (begun ++ held) new tails logs
+    pub are_open : AreOpen file_told (first ++ opened) (begun ++ held) new tails logs
     pub all : OnOk result ((opened ≡ names) × (held ≡ contents))

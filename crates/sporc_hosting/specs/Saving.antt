@@ -1,13 +1,13 @@
 -- How the logs of several documents are saved, one after another.
-use Rattle.std.specs.Prelude.{◌≡◌, ℕ, List, [], ◌∷◌, ◌++◌, codes, length, Result, Ok, Err}
+use Rattle.std.specs.Prelude.{◌≡◌, ℕ, List, [], ◌∷◌, ◌++◌, codes, length, Result, Ok}
 use Rattle.std.specs.Fmt.{decimal}
 use Rattle.sporc_order.specs.OrderModel.{OrderModel}
 use Rattle.sporc_files.specs.declared.fault.Fault.{Fault}
-use Rattle.sporc_files.specs.declared.fault.Fault.TheVariants as faults
 use Rattle.sporc_files.specs.declared.file.File.TheVariants as files
+use Rattle.sporc_files.specs.Faults.{first_fault}
 use Rattle.sporc_files.specs.Names.{file_name, names_of_document}
-use Rattle.sporc_histories.specs.Moments.{IsBehind, Moment, folder_between, sink_between}
-use Rattle.sporc_histories.specs.Outcomes.{KeepsLog}
+use Rattle.sporc_commands.specs.Moments.{IsBehind, Moment, folder_between, sink_between}
+use Rattle.sporc_commands.specs.Outcomes.{KeepsLog}
 
 -- the logs' names
 abbrev pub logs_of : List (List ℕ) → List (List ℕ)
@@ -17,12 +17,6 @@ logs_of (name ∷ names) = file_name (names_of_document name) files.Log ∷ logs
 -- the line that says how many entries of a document were saved
 abbrev pub document_line : List ℕ → ℕ → List ℕ
 document_line name len = codes "log " ++ (name ++ (codes " " ++ (decimal len ++ codes "\n")))
-
--- the first of two faults, but for out of memory at the second
-abbrev pub first_fault : Result (Unit {0}) Fault → Result (Unit {0}) Fault → Result (Unit {0}) Fault
-first_fault (Ok done) second = second
-first_fault (Err fault) (Err faults.Memory) = Err faults.Memory
-first_fault (Err fault) second = Err fault
 
 -- Each log was saved, in this order, as `serve` saves one, whatever came of those before it. Of their faults the first is answered, but out of
 -- memory goes before others.

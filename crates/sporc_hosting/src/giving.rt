@@ -1,15 +1,14 @@
 //! The tails of several logs, given back.
 
 ghost use Rattle.std.specs.Prelude.{◌≡◌, ◌≤◌, ◌++◌, List, length};
+ghost use Rattle.sporc_outside.specs.Uses.{use_of};
 ghost use Rattle.sporc_docs.specs.Served.{AreKept};
-ghost use Rattle.sporc_files.specs.Uses.{folder_use};
-ghost use Rattle.sporc_histories.specs.Tails.{GivesBack, KeepsBehind, LogTailModel};
+ghost use Rattle.sporc_commands.specs.Tails.{GivesBack, KeepsBehind, LogTailModel};
 ghost use Rattle.sporc_hosting.specs.Hosting.{GivesAllBack};
 
 use crate::loading::OpenLog;
-use crate::saving::first_fault;
-use sporc_files::Fault;
-use sporc_histories::{LogTail, keep_tail, remove_tail};
+use sporc_commands::{LogTail, keep_tail, remove_tail};
+use sporc_files::{Fault, first_fault};
 use sporc_order::Order;
 use sporc_outside::{AppendFile, Folder};
 
@@ -23,13 +22,13 @@ pub(crate) fn give_back_all<F: Folder>(
 ) -> Result<(), Fault>
     requires each { length logs.now ≡ length orders.now }
     requires tails { (front : List (LogTailModel F.Appended)) × (mine : List (LogTailModel F.Appended)) × (tails.old.items ≡ front ++ mine)
-        × AreKept (KeepsBehind F.Appended.moment F.Appended.images) mine orders.now }
-    ensures gives { GivesAllBack F.files F.asked F.lent F.faults logs.now orders.now saved files.old files.new result }
+        × AreKept (KeepsBehind F.Appended.told) mine orders.now }
+    ensures gives { GivesAllBack logs.now orders.now saved (F.told files.old) (F.told files.new) result }
     ensures tails { (front : List (LogTailModel F.Appended)) (mine : List (LogTailModel F.Appended)) → tails.old.items ≡ front ++ mine
         → length mine ≡ length orders.now → tails.new.items ≡ front }
-    ensures lent { F.lent files.new ≡ F.lent files.old }
-    ensures asked { F.asked files.new ≡ F.asked files.old }
-    ensures kept { F.faults files.old ≤ F.faults files.new }
+    ensures lent { (F.told files.new).lent ≡ (F.told files.old).lent }
+    ensures asked { (F.told files.new).asked ≡ (F.told files.old).asked }
+    ensures kept { (F.told files.old).faults ≤ (F.told files.new).faults }
 {
     let Some((log, more_logs)) = logs.split_first() else {
         return Ok(());
@@ -53,12 +52,12 @@ fn give_back<F: Folder>(
     tail: LogTail<F::Appended>,
     saved: Result<(), Fault>,
 ) -> Result<(), Fault>
-    requires tail { ∥ KeepsBehind F.Appended.moment F.Appended.images tail order.now.entries ∥₁ }
-    ensures gives { GivesBack log.now.name (folder_use F.files F.asked F.lent F.faults files.old files.new) log.now.logged order.now.genesis.document
+    requires tail { ∥ KeepsBehind F.Appended.told tail order.now.entries ∥₁ }
+    ensures gives { GivesBack log.now.name (use_of F.told files.old files.new) log.now.logged order.now.genesis.document
         order.now.entries saved result }
-    ensures lent { F.lent files.new ≡ F.lent files.old }
-    ensures asked { F.asked files.new ≡ F.asked files.old }
-    ensures kept { F.faults files.old ≤ F.faults files.new }
+    ensures lent { (F.told files.new).lent ≡ (F.told files.old).lent }
+    ensures asked { (F.told files.new).asked ≡ (F.told files.old).asked }
+    ensures kept { (F.told files.old).faults ≤ (F.told files.new).faults }
 {
     match saved {
         Ok(()) => remove_tail(files, log.name(), tail),

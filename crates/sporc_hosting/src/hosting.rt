@@ -1,24 +1,22 @@
 //! `serve-all ADDRESS --sessions K NAME .. --times T`.
 
 ghost use Rattle.std.specs.Prelude.{◌≡◌, ◌≤◌, length};
-ghost use Rattle.sporc_outside.specs.Told.{AreShutBehind};
-ghost use Rattle.sporc_outside.specs.Uses.{sink_use};
-ghost use Rattle.sporc_serve.specs.Crowds.{net_of};
-ghost use Rattle.sporc_serve.specs.declared.limits.TheConstants.{MAX_SESSIONS};
+ghost use Rattle.sporc_wire.specs.declared.limits.TheConstants.{MAX_DOCUMENTS, MAX_SESSIONS};
+ghost use Rattle.sporc_outside.specs.Uses.{use_of};
+ghost use Rattle.sporc_outside.specs.Nets.{AreShutBehind};
 ghost use Rattle.sporc_docs.specs.Served.{AreKept};
-ghost use Rattle.sporc_docs.specs.declared.limits.TheConstants.{MAX_DOCUMENTS};
-ghost use Rattle.sporc_files.specs.Uses.{AsksOnly, folder_use};
+ghost use Rattle.sporc_files.specs.Uses.{AsksOnly};
 ghost use Rattle.sporc_hosting.specs.Loading.{files_of_all};
-ghost use Rattle.sporc_histories.specs.Rounds.{AsksAgain};
-ghost use Rattle.sporc_histories.specs.Tails.{KeepsBehind};
+ghost use Rattle.sporc_commands.specs.Rounds.{AsksAgain};
+ghost use Rattle.sporc_commands.specs.Tails.{KeepsBehind};
 ghost use Rattle.sporc_hosting.specs.Hosting.{GivesAllBack, ServeAllOutcome};
 
 use crate::giving::give_back_all;
 use crate::loading::{OpenDocs, open_documents};
 use crate::rounds::serve_rounds;
+use sporc_commands::after_last;
 use sporc_docs::Docs;
 use sporc_files::Fault;
-use sporc_histories::after_last;
 use sporc_outside::{AppendFile, Folder, Gate, Listen, Sink};
 use sporc_words::Word;
 use std::alloc::Global;
@@ -51,19 +49,18 @@ where
     requires some { 1 ≤ sessions }
     requires limit { sessions ≤ MAX_SESSIONS }
     requires times { 1 ≤ times }
-    ensures outcome { ServeAllOutcome N.Link.left N.Link.written N.Link.faults N.Link.is_shut names.now sessions times
-        (folder_use F.files F.asked F.lent F.faults files.old files.new)
-        (sink_use O.written O.faults out.old out.new)
-        (net_of (N.coming net.old) (N.returned net.old) (N.faults net.old)) (net_of (N.coming net.new) (N.returned net.new) (N.faults net.new))
+    ensures outcome { ServeAllOutcome names.now sessions times (use_of F.told files.old files.new)
+        (use_of O.told out.old out.new)
+        (N.told net.old) (N.told net.new)
         result }
-    ensures lent { F.lent files.new ≡ F.lent files.old }
-    ensures files_may_ask { AsksOnly (files_of_all names.now) (F.asked files.old) (F.asked files.new) }
-    ensures files_kept { F.faults files.old ≤ F.faults files.new }
-    ensures net_may_ask { AsksAgain times (N.asked net.old) (N.asked net.new) address.now }
-    ensures shut { AreShutBehind N.Link.is_shut (N.returned net.old) (N.returned net.new) }
-    ensures links_out { N.out net.new ≡ N.out net.old }
-    ensures net_kept { N.faults net.old ≤ N.faults net.new }
-    ensures out_kept { O.faults out.old ≤ O.faults out.new }
+    ensures lent { (F.told files.new).lent ≡ (F.told files.old).lent }
+    ensures files_may_ask { AsksOnly (files_of_all names.now) (F.told files.old).asked (F.told files.new).asked }
+    ensures files_kept { (F.told files.old).faults ≤ (F.told files.new).faults }
+    ensures net_may_ask { AsksAgain times (N.told net.old).asked (N.told net.new).asked address.now }
+    ensures shut { AreShutBehind (N.told net.old).returned (N.told net.new).returned }
+    ensures links_out { (N.told net.new).out ≡ (N.told net.old).out }
+    ensures net_kept { (N.told net.old).faults ≤ (N.told net.new).faults }
+    ensures out_kept { (O.told out.old).faults ≤ (O.told out.new).faults }
 {
     let mut held = OpenDocs {
         docs: Docs::new(alloc),
@@ -90,11 +87,11 @@ fn give_back<F: Folder>(
 where
     F::Appended: Drop,
     requires each { length held.logs.items ≡ length held.docs }
-    requires tails { AreKept (KeepsBehind F.Appended.moment F.Appended.images) held.tails.items held.docs }
-    ensures gives { GivesAllBack F.files F.asked F.lent F.faults held.logs.items held.docs saved files.old files.new result }
-    ensures lent { F.lent files.new ≡ F.lent files.old }
-    ensures asked { F.asked files.new ≡ F.asked files.old }
-    ensures kept { F.faults files.old ≤ F.faults files.new }
+    requires tails { AreKept (KeepsBehind F.Appended.told) held.tails.items held.docs }
+    ensures gives { GivesAllBack held.logs.items held.docs saved (F.told files.old) (F.told files.new) result }
+    ensures lent { (F.told files.new).lent ≡ (F.told files.old).lent }
+    ensures asked { (F.told files.new).asked ≡ (F.told files.old).asked }
+    ensures kept { (F.told files.old).faults ≤ (F.told files.new).faults }
 {
     let OpenDocs { docs, tails, logs } = held;
     let mut tails = tails;

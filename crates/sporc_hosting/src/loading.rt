@@ -4,20 +4,21 @@ ghost use Rattle.std.specs.Prelude.{◌≡◌, ◌≢◌, ◌≤◌, ◌<◌, �
 ghost use Rattle.std.specs.Vec.{vec_len, vec_capacity};
 ghost use Rattle.sporc_entry.specs.Genesis.{IsGenesis};
 ghost use Rattle.sporc_outside.specs.Files.{ChangesFile, made_in};
-ghost use Rattle.sporc_docs.specs.declared.limits.TheConstants.{MAX_DOCUMENTS};
+ghost use Rattle.sporc_wire.specs.declared.limits.TheConstants.{MAX_DOCUMENTS};
+ghost use Rattle.sporc_outside.specs.Uses.{use_of};
 ghost use Rattle.sporc_docs.specs.declared.fault.DocsFault.TheVariants as docs_faults;
 ghost use Rattle.sporc_files.specs.Names.{file_name};
-ghost use Rattle.sporc_files.specs.Uses.{AsksOnly, folder_use};
-ghost use Rattle.sporc_histories.specs.Contents.{AnswersUnlessOutside};
-ghost use Rattle.sporc_histories.specs.Serving.{ServedFiles};
-ghost use Rattle.sporc_histories.specs.Tails.{KeepsBehind, TakesTail};
+ghost use Rattle.sporc_files.specs.Uses.{AsksOnly};
+ghost use Rattle.sporc_files.specs.Faults.{AnswersUnlessOutside};
+ghost use Rattle.sporc_commands.specs.Serving.{ServedFiles};
+ghost use Rattle.sporc_commands.specs.Tails.{KeepsBehind, TakesTail};
 ghost use Rattle.sporc_hosting.specs.Loading.{AreOpen, ChangesTails, FindsHeld, FindsUnlessHeld, OpensMore, OpensOne, added, fault_of_adding, files_of_all, files_of_one, is_held, opened_to, with_tail_made, with_tails_made};
 
 use sporc_base::{Memory, is_same};
+use sporc_commands::{KeptOrder, LogTail, OpenedOrder, open_order_behind, read_log};
 use sporc_docs::{Docs, DocsFault};
 use sporc_entry::Genesis;
 use sporc_files::{Fault, File, Names, read_genesis_file};
-use sporc_histories::{KeptOrder, LogTail, OpenedOrder, open_order_behind, read_log};
 use sporc_order::Order;
 use sporc_outside::{AppendFile, Counted, Folder, Gate};
 use sporc_words::Word;
@@ -80,14 +81,14 @@ pub(crate) fn open_documents<R: Threads + Wait + Sync, F: Folder, G: Gate + Sync
     requires room { length held.old.docs + length names.now ≤ MAX_DOCUMENTS }
     requires numbers { number + length names.now < 2 ^ 32 }
     ensures opens { (first : List (List ℕ)) (begun : List ServedFiles)
-        → AreOpen F.Appended.moment F.Appended.images first begun held.old.docs held.old.tails.items held.old.logs.items
-        → OpensMore F.Appended.moment F.Appended.images (F.files files.old) names.now number (F.faults files.old) (F.faults files.new) result
+        → AreOpen F.Appended.told first begun held.old.docs held.old.tails.items held.old.logs.items
+        → OpensMore F.Appended.told (F.told files.old).files names.now number (F.told files.old).faults (F.told files.new).faults result
         held.old.docs held.new.docs held.new.tails.items held.new.logs.items first begun }
-    ensures made { OnOk result (F.files files.new ≡ with_tails_made names.now (F.files files.old)) }
-    ensures changes { ChangesTails names.now (F.files files.old) (F.files files.new) }
-    ensures lent { F.lent files.new ≡ F.lent files.old }
-    ensures may_ask { AsksOnly (files_of_all names.now) (F.asked files.old) (F.asked files.new) }
-    ensures kept { F.faults files.old ≤ F.faults files.new }
+    ensures made { OnOk result ((F.told files.new).files ≡ with_tails_made names.now (F.told files.old).files) }
+    ensures changes { ChangesTails names.now (F.told files.old).files (F.told files.new).files }
+    ensures lent { (F.told files.new).lent ≡ (F.told files.old).lent }
+    ensures may_ask { AsksOnly (files_of_all names.now) (F.told files.old).asked (F.told files.new).asked }
+    ensures kept { (F.told files.old).faults ≤ (F.told files.new).faults }
 {
     let Some((name, others)) = names.split_first() else {
         return Ok(());
@@ -108,15 +109,15 @@ fn open_document<R: Threads + Wait + Sync, F: Folder, G: Gate + Sync>(
 ) -> Result<(), Fault>
     requires room { length held.old.docs < MAX_DOCUMENTS }
     ensures opens { (first : List (List ℕ)) (begun : List ServedFiles)
-        → AreOpen F.Appended.moment F.Appended.images first begun held.old.docs held.old.tails.items held.old.logs.items
-        → OpensOne F.Appended.moment F.Appended.images (F.files files.old) name.now number (F.faults files.old) (F.faults files.new) result
+        → AreOpen F.Appended.told first begun held.old.docs held.old.tails.items held.old.logs.items
+        → OpensOne F.Appended.told (F.told files.old).files name.now number (F.told files.old).faults (F.told files.new).faults result
         held.old.docs held.new.docs held.new.tails.items held.new.logs.items first begun }
     ensures one { OnOk result (length held.new.docs ≡ length held.old.docs + 1) }
-    ensures made { OnOk result (F.files files.new ≡ with_tail_made name.now (F.files files.old)) }
-    ensures changes { ChangesTails (name.now ∷ []) (F.files files.old) (F.files files.new) }
-    ensures lent { F.lent files.new ≡ F.lent files.old }
-    ensures may_ask { AsksOnly (files_of_one name.now) (F.asked files.old) (F.asked files.new) }
-    ensures kept { F.faults files.old ≤ F.faults files.new }
+    ensures made { OnOk result ((F.told files.new).files ≡ with_tail_made name.now (F.told files.old).files) }
+    ensures changes { ChangesTails (name.now ∷ []) (F.told files.old).files (F.told files.new).files }
+    ensures lent { (F.told files.new).lent ≡ (F.told files.old).lent }
+    ensures may_ask { AsksOnly (files_of_one name.now) (F.told files.old).asked (F.told files.new).asked }
+    ensures kept { (F.told files.old).faults ≤ (F.told files.new).faults }
 {
     make_room(held)?;
     let names = Names::of_document(name.as_str());
@@ -136,16 +137,16 @@ fn open_unless_held<R: Threads + Wait + Sync, F: Folder, G: Gate + Sync>(
     number: u32,
     gate: &G,
 ) -> Result<OpenedOrder<F::Appended>, Fault>
-    ensures found { FindsUnlessHeld (λ it. it.kept.order) (λ it. it.logged) (F.files files.old) names.now number orders.now (F.faults files.old)
-        (F.faults files.new) result }
-    ensures tail { IfOk result (λ it. KeepsBehind F.Appended.moment F.Appended.images it.kept.tail it.kept.order.entries) }
+    ensures found { FindsUnlessHeld (λ it. it.kept.order) (λ it. it.logged) (F.told files.old).files names.now number orders.now (F.told files.old).faults
+        (F.told files.new).faults result }
+    ensures tail { IfOk result (λ it. KeepsBehind F.Appended.told it.kept.tail it.kept.order.entries) }
     ensures name { IfOk result (λ it. string_bytes it.name ≡ file_name names.now File.Tail) }
-    ensures made { OnOk result (F.files files.new ≡ option_map (λ told. made_in told (file_name names.now File.Tail)) (F.files files.old)) }
-    ensures changes { OnErr result (ChangesFile (F.files files.old) (F.files files.new) (file_name names.now File.Tail)) }
-    ensures lent { F.lent files.new ≡ F.lent files.old }
+    ensures made { OnOk result ((F.told files.new).files ≡ option_map (λ told. made_in told (file_name names.now File.Tail)) (F.told files.old).files) }
+    ensures changes { OnErr result (ChangesFile (F.told files.old).files (F.told files.new).files (file_name names.now File.Tail)) }
+    ensures lent { (F.told files.new).lent ≡ (F.told files.old).lent }
     ensures may_ask { AsksOnly (file_name names.now File.Genesis ∷ file_name names.now File.Tail ∷ file_name names.now File.Log ∷ [])
-        (F.asked files.old) (F.asked files.new) }
-    ensures kept { F.faults files.old ≤ F.faults files.new }
+        (F.told files.old).asked (F.told files.new).asked }
+    ensures kept { (F.told files.old).faults ≤ (F.told files.new).faults }
 {
     let genesis = read_genesis_file(alloc, files, names)?;
     if is_held(orders, &genesis.document) {
@@ -165,11 +166,11 @@ fn fault_of_held<R: Threads + Wait + Sync, F: Folder, G: Gate + Sync>(
     gate: &G,
 ) -> Fault
     requires genesis { IsGenesis genesis }
-    ensures found { FindsHeld (F.files files.old) (file_name names.now File.Log) (F.faults files.old) (F.faults files.new) number genesis result }
-    ensures files { F.files files.new ≡ F.files files.old }
-    ensures lent { F.lent files.new ≡ F.lent files.old }
-    ensures may_ask { AsksOnly (file_name names.now File.Log ∷ []) (F.asked files.old) (F.asked files.new) }
-    ensures kept { F.faults files.old ≤ F.faults files.new }
+    ensures found { FindsHeld (F.told files.old).files (file_name names.now File.Log) (F.told files.old).faults (F.told files.new).faults number genesis result }
+    ensures files { (F.told files.new).files ≡ (F.told files.old).files }
+    ensures lent { (F.told files.new).lent ≡ (F.told files.old).lent }
+    ensures may_ask { AsksOnly (file_name names.now File.Log ∷ []) (F.told files.old).asked (F.told files.new).asked }
+    ensures kept { (F.told files.old).faults ≤ (F.told files.new).faults }
 {
     match read_log(rt, alloc, files, names, genesis, gate) {
         Ok(order) => {
@@ -221,11 +222,11 @@ fn add<F: Folder>(
     ensures logs { OnOk result (held.new.logs.items ≡ held.old.logs.items ++ record { name = string_bytes opened.name; logged = opened.logged } ∷ []) }
     ensures unchanged { OnErr result ((held.new.docs ≡ held.old.docs) × (held.new.tails.items ≡ held.old.tails.items)
         × (held.new.logs.items ≡ held.old.logs.items)) }
-    ensures files { OnOk result (F.files files.new ≡ F.files files.old) }
-    ensures back { OnErr result (TakesTail (string_bytes opened.name) (folder_use F.files F.asked F.lent F.faults files.old files.new)) }
-    ensures lent { F.lent files.new ≡ F.lent files.old }
-    ensures asked { F.asked files.new ≡ F.asked files.old }
-    ensures kept { F.faults files.old ≤ F.faults files.new }
+    ensures files { OnOk result ((F.told files.new).files ≡ (F.told files.old).files) }
+    ensures back { OnErr result (TakesTail (string_bytes opened.name) (use_of F.told files.old files.new)) }
+    ensures lent { (F.told files.new).lent ≡ (F.told files.old).lent }
+    ensures asked { (F.told files.new).asked ≡ (F.told files.old).asked }
+    ensures kept { (F.told files.old).faults ≤ (F.told files.new).faults }
 {
     let OpenedOrder { kept, name, logged } = opened;
     let KeptOrder { order, tail } = kept;

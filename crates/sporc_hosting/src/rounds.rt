@@ -1,22 +1,22 @@
 //! Rounds of a server of many documents: sessions are served, and each log is saved.
 
 ghost use Rattle.std.specs.Prelude.{◌≡◌, ◌≤◌, length};
-ghost use Rattle.sporc_outside.specs.Told.{AreShutBehind, MayAppend};
-ghost use Rattle.sporc_serve.specs.Crowds.{net_of};
-ghost use Rattle.sporc_serve.specs.declared.limits.TheConstants.{MAX_SESSIONS};
+ghost use Rattle.sporc_outside.specs.Told.{MayAppend};
+ghost use Rattle.sporc_wire.specs.declared.limits.TheConstants.{MAX_SESSIONS};
+ghost use Rattle.sporc_outside.specs.Nets.{AreShutBehind};
 ghost use Rattle.sporc_docs.specs.Served.{AreKept, as_served};
 ghost use Rattle.sporc_files.specs.Uses.{AsksOnly};
-ghost use Rattle.sporc_histories.specs.Moments.{moment_of};
-ghost use Rattle.sporc_histories.specs.Rounds.{AsksAgain, GoRounds};
-ghost use Rattle.sporc_histories.specs.Tails.{KeepsBehind};
+ghost use Rattle.sporc_commands.specs.Moments.{moment_of};
+ghost use Rattle.sporc_commands.specs.Rounds.{AsksAgain, GoRounds};
+ghost use Rattle.sporc_commands.specs.Tails.{KeepsBehind};
 ghost use Rattle.sporc_hosting.specs.Hosting.{IsRoundOfAll};
 ghost use Rattle.sporc_hosting.specs.Saving.{logs_of};
 
 use crate::loading::OpenDocs;
 use crate::saving::keep_logs;
+use sporc_commands::end;
 use sporc_docs::{DocsServeFault, serve_docs_kept};
 use sporc_files::Fault;
-use sporc_histories::end;
 use sporc_outside::{AppendFile, Folder, Gate, Listen, Sink};
 use sporc_serve::ServeFault;
 use sporc_words::Word;
@@ -59,33 +59,33 @@ where
     requires some { 1 ≤ sessions }
     requires limit { sessions ≤ MAX_SESSIONS }
     requires times { 1 ≤ times }
-    requires tails { AreKept (KeepsBehind F.Appended.moment F.Appended.images) held.tails.items held.docs }
-    ensures rounds { GoRounds (IsRoundOfAll N.Link.left N.Link.written N.Link.faults N.Link.is_shut names.now sessions) times
+    requires tails { AreKept (KeepsBehind F.Appended.told) held.tails.items held.docs }
+    ensures rounds { GoRounds (IsRoundOfAll names.now sessions) times
         (record {
           held = held.docs;
-          moment = moment_of F.files F.asked F.lent F.faults O.written O.faults files.old out.old;
-          net = net_of (N.coming net.old) (N.returned net.old) (N.faults net.old);
+          moment = moment_of F.told O.told files.old out.old;
+          net = N.told net.old;
         })
         (record {
           after = record {
             held = result.held.docs;
-            moment = moment_of F.files F.asked F.lent F.faults O.written O.faults files.new out.new;
-            net = net_of (N.coming net.new) (N.returned net.new) (N.faults net.new);
+            moment = moment_of F.told O.told files.new out.new;
+            net = N.told net.new;
           };
           saved = result.saved;
           answer = result.answer;
         }) }
-    ensures tails { AreKept (KeepsBehind F.Appended.moment F.Appended.images) result.held.tails.items result.held.docs }
+    ensures tails { AreKept (KeepsBehind F.Appended.told) result.held.tails.items result.held.docs }
     ensures logs { result.held.logs.items ≡ held.logs.items }
     ensures each { length names.now ≡ length result.held.docs }
-    ensures lent { F.lent files.new ≡ F.lent files.old }
-    ensures files_may_ask { AsksOnly (logs_of names.now) (F.asked files.old) (F.asked files.new) }
-    ensures files_kept { F.faults files.old ≤ F.faults files.new }
-    ensures net_may_ask { AsksAgain times (N.asked net.old) (N.asked net.new) address.now }
-    ensures shut { AreShutBehind N.Link.is_shut (N.returned net.old) (N.returned net.new) }
-    ensures links_out { N.out net.new ≡ N.out net.old }
-    ensures net_kept { N.faults net.old ≤ N.faults net.new }
-    ensures out_kept { O.faults out.old ≤ O.faults out.new }
+    ensures lent { (F.told files.new).lent ≡ (F.told files.old).lent }
+    ensures files_may_ask { AsksOnly (logs_of names.now) (F.told files.old).asked (F.told files.new).asked }
+    ensures files_kept { (F.told files.old).faults ≤ (F.told files.new).faults }
+    ensures net_may_ask { AsksAgain times (N.told net.old).asked (N.told net.new).asked address.now }
+    ensures shut { AreShutBehind (N.told net.old).returned (N.told net.new).returned }
+    ensures links_out { (N.told net.new).out ≡ (N.told net.old).out }
+    ensures net_kept { (N.told net.old).faults ≤ (N.told net.new).faults }
+    ensures out_kept { (O.told out.old).faults ≤ (O.told out.new).faults }
 {
     let mut last = serve_round(
         rt, alloc, files, net, out, names, address, held, sessions, gate,
@@ -123,33 +123,33 @@ where
     requires each { length names.now ≡ length held.docs }
     requires some { 1 ≤ sessions }
     requires limit { sessions ≤ MAX_SESSIONS }
-    requires tails { AreKept (KeepsBehind F.Appended.moment F.Appended.images) held.tails.items held.docs }
-    ensures round { IsRoundOfAll N.Link.left N.Link.written N.Link.faults N.Link.is_shut names.now sessions
+    requires tails { AreKept (KeepsBehind F.Appended.told) held.tails.items held.docs }
+    ensures round { IsRoundOfAll names.now sessions
         (record {
           held = held.docs;
-          moment = moment_of F.files F.asked F.lent F.faults O.written O.faults files.old out.old;
-          net = net_of (N.coming net.old) (N.returned net.old) (N.faults net.old);
+          moment = moment_of F.told O.told files.old out.old;
+          net = N.told net.old;
         })
         (record {
           after = record {
             held = result.held.docs;
-            moment = moment_of F.files F.asked F.lent F.faults O.written O.faults files.new out.new;
-            net = net_of (N.coming net.new) (N.returned net.new) (N.faults net.new);
+            moment = moment_of F.told O.told files.new out.new;
+            net = N.told net.new;
           };
           saved = result.saved;
           answer = result.answer;
         }) }
-    ensures tails { AreKept (KeepsBehind F.Appended.moment F.Appended.images) result.held.tails.items result.held.docs }
+    ensures tails { AreKept (KeepsBehind F.Appended.told) result.held.tails.items result.held.docs }
     ensures logs { result.held.logs.items ≡ held.logs.items }
     ensures each { length names.now ≡ length result.held.docs }
-    ensures lent { F.lent files.new ≡ F.lent files.old }
-    ensures files_may_ask { AsksOnly (logs_of names.now) (F.asked files.old) (F.asked files.new) }
-    ensures files_kept { F.faults files.old ≤ F.faults files.new }
-    ensures net_may_ask { MayAppend (N.asked net.old) (N.asked net.new) address.now }
-    ensures shut { AreShutBehind N.Link.is_shut (N.returned net.old) (N.returned net.new) }
-    ensures links_out { N.out net.new ≡ N.out net.old }
-    ensures net_kept { N.faults net.old ≤ N.faults net.new }
-    ensures out_kept { O.faults out.old ≤ O.faults out.new }
+    ensures lent { (F.told files.new).lent ≡ (F.told files.old).lent }
+    ensures files_may_ask { AsksOnly (logs_of names.now) (F.told files.old).asked (F.told files.new).asked }
+    ensures files_kept { (F.told files.old).faults ≤ (F.told files.new).faults }
+    ensures net_may_ask { MayAppend (N.told net.old).asked (N.told net.new).asked address.now }
+    ensures shut { AreShutBehind (N.told net.old).returned (N.told net.new).returned }
+    ensures links_out { (N.told net.new).out ≡ (N.told net.old).out }
+    ensures net_kept { (N.told net.old).faults ≤ (N.told net.new).faults }
+    ensures out_kept { (O.told out.old).faults ≤ (O.told out.new).faults }
 {
     let OpenDocs { docs, tails, logs } = held;
     let (docs, tails, served) = serve_docs_kept(

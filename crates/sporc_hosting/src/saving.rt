@@ -1,16 +1,16 @@
 //! The logs of several documents, saved.
 
 ghost use Rattle.std.specs.Prelude.{◌≡◌, ◌≤◌, [], ◌∷◌, length, IfOk, string_bytes};
-ghost use Rattle.sporc_outside.specs.Uses.{sink_use};
+ghost use Rattle.sporc_outside.specs.Uses.{use_of};
 ghost use Rattle.sporc_files.specs.Names.{file_name, names_of_document};
-ghost use Rattle.sporc_files.specs.Uses.{AsksOnly, folder_use};
-ghost use Rattle.sporc_histories.specs.Outcomes.{KeepsLog};
-ghost use Rattle.sporc_histories.specs.Moments.{moment_of};
-ghost use Rattle.sporc_hosting.specs.Saving.{KeepsLogs, document_line, first_fault, logs_of};
+ghost use Rattle.sporc_files.specs.Uses.{AsksOnly};
+ghost use Rattle.sporc_commands.specs.Outcomes.{KeepsLog};
+ghost use Rattle.sporc_commands.specs.Moments.{moment_of};
+ghost use Rattle.sporc_hosting.specs.Saving.{KeepsLogs, document_line, logs_of};
 
 use sporc_base::Memory;
-use sporc_files::{Fault, File, Names};
-use sporc_histories::save_log;
+use sporc_commands::save_log;
+use sporc_files::{Fault, File, Names, first_fault};
 use sporc_order::Order;
 use sporc_outside::{Folder, Sink};
 use sporc_words::Word;
@@ -27,14 +27,13 @@ pub(crate) fn keep_logs<F: Folder, O: Sink>(
     orders: &[Order],
 ) -> Result<(), Fault>
     requires each { length names.now ≡ length orders.now }
-    ensures keeps { KeepsLogs names.now orders.now
-        (moment_of F.files F.asked F.lent F.faults O.written O.faults files.old out.old)
-        (moment_of F.files F.asked F.lent F.faults O.written O.faults files.new out.new)
+    ensures keeps { KeepsLogs names.now orders.now (moment_of F.told O.told files.old out.old)
+        (moment_of F.told O.told files.new out.new)
         result }
-    ensures lent { F.lent files.new ≡ F.lent files.old }
-    ensures may_ask { AsksOnly (logs_of names.now) (F.asked files.old) (F.asked files.new) }
-    ensures kept { F.faults files.old ≤ F.faults files.new }
-    ensures out_kept { O.faults out.old ≤ O.faults out.new }
+    ensures lent { (F.told files.new).lent ≡ (F.told files.old).lent }
+    ensures may_ask { AsksOnly (logs_of names.now) (F.told files.old).asked (F.told files.new).asked }
+    ensures kept { (F.told files.old).faults ≤ (F.told files.new).faults }
+    ensures out_kept { (O.told out.old).faults ≤ (O.told out.new).faults }
 {
     let Some((name, more_names)) = names.split_first() else {
         return Ok(());
@@ -55,14 +54,12 @@ fn keep_document<F: Folder, O: Sink>(
     name: &Word,
     order: &Order,
 ) -> Result<(), Fault>
-    ensures keeps { KeepsLog (names_of_document name.now)
-        (folder_use F.files F.asked F.lent F.faults files.old files.new)
-        (sink_use O.written O.faults out.old out.new)
+    ensures keeps { KeepsLog (names_of_document name.now) (use_of F.told files.old files.new) (use_of O.told out.old out.new)
         order.now (document_line name.now (length order.now.entries)) result }
-    ensures lent { F.lent files.new ≡ F.lent files.old }
-    ensures may_ask { AsksOnly (file_name (names_of_document name.now) File.Log ∷ []) (F.asked files.old) (F.asked files.new) }
-    ensures kept { F.faults files.old ≤ F.faults files.new }
-    ensures out_kept { O.faults out.old ≤ O.faults out.new }
+    ensures lent { (F.told files.new).lent ≡ (F.told files.old).lent }
+    ensures may_ask { AsksOnly (file_name (names_of_document name.now) File.Log ∷ []) (F.told files.old).asked (F.told files.new).asked }
+    ensures kept { (F.told files.old).faults ≤ (F.told files.new).faults }
+    ensures out_kept { (O.told out.old).faults ≤ (O.told out.new).faults }
 {
     let line = document_line(alloc, name.as_str(), order.len())?;
     let names = Names::of_document(name.as_str());
@@ -76,17 +73,4 @@ fn document_line(alloc: Global, name: &str, len: u32) -> Result<String, Memory>
     let mut line = String::new(alloc);
     writeln!(line, "log {name} {len}")?;
     Ok(line)
-}
-
-// The first of two faults, but for out of memory at the second.
-pub(crate) fn first_fault(first: Result<(), Fault>, second: Result<(), Fault>) -> Result<(), Fault>
-    ensures { result ≡ first_fault first second }
-{
-    let Err(fault) = first else {
-        return second;
-    };
-    match second {
-        Err(Fault::Memory) => second,
-        Ok(()) | Err(_) => Err(fault),
-    }
 }

@@ -2,22 +2,22 @@
 use Rattle.std.proofs.Common.{◌≡◌, ℕ, suc, ◌+◌, ◌-◌, ◌<◌, ◌≤◌, List, [], ◌∷◌, ◌++◌, length, get_or, take, drop, Option, Some, None, Result, Ok, Err, refl, sym, ap, subst, ◌∙◌, append_assoc, add-one, arith, drop-cons, map}
 use Rattle.std.proofs.lemmas.List.{append-nil, drop_all, length-append, length-drop, length-map, length-take, map-append, map_more, take_all}
 use Rattle.sporc_base.proofs.ListLemmas.{all_append}
-use Rattle.sporc_outside.specs.Told.{AppendsItem}
+use Rattle.sporc_outside.specs.Told.{AppendsItem, AppendsItems}
 use Rattle.sporc_keys.specs.declared.pair.SharedKey.{SharedKey}
-use Rattle.sporc_keys.specs.Drawn.{DrawsWords, DrawsWordsUpTo, Grows}
+use Rattle.sporc_keys.specs.Drawn.{DrawsWords, DrawsWordsUpTo}
 use Rattle.sporc_keys.specs.Founding.{SharesMore, numbers_in, pairs_of, row}
 
-grows_then : (a b c : Option (List (List ℕ))) (xs ys : List (List ℕ)) → Grows a b xs → Grows b c ys → Grows a c (xs ++ ys)
+grows_then : (a b c : Option (List (List ℕ))) (xs ys : List (List ℕ)) → AppendsItems a b xs → AppendsItems b c ys → AppendsItems a c (xs ++ ys)
 grows_then None b c xs ys p q = tt
 grows_then (Some given) None c xs ys p q = absurd p
 grows_then (Some given) (Some more) None xs ys p q = absurd q
 grows_then (Some given) (Some more) (Some most) xs ys p q = q ∙ ap (λ (t : List (List ℕ)). t ++ ys) p ∙ append_assoc given xs ys
 
-grows_nothing : (a : Option (List (List ℕ))) → Grows a a []
+grows_nothing : (a : Option (List (List ℕ))) → AppendsItems a a []
 grows_nothing None = tt
 grows_nothing (Some given) = sym (append-nil given)
 
-grows_one : (a b : Option (List (List ℕ))) (word : List ℕ) → AppendsItem a b word → Grows a b (word ∷ [])
+grows_one : (a b : Option (List (List ℕ))) (word : List ℕ) → AppendsItem a b word → AppendsItems a b (word ∷ [])
 grows_one None b word p = tt
 grows_one (Some given) None word p = p
 grows_one (Some given) (Some more) word p = p

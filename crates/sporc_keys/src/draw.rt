@@ -35,11 +35,11 @@ fn draw_row<C: Chance>(
     first: u16,
     numbers: &[u16],
 ) -> Result<(), DrawFault>
-    ensures ok { OnOk result (SharesMore (C.given chance.old) (C.given chance.new)
+    ensures ok { OnOk result (SharesMore (C.told chance.old).given (C.told chance.new).given
         (row first numbers.now) shared.old.items shared.new.items) }
-    ensures chance { result ≡ Err DrawFault.Chance → Rose (C.faults chance.old) (C.faults chance.new) }
-    ensures drawn { OnErr result (DrawsWordsUpTo (length numbers.now) (C.given chance.old) (C.given chance.new)) }
-    ensures kept { C.faults chance.old ≤ C.faults chance.new }
+    ensures chance { result ≡ Err DrawFault.Chance → Rose (C.told chance.old).faults (C.told chance.new).faults }
+    ensures drawn { OnErr result (DrawsWordsUpTo (length numbers.now) (C.told chance.old).given (C.told chance.new).given) }
+    ensures kept { (C.told chance.old).faults ≤ (C.told chance.new).faults }
 {
     for second in numbers {
         let key = chance.fill32()?;
@@ -58,11 +58,11 @@ pub(crate) fn draw_pairs<C: Chance>(
     chance: &mut C,
     numbers: &[u16],
 ) -> Result<Vec<SharedKey>, DrawFault>
-    ensures ok { IfOk result (λ shared. SharesMore (C.given chance.old) (C.given chance.new)
+    ensures ok { IfOk result (λ shared. SharesMore (C.told chance.old).given (C.told chance.new).given
         (pairs_of numbers.now) [] shared.items) }
-    ensures chance { result ≡ Err DrawFault.Chance → Rose (C.faults chance.old) (C.faults chance.new) }
-    ensures drawn { OnErr result (DrawsWordsUpTo (length (pairs_of numbers.now)) (C.given chance.old) (C.given chance.new)) }
-    ensures kept { C.faults chance.old ≤ C.faults chance.new }
+    ensures chance { result ≡ Err DrawFault.Chance → Rose (C.told chance.old).faults (C.told chance.new).faults }
+    ensures drawn { OnErr result (DrawsWordsUpTo (length (pairs_of numbers.now)) (C.told chance.old).given (C.told chance.new).given) }
+    ensures kept { (C.told chance.old).faults ≤ (C.told chance.new).faults }
 {
     let mut shared = Vec::new(alloc);
     for i in 0..numbers.len() {

@@ -42,12 +42,12 @@ pub fn found<C: Chance>(
 ) -> Result<Founding, DrawFault>
     requires named { CanFound named.now }
     ensures ok { IfOk result (λ founding.
-        IsFounding (C.given chance.old) (C.given chance.new) (in_order named.now) founding) }
+        IsFounding (C.told chance.old).given (C.told chance.new).given (in_order named.now) founding) }
     ensures genesis { IfOk result (λ founding. IsGenesis founding.genesis) }
     ensures rings { IfOk result (λ founding. AllByRecursion IsRingFile founding.rings) }
-    ensures chance { result ≡ Err DrawFault.Chance → Rose (C.faults chance.old) (C.faults chance.new) }
-    ensures drawn { OnErr result (DrawsWordsUpTo (words_for (in_order named.now)) (C.given chance.old) (C.given chance.new)) }
-    ensures kept { C.faults chance.old ≤ C.faults chance.new }
+    ensures chance { result ≡ Err DrawFault.Chance → Rose (C.told chance.old).faults (C.told chance.new).faults }
+    ensures drawn { OnErr result (DrawsWordsUpTo (words_for (in_order named.now)) (C.told chance.old).given (C.told chance.new).given) }
+    ensures kept { (C.told chance.old).faults ≤ (C.told chance.new).faults }
 {
     let named = in_order(alloc, named)?;
     let numbers = numbers_of(alloc, named.as_slice())?;

@@ -40,11 +40,11 @@ pub fn keygen<R: Threads + Sync, C: Chance>(
 ) -> Result<NewKey, DrawFault>
     requires height { IsLeafHeight (height_of lms) }
     requires width { IsKeyWidth ots }
-    ensures ok { IfOk result (λ key. IsKeygen (C.given chance.old) (C.given chance.new) device lms ots key) }
+    ensures ok { IfOk result (λ key. IsKeygen (C.told chance.old).given (C.told chance.new).given device lms ots key) }
     ensures spelled { IfOk result (λ key. IsKeyFile key.file) }
-    ensures chance { result ≡ Err DrawFault.Chance → Rose (C.faults chance.old) (C.faults chance.new) }
-    ensures drawn { OnErr result (DrawsWordsUpTo 2 (C.given chance.old) (C.given chance.new)) }
-    ensures kept { C.faults chance.old ≤ C.faults chance.new }
+    ensures chance { result ≡ Err DrawFault.Chance → Rose (C.told chance.old).faults (C.told chance.new).faults }
+    ensures drawn { OnErr result (DrawsWordsUpTo 2 (C.told chance.old).given (C.told chance.new).given) }
+    ensures kept { (C.told chance.old).faults ≤ (C.told chance.new).faults }
 {
     let first = chance.fill32()?;
     let seed = chance.fill32()?;

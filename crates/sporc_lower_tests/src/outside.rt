@@ -1,8 +1,3 @@
 //! The outside in memory.
 
 mod appends;
-mod disks;
-mod folders;
-mod nets;
-mod pieces;
-mod pipes;

@@ -2,7 +2,6 @@
 
 mod appends;
 mod files;
-mod keeping;
 mod leaves;
 mod locks;
 mod nets;

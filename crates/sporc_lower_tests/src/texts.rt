@@ -2,8 +2,5 @@
 
 mod chunks;
 mod deltas;
-mod documents;
-mod fields;
 mod forms;
-mod lists;
 mod transforms;

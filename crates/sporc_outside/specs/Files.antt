@@ -2,6 +2,7 @@
 use Rattle.std.specs.Prelude.{◌≡◌, ◌≤◌, ◌<◌, ℕ, suc, List, [], ◌∷◌, ◌++◌, length, take, drop, Option, None, Some, IsSome, false, slice_set, slice_index_or, if◌then◌else◌}
 use Rattle.std.specs.Str.{bytes_eq}
 use Rattle.sporc_outside.specs.Counts.{Rose}
+use Rattle.sporc_outside.specs.Told.{IfBoth, IfTold}
 use Rattle.sporc_outside.specs.declared.file_fault.FileFault.{FileFault}
 use Rattle.sporc_outside.specs.declared.file_fault.FileFault.TheVariants.{Missing, Failed, TooLong, Exists, Memory}
 use Rattle.sporc_outside.specs.declared.file_fault.TheConstants.{MAX_FILE}
@@ -19,18 +20,15 @@ with_file (f ∷ fs) name bytes = if bytes_eq f.name name then record f { bytes 
 
 -- told files have these bytes at a name
 abbrev pub HasFile : Option (List NamedFile) → List ℕ → List ℕ → Type 0
-HasFile None name bytes = Unit {0}
-HasFile (Some files) name bytes = file_in files name ≡ Some bytes
+HasFile told name bytes = IfTold told (λ files. file_in files name ≡ Some bytes)
 
 -- told files have some file at a name
 abbrev pub HasSomeFile : Option (List NamedFile) → List ℕ → Type 0
-HasSomeFile None name = Unit {0}
-HasSomeFile (Some files) name = IsSome (file_in files name)
+HasSomeFile told name = IfTold told (λ files. IsSome (file_in files name))
 
 -- told files have none at a name
 abbrev pub HasNoFile : Option (List NamedFile) → List ℕ → Type 0
-HasNoFile None name = Unit {0}
-HasNoFile (Some files) name = file_in files name ≡ None
+HasNoFile told name = IfTold told (λ files. file_in files name ≡ None)
 
 -- a told file is longer than a file that is read, and has this length
 abbrev pub IsTooLong : Option (List NamedFile) → List ℕ → ℕ → Type 0
@@ -38,9 +36,7 @@ IsTooLong files name len = (MAX_FILE < len) × (bytes : List ℕ) × (length byt
 
 -- told files became these, where only the one with this name may have changed
 abbrev pub ChangesFile : Option (List NamedFile) → Option (List NamedFile) → List ℕ → Type 0
-ChangesFile None new name = Unit {0}
-ChangesFile (Some files) None name = ⊥
-ChangesFile (Some files) (Some more) name = (other : List ℕ) → bytes_eq name other ≡ false → file_in more other ≡ file_in files other
+ChangesFile old new name = IfBoth old new (λ files more. (other : List ℕ) → bytes_eq name other ≡ false → file_in more other ≡ file_in files other)
 
 -- Why a file is not read, where the count of faults went from `before` to `after`: it is not there, a call failed, it is too long, or memory ran out
 abbrev pub IsReadFault : Option (List NamedFile) → List ℕ → ℕ → ℕ → FileFault → Type 0
@@ -68,9 +64,7 @@ IsNewFault files name before after Memory = ⊥
 
 -- a disk tells the bytes of a told file
 abbrev pub IsDiskOf : Option (List NamedFile) → List ℕ → Option (List ℕ) → Type 0
-IsDiskOf None name stored = Unit {0}
-IsDiskOf (Some files) name None = ⊥
-IsDiskOf (Some files) name (Some bytes) = (file_in files name ≡ Some bytes) × (length bytes ≤ MAX_FILE)
+IsDiskOf told name stored = IfBoth told stored (λ files bytes. (file_in files name ≡ Some bytes) × (length bytes ≤ MAX_FILE))
 
 -- a disk is out
 abbrev pub IsLent : Option (List (List ℕ)) → Type 0
@@ -123,9 +117,7 @@ made_in files name = made_unless (file_in files name) files name
 
 -- a file to be appended to tells the bytes of a told file, or none where there is no such file
 abbrev pub IsAppendedTo : Option (List NamedFile) → List ℕ → Option (List ℕ) → Type 0
-IsAppendedTo None name stored = Unit {0}
-IsAppendedTo (Some files) name None = ⊥
-IsAppendedTo (Some files) name (Some bytes) = (bytes ≡ or_empty (file_in files name)) × (length bytes ≤ MAX_FILE)
+IsAppendedTo told name stored = IfBoth told stored (λ files bytes. (bytes ≡ or_empty (file_in files name)) × (length bytes ≤ MAX_FILE))
 
 -- the same files, with these bytes in the one with this name if there is one
 abbrev pub with_bytes : Option (List ℕ) → List NamedFile → List ℕ → List ℕ → List NamedFile

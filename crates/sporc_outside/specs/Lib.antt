@@ -2,6 +2,7 @@ pub mod CallsModel
 pub mod MemoryLinkModel
 pub mod MemoryNetModel
 pub mod Told
+pub mod Streams
 pub mod ListedChanceModel
 pub mod Counts
 pub mod MemoryBytesModel
@@ -13,3 +14,7 @@ pub mod Files
 pub mod MemoryFolderModel
 pub mod AppendFile
 pub mod MemoryAppendFile
+pub mod MemoryStreams
+pub mod Chances
+pub mod Folders
+pub mod Nets

@@ -1,7 +1,8 @@
 -- A file that is appended to, in memory, as its log tells it: what a read gives and what a crash may leave, after any of its calls.
-use Rattle.std.specs.Prelude.{◌≡◌, ◌⊎◌, ℕ, Bool, List, [], ◌∷◌, ◌++◌, ◌/◌, length, take, fold, if◌then◌else◌, true, false, Result, Ok, Err, refl}
+use Rattle.std.specs.Prelude.{◌≡◌, ◌⊎◌, ℕ, Bool, List, [], ◌∷◌, ◌++◌, ◌/◌, length, take, fold, if◌then◌else◌, true, false, Result, Ok, Err, Some, refl}
 use Rattle.std.proofs.Common.{subst, sym, inl}
 use Rattle.std.proofs.Math.Seq.{take-length}
+use Rattle.sporc_outside.specs.AppendFile.{AppendTold}
 use Rattle.sporc_outside.specs.CallsModel.{CallsModel}
 use Rattle.sporc_outside.specs.declared.append_call.AppendCall.{AppendCall}
 use Rattle.sporc_outside.specs.declared.append_call.AppendRequest.{AppendRequest}
@@ -75,6 +76,15 @@ IsImage s image = (image ≡ s.bytes) ⊎ IsLoose s.unsynced image
 -- what a crash after the first m calls may leave
 abbrev pub images_of : MemoryAppendFileModel → ℕ → List ℕ → Type 0
 images_of file m image = IsImage (state_after file.first (take m file.log)) image
+
+abbrev pub file_told : MemoryAppendFileModel → AppendTold
+file_told file = record {
+  name = Some file.name;
+  stored = Some (bytes_of file);
+  moment = length file.log;
+  images = images_of file;
+  faults = file.calls.faults;
+}
 
 -- three of what a part may leave: with nothing behind it, with half of what may stand there, and with all of that
 abbrev pub three_of : Loose → List (List ℕ)

@@ -1,9 +1,9 @@
 -- A disk in memory as its log tells it: what a read gives and what a crash may leave, after any of its calls.
-use Rattle.std.specs.Prelude.{◌≡◌, ◌⊎◌, ℕ, ◌+◌, ◌<◌, ◌≤◌, Bool, true, false, List, [], ◌∷◌, ◌++◌, length, take, fold, slice_index, if◌then◌else◌, Result, Ok, Err, refl}
+use Rattle.std.specs.Prelude.{◌≡◌, ◌⊎◌, ℕ, ◌+◌, ◌<◌, ◌≤◌, Bool, true, false, List, [], ◌∷◌, ◌++◌, length, take, fold, slice_index, if◌then◌else◌, Result, Ok, Err, Some, refl}
 use Rattle.std.proofs.Common.{subst, sym, inr}
 use Rattle.std.proofs.Math.Seq.{take-length}
 use Rattle.sporc_outside.specs.CallsModel.{CallsModel}
-use Rattle.sporc_outside.specs.LeafDisk.{overwrite}
+use Rattle.sporc_outside.specs.LeafDisk.{DiskTold, overwrite}
 use Rattle.sporc_outside.specs.declared.disk_call.DiskCall.{DiskCall}
 use Rattle.sporc_outside.specs.declared.disk_call.DiskRequest.{DiskRequest}
 use Rattle.sporc_outside.specs.declared.disk_call.DiskRequest.TheVariants.{Len, Read, Write, Sync}
@@ -76,6 +76,9 @@ AreListed s others = ⊥
 -- what a crash after the first m calls may leave
 abbrev pub images_of : MemoryDiskModel → ℕ → List ℕ → Type 0
 images_of disk m image = IsImage (state_after disk.first (take m disk.log)) image
+
+abbrev pub disk_told : MemoryDiskModel → DiskTold
+disk_told disk = record { stored = Some (bytes_of disk); moment = length disk.log; images = images_of disk; faults = disk.calls.faults }
 
 -- what a read gives is an image
 image_itself : (s : DiskState) → IsImage s s.bytes

@@ -1,8 +1,9 @@
 -- What contracts see of a folder in memory.
-use Rattle.std.specs.Prelude.{ℕ, List, IsSome}
+use Rattle.std.specs.Prelude.{ℕ, List, Some, IsSome}
 use Rattle.std.specs.List.{All}
 use Rattle.sporc_outside.specs.CallsModel.{CallsModel}
 use Rattle.sporc_outside.specs.Files.{file_in}
+use Rattle.sporc_outside.specs.Folders.{FolderTold}
 use Rattle.sporc_outside.specs.declared.named_file.NamedFile.{NamedFile}
 
 -- the files, the names asked for, the names of the files whose disks are out, the last one first, the calls, and which
@@ -18,3 +19,6 @@ pub record MemoryFolderModel : Type 0 where
 -- there is a file with each of these names
 abbrev pub HasEach : List NamedFile → List (List ℕ) → Type 0
 HasEach files names = All (λ name. IsSome (file_in files name)) names
+
+abbrev pub folder_told : MemoryFolderModel → FolderTold
+folder_told f = record { files = Some f.files; asked = Some f.asked; lent = Some f.lent; faults = f.calls.faults }

@@ -1,7 +1,9 @@
 -- What contracts see of a net in memory.
-use Rattle.std.specs.Prelude.{◌≡◌, ℕ, false, List}
+use Rattle.std.specs.Prelude.{◌≡◌, ℕ, false, List, Some, map}
 use Rattle.std.specs.List.{All}
 use Rattle.sporc_outside.specs.CallsModel.{CallsModel}
+use Rattle.sporc_outside.specs.MemoryStreams.{link_told}
+use Rattle.sporc_outside.specs.Nets.{NetTold}
 use Rattle.sporc_outside.specs.declared.memory_link.MemoryLink.{MemoryLink}
 
 -- the addresses asked for, the links that are still to come, those that were taken back, how many are out, the calls, and
@@ -20,3 +22,13 @@ IsFresh link = (link.calls.faults ≡ 0) × (link.is_shut ≡ false)
 
 abbrev pub AreFresh : List MemoryLink → Type 0
 AreFresh links = All IsFresh links
+
+abbrev pub net_told : MemoryNetModel → NetTold
+net_told n = record {
+  asked = Some n.asked;
+  coming = Some (map (λ (l : MemoryLink). link_told l) n.coming);
+  out = Some n.out;
+  returned = Some (map (λ (l : MemoryLink). link_told l) n.returned);
+  link_faults = n.link_faults;
+  faults = n.calls.faults;
+}

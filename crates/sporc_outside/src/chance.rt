@@ -1,6 +1,7 @@
 //! Random words.
 
-ghost use Rattle.std.specs.Prelude.{◌≡◌, ℕ, List, Option, IfOk, OnErr};
+ghost use Rattle.std.specs.Prelude.{◌≡◌, IfOk, OnErr};
+ghost use Rattle.sporc_outside.specs.Chances.{ChanceTold};
 ghost use Rattle.sporc_outside.specs.Counts.{CountsFaults};
 ghost use Rattle.sporc_outside.specs.Told.{AppendsItem};
 
@@ -8,12 +9,15 @@ use crate::counted::{Counted, Failed};
 
 /// Gives random words of 32 bytes.
 pub trait Chance: Counted {
-    // The words given so far, where it tells them.
-    ghost given: { Self → Option (List (List ℕ)) };
+    // What it tells.
+    ghost told: { Self → ChanceTold };
 
     /// A random word.
     fn fill32(&mut self) -> Result<[u8; 32], Failed>
-        ensures ok { IfOk result (λ word. AppendsItem (given self.old) (given self.new) word) }
-        ensures err { OnErr result (given self.new ≡ given self.old) }
-        ensures count { CountsFaults (Self.faults self.old) (Self.faults self.new) result };
+        ensures ok { IfOk result (λ word. AppendsItem (told self.old).given (told self.new).given word) }
+        ensures err { OnErr result ((told self.new).given ≡ (told self.old).given) }
+        ensures count { CountsFaults (told self.old).faults (told self.new).faults result };
+
+    // The faults that it tells are those that it counts.
+    ghost faults_are_told: { (chance : Self) → (told chance).faults ≡ Self.faults chance };
 }

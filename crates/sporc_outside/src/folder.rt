@@ -1,10 +1,10 @@
 //! Files by name.
 
-ghost use Rattle.std.specs.Prelude.{◌≡◌, ◌≢◌, ◌≤◌, ◌⊎◌, ◌∷◌, ℕ, List, Option, length, drop, option_map, IfOk, IfErr, IfSome, OnOk, OnErr};
+ghost use Rattle.std.specs.Prelude.{◌≡◌, ◌≢◌, ◌≤◌, ◌⊎◌, ◌∷◌, length, drop, option_map, IfOk, IfErr, IfSome, OnOk, OnErr};
 ghost use Rattle.sporc_outside.specs.Counts.{CountsFaults, count_of_both};
+ghost use Rattle.sporc_outside.specs.Folders.{FolderTold};
 ghost use Rattle.sporc_outside.specs.Files.{HasFile, HasNoFile, made_in, with_file, ChangesFile, IsReadFault, IsDiskFault, IsNewFault, IsDiskOf, IsLent, TakesBack, IsAppendFault, IsAppendedTo, RemovesFile, TakesFile};
 ghost use Rattle.sporc_outside.specs.Told.{AppendsItem, MayAppend};
-ghost use Rattle.sporc_outside.specs.declared.named_file.NamedFile.{NamedFile};
 ghost use Rattle.sporc_outside.specs.declared.file_fault.TheConstants.{MAX_FILE};
 
 use crate::append_file::AppendFile;
@@ -22,104 +22,101 @@ pub trait Folder: Counted {
 
     type Appended: AppendFile;
 
-    // The files, where it tells them.
-    ghost files: { Self → Option (List NamedFile) };
-
-    // The names asked for so far, where it tells them.
-    ghost asked: { Self → Option (List (List ℕ)) };
-
-    // The names of the files whose disks are out, the last one first, where it tells them.
-    ghost lent: { Self → Option (List (List ℕ)) };
+    // What it tells.
+    ghost told: { Self → FolderTold };
 
     /// The bytes of a file.
     fn read_file(&mut self, alloc: Global, name: &str) -> Result<Vec<u8>, FileFault>
-        ensures ok { IfOk result (λ bytes. HasFile (files self.old) name.now bytes.items) }
+        ensures ok { IfOk result (λ bytes. HasFile (told self.old).files name.now bytes.items) }
         ensures within { IfOk result (λ bytes. length bytes.items ≤ MAX_FILE) }
-        ensures err { IfErr result (IsReadFault (files self.old) name.now (Self.faults self.old) (Self.faults self.new)) }
-        ensures files { files self.new ≡ files self.old }
-        ensures lent { lent self.new ≡ lent self.old }
-        ensures asked { OnOk result (AppendsItem (asked self.old) (asked self.new) name.now) }
+        ensures err { IfErr result (IsReadFault (told self.old).files name.now (told self.old).faults (told self.new).faults) }
+        ensures files { (told self.new).files ≡ (told self.old).files }
+        ensures lent { (told self.new).lent ≡ (told self.old).lent }
+        ensures asked { OnOk result (AppendsItem (told self.old).asked (told self.new).asked name.now) }
         ensures answered { IfErr result (λ fault. fault ≢ FileFault.Failed
-            → AppendsItem (asked self.old) (asked self.new) name.now) }
-        ensures may_ask { MayAppend (asked self.old) (asked self.new) name.now }
-        ensures count { Self.faults self.old ≤ Self.faults self.new };
+            → AppendsItem (told self.old).asked (told self.new).asked name.now) }
+        ensures may_ask { MayAppend (told self.old).asked (told self.new).asked name.now }
+        ensures count { (told self.old).faults ≤ (told self.new).faults };
 
     /// Writes a file, in place of the one with this name if there is one. After a call that failed, that one may have
     /// changed.
     fn write_file(&mut self, name: &str, bytes: &[u8]) -> Result<(), Failed>
-        ensures ok { OnOk result (files self.new ≡ option_map (λ old. with_file old name.now bytes.now) (files self.old)) }
-        ensures err { OnErr result (ChangesFile (files self.old) (files self.new) name.now) }
-        ensures lent { lent self.new ≡ lent self.old }
-        ensures asked { OnOk result (AppendsItem (asked self.old) (asked self.new) name.now) }
-        ensures may_ask { MayAppend (asked self.old) (asked self.new) name.now }
-        ensures count { CountsFaults (Self.faults self.old) (Self.faults self.new) result };
+        ensures ok { OnOk result ((told self.new).files ≡ option_map (λ old. with_file old name.now bytes.now) (told self.old).files) }
+        ensures err { OnErr result (ChangesFile (told self.old).files (told self.new).files name.now) }
+        ensures lent { (told self.new).lent ≡ (told self.old).lent }
+        ensures asked { OnOk result (AppendsItem (told self.old).asked (told self.new).asked name.now) }
+        ensures may_ask { MayAppend (told self.old).asked (told self.new).asked name.now }
+        ensures count { CountsFaults (told self.old).faults (told self.new).faults result };
 
     /// Writes a file, unless there is one with this name. After a call that failed there may be one.
     fn write_new(&mut self, name: &str, bytes: &[u8]) -> Result<(), FileFault>
-        ensures was_new { OnOk result (HasNoFile (files self.old) name.now) }
-        ensures ok { OnOk result (files self.new ≡ option_map (λ old. with_file old name.now bytes.now) (files self.old)) }
-        ensures err { IfErr result (IsNewFault (files self.old) name.now (Self.faults self.old) (Self.faults self.new)) }
-        ensures changes { OnErr result (ChangesFile (files self.old) (files self.new) name.now) }
-        ensures exists { result ≡ Err FileFault.Exists → files self.new ≡ files self.old }
-        ensures lent { lent self.new ≡ lent self.old }
-        ensures asked { OnOk result (AppendsItem (asked self.old) (asked self.new) name.now) }
+        ensures was_new { OnOk result (HasNoFile (told self.old).files name.now) }
+        ensures ok { OnOk result ((told self.new).files ≡ option_map (λ old. with_file old name.now bytes.now) (told self.old).files) }
+        ensures err { IfErr result (IsNewFault (told self.old).files name.now (told self.old).faults (told self.new).faults) }
+        ensures changes { OnErr result (ChangesFile (told self.old).files (told self.new).files name.now) }
+        ensures exists { result ≡ Err FileFault.Exists → (told self.new).files ≡ (told self.old).files }
+        ensures lent { (told self.new).lent ≡ (told self.old).lent }
+        ensures asked { OnOk result (AppendsItem (told self.old).asked (told self.new).asked name.now) }
         ensures answered { IfErr result (λ fault. fault ≢ FileFault.Failed
-            → AppendsItem (asked self.old) (asked self.new) name.now) }
-        ensures may_ask { MayAppend (asked self.old) (asked self.new) name.now }
-        ensures count { Self.faults self.old ≤ Self.faults self.new };
+            → AppendsItem (told self.old).asked (told self.new).asked name.now) }
+        ensures may_ask { MayAppend (told self.old).asked (told self.new).asked name.now }
+        ensures count { (told self.old).faults ≤ (told self.new).faults };
 
     /// A disk over the bytes of a file.
     fn leaf_disk(&mut self, name: &str) -> Result<Self::Disk, FileFault>
-        ensures ok { IfOk result (λ disk. IsDiskOf (files self.old) name.now (Self.Disk.stored disk)) }
-        ensures fresh { IfOk result (λ disk. Self.Disk.faults disk ≡ 0) }
-        ensures err { IfErr result (IsDiskFault (files self.old) name.now (Self.faults self.old) (Self.faults self.new)) }
-        ensures files { files self.new ≡ files self.old }
-        ensures lent { OnOk result (lent self.new ≡ option_map (λ names. name.now ∷ names) (lent self.old)) }
-        ensures not_lent { OnErr result (lent self.new ≡ lent self.old) }
-        ensures asked { OnOk result (AppendsItem (asked self.old) (asked self.new) name.now) }
+        ensures ok { IfOk result (λ disk. IsDiskOf (told self.old).files name.now (Self.Disk.told disk).stored) }
+        ensures fresh { IfOk result (λ disk. (Self.Disk.told disk).faults ≡ 0) }
+        ensures err { IfErr result (IsDiskFault (told self.old).files name.now (told self.old).faults (told self.new).faults) }
+        ensures files { (told self.new).files ≡ (told self.old).files }
+        ensures lent { OnOk result ((told self.new).lent ≡ option_map (λ names. name.now ∷ names) (told self.old).lent) }
+        ensures not_lent { OnErr result ((told self.new).lent ≡ (told self.old).lent) }
+        ensures asked { OnOk result (AppendsItem (told self.old).asked (told self.new).asked name.now) }
         ensures answered { IfErr result (λ fault. fault ≢ FileFault.Failed
-            → AppendsItem (asked self.old) (asked self.new) name.now) }
-        ensures may_ask { MayAppend (asked self.old) (asked self.new) name.now }
-        ensures count { Self.faults self.old ≤ Self.faults self.new };
+            → AppendsItem (told self.old).asked (told self.new).asked name.now) }
+        ensures may_ask { MayAppend (told self.old).asked (told self.new).asked name.now }
+        ensures count { (told self.old).faults ≤ (told self.new).faults };
 
     /// Takes back the disk that it handed out last of those that are out. Its bytes are the file's.
     fn take_back(&mut self, disk: Self::Disk)
-        requires { IsLent (lent self.old) }
-        ensures lent { lent self.new ≡ option_map (λ names. drop 1 names) (lent self.old) }
-        ensures back { TakesBack (lent self.old) (files self.old) (files self.new) (Self.Disk.stored disk) }
-        ensures asked { asked self.new ≡ asked self.old }
-        ensures count { count_of_both (Self.faults self.old) (Self.Disk.faults disk) ≤ Self.faults self.new };
+        requires { IsLent (told self.old).lent }
+        ensures lent { (told self.new).lent ≡ option_map (λ names. drop 1 names) (told self.old).lent }
+        ensures back { TakesBack (told self.old).lent (told self.old).files (told self.new).files (Self.Disk.told disk).stored }
+        ensures asked { (told self.new).asked ≡ (told self.old).asked }
+        ensures count { count_of_both (told self.old).faults (Self.Disk.told disk).faults ≤ (told self.new).faults };
 
     /// The file with this name, to be appended to. If there is none, it is made, with no bytes. After a call that failed there
     /// may be one. A file that another program has is a call that fails.
     fn append_to(&mut self, name: &str) -> Result<Self::Appended, FileFault>
-        ensures ok { IfOk result (λ file. IsAppendedTo (files self.old) name.now (Self.Appended.stored file)) }
-        ensures made { OnOk result (files self.new ≡ option_map (λ files. made_in files name.now) (files self.old)) }
-        ensures name { IfOk result (λ file. IfSome (Self.Appended.name file) (λ told. told ≡ name.now)) }
-        ensures fresh { IfOk result (λ file. Self.Appended.faults file ≡ 0) }
-        ensures err { IfErr result (IsAppendFault (files self.old) name.now (Self.faults self.old) (Self.faults self.new)) }
-        ensures changes { OnErr result (ChangesFile (files self.old) (files self.new) name.now) }
-        ensures lent { lent self.new ≡ lent self.old }
-        ensures asked { OnOk result (AppendsItem (asked self.old) (asked self.new) name.now) }
+        ensures ok { IfOk result (λ file. IsAppendedTo (told self.old).files name.now (Self.Appended.told file).stored) }
+        ensures made { OnOk result ((told self.new).files ≡ option_map (λ files. made_in files name.now) (told self.old).files) }
+        ensures name { IfOk result (λ file. IfSome (Self.Appended.told file).name (λ named. named ≡ name.now)) }
+        ensures fresh { IfOk result (λ file. (Self.Appended.told file).faults ≡ 0) }
+        ensures err { IfErr result (IsAppendFault (told self.old).files name.now (told self.old).faults (told self.new).faults) }
+        ensures changes { OnErr result (ChangesFile (told self.old).files (told self.new).files name.now) }
+        ensures lent { (told self.new).lent ≡ (told self.old).lent }
+        ensures asked { OnOk result (AppendsItem (told self.old).asked (told self.new).asked name.now) }
         ensures answered { IfErr result (λ fault. fault ≢ FileFault.Failed
-            → AppendsItem (asked self.old) (asked self.new) name.now) }
-        ensures may_ask { MayAppend (asked self.old) (asked self.new) name.now }
-        ensures count { Self.faults self.old ≤ Self.faults self.new };
+            → AppendsItem (told self.old).asked (told self.new).asked name.now) }
+        ensures may_ask { MayAppend (told self.old).asked (told self.new).asked name.now }
+        ensures count { (told self.old).faults ≤ (told self.new).faults };
 
     /// Takes back a file that it handed out by this name. Its bytes are those of the file with the name.
     fn take_file(&mut self, name: &str, file: Self::Appended)
-        ensures back { TakesFile name.now (Self.Appended.stored file) (files self.old) (files self.new) }
-        ensures lent { lent self.new ≡ lent self.old }
-        ensures asked { asked self.new ≡ asked self.old }
-        ensures count { count_of_both (Self.faults self.old) (Self.Appended.faults file) ≤ Self.faults self.new };
+        ensures back { TakesFile name.now (Self.Appended.told file).stored (told self.old).files (told self.new).files }
+        ensures lent { (told self.new).lent ≡ (told self.old).lent }
+        ensures asked { (told self.new).asked ≡ (told self.old).asked }
+        ensures count { count_of_both (told self.old).faults (Self.Appended.told file).faults ≤ (told self.new).faults };
 
     /// Takes back a file that it handed out by this name, and removes it. Nobody else gets it before it is gone. After a call
     /// that failed it is gone or as it was.
     fn remove(&mut self, name: &str, file: Self::Appended) -> Result<(), Failed>
-        ensures gone { OnOk result (RemovesFile name.now (files self.old) (files self.new)) }
-        ensures err { OnErr result (RemovesFile name.now (files self.old) (files self.new)
-            ⊎ TakesFile name.now (Self.Appended.stored file) (files self.old) (files self.new)) }
-        ensures lent { lent self.new ≡ lent self.old }
-        ensures asked { asked self.new ≡ asked self.old }
-        ensures count { CountsFaults (count_of_both (Self.faults self.old) (Self.Appended.faults file)) (Self.faults self.new) result };
+        ensures gone { OnOk result (RemovesFile name.now (told self.old).files (told self.new).files) }
+        ensures err { OnErr result (RemovesFile name.now (told self.old).files (told self.new).files
+            ⊎ TakesFile name.now (Self.Appended.told file).stored (told self.old).files (told self.new).files) }
+        ensures lent { (told self.new).lent ≡ (told self.old).lent }
+        ensures asked { (told self.new).asked ≡ (told self.old).asked }
+        ensures count { CountsFaults (count_of_both (told self.old).faults (Self.Appended.told file).faults) (told self.new).faults result };
+
+    // The faults that it tells are those that it counts.
+    ghost faults_are_told: { (folder : Self) → (told folder).faults ≡ Self.faults folder };
 }

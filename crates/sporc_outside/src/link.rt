@@ -1,7 +1,7 @@
 //! Connections.
 
-ghost use Rattle.std.specs.Prelude.{◌≡◌};
-ghost use Rattle.sporc_outside.specs.Told.{IsTrueIfTold};
+ghost use Rattle.sporc_outside.specs.Streams.{Shuts};
+ghost use Rattle.sporc_outside.specs.Uses.{use_of};
 
 use crate::sink::Sink;
 use crate::source::Source;
@@ -10,13 +10,5 @@ use crate::source::Source;
 pub trait Link: Source + Sink {
     /// Shuts both directions.
     fn shut(&mut self)
-        ensures shut { IsTrueIfTold (Self.is_shut self.new) }
-        ensures left { Self.left self.new ≡ Self.left self.old }
-        ensures written { Self.written self.new ≡ Self.written self.old }
-        ensures count { Self.faults self.new ≡ Self.faults self.old };
-
-    // A read leaves the bytes written as they are, and a write those that are left to be read.
-    ghost sent_is: { (l : Self) → Self.sent l ≡ Self.written l };
-
-    ghost pending_is: { (l : Self) → Self.pending l ≡ Self.left l };
+        ensures did { Shuts (use_of Self.told self.old self.new) };
 }

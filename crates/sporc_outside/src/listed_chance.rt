@@ -51,7 +51,12 @@ impl Counted for ListedChance {
 }
 
 impl Chance for ListedChance {
-    ghost given = { λ c. Some c.given };
+    ghost use Rattle.std.specs.Prelude.{refl};
+    ghost use Rattle.sporc_outside.specs.ListedChanceModel.{chance_told};
+
+    ghost told = { chance_told };
+
+    ghost faults_are_told = { λ _. refl };
 
     fn fill32(&mut self) -> Result<[u8; 32], Failed>
         ensures ok { IfOk result (λ word. AppendsItem (Some self.old.given) (Some self.new.given) word) }

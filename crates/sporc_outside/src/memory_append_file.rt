@@ -3,11 +3,12 @@
 ghost use Rattle.std.specs.Prelude.{◌≡◌, ◌+◌, ◌++◌, ◌<◌, ◌≤◌, ◌↔◌, ℕ, List, [], Some, length, map, take, vec_len, IfOk, IfErr, IfSome, IsTrue, OnOk, OnErr};
 ghost use Rattle.std.specs.List.{All};
 ghost use Rattle.std.specs.Vec.{vec_capacity};
-ghost use Rattle.sporc_outside.specs.AppendFile.{GoesTold, GrowsBy, IsWholeFault, MayBeCut};
+ghost use Rattle.sporc_outside.specs.AppendFile.{GrowsBy, IsWholeFault, MayBeCut};
 ghost use Rattle.sporc_outside.specs.CallsModel.{CountsCall};
 ghost use Rattle.sporc_outside.specs.Counts.{CountsFaults};
 ghost use Rattle.sporc_outside.specs.LeafDisk.{CrashStep, IsSame};
 ghost use Rattle.sporc_outside.specs.MemoryAppendFile.{AppendState, IsImage, LogsCall, after_call, listed_of, loose, some_images, state_after, three_of};
+ghost use Rattle.sporc_outside.specs.Told.{GoesTold};
 ghost use Rattle.sporc_outside.specs.declared.file_fault.TheConstants.{MAX_FILE};
 
 use crate::append_call::{AppendCall, AppendRequest};
@@ -133,19 +134,15 @@ impl Counted for MemoryAppendFile {
 
 impl AppendFile for MemoryAppendFile {
     ghost use Rattle.std.specs.Prelude.{Some, length, refl};
-    ghost use Rattle.sporc_outside.specs.MemoryAppendFile.{bytes_of, images_of, bytes_are_image};
+    ghost use Rattle.sporc_outside.specs.MemoryAppendFile.{bytes_of, images_of, bytes_are_image, file_told};
 
-    ghost name = { λ f. Some f.name };
-
-    ghost stored = { λ f. Some (bytes_of f) };
-
-    ghost moment = { λ f. length f.log };
-
-    ghost images = { images_of };
+    ghost told = { file_told };
 
     ghost stored_is_image = { bytes_are_image };
 
     ghost images_are_told = { λ f image is. refl };
+
+    ghost faults_are_told = { λ _. refl };
 
     fn read_whole(&mut self, alloc: Global) -> Result<Vec<u8>, FileFault>
         ensures bytes { IfOk result (λ bytes. bytes.items ≡ bytes_of self.old) }

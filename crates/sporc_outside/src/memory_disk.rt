@@ -123,17 +123,15 @@ impl Counted for MemoryDisk {
 
 impl LeafDisk for MemoryDisk {
     ghost use Rattle.std.specs.Prelude.{Some, length, refl};
-    ghost use Rattle.sporc_outside.specs.MemoryDisk.{bytes_of, images_of, bytes_are_image};
+    ghost use Rattle.sporc_outside.specs.MemoryDisk.{bytes_of, images_of, bytes_are_image, disk_told};
 
-    ghost stored = { λ d. Some (bytes_of d) };
-
-    ghost moment = { λ d. length d.log };
-
-    ghost images = { images_of };
+    ghost told = { disk_told };
 
     ghost stored_is_image = { bytes_are_image };
 
     ghost images_are_told = { λ d image is. refl };
+
+    ghost faults_are_told = { λ _. refl };
 
     fn len(&mut self) -> Result<u64, Failed>
         ensures length { IfOk result (λ n. n ≡ length (bytes_of self.old)) }

@@ -104,14 +104,13 @@ impl Folder for MemoryFolder {
 
     type Appended = MemoryAppendFile;
 
-    ghost use Rattle.std.specs.Prelude.{Some};
+    ghost use Rattle.std.specs.Prelude.{Some, refl};
     ghost use Rattle.sporc_outside.specs.MemoryDisk.{bytes_of};
+    ghost use Rattle.sporc_outside.specs.MemoryFolderModel.{folder_told};
 
-    ghost files = { λ f. Some f.files };
+    ghost told = { folder_told };
 
-    ghost asked = { λ f. Some f.asked };
-
-    ghost lent = { λ f. Some f.lent };
+    ghost faults_are_told = { λ _. refl };
 
     fn read_file(&mut self, alloc: Global, name: &str) -> Result<Vec<u8>, FileFault>
         ensures ok { IfOk result (λ bytes. file_in self.old.files name.now ≡ Some bytes.items) }

@@ -1,9 +1,11 @@
 //! Links over listed bytes.
 
-ghost use Rattle.std.specs.Prelude.{◌≡◌, ◌<◌, ◌≤◌, ◌↔◌, [], length, min, IsErr, IfOk, Contains, Some, refl, false};
-ghost use Rattle.std.specs.Io.KnownBytes.{ReadConsumes, WriteAppends};
+ghost use Rattle.std.specs.Prelude.{◌≡◌, ◌<◌, ◌≤◌, ◌↔◌, [], length, min, IsErr, IfOk, Contains, refl, false};
 ghost use Rattle.sporc_outside.specs.CallsModel.{CountsCall};
-ghost use Rattle.sporc_outside.specs.Counts.{CountsFaults, next_count};
+ghost use Rattle.sporc_outside.specs.Counts.{next_count};
+ghost use Rattle.sporc_outside.specs.MemoryStreams.{link_told};
+ghost use Rattle.sporc_outside.specs.Streams.{Reads, Writes};
+ghost use Rattle.sporc_outside.specs.Uses.{use_of};
 
 use crate::calls::Calls;
 use crate::counted::{Counted, Failed};
@@ -77,20 +79,15 @@ impl Counted for MemoryLink {
 }
 
 impl Stream for MemoryLink {
-    ghost is_shut = { λ l. Some l.is_shut };
+    ghost told = { link_told };
+
+    ghost faults_are_told = { λ _. refl };
 }
 
 impl Source for MemoryLink {
-    ghost left = { λ l. Some l.left };
-
-    ghost sent = { λ l. Some l.written };
-
     fn read(&mut self, buf: &mut [u8]) -> Result<usize, Failed>
         ensures bound { IfOk result (λ n. n ≤ length buf.new) }
-        ensures bytes { ReadConsumes (Some self.old.left) (Some self.new.left) result buf.new }
-        ensures sent { Some self.new.written ≡ Some self.old.written }
-        ensures shut { Some self.new.is_shut ≡ Some self.old.is_shut }
-        ensures count { CountsFaults self.old.calls.faults self.new.calls.faults result }
+        ensures did { Reads (use_of link_told self.old self.new) result buf.new }
         ensures listed { IsErr result ↔ Contains self.old.calls.failing (next_count self.old.calls.made) }
         ensures call { CountsCall self.old.calls self.new.calls result }
     {
@@ -104,17 +101,10 @@ impl Source for MemoryLink {
 }
 
 impl Sink for MemoryLink {
-    ghost written = { λ l. Some l.written };
-
-    ghost pending = { λ l. Some l.left };
-
     fn write(&mut self, bytes: &[u8]) -> Result<usize, Failed>
         ensures bound { IfOk result (λ n. n ≤ length bytes.now) }
         ensures some { IfOk result (λ n. 0 < length bytes.now → 0 < n) }
-        ensures bytes { WriteAppends (Some self.old.written) (Some self.new.written) result bytes.now }
-        ensures pending { Some self.new.left ≡ Some self.old.left }
-        ensures shut { Some self.new.is_shut ≡ Some self.old.is_shut }
-        ensures count { CountsFaults self.old.calls.faults self.new.calls.faults result }
+        ensures did { Writes (use_of link_told self.old self.new) result bytes.now }
         ensures call { CountsCall self.old.calls self.new.calls result }
         ensures piece { IfOk result (λ n. n ≡ min (length bytes.now) self.old.piece) }
     {
@@ -128,10 +118,6 @@ impl Sink for MemoryLink {
 }
 
 impl Link for MemoryLink {
-    ghost sent_is = { λ _. refl };
-
-    ghost pending_is = { λ _. refl };
-
     fn shut(&mut self) {
         self.is_shut = true;
     }

@@ -1,9 +1,10 @@
 //! Sinks in memory.
 
 ghost use Rattle.std.specs.Prelude.{◌≡◌, ◌<◌, ◌≤◌, [], length, min, IfOk};
-ghost use Rattle.std.specs.Io.KnownBytes.{WriteAppends};
 ghost use Rattle.sporc_outside.specs.CallsModel.{CountsCall};
-ghost use Rattle.sporc_outside.specs.Counts.{CountsFaults};
+ghost use Rattle.sporc_outside.specs.MemoryStreams.{sink_told};
+ghost use Rattle.sporc_outside.specs.Streams.{Writes};
+ghost use Rattle.sporc_outside.specs.Uses.{use_of};
 
 use crate::calls::Calls;
 use crate::counted::{Counted, Failed};
@@ -60,20 +61,19 @@ impl Counted for MemorySink {
     }
 }
 
-impl Stream for MemorySink {}
+impl Stream for MemorySink {
+    ghost use Rattle.std.specs.Prelude.{refl};
+
+    ghost told = { sink_told };
+
+    ghost faults_are_told = { λ _. refl };
+}
 
 impl Sink for MemorySink {
-    ghost use Rattle.std.specs.Prelude.{Some, None};
-
-    ghost written = { λ s. Some s.bytes };
-
-    ghost pending = { λ _. None };
-
     fn write(&mut self, bytes: &[u8]) -> Result<usize, Failed>
         ensures bound { IfOk result (λ n. n ≤ length bytes.now) }
         ensures some { IfOk result (λ n. 0 < length bytes.now → 0 < n) }
-        ensures bytes { WriteAppends (Some self.old.bytes) (Some self.new.bytes) result bytes.now }
-        ensures count { CountsFaults self.old.calls.faults self.new.calls.faults result }
+        ensures did { Writes (use_of sink_told self.old self.new) result bytes.now }
         ensures call { CountsCall self.old.calls self.new.calls result }
         ensures piece { IfOk result (λ n. n ≡ min (length bytes.now) self.old.piece) }
     {

@@ -1,9 +1,11 @@
 //! Sources in memory.
 
 ghost use Rattle.std.specs.Prelude.{◌≡◌, ◌-◌, ◌<◌, ◌≤◌, ◌↔◌, length, min, IsErr, IfOk, Contains};
-ghost use Rattle.std.specs.Io.KnownBytes.{ReadConsumes};
 ghost use Rattle.sporc_outside.specs.CallsModel.{CountsCall};
-ghost use Rattle.sporc_outside.specs.Counts.{CountsFaults, next_count};
+ghost use Rattle.sporc_outside.specs.Counts.{next_count};
+ghost use Rattle.sporc_outside.specs.MemoryStreams.{source_told};
+ghost use Rattle.sporc_outside.specs.Streams.{Reads};
+ghost use Rattle.sporc_outside.specs.Uses.{use_of};
 
 use crate::calls::Calls;
 use crate::counted::{Counted, Failed};
@@ -54,19 +56,18 @@ impl Counted for MemorySource {
     }
 }
 
-impl Stream for MemorySource {}
+impl Stream for MemorySource {
+    ghost use Rattle.std.specs.Prelude.{refl};
+
+    ghost told = { source_told };
+
+    ghost faults_are_told = { λ _. refl };
+}
 
 impl Source for MemorySource {
-    ghost use Rattle.std.specs.Prelude.{Some, None};
-
-    ghost left = { λ s. Some s.bytes };
-
-    ghost sent = { λ _. None };
-
     fn read(&mut self, buf: &mut [u8]) -> Result<usize, Failed>
         ensures bound { IfOk result (λ n. n ≤ length buf.new) }
-        ensures bytes { ReadConsumes (Some self.old.bytes) (Some self.new.bytes) result buf.new }
-        ensures count { CountsFaults self.old.calls.faults self.new.calls.faults result }
+        ensures did { Reads (use_of source_told self.old self.new) result buf.new }
         ensures listed { IsErr result ↔ Contains self.old.calls.failing (next_count self.old.calls.made) }
         ensures call { CountsCall self.old.calls self.new.calls result }
         ensures piece { IfOk result (λ n. n ≡ min (min (length buf.old) self.old.piece) (length self.old.bytes)) }

@@ -1,6 +1,6 @@
 //! Links between threads.
 
-ghost use Rattle.std.specs.Prelude.{◌≡◌, None};
+ghost use Rattle.std.specs.Prelude.{◌≡◌};
 
 use crate::counted::{Counted, Failed};
 use crate::link::Link;
@@ -41,23 +41,22 @@ impl<R: Wait + Copy + Drop> Counted for PipeLink<R> {
     }
 }
 
-impl<R: Wait + Copy + Drop> Stream for PipeLink<R> {}
+impl<R: Wait + Copy + Drop> Stream for PipeLink<R> {
+    ghost use Rattle.std.specs.Prelude.{refl};
+    ghost use Rattle.sporc_outside.specs.Streams.{silent_stream};
+
+    ghost told = { λ l. silent_stream l.faults };
+
+    ghost faults_are_told = { λ _. refl };
+}
 
 impl<R: Wait + Copy + Drop> Source for PipeLink<R> {
-    ghost left = { λ _. None };
-
-    ghost sent = { λ _. None };
-
     fn read(&mut self, buf: &mut [u8]) -> Result<usize, Failed> {
         Ok(self.incoming.read(&self.rt, buf))
     }
 }
 
 impl<R: Wait + Copy + Drop> Sink for PipeLink<R> {
-    ghost written = { λ _. None };
-
-    ghost pending = { λ _. None };
-
     fn write(&mut self, bytes: &[u8]) -> Result<usize, Failed> {
         match self.outgoing.write(&self.rt, bytes) {
             Ok(()) => Ok(bytes.len()),
@@ -70,12 +69,6 @@ impl<R: Wait + Copy + Drop> Sink for PipeLink<R> {
 }
 
 impl<R: Wait + Copy + Drop> Link for PipeLink<R> {
-    ghost use Rattle.std.specs.Prelude.{refl};
-
-    ghost sent_is = { λ _. refl };
-
-    ghost pending_is = { λ _. refl };
-
     fn shut(&mut self) {
         self.incoming.shut(&self.rt);
         self.outgoing.shut(&self.rt);

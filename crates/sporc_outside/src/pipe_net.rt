@@ -1,7 +1,5 @@
 //! Nets between threads.
 
-ghost use Rattle.std.specs.Prelude.{None};
-
 use crate::counted::{Counted, Failed};
 use crate::links::{Dial, Links, Listen};
 use crate::pipe::Pipe;
@@ -115,15 +113,12 @@ impl<R: Wait + Copy + Drop> Counted for PipeNet<R> {
 impl<R: Wait + Copy + Drop> Links for PipeNet<R> {
     type Link = PipeLink<R>;
 
-    ghost link_faults = { λ n. n.link_faults };
+    ghost use Rattle.std.specs.Prelude.{refl};
+    ghost use Rattle.sporc_outside.specs.Nets.{silent_net};
 
-    ghost asked = { λ _. None };
+    ghost told = { λ n. silent_net n.link_faults n.faults };
 
-    ghost coming = { λ _. None };
-
-    ghost out = { λ _. None };
-
-    ghost returned = { λ _. None };
+    ghost faults_are_told = { λ _. refl };
 
     fn link_faults(&self) -> u64 {
         self.link_faults

@@ -17,7 +17,8 @@ use Rattle.sporc_play.specs.declared.playing.TheConstants.{MAX_SCRIPT}
 use Rattle.sporc_play.specs.declared.state.PlayState.{PlayState}
 use Rattle.sporc_play.specs.Batches.{HasRoom, IsAsked, Performs}
 use Rattle.sporc_play.specs.Cast.{setup_of}
-use Rattle.sporc_play.specs.Generated.{batch, batches, edits, generated_cast, gives, inserts, removes, seen_len, submits, up_to}
+use Rattle.sporc_base.specs.Numbers.{up_to}
+use Rattle.sporc_play.specs.Generated.{batch, batches, edits, generated_cast, gives, inserts, removes, seen_len, submits}
 use Rattle.sporc_play.specs.Scene.{Scene, after, after_each, edit_size, opening, text_size}
 use Rattle.sporc_play.specs.Seats.{seated}
 use Rattle.sporc_play.specs.Stage.{IsCast, Becomes, CanPerform, StandsFor}

@@ -18,8 +18,9 @@ use Rattle.sporc_client.specs.Answers.{journal_has_room, refusal_of}
 use Rattle.sporc_client.specs.Log.{Logged, Edit, Change, Submit, Dropped, Accept, Discard}
 use Rattle.sporc_client.specs.PlainClient.{PlainClient, opened}
 use Rattle.sporc_client.specs.Rebasing.{rebased}
-use Rattle.sporc_client.specs.Run.{Setup, World, Move, Open, Happen, Give, Restart, after, after_all, given, gives_to, happens_to, opening_of, put, restarts}
+use Rattle.sporc_client.specs.Run.{Setup, World, Move, Open, Happen, Give, Restart, after, after_all, given, opening_of, put}
 use Rattle.sporc_client.specs.Step.{accepted, change_comes, edit_comes, form_coming, is_flight, log_of_entries, own_comes, replay, replay_from, restated, step}
+use Rattle.sporc_client.proofs.Worlds.{gives_to, happens_to, restarts}
 use Rattle.sporc_play.proofs.ByteFacts.{AreBytes}
 
 abbrev pub AreByteKeys : Keys → Type 0

@@ -23,7 +23,8 @@ use Rattle.sporc_client.specs.Log.{Logged, Change, Discard, Edit, Submit}
 use Rattle.sporc_client.specs.PlainClient.{PlainClient}
 use Rattle.sporc_client.specs.Genuine.{Genuine}
 use Rattle.sporc_client.specs.Typed.{IsTypedRun}
-use Rattle.sporc_client.specs.Run.{Setup, Signing, World, Move, Give, Happen, Open, Restart, after, after_all, gives_to, happens_to, restarts as restarts_in, signings, start}
+use Rattle.sporc_client.specs.Run.{Setup, Signing, World, Move, Give, Happen, Open, Restart, after, after_all, signings, start}
+use Rattle.sporc_client.proofs.Worlds.{gives_to, happens_to, restarts as restarts_in}
 use Rattle.sporc_client.proofs.ClosedRuns.{closed_runs_are_genuine}
 use Rattle.sporc_delta.specs.Marks.{Mark}
 use Rattle.sporc_script.specs.Grammar.{IsPlayScript}
@@ -218,7 +219,7 @@ unfolding setup_of
 founders_keys script = keys_own script (inserted (tree_of script) [] (founders script)) (founders_own (tree_of script) [] (founders script) tt)
 
 -- no one forges in a run of commands that make no entry but by a client's submission
-pub own_commands : (script : List PlayLine) (asked : List (Scene → Command)) → IsTypedRun (setup_of script) (moves_of script asked) → AllByRecursion AlwaysByClients asked → Genuine (setup_of script) start (moves_of script asked)
+pub own_commands : (script : List PlayLine) (asked : List (Scene → Command)) → IsTypedRun (setup_of script) (moves_of script asked) → AllByRecursion AlwaysByClients asked → Genuine (setup_of script) (moves_of script asked)
 own_commands script asked run by =
     let s = setup_of script in
     closed_runs_are_genuine s (moves_of script asked) run (record {
@@ -226,5 +227,5 @@ own_commands script asked run by =
       closed = closed_append s start (opening_moves script) (moves_from s (opening script) asked) (first_closed s script) (closed_from s (opening script) asked by tt);
     })
 
-pub own_play : (text : List ℕ) (script : List PlayLine) → IsPlayScript text script → has_admin script ≡ true → AreByClients script → Genuine (setup_of script) start (moves_of script (commands_of script))
+pub own_play : (text : List ℕ) (script : List PlayLine) → IsPlayScript text script → has_admin script ≡ true → AreByClients script → Genuine (setup_of script) (moves_of script (commands_of script))
 own_play text script is founded by = own_commands script (commands_of script) (typed_run text script is founded) (lines_by_clients script by)

@@ -7,8 +7,9 @@ use Rattle.sporc_client.specs.Answers.{journal_has_room, refusal_of}
 use Rattle.sporc_client.specs.ClientModel.{ClientModel, state_of}
 use Rattle.sporc_client.specs.Log.{Logged}
 use Rattle.sporc_client.specs.PlainClient.{Opening, PlainClient}
-use Rattle.sporc_client.specs.Run.{Setup, Move, Give, Restart, given, restarted}
+use Rattle.sporc_client.specs.Run.{Setup, Move, Give, Restart, given}
 use Rattle.sporc_client.specs.Step.{accepted, log_of_entries, replay, replay_from}
+use Rattle.sporc_client.proofs.Worlds.{restarted}
 use Rattle.sporc_client.proofs.Calls.{replay_append, replay_opening}
 use Rattle.sporc_member.specs.declared.device.Device.{Device}
 use Rattle.sporc_script.specs.declared.play_line.PlayLine.{PlayLine}

@@ -3,10 +3,10 @@ use Rattle.std.proofs.Common.{ℕ, zero, suc, ◌+◌, ◌*◌, ◌/◌, ◌%◌
 use Rattle.std.specs.List.{AllByRecursion}
 use Rattle.sporc_base.proofs.ListLemmas.{all_append}
 use Rattle.sporc_client.specs.Genuine.{Genuine}
-use Rattle.sporc_client.specs.Run.{start}
 use Rattle.sporc_script.specs.declared.limits.TheConstants.{MAX_GENERATED}
 use Rattle.sporc_play.specs.Cast.{setup_of}
-use Rattle.sporc_play.specs.Generated.{batch, batches, edits, generated_cast, generated_commands, gives, submits, up_to}
+use Rattle.sporc_base.specs.Numbers.{up_to}
+use Rattle.sporc_play.specs.Generated.{batch, batches, edits, generated_cast, generated_commands, gives, submits}
 use Rattle.sporc_play.specs.Moves.{moves_of}
 use Rattle.sporc_play.proofs.ClosedPlays.{AlwaysByClients, own_commands}
 use Rattle.sporc_play.proofs.GeneratedRun.{flat, generated_typed, mapped, to}
@@ -27,7 +27,7 @@ batches_by : (n : ℕ) → AllByRecursion AlwaysByClients (batches n)
 batches_by zero = tt
 batches_by (suc n) = all_append AlwaysByClients (batches n) (batch (3 * n) 3) (batches_by n) (batch_by (3 * n) 3)
 
-pub generated_genuine : (n : ℕ) → n ≤ MAX_GENERATED → Genuine (setup_of generated_cast) start (moves_of generated_cast (generated_commands n))
+pub generated_genuine : (n : ℕ) → n ≤ MAX_GENERATED → Genuine (setup_of generated_cast) (moves_of generated_cast (generated_commands n))
 generated_genuine n low =
     own_commands generated_cast (generated_commands n) (generated_typed n low)
     (all_append AlwaysByClients (batches (n / 3)) (batch (3 * (n / 3)) (n % 3)) (batches_by (n / 3)) (batch_by (3 * (n / 3)) (n % 3)))

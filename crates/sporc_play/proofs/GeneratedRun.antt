@@ -16,7 +16,8 @@ use Rattle.sporc_script.specs.Spelling.{TextEditInRange}
 use Rattle.sporc_script.specs.declared.command.Command.TheVariants as commands
 use Rattle.sporc_script.specs.declared.limits.TheConstants.{MAX_GENERATED}
 use Rattle.sporc_play.specs.Cast.{setup_of}
-use Rattle.sporc_play.specs.Generated.{batch, batches, edits, generated_cast, generated_commands, generated_edit, gives, inserts, removes, seen_len, submits, up_to}
+use Rattle.sporc_base.specs.Numbers.{up_to}
+use Rattle.sporc_play.specs.Generated.{batch, batches, edits, generated_cast, generated_commands, generated_edit, gives, inserts, removes, seen_len, submits}
 use Rattle.sporc_play.specs.Moves.{IsOneRun, moves_of}
 use Rattle.sporc_play.specs.Scene.{Scene, opening_moves}
 use Rattle.sporc_play.proofs.Acts.{edit_acts, give_acts}

@@ -7,9 +7,10 @@ use Rattle.sporc_member.proofs.SameDevice.{one_same}
 use Rattle.sporc_epoch.specs.Keys.{Keys}
 use Rattle.sporc_client.specs.Log.{Logged}
 use Rattle.sporc_client.specs.PlainClient.{PlainClient, opened}
-use Rattle.sporc_client.specs.Run.{Setup, World, Move, Open, Happen, Give, Restart, after, after_all, given, gives_to, happens_to, opening_of, restarted, restarts}
+use Rattle.sporc_client.specs.Run.{Setup, World, Move, Open, Happen, Give, Restart, after, after_all, given, opening_of}
 use Rattle.sporc_client.specs.Step.{replay_from, step}
 use Rattle.sporc_client.specs.Answers.{refusal_of}
+use Rattle.sporc_client.proofs.Worlds.{gives_to, happens_to, restarted, restarts}
 use Rattle.sporc_client.proofs.Calls.{put_other}
 use Rattle.sporc_client.proofs.Reached.{put_same}
 use Rattle.sporc_play.specs.Logs.{log_after, logs_after, mover_of}

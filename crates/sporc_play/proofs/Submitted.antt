@@ -22,6 +22,7 @@ use Rattle.sporc_client.specs.Submissions.{Due, Waiting, Nothing, Drop, Refuse, 
 use Rattle.sporc_play.specs.Report.{submit_line}
 use Rattle.sporc_play.specs.Scene.{entries_in, leaf_after, leaf_next}
 use Rattle.sporc_outside.specs.MemoryDisk.{MemoryDiskModel}
+use Rattle.sporc_outside.specs.LeafDisk.{DiskTold}
 use Rattle.sporc_play.specs.declared.seat.Seat.{Seat}
 use Rattle.sporc_play.specs.Derived.{random_of}
 use Rattle.sporc_play.specs.Seats.{AreDrawn, ClientSubmitted, HasSubmitted, IsReady, IsSubmitted, last_with}
@@ -104,12 +105,12 @@ no_more_leaves key next all = go (ltb next (2 ^ height_of key.lms)) refl
 -- ---- the call
 
 -- what is known of the call
-record Called {D : Type 0} (stored : D → Option (List ℕ)) (moment : D → ℕ) (images : D → ℕ → List ℕ → Type 0) (disk_faults : D → ℕ) (random : List ℕ) (old new : ClientModel D) (result : Result Submitted SubmitFault) : Type 0 where
+record Called {D : Type 0} (disk_told : D → DiskTold) (random : List ℕ) (old new : ClientModel D) (result : Result Submitted SubmitFault) : Type 0 where
   ready : IsReady old.opening.key old.leaves.next old
   answer : submission (state_of old) random (drawn old.leaves new.leaves) ≡ result
   log : new ≡ record old { log = old.log ++ submission_added 0 result; leaves = new.leaves; ticket = kept_after None old.leaves new.leaves (gives_entry result) }
   undrawn : is_signing (due (state_of old)) ≡ false → new.leaves ≡ old.leaves
-  drawn_by : is_signing (due (state_of old)) ≡ true → IsDraw stored moment images disk_faults old.leaves new.leaves
+  drawn_by : is_signing (due (state_of old)) ≡ true → IsDraw disk_told old.leaves new.leaves
   no_disk : result ≢ Err faults.LeafFault
 
 -- its answer is that of the next leaf, and the client is as its contract says
@@ -117,8 +118,8 @@ pub record Submits {D : Type 0} (random : List ℕ) (old new : ClientModel D) (r
   pub answer : submission (state_of old) random (leaf_next old) ≡ result
   pub client : IsSubmitted old result new
 
-module _ {D : Type 0} (stored : D → Option (List ℕ)) (moment : D → ℕ) (images : D → ℕ → List ℕ → Type 0) (disk_faults : D → ℕ) where
-  after_call : (random : List ℕ) (old new : ClientModel D) (result : Result Submitted SubmitFault) → Called stored moment images disk_faults random old new result
+module _ {D : Type 0} (disk_told : D → DiskTold) where
+  after_call : (random : List ℕ) (old new : ClientModel D) (result : Result Submitted SubmitFault) → Called disk_told random old new result
       → AreDrawn old.opening.key (old.leaves.next + length (entries_in result)) new.leaves → kept_after None old.leaves new.leaves (gives_entry result) ≡ None → IsSubmitted old result new
   after_call random old new result called drawn_now none = record {
     opening = ap (λ (c : ClientModel D). c.opening) called.log;
@@ -130,7 +131,7 @@ module _ {D : Type 0} (stored : D → Option (List ℕ)) (moment : D → ℕ) (i
     };
   }
 
-  quiet : (random : List ℕ) (old new : ClientModel D) (result : Result Submitted SubmitFault) → Called stored moment images disk_faults random old new result → is_signing (due (state_of old)) ≡ false → Submits random old new result
+  quiet : (random : List ℕ) (old new : ClientModel D) (result : Result Submitted SubmitFault) → Called disk_told random old new result → is_signing (due (state_of old)) ≡ false → Submits random old new result
   unfolding submission
   quiet random old new result called signs =
       let c = state_of old in
@@ -144,15 +145,15 @@ module _ {D : Type 0} (stored : D → Option (List ℕ)) (moment : D → ℕ) (i
             (ap (kept_after None old.leaves new.leaves) (quiet_gives result none) ∙ same_next old.leaves new.leaves (ap (λ (l : LeavesModel D). l.next) same));
       }
 
-  exhausted : (random : List ℕ) (old new : ClientModel D) (result : Result Submitted SubmitFault) → Called stored moment images disk_faults random old new result → is_signing (due (state_of old)) ≡ true
+  exhausted : (random : List ℕ) (old new : ClientModel D) (result : Result Submitted SubmitFault) → Called disk_told random old new result → is_signing (due (state_of old)) ≡ true
       → drawn old.leaves new.leaves ≡ Err (leaves.Exhausted old.leaves.next) → old.leaves.next ≡ old.leaves.leaf_count → Submits random old new result
   unfolding submission
   exhausted random old new result called signs is all =
       let c = state_of old in
       let key = old.opening.key in
       let did = called.drawn_by signs in
-      let draws = subst (λ (r : Result ℕ LeafFault). Draws stored moment images old.leaves r new.leaves) is did.leaf in
-      let why = subst (λ (r : Result ℕ LeafFault). DrawFaults disk_faults old.leaves r new.leaves) is did.fault in
+      let draws = subst (λ (r : Result ℕ LeafFault). Draws disk_told old.leaves r new.leaves) is did.leaf in
+      let why = subst (λ (r : Result ℕ LeafFault). DrawFaults disk_told old.leaves r new.leaves) is did.fault in
       let none : entries_in result ≡ [] = ap entries_in (sym called.answer ∙ ap (λ (r : Result ℕ LeafFault). answered c random r (due c)) is) ∙ no_leaf c random old.leaves.next (due c) signs in
       let next : new.leaves.next ≡ old.leaves.next + length (entries_in result) = draws.next ∙ sym (ap (λ (es : List (List ℕ)). old.leaves.next + length es) none ∙ add-zero old.leaves.next) in
       let within : old.leaves.next + length (entries_in result) ≤ 2 ^ height_of key.lms = subst (λ (n : ℕ). n ≤ 2 ^ height_of key.lms) (sym draws.next ∙ next) called.ready.leaves.within in
@@ -168,15 +169,15 @@ module _ {D : Type 0} (stored : D → Option (List ℕ)) (moment : D → ℕ) (i
             (ap (kept_after None old.leaves new.leaves) (quiet_gives result none) ∙ same_next old.leaves new.leaves draws.next);
       }
 
-  signs_next : (random : List ℕ) (old new : ClientModel D) (result : Result Submitted SubmitFault) → Called stored moment images disk_faults random old new result → is_signing (due (state_of old)) ≡ true
+  signs_next : (random : List ℕ) (old new : ClientModel D) (result : Result Submitted SubmitFault) → Called disk_told random old new result → is_signing (due (state_of old)) ≡ true
       → drawn old.leaves new.leaves ≡ Ok old.leaves.next → Submits random old new result
   unfolding submission
   signs_next random old new result called signs is =
       let c = state_of old in
       let key = old.opening.key in
       let did = called.drawn_by signs in
-      let draws = subst (λ (r : Result ℕ LeafFault). Draws stored moment images old.leaves r new.leaves) is did.leaf in
-      let why = subst (λ (r : Result ℕ LeafFault). DrawFaults disk_faults old.leaves r new.leaves) is did.fault in
+      let draws = subst (λ (r : Result ℕ LeafFault). Draws disk_told old.leaves r new.leaves) is did.leaf in
+      let why = subst (λ (r : Result ℕ LeafFault). DrawFaults disk_told old.leaves r new.leaves) is did.fault in
       let made = signs_with c random old.leaves.next (due c) signs in
       let result_is : result ≡ Ok (submitted.Entry made.entry) = sym called.answer ∙ ap (λ (r : Result ℕ LeafFault). answered c random r (due c)) is ∙ made.is in
       let one : length (entries_in result) ≡ 1 = ap (λ (r : Result Submitted SubmitFault). length (entries_in r)) result_is in
@@ -193,7 +194,7 @@ module _ {D : Type 0} (stored : D → Option (List ℕ)) (moment : D → ℕ) (i
             (ap (λ (r : Result Submitted SubmitFault). kept_after None old.leaves new.leaves (gives_entry r)) result_is);
       }
 
-  signing : (random : List ℕ) (old new : ClientModel D) (result : Result Submitted SubmitFault) → Called stored moment images disk_faults random old new result → is_signing (due (state_of old)) ≡ true → Submits random old new result
+  signing : (random : List ℕ) (old new : ClientModel D) (result : Result Submitted SubmitFault) → Called disk_told random old new result → is_signing (due (state_of old)) ≡ true → Submits random old new result
   unfolding submission
   signing random old new result called signs = go (old.leaves.next == old.leaves.leaf_count) refl new.leaves.faulty refl
     where
@@ -210,7 +211,7 @@ module _ {D : Type 0} (stored : D → Option (List ℕ)) (moment : D → ℕ) (i
           signs_next random old new result called signs
           (ap₂ (λ (b d : Bool). cond b (Err (leaves.Exhausted old.leaves.next)) (cond d (Err leaves.DiskFault) (Ok old.leaves.next))) is broken)
 
-  by_due : (random : List ℕ) (old new : ClientModel D) (result : Result Submitted SubmitFault) → Called stored moment images disk_faults random old new result → Submits random old new result
+  by_due : (random : List ℕ) (old new : ClientModel D) (result : Result Submitted SubmitFault) → Called disk_told random old new result → Submits random old new result
   by_due random old new result called = go (is_signing (due (state_of old))) refl
     where
       go : (b : Bool) → is_signing (due (state_of old)) ≡ b → Submits random old new result
@@ -222,7 +223,7 @@ module _ {D : Type 0} (stored : D → Option (List ℕ)) (moment : D → ℕ) (i
       → GivesUnless faults.Memory (λ (s : Submitted). s) result (submission (state_of old) random (leaf_for old.ticket old.leaves new.leaves))
       → new ≡ record old { log = old.log ++ submission_added 0 result; leaves = new.leaves; ticket = kept_after old.ticket old.leaves new.leaves (gives_entry result) }
       → (asks_draw old ≡ false → new.leaves ≡ old.leaves)
-      → (asks_draw old ≡ true → ((result ≡ Err faults.Memory) × (new.leaves ≡ old.leaves)) ⊎ IsDraw stored moment images disk_faults old.leaves new.leaves)
+      → (asks_draw old ≡ true → ((result ≡ Err faults.Memory) × (new.leaves ≡ old.leaves)) ⊎ IsDraw disk_told old.leaves new.leaves)
       → result ≢ Err faults.Memory → result ≢ Err faults.LeafFault → Submits random old new result
   submits random old new result ready gives log undrawn drew named no_disk = by_due random old new result (record {
     ready = ready;

@@ -1,6 +1,7 @@
 -- The generated run: a play of three members, whose edits are computed from what they see.
 use Rattle.std.specs.Prelude.{◌≡◌, ◌⊎◌, ℕ, zero, suc, ◌+◌, ◌-◌, ◌*◌, ◌/◌, ◌%◌, ◌==◌, List, [], ◌∷◌, ◌++◌, length, codes, flat_map, map, Option, None, Some, if◌then◌else◌}
 use Rattle.std.specs.Fmt.{decimal}
+use Rattle.sporc_base.specs.Numbers.{up_to}
 use Rattle.hex.specs.Hex.{encode_lower}
 use Rattle.sporc_head.specs.History.{hash_of}
 use Rattle.sporc_member.specs.Device.{first_device}
@@ -56,11 +57,6 @@ submits author scene = commands.Submit (first_device author)
 
 abbrev pub gives : ℕ → ℕ → Scene → Command
 gives number member scene = commands.Give (record { device = first_device member; position = number; entry = number })
-
--- the numbers from 1 to n
-abbrev pub up_to : ℕ → List ℕ
-up_to zero = []
-up_to (suc n) = up_to n ++ suc n ∷ []
 
 -- a batch behind so many edits: all its authors edit, then all submit, and then the entries are given to all members
 abbrev pub batch : ℕ → ℕ → List (Scene → Command)

@@ -7,7 +7,7 @@ use Rattle.sporc_script.specs.declared.play_line.PlayLine.{PlayLine}
 use Rattle.sporc_play.specs.Cast.{setup_of}
 use Rattle.sporc_play.specs.Scene.{Scene, effect_of, after, after_each, opening, opening_moves}
 
--- the moves of commands, performed one after another from a scene on
+-- the moves of commands, each of which may depend on its scene, performed one after another from a scene on
 abbrev pub moves_from : Setup → Scene → List (Scene → Command) → List Move
 moves_from s scene [] = []
 moves_from s scene (command ∷ commands) = (effect_of s scene (command scene)).moves ++ moves_from s (after s scene (command scene)) commands

@@ -2,12 +2,13 @@
 
 ghost use Rattle.std.specs.Prelude.{◌≡◌, ◌+◌, ◌^◌, ◌<◌, ◌≤◌, ◌↔◌, [], ◌∷◌, ◌++◌, IfErr, IfOk, IsTrue, OnOk, Some, codes, flat_map, length, map, string_bytes};
 ghost use Rattle.std.specs.Fmt.{decimal};
-ghost use Rattle.sporc_outside.specs.Uses.{sink_use};
+ghost use Rattle.sporc_outside.specs.Uses.{use_of};
 ghost use Rattle.sporc_client.specs.ClientModel.{state_of};
 ghost use Rattle.sporc_client.specs.PlainClient.{shown_of};
 ghost use Rattle.sporc_member.specs.Device.{first_device};
 ghost use Rattle.sporc_play.specs.Batches.{AreOpen, HasRoom, IsAsked, Performs};
-ghost use Rattle.sporc_play.specs.Generated.{AreSame, IsVerdict, Summarizes, batch, edits, founds, generated_cast, generated_scene, gives, inserts, removes, seen_len, submits, summary_line, up_to};
+ghost use Rattle.sporc_base.specs.Numbers.{up_to};
+ghost use Rattle.sporc_play.specs.Generated.{AreSame, IsVerdict, Summarizes, batch, edits, founds, generated_cast, generated_scene, gives, inserts, removes, seen_len, submits, summary_line};
 ghost use Rattle.sporc_play.specs.Playing.{GeneratedFault, PlaysGenerated};
 ghost use Rattle.sporc_play.specs.Scene.{Scene};
 ghost use Rattle.sporc_play.specs.Stage.{Becomes, CanPerform, StandsFor};
@@ -34,9 +35,9 @@ const MEMBERS: u32 = 3;
 /// Performs the generated run of so many edits, and writes its summary.
 pub fn play_generated<O: Sink>(alloc: Global, edits: u32, out: &mut O) -> Result<(), PlayFault>
     requires limit { edits ≤ MAX_GENERATED }
-    ensures ok { OnOk result (PlaysGenerated edits (sink_use O.written O.faults out.old out.new)) }
-    ensures err { IfErr result (GeneratedFault edits (sink_use O.written O.faults out.old out.new)) }
-    ensures kept { O.faults out.old ≤ O.faults out.new }
+    ensures ok { OnOk result (PlaysGenerated edits (use_of O.told out.old out.new)) }
+    ensures err { IfErr result (GeneratedFault edits (use_of O.told out.old out.new)) }
+    ensures kept { (O.told out.old).faults ≤ (O.told out.new).faults }
 {
     let state = generated_run(alloc, edits)?;
     let line = summary(alloc, &state);

@@ -4,7 +4,6 @@ ghost use Rattle.std.specs.Prelude.{◌≡◌, ◌≤◌, ℕ, List, true};
 ghost use Rattle.sporc_script.specs.Grammar.{IsPlayScript};
 ghost use Rattle.sporc_script.specs.declared.play_line.PlayLine.{PlayLine};
 ghost use Rattle.sporc_client.specs.Genuine.{Genuine};
-ghost use Rattle.sporc_client.specs.Run.{start};
 ghost use Rattle.sporc_client.specs.Typed.{IsTypedRun};
 ghost use Rattle.sporc_play.specs.Cast.{has_admin, setup_of};
 ghost use Rattle.sporc_play.specs.Generated.{generated_cast, generated_commands};
@@ -30,12 +29,12 @@ pub fn each_play_is_one_run()
 /// In the play of a script without `sign`, `flip` and `cut` each entry that is accepted was signed by its author's client.
 pub fn each_play_of_clients_is_genuine()
     ensures genuine { (text : List ℕ) (script : List PlayLine) → IsPlayScript text script → has_admin script ≡ true → AreByClients script
-        → Genuine (setup_of script) start (moves_of script (commands_of script)) }
+        → Genuine (setup_of script) (moves_of script (commands_of script)) }
 {}
 
 /// The generated run is a run as well, and no one forges in it.
 pub fn the_generated_run_is_one()
     ensures run { (n : ℕ) → n ≤ MAX_GENERATED → IsOneRun generated_cast (generated_commands n) }
     ensures typed { (n : ℕ) → n ≤ MAX_GENERATED → IsTypedRun (setup_of generated_cast) (moves_of generated_cast (generated_commands n)) }
-    ensures genuine { (n : ℕ) → n ≤ MAX_GENERATED → Genuine (setup_of generated_cast) start (moves_of generated_cast (generated_commands n)) }
+    ensures genuine { (n : ℕ) → n ≤ MAX_GENERATED → Genuine (setup_of generated_cast) (moves_of generated_cast (generated_commands n)) }
 {}

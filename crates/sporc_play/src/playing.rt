@@ -1,7 +1,7 @@
 //! Plays: a script is read and performed, and its report is written.
 
 ghost use Rattle.std.specs.Prelude.{◌≡◌, ◌≢◌, ◌+◌, ◌≤◌, List, IfErr, OnOk, OnErr};
-ghost use Rattle.sporc_outside.specs.Uses.{sink_use, source_use};
+ghost use Rattle.sporc_outside.specs.Uses.{use_of};
 ghost use Rattle.sporc_reading.specs.Reading.{ConsumesAtMost};
 ghost use Rattle.sporc_play.specs.Cast.{setup_of};
 ghost use Rattle.sporc_play.specs.Lines.{WritesLine, WritesPrefix};
@@ -31,14 +31,11 @@ pub const MAX_SCRIPT: usize = 16_777_216;
 /// | `LineFault(k)` | was read to its end, and `k` is its first line outside the grammar | got nothing |
 /// | `TooLong` | gave more than [`MAX_SCRIPT`] bytes | got nothing |
 pub fn play<S: Source, O: Sink>(alloc: Global, source: &mut S, out: &mut O) -> Result<(), PlayFault>
-    ensures outcome { PlayOutcome
-        (source_use S.left S.faults source.old source.new)
-        (sink_use O.written O.faults out.old out.new)
-        result }
-    ensures taken { ConsumesAtMost (MAX_SCRIPT + 1) (S.left source.old) (S.left source.new) }
+    ensures outcome { PlayOutcome (use_of S.told source.old source.new) (use_of O.told out.old out.new) result }
+    ensures taken { ConsumesAtMost (MAX_SCRIPT + 1) (S.told source.old).left (S.told source.new).left }
     ensures unchanged { IfErr result (λ fault. fault ≢ PlayFault.WriteFault → fault ≢ PlayFault.Memory → out.new ≡ out.old) }
-    ensures source_kept { S.faults source.old ≤ S.faults source.new }
-    ensures out_kept { O.faults out.old ≤ O.faults out.new }
+    ensures source_kept { (S.told source.old).faults ≤ (S.told source.new).faults }
+    ensures out_kept { (O.told out.old).faults ≤ (O.told out.new).faults }
 {
     let text = read_all(alloc, source, MAX_SCRIPT)?;
     let script = read_play(alloc, text.as_slice())?;
@@ -48,10 +45,10 @@ pub fn play<S: Source, O: Sink>(alloc: Global, source: &mut S, out: &mut O) -> R
 // Performs the lines, and writes their report. Fails only by memory or the sink.
 fn write_report<O: Sink>(alloc: Global, lines: &[PlayLine], out: &mut O) -> Result<(), PlayFault>
     requires { IsShortScript lines.now }
-    ensures ok { OnOk result (Reports lines.now (O.written out.old) (O.written out.new)) }
-    ensures err { OnErr result (ReportsPrefix lines.now (O.written out.old) (O.written out.new)) }
-    ensures causes { IfErr result (IsWriteCause (O.faults out.old) (O.faults out.new)) }
-    ensures kept { O.faults out.old ≤ O.faults out.new }
+    ensures ok { OnOk result (Reports lines.now (O.told out.old).written (O.told out.new).written) }
+    ensures err { OnErr result (ReportsPrefix lines.now (O.told out.old).written (O.told out.new).written) }
+    ensures causes { IfErr result (IsWriteCause (O.told out.old).faults (O.told out.new).faults) }
+    ensures kept { (O.told out.old).faults ≤ (O.told out.new).faults }
 {
     let mut state = PlayState::new(alloc, lines)?;
     for line in lines {
@@ -74,12 +71,12 @@ fn write_line<O: Sink>(
     requires { CanPerform state.old command.now }
     ensures state { OnOk result (Becomes state.old command.now state.new) }
     ensures ok { OnOk result ((script : List PlayLine) (scene : Scene) → StandsFor script scene state.old
-        → WritesLine (setup_of script) scene command.now (O.written out.old) (O.written out.new)) }
+        → WritesLine (setup_of script) scene command.now (O.told out.old).written (O.told out.new).written) }
     ensures memory { result ≡ Err PlayFault.Memory → out.new ≡ out.old }
     ensures prefix { result ≡ Err PlayFault.WriteFault → (script : List PlayLine) (scene : Scene) → StandsFor script scene state.old
-        → WritesPrefix (setup_of script) scene command.now (O.written out.old) (O.written out.new) }
-    ensures causes { IfErr result (IsWriteCause (O.faults out.old) (O.faults out.new)) }
-    ensures kept { O.faults out.old ≤ O.faults out.new }
+        → WritesPrefix (setup_of script) scene command.now (O.told out.old).written (O.told out.new).written }
+    ensures causes { IfErr result (IsWriteCause (O.told out.old).faults (O.told out.new).faults) }
+    ensures kept { (O.told out.old).faults ≤ (O.told out.new).faults }
 {
     let mut line = String::new(alloc);
     state.perform(alloc, command, &mut line)?;

@@ -49,13 +49,13 @@ pub fn read_all<S: Source>(
 ) -> Result<Vec<u8>, ReadFault>
     requires { limit < 2 ^ 62 }
     ensures within { IfOk result (λ text. length text.items ≤ limit) }
-    ensures all { IfOk result (λ text. Consumes (S.left source.old) (S.left source.new) text.items) }
-    ensures end { IfOk result (λ _. IsAtEnd (S.left source.new)) }
-    ensures taken { ConsumesAtMost (limit + 1) (S.left source.old) (S.left source.new) }
-    ensures failed { result ≡ Err ReadFault.Failed → Rose (S.faults source.old) (S.faults source.new) }
+    ensures all { IfOk result (λ text. Consumes (S.told source.old).left (S.told source.new).left text.items) }
+    ensures end { IfOk result (λ _. IsAtEnd (S.told source.new).left) }
+    ensures taken { ConsumesAtMost (limit + 1) (S.told source.old).left (S.told source.new).left }
+    ensures failed { result ≡ Err ReadFault.Failed → Rose (S.told source.old).faults (S.told source.new).faults }
     ensures too_long { result ≡ Err ReadFault.TooLong
-        → ConsumesExactly (limit + 1) (S.left source.old) (S.left source.new) }
-    ensures kept { S.faults source.old ≤ S.faults source.new }
+        → ConsumesExactly (limit + 1) (S.told source.old).left (S.told source.new).left }
+    ensures kept { (S.told source.old).faults ≤ (S.told source.new).faults }
 {
     let mut text = Vec::new(alloc);
     let mut buf = [0u8; PIECE];

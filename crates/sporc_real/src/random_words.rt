@@ -1,6 +1,6 @@
 //! Random words of the system.
 
-ghost use Rattle.std.specs.Prelude.{◌≡◌, None};
+ghost use Rattle.std.specs.Prelude.{◌≡◌};
 
 use crate::counting::counted;
 use sporc_outside::{Chance, Counted, Failed};
@@ -31,7 +31,12 @@ impl<R: RandomSource + Drop> Counted for RandomWords<R> {
 }
 
 impl<R: RandomSource + Drop> Chance for RandomWords<R> {
-    ghost given = { λ _. None };
+    ghost use Rattle.std.specs.Prelude.{refl};
+    ghost use Rattle.sporc_outside.specs.Chances.{silent_chance};
+
+    ghost told = { λ c. silent_chance c.faults };
+
+    ghost faults_are_told = { λ _. refl };
 
     fn fill32(&mut self) -> Result<[u8; 32], Failed> {
         let mut word = [0u8; 32];

@@ -69,17 +69,16 @@ impl Counted for RealAppendFile {
 }
 
 impl AppendFile for RealAppendFile {
-    ghost name = { λ _. None };
+    ghost use Rattle.std.specs.Prelude.{refl};
+    ghost use Rattle.sporc_outside.specs.AppendFile.{silent_file};
 
-    ghost stored = { λ _. None };
-
-    ghost moment = { λ _. 0 };
-
-    ghost images = { λ _ _ _. ⊥ };
+    ghost told = { λ f. silent_file f.faults };
 
     ghost stored_is_image = { λ _. tt };
 
     ghost images_are_told = { λ _ _ told. absurd told };
+
+    ghost faults_are_told = { λ _. refl };
 
     fn read_whole(&mut self, alloc: Global) -> Result<Vec<u8>, FileFault>
         ensures within { IfOk result (λ bytes. length bytes.items ≤ MAX_FILE) }

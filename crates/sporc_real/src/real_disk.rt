@@ -1,6 +1,6 @@
 //! Leaf files.
 
-ghost use Rattle.std.specs.Prelude.{◌≡◌, ◌↔◌, ◌+◌, ◌≤◌, length, Ok, None, IsTrue, OnOk};
+ghost use Rattle.std.specs.Prelude.{◌≡◌, ◌↔◌, ◌+◌, ◌≤◌, length, Ok, IsTrue, OnOk};
 ghost use Rattle.sporc_outside.specs.Counts.{CountsFaults};
 
 use crate::counting::{counted, fail};
@@ -54,15 +54,16 @@ impl Counted for RealDisk {
 }
 
 impl LeafDisk for RealDisk {
-    ghost stored = { λ _. None };
+    ghost use Rattle.std.specs.Prelude.{refl};
+    ghost use Rattle.sporc_outside.specs.LeafDisk.{silent_disk};
 
-    ghost moment = { λ _. 0 };
-
-    ghost images = { λ _ _ _. ⊥ };
+    ghost told = { λ d. silent_disk d.faults };
 
     ghost stored_is_image = { λ _. tt };
 
     ghost images_are_told = { λ _ _ told. absurd told };
+
+    ghost faults_are_told = { λ _. refl };
 
     fn len(&mut self) -> Result<u64, Failed>
         ensures value { result ≡ Ok self.old.len }

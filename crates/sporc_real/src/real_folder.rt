@@ -148,11 +148,12 @@ impl<R: Files<File = File> + AllocGlobal + Drop> Folder for RealFolder<R> {
 
     type Appended = RealAppendFile;
 
-    ghost files = { λ _. None };
+    ghost use Rattle.std.specs.Prelude.{refl};
+    ghost use Rattle.sporc_outside.specs.Folders.{silent_folder};
 
-    ghost asked = { λ _. None };
+    ghost told = { λ f. silent_folder f.faults };
 
-    ghost lent = { λ _. None };
+    ghost faults_are_told = { λ _. refl };
 
     #[tactic(auto, using(crate::proofs::RealFiles::too_long, crate::proofs::RealFiles::read_fault))]
     fn read_file(&mut self, alloc: Global, name: &str) -> Result<Vec<u8>, FileFault> {

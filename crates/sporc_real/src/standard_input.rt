@@ -1,6 +1,6 @@
 //! Standard input.
 
-ghost use Rattle.std.specs.Prelude.{◌≡◌, None};
+ghost use Rattle.std.specs.Prelude.{◌≡◌};
 
 use crate::counting::counted;
 use crate::pieces::read_piece;
@@ -32,13 +32,16 @@ impl<R: Read> Counted for StandardInput<R> {
     }
 }
 
-impl<R: Read> Stream for StandardInput<R> {}
+impl<R: Read> Stream for StandardInput<R> {
+    ghost use Rattle.std.specs.Prelude.{refl};
+    ghost use Rattle.sporc_outside.specs.Streams.{silent_stream};
+
+    ghost told = { λ s. record (silent_stream s.faults) { left = R.remaining s.reader } };
+
+    ghost faults_are_told = { λ _. refl };
+}
 
 impl<R: Read> Source for StandardInput<R> {
-    ghost left = { λ s. R.remaining s.reader };
-
-    ghost sent = { λ _. None };
-
     fn read(&mut self, buf: &mut [u8]) -> Result<usize, Failed> {
         let answer = read_piece(&mut self.reader, buf);
         counted(&mut self.faults, answer)

@@ -1,6 +1,6 @@
 //! Standard output.
 
-ghost use Rattle.std.specs.Prelude.{◌≡◌, None};
+ghost use Rattle.std.specs.Prelude.{◌≡◌};
 
 use crate::counting::counted;
 use crate::pieces::write_piece;
@@ -32,13 +32,16 @@ impl<W: Write> Counted for StandardOutput<W> {
     }
 }
 
-impl<W: Write> Stream for StandardOutput<W> {}
+impl<W: Write> Stream for StandardOutput<W> {
+    ghost use Rattle.std.specs.Prelude.{refl};
+    ghost use Rattle.sporc_outside.specs.Streams.{silent_stream};
+
+    ghost told = { λ s. record (silent_stream s.faults) { written = W.contents s.writer } };
+
+    ghost faults_are_told = { λ _. refl };
+}
 
 impl<W: Write> Sink for StandardOutput<W> {
-    ghost written = { λ s. W.contents s.writer };
-
-    ghost pending = { λ _. None };
-
     fn write(&mut self, bytes: &[u8]) -> Result<usize, Failed> {
         let answer = write_piece(&mut self.writer, bytes);
         counted(&mut self.faults, answer)

@@ -1,6 +1,6 @@
 //! Connections over TCP.
 
-ghost use Rattle.std.specs.Prelude.{◌≡◌, None};
+ghost use Rattle.std.specs.Prelude.{◌≡◌};
 
 use crate::counting::counted;
 use crate::pieces::{read_piece, write_piece};
@@ -41,13 +41,16 @@ impl Counted for TcpLink {
     }
 }
 
-impl Stream for TcpLink {}
+impl Stream for TcpLink {
+    ghost use Rattle.std.specs.Prelude.{refl};
+    ghost use Rattle.sporc_outside.specs.Streams.{silent_stream};
+
+    ghost told = { λ l. silent_stream l.faults };
+
+    ghost faults_are_told = { λ _. refl };
+}
 
 impl Source for TcpLink {
-    ghost left = { λ _. None };
-
-    ghost sent = { λ _. None };
-
     fn read(&mut self, buf: &mut [u8]) -> Result<usize, Failed> {
         let answer = match &mut self.stream {
             Some(stream) => read_piece(stream, buf),
@@ -58,10 +61,6 @@ impl Source for TcpLink {
 }
 
 impl Sink for TcpLink {
-    ghost written = { λ _. None };
-
-    ghost pending = { λ _. None };
-
     fn write(&mut self, bytes: &[u8]) -> Result<usize, Failed> {
         let answer = match &mut self.stream {
             Some(stream) => write_piece(stream, bytes),
@@ -72,12 +71,6 @@ impl Sink for TcpLink {
 }
 
 impl Link for TcpLink {
-    ghost use Rattle.std.specs.Prelude.{refl};
-
-    ghost sent_is = { λ _. refl };
-
-    ghost pending_is = { λ _. refl };
-
     /// Of a connection that the peer has shut already this does nothing.
     fn shut(&mut self) {
         if let Some(stream) = self.stream.take() {

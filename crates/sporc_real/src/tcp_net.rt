@@ -158,15 +158,12 @@ impl<R: Net<Stream = TcpStream, Listener = TcpListener> + Clock + Drop> Counted 
 impl<R: Net<Stream = TcpStream, Listener = TcpListener> + Clock + Drop> Links for TcpNet<R> {
     type Link = TcpLink;
 
-    ghost link_faults = { λ n. n.link_faults };
+    ghost use Rattle.std.specs.Prelude.{refl};
+    ghost use Rattle.sporc_outside.specs.Nets.{silent_net};
 
-    ghost asked = { λ _. None };
+    ghost told = { λ n. silent_net n.link_faults n.faults };
 
-    ghost coming = { λ _. None };
-
-    ghost out = { λ _. None };
-
-    ghost returned = { λ _. None };
+    ghost faults_are_told = { λ _. refl };
 
     fn link_faults(&self) -> u64 {
         self.link_faults

@@ -2,6 +2,8 @@
 use Rattle.std.proofs.Common.{◌≡◌, ◌≢◌, ℕ, zero, suc, ◌+◌, ◌≤◌, ◌<◌, ◌==◌, Bool, true, false, List, [], ◌∷◌, ◌-◌, length, drop, replicate, filter, All, Option, Result, Ok, Err, refl, ap, sym, subst, ◌∙◌, arith, inl, inr, get_or}
 use Rattle.std.proofs.lemmas.List.{drop_all, length-replicate}
 use Rattle.std.proofs.lemmas.List.Elements.{All-head, All-tail, All-nil, All-cons}
+use Rattle.sporc_outside.specs.Nets.{NetTold}
+use Rattle.sporc_outside.specs.Streams.{StreamTold}
 use Rattle.sporc_entry.specs.declared.genesis.Genesis.{Genesis}
 use Rattle.sporc_turn.specs.declared.known.Known.{Known}
 use Rattle.sporc_turn.specs.declared.known.Joined.{Joined}
@@ -16,7 +18,7 @@ use Rattle.sporc_serve.specs.Logs.{by_of, order_at, placed, IsLogOf, OfDocument}
 use Rattle.sporc_serve.specs.declared.fault.ServeFault.{ServeFault}
 use Rattle.sporc_serve.specs.declared.fault.ServeFault.TheVariants as faults'
 use Rattle.sporc_serve.specs.Visits.{Visit, Visits, came, went, AreFrom, AreBehind, TellsOf}
-use Rattle.sporc_serve.specs.Crowds.{Net, IsCrowd}
+use Rattle.sporc_serve.specs.Crowds.{IsCrowd}
 use Rattle.sporc_serve.specs.Served.{log_at_first, Attended, Served, IsServed}
 use Rattle.sporc_serve.proofs.Logs.{order_is}
 use Rattle.sporc_serve.proofs.Turning.{starts_log}
@@ -37,9 +39,9 @@ positive : (n : ℕ) → n ≢ 0 → 1 ≤ n
 positive zero h = absurd (h refl)
 positive (suc n) h = omega arith
 
-module _ {L : Type 0} (left written : L → Option (List ℕ)) (faults : L → ℕ) (is_shut : L → Option Bool) (g : Genesis) where
+module _ (g : Genesis) where
   -- what number 0 keeps, and that it joined back each pass that it split
-  visits_keep : (k k' : Known Item) (vs : List (Visit L)) → Visits left written faults is_shut g k k' vs
+  visits_keep : (k k' : Known Item) (vs : List Visit) → Visits g k k' vs
       → (k'.number ≡ k.number) × (k'.mine ≡ k.mine) × (k'.start ≡ k.start)
       × (k'.splits + length k.joined ≡ k.splits + length k'.joined)
   visits_keep k k' [] is = (
@@ -64,16 +66,16 @@ module _ {L : Type 0} (left written : L → Option (List ℕ)) (faults : L → �
         subst (λ (x : Known Item). x.splits + length k.joined ≡ k.splits + length x.joined) (sym is) (omega (arith, low)),
       )
 
-  begins_first : (k k' : Known Item) (vs : List (Visit L)) → Visits left written faults is_shut g k k' vs → StartsWith k'.seen k.seen
+  begins_first : (k k' : Known Item) (vs : List Visit) → Visits g k k' vs → StartsWith k'.seen k.seen
   begins_first k k' [] is = subst (λ (x : Known Item). StartsWith x.seen k.seen) (sym is) (starts_same k.seen)
   begins_first k k' (v ∷ vs) (inl h) = subst (λ (x : Known Item). StartsWith x.seen k.seen) (sym h.2) (starts_same k.seen)
   begins_first k k' (v ∷ vs) (inr h) = starts_then k.seen h.0.seen k'.seen (begins_first (splitting k) h.0 vs h.3) h.6
 
   module _ (start log : List Item) where
     -- each session's items are those of the log with its number
-    attended : (k k' : Known Item) (vs : List (Visit L)) → Visits left written faults is_shut g k k' vs → StartsWith log k'.seen
+    attended : (k k' : Known Item) (vs : List Visit) → Visits g k k' vs → StartsWith log k'.seen
         → All (λ (j : Joined Item). own by_of j.number (length start) log ≡ j.items) k'.joined → StartsWith k.seen start
-        → Attended left written faults is_shut g start log (k.splits + 1) vs (k'.splits + 1)
+        → Attended g start log (k.splits + 1) vs (k'.splits + 1)
     attended k k' [] is seen owns begins = ap (λ (x : Known Item). x.splits + 1) is
     attended k k' (v ∷ vs) (inl h) seen owns begins = inl (h.0, h.1, ap (λ (x : Known Item). x.splits + 1) h.2)
     attended k k' (v ∷ vs) (inr h) seen owns begins =
@@ -94,16 +96,16 @@ module _ {L : Type 0} (left written : L → Option (List ℕ)) (faults : L → �
             known = starts_then last.seen k'.seen log h.7 seen;
             own_are = subst (λ (n : ℕ). own by_of n (length start) log ≡ last.mine) h.4 here;
           },
-          subst (λ (x : Known Item). Attended left written faults is_shut g start log (k.splits + 1 + 1) vs (x.splits + 1)) (sym h.5)
+          subst (λ (x : Known Item). Attended g start log (k.splits + 1 + 1) vs (x.splits + 1)) (sym h.5)
               (attended (splitting k) rest vs h.3 (starts_then rest.seen k'.seen log h.6 seen) there begins),
         )
 
-pub served : {L : Type 0} (left written : L → Option (List ℕ)) (faults : L → ℕ) (is_shut : L → Option Bool) (o : OrderModel) (after : OrderModel) (k : Known Item) (vs : List (Visit L))
-    (log : List Item) → Visits left written faults is_shut o.genesis (first_known (log_at_first o)) k vs → log ≡ k.seen → Agrees by_of k log
-    → after ≡ order_at o.genesis log → Served left written faults is_shut o after vs log
-served left written faults is_shut o after k vs log h is agrees at =
+pub served : (o : OrderModel) (after : OrderModel) (k : Known Item) (vs : List Visit)
+    (log : List Item) → Visits o.genesis (first_known (log_at_first o)) k vs → log ≡ k.seen → Agrees by_of k log
+    → after ≡ order_at o.genesis log → Served o after vs log
+served o after k vs log h is agrees at =
     let first = first_known (log_at_first o) in
-    let keep = visits_keep left written faults is_shut o.genesis first k vs h in
+    let keep = visits_keep o.genesis first k vs h in
     let n = length (log_at_first o) in
     let zero' : k.number ≡ 0 = keep.0 in
     let same : k.start ≡ n = keep.2 in
@@ -113,9 +115,9 @@ served left written faults is_shut o after k vs log h is agrees at =
     let others = none_of 0 (drop n log) none in
     record {
       order_is = at;
-      begins = starts_then (log_at_first o) k.seen log (begins_first left written faults is_shut o.genesis first k vs h) (subst (λ (l : List Item). StartsWith l k.seen) (sym is) (starts_same k.seen));
+      begins = starts_then (log_at_first o) k.seen log (begins_first o.genesis first k vs h) (subst (λ (l : List Item). StartsWith l k.seen) (sym is) (starts_same k.seen));
       next = k.splits + 1;
-      sessions = attended left written faults is_shut o.genesis (log_at_first o) log first k vs h (subst (λ (l : List Item). StartsWith l k.seen) (sym is) (starts_same k.seen)) owns (starts_same (log_at_first o));
+      sessions = attended o.genesis (log_at_first o) log first k vs h (subst (λ (l : List Item). StartsWith l k.seen) (sym is) (starts_same k.seen)) owns (starts_same (log_at_first o));
       numbered = λ i d lt. (positive (by_of (get_or (drop n log) i d)) (others i d lt), omega (arith, numbers i d lt));
     }
 
@@ -125,17 +127,17 @@ first_is o =
     order_is o.genesis o (replicate (length o.entries) 0) (length-replicate (length o.entries) 0) (placed (replicate (length o.entries) 0) o.entries, refl)
 
 -- what is told where the net's count rose before too
-pub tells_before : {L : Type 0} (n x y z : ℕ) (vs : List (Visit L)) (result : Result (Unit {0}) ServeFault) → x ≤ y → TellsOf n y z vs result → TellsOf n x z vs result
+pub tells_before : (n x y z : ℕ) (vs : List Visit) (result : Result (Unit {0}) ServeFault) → x ≤ y → TellsOf n y z vs result → TellsOf n x z vs result
 tells_before n x y z vs (Ok done) le h = h
 tells_before n x y z vs (Err faults'.ListenFault) le h = rose_before x y z le h
 tells_before n x y z vs (Err (faults'.Worn ticket)) le h = h
 tells_before n x y z vs (Err faults'.Memory) le h = h
 tells_before n x y z vs (Err faults'.Unkept) le h = h
 
-module _ {L : Type 0} (left written : L → Option (List ℕ)) (faults : L → ℕ) (is_shut : L → Option Bool) (o : OrderModel) where
+module _ (o : OrderModel) where
   -- no session began
-  pub serves_none : (after : OrderModel) (old new : Net L) (n : ℕ) (result : Result (Unit {0}) ServeFault) → after ≡ o → new.coming ≡ old.coming
-      → new.returned ≡ old.returned → TellsOf {L = L} n old.faults new.faults [] result → IsServed left written faults is_shut o after old new n result
+  pub serves_none : (after : OrderModel) (old new : NetTold) (n : ℕ) (result : Result (Unit {0}) ServeFault) → after ≡ o → new.coming ≡ old.coming
+      → new.returned ≡ old.returned → TellsOf n old.faults new.faults [] result → IsServed o after old new n result
   serves_none after old new n result same coming returned tells = (
     [],
     log_at_first o,
@@ -149,28 +151,28 @@ module _ {L : Type 0} (left written : L → Option (List ℕ)) (faults : L → �
             (All-nil (λ e. (1 ≤ by_of e) × (by_of e < 1)));
       };
       came_open = tt;
-      coming = subst (λ (c : Option (List L)). AreFrom old.coming c []) (sym coming) (from_none old.coming);
-      returned = subst (λ (c : Option (List L)). AreBehind old.returned c []) (sym returned) (behind_none old.returned);
+      coming = subst (λ (c : Option (List StreamTold)). AreFrom old.coming c []) (sym coming) (from_none old.coming);
+      returned = subst (λ (c : Option (List StreamTold)). AreBehind old.returned c []) (sym returned) (behind_none old.returned);
       result_is = tells;
       worn = λ ticket h. absurd h;
       kept = λ told. tt;
     },
   )
 
-  module _ (k : Known Item) (vs : List (Visit L)) (visits : Visits left written faults is_shut o.genesis (first_known (log_at_first o)) k vs) where
+  module _ (k : Known Item) (vs : List Visit) (visits : Visits o.genesis (first_known (log_at_first o)) k vs) where
     -- each pass that was split was joined back
     all_back : k.splits - length k.joined ≡ 0
     all_back =
-        let h = (visits_keep left written faults is_shut o.genesis (first_known (log_at_first o)) k vs visits).3 in
+        let h = (visits_keep o.genesis (first_known (log_at_first o)) k vs visits).3 in
         let same : k.splits + 0 ≡ 0 + length k.joined = h in
         omega (arith, same)
 
-  module _ (k0 k : Known Item) (read : ℕ) (old mid new : Net L) (n : ℕ) (result : Result (Unit {0}) ServeFault) (is0 : k0 ≡ first_known (log_at_first o))
-      (crowd : OfDocument k0.seen (λ g. IsCrowd left written faults is_shut g k0 k read mid new n result)) where
+  module _ (k0 k : Known Item) (read : ℕ) (old mid new : NetTold) (n : ℕ) (result : Result (Unit {0}) ServeFault) (is0 : k0 ≡ first_known (log_at_first o))
+      (crowd : OfDocument k0.seen (λ g. IsCrowd g k0 k read mid new n result)) where
     -- the crowd's part of it
-    crowd_first : IsCrowd left written faults is_shut o.genesis (first_known (log_at_first o)) k read mid new n result
+    crowd_first : IsCrowd o.genesis (first_known (log_at_first o)) k read mid new n result
     crowd_first =
-        subst (λ (x : Known Item). OfDocument x.seen (λ g. IsCrowd left written faults is_shut g x k read mid new n result)) is0 crowd
+        subst (λ (x : Known Item). OfDocument x.seen (λ g. IsCrowd g x k read mid new n result)) is0 crowd
         o.genesis (placed (replicate (length o.entries) 0) o.entries, refl)
 
     -- no pass is out
@@ -180,19 +182,19 @@ module _ {L : Type 0} (left written : L → Option (List ℕ)) (faults : L → �
     -- the sessions, once the lock is closed
     pub serves : (after : OrderModel) → ((genesis : Genesis) → IsLogOf genesis k.seen → after ≡ order_at genesis k.seen) → Agrees by_of k k.seen
         → mid.coming ≡ old.coming → mid.returned ≡ old.returned → old.faults ≤ mid.faults
-        → (MAX_TICKETS ≤ read → (pass : Pass Item) × (k ≡ known_of pass) × IsWorn pass) → IsServed left written faults is_shut o after old new n result
+        → (MAX_TICKETS ≤ read → (pass : Pass Item) × (k ≡ known_of pass) × IsWorn pass) → IsServed o after old new n result
     serves after closes agrees coming returned le worn =
         let c = crowd_first.1 in
         let vs = crowd_first.0 in
-        let begins = begins_first left written faults is_shut o.genesis (first_known (log_at_first o)) k vs c.visits_are in
+        let begins = begins_first o.genesis (first_known (log_at_first o)) k vs c.visits_are in
         let of_it : IsLogOf o.genesis k.seen = starts_log o.genesis k.seen (log_at_first o) begins (placed (replicate (length o.entries) 0) o.entries, refl) in (
           vs,
           k.seen,
           record {
-            served = served left written faults is_shut o after k vs k.seen c.visits_are refl agrees (closes o.genesis of_it);
+            served = served o after k vs k.seen c.visits_are refl agrees (closes o.genesis of_it);
             came_open = c.came_open;
-            coming = subst (λ (x : Option (List L)). AreFrom x new.coming (came vs)) coming c.coming;
-            returned = subst (λ (x : Option (List L)). AreBehind x new.returned (went vs)) returned c.returned;
+            coming = subst (λ (x : Option (List StreamTold)). AreFrom x new.coming (came vs)) coming c.coming;
+            returned = subst (λ (x : Option (List StreamTold)). AreBehind x new.returned (went vs)) returned c.returned;
             result_is = tells_before n old.faults mid.faults new.faults vs result le c.result_is;
             kept = c.kept;
             worn = λ ticket w. (let t = worn (c.worn ticket w) in (t.0, ap (λ (x : Known Item). x.seen) (sym t.1), t.2));

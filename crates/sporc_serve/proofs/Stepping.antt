@@ -2,6 +2,7 @@
 use Rattle.std.proofs.Common.{◌≡◌, ◌≢◌, ◌∙◌, ℕ, ◌≤◌, Bool, false, List, [], Option, Some, None, Result, Ok, Err, IfOk, IfErr, IfNone, IfSome, MatchOption, IsOkUnless, refl, sym, subst}
 use Rattle.std.specs.Io.KnownBytes.{Consumes, Appends}
 use Rattle.std.proofs.KnownBytes.{Consumes-nil}
+use Rattle.sporc_outside.specs.Streams.{Shuts, StreamTold}
 use Rattle.sporc_entry.specs.declared.genesis.Genesis.{Genesis}
 use Rattle.sporc_turn.specs.declared.known.Known.{Known}
 use Rattle.sporc_base.specs.Outcome.{GivesUnless}
@@ -24,8 +25,8 @@ use Rattle.sporc_serve.specs.Logs.{IsLogOf, OfDocument}
 use Rattle.sporc_serve.specs.Sending.{bytes_of, CanBeSent}
 use Rattle.sporc_serve.specs.Turns.{HasReadLast, TakesTurn, end_of}
 use Rattle.sporc_serve.specs.Endings.{IsSendEnd, Inlet, inlet, TakesMessage, IsNextEnd, IsNext}
-use Rattle.sporc_serve.specs.Courses.{ServerStand, stand, GoesOn, Carries, Leads}
-use Rattle.sporc_serve.specs.Visits.{visit, Shuts, IsServedSession}
+use Rattle.sporc_serve.specs.Courses.{ServerStand, stand, stand_at, GoesOn, Carries, Leads}
+use Rattle.sporc_serve.specs.Visits.{visit, IsServedSession}
 use Rattle.sporc_serve.proofs.Turning.{starts_log}
 use Rattle.sporc_serve.proofs.Coursing.{grows_starts, course_begins}
 use Rattle.sporc_serve.proofs.Framed.{next_framed}
@@ -183,9 +184,8 @@ begins_leads g known known' left left' written written' faults faults' unread un
     let went = begun g known left written faults unread s empty fresh in
     leads g (stand known left written faults (stream_of []) false) went.0 went.1 log went.2
 
-module _ {L : Type 0} (left written : L → Option (List ℕ)) (faults : L → ℕ) (is_shut : L → Option Bool) where
-  -- a link was shut as its session ended
-  pub session_ended : (g : Genesis) (first last : Known Item) (before mid after : L) (unread : Unread) (s : Bool) (end : SessionEnd)
-      → GoesOn g (stand first (left before) (written before) (faults before) (stream_of []) false) (stand last (left mid) (written mid) (faults mid) unread s) (Some end)
-      → is_shut mid ≡ is_shut before → Shuts left written faults is_shut mid after → IsServedSession left written faults is_shut g first last (visit before after end)
-  session_ended g first last before mid after unread s end h same shuts = (mid, record { ends = h; as_shut = same; shuts = shuts })
+-- a link was shut as its session ended
+pub session_ended : (g : Genesis) (first last : Known Item) (before mid after : StreamTold) (unread : Unread) (s : Bool) (end : SessionEnd)
+    → GoesOn g (stand_at first before (stream_of []) false) (stand_at last mid unread s) (Some end)
+    → mid.is_shut ≡ before.is_shut → Shuts (record { before = mid; after = after }) → IsServedSession g first last (visit before after end)
+session_ended g first last before mid after unread s end h same shuts = (mid, record { ends = h; as_shut = same; shuts = shuts })

@@ -2,6 +2,7 @@
 use Rattle.std.specs.Prelude.{◌≡◌, ◌≢◌, ◌⊎◌, ◌≤◌, ◌<◌, ℕ, Bool, false, List, [], ◌∷◌, ◌++◌, length, map, take, Option, Some, None, Ok, Err}
 use Rattle.std.specs.Io.KnownBytes.{Consumes, Appends, IsAtEnd}
 use Rattle.sporc_outside.specs.Counts.{Rose}
+use Rattle.sporc_outside.specs.Streams.{StreamTold}
 use Rattle.sporc_turn.specs.declared.known.Known.{Known}
 use Rattle.sporc_turn.specs.declared.limits.TheConstants.{MAX_TICKETS}
 use Rattle.sporc_turn.specs.Log.{StartsWith}
@@ -138,3 +139,7 @@ abbrev pub Leads : ServerStand → ServerStand → Option SessionEnd → Type 0
 Leads b b' end =
     (genesis : Genesis) (a : ServerStand) (bytes : List ℕ) (xs : List Exchange) → IsLogOf genesis a.known.seen → ServerCourse genesis a b bytes xs
     → GoesOn genesis a b' end
+
+-- by what the link tells
+abbrev pub stand_at : Known Item → StreamTold → Unread → Bool → ServerStand
+stand_at known link unread greeted = stand known link.left link.written link.faults unread greeted

@@ -1,5 +1,6 @@
 -- Sessions that a server runs beside one another, for inner contracts.
-use Rattle.std.specs.Prelude.{◌≡◌, ◌≢◌, ◌+◌, ◌<◌, ◌≤◌, ◌^◌, ℕ, Bool, List, Option, Some, None, Result, Err}
+use Rattle.std.specs.Prelude.{◌≡◌, ◌≢◌, ◌+◌, ◌<◌, ◌≤◌, ◌^◌, ℕ, List, Option, Some, None, Result, Err}
+use Rattle.sporc_outside.specs.Nets.{NetTold}
 use Rattle.sporc_turn.specs.declared.known.Known.{Known}
 use Rattle.sporc_turn.specs.declared.pass.Pass.{Pass}
 use Rattle.sporc_turn.specs.declared.turn.Turn.{Turn}
@@ -13,30 +14,21 @@ use Rattle.sporc_serve.specs.declared.fault.ServeFault.TheVariants.{Unkept}
 use Rattle.sporc_serve.specs.declared.item.Item.{Item}
 use Rattle.sporc_serve.specs.Visits.{Visit, Visits, CameOpen, came, went, AreFrom, AreBehind, SomeWorn, NoneUnkept, TellsOf}
 
--- what a net tells of the links that are to come and of those that came back, and its count of faults
-pub record Net (L : Type 0) : Type 0 where
-  pub coming : Option (List L)
-  pub returned : Option (List L)
-  pub faults : ℕ
-
-abbrev pub net_of : {L : Type 0} → Option (List L) → Option (List L) → ℕ → Net L
-net_of coming returned faults = record { coming = coming; returned = returned; faults = faults }
-
 -- the sessions that were served, of so many, where the pass that comes back has read this as the next ticket
-pub record Crowd {L : Type 0} (left written : L → Option (List ℕ)) (faults : L → ℕ) (is_shut : L → Option Bool) (genesis : Genesis)
-    (before after : Known Item) (read : ℕ) (old new : Net L) (sessions : ℕ) (result : Result (Unit {0}) ServeFault) (visits : List (Visit L)) : Type 0 where
-  pub visits_are : Visits left written faults is_shut genesis before after visits
-  pub came_open : CameOpen is_shut visits
+pub record Crowd (genesis : Genesis)
+    (before after : Known Item) (read : ℕ) (old new : NetTold) (sessions : ℕ) (result : Result (Unit {0}) ServeFault) (visits : List Visit) : Type 0 where
+  pub visits_are : Visits genesis before after visits
+  pub came_open : CameOpen visits
   pub coming : AreFrom old.coming new.coming (came visits)
   pub returned : AreBehind old.returned new.returned (went visits)
   pub result_is : TellsOf sessions old.faults new.faults visits result
   pub worn : (ticket : ℕ) → SomeWorn ticket visits → MAX_TICKETS ≤ read
   pub kept : result ≢ Err Unkept → NoneUnkept visits
 
-abbrev pub IsCrowd : {L : Type 0} → (L → Option (List ℕ)) → (L → Option (List ℕ)) → (L → ℕ) → (L → Option Bool) → Genesis → Known Item → Known Item
-    → ℕ → Net L → Net L → ℕ → Result (Unit {0}) ServeFault → Type 0
-IsCrowd {L} left written faults is_shut genesis before after read old new sessions result =
-    (visits : List (Visit L)) × Crowd left written faults is_shut genesis before after read old new sessions result visits
+abbrev pub IsCrowd : Genesis → Known Item → Known Item
+    → ℕ → NetTold → NetTold → ℕ → Result (Unit {0}) ServeFault → Type 0
+IsCrowd genesis before after read old new sessions result =
+    (visits : List Visit) × Crowd genesis before after read old new sessions result visits
 
 -- a pass of this lock with number 0, which has room for so many splits
 abbrev pub IsFirst : {T : Type 0} {tail : Ghosts T} → Turn (Desk T tail) Item → Option (Pass Item) → ℕ → Type 0

@@ -2,6 +2,7 @@
 use Rattle.std.specs.Prelude.{◌≡◌, ◌<◌, ◌≤◌, ℕ, List, [], length, Option, Some, None, Result, Ok, Err}
 use Rattle.std.specs.Io.KnownBytes.{Consumes, Appends, IsAtEnd}
 use Rattle.sporc_outside.specs.Counts.{Rose}
+use Rattle.sporc_outside.specs.Streams.{StreamTold}
 use Rattle.sporc_outside.specs.Writing.{AppendsLess}
 use Rattle.sporc_wire.specs.declared.fault.FrameFault.{FrameFault}
 use Rattle.sporc_wire.specs.declared.to_server.ToServer.{ToServer}
@@ -31,6 +32,10 @@ pub record Inlet : Type 0 where
 
 abbrev pub inlet : Option (List ℕ) → ℕ → Unread → Inlet
 inlet left faults unread = record { left = left; faults = faults; unread = unread }
+
+-- by what the link tells
+abbrev pub inlet_at : StreamTold → Unread → Inlet
+inlet_at link unread = inlet link.left link.faults unread
 
 -- a piece of the link's bytes was taken, and stands behind those that are no message yet
 pub record TakesPiece (a b : Inlet) (piece : List ℕ) : Type 0 where

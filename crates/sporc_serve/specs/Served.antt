@@ -1,6 +1,7 @@
 -- What a server did, whole.
-use Rattle.std.specs.Prelude.{◌≡◌, ◌≢◌, ◌⊎◌, ◌+◌, ◌≤◌, ◌<◌, ℕ, Bool, List, [], ◌∷◌, length, drop, replicate, Option, Result, Err}
+use Rattle.std.specs.Prelude.{◌≡◌, ◌≢◌, ◌⊎◌, ◌+◌, ◌≤◌, ◌<◌, ℕ, List, [], ◌∷◌, length, drop, replicate, Result, Err}
 use Rattle.std.specs.List.{All}
+use Rattle.sporc_outside.specs.Nets.{NetTold}
 use Rattle.sporc_turn.specs.declared.known.Known.{Known}
 use Rattle.sporc_turn.specs.declared.pass.Pass.{Pass}
 use Rattle.sporc_turn.specs.Log.{StartsWith, own}
@@ -12,39 +13,38 @@ use Rattle.sporc_serve.specs.Logs.{by_of, log_of, order_at}
 use Rattle.sporc_serve.specs.declared.fault.ServeFault.{ServeFault}
 use Rattle.sporc_serve.specs.declared.fault.ServeFault.TheVariants.{Unkept}
 use Rattle.sporc_serve.specs.Visits.{Visit, IsServedSession, IsUnserved, CameOpen, came, went, AreFrom, AreBehind, SomeWorn, NoneUnkept, TellsOf}
-use Rattle.sporc_serve.specs.Crowds.{Net}
 
 -- the log of an order that is handed in
 abbrev pub log_at_first : OrderModel → List Item
 log_at_first order = log_of order (replicate (length order.entries) 0)
 
-module _ {L : Type 0} (left written : L → Option (List ℕ)) (faults : L → ℕ) (is_shut : L → Option Bool) (genesis : Genesis) (start log : List Item) where
+module _ (genesis : Genesis) (start log : List Item) where
   -- a session by the pass with this number: what it knew first begins with the log at first, and the log at last with all that
   -- it knew; the log's entries with its number are those that it added
-  pub record Attends (number : ℕ) (first last : Known Item) (v : Visit L) : Type 0 where
+  pub record Attends (number : ℕ) (first last : Known Item) (v : Visit) : Type 0 where
     pub number_is : first.number ≡ number
     pub none : first.mine ≡ []
     pub begins : StartsWith first.seen start
-    pub session : IsServedSession left written faults is_shut genesis first last v
+    pub session : IsServedSession genesis first last v
     pub known : StartsWith log last.seen
     pub own_are : own by_of number (length start) log ≡ last.mine
 
   -- sessions by passes with the numbers from this one on, `next` being the one after theirs; only the last link can be
   -- unserved, and no pass was split for it
-  abbrev pub Attended : ℕ → List (Visit L) → ℕ → Type 0
+  abbrev pub Attended : ℕ → List Visit → ℕ → Type 0
   Attended number [] next = next ≡ number
   Attended number (v ∷ vs) next =
-      (IsUnserved left written faults is_shut v × (vs ≡ []) × (next ≡ number))
+      (IsUnserved v × (vs ≡ []) × (next ≡ number))
       ⊎ ((first : Known Item) × (last : Known Item) × Attends number first last v × Attended (number + 1) vs next)
 
 -- The order that is handed back is that of a log which begins with the order that was handed in. Each further entry was added
 -- by one of the sessions: it has the number of a session's pass. `next` is the number after those.
-pub record Served {L : Type 0} (left written : L → Option (List ℕ)) (faults : L → ℕ) (is_shut : L → Option Bool) (before after : OrderModel)
-    (visits : List (Visit L)) (log : List Item) : Type 0 where
+pub record Served (before after : OrderModel)
+    (visits : List Visit) (log : List Item) : Type 0 where
   pub order_is : after ≡ order_at before.genesis log
   pub begins : StartsWith log (log_at_first before)
   pub next : ℕ
-  pub sessions : Attended left written faults is_shut before.genesis (log_at_first before) log 1 visits next
+  pub sessions : Attended before.genesis (log_at_first before) log 1 visits next
   pub numbered : All (λ e. (1 ≤ by_of e) × (by_of e < next)) (drop (length (log_at_first before)) log)
 
 -- a pass that has seen this log has read that every ticket was drawn
@@ -53,17 +53,17 @@ IsWornAt log = (pass : Pass Item) × ((known_of pass).seen ≡ log) × IsWorn pa
 
 -- so many sessions at a net, of which this is answered; if one of them ended at the lock's last ticket, the pass that the lock was
 -- closed with has read it
-pub record ServesAt {L : Type 0} (left written : L → Option (List ℕ)) (faults : L → ℕ) (is_shut : L → Option Bool) (before after : OrderModel)
-    (old new : Net L) (sessions : ℕ) (result : Result (Unit {0}) ServeFault) (visits : List (Visit L)) (log : List Item) : Type 0 where
-  pub served : Served left written faults is_shut before after visits log
-  pub came_open : CameOpen is_shut visits
+pub record ServesAt (before after : OrderModel)
+    (old new : NetTold) (sessions : ℕ) (result : Result (Unit {0}) ServeFault) (visits : List Visit) (log : List Item) : Type 0 where
+  pub served : Served before after visits log
+  pub came_open : CameOpen visits
   pub coming : AreFrom old.coming new.coming (came visits)
   pub returned : AreBehind old.returned new.returned (went visits)
   pub result_is : TellsOf sessions old.faults new.faults visits result
   pub worn : (ticket : ℕ) → SomeWorn ticket visits → IsWornAt log
   pub kept : result ≢ Err Unkept → NoneUnkept visits
 
-abbrev pub IsServed : {L : Type 0} → (L → Option (List ℕ)) → (L → Option (List ℕ)) → (L → ℕ) → (L → Option Bool) → OrderModel → OrderModel
-    → Net L → Net L → ℕ → Result (Unit {0}) ServeFault → Type 0
-IsServed {L} left written faults is_shut before after old new sessions result =
-    (visits : List (Visit L)) × (log : List Item) × ServesAt left written faults is_shut before after old new sessions result visits log
+abbrev pub IsServed : OrderModel → OrderModel
+    → NetTold → NetTold → ℕ → Result (Unit {0}) ServeFault → Type 0
+IsServed before after old new sessions result =
+    (visits : List Visit) × (log : List Item) × ServesAt before after old new sessions result visits log

@@ -2,12 +2,13 @@
 
 ghost use Rattle.std.specs.Prelude.{◌≡◌, ◌≢◌, ◌+◌, ◌-◌, ◌^◌, ◌<◌, ◌≤◌, Err, max, IfSome};
 ghost use Rattle.std.specs.Thread.{IsSync, IsSend};
-ghost use Rattle.sporc_outside.specs.Told.{AreShutBehind, IsTrueIfTold};
+ghost use Rattle.sporc_outside.specs.Told.{IsTrueIfTold};
+ghost use Rattle.sporc_outside.specs.Nets.{AreShutBehind};
 ghost use Rattle.sporc_turn.specs.Knowing.{joined_with};
 ghost use Rattle.sporc_turn.specs.Log.{StartsWith, Agrees};
 ghost use Rattle.sporc_turn.specs.Passes.{known_of, read_of, IsPassOf};
 ghost use Rattle.sporc_serve.specs.Logs.{by_of, OfDocument};
-ghost use Rattle.sporc_serve.specs.Crowds.{IsCrowd, net_of, IsFirst, IsOther};
+ghost use Rattle.sporc_serve.specs.Crowds.{IsCrowd, IsFirst, IsOther};
 ghost use Rattle.sporc_serve.specs.Turns.{HasReadLast};
 ghost use Rattle.sporc_serve.specs.Visits.{visit, IsServedSession, with_end};
 
@@ -94,12 +95,12 @@ where
     ensures lock { IsPassOf turn.now result.1 }
     ensures first { (known_of result.1).number ≡ 0 }
     ensures crowd { OfDocument (known_of first).seen
-        (λ genesis. IsCrowd N.Link.left N.Link.written N.Link.faults N.Link.is_shut genesis (known_of first) (known_of result.1) (read_of result.1)
-        (net_of (N.coming net.old) (N.returned net.old) (N.faults net.old)) (net_of (N.coming net.new) (N.returned net.new) (N.faults net.new)) sessions result.0) }
-    ensures shut { AreShutBehind N.Link.is_shut (N.returned net.old) (N.returned net.new) }
-    ensures asked { N.asked net.new ≡ N.asked net.old }
-    ensures links_out { N.out net.new ≡ N.out net.old }
-    ensures kept { N.faults net.old ≤ N.faults net.new }
+        (λ genesis. IsCrowd genesis (known_of first) (known_of result.1) (read_of result.1)
+        (N.told net.old) (N.told net.new) sessions result.0) }
+    ensures shut { AreShutBehind (N.told net.old).returned (N.told net.new).returned }
+    ensures asked { (N.told net.new).asked ≡ (N.told net.old).asked }
+    ensures links_out { (N.told net.new).out ≡ (N.told net.old).out }
+    ensures kept { (N.told net.old).faults ≤ (N.told net.new).faults }
     ensures unkept { result.0 ≡ Err ServeFault.Unkept → T.may_fail }
 {
     if sessions == 0 {
@@ -125,18 +126,18 @@ where
             requires { IsSync R.row × IsSync G.row × IsSend N.row × IsSend N.Link.row × IsSend T.row × IsFirst turn.now first others }
             ensures { IfSome first.entry (λ p. IsPassOf turn.entry.now result.1 × ((known_of result.1).number ≡ 0)
                 × OfDocument (known_of p).seen
-                (λ genesis. IsCrowd N.Link.left N.Link.written N.Link.faults N.Link.is_shut genesis (known_of p) (known_of result.1) (read_of result.1)
-                (net_of (N.coming net.entry.now) (N.returned net.entry.now) (N.faults net.entry.now)) (net_of (N.coming net.exit.now) (N.returned net.exit.now) (N.faults net.exit.now)) others result.0)
-                × AreShutBehind N.Link.is_shut (N.returned net.entry.now) (N.returned net.exit.now) × (N.asked net.exit.now ≡ N.asked net.entry.now)
-                × (N.out net.exit.now ≡ N.out net.entry.now) × (N.faults net.entry.now ≤ N.faults net.exit.now)
+                (λ genesis. IsCrowd genesis (known_of p) (known_of result.1) (read_of result.1)
+                (N.told net.entry.now) (N.told net.exit.now) others result.0)
+                × AreShutBehind (N.told net.entry.now).returned (N.told net.exit.now).returned × ((N.told net.exit.now).asked ≡ (N.told net.entry.now).asked)
+                × ((N.told net.exit.now).out ≡ (N.told net.entry.now).out) × ((N.told net.entry.now).faults ≤ (N.told net.exit.now).faults)
                 × (result.0 ≡ Err ServeFault.Unkept → T.may_fail)) }
         { crowd(rt, alloc, net, turn, gate, first.take().unwrap(), others) },
         &mut || -> (SessionEnd, Pass<Item>)
             requires { IsSync R.row × IsSync G.row × IsSend T.row × IsOther turn.now second }
             ensures { IfSome second.entry (λ p. IsPassOf turn.entry.now result.1 × ((known_of result.1).number ≡ (known_of p).number)
                 × OfDocument (known_of p).seen
-                (λ genesis. IsServedSession N.Link.left N.Link.written N.Link.faults N.Link.is_shut genesis (known_of p) (known_of result.1) (visit link.entry link.exit result.0))
-                × IsTrueIfTold (N.Link.is_shut link.exit) × HasReadLast (read_of result.1) result.0 × (result.0 ≡ SessionEnd.Unkept → T.may_fail)) }
+                (λ genesis. IsServedSession genesis (known_of p) (known_of result.1) (visit (N.Link.told link.entry) (N.Link.told link.exit) result.0))
+                × IsTrueIfTold (N.Link.told link.exit).is_shut × HasReadLast (read_of result.1) result.0 × (result.0 ≡ SessionEnd.Unkept → T.may_fail)) }
         { serve_link(rt, alloc, turn, gate, &mut link, second.take().unwrap()) },
     );
     net.take_back(link);

@@ -2,7 +2,7 @@
 
 ghost use Rattle.std.specs.Prelude.{◌≡◌, ◌≢◌, ◌≤◌, [], Err};
 ghost use Rattle.sporc_wire.specs.Messages.{stream_of};
-ghost use Rattle.sporc_serve.specs.Endings.{inlet, IsFirst};
+ghost use Rattle.sporc_serve.specs.Endings.{inlet_at, IsFirst};
 
 use crate::end::SessionEnd;
 use crate::session::next_message;
@@ -17,10 +17,10 @@ pub fn first_message<R: Wait, L: Link>(
     frames: &mut Frames,
 ) -> Result<ToServer, SessionEnd>
     requires fresh { frames.old ≡ stream_of [] }
-    ensures first { IsFirst (inlet (L.left link.old) (L.faults link.old) frames.old) (inlet (L.left link.new) (L.faults link.new) frames.new) result }
-    ensures written { L.written link.new ≡ L.written link.old }
-    ensures as_shut { L.is_shut link.new ≡ L.is_shut link.old }
-    ensures kept { L.faults link.old ≤ L.faults link.new }
+    ensures first { IsFirst (inlet_at (L.told link.old) frames.old) (inlet_at (L.told link.new) frames.new) result }
+    ensures written { (L.told link.new).written ≡ (L.told link.old).written }
+    ensures as_shut { (L.told link.new).is_shut ≡ (L.told link.old).is_shut }
+    ensures kept { (L.told link.old).faults ≤ (L.told link.new).faults }
     ensures unkept { result ≢ Err SessionEnd.Unkept }
 {
     for _ in rt.forever() {

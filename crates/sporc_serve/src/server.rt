@@ -1,9 +1,9 @@
 //! A server of many sessions.
 
 ghost use Rattle.std.specs.Prelude.{◌≡◌, ◌≢◌, ◌≤◌, Err};
-ghost use Rattle.sporc_outside.specs.Told.{AppendsItem, AreShutBehind, MayAppend};
-ghost use Rattle.sporc_serve.specs.declared.limits.TheConstants.{MAX_SESSIONS};
-ghost use Rattle.sporc_serve.specs.Crowds.{net_of};
+ghost use Rattle.sporc_outside.specs.Told.{AppendsItem, MayAppend};
+ghost use Rattle.sporc_wire.specs.declared.limits.TheConstants.{MAX_SESSIONS};
+ghost use Rattle.sporc_outside.specs.Nets.{AreShutBehind};
 ghost use Rattle.sporc_serve.specs.Served.{IsServed};
 
 use crate::crowd::crowd;
@@ -40,13 +40,12 @@ where
     N::Link: Send,
     requires some { 1 ≤ sessions }
     requires limit { sessions ≤ MAX_SESSIONS }
-    ensures served { IsServed N.Link.left N.Link.written N.Link.faults N.Link.is_shut order result.0
-        (net_of (N.coming net.old) (N.returned net.old) (N.faults net.old)) (net_of (N.coming net.new) (N.returned net.new) (N.faults net.new)) sessions result.1 }
-    ensures asked { result.1 ≢ Err ServeFault.ListenFault → AppendsItem (N.asked net.old) (N.asked net.new) address.now }
-    ensures may_ask { MayAppend (N.asked net.old) (N.asked net.new) address.now }
-    ensures shut { AreShutBehind N.Link.is_shut (N.returned net.old) (N.returned net.new) }
-    ensures links_out { N.out net.new ≡ N.out net.old }
-    ensures kept { N.faults net.old ≤ N.faults net.new }
+    ensures served { IsServed order result.0 (N.told net.old) (N.told net.new) sessions result.1 }
+    ensures asked { result.1 ≢ Err ServeFault.ListenFault → AppendsItem (N.told net.old).asked (N.told net.new).asked address.now }
+    ensures may_ask { MayAppend (N.told net.old).asked (N.told net.new).asked address.now }
+    ensures shut { AreShutBehind (N.told net.old).returned (N.told net.new).returned }
+    ensures links_out { (N.told net.new).out ≡ (N.told net.old).out }
+    ensures kept { (N.told net.old).faults ≤ (N.told net.new).faults }
     ensures none_unkept { result.1 ≢ Err ServeFault.Unkept }
 {
     let (order, _, answer) = serve_kept(rt, alloc, net, address, order, NoTail, sessions, gate);
@@ -71,15 +70,14 @@ where
     requires some { 1 ≤ sessions }
     requires limit { sessions ≤ MAX_SESSIONS }
     requires tail { ∥ T.keeps tail order.entries ∥₁ }
-    ensures served { IsServed N.Link.left N.Link.written N.Link.faults N.Link.is_shut order result.0
-        (net_of (N.coming net.old) (N.returned net.old) (N.faults net.old)) (net_of (N.coming net.new) (N.returned net.new) (N.faults net.new)) sessions result.2 }
+    ensures served { IsServed order result.0 (N.told net.old) (N.told net.new) sessions result.2 }
     ensures tail { ∥ T.keeps result.1 result.0.entries ∥₁ }
     ensures unkept { result.2 ≡ Err ServeFault.Unkept → T.may_fail }
-    ensures asked { result.2 ≢ Err ServeFault.ListenFault → AppendsItem (N.asked net.old) (N.asked net.new) address.now }
-    ensures may_ask { MayAppend (N.asked net.old) (N.asked net.new) address.now }
-    ensures shut { AreShutBehind N.Link.is_shut (N.returned net.old) (N.returned net.new) }
-    ensures links_out { N.out net.new ≡ N.out net.old }
-    ensures kept { N.faults net.old ≤ N.faults net.new }
+    ensures asked { result.2 ≢ Err ServeFault.ListenFault → AppendsItem (N.told net.old).asked (N.told net.new).asked address.now }
+    ensures may_ask { MayAppend (N.told net.old).asked (N.told net.new).asked address.now }
+    ensures shut { AreShutBehind (N.told net.old).returned (N.told net.new).returned }
+    ensures links_out { (N.told net.new).out ≡ (N.told net.old).out }
+    ensures kept { (N.told net.old).faults ≤ (N.told net.new).faults }
 {
     let Ok(()) = net.listen(address) else {
         return (order, tail, Err(ServeFault::ListenFault));

@@ -7,8 +7,8 @@ ghost use Rattle.sporc_wire.specs.Messages.{Unread, next, stream_of};
 ghost use Rattle.sporc_wire.specs.ToServer.{to_server_of};
 ghost use Rattle.sporc_order.specs.Sessions.{IsFramed};
 ghost use Rattle.sporc_serve.specs.Logs.{OfDocument};
-ghost use Rattle.sporc_serve.specs.Courses.{stand, Carries, Leads};
-ghost use Rattle.sporc_serve.specs.Endings.{inlet, IsNext};
+ghost use Rattle.sporc_serve.specs.Courses.{stand_at, Carries, Leads};
+ghost use Rattle.sporc_serve.specs.Endings.{inlet_at, IsNext};
 ghost use Rattle.sporc_serve.specs.Turns.{HasReadLast};
 ghost use Rattle.sporc_serve.specs.Visits.{visit, IsServedSession};
 
@@ -30,11 +30,11 @@ const PIECE: usize = 4096;
 // Takes a piece more of the link's bytes.
 fn take_piece<L: Link>(link: &mut L, frames: &mut Frames) -> Result<(), SessionEnd>
     requires { (next to_server_of frames.old).answer ≡ Ok None }
-    ensures ok { OnOk result (IsNext (inlet (L.left link.old) (L.faults link.old) frames.old) (inlet (L.left link.new) (L.faults link.new) frames.new) (Ok None)) }
-    ensures err { IfErr result (λ end. IsNext (inlet (L.left link.old) (L.faults link.old) frames.old) (inlet (L.left link.new) (L.faults link.new) frames.new) (Err end)) }
-    ensures written { L.written link.new ≡ L.written link.old }
-    ensures as_shut { L.is_shut link.new ≡ L.is_shut link.old }
-    ensures kept { L.faults link.old ≤ L.faults link.new }
+    ensures ok { OnOk result (IsNext (inlet_at (L.told link.old) frames.old) (inlet_at (L.told link.new) frames.new) (Ok None)) }
+    ensures err { IfErr result (λ end. IsNext (inlet_at (L.told link.old) frames.old) (inlet_at (L.told link.new) frames.new) (Err end)) }
+    ensures written { (L.told link.new).written ≡ (L.told link.old).written }
+    ensures as_shut { (L.told link.new).is_shut ≡ (L.told link.old).is_shut }
+    ensures kept { (L.told link.old).faults ≤ (L.told link.new).faults }
     ensures unkept { result ≢ Err SessionEnd.Unkept }
 {
     let mut buffer = [0u8; PIECE];
@@ -68,10 +68,10 @@ pub(crate) fn next_message<L: Link>(
     link: &mut L,
     frames: &mut Frames,
 ) -> Result<Option<ToServer>, SessionEnd>
-    ensures next { IsNext (inlet (L.left link.old) (L.faults link.old) frames.old) (inlet (L.left link.new) (L.faults link.new) frames.new) result }
-    ensures written { L.written link.new ≡ L.written link.old }
-    ensures as_shut { L.is_shut link.new ≡ L.is_shut link.old }
-    ensures kept { L.faults link.old ≤ L.faults link.new }
+    ensures next { IsNext (inlet_at (L.told link.old) frames.old) (inlet_at (L.told link.new) frames.new) result }
+    ensures written { (L.told link.new).written ≡ (L.told link.old).written }
+    ensures as_shut { (L.told link.new).is_shut ≡ (L.told link.old).is_shut }
+    ensures kept { (L.told link.old).faults ≤ (L.told link.new).faults }
     ensures unkept { result ≢ Err SessionEnd.Unkept }
 {
     let found = match frames.next_to_server() {
@@ -100,12 +100,12 @@ fn answer<R: Wait, L: Link, G: Gate, T: Tail>(
     requires framed { IsFramed message.now }
     ensures lock { IsPassOf turn.now result.1 }
     ensures number { (known_of result.1).number ≡ (known_of pass).number }
-    ensures as_shut { L.is_shut link.new ≡ L.is_shut link.old }
+    ensures as_shut { (L.told link.new).is_shut ≡ (L.told link.old).is_shut }
     ensures worn { IfSome result.0 (HasReadLast (read_of result.1)) }
     ensures unkept { result.0 ≡ Some SessionEnd.Unkept → T.may_fail }
     ensures goes { (unread : Unread) → (next to_server_of unread).answer ≡ Ok (Some message.now)
-        → Carries (stand (known_of pass) (L.left link.old) (L.written link.old) (L.faults link.old) unread session.old)
-        (stand (known_of result.1) (L.left link.new) (L.written link.new) (L.faults link.new) (next to_server_of unread).after session.new) result.0 }
+        → Carries (stand_at (known_of pass) (L.told link.old) unread session.old)
+        (stand_at (known_of result.1) (L.told link.new) (next to_server_of unread).after session.new) result.0 }
 {
     let (reply, pass) = reply_to(rt, alloc, turn, gate, pass, session, message);
     match reply {
@@ -128,11 +128,11 @@ fn step<R: Wait, L: Link, G: Gate, T: Tail>(
     requires lock { IsPassOf turn.now pass }
     ensures lock { IsPassOf turn.now result.1 }
     ensures number { (known_of result.1).number ≡ (known_of pass).number }
-    ensures as_shut { L.is_shut link.new ≡ L.is_shut link.old }
+    ensures as_shut { (L.told link.new).is_shut ≡ (L.told link.old).is_shut }
     ensures worn { IfSome result.0 (HasReadLast (read_of result.1)) }
     ensures unkept { result.0 ≡ Some SessionEnd.Unkept → T.may_fail }
-    ensures goes { Carries (stand (known_of pass) (L.left link.old) (L.written link.old) (L.faults link.old) frames.old session.old)
-        (stand (known_of result.1) (L.left link.new) (L.written link.new) (L.faults link.new) frames.new session.new) result.0 }
+    ensures goes { Carries (stand_at (known_of pass) (L.told link.old) frames.old session.old)
+        (stand_at (known_of result.1) (L.told link.new) frames.new session.new) result.0 }
 {
     let found = match next_message(link, frames) {
         Ok(found) => found,
@@ -158,11 +158,11 @@ fn go_on<R: Wait, L: Link, G: Gate, T: Tail>(
     requires lock { IsPassOf turn.now pass }
     ensures lock { IsPassOf turn.now result.1 }
     ensures number { (known_of result.1).number ≡ (known_of pass).number }
-    ensures as_shut { L.is_shut link.new ≡ L.is_shut link.old }
+    ensures as_shut { (L.told link.new).is_shut ≡ (L.told link.old).is_shut }
     ensures worn { HasReadLast (read_of result.1) result.0 }
     ensures unkept { result.0 ≡ SessionEnd.Unkept → T.may_fail }
-    ensures goes { Leads (stand (known_of pass) (L.left link.old) (L.written link.old) (L.faults link.old) frames.old session.old)
-        (stand (known_of result.1) (L.left link.new) (L.written link.new) (L.faults link.new) (stream_of []) false) (Some result.0) }
+    ensures goes { Leads (stand_at (known_of pass) (L.told link.old) frames.old session.old)
+        (stand_at (known_of result.1) (L.told link.new) (stream_of []) false) (Some result.0) }
 {
     let mut pass = pass;
     for _ in rt.forever() {
@@ -191,12 +191,12 @@ pub fn serve_from<R: Wait, L: Link, G: Gate, T: Tail>(
     requires framed { IsFramed first.now }
     ensures lock { IsPassOf turn.now result.1 }
     ensures number { (known_of result.1).number ≡ (known_of pass).number }
-    ensures as_shut { L.is_shut link.new ≡ L.is_shut link.old }
+    ensures as_shut { (L.told link.new).is_shut ≡ (L.told link.old).is_shut }
     ensures worn { HasReadLast (read_of result.1) result.0 }
     ensures unkept { result.0 ≡ SessionEnd.Unkept → T.may_fail }
     ensures goes { (unread : Unread) → (next to_server_of unread).answer ≡ Ok (Some first.now) → frames.old ≡ (next to_server_of unread).after
-        → Leads (stand (known_of pass) (L.left link.old) (L.written link.old) (L.faults link.old) unread false)
-        (stand (known_of result.1) (L.left link.new) (L.written link.new) (L.faults link.new) (stream_of []) false) (Some result.0) }
+        → Leads (stand_at (known_of pass) (L.told link.old) unread false)
+        (stand_at (known_of result.1) (L.told link.new) (stream_of []) false) (Some result.0) }
 {
     let mut session = Session::new();
     let (end, pass) = answer(rt, alloc, turn, gate, link, &mut session, pass, first);
@@ -219,10 +219,10 @@ pub(crate) fn serve_link<R: Wait, L: Link, G: Gate, T: Tail>(
     ensures lock { IsPassOf turn.now result.1 }
     ensures number { (known_of result.1).number ≡ (known_of pass).number }
     ensures session { OfDocument (known_of pass).seen
-        (λ genesis. IsServedSession L.left L.written L.faults L.is_shut genesis (known_of pass) (known_of result.1) (visit link.old link.new result.0)) }
+        (λ genesis. IsServedSession genesis (known_of pass) (known_of result.1) (visit (L.told link.old) (L.told link.new) result.0)) }
     ensures worn { HasReadLast (read_of result.1) result.0 }
     ensures unkept { result.0 ≡ SessionEnd.Unkept → T.may_fail }
-    ensures shut { IsTrueIfTold (L.is_shut link.new) }
+    ensures shut { IsTrueIfTold (L.told link.new).is_shut }
 {
     let mut frames = Frames::new(alloc);
     let mut session = Session::new();

@@ -2,6 +2,7 @@
 use Rattle.std.proofs.Common.{◌≡◌, ℕ, ◌≤◌, Bool, List, [], ◌++◌, length, Option, Some, None, refl, sym, ap, ◌∙◌, subst, append_assoc, arith}
 use Rattle.std.specs.Prelude.{Result, Ok, Err, ⊤}
 use Rattle.std.proofs.lemmas.List.{append-nil}
+use Rattle.sporc_outside.specs.Told.{AppendsItems}
 use Rattle.lms_leaf.specs.declared.faults.LeafFault.TheVariants as leaves
 use Rattle.sporc_outside.specs.Counts.{Rose}
 use Rattle.sporc_turn.proofs.Lists.{starts_length}
@@ -9,7 +10,7 @@ use Rattle.sporc_wire.specs.declared.to_client.ToClient.{ToClient}
 use Rattle.sporc_shared.specs.declared.fault.SessionFault.{SessionFault}
 use Rattle.sporc_shared.specs.declared.fault.SessionFault.TheVariants as faults
 use Rattle.sporc_shared.specs.Acts.{Act, items_by, messages_by, answers_by, words_by, all_of, FitAll}
-use Rattle.sporc_shared.specs.Courses.{Stand, AppendsWords, KnowsMore, Course}
+use Rattle.sporc_shared.specs.Courses.{Stand, KnowsMore, Course}
 use Rattle.sporc_shared.specs.Endings.{Cause, Did, Stopped}
 use Rattle.sporc_shared.specs.Items.{Item}
 use Rattle.sporc_shared.specs.Outcomes.{DidOrStopped}
@@ -19,11 +20,11 @@ use Rattle.sporc_shared.proofs.Exchanging.{exchanged_none, exchanged_then, spell
 use Rattle.sporc_shared.proofs.Fitting.{all_of_append, fit_all_later, fit_all_append, in_order_append, leads_append}
 use Rattle.sporc_shared.proofs.Knowing.{knows_none, knows_then}
 
-pub words_none : (u : Option (List (List ℕ))) → AppendsWords u u []
+pub words_none : (u : Option (List (List ℕ))) → AppendsItems u u []
 words_none None = tt
 words_none (Some xs) = sym (append-nil xs)
 
-pub words_then : (u v w : Option (List (List ℕ))) (a b : List (List ℕ)) → AppendsWords u v a → AppendsWords v w b → AppendsWords u w (a ++ b)
+pub words_then : (u v w : Option (List (List ℕ))) (a b : List (List ℕ)) → AppendsItems u v a → AppendsItems v w b → AppendsItems u w (a ++ b)
 words_then None v w a b x y = tt
 words_then (Some xs) None w a b x y = absurd x
 words_then (Some xs) (Some ys) None a b x y = y
@@ -62,7 +63,7 @@ course_then {a} {b} {c} {xs} {ys} {written} {answers} {words} f g =
           (subst (λ (z : ℕ × List Item). FitAll c.known.seen z.0 z.1 ys) (λ i. (f.knows.start i, f.knows.mine i)) g.fits);
       in_order = in_order_append b.known.seen a.known.start (length b.known.seen) (omega arith) (length a.known.seen) a.known.mine xs ys (starts_length b.known.seen a.known.seen f.knows.begins) f.fits f.in_order g.in_order;
       link = subst (λ (l : List ToClient). Exchanged a.link c.link (spelled (all_of messages_by (xs ++ ys)) ++ written) l) (row answers_by xs ys answers) link';
-      words_are = subst (AppendsWords a.words c.words) (row words_by xs ys words) (words_then a.words b.words c.words _ _ f.words_are g.words_are);
+      words_are = subst (AppendsItems a.words c.words) (row words_by xs ys words) (words_then a.words b.words c.words _ _ f.words_are g.words_are);
       chance = omega (arith, f.chance, g.chance);
     }
 

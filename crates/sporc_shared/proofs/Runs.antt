@@ -12,8 +12,9 @@ use Rattle.sporc_client.specs.Allowed.{allows, allows_all, is_allowed}
 use Rattle.sporc_client.specs.Calls.{LeadTo, events_of}
 use Rattle.sporc_client.specs.Log.{Logged}
 use Rattle.sporc_client.specs.PlainClient.{Opening, PlainClient, opened}
-use Rattle.sporc_client.specs.Run.{Setup, World, Move, Open, Happen, Give, Restart, IsRun, May, after, happens_to, opening_of, start}
+use Rattle.sporc_client.specs.Run.{Setup, World, Move, Open, Happen, Give, Restart, IsRun, May, after, opening_of, start}
 use Rattle.sporc_client.specs.Step.{step}
+use Rattle.sporc_client.proofs.Worlds.{happens_to}
 use Rattle.sporc_client.proofs.Calls.{added_lead, put_other}
 use Rattle.sporc_client.proofs.Reached.{put_same}
 use Rattle.sporc_shared.specs.declared.fault.SessionFault.{SessionFault}

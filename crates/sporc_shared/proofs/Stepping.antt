@@ -2,6 +2,7 @@
 use Rattle.std.proofs.Common.{◌≡◌, ◌≢◌, ◌⊎◌, ℕ, ◌+◌, ◌≤◌, Bool, true, false, List, [], ◌∷◌, ◌++◌, length, map, take, Option, refl, sym, ap, ◌∙◌, subst, arith, inl, inr}
 use Rattle.std.specs.Prelude.{Result, Ok}
 use Rattle.std.proofs.lemmas.List.{append-nil, take_all}
+use Rattle.sporc_outside.specs.Told.{AppendsItems}
 use Rattle.lms_leaf.specs.declared.faults.LeafFault.TheVariants as leaves
 use Rattle.sporc_head.specs.declared.refusal.Refusal.{Refusal}
 use Rattle.sporc_turn.specs.declared.known.Known.{Known}
@@ -20,7 +21,7 @@ use Rattle.sporc_shared.specs.declared.fault.SessionFault.TheVariants as faults
 use Rattle.sporc_shared.specs.Acts.{Act, Ask, Look, Pull, Take, Submit, Check, AreInOrder, Fits, FitAll, Looked, all_of, answers_by, handed_out, items_by, messages_by, moment_after, words_by}
 use Rattle.sporc_shared.specs.Asking.{AskFails, Gathered, GatherStopped, SilentFor, UnsentFor, asking, silent, taking, unsent, wrong}
 use Rattle.sporc_shared.specs.Calls.{IsCall}
-use Rattle.sporc_shared.specs.Courses.{Stand, stand, AppendsWords, Course, KnowsMore}
+use Rattle.sporc_shared.specs.Courses.{Stand, stand, Course, KnowsMore}
 use Rattle.sporc_shared.specs.Endings.{Cause, IsAnswer, IsTaking, IsSubmitting, AcceptGives, TakeCause, takes_of, SubmitCause, Submission, Did, Stopped}
 use Rattle.sporc_shared.specs.Items.{Item, Happened, Past, client_of, items_of}
 use Rattle.sporc_shared.specs.Points.{IsPoint}
@@ -54,7 +55,7 @@ module _ {link : LinkStand} {words : Option (List (List ℕ))} {g : ℕ} where
     in_order = (later, tt);
     link = subst (λ (m : List ToServer). Exchanged link link (spelled (m ++ []) ++ []) ((answers_by act ++ []) ++ [])) (sym no_message)
         (subst (λ (l : List ToClient). Exchanged link link [] ((l ++ []) ++ [])) (sym no_answer) (exchanged_none link));
-    words_are = subst (λ (l : List (List ℕ)). AppendsWords words words ((l ++ []) ++ [])) (sym no_word) (words_none words);
+    words_are = subst (λ (l : List (List ℕ)). AppendsItems words words ((l ++ []) ++ [])) (sym no_word) (words_none words);
     chance = omega arith;
   }
 
@@ -266,7 +267,7 @@ module _ {words : Option (List (List ℕ))} {g : ℕ} {a b : LinkStand} where
     link = subst (λ (m : List ToServer). Exchanged a b (spelled (to_server.Pull at ∷ m) ++ []) ((handed_out at came ∷ all_of answers_by (takes_of at front)) ++ [])) (sym (takes_silent messages_by (λ p e. refl) at front))
         (subst (λ (l : List ToClient). Exchanged a b (spelled (to_server.Pull at ∷ []) ++ []) ((handed_out at came ∷ l) ++ [])) (sym (takes_silent answers_by (λ p e. refl) at front))
         (subst (λ (w : List ℕ). Exchanged a b w (handed_out at came ∷ [])) (sym (append-nil (spelled (to_server.Pull at ∷ [])))) link));
-    words_are = subst (λ (l : List (List ℕ)). AppendsWords words words (l ++ [])) (sym (takes_silent words_by (λ p e. refl) at front)) (words_none words);
+    words_are = subst (λ (l : List (List ℕ)). AppendsItems words words (l ++ [])) (sym (takes_silent words_by (λ p e. refl) at front)) (words_none words);
     chance = omega arith;
   }
 
@@ -334,18 +335,18 @@ module _ {words : Option (List (List ℕ))} {g : ℕ} {a b : LinkStand} where
 
 -- a submission
 module _ {link : LinkStand} {w w' : Option (List (List ℕ))} {c c' : ℕ} (low : c ≤ c') where
-  submission_course : {k k' : Known Item} {drawn : List (List ℕ)} {answer : Result Submitted SubmitFault} (s : Submission k k' drawn answer) → AppendsWords w w' drawn
+  submission_course : {k k' : Known Item} {drawn : List (List ℕ)} {answer : Result Submitted SubmitFault} (s : Submission k k' drawn answer) → AppendsItems w w' drawn
       → Course (stand k link w c) (stand k' link w' c') (Submit s.point s.first s.second answer ∷ []) [] [] []
   submission_course {k} {k'} {answer = answer} s drew = record {
     knows = subst (KnowsMore k k') (sym (append-nil (map Happened (submission_added 0 answer)))) s.knows;
     fits = (s.fits, tt);
     in_order = (s.later, tt);
     link = exchanged_none link;
-    words_are = subst (AppendsWords w w') s.drawn_are drew;
+    words_are = subst (AppendsItems w w') s.drawn_are drew;
     chance = low;
   }
 
-  pub quiet_did : {ready : ℕ → ℕ → Bool} {n at : ℕ} {k k' : Known Item} {drawn : List (List ℕ)} {answer : Result Submitted SubmitFault} → Submission k k' drawn answer → AppendsWords w w' drawn → IsQuiet answer
+  pub quiet_did : {ready : ℕ → ℕ → Bool} {n at : ℕ} {k k' : Known Item} {drawn : List (List ℕ)} {answer : Result Submitted SubmitFault} → Submission k k' drawn answer → AppendsItems w w' drawn → IsQuiet answer
       → Did ready (stand k link w c) (stand k' link w' c') (Taking n at [] Submits) (Between (n + 1))
   quiet_did {n = n} {answer = answer} s drew quiet = record {
     acts = Submit s.point s.first s.second answer ∷ [];
@@ -353,7 +354,7 @@ module _ {link : LinkStand} {w w' : Option (List (List ℕ))} {c c' : ℕ} (low 
     leads = (Between (n + 1), submits_none quiet, refl);
   }
 
-  pub entry_did : {ready : ℕ → ℕ → Bool} {n at : ℕ} {k k' : Known Item} {drawn : List (List ℕ)} {answer : Result Submitted SubmitFault} {e : List ℕ} → Submission k k' drawn answer → AppendsWords w w' drawn → answer ≡ Ok (submitted.Entry e)
+  pub entry_did : {ready : ℕ → ℕ → Bool} {n at : ℕ} {k k' : Known Item} {drawn : List (List ℕ)} {answer : Result Submitted SubmitFault} {e : List ℕ} → Submission k k' drawn answer → AppendsItems w w' drawn → answer ≡ Ok (submitted.Entry e)
       → Did ready (stand k link w c) (stand k' link w' c') (Taking n at [] Submits) (Sending n at e)
   entry_did {ready} {n} {at} {answer = answer} {e = e} s drew is = record {
     acts = Submit s.point s.first s.second answer ∷ [];
@@ -361,7 +362,7 @@ module _ {link : LinkStand} {w w' : Option (List (List ℕ))} {c c' : ℕ} (low 
     leads = (Sending n at e, subst (λ a. Goes ready (Taking n at [] Submits) (Submit s.point s.first s.second a) (Sending n at e)) (sym is) submits_entry, refl);
   }
 
-  pub submit_stopped : {ready : ℕ → ℕ → Bool} {n at : ℕ} {k k' : Known Item} {fault : SessionFault} (drawn : List (List ℕ)) → length drawn ≤ 2 → AppendsWords w w' drawn → KnowsMore k k' [] → SubmitCause k' drawn c c' fault
+  pub submit_stopped : {ready : ℕ → ℕ → Bool} {n at : ℕ} {k k' : Known Item} {fault : SessionFault} (drawn : List (List ℕ)) → length drawn ≤ 2 → AppendsItems w w' drawn → KnowsMore k k' [] → SubmitCause k' drawn c c' fault
       → Stopped ready (stand k link w c) (stand k' link w' c') (Taking n at [] Submits) (n + 1) fault
   submit_stopped {n = n} {at = at} {k = k} {k' = k'} {fault = fault} drawn few drew knows cause = record {
     acts = [];

@@ -6,7 +6,7 @@ use Rattle.std.specs.Prelude.{◌<◌, Result, IfOk, IfSome}
 use Rattle.lms_leaf.specs.declared.faults.LeafFault.{LeafFault}
 use Rattle.sporc_base.specs.Outcome.{GivesUnless}
 use Rattle.sporc_outside.specs.Counts.{Rose}
-use Rattle.sporc_outside.specs.Told.{AppendsItem}
+use Rattle.sporc_outside.specs.Told.{AppendsItem, AppendsItems}
 use Rattle.sporc_wire.specs.declared.cutter.TheConstants.{MAX_BODY}
 use Rattle.sporc_turn.specs.declared.known.Known.{Known}
 use Rattle.sporc_turn.specs.declared.pass.Pass.{Pass}
@@ -22,7 +22,7 @@ use Rattle.sporc_shared.specs.declared.answered.Answered.{Answered}
 use Rattle.sporc_shared.specs.declared.fault.SessionFault.{SessionFault}
 use Rattle.sporc_shared.specs.declared.fault.SessionFault.TheVariants as faults
 use Rattle.sporc_shared.specs.Calls.{IsCall, SubmitsAt}
-use Rattle.sporc_shared.specs.Courses.{AppendsWords, CountsSame, KnowsMore}
+use Rattle.sporc_shared.specs.Courses.{CountsSame, KnowsMore}
 use Rattle.sporc_shared.specs.Endings.{SubmitGives, Submission}
 use Rattle.sporc_shared.specs.Items.{Item, Happened, Past, client_of, items_of}
 use Rattle.sporc_shared.specs.Outcomes.{Drew, DrewFew, SubmittedOne}
@@ -42,13 +42,13 @@ both_put half both first second one two all put put' =
     sym (take_all (32 + length second) both (omega (arith, two, all))) ∙ put' ∙ ap (λ (l : List ℕ). l ++ second) front
 
 -- one word was drawn
-word_drawn : (u v : Option (List (List ℕ))) (first : List ℕ) → AppendsItem u v first → AppendsWords u v (first ∷ [])
+word_drawn : (u v : Option (List (List ℕ))) (first : List ℕ) → AppendsItem u v first → AppendsItems u v (first ∷ [])
 word_drawn None v first one = tt
 word_drawn (Some given) None first one = one
 word_drawn (Some given) (Some more) first one = one
 
 -- two words were, one after the other
-words_drawn : (u v w : Option (List (List ℕ))) (first second : List ℕ) → AppendsItem u v first → AppendsItem v w second → AppendsWords u w (first ∷ second ∷ [])
+words_drawn : (u v w : Option (List (List ℕ))) (first second : List ℕ) → AppendsItem u v first → AppendsItem v w second → AppendsItems u w (first ∷ second ∷ [])
 words_drawn None v w first second one two = tt
 words_drawn (Some given) None w first second one two = absurd one
 words_drawn (Some given) (Some more) None first second one two = two
@@ -59,10 +59,10 @@ drew_both u v w first second random one two is = (first, second, is, words_drawn
 
 -- the chance failed at the first word, or at the second
 pub drew_none : (u v : Option (List (List ℕ))) → v ≡ u → DrewFew u v faults.ChanceFault
-drew_none u v same = (refl, ([], omega arith, subst (λ (words : Option (List (List ℕ))). AppendsWords u words []) (sym same) (words_none u)))
+drew_none u v same = (refl, ([], omega arith, subst (λ (words : Option (List (List ℕ))). AppendsItems u words []) (sym same) (words_none u)))
 
 pub drew_one : (u v w : Option (List (List ℕ))) (first : List ℕ) → AppendsItem u v first → w ≡ v → DrewFew u w faults.ChanceFault
-drew_one u v w first one same = (refl, (first ∷ [], omega arith, subst (λ (words : Option (List (List ℕ))). AppendsWords u words (first ∷ [])) (sym same) (word_drawn u v first one)))
+drew_one u v w first one same = (refl, (first ∷ [], omega arith, subst (λ (words : Option (List (List ℕ))). AppendsItems u words (first ∷ [])) (sym same) (word_drawn u v first one)))
 
 -- an answer other than out of memory is the definition's
 given : (answer answer' : Result Submitted SubmitFault) → answer ≢ Err submits.Memory → GivesUnless submits.Memory (λ s. s) answer answer' → answer ≡ answer'
@@ -105,7 +105,7 @@ module _ (k k' : Known Item) (before : Past) (first second : List ℕ) (leaf : R
 abbrev SubmitCall : Known Item → List ℕ → Known Item → Result Submitted SubmitFault → Type 0
 SubmitCall k random k' answer = (before : Past) × IsCall k k' before (submission_added k.number answer) × SubmitsAt before random answer
 
-module _ (k : Known Item) (w w' : Option (List (List ℕ))) (n n' : ℕ) (first second : List ℕ) (zero' : k.number ≡ 0) (drew : AppendsWords w w' (first ∷ second ∷ [])) where
+module _ (k : Known Item) (w w' : Option (List (List ℕ))) (n n' : ℕ) (first second : List ℕ) (zero' : k.number ≡ 0) (drew : AppendsItems w w' (first ∷ second ∷ [])) where
   kept : (k' : Known Item) (answer : Result Submitted SubmitFault) → answer ≢ Err submits.Memory → SubmitCall k (first ++ second) k' answer → Submission k k' (first ∷ second ∷ []) answer
   kept k' answer other h =
       sub_fits k k' h.0 first second h.2.leaf h.2.may zero' answer h.1 (given answer (submission (client_of h.0) (first ++ second) h.2.leaf) other h.2.gives)

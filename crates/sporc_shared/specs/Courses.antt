@@ -1,5 +1,8 @@
 -- What a receiver did from one moment to a later one.
-use Rattle.std.specs.Prelude.{◌≡◌, ◌≤◌, ℕ, List, ◌++◌, length, Option, None, Some}
+use Rattle.std.specs.Prelude.{◌≡◌, ◌≤◌, ℕ, List, ◌++◌, length, Option}
+use Rattle.sporc_outside.specs.Told.{AppendsItems}
+use Rattle.sporc_outside.specs.Chances.{ChanceTold}
+use Rattle.sporc_outside.specs.Streams.{StreamTold}
 use Rattle.sporc_turn.specs.declared.known.Known.{Known}
 use Rattle.sporc_turn.specs.Log.{StartsWith, Agrees}
 use Rattle.sporc_wire.specs.declared.to_client.ToClient.{ToClient}
@@ -17,15 +20,9 @@ pub record Stand : Type 0 where
 abbrev pub stand : Known Item → LinkStand → Option (List (List ℕ)) → ℕ → Stand
 stand known link words chance_faults = record { known = known; link = link; words = words; chance_faults = chance_faults }
 
--- by the functions by which a link and a chance tell these
-abbrev pub stand_at : {L C : Type 0} → (L → Option (List ℕ)) → (L → Option (List ℕ)) → (L → ℕ) → (C → Option (List (List ℕ))) → (C → ℕ) → Known Item → L → InboxModel → C → Stand
-stand_at written left faults given chance_faults known link inbox chance = stand known (link_at written left faults link inbox) (given chance) (chance_faults chance)
-
--- told words grow by these
-abbrev pub AppendsWords : Option (List (List ℕ)) → Option (List (List ℕ)) → List (List ℕ) → Type 0
-AppendsWords None new words = Unit {0}
-AppendsWords (Some given) None words = ⊥
-AppendsWords (Some given) (Some more) words = more ≡ given ++ words
+-- by what the link and the chance tell
+abbrev pub stand_at : Known Item → StreamTold → InboxModel → ChanceTold → Stand
+stand_at known link inbox chance = stand known (link_at link inbox) chance.given chance.faults
 
 -- the items are the log of a client that its own calls can have
 pub record IsAllowedLog (log : List Item) : Type 0 where
@@ -54,5 +51,5 @@ pub record Course (a b : Stand) (acts : List Act) (written : List ℕ) (answers 
   pub fits : FitAll b.known.seen a.known.start a.known.mine acts
   pub in_order : AreInOrder (length a.known.seen) acts
   pub link : Exchanged a.link b.link (spelled (all_of messages_by acts) ++ written) (all_of answers_by acts ++ answers)
-  pub words_are : AppendsWords a.words b.words (all_of words_by acts ++ words)
+  pub words_are : AppendsItems a.words b.words (all_of words_by acts ++ words)
   pub chance : a.chance_faults ≤ b.chance_faults

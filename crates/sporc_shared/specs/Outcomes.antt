@@ -1,5 +1,6 @@
 -- What the steps of a receiver come to.
 use Rattle.std.specs.Prelude.{◌≡◌, ◌+◌, ◌≤◌, ℕ, List, [], ◌∷◌, ◌++◌, length, Option, None, Some, Result, MatchResult, ⊤, Ok, Bool}
+use Rattle.sporc_outside.specs.Told.{AppendsItems}
 use Rattle.sporc_head.specs.declared.limits.TheConstants.{MAX_ENTRIES}
 use Rattle.sporc_turn.specs.declared.known.Known.{Known}
 use Rattle.sporc_client.specs.declared.fault.SubmitFault.{SubmitFault}
@@ -10,7 +11,7 @@ use Rattle.sporc_shared.specs.declared.fault.SessionFault.{SessionFault}
 use Rattle.sporc_shared.specs.declared.fault.SessionFault.TheVariants as faults
 use Rattle.sporc_shared.specs.Acts.{all_of, items_by}
 use Rattle.sporc_shared.specs.Asking.{Gathered, GatherStopped}
-use Rattle.sporc_shared.specs.Courses.{Stand, KnowsMore, AppendsWords}
+use Rattle.sporc_shared.specs.Courses.{Stand, KnowsMore}
 use Rattle.sporc_shared.specs.Endings.{TakeCause, TakingStopped, takes_of, SubmitCause, Submission, Did, Stopped}
 use Rattle.sporc_shared.specs.Items.{Item, Happened}
 use Rattle.sporc_shared.specs.Protocol.{Mode, IsQuiet, rounds_begun}
@@ -39,8 +40,8 @@ IsMade (Some entry) answer = answer ≡ Ok (submitted.Entry entry)
 abbrev pub SubmittedOne : Known Item → Known Item → Option (List (List ℕ)) → Option (List (List ℕ)) → ℕ → ℕ → Result (Option (List ℕ)) SessionFault → Type 0
 SubmittedOne k k' words words' count count' result =
     MatchResult result
-    (λ made. (answer : Result Submitted SubmitFault) × (drawn : List (List ℕ)) × Submission k k' drawn answer × AppendsWords words words' drawn × IsMade made answer)
-    (λ f. (drawn : List (List ℕ)) × (length drawn ≤ 2) × AppendsWords words words' drawn × KnowsMore k k' [] × SubmitCause k' drawn count count' f)
+    (λ made. (answer : Result Submitted SubmitFault) × (drawn : List (List ℕ)) × Submission k k' drawn answer × AppendsItems words words' drawn × IsMade made answer)
+    (λ f. (drawn : List (List ℕ)) × (length drawn ≤ 2) × AppendsItems words words' drawn × KnowsMore k k' [] × SubmitCause k' drawn count count' f)
 
 -- entries were pulled and accepted, and how many there are now
 pub record GatheredAll (k k' : Known Item) (a b : LinkStand) (at : ℕ) (result : Result ℕ SessionFault) : Type 0 where
@@ -54,8 +55,8 @@ pub record DidOrStopped (ready : ℕ → ℕ → Bool) (a b : Stand) (m m' : Mod
 
 -- two words were drawn, which make this string
 abbrev pub Drew : Option (List (List ℕ)) → Option (List (List ℕ)) → List ℕ → Type 0
-Drew given given' random = (first : List ℕ) × (second : List ℕ) × (random ≡ first ++ second) × AppendsWords given given' (first ∷ second ∷ [])
+Drew given given' random = (first : List ℕ) × (second : List ℕ) × (random ≡ first ++ second) × AppendsItems given given' (first ∷ second ∷ [])
 
 -- the chance failed, before both words were drawn
 abbrev pub DrewFew : Option (List (List ℕ)) → Option (List (List ℕ)) → SessionFault → Type 0
-DrewFew given given' fault = (fault ≡ faults.ChanceFault) × ((drawn : List (List ℕ)) × (length drawn ≤ 2) × AppendsWords given given' drawn)
+DrewFew given given' fault = (fault ≡ faults.ChanceFault) × ((drawn : List (List ℕ)) × (length drawn ≤ 2) × AppendsItems given given' drawn)

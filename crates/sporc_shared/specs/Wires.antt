@@ -2,6 +2,7 @@
 use Rattle.std.specs.Prelude.{◌≡◌, ◌⊎◌, ◌<◌, ◌≤◌, ◌^◌, ℕ, ◌+◌, List, [], ◌++◌, length, Option, None, Some, Ok, Err, IfSome}
 use Rattle.std.specs.Io.KnownBytes.{Appends, Consumes}
 use Rattle.std.specs.List.{flat_map}
+use Rattle.sporc_outside.specs.Streams.{StreamTold}
 use Rattle.sporc_wire.specs.declared.fault.FrameFault.TheVariants as frames
 use Rattle.sporc_wire.specs.declared.to_client.ToClient.{ToClient}
 use Rattle.sporc_wire.specs.declared.to_server.ToServer.{ToServer}
@@ -53,9 +54,9 @@ pub record LinkStand : Type 0 where
 abbrev pub link_stand : Option (List ℕ) → Option (List ℕ) → ℕ → InboxModel → LinkStand
 link_stand written left faults inbox = record { written = written; left = left; faults = faults; inbox = inbox }
 
--- by the functions by which a link tells these
-abbrev pub link_at : {L : Type 0} → (L → Option (List ℕ)) → (L → Option (List ℕ)) → (L → ℕ) → L → InboxModel → LinkStand
-link_at written left faults link inbox = link_stand (written link) (left link) (faults link) inbox
+-- by what the link tells
+abbrev pub link_at : StreamTold → InboxModel → LinkStand
+link_at link inbox = link_stand link.written link.left link.faults inbox
 
 -- the bytes that were taken off the link, with those from before, read as these answers, and then the rest
 pub record Received (a b : LinkStand) (answers : List ToClient) : Type 0 where

@@ -52,10 +52,10 @@ pub(crate) fn crowd<
     ensures lock { IsPassOf shared.now result.1 }
     ensures first { (known_of result.1).number ≡ 0 }
     ensures crowd { IsCrowd
-        (stand_at L.written L.left L.faults C.given C.faults (known_of first) link.old inbox.old chance.old)
-        (stand_at L.written L.left L.faults C.given C.faults (known_of result.1) link.new inbox.new chance.new)
+        (stand_at (known_of first) (L.told link.old) inbox.old (C.told chance.old))
+        (stand_at (known_of result.1) (L.told link.new) inbox.new (C.told chance.new))
         rounds scripts.now result.0.receiver result.0.editors }
-    ensures shut { L.is_shut link.new ≡ L.is_shut link.old }
+    ensures shut { (L.told link.new).is_shut ≡ (L.told link.old).is_shut }
     ensures worn { IfSome result.0.receiver (IsWornFor result.1) × IfSome result.0.editors (IsWornFor result.1) }
 {
     let Some((script, others)) = scripts.split_first() else {
@@ -86,10 +86,10 @@ pub(crate) fn crowd<
             requires { IsSync R.row × IsSync G.row × IsSend D.row × IsSend L.row × IsSend C.row × IsFirst shared.now first (length others.now) }
             ensures { IfSome first.entry (λ p. IsPassOf shared.entry.now result.1 × ((known_of result.1).number ≡ 0)
                 × IsCrowd
-                (stand_at L.written L.left L.faults C.given C.faults (known_of p) link.entry.now inbox.entry.now chance.entry.now)
-                (stand_at L.written L.left L.faults C.given C.faults (known_of result.1) link.exit.now inbox.exit.now chance.exit.now)
+                (stand_at (known_of p) (L.told link.entry.now) inbox.entry.now (C.told chance.entry.now))
+                (stand_at (known_of result.1) (L.told link.exit.now) inbox.exit.now (C.told chance.exit.now))
                 rounds others.entry.now result.0.receiver result.0.editors
-                × (L.is_shut link.exit.now ≡ L.is_shut link.entry.now)
+                × ((L.told link.exit.now).is_shut ≡ (L.told link.entry.now).is_shut)
                 × IfSome result.0.receiver (IsWornFor result.1) × IfSome result.0.editors (IsWornFor result.1)) }
         {
             crowd(

@@ -28,14 +28,14 @@ pub(crate) fn send<L: Link>(
 ) -> Result<(), SessionFault>
     requires { length (to_server_bytes message.now) ≤ MAX_BODY }
     ensures ok { OnOk result (Exchanged
-        (link_at L.written L.left L.faults link.old inbox.now)
-        (link_at L.written L.left L.faults link.new inbox.now)
+        (link_at (L.told link.old) inbox.now)
+        (link_at (L.told link.new) inbox.now)
         (spelled (message.now ∷ [])) []) }
     ensures err { IfErr result (Unsent
-        (link_at L.written L.left L.faults link.old inbox.now)
-        (link_at L.written L.left L.faults link.new inbox.now)
+        (link_at (L.told link.old) inbox.now)
+        (link_at (L.told link.new) inbox.now)
         message.now) }
-    ensures shut { L.is_shut link.new ≡ L.is_shut link.old }
+    ensures shut { (L.told link.new).is_shut ≡ (L.told link.old).is_shut }
 {
     match write_to_server(alloc, message) {
         Ok(bytes) => match write_all(link, bytes.as_slice()) {
@@ -52,14 +52,14 @@ fn read_piece<L: Link>(link: &mut L, inbox: &mut Inbox) -> Result<(), SessionFau
     requires held { inbox.old.held ≡ [] }
     requires waits { (next to_client_of (unread_of inbox.old)).answer ≡ Ok None }
     ensures ok { OnOk result ((piece : List ℕ) × (0 < length piece) × Took
-        (link_at L.written L.left L.faults link.old inbox.old)
-        (link_at L.written L.left L.faults link.new inbox.new)
+        (link_at (L.told link.old) inbox.old)
+        (link_at (L.told link.new) inbox.new)
         piece) }
     ensures err { IfErr result (IsSilent
-        (link_at L.written L.left L.faults link.old inbox.old)
-        (link_at L.written L.left L.faults link.new inbox.new)
+        (link_at (L.told link.old) inbox.old)
+        (link_at (L.told link.new) inbox.new)
         ) }
-    ensures shut { L.is_shut link.new ≡ L.is_shut link.old }
+    ensures shut { (L.told link.new).is_shut ≡ (L.told link.old).is_shut }
 {
     let mut buf = [0u8; PIECE];
     let Ok(n) = link.read(&mut buf) else {
@@ -86,14 +86,14 @@ fn unread(place: u64, fault: FrameFault) -> SessionFault
 // The next message that comes.
 fn receive<L: Link>(link: &mut L, inbox: &mut Inbox) -> Result<ToClient, SessionFault>
     ensures ok { IfOk result (λ answer. Exchanged
-        (link_at L.written L.left L.faults link.old inbox.old)
-        (link_at L.written L.left L.faults link.new inbox.new)
+        (link_at (L.told link.old) inbox.old)
+        (link_at (L.told link.new) inbox.new)
         [] (answer ∷ []) × IsLastFrom inbox.old.at answer inbox.new) }
     ensures err { IfErr result (IsSilent
-        (link_at L.written L.left L.faults link.old inbox.old)
-        (link_at L.written L.left L.faults link.new inbox.new)
+        (link_at (L.told link.old) inbox.old)
+        (link_at (L.told link.new) inbox.new)
         ) }
-    ensures shut { L.is_shut link.new ≡ L.is_shut link.old }
+    ensures shut { (L.told link.new).is_shut ≡ (L.told link.old).is_shut }
 {
     loop {
         match inbox.next() {
@@ -114,14 +114,14 @@ fn ask<L: Link>(
 ) -> Result<ToClient, SessionFault>
     requires { length (to_server_bytes message.now) ≤ MAX_BODY }
     ensures ok { IfOk result (Asks
-        (link_at L.written L.left L.faults link.old inbox.old)
-        (link_at L.written L.left L.faults link.new inbox.new)
+        (link_at (L.told link.old) inbox.old)
+        (link_at (L.told link.new) inbox.new)
         message.now) }
     ensures err { IfErr result (AskFails
-        (link_at L.written L.left L.faults link.old inbox.old)
-        (link_at L.written L.left L.faults link.new inbox.new)
+        (link_at (L.told link.old) inbox.old)
+        (link_at (L.told link.new) inbox.new)
         message.now) }
-    ensures shut { L.is_shut link.new ≡ L.is_shut link.old }
+    ensures shut { (L.told link.new).is_shut ≡ (L.told link.old).is_shut }
 {
     send(alloc, link, inbox, message)?;
     receive(link, inbox)
@@ -155,14 +155,14 @@ pub(crate) fn pull<L: Link>(
 ) -> Result<Items<Bytes>, SessionFault>
     requires { from < 2 ^ 31 }
     ensures ok { IfOk result (λ es. Exchanged
-        (link_at L.written L.left L.faults link.old inbox.old)
-        (link_at L.written L.left L.faults link.new inbox.new)
+        (link_at (L.told link.old) inbox.old)
+        (link_at (L.told link.new) inbox.new)
         (spelled (to_server.Pull from ∷ [])) (handed_out from es ∷ [])) }
     ensures err { IfErr result (AskFails
-        (link_at L.written L.left L.faults link.old inbox.old)
-        (link_at L.written L.left L.faults link.new inbox.new)
+        (link_at (L.told link.old) inbox.old)
+        (link_at (L.told link.new) inbox.new)
         (to_server.Pull from)) }
-    ensures shut { L.is_shut link.new ≡ L.is_shut link.old }
+    ensures shut { (L.told link.new).is_shut ≡ (L.told link.old).is_shut }
 {
     let place = inbox.at();
     let answer = ask(alloc, link, inbox, &ToServer::Pull { from })?;
@@ -182,14 +182,14 @@ pub(crate) fn send_entry<L: Link>(
     requires { length entry < MAX_BODY }
     ensures returned { result.1 ≡ entry }
     ensures ok { IfOk result.0 (λ refusal. (reply : ServerReply) × IsReply refusal reply × Exchanged
-        (link_at L.written L.left L.faults link.old inbox.old)
-        (link_at L.written L.left L.faults link.new inbox.new)
+        (link_at (L.told link.old) inbox.old)
+        (link_at (L.told link.new) inbox.new)
         (spelled (to_server.Submit entry ∷ [])) (reply_message reply ∷ [])) }
     ensures err { IfErr result.0 (AskFails
-        (link_at L.written L.left L.faults link.old inbox.old)
-        (link_at L.written L.left L.faults link.new inbox.new)
+        (link_at (L.told link.old) inbox.old)
+        (link_at (L.told link.new) inbox.new)
         (to_server.Submit entry)) }
-    ensures shut { L.is_shut link.new ≡ L.is_shut link.old }
+    ensures shut { (L.told link.new).is_shut ≡ (L.told link.old).is_shut }
 {
     let place = inbox.at();
     let message = ToServer::Submit { entry };

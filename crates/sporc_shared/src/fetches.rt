@@ -26,8 +26,8 @@ pub fn fetch<L: Link>(
     member: u16,
 ) -> Result<Entries, SessionFault>
     ensures fetch { (inbox : InboxModel)
-        × IsFetch (link_at L.written L.left L.faults link.old empty_inbox) (link_at L.written L.left L.faults link.new inbox) document.now member result }
-    ensures shut { L.is_shut link.new ≡ L.is_shut link.old }
+        × IsFetch (link_at (L.told link.old) empty_inbox) (link_at (L.told link.new) inbox) document.now member result }
+    ensures shut { (L.told link.new).is_shut ≡ (L.told link.old).is_shut }
 {
     let mut inbox = Inbox::new(alloc);
     send(alloc, link, &inbox, &hello_of(document, member))?;

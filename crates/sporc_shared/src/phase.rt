@@ -36,10 +36,10 @@ fn greet<R: Wait, D: LeafDisk, L: Link>(
     ensures counts { CountsSame (known_of pass) (known_of result.1) }
     ensures did { (words : Option (List (List ℕ))) (count : ℕ)
         → DidOrStopped always
-        (stand (known_of pass) (link_at L.written L.left L.faults link.old inbox.now) words count)
-        (stand (known_of result.1) (link_at L.written L.left L.faults link.new inbox.now) words count)
+        (stand (known_of pass) (link_at (L.told link.old) inbox.now) words count)
+        (stand (known_of result.1) (link_at (L.told link.new) inbox.now) words count)
         Asking (Between 0) result.0 }
-    ensures shut { L.is_shut link.new ≡ L.is_shut link.old }
+    ensures shut { (L.told link.new).is_shut ≡ (L.told link.old).is_shut }
     ensures worn { IfErr result.0 (IsWornFor result.1) }
 {
     let (answer, pass) = plain(shared.hello(rt, pass));
@@ -66,10 +66,10 @@ fn look_and_round<R: Wait, D: LeafDisk, L: Link, C: Chance, G: Gate>(
     ensures counts { CountsSame (known_of pass) (known_of result.1) }
     ensures did { (n : ℕ)
         → DidOrStopped always
-        (stand_at L.written L.left L.faults C.given C.faults (known_of pass) link.old inbox.old chance.old)
-        (stand_at L.written L.left L.faults C.given C.faults (known_of result.1) link.new inbox.new chance.new)
+        (stand_at (known_of pass) (L.told link.old) inbox.old (C.told chance.old))
+        (stand_at (known_of result.1) (L.told link.new) inbox.new (C.told chance.new))
         (Between n) (Between (n + 1)) result.0 }
-    ensures shut { L.is_shut link.new ≡ L.is_shut link.old }
+    ensures shut { (L.told link.new).is_shut ≡ (L.told link.old).is_shut }
     ensures worn { IfErr result.0 (IsWornFor result.1) }
 {
     let (answer, pass) = plain(shared.look(rt, pass));
@@ -96,10 +96,10 @@ fn rounds_of<R: Wait, D: LeafDisk, L: Link, C: Chance, G: Gate>(
     ensures lock { IsPassOf shared.now result.1 }
     ensures counts { CountsSame (known_of pass) (known_of result.1) }
     ensures did { DidOrStopped always
-        (stand_at L.written L.left L.faults C.given C.faults (known_of pass) link.old inbox.old chance.old)
-        (stand_at L.written L.left L.faults C.given C.faults (known_of result.1) link.new inbox.new chance.new)
+        (stand_at (known_of pass) (L.told link.old) inbox.old (C.told chance.old))
+        (stand_at (known_of result.1) (L.told link.new) inbox.new (C.told chance.new))
         (Between 0) (Between rounds) result.0 }
-    ensures shut { L.is_shut link.new ≡ L.is_shut link.old }
+    ensures shut { (L.told link.new).is_shut ≡ (L.told link.old).is_shut }
     ensures worn { IfErr result.0 (IsWornFor result.1) }
 {
     let mut mine = pass;
@@ -132,10 +132,10 @@ pub(crate) fn first_phase<R: Wait, D: LeafDisk, L: Link, C: Chance, G: Gate>(
     ensures lock { IsPassOf shared.now result.1 }
     ensures counts { CountsSame (known_of pass) (known_of result.1) }
     ensures phase { FirstPhase
-        (stand_at L.written L.left L.faults C.given C.faults (known_of pass) link.old inbox.old chance.old)
-        (stand_at L.written L.left L.faults C.given C.faults (known_of result.1) link.new inbox.new chance.new)
+        (stand_at (known_of pass) (L.told link.old) inbox.old (C.told chance.old))
+        (stand_at (known_of result.1) (L.told link.new) inbox.new (C.told chance.new))
         rounds result.0 }
-    ensures shut { L.is_shut link.new ≡ L.is_shut link.old }
+    ensures shut { (L.told link.new).is_shut ≡ (L.told link.old).is_shut }
     ensures worn { IfSome result.0 (IsWornFor result.1) }
 {
     let (greeted, pass) = greet(rt, alloc, shared, link, inbox, pass);
@@ -173,10 +173,10 @@ pub(crate) fn second_phase<R: Wait, D: LeafDisk, L: Link, C: Chance, G: Gate>(
     ensures lock { IsPassOf shared.now result.1 }
     ensures counts { CountsSame (known_of pass) (known_of result.1) }
     ensures phase { SecondPhase
-        (stand_at L.written L.left L.faults C.given C.faults (known_of pass) link.old inbox.old chance.old)
-        (stand_at L.written L.left L.faults C.given C.faults (known_of result.1) link.new inbox.new chance.new)
+        (stand_at (known_of pass) (L.told link.old) inbox.old (C.told chance.old))
+        (stand_at (known_of result.1) (L.told link.new) inbox.new (C.told chance.new))
         rounds until result.0 }
-    ensures shut { L.is_shut link.new ≡ L.is_shut link.old }
+    ensures shut { (L.told link.new).is_shut ≡ (L.told link.old).is_shut }
     ensures worn { IfErr result.0 (IsWornFor result.1) }
 {
     let mut mine = pass;

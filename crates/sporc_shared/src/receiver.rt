@@ -202,9 +202,9 @@ pub(crate) fn take_all<R: Wait, D: LeafDisk, G: Gate>(
 
 // Two random words.
 fn draw<C: Chance>(chance: &mut C) -> Result<[u8; 64], SessionFault>
-    ensures ok { IfOk result (Drew (C.given chance.old) (C.given chance.new)) }
-    ensures count { CountsFaults (C.faults chance.old) (C.faults chance.new) result }
-    ensures err { IfErr result (DrewFew (C.given chance.old) (C.given chance.new)) }
+    ensures ok { IfOk result (Drew (C.told chance.old).given (C.told chance.new).given) }
+    ensures count { CountsFaults (C.told chance.old).faults (C.told chance.new).faults result }
+    ensures err { IfErr result (DrewFew (C.told chance.old).given (C.told chance.new).given) }
 {
     let Ok(first) = chance.fill32() else {
         return Err(SessionFault::ChanceFault);
@@ -236,8 +236,8 @@ pub(crate) fn submit<R: Wait, D: LeafDisk, C: Chance>(
     requires first { (known_of pass).number ≡ 0 }
     ensures lock { IsPassOf shared.now result.1 }
     ensures counts { CountsSame (known_of pass) (known_of result.1) }
-    ensures kept { C.faults chance.old ≤ C.faults chance.new }
-    ensures submitted { SubmittedOne (known_of pass) (known_of result.1) (C.given chance.old) (C.given chance.new) (C.faults chance.old) (C.faults chance.new) result.0 }
+    ensures kept { (C.told chance.old).faults ≤ (C.told chance.new).faults }
+    ensures submitted { SubmittedOne (known_of pass) (known_of result.1) (C.told chance.old).given (C.told chance.new).given (C.told chance.old).faults (C.told chance.new).faults result.0 }
     ensures short { IfOk result.0 (λ made. IfSome made (λ entry. length entry < MAX_BODY)) }
     ensures worn { IfErr result.0 (IsWornFor result.1) }
 {

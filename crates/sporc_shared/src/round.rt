@@ -41,10 +41,10 @@ fn gather<R: Wait, D: LeafDisk, L: Link, G: Gate>(
     ensures lock { IsPassOf shared.now result.1 }
     ensures counts { CountsSame (known_of pass) (known_of result.1) }
     ensures gathered { GatheredAll (known_of pass) (known_of result.1)
-        (link_at L.written L.left L.faults link.old inbox.old)
-        (link_at L.written L.left L.faults link.new inbox.new)
+        (link_at (L.told link.old) inbox.old)
+        (link_at (L.told link.new) inbox.new)
         at result.0 }
-    ensures shut { L.is_shut link.new ≡ L.is_shut link.old }
+    ensures shut { (L.told link.new).is_shut ≡ (L.told link.old).is_shut }
     ensures worn { IfErr result.0 (IsWornFor result.1) }
 {
     match pull(alloc, link, inbox, at) {
@@ -79,10 +79,10 @@ fn drain<R: Wait, D: LeafDisk, L: Link, G: Gate>(
     ensures counts { CountsSame (known_of pass) (known_of result.1) }
     ensures did { (ready : ℕ → ℕ → Bool) (n : ℕ) (words : Option (List (List ℕ))) (count : ℕ) (entry : List ℕ) (refusal : Refusal)
         → DidOrStopped ready
-        (stand (known_of pass) (link_at L.written L.left L.faults link.old inbox.old) words count)
-        (stand (known_of result.1) (link_at L.written L.left L.faults link.new inbox.new) words count)
+        (stand (known_of pass) (link_at (L.told link.old) inbox.old) words count)
+        (stand (known_of result.1) (link_at (L.told link.new) inbox.new) words count)
         (Taking n at [] (Drains entry refusal)) (Checking n entry refusal) result.0 }
-    ensures shut { L.is_shut link.new ≡ L.is_shut link.old }
+    ensures shut { (L.told link.new).is_shut ≡ (L.told link.old).is_shut }
     ensures worn { IfErr result.0 (IsWornFor result.1) }
 {
     let mut mine = pass;
@@ -156,10 +156,10 @@ fn settle<R: Wait, D: LeafDisk, L: Link, G: Gate>(
     ensures counts { CountsSame (known_of pass) (known_of result.1) }
     ensures did { (ready : ℕ → ℕ → Bool) (n : ℕ) (words : Option (List (List ℕ))) (count : ℕ)
         → DidOrStopped ready
-        (stand (known_of pass) (link_at L.written L.left L.faults link.old inbox.old) words count)
-        (stand (known_of result.1) (link_at L.written L.left L.faults link.new inbox.new) words count)
+        (stand (known_of pass) (link_at (L.told link.old) inbox.old) words count)
+        (stand (known_of result.1) (link_at (L.told link.new) inbox.new) words count)
         (Taking n at [] (Drains entry.now refusal)) (Between (n + 1)) result.0 }
-    ensures shut { L.is_shut link.new ≡ L.is_shut link.old }
+    ensures shut { (L.told link.new).is_shut ≡ (L.told link.old).is_shut }
     ensures worn { IfErr result.0 (IsWornFor result.1) }
 {
     let (drained, pass) = drain(rt, alloc, shared, gate, link, inbox, pass, at);
@@ -189,10 +189,10 @@ fn offer<R: Wait, D: LeafDisk, L: Link, G: Gate>(
     ensures counts { CountsSame (known_of pass) (known_of result.1) }
     ensures did { (ready : ℕ → ℕ → Bool) (n : ℕ) (words : Option (List (List ℕ))) (count : ℕ)
         → DidOrStopped ready
-        (stand (known_of pass) (link_at L.written L.left L.faults link.old inbox.old) words count)
-        (stand (known_of result.1) (link_at L.written L.left L.faults link.new inbox.new) words count)
+        (stand (known_of pass) (link_at (L.told link.old) inbox.old) words count)
+        (stand (known_of result.1) (link_at (L.told link.new) inbox.new) words count)
         (Sending n at entry) (Between (n + 1)) result.0 }
-    ensures shut { L.is_shut link.new ≡ L.is_shut link.old }
+    ensures shut { (L.told link.new).is_shut ≡ (L.told link.old).is_shut }
     ensures worn { IfErr result.0 (IsWornFor result.1) }
 {
     let (answer, entry) = send_entry(alloc, link, inbox, entry);
@@ -235,10 +235,10 @@ fn give<R: Wait, D: LeafDisk, L: Link, C: Chance, G: Gate>(
     ensures counts { CountsSame (known_of pass) (known_of result.1) }
     ensures did { (ready : ℕ → ℕ → Bool) (n : ℕ)
         → DidOrStopped ready
-        (stand_at L.written L.left L.faults C.given C.faults (known_of pass) link.old inbox.old chance.old)
-        (stand_at L.written L.left L.faults C.given C.faults (known_of result.1) link.new inbox.new chance.new)
+        (stand_at (known_of pass) (L.told link.old) inbox.old (C.told chance.old))
+        (stand_at (known_of result.1) (L.told link.new) inbox.new (C.told chance.new))
         (Taking n at [] Submits) (Between (n + 1)) result.0 }
-    ensures shut { L.is_shut link.new ≡ L.is_shut link.old }
+    ensures shut { (L.told link.new).is_shut ≡ (L.told link.old).is_shut }
     ensures worn { IfErr result.0 (IsWornFor result.1) }
 {
     let (made, pass) = submit(rt, shared, chance, pass);
@@ -270,10 +270,10 @@ pub(crate) fn round<R: Wait, D: LeafDisk, L: Link, C: Chance, G: Gate>(
     ensures counts { CountsSame (known_of pass) (known_of result.1) }
     ensures did { (ready : ℕ → ℕ → Bool) (n : ℕ)
         → DidOrStopped ready
-        (stand_at L.written L.left L.faults C.given C.faults (known_of pass) link.old inbox.old chance.old)
-        (stand_at L.written L.left L.faults C.given C.faults (known_of result.1) link.new inbox.new chance.new)
+        (stand_at (known_of pass) (L.told link.old) inbox.old (C.told chance.old))
+        (stand_at (known_of result.1) (L.told link.new) inbox.new (C.told chance.new))
         (Pulling n at) (Between (n + 1)) result.0 }
-    ensures shut { L.is_shut link.new ≡ L.is_shut link.old }
+    ensures shut { (L.told link.new).is_shut ≡ (L.told link.old).is_shut }
     ensures worn { IfErr result.0 (IsWornFor result.1) }
 {
     let (gathered, pass) = gather(rt, alloc, shared, gate, link, inbox, pass, at);

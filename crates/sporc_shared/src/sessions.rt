@@ -64,10 +64,10 @@ pub fn session<
     ensures lock { IsPassOf shared.now result.1 }
     ensures back { ((known_of result.1).number ≡ 0) × (out_of result.1 ≡ 0) }
     ensures session { (inbox : InboxModel) × IsSession
-        (stand_at L.written L.left L.faults C.given C.faults (known_of pass) link.old empty_inbox chance.old)
-        (stand_at L.written L.left L.faults C.given C.faults (known_of result.1) link.new inbox chance.new)
+        (stand_at (known_of pass) (L.told link.old) empty_inbox (C.told chance.old))
+        (stand_at (known_of result.1) (L.told link.new) inbox (C.told chance.new))
         rounds until editors.now result.0 }
-    ensures shut { L.is_shut link.new ≡ L.is_shut link.old }
+    ensures shut { (L.told link.new).is_shut ≡ (L.told link.old).is_shut }
     ensures worn { IfErr result.0 (IsWornFor result.1) }
 {
     let mut inbox = Inbox::new(alloc);

@@ -3,7 +3,7 @@ use Rattle.std.proofs.Common.{◌≡◌, ℕ, zero, suc, ◌+◌, ◌<◌, ◌�
 use Rattle.std.specs.Prelude.{IfSome, IsSome, OnErr}
 use Rattle.std.proofs.lemmas.List.{take_all}
 use Rattle.sporc_entry.specs.declared.genesis.Genesis.{Genesis}
-use Rattle.sporc_outside.specs.AppendFile.{IsWholeFault}
+use Rattle.sporc_outside.specs.AppendFile.{AppendTold, IsWholeFault, file_images}
 use Rattle.sporc_outside.specs.declared.file_fault.FileFault.TheVariants as files
 use Rattle.sporc_outside.specs.declared.file_fault.TheConstants.{MAX_FILE}
 use Rattle.sporc_store.specs.declared.stop.Stop.{Stop}
@@ -97,19 +97,19 @@ taking_why genesis log stored before after bytes (Refused position refusal) told
 
 -- ---- what is told
 
-pub told_still : {D : Type 0} (stored : D → Option (List ℕ)) (moment : D → ℕ) (images : D → ℕ → List ℕ → Type 0)
-    (is_image : (file : D) → IfSome (stored file) (images file (moment file))) (log : List (List ℕ)) (document bytes : List ℕ) (old new : D) (first : Option (List ℕ))
-    → stored old ≡ first → AreTold first bytes → AreSynced moment images old bytes → TellsStill (stored old) (stored new) → StaysFound moment images log document old new
-    → StaysTold log document first (stored new)
-told_still stored moment images is_image log document bytes old new None is told synced still stays = tt
-told_still stored moment images is_image log document bytes old new (Some first) is told synced still stays =
-    by (stored new) refl (subst (λ (o : Option (List ℕ)). TellsStill o (stored new)) is still refl)
+pub told_still : {D : Type 0} (file_told : D → AppendTold)
+    (is_image : (file : D) → IfSome (file_told file).stored (file_images (file_told file))) (log : List (List ℕ)) (document bytes : List ℕ) (old new : D) (first : Option (List ℕ))
+    → (file_told old).stored ≡ first → AreTold first bytes → AreSynced file_told old bytes → TellsStill (file_told old).stored (file_told new).stored → StaysFound file_told log document old new
+    → StaysTold log document first (file_told new).stored
+told_still file_told is_image log document bytes old new None is told synced still stays = tt
+told_still file_told is_image log document bytes old new (Some first) is told synced still stays =
+    by (file_told new).stored refl (subst (λ (o : Option (List ℕ)). TellsStill o (file_told new).stored) is still refl)
   where
-    by : (o : Option (List ℕ)) → stored new ≡ o → IsSome (stored new) → StaysTold log document (Some first) o
+    by : (o : Option (List ℕ)) → (file_told new).stored ≡ o → IsSome (file_told new).stored → StaysTold log document (Some first) o
     by None none some = let clash : IsSome {T = List ℕ} None = subst IsSome none some in absurd cc
     by (Some last) there some = λ entries found.
-        let here : images new (moment new) last = subst (λ (o : Option (List ℕ)). IfSome o (images new (moment new))) there (is_image new) in
-        let was = stays.during (moment new) last stays.later (omega arith) here in
+        let here : file_images (file_told new) last = subst (λ (o : Option (List ℕ)). IfSome o (file_images (file_told new))) there (is_image new) in
+        let was = stays.during (file_told new).moment last stays.later (omega arith) here in
         was.2 entries (subst (λ (l : List ℕ). Gives log document l entries) (told ∙ sym (synced was.0 was.1)) found)
 
 pub on_err : {T E : Type 0} {P : Type 0} (r : Result T E) → P → OnErr r P

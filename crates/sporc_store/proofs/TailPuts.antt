@@ -3,11 +3,12 @@ use Rattle.std.proofs.Common.{◌≡◌, ℕ, ◌+◌, ◌-◌, ◌^◌, ◌<◌
 use Rattle.std.proofs.lemmas.List.{length-append}
 use Rattle.std.proofs.lemmas.List.Elements.{All-append, All-cons, All-nil}
 use Rattle.std.specs.List.{All}
+use Rattle.sporc_outside.specs.AppendFile.{AppendTold, file_images}
 use Rattle.sporc_store.specs.TailBytes.{FitsRecord, record_bytes, tail_bytes}
 use Rattle.sporc_store.specs.TailFiles.{KeepsEntries, Puts, TailFileModel, Writes}
 use Rattle.sporc_store.proofs.TailReads.{tail_more}
 
-module _ {D : Type 0} (moment : D → ℕ) (images : D → ℕ → List ℕ → Type 0) where
+module _ {D : Type 0} (file_told : D → AppendTold) where
   -- where the next record stands
   place_of : (position : ℕ) (entries before behind : List (List ℕ)) → entries ≡ before ++ behind → position ≡ length entries + 1 → position ≡ length before + length behind + 1
   place_of position entries before behind parts at = omega (arith, at, ap length parts, length-append before behind)
@@ -15,7 +16,7 @@ module _ {D : Type 0} (moment : D → ℕ) (images : D → ℕ → List ℕ → 
   module _ {E F : Type 0} (old new : TailFileModel D) (position : ℕ) (entry : List ℕ) (sound : old.is_faulty ≡ false) (fits : FitsRecord entry)
       (below : position < 2 ^ 31 - 1) (document : new.document ≡ old.document) where
     -- all of the record was
-    pub puts_all : (done : Unit {0}) → Writes moment images {E = F} (record_bytes position entry) old.file new.file (Ok done) → Puts moment images {E = E} old position entry (Ok done) new
+    pub puts_all : (done : Unit {0}) → Writes file_told {E = F} (record_bytes position entry) old.file new.file (Ok done) → Puts file_told {E = E} old position entry (Ok done) new
     puts_all done writes = record {
       document = document;
       writes = record { step = writes.step; all = writes.all };
@@ -24,7 +25,7 @@ module _ {D : Type 0} (moment : D → ℕ) (images : D → ℕ → List ℕ → 
           let from = length before in
           let more = behind ++ entry ∷ [] in
           let place = place_of position entries before behind keeps.parts at in
-          let exact : (image : List ℕ) → images new.file (moment new.file) image → image ≡ tail_bytes new.document from more = λ image there.
+          let exact : (image : List ℕ) → file_images (file_told new.file) image → image ≡ tail_bytes new.document from more = λ image there.
           let was = writes.all image there in
           was.2 ∙ ap (λ (l : List ℕ). l ++ record_bytes position entry) (keeps.whole sound was.0 was.1)
           ∙ ap (λ (p : ℕ). tail_bytes old.document from behind ++ record_bytes p entry) place
@@ -49,7 +50,7 @@ module _ {D : Type 0} (moment : D → ℕ) (images : D → ℕ → List ℕ → 
     }
 
     -- a prefix of it was, at the most
-    pub puts_part : (e : E) (f : F) → Writes moment images (record_bytes position entry) old.file new.file (Err f) → new.is_faulty ≡ true → Puts moment images old position entry (Err e) new
+    pub puts_part : (e : E) (f : F) → Writes file_told (record_bytes position entry) old.file new.file (Err f) → new.is_faulty ≡ true → Puts file_told old position entry (Err e) new
     puts_part e f writes faulty = record {
       document = document;
       writes = record { step = writes.step; all = tt };
@@ -61,7 +62,7 @@ module _ {D : Type 0} (moment : D → ℕ) (images : D → ℕ → List ℕ → 
           record {
             parts = keeps.parts;
             holds = λ image there.
-                let step = writes.step.during (moment new.file) image writes.step.later (omega arith) there in
+                let step = writes.step.during (file_told new.file).moment image writes.step.later (omega arith) there in
                 let tail = (keeps.holds step.0 step.1).2 in (
                   entry,
                   step.2.0,
@@ -80,12 +81,12 @@ module _ {D : Type 0} (moment : D → ℕ) (images : D → ℕ → List ℕ → 
     }
 
   -- what the tail keeps then
-  pub kept_with : {E : Type 0} (old new : TailFileModel D) (position : ℕ) (entry : List ℕ) (result : Result (Unit {0}) E) → Puts moment images old position entry result new
-      → OnOk result ((entries : List (List ℕ)) → KeepsEntries moment images old entries → position ≡ length entries + 1 → KeepsEntries moment images new (entries ++ entry ∷ []))
+  pub kept_with : {E : Type 0} (old new : TailFileModel D) (position : ℕ) (entry : List ℕ) (result : Result (Unit {0}) E) → Puts file_told old position entry result new
+      → OnOk result ((entries : List (List ℕ)) → KeepsEntries file_told old entries → position ≡ length entries + 1 → KeepsEntries file_told new (entries ++ entry ∷ []))
   kept_with old new position entry (Ok done) puts = λ entries keeps at. (keeps.0, keeps.1 ++ entry ∷ [], puts.ok entries keeps.0 keeps.1 keeps.2 at)
   kept_with old new position entry (Err e) puts = tt
 
-  pub still_kept : {E : Type 0} (old new : TailFileModel D) (position : ℕ) (entry : List ℕ) (result : Result (Unit {0}) E) → Puts moment images old position entry result new
-      → OnErr result ((entries : List (List ℕ)) → KeepsEntries moment images old entries → position ≡ length entries + 1 → KeepsEntries moment images new entries)
+  pub still_kept : {E : Type 0} (old new : TailFileModel D) (position : ℕ) (entry : List ℕ) (result : Result (Unit {0}) E) → Puts file_told old position entry result new
+      → OnErr result ((entries : List (List ℕ)) → KeepsEntries file_told old entries → position ≡ length entries + 1 → KeepsEntries file_told new entries)
   still_kept old new position entry (Ok done) puts = tt
   still_kept old new position entry (Err e) puts = λ entries keeps at. (keeps.0, keeps.1, puts.err entries keeps.0 keeps.1 keeps.2 at)

@@ -5,7 +5,7 @@ use Rattle.std.proofs.lemmas.List.{length-append, length-take}
 use Rattle.sporc_bytes.proofs.Fields.{ok_is}
 use Rattle.sporc_entry.specs.declared.genesis.Genesis.{Genesis}
 use Rattle.sporc_order.specs.declared.tail.Unkept.{Unkept}
-use Rattle.sporc_outside.specs.LeafDisk.{IsFound}
+use Rattle.sporc_outside.specs.AppendFile.{AppendTold, IsFileFound, file_images}
 use Rattle.sporc_store.specs.Loading.{AreAccepted}
 use Rattle.sporc_store.specs.SavedFile.{IsPrefix}
 use Rattle.sporc_store.specs.TailBytes.{FitsRecord, Gives, GivesSame, IsTail, Recovers, TailTaken, record_bytes, tail_behind, tail_bytes}
@@ -54,14 +54,14 @@ module _ {D : Type 0} (P : List (List ℕ) → Type 0) where
   AllGoOn s [] = Unit {0}
   AllGoOn s (move ∷ moves) = GoesOn s move × AllGoOn (after_move s move) moves
 
-module _ {D : Type 0} (stored : D → Option (List ℕ)) (moment : D → ℕ) (images : D → ℕ → List ℕ → Type 0) (genesis : Genesis) (P : List (List ℕ) → Type 0)
-    (is_image : (file : D) → IfSome (stored file) (images file (moment file))) (is16 : length genesis.document ≡ 16) where
+module _ {D : Type 0} (file_told : D → AppendTold) (genesis : Genesis) (P : List (List ℕ) → Type 0)
+    (is_image : (file : D) → IfSome (file_told file).stored (file_images (file_told file))) (is16 : length genesis.document ≡ 16) where
   -- behind a log the bytes give what begins with these entries, and P holds of it
   abbrev Starts : List (List ℕ) → List (List ℕ) → List ℕ → Type 0
   Starts log held bytes = (entries : List (List ℕ)) × Gives log genesis.document bytes entries × IsPrefix held entries × P entries
 
   abbrev pub StartsAt : List (List ℕ) → List (List ℕ) → D → ℕ → Type 0
-  StartsAt log held file at = (image : List ℕ) → images file at image → Starts log held image
+  StartsAt log held file at = (image : List ℕ) → (file_told file).images at image → Starts log held image
 
   -- the tail of these entries, and of nothing behind them, or of one more with which P holds, or a part of it
   abbrev HoldsNext : List (List ℕ) → ℕ → List (List ℕ) → List ℕ → Type 0
@@ -74,15 +74,15 @@ module _ {D : Type 0} (stored : D → Option (List ℕ)) (moment : D → ℕ) (i
     behind : List (List ℕ)
     front : List (List ℕ)
     more : List (List ℕ)
-    keeps : Keeps moment images t held before behind
+    keeps : Keeps file_told t held before behind
     between : Between log before behind front more
-    next : (image : List ℕ) → images t.file (moment t.file) image → HoldsNext held (length before) behind image
+    next : (image : List ℕ) → file_images (file_told t.file) image → HoldsNext held (length before) behind image
     has : P held
     document : t.document ≡ genesis.document
 
   -- what is found again now is all that any order had
   abbrev SoundBy : Option (TailFileModel D) → List (List ℕ) → List (List ℕ) → D → Type 0
-  SoundBy None log held file = StartsAt log held file (moment file)
+  SoundBy None log held file = StartsAt log held file (file_told file).moment
   SoundBy (Some t) log held file = HoldsAll t log held × (file ≡ t.file)
 
   abbrev Sound : TailState D → Type 0
@@ -101,15 +101,15 @@ module _ {D : Type 0} (stored : D → Option (List ℕ)) (moment : D → ℕ) (i
       by (inr (some, found)) (inr more_has) =
           (held ++ next ∷ [], subst (λ (l : List (List ℕ)). Gives log genesis.document image (l ++ next ∷ [])) (sym parts) found, is_prefix held (next ∷ []), more_has)
 
-  found_by : (o : Option (TailFileModel D)) (log held : List (List ℕ)) (file : D) → SoundBy o log held file → StartsAt log held file (moment file)
+  found_by : (o : Option (TailFileModel D)) (log held : List (List ℕ)) (file : D) → SoundBy o log held file → StartsAt log held file (file_told file).moment
   found_by None log held file h = h
   found_by (Some t) log held file (h, is) =
-      subst (λ (f : D). StartsAt log held f (moment f)) (sym is)
+      subst (λ (f : D). StartsAt log held f (file_told f).moment) (sym is)
       (λ image there. starts_tail log held h.before h.behind h.front h.more image h.keeps.parts h.between h.has (h.next image there))
 
   -- after a stop
-  found_after : (log held : List (List ℕ)) (file found : D) (at : ℕ) → IsFound stored moment images file at found
-      → StartsAt log held file at → StartsAt log held found (moment found)
+  found_after : (log held : List (List ℕ)) (file found : D) (at : ℕ) → IsFileFound file_told file at found
+      → StartsAt log held file at → StartsAt log held found (file_told found).moment
   found_after log held file found at is h image there = h image (is.among image there)
 
   -- ---- an entry that is put
@@ -123,12 +123,12 @@ module _ {D : Type 0} (stored : D → Option (List ℕ)) (moment : D → ℕ) (i
   }
 
   module _ (log held : List (List ℕ)) (entry : List ℕ) (result : Result (Unit {0}) Unkept) (old new : TailFileModel D)
-      (puts : Puts moment images old (length held + 1) entry result new) (h : HoldsAll old log held) where
+      (puts : Puts file_told old (length held + 1) entry result new) (h : HoldsAll old log held) where
     place : length held + 1 ≡ length h.before + length h.behind + 1
     place = omega (arith, ap length h.keeps.parts, length-append h.before h.behind)
 
     -- what a crash leaves behind what was kept: a part of the record
-    part_tail : old.is_faulty ≡ false → FitsRecord entry → length held + 1 < 2 ^ 31 → (was image : List ℕ) (k : ℕ) → images old.file (moment old.file) was
+    part_tail : old.is_faulty ≡ false → FitsRecord entry → length held + 1 < 2 ^ 31 → (was image : List ℕ) (k : ℕ) → file_images (file_told old.file) was
         → image ≡ was ++ take k (record_bytes (length held + 1) entry) → IsTail genesis.document (length h.before) h.behind entry k image
     part_tail sound fits below was image k there is =
         let from = length h.before in
@@ -143,8 +143,8 @@ module _ {D : Type 0} (stored : D → Option (List ℕ)) (moment : D → ℕ) (i
         }
 
     -- or all of it
-    whole_tail : old.is_faulty ≡ false → Keeps moment images new (held ++ entry ∷ []) h.before (h.behind ++ entry ∷ []) → (was image : List ℕ)
-        → images old.file (moment old.file) was → images new.file (moment new.file) image → image ≡ was ++ record_bytes (length held + 1) entry
+    whole_tail : old.is_faulty ≡ false → Keeps file_told new (held ++ entry ∷ []) h.before (h.behind ++ entry ∷ []) → (was image : List ℕ)
+        → file_images (file_told old.file) was → file_images (file_told new.file) image → image ≡ was ++ record_bytes (length held + 1) entry
         → IsTail genesis.document (length h.before) (h.behind ++ entry ∷ []) [] 0 image
     whole_tail sound keeps was image old_there there is =
         let from = length h.before in
@@ -161,21 +161,21 @@ module _ {D : Type 0} (stored : D → Option (List ℕ)) (moment : D → ℕ) (i
         }
 
     -- at each moment of the put
-    put_found : (P held → P (held ++ entry ∷ [])) → (at : ℕ) → moment old.file ≤ at → at ≤ moment new.file → (image : List ℕ) → images new.file at image
+    put_found : (P held → P (held ++ entry ∷ [])) → (at : ℕ) → (file_told old.file).moment ≤ at → at ≤ (file_told new.file).moment → (image : List ℕ) → (file_told new.file).images at image
         → HoldsNext held (length h.before) h.behind image
     put_found goes at low high image there = by puts.acts
       where
         by : (new ≡ old) ⊎ ((old.is_faulty ≡ false) × FitsRecord entry × (length held + 1 < 2 ^ 31)) → HoldsNext held (length h.before) h.behind image
         by (inl unmoved) =
-            let end : moment new.file ≡ moment old.file = ap (λ (t : TailFileModel D). moment t.file) unmoved in
-            let now : at ≡ moment old.file = omega (arith, low, high, end) in
-            h.next image (subst (λ (m : ℕ). images old.file m image) now (subst (λ (t : TailFileModel D). images t.file at image) unmoved there))
+            let end : (file_told new.file).moment ≡ (file_told old.file).moment = ap (λ (t : TailFileModel D). (file_told t.file).moment) unmoved in
+            let now : at ≡ (file_told old.file).moment = omega (arith, low, high, end) in
+            h.next image (subst (λ (m : ℕ). (file_told old.file).images m image) now (subst (λ (t : TailFileModel D). (file_told t.file).images at image) unmoved there))
         by (inr (sound, fits, below)) =
             let step = puts.writes.step.during at image low high there in
             (entry, step.2.0, part_tail sound fits below step.0 image step.2.0 step.1 step.2.1, inr (goes h.has))
 
   put_holds : (log held : List (List ℕ)) (entry : List ℕ) (result : Result (Unit {0}) Unkept) (old new : TailFileModel D) → (P held → P (held ++ entry ∷ []))
-      → Puts moment images old (length held + 1) entry result new → HoldsAll old log held → HoldsAll new log (held_then result entry held) × IsPrefix held (held_then result entry held)
+      → Puts file_told old (length held + 1) entry result new → HoldsAll old log held → HoldsAll new log (held_then result entry held) × IsPrefix held (held_then result entry held)
   put_holds log held entry (Ok done) old new goes puts h = (
     record {
       before = h.before;
@@ -191,18 +191,18 @@ module _ {D : Type 0} (stored : D → Option (List ℕ)) (moment : D → ℕ) (i
     is_prefix held (entry ∷ []),
   )
     where
-      keeps : Keeps moment images new (held ++ entry ∷ []) h.before (h.behind ++ entry ∷ [])
+      keeps : Keeps file_told new (held ++ entry ∷ []) h.before (h.behind ++ entry ∷ [])
       keeps = puts.ok held h.before h.behind h.keeps refl
 
-      by : (new ≡ old) ⊎ ((old.is_faulty ≡ false) × FitsRecord entry × (length held + 1 < 2 ^ 31)) → (image : List ℕ) → images new.file (moment new.file) image
+      by : (new ≡ old) ⊎ ((old.is_faulty ≡ false) × FitsRecord entry × (length held + 1 < 2 ^ 31)) → (image : List ℕ) → file_images (file_told new.file) image
           → IsTail genesis.document (length h.before) (h.behind ++ entry ∷ []) [] 0 image
       by (inl unmoved) image there =
           let bytes = record_bytes (length held + 1) entry in
-          let grows : (image : List ℕ) → images old.file (moment old.file) image → (before : List ℕ) × images old.file (moment old.file) before × (image ≡ before ++ bytes) =
-          subst (λ (t : TailFileModel D). (image : List ℕ) → images t.file (moment t.file) image → (before : List ℕ) × images old.file (moment old.file) before × (image ≡ before ++ bytes))
+          let grows : (image : List ℕ) → file_images (file_told old.file) image → (before : List ℕ) × file_images (file_told old.file) before × (image ≡ before ++ bytes) =
+          subst (λ (t : TailFileModel D). (image : List ℕ) → file_images (file_told t.file) image → (before : List ℕ) × file_images (file_told old.file) before × (image ≡ before ++ bytes))
           unmoved puts.writes.all in
-          absurd (none_left (images old.file (moment old.file)) bytes (omega (arith, record_len (length held + 1) entry)) grows (length image) image (omega arith)
-          (subst (λ (t : TailFileModel D). images t.file (moment t.file) image) unmoved there))
+          absurd (none_left (file_images (file_told old.file)) bytes (omega (arith, record_len (length held + 1) entry)) grows (length image) image (omega arith)
+          (subst (λ (t : TailFileModel D). file_images (file_told t.file) image) unmoved there))
       by (inr (sound, fits, below)) image there =
           let was = puts.writes.all image there in
           whole_tail log held entry (Ok done) old new puts h sound keeps was.0 image was.1 there was.2
@@ -214,7 +214,7 @@ module _ {D : Type 0} (stored : D → Option (List ℕ)) (moment : D → ℕ) (i
       more = h.more;
       keeps = puts.err held h.before h.behind h.keeps refl;
       between = h.between;
-      next = put_found log held entry (Err e) old new puts h goes (moment new.file) puts.writes.step.later (omega arith);
+      next = put_found log held entry (Err e) old new puts h goes (file_told new.file).moment puts.writes.step.later (omega arith);
       has = h.has;
       document = puts.document ∙ h.document;
     },
@@ -223,14 +223,14 @@ module _ {D : Type 0} (stored : D → Option (List ℕ)) (moment : D → ℕ) (i
 
   -- a put that was cut off
   cut_found : (log held : List (List ℕ)) (entry : List ℕ) (result : Result (Unit {0}) Unkept) (old new : TailFileModel D) (at : ℕ) → (P held → P (held ++ entry ∷ []))
-      → Puts moment images old (length held + 1) entry result new → HoldsAll old log held → moment old.file ≤ at → at ≤ moment new.file → StartsAt log held new.file at
+      → Puts file_told old (length held + 1) entry result new → HoldsAll old log held → (file_told old.file).moment ≤ at → at ≤ (file_told new.file).moment → StartsAt log held new.file at
   cut_found log held entry result old new at goes puts h low high image there =
       starts_tail log held h.before h.behind h.front h.more image h.keeps.parts h.between h.has (put_found log held entry result old new puts h goes at low high image there)
 
   -- ---- each move
 
   -- a tail that was opened
-  open_holds : (t : TailFileModel D) (log entries : List (List ℕ)) → OpensBehind moment images log t entries → t.document ≡ genesis.document → t.is_faulty ≡ false → P entries
+  open_holds : (t : TailFileModel D) (log entries : List (List ℕ)) → OpensBehind file_told log t entries → t.document ≡ genesis.document → t.is_faulty ≡ false → P entries
       → HoldsAll t log entries
   open_holds t log entries (before, behind, front, more, keeps, between) same sound has = record {
     before = before;
@@ -257,12 +257,12 @@ module _ {D : Type 0} (stored : D → Option (List ℕ)) (moment : D → ℕ) (i
     document = same;
   }
 
-  opened : (s : TailState D) (t : TailFileModel D) (entries : List (List ℕ)) → Sound s → MayOpen stored moment images genesis s t entries
+  opened : (s : TailState D) (t : TailFileModel D) (entries : List (List ℕ)) → Sound s → MayOpen file_told genesis s t entries
       → HoldsAll t s.log entries × IsPrefix s.held entries
   opened s t entries sound may = by (found_by s.tail s.log s.held s.file sound.1 may.bytes here)
     where
-      here : images s.file (moment s.file) may.bytes
-      here = subst (λ (o : Option (List ℕ)). IfSome o (images s.file (moment s.file))) may.told (is_image s.file)
+      here : file_images (file_told s.file) may.bytes
+      here = subst (λ (o : Option (List ℕ)). IfSome o (file_images (file_told s.file))) may.told (is_image s.file)
 
       by : Starts s.log s.held may.bytes → HoldsAll t s.log entries × IsPrefix s.held entries
       by (all, found, prefix, has) =
@@ -272,7 +272,7 @@ module _ {D : Type 0} (stored : D → Option (List ℕ)) (moment : D → ℕ) (i
   starts_as : (log held : List (List ℕ)) (old new : List ℕ) → GivesSame log genesis.document old new → Starts log held old → Starts log held new
   starts_as log held old new same (entries, found, prefix, has) = (entries, same entries found, prefix, has)
 
-  stays : (s : TailState D) (file : D) (at : ℕ) → Sound s → StaysFound moment images s.log genesis.document s.file file → moment s.file ≤ at → at ≤ moment file
+  stays : (s : TailState D) (file : D) (at : ℕ) → Sound s → StaysFound file_told s.log genesis.document s.file file → (file_told s.file).moment ≤ at → at ≤ (file_told file).moment
       → StartsAt s.log s.held file at
   stays s file at sound keep low high image there =
       let was = keep.during at image low high there in
@@ -312,10 +312,10 @@ module _ {D : Type 0} (stored : D → Option (List ℕ)) (moment : D → ℕ) (i
     ),
   )
 
-  moves : (s : TailState D) (move : TailMove D) → Sound s → GoesOn P s move → MayMove stored moment images genesis s move
+  moves : (s : TailState D) (move : TailMove D) → Sound s → GoesOn P s move → MayMove file_told genesis s move
       → Sound (after_move s move) × IsPrefix s.held (after_move s move).held
   moves s (Open t entries) sound goes may = let now = opened s t entries sound may in ((sound.0, (now.0, refl)), now.1)
-  moves s (OpenFailed file) sound goes (rests, keep) = ((sound.0, stays s file (moment file) sound keep keep.later (omega arith)), prefix_same s.held)
+  moves s (OpenFailed file) sound goes (rests, keep) = ((sound.0, stays s file (file_told file).moment sound keep keep.later (omega arith)), prefix_same s.held)
   moves s (OpenCut file at found) sound goes (rests, keep, stop) =
       ((sound.0, found_after s.log s.held file found at stop.is_found (stays s file at sound keep stop.begun stop.before_end)), prefix_same s.held)
   moves s (Put entry result t) sound goes (old, is, puts) =
@@ -338,11 +338,11 @@ module _ {D : Type 0} (stored : D → Option (List ℕ)) (moment : D → ℕ) (i
     prefix_same s.held,
   )
   moves s (Stop found) sound goes is =
-      ((sound.0, found_after s.log s.held s.file found (moment s.file) is (found_by s.tail s.log s.held s.file sound.1)), prefix_same s.held)
+      ((sound.0, found_after s.log s.held s.file found (file_told s.file).moment is (found_by s.tail s.log s.held s.file sound.1)), prefix_same s.held)
 
   -- ---- and all of them
 
-  runs : (s : TailState D) (run : List (TailMove D)) → Sound s → AllGoOn P s run → IsTailRun stored moment images genesis s run
+  runs : (s : TailState D) (run : List (TailMove D)) → Sound s → AllGoOn P s run → IsTailRun file_told genesis s run
       → Sound (after_moves s run) × IsPrefix s.held (after_moves s run).held
   runs s [] sound goes may = (sound, prefix_same s.held)
   runs s (move ∷ run) sound (goes, all) (may, more) =
@@ -350,7 +350,7 @@ module _ {D : Type 0} (stored : D → Option (List ℕ)) (moment : D → ℕ) (i
       let rest = runs (after_move s move) run one.0 all more in
       (rest.0, prefix_then s.held (after_move s move).held (after_moves (after_move s move) run).held one.1 rest.1)
 
-  begun : (s : TailState D) → Begins stored moment images genesis s → P s.log → Sound s
+  begun : (s : TailState D) → Begins file_told genesis s → P s.log → Sound s
   begun s b has = (
     has,
     subst (λ (o : Option (TailFileModel D)). SoundBy o s.log s.held s.file) (sym b.rests) (λ image there.
@@ -358,24 +358,24 @@ module _ {D : Type 0} (stored : D → Option (List ℕ)) (moment : D → ℕ) (i
   )
 
   -- what is found at the end of a run
-  pub run_starts : (s : TailState D) (run : List (TailMove D)) → Begins stored moment images genesis s → P s.log → AllGoOn P s run → IsTailRun stored moment images genesis s run
-      → P (after_moves s run).log × StartsAt (after_moves s run).log (after_moves s run).held (after_moves s run).file (moment (after_moves s run).file)
+  pub run_starts : (s : TailState D) (run : List (TailMove D)) → Begins file_told genesis s → P s.log → AllGoOn P s run → IsTailRun file_told genesis s run
+      → P (after_moves s run).log × StartsAt (after_moves s run).log (after_moves s run).held (after_moves s run).file (file_told (after_moves s run).file).moment
   run_starts s run b has goes may =
       let end = after_moves s run in
       let sound = (runs s run (begun s b has) goes may).0 in
       (sound.0, found_by end.tail end.log end.held end.file sound.1)
 
   -- a run in two parts
-  parts : (s : TailState D) (before after : List (TailMove D)) → IsTailRun stored moment images genesis s (before ++ after)
-      → IsTailRun stored moment images genesis s before × IsTailRun stored moment images genesis (after_moves s before) after
+  parts : (s : TailState D) (before after : List (TailMove D)) → IsTailRun file_told genesis s (before ++ after)
+      → IsTailRun file_told genesis s before × IsTailRun file_told genesis (after_moves s before) after
       × (after_moves s (before ++ after) ≡ after_moves (after_moves s before) after)
   parts s [] after run = (tt, run, refl)
   parts s (move ∷ before) after (may, run) =
       let rest = parts (after_move s move) before after run in
       ((may, rest.0), rest.1, rest.2)
 
-  pub run_keeps : (s : TailState D) (before after : List (TailMove D)) → Begins stored moment images genesis s → P s.log → AllGoOn P s before → AllGoOn P (after_moves s before) after
-      → IsTailRun stored moment images genesis s (before ++ after) → IsPrefix (after_moves s before).held (after_moves s (before ++ after)).held
+  pub run_keeps : (s : TailState D) (before after : List (TailMove D)) → Begins file_told genesis s → P s.log → AllGoOn P s before → AllGoOn P (after_moves s before) after
+      → IsTailRun file_told genesis s (before ++ after) → IsPrefix (after_moves s before).held (after_moves s (before ++ after)).held
   run_keeps s before after b has goes later_goes run =
       let both = parts s before after run in
       let first = runs s before (begun s b has) goes both.0 in
@@ -403,13 +403,13 @@ any_goes {D} s (move ∷ run) = (one move, any_goes (after_move s move) run)
     one (Remake file) = tt
     one (Stop found) = tt
 
-module _ {D : Type 0} (stored : D → Option (List ℕ)) (moment : D → ℕ) (images : D → ℕ → List ℕ → Type 0) (genesis : Genesis)
-    (is_image : (file : D) → IfSome (stored file) (images file (moment file))) (is16 : length genesis.document ≡ 16) where
-  checked_goes : (s : TailState D) (run : List (TailMove D)) → IsCheckedRun stored moment images genesis s run → AllGoOn (AreAccepted genesis) s run
+module _ {D : Type 0} (file_told : D → AppendTold) (genesis : Genesis)
+    (is_image : (file : D) → IfSome (file_told file).stored (file_images (file_told file))) (is16 : length genesis.document ≡ 16) where
+  checked_goes : (s : TailState D) (run : List (TailMove D)) → IsCheckedRun file_told genesis s run → AllGoOn (AreAccepted genesis) s run
   checked_goes s [] checked = tt
   checked_goes s (move ∷ run) (checked, more) = (one move checked, checked_goes (after_move s move) run more)
     where
-      one : (move : TailMove D) → IsChecked stored moment images genesis s move → GoesOn (AreAccepted genesis) s move
+      one : (move : TailMove D) → IsChecked file_told genesis s move → GoesOn (AreAccepted genesis) s move
       one (Open t entries) checked = tt
       one (OpenFailed file) checked = tt
       one (OpenCut file at found) checked = tt
@@ -420,14 +420,14 @@ module _ {D : Type 0} (stored : D → Option (List ℕ)) (moment : D → ℕ) (i
       one (Remake file) checked = tt
       one (Stop found) checked = tt
 
-  pub nothing_lost : (s : TailState D) (before after : List (TailMove D)) → Begins stored moment images genesis s → IsTailRun stored moment images genesis s (before ++ after)
+  pub nothing_lost : (s : TailState D) (before after : List (TailMove D)) → Begins file_told genesis s → IsTailRun file_told genesis s (before ++ after)
       → IsPrefix (after_moves s before).held (after_moves s (before ++ after)).held
   nothing_lost s before after b run =
-      run_keeps stored moment images genesis Any is_image is16 s before after b tt (any_goes s before) (any_goes (after_moves s before) after) run
+      run_keeps file_told genesis Any is_image is16 s before after b tt (any_goes s before) (any_goes (after_moves s before) after) run
 
-  pub found_again : (s : TailState D) (run : List (TailMove D)) → Begins stored moment images genesis s → IsTailRun stored moment images genesis s run
-      → RecoversAt moment images (after_moves s run).log genesis.document (after_moves s run).file (moment (after_moves s run).file) (after_moves s run).held
-  found_again s run b may image there = by ((run_starts stored moment images genesis Any is_image is16 s run b tt (any_goes s run) may).1 image there)
+  pub found_again : (s : TailState D) (run : List (TailMove D)) → Begins file_told genesis s → IsTailRun file_told genesis s run
+      → RecoversAt file_told (after_moves s run).log genesis.document (after_moves s run).file (file_told (after_moves s run).file).moment (after_moves s run).held
+  found_again s run b may image there = by ((run_starts file_told genesis Any is_image is16 s run b tt (any_goes s run) may).1 image there)
     where
       end : TailState D
       end = after_moves s run
@@ -435,15 +435,15 @@ module _ {D : Type 0} (stored : D → Option (List ℕ)) (moment : D → ℕ) (i
       by : (entries : List (List ℕ)) × Gives end.log genesis.document image entries × IsPrefix end.held entries × Any entries → Recovers end.log genesis.document image end.held
       by (entries, found, prefix, any) = at_least end.log end.held entries genesis.document image found prefix
 
-  pub begins_again : (s : TailState D) (run : List (TailMove D)) → Begins stored moment images genesis s → AreAccepted genesis s.log → IsTailRun stored moment images genesis s run
-      → IsCheckedRun stored moment images genesis s run → CanBegin stored moment images genesis (after_moves s run)
+  pub begins_again : (s : TailState D) (run : List (TailMove D)) → Begins file_told genesis s → AreAccepted genesis s.log → IsTailRun file_told genesis s run
+      → IsCheckedRun file_told genesis s run → CanBegin file_told genesis (after_moves s run)
   begins_again s run b accepted may checked = record { log = starts.0; tail = λ image there. by image (starts.1 image there) }
     where
       end : TailState D
       end = after_moves s run
 
-      starts : AreAccepted genesis end.log × StartsAt stored moment images genesis (AreAccepted genesis) is_image is16 end.log end.held end.file (moment end.file)
-      starts = run_starts stored moment images genesis (AreAccepted genesis) is_image is16 s run b accepted (checked_goes s run checked) may
+      starts : AreAccepted genesis end.log × StartsAt file_told genesis (AreAccepted genesis) is_image is16 end.log end.held end.file (file_told end.file).moment
+      starts = run_starts file_told genesis (AreAccepted genesis) is_image is16 s run b accepted (checked_goes s run checked) may
 
       by : (image : List ℕ) → (entries : List (List ℕ)) × Gives end.log genesis.document image entries × IsPrefix end.held entries × AreAccepted genesis entries
           → (entries : List (List ℕ)) × TakesTail genesis end.log image entries × IsPrefix end.held entries

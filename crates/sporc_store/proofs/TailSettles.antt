@@ -14,9 +14,10 @@ use Rattle.sporc_base.proofs.ByteLemmas.{IsBytes-drop}
 use Rattle.sporc_bytes.specs.Fields.{Reading, number_at}
 use Rattle.sporc_bytes.proofs.Fields.{ok_is}
 use Rattle.sporc_head.specs.declared.limits.TheConstants.{MAX_ENTRIES}
-use Rattle.sporc_outside.specs.AppendFile.{GrowsBy, MayBeCut}
-use Rattle.sporc_outside.specs.LeafDisk.{CrashStep, IsSame}
+use Rattle.sporc_outside.specs.AppendFile.{AppendTold, GrowsBy, MayBeCut, FileSteps, file_images}
+use Rattle.sporc_outside.specs.LeafDisk.{IsSame}
 use Rattle.sporc_outside.specs.declared.file_fault.TheConstants.{MAX_FILE}
+use Rattle.sporc_outside.specs.Uses.{use_of}
 use Rattle.sporc_store.specs.declared.tail_fault.TailFault.{TailFault}
 use Rattle.sporc_store.specs.declared.tail_fault.TailFault.TheVariants.{Malformed}
 use Rattle.sporc_store.specs.declared.tail_head.TheConstants.{TAIL_HEAD_LEN}
@@ -33,9 +34,9 @@ pub gives_more : (log : List (List ℕ)) (document old new : List ℕ) (taken : 
     → Gives log document new (log ++ taken.entries) → GivesSame log document old new
 gives_more log document old new taken reads found entries was = subst (Gives log document new) (gives_taken log entries document old taken was reads) found
 
-module _ {D : Type 0} (moment : D → ℕ) (images : D → ℕ → List ℕ → Type 0) (log : List (List ℕ)) (document : List ℕ) where
-  pub step_stays : (old new : D) (step : List ℕ → List ℕ → Type 0) → CrashStep (moment old) (moment new) (images old) (images new) step
-      → ((before after : List ℕ) → images old (moment old) before → step before after → GivesSame log document before after) → StaysFound moment images log document old new
+module _ {D : Type 0} (file_told : D → AppendTold) (log : List (List ℕ)) (document : List ℕ) where
+  pub step_stays : (old new : D) (step : List ℕ → List ℕ → Type 0) → FileSteps (use_of file_told old new) step
+      → ((before after : List ℕ) → file_images (file_told old) before → step before after → GivesSame log document before after) → StaysFound file_told log document old new
   step_stays old new step crash same = record {
     later = crash.later;
     earlier = crash.earlier;
@@ -44,25 +45,25 @@ module _ {D : Type 0} (moment : D → ℕ) (images : D → ℕ → List ℕ → 
         (before.0, before.1, same before.0 image before.1 before.2);
   }
 
-  pub same_stays : (old new : D) → CrashStep (moment old) (moment new) (images old) (images new) IsSame → StaysFound moment images log document old new
+  pub same_stays : (old new : D) → FileSteps (use_of file_told old new) IsSame → StaysFound file_told log document old new
   same_stays old new crash = step_stays old new IsSame crash (λ before after there same entries found. subst (λ (l : List ℕ). Gives log document l entries) (sym same) found)
 
-  pub stays_then : (a b c : D) → StaysFound moment images log document a b → StaysFound moment images log document b c → StaysFound moment images log document a c
+  pub stays_then : (a b c : D) → StaysFound file_told log document a b → StaysFound file_told log document b c → StaysFound file_told log document a c
   stays_then a b c one two = record {
     later = omega (arith, one.later, two.later);
     earlier = λ m image le.
         let inner = one.earlier m image le in
         let outer = two.earlier m image (omega (arith, le, one.later)) in
         (λ h. inner.0 (outer.0 h), λ h. outer.1 (inner.1 h));
-    during = λ m image low high there. by m image low high there (cases_lt m (moment b));
+    during = λ m image low high there. by m image low high there (cases_lt m (file_told b).moment);
   }
     where
-      by : (m : ℕ) (image : List ℕ) → moment a ≤ m → m ≤ moment c → images c m image → (m < moment b) ⊎ (moment b ≤ m)
-          → (before : List ℕ) × images a (moment a) before × GivesSame log document before image
+      by : (m : ℕ) (image : List ℕ) → (file_told a).moment ≤ m → m ≤ (file_told c).moment → (file_told c).images m image → (m < (file_told b).moment) ⊎ ((file_told b).moment ≤ m)
+          → (before : List ℕ) × file_images (file_told a) before × GivesSame log document before image
       by m image low high there (inl early) = one.during m image low (omega (arith, early)) ((two.earlier m image (omega (arith, early))).0 there)
       by m image low high there (inr late) =
           let got = two.during m image late high there in
-          let was = one.during (moment b) got.0 one.later (omega arith) got.1 in
+          let was = one.during (file_told b).moment got.0 one.later (omega arith) got.1 in
           (was.0, was.1, λ entries found. got.2 entries (was.2 entries found))
 
 -- ---- a file that begins behind a part of a log
@@ -98,9 +99,9 @@ stands_gives log document bytes taken is s =
     subst (Gives log document bytes) (sym (stands_all log document bytes taken s))
     (gives_whole log s.before (s.front ++ taken.entries) s.front taken.entries document bytes is (stands_between log document bytes taken s) (stands_tail log document bytes taken s))
 
-pub stands_opens : {D : Type 0} (moment : D → ℕ) (images : D → ℕ → List ℕ → Type 0) (file : D) (log : List (List ℕ)) (document bytes : List ℕ) (taken : TailTaken)
-    → AreSynced moment images file bytes → Stands log document taken bytes → OpensBehind moment images log (tail_on file document) (log ++ taken.entries)
-stands_opens moment images file log document bytes taken synced s = (
+pub stands_opens : {D : Type 0} (file_told : D → AppendTold) (file : D) (log : List (List ℕ)) (document bytes : List ℕ) (taken : TailTaken)
+    → AreSynced file_told file bytes → Stands log document taken bytes → OpensBehind file_told log (tail_on file document) (log ++ taken.entries)
+stands_opens file_told file log document bytes taken synced s = (
   s.before,
   s.front ++ taken.entries,
   s.front,
@@ -258,12 +259,12 @@ module _ (log : List (List ℕ)) (document bytes : List ℕ) (is16 : length docu
       rw (none, all) (part_gives log document 0 is16 few)
   kept_gives taken (inr (n, some, stands)) = stands_gives log document (take (counting taken) bytes) taken is16 stands
 
-  module _ {D : Type 0} (moment : D → ℕ) (images : D → ℕ → List ℕ → Type 0) where
-    pub cut_stays : (taken : TailTaken) (old new : D) → tail_behind log document bytes ≡ Ok taken → AreSynced moment images old bytes
-        → CrashStep (moment old) (moment new) (images old) (images new) (MayBeCut (counting taken)) → StaysFound moment images log document old new
-    cut_stays taken old new reads synced crash = step_stays moment images log document old new (MayBeCut (counting taken)) crash by
+  module _ {D : Type 0} (file_told : D → AppendTold) where
+    pub cut_stays : (taken : TailTaken) (old new : D) → tail_behind log document bytes ≡ Ok taken → AreSynced file_told old bytes
+        → FileSteps (use_of file_told old new) (MayBeCut (counting taken)) → StaysFound file_told log document old new
+    cut_stays taken old new reads synced crash = step_stays file_told log document old new (MayBeCut (counting taken)) crash by
       where
-        by : (before after : List ℕ) → images old (moment old) before → (after ≡ before) ⊎ (after ≡ take (counting taken) before) → (entries : List (List ℕ))
+        by : (before after : List ℕ) → file_images (file_told old) before → (after ≡ before) ⊎ (after ≡ take (counting taken) before) → (entries : List (List ℕ))
             → Gives log document before entries → Gives log document after entries
         by before after there (inl same) entries found = subst (λ (l : List ℕ). Gives log document l entries) (sym same) found
         by before after there (inr cut) entries found =
@@ -273,13 +274,13 @@ module _ (log : List (List ℕ)) (document bytes : List ℕ) (is16 : length docu
             (gives_more log document bytes (take (counting taken) bytes) taken reads (kept_gives taken (counted taken reads)) entries
             (subst (λ (l : List ℕ). Gives log document l entries) was found))
 
-    pub head_stays : (kept : ℕ) (mid new : D) → AreSynced moment images mid (take kept bytes)
-        → CrashStep (moment mid) (moment new) (images mid) (images new) (GrowsBy (head_behind document kept)) → StaysFound moment images log document mid new
-    head_stays (suc n) mid new synced crash = step_stays moment images log document mid new (GrowsBy []) crash
+    pub head_stays : (kept : ℕ) (mid new : D) → AreSynced file_told mid (take kept bytes)
+        → FileSteps (use_of file_told mid new) (GrowsBy (head_behind document kept)) → StaysFound file_told log document mid new
+    head_stays (suc n) mid new synced crash = step_stays file_told log document mid new (GrowsBy []) crash
         (λ before after there grown entries found.
         let same : after ≡ before = grown.1 ∙ ap (λ (l : List ℕ). before ++ l) (take-nil grown.0) ∙ append-nil before in
         subst (λ (l : List ℕ). Gives log document l entries) (sym same) found)
-    head_stays zero mid new synced crash = step_stays moment images log document mid new (GrowsBy (tail_head document)) crash
+    head_stays zero mid new synced crash = step_stays file_told log document mid new (GrowsBy (tail_head document)) crash
         (λ before after there grown entries found.
         let was : before ≡ [] = synced before there in
         let now : after ≡ take grown.0 (tail_head document) = grown.1 ∙ ap (λ (l : List ℕ). l ++ take grown.0 (tail_head document)) was in
@@ -288,41 +289,41 @@ module _ (log : List (List ℕ)) (document bytes : List ℕ) (is16 : length docu
         (gives_more log document [] (take grown.0 (tail_head document)) (taken_to [] 0) none (part_gives log document grown.0 is16 few) entries
         (subst (λ (l : List ℕ). Gives log document l entries) was found)))
 
-    pub settled : {E : Type 0} (taken : TailTaken) (old mid new : D) (result : Result (Unit {0}) E) → tail_behind log document bytes ≡ Ok taken → AreSynced moment images old bytes
-        → (done : Unit {0}) → Cuts moment images {E = E} (counting taken) old mid (Ok done) → Writes moment images (head_behind document (counting taken)) mid new result
-        → Settles moment images log document taken old new result
+    pub settled : {E : Type 0} (taken : TailTaken) (old mid new : D) (result : Result (Unit {0}) E) → tail_behind log document bytes ≡ Ok taken → AreSynced file_told old bytes
+        → (done : Unit {0}) → Cuts file_told {E = E} (counting taken) old mid (Ok done) → Writes file_told (head_behind document (counting taken)) mid new result
+        → Settles file_told log document taken old new result
     settled {E = E} taken old mid new result reads synced done cut head =
         let kept = counting taken in
-        let middle : AreSynced moment images mid (take kept bytes) = λ image there.
+        let middle : AreSynced file_told mid (take kept bytes) = λ image there.
         let was = cut.all image there in
         was.2 ∙ ap (take kept) (synced was.0 was.1) in
         record {
-          stays = stays_then moment images log document old mid new (cut_stays taken old mid reads synced cut.step) (head_stays kept mid new middle head.step);
+          stays = stays_then file_told log document old mid new (cut_stays taken old mid reads synced cut.step) (head_stays kept mid new middle head.step);
           opens = open_by result middle head.all;
         }
       where
-        open_by : (r : Result (Unit {0}) E) → AreSynced moment images mid (take (counting taken) bytes)
-            → OnOk r ((image : List ℕ) → images new (moment new) image → (before : List ℕ) × images mid (moment mid) before × (image ≡ before ++ head_behind document (counting taken)))
-            → OnOk r (OpensBehind moment images log (tail_on new document) (log ++ taken.entries))
+        open_by : (r : Result (Unit {0}) E) → AreSynced file_told mid (take (counting taken) bytes)
+            → OnOk r ((image : List ℕ) → file_images (file_told new) image → (before : List ℕ) × file_images (file_told mid) before × (image ≡ before ++ head_behind document (counting taken)))
+            → OnOk r (OpensBehind file_told log (tail_on new document) (log ++ taken.entries))
         open_by (Ok u) middle all =
             let last = take (counting taken) bytes ++ head_behind document (counting taken) in
-            let synced : AreSynced moment images new last = λ image there.
+            let synced : AreSynced file_told new last = λ image there.
             let was = all image there in
             was.2 ∙ ap (λ (l : List ℕ). l ++ head_behind document (counting taken)) (middle was.0 was.1) in
-            stands_opens moment images new log document last taken synced (kept_stands taken (counted taken reads))
+            stands_opens file_told new log document last taken synced (kept_stands taken (counted taken reads))
         open_by (Err e) middle all = tt
 
-    pub uncut : {E : Type 0} (taken : TailTaken) (old new : D) (e : E) → tail_behind log document bytes ≡ Ok taken → AreSynced moment images old bytes
-        → Cuts moment images (counting taken) old new (Err e) → Settles moment images log document taken old new (Err e)
+    pub uncut : {E : Type 0} (taken : TailTaken) (old new : D) (e : E) → tail_behind log document bytes ≡ Ok taken → AreSynced file_told old bytes
+        → Cuts file_told (counting taken) old new (Err e) → Settles file_told log document taken old new (Err e)
     uncut taken old new e reads synced cut = record { stays = cut_stays taken old new reads synced cut.step; opens = tt }
 
 -- what is known of any log and bytes, at those that were read
-pub settles_with : {D E : Type 0} (moment : D → ℕ) (images : D → ℕ → List ℕ → Type 0) (log : List (List ℕ)) (document own bytes read : List ℕ) (taken : TailTaken) (mid new : D)
+pub settles_with : {D E : Type 0} (file_told : D → AppendTold) (log : List (List ℕ)) (document own bytes read : List ℕ) (taken : TailTaken) (mid new : D)
     (result : Result (Unit {0}) E) → own ≡ document → read ≡ bytes → tail_behind log document read ≡ Ok taken → IsBytes read → length bytes ≤ MAX_FILE → length log ≤ MAX_ENTRIES
-    → AreSynced moment images mid bytes
-    → ((log : List (List ℕ)) (bytes : List ℕ) → IsBytes bytes → length bytes ≤ MAX_FILE → length log ≤ MAX_ENTRIES → AreSynced moment images mid bytes
-    → tail_behind log own bytes ≡ Ok taken → Settles moment images log own taken mid new result)
-    → Settles moment images log document taken mid new result
-settles_with moment images log document own bytes read taken mid new result same is reads fits small few synced settles =
-    subst (λ (d : List ℕ). Settles moment images log d taken mid new result) same
+    → AreSynced file_told mid bytes
+    → ((log : List (List ℕ)) (bytes : List ℕ) → IsBytes bytes → length bytes ≤ MAX_FILE → length log ≤ MAX_ENTRIES → AreSynced file_told mid bytes
+    → tail_behind log own bytes ≡ Ok taken → Settles file_told log own taken mid new result)
+    → Settles file_told log document taken mid new result
+settles_with file_told log document own bytes read taken mid new result same is reads fits small few synced settles =
+    subst (λ (d : List ℕ). Settles file_told log d taken mid new result) same
     (settles log bytes (subst IsBytes is fits) small few synced (ap (λ (d : List ℕ). tail_behind log d bytes) same ∙ ap (tail_behind log document) (sym is) ∙ reads))

@@ -2,8 +2,9 @@
 use Rattle.std.proofs.Common.{◌≡◌, ◌⊎◌, inl, inr, ℕ, ◌<◌, ◌≤◌, List, ◌++◌, take, Option, Some, None, Result, Ok, Err, refl, sym, ap, ◌∙◌, subst, arith}
 use Rattle.std.specs.Prelude.{IfSome, OnOk, option_map}
 use Rattle.std.proofs.lemmas.Bool.{cases_lt}
-use Rattle.sporc_outside.specs.AppendFile.{GrowsBy, MayBeCut}
+use Rattle.sporc_outside.specs.AppendFile.{AppendTold, GrowsBy, MayBeCut, FileSteps, file_images}
 use Rattle.sporc_outside.specs.LeafDisk.{CrashStep, IsSame}
+use Rattle.sporc_outside.specs.Uses.{use_of}
 use Rattle.sporc_store.specs.TailFiles.{Cuts, Writes}
 
 -- a step, and then one that leaves all as it is
@@ -25,43 +26,43 @@ step_then a b c past mid images step one two = record {
         let was = one.during b got.0 one.later (omega arith) got.1 in
         (was.0, was.1, subst (step was.0) (sym got.2) was.2)
 
-module _ {D : Type 0} (stored : D → Option (List ℕ)) (moment : D → ℕ) (images : D → ℕ → List ℕ → Type 0)
-    (is_image : (file : D) → IfSome (stored file) (images file (moment file))) where
+module _ {D : Type 0} (file_told : D → AppendTold)
+    (is_image : (file : D) → IfSome (file_told file).stored (file_images (file_told file))) where
   -- what a synced file stores is what one before it stored, changed so
-  from_stored : (f : List ℕ → List ℕ) (old new : D) → stored new ≡ option_map f (stored old) → ((image : List ℕ) → images new (moment new) image → stored new ≡ Some image)
-      → (image : List ℕ) → images new (moment new) image → (before : List ℕ) × images old (moment old) before × (image ≡ f before)
-  from_stored f old new told durable image there = by (stored old) refl (is_image old)
+  from_stored : (f : List ℕ → List ℕ) (old new : D) → (file_told new).stored ≡ option_map f (file_told old).stored → ((image : List ℕ) → file_images (file_told new) image → (file_told new).stored ≡ Some image)
+      → (image : List ℕ) → file_images (file_told new) image → (before : List ℕ) × file_images (file_told old) before × (image ≡ f before)
+  from_stored f old new told durable image there = by (file_told old).stored refl (is_image old)
     where
-      by : (o : Option (List ℕ)) → stored old ≡ o → IfSome (stored old) (images old (moment old)) → (before : List ℕ) × images old (moment old) before × (image ≡ f before)
+      by : (o : Option (List ℕ)) → (file_told old).stored ≡ o → IfSome (file_told old).stored (file_images (file_told old)) → (before : List ℕ) × file_images (file_told old) before × (image ≡ f before)
       by (Some before) is has =
           let same : Some (f before) ≡ Some image = sym (told ∙ ap (option_map f) is) ∙ durable image there in
-          (before, subst (λ (o : Option (List ℕ)). IfSome o (images old (moment old))) is has, cc)
+          (before, subst (λ (o : Option (List ℕ)). IfSome o (file_images (file_told old))) is has, cc)
       by None is has =
           let clash : None ≡ Some image = sym (told ∙ ap (option_map f) is) ∙ durable image there in
           absurd cc
 
   -- what a call left, and then a sync that succeeded or failed
-  module _ {E : Type 0} (old mid new : D) (kept : stored new ≡ stored mid) (same : CrashStep (moment mid) (moment new) (images mid) (images new) IsSame) where
-    pub writes_then : (bytes : List ℕ) (result : Result (Unit {0}) E) → CrashStep (moment old) (moment mid) (images old) (images mid) (GrowsBy bytes)
-        → stored mid ≡ option_map (λ l. l ++ bytes) (stored old) → OnOk result ((image : List ℕ) → images new (moment new) image → stored new ≡ Some image)
-        → Writes moment images bytes old new result
+  module _ {E : Type 0} (old mid new : D) (kept : (file_told new).stored ≡ (file_told mid).stored) (same : FileSteps (use_of file_told mid new) IsSame) where
+    pub writes_then : (bytes : List ℕ) (result : Result (Unit {0}) E) → FileSteps (use_of file_told old mid) (GrowsBy bytes)
+        → (file_told mid).stored ≡ option_map (λ l. l ++ bytes) (file_told old).stored → OnOk result ((image : List ℕ) → file_images (file_told new) image → (file_told new).stored ≡ Some image)
+        → Writes file_told bytes old new result
     writes_then bytes (Ok done) step told durable = record {
-      step = step_then (moment old) (moment mid) (moment new) (images old) (images mid) (images new) (GrowsBy bytes) step same;
+      step = step_then (file_told old).moment (file_told mid).moment (file_told new).moment (file_told old).images (file_told mid).images (file_told new).images (GrowsBy bytes) step same;
       all = from_stored (λ l. l ++ bytes) old new (kept ∙ told) durable;
     }
     writes_then bytes (Err e) step told durable = record {
-      step = step_then (moment old) (moment mid) (moment new) (images old) (images mid) (images new) (GrowsBy bytes) step same;
+      step = step_then (file_told old).moment (file_told mid).moment (file_told new).moment (file_told old).images (file_told mid).images (file_told new).images (GrowsBy bytes) step same;
       all = tt;
     }
 
-    pub cuts_then : (len : ℕ) (result : Result (Unit {0}) E) → CrashStep (moment old) (moment mid) (images old) (images mid) (MayBeCut len)
-        → stored mid ≡ option_map (λ l. take len l) (stored old) → OnOk result ((image : List ℕ) → images new (moment new) image → stored new ≡ Some image)
-        → Cuts moment images len old new result
+    pub cuts_then : (len : ℕ) (result : Result (Unit {0}) E) → FileSteps (use_of file_told old mid) (MayBeCut len)
+        → (file_told mid).stored ≡ option_map (λ l. take len l) (file_told old).stored → OnOk result ((image : List ℕ) → file_images (file_told new) image → (file_told new).stored ≡ Some image)
+        → Cuts file_told len old new result
     cuts_then len (Ok done) step told durable = record {
-      step = step_then (moment old) (moment mid) (moment new) (images old) (images mid) (images new) (MayBeCut len) step same;
+      step = step_then (file_told old).moment (file_told mid).moment (file_told new).moment (file_told old).images (file_told mid).images (file_told new).images (MayBeCut len) step same;
       all = from_stored (λ l. take len l) old new (kept ∙ told) durable;
     }
     cuts_then len (Err e) step told durable = record {
-      step = step_then (moment old) (moment mid) (moment new) (images old) (images mid) (images new) (MayBeCut len) step same;
+      step = step_then (file_told old).moment (file_told mid).moment (file_told new).moment (file_told old).images (file_told mid).images (file_told new).images (MayBeCut len) step same;
       all = tt;
     }

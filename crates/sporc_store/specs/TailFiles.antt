@@ -1,8 +1,8 @@
 -- Tails on their files, and what their calls do to what a crash may leave of these.
 use Rattle.std.specs.Prelude.{◌≡◌, ◌⊎◌, ◌+◌, ◌^◌, ◌<◌, ℕ, zero, suc, Bool, false, min, List, [], ◌∷◌, ◌++◌, length, take, Option, IsSome, Result, Ok, Err, OnOk, OnErr}
 use Rattle.sporc_entry.specs.declared.genesis.Genesis.{Genesis}
-use Rattle.sporc_outside.specs.AppendFile.{GrowsBy, MayBeCut}
-use Rattle.sporc_outside.specs.LeafDisk.{CrashStep}
+use Rattle.sporc_outside.specs.AppendFile.{AppendTold, GrowsBy, MayBeCut, FileSteps, file_images}
+use Rattle.sporc_outside.specs.Uses.{use_of}
 use Rattle.sporc_store.specs.declared.stop.Stop.{Stop}
 use Rattle.sporc_store.specs.declared.stop.Stop.TheVariants.{End, Refused as RefusedAt}
 use Rattle.sporc_store.specs.declared.tail_fault.TailFault.{TailFault}
@@ -18,15 +18,15 @@ pub record TailFileModel (D : Type 0) : Type 0 where
   pub document : List ℕ
   pub is_faulty : Bool
 
-module _ {D : Type 0} (moment : D → ℕ) (images : D → ℕ → List ℕ → Type 0) where
+module _ {D : Type 0} (file_told : D → AppendTold) where
   -- whatever a crash leaves of a file now is the tail of these entries behind so many, and maybe a part of one more
   abbrev pub HoldsTail : D → List ℕ → ℕ → List (List ℕ) → Type 0
   HoldsTail file document from entries =
-      (image : List ℕ) → images file (moment file) image → (next : List ℕ) × (kept : ℕ) × IsTail document from entries next kept image
+      (image : List ℕ) → file_images (file_told file) image → (next : List ℕ) × (kept : ℕ) × IsTail document from entries next kept image
 
   -- and of none
   abbrev pub IsWhole : D → List ℕ → ℕ → List (List ℕ) → Type 0
-  IsWhole file document from entries = (image : List ℕ) → images file (moment file) image → image ≡ tail_bytes document from entries
+  IsWhole file document from entries = (image : List ℕ) → file_images (file_told file) image → image ≡ tail_bytes document from entries
 
   -- the tail keeps the last of these entries, those behind the first few
   pub record Keeps (t : TailFileModel D) (entries before behind : List (List ℕ)) : Type 0 where
@@ -39,17 +39,17 @@ module _ {D : Type 0} (moment : D → ℕ) (images : D → ℕ → List ℕ → 
 
   -- bytes were appended and synced, or a prefix of them, or none
   pub record Writes {E : Type 0} (bytes : List ℕ) (old new : D) (result : Result (Unit {0}) E) : Type 0 where
-    pub step : CrashStep (moment old) (moment new) (images old) (images new) (GrowsBy bytes)
-    pub all : OnOk result ((image : List ℕ) → images new (moment new) image → (before : List ℕ) × images old (moment old) before × (image ≡ before ++ bytes))
+    pub step : FileSteps (use_of file_told old new) (GrowsBy bytes)
+    pub all : OnOk result ((image : List ℕ) → file_images (file_told new) image → (before : List ℕ) × file_images (file_told old) before × (image ≡ before ++ bytes))
 
   -- bytes were cut off and that was synced, or it may have been
   pub record Cuts {E : Type 0} (len : ℕ) (old new : D) (result : Result (Unit {0}) E) : Type 0 where
-    pub step : CrashStep (moment old) (moment new) (images old) (images new) (MayBeCut len)
-    pub all : OnOk result ((image : List ℕ) → images new (moment new) image → (before : List ℕ) × images old (moment old) before × (image ≡ take len before))
+    pub step : FileSteps (use_of file_told old new) (MayBeCut len)
+    pub all : OnOk result ((image : List ℕ) → file_images (file_told new) image → (before : List ℕ) × file_images (file_told old) before × (image ≡ take len before))
 
   -- whatever a crash leaves now are these bytes
   abbrev pub AreSynced : D → List ℕ → Type 0
-  AreSynced file bytes = (image : List ℕ) → images file (moment file) image → image ≡ bytes
+  AreSynced file bytes = (image : List ℕ) → file_images (file_told file) image → image ≡ bytes
 
   -- A put of an entry at a position. A crash in the middle of it leaves what it could have left before, and a prefix of the record. What was kept is
   -- kept then, with the entry behind it if the put succeeded. The file is as it was unless the tail was sound and the record is one
@@ -64,11 +64,11 @@ module _ {D : Type 0} (moment : D → ℕ) (images : D → ℕ → List ℕ → 
 
   -- whatever a crash left of the file at a moment gave these entries behind a log
   abbrev pub RecoversAt : List (List ℕ) → List ℕ → D → ℕ → List (List ℕ) → Type 0
-  RecoversAt log document file at entries = (image : List ℕ) → images file at image → Recovers log document image entries
+  RecoversAt log document file at entries = (image : List ℕ) → (file_told file).images at image → Recovers log document image entries
 
   -- from one moment to another, what a crash leaves gives behind a log what something gives that it could have left at first
   abbrev pub StaysFound : List (List ℕ) → List ℕ → D → D → Type 0
-  StaysFound log document old new = CrashStep (moment old) (moment new) (images old) (images new) (GivesSame log document)
+  StaysFound log document old new = FileSteps (use_of file_told old new) (GivesSame log document)
 
 -- an order's entries, once it took those that its log lacks of a tail
 pub record TakesTail (genesis : Genesis) (log : List (List ℕ)) (bytes : List ℕ) (entries : List (List ℕ)) : Type 0 where
@@ -83,20 +83,20 @@ pub record Between (log before behind front more : List (List ℕ)) : Type 0 whe
   pub behind_is : behind ≡ front ++ more
 
 -- a tail that was opened behind a log: it keeps the entries of the order, which begin with the log's
-abbrev pub OpensBehind : {D : Type 0} → (D → ℕ) → (D → ℕ → List ℕ → Type 0) → List (List ℕ) → TailFileModel D → List (List ℕ) → Type 0
-OpensBehind moment images log t entries =
+abbrev pub OpensBehind : {D : Type 0} → (D → AppendTold) → List (List ℕ) → TailFileModel D → List (List ℕ) → Type 0
+OpensBehind file_told log t entries =
     (before : List (List ℕ)) × (behind : List (List ℕ)) × (front : List (List ℕ)) × (more : List (List ℕ))
-    × Keeps moment images t entries before behind × Between log before behind front more
+    × Keeps file_told t entries before behind × Between log before behind front more
 
 -- a tail on this file, no call of which failed
 abbrev pub tail_on : {D : Type 0} → D → List ℕ → TailFileModel D
 tail_on file document = record { file = file; document = document; is_faulty = false }
 
 -- a file whose synced bytes were read behind a log was made one that is appended to
-pub record Settles {D E : Type 0} (moment : D → ℕ) (images : D → ℕ → List ℕ → Type 0) (log : List (List ℕ)) (document : List ℕ) (taken : TailTaken)
+pub record Settles {D E : Type 0} (file_told : D → AppendTold) (log : List (List ℕ)) (document : List ℕ) (taken : TailTaken)
     (old new : D) (result : Result (Unit {0}) E) : Type 0 where
-  pub stays : StaysFound moment images log document old new
-  pub opens : OnOk result (OpensBehind moment images log (tail_on new document) (log ++ taken.entries))
+  pub stays : StaysFound file_told log document old new
+  pub opens : OnOk result (OpensBehind file_told log (tail_on new document) (log ++ taken.entries))
 
 -- how many bytes of a file count: up to the last whole record, or those of the head if the log has all records
 abbrev pub counting_of : List (List ℕ) → ℕ → ℕ

@@ -1,7 +1,8 @@
 -- What was read of a tail's file, whether the file tells its bytes or not.
-use Rattle.std.specs.Prelude.{◌≡◌, ◌<◌, ◌≤◌, ℕ, List, length, Option, Some, None, Ok, Err}
+use Rattle.std.specs.Prelude.{◌≡◌, ◌<◌, ◌≤◌, ℕ, List, length, Option, Ok, Err}
 use Rattle.sporc_entry.specs.declared.genesis.Genesis.{Genesis}
 use Rattle.sporc_outside.specs.Counts.{Rose}
+use Rattle.sporc_outside.specs.Told.{IfBoth, IfTold}
 use Rattle.sporc_outside.specs.declared.file_fault.TheConstants.{MAX_FILE}
 use Rattle.sporc_store.specs.declared.stop.Stop.TheVariants.{End, Refused as RefusedAt}
 use Rattle.sporc_store.specs.declared.tail_fault.TailFault.{TailFault}
@@ -12,8 +13,7 @@ use Rattle.sporc_store.specs.TailFiles.{TakesTail}
 
 -- these are the bytes that a file tells, if it tells any
 abbrev pub AreTold : Option (List ℕ) → List ℕ → Type 0
-AreTold None bytes = Unit {0}
-AreTold (Some told) bytes = told ≡ bytes
+AreTold stored bytes = IfTold stored (λ told. told ≡ bytes)
 
 -- an order's entries, once it took those that its log lacks of the bytes that were read
 pub record TakesRead (genesis : Genesis) (log : List (List ℕ)) (stored : Option (List ℕ)) (entries : List (List ℕ)) : Type 0 where
@@ -42,6 +42,4 @@ IsFaultOfRead genesis log stored before after Memory = Unit {0}
 
 -- what told bytes gave behind a log is given by those that are told afterwards
 abbrev pub StaysTold : List (List ℕ) → List ℕ → Option (List ℕ) → Option (List ℕ) → Type 0
-StaysTold log document None new = Unit {0}
-StaysTold log document (Some old) None = ⊥
-StaysTold log document (Some old) (Some new) = GivesSame log document old new
+StaysTold log document stored after = IfBoth stored after (GivesSame log document)

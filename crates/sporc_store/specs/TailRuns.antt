@@ -3,7 +3,7 @@ use Rattle.std.specs.Prelude.{◌≡◌, ◌+◌, ◌≤◌, ℕ, false, List, [
 use Rattle.sporc_entry.specs.declared.genesis.Genesis.{Genesis}
 use Rattle.sporc_head.specs.HeadChecks.{head_fault}
 use Rattle.sporc_order.specs.declared.tail.Unkept.{Unkept}
-use Rattle.sporc_outside.specs.LeafDisk.{IsFound}
+use Rattle.sporc_outside.specs.AppendFile.{AppendTold, IsFileFound, file_images}
 use Rattle.sporc_store.specs.Loading.{AreAccepted}
 use Rattle.sporc_store.specs.SavedFile.{IsPrefix}
 use Rattle.sporc_store.specs.TailFiles.{OpensBehind, Puts, RecoversAt, StaysFound, TailFileModel, TakesTail}
@@ -61,42 +61,42 @@ abbrev pub after_moves : {D : Type 0} → TailState D → List (TailMove D) → 
 after_moves s [] = s
 after_moves s (move ∷ moves) = after_moves (after_move s move) moves
 
-module _ {D : Type 0} (stored : D → Option (List ℕ)) (moment : D → ℕ) (images : D → ℕ → List ℕ → Type 0) (genesis : Genesis) where
+module _ {D : Type 0} (file_told : D → AppendTold) (genesis : Genesis) where
   -- it is opened behind the saved log, takes what that lacks of what the file holds, and loses nothing that was found there
   pub record MayOpen (s : TailState D) (t : TailFileModel D) (entries : List (List ℕ)) : Type 0 where
     pub rests : s.tail ≡ None
     pub bytes : List ℕ
-    pub told : stored s.file ≡ Some bytes
+    pub told : (file_told s.file).stored ≡ Some bytes
     pub takes : TakesTail genesis s.log bytes entries
-    pub behind : OpensBehind moment images s.log t entries
+    pub behind : OpensBehind file_told s.log t entries
     pub document : t.document ≡ genesis.document
     pub sound : t.is_faulty ≡ false
-    pub stays : StaysFound moment images s.log genesis.document s.file t.file
+    pub stays : StaysFound file_told s.log genesis.document s.file t.file
 
   -- a stop in the middle of a call that would have left this file finds that one
   pub record StopsIn (old new : D) (at : ℕ) (found : D) : Type 0 where
-    pub begun : moment old ≤ at
-    pub before_end : at ≤ moment new
-    pub is_found : IsFound stored moment images new at found
+    pub begun : (file_told old).moment ≤ at
+    pub before_end : at ≤ (file_told new).moment
+    pub is_found : IsFileFound file_told new at found
 
   -- no bytes, and nothing else whatever a crash does
   pub record IsNew (file : D) : Type 0 where
-    pub told : stored file ≡ Some []
-    pub only : (image : List ℕ) → images file (moment file) image → image ≡ []
+    pub told : (file_told file).stored ≡ Some []
+    pub only : (image : List ℕ) → file_images (file_told file) image → image ≡ []
 
   -- what may happen next
   abbrev pub MayMove : TailState D → TailMove D → Type 0
   MayMove s (Open t entries) = MayOpen s t entries
-  MayMove s (OpenFailed file) = (s.tail ≡ None) × StaysFound moment images s.log genesis.document s.file file
+  MayMove s (OpenFailed file) = (s.tail ≡ None) × StaysFound file_told s.log genesis.document s.file file
   MayMove s (OpenCut file at found) =
-      (s.tail ≡ None) × StaysFound moment images s.log genesis.document s.file file × StopsIn s.file file at found
-  MayMove s (Put entry result t) = (old : TailFileModel D) × (s.tail ≡ Some old) × Puts moment images old (length s.held + 1) entry result t
+      (s.tail ≡ None) × StaysFound file_told s.log genesis.document s.file file × StopsIn s.file file at found
+  MayMove s (Put entry result t) = (old : TailFileModel D) × (s.tail ≡ Some old) × Puts file_told old (length s.held + 1) entry result t
   MayMove s (PutCut entry result t at found) =
-      (old : TailFileModel D) × (s.tail ≡ Some old) × Puts moment images old (length s.held + 1) entry result t × StopsIn old.file t.file at found
+      (old : TailFileModel D) × (s.tail ≡ Some old) × Puts file_told old (length s.held + 1) entry result t × StopsIn old.file t.file at found
   MayMove s Save = (t : TailFileModel D) × (s.tail ≡ Some t)
   MayMove s End = Unit {0}
   MayMove s (Remake file) = (s.log ≡ s.held) × IsNew file
-  MayMove s (Stop found) = IsFound stored moment images s.file (moment s.file) found
+  MayMove s (Stop found) = IsFileFound file_told s.file (file_told s.file).moment found
 
   abbrev pub IsTailRun : TailState D → List (TailMove D) → Type 0
   IsTailRun s [] = Unit {0}
@@ -116,7 +116,7 @@ module _ {D : Type 0} (stored : D → Option (List ℕ)) (moment : D → ℕ) (i
   -- any order had
   pub record CanBegin (s : TailState D) : Type 0 where
     pub log : AreAccepted genesis s.log
-    pub tail : (image : List ℕ) → images s.file (moment s.file) image
+    pub tail : (image : List ℕ) → file_images (file_told s.file) image
         → (entries : List (List ℕ)) × TakesTail genesis s.log image entries × IsPrefix s.held entries
 
   -- a server that was never started: no tail, and a log that is all that anybody saw
@@ -135,7 +135,7 @@ module _ {D : Type 0} (stored : D → Option (List ℕ)) (moment : D → ℕ) (i
   abbrev pub IsFoundAgain : Type 0
   IsFoundAgain =
       (s : TailState D) (run : List (TailMove D)) → length genesis.document ≡ 16 → Begins s → IsTailRun s run
-      → RecoversAt moment images (after_moves s run).log genesis.document (after_moves s run).file (moment (after_moves s run).file) (after_moves s run).held
+      → RecoversAt file_told (after_moves s run).log genesis.document (after_moves s run).file (file_told (after_moves s run).file).moment (after_moves s run).held
 
   -- and if all that was put was checked, and the first log was accepted, an order can always begin again
   abbrev pub BeginsAgain : Type 0

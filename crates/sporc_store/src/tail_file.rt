@@ -5,8 +5,10 @@ ghost use Rattle.sporc_base.specs.Bytes.{IsBytes};
 ghost use Rattle.sporc_head.specs.declared.limits.TheConstants.{MAX_ENTRIES};
 ghost use Rattle.sporc_entry.specs.declared.limits.TheConstants.{MAX_ENTRY};
 ghost use Rattle.sporc_outside.specs.Counts.{CountsFaults};
-ghost use Rattle.sporc_outside.specs.LeafDisk.{CrashStep, IsSame};
+ghost use Rattle.sporc_outside.specs.LeafDisk.{IsSame};
 ghost use Rattle.sporc_outside.specs.declared.file_fault.TheConstants.{MAX_FILE};
+ghost use Rattle.sporc_outside.specs.AppendFile.{FileSteps};
+ghost use Rattle.sporc_outside.specs.Uses.{use_of};
 ghost use Rattle.sporc_store.specs.Loading.{accepted_from, an_order};
 ghost use Rattle.sporc_store.specs.SavedFile.{read_to};
 ghost use Rattle.sporc_store.specs.TailBytes.{record_bytes, tail_behind, taken_to};
@@ -54,16 +56,16 @@ impl<A: AppendFile> TailFile<A> {
     /// the order's checks. What a stop left of one more is cut off, and so is all that the log has, if it has all. If that fails,
     /// the file comes back, and the order may have taken some of the entries.
     pub fn open(alloc: Global, file: A, order: &mut Order) -> Result<TailFile<A>, (TailFault, A)>
-        ensures read { IfOk result (λ tail. TakesRead order.old.genesis order.old.entries (A.stored file) order.new.entries) }
-        ensures keeps { IfOk result (λ tail. OpensBehind A.moment A.images order.old.entries tail order.new.entries) }
+        ensures read { IfOk result (λ tail. TakesRead order.old.genesis order.old.entries (A.told file).stored order.new.entries) }
+        ensures keeps { IfOk result (λ tail. OpensBehind A.told order.old.entries tail order.new.entries) }
         ensures fresh { IfOk result (λ tail. (tail.document ≡ order.old.genesis.document) × (tail.is_faulty ≡ false)) }
-        ensures found { IfOk result (λ tail. StaysFound A.moment A.images order.old.entries order.old.genesis.document file tail.file) }
-        ensures still_found { IfErr result (λ e. StaysFound A.moment A.images order.old.entries order.old.genesis.document file e.1) }
-        ensures why { IfErr result (λ e. IsFaultOfRead order.old.genesis order.old.entries (A.stored file) (A.faults file) (A.faults e.1) e.0) }
-        ensures still_told { IfErr result (λ e. StaysTold order.old.entries order.old.genesis.document (A.stored file) (A.stored e.1)) }
+        ensures found { IfOk result (λ tail. StaysFound A.told order.old.entries order.old.genesis.document file tail.file) }
+        ensures still_found { IfErr result (λ e. StaysFound A.told order.old.entries order.old.genesis.document file e.1) }
+        ensures why { IfErr result (λ e. IsFaultOfRead order.old.genesis order.old.entries (A.told file).stored (A.told file).faults (A.told e.1).faults e.0) }
+        ensures still_told { IfErr result (λ e. StaysTold order.old.entries order.old.genesis.document (A.told file).stored (A.told e.1).stored) }
         ensures genesis { order.new.genesis ≡ order.old.genesis }
-        ensures count { IfOk result (λ tail. A.faults file ≤ A.faults tail.file) }
-        ensures kept { IfErr result (λ e. A.faults file ≤ A.faults e.1) }
+        ensures count { IfOk result (λ tail. (A.told file).faults ≤ (A.told tail.file).faults) }
+        ensures kept { IfErr result (λ e. (A.told file).faults ≤ (A.told e.1).faults) }
     {
         let mut file = file;
         let document = *order.document();
@@ -87,16 +89,16 @@ impl<A: AppendFile> TailFile<A> {
 }
 
 impl<A: AppendFile> Tail for TailFile<A> {
-    ghost keeps = { KeepsEntries A.moment A.images };
+    ghost keeps = { KeepsEntries A.told };
 
     ghost may_fail = { Unit {0} };
 
     fn put(&mut self, position: u32, entry: &[u8]) -> Result<(), Unkept>
-        ensures puts { Puts A.moment A.images self.old position entry.now result self.new }
-        ensures ok { OnOk result ((entries : List (List ℕ)) → KeepsEntries A.moment A.images self.old entries → position ≡ length entries + 1
-            → KeepsEntries A.moment A.images self.new (entries ++ entry.now ∷ [])) }
-        ensures err { OnErr result ((entries : List (List ℕ)) → KeepsEntries A.moment A.images self.old entries → position ≡ length entries + 1
-            → KeepsEntries A.moment A.images self.new entries) }
+        ensures puts { Puts A.told self.old position entry.now result self.new }
+        ensures ok { OnOk result ((entries : List (List ℕ)) → KeepsEntries A.told self.old entries → position ≡ length entries + 1
+            → KeepsEntries A.told self.new (entries ++ entry.now ∷ [])) }
+        ensures err { OnErr result ((entries : List (List ℕ)) → KeepsEntries A.told self.old entries → position ≡ length entries + 1
+            → KeepsEntries A.told self.new entries) }
         ensures failed { OnErr result (Unit {0}) }
     {
         if self.is_faulty || position > MAX_ENTRIES || entry.len() > MAX_ENTRY as usize {
@@ -128,13 +130,13 @@ fn record_of(alloc: Global, position: u32, entry: &[u8]) -> Result<Vec<u8>, Memo
 
 // Takes what an order's log lacks of a tail, and makes the file one that is appended to.
 fn begin<A: AppendFile>(alloc: Global, file: &mut A, order: &mut Order) -> Result<(), TailFault>
-    ensures read { OnOk result (TakesRead order.old.genesis order.old.entries (A.stored file.old) order.new.entries) }
-    ensures opens { OnOk result (OpensBehind A.moment A.images order.old.entries (tail_on file.new order.old.genesis.document) order.new.entries) }
-    ensures found { StaysFound A.moment A.images order.old.entries order.old.genesis.document file.old file.new }
-    ensures why { IfErr result (IsFaultOfRead order.old.genesis order.old.entries (A.stored file.old) (A.faults file.old) (A.faults file.new)) }
-    ensures still_told { OnErr result (StaysTold order.old.entries order.old.genesis.document (A.stored file.old) (A.stored file.new)) }
+    ensures read { OnOk result (TakesRead order.old.genesis order.old.entries (A.told file.old).stored order.new.entries) }
+    ensures opens { OnOk result (OpensBehind A.told order.old.entries (tail_on file.new order.old.genesis.document) order.new.entries) }
+    ensures found { StaysFound A.told order.old.entries order.old.genesis.document file.old file.new }
+    ensures why { IfErr result (IsFaultOfRead order.old.genesis order.old.entries (A.told file.old).stored (A.told file.old).faults (A.told file.new).faults) }
+    ensures still_told { OnErr result (StaysTold order.old.entries order.old.genesis.document (A.told file.old).stored (A.told file.new).stored) }
     ensures genesis { order.new.genesis ≡ order.old.genesis }
-    ensures count { A.faults file.old ≤ A.faults file.new }
+    ensures count { (A.told file.old).faults ≤ (A.told file.new).faults }
 {
     let bytes = read_synced(alloc, file)?;
     let tail = take_tail(alloc, order, &bytes)?;
@@ -144,13 +146,13 @@ fn begin<A: AppendFile>(alloc: Global, file: &mut A, order: &mut Order) -> Resul
 
 // All bytes of a tail's file, which no crash takes away then.
 fn read_synced<A: AppendFile>(alloc: Global, file: &mut A) -> Result<Vec<u8>, TailFault>
-    ensures bytes { IfOk result (λ bytes. AreTold (A.stored file.old) bytes.items) }
-    ensures synced { IfOk result (λ bytes. AreSynced A.moment A.images file.new bytes.items) }
+    ensures bytes { IfOk result (λ bytes. AreTold (A.told file.old).stored bytes.items) }
+    ensures synced { IfOk result (λ bytes. AreSynced A.told file.new bytes.items) }
     ensures within { IfOk result (λ bytes. length bytes.items ≤ MAX_FILE) }
-    ensures err { IfErr result (IsReadingFault (A.stored file.old) (A.faults file.old) (A.faults file.new)) }
-    ensures stored { A.stored file.new ≡ A.stored file.old }
-    ensures images { CrashStep (A.moment file.old) (A.moment file.new) (A.images file.old) (A.images file.new) IsSame }
-    ensures count { A.faults file.old ≤ A.faults file.new }
+    ensures err { IfErr result (IsReadingFault (A.told file.old).stored (A.told file.old).faults (A.told file.new).faults) }
+    ensures stored { (A.told file.new).stored ≡ (A.told file.old).stored }
+    ensures images { FileSteps (use_of A.told file.old file.new) IsSame }
+    ensures count { (A.told file.old).faults ≤ (A.told file.new).faults }
 {
     file.sync()?;
     let bytes = read_file(alloc, file)?;
@@ -159,12 +161,12 @@ fn read_synced<A: AppendFile>(alloc: Global, file: &mut A) -> Result<Vec<u8>, Ta
 
 // All bytes of a tail's file.
 fn read_file<A: AppendFile>(alloc: Global, file: &mut A) -> Result<Vec<u8>, TailFault>
-    ensures bytes { IfOk result (λ bytes. AreTold (A.stored file.old) bytes.items) }
+    ensures bytes { IfOk result (λ bytes. AreTold (A.told file.old).stored bytes.items) }
     ensures within { IfOk result (λ bytes. length bytes.items ≤ MAX_FILE) }
-    ensures err { IfErr result (IsReadingFault (A.stored file.old) (A.faults file.old) (A.faults file.new)) }
-    ensures stored { A.stored file.new ≡ A.stored file.old }
-    ensures images { CrashStep (A.moment file.old) (A.moment file.new) (A.images file.old) (A.images file.new) IsSame }
-    ensures count { A.faults file.old ≤ A.faults file.new }
+    ensures err { IfErr result (IsReadingFault (A.told file.old).stored (A.told file.old).faults (A.told file.new).faults) }
+    ensures stored { (A.told file.new).stored ≡ (A.told file.old).stored }
+    ensures images { FileSteps (use_of A.told file.old file.new) IsSame }
+    ensures count { (A.told file.old).faults ≤ (A.told file.new).faults }
 {
     match file.read_whole(alloc) {
         Ok(bytes) => Ok(bytes),
@@ -230,12 +232,12 @@ fn settle<A: AppendFile>(
     document: &[u8; 16],
     tail: &TailEntries<'_>,
 ) -> Result<(), Failed>
-    requires { IfSome (A.stored file.old) (λ bytes. tail.now.whole ≤ length bytes) }
+    requires { IfSome (A.told file.old).stored (λ bytes. tail.now.whole ≤ length bytes) }
     ensures settles { (log : List (List ℕ)) (bytes : List ℕ) → IsBytes bytes → length bytes ≤ MAX_FILE → length log ≤ MAX_ENTRIES
-        → AreSynced A.moment A.images file.old bytes → tail_behind log document.now bytes ≡ Ok (taken_to tail.now.entries.items tail.now.whole)
-        → Settles A.moment A.images log document.now (taken_to tail.now.entries.items tail.now.whole) file.old file.new result }
-    ensures told { TellsStill (A.stored file.old) (A.stored file.new) }
-    ensures count { CountsFaults (A.faults file.old) (A.faults file.new) result }
+        → AreSynced A.told file.old bytes → tail_behind log document.now bytes ≡ Ok (taken_to tail.now.entries.items tail.now.whole)
+        → Settles A.told log document.now (taken_to tail.now.entries.items tail.now.whole) file.old file.new result }
+    ensures told { TellsStill (A.told file.old).stored (A.told file.new).stored }
+    ensures count { CountsFaults (A.told file.old).faults (A.told file.new).faults result }
 {
     let kept = counting(tail);
     match cut_synced(file, kept as u64) {
@@ -257,9 +259,9 @@ fn counting(tail: &TailEntries<'_>) -> usize
 
 // Writes the head behind so many bytes that count, if there are none.
 fn head_written<A: AppendFile>(file: &mut A, document: &[u8; 16], kept: usize) -> Result<(), Failed>
-    ensures writes { Writes A.moment A.images (head_behind document.now kept) file.old file.new result }
-    ensures told { TellsStill (A.stored file.old) (A.stored file.new) }
-    ensures count { CountsFaults (A.faults file.old) (A.faults file.new) result }
+    ensures writes { Writes A.told (head_behind document.now kept) file.old file.new result }
+    ensures told { TellsStill (A.told file.old).stored (A.told file.new).stored }
+    ensures count { CountsFaults (A.told file.old).faults (A.told file.new).faults result }
 {
     if kept > 0 {
         return Ok(());
@@ -270,9 +272,9 @@ fn head_written<A: AppendFile>(file: &mut A, document: &[u8; 16], kept: usize) -
 
 // Appends bytes, and brings them to where no crash takes them away.
 fn append_synced<A: AppendFile>(file: &mut A, bytes: &[u8]) -> Result<(), Failed>
-    ensures writes { Writes A.moment A.images bytes.now file.old file.new result }
-    ensures told { TellsStill (A.stored file.old) (A.stored file.new) }
-    ensures count { CountsFaults (A.faults file.old) (A.faults file.new) result }
+    ensures writes { Writes A.told bytes.now file.old file.new result }
+    ensures told { TellsStill (A.told file.old).stored (A.told file.new).stored }
+    ensures count { CountsFaults (A.told file.old).faults (A.told file.new).faults result }
 {
     file.append(bytes)?;
     file.sync()
@@ -280,10 +282,10 @@ fn append_synced<A: AppendFile>(file: &mut A, bytes: &[u8]) -> Result<(), Failed
 
 // Takes away all bytes but the first, and brings that to where no crash undoes it.
 fn cut_synced<A: AppendFile>(file: &mut A, len: u64) -> Result<(), Failed>
-    requires { IfSome (A.stored file.old) (λ bytes. len ≤ length bytes) }
-    ensures cuts { Cuts A.moment A.images len file.old file.new result }
-    ensures told { TellsStill (A.stored file.old) (A.stored file.new) }
-    ensures count { CountsFaults (A.faults file.old) (A.faults file.new) result }
+    requires { IfSome (A.told file.old).stored (λ bytes. len ≤ length bytes) }
+    ensures cuts { Cuts A.told len file.old file.new result }
+    ensures told { TellsStill (A.told file.old).stored (A.told file.new).stored }
+    ensures count { CountsFaults (A.told file.old).faults (A.told file.new).faults result }
 {
     file.cut(len)?;
     file.sync()

@@ -18,7 +18,7 @@ pub fn check_text(rt: &impl Abort, found: &str, wanted: &str) {
     assert!(rt; found == wanted, "the text {found}");
 }
 
-/// Stops the test unless a session or a fetch ended by this fault, or well if there is none.
+/// Stops the test unless a session ended by this fault, or well if there is none.
 pub fn check_end(rt: &impl Abort, found: Option<SessionFault>, fault: Option<SessionFault>) {
     assert!(rt; found == fault, "{found:?} in place of {fault:?}");
 }

@@ -12,7 +12,7 @@
 //! - `docs`: as many documents as a server may hold, and what a server of many documents answers: sessions of two documents
 //!   beside one of none, entries of the other document, a link that fails beside one that doesn't, 64 documents at once, and
 //!   a tail for each document, which has its entries alone.
-//! - `serve`: what a server answers over links in memory. Answers are compared with bytes that are spelled out by hand. A tail
+//! - `serve`: a server of one document over links in memory. Answers are compared with bytes that are spelled out by hand. A tail
 //!   that fails at an entry, and one that has each entry before it is answered.
 //!
 //! Those of the lock are built of `lock/tally` (a value under the lock) and `lock/work` (a turn, rounds of turns, and a crowd

@@ -1,8 +1,6 @@
 //! The server of `sporc_serve`.
 
 mod bad_peers;
-mod clients;
-mod conversation;
 mod crowd;
 mod failing_links;
 mod held_sessions;

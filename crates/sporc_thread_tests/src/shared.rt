@@ -1,6 +1,5 @@
 //! The shared client of `sporc_shared`, its session, and a fetch.
 
-mod examined;
 mod fetching;
 mod meeting;
 mod order_link;

@@ -5,14 +5,18 @@ use Rattle.std.specs.List.{AllByRecursion}
 use Rattle.std.specs.Str.{bytes_eq}
 use Rattle.std.proofs.lemmas.Slice.Eq.{bytes_eq-Decides}
 use Rattle.sporc_outside.specs.Files.{ChangesFile, HasNoFile, IsDiskOf, made_in, with_file}
-use Rattle.sporc_outside.specs.Uses.{SinkUse}
 use Rattle.sporc_outside.specs.declared.named_file.NamedFile.{NamedFile}
+use Rattle.sporc_outside.specs.Uses.{Use}
+use Rattle.sporc_outside.specs.Streams.{StreamTold}
+use Rattle.sporc_outside.specs.Folders.{FolderTold}
+use Rattle.sporc_outside.specs.Chances.{ChanceTold}
+use Rattle.sporc_outside.specs.Nets.{NetTold}
+use Rattle.sporc_outside.specs.LeafDisk.{DiskTold}
 use Rattle.sporc_keys.specs.declared.founding.Founding.{Founding}
 use Rattle.sporc_keys.specs.declared.new_key.NewKey.{NewKey}
 use Rattle.sporc_keys.specs.KeyFile.{key_file_bytes}
 use Rattle.sporc_member.specs.declared.device.Device.{Device}
 use Rattle.sporc_order.specs.OrderModel.{OrderModel}
-use Rattle.sporc_serve.specs.Crowds.{Net}
 use Rattle.sporc_shared.specs.Items.{Past}
 use Rattle.sporc_words.specs.declared.client.Client.{Client}
 use Rattle.sporc_words.specs.declared.command.Command.{Command}
@@ -24,25 +28,21 @@ use Rattle.sporc_files.specs.declared.fault.Fault.TheVariants as faults
 use Rattle.sporc_files.specs.declared.file.File.{File}
 use Rattle.sporc_files.specs.declared.file.File.TheVariants as files
 use Rattle.sporc_files.specs.Names.{FileNames, file_name, names_of_document}
-use Rattle.sporc_files.specs.Uses.{ChanceUse, FolderUse}
 use Rattle.sporc_files.specs.Writing.{StoresFirst, StoresPrefix, file_with}
-use Rattle.sporc_founding.specs.Founding.{FoundOutcome, IsStoreFault, founding_files}
-use Rattle.sporc_founding.specs.KeyMaking.{IsFilesFault, IsThere, KeygenOutcome, Makes, StoresKey, StoresKeyFile, key_files}
+use Rattle.sporc_commands.specs.Founding.{FoundOutcome, IsStoreFault, founding_files}
+use Rattle.sporc_commands.specs.KeyMaking.{IsFilesFault, IsThere, KeygenOutcome, Makes, StoresKey, StoresKeyFile, key_files}
 use Rattle.sporc_docs.specs.Hands.{Both}
-use Rattle.sporc_histories.specs.Moments.{Moment, at_end, folder_between, sink_between}
-use Rattle.sporc_histories.specs.Outcomes.{IsRound, KeepsLog, ServeOutcome}
-use Rattle.sporc_histories.specs.Rounds.{GoWell, Round, Standing}
-use Rattle.sporc_histories.specs.Tails.{GivesBack, KeepsTail, RemovesTail}
+use Rattle.sporc_commands.specs.Moments.{Moment, at_end, folder_between, sink_between}
+use Rattle.sporc_commands.specs.Outcomes.{IsRound, KeepsLog, ServeOutcome}
+use Rattle.sporc_commands.specs.Rounds.{GoWell, Round, Standing}
+use Rattle.sporc_commands.specs.Tails.{GivesBack, KeepsTail, RemovesTail}
 use Rattle.sporc_hosting.specs.Hosting.{GivesAllBack, IsRoundOfAll, ServeAllOutcome}
 use Rattle.sporc_hosting.specs.Loading.{ChangesTails, IsNoTail, OpenLogModel, with_tail_made, with_tails_made}
 use Rattle.sporc_hosting.specs.Saving.{KeepsLogs}
-use Rattle.sporc_sessions.specs.declared.concluding.KeepFault.{KeepFault}
-use Rattle.sporc_sessions.specs.declared.concluding.KeepFault.TheVariants as keeping
-use Rattle.sporc_sessions.specs.Concluding.{FilesUse, SaveOutcome}
-use Rattle.sporc_sessions.specs.Nets.{LinkView}
+use Rattle.sporc_clients.specs.Concluding.{FilesUse, SaveOutcome}
 use Rattle.sporc_clients.specs.declared.member_files.MemberFiles.{MemberFiles}
 use Rattle.sporc_clients.specs.Lives.{ClientRun}
-use Rattle.sporc_clients.specs.Outcome.{ClientOutcome, ClientUse, DiskOutcome, DiskView, files_of, names_of, no_disk, no_member, not_worked, over_disk, with_folder, worked}
+use Rattle.sporc_clients.specs.Outcome.{ClientOutcome, ClientUse, DiskOutcome, files_of, names_of, no_disk, no_member, not_worked, over_disk, with_folder, worked}
 use Rattle.sporc_top.specs.LeafFiles.{by_command, file_at, if_over, leaf_name, over_its_disk}
 use Rattle.sporc_top.specs.Needs.{needs_of}
 use Rattle.sporc_top.specs.Performing.{Performs}
@@ -133,40 +133,20 @@ module _ (document : List ℕ) (device : Device) where
   keys_by_fault words key before after low high same told faults.Outside (rose, inr (between, stores, changes)) =
       keys_failed words key before after (Err faults.Outside) same between told refl stores changes
   keys_by_fault words key before after low high same told (faults.Exists f) there = inl (there_kept (names_of_document words.name) key before after f there)
-  keys_by_fault words key before after low high same told faults.Words never = absurd never
-  keys_by_fault words key before after low high same told (faults.Missing f) never = absurd never
-  keys_by_fault words key before after low high same told (faults.TooLong f) never = absurd never
-  keys_by_fault words key before after low high same told (faults.Malformed f at) never = absurd never
-  keys_by_fault words key before after low high same told (faults.Line l) never = absurd never
-  keys_by_fault words key before after low high same told (faults.EditorLine e l) never = absurd never
-  keys_by_fault words key before after low high same told faults.LongScript never = absurd never
-  keys_by_fault words key before after low high same told (faults.Refused p r) never = absurd never
-  keys_by_fault words key before after low high same told (faults.Rejected r) never = absurd never
-  keys_by_fault words key before after low high same told (faults.Hints h) never = absurd never
-  keys_by_fault words key before after low high same told (faults.Opening o) never = absurd never
-  keys_by_fault words key before after low high same told (faults.Unsettled n p) never = absurd never
-  keys_by_fault words key before after low high same told (faults.LinkEnded t) never = absurd never
-  keys_by_fault words key before after low high same told (faults.Leaf n) never = absurd never
-  keys_by_fault words key before after low high same told faults.FullHistory never = absurd never
-  keys_by_fault words key before after low high same told faults.FullJournal never = absurd never
-  keys_by_fault words key before after low high same told faults.FullFile never = absurd never
-  keys_by_fault words key before after low high same told faults.Worn never = absurd never
-  keys_by_fault words key before after low high same told (faults.Message at) never = absurd never
-  keys_by_fault words key before after low high same told (faults.Edit e l f) never = absurd never
-  keys_by_fault words key before after low high same told (faults.Ahead l) never = absurd never
+  keys_by_fault words key before after low high same told fault never = absurd never
 
-  of_its_device : (words : Keygen) (chance : ChanceUse) (key : NewKey) → Makes words chance key → key.file.device ≡ words.device
+  of_its_device : (words : Keygen) (chance : Use ChanceTold) (key : NewKey) → Makes words chance key → key.file.device ≡ words.device
   of_its_device words chance key (first, second, draws, is) = ap (λ (k : NewKey). k.file.device) is
 
-  keygen_leaves : (words : Keygen) (folder : FolderUse) (chance : ChanceUse) (out : SinkUse) (answer : Result ⊤ Fault) → IsSome folder.files_before
-      → KeygenOutcome words folder chance out answer → KeysLeave words folder.files_before folder.files_after answer
+  keygen_leaves : (words : Keygen) (folder : Use FolderTold) (chance : Use ChanceTold) (out : Use StreamTold) (answer : Result ⊤ Fault) → IsSome folder.before.files
+      → KeygenOutcome words folder chance out answer → KeysLeave words folder.before.files folder.after.files answer
   keygen_leaves words folder chance out (Ok done) told made =
-      keys_stored words made.key folder.files_before folder.files_after (Ok done) (of_its_device words chance made.key made.makes) made.stores
+      keys_stored words made.key folder.before.files folder.after.files (Ok done) (of_its_device words chance made.key made.makes) made.stores
   keygen_leaves words folder chance out (Err fault) told (inl fails) = inl (ap (file_at name) fails.untouched.stand)
   keygen_leaves words folder chance out (Err fault) told (inr (inl fails)) =
-      keys_by_fault words fails.key folder.files_before folder.files_after _ _ (of_its_device words chance fails.key fails.makes) told fault fails.cause
+      keys_by_fault words fails.key folder.before.files folder.after.files _ _ (of_its_device words chance fails.key fails.makes) told fault fails.cause
   keygen_leaves words folder chance out (Err fault) told (inr (inr fails)) =
-      keys_stored words fails.key folder.files_before folder.files_after (Err fault) (of_its_device words chance fails.key fails.makes) fails.stores
+      keys_stored words fails.key folder.before.files folder.after.files (Err fault) (of_its_device words chance fails.key fails.makes) fails.stores
 
   -- ---- found
 
@@ -175,145 +155,104 @@ module _ (document : List ℕ) (device : Device) where
       → (fault : Fault) → IsStoreFault new before after low high fault → Keeps name before after
   stores_kept new before after low high told first prefix faults.Memory stores = first stores
   stores_kept new before after low high told first prefix faults.Outside (rose, stores) = prefix stores
-  stores_kept new before after low high told first prefix faults.Words never = absurd never
-  stores_kept new before after low high told first prefix (faults.Missing f) never = absurd never
-  stores_kept new before after low high told first prefix (faults.Exists f) never = absurd never
-  stores_kept new before after low high told first prefix (faults.TooLong f) never = absurd never
-  stores_kept new before after low high told first prefix (faults.Malformed f at) never = absurd never
-  stores_kept new before after low high told first prefix (faults.Line l) never = absurd never
-  stores_kept new before after low high told first prefix (faults.EditorLine e l) never = absurd never
-  stores_kept new before after low high told first prefix faults.LongScript never = absurd never
-  stores_kept new before after low high told first prefix (faults.Refused p r) never = absurd never
-  stores_kept new before after low high told first prefix (faults.Rejected r) never = absurd never
-  stores_kept new before after low high told first prefix (faults.Hints h) never = absurd never
-  stores_kept new before after low high told first prefix (faults.Opening o) never = absurd never
-  stores_kept new before after low high told first prefix (faults.Unsettled n p) never = absurd never
-  stores_kept new before after low high told first prefix (faults.LinkEnded t) never = absurd never
-  stores_kept new before after low high told first prefix (faults.Leaf n) never = absurd never
-  stores_kept new before after low high told first prefix faults.FullHistory never = absurd never
-  stores_kept new before after low high told first prefix faults.FullJournal never = absurd never
-  stores_kept new before after low high told first prefix faults.FullFile never = absurd never
-  stores_kept new before after low high told first prefix faults.Worn never = absurd never
-  stores_kept new before after low high told first prefix (faults.Message at) never = absurd never
-  stores_kept new before after low high told first prefix (faults.Edit e l f) never = absurd never
-  stores_kept new before after low high told first prefix (faults.Ahead l) never = absurd never
+  stores_kept new before after low high told first prefix fault never = absurd never
 
   founding_others : (names : FileNames) (founding : Founding) → AllByRecursion (λ f. bytes_eq f.name name ≡ false) (founding_files names founding)
   founding_others names founding = (not_genesis names document device, rings_others names document device founding.rings)
 
-  found_keeps : (words : Found) (folder : FolderUse) (chance : ChanceUse) (answer : Result ⊤ Fault) → IsSome folder.files_before → FoundOutcome words folder chance answer
-      → Keeps name folder.files_before folder.files_after
+  found_keeps : (words : Found) (folder : Use FolderTold) (chance : Use ChanceTold) (answer : Result ⊤ Fault) → IsSome folder.before.files → FoundOutcome words folder chance answer
+      → Keeps name folder.before.files folder.after.files
   found_keeps words folder chance (Ok done) told founds =
       let names = names_of_document words.name in
-      kept_stores name folder.files_before folder.files_after (founding_files names founds.founding) (founding_others names founds.founding) founds.stores
+      kept_stores name folder.before.files folder.after.files (founding_files names founds.founding) (founding_others names founds.founding) founds.stores
   found_keeps words folder chance (Err fault) told (inl fails) = ap (file_at name) fails.stand
   found_keeps words folder chance (Err fault) told (inr (inl fails)) = ap (file_at name) fails.stand
   found_keeps words folder chance (Err fault) told (inr (inr fails)) =
       let names = names_of_document words.name in
       let others = founding_others names fails.founding in
-      stores_kept (founding_files names fails.founding) folder.files_before folder.files_after _ _ told
-      (kept_first name folder.files_before folder.files_after (founding_files names fails.founding) others)
-      (kept_prefix name folder.files_before folder.files_after (founding_files names fails.founding) told others) fault fails.cause
+      stores_kept (founding_files names fails.founding) folder.before.files folder.after.files _ _ told
+      (kept_first name folder.before.files folder.after.files (founding_files names fails.founding) others)
+      (kept_prefix name folder.before.files folder.after.files (founding_files names fails.founding) told others) fault fails.cause
 
   -- ---- serve
 
-  log_kept : (names : FileNames) (folder : FolderUse) (out : SinkUse) (order : OrderModel) (line : List ℕ) → IsSome folder.files_before
-      → (fault : Fault) → KeepsLog names folder out order line {T = ⊤} (Err fault) → Keeps name folder.files_before folder.files_after
+  log_kept : (names : FileNames) (folder : Use FolderTold) (out : Use StreamTold) (order : OrderModel) (line : List ℕ) → IsSome folder.before.files
+      → (fault : Fault) → KeepsLog names folder out order line {T = ⊤} (Err fault) → Keeps name folder.before.files folder.after.files
   log_kept names folder out order line told faults.Memory kept = ap (file_at name) kept.0
   log_kept names folder out order line told faults.FullFile (full, same, none) = ap (file_at name) same
   log_kept names folder out order line told faults.Outside (inl (rose, changes, none)) =
-      kept_changes name folder.files_before folder.files_after _ told (not_log names document device) changes
-  log_kept names folder out order line told faults.Outside (inr (saves, rose, wrote)) = kept_with name folder.files_before folder.files_after _ _ (not_log names document device) saves.files
-  log_kept names folder out order line told faults.Words never = absurd never
-  log_kept names folder out order line told (faults.Missing f) never = absurd never
-  log_kept names folder out order line told (faults.Exists f) never = absurd never
-  log_kept names folder out order line told (faults.TooLong f) never = absurd never
-  log_kept names folder out order line told (faults.Malformed f at) never = absurd never
-  log_kept names folder out order line told (faults.Line l) never = absurd never
-  log_kept names folder out order line told (faults.EditorLine e l) never = absurd never
-  log_kept names folder out order line told faults.LongScript never = absurd never
-  log_kept names folder out order line told (faults.Refused p r) never = absurd never
-  log_kept names folder out order line told (faults.Rejected r) never = absurd never
-  log_kept names folder out order line told (faults.Hints h) never = absurd never
-  log_kept names folder out order line told (faults.Opening o) never = absurd never
-  log_kept names folder out order line told (faults.Unsettled n p) never = absurd never
-  log_kept names folder out order line told (faults.LinkEnded t) never = absurd never
-  log_kept names folder out order line told (faults.Leaf n) never = absurd never
-  log_kept names folder out order line told faults.FullHistory never = absurd never
-  log_kept names folder out order line told faults.FullJournal never = absurd never
-  log_kept names folder out order line told faults.Worn never = absurd never
-  log_kept names folder out order line told (faults.Message at) never = absurd never
-  log_kept names folder out order line told (faults.Edit e l f) never = absurd never
-  log_kept names folder out order line told (faults.Ahead l) never = absurd never
+      kept_changes name folder.before.files folder.after.files _ told (not_log names document device) changes
+  log_kept names folder out order line told faults.Outside (inr (saves, rose, wrote)) = kept_with name folder.before.files folder.after.files _ _ (not_log names document device) saves.files
+  log_kept names folder out order line told fault never = absurd never
 
-  log_keeps : (names : FileNames) (folder : FolderUse) (out : SinkUse) (order : OrderModel) (line : List ℕ) (kept : Result ⊤ Fault) → IsSome folder.files_before
-      → KeepsLog names folder out order line kept → Keeps name folder.files_before folder.files_after
-  log_keeps names folder out order line (Ok done) told (saves, wrote) = kept_with name folder.files_before folder.files_after _ _ (not_log names document device) saves.files
+  log_keeps : (names : FileNames) (folder : Use FolderTold) (out : Use StreamTold) (order : OrderModel) (line : List ℕ) (kept : Result ⊤ Fault) → IsSome folder.before.files
+      → KeepsLog names folder out order line kept → Keeps name folder.before.files folder.after.files
+  log_keeps names folder out order line (Ok done) told (saves, wrote) = kept_with name folder.before.files folder.after.files _ _ (not_log names document device) saves.files
   log_keeps names folder out order line (Err fault) told keeps = log_kept names folder out order line told fault keeps
 
-  log_told : (names : FileNames) (folder : FolderUse) (out : SinkUse) (order : OrderModel) (line : List ℕ) (kept : Result ⊤ Fault) → IsSome folder.files_before
-      → KeepsLog names folder out order line kept → IsSome folder.files_after
-  log_told names folder out order line (Ok done) told (saves, wrote) = told_with folder.files_before folder.files_after _ _ told saves.files
-  log_told names folder out order line (Err faults.Memory) told kept = told_same folder.files_before folder.files_after told kept.0
-  log_told names folder out order line (Err faults.FullFile) told (full, same, none) = told_same folder.files_before folder.files_after told same
-  log_told names folder out order line (Err faults.Outside) told (inl (rose, changes, none)) = told_changes folder.files_before folder.files_after _ told changes
-  log_told names folder out order line (Err faults.Outside) told (inr (saves, rose, wrote)) = told_with folder.files_before folder.files_after _ _ told saves.files
+  log_told : (names : FileNames) (folder : Use FolderTold) (out : Use StreamTold) (order : OrderModel) (line : List ℕ) (kept : Result ⊤ Fault) → IsSome folder.before.files
+      → KeepsLog names folder out order line kept → IsSome folder.after.files
+  log_told names folder out order line (Ok done) told (saves, wrote) = told_with folder.before.files folder.after.files _ _ told saves.files
+  log_told names folder out order line (Err faults.Memory) told kept = told_same folder.before.files folder.after.files told kept.0
+  log_told names folder out order line (Err faults.FullFile) told (full, same, none) = told_same folder.before.files folder.after.files told same
+  log_told names folder out order line (Err faults.Outside) told (inl (rose, changes, none)) = told_changes folder.before.files folder.after.files _ told changes
+  log_told names folder out order line (Err faults.Outside) told (inr (saves, rose, wrote)) = told_with folder.before.files folder.after.files _ _ told saves.files
   log_told names folder out order line (Err fault) told never = absurd never
 
-  module _ {L : Type 0} (left written : L → Option (List ℕ)) (counts : L → ℕ) (is_shut : L → Option Bool) (names : FileNames) (sessions : ℕ) where
-    round_keeps : (a : Standing OrderModel L) (r : Round OrderModel L) → IsSome a.moment.files → IsRound left written counts is_shut names sessions a r
-        → Keeps name a.moment.files r.after.moment.files × IsSome r.after.moment.files
+  module _ (names : FileNames) (sessions : ℕ) where
+    round_keeps : (a : Standing OrderModel) (r : Round OrderModel) → IsSome a.moment.folder.files → IsRound names sessions a r
+        → Keeps name a.moment.folder.files r.after.moment.folder.files × IsSome r.after.moment.folder.files
     round_keeps a r told is =
         let folder = folder_between a.moment r.after.moment in
         let out = sink_between a.moment r.after.moment in
         (log_keeps names folder out r.after.held _ r.saved told is.keeps, log_told names folder out r.after.held _ r.saved told is.keeps)
 
-    rounds_keep : (a : Standing OrderModel L) (rs : List (Round OrderModel L)) (b : Standing OrderModel L) → IsSome a.moment.files
-        → GoWell (IsRound left written counts is_shut names sessions) a rs b → Keeps name a.moment.files b.moment.files × IsSome b.moment.files
-    rounds_keep a [] b told same = (ap (λ (s : Standing OrderModel L). file_at name s.moment.files) same, subst (λ (s : Standing OrderModel L). IsSome s.moment.files) (sym same) told)
+    rounds_keep : (a : Standing OrderModel) (rs : List (Round OrderModel)) (b : Standing OrderModel) → IsSome a.moment.folder.files
+        → GoWell (IsRound names sessions) a rs b → Keeps name a.moment.folder.files b.moment.folder.files × IsSome b.moment.folder.files
+    rounds_keep a [] b told same = (ap (λ (s : Standing OrderModel). file_at name s.moment.folder.files) same, subst (λ (s : Standing OrderModel). IsSome s.moment.folder.files) (sym same) told)
     rounds_keep a (r ∷ rs) b told (is, good, others) =
         let one = round_keeps a r told is in
         let rest = rounds_keep r.after rs b one.1 others in
         (rest.0 ∙ one.0, rest.1)
 
-  tail_removed : (names : FileNames) (folder : FolderUse) (given : Result ⊤ Fault) → RemovesTail (file_name names files.Tail) folder given → Keeps name folder.files_before folder.files_after
-  tail_removed names folder (Ok done) gone = kept_removed name folder.files_before folder.files_after _ (not_tail names document device) gone
-  tail_removed names folder (Err faults.Outside) (rose, inl gone) = kept_removed name folder.files_before folder.files_after _ (not_tail names document device) gone
-  tail_removed names folder (Err faults.Outside) (rose, inr (stored, back)) = kept_taken name folder.files_before folder.files_after stored _ (not_tail names document device) back
+  tail_removed : (names : FileNames) (folder : Use FolderTold) (given : Result ⊤ Fault) → RemovesTail (file_name names files.Tail) folder given → Keeps name folder.before.files folder.after.files
+  tail_removed names folder (Ok done) gone = kept_removed name folder.before.files folder.after.files _ (not_tail names document device) gone
+  tail_removed names folder (Err faults.Outside) (rose, inl gone) = kept_removed name folder.before.files folder.after.files _ (not_tail names document device) gone
+  tail_removed names folder (Err faults.Outside) (rose, inr (stored, back)) = kept_taken name folder.before.files folder.after.files stored _ (not_tail names document device) back
   tail_removed names folder (Err fault) never = absurd never
 
-  tail_kept : (names : FileNames) (folder : FolderUse) (logged : ℕ) (bytes : List ℕ) (entries : List (List ℕ)) (given : Result ⊤ Fault)
-      → KeepsTail (file_name names files.Tail) folder logged bytes entries given → Keeps name folder.files_before folder.files_after
-  tail_kept names folder logged bytes entries (Ok done) (stored, back, gives) = kept_taken name folder.files_before folder.files_after stored _ (not_tail names document device) back
+  tail_kept : (names : FileNames) (folder : Use FolderTold) (logged : ℕ) (bytes : List ℕ) (entries : List (List ℕ)) (given : Result ⊤ Fault)
+      → KeepsTail (file_name names files.Tail) folder logged bytes entries given → Keeps name folder.before.files folder.after.files
+  tail_kept names folder logged bytes entries (Ok done) (stored, back, gives) = kept_taken name folder.before.files folder.after.files stored _ (not_tail names document device) back
   tail_kept names folder logged bytes entries (Err (faults.Malformed file at)) (same, zero, (stored, back)) =
-      kept_taken name folder.files_before folder.files_after stored _ (not_tail names document device) back
+      kept_taken name folder.before.files folder.after.files stored _ (not_tail names document device) back
   tail_kept names folder logged bytes entries (Err fault) never = absurd never
 
-  tail_given : (names : FileNames) (folder : FolderUse) (logged : ℕ) (bytes : List ℕ) (entries : List (List ℕ)) (saved given : Result ⊤ Fault)
-      → GivesBack (file_name names files.Tail) folder logged bytes entries saved given → Keeps name folder.files_before folder.files_after
+  tail_given : (names : FileNames) (folder : Use FolderTold) (logged : ℕ) (bytes : List ℕ) (entries : List (List ℕ)) (saved given : Result ⊤ Fault)
+      → GivesBack (file_name names files.Tail) folder logged bytes entries saved given → Keeps name folder.before.files folder.after.files
   tail_given names folder logged bytes entries (Ok done) given gone = tail_removed names folder given gone
   tail_given names folder logged bytes entries (Err fault) given kept = tail_kept names folder logged bytes entries given kept
 
-  serve_keeps : {L : Type 0} (left written : L → Option (List ℕ)) (counts : L → ℕ) (is_shut : L → Option Bool) (names : FileNames) (sessions times : ℕ) (folder : FolderUse) (out : SinkUse)
-      (old new : Net L) (answer : Result ⊤ Fault) → IsSome folder.files_before → ServeOutcome left written counts is_shut names sessions times folder out old new answer
-      → Keeps name folder.files_before folder.files_after
-  serve_keeps left written counts is_shut names sessions times folder out old new answer told (inl none) =
-      kept_changes name folder.files_before folder.files_after _ told (not_tail names document device) none.changes
-  serve_keeps {L} left written counts is_shut names sessions times folder out old new answer told (inr served) =
-      let start : Standing OrderModel L = record { held = served.before; moment = served.opened; net = old } in
-      let made = kept_made name folder.files_before served.opened.files _ (not_tail names document device) served.is_opened.files in
-      let told_then = told_made folder.files_before served.opened.files _ told served.is_opened.files in
-      let rounds = rounds_keep left written counts is_shut names sessions start served.rounds.rounds served.rounds.before told_then served.rounds.well in
-      let last = round_keeps left written counts is_shut names sessions served.rounds.before served.last rounds.1 served.rounds.last_is in
+  serve_keeps : (names : FileNames) (sessions times : ℕ) (folder : Use FolderTold) (out : Use StreamTold)
+      (old new : NetTold) (answer : Result ⊤ Fault) → IsSome folder.before.files → ServeOutcome names sessions times folder out old new answer
+      → Keeps name folder.before.files folder.after.files
+  serve_keeps names sessions times folder out old new answer told (inl none) =
+      kept_changes name folder.before.files folder.after.files _ told (not_tail names document device) none.changes
+  serve_keeps names sessions times folder out old new answer told (inr served) =
+      let start : Standing OrderModel = record { held = served.before; moment = served.opened; net = old } in
+      let made = kept_made name folder.before.files served.opened.folder.files _ (not_tail names document device) served.is_opened.files in
+      let told_then = told_made folder.before.files served.opened.folder.files _ told served.is_opened.files in
+      let rounds = rounds_keep names sessions start served.rounds.rounds served.rounds.before told_then served.rounds.well in
+      let last = round_keeps names sessions served.rounds.before served.last rounds.1 served.rounds.last_is in
       tail_given names (folder_between served.last.after.moment (at_end folder out)) served.logged served.last.after.held.genesis.document served.last.after.held.entries
       served.last.saved served.given served.gives
       ∙ last.0 ∙ rounds.0 ∙ made
 
   -- ---- serve-all
 
-  logs_keep : (names : List (List ℕ)) (orders : List OrderModel) (a b : Moment) (kept : Result ⊤ Fault) → IsSome a.files → KeepsLogs names orders a b kept
-      → Keeps name a.files b.files × IsSome b.files
-  logs_keep [] [] a b kept told (same, answer) = (ap (λ (m : Moment). file_at name m.files) same, subst (λ (m : Moment). IsSome m.files) (sym same) told)
+  logs_keep : (names : List (List ℕ)) (orders : List OrderModel) (a b : Moment) (kept : Result ⊤ Fault) → IsSome a.folder.files → KeepsLogs names orders a b kept
+      → Keeps name a.folder.files b.folder.files × IsSome b.folder.files
+  logs_keep [] [] a b kept told (same, answer) = (ap (λ (m : Moment). file_at name m.folder.files) same, subst (λ (m : Moment). IsSome m.folder.files) (sym same) told)
   logs_keep [] (o ∷ os) a b kept told never = absurd never
   logs_keep (n ∷ ns) [] a b kept told never = absurd never
   logs_keep (n ∷ ns) (o ∷ os) a b kept told (mid, one, others, behind, keeps, rest, answer) =
@@ -339,44 +278,44 @@ module _ (document : List ℕ) (device : Device) where
       let rest = tails_made ns (with_tail_made n before) after told_then is in
       (rest.0 ∙ one, rest.1)
 
-  tails_given : (names : List (List ℕ)) (logs : List OpenLogModel) (orders : List OrderModel) (saved given : Result ⊤ Fault) (a b : Moment)
+  tails_given : (names : List (List ℕ)) (logs : List OpenLogModel) (orders : List OrderModel) (saved given : Result ⊤ Fault) (a b : FolderTold)
       → Both (λ n log. log.name ≡ file_name (names_of_document n) files.Tail) names logs
-      → GivesAllBack (λ (m : Moment). m.files) (λ (m : Moment). m.asked) (λ (m : Moment). m.lent) (λ (m : Moment). m.folder_faults) logs orders saved a b given → Keeps name a.files b.files
-  tails_given [] [] [] saved given a b named (same, answer) = ap (λ (m : Moment). file_at name m.files) same
+      → GivesAllBack logs orders saved a b given → Keeps name a.files b.files
+  tails_given [] [] [] saved given a b named (same, answer) = ap (λ (t : FolderTold). file_at name t.files) same
   tails_given [] [] (o ∷ os) saved given a b named never = absurd never
   tails_given [] (l ∷ ls) orders saved given a b named gives = absurd named
   tails_given (n ∷ ns) [] orders saved given a b named gives = absurd named
   tails_given (n ∷ ns) (l ∷ ls) [] saved given a b named never = absurd never
   tails_given (n ∷ ns) (l ∷ ls) (o ∷ os) saved given a b named (mid, others, one, rest, gives, answer) =
-      tail_given (names_of_document n) (folder_between mid b) l.logged o.genesis.document o.entries saved one
-      (subst (λ (m : List ℕ). GivesBack m (folder_between mid b) l.logged o.genesis.document o.entries saved one) named.0 gives)
+      tail_given (names_of_document n) (record { before = mid; after = b }) l.logged o.genesis.document o.entries saved one
+      (subst (λ (m : List ℕ). GivesBack m (record { before = mid; after = b }) l.logged o.genesis.document o.entries saved one) named.0 gives)
       ∙ tails_given ns ls os saved others a mid named.1 rest
 
-  module _ {L : Type 0} (left written : L → Option (List ℕ)) (counts : L → ℕ) (is_shut : L → Option Bool) (names : List (List ℕ)) (sessions : ℕ) where
-    all_keeps : (a : Standing (List OrderModel) L) (r : Round (List OrderModel) L) → IsSome a.moment.files → IsRoundOfAll left written counts is_shut names sessions a r
-        → Keeps name a.moment.files r.after.moment.files × IsSome r.after.moment.files
+  module _ (names : List (List ℕ)) (sessions : ℕ) where
+    all_keeps : (a : Standing (List OrderModel)) (r : Round (List OrderModel)) → IsSome a.moment.folder.files → IsRoundOfAll names sessions a r
+        → Keeps name a.moment.folder.files r.after.moment.folder.files × IsSome r.after.moment.folder.files
     all_keeps a r told is = logs_keep names r.after.held a.moment r.after.moment r.saved told is.keeps
 
-    all_rounds_keep : (a : Standing (List OrderModel) L) (rs : List (Round (List OrderModel) L)) (b : Standing (List OrderModel) L) → IsSome a.moment.files
-        → GoWell (IsRoundOfAll left written counts is_shut names sessions) a rs b → Keeps name a.moment.files b.moment.files × IsSome b.moment.files
+    all_rounds_keep : (a : Standing (List OrderModel)) (rs : List (Round (List OrderModel))) (b : Standing (List OrderModel)) → IsSome a.moment.folder.files
+        → GoWell (IsRoundOfAll names sessions) a rs b → Keeps name a.moment.folder.files b.moment.folder.files × IsSome b.moment.folder.files
     all_rounds_keep a [] b told same =
-        (ap (λ (s : Standing (List OrderModel) L). file_at name s.moment.files) same, subst (λ (s : Standing (List OrderModel) L). IsSome s.moment.files) (sym same) told)
+        (ap (λ (s : Standing (List OrderModel)). file_at name s.moment.folder.files) same, subst (λ (s : Standing (List OrderModel)). IsSome s.moment.folder.files) (sym same) told)
     all_rounds_keep a (r ∷ rs) b told (is, good, others) =
         let one = all_keeps a r told is in
         let rest = all_rounds_keep r.after rs b one.1 others in
         (rest.0 ∙ one.0, rest.1)
 
-  serve_all_keeps : {L : Type 0} (left written : L → Option (List ℕ)) (counts : L → ℕ) (is_shut : L → Option Bool) (names : List (List ℕ)) (sessions times : ℕ) (folder : FolderUse)
-      (out : SinkUse) (old new : Net L) (answer : Result ⊤ Fault) → IsSome folder.files_before
-      → ServeAllOutcome left written counts is_shut names sessions times folder out old new answer → Keeps name folder.files_before folder.files_after
-  serve_all_keeps left written counts is_shut names sessions times folder out old new answer told (inl none) =
-      tails_changed names folder.files_before folder.files_after told none.changes
-  serve_all_keeps {L} left written counts is_shut names sessions times folder out old new answer told (inr served) =
-      let start : Standing (List OrderModel) L = record { held = served.before; moment = served.opened; net = old } in
-      let made = tails_made names folder.files_before served.opened.files told served.is_opened.files in
-      let rounds = all_rounds_keep left written counts is_shut names sessions start served.rounds.rounds served.rounds.before made.1 served.rounds.well in
-      let last = all_keeps left written counts is_shut names sessions served.rounds.before served.last rounds.1 served.rounds.last_is in
-      tails_given names served.logs served.last.after.held served.last.saved served.given served.last.after.moment (at_end folder out) served.named served.gives
+  serve_all_keeps : (names : List (List ℕ)) (sessions times : ℕ) (folder : Use FolderTold)
+      (out : Use StreamTold) (old new : NetTold) (answer : Result ⊤ Fault) → IsSome folder.before.files
+      → ServeAllOutcome names sessions times folder out old new answer → Keeps name folder.before.files folder.after.files
+  serve_all_keeps names sessions times folder out old new answer told (inl none) =
+      tails_changed names folder.before.files folder.after.files told none.changes
+  serve_all_keeps names sessions times folder out old new answer told (inr served) =
+      let start : Standing (List OrderModel) = record { held = served.before; moment = served.opened; net = old } in
+      let made = tails_made names folder.before.files served.opened.folder.files told served.is_opened.files in
+      let rounds = all_rounds_keep names sessions start served.rounds.rounds served.rounds.before made.1 served.rounds.well in
+      let last = all_keeps names sessions served.rounds.before served.last rounds.1 served.rounds.last_is in
+      tails_given names served.logs served.last.after.held served.last.saved served.given served.last.after.moment.folder folder.after served.named served.gives
       ∙ last.0 ∙ rounds.0 ∙ made.0
 
   -- ---- client
@@ -385,72 +324,73 @@ module _ (document : List ℕ) (device : Device) where
   abbrev Stays : Option (List NamedFile) → Option (List NamedFile) → Type 0
   Stays before after = IsSome after × Keeps name before after
 
-  saved_stays : (past : Past) (other : List ℕ) (u : FilesUse) (saved : Result ⊤ KeepFault) → IsSome u.before → bytes_eq other name ≡ false → SaveOutcome past other u saved
+  saved_stays : (past : Past) (other : List ℕ) (u : FilesUse) (saved : Result ⊤ Fault) → IsSome u.before → bytes_eq other name ≡ false → SaveOutcome past other u saved
       → Stays u.before u.after
   saved_stays past other u (Ok done) told differs is = (told_with u.before u.after other _ told is, kept_with name u.before u.after other _ differs is)
-  saved_stays past other u (Err keeping.Folder) told differs (rose, changes) = (told_changes u.before u.after other told changes, kept_changes name u.before u.after other told differs changes)
-  saved_stays past other u (Err keeping.TooLong) told differs (long, same) = (told_same u.before u.after told same, ap (file_at name) same)
-  saved_stays past other u (Err keeping.Memory) told differs same = (told_same u.before u.after told same, ap (file_at name) same)
+  saved_stays past other u (Err faults.Outside) told differs (rose, changes) = (told_changes u.before u.after other told changes, kept_changes name u.before u.after other told differs changes)
+  saved_stays past other u (Err faults.FullFile) told differs (long, same) = (told_same u.before u.after told same, ap (file_at name) same)
+  saved_stays past other u (Err faults.Memory) told differs same = (told_same u.before u.after told same, ap (file_at name) same)
+  saved_stays past other u (Err fault) told differs never = absurd never
 
-  module _ {L D : Type 0} (links : LinkView L) (disks : DiskView D) where
-    over_stays : (words : Client) (m : MemberFiles) (did : ClientUse L) (first last : D) (answer : Result ⊤ Fault) → IsSome did.folder.files_before
-        → DiskOutcome links disks words m did first last answer → Stays did.folder.files_before did.folder.files_after
+  module _ {D : Type 0} (disks : D → DiskTold) where
+    over_stays : (words : Client) (m : MemberFiles) (did : ClientUse) (first last : D) (answer : Result ⊤ Fault) → IsSome did.folder.before.files
+        → DiskOutcome disks words m did first last answer → Stays did.folder.before.files did.folder.after.files
     over_stays words m did first last answer told (worked w) =
         saved_stays w.past (file_name (names_of words) (files.History words.device)) (files_of did) w.saved told (not_history (names_of words) document device words.device) w.saves
     over_stays words m did first last answer told (not_worked why untouched same kept) =
-        (told_same did.folder.files_before did.folder.files_after told untouched.files, ap (file_at name) untouched.files)
+        (told_same did.folder.before.files did.folder.after.files told untouched.files, ap (file_at name) untouched.files)
 
     -- over another leaf file, or over none
-    client_keeps : (words : Client) (did : ClientUse L) (answer : Result ⊤ Fault) (outcome : ClientOutcome links disks words did answer)
-        → IsSome did.folder.files_before → IsSome did.folder.lent_before → if_over links disks name (over_its_disk links disks words did answer outcome) ≡ None
-        → Keeps name did.folder.files_before did.folder.files_after
+    client_keeps : (words : Client) (did : ClientUse) (answer : Result ⊤ Fault) (outcome : ClientOutcome disks words did answer)
+        → IsSome did.folder.before.files → IsSome did.folder.before.lent → if_over disks name (over_its_disk disks words did answer outcome) ≡ None
+        → Keeps name did.folder.before.files did.folder.after.files
     client_keeps words did answer (no_member why same untouched) told lent none = ap (file_at name) untouched.files
     client_keeps words did answer (no_disk m say why same untouched) told lent none = ap (file_at name) untouched.files
     client_keeps words did answer (over_disk m first last during say lends over) told lent none = go (bytes_eq (leaf_name words.name words.device) name) refl
       where
-        go : (b : Bool) → bytes_eq (leaf_name words.name words.device) name ≡ b → Keeps name did.folder.files_before did.folder.files_after
+        go : (b : Bool) → bytes_eq (leaf_name words.name words.device) name ≡ b → Keeps name did.folder.before.files did.folder.after.files
         go true e = let clash = rw e at none in absurd cc
         go false e =
-            let (rest, is) = one_lent did.folder.lent_before lent in
+            let (rest, is) = one_lent did.folder.before.lent lent in
             let told_then = subst (λ (o : Option (List NamedFile)). IsSome o) (sym lends.unchanged) told in
             let stays = over_stays words m (with_folder did during) first last answer told_then over in
-            kept_back name during.lent_after during.files_after did.folder.files_after (disks.stored last) (leaf_name words.name words.device) rest
+            kept_back name during.after.lent during.after.files did.folder.after.files (disks last).stored (leaf_name words.name words.device) rest
             (lends.lent ∙ ap (option_map (λ names. leaf_name words.name words.device ∷ names)) is) stays.0 e lends.back ∙ stays.1 ∙ ap (file_at name) lends.unchanged
 
     -- over this one: the disk that was handed out had the file's bytes, and the file those of the one that came back
-    pub record HasBeenOver (before after : Option (List NamedFile)) (run : ClientRun links disks) : Type 0 where
-      pub tells : IsSome (disks.stored run.first)
-      pub first : disks.stored run.first ≡ file_at name before
-      pub last : IsSome (disks.stored run.last) → file_at name after ≡ disks.stored run.last
+    pub record HasBeenOver (before after : Option (List NamedFile)) (run : ClientRun disks) : Type 0 where
+      pub tells : IsSome (disks run.first).stored
+      pub first : (disks run.first).stored ≡ file_at name before
+      pub last : IsSome (disks run.last).stored → file_at name after ≡ (disks run.last).stored
 
-    client_has : (words : Client) (did : ClientUse L) (answer : Result ⊤ Fault) (outcome : ClientOutcome links disks words did answer) (run : ClientRun links disks)
-        → IsSome did.folder.files_before → IsSome did.folder.lent_before → if_over links disks name (over_its_disk links disks words did answer outcome) ≡ Some run
-        → HasBeenOver did.folder.files_before did.folder.files_after run
+    client_has : (words : Client) (did : ClientUse) (answer : Result ⊤ Fault) (outcome : ClientOutcome disks words did answer) (run : ClientRun disks)
+        → IsSome did.folder.before.files → IsSome did.folder.before.lent → if_over disks name (over_its_disk disks words did answer outcome) ≡ Some run
+        → HasBeenOver did.folder.before.files did.folder.after.files run
     client_has words did answer (no_member why same untouched) run told lent some = absurd cc
     client_has words did answer (no_disk m say why same untouched) run told lent some = absurd cc
     client_has words did answer (over_disk m first last during say lends over) run told lent some = go (bytes_eq (leaf_name words.name words.device) name) refl
       where
-        own : ClientRun links disks
+        own : ClientRun disks
         own = record { words = words; member = m; did = with_folder did during; first = first; last = last; answer = answer; outcome = over }
 
-        has : leaf_name words.name words.device ≡ name → HasBeenOver did.folder.files_before did.folder.files_after own
+        has : leaf_name words.name words.device ≡ name → HasBeenOver did.folder.before.files did.folder.after.files own
         has called =
-            let (rest, is) = one_lent did.folder.lent_before lent in
+            let (rest, is) = one_lent did.folder.before.lent lent in
             let told_then = subst (λ (o : Option (List NamedFile)). IsSome o) (sym lends.unchanged) told in
             let stays = over_stays words m (with_folder did during) first last answer told_then over in
-            let is_disk = subst (λ (n : List ℕ). IsDiskOf did.folder.files_before n (disks.stored first)) called lends.is in
+            let is_disk = subst (λ (n : List ℕ). IsDiskOf did.folder.before.files n (disks first).stored) called lends.is in
             record {
-              tells = own_tells name did.folder.files_before (disks.stored first) told is_disk;
-              first = own_is name did.folder.files_before (disks.stored first) told is_disk;
-              last = λ tells. own_back name during.lent_after during.files_after did.folder.files_after (disks.stored last) rest
+              tells = own_tells name did.folder.before.files (disks first).stored told is_disk;
+              first = own_is name did.folder.before.files (disks first).stored told is_disk;
+              last = λ tells. own_back name during.after.lent during.after.files did.folder.after.files (disks last).stored rest
                   (lends.lent ∙ ap (option_map (λ names. leaf_name words.name words.device ∷ names)) is ∙ ap (λ (n : List ℕ). Some (n ∷ rest)) called) stays.0 tells lends.back;
             }
 
-        go : (b : Bool) → bytes_eq (leaf_name words.name words.device) name ≡ b → HasBeenOver did.folder.files_before did.folder.files_after run
+        go : (b : Bool) → bytes_eq (leaf_name words.name words.device) name ≡ b → HasBeenOver did.folder.before.files did.folder.after.files run
         go true e =
             let both = rw e at some in
             let same : own ≡ run = cc in
-            subst (HasBeenOver did.folder.files_before did.folder.files_after) same (has ((bytes_eq-Decides (leaf_name words.name words.device) name).0 e))
+            subst (HasBeenOver did.folder.before.files did.folder.after.files) same (has ((bytes_eq-Decides (leaf_name words.name words.device) name).0 e))
         go false e = let clash = rw e at some in absurd cc
 
     -- ---- commands
@@ -466,17 +406,17 @@ module _ (document : List ℕ) (device : Device) where
     by_key words before after answer (inl kept) = inl kept
     by_key words before after answer (inr (called, new)) = inr (words, refl, called, new)
 
-    pub command_leaves : (asked : Command) (outside : OutsideUse L) (answer : Result ⊤ Fault) (did : Performs links disks asked outside answer)
-        → ((needs_of asked).files ≡ false → outside.folder.files_after ≡ outside.folder.files_before)
-        → IsSome outside.folder.files_before → IsSome outside.folder.lent_before → if_over links disks name (by_command links disks asked outside answer did) ≡ None
-        → CommandLeaves asked outside.folder.files_before outside.folder.files_after answer
+    pub command_leaves : (asked : Command) (outside : OutsideUse) (answer : Result ⊤ Fault) (did : Performs disks asked outside answer)
+        → ((needs_of asked).files ≡ false → outside.folder.after.files ≡ outside.folder.before.files)
+        → IsSome outside.folder.before.files → IsSome outside.folder.before.lent → if_over disks name (by_command disks asked outside answer did) ≡ None
+        → CommandLeaves asked outside.folder.before.files outside.folder.after.files answer
     command_leaves commands.Play outside answer did unused told lent none = inl (ap (file_at name) (unused refl))
     command_leaves (commands.Generate edits) outside answer did unused told lent none = inl (ap (file_at name) (unused refl))
     command_leaves (commands.Keygen words) outside answer did unused told lent none =
-        by_key words outside.folder.files_before outside.folder.files_after answer (keygen_leaves words outside.folder outside.chance outside.out answer told did.outcome)
+        by_key words outside.folder.before.files outside.folder.after.files answer (keygen_leaves words outside.folder outside.chance outside.out answer told did.outcome)
     command_leaves (commands.Found words) outside answer did unused told lent none = inl (found_keeps words outside.folder outside.chance answer told did.outcome)
     command_leaves (commands.Serve words) outside answer did unused told lent none =
-        inl (serve_keeps _ _ _ _ (names_of_document words.name) words.sessions words.times outside.folder outside.out _ _ answer told did.outcome)
+        inl (serve_keeps (names_of_document words.name) words.sessions words.times outside.folder outside.out _ _ answer told did.outcome)
     command_leaves (commands.Client words) outside answer did unused told lent none = inl (client_keeps words (client_use outside) answer did.outcome told lent none)
     command_leaves (commands.Check words) outside answer did unused told lent none = inl (ap (file_at name) did.reads.unchanged)
     command_leaves (commands.Compare words) outside answer did unused told lent none = inl (ap (file_at name) did.reads.unchanged)
@@ -486,11 +426,11 @@ module _ (document : List ℕ) (device : Device) where
     command_leaves (commands.Text words) outside answer did unused told lent none = inl (ap (file_at name) did.reads.unchanged)
     command_leaves (commands.Entries words) outside answer did unused told lent none = inl (ap (file_at name) did.reads.unchanged)
     command_leaves (commands.ServeAll words) outside answer did unused told lent none =
-        inl (serve_all_keeps _ _ _ _ words.names words.sessions words.times outside.folder outside.out _ _ answer told did.outcome)
+        inl (serve_all_keeps words.names words.sessions words.times outside.folder outside.out _ _ answer told did.outcome)
 
-    pub command_has : (asked : Command) (outside : OutsideUse L) (answer : Result ⊤ Fault) (did : Performs links disks asked outside answer) (run : ClientRun links disks)
-        → IsSome outside.folder.files_before → IsSome outside.folder.lent_before → if_over links disks name (by_command links disks asked outside answer did) ≡ Some run
-        → HasBeenOver outside.folder.files_before outside.folder.files_after run
+    pub command_has : (asked : Command) (outside : OutsideUse) (answer : Result ⊤ Fault) (did : Performs disks asked outside answer) (run : ClientRun disks)
+        → IsSome outside.folder.before.files → IsSome outside.folder.before.lent → if_over disks name (by_command disks asked outside answer did) ≡ Some run
+        → HasBeenOver outside.folder.before.files outside.folder.after.files run
     command_has commands.Play outside answer did run told lent some = absurd cc
     command_has (commands.Generate edits) outside answer did run told lent some = absurd cc
     command_has (commands.Keygen words) outside answer did run told lent some = absurd cc

@@ -14,8 +14,8 @@ use Rattle.sporc_files.specs.declared.file.File.TheVariants as files
 use Rattle.sporc_files.specs.Names.{FileNames, file_name, names_of_document}
 use Rattle.sporc_files.proofs.NamesApart.{names_apart}
 use Rattle.sporc_files.specs.Writing.{Stores, StoresFirst, StoresPrefix, with_files, with_one}
-use Rattle.sporc_founding.specs.Founding.{ring_of_founding}
-use Rattle.sporc_histories.proofs.Opened.{made_other, put_other}
+use Rattle.sporc_commands.specs.Founding.{ring_of_founding}
+use Rattle.sporc_commands.proofs.Opened.{made_other, put_other}
 use Rattle.sporc_top.specs.LeafFiles.{file_at, leaf_name}
 
 -- ---- names that end otherwise

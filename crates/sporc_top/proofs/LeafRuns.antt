@@ -3,8 +3,9 @@ use Rattle.std.proofs.Common.{◌≡◌, ◌≢◌, ◌⊎◌, inl, inr, ℕ, �
 use Rattle.std.specs.Bool.{⊤}
 use Rattle.lms_leaf.specs.Lives.{GoesOn}
 use Rattle.sporc_outside.specs.Files.{HasNoFile}
-use Rattle.sporc_outside.specs.LeafDisk.{IsFound}
+use Rattle.sporc_outside.specs.LeafDisk.{DiskTold, IsDiskFound, disk_images}
 use Rattle.sporc_outside.specs.declared.named_file.NamedFile.{NamedFile}
+use Rattle.sporc_outside.specs.Folders.{FolderTold}
 use Rattle.sporc_member.specs.declared.device.Device.{Device}
 use Rattle.sporc_words.specs.declared.command.Command.{Command}
 use Rattle.sporc_words.specs.declared.command.Command.TheVariants as commands
@@ -13,9 +14,7 @@ use Rattle.sporc_words.specs.Commands.{command_of}
 use Rattle.sporc_files.specs.declared.fault.Fault.{Fault}
 use Rattle.sporc_files.specs.declared.fault.Fault.TheVariants as faults
 use Rattle.sporc_files.specs.Faults.{status_of}
-use Rattle.sporc_sessions.specs.Nets.{LinkView}
 use Rattle.sporc_clients.specs.Lives.{AreRuns, ClientRun, all_signed, life_of as life_of_client}
-use Rattle.sporc_clients.specs.Outcome.{DiskView, disk_view}
 use Rattle.sporc_clients.proofs.Lives.{sign_once}
 use Rattle.sporc_top.specs.LeafFiles.{AreProgramRuns, FindsLeafFile, GoesOnOver, LeavesLeafFile, MakesLeafFile, ProgramRun, SignOnceOverRuns, all_signed_over, behind_then, by_end, by_outcome, file_at, if_over, leaf_name, life_of, over_leaf_file, signed_over}
 use Rattle.sporc_top.specs.Needs.{needs_by, needs_of}
@@ -30,16 +29,16 @@ module _ (document : List ℕ) (device : Device) where
 
   -- ---- one run
 
-  module _ {L D : Type 0} (links : LinkView L) (disks : DiskView D) where
+  module _ {D : Type 0} (disks : D → DiskTold) where
     -- as `LeavesLeafFile`, of its parts
-    abbrev Leaves : List (List ℕ) → OutsideUse L → ℕ → Type 0
+    abbrev Leaves : List (List ℕ) → OutsideUse → ℕ → Type 0
     Leaves words outside status =
-        (file_at name outside.folder.files_after ≡ file_at name outside.folder.files_before)
+        (file_at name outside.folder.after.files ≡ file_at name outside.folder.before.files)
         ⊎ ((asked : Keygen) × (command_of words ≡ Some (commands.Keygen asked)) × (leaf_name asked.name asked.device ≡ name)
-        × (HasNoFile outside.folder.files_before name ⊎ (status ≡ 6)))
+        × (HasNoFile outside.folder.before.files name ⊎ (status ≡ 6)))
 
-    by_answer : (words : List (List ℕ)) (outside : OutsideUse L) (status : ℕ) (asked : Command) (answer : Result ⊤ Fault) → command_of words ≡ Some asked
-        → (answer ≡ Err faults.Outside → status ≡ 6) → CommandLeaves document device links disks asked outside.folder.files_before outside.folder.files_after answer
+    by_answer : (words : List (List ℕ)) (outside : OutsideUse) (status : ℕ) (asked : Command) (answer : Result ⊤ Fault) → command_of words ≡ Some asked
+        → (answer ≡ Err faults.Outside → status ≡ 6) → CommandLeaves document device disks asked outside.folder.before.files outside.folder.after.files answer
         → Leaves words outside status
     by_answer words outside status asked answer asks six (inl kept) = inl kept
     by_answer words outside status asked answer asks six (inr (key, is, called, inl none)) = inr (key, asks ∙ ap (λ (c : Command). Some c) is, called, inl none)
@@ -53,108 +52,105 @@ module _ (document : List ℕ) (device : Device) where
         let is : fault ≡ faults.Outside = cc in
         ap status_of is
 
-    end_leaves : (words : List (List ℕ)) (outside : OutsideUse L) (status : ℕ) (asked : Command) → command_of words ≡ Some asked
-        → (ends : Ends (λ out. Performs links disks asked (record outside { out = out })) (names_of asked) outside.out status)
-        → ((needs_of asked).files ≡ false → outside.folder.files_after ≡ outside.folder.files_before)
-        → IsSome outside.folder.files_before → IsSome outside.folder.lent_before → if_over links disks name (by_end links disks asked outside status ends) ≡ None
+    end_leaves : (words : List (List ℕ)) (outside : OutsideUse) (status : ℕ) (asked : Command) → command_of words ≡ Some asked
+        → (ends : Ends (λ out. Performs disks asked (record outside { out = out })) (names_of asked) outside.out status)
+        → ((needs_of asked).files ≡ false → outside.folder.after.files ≡ outside.folder.before.files)
+        → IsSome outside.folder.before.files → IsSome outside.folder.before.lent → if_over disks name (by_end disks asked outside status ends) ≡ None
         → Leaves words outside status
     end_leaves words outside status asked asks (done did) unused told lent none =
-        by_answer words outside status asked (Ok tt) asks ok_is_none (command_leaves document device links disks asked outside (Ok tt) did unused told lent none)
-    end_leaves words outside status asked asks (stopped {fault} {written} {count} did since line till) unused told lent none =
-        by_answer words outside status asked (Err fault) asks (outside_is_six fault) (command_leaves document device links disks asked _ (Err fault) did unused told lent none)
+        by_answer words outside status asked (Ok tt) asks ok_is_none (command_leaves document device disks asked outside (Ok tt) did unused told lent none)
+    end_leaves words outside status asked asks (stopped {fault} {between} did since line till) unused told lent none =
+        by_answer words outside status asked (Err fault) asks (outside_is_six fault) (command_leaves document device disks asked _ (Err fault) did unused told lent none)
 
-    end_has : (outside : OutsideUse L) (status : ℕ) (asked : Command) (run : ClientRun links disks)
-        → (ends : Ends (λ out. Performs links disks asked (record outside { out = out })) (names_of asked) outside.out status)
-        → IsSome outside.folder.files_before → IsSome outside.folder.lent_before → if_over links disks name (by_end links disks asked outside status ends) ≡ Some run
-        → HasBeenOver document device links disks outside.folder.files_before outside.folder.files_after run
-    end_has outside status asked run (done did) told lent some = command_has document device links disks asked outside (Ok tt) did run told lent some
-    end_has outside status asked run (stopped {fault} {written} {count} did since line till) told lent some =
-        command_has document device links disks asked _ (Err fault) did run told lent some
+    end_has : (outside : OutsideUse) (status : ℕ) (asked : Command) (run : ClientRun disks)
+        → (ends : Ends (λ out. Performs disks asked (record outside { out = out })) (names_of asked) outside.out status)
+        → IsSome outside.folder.before.files → IsSome outside.folder.before.lent → if_over disks name (by_end disks asked outside status ends) ≡ Some run
+        → HasBeenOver document device disks outside.folder.before.files outside.folder.after.files run
+    end_has outside status asked run (done did) told lent some = command_has document device disks asked outside (Ok tt) did run told lent some
+    end_has outside status asked run (stopped {fault} {between} did since line till) told lent some =
+        command_has document device disks asked _ (Err fault) did run told lent some
 
-    outcome_leaves : (words : List (List ℕ)) (outside : OutsideUse L) (status : ℕ) (outcome : RunOutcome links disks words outside status)
-        → ((needs_by (command_of words)).files ≡ false → outside.folder.files_after ≡ outside.folder.files_before)
-        → IsSome outside.folder.files_before → IsSome outside.folder.lent_before → if_over links disks name (by_outcome links disks words outside status outcome) ≡ None
+    outcome_leaves : (words : List (List ℕ)) (outside : OutsideUse) (status : ℕ) (outcome : RunOutcome disks words outside status)
+        → ((needs_by (command_of words)).files ≡ false → outside.folder.after.files ≡ outside.folder.before.files)
+        → IsSome outside.folder.before.files → IsSome outside.folder.before.lent → if_over disks name (by_outcome disks words outside status outcome) ≡ None
         → Leaves words outside status
-    outcome_leaves words outside status (no_command asks unused line) files told lent none = inl (ap (file_at name) unused.files)
-    outcome_leaves words outside status (unread unused line) files told lent none = inl (ap (file_at name) unused.files)
+    outcome_leaves words outside status (no_command asks unused line) files told lent none = inl (ap (λ (t : FolderTold). file_at name t.files) unused.folder)
+    outcome_leaves words outside status (unread unused line) files told lent none = inl (ap (λ (t : FolderTold). file_at name t.files) unused.folder)
     outcome_leaves words outside status (command {asked} asks ends) files told lent none =
         end_leaves words outside status asked asks ends
-        (subst (λ (c : Option Command). (needs_by c).files ≡ false → outside.folder.files_after ≡ outside.folder.files_before) asks files) told lent none
+        (subst (λ (c : Option Command). (needs_by c).files ≡ false → outside.folder.after.files ≡ outside.folder.before.files) asks files) told lent none
 
-    outcome_has : (words : List (List ℕ)) (outside : OutsideUse L) (status : ℕ) (outcome : RunOutcome links disks words outside status) (run : ClientRun links disks)
-        → IsSome outside.folder.files_before → IsSome outside.folder.lent_before → if_over links disks name (by_outcome links disks words outside status outcome) ≡ Some run
-        → HasBeenOver document device links disks outside.folder.files_before outside.folder.files_after run
+    outcome_has : (words : List (List ℕ)) (outside : OutsideUse) (status : ℕ) (outcome : RunOutcome disks words outside status) (run : ClientRun disks)
+        → IsSome outside.folder.before.files → IsSome outside.folder.before.lent → if_over disks name (by_outcome disks words outside status outcome) ≡ Some run
+        → HasBeenOver document device disks outside.folder.before.files outside.folder.after.files run
     outcome_has words outside status (no_command asks unused line) run told lent some = absurd cc
     outcome_has words outside status (unread unused line) run told lent some = absurd cc
     outcome_has words outside status (command {asked} asks ends) run told lent some = end_has outside status asked run ends told lent some
 
-    pub leaves_leaf_file : (run : ProgramRun links disks) → IsSome run.outside.folder.files_before → IsSome run.outside.folder.lent_before
-        → over_leaf_file links disks name run ≡ None → LeavesLeafFile links disks name run
+    pub leaves_leaf_file : (run : ProgramRun disks) → IsSome run.outside.folder.before.files → IsSome run.outside.folder.before.lent
+        → over_leaf_file disks name run ≡ None → LeavesLeafFile disks name run
     leaves_leaf_file run told lent none = go (outcome_leaves run.words run.outside run.status run.outcome run.files told lent none)
       where
-        go : Leaves run.words run.outside run.status → LeavesLeafFile links disks name run
+        go : Leaves run.words run.outside run.status → LeavesLeafFile disks name run
         go (inl kept) = inl kept
         go (inr (key, asks, called, new)) = inr (record { words = key; asks = asks; named = called }, new)
 
   -- ---- one behind another
 
-  module _ {L D : Type 0} (links : LinkView L) (stored : D → Option (List ℕ)) (images : D → ℕ → List ℕ → Type 0) (moment faults : D → ℕ)
-      (is_image : (disk : D) → IfSome (stored disk) (images disk (moment disk))) where
-    abbrev disks : DiskView D
-    disks = disk_view stored images moment faults
-
+  module _ {D : Type 0} (disk_told : D → DiskTold)
+      (is_image : (disk : D) → IfSome (disk_told disk).stored (disk_images (disk_told disk))) where
     abbrev Run : Type 0
-    Run = ProgramRun links disks
+    Run = ProgramRun disk_told
 
     abbrev Life : Type 0
-    Life = Option (ClientRun links disks)
+    Life = Option (ClientRun disk_told)
 
-    abbrev with_life : Life → List (ClientRun links disks) → List (ClientRun links disks)
+    abbrev with_life : Life → List (ClientRun disk_told) → List (ClientRun disk_told)
     with_life None lives = lives
     with_life (Some life) lives = life ∷ lives
 
     -- what was done over the disks that were handed out
-    abbrev client_runs : List Run → List (ClientRun links disks)
+    abbrev client_runs : List Run → List (ClientRun disk_told)
     client_runs [] = []
-    client_runs (run ∷ runs) = with_life (life_of links stored moment images faults name run) (client_runs runs)
+    client_runs (run ∷ runs) = with_life (life_of disk_told name run) (client_runs runs)
 
-    signed_with : (life : Life) (lives : List (ClientRun links disks)) → all_signed links disks (with_life life lives) ≡ signed_over links disks life ++ all_signed links disks lives
+    signed_with : (life : Life) (lives : List (ClientRun disk_told)) → all_signed disk_told (with_life life lives) ≡ signed_over disk_told life ++ all_signed disk_told lives
     signed_with None lives = refl
     signed_with (Some life) lives = refl
 
-    same_signed : (runs : List Run) → all_signed links disks (client_runs runs) ≡ all_signed_over links disks name runs
+    same_signed : (runs : List Run) → all_signed disk_told (client_runs runs) ≡ all_signed_over disk_told name runs
     same_signed [] = refl
     same_signed (run ∷ runs) =
-        signed_with (life_of links stored moment images faults name run) (client_runs runs)
-        ∙ ap (λ (l : List ℕ). signed_over links disks (life_of links stored moment images faults name run) ++ l) (same_signed runs)
+        signed_with (life_of disk_told name run) (client_runs runs)
+        ∙ ap (λ (l : List ℕ). signed_over disk_told (life_of disk_told name run) ++ l) (same_signed runs)
 
     -- the file has bytes that a crash may leave of the disk that was behind it last
     abbrev IsLeft : Option D → Option (List ℕ) → Type 0
     IsLeft None at = ⊤
-    IsLeft (Some last) at = (image : List ℕ) × images last (moment last) image × (at ≡ Some image)
+    IsLeft (Some last) at = (image : List ℕ) × disk_images (disk_told last) image × (at ≡ Some image)
 
     -- the next disk is found there
-    abbrev IsNext : Option D → List (ClientRun links disks) → Type 0
+    abbrev IsNext : Option D → List (ClientRun disk_told) → Type 0
     IsNext None lives = ⊤
     IsNext (Some last) [] = ⊤
-    IsNext (Some last) (life ∷ lives) = IsFound stored moment images last (moment last) life.first
+    IsNext (Some last) (life ∷ lives) = IsDiskFound disk_told last (disk_told last).moment life.first
 
-    goes_on : (life : ClientRun links disks) (lives : List (ClientRun links disks)) → IsNext (Some life.last) lives
-        → GoesOn stored moment images (life_of_client links disks life) (map (life_of_client links disks) lives)
+    goes_on : (life : ClientRun disk_told) (lives : List (ClientRun disk_told)) → IsNext (Some life.last) lives
+        → GoesOn disk_told (life_of_client disk_told life) (map (life_of_client disk_told) lives)
     goes_on life [] next = tt
     goes_on life (other ∷ lives) next = next
 
-    record AreChained (behind : Option D) (lives : List (ClientRun links disks)) : Type 0 where
-      pub are : AreRuns links stored moment images faults lives
+    record AreChained (behind : Option D) (lives : List (ClientRun disk_told)) : Type 0 where
+      pub are : AreRuns disk_told lives
       pub next : IsNext behind lives
 
-    left_is : (behind : Option D) (left found : Option (List NamedFile)) → IsLeft behind (file_at name left) → FindsLeafFile links stored moment images faults name behind left found
+    left_is : (behind : Option D) (left found : Option (List NamedFile)) → IsLeft behind (file_at name left) → FindsLeafFile disk_told name behind left found
         → IsLeft behind (file_at name found)
     left_is None left found is finds = tt
     left_is (Some last) left found (image, among, is) (inl same) = (image, among, same ∙ is)
     left_is (Some last) left found is (inr crashed) = crashed
 
-    own_image : (disk : D) (at : Option (List ℕ)) → (told : Option (List ℕ)) → stored disk ≡ told → IsSome told → at ≡ stored disk → IsLeft (Some disk) at
+    own_image : (disk : D) (at : Option (List ℕ)) → (told : Option (List ℕ)) → (disk_told disk).stored ≡ told → IsSome told → at ≡ (disk_told disk).stored → IsLeft (Some disk) at
     own_image disk at None tells some is = absurd cc
     own_image disk at (Some bytes) tells some is =
         (bytes, rw tells at (is_image disk), is ∙ tells)
@@ -166,20 +162,20 @@ module _ (document : List ℕ) (device : Device) where
         absurd cc
 
     -- of a run that had no disk handed out
-    still_left : (behind : Option D) (run : Run) → IsLeft behind (file_at name run.outside.folder.files_before)
-        → (IsSome behind → MakesLeafFile links disks name run → run.status ≢ 6) → LeavesLeafFile links disks name run
-        → IsLeft behind (file_at name run.outside.folder.files_after)
+    still_left : (behind : Option D) (run : Run) → IsLeft behind (file_at name run.outside.folder.before.files)
+        → (IsSome behind → MakesLeafFile disk_told name run → run.status ≢ 6) → LeavesLeafFile disk_told name run
+        → IsLeft behind (file_at name run.outside.folder.after.files)
     still_left None run is made leaves = tt
     still_left (Some last) run (image, among, is) made (inl kept) = (image, among, kept ∙ is)
-    still_left (Some last) run (image, among, is) made (inr (makes, inl none)) = absurd (not_missing run.outside.folder.files_before image is none)
+    still_left (Some last) run (image, among, is) made (inr (makes, inl none)) = absurd (not_missing run.outside.folder.before.files image is none)
     still_left (Some last) run (image, among, is) made (inr (makes, inr six)) = absurd (made refl makes six)
 
-    tells_last : (behind : Option D) (life : ClientRun links disks) → GoesOnOver links stored moment images faults name behind (Some life) → IsSome (stored life.last)
+    tells_last : (behind : Option D) (life : ClientRun disk_told) → GoesOnOver disk_told name behind (Some life) → IsSome (disk_told life.last).stored
     tells_last None life on = on
     tells_last (Some last) life on = on.0
 
-    is_next : (behind : Option D) (life : ClientRun links disks) (lives : List (ClientRun links disks)) (at : Option (List ℕ)) → stored life.first ≡ at → IsLeft behind at
-        → GoesOnOver links stored moment images faults name behind (Some life) → IsNext behind (life ∷ lives)
+    is_next : (behind : Option D) (life : ClientRun disk_told) (lives : List (ClientRun disk_told)) (at : Option (List ℕ)) → (disk_told life.first).stored ≡ at → IsLeft behind at
+        → GoesOnOver disk_told name behind (Some life) → IsNext behind (life ∷ lives)
     is_next None life lives at first is on = tt
     is_next (Some last) life lives at first (image, among, is) on = record { reads = (image, among, first ∙ is); among = on.1 }
 
@@ -188,31 +184,31 @@ module _ (document : List ℕ) (device : Device) where
     no_next (Some last) = tt
 
     chain : (behind : Option D) (left : Option (List NamedFile)) (runs : List Run) → IsLeft behind (file_at name left)
-        → AreProgramRuns links stored moment images faults name behind left runs → AreChained behind (client_runs runs)
+        → AreProgramRuns disk_told name behind left runs → AreChained behind (client_runs runs)
     chain behind left [] is are = record { are = tt; next = no_next behind }
     chain behind left (run ∷ runs) is (told, finds, made, on, rest) =
-        go (life_of links stored moment images faults name run) refl on rest (λ b l i a. chain b l runs i a)
+        go (life_of disk_told name run) refl on rest (λ b l i a. chain b l runs i a)
       where
-        found : IsLeft behind (file_at name run.outside.folder.files_before)
-        found = left_is behind left run.outside.folder.files_before is finds
+        found : IsLeft behind (file_at name run.outside.folder.before.files)
+        found = left_is behind left run.outside.folder.before.files is finds
 
-        go : (life : Life) → life_of links stored moment images faults name run ≡ life → GoesOnOver links stored moment images faults name behind life
-            → AreProgramRuns links stored moment images faults name (behind_then links stored moment images faults name behind life) run.outside.folder.files_after runs
-            → ((b : Option D) (l : Option (List NamedFile)) → IsLeft b (file_at name l) → AreProgramRuns links stored moment images faults name b l runs → AreChained b (client_runs runs))
+        go : (life : Life) → life_of disk_told name run ≡ life → GoesOnOver disk_told name behind life
+            → AreProgramRuns disk_told name (behind_then disk_told name behind life) run.outside.folder.after.files runs
+            → ((b : Option D) (l : Option (List NamedFile)) → IsLeft b (file_at name l) → AreProgramRuns disk_told name b l runs → AreChained b (client_runs runs))
             → AreChained behind (with_life life (client_runs runs))
         go None e on rest further =
-            further behind run.outside.folder.files_after (still_left behind run found made (leaves_leaf_file links disks run told.files told.lent e)) rest
+            further behind run.outside.folder.after.files (still_left behind run found made (leaves_leaf_file disk_told run told.files told.lent e)) rest
         go (Some life) e on rest further =
-            let has = outcome_has links disks run.words run.outside run.status run.outcome life told.files told.lent e in
+            let has = outcome_has disk_told run.words run.outside run.status run.outcome life told.files told.lent e in
             let tells = tells_last behind life on in
-            let more = further (Some life.last) run.outside.folder.files_after
-            (own_image life.last (file_at name run.outside.folder.files_after) (stored life.last) refl tells (has.last tells)) rest in
+            let more = further (Some life.last) run.outside.folder.after.files
+            (own_image life.last (file_at name run.outside.folder.after.files) (disk_told life.last).stored refl tells (has.last tells)) rest in
             record {
               are = (has.tells, goes_on life (client_runs runs) more.next, more.are);
-              next = is_next behind life (client_runs runs) (file_at name run.outside.folder.files_before) has.first found on;
+              next = is_next behind life (client_runs runs) (file_at name run.outside.folder.before.files) has.first found on;
             }
 
-    pub sign_once_over_runs : SignOnceOverRuns links stored moment images faults name
+    pub sign_once_over_runs : SignOnceOverRuns disk_told name
     sign_once_over_runs runs are =
         subst (λ (l : List ℕ). AllPairs (λ leaf later. leaf < later) l) (same_signed runs)
-        (sign_once links stored images moment faults is_image (client_runs runs) (chain None None runs tt are).are)
+        (sign_once disk_told is_image (client_runs runs) (chain None None runs tt are).are)

@@ -1,8 +1,12 @@
 -- What a source that tells its bytes calls for.
 use Rattle.std.proofs.Common.{◌≡◌, ℕ, ◌+◌, ◌<◌, ◌≤◌, ◌⊎◌, true, List, ◌++◌, length, Option, Some, None, Result, Ok, Err, refl, sym, ap, ◌∙◌, subst, inl, inr, arith, append-nil, length-append}
 use Rattle.std.specs.Bool.{⊤}
-use Rattle.std.specs.Io.KnownBytes.{Consumes, IsAtEnd}
-use Rattle.sporc_outside.specs.Uses.{IsUnwritten, SinkUse, SourceUse}
+use Rattle.std.specs.Io.KnownBytes.{Appends, Consumes, IsAtEnd}
+use Rattle.sporc_outside.specs.Counts.{Rose}
+use Rattle.sporc_outside.specs.Uses.{Use}
+use Rattle.sporc_outside.specs.Streams.{IsUnwritten, StreamTold}
+use Rattle.sporc_outside.specs.Writing.{AppendsPrefix}
+use Rattle.sporc_outside.specs.LeafDisk.{DiskTold}
 use Rattle.sporc_reading.specs.Reading.{ConsumesExactly}
 use Rattle.sporc_script.specs.declared.command.Command.{Command as PlayCommand}
 use Rattle.sporc_script.specs.declared.play_line.PlayLine.{PlayLine}
@@ -14,7 +18,6 @@ use Rattle.sporc_play.specs.declared.fault.PlayFault.{PlayFault}
 use Rattle.sporc_play.specs.declared.fault.PlayFault.TheVariants as playing
 use Rattle.sporc_play.specs.declared.playing.TheConstants.{MAX_SCRIPT}
 use Rattle.sporc_client.specs.Genuine.{Genuine}
-use Rattle.sporc_client.specs.Run.{start}
 use Rattle.sporc_play.specs.Cast.{has_admin, setup_of}
 use Rattle.sporc_play.specs.Moves.{IsOneRun, moves_of}
 use Rattle.sporc_play.specs.OwnPlays.{AreByClients}
@@ -26,9 +29,7 @@ use Rattle.sporc_words.specs.declared.command.Command.TheVariants as commands
 use Rattle.sporc_words.specs.Commands.{command_of}
 use Rattle.sporc_files.specs.declared.fault.Fault.{Fault}
 use Rattle.sporc_files.specs.declared.fault.Fault.TheVariants as faults
-use Rattle.sporc_files.specs.Faults.{WritesFaultLine, status_of}
-use Rattle.sporc_sessions.specs.Nets.{LinkView}
-use Rattle.sporc_clients.specs.Outcome.{DiskView}
+use Rattle.sporc_files.specs.Faults.{WritesFaultLine, status_of, fault_line}
 use Rattle.sporc_top.specs.Outcome.{Ends, RunOutcome, UnlessCutOff, command, done, from, no_command, stopped, unread, until}
 use Rattle.sporc_top.specs.Performing.{GeneratedOutcome, Performs, PlaysEdits, PlaysSource, as_program, fault_of_play, names_of, no_files}
 use Rattle.sporc_top.specs.Uses.{OutsideUse}
@@ -43,8 +44,8 @@ all_of (Some xs) (Some ys) text read tells all ended =
     let same : xs ≡ text = cc in
     sym (sym same ∙ all ∙ ap (λ zs. read ++ zs) ended ∙ append-nil read)
 
-whole_of : (source : SourceUse) (text read : List ℕ) → source.left_before ≡ Some text → ReadsWhole source read → read ≡ text
-whole_of source text read tells whole = all_of source.left_before source.left_after text read tells whole.all whole.ended
+whole_of : (source : Use StreamTold) (text read : List ℕ) → source.before.left ≡ Some text → ReadsWhole source read → read ≡ text
+whole_of source text read tells whole = all_of source.before.left source.after.left text read tells whole.all whole.ended
 
 no_more : (n : ℕ) (left left' : Option (List ℕ)) (text : List ℕ) → left ≡ Some text → ConsumesExactly n left left' → n ≤ length text
 no_more n None left' text tells taken = cc
@@ -55,16 +56,19 @@ no_more n (Some xs) (Some ys) text tells taken =
 
 -- ---- the line of a fault before which nothing was written
 
-told_alone : (out : SinkUse) (written : Option (List ℕ)) (count : ℕ) (fault : Fault) → IsUnwritten (until written count out)
-    → WritesFaultLine (from written count out) no_files fault → WritesFaultLine out no_files fault
-told_alone out written count fault none line =
-    subst (λ (w : Option (List ℕ)). WritesFaultLine (from w out.faults_before out) no_files fault) none.written
-    (subst (λ (n : ℕ). WritesFaultLine (from written n out) no_files fault) none.faults line)
+told_alone : (out : Use StreamTold) (between : StreamTold) (fault : Fault) → IsUnwritten (until between out)
+    → WritesFaultLine (from between out) no_files fault → WritesFaultLine out no_files fault
+told_alone out between fault none line = record {
+  line = subst (λ (w : Option (List ℕ)). AppendsPrefix w out.after.written (fault_line no_files fault)) none.written line.line;
+  whole = λ calm.
+      subst (λ (w : Option (List ℕ)). Appends w out.after.written (fault_line no_files fault)) none.written
+      (line.whole (subst (λ (n : ℕ). ¬ (Rose n out.after.faults)) (sym none.faults) calm));
+}
 
 -- ---- plays
 
 -- the program's fault is that of a play
-by_cause : (source : SourceUse) (out : SinkUse) (fault : Fault) (Q : Fault → Type 0) (played : Result ⊤ PlayFault) → Err fault ≡ as_program played → PlayOutcome source out played
+by_cause : (source : Use StreamTold) (out : Use StreamTold) (fault : Fault) (Q : Fault → Type 0) (played : Result ⊤ PlayFault) → Err fault ≡ as_program played → PlayOutcome source out played
     → ((cause : PlayFault) → PlayOutcome {T = ⊤} source out (Err cause) → Q (fault_of_play cause)) → Q fault
 by_cause source out fault Q (Ok x) same outcome then = absurd cc
 by_cause source out fault Q (Err cause) same outcome then =
@@ -79,22 +83,22 @@ not_done (playing.LineFault k) none = absurd cc
 not_done playing.TooLong none = absurd cc
 
 -- a text is a script, whose report was written, and whose play is one run
-abbrev IsAgreed : List ℕ → SinkUse → Type 0
+abbrev IsAgreed : List ℕ → Use StreamTold → Type 0
 IsAgreed text out =
-    (script : List PlayLine) × IsPlayScript text script × Reports script out.written_before out.written_after
+    (script : List PlayLine) × IsPlayScript text script × Reports script out.before.written out.after.written
     × (has_admin script ≡ true → IsOneRun script (commands_of script))
-    × (has_admin script ≡ true → AreByClients script → Genuine (setup_of script) start (moves_of script (commands_of script)))
+    × (has_admin script ≡ true → AreByClients script → Genuine (setup_of script) (moves_of script (commands_of script)))
 
 -- a source that tells its bytes, read for a script
-module _ (source : SourceUse) (text : List ℕ) (tells : source.left_before ≡ Some text) where
+module _ (source : Use StreamTold) (text : List ℕ) (tells : source.before.left ≡ Some text) where
   -- it was read as a script, if it is one
-  as_script : (out : SinkUse) (script : List PlayLine) → IsPlayScript text script → Plays source out → Reports script out.written_before out.written_after
+  as_script : (out : Use StreamTold) (script : List PlayLine) → IsPlayScript text script → Plays source out → Reports script out.before.written out.after.written
   as_script out script is (own, reads, written) =
       let same = whole_of source text reads.text tells reads.whole in
       let one = one_reading PlayCommand PlayLine play_line IsNext one_next next_not_skipped (lines_of text) _ 1 own script (subst (λ (t : List ℕ). IsPlayScript t own) same reads.reads) is in
-      subst (λ (s : List PlayLine). Reports s out.written_before out.written_after) one written
+      subst (λ (s : List PlayLine). Reports s out.before.written out.after.written) one written
 
-  agreed_script : (out : SinkUse) → Plays source out → IsAgreed text out
+  agreed_script : (out : Use StreamTold) → Plays source out → IsAgreed text out
   agreed_script out (own, reads, written) =
       (own, subst (λ (t : List ℕ). IsPlayScript t own) (whole_of source text reads.text tells reads.whole) reads.reads, written, reads.one_run, reads.genuine)
 
@@ -102,7 +106,7 @@ module _ (source : SourceUse) (text : List ℕ) (tells : source.left_before ≡ 
   no_fault script k is (read, whole, outside) =
       not_both PlayCommand PlayLine play_line IsNext one_next next_not_skipped (lines_of text) _ 1 script k is (subst (λ (t : List ℕ). IsPlayFault t k) (whole_of source text read tells whole) outside)
 
-  no_script : (out : SinkUse) (k : ℕ) → IsPlayFault text k → ¬ (Plays source out)
+  no_script : (out : Use StreamTold) (k : ℕ) → IsPlayFault text k → ¬ (Plays source out)
   no_script out k outside (own, reads, written) =
       not_both PlayCommand PlayLine play_line IsNext one_next next_not_skipped (lines_of text) _ 1 own k
       (subst (λ (t : List ℕ). IsPlayScript t own) (whole_of source text reads.text tells reads.whole) reads.reads) outside
@@ -112,32 +116,32 @@ module _ (source : SourceUse) (text : List ℕ) (tells : source.left_before ≡ 
       one_fault PlayCommand PlayLine play_line IsNext one_next next_not_skipped (lines_of text) _ 1 j k
       (subst (λ (t : List ℕ). IsPlayFault t j) (whole_of source text read tells whole) found) outside
 
-  short : (limit : ℕ) → length text ≤ limit → ¬ (ConsumesExactly (limit + 1) source.left_before source.left_after)
-  short limit within taken = let more = no_more (limit + 1) source.left_before source.left_after text tells taken in omega (arith, more)
+  short : (limit : ℕ) → length text ≤ limit → ¬ (ConsumesExactly (limit + 1) source.before.left source.after.left)
+  short limit within taken = let more = no_more (limit + 1) source.before.left source.after.left text tells taken in omega (arith, more)
 
   long : (read : List ℕ) (limit : ℕ) → limit < length text → ReadsWhole source read → length read ≤ limit → ⊥
   long read limit above whole within = let same = whole_of source text read tells whole in omega (arith, ap length same)
 
   -- a play that was done is of the script
-  done_script : (out : SinkUse) (script : List PlayLine) (played : Result ⊤ PlayFault) → IsPlayScript text script → PlayOutcome source out played → Ok tt ≡ as_program played
-      → Reports script out.written_before out.written_after
+  done_script : (out : Use StreamTold) (script : List PlayLine) (played : Result ⊤ PlayFault) → IsPlayScript text script → PlayOutcome source out played → Ok tt ≡ as_program played
+      → Reports script out.before.written out.after.written
   done_script out script (Ok x) is plays same = as_script out script is plays
   done_script out script (Err fault) is plays same = absurd cc
 
-  done_agreed : (out : SinkUse) (played : Result ⊤ PlayFault) → PlayOutcome source out played → Ok tt ≡ as_program played → IsAgreed text out
+  done_agreed : (out : Use StreamTold) (played : Result ⊤ PlayFault) → PlayOutcome source out played → Ok tt ≡ as_program played → IsAgreed text out
   done_agreed out (Ok x) plays same = agreed_script out plays
   done_agreed out (Err fault) plays same = absurd cc
 
-  done_fault : (out : SinkUse) (k : ℕ) (played : Result ⊤ PlayFault) → IsPlayFault text k → PlayOutcome source out played → ¬ (Ok tt ≡ as_program played)
+  done_fault : (out : Use StreamTold) (k : ℕ) (played : Result ⊤ PlayFault) → IsPlayFault text k → PlayOutcome source out played → ¬ (Ok tt ≡ as_program played)
   done_fault out k (Ok x) outside plays same = no_script out k outside plays
   done_fault out k (Err fault) outside plays same = absurd cc
 
-  done_long : (out : SinkUse) (played : Result ⊤ PlayFault) → MAX_SCRIPT < length text → PlayOutcome source out played → ¬ (Ok tt ≡ as_program played)
+  done_long : (out : Use StreamTold) (played : Result ⊤ PlayFault) → MAX_SCRIPT < length text → PlayOutcome source out played → ¬ (Ok tt ≡ as_program played)
   done_long out (Ok x) above (own, reads, written) same = long reads.text MAX_SCRIPT above reads.whole reads.whole.within
   done_long out (Err fault) above plays same = absurd cc
 
   -- by its fault, one that was stopped
-  stopped_script : (out : SinkUse) (script : List PlayLine) (fault : PlayFault) (P : Type 0) → length text ≤ MAX_SCRIPT → IsPlayScript text script
+  stopped_script : (out : Use StreamTold) (script : List PlayLine) (fault : PlayFault) (P : Type 0) → length text ≤ MAX_SCRIPT → IsPlayScript text script
       → PlayOutcome {T = ⊤} source out (Err fault) → UnlessCutOff (status_of (fault_of_play fault)) P
   stopped_script out script playing.Memory P within is plays = inr (inl refl)
   stopped_script out script playing.ReadFault P within is plays = inr (inr refl)
@@ -145,78 +149,78 @@ module _ (source : SourceUse) (text : List ℕ) (tells : source.left_before ≡ 
   stopped_script out script (playing.LineFault k) P within is (outside, none) = absurd (no_fault script k is outside)
   stopped_script out script playing.TooLong P within is (taken, none) = absurd (short MAX_SCRIPT within taken)
 
-  stopped_fault : (out : SinkUse) (written : Option (List ℕ)) (count k : ℕ) (fault : PlayFault) → length text ≤ MAX_SCRIPT → IsPlayFault text k
-      → PlayOutcome {T = ⊤} source (until written count out) (Err fault) → WritesFaultLine (from written count out) no_files (fault_of_play fault)
+  stopped_fault : (out : Use StreamTold) (between : StreamTold) (k : ℕ) (fault : PlayFault) → length text ≤ MAX_SCRIPT → IsPlayFault text k
+      → PlayOutcome {T = ⊤} source (until between out) (Err fault) → WritesFaultLine (from between out) no_files (fault_of_play fault)
       → UnlessCutOff (status_of (fault_of_play fault)) ((status_of (fault_of_play fault) ≡ 3) × WritesFaultLine out no_files (faults.Line k))
-  stopped_fault out written count k playing.Memory within outside plays line = inr (inl refl)
-  stopped_fault out written count k playing.ReadFault within outside plays line = inr (inr refl)
-  stopped_fault out written count k playing.WriteFault within outside plays line = inr (inr refl)
-  stopped_fault out written count k (playing.LineFault j) within outside (found, none) line =
-      inl (refl, subst (λ (n : ℕ). WritesFaultLine out no_files (faults.Line n)) (same_line k j outside found) (told_alone out written count (faults.Line j) none line))
-  stopped_fault out written count k playing.TooLong within outside (taken, none) line = absurd (short MAX_SCRIPT within taken)
+  stopped_fault out between k playing.Memory within outside plays line = inr (inl refl)
+  stopped_fault out between k playing.ReadFault within outside plays line = inr (inr refl)
+  stopped_fault out between k playing.WriteFault within outside plays line = inr (inr refl)
+  stopped_fault out between k (playing.LineFault j) within outside (found, none) line =
+      inl (refl, subst (λ (n : ℕ). WritesFaultLine out no_files (faults.Line n)) (same_line k j outside found) (told_alone out between (faults.Line j) none line))
+  stopped_fault out between k playing.TooLong within outside (taken, none) line = absurd (short MAX_SCRIPT within taken)
 
-  stopped_long : (out : SinkUse) (written : Option (List ℕ)) (count : ℕ) (fault : PlayFault) → MAX_SCRIPT < length text
-      → PlayOutcome {T = ⊤} source (until written count out) (Err fault) → WritesFaultLine (from written count out) no_files (fault_of_play fault)
+  stopped_long : (out : Use StreamTold) (between : StreamTold) (fault : PlayFault) → MAX_SCRIPT < length text
+      → PlayOutcome {T = ⊤} source (until between out) (Err fault) → WritesFaultLine (from between out) no_files (fault_of_play fault)
       → UnlessCutOff (status_of (fault_of_play fault)) ((status_of (fault_of_play fault) ≡ 3) × WritesFaultLine out no_files faults.LongScript)
-  stopped_long out written count playing.Memory above plays line = inr (inl refl)
-  stopped_long out written count playing.ReadFault above plays line = inr (inr refl)
-  stopped_long out written count playing.WriteFault above plays line = inr (inr refl)
-  stopped_long out written count (playing.LineFault j) above ((read, whole, found), none) line = absurd (long read MAX_SCRIPT above whole whole.within)
-  stopped_long out written count playing.TooLong above (taken, none) line = inl (refl, told_alone out written count faults.LongScript none line)
+  stopped_long out between playing.Memory above plays line = inr (inl refl)
+  stopped_long out between playing.ReadFault above plays line = inr (inr refl)
+  stopped_long out between playing.WriteFault above plays line = inr (inr refl)
+  stopped_long out between (playing.LineFault j) above ((read, whole, found), none) line = absurd (long read MAX_SCRIPT above whole whole.within)
+  stopped_long out between playing.TooLong above (taken, none) line = inl (refl, told_alone out between faults.LongScript none line)
 
   -- by its status
-  ended_script : (out : SinkUse) (script : List PlayLine) (status : ℕ) → length text ≤ MAX_SCRIPT → IsPlayScript text script → Ends (PlaysSource source) no_files out status
-      → UnlessCutOff status ((status ≡ 0) × Reports script out.written_before out.written_after)
+  ended_script : (out : Use StreamTold) (script : List PlayLine) (status : ℕ) → length text ≤ MAX_SCRIPT → IsPlayScript text script → Ends (PlaysSource source) no_files out status
+      → UnlessCutOff status ((status ≡ 0) × Reports script out.before.written out.after.written)
   ended_script out script status within is (done did) = inl (refl, done_script out script did.played is did.outcome did.answer_is)
-  ended_script out script status within is (stopped {fault} {written} {count} did since line till) =
-      by_cause source (until written count out) fault (λ f. UnlessCutOff (status_of f) ((status_of f ≡ 0) × Reports script out.written_before out.written_after)) did.played did.answer_is did.outcome
-      (λ cause outcome. stopped_script (until written count out) script cause ((status_of (fault_of_play cause) ≡ 0) × Reports script out.written_before out.written_after) within is outcome)
+  ended_script out script status within is (stopped {fault} {between} did since line till) =
+      by_cause source (until between out) fault (λ f. UnlessCutOff (status_of f) ((status_of f ≡ 0) × Reports script out.before.written out.after.written)) did.played did.answer_is did.outcome
+      (λ cause outcome. stopped_script (until between out) script cause ((status_of (fault_of_play cause) ≡ 0) × Reports script out.before.written out.after.written) within is outcome)
 
-  ended_agreed : (out : SinkUse) (status : ℕ) → status ≡ 0 → Ends (PlaysSource source) no_files out status → IsAgreed text out
+  ended_agreed : (out : Use StreamTold) (status : ℕ) → status ≡ 0 → Ends (PlaysSource source) no_files out status → IsAgreed text out
   ended_agreed out status zero (done did) = done_agreed out did.played did.outcome did.answer_is
-  ended_agreed out status zero (stopped {fault} {written} {count} did since line till) =
-      absurd (by_cause source (until written count out) fault (λ f. ¬ (status_of f ≡ 0)) did.played did.answer_is did.outcome (λ cause outcome. not_done cause) zero)
+  ended_agreed out status zero (stopped {fault} {between} did since line till) =
+      absurd (by_cause source (until between out) fault (λ f. ¬ (status_of f ≡ 0)) did.played did.answer_is did.outcome (λ cause outcome. not_done cause) zero)
 
-  ended_fault : (out : SinkUse) (k status : ℕ) → length text ≤ MAX_SCRIPT → IsPlayFault text k → Ends (PlaysSource source) no_files out status
+  ended_fault : (out : Use StreamTold) (k status : ℕ) → length text ≤ MAX_SCRIPT → IsPlayFault text k → Ends (PlaysSource source) no_files out status
       → UnlessCutOff status ((status ≡ 3) × WritesFaultLine out no_files (faults.Line k))
   ended_fault out k status within outside (done did) = absurd (done_fault out k did.played outside did.outcome did.answer_is)
-  ended_fault out k status within outside (stopped {fault} {written} {count} did since line till) =
-      by_cause source (until written count out) fault
-      (λ f. WritesFaultLine (from written count out) no_files f → UnlessCutOff (status_of f) ((status_of f ≡ 3) × WritesFaultLine out no_files (faults.Line k)))
-      did.played did.answer_is did.outcome (λ cause outcome line. stopped_fault out written count k cause within outside outcome line) line
+  ended_fault out k status within outside (stopped {fault} {between} did since line till) =
+      by_cause source (until between out) fault
+      (λ f. WritesFaultLine (from between out) no_files f → UnlessCutOff (status_of f) ((status_of f ≡ 3) × WritesFaultLine out no_files (faults.Line k)))
+      did.played did.answer_is did.outcome (λ cause outcome line. stopped_fault out between k cause within outside outcome line) line
 
-  ended_long : (out : SinkUse) (status : ℕ) → MAX_SCRIPT < length text → Ends (PlaysSource source) no_files out status
+  ended_long : (out : Use StreamTold) (status : ℕ) → MAX_SCRIPT < length text → Ends (PlaysSource source) no_files out status
       → UnlessCutOff status ((status ≡ 3) × WritesFaultLine out no_files faults.LongScript)
   ended_long out status above (done did) = absurd (done_long out did.played above did.outcome did.answer_is)
-  ended_long out status above (stopped {fault} {written} {count} did since line till) =
-      by_cause source (until written count out) fault
-      (λ f. WritesFaultLine (from written count out) no_files f → UnlessCutOff (status_of f) ((status_of f ≡ 3) × WritesFaultLine out no_files faults.LongScript))
-      did.played did.answer_is did.outcome (λ cause outcome line. stopped_long out written count cause above outcome line) line
+  ended_long out status above (stopped {fault} {between} did since line till) =
+      by_cause source (until between out) fault
+      (λ f. WritesFaultLine (from between out) no_files f → UnlessCutOff (status_of f) ((status_of f ≡ 3) × WritesFaultLine out no_files faults.LongScript))
+      did.played did.answer_is did.outcome (λ cause outcome line. stopped_long out between cause above outcome line) line
 
 -- ---- generated plays
 
-done_edits : (n : ℕ) (out : SinkUse) (played : Result ⊤ PlayFault) → GeneratedOutcome n out played → Ok tt ≡ as_program played → PlaysGenerated n out
+done_edits : (n : ℕ) (out : Use StreamTold) (played : Result ⊤ PlayFault) → GeneratedOutcome n out played → Ok tt ≡ as_program played → PlaysGenerated n out
 done_edits n out (Ok x) outcome same = outcome
 done_edits n out (Err fault) outcome same = absurd cc
 
-stopped_cause : (n : ℕ) (out : SinkUse) (cause : PlayFault) (P : Type 0) → GeneratedFault n out cause → UnlessCutOff (status_of (fault_of_play cause)) P
+stopped_cause : (n : ℕ) (out : Use StreamTold) (cause : PlayFault) (P : Type 0) → GeneratedFault n out cause → UnlessCutOff (status_of (fault_of_play cause)) P
 stopped_cause n out playing.Memory P fails = inr (inl refl)
 stopped_cause n out playing.ReadFault P fails = absurd fails
 stopped_cause n out playing.WriteFault P fails = inr (inr refl)
 stopped_cause n out (playing.LineFault k) P fails = absurd fails
 stopped_cause n out playing.TooLong P fails = absurd fails
 
-stopped_edits : (n : ℕ) (out : SinkUse) (fault : Fault) (P : Type 0) (played : Result ⊤ PlayFault) → GeneratedOutcome n out played → Err fault ≡ as_program played
+stopped_edits : (n : ℕ) (out : Use StreamTold) (fault : Fault) (P : Type 0) (played : Result ⊤ PlayFault) → GeneratedOutcome n out played → Err fault ≡ as_program played
     → UnlessCutOff (status_of fault) P
 stopped_edits n out fault P (Ok x) outcome same = absurd cc
 stopped_edits n out fault P (Err cause) outcome same =
     let is : fault ≡ fault_of_play cause = cc in
     subst (λ (f : Fault). UnlessCutOff (status_of f) P) (sym is) (stopped_cause n out cause P outcome)
 
-ended_edits : (n : ℕ) (out : SinkUse) (status : ℕ) → Ends (PlaysEdits n) no_files out status → UnlessCutOff status ((status ≡ 0) × PlaysGenerated n out)
+ended_edits : (n : ℕ) (out : Use StreamTold) (status : ℕ) → Ends (PlaysEdits n) no_files out status → UnlessCutOff status ((status ≡ 0) × PlaysGenerated n out)
 ended_edits n out status (done did) = inl (refl, done_edits n out did.played did.outcome did.answer_is)
-ended_edits n out status (stopped {fault} {written} {count} did since line till) =
-    stopped_edits n (until written count out) fault ((status_of fault ≡ 0) × PlaysGenerated n out) did.played did.outcome did.answer_is
+ended_edits n out status (stopped {fault} {between} did since line till) =
+    stopped_edits n (until between out) fault ((status_of fault ≡ 0) × PlaysGenerated n out) did.played did.outcome did.answer_is
 
 -- ---- runs
 
@@ -232,39 +236,39 @@ not_none words asked is none =
     absurd cc
 
 -- what comes of a command, or memory ran out before the words were read
-by_command : {L D : Type 0} (links : LinkView L) (disks : DiskView D) (words : List (List ℕ)) (outside : OutsideUse L) (status : ℕ) (asked : Command) → RunOutcome links disks words outside status
-    → command_of words ≡ Some asked → (status ≡ 1) ⊎ Ends (λ out. Performs links disks asked (record outside { out = out })) (names_of asked) outside.out status
-by_command links disks words outside status asked (no_command none unused line) asks = absurd (not_none words asked asks none)
-by_command links disks words outside status asked (unread unused line) asks = inl refl
-by_command links disks words outside status asked (command {asked = other} is ends) asks =
-    inr (subst (λ (c : Command). Ends (λ out. Performs links disks c (record outside { out = out })) (names_of c) outside.out status) (one_command words other asked is asks) ends)
+by_command : {D : Type 0} (disks : D → DiskTold) (words : List (List ℕ)) (outside : OutsideUse) (status : ℕ) (asked : Command) → RunOutcome disks words outside status
+    → command_of words ≡ Some asked → (status ≡ 1) ⊎ Ends (λ out. Performs disks asked (record outside { out = out })) (names_of asked) outside.out status
+by_command disks words outside status asked (no_command none unused line) asks = absurd (not_none words asked asks none)
+by_command disks words outside status asked (unread unused line) asks = inl refl
+by_command disks words outside status asked (command {asked = other} is ends) asks =
+    inr (subst (λ (c : Command). Ends (λ out. Performs disks c (record outside { out = out })) (names_of c) outside.out status) (one_command words other asked is asks) ends)
 
 -- what is so of each end of a command, unless it was cut off
 unless_unread : {status : ℕ} {E P : Type 0} → (status ≡ 1) ⊎ E → (E → UnlessCutOff status P) → UnlessCutOff status P
 unless_unread (inl none) ended = inr (inl none)
 unless_unread (inr ends) ended = ended ends
 
-module _ {L D : Type 0} (links : LinkView L) (disks : DiskView D) (words : List (List ℕ)) (outside : OutsideUse L) (status : ℕ) (outcome : RunOutcome links disks words outside status) where
-  module _ (text : List ℕ) (play : command_of words ≡ Some commands.Play) (tells : outside.source.left_before ≡ Some text) where
+module _ {D : Type 0} (disks : D → DiskTold) (words : List (List ℕ)) (outside : OutsideUse) (status : ℕ) (outcome : RunOutcome disks words outside status) where
+  module _ (text : List ℕ) (play : command_of words ≡ Some commands.Play) (tells : outside.source.before.left ≡ Some text) where
     pub on_done : status ≡ 0 → IsAgreed text outside.out
-    on_done zero = elim (by_command links disks words outside status commands.Play outcome play) [
+    on_done zero = elim (by_command disks words outside status commands.Play outcome play) [
       | inl one ↦ absurd (omega (arith, zero, one))
       | inr ends ↦ ended_agreed outside.source text tells outside.out status zero ends
     ]
 
     pub on_script : (script : List PlayLine) → length text ≤ MAX_SCRIPT → IsPlayScript text script
-        → UnlessCutOff status ((status ≡ 0) × Reports script outside.out.written_before outside.out.written_after)
+        → UnlessCutOff status ((status ≡ 0) × Reports script outside.out.before.written outside.out.after.written)
     on_script script within is =
-        unless_unread (by_command links disks words outside status commands.Play outcome play) (λ ends. ended_script outside.source text tells outside.out script status within is ends)
+        unless_unread (by_command disks words outside status commands.Play outcome play) (λ ends. ended_script outside.source text tells outside.out script status within is ends)
 
     pub on_fault_line : (line : ℕ) → length text ≤ MAX_SCRIPT → IsPlayFault text line → UnlessCutOff status ((status ≡ 3) × WritesFaultLine outside.out no_files (faults.Line line))
     on_fault_line line within fails =
-        unless_unread (by_command links disks words outside status commands.Play outcome play) (λ ends. ended_fault outside.source text tells outside.out line status within fails ends)
+        unless_unread (by_command disks words outside status commands.Play outcome play) (λ ends. ended_fault outside.source text tells outside.out line status within fails ends)
 
     pub on_long : MAX_SCRIPT < length text → UnlessCutOff status ((status ≡ 3) × WritesFaultLine outside.out no_files faults.LongScript)
     on_long above =
-        unless_unread (by_command links disks words outside status commands.Play outcome play) (λ ends. ended_long outside.source text tells outside.out status above ends)
+        unless_unread (by_command disks words outside status commands.Play outcome play) (λ ends. ended_long outside.source text tells outside.out status above ends)
 
   pub on_generated : (n : ℕ) → command_of words ≡ Some (commands.Generate n) → UnlessCutOff status ((status ≡ 0) × PlaysGenerated n outside.out)
   on_generated n asks =
-      unless_unread (by_command links disks words outside status (commands.Generate n) outcome asks) (λ ends. ended_edits n outside.out status ends)
+      unless_unread (by_command disks words outside status (commands.Generate n) outcome asks) (λ ends. ended_edits n outside.out status ends)

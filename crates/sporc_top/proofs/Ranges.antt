@@ -17,8 +17,7 @@ use Rattle.sporc_script.specs.declared.limits.TheConstants.{MAX_EDITORS, MAX_GEN
 use Rattle.sporc_script.specs.Readers.{device_of, is_member, passing, then_read, member_of, u32_of}
 use Rattle.sporc_script.specs.Words.{number_of}
 use Rattle.sporc_script.proofs.Exact.{map_some, then_some}
-use Rattle.sporc_serve.specs.declared.limits.TheConstants.{MAX_SESSIONS}
-use Rattle.sporc_docs.specs.declared.limits.TheConstants.{MAX_DOCUMENTS}
+use Rattle.sporc_wire.specs.declared.limits.TheConstants.{MAX_DOCUMENTS, MAX_SESSIONS}
 use Rattle.sporc_words.specs.declared.client.Client.{Client}
 use Rattle.sporc_words.specs.declared.command.Command.{Command}
 use Rattle.sporc_words.specs.declared.command.Command.TheVariants as commands
@@ -36,7 +35,7 @@ use Rattle.sporc_words.specs.Help.{help_in}
 use Rattle.sporc_words.specs.Verbs.{verb_of}
 use Rattle.sporc_words.proofs.HelpLines.{told_by_help}
 use Rattle.sporc_words.specs.Values.{all_participants, is_between, is_colon, may_found, number_between, participant_by, participant_of, participants_of, standing_of, read_or, times_of, tree_of, value_of, value_or, values_of, width_named}
-use Rattle.sporc_founding.specs.Founding.{MayFound}
+use Rattle.sporc_commands.specs.Founding.{MayFound}
 use Rattle.sporc_top.specs.Ranges.{IsInRange}
 
 -- ---- values that were read

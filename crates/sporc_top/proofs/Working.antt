@@ -1,26 +1,25 @@
 -- What a command did, by the words that it is.
 use Rattle.std.proofs.Common.{◌≡◌, Result, subst, sym}
 use Rattle.std.specs.Bool.{⊤}
+use Rattle.sporc_outside.specs.LeafDisk.{DiskTold}
 use Rattle.sporc_words.specs.declared.client.Client.{Client}
 use Rattle.sporc_words.specs.declared.command.Command.{Command}
 use Rattle.sporc_words.specs.declared.command.Command.TheVariants as commands
 use Rattle.sporc_words.specs.declared.serve.Serve.{Serve}
 use Rattle.sporc_words.specs.declared.serve_all.ServeAll.{ServeAll}
 use Rattle.sporc_files.specs.declared.fault.Fault.{Fault}
-use Rattle.sporc_sessions.specs.Nets.{LinkView}
-use Rattle.sporc_clients.specs.Outcome.{DiskView}
 use Rattle.sporc_top.specs.Performing.{Performs, ServesDocument, ServesDocuments, WorksAsMember}
 use Rattle.sporc_top.specs.Uses.{OutsideUse, client_use}
 
-module _ {L D : Type 0} (links : LinkView L) (disks : DiskView D) (outside : OutsideUse L) where
+module _ {D : Type 0} (disks : D → DiskTold) (outside : OutsideUse) where
   pub by_serve : (asked : Command) (words : Serve) (answer : Result ⊤ Fault) → asked ≡ commands.Serve words
-      → ServesDocument links words outside.folder outside.out outside.net answer → Performs links disks asked outside answer
-  by_serve asked words answer is serves = subst (λ (c : Command). Performs links disks c outside answer) (sym is) serves
+      → ServesDocument words outside.folder outside.out outside.net answer → Performs disks asked outside answer
+  by_serve asked words answer is serves = subst (λ (c : Command). Performs disks c outside answer) (sym is) serves
 
-  pub by_client : (asked : Command) (words : Client) (answer : Result ⊤ Fault) → asked ≡ commands.Client words → WorksAsMember links disks words (client_use outside) answer
-      → Performs links disks asked outside answer
-  by_client asked words answer is works = subst (λ (c : Command). Performs links disks c outside answer) (sym is) works
+  pub by_client : (asked : Command) (words : Client) (answer : Result ⊤ Fault) → asked ≡ commands.Client words → WorksAsMember disks words (client_use outside) answer
+      → Performs disks asked outside answer
+  by_client asked words answer is works = subst (λ (c : Command). Performs disks c outside answer) (sym is) works
 
   pub by_serve_all : (asked : Command) (words : ServeAll) (answer : Result ⊤ Fault) → asked ≡ commands.ServeAll words
-      → ServesDocuments links words outside.folder outside.out outside.net answer → Performs links disks asked outside answer
-  by_serve_all asked words answer is serves = subst (λ (c : Command). Performs links disks c outside answer) (sym is) serves
+      → ServesDocuments words outside.folder outside.out outside.net answer → Performs disks asked outside answer
+  by_serve_all asked words answer is serves = subst (λ (c : Command). Performs disks c outside answer) (sym is) serves

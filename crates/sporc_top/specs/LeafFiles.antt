@@ -2,6 +2,7 @@
 use Rattle.std.specs.Prelude.{◌≡◌, ◌≢◌, ◌⊎◌, ◌<◌, ℕ, List, [], ◌∷◌, ◌++◌, false, Option, None, Some, IsSome, AllPairs, Result, Ok, Err, ⊤, bytes_eq, if◌then◌else◌}
 use Rattle.sporc_outside.specs.Files.{HasNoFile, file_in}
 use Rattle.sporc_outside.specs.declared.named_file.NamedFile.{NamedFile}
+use Rattle.sporc_outside.specs.LeafDisk.{DiskTold, disk_images}
 use Rattle.sporc_member.specs.declared.device.Device.{Device}
 use Rattle.sporc_words.specs.declared.client.Client.{Client}
 use Rattle.sporc_words.specs.declared.command.Command.{Command}
@@ -11,9 +12,8 @@ use Rattle.sporc_words.specs.Commands.{command_of}
 use Rattle.sporc_files.specs.declared.fault.Fault.{Fault}
 use Rattle.sporc_files.specs.declared.file.File.TheVariants.{Leaf}
 use Rattle.sporc_files.specs.Names.{file_name, names_of_document}
-use Rattle.sporc_sessions.specs.Nets.{LinkView}
 use Rattle.sporc_clients.specs.Lives.{ClientRun, signed_in}
-use Rattle.sporc_clients.specs.Outcome.{ClientOutcome, ClientUse, DiskView, disk_view, no_disk, no_member, over_disk, with_folder}
+use Rattle.sporc_clients.specs.Outcome.{ClientOutcome, ClientUse, no_disk, no_member, over_disk, with_folder}
 use Rattle.sporc_top.specs.Needs.{needs_by}
 use Rattle.sporc_top.specs.Outcome.{Ends, RunOutcome, command, done, no_command, stopped, unread}
 use Rattle.sporc_top.specs.Performing.{Performs, names_of}
@@ -30,24 +30,24 @@ file_at name (Some files) = file_in files name
 
 -- ---- runs of the program
 
-module _ {L D : Type 0} (links : LinkView L) (disks : DiskView D) where
+module _ {D : Type 0} (disks : D → DiskTold) where
   -- what `run` promises of a run by its clauses `outcome` and `files`
   pub record ProgramRun : Type 0 where
     pub words : List (List ℕ)
-    pub outside : OutsideUse L
+    pub outside : OutsideUse
     pub status : ℕ
-    pub outcome : RunOutcome links disks words outside status
-    pub files : (needs_by (command_of words)).files ≡ false → outside.folder.files_after ≡ outside.folder.files_before
+    pub outcome : RunOutcome disks words outside status
+    pub files : (needs_by (command_of words)).files ≡ false → outside.folder.after.files ≡ outside.folder.before.files
 
   -- what `client` did over the disk of its leaf file, if that was handed out
-  abbrev pub over_its_disk : (words : Client) (did : ClientUse L) (answer : Result ⊤ Fault) → ClientOutcome links disks words did answer → Option (ClientRun links disks)
+  abbrev pub over_its_disk : (words : Client) (did : ClientUse) (answer : Result ⊤ Fault) → ClientOutcome disks words did answer → Option (ClientRun disks)
   over_its_disk words did answer (no_member why same untouched) = None
   over_its_disk words did answer (no_disk m say why same untouched) = None
   over_its_disk words did answer (over_disk m first last during say lends over) =
       Some (record { words = words; member = m; did = with_folder did during; first = first; last = last; answer = answer; outcome = over })
 
   -- no command but `client` has a disk handed out
-  abbrev pub by_command : (asked : Command) (outside : OutsideUse L) (answer : Result ⊤ Fault) → Performs links disks asked outside answer → Option (ClientRun links disks)
+  abbrev pub by_command : (asked : Command) (outside : OutsideUse) (answer : Result ⊤ Fault) → Performs disks asked outside answer → Option (ClientRun disks)
   by_command commands.Play outside answer did = None
   by_command (commands.Generate edits) outside answer did = None
   by_command (commands.Keygen words) outside answer did = None
@@ -63,29 +63,29 @@ module _ {L D : Type 0} (links : LinkView L) (disks : DiskView D) where
   by_command (commands.Entries words) outside answer did = None
   by_command (commands.ServeAll words) outside answer did = None
 
-  abbrev pub by_end : (asked : Command) (outside : OutsideUse L) (status : ℕ)
-      → Ends (λ out. Performs links disks asked (record outside { out = out })) (names_of asked) outside.out status → Option (ClientRun links disks)
+  abbrev pub by_end : (asked : Command) (outside : OutsideUse) (status : ℕ)
+      → Ends (λ out. Performs disks asked (record outside { out = out })) (names_of asked) outside.out status → Option (ClientRun disks)
   by_end asked outside status (done did) = by_command asked outside (Ok tt) did
-  by_end asked outside status (stopped {fault} {written} {count} did since line till) = by_command asked _ (Err fault) did
+  by_end asked outside status (stopped {fault} {between} did since line till) = by_command asked _ (Err fault) did
 
-  abbrev pub by_outcome : (words : List (List ℕ)) (outside : OutsideUse L) (status : ℕ) → RunOutcome links disks words outside status → Option (ClientRun links disks)
+  abbrev pub by_outcome : (words : List (List ℕ)) (outside : OutsideUse) (status : ℕ) → RunOutcome disks words outside status → Option (ClientRun disks)
   by_outcome words outside status (no_command asks unused line) = None
   by_outcome words outside status (unread unused line) = None
   by_outcome words outside status (command {asked} asks ends) = by_end asked outside status ends
 
   -- those over the leaf file with this name
-  abbrev pub if_over : List ℕ → Option (ClientRun links disks) → Option (ClientRun links disks)
+  abbrev pub if_over : List ℕ → Option (ClientRun disks) → Option (ClientRun disks)
   if_over name None = None
   if_over name (Some run) = if bytes_eq (leaf_name run.words.name run.words.device) name then Some run else None
 
   -- what a run of the program did over the disk of the leaf file with a name, if it had it handed out: then it is one of `client`
-  abbrev pub over_leaf_file : List ℕ → ProgramRun → Option (ClientRun links disks)
+  abbrev pub over_leaf_file : List ℕ → ProgramRun → Option (ClientRun disks)
   over_leaf_file name run = if_over name (by_outcome run.words run.outside run.status run.outcome)
 
   -- the leaves that signed in that
-  abbrev pub signed_over : Option (ClientRun links disks) → List ℕ
+  abbrev pub signed_over : Option (ClientRun disks) → List ℕ
   signed_over None = []
-  signed_over (Some run) = signed_in links disks run.words run.member run.did run.outcome
+  signed_over (Some run) = signed_in disks run.words run.member run.did run.outcome
 
   -- and in several runs of the program, in their order
   abbrev pub all_signed_over : List ℕ → List ProgramRun → List ℕ
@@ -102,40 +102,40 @@ module _ {L D : Type 0} (links : LinkView L) (disks : DiskView D) where
   -- was none, or something outside failed, and then anything may stand there
   abbrev pub LeavesLeafFile : List ℕ → ProgramRun → Type 0
   LeavesLeafFile name run =
-      (file_at name run.outside.folder.files_after ≡ file_at name run.outside.folder.files_before)
-      ⊎ (MakesLeafFile name run × (HasNoFile run.outside.folder.files_before name ⊎ (run.status ≡ 6)))
+      (file_at name run.outside.folder.after.files ≡ file_at name run.outside.folder.before.files)
+      ⊎ (MakesLeafFile name run × (HasNoFile run.outside.folder.before.files name ⊎ (run.status ≡ 6)))
 
   -- a folder that tells its files, and which disks are out
   pub record IsTold (run : ProgramRun) : Type 0 where
-    pub files : IsSome run.outside.folder.files_before
-    pub lent : IsSome run.outside.folder.lent_before
+    pub files : IsSome run.outside.folder.before.files
+    pub lent : IsSome run.outside.folder.before.lent
 
 -- ---- one behind another, over disks that tell their bytes
 
-module _ {L D : Type 0} (links : LinkView L) (stored : D → Option (List ℕ)) (moment : D → ℕ) (images : D → ℕ → List ℕ → Type 0) (faults : D → ℕ) (name : List ℕ) where
+module _ {D : Type 0} (disk_told : D → DiskTold) (name : List ℕ) where
   -- a run of the program
   abbrev pub Run : Type 0
-  Run = ProgramRun links (disk_view stored images moment faults)
+  Run = ProgramRun disk_told
 
   -- what it did over the leaf file
-  abbrev pub life_of : Run → Option (ClientRun links (disk_view stored images moment faults))
-  life_of run = over_leaf_file links (disk_view stored images moment faults) name run
+  abbrev pub life_of : Run → Option (ClientRun disk_told)
+  life_of run = over_leaf_file disk_told name run
 
   -- The leaf file as the next run finds it: the one before left it so, or a crash did, of the disk that was behind the file last. Before the first disk
   -- was handed out nothing is asked
   abbrev pub FindsLeafFile : Option D → Option (List NamedFile) → Option (List NamedFile) → Type 0
   FindsLeafFile None left found = Unit {0}
   FindsLeafFile (Some last) left found =
-      (file_at name found ≡ file_at name left) ⊎ ((image : List ℕ) × images last (moment last) image × (file_at name found ≡ Some image))
+      (file_at name found ≡ file_at name left) ⊎ ((image : List ℕ) × disk_images (disk_told last) image × (file_at name found ≡ Some image))
 
   -- a disk that is handed out tells its bytes to its end, and no crash leaves of it what it could not leave of the one before it
-  abbrev pub GoesOnOver : Option D → Option (ClientRun links (disk_view stored images moment faults)) → Type 0
+  abbrev pub GoesOnOver : Option D → Option (ClientRun disk_told) → Type 0
   GoesOnOver behind None = Unit {0}
-  GoesOnOver None (Some run) = IsSome (stored run.last)
-  GoesOnOver (Some last) (Some run) = IsSome (stored run.last) × ((image : List ℕ) → images run.first (moment run.first) image → images last (moment last) image)
+  GoesOnOver None (Some run) = IsSome (disk_told run.last).stored
+  GoesOnOver (Some last) (Some run) = IsSome (disk_told run.last).stored × ((image : List ℕ) → disk_images (disk_told run.first) image → disk_images (disk_told last) image)
 
   -- the disk that was behind the file last
-  abbrev pub behind_then : Option D → Option (ClientRun links (disk_view stored images moment faults)) → Option D
+  abbrev pub behind_then : Option D → Option (ClientRun disk_told) → Option D
   behind_then behind None = behind
   behind_then behind (Some run) = Some run.last
 
@@ -143,11 +143,11 @@ module _ {L D : Type 0} (links : LinkView L) (stored : D → Option (List ℕ)) 
   abbrev pub AreProgramRuns : Option D → Option (List NamedFile) → List Run → Type 0
   AreProgramRuns behind left [] = Unit {0}
   AreProgramRuns behind left (run ∷ runs) =
-      IsTold links (disk_view stored images moment faults) run × FindsLeafFile behind left run.outside.folder.files_before
-      × (IsSome behind → MakesLeafFile links (disk_view stored images moment faults) name run → run.status ≢ 6)
-      × GoesOnOver behind (life_of run) × AreProgramRuns (behind_then behind (life_of run)) run.outside.folder.files_after runs
+      IsTold disk_told run × FindsLeafFile behind left run.outside.folder.before.files
+      × (IsSome behind → MakesLeafFile disk_told name run → run.status ≢ 6)
+      × GoesOnOver behind (life_of run) × AreProgramRuns (behind_then behind (life_of run)) run.outside.folder.after.files runs
 
   -- no leaf signs twice over them
   abbrev pub SignOnceOverRuns : Type 0
   SignOnceOverRuns = (runs : List Run) → AreProgramRuns None None runs
-      → AllPairs (λ leaf later. leaf < later) (all_signed_over links (disk_view stored images moment faults) name runs)
+      → AllPairs (λ leaf later. leaf < later) (all_signed_over disk_told name runs)

@@ -4,11 +4,10 @@ use Rattle.lms_leaf.specs.LeafFile.{IsLeafHeight}
 use Rattle.lms_tree.specs.LmsType.{height_of}
 use Rattle.sporc_keys.specs.KeyFile.{IsKeyWidth}
 use Rattle.sporc_script.specs.declared.limits.TheConstants.{MAX_EDITORS, MAX_GENERATED}
-use Rattle.sporc_serve.specs.declared.limits.TheConstants.{MAX_SESSIONS}
-use Rattle.sporc_docs.specs.declared.limits.TheConstants.{MAX_DOCUMENTS}
+use Rattle.sporc_wire.specs.declared.limits.TheConstants.{MAX_DOCUMENTS, MAX_SESSIONS}
 use Rattle.sporc_words.specs.declared.command.Command.{Command}
 use Rattle.sporc_words.specs.declared.command.Command.TheVariants as commands
-use Rattle.sporc_founding.specs.Founding.{MayFound}
+use Rattle.sporc_commands.specs.Founding.{MayFound}
 
 abbrev pub IsInRange : Command → Type 0
 IsInRange commands.Play = Unit {0}

@@ -1,30 +1,37 @@
 -- All that a run found and left.
-use Rattle.std.specs.Prelude.{◌≡◌}
-use Rattle.sporc_outside.specs.Uses.{SinkUse, SourceUse}
-use Rattle.sporc_files.specs.Uses.{ChanceUse, FolderUse}
-use Rattle.sporc_clients.specs.Outcome.{ClientUse, NetUse}
+use Rattle.std.specs.Prelude.{◌≡◌, ◌≤◌}
+use Rattle.sporc_outside.specs.Uses.{Use}
+use Rattle.sporc_outside.specs.Streams.{StreamTold}
+use Rattle.sporc_outside.specs.Folders.{FolderTold}
+use Rattle.sporc_outside.specs.Chances.{ChanceTold}
+use Rattle.sporc_outside.specs.Nets.{NetTold}
+use Rattle.sporc_clients.specs.Outcome.{ClientUse}
 
 -- what the objects outside told before and after
-pub record OutsideUse (L : Type 0) : Type 0 where
-  pub source : SourceUse
-  pub out : SinkUse
-  pub folder : FolderUse
-  pub net : NetUse L
-  pub chance : ChanceUse
+pub record OutsideUse : Type 0 where
+  pub source : Use StreamTold
+  pub out : Use StreamTold
+  pub folder : Use FolderTold
+  pub net : Use NetTold
+  pub chance : Use ChanceTold
 
 -- those that `client` is handed
-abbrev pub client_use : {L : Type 0} → OutsideUse L → ClientUse L
+abbrev pub client_use : OutsideUse → ClientUse
 client_use outside = record { out = outside.out; folder = outside.folder; net = outside.net; chance = outside.chance }
 
 -- beside the sink nothing was used: all else tells what it told before
-pub record IsUnused {L : Type 0} (outside : OutsideUse L) : Type 0 where
-  pub source : outside.source.left_after ≡ outside.source.left_before
-  pub source_faults : outside.source.faults_after ≡ outside.source.faults_before
-  pub files : outside.folder.files_after ≡ outside.folder.files_before
-  pub asked : outside.folder.asked_after ≡ outside.folder.asked_before
-  pub lent : outside.folder.lent_after ≡ outside.folder.lent_before
-  pub folder_faults : outside.folder.faults_after ≡ outside.folder.faults_before
+pub record IsUnused (outside : OutsideUse) : Type 0 where
+  pub source : outside.source.after ≡ outside.source.before
+  pub folder : outside.folder.after ≡ outside.folder.before
   pub net : outside.net.after ≡ outside.net.before
-  pub net_faults : outside.net.faults_after ≡ outside.net.faults_before
-  pub given : outside.chance.given_after ≡ outside.chance.given_before
-  pub chance_faults : outside.chance.faults_after ≡ outside.chance.faults_before
+  pub chance : outside.chance.after ≡ outside.chance.before
+
+-- no count of faults fell, and each link and each disk that was handed out came back
+pub record AllKept (outside : OutsideUse) : Type 0 where
+  pub source : outside.source.before.faults ≤ outside.source.after.faults
+  pub out : outside.out.before.faults ≤ outside.out.after.faults
+  pub folder : outside.folder.before.faults ≤ outside.folder.after.faults
+  pub net : outside.net.before.faults ≤ outside.net.after.faults
+  pub chance : outside.chance.before.faults ≤ outside.chance.after.faults
+  pub links_out : outside.net.after.out ≡ outside.net.before.out
+  pub lent : outside.folder.after.lent ≡ outside.folder.before.lent

@@ -6,7 +6,6 @@ ghost use Rattle.sporc_script.specs.Grammar.{IsPlayFault, IsPlayScript};
 ghost use Rattle.sporc_script.specs.Spelling.{DeviceInRange};
 ghost use Rattle.sporc_script.specs.declared.play_line.PlayLine.{PlayLine};
 ghost use Rattle.sporc_client.specs.Genuine.{Genuine};
-ghost use Rattle.sporc_client.specs.Run.{start};
 ghost use Rattle.sporc_play.specs.Cast.{has_admin, setup_of};
 ghost use Rattle.sporc_play.specs.Moves.{IsOneRun, moves_of};
 ghost use Rattle.sporc_play.specs.OwnPlays.{AreByClients};
@@ -18,62 +17,55 @@ ghost use Rattle.sporc_words.specs.declared.command.Command.TheVariants as comma
 ghost use Rattle.sporc_words.specs.Commands.{command_of};
 ghost use Rattle.sporc_files.specs.declared.fault.Fault.TheVariants as faults;
 ghost use Rattle.sporc_files.specs.Faults.{WritesFaultLine};
-ghost use Rattle.sporc_sessions.specs.Nets.{link_view};
-ghost use Rattle.sporc_clients.specs.Outcome.{disk_view};
 ghost use Rattle.sporc_top.specs.LeafFiles.{LeavesLeafFile, ProgramRun, SignOnceOverRuns, leaf_name, over_leaf_file};
 ghost use Rattle.sporc_top.specs.Outcome.{RunOutcome, UnlessCutOff};
 ghost use Rattle.sporc_top.specs.Performing.{no_files};
 ghost use Rattle.sporc_top.specs.Uses.{OutsideUse};
 
-use sporc_outside::{LeafDisk, Link};
+use sporc_outside::LeafDisk;
 
 /// If `play` answers 0 for a text that the source tells, the text is a script, its report was written, nothing else, and its
 /// play is one run of its members' clients, who agree at any two moments. No one forges in that of a script without `sign`,
 /// `flip` and `cut`. A script without an admin has no command. docs/HEADLINE.md has what this says, file by file.
-pub fn plays_agree<L: Link, D: LeafDisk>()
-    ensures { (words : List (List ℕ)) (outside : OutsideUse L) (text : List ℕ)
-        → RunOutcome (link_view L.written L.left L.faults L.is_shut)
-        (disk_view D.stored D.images D.moment D.faults) words outside 0
-        → command_of words ≡ Some commands.Play → outside.source.left_before ≡ Some text
+pub fn plays_agree<D: LeafDisk>()
+    ensures { (words : List (List ℕ)) (outside : OutsideUse) (text : List ℕ)
+        → RunOutcome D.told words outside 0
+        → command_of words ≡ Some commands.Play → outside.source.before.left ≡ Some text
         → (script : List PlayLine) × IsPlayScript text script
-        × Reports script outside.out.written_before outside.out.written_after
+        × Reports script outside.out.before.written outside.out.after.written
         × (has_admin script ≡ true → IsOneRun script (commands_of script))
         × (has_admin script ≡ true → AreByClients script
-        → Genuine (setup_of script) start (moves_of script (commands_of script))) }
+        → Genuine (setup_of script) (moves_of script (commands_of script))) }
 {}
 
 /// Of a source that tells a script, `play` writes the report, unless memory runs out or the source or the sink fails.
-pub fn scripts_are_played<L: Link, D: LeafDisk>()
-    ensures { (words : List (List ℕ)) (outside : OutsideUse L) (status : ℕ) (text : List ℕ) (script : List PlayLine)
-        → RunOutcome (link_view L.written L.left L.faults L.is_shut)
-        (disk_view D.stored D.images D.moment D.faults) words outside status
-        → command_of words ≡ Some commands.Play → outside.source.left_before ≡ Some text → length text ≤ MAX_SCRIPT
-        → IsPlayScript text script → UnlessCutOff status ((status ≡ 0) × Reports script outside.out.written_before outside.out.written_after) }
+pub fn scripts_are_played<D: LeafDisk>()
+    ensures { (words : List (List ℕ)) (outside : OutsideUse) (status : ℕ) (text : List ℕ) (script : List PlayLine)
+        → RunOutcome D.told words outside status
+        → command_of words ≡ Some commands.Play → outside.source.before.left ≡ Some text → length text ≤ MAX_SCRIPT
+        → IsPlayScript text script → UnlessCutOff status ((status ≡ 0) × Reports script outside.out.before.written outside.out.after.written) }
 {}
 
 /// Of a source that tells a text with a line outside the grammar, it writes the number of the first one, unless the same.
-pub fn fault_lines_are_told<L: Link, D: LeafDisk>()
-    ensures { (words : List (List ℕ)) (outside : OutsideUse L) (status : ℕ) (text : List ℕ) (line : ℕ)
-        → RunOutcome (link_view L.written L.left L.faults L.is_shut)
-        (disk_view D.stored D.images D.moment D.faults) words outside status
-        → command_of words ≡ Some commands.Play → outside.source.left_before ≡ Some text → length text ≤ MAX_SCRIPT
+pub fn fault_lines_are_told<D: LeafDisk>()
+    ensures { (words : List (List ℕ)) (outside : OutsideUse) (status : ℕ) (text : List ℕ) (line : ℕ)
+        → RunOutcome D.told words outside status
+        → command_of words ≡ Some commands.Play → outside.source.before.left ≡ Some text → length text ≤ MAX_SCRIPT
         → IsPlayFault text line → UnlessCutOff status ((status ≡ 3) × WritesFaultLine outside.out no_files (faults.Line line)) }
 {}
 
 /// Of a source that tells more bytes than a script may have, it writes that, unless the same.
-pub fn long_scripts_are_told<L: Link, D: LeafDisk>()
-    ensures { (words : List (List ℕ)) (outside : OutsideUse L) (status : ℕ) (text : List ℕ)
-        → RunOutcome (link_view L.written L.left L.faults L.is_shut)
-        (disk_view D.stored D.images D.moment D.faults) words outside status
-        → command_of words ≡ Some commands.Play → outside.source.left_before ≡ Some text → MAX_SCRIPT < length text
+pub fn long_scripts_are_told<D: LeafDisk>()
+    ensures { (words : List (List ℕ)) (outside : OutsideUse) (status : ℕ) (text : List ℕ)
+        → RunOutcome D.told words outside status
+        → command_of words ≡ Some commands.Play → outside.source.before.left ≡ Some text → MAX_SCRIPT < length text
         → UnlessCutOff status ((status ≡ 3) × WritesFaultLine outside.out no_files faults.LongScript) }
 {}
 
 /// If the words ask for a generated run, `play` writes its summary, unless memory runs out or the sink fails.
-pub fn generated_runs_are_played<L: Link, D: LeafDisk>()
-    ensures { (words : List (List ℕ)) (outside : OutsideUse L) (status n : ℕ)
-        → RunOutcome (link_view L.written L.left L.faults L.is_shut)
-        (disk_view D.stored D.images D.moment D.faults) words outside status
+pub fn generated_runs_are_played<D: LeafDisk>()
+    ensures { (words : List (List ℕ)) (outside : OutsideUse) (status n : ℕ)
+        → RunOutcome D.told words outside status
         → command_of words ≡ Some (commands.Generate n) → UnlessCutOff status ((status ≡ 0) × PlaysGenerated n outside.out) }
 {}
 
@@ -81,12 +73,12 @@ pub fn generated_runs_are_played<L: Link, D: LeafDisk>()
 /// file stands as before. Or the run is a `keygen` that makes it, where there was none, or where something outside failed.
 ///
 /// This speaks of a folder that tells its files.
-pub fn leaf_files_stay<L: Link, D: LeafDisk>()
+pub fn leaf_files_stay<D: LeafDisk>()
     ensures { (document : List ℕ) (device : Device)
-        (run : ProgramRun (link_view L.written L.left L.faults L.is_shut) (disk_view D.stored D.images D.moment D.faults))
-        → IsSome run.outside.folder.files_before → IsSome run.outside.folder.lent_before
-        → over_leaf_file (link_view L.written L.left L.faults L.is_shut) (disk_view D.stored D.images D.moment D.faults) (leaf_name document device) run ≡ None
-        → LeavesLeafFile (link_view L.written L.left L.faults L.is_shut) (disk_view D.stored D.images D.moment D.faults) (leaf_name document device) run }
+        (run : ProgramRun D.told)
+        → IsSome run.outside.folder.before.files → IsSome run.outside.folder.before.lent
+        → over_leaf_file D.told (leaf_name document device) run ≡ None
+        → LeavesLeafFile D.told (leaf_name document device) run }
 {}
 
 /// Over runs of the program one behind another, whatever their words and their ends, the leaves that sign over one device's leaf
@@ -96,9 +88,9 @@ pub fn leaf_files_stay<L: Link, D: LeafDisk>()
 ///
 /// This speaks of a folder that tells its files, and of disks that tell their bytes and behave as [`LeafDisk`] says. Two devices of
 /// a document have two leaf files.
-pub fn no_leaf_signs_twice_over_runs<L: Link, D: LeafDisk>()
+pub fn no_leaf_signs_twice_over_runs<D: LeafDisk>()
     ensures own { (document : List ℕ) (one other : Device) → DeviceInRange one → DeviceInRange other
         → leaf_name document one ≡ leaf_name document other → one ≡ other }
     ensures rise { (document : List ℕ) (device : Device)
-        → SignOnceOverRuns (link_view L.written L.left L.faults L.is_shut) D.stored D.moment D.images D.faults (leaf_name document device) }
+        → SignOnceOverRuns D.told (leaf_name document device) }
 {}

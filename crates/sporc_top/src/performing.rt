@@ -1,26 +1,21 @@
 //! What each command does.
 
 ghost use Rattle.std.specs.Prelude.{◌≡◌, ◌+◌, ◌≤◌, false, length};
-ghost use Rattle.sporc_outside.specs.Uses.{sink_use, source_use};
+ghost use Rattle.sporc_outside.specs.Uses.{use_of};
 ghost use Rattle.sporc_reading.specs.Reading.{ConsumesAtMost};
 ghost use Rattle.sporc_script.specs.declared.limits.TheConstants.{MAX_GENERATED};
-ghost use Rattle.sporc_serve.specs.declared.limits.TheConstants.{MAX_SESSIONS};
-ghost use Rattle.sporc_docs.specs.declared.limits.TheConstants.{MAX_DOCUMENTS};
+ghost use Rattle.sporc_wire.specs.declared.limits.TheConstants.{MAX_DOCUMENTS, MAX_SESSIONS};
 ghost use Rattle.sporc_play.specs.declared.playing.TheConstants.{MAX_SCRIPT};
 ghost use Rattle.sporc_files.specs.Names.{names_of_document};
-ghost use Rattle.sporc_files.specs.Uses.{chance_use, folder_use};
-ghost use Rattle.sporc_histories.specs.Outcomes.{CheckOutcome, CompareOutcome, EntriesOutcome, TextOutcome};
-ghost use Rattle.sporc_sessions.specs.Nets.{link_view};
-ghost use Rattle.sporc_clients.specs.Outcome.{disk_view, net_use};
+ghost use Rattle.sporc_commands.specs.Outcomes.{CheckOutcome, CompareOutcome, EntriesOutcome, TextOutcome};
 ghost use Rattle.sporc_top.specs.Needs.{needs_of};
 ghost use Rattle.sporc_top.specs.Performing.{Performs, PlaysEdits, PlaysSource, ServesDocument, ServesDocuments, fault_of_play, names_of};
 ghost use Rattle.sporc_top.specs.Ranges.{IsInRange};
 
 use sporc_clients::client;
+use sporc_commands::{check, compare, found, keygen, list_entries, public, serve, text};
 use sporc_files::{Fault, Names};
-use sporc_founding::{found, keygen, public};
 use sporc_help::{help, version};
-use sporc_histories::{check, compare, list_entries, serve, text};
 use sporc_hosting::serve_all;
 use sporc_outside::{Chance, Dial, Folder, Gate, Listen, Sink, Source};
 use sporc_play::{PlayFault, play, play_generated};
@@ -51,10 +46,10 @@ pub(crate) fn names_of(command: &Command) -> Names<'_>
 
 // Plays the script of a source.
 fn play_source<S: Source, O: Sink>(alloc: Global, source: &mut S, out: &mut O) -> Result<(), Fault>
-    ensures outcome { PlaysSource (source_use S.left S.faults source.old source.new) (sink_use O.written O.faults out.old out.new) result }
-    ensures taken { ConsumesAtMost (MAX_SCRIPT + 1) (S.left source.old) (S.left source.new) }
-    ensures source_kept { S.faults source.old ≤ S.faults source.new }
-    ensures out_kept { O.faults out.old ≤ O.faults out.new }
+    ensures outcome { PlaysSource (use_of S.told source.old source.new) (use_of O.told out.old out.new) result }
+    ensures taken { ConsumesAtMost (MAX_SCRIPT + 1) (S.told source.old).left (S.told source.new).left }
+    ensures source_kept { (S.told source.old).faults ≤ (S.told source.new).faults }
+    ensures out_kept { (O.told out.old).faults ≤ (O.told out.new).faults }
 {
     play(alloc, source, out).map_err(fault_of_play)
 }
@@ -62,8 +57,8 @@ fn play_source<S: Source, O: Sink>(alloc: Global, source: &mut S, out: &mut O) -
 // Plays the generated run of so many edits.
 fn play_edits<O: Sink>(alloc: Global, edits: u32, out: &mut O) -> Result<(), Fault>
     requires { edits ≤ MAX_GENERATED }
-    ensures outcome { PlaysEdits edits (sink_use O.written O.faults out.old out.new) result }
-    ensures kept { O.faults out.old ≤ O.faults out.new }
+    ensures outcome { PlaysEdits edits (use_of O.told out.old out.new) result }
+    ensures kept { (O.told out.old).faults ≤ (O.told out.new).faults }
 {
     play_generated(alloc, edits, out).map_err(fault_of_play)
 }
@@ -96,16 +91,14 @@ where
     requires some { 1 ≤ words.now.sessions }
     requires limit { words.now.sessions ≤ MAX_SESSIONS }
     requires times { 1 ≤ words.now.times }
-    ensures outcome { ServesDocument (link_view N.Link.written N.Link.left N.Link.faults N.Link.is_shut) words.now
-        (folder_use F.files F.asked F.lent F.faults files.old files.new)
-        (sink_use O.written O.faults out.old out.new)
-        (net_use N.asked N.coming N.returned N.link_faults N.faults net.old net.new)
+    ensures outcome { ServesDocument words.now (use_of F.told files.old files.new) (use_of O.told out.old out.new)
+        (use_of N.told net.old net.new)
         result }
-    ensures links_out { N.out net.new ≡ N.out net.old }
-    ensures lent { F.lent files.new ≡ F.lent files.old }
-    ensures files_kept { F.faults files.old ≤ F.faults files.new }
-    ensures net_kept { N.faults net.old ≤ N.faults net.new }
-    ensures out_kept { O.faults out.old ≤ O.faults out.new }
+    ensures links_out { (N.told net.new).out ≡ (N.told net.old).out }
+    ensures lent { (F.told files.new).lent ≡ (F.told files.old).lent }
+    ensures files_kept { (F.told files.old).faults ≤ (F.told files.new).faults }
+    ensures net_kept { (N.told net.old).faults ≤ (N.told net.new).faults }
+    ensures out_kept { (O.told out.old).faults ≤ (O.told out.new).faults }
 {
     let names = Names::of_document(words.name.as_str());
     let address = words.address.as_str();
@@ -141,16 +134,14 @@ where
     requires some { 1 ≤ words.now.sessions }
     requires limit { words.now.sessions ≤ MAX_SESSIONS }
     requires times { 1 ≤ words.now.times }
-    ensures outcome { ServesDocuments (link_view N.Link.written N.Link.left N.Link.faults N.Link.is_shut) words.now
-        (folder_use F.files F.asked F.lent F.faults files.old files.new)
-        (sink_use O.written O.faults out.old out.new)
-        (net_use N.asked N.coming N.returned N.link_faults N.faults net.old net.new)
+    ensures outcome { ServesDocuments words.now (use_of F.told files.old files.new) (use_of O.told out.old out.new)
+        (use_of N.told net.old net.new)
         result }
-    ensures links_out { N.out net.new ≡ N.out net.old }
-    ensures lent { F.lent files.new ≡ F.lent files.old }
-    ensures files_kept { F.faults files.old ≤ F.faults files.new }
-    ensures net_kept { N.faults net.old ≤ N.faults net.new }
-    ensures out_kept { O.faults out.old ≤ O.faults out.new }
+    ensures links_out { (N.told net.new).out ≡ (N.told net.old).out }
+    ensures lent { (F.told files.new).lent ≡ (F.told files.old).lent }
+    ensures files_kept { (F.told files.old).faults ≤ (F.told files.new).faults }
+    ensures net_kept { (N.told net.old).faults ≤ (N.told net.new).faults }
+    ensures out_kept { (O.told out.old).faults ≤ (O.told out.new).faults }
 {
     let names = words.names.as_slice();
     let address = words.address.as_str();
@@ -178,13 +169,12 @@ fn check_history<R: Threads + Wait + Sync, O: Sink, F: Folder, G: Gate + Sync>(
     files: &mut F,
     gate: &G,
 ) -> Result<(), Fault>
-    ensures outcome { CheckOutcome (names_of_document words.now.name) words.now.device
-        (folder_use F.files F.asked F.lent F.faults files.old files.new)
-        (sink_use O.written O.faults out.old out.new)
+    ensures outcome { CheckOutcome (names_of_document words.now.name) words.now.device (use_of F.told files.old files.new)
+        (use_of O.told out.old out.new)
         result }
-    ensures lent { F.lent files.new ≡ F.lent files.old }
-    ensures files_kept { F.faults files.old ≤ F.faults files.new }
-    ensures out_kept { O.faults out.old ≤ O.faults out.new }
+    ensures lent { (F.told files.new).lent ≡ (F.told files.old).lent }
+    ensures files_kept { (F.told files.old).faults ≤ (F.told files.new).faults }
+    ensures out_kept { (O.told out.old).faults ≤ (O.told out.new).faults }
 {
     let names = Names::of_document(words.name.as_str());
     check(rt, alloc, files, out, &names, words.device, gate)
@@ -198,12 +188,12 @@ fn compare_histories<O: Sink, F: Folder>(
     files: &mut F,
 ) -> Result<(), Fault>
     ensures outcome { CompareOutcome (names_of_document words.now.name) words.now.first words.now.second
-        (folder_use F.files F.asked F.lent F.faults files.old files.new)
-        (sink_use O.written O.faults out.old out.new)
+        (use_of F.told files.old files.new)
+        (use_of O.told out.old out.new)
         result }
-    ensures lent { F.lent files.new ≡ F.lent files.old }
-    ensures files_kept { F.faults files.old ≤ F.faults files.new }
-    ensures out_kept { O.faults out.old ≤ O.faults out.new }
+    ensures lent { (F.told files.new).lent ≡ (F.told files.old).lent }
+    ensures files_kept { (F.told files.old).faults ≤ (F.told files.new).faults }
+    ensures out_kept { (O.told out.old).faults ≤ (O.told out.new).faults }
 {
     let names = Names::of_document(words.name.as_str());
     compare(alloc, files, out, &names, words.first, words.second)
@@ -219,12 +209,12 @@ fn tell_text<R: Threads + Wait + Sync, O: Sink, F: Folder, G: Gate + Sync>(
     gate: &G,
 ) -> Result<(), Fault>
     ensures outcome { TextOutcome (names_of_document words.now.name) words.now.device words.now.at
-        (folder_use F.files F.asked F.lent F.faults files.old files.new)
-        (sink_use O.written O.faults out.old out.new)
+        (use_of F.told files.old files.new)
+        (use_of O.told out.old out.new)
         result }
-    ensures lent { F.lent files.new ≡ F.lent files.old }
-    ensures files_kept { F.faults files.old ≤ F.faults files.new }
-    ensures out_kept { O.faults out.old ≤ O.faults out.new }
+    ensures lent { (F.told files.new).lent ≡ (F.told files.old).lent }
+    ensures files_kept { (F.told files.old).faults ≤ (F.told files.new).faults }
+    ensures out_kept { (O.told out.old).faults ≤ (O.told out.new).faults }
 {
     let names = Names::of_document(words.name.as_str());
     text(rt, alloc, files, out, &names, words.device, words.at, gate)
@@ -240,12 +230,12 @@ fn list_history<R: Threads + Wait + Sync, O: Sink, F: Folder, G: Gate + Sync>(
     gate: &G,
 ) -> Result<(), Fault>
     ensures outcome { EntriesOutcome (names_of_document words.now.name) words.now.device words.now.from
-        (folder_use F.files F.asked F.lent F.faults files.old files.new)
-        (sink_use O.written O.faults out.old out.new)
+        (use_of F.told files.old files.new)
+        (use_of O.told out.old out.new)
         result }
-    ensures lent { F.lent files.new ≡ F.lent files.old }
-    ensures files_kept { F.faults files.old ≤ F.faults files.new }
-    ensures out_kept { O.faults out.old ≤ O.faults out.new }
+    ensures lent { (F.told files.new).lent ≡ (F.told files.old).lent }
+    ensures files_kept { (F.told files.old).faults ≤ (F.told files.new).faults }
+    ensures out_kept { (O.told out.old).faults ≤ (O.told out.new).faults }
 {
     let names = Names::of_document(words.name.as_str());
     list_entries(
@@ -285,28 +275,27 @@ where
     F::Appended: Drop + Send,
     N::Link: Send,
     requires { IsInRange command.now }
-    ensures outcome { Performs (link_view N.Link.written N.Link.left N.Link.faults N.Link.is_shut)
-        (disk_view F.Disk.stored F.Disk.images F.Disk.moment F.Disk.faults) command.now
+    ensures outcome { Performs F.Disk.told command.now
         (record {
-          source = source_use S.left S.faults source.old source.new;
-          out = sink_use O.written O.faults out.old out.new;
-          folder = folder_use F.files F.asked F.lent F.faults files.old files.new;
-          net = net_use N.asked N.coming N.returned N.link_faults N.faults net.old net.new;
-          chance = chance_use C.given C.faults chance.old chance.new;
+          source = use_of S.told source.old source.new;
+          out = use_of O.told out.old out.new;
+          folder = use_of F.told files.old files.new;
+          net = use_of N.told net.old net.new;
+          chance = use_of C.told chance.old chance.new;
         })
         result }
     ensures source { (needs_of command.now).source ≡ false → source.new ≡ source.old }
     ensures files { (needs_of command.now).files ≡ false → files.new ≡ files.old }
     ensures net { (needs_of command.now).net ≡ false → net.new ≡ net.old }
     ensures chance { (needs_of command.now).chance ≡ false → chance.new ≡ chance.old }
-    ensures taken { ConsumesAtMost (MAX_SCRIPT + 1) (S.left source.old) (S.left source.new) }
-    ensures links_out { N.out net.new ≡ N.out net.old }
-    ensures lent { F.lent files.new ≡ F.lent files.old }
-    ensures source_kept { S.faults source.old ≤ S.faults source.new }
-    ensures files_kept { F.faults files.old ≤ F.faults files.new }
-    ensures net_kept { N.faults net.old ≤ N.faults net.new }
-    ensures chance_kept { C.faults chance.old ≤ C.faults chance.new }
-    ensures out_kept { O.faults out.old ≤ O.faults out.new }
+    ensures taken { ConsumesAtMost (MAX_SCRIPT + 1) (S.told source.old).left (S.told source.new).left }
+    ensures links_out { (N.told net.new).out ≡ (N.told net.old).out }
+    ensures lent { (F.told files.new).lent ≡ (F.told files.old).lent }
+    ensures source_kept { (S.told source.old).faults ≤ (S.told source.new).faults }
+    ensures files_kept { (F.told files.old).faults ≤ (F.told files.new).faults }
+    ensures net_kept { (N.told net.old).faults ≤ (N.told net.new).faults }
+    ensures chance_kept { (C.told chance.old).faults ≤ (C.told chance.new).faults }
+    ensures out_kept { (O.told out.old).faults ≤ (O.told out.new).faults }
 {
     match command {
         Command::Play => play_source(alloc, source, out),

@@ -1,16 +1,14 @@
 //! The program.
 
 ghost use Rattle.std.specs.Prelude.{◌≡◌, ◌+◌, ◌≤◌, false, map, string_bytes};
-ghost use Rattle.sporc_outside.specs.Uses.{sink_use, source_use};
+ghost use Rattle.sporc_outside.specs.Uses.{use_of};
 ghost use Rattle.sporc_reading.specs.Reading.{ConsumesAtMost};
 ghost use Rattle.sporc_play.specs.declared.playing.TheConstants.{MAX_SCRIPT};
 ghost use Rattle.sporc_words.specs.Commands.{command_of};
 ghost use Rattle.sporc_files.specs.Faults.{WritesFaultLine, status_of};
-ghost use Rattle.sporc_files.specs.Uses.{chance_use, folder_use};
-ghost use Rattle.sporc_sessions.specs.Nets.{link_view};
-ghost use Rattle.sporc_clients.specs.Outcome.{disk_view, net_use};
 ghost use Rattle.sporc_top.specs.Needs.{needs_by};
 ghost use Rattle.sporc_top.specs.Outcome.{RunOutcome};
+ghost use Rattle.sporc_top.specs.Uses.{AllKept, OutsideUse};
 
 use crate::performing::{names_of, perform};
 use sporc_files::{Fault, Names};
@@ -73,29 +71,18 @@ where
     F::Disk: Send,
     F::Appended: Drop + Send,
     N::Link: Send,
-    ensures outcome { RunOutcome (link_view N.Link.written N.Link.left N.Link.faults N.Link.is_shut)
-        (disk_view F.Disk.stored F.Disk.images F.Disk.moment F.Disk.faults)
-        (map (λ w. string_bytes w) words.now)
-        (record {
-          source = source_use S.left S.faults source.old source.new;
-          out = sink_use O.written O.faults out.old out.new;
-          folder = folder_use F.files F.asked F.lent F.faults files.old files.new;
-          net = net_use N.asked N.coming N.returned N.link_faults N.faults net.old net.new;
-          chance = chance_use C.given C.faults chance.old chance.new;
-        })
-        result }
+    ensures outcome { let did : OutsideUse = record {
+      source = use_of S.told source.old source.new;
+      out = use_of O.told out.old out.new;
+      folder = use_of F.told files.old files.new;
+      net = use_of N.told net.old net.new;
+      chance = use_of C.told chance.old chance.new;
+    } in RunOutcome F.Disk.told (map (λ w. string_bytes w) words.now) did result × AllKept did }
     ensures source { (needs_by (command_of (map (λ w. string_bytes w) words.now))).source ≡ false → source.new ≡ source.old }
     ensures files { (needs_by (command_of (map (λ w. string_bytes w) words.now))).files ≡ false → files.new ≡ files.old }
     ensures net { (needs_by (command_of (map (λ w. string_bytes w) words.now))).net ≡ false → net.new ≡ net.old }
     ensures chance { (needs_by (command_of (map (λ w. string_bytes w) words.now))).chance ≡ false → chance.new ≡ chance.old }
-    ensures taken { ConsumesAtMost (MAX_SCRIPT + 1) (S.left source.old) (S.left source.new) }
-    ensures links_out { N.out net.new ≡ N.out net.old }
-    ensures lent { F.lent files.new ≡ F.lent files.old }
-    ensures source_kept { S.faults source.old ≤ S.faults source.new }
-    ensures files_kept { F.faults files.old ≤ F.faults files.new }
-    ensures net_kept { N.faults net.old ≤ N.faults net.new }
-    ensures chance_kept { C.faults chance.old ≤ C.faults chance.new }
-    ensures out_kept { O.faults out.old ≤ O.faults out.new }
+    ensures taken { ConsumesAtMost (MAX_SCRIPT + 1) (S.told source.old).left (S.told source.new).left }
 {
     let command = match read_words(alloc, words) {
         Ok(command) => command,
@@ -110,8 +97,8 @@ where
 // Writes the line of a fault, and answers its status.
 fn told<O: Sink>(fault: Fault, names: &Names<'_>, out: &mut O) -> u8
     ensures status { result ≡ status_of fault }
-    ensures line { WritesFaultLine (sink_use O.written O.faults out.old out.new) names.now fault }
-    ensures kept { O.faults out.old ≤ O.faults out.new }
+    ensures line { WritesFaultLine (use_of O.told out.old out.new) names.now fault }
+    ensures kept { (O.told out.old).faults ≤ (O.told out.new).faults }
 {
     fault.tell(names, out);
     fault.status()

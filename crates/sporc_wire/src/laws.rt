@@ -5,6 +5,7 @@ ghost use Rattle.std.specs.Prelude.{◌≡◌, ◌≤◌, ℕ, List, [], ◌∷�
 ghost use Rattle.sporc_base.specs.Bytes.{IsBytes};
 ghost use Rattle.sporc_wire.specs.declared.cutter.TheConstants.{MAX_BODY};
 ghost use Rattle.sporc_wire.specs.declared.fault.FrameFault.{FrameFault};
+ghost use Rattle.sporc_wire.specs.declared.limits.TheConstants.{MAX_DOCUMENTS, MAX_SESSIONS};
 ghost use Rattle.sporc_wire.specs.declared.to_client.TheConstants.{EMPTY, ENTRIES, MAX_CODE, MAX_PULLED, ORDERED, REJECTED};
 ghost use Rattle.sporc_wire.specs.declared.to_client.ToClient.{ToClient};
 ghost use Rattle.sporc_wire.specs.declared.to_server.TheConstants.{HELLO, PULL, SUBMIT};
@@ -13,7 +14,7 @@ ghost use Rattle.sporc_wire.specs.Messages.{Unread, HandsOut, AreMessages, strea
 ghost use Rattle.sporc_wire.specs.ToClient.{to_client_of, to_client_bytes, IsToClient};
 ghost use Rattle.sporc_wire.specs.ToServer.{to_server_of, to_server_bytes, IsToServer};
 
-/// The numbers of the format: the first byte of each body, and the limits.
+/// The numbers of the format, which are the first byte of each body and its limits, and the limits of a server.
 pub fn numbers_of_the_format()
     ensures hello { HELLO ≡ 1 }
     ensures submit { SUBMIT ≡ 2 }
@@ -25,6 +26,8 @@ pub fn numbers_of_the_format()
     ensures max_code { MAX_CODE ≡ 23 }
     ensures max_pulled { MAX_PULLED ≡ 16 }
     ensures max_body { MAX_BODY ≡ 4194304 }
+    ensures max_sessions { MAX_SESSIONS ≡ 1024 }
+    ensures max_documents { MAX_DOCUMENTS ≡ 64 }
 {}
 
 /// Each message to a server in range is read again from its body, and a body that reads is that of the message read.

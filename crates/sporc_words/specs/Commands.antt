@@ -4,8 +4,7 @@ use Rattle.clap.specs.Simple.{App}
 use Rattle.clap.specs.Walk.{Row, Text, first_of}
 use Rattle.sporc_script.specs.declared.limits.TheConstants.{MAX_EDITORS, MAX_GENERATED}
 use Rattle.sporc_script.specs.Readers.{device_of, then_read, u32_of}
-use Rattle.sporc_serve.specs.declared.limits.TheConstants.{MAX_SESSIONS}
-use Rattle.sporc_docs.specs.declared.limits.TheConstants.{MAX_DOCUMENTS}
+use Rattle.sporc_wire.specs.declared.limits.TheConstants.{MAX_DOCUMENTS, MAX_SESSIONS}
 use Rattle.sporc_words.specs.declared.check.Check.{Check}
 use Rattle.sporc_words.specs.declared.client.Client.{Client}
 use Rattle.sporc_words.specs.declared.command.Command.{Command}

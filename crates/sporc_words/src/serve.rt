@@ -12,7 +12,7 @@ use crate::values::{between_value, times_or};
 use crate::word::Word;
 use clap::{ArgMatches, Command};
 use sporc_base::Memory;
-use sporc_serve::MAX_SESSIONS;
+use sporc_wire::MAX_SESSIONS;
 use std::alloc::Global;
 
 /// What `serve` is asked for.
@@ -22,7 +22,7 @@ pub struct Serve {
     pub name: Word,
     /// Where it listens.
     pub address: Word,
-    /// How many sessions it serves each time, from 1 to `sporc_serve::MAX_SESSIONS`.
+    /// How many sessions it serves each time, from 1 to `sporc_wire::MAX_SESSIONS`.
     pub sessions: u32,
     /// How often it serves so many: at least once.
     pub times: u32,

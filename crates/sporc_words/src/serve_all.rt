@@ -12,7 +12,7 @@ use crate::values::{between_value, documents_value, times_or};
 use crate::word::Word;
 use clap::{ArgMatches, Command};
 use sporc_base::{Items, Memory};
-use sporc_serve::MAX_SESSIONS;
+use sporc_wire::MAX_SESSIONS;
 use std::alloc::Global;
 
 /// What `serve-all` is asked for.
@@ -20,11 +20,11 @@ use std::alloc::Global;
 pub struct ServeAll {
     /// Where it listens.
     pub address: Word,
-    /// How many sessions it serves each time, from 1 to `sporc_serve::MAX_SESSIONS`.
+    /// How many sessions it serves each time, from 1 to `sporc_wire::MAX_SESSIONS`.
     pub sessions: u32,
     /// How often it serves so many: at least once.
     pub times: u32,
-    /// The documents' names, in the order of the words: from 1 to `sporc_docs::MAX_DOCUMENTS`.
+    /// The documents' names, in the order of the words: from 1 to `sporc_wire::MAX_DOCUMENTS`.
     pub names: Items<Word>,
 }
 

@@ -13,9 +13,9 @@ use clap::ArgMatches;
 use lms_ots::OtsType;
 use lms_tree::LmsType;
 use sporc_base::{Items, Memory};
-use sporc_docs::MAX_DOCUMENTS;
 use sporc_member::Device;
 use sporc_script::{MAX_EDITORS, parse_device, parse_u32, parse_u64};
+use sporc_wire::MAX_DOCUMENTS;
 use std::alloc::Global;
 
 /// The device that is the value of an argument.

@@ -39,7 +39,7 @@ impl<D: LeafDisk> Client<D> {
         } }
         ensures leaf { IsUse (supply_of self.old) (leaf_given result) (supply_of self.new) }
         ensures undrawn { asks_draw self.old ≡ false → self.new.leaves ≡ self.old.leaves }
-        ensures drawn { asks_draw self.old ≡ true → ((result ≡ Err SubmitFault.Memory) × (self.new.leaves ≡ self.old.leaves)) ⊎ IsDraw D.stored D.moment D.images D.faults self.old.leaves self.new.leaves }
+        ensures drawn { asks_draw self.old ≡ true → ((result ≡ Err SubmitFault.Memory) × (self.new.leaves ≡ self.old.leaves)) ⊎ IsDraw D.told self.old.leaves self.new.leaves }
     {
         // No draw: what the signer says here of its key's leaves is what `may` rests on.
         let _next = self.signer.next_leaf();
@@ -74,7 +74,7 @@ impl<D: LeafDisk> Client<D> {
         } }
         ensures leaf { IsUse (supply_of self.old) (leaf_given result) (supply_of self.new) }
         ensures undrawn { (leaf : ℕ) → self.old.ticket ≡ Some leaf → self.new.leaves ≡ self.old.leaves }
-        ensures drawn { self.old.ticket ≡ None → ((result ≡ Err SubmitFault.Memory) × (self.new.leaves ≡ self.old.leaves)) ⊎ IsDraw D.stored D.moment D.images D.faults self.old.leaves self.new.leaves }
+        ensures drawn { self.old.ticket ≡ None → ((result ≡ Err SubmitFault.Memory) × (self.new.leaves ≡ self.old.leaves)) ⊎ IsDraw D.told self.old.leaves self.new.leaves }
     {
         let ready = ready_keep(self.alloc, &mut self.own)?;
         let made = make_entry(

@@ -1,15 +1,15 @@
 //! A folder, a chance and a sink in memory.
 
 ghost use Rattle.std.specs.Prelude.{IfOk};
-ghost use Rattle.sporc_founding.specs.Founding.{MayFound};
+ghost use Rattle.sporc_commands.specs.Founding.{MayFound};
 
 use super::chances::{Words, chance, push_eight, push_key};
 use crate::memory::calls;
 use lms_ots::OtsType;
 use lms_tree::LmsType;
 use sporc_base::{Items, Memory};
+use sporc_commands::{found, keygen};
 use sporc_files::Fault;
-use sporc_founding::{found, keygen};
 use sporc_member::{Device, Role};
 use sporc_outside::{ListedChance, MemoryFolder, MemorySink, NamedFile};
 use sporc_words::{Found, Keygen, Participant, Standing, Word};

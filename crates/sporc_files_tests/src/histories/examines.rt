@@ -2,8 +2,8 @@
 
 use super::folder::{Files, Room};
 use crate::checks::{check_answer, check_same};
+use sporc_commands::check;
 use sporc_files::{Fault, File, Names};
-use sporc_histories::check;
 use sporc_member::Device;
 use sporc_outside::OpenGate;
 use sporc_samples::Cast;

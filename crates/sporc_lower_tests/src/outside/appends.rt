@@ -1,7 +1,7 @@
 use crate::calls::failing;
 use crate::checks::check;
 use sporc_base::is_same;
-use sporc_outside::{AppendFile, Counted, FileFault, Folder, MemoryAppendFile, MemoryFolder};
+use sporc_outside::{AppendFile, Counted, Folder, MemoryAppendFile, MemoryFolder};
 use std::alloc::Global;
 use std::process::Abort;
 
@@ -69,13 +69,4 @@ fn a_file_in_memory_is_appended_to(rt: HostRuntime) {
     folder.take_file("a", file);
     check(&rt, "the folder's faults", folder.faults() == 1);
     reads(&rt, rt.alloc(), &mut folder, b"ones");
-}
-
-#[test]
-fn a_file_in_memory_is_removed(rt: HostRuntime) {
-    let mut folder = folder(&rt, rt.alloc());
-    let file = folder.append_to("a").expect(&rt, "a file");
-    check(&rt, "a removal", folder.remove("a", file).is_ok());
-    let fault = folder.read_file(rt.alloc(), "a").err();
-    check(&rt, "no file", fault == Some(FileFault::Missing));
 }

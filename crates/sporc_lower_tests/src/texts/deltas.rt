@@ -1,6 +1,6 @@
 use crate::checks::check;
-use sporc_base::{Memory, is_same};
-use sporc_delta::{Delta, DeltaFault, Part, Text, TextSlice};
+use sporc_base::is_same;
+use sporc_delta::{Delta, DeltaFault, Part};
 use std::alloc::Global;
 use std::process::Abort;
 
@@ -27,50 +27,6 @@ fn shown(rt: &impl Abort, alloc: Global, delta: &Delta) -> String {
 pub(crate) fn is_shown(rt: &impl Abort, alloc: Global, delta: &Delta, line: &str) {
     let found = shown(rt, alloc, delta);
     check(rt, found.as_str(), found.as_str() == line);
-}
-
-fn is_made(rt: &impl Abort, alloc: Global, made: Result<Delta, Memory>, line: &str) {
-    let delta = made.expect(rt, "memory");
-    is_shown(rt, alloc, &delta.copy().expect(rt, "memory"), line);
-}
-
-fn makers_give_the_one_list_of_parts(rt: &impl Abort, alloc: Global) {
-    is_made(
-        rt,
-        alloc,
-        Delta::insert_at(alloc, 3, 1, "é€"),
-        "K1 I\"é€\" K2 ",
-    );
-    is_made(rt, alloc, Delta::insert_at(alloc, 3, 1, ""), "K3 ");
-    is_made(rt, alloc, Delta::remove_at(alloc, 5, 1, 3), "K1 R3 K1 ");
-    is_made(rt, alloc, Delta::keep_all(alloc, 4), "K4 ");
-    is_made(rt, alloc, Delta::replace_all(alloc, 4, "x"), "R4 I\"x\" ");
-    is_made(rt, alloc, Delta::keep_all(alloc, 0), "");
-}
-
-// A delta is stated on a text of so many characters, and leaves so many.
-fn has_lengths(rt: &impl Abort, made: Result<Delta, Memory>, base: u64, out: u64) {
-    let delta = made.expect(rt, "memory");
-    check(rt, "the characters before", delta.base_len() == base);
-    check(rt, "the characters after", delta.out_len() == out);
-}
-
-fn texts_are_cut_behind_characters(rt: &impl Abort, alloc: Global) -> bool {
-    let text = Text::new(alloc, &TextSlice::new("aé€😀b")).expect(rt, "memory");
-    if text.len() != 5 {
-        return false;
-    }
-    let (front, back) = text.as_slice().split_at(3);
-    front.as_str() == "aé€" && back.as_str() == "😀b"
-}
-
-#[test]
-fn deltas_are_made_and_texts_are_cut(rt: HostRuntime) {
-    let alloc = rt.alloc();
-    makers_give_the_one_list_of_parts(&rt, alloc);
-    has_lengths(&rt, Delta::insert_at(alloc, 3, 1, "é€"), 3, 5);
-    has_lengths(&rt, Delta::remove_at(alloc, 5, 1, 3), 5, 2);
-    check(&rt, "a text", texts_are_cut_behind_characters(&rt, alloc));
 }
 
 // The example of the format's description.

@@ -1,7 +1,7 @@
 //! A server of many documents, over links in memory.
 
 ghost use Rattle.std.specs.Prelude.{◌≤◌};
-ghost use Rattle.sporc_serve.specs.declared.limits.TheConstants.{MAX_SESSIONS};
+ghost use Rattle.sporc_wire.specs.declared.limits.TheConstants.{MAX_SESSIONS};
 
 use crate::checks::check_at;
 use crate::docs::{added, document};

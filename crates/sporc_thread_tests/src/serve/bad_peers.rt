@@ -1,5 +1,5 @@
 ghost use Rattle.std.specs.Prelude.{◌≤◌};
-ghost use Rattle.sporc_serve.specs.declared.limits.TheConstants.{MAX_SESSIONS};
+ghost use Rattle.sporc_wire.specs.declared.limits.TheConstants.{MAX_SESSIONS};
 
 use crate::checks::{check, check_at};
 use crate::serve::replies::ORDERED_FIRST;

@@ -1,15 +1,11 @@
 //! What servers send.
 
-use crate::objects::joined;
 use sporc_wire::{Frames, ToClient};
 use std::alloc::Global;
 use std::process::Abort;
 
 /// An Ordered at position 1.
 pub const ORDERED_FIRST: [u8; 9] = [0, 0, 0, 5, 1, 0, 0, 0, 1];
-
-/// A Rejected of an entry with a wrong number.
-pub const WRONG_NUMBER: [u8; 10] = [0, 0, 0, 6, 2, 10, 0, 0, 0, 0];
 
 /// An Empty.
 pub const EMPTY: [u8; 5] = [0, 0, 0, 1, 4];
@@ -75,13 +71,4 @@ fn add(counts: &mut Counts, reply: &ToClient, ordered: &mut [u32]) {
 pub fn are_of_submit_and_pull(rt: &impl Abort, alloc: Global, sent: &[u8]) -> bool {
     let counts = count(rt, alloc, sent, &mut []);
     counts.ordered == 1 && counts.entries == 1
-}
-
-/// The frame of an Entries that holds one entry, at position 1.
-pub fn first_entries(rt: &impl Abort, alloc: Global, entry: &[u8]) -> Vec<u8> {
-    let len = entry.len() as u64;
-    let frame_len = len.saturating_add(10).to_be_bytes();
-    let entry_len = len.to_be_bytes();
-    let head = [3, 0, 0, 0, 1, 1];
-    joined(rt, alloc, &[&frame_len[4..], &head, &entry_len[4..], entry])
 }

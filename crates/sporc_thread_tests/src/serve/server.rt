@@ -2,7 +2,7 @@
 
 ghost use Rattle.std.specs.Prelude.{◌≤◌, ◌<◌, []};
 ghost use Rattle.sporc_outside.specs.MemoryNetModel.{AreFresh};
-ghost use Rattle.sporc_serve.specs.declared.limits.TheConstants.{MAX_SESSIONS};
+ghost use Rattle.sporc_wire.specs.declared.limits.TheConstants.{MAX_SESSIONS};
 
 use crate::objects::{calls, empty_order, listed_link};
 use crate::serve::notes::Notes;

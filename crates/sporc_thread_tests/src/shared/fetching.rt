@@ -1,16 +1,13 @@
 //! Entries that are fetched from a server.
 
-use crate::checks::{check, check_end};
+use crate::checks::check;
 use crate::objects::{append, listed_link};
 use sporc_base::is_same;
-use sporc_shared::{Entries, SessionFault, fetch};
+use sporc_shared::{Entries, fetch};
 use std::alloc::Global;
 use std::process::Abort;
 
 const DOCUMENT: [u8; 16] = [b'D'; 16];
-
-// More calls than a fetch makes.
-const CALLS: u64 = 20;
 
 // Two entries, then one, and then no more.
 const SENT: &[u8] =
@@ -43,54 +40,7 @@ fn all_entries_come(rt: &impl Abort, alloc: Global) {
     check(rt, "the messages", is_same(link.written(), WRITTEN));
 }
 
-// What a server sends, and how the fetch ends.
-const FAULTS: [(&[u8], SessionFault); 4] = [
-    // the last answer lacks a byte
-    (
-        b"\0\0\0\x0b\x03\0\0\0\x01\x01\0\0\0\x01a\0\0\0\x01",
-        SessionFault::LinkEnded(19),
-    ),
-    // an answer to an entry; entries that do not follow; no message's number
-    (
-        b"\0\0\0\x0b\x03\0\0\0\x01\x01\0\0\0\x01a\0\0\0\x05\x01\0\0\0\x02",
-        SessionFault::BadMessage(15),
-    ),
-    (
-        b"\0\0\0\x0b\x03\0\0\0\x02\x01\0\0\0\x01a",
-        SessionFault::BadMessage(0),
-    ),
-    (b"\0\0\0\x01\x09", SessionFault::BadMessage(4)),
-];
-
-// A fetch ends by this fault, or well if there is none, where a server sends this and these calls fail.
-fn ends_so(
-    rt: &impl Abort,
-    alloc: Global,
-    sent: &[u8],
-    failing: &[u64],
-    fault: Option<SessionFault>,
-) {
-    let mut link = listed_link(rt, alloc, sent, 64, failing);
-    check_end(rt, fetch(alloc, &mut link, &DOCUMENT, 4).err(), fault);
-}
-
-// Hello and three pulls are written, and all answers are read at once. How a fetch ends one of whose calls fails.
-fn fault_of(call: u64) -> Option<SessionFault> {
-    if call < 6 {
-        Some(SessionFault::LinkFault)
-    } else {
-        None
-    }
-}
-
 #[test]
 fn entries_are_fetched(rt: HostRuntime) {
-    let alloc = rt.alloc();
-    all_entries_come(&rt, alloc);
-    for (sent, fault) in &FAULTS {
-        ends_so(&rt, alloc, *sent, &[], Some(*fault));
-    }
-    for call in 1..CALLS {
-        ends_so(&rt, alloc, SENT, &[call], fault_of(call));
-    }
+    all_entries_come(&rt, rt.alloc());
 }

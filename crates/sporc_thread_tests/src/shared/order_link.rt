@@ -1,6 +1,6 @@
 //! A link in memory whose other end is a session with an order.
 
-ghost use Rattle.std.specs.Prelude.{◌≤◌, ◌<◌, None, refl, length};
+ghost use Rattle.std.specs.Prelude.{◌≤◌, ◌<◌, length};
 
 use sporc_order::{Order, Reply, Session};
 use sporc_outside::{Calls, Counted, Failed, Link, Sink, Source, Stream};
@@ -118,13 +118,16 @@ impl Counted for OrderLink {
     }
 }
 
-impl Stream for OrderLink {}
+impl Stream for OrderLink {
+    ghost use Rattle.std.specs.Prelude.{refl};
+    ghost use Rattle.sporc_outside.specs.Streams.{silent_stream};
+
+    ghost told = { λ l. silent_stream l.calls.faults };
+
+    ghost faults_are_told = { λ _. refl };
+}
 
 impl Source for OrderLink {
-    ghost left = { λ _. None };
-
-    ghost sent = { λ _. None };
-
     fn read(&mut self, buf: &mut [u8]) -> Result<usize, Failed> {
         self.calls.begin()?;
         Ok(self.server.give(buf))
@@ -132,10 +135,6 @@ impl Source for OrderLink {
 }
 
 impl Sink for OrderLink {
-    ghost written = { λ _. None };
-
-    ghost pending = { λ _. None };
-
     fn write(&mut self, bytes: &[u8]) -> Result<usize, Failed> {
         self.calls.begin()?;
         match self.server.take(bytes) {
@@ -146,9 +145,5 @@ impl Sink for OrderLink {
 }
 
 impl Link for OrderLink {
-    ghost sent_is = { λ _. refl };
-
-    ghost pending_is = { λ _. refl };
-
     fn shut(&mut self) {}
 }

@@ -42,7 +42,7 @@ pub(crate) fn make_entry<D: LeafDisk>(
     ensures made { IfOk result (λ made. AreCopies made.answer made) }
     ensures submission { IfOk result (λ made. IsSomeAnd (at_hand kept.old signer.old.leaves signer.new.leaves) (λ leaf. IsSubmission (plain_of signer.old.key line.now own.now) leaf made.answer)) }
     ensures undrawn { (leaf : ℕ) → kept.old ≡ Some leaf → signer.new ≡ signer.old }
-    ensures drawn { kept.old ≡ None → IsDraw D.stored D.moment D.images D.faults signer.old.leaves signer.new.leaves }
+    ensures drawn { kept.old ≡ None → IsDraw D.told signer.old.leaves signer.new.leaves }
     ensures ticket { kept.new ≡ kept_after kept.old signer.old.leaves signer.new.leaves (is_ok result) }
     ensures can_sign { IfSome kept.new (λ leaf. leaf < 2 ^ height_of signer.old.key.lms) }
     ensures key { signer.new.key ≡ signer.old.key }
@@ -64,8 +64,8 @@ fn take_ticket<D: LeafDisk>(
 ) -> Result<Ticket, LeafFault>
     requires unspent { IfSome kept.old (λ leaf. leaf < 2 ^ height_of signer.old.key.lms) }
     ensures undrawn { (leaf : ℕ) → kept.old ≡ Some leaf → (result ≡ Ok leaf) × (signer.new ≡ signer.old) }
-    ensures draws { kept.old ≡ None → Draws D.stored D.moment D.images signer.old.leaves result signer.new.leaves }
-    ensures faults { kept.old ≡ None → DrawFaults D.faults signer.old.leaves result signer.new.leaves }
+    ensures draws { kept.old ≡ None → Draws D.told signer.old.leaves result signer.new.leaves }
+    ensures faults { kept.old ≡ None → DrawFaults D.told signer.old.leaves result signer.new.leaves }
     ensures can_sign { IfOk result (λ ticket. ticket < 2 ^ height_of signer.old.key.lms) }
     ensures key { signer.new.key ≡ signer.old.key }
     ensures taken { kept.new ≡ None }

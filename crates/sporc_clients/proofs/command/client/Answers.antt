@@ -2,10 +2,11 @@ use Rattle.std.proofs.Common.{List, Option, ℕ, length, map, refl, sym, ap, sub
 use Rattle.std.proofs.lemmas.Result.{err_from_is_err_and}
 use Rattle.std.specs.Prelude.{drop, option_map}
 use Rattle.sporc_outside.proofs.Returning.{shut_none}
+use Rattle.sporc_outside.specs.Uses.{use_of}
 use Rattle.sporc_files.specs.Names.{file_name}
 use Rattle.sporc_files.specs.Uses.{AsksOnly}
 use Rattle.sporc_clients.specs.Outcome.{client_files, names_of, no_disk, no_member, over_disk}
-use Rattle.sporc_sessions.proofs.Asking.{asks_less, asks_never, one_for_hints}
+use Rattle.sporc_clients.proofs.Addresses.{asks_less, asks_never, one_for_hints}
 use Rattle.sporc_clients.proofs.Asking.{asks_all, asks_leaf, asks_member, taken_off}
 use Rattle.sporc_clients.proofs.Outcomes.{disk_of, ends_so, lend_fault, lent_at, member_fault, member_says}
 use Rattle.sporc_clients.proofs.command.client.Goals as goal
@@ -13,7 +14,7 @@ use Rattle.sporc_clients.proofs.command.client.Goals as goal
 pub returns-in_err-member-clause-outcome : goal.returns-in_err-member-clause-outcome
 returns-in_err-member-clause-outcome g c =
     let p = err_from_is_err_and c.from_residual.result c.from_residual.ensures.1 in
-    ends_so _ _ _ _ _ _ _ p.1 p.2
+    ends_so _ _ _ _ _ _ p.1 p.2
     (no_member (member_fault _ c.names_of-names.result c.args.words.now c.names_of-names.ensures.value _ _ c.in_err-member.field-0.0 c.in_err-member.ensures.err) refl
     (record { out = record { written = refl; faults = refl }; files = c.read_member.ensures.files; words = refl }))
 
@@ -21,7 +22,7 @@ pub returns-in_err-disk-clause-outcome : goal.returns-in_err-disk-clause-outcome
 returns-in_err-disk-clause-outcome g c =
     let p = err_from_is_err_and c.from_residual-in_err-disk.result c.from_residual-in_err-disk.ensures.1 in
     let named = c.names_of-names.ensures.value in
-    ends_so _ _ _ _ _ _ _ p.1 p.2
+    ends_so _ _ _ _ _ _ p.1 p.2
     (no_disk c.in_ok-member.member
     (member_says _ c.names_of-names.result c.args.words.now named _ c.in_ok-member.member (ap (λ l. length l) c.as_slice.ensures.value) c.in_ok-member.ensures.ok)
     (lend_fault _ _ c.names_of-names.result c.args.words.now c.read_member.ensures.files named _ _ _ c.in_err-disk.field-0.0 c.read_member.ensures.kept c.in_err-disk.ensures.err)
@@ -32,16 +33,7 @@ pub returns-clause-outcome : goal.returns-clause-outcome
 returns-clause-outcome g c =
     let named = c.names_of-names.ensures.value in
     over_disk c.in_ok-member.member c.in_ok-disk.disk c.with_disk-result.result.1
-    (record {
-      files_before = g.F.Folder.files c.lend_disk.new.files;
-      files_after = g.F.Folder.files c.with_disk-result.new.files;
-      asked_before = g.F.Folder.asked c.lend_disk.new.files;
-      asked_after = g.F.Folder.asked c.with_disk-result.new.files;
-      lent_before = g.F.Folder.lent c.lend_disk.new.files;
-      lent_after = g.F.Folder.lent c.with_disk-result.new.files;
-      faults_before = g.F.Counted.faults c.lend_disk.new.files;
-      faults_after = g.F.Counted.faults c.with_disk-result.new.files;
-    })
+    (use_of g.F.Folder.told c.lend_disk.new.files c.with_disk-result.new.files)
     (member_says _ c.names_of-names.result c.args.words.now named _ c.in_ok-member.member (ap (λ l. length l) c.as_slice.ensures.value) c.in_ok-member.ensures.ok)
     (record {
       is = disk_of _ _ c.names_of-names.result c.args.words.now c.read_member.ensures.files named _ c.in_ok-disk.ensures.ok;
@@ -70,7 +62,7 @@ returns-clause-files_may_ask g c =
     let all = asks_all c.names_of-names.result c.args.words.now c.names_of-names.ensures.value _ (ap (λ l. length l) c.as_slice.ensures.value) _ _ _ _ c.read_member.ensures.may_ask
     c.lend_disk.ensures.may_ask c.with_disk-result.ensures.files_may_ask in
     subst (λ (o : Option (List (List ℕ))). AsksOnly (map (file_name (names_of c.args.words.now)) (client_files c.args.words.now.device (length c.args.words.now.scripts)))
-    (g.F.Folder.asked c.args.files.now) o) (sym c.take_back.ensures.asked) all
+    (g.F.Folder.told c.args.files.now).asked o) (sym c.take_back.ensures.asked) all
 
 pub returns-clause-lent : goal.returns-clause-lent
 returns-clause-lent g c =
@@ -78,7 +70,7 @@ returns-clause-lent g c =
 
 pub returns-clause-files_kept : goal.returns-clause-files_kept
 returns-clause-files_kept g c =
-    omega (arith, c.faults-faults.ensures.value, c.take_back.ensures.count, c.with_disk-result.ensures.files_kept, c.lend_disk.ensures.kept, c.read_member.ensures.kept)
+    omega (arith, c.faults-faults.ensures.value, g.met.F.Folder.faults_are_told c.with_disk-result.new.files, c.take_back.ensures.count, c.with_disk-result.ensures.files_kept, c.lend_disk.ensures.kept, c.read_member.ensures.kept)
 
 -- ---- the address
 
@@ -96,7 +88,7 @@ returns-clause-net_may_ask g c =
 -- ---- links
 
 pub returns-in_err-member-clause-shut : goal.returns-in_err-member-clause-shut
-returns-in_err-member-clause-shut g c = shut_none g.N.Link.Stream.is_shut (g.N.Links.returned c.args.net.now) (g.N.Links.returned c.args.net.now) refl
+returns-in_err-member-clause-shut g c = shut_none (g.N.Links.told c.args.net.now).returned (g.N.Links.told c.args.net.now).returned refl
 
 pub returns-in_err-disk-clause-shut : goal.returns-in_err-disk-clause-shut
-returns-in_err-disk-clause-shut g c = shut_none g.N.Link.Stream.is_shut (g.N.Links.returned c.args.net.now) (g.N.Links.returned c.args.net.now) refl
+returns-in_err-disk-clause-shut g c = shut_none (g.N.Links.told c.args.net.now).returned (g.N.Links.told c.args.net.now).returned refl

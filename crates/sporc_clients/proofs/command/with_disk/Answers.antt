@@ -1,12 +1,12 @@
-use Rattle.std.proofs.Common.{◌+◌, [], ◌∷◌, ap, option_map, refl, subst, ◌∙◌}
+use Rattle.std.proofs.Common.{◌+◌, [], ◌∷◌, ap, option_map, refl, subst, sym, ◌∙◌}
 use Rattle.sporc_outside.proofs.Returning.{shut_none}
 use Rattle.sporc_files.proofs.Asking.{AsksOnly-none}
 use Rattle.sporc_files.specs.Names.{file_name}
 use Rattle.sporc_files.specs.declared.file.File.TheVariants.{History}
 use Rattle.sporc_shared.specs.Items.{past_of}
-use Rattle.sporc_sessions.proofs.Asking.{asks_never}
-use Rattle.sporc_sessions.specs.Nets.{AsksAtMost}
-use Rattle.sporc_sessions.specs.Opening.{links_for_hints}
+use Rattle.sporc_clients.proofs.Addresses.{asks_never}
+use Rattle.sporc_clients.specs.Nets.{AsksAtMost}
+use Rattle.sporc_clients.specs.Opening.{links_for_hints}
 use Rattle.sporc_clients.proofs.Asking.{asks_history, asks_history_again}
 use Rattle.sporc_clients.specs.Outcome.{names_of, no_history, no_leaves, no_session, not_worked, worked}
 use Rattle.sporc_clients.proofs.LeafFiles.{kept_to}
@@ -22,13 +22,15 @@ returns-in-Err-history_of-clause-outcome g c =
     not_worked
     (no_history c.in-Ok.ensures.ok (history_fault _ c.names_of.result c.args.words.now c.names_of.ensures.value _ _ c.in-Err-history_of.fault c.in-Err-history_of.ensures.err) refl)
     (record { out = record { written = refl; faults = refl }; files = c.history_of.ensures.files; words = refl })
-    (ap g.D.LeafDisk.stored c.close.ensures.value ∙ c.in-Ok.ensures.ok.unwritten)
-    (kept_to _ g.D.LeafDisk.images g.D.LeafDisk.moment _ _ c.close.ensures.value c.in-Ok.ensures.kept)
+    (ap (λ d. (g.D.LeafDisk.told d).stored) c.close.ensures.value ∙ c.in-Ok.ensures.ok.unwritten)
+    (kept_to _ g.D.LeafDisk.told _ _ c.close.ensures.value c.in-Ok.ensures.kept)
 
 pub returns-in-Ok-attend-clause-outcome : goal.returns-in-Ok-attend-clause-outcome
 returns-in-Ok-attend-clause-outcome g c =
     let past = past_of c.in-Ok-attend.ended.client in
     let m = c.args.member in
+    -- what the disk's laws say in this thread, as in any that it may be sent to
+    let told_here = g.met.D.LeafDisk g.world.𝓛 g.world.𝓜 g.world.𝓡 ((λ s allowed. allowed), (λ patient. patient), (λ others. others), λ cuts. cuts) in
     worked (record {
       leaves = c.in-Ok.signer.leaves;
       history = option_map (λ bytes. bytes.items) c.in-Ok-history_of.both.0;
@@ -38,7 +40,7 @@ returns-in-Ok-attend-clause-outcome g c =
       };
       past = past;
       session = c.in-Ok-attend.ended.result;
-      attended = attended_at _ m.genesis c.args.words.now.device m.ring c.args.words.now.address c.as_str.result.now _ _ _ c.as_str.ensures.value
+      attended = attended_at m.genesis c.args.words.now.device m.ring c.args.words.now.address c.as_str.result.now _ _ _ c.as_str.ensures.value
           c.args.words.now.rounds c.args.words.now.until m.editors c.as_slice.result.now m.tree c.in-Ok.signer.key _ past _ _ c.in-Ok-attend.ended.result
           c.as_slice.ensures.value c.in-Ok.ensures.key c.in-Ok-attend.ensures.attended;
       causes = c.in-Ok-attend.ensures.causes;
@@ -50,7 +52,7 @@ returns-in-Ok-attend-clause-outcome g c =
       prints = c.conclude-session.ensures.printed;
       taken = c.conclude-session.ensures.taken;
       answers = answers_so _ c.faults.result _ c.conclude-session.result.session c.in-Ok-attend.ended.result c.conclude-session.result.saved c.conclude-session.result.printed
-          c.faults.ensures.value c.conclude-session.ensures.session c.first_fault.ensures.value;
+          (c.faults.ensures.value ∙ sym (told_here.faults_are_told c.conclude-session.result.disk)) c.conclude-session.ensures.session c.end.ensures.value;
     })
 
 pub returns-clause-outcome : goal.returns-clause-outcome
@@ -62,17 +64,16 @@ returns-clause-outcome g c =
       opened = c.in-Ok.ensures.ok;
       says = history_says _ c.names_of.result c.args.words.now c.names_of.ensures.value (option_map (λ bytes. bytes.items) c.in-Ok-history_of.both.0) c.in-Ok-history_of.ensures.ok;
     })
-    (not_attended_at _ m.genesis c.args.words.now.device m.ring c.args.words.now.address c.as_str.result.now _ _ _ c.as_str.ensures.value _ _ c.in-Err-attend.fault
-    c.in-Err-attend.ensures.err)
-    c.attend_fault.ensures.value)
-    (record { out = record { written = refl; faults = refl }; files = c.history_of.ensures.files; words = ap g.C.Chance.given c.in-Err-attend.ensures.chance })
-    (ap g.D.LeafDisk.stored c.close-in-Err-attend.ensures.value ∙ ap (λ s. g.D.LeafDisk.stored s.leaves.disk) c.in-Err-attend.ensures.returned ∙ c.in-Ok.ensures.ok.unwritten)
-    (kept_to _ g.D.LeafDisk.images g.D.LeafDisk.moment _ _ (c.close-in-Err-attend.ensures.value ∙ ap (λ s. s.leaves.disk) c.in-Err-attend.ensures.returned) c.in-Ok.ensures.kept)
+    (not_attended_at m.genesis c.args.words.now.device m.ring c.args.words.now.address c.as_str.result.now _ _ _ c.as_str.ensures.value _ _ c.in-Err-attend.fault
+    c.in-Err-attend.ensures.err))
+    (record { out = record { written = refl; faults = refl }; files = c.history_of.ensures.files; words = ap (λ c. (g.C.Chance.told c).given) c.in-Err-attend.ensures.chance })
+    (ap (λ d. (g.D.LeafDisk.told d).stored) c.close-in-Err-attend.ensures.value ∙ ap (λ s. (g.D.LeafDisk.told s.leaves.disk).stored) c.in-Err-attend.ensures.returned ∙ c.in-Ok.ensures.ok.unwritten)
+    (kept_to _ g.D.LeafDisk.told _ _ (c.close-in-Err-attend.ensures.value ∙ ap (λ s. s.leaves.disk) c.in-Err-attend.ensures.returned) c.in-Ok.ensures.kept)
 
 -- ---- files
 
 pub returns-in-Err-clause-files_may_ask : goal.returns-in-Err-clause-files_may_ask
-returns-in-Err-clause-files_may_ask g c = AsksOnly-none (file_name (names_of c.args.words.now) (History c.args.words.now.device) ∷ []) (g.F.Folder.asked c.args.files.now)
+returns-in-Err-clause-files_may_ask g c = AsksOnly-none (file_name (names_of c.args.words.now) (History c.args.words.now.device) ∷ []) (g.F.Folder.told c.args.files.now).asked
 
 pub returns-in-Err-history_of-clause-files_may_ask : goal.returns-in-Err-history_of-clause-files_may_ask
 returns-in-Err-history_of-clause-files_may_ask g c = asks_history c.names_of.result c.args.words.now c.names_of.ensures.value _ _ c.history_of.ensures.may_ask
@@ -95,16 +96,16 @@ returns-in-Err-history_of-clause-net_may_ask g c = asks_never _ _ c.args.words.n
 
 pub returns-in-Ok-attend-clause-net_may_ask : goal.returns-in-Ok-attend-clause-net_may_ask
 returns-in-Ok-attend-clause-net_may_ask g c =
-    subst (AsksAtMost (links_for_hints c.args.member.ring + 1) (g.N.Links.asked c.args.net.now) (g.N.Links.asked c.attend.new.net)) c.as_str.ensures.value c.attend.ensures.may_ask
+    subst (AsksAtMost (links_for_hints c.args.member.ring + 1) (g.N.Links.told c.args.net.now).asked (g.N.Links.told c.attend.new.net).asked) c.as_str.ensures.value c.attend.ensures.may_ask
 
 pub returns-clause-net_may_ask : goal.returns-clause-net_may_ask
 returns-clause-net_may_ask g c =
-    subst (AsksAtMost (links_for_hints c.args.member.ring + 1) (g.N.Links.asked c.args.net.now) (g.N.Links.asked c.attend.new.net)) c.as_str.ensures.value c.attend.ensures.may_ask
+    subst (AsksAtMost (links_for_hints c.args.member.ring + 1) (g.N.Links.told c.args.net.now).asked (g.N.Links.told c.attend.new.net).asked) c.as_str.ensures.value c.attend.ensures.may_ask
 
 -- ---- links
 
 pub returns-in-Err-clause-shut : goal.returns-in-Err-clause-shut
-returns-in-Err-clause-shut g c = shut_none g.N.Link.Stream.is_shut (g.N.Links.returned c.args.net.now) (g.N.Links.returned c.args.net.now) refl
+returns-in-Err-clause-shut g c = shut_none (g.N.Links.told c.args.net.now).returned (g.N.Links.told c.args.net.now).returned refl
 
 pub returns-in-Err-history_of-clause-shut : goal.returns-in-Err-history_of-clause-shut
-returns-in-Err-history_of-clause-shut g c = shut_none g.N.Link.Stream.is_shut (g.N.Links.returned c.args.net.now) (g.N.Links.returned c.args.net.now) refl
+returns-in-Err-history_of-clause-shut g c = shut_none (g.N.Links.told c.args.net.now).returned (g.N.Links.told c.args.net.now).returned refl

@@ -1,9 +1,8 @@
-use Rattle.sporc_sessions.specs.Nets.{link_view}
 use Rattle.sporc_clients.proofs.Lives.{sign_once}
 use Rattle.sporc_clients.proofs.laws.no_leaf_signs_twice.Goals as goal
 
 pub returns : goal.returns
 returns g c = record {
-  rise = sign_once (link_view g.L.Sink.written g.L.Source.left g.L.Counted.faults g.L.Stream.is_shut) g.D.LeafDisk.stored g.D.LeafDisk.images g.D.LeafDisk.moment g.D.Counted.faults
+  rise = sign_once g.D.LeafDisk.told
       g.met.D.LeafDisk.stored_is_image;
 }

@@ -13,7 +13,7 @@ returns-in-Err-BadLength-default-clause-err g c =
 
 pub returns-in-Ok-clause-kept : goal.returns-in-Ok-clause-kept
 returns-in-Ok-clause-kept g c =
-    kept_to _ g.D.LeafDisk.images g.D.LeafDisk.moment _ _ (ap (λ s. s.leaves.disk) c.open-in-Ok.ensures.value) (keeps_passed g.D.LeafDisk.moment g.D.LeafDisk.images _ _ c.in-Ok.ensures.opens.stable)
+    kept_to _ g.D.LeafDisk.told _ _ (ap (λ s. s.leaves.disk) c.open-in-Ok.ensures.value) (keeps_passed g.D.LeafDisk.told _ _ c.in-Ok.ensures.opens.stable)
 
 pub returns-in-Err-BadLength-default-clause-kept_back : goal.returns-in-Err-BadLength-default-clause-kept_back
-returns-in-Err-BadLength-default-clause-kept_back g c = keeps_passed g.D.LeafDisk.moment g.D.LeafDisk.images _ _ c.in-Err-BadLength-default.ensures.opens.stable
+returns-in-Err-BadLength-default-clause-kept_back g c = keeps_passed g.D.LeafDisk.told _ _ c.in-Err-BadLength-default.ensures.opens.stable

@@ -6,10 +6,10 @@ use Rattle.sporc_clients.proofs.member_files.read_scripts.Given as goal
 
 abbrev pub invariant-loop-read : goal.invariant-loop-read
 invariant-loop-read g l = record {
-  each : SayScripts (g.F.Folder.files l.initial.files) l.names 1 l.scripts.items;
+  each : SayScripts (g.F.Folder.told l.initial.files).files l.names 1 l.scripts.items;
   all : length l.scripts.items ≡ l.read;
-  files : g.F.Folder.files l.files ≡ g.F.Folder.files l.initial.files;
-  lent : g.F.Folder.lent l.files ≡ g.F.Folder.lent l.initial.files;
-  asked : AsksOnly (map (file_name l.names) (script_files l.fn.editors)) (g.F.Folder.asked l.initial.files) (g.F.Folder.asked l.files);
-  kept : g.F.Counted.faults l.initial.files ≤ g.F.Counted.faults l.files;
+  files : (g.F.Folder.told l.files).files ≡ (g.F.Folder.told l.initial.files).files;
+  lent : (g.F.Folder.told l.files).lent ≡ (g.F.Folder.told l.initial.files).lent;
+  asked : AsksOnly (map (file_name l.names) (script_files l.fn.editors)) (g.F.Folder.told l.initial.files).asked (g.F.Folder.told l.files).asked;
+  kept : (g.F.Folder.told l.initial.files).faults ≤ (g.F.Folder.told l.files).faults;
 }

@@ -2,7 +2,6 @@ use Rattle.std.proofs.Common.{◌∙◌, List, Result, Err, ap, subst, sym, arit
 use Rattle.sporc_order.specs.OrderModel.{OrderModel}
 use Rattle.sporc_serve.specs.declared.fault.ServeFault.{ServeFault}
 use Rattle.sporc_serve.specs.declared.fault.ServeFault.TheVariants as faults
-use Rattle.sporc_serve.specs.Crowds.{net_of}
 use Rattle.sporc_docs.specs.Served.{AreKept, AreServed, IsServedDocument, as_served}
 use Rattle.sporc_docs.proofs.Opening.{both_length}
 use Rattle.sporc_docs.proofs.Served.{serves_none, serves_before, apart_kept}
@@ -10,30 +9,30 @@ use Rattle.sporc_docs.proofs.server.serve_docs_kept.Goals as goal
 
 pub returns-in_default-clause-served : goal.returns-in_default-clause-served
 returns-in_default-clause-served g c =
-    serves_none g.N.Link.Source.left g.N.Link.Sink.written g.N.Link.Counted.faults g.N.Link.Stream.is_shut (net_of (g.N.Links.coming c.args.net.now) (g.N.Links.returned c.args.net.now) (g.N.Counted.faults c.args.net.now))
-    (net_of (g.N.Links.coming c.listen.new.self) (g.N.Links.returned c.listen.new.self) (g.N.Counted.faults c.listen.new.self)) c.args.sessions (Err faults.ListenFault)
+    serves_none (g.N.Links.told c.args.net.now)
+    (g.N.Links.told c.listen.new.self) c.args.sessions (Err faults.ListenFault)
     c.args.docs c.listen.ensures.coming c.listen.ensures.returned c.in_default.ensures.count.failed
 
 pub of-requires-clause-apart : goal.of-requires-clause-apart
 of-requires-clause-apart g c =
     let served = c.serve_orders-answer.ensures.served in
-    apart_kept g.N.Link.Source.left g.N.Link.Sink.written g.N.Link.Counted.faults g.N.Link.Stream.is_shut served.0 c.into_orders-orders.result.items c.serve_orders-answer.new.orders.items served.1.served c.into_orders-orders.ensures.apart
+    apart_kept served.0 c.into_orders-orders.result.items c.serve_orders-answer.new.orders.items served.1.served c.into_orders-orders.ensures.apart
 
 pub of-requires-clause-within : goal.of-requires-clause-within
 of-requires-clause-within g c =
     let served = c.serve_orders-answer.ensures.served in
-    let same = both_length (IsServedDocument g.N.Link.Source.left g.N.Link.Sink.written g.N.Link.Counted.faults g.N.Link.Stream.is_shut served.0) c.into_orders-orders.result.items c.serve_orders-answer.new.orders.items served.1.served in
+    let same = both_length (IsServedDocument served.0) c.into_orders-orders.result.items c.serve_orders-answer.new.orders.items served.1.served in
     let few = c.into_orders-orders.ensures.within in
     omega (arith, same, few)
 
 pub returns-clause-served : goal.returns-clause-served
 returns-clause-served g c =
-    let old = net_of (g.N.Links.coming c.args.net.now) (g.N.Links.returned c.args.net.now) (g.N.Counted.faults c.args.net.now) in
-    let mid = net_of (g.N.Links.coming c.listen.new.self) (g.N.Links.returned c.listen.new.self) (g.N.Counted.faults c.listen.new.self) in
-    let new = net_of (g.N.Links.coming c.serve_orders-answer.new.net) (g.N.Links.returned c.serve_orders-answer.new.net) (g.N.Counted.faults c.serve_orders-answer.new.net) in
-    subst (λ (z : List OrderModel × List OrderModel × Result (Unit {0}) ServeFault). AreServed g.N.Link.Source.left g.N.Link.Sink.written g.N.Link.Counted.faults g.N.Link.Stream.is_shut z.0 z.1 old new
+    let old = g.N.Links.told c.args.net.now in
+    let mid = g.N.Links.told c.listen.new.self in
+    let new = g.N.Links.told c.serve_orders-answer.new.net in
+    subst (λ (z : List OrderModel × List OrderModel × Result (Unit {0}) ServeFault). AreServed z.0 z.1 old new
     c.args.sessions z.2) (λ i. (c.into_orders-orders.ensures.value i, sym c.of.ensures.value i, sym c.told.ensures i))
-    (serves_before g.N.Link.Source.left g.N.Link.Sink.written g.N.Link.Counted.faults g.N.Link.Stream.is_shut old mid new c.args.sessions
+    (serves_before old mid new c.args.sessions
     c.serve_orders-answer.result c.into_orders-orders.result.items c.serve_orders-answer.new.orders.items c.serve_orders-answer.ensures.served c.listen.ensures.coming
     c.listen.ensures.returned c.listen.ensures.count.kept)
 

@@ -1,7 +1,6 @@
 use Rattle.std.proofs.Common.{◌≡◌, ◌∙◌, ◌++◌, ℕ, List, [], length, map, reverse, Err, refl, ap, sym, subst, arith}
 use Rattle.sporc_order.specs.OrderModel.{OrderModel}
 use Rattle.sporc_serve.specs.declared.fault.ServeFault.TheVariants as faults
-use Rattle.sporc_serve.specs.Crowds.{net_of}
 use Rattle.sporc_docs.specs.declared.hands.Hand.{Hand}
 use Rattle.sporc_docs.specs.Hands.{AllHands, Both, IsEmpty}
 use Rattle.sporc_docs.specs.Locks.{KnowsFirst, AreEnding}
@@ -11,11 +10,11 @@ use Rattle.sporc_docs.proofs.server.serve_orders.Goals as goal
 
 pub returns-in_default-clause-served : goal.returns-in_default-clause-served
 returns-in_default-clause-served g c =
-    serves_none g.N.Link.Source.left g.N.Link.Sink.written g.N.Link.Counted.faults g.N.Link.Stream.is_shut (net_of (g.N.Links.coming c.args.net.now) (g.N.Links.returned c.args.net.now) (g.N.Counted.faults c.args.net.now)) (net_of (g.N.Links.coming c.args.net.now) (g.N.Links.returned c.args.net.now) (g.N.Counted.faults c.args.net.now)) c.args.sessions (Err faults.Memory) c.args.orders.now.items refl refl tt
+    serves_none (g.N.Links.told c.args.net.now) (g.N.Links.told c.args.net.now) c.args.sessions (Err faults.Memory) c.args.orders.now.items refl refl tt
 
 pub returns-in_default-with_capacity-clause-served : goal.returns-in_default-with_capacity-clause-served
 returns-in_default-with_capacity-clause-served g c =
-    serves_none g.N.Link.Source.left g.N.Link.Sink.written g.N.Link.Counted.faults g.N.Link.Stream.is_shut (net_of (g.N.Links.coming c.args.net.now) (g.N.Links.returned c.args.net.now) (g.N.Counted.faults c.args.net.now)) (net_of (g.N.Links.coming c.args.net.now) (g.N.Links.returned c.args.net.now) (g.N.Counted.faults c.args.net.now)) c.args.sessions (Err faults.Memory) c.args.orders.now.items refl refl tt
+    serves_none (g.N.Links.told c.args.net.now) (g.N.Links.told c.args.net.now) c.args.sessions (Err faults.Memory) c.args.orders.now.items refl refl tt
 
 pub close-requires-clause-back : goal.close-requires-clause-back
 close-requires-clause-back g c = opened_back c.open.ensures.open.0 c.open.new.self.firsts.items c.open.ensures.open.2.known
@@ -36,7 +35,7 @@ pub returns-then-is_err-clause-served : goal.returns-then-is_err-clause-served
 returns-then-is_err-clause-served g c =
     let open' = c.open.ensures.open in
     let closed = c.close.ensures.closed in
-    serves_opened g.N.Link.Source.left g.N.Link.Sink.written g.N.Link.Counted.faults g.N.Link.Stream.is_shut (net_of (g.N.Links.coming c.args.net.now) (g.N.Links.returned c.args.net.now) (g.N.Counted.faults c.args.net.now)) (net_of (g.N.Links.coming c.args.net.now) (g.N.Links.returned c.args.net.now) (g.N.Counted.faults c.args.net.now)) c.args.sessions (Err faults.Memory) c.args.orders.now.items c.close.new.orders.items c.open.new.orders.items open'.0 closed.0
+    serves_opened (g.N.Links.told c.args.net.now) (g.N.Links.told c.args.net.now) c.args.sessions (Err faults.Memory) c.args.orders.now.items c.close.new.orders.items c.open.new.orders.items open'.0 closed.0
     c.open.new.self open'.2 open'.1 closed.1 closed.2 refl refl tt
 
 pub serve-answer-requires-clause-room : goal.serve-answer-requires-clause-room
@@ -96,6 +95,6 @@ returns-clause-served g c =
     let size = c.in-Ok.ensures.len in
     let count : length c.deref_mut.result.now ≡ c.args.sessions = hands ∙ size in
     let closed = c.close-2.ensures.closed in
-    serves_all g.N.Link.Source.left g.N.Link.Sink.written g.N.Link.Counted.faults g.N.Link.Stream.is_shut (net_of (g.N.Links.coming c.args.net.now) (g.N.Links.returned c.args.net.now) (g.N.Counted.faults c.args.net.now)) (net_of (g.N.Links.coming c.serve-answer.new.net) (g.N.Links.returned c.serve-answer.new.net) (g.N.Counted.faults c.serve-answer.new.net)) c.args.sessions c.serve-answer.result c.args.orders.now.items c.close-2.new.orders.items closed.0 c.serve-answer.new.self.firsts.items
-    (subst (λ (n : ℕ). AreEnding g.N.Link.Source.left g.N.Link.Sink.written g.N.Link.Counted.faults g.N.Link.Stream.is_shut c.args.orders.now.items c.serve-answer.new.self.firsts.items (net_of (g.N.Links.coming c.args.net.now) (g.N.Links.returned c.args.net.now) (g.N.Counted.faults c.args.net.now)) (net_of (g.N.Links.coming c.serve-answer.new.net) (g.N.Links.returned c.serve-answer.new.net) (g.N.Counted.faults c.serve-answer.new.net)) n c.serve-answer.result) count ending)
+    serves_all (g.N.Links.told c.args.net.now) (g.N.Links.told c.serve-answer.new.net) c.args.sessions c.serve-answer.result c.args.orders.now.items c.close-2.new.orders.items closed.0 c.serve-answer.new.self.firsts.items
+    (subst (λ (n : ℕ). AreEnding c.args.orders.now.items c.serve-answer.new.self.firsts.items (g.N.Links.told c.args.net.now) (g.N.Links.told c.serve-answer.new.net) n c.serve-answer.result) count ending)
     (closed.1 ∙ ap (λ (l : List OrderModel). l ++ reverse closed.0) rest) closed.2

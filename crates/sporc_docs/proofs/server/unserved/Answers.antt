@@ -1,17 +1,16 @@
 use Rattle.std.proofs.Common.{Err}
 use Rattle.sporc_serve.specs.declared.fault.ServeFault.TheVariants as faults
-use Rattle.sporc_serve.specs.Crowds.{net_of}
 use Rattle.sporc_docs.proofs.Served.{serves_none}
 use Rattle.sporc_docs.proofs.server.unserved.Goals as goal
 
 pub returns-in-Ok-clause-served : goal.returns-in-Ok-clause-served
 returns-in-Ok-clause-served g c os sessions =
-    serves_none g.N.Link.Source.left g.N.Link.Sink.written g.N.Link.Counted.faults g.N.Link.Stream.is_shut (net_of (g.N.Links.coming c.args.net.now) (g.N.Links.returned c.args.net.now) (g.N.Counted.faults c.args.net.now))
-    (net_of (g.N.Links.coming c.listen.new.self) (g.N.Links.returned c.listen.new.self) (g.N.Counted.faults c.listen.new.self)) sessions (Err faults.Memory) os
+    serves_none (g.N.Links.told c.args.net.now)
+    (g.N.Links.told c.listen.new.self) sessions (Err faults.Memory) os
     c.listen.ensures.coming c.listen.ensures.returned tt
 
 pub returns-in-Err-clause-served : goal.returns-in-Err-clause-served
 returns-in-Err-clause-served g c os sessions =
-    serves_none g.N.Link.Source.left g.N.Link.Sink.written g.N.Link.Counted.faults g.N.Link.Stream.is_shut (net_of (g.N.Links.coming c.args.net.now) (g.N.Links.returned c.args.net.now) (g.N.Counted.faults c.args.net.now))
-    (net_of (g.N.Links.coming c.listen.new.self) (g.N.Links.returned c.listen.new.self) (g.N.Counted.faults c.listen.new.self)) sessions (Err faults.ListenFault) os
+    serves_none (g.N.Links.told c.args.net.now)
+    (g.N.Links.told c.listen.new.self) sessions (Err faults.ListenFault) os
     c.listen.ensures.coming c.listen.ensures.returned c.in-Err.ensures.count.failed

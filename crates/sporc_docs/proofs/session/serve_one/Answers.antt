@@ -6,8 +6,8 @@ use Rattle.sporc_turn.specs.declared.pass.Pass.{Pass}
 use Rattle.sporc_turn.specs.Passes.{known_of, read_of}
 use Rattle.sporc_serve.specs.declared.end.SessionEnd.{SessionEnd}
 use Rattle.sporc_serve.specs.declared.item.Item.{Item}
-use Rattle.sporc_serve.specs.Endings.{inlet, IsFirst}
-use Rattle.sporc_serve.specs.Courses.{stand, Leads}
+use Rattle.sporc_serve.specs.Endings.{inlet_at, IsFirst}
+use Rattle.sporc_serve.specs.Courses.{stand_at, Leads}
 use Rattle.sporc_serve.specs.Turns.{HasReadLast}
 use Rattle.sporc_docs.specs.Hands.{pass_at}
 use Rattle.sporc_docs.proofs.Sessions.{have_length, have_at, have_set, became_here, kept_elsewhere, serves_from}
@@ -18,17 +18,17 @@ returns-in-Err-clause-session g c = (
   None,
   record {
     bound = (
-      c.first_message.new.link,
+      g.L.Stream.told c.first_message.new.link,
       c.first_message.new.frames,
       Err c.in-Err.end,
       record {
-        first_is = subst₂ (λ (u : Unread) (r : Result ToServer SessionEnd). IsFirst (inlet (g.L.Source.left c.args.link.now) (g.L.Counted.faults c.args.link.now) u)
-            (inlet (g.L.Source.left c.first_message.new.link) (g.L.Counted.faults c.first_message.new.link) c.first_message.new.frames) r)
+        first_is = subst₂ (λ (u : Unread) (r : Result ToServer SessionEnd). IsFirst (inlet_at (g.L.Stream.told c.args.link.now) u)
+            (inlet_at (g.L.Stream.told c.first_message.new.link) c.first_message.new.frames) r)
             c.new-frames.ensures.value c.in-Err.is c.first_message.ensures.first;
         end_is = refl;
         written_is = c.first_message.ensures.written;
         as_shut = c.first_message.ensures.as_shut;
-        shuts = record { shut = c.shut.ensures.shut; left_is = c.shut.ensures.left; written_is = c.shut.ensures.written; faults_are = c.shut.ensures.count };
+        shuts = c.shut.ensures.did;
       },
     );
     serves = λ i p p' old new. cc;
@@ -40,17 +40,17 @@ returns-in_default-clause-session g c = (
   None,
   record {
     bound = (
-      c.first_message.new.link,
+      g.L.Stream.told c.first_message.new.link,
       c.first_message.new.frames,
       Ok c.in-Ok.first,
       record {
-        first_is = subst₂ (λ (u : Unread) (r : Result ToServer SessionEnd). IsFirst (inlet (g.L.Source.left c.args.link.now) (g.L.Counted.faults c.args.link.now) u)
-            (inlet (g.L.Source.left c.first_message.new.link) (g.L.Counted.faults c.first_message.new.link) c.first_message.new.frames) r)
+        first_is = subst₂ (λ (u : Unread) (r : Result ToServer SessionEnd). IsFirst (inlet_at (g.L.Stream.told c.args.link.now) u)
+            (inlet_at (g.L.Stream.told c.first_message.new.link) c.first_message.new.frames) r)
             c.new-frames.ensures.value c.in-Ok.is c.first_message.ensures.first;
         end_is = (sym c.named_by.ensures.value ∙ c.in_default.is, refl);
         written_is = c.first_message.ensures.written;
         as_shut = c.first_message.ensures.as_shut;
-        shuts = record { shut = c.shut-in_default.ensures.shut; left_is = c.shut-in_default.ensures.left; written_is = c.shut-in_default.ensures.written; faults_are = c.shut-in_default.ensures.count };
+        shuts = c.shut-in_default.ensures.did;
       },
     );
     serves = λ i p p' old new. cc;
@@ -73,8 +73,8 @@ returns-clause-locks g c =
 
 pub returns-clause-session : goal.returns-clause-session
 returns-clause-session g c =
-    let first = subst₂ (λ (u : Unread) (r : Result ToServer SessionEnd). IsFirst (inlet (g.L.Source.left c.args.link.now) (g.L.Counted.faults c.args.link.now) u)
-    (inlet (g.L.Source.left c.first_message.new.link) (g.L.Counted.faults c.first_message.new.link) c.first_message.new.frames) r)
+    let first = subst₂ (λ (u : Unread) (r : Result ToServer SessionEnd). IsFirst (inlet_at (g.L.Stream.told c.args.link.now) u)
+    (inlet_at (g.L.Stream.told c.first_message.new.link) c.first_message.new.frames) r)
     c.new-frames.ensures.value c.in-Ok.is c.first_message.ensures.first in
     let hand = c.args.hand.now in
     let place = c.in-Some.place in
@@ -84,7 +84,7 @@ returns-clause-session g c =
       Some place,
       record {
         bound = (
-          c.first_message.new.link,
+          g.L.Stream.told c.first_message.new.link,
           c.first_message.new.frames,
           c.in-Ok.first,
           record { first_is = first; names = sym c.named_by.ensures.value ∙ c.in-Some.is },
@@ -96,15 +96,15 @@ returns-clause-session g c =
                 became_here (λ (q q' : Pass Item). (known_of q').number ≡ (known_of q).number) hand place old new p p' read at_old' at_new' c.serve_at-end.ensures.number,
                 became_here (λ (q q' : Pass Item). HasReadLast (read_of q') c.serve_at-end.result) hand place old new p p' read at_old' at_new' c.serve_at-end.ensures.worn,
                 λ genesis log.
-                    serves_from g.L.Source.left g.L.Sink.written g.L.Counted.faults g.L.Stream.is_shut c.args.link.now c.first_message.new.link c.serve_at-end.new.link
-                    c.shut-2.new.self (stream_of []) c.first_message.new.frames c.in-Ok.first first c.first_message.ensures.written c.first_message.ensures.as_shut
+                    serves_from (g.L.Stream.told c.args.link.now) (g.L.Stream.told c.first_message.new.link) (g.L.Stream.told c.serve_at-end.new.link)
+                    (g.L.Stream.told c.shut-2.new.self) (stream_of []) c.first_message.new.frames c.in-Ok.first first c.first_message.ensures.written c.first_message.ensures.as_shut
                     c.serve_at-end.ensures.as_shut
-                    (record { shut = c.shut-2.ensures.shut; left_is = c.shut-2.ensures.left; written_is = c.shut-2.ensures.written; faults_are = c.shut-2.ensures.count })
+                    c.shut-2.ensures.did
                     genesis (known_of p) (known_of p') c.serve_at-end.result log
                     (became_here (λ (q q' : Pass Item). (unread : Unread) → (next to_server_of unread).answer ≡ Ok (Some c.in-Ok.first)
                     → c.first_message.new.frames ≡ (next to_server_of unread).after
-                    → Leads (stand (known_of q) (g.L.Source.left c.first_message.new.link) (g.L.Sink.written c.first_message.new.link) (g.L.Counted.faults c.first_message.new.link) unread false)
-                    (stand (known_of q') (g.L.Source.left c.serve_at-end.new.link) (g.L.Sink.written c.serve_at-end.new.link) (g.L.Counted.faults c.serve_at-end.new.link) (stream_of []) false)
+                    → Leads (stand_at (known_of q) (g.L.Stream.told c.first_message.new.link) unread false)
+                    (stand_at (known_of q') (g.L.Stream.told c.serve_at-end.new.link) (stream_of []) false)
                     (Some c.serve_at-end.result)) hand place old new p p' read at_old' at_new' c.serve_at-end.ensures.goes),
               )),
           λ apart. kept_elsewhere hand place i new p p' apart at_old at_new,

@@ -6,6 +6,6 @@ use Rattle.sporc_files.proofs.argument.write_arguments.Given as goal
 
 abbrev pub invariant-loop-argument : goal.invariant-loop-argument
 invariant-loop-argument g l = record {
-  written : Appends (g.O.Sink.written l.initial.out) (g.O.Sink.written l.out) (flat_map (argument_bytes l.names) (take l.argument-index l.arguments));
-  kept : g.O.Counted.faults l.initial.out ≤ g.O.Counted.faults l.out;
+  written : Appends (g.O.Stream.told l.initial.out).written (g.O.Stream.told l.out).written (flat_map (argument_bytes l.names) (take l.argument-index l.arguments));
+  kept : (g.O.Stream.told l.initial.out).faults ≤ (g.O.Stream.told l.out).faults;
 }

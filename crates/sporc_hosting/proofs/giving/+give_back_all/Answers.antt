@@ -1,5 +1,5 @@
 use Rattle.std.proofs.Common.{rules, arith}
-use Rattle.sporc_histories.specs.Tails.{KeepsBehind}
+use Rattle.sporc_commands.specs.Tails.{KeepsBehind}
 use Rattle.sporc_hosting.proofs.Back.{front_left, last_keeps, one_left, others_keep}
 use Rattle.sporc_hosting.proofs.Saved.{as_many_left}
 use Rattle.sporc_hosting.proofs.giving.+give_back_all.Goals as goal
@@ -8,27 +8,27 @@ pub give_back_all-others-requires : goal.give_back_all-others-requires
 give_back_all-others-requires g t c κs within =
     let each = as_many_left c.args.logs.now c.in-Some.more_logs.now c.args.orders.now c.in-Some-split_first.more_orders.now c.in-Some.log.now c.in-Some-split_first.order.now
     c.in-Some.ensures.cases.0 c.in-Some-split_first.ensures.cases.0 c.requires.each in
-    let tails = others_keep (KeepsBehind g.F.Appended.AppendFile.moment g.F.Appended.AppendFile.images) c.args.tails.now.items c.args.orders.now c.in-Some-split_first.order.now
+    let tails = others_keep (KeepsBehind g.F.Appended.AppendFile.told) c.args.tails.now.items c.args.orders.now c.in-Some-split_first.order.now
     c.in-Some-split_first.more_orders.now c.in-Some-split_first.ensures.cases.0 c.requires.tails in
     (search rules, (within.0, (within.1.0, (within.1.1, (each, tails)))))
 
 pub returns-in_default-pop-clause-gives : goal.returns-in_default-pop-clause-gives
 returns-in_default-pop-clause-gives g t c =
-    absurd (one_left (KeepsBehind g.F.Appended.AppendFile.moment g.F.Appended.AppendFile.images) c.args.tails.now.items c.args.orders.now c.in-Some-split_first.order.now c.in-Some-split_first.more_orders.now c.in-Some-split_first.ensures.cases.0
+    absurd (one_left (KeepsBehind g.F.Appended.AppendFile.told) c.args.tails.now.items c.args.orders.now c.in-Some-split_first.order.now c.in-Some-split_first.more_orders.now c.in-Some-split_first.ensures.cases.0
     c.give_back_all-others.new.tails.items c.pop.new.self.items c.give_back_all-others.ensures.tails (omega (arith, c.give_back_all-others.new.tails.ok.0, c.in_default-pop.ensures.cases.0)) c.requires.tails)
 
 pub returns-in_default-pop-clause-tails : goal.returns-in_default-pop-clause-tails
 returns-in_default-pop-clause-tails g t c =
-    absurd (one_left (KeepsBehind g.F.Appended.AppendFile.moment g.F.Appended.AppendFile.images) c.args.tails.now.items c.args.orders.now c.in-Some-split_first.order.now c.in-Some-split_first.more_orders.now c.in-Some-split_first.ensures.cases.0
+    absurd (one_left (KeepsBehind g.F.Appended.AppendFile.told) c.args.tails.now.items c.args.orders.now c.in-Some-split_first.order.now c.in-Some-split_first.more_orders.now c.in-Some-split_first.ensures.cases.0
     c.give_back_all-others.new.tails.items c.pop.new.self.items c.give_back_all-others.ensures.tails (omega (arith, c.give_back_all-others.new.tails.ok.0, c.in_default-pop.ensures.cases.0)) c.requires.tails)
 
 pub give_back-one-requires : goal.give_back-one-requires
 give_back-one-requires g t c = record {
-  tail = last_keeps (KeepsBehind g.F.Appended.AppendFile.moment g.F.Appended.AppendFile.images) c.args.tails.now.items c.args.orders.now c.in-Some-split_first.order.now c.in-Some-split_first.more_orders.now c.in-Some-split_first.ensures.cases.0
+  tail = last_keeps (KeepsBehind g.F.Appended.AppendFile.told) c.args.tails.now.items c.args.orders.now c.in-Some-split_first.order.now c.in-Some-split_first.more_orders.now c.in-Some-split_first.ensures.cases.0
       c.give_back_all-others.new.tails.items c.pop.new.self.items c.give_back_all-others.ensures.tails c.in-Some-pop.tail c.in-Some-pop.ensures.items c.requires.tails;
 }
 
 pub returns-clause-tails : goal.returns-clause-tails
 returns-clause-tails g t c =
-    front_left (KeepsBehind g.F.Appended.AppendFile.moment g.F.Appended.AppendFile.images) c.args.tails.now.items c.args.orders.now c.in-Some-split_first.order.now c.in-Some-split_first.more_orders.now c.in-Some-split_first.ensures.cases.0
+    front_left (KeepsBehind g.F.Appended.AppendFile.told) c.args.tails.now.items c.args.orders.now c.in-Some-split_first.order.now c.in-Some-split_first.more_orders.now c.in-Some-split_first.ensures.cases.0
     c.give_back_all-others.new.tails.items c.pop.new.self.items c.give_back_all-others.ensures.tails c.in-Some-pop.tail c.in-Some-pop.ensures.items

@@ -1,55 +1,54 @@
 use Rattle.std.proofs.Common.{Err, Ok, [], inl, inr, List, length, refl, ap, sym, subst, ◌∙◌}
 use Rattle.sporc_order.specs.OrderModel.{OrderModel}
-use Rattle.sporc_serve.specs.Crowds.{net_of}
 use Rattle.sporc_files.specs.Uses.{AsksOnly}
-use Rattle.sporc_histories.specs.Moments.{moment_of}
-use Rattle.sporc_histories.specs.Rounds.{Round}
+use Rattle.sporc_commands.specs.Moments.{moment_of}
+use Rattle.sporc_commands.specs.Rounds.{Round}
 use Rattle.sporc_hosting.specs.Hosting.{GivesAllBack}
 use Rattle.sporc_hosting.specs.Loading.{OpenLogModel, files_of_all, orders_in}
-use Rattle.sporc_hosting.proofs.Changed.{back_at, back_changes, tails_front, tails_then}
+use Rattle.sporc_hosting.proofs.Changed.{back_changes, tails_front, tails_then}
 use Rattle.sporc_hosting.proofs.Hosted.{all_open, asked_again, opened_first, tells_longer}
 use Rattle.sporc_hosting.proofs.hosting.serve_all.Goals as goal
 
 pub serve_rounds-last-requires-clause-each : goal.serve_rounds-last-requires-clause-each
 serve_rounds-last-requires-clause-each g c κs within =
-    let more = opened_first g.F.Appended.AppendFile.moment g.F.Appended.AppendFile.images (g.F.Folder.files c.args.files.now) c.args.names.now (g.F.Counted.faults c.args.files.now)
-    (g.F.Counted.faults c.open_documents.new.files) (Ok tt) c.new.result c.open_documents.new.held.docs c.new-2.result.items c.open_documents.new.held.tails.items
+    let more = opened_first g.F.Appended.AppendFile.told (g.F.Folder.told c.args.files.now).files c.args.names.now (g.F.Folder.told c.args.files.now).faults
+    (g.F.Folder.told c.open_documents.new.files).faults (Ok tt) c.new.result c.open_documents.new.held.docs c.new-2.result.items c.open_documents.new.held.tails.items
     c.new-3.result.items c.open_documents.new.held.logs.items c.new.ensures.value c.new-2.ensures.items c.new-3.ensures.items c.in-Ok.ensures.opens in
-    (all_open g.F.Appended.AppendFile.moment g.F.Appended.AppendFile.images c.args.names.now more.opened more.held more.contents _ _ _ more.all more.are_open).0
+    (all_open g.F.Appended.AppendFile.told c.args.names.now more.opened more.held more.contents _ _ _ more.all more.are_open).0
 
 pub serve_rounds-last-requires-clause-tails : goal.serve_rounds-last-requires-clause-tails
 serve_rounds-last-requires-clause-tails g c κs within =
-    let more = opened_first g.F.Appended.AppendFile.moment g.F.Appended.AppendFile.images (g.F.Folder.files c.args.files.now) c.args.names.now (g.F.Counted.faults c.args.files.now)
-    (g.F.Counted.faults c.open_documents.new.files) (Ok tt) c.new.result c.open_documents.new.held.docs c.new-2.result.items c.open_documents.new.held.tails.items
+    let more = opened_first g.F.Appended.AppendFile.told (g.F.Folder.told c.args.files.now).files c.args.names.now (g.F.Folder.told c.args.files.now).faults
+    (g.F.Folder.told c.open_documents.new.files).faults (Ok tt) c.new.result c.open_documents.new.held.docs c.new-2.result.items c.open_documents.new.held.tails.items
     c.new-3.result.items c.open_documents.new.held.logs.items c.new.ensures.value c.new-2.ensures.items c.new-3.ensures.items c.in-Ok.ensures.opens in
     more.are_open.kept
 
 pub give_back-requires-clause-each : goal.give_back-requires-clause-each
 give_back-requires-clause-each g c =
-    let more = opened_first g.F.Appended.AppendFile.moment g.F.Appended.AppendFile.images (g.F.Folder.files c.args.files.now) c.args.names.now (g.F.Counted.faults c.args.files.now)
-    (g.F.Counted.faults c.open_documents.new.files) (Ok tt) c.new.result c.open_documents.new.held.docs c.new-2.result.items c.open_documents.new.held.tails.items
+    let more = opened_first g.F.Appended.AppendFile.told (g.F.Folder.told c.args.files.now).files c.args.names.now (g.F.Folder.told c.args.files.now).faults
+    (g.F.Folder.told c.open_documents.new.files).faults (Ok tt) c.new.result c.open_documents.new.held.docs c.new-2.result.items c.open_documents.new.held.tails.items
     c.new-3.result.items c.open_documents.new.held.logs.items c.new.ensures.value c.new-2.ensures.items c.new-3.ensures.items c.in-Ok.ensures.opens in
     ap (λ (ls : List OpenLogModel). length ls) c.serve_rounds-last.ensures.logs ∙ more.are_open.each
-    ∙ sym (all_open g.F.Appended.AppendFile.moment g.F.Appended.AppendFile.images c.args.names.now more.opened more.held more.contents _ _ _ more.all more.are_open).0 ∙ c.serve_rounds-last.ensures.each
+    ∙ sym (all_open g.F.Appended.AppendFile.told c.args.names.now more.opened more.held more.contents _ _ _ more.all more.are_open).0 ∙ c.serve_rounds-last.ensures.each
 
 pub give_back-requires-in-Err-clause-each : goal.give_back-requires-in-Err-clause-each
 give_back-requires-in-Err-clause-each g c =
-    let more = opened_first g.F.Appended.AppendFile.moment g.F.Appended.AppendFile.images (g.F.Folder.files c.args.files.now) c.args.names.now (g.F.Counted.faults c.args.files.now)
-    (g.F.Counted.faults c.open_documents.new.files) (Err c.in-Err.fault) c.new.result c.open_documents.new.held.docs c.new-2.result.items c.open_documents.new.held.tails.items
+    let more = opened_first g.F.Appended.AppendFile.told (g.F.Folder.told c.args.files.now).files c.args.names.now (g.F.Folder.told c.args.files.now).faults
+    (g.F.Folder.told c.open_documents.new.files).faults (Err c.in-Err.fault) c.new.result c.open_documents.new.held.docs c.new-2.result.items c.open_documents.new.held.tails.items
     c.new-3.result.items c.open_documents.new.held.logs.items c.new.ensures.value c.new-2.ensures.items c.new-3.ensures.items c.in-Err.ensures.opens in
     more.are_open.each
 
 pub give_back-requires-in-Err-clause-tails : goal.give_back-requires-in-Err-clause-tails
 give_back-requires-in-Err-clause-tails g c =
-    let more = opened_first g.F.Appended.AppendFile.moment g.F.Appended.AppendFile.images (g.F.Folder.files c.args.files.now) c.args.names.now (g.F.Counted.faults c.args.files.now)
-    (g.F.Counted.faults c.open_documents.new.files) (Err c.in-Err.fault) c.new.result c.open_documents.new.held.docs c.new-2.result.items c.open_documents.new.held.tails.items
+    let more = opened_first g.F.Appended.AppendFile.told (g.F.Folder.told c.args.files.now).files c.args.names.now (g.F.Folder.told c.args.files.now).faults
+    (g.F.Folder.told c.open_documents.new.files).faults (Err c.in-Err.fault) c.new.result c.open_documents.new.held.docs c.new-2.result.items c.open_documents.new.held.tails.items
     c.new-3.result.items c.open_documents.new.held.logs.items c.new.ensures.value c.new-2.ensures.items c.new-3.ensures.items c.in-Err.ensures.opens in
     more.are_open.kept
 
 pub returns-in-Err-clause-outcome : goal.returns-in-Err-clause-outcome
 returns-in-Err-clause-outcome g c =
-    let more = opened_first g.F.Appended.AppendFile.moment g.F.Appended.AppendFile.images (g.F.Folder.files c.args.files.now) c.args.names.now (g.F.Counted.faults c.args.files.now)
-    (g.F.Counted.faults c.open_documents.new.files) (Err c.in-Err.fault) c.new.result c.open_documents.new.held.docs c.new-2.result.items c.open_documents.new.held.tails.items
+    let more = opened_first g.F.Appended.AppendFile.told (g.F.Folder.told c.args.files.now).files c.args.names.now (g.F.Folder.told c.args.files.now).faults
+    (g.F.Folder.told c.open_documents.new.files).faults (Err c.in-Err.fault) c.new.result c.open_documents.new.held.docs c.new-2.result.items c.open_documents.new.held.tails.items
     c.new-3.result.items c.open_documents.new.held.logs.items c.new.ensures.value c.new-2.ensures.items c.new-3.ensures.items c.in-Err.ensures.opens in
     inl (record {
       contents = more.contents;
@@ -57,33 +56,33 @@ returns-in-Err-clause-outcome g c =
       fault = c.in-Err.fault;
       given = c.give_back-in-Err.result;
       answer_is = c.after_last-in-Err.ensures.value;
-      fails = tells_longer (g.F.Counted.faults c.args.files.now) (g.F.Counted.faults c.open_documents.new.files)
-          (g.F.Counted.faults c.give_back-in-Err.new.files) c.in-Err.fault (orders_in 1 [] more.contents) c.give_back-in-Err.ensures.kept more.found;
+      fails = tells_longer (g.F.Folder.told c.args.files.now).faults (g.F.Folder.told c.open_documents.new.files).faults
+          (g.F.Folder.told c.give_back-in-Err.new.files).faults c.in-Err.fault (orders_in 1 [] more.contents) c.give_back-in-Err.ensures.kept more.found;
       changes = tails_then c.args.names.now _ _ _ c.in-Err.ensures.changes
           (tails_front c.args.names.now more.opened more.rest _ _ more.names_are
-          (back_changes g.F.Folder.files g.F.Folder.asked g.F.Folder.lent g.F.Counted.faults more.opened c.open_documents.new.held.logs.items c.open_documents.new.held.docs
-          c.in-Err.fault c.open_documents.new.files c.give_back-in-Err.new.files c.give_back-in-Err.result more.are_open.named c.give_back-in-Err.ensures.gives));
+          (back_changes more.opened c.open_documents.new.held.logs.items c.open_documents.new.held.docs
+          c.in-Err.fault (g.F.Folder.told c.open_documents.new.files) (g.F.Folder.told c.give_back-in-Err.new.files) c.give_back-in-Err.result more.are_open.named c.give_back-in-Err.ensures.gives));
       net = refl;
       unwritten = record { written = refl; faults = refl };
     })
 
 pub returns-in-Ok-clause-files_may_ask : goal.returns-in-Ok-clause-files_may_ask
 returns-in-Ok-clause-files_may_ask g c =
-    subst (AsksOnly (files_of_all c.args.names.now) (g.F.Folder.asked c.args.files.now)) (sym c.give_back.ensures.asked)
+    subst (AsksOnly (files_of_all c.args.names.now) (g.F.Folder.told c.args.files.now).asked) (sym c.give_back.ensures.asked)
     (asked_again c.args.names.now _ _ _ c.in-Ok.ensures.may_ask c.serve_rounds-last.ensures.files_may_ask)
 
 pub returns-in-Ok-clause-outcome : goal.returns-in-Ok-clause-outcome
 returns-in-Ok-clause-outcome g c =
-    let more = opened_first g.F.Appended.AppendFile.moment g.F.Appended.AppendFile.images (g.F.Folder.files c.args.files.now) c.args.names.now (g.F.Counted.faults c.args.files.now)
-    (g.F.Counted.faults c.open_documents.new.files) (Ok tt) c.new.result c.open_documents.new.held.docs c.new-2.result.items c.open_documents.new.held.tails.items
+    let more = opened_first g.F.Appended.AppendFile.told (g.F.Folder.told c.args.files.now).files c.args.names.now (g.F.Folder.told c.args.files.now).faults
+    (g.F.Folder.told c.open_documents.new.files).faults (Ok tt) c.new.result c.open_documents.new.held.docs c.new-2.result.items c.open_documents.new.held.tails.items
     c.new-3.result.items c.open_documents.new.held.logs.items c.new.ensures.value c.new-2.ensures.items c.new-3.ensures.items c.in-Ok.ensures.opens in
-    let open_all = all_open g.F.Appended.AppendFile.moment g.F.Appended.AppendFile.images c.args.names.now more.opened more.held more.contents c.open_documents.new.held.docs c.open_documents.new.held.tails.items
+    let open_all = all_open g.F.Appended.AppendFile.told c.args.names.now more.opened more.held more.contents c.open_documents.new.held.docs c.open_documents.new.held.tails.items
     c.open_documents.new.held.logs.items more.all more.are_open in
-    let last : Round (List OrderModel) g.row.N-Link.Denot = record {
+    let last : Round (List OrderModel) = record {
       after = record {
         held = c.serve_rounds-last.result.held.docs;
-        moment = moment_of g.F.Folder.files g.F.Folder.asked g.F.Folder.lent g.F.Counted.faults g.O.Sink.written g.O.Counted.faults c.serve_rounds-last.new.files c.serve_rounds-last.new.out;
-        net = net_of (g.N.Links.coming c.serve_rounds-last.new.net) (g.N.Links.returned c.serve_rounds-last.new.net) (g.N.Counted.faults c.serve_rounds-last.new.net);
+        moment = moment_of g.F.Folder.told g.O.Stream.told c.serve_rounds-last.new.files c.serve_rounds-last.new.out;
+        net = g.N.Links.told c.serve_rounds-last.new.net;
       };
       saved = c.serve_rounds-last.result.saved;
       answer = c.serve_rounds-last.result.answer;
@@ -96,17 +95,14 @@ returns-in-Ok-clause-outcome g c =
       logs = c.open_documents.new.held.logs.items;
       have_logged = open_all.1;
       named = open_all.2;
-      opened = moment_of g.F.Folder.files g.F.Folder.asked g.F.Folder.lent g.F.Counted.faults g.O.Sink.written g.O.Counted.faults c.open_documents.new.files c.args.out.now;
+      opened = moment_of g.F.Folder.told g.O.Stream.told c.open_documents.new.files c.args.out.now;
       is_opened = record { files = c.in-Ok.ensures.made; since = c.in-Ok.ensures.kept; written = refl; sink_faults = refl };
       last = last;
       rounds = c.serve_rounds-last.ensures.rounds;
       net = refl;
       given = c.give_back.result;
-      gives = back_at g.F.Folder.files g.F.Folder.asked g.F.Folder.lent g.F.Counted.faults (g.O.Sink.written c.serve_rounds-last.new.out)
-          (g.O.Counted.faults c.serve_rounds-last.new.out) c.open_documents.new.held.logs.items c.serve_rounds-last.result.held.docs c.serve_rounds-last.result.saved
-          c.serve_rounds-last.new.files c.give_back.new.files c.give_back.result
-          (subst (λ (ls : List OpenLogModel). GivesAllBack g.F.Folder.files g.F.Folder.asked g.F.Folder.lent g.F.Counted.faults ls c.serve_rounds-last.result.held.docs
-          c.serve_rounds-last.result.saved c.serve_rounds-last.new.files c.give_back.new.files c.give_back.result) c.serve_rounds-last.ensures.logs c.give_back.ensures.gives);
+      gives = subst (λ (ls : List OpenLogModel). GivesAllBack ls c.serve_rounds-last.result.held.docs c.serve_rounds-last.result.saved
+          (g.F.Folder.told c.serve_rounds-last.new.files) (g.F.Folder.told c.give_back.new.files) c.give_back.result) c.serve_rounds-last.ensures.logs c.give_back.ensures.gives;
       alone = record { folder_faults = c.give_back.ensures.kept; written = refl; sink_faults = refl };
       answer_is = c.after_last.ensures.value;
     })

@@ -7,15 +7,15 @@ use Rattle.sporc_files.specs.declared.file.File.TheVariants as files
 use Rattle.sporc_files.specs.Names.{file_name}
 use Rattle.sporc_files.proofs.Asking.{asks_first, asks_then}
 use Rattle.sporc_files.proofs.Written.{any_err}
-use Rattle.sporc_histories.proofs.Opened.{changes_same}
+use Rattle.sporc_commands.proofs.Opened.{changes_same}
 use Rattle.sporc_hosting.proofs.Loaded.{free_found, genesis_fails, held_found}
-use Rattle.sporc_histories.specs.declared.opening.OpenedOrder.{OpenedOrder}
+use Rattle.sporc_commands.specs.declared.opening.OpenedOrder.{OpenedOrder}
 use Rattle.sporc_hosting.proofs.loading.open_unless_held.Goals as goal
 
 pub returns-in_err-genesis-clause-found : goal.returns-in_err-genesis-clause-found
 returns-in_err-genesis-clause-found g c =
     let failed = err_from_is_err_and c.from_residual.result c.from_residual.ensures.1 in
-    genesis_fails (λ (it : OpenedOrder g.row.F-Appended.Denot). it.kept.order) (λ (it : OpenedOrder g.row.F-Appended.Denot). it.logged) (g.F.Folder.files c.args.files.now) c.args.names.now c.args.number c.args.orders.now _ _ _ _ (failed.1 ∙ ap Err failed.2)
+    genesis_fails (λ (it : OpenedOrder g.row.F-Appended.Denot). it.kept.order) (λ (it : OpenedOrder g.row.F-Appended.Denot). it.logged) (g.F.Folder.told c.args.files.now).files c.args.names.now c.args.number c.args.orders.now _ _ _ _ (failed.1 ∙ ap Err failed.2)
     c.in_err-genesis.ensures.err
 
 pub returns-in_err-genesis-clause-changes : goal.returns-in_err-genesis-clause-changes
@@ -27,9 +27,9 @@ returns-in_err-genesis-clause-may_ask g c =
 
 pub returns-then-is_held-clause-found : goal.returns-then-is_held-clause-found
 returns-then-is_held-clause-found g c =
-    held_found (λ (it : OpenedOrder g.row.F-Appended.Denot). it.kept.order) (λ (it : OpenedOrder g.row.F-Appended.Denot). it.logged) (g.F.Folder.files c.args.files.now) c.args.names.now c.args.number c.args.orders.now
-    (g.F.Folder.files c.read_genesis_file.new.files) (g.F.Counted.faults c.args.files.now) (g.F.Counted.faults c.read_genesis_file.new.files)
-    (g.F.Counted.faults c.fault_of_held.new.files) c.in_ok-genesis.genesis c.in_ok-genesis.ensures.files c.in_ok-genesis.ensures.kept c.in_ok-genesis.ensures.ok
+    held_found (λ (it : OpenedOrder g.row.F-Appended.Denot). it.kept.order) (λ (it : OpenedOrder g.row.F-Appended.Denot). it.logged) (g.F.Folder.told c.args.files.now).files c.args.names.now c.args.number c.args.orders.now
+    (g.F.Folder.told c.read_genesis_file.new.files).files (g.F.Folder.told c.args.files.now).faults (g.F.Folder.told c.read_genesis_file.new.files).faults
+    (g.F.Folder.told c.fault_of_held.new.files).faults c.in_ok-genesis.genesis c.in_ok-genesis.ensures.files c.in_ok-genesis.ensures.kept c.in_ok-genesis.ensures.ok
     c.fault_of_held.result (sym c.is_held.ensures.value ∙ c.if-is_held.true) c.fault_of_held.ensures.found
 
 pub returns-then-is_held-clause-changes : goal.returns-then-is_held-clause-changes
@@ -42,19 +42,19 @@ returns-then-is_held-clause-may_ask g c =
 
 pub returns-clause-found : goal.returns-clause-found
 returns-clause-found g c =
-    free_found (λ (it : OpenedOrder g.row.F-Appended.Denot). it.kept.order) (λ (it : OpenedOrder g.row.F-Appended.Denot). it.logged) (g.F.Folder.files c.args.files.now) c.args.names.now c.args.number c.args.orders.now
-    (g.F.Folder.files c.read_genesis_file.new.files) (g.F.Counted.faults c.args.files.now) (g.F.Counted.faults c.read_genesis_file.new.files)
-    (g.F.Counted.faults c.open_order_behind.new.files) c.in_ok-genesis.genesis c.in_ok-genesis.ensures.files c.in_ok-genesis.ensures.kept c.in_ok-genesis.ensures.ok
+    free_found (λ (it : OpenedOrder g.row.F-Appended.Denot). it.kept.order) (λ (it : OpenedOrder g.row.F-Appended.Denot). it.logged) (g.F.Folder.told c.args.files.now).files c.args.names.now c.args.number c.args.orders.now
+    (g.F.Folder.told c.read_genesis_file.new.files).files (g.F.Folder.told c.args.files.now).faults (g.F.Folder.told c.read_genesis_file.new.files).faults
+    (g.F.Folder.told c.open_order_behind.new.files).faults c.in_ok-genesis.genesis c.in_ok-genesis.ensures.files c.in_ok-genesis.ensures.kept c.in_ok-genesis.ensures.ok
     c.open_order_behind.result (sym c.is_held.ensures.value ∙ c.if-is_held.false) c.open_order_behind.ensures.found
 
 pub returns-clause-made : goal.returns-clause-made
 returns-clause-made g c =
-    subst (λ (t : Option (List NamedFile)). OnOk c.open_order_behind.result (g.F.Folder.files c.open_order_behind.new.files ≡ option_map (λ (told : List NamedFile). made_in told (file_name c.args.names.now files.Tail)) t))
+    subst (λ (t : Option (List NamedFile)). OnOk c.open_order_behind.result ((g.F.Folder.told c.open_order_behind.new.files).files ≡ option_map (λ (told : List NamedFile). made_in told (file_name c.args.names.now files.Tail)) t))
     c.in_ok-genesis.ensures.files c.open_order_behind.ensures.made
 
 pub returns-clause-changes : goal.returns-clause-changes
 returns-clause-changes g c =
-    subst (λ (t : Option (List NamedFile)). OnErr c.open_order_behind.result (ChangesFile t (g.F.Folder.files c.open_order_behind.new.files) (file_name c.args.names.now files.Tail)))
+    subst (λ (t : Option (List NamedFile)). OnErr c.open_order_behind.result (ChangesFile t (g.F.Folder.told c.open_order_behind.new.files).files (file_name c.args.names.now files.Tail)))
     c.in_ok-genesis.ensures.files c.open_order_behind.ensures.changes
 
 pub returns-clause-may_ask : goal.returns-clause-may_ask

@@ -1,7 +1,7 @@
 use Rattle.std.proofs.Common.{◌∙◌, arith}
 use Rattle.sporc_outside.proofs.Returning.{shut_then}
 use Rattle.sporc_files.proofs.Asking.{AsksOnly-trans}
-use Rattle.sporc_histories.proofs.Roundabout.{all_rounds, asks_more, asks_once, asks_within, ended_early, first_round, next_round}
+use Rattle.sporc_commands.proofs.Roundabout.{all_rounds, asks_more, asks_once, asks_within, ended_early, first_round, next_round}
 use Rattle.sporc_hosting.proofs.rounds.serve_rounds.Goals as goal
 
 pub rounds-init : goal.rounds-init
@@ -34,8 +34,8 @@ rounds-preserved g c = record {
   asked = AsksOnly-trans _ _ _ _ c.rounds.invariant.asked c.serve_round-last-in-rounds.ensures.files_may_ask;
   kept = omega (arith, c.rounds.invariant.kept, c.serve_round-last-in-rounds.ensures.files_kept);
   net_asked = asks_more _ _ _ _ _ c.rounds.invariant.net_asked c.serve_round-last-in-rounds.ensures.net_may_ask;
-  shut = shut_then g.N.Link.Stream.is_shut (g.N.Links.returned c.args.net.now) (g.N.Links.returned c.rounds.net)
-      (g.N.Links.returned c.serve_round-last-in-rounds.new.net) c.rounds.invariant.shut c.serve_round-last-in-rounds.ensures.shut;
+  shut = shut_then (g.N.Links.told c.args.net.now).returned (g.N.Links.told c.rounds.net).returned
+      (g.N.Links.told c.serve_round-last-in-rounds.new.net).returned c.rounds.invariant.shut c.serve_round-last-in-rounds.ensures.shut;
   links_out = c.serve_round-last-in-rounds.ensures.links_out ∙ c.rounds.invariant.links_out;
   net_kept = omega (arith, c.rounds.invariant.net_kept, c.serve_round-last-in-rounds.ensures.net_kept);
   out_kept = omega (arith, c.rounds.invariant.out_kept, c.serve_round-last-in-rounds.ensures.out_kept);

@@ -1,29 +1,28 @@
 use Rattle.std.proofs.Common.{◌≡◌, ◌≤◌, ◌-◌, length}
-use Rattle.sporc_outside.specs.Told.{AreShutBehind}
-use Rattle.sporc_serve.specs.Crowds.{net_of}
+use Rattle.sporc_outside.specs.Nets.{AreShutBehind}
 use Rattle.sporc_docs.specs.Served.{AreKept}
 use Rattle.sporc_files.specs.Uses.{AsksOnly}
-use Rattle.sporc_histories.specs.Moments.{moment_of}
+use Rattle.sporc_commands.specs.Moments.{moment_of}
 use Rattle.sporc_hosting.specs.Hosting.{IsRoundOfAll}
 use Rattle.sporc_hosting.specs.Saving.{logs_of}
-use Rattle.sporc_histories.specs.Rounds.{AsksAgain}
-use Rattle.sporc_histories.specs.Tails.{KeepsBehind}
-use Rattle.sporc_histories.proofs.Roundabout.{RoundsSoFar}
+use Rattle.sporc_commands.specs.Rounds.{AsksAgain}
+use Rattle.sporc_commands.specs.Tails.{KeepsBehind}
+use Rattle.sporc_commands.proofs.Roundabout.{RoundsSoFar}
 use Rattle.sporc_hosting.proofs.rounds.serve_rounds.Given as goal
 
 abbrev pub invariant-rounds : goal.invariant-rounds
 invariant-rounds g l = record {
-  rounds : RoundsSoFar (IsRoundOfAll g.N.Link.Source.left g.N.Link.Sink.written g.N.Link.Counted.faults g.N.Link.Stream.is_shut l.names l.sessions)
+  rounds : RoundsSoFar (IsRoundOfAll l.names l.sessions)
       (record {
         held = l.fn.held.docs;
-        moment = moment_of g.F.Folder.files g.F.Folder.asked g.F.Folder.lent g.F.Counted.faults g.O.Sink.written g.O.Counted.faults l.fn.files l.fn.out;
-        net = net_of (g.N.Links.coming l.fn.net) (g.N.Links.returned l.fn.net) (g.N.Counted.faults l.fn.net);
+        moment = moment_of g.F.Folder.told g.O.Stream.told l.fn.files l.fn.out;
+        net = g.N.Links.told l.fn.net;
       })
       (record {
         after = record {
           held = l.last.held.docs;
-          moment = moment_of g.F.Folder.files g.F.Folder.asked g.F.Folder.lent g.F.Counted.faults g.O.Sink.written g.O.Counted.faults l.files l.out;
-          net = net_of (g.N.Links.coming l.net) (g.N.Links.returned l.net) (g.N.Counted.faults l.net);
+          moment = moment_of g.F.Folder.told g.O.Stream.told l.files l.out;
+          net = g.N.Links.told l.net;
         };
         saved = l.last.saved;
         answer = l.last.answer;
@@ -31,17 +30,17 @@ invariant-rounds g l = record {
       l.done;
   some : 1 ≤ l.done;
   within : l.done ≤ l.times;
-  tails : AreKept (KeepsBehind g.F.Appended.AppendFile.moment g.F.Appended.AppendFile.images) l.last.held.tails.items l.last.held.docs;
+  tails : AreKept (KeepsBehind g.F.Appended.AppendFile.told) l.last.held.tails.items l.last.held.docs;
   logs : l.last.held.logs.items ≡ l.fn.held.logs.items;
   each : length l.names ≡ length l.last.held.docs;
-  lent : g.F.Folder.lent l.files ≡ g.F.Folder.lent l.fn.files;
-  asked : AsksOnly (logs_of l.names) (g.F.Folder.asked l.fn.files) (g.F.Folder.asked l.files);
-  kept : g.F.Counted.faults l.fn.files ≤ g.F.Counted.faults l.files;
-  net_asked : AsksAgain l.done (g.N.Links.asked l.fn.net) (g.N.Links.asked l.net) l.address;
-  shut : AreShutBehind g.N.Link.Stream.is_shut (g.N.Links.returned l.fn.net) (g.N.Links.returned l.net);
-  links_out : g.N.Links.out l.net ≡ g.N.Links.out l.fn.net;
-  net_kept : g.N.Counted.faults l.fn.net ≤ g.N.Counted.faults l.net;
-  out_kept : g.O.Counted.faults l.fn.out ≤ g.O.Counted.faults l.out;
+  lent : (g.F.Folder.told l.files).lent ≡ (g.F.Folder.told l.fn.files).lent;
+  asked : AsksOnly (logs_of l.names) (g.F.Folder.told l.fn.files).asked (g.F.Folder.told l.files).asked;
+  kept : (g.F.Folder.told l.fn.files).faults ≤ (g.F.Folder.told l.files).faults;
+  net_asked : AsksAgain l.done (g.N.Links.told l.fn.net).asked (g.N.Links.told l.net).asked l.address;
+  shut : AreShutBehind (g.N.Links.told l.fn.net).returned (g.N.Links.told l.net).returned;
+  links_out : (g.N.Links.told l.net).out ≡ (g.N.Links.told l.fn.net).out;
+  net_kept : (g.N.Links.told l.fn.net).faults ≤ (g.N.Links.told l.net).faults;
+  out_kept : (g.O.Stream.told l.fn.out).faults ≤ (g.O.Stream.told l.out).faults;
 }
 
 abbrev pub decreases-rounds : goal.decreases-rounds

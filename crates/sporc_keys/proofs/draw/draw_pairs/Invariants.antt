@@ -4,6 +4,6 @@ use Rattle.sporc_keys.proofs.draw.draw_pairs.Given as goal
 
 abbrev pub invariant-loop-i : goal.invariant-loop-i
 invariant-loop-i g l = record {
-  drawn : Rows (g.C.Chance.given l.fn.chance) (g.C.Chance.given l.chance) l.numbers l.i l.shared.items;
-  kept : g.C.Counted.faults l.fn.chance ≤ g.C.Counted.faults l.chance;
+  drawn : Rows (g.C.Chance.told l.fn.chance).given (g.C.Chance.told l.chance).given l.numbers l.i l.shared.items;
+  kept : (g.C.Chance.told l.fn.chance).faults ≤ (g.C.Chance.told l.chance).faults;
 }

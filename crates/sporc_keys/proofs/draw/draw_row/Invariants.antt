@@ -4,6 +4,6 @@ use Rattle.sporc_keys.proofs.draw.draw_row.Given as goal
 
 abbrev pub invariant-loop-second : goal.invariant-loop-second
 invariant-loop-second g l = record {
-  drawn : SharesMore (g.C.Chance.given l.initial.chance) (g.C.Chance.given l.chance) (row l.first (take l.second-index l.numbers)) l.initial.shared.items l.shared.items;
-  kept : g.C.Counted.faults l.initial.chance ≤ g.C.Counted.faults l.chance;
+  drawn : SharesMore (g.C.Chance.told l.initial.chance).given (g.C.Chance.told l.chance).given (row l.first (take l.second-index l.numbers)) l.initial.shared.items l.shared.items;
+  kept : (g.C.Chance.told l.initial.chance).faults ≤ (g.C.Chance.told l.chance).faults;
 }

@@ -5,10 +5,10 @@ use Rattle.sporc_outside.proofs.sink.write_all.Given as goal
 abbrev pub invariant-loop-at : goal.invariant-loop-at
 invariant-loop-at g l = record {
   within : l.at ≤ length l.bytes;
-  written : Appends (g.O.Sink.written l.initial.out) (g.O.Sink.written l.out) (take l.at l.bytes);
-  pending : g.O.Sink.pending l.out ≡ g.O.Sink.pending l.initial.out;
-  shut : g.O.Stream.is_shut l.out ≡ g.O.Stream.is_shut l.initial.out;
-  kept : g.O.Counted.faults l.initial.out ≤ g.O.Counted.faults l.out;
+  written : Appends (g.O.Stream.told l.initial.out).written (g.O.Stream.told l.out).written (take l.at l.bytes);
+  left : (g.O.Stream.told l.out).left ≡ (g.O.Stream.told l.initial.out).left;
+  shut : (g.O.Stream.told l.out).is_shut ≡ (g.O.Stream.told l.initial.out).is_shut;
+  kept : (g.O.Stream.told l.initial.out).faults ≤ (g.O.Stream.told l.out).faults;
 }
 
 abbrev pub decreases-loop-at : goal.decreases-loop-at

@@ -1,6 +1,7 @@
 use Rattle.std.proofs.Common.{◌≡◌, ◌+◌, ℕ, map, arith, subst}
 use Rattle.sporc_play.specs.Batches.{Performs}
-use Rattle.sporc_play.specs.Generated.{edits, up_to}
+use Rattle.sporc_base.specs.Numbers.{up_to}
+use Rattle.sporc_play.specs.Generated.{edits}
 use Rattle.sporc_play.proofs.Batched.{can_edit, mapped_room, maps_more}
 use Rattle.sporc_play.proofs.generated.edit_all.Goals as goal
 

@@ -2,7 +2,8 @@ use Rattle.std.proofs.Common.{◌≡◌, ◌+◌, ℕ, map, arith, ap₂, subst}
 use Rattle.sporc_member.specs.declared.device.Device.{Device}
 use Rattle.sporc_script.specs.declared.command.Command.TheVariants.{Give}
 use Rattle.sporc_play.specs.Batches.{Performs}
-use Rattle.sporc_play.specs.Generated.{gives, up_to}
+use Rattle.sporc_base.specs.Numbers.{up_to}
+use Rattle.sporc_play.specs.Generated.{gives}
 use Rattle.sporc_play.proofs.Batched.{can_give, mapped_room, maps_more}
 use Rattle.sporc_play.proofs.generated.give_all.Goals as goal
 

@@ -1,7 +1,8 @@
 use Rattle.std.proofs.Common.{◌≡◌, ◌+◌, ℕ, map, arith, ap, subst}
 use Rattle.sporc_script.specs.declared.command.Command.TheVariants.{Submit}
 use Rattle.sporc_play.specs.Batches.{Performs}
-use Rattle.sporc_play.specs.Generated.{submits, up_to}
+use Rattle.sporc_base.specs.Numbers.{up_to}
+use Rattle.sporc_play.specs.Generated.{submits}
 use Rattle.sporc_play.proofs.Batched.{can_submit, mapped_room, maps_more}
 use Rattle.sporc_play.proofs.generated.submit_all.Goals as goal
 

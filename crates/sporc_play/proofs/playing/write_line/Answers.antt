@@ -7,10 +7,10 @@ pub returns-in_err-write_all-clause-prefix : goal.returns-in_err-write_all-claus
 returns-in_err-write_all-clause-prefix g c failed script scene stands =
     let (l, writes, is) = c.in_ok-perform.ensures.line script scene stands in
     let bytes = c.as_bytes.ensures.value ∙ is ∙ ap (λ (t : List ℕ). t ++ l) c.new-line.ensures.bytes in
-    (l, writes, subst (λ (bs : List ℕ). AppendsPrefix (g.O.Sink.written c.args.out.now) (g.O.Sink.written c.write_all.new.out) bs) bytes c.in_err-write_all.ensures.err)
+    (l, writes, subst (λ (bs : List ℕ). AppendsPrefix (g.O.Stream.told c.args.out.now).written (g.O.Stream.told c.write_all.new.out).written bs) bytes c.in_err-write_all.ensures.err)
 
 pub returns-clause-ok : goal.returns-clause-ok
 returns-clause-ok g c script scene stands =
     let (l, writes, is) = c.in_ok-perform.ensures.line script scene stands in
     let bytes = c.as_bytes.ensures.value ∙ is ∙ ap (λ (t : List ℕ). t ++ l) c.new-line.ensures.bytes in
-    (l, writes, subst (λ (bs : List ℕ). Appends (g.O.Sink.written c.args.out.now) (g.O.Sink.written c.write_all.new.out) bs) bytes c.in_ok-write_all.ensures.ok)
+    (l, writes, subst (λ (bs : List ℕ). Appends (g.O.Stream.told c.args.out.now).written (g.O.Stream.told c.write_all.new.out).written bs) bytes c.in_ok-write_all.ensures.ok)

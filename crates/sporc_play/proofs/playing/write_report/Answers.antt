@@ -24,7 +24,7 @@ returns-in_err-state-clause-err g c =
 pub returns-in-Err-clause-err : goal.returns-in-Err-clause-err
 returns-in-Err-clause-err g c =
     reports_failed c.args.lines.now c.loop-line.line-index c.line-item.result _ _ _ _ _ c.in-Err.fault c.loop-line-test.true c.line-item.is
-    c.loop-line.invariant.written c.in-Err.ensures.causes (λ is. ap g.O.Sink.written (c.in-Err.ensures.memory (ap Err is)))
+    c.loop-line.invariant.written c.in-Err.ensures.causes (λ is. ap (λ l. (g.O.Stream.told l).written) (c.in-Err.ensures.memory (ap Err is)))
     (λ is. c.in-Err.ensures.prefix (ap Err is) c.args.lines.now (scene_at c.args.lines.now c.loop-line.line-index) c.loop-line.invariant.stands)
 
 pub returns-clause-ok : goal.returns-clause-ok

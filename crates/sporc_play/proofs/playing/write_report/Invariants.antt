@@ -10,7 +10,7 @@ abbrev pub invariant-loop-line : goal.invariant-loop-line
 invariant-loop-line g l = record {
   -- the report of the lines so far is written
   written : (report : List ℕ) × ReportsFrom (setup_of l.lines) (opening l.lines) (take l.line-index l.lines) report
-      × Appends (g.O.Sink.written l.initial.out) (g.O.Sink.written l.out) report;
+      × Appends (g.O.Stream.told l.initial.out).written (g.O.Stream.told l.out).written report;
   stands : StandsFor l.lines (scene_at l.lines l.line-index) l.state;
-  kept : g.O.Counted.faults l.initial.out ≤ g.O.Counted.faults l.out;
+  kept : (g.O.Stream.told l.initial.out).faults ≤ (g.O.Stream.told l.out).faults;
 }

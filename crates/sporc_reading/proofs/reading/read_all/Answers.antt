@@ -5,4 +5,4 @@ use Rattle.sporc_reading.proofs.reading.read_all.Goals as goal
 
 pub returns-in_err-extend_from_slice-clause-taken : goal.returns-in_err-extend_from_slice-clause-taken
 returns-in_err-extend_from_slice-clause-taken g c =
-    (_, grind (arith, common_steps), Consumes-trans _ _ _ _ _ c.loop-buf.invariant.taken c.in_ok-n.ensures.bytes.0)
+    (_, grind (arith, common_steps), Consumes-trans _ _ _ _ _ c.loop-buf.invariant.taken c.in_ok-n.ensures.did.bytes.0)

@@ -5,8 +5,8 @@ use Rattle.sporc_reading.proofs.reading.read_all.Given as goal
 abbrev pub invariant-loop-buf : goal.invariant-loop-buf
 invariant-loop-buf g l = record {
   within : length l.text.items ≤ l.limit + 1;
-  taken : Consumes (g.S.Source.left l.initial.source) (g.S.Source.left l.source) l.text.items;
-  kept : g.S.Counted.faults l.initial.source ≤ g.S.Counted.faults l.source;
+  taken : Consumes (g.S.Stream.told l.initial.source).left (g.S.Stream.told l.source).left l.text.items;
+  kept : (g.S.Stream.told l.initial.source).faults ≤ (g.S.Stream.told l.source).faults;
 }
 
 abbrev pub decreases-loop-buf : goal.decreases-loop-buf

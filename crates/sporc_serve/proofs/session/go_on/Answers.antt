@@ -1,7 +1,7 @@
 use Rattle.std.proofs.Common.{None, Some, Option, refl, subst, ◌∙◌}
 use Rattle.sporc_turn.specs.Passes.{known_of}
 use Rattle.sporc_serve.specs.declared.end.SessionEnd.{SessionEnd}
-use Rattle.sporc_serve.specs.Courses.{ServerStand, stand, Carries}
+use Rattle.sporc_serve.specs.Courses.{ServerStand, stand_at, Carries}
 use Rattle.sporc_serve.proofs.Stepping.{leads_same, leads_then}
 use Rattle.sporc_serve.proofs.session.go_on.Goals as goal
 
@@ -10,19 +10,19 @@ loop-init g c = record {
   lock = c.requires.lock;
   number = refl;
   as_shut = refl;
-  course = leads_same (stand (known_of c.args.pass) (g.L.Source.left c.args.link.now) (g.L.Sink.written c.args.link.now) (g.L.Counted.faults c.args.link.now)
+  course = leads_same (stand_at (known_of c.args.pass) (g.L.Stream.told c.args.link.now)
       c.args.frames.now c.args.session.now);
 }
 
 pub loop-preserved : goal.loop-preserved
 loop-preserved g c =
     let a : ServerStand =
-    stand (known_of c.args.pass) (g.L.Source.left c.args.link.now) (g.L.Sink.written c.args.link.now) (g.L.Counted.faults c.args.link.now) c.args.frames.now
+    stand_at (known_of c.args.pass) (g.L.Stream.told c.args.link.now) c.args.frames.now
     c.args.session.now in
     let b : ServerStand =
-    stand (known_of c.loop.pass) (g.L.Source.left c.loop.link) (g.L.Sink.written c.loop.link) (g.L.Counted.faults c.loop.link) c.loop.frames c.loop.session in
+    stand_at (known_of c.loop.pass) (g.L.Stream.told c.loop.link) c.loop.frames c.loop.session in
     let b' : ServerStand =
-    stand (known_of c.step-end.result.1) (g.L.Source.left c.step-end.new.link) (g.L.Sink.written c.step-end.new.link) (g.L.Counted.faults c.step-end.new.link)
+    stand_at (known_of c.step-end.result.1) (g.L.Stream.told c.step-end.new.link)
     c.step-end.new.frames c.step-end.new.session in
     record {
       lock = c.step-end.ensures.lock;
@@ -34,11 +34,11 @@ loop-preserved g c =
 pub returns-in-Some-end-clause-goes : goal.returns-in-Some-end-clause-goes
 returns-in-Some-end-clause-goes g c =
     let a : ServerStand =
-    stand (known_of c.args.pass) (g.L.Source.left c.args.link.now) (g.L.Sink.written c.args.link.now) (g.L.Counted.faults c.args.link.now) c.args.frames.now
+    stand_at (known_of c.args.pass) (g.L.Stream.told c.args.link.now) c.args.frames.now
     c.args.session.now in
     let b : ServerStand =
-    stand (known_of c.loop.pass) (g.L.Source.left c.loop.link) (g.L.Sink.written c.loop.link) (g.L.Counted.faults c.loop.link) c.loop.frames c.loop.session in
+    stand_at (known_of c.loop.pass) (g.L.Stream.told c.loop.link) c.loop.frames c.loop.session in
     let b' : ServerStand =
-    stand (known_of c.step-end.result.1) (g.L.Source.left c.step-end.new.link) (g.L.Sink.written c.step-end.new.link) (g.L.Counted.faults c.step-end.new.link)
+    stand_at (known_of c.step-end.result.1) (g.L.Stream.told c.step-end.new.link)
     c.step-end.new.frames c.step-end.new.session in
     leads_then a b b' (Some c.in-Some-end.end) c.loop.invariant.course (subst (λ (e : Option SessionEnd). Carries b b' e) c.in-Some-end.is c.step-end.ensures.goes)

@@ -12,7 +12,7 @@ returns-in_default-clause-crowd g c' c =
 
 pub returns-in-Err-clause-crowd : goal.returns-in-Err-clause-crowd
 returns-in-Err-clause-crowd g c' c =
-    crowd_failed (known_of c.args.first) _ (link_stand (g.L.Sink.written c.args.link.now) (g.L.Source.left c.args.link.now) (g.L.Counted.faults c.args.link.now) c.args.inbox.now) (g.C.Chance.given c.args.chance.now) (g.C.Counted.faults c.args.chance.now)
+    crowd_failed (known_of c.args.first) _ (link_stand (g.L.Stream.told c.args.link.now).written (g.L.Stream.told c.args.link.now).left (g.L.Stream.told c.args.link.now).faults c.args.inbox.now) (g.C.Chance.told c.args.chance.now).given (g.C.Chance.told c.args.chance.now).faults
     c.args.rounds c.args.scripts.now c.in-Some.script.now c.in-Some.others.now c.in-Some.ensures.cases.0 (ap known_of c.in-Err.ensures.returned)
 
 pub returns-clause-crowd : goal.returns-clause-crowd

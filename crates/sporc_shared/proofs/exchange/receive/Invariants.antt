@@ -5,9 +5,9 @@ use Rattle.sporc_shared.proofs.exchange.receive.Given as goal
 
 abbrev pub invariant-loop-message : goal.invariant-loop-message
 invariant-loop-message g l = record {
-  did : Exchanged (link_stand (g.L.Sink.written l.initial.link) (g.L.Source.left l.initial.link) (g.L.Counted.faults l.initial.link) l.initial.inbox) (link_stand (g.L.Sink.written l.link) (g.L.Source.left l.link) (g.L.Counted.faults l.link) l.inbox) [] [];
+  did : Exchanged (link_stand (g.L.Stream.told l.initial.link).written (g.L.Stream.told l.initial.link).left (g.L.Stream.told l.initial.link).faults l.initial.inbox) (link_stand (g.L.Stream.told l.link).written (g.L.Stream.told l.link).left (g.L.Stream.told l.link).faults l.inbox) [] [];
   at : l.inbox.at ≡ l.initial.inbox.at;
-  shut : g.L.Stream.is_shut l.link ≡ g.L.Stream.is_shut l.initial.link;
+  shut : (g.L.Stream.told l.link).is_shut ≡ (g.L.Stream.told l.initial.link).is_shut;
 }
 
 abbrev pub decreases-loop-message : goal.decreases-loop-message

@@ -10,7 +10,7 @@ loop-entries-init g c = record {
   few = omega (arith, ap (λ (l : List (List ℕ)). length l) c.new-entries.ensures.value);
   shut = c.send.ensures.shut;
   so_far =
-      greeted (g.L.Sink.written c.args.link.now) (g.L.Source.left c.args.link.now) (g.L.Counted.faults c.args.link.now) (link_stand (g.L.Sink.written c.send.new.link) (g.L.Source.left c.send.new.link) (g.L.Counted.faults c.send.new.link) c.new-inbox.result) c.args.document.now c.args.member
+      greeted (g.L.Stream.told c.args.link.now).written (g.L.Stream.told c.args.link.now).left (g.L.Stream.told c.args.link.now).faults (link_stand (g.L.Stream.told c.send.new.link).written (g.L.Stream.told c.send.new.link).left (g.L.Stream.told c.send.new.link).faults c.new-inbox.result) c.args.document.now c.args.member
       c.new-inbox.ensures.value c.hello_of.ensures.value c.new-entries.ensures.value c.in_ok-send.ensures.ok;
 }
 

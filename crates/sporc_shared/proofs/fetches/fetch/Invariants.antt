@@ -7,8 +7,8 @@ use Rattle.sporc_shared.proofs.fetches.fetch.Given as goal
 abbrev pub invariant-loop-entries : goal.invariant-loop-entries
 invariant-loop-entries g l = record {
   few : length l.entries < MAX_ENTRIES;
-  shut : g.L.Stream.is_shut l.link ≡ g.L.Stream.is_shut l.fn.link;
-  so_far : SoFar (link_stand (g.L.Sink.written l.fn.link) (g.L.Source.left l.fn.link) (g.L.Counted.faults l.fn.link) empty_inbox) (link_stand (g.L.Sink.written l.link) (g.L.Source.left l.link) (g.L.Counted.faults l.link) l.inbox) l.document l.member l.entries;
+  shut : (g.L.Stream.told l.link).is_shut ≡ (g.L.Stream.told l.fn.link).is_shut;
+  so_far : SoFar (link_stand (g.L.Stream.told l.fn.link).written (g.L.Stream.told l.fn.link).left (g.L.Stream.told l.fn.link).faults empty_inbox) (link_stand (g.L.Stream.told l.link).written (g.L.Stream.told l.link).left (g.L.Stream.told l.link).faults l.inbox) l.document l.member l.entries;
 }
 
 abbrev pub decreases-loop-entries : goal.decreases-loop-entries

@@ -12,9 +12,9 @@ invariant-loop-done g l = record {
   lock : IsPassOf l.shared l.mine;
   counts : CountsSame (known_of l.initial.mine) (known_of l.mine);
   low : l.done ≤ l.rounds;
-  shut : g.L.Stream.is_shut l.link ≡ g.L.Stream.is_shut l.initial.link;
-  did : Did always (stand (known_of l.initial.mine) (link_stand (g.L.Sink.written l.initial.link) (g.L.Source.left l.initial.link) (g.L.Counted.faults l.initial.link) l.initial.inbox) (g.C.Chance.given l.initial.chance) (g.C.Counted.faults l.initial.chance))
-      (stand (known_of l.mine) (link_stand (g.L.Sink.written l.link) (g.L.Source.left l.link) (g.L.Counted.faults l.link) l.inbox) (g.C.Chance.given l.chance) (g.C.Counted.faults l.chance)) (Between 0) (Between l.done);
+  shut : (g.L.Stream.told l.link).is_shut ≡ (g.L.Stream.told l.initial.link).is_shut;
+  did : Did always (stand (known_of l.initial.mine) (link_stand (g.L.Stream.told l.initial.link).written (g.L.Stream.told l.initial.link).left (g.L.Stream.told l.initial.link).faults l.initial.inbox) (g.C.Chance.told l.initial.chance).given (g.C.Chance.told l.initial.chance).faults)
+      (stand (known_of l.mine) (link_stand (g.L.Stream.told l.link).written (g.L.Stream.told l.link).left (g.L.Stream.told l.link).faults l.inbox) (g.C.Chance.told l.chance).given (g.C.Chance.told l.chance).faults) (Between 0) (Between l.done);
 }
 
 abbrev pub decreases-loop-done : goal.decreases-loop-done

@@ -17,7 +17,7 @@ returns-in-Ok-clause-counts g c =
 
 pub returns-in-Err-clause-submitted : goal.returns-in-Err-clause-submitted
 returns-in-Err-clause-submitted g c =
-    not_drawn (known_of c.args.pass) (g.C.Chance.given c.args.chance.now) (g.C.Chance.given c.draw.new.chance) (g.C.Counted.faults c.args.chance.now) (g.C.Counted.faults c.draw.new.chance) c.in-Err.fault c.in-Err.ensures.err
+    not_drawn (known_of c.args.pass) (g.C.Chance.told c.args.chance.now).given (g.C.Chance.told c.draw.new.chance).given (g.C.Chance.told c.args.chance.now).faults (g.C.Chance.told c.draw.new.chance).faults c.in-Err.fault c.in-Err.ensures.err
     c.in-Err.ensures.count.failed
 
 pub returns-in-Ok-clause-worn : goal.returns-in-Ok-clause-worn

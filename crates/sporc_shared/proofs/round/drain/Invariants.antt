@@ -16,10 +16,10 @@ invariant-loop-more g l = record {
   lock : IsPassOf l.shared l.mine;
   counts : CountsSame (known_of l.initial.mine) (known_of l.mine);
   small : l.now ≤ MAX_ENTRIES;
-  shut : g.L.Stream.is_shut l.link ≡ g.L.Stream.is_shut l.initial.link;
+  shut : (g.L.Stream.told l.link).is_shut ≡ (g.L.Stream.told l.initial.link).is_shut;
   did : (ready : ℕ → ℕ → Bool) (n : ℕ) (words : Option (List (List ℕ))) (count : ℕ) (entry : List ℕ) (refusal : Refusal) → Did ready
-      (stand (known_of l.initial.mine) (link_stand (g.L.Sink.written l.initial.link) (g.L.Source.left l.initial.link) (g.L.Counted.faults l.initial.link) l.initial.inbox) words count)
-      (stand (known_of l.mine) (link_stand (g.L.Sink.written l.link) (g.L.Source.left l.link) (g.L.Counted.faults l.link) l.inbox) words count)
+      (stand (known_of l.initial.mine) (link_stand (g.L.Stream.told l.initial.link).written (g.L.Stream.told l.initial.link).left (g.L.Stream.told l.initial.link).faults l.initial.inbox) words count)
+      (stand (known_of l.mine) (link_stand (g.L.Stream.told l.link).written (g.L.Stream.told l.link).left (g.L.Stream.told l.link).faults l.inbox) words count)
       (Taking n l.initial.now [] (Drains entry refusal)) (draining l.more n l.now entry refusal);
 }
 

@@ -18,6 +18,6 @@ returns-clause-did g c ready n words count = record { ends = sent_stopped c.in-E
 
 pub returns-clause-worn : goal.returns-clause-worn
 returns-clause-worn g c =
-    asked_worn c.args.pass (link_stand (g.L.Sink.written c.args.link.now) (g.L.Source.left c.args.link.now) (g.L.Counted.faults c.args.link.now) c.args.inbox.now)
-    (link_stand (g.L.Sink.written c.send_entry-answer.new.link) (g.L.Source.left c.send_entry-answer.new.link) (g.L.Counted.faults c.send_entry-answer.new.link) c.send_entry-answer.new.inbox)
+    asked_worn c.args.pass (link_stand (g.L.Stream.told c.args.link.now).written (g.L.Stream.told c.args.link.now).left (g.L.Stream.told c.args.link.now).faults c.args.inbox.now)
+    (link_stand (g.L.Stream.told c.send_entry-answer.new.link).written (g.L.Stream.told c.send_entry-answer.new.link).left (g.L.Stream.told c.send_entry-answer.new.link).faults c.send_entry-answer.new.inbox)
     (to_server.Submit c.args.entry) c.send_entry-answer.result.0 c.in-Err.fault c.in-Err.is c.send_entry-answer.ensures.err

@@ -2,11 +2,11 @@ use Rattle.sporc_top.proofs.Working.{by_client, by_serve, by_serve_all}
 use Rattle.sporc_top.proofs.performing.perform.Goals as goal
 
 pub returns-in-Serve-clause-outcome : goal.returns-in-Serve-clause-outcome
-returns-in-Serve-clause-outcome g c = by_serve _ _ _ c.args.command.now c.in-Serve.words c.serve_document.result c.in-Serve.is c.serve_document.ensures.outcome
+returns-in-Serve-clause-outcome g c = by_serve _ _ c.args.command.now c.in-Serve.words c.serve_document.result c.in-Serve.is c.serve_document.ensures.outcome
 
 pub returns-in-Client-clause-outcome : goal.returns-in-Client-clause-outcome
 returns-in-Client-clause-outcome g c =
-    by_client _ _ _ c.args.command.now c.in-Client.words c.client.result c.in-Client.is (record {
+    by_client _ _ c.args.command.now c.in-Client.words c.client.result c.in-Client.is (record {
       outcome = c.client.ensures.outcome;
       files_may_ask = c.client.ensures.files_may_ask;
       net_may_ask = c.client.ensures.net_may_ask;
@@ -16,4 +16,4 @@ returns-in-Client-clause-outcome g c =
 
 pub returns-in-ServeAll-clause-outcome : goal.returns-in-ServeAll-clause-outcome
 returns-in-ServeAll-clause-outcome g c =
-    by_serve_all _ _ _ c.args.command.now c.in-ServeAll.words c.serve_documents.result c.in-ServeAll.is c.serve_documents.ensures.outcome
+    by_serve_all _ _ c.args.command.now c.in-ServeAll.words c.serve_documents.result c.in-ServeAll.is c.serve_documents.ensures.outcome

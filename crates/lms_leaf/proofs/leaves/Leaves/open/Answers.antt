@@ -1,4 +1,5 @@
-use Rattle.std.proofs.Common.{◌≡◌, ℕ, ◌*◌, ◌≤◌, List, slice_index, Option, Some, None, IfSome, arith}
+use Rattle.std.proofs.Common.{◌≡◌, ◌∙◌, refl, sym, ℕ, ◌*◌, ◌≤◌, List, slice_index, Option, Some, None, IfSome, arith}
+use Rattle.sporc_outside.specs.LeafDisk.{disk_images}
 use Rattle.lms_leaf.specs.LeafFile.{taken_blocks}
 use Rattle.lms_leaf.specs.declared.leaf_file.TheConstants.{LEAVES_PER_BLOCK}
 use Rattle.lms_leaf.proofs.Opened.{taken_at_open}
@@ -23,11 +24,15 @@ invariant_of-result g c =
       forward = omega arith;
       within = omega (arith, first.1, first.2, leaves.value);
       whole = omega arith;
-      file = rw found.stored (if_some (g.D.LeafDisk.stored c.args.disk) (λ bytes is. omega (arith, is, leaves.value)) found.right_length);
+      file = rw found.stored (if_some (g.D.LeafDisk.told c.args.disk).stored (λ bytes is. omega (arith, is, leaves.value)) found.right_length);
       taken =
-          taken_at_open (g.D.LeafDisk.stored c.find_next.new.disk) (g.D.LeafDisk.images c.find_next.new.disk (g.D.LeafDisk.moment c.find_next.new.disk)) c.in-Ok.next
+          taken_at_open (g.D.LeafDisk.told c.find_next.new.disk).stored (disk_images (g.D.LeafDisk.told c.find_next.new.disk)) c.in-Ok.next
           (rw found.stored found.next) found.synced;
-      free = λ sound. rw found.stored (if_some (g.D.LeafDisk.stored c.args.disk) (λ bytes is. free c.in-Ok.next bytes is) found.next);
-      counted = omega (arith, c.faults-faults_at_open.ensures.value);
+      free = λ sound. rw found.stored (if_some (g.D.LeafDisk.told c.args.disk).stored (λ bytes is. free c.in-Ok.next bytes is) found.next);
+      counted = omega (arith, c.faults-faults_at_open.ensures.value, g.met.D.LeafDisk.faults_are_told c.find_next.new.disk);
       fault = λ faulty. cc;
     }
+
+pub returns-in-Ok-clause-fresh : goal.returns-in-Ok-clause-fresh
+returns-in-Ok-clause-fresh g c =
+    (refl, refl, c.faults-faults_at_open.ensures.value ∙ sym (g.met.D.LeafDisk.faults_are_told c.find_next.new.disk))

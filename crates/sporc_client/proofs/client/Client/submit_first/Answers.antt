@@ -46,7 +46,7 @@ invariant_of-self-in_err-made g c =
     let made = c.in_err-made.ensures in
     let signer' = c.make_entry.new.signer in
     let hand = at_hand inside.ticket signer.leaves signer'.leaves in
-    let order = order_at_hand g.D.LeafDisk.stored g.D.LeafDisk.moment g.D.LeafDisk.images g.D.Counted.faults signer.leaves signer'.leaves (leaves_of (log_of line.entries own.journal)) inside.ticket known.leaves
+    let order = order_at_hand g.D.LeafDisk.told signer.leaves signer'.leaves (leaves_of (log_of line.entries own.journal)) inside.ticket known.leaves
     (λ leaf h. ap (λ s. s.leaves) (made.undrawn leaf h)) made.drawn in
     let kept : AreInOrder signer'.leaves.next_at_open signer'.leaves.next c.make_entry.new.kept (leaves_of (log_of line.entries own.journal)) =
     subst (λ (t : Option ℕ). AreInOrder signer'.leaves.next_at_open signer'.leaves.next t (leaves_of (log_of line.entries own.journal))) (sym made.ticket) order in
@@ -73,7 +73,7 @@ invariant_of-self-2 g c =
     let after = plain_of signer.key line c.ready_keep.new.own in
     let same : after ≡ plain = rw (ready.pending, ready.flight, ready.shown) refl in
     let leaf = leaf_there (λ leaf. IsSubmission after leaf bytes) (at_hand inside.ticket signer.leaves signer'.leaves) made.submission in
-    let order = order_at_hand g.D.LeafDisk.stored g.D.LeafDisk.moment g.D.LeafDisk.images g.D.Counted.faults signer.leaves signer'.leaves signed inside.ticket known.leaves
+    let order = order_at_hand g.D.LeafDisk.told signer.leaves signer'.leaves signed inside.ticket known.leaves
     (λ leaf h. ap (λ s. s.leaves) (made.undrawn leaf h)) made.drawn in
     let kept : AreInOrder signer'.leaves.next_at_open signer'.leaves.next (Some leaf.0) signed = subst (λ (t : Option ℕ). AreInOrder signer'.leaves.next_at_open signer'.leaves.next t signed) leaf.1 order in
     let form : c.in_ok-ready.ready.form ≡ keeps plain = c.in_ok-ready.ensures.ok ∙ ap retains (length_of_shown line signer inside.ticket own known) in

@@ -13,7 +13,7 @@ use Rattle.sporc_client.proofs.client.submitting.making.make_entry.Goals as goal
 
 pub returns-in_err-ticket-clause-drawn : goal.returns-in_err-ticket-clause-drawn
 returns-in_err-ticket-clause-drawn g c = λ none.
-    is_draw g.D.LeafDisk.stored g.D.LeafDisk.moment g.D.LeafDisk.images g.D.Counted.faults c.args.signer.now.leaves c.take_ticket.new.signer.leaves (Err c.in_err-ticket.field-0.0)
+    is_draw g.D.LeafDisk.told c.args.signer.now.leaves c.take_ticket.new.signer.leaves (Err c.in_err-ticket.field-0.0)
     (c.in_err-ticket.ensures.draws none) (c.in_err-ticket.ensures.faults none)
 
 pub returns-in_err-ticket-clause-answer : goal.returns-in_err-ticket-clause-answer
@@ -27,7 +27,7 @@ returns-in_err-ticket-clause-answer g c =
     let is : c.from_residual.result ≡ Err (draw_fault fault) = search rules in
     let leaf : leaf_for c.args.kept.now old new ≡ Err fault =
     no_leaf c.args.kept.now old new fault (λ leaf h. (e.undrawn leaf h).0)
-    (λ none. drawn_is g.D.LeafDisk.stored g.D.LeafDisk.moment g.D.LeafDisk.images g.D.Counted.faults old new (Err fault) (e.draws none) (e.faults none)) in
+    (λ none. drawn_is g.D.LeafDisk.told old new (Err fault) (e.draws none) (e.faults none)) in
     let P : Result Made SubmitFault → Type 0 = λ r. GivesUnless Memory (λ made. submitted.Entry made.answer) r (submission plain random (leaf_for c.args.kept.now old new)) in
     subst P (sym is) (λ _. ap (submission plain random) leaf ∙ undrawn plain random fault c.requires.due)
 
@@ -35,12 +35,12 @@ pub returns-in-Ok-clause-drawn : goal.returns-in-Ok-clause-drawn
 returns-in-Ok-clause-drawn g c = λ none.
     let ticket = c.in_ok-ticket in
     let same : c.make_signed.new.signer.leaves ≡ c.take_ticket.new.signer.leaves = ap (λ s. s.leaves) c.make_signed.ensures.unchanged in
-    is_draw g.D.LeafDisk.stored g.D.LeafDisk.moment g.D.LeafDisk.images g.D.Counted.faults c.args.signer.now.leaves c.make_signed.new.signer.leaves (Ok ticket.ticket)
+    is_draw g.D.LeafDisk.told c.args.signer.now.leaves c.make_signed.new.signer.leaves (Ok ticket.ticket)
     (rw same (ticket.ensures.draws none)) (rw same (ticket.ensures.faults none))
 
 pub returns-in-Err-clause-drawn : goal.returns-in-Err-clause-drawn
 returns-in-Err-clause-drawn g c = λ none.
     let ticket = c.in_ok-ticket in
     let same : c.make_signed.new.signer.leaves ≡ c.take_ticket.new.signer.leaves = ap (λ s. s.leaves) c.make_signed.ensures.unchanged in
-    is_draw g.D.LeafDisk.stored g.D.LeafDisk.moment g.D.LeafDisk.images g.D.Counted.faults c.args.signer.now.leaves c.make_signed.new.signer.leaves (Ok ticket.ticket)
+    is_draw g.D.LeafDisk.told c.args.signer.now.leaves c.make_signed.new.signer.leaves (Ok ticket.ticket)
     (rw same (ticket.ensures.draws none)) (rw same (ticket.ensures.faults none))

@@ -1,0 +1,22 @@
+-- The world after a move of a device that has this client, or none.
+use Rattle.std.proofs.Common.{ℕ, List, ◌++◌, take, Option}
+use Rattle.std.specs.Option.{option_map_or}
+use Rattle.sporc_member.specs.declared.device.Device.{Device}
+use Rattle.sporc_client.specs.Answers.{refusal_of}
+use Rattle.sporc_client.specs.Log.{Logged}
+use Rattle.sporc_client.specs.PlainClient.{PlainClient}
+use Rattle.sporc_client.specs.Run.{World, given, put, signings}
+use Rattle.sporc_client.specs.Step.{log_of_entries, replay, step}
+
+abbrev pub happens_to : World → Device → Logged → Option PlainClient → World
+happens_to w who event client = option_map_or (λ c. put (record w { signed = w.signed ++ signings who c event }) who (step c event)) client w
+
+abbrev pub gives_to : World → Device → ℕ → List ℕ → Option PlainClient → World
+gives_to w who position bytes client = option_map_or (λ c. put w who (given c bytes (refusal_of c position bytes))) client w
+
+-- a client that went back to its first k entries
+abbrev pub restarted : PlainClient → ℕ → PlainClient
+restarted c k = replay c.opening (log_of_entries (take k c.entries))
+
+abbrev pub restarts : World → Device → ℕ → Option PlainClient → World
+restarts w who k client = option_map_or (λ c. put w who (restarted c k)) client w

@@ -1,0 +1,77 @@
+//! A session of a client.
+
+ghost use Rattle.std.specs.Prelude.{◌≡◌, ◌≤◌, length, IfErr, IfOk, OnErr};
+ghost use Rattle.sporc_outside.specs.Uses.{use_of};
+ghost use Rattle.sporc_client.specs.ClientModel.{Rise, leaves_of};
+ghost use Rattle.sporc_script.specs.declared.limits.TheConstants.{MAX_EDITORS};
+ghost use Rattle.sporc_shared.specs.Items.{past_of};
+ghost use Rattle.sporc_clients.specs.Counts.{RoseIfFailed, counts_around};
+ghost use Rattle.sporc_clients.specs.Sessions.{IsSessionOf, link_told};
+
+use sporc_base::Memory;
+use sporc_client::Client;
+use sporc_outside::{Chance, Gate, LeafDisk, Link};
+use sporc_script::EditorScript;
+use sporc_shared::{SessionFault, SharedClient, session};
+use std::alloc::Global;
+use std::sync::Wait;
+use std::thread::Threads;
+
+/// A client after a session, and how the session ended.
+#[derive(Drop)]
+pub struct Ended<D: LeafDisk> {
+    pub client: Client<D>,
+    pub result: Result<(), SessionFault>,
+}
+
+/// Has a client work with a server over a link. If memory runs out before the session begins, the client comes back.
+pub(crate) fn run_session<
+    R: Threads + Wait + Sync,
+    D: LeafDisk + Send,
+    L: Link + Send,
+    C: Chance + Send,
+    G: Gate + Sync,
+>(
+    rt: &R,
+    alloc: Global,
+    client: Client<D>,
+    link: &mut L,
+    chance: &mut C,
+    editors: &[EditorScript],
+    rounds: u32,
+    until: u32,
+    gate: &G,
+) -> Result<Ended<D>, (Client<D>, Memory)>
+    requires few { length editors.now ≤ MAX_EDITORS }
+    ensures session { IfOk result (λ ended. IsSessionOf (record { rounds = rounds; until = until; editors = editors.now })
+        (past_of client) (past_of ended.client)
+        (record {
+          link = link_told (L.told link.old);
+          chance = C.told chance.old;
+        })
+        (record {
+          link = link_told (L.told link.new);
+          chance = C.told chance.new;
+        })
+        ended.result) }
+    ensures leaves { IfOk result (λ ended. Rise (past_of ended.client).first_leaf ended.client.leaves.next (leaves_of ended.client.log)) }
+    ensures causes { IfOk result (λ ended. RoseIfFailed (counts_around (L.told link.old).faults (L.told link.new).faults (use_of C.told chance.old chance.new)) ended.result) }
+    ensures chance_kept { (C.told chance.old).faults ≤ (C.told chance.new).faults }
+    ensures shut { (L.told link.new).is_shut ≡ (L.told link.old).is_shut }
+    ensures returned { IfErr result (λ e. e.0 ≡ client) }
+    ensures link { OnErr result (link.new ≡ link.old) }
+    ensures chance { OnErr result (chance.new ≡ chance.old) }
+{
+    match SharedClient::open(alloc, client) {
+        Ok((shared, first)) => {
+            let (result, first) = session(
+                rt, alloc, &shared, first, link, chance, editors, rounds, until, gate,
+            );
+            match shared.close(first) {
+                Ok(client) => Ok(Ended { client, result }),
+                Err(_) => unreachable!(),
+            }
+        }
+        Err((client, memory)) => Err((client, memory)),
+    }
+}

@@ -1,0 +1,78 @@
+//! A session over a link of its own.
+
+ghost use Rattle.std.specs.Prelude.{◌≡◌, ◌≤◌, length, IfErr, IfOk, OnErr};
+ghost use Rattle.sporc_client.specs.ClientModel.{Rise, leaves_of};
+ghost use Rattle.sporc_outside.specs.Told.{MayAppend};
+ghost use Rattle.sporc_outside.specs.Nets.{AreShutBehind};
+ghost use Rattle.sporc_outside.specs.Uses.{use_of};
+ghost use Rattle.sporc_script.specs.declared.limits.TheConstants.{MAX_EDITORS};
+ghost use Rattle.sporc_shared.specs.Items.{past_of};
+ghost use Rattle.sporc_clients.specs.Counts.{RoseIfFailed, counts_around};
+ghost use Rattle.sporc_clients.specs.Nets.{IsWork, NotBegun};
+
+use crate::session::{Ended, run_session};
+use sporc_client::Client;
+use sporc_files::Fault;
+use sporc_outside::{Chance, Dial, Gate, LeafDisk, Link};
+use sporc_script::EditorScript;
+use std::alloc::Global;
+use std::sync::Wait;
+use std::thread::Threads;
+
+/// Has a client work with the server at an address. The link to it is shut as soon as the session has ended, and taken back.
+pub(crate) fn work<
+    R: Threads + Wait + Sync,
+    D: LeafDisk + Send,
+    N: Dial,
+    C: Chance + Send,
+    G: Gate + Sync,
+>(
+    rt: &R,
+    alloc: Global,
+    client: Client<D>,
+    net: &mut N,
+    address: &str,
+    chance: &mut C,
+    editors: &[EditorScript],
+    rounds: u32,
+    until: u32,
+    gate: &G,
+) -> Result<Ended<D>, (Fault, Client<D>)>
+where
+    N::Link: Send,
+    requires few { length editors.now ≤ MAX_EDITORS }
+    ensures work { IfOk result (λ ended. IsWork
+        (record { rounds = rounds; until = until; editors = editors.now }) address.now
+        (past_of client) (past_of ended.client)
+        (N.told net.old)
+        (N.told net.new)
+        (C.told chance.old)
+        (C.told chance.new)
+        ended.result) }
+    ensures leaves { IfOk result (λ ended. Rise (past_of ended.client).first_leaf ended.client.leaves.next (leaves_of ended.client.log)) }
+    ensures causes { IfOk result (λ ended. RoseIfFailed (counts_around (N.told net.old).link_faults (N.told net.new).link_faults (use_of C.told chance.old chance.new)) ended.result) }
+    ensures err { IfErr result (λ e. NotBegun address.now (N.told net.old) (N.told net.new) (N.told net.old).faults (N.told net.new).faults e.0) }
+    ensures returned { IfErr result (λ e. e.1 ≡ client) }
+    ensures chance { OnErr result (chance.new ≡ chance.old) }
+    ensures chance_kept { (C.told chance.old).faults ≤ (C.told chance.new).faults }
+    ensures shut { AreShutBehind (N.told net.old).returned (N.told net.new).returned }
+    ensures links_out { (N.told net.new).out ≡ (N.told net.old).out }
+    ensures may_ask { MayAppend (N.told net.old).asked (N.told net.new).asked address.now }
+    ensures net_kept { (N.told net.old).faults ≤ (N.told net.new).faults }
+    ensures links_kept { (N.told net.old).link_faults ≤ (N.told net.new).link_faults }
+{
+    // No call for its answer: that the links' count can be told here is what `links_kept` rests on.
+    let _faults = net.link_faults();
+    let Ok(mut link) = net.connect(rt, address) else {
+        return Err((Fault::Outside, client));
+    };
+    let ended = run_session(
+        rt, alloc, client, &mut link, chance, editors, rounds, until, gate,
+    );
+    link.shut();
+    net.take_back(link);
+    match ended {
+        Ok(ended) => Ok(ended),
+        Err((client, _)) => Err((Fault::Memory, client)),
+    }
+}

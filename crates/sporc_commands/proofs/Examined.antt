@@ -1,0 +1,122 @@
+-- What an examination found in files, step by step.
+use Rattle.std.proofs.Common.{◌≡◌, ℕ, ◌≤◌, List, Option, Result, Ok, Err, subst}
+use Rattle.sporc_bytes.specs.Fields.{◌>>=◌}
+use Rattle.sporc_outside.specs.Counts.{Rose}
+use Rattle.sporc_outside.specs.declared.named_file.NamedFile.{NamedFile}
+use Rattle.lms_tree.specs.LmsPrivate.{LmsPrivate}
+use Rattle.sporc_entry.specs.declared.genesis.Genesis.{Genesis}
+use Rattle.sporc_member.specs.declared.device.Device.{Device}
+use Rattle.sporc_line.specs.Kit.{Kit}
+use Rattle.sporc_line.specs.LineModel.{LineModel}
+use Rattle.sporc_store.specs.Loading.{a_member, loaded}
+use Rattle.sporc_store.specs.SavedFile.{Taken}
+use Rattle.sporc_keys.specs.RingFile.{ring_file_of_member}
+use Rattle.sporc_keys.specs.declared.ring_file.RingFile.{RingFile}
+use Rattle.sporc_files.specs.declared.fault.Fault.{Fault}
+use Rattle.sporc_files.specs.declared.file.File.{File}
+use Rattle.sporc_files.specs.declared.file.File.TheVariants as files
+use Rattle.sporc_files.specs.Names.{FileNames, file_name}
+use Rattle.sporc_files.specs.Reading.{IsFileFault, SaysFile, any_bytes, genesis_file, own_key_file}
+use Rattle.sporc_files.specs.Faults.{AnswersUnlessOutside}
+use Rattle.sporc_commands.specs.Contents.{IsFileAt, bytes_in, said}
+use Rattle.sporc_commands.specs.Checking.{CheckedLine, FindsLine, checked_line, examined, kit_in, line_of_whole}
+use Rattle.sporc_files.proofs.Answering.{tells_behind, tells_later}
+use Rattle.sporc_commands.proofs.ReadFiles.{is_there, reads_none, reads_value, says, there}
+
+-- a history was loaded behind the opening of its line
+pub accepted : (genesis shown : Genesis) (device : Device) (ring : RingFile) (history : List ℕ) (line : LineModel) (kit : Kit) (taken : Taken) (r : Result LineModel Fault)
+    → kit_in genesis device ring history ≡ Ok line.kit → line.genesis ≡ genesis → shown ≡ line.genesis → kit ≡ line.kit
+    → taken ≡ loaded (a_member line.genesis line.kit) line.genesis.document history → AnswersUnlessOutside checked_line ⊥ r (line_of_whole device shown kit taken)
+    → AnswersUnlessOutside checked_line ⊥ r (examined genesis device ring history)
+accepted genesis shown device ring history line kit taken r given own same same_kit is tells =
+    tells_behind checked_line ⊥ r (kit_in genesis device ring history) line.kit (λ k. line_of_whole device genesis k (loaded (a_member genesis k) genesis.document history)) given
+    (subst (λ (g : Genesis). AnswersUnlessOutside checked_line ⊥ r (line_of_whole device g line.kit (loaded (a_member g line.kit) g.document history))) own
+    (subst (λ (g : Genesis). AnswersUnlessOutside checked_line ⊥ r (line_of_whole device g line.kit (loaded (a_member line.genesis line.kit) line.genesis.document history))) same
+    (subst (λ (k : Kit). AnswersUnlessOutside checked_line ⊥ r (line_of_whole device shown k (loaded (a_member line.genesis line.kit) line.genesis.document history))) same_kit
+    (subst (λ (t : Taken). AnswersUnlessOutside checked_line ⊥ r (line_of_whole device shown kit t)) is tells))))
+
+module _ (told : Option (List NamedFile)) (names : FileNames) (m : Device) where
+  -- what is answered of the files from one on
+  abbrev with_history : Genesis → RingFile → Option (List ℕ) → Result CheckedLine Fault
+  with_history g ring history = bytes_in (files.History m) history >>= λ bytes. examined g m ring bytes
+
+  abbrev with_ring : Genesis → Option (List ℕ) → Option (List ℕ) → Result CheckedLine Fault
+  with_ring g ring history = said (ring_file_of_member m.member) (files.Ring m.member) ring >>= λ file. with_history g file history
+
+  abbrev with_key : Genesis → Option (List ℕ) → Option (List ℕ) → Option (List ℕ) → Result CheckedLine Fault
+  with_key g key ring history = said (own_key_file g.founders m) (files.Key m) key >>= λ k. with_ring g ring history
+
+  abbrev ring_there : Option (List ℕ)
+  ring_there = there told (file_name names (files.Ring m.member))
+
+  abbrev history_there : Option (List ℕ)
+  history_there = there told (file_name names (files.History m))
+
+  -- a file that holds this, and what is answered from it on
+  abbrev Holds : File → (Option (List ℕ) → Result CheckedLine Fault) → ℕ → ℕ → Result LineModel Fault → Type 0
+  Holds file rest before after r = (content : Option (List ℕ)) × IsFileAt told (file_name names file) content × AnswersUnlessOutside checked_line (Rose before after) r (rest content)
+
+  -- the files before it say something
+  module _ (g : Genesis) (says_g : SaysFile genesis_file told (file_name names files.Genesis) g) (c0 c1 c2 : ℕ) (r : Result LineModel Fault) (le : c0 ≤ c1) where
+    pub from_key : (ring history : Option (List ℕ)) → IsFileAt told (file_name names (files.Ring m.member)) ring → IsFileAt told (file_name names (files.History m)) history
+        → Holds (files.Key m) (λ key. with_key g key ring history) c1 c2 r → FindsLine told names m c0 c2 r
+    from_key ring history ring_at history_at (key, key_at, tells) =
+        let (gc, g_at, g_is) = says genesis_file told (file_name names files.Genesis) files.Genesis g says_g in
+        let all = tells_behind checked_line (Rose c1 c2) r (said genesis_file files.Genesis gc) g (λ h. with_key h key ring history) g_is tells in (
+          record { genesis = gc; key = key; ring = ring; history = history },
+          record { genesis = g_at; key = key_at; ring = ring_at; history = history_at },
+          tells_later checked_line c0 c1 c2 r _ le all,
+        )
+
+    pub from_ring : (key : LmsPrivate) → SaysFile (own_key_file g.founders m) told (file_name names (files.Key m)) key → (history : Option (List ℕ)) → IsFileAt told (file_name names (files.History m)) history
+        → Holds (files.Ring m.member) (λ ring. with_ring g ring history) c1 c2 r → FindsLine told names m c0 c2 r
+    from_ring key says_key history history_at (ring, ring_at, tells) =
+        let (kc, k_at, k_is) = says (own_key_file g.founders m) told (file_name names (files.Key m)) (files.Key m) key says_key in
+        from_key ring history ring_at history_at (kc, k_at, tells_behind checked_line (Rose c1 c2) r (said (own_key_file g.founders m) (files.Key m) kc) key (λ k. with_ring g ring history) k_is tells)
+
+    pub from_history : (key : LmsPrivate) (ring : RingFile) → SaysFile (own_key_file g.founders m) told (file_name names (files.Key m)) key → SaysFile (ring_file_of_member m.member) told (file_name names (files.Ring m.member)) ring
+        → Holds (files.History m) (with_history g ring) c1 c2 r → FindsLine told names m c0 c2 r
+    from_history key ring says_key says_ring (history, history_at, tells) =
+        let (rc, r_at, r_is) = says (ring_file_of_member m.member) told (file_name names (files.Ring m.member)) (files.Ring m.member) ring says_ring in
+        from_ring key says_key history history_at (rc, r_at, tells_behind checked_line (Rose c1 c2) r (said (ring_file_of_member m.member) (files.Ring m.member) rc) ring (λ file. with_history g file history) r_is tells)
+
+  -- ---- one of the files fails
+
+  pub genesis_fails : (c0 c1 : ℕ) (fault : Fault) (r : Result LineModel Fault) → r ≡ Err fault → IsFileFault genesis_file told c0 c1 names files.Genesis fault → FindsLine told names m c0 c1 r
+  genesis_fails c0 c1 fault r is why =
+      let key = there told (file_name names (files.Key m)) in
+      let (content, at, tells) = reads_none genesis_file checked_line told c0 c1 names files.Genesis (λ (g : Genesis). with_key g key ring_there history_there) fault r is why in (
+        record { genesis = content; key = key; ring = ring_there; history = history_there },
+        record {
+          genesis = at;
+          key = is_there told (file_name names (files.Key m));
+          ring = is_there told (file_name names (files.Ring m.member));
+          history = is_there told (file_name names (files.History m));
+        },
+        tells,
+      )
+
+  pub key_fails : (c0 c1 c2 : ℕ) (g : Genesis) (fault : Fault) (r : Result LineModel Fault) → c0 ≤ c1 → r ≡ Err fault → SaysFile genesis_file told (file_name names files.Genesis) g
+      → IsFileFault (own_key_file g.founders m) told c1 c2 names (files.Key m) fault → FindsLine told names m c0 c2 r
+  key_fails c0 c1 c2 g fault r le is says_g why =
+      from_key g says_g c0 c1 c2 r le ring_there history_there (is_there told (file_name names (files.Ring m.member))) (is_there told (file_name names (files.History m)))
+      (reads_none (own_key_file g.founders m) checked_line told c1 c2 names (files.Key m) (λ k. with_ring g ring_there history_there) fault r is why)
+
+  pub ring_fails : (c0 c1 c2 : ℕ) (g : Genesis) (key : LmsPrivate) (fault : Fault) (r : Result LineModel Fault) → c0 ≤ c1 → r ≡ Err fault → SaysFile genesis_file told (file_name names files.Genesis) g
+      → SaysFile (own_key_file g.founders m) told (file_name names (files.Key m)) key → IsFileFault (ring_file_of_member m.member) told c1 c2 names (files.Ring m.member) fault → FindsLine told names m c0 c2 r
+  ring_fails c0 c1 c2 g key fault r le is says_g says_key why =
+      from_ring g says_g c0 c1 c2 r le key says_key history_there (is_there told (file_name names (files.History m)))
+      (reads_none (ring_file_of_member m.member) checked_line told c1 c2 names (files.Ring m.member) (λ file. with_history g file history_there) fault r is why)
+
+  pub history_fails : (c0 c1 c2 : ℕ) (g : Genesis) (key : LmsPrivate) (ring : RingFile) (fault : Fault) (r : Result LineModel Fault) → c0 ≤ c1 → r ≡ Err fault
+      → SaysFile genesis_file told (file_name names files.Genesis) g → SaysFile (own_key_file g.founders m) told (file_name names (files.Key m)) key
+      → SaysFile (ring_file_of_member m.member) told (file_name names (files.Ring m.member)) ring → IsFileFault any_bytes told c1 c2 names (files.History m) fault → FindsLine told names m c0 c2 r
+  history_fails c0 c1 c2 g key ring fault r le is says_g says_key says_ring why =
+      from_history g says_g c0 c1 c2 r le key ring says_key says_ring (reads_none any_bytes checked_line told c1 c2 names (files.History m) (examined g m ring) fault r is why)
+
+  pub all_read : (c0 c1 c2 : ℕ) (g : Genesis) (key : LmsPrivate) (ring : RingFile) (bytes : List ℕ) (r : Result LineModel Fault) → c0 ≤ c1
+      → SaysFile genesis_file told (file_name names files.Genesis) g → SaysFile (own_key_file g.founders m) told (file_name names (files.Key m)) key
+      → SaysFile (ring_file_of_member m.member) told (file_name names (files.Ring m.member)) ring → SaysFile any_bytes told (file_name names (files.History m)) bytes
+      → AnswersUnlessOutside checked_line ⊥ r (examined g m ring bytes) → FindsLine told names m c0 c2 r
+  all_read c0 c1 c2 g key ring bytes r le says_g says_key says_ring says_bytes tells =
+      from_history g says_g c0 c1 c2 r le key ring says_key says_ring (reads_value any_bytes checked_line told c1 c2 names (files.History m) (examined g m ring) bytes r says_bytes tells)

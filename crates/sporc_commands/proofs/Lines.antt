@@ -1,0 +1,62 @@
+-- How a command writes its line, or all its lines.
+use Rattle.std.proofs.Common.{◌≡◌, ◌∙◌, ℕ, List, Result, Ok, Err, inl, inr, ap}
+use Rattle.std.specs.Io.KnownBytes.{Appends}
+use Rattle.sporc_bytes.specs.Fields.{◌>>=◌}
+use Rattle.sporc_outside.specs.Counts.{Rose}
+use Rattle.sporc_outside.specs.Uses.{Use}
+use Rattle.sporc_outside.specs.Writing.{AppendsPrefix}
+use Rattle.sporc_outside.specs.Streams.{IsUnwritten, StreamTold}
+use Rattle.sporc_outside.specs.Folders.{FolderTold}
+use Rattle.sporc_files.specs.declared.fault.Fault.{Fault}
+use Rattle.sporc_files.specs.declared.fault.Fault.TheVariants as faults
+use Rattle.sporc_files.specs.Faults.{AnswersUnlessOutside}
+use Rattle.sporc_line.specs.LineModel.{LineModel}
+use Rattle.sporc_commands.specs.Checking.{CheckedLine, checked_line}
+use Rattle.sporc_commands.specs.Uses.{WritesLine}
+use Rattle.sporc_files.proofs.Answering.{fails_first, tells_alone, tells_behind}
+
+module _ {Y : Type 0} (Says : Y → List ℕ → Type 0) (folder : Use FolderTold) (out : Use StreamTold) (found : Result Y Fault) where
+  -- nothing was found
+  pub not_found : {X : Type 0} (view : X → Y) (fault : Fault) (r : Result (Unit {0}) Fault) → r ≡ Err fault → AnswersUnlessOutside view (Rose folder.before.faults folder.after.faults) (Err fault) found → IsUnwritten out
+      → WritesLine Says folder out found r
+  not_found view fault r is told none = rw is (by fault told)
+    where
+      by : (fault : Fault) → AnswersUnlessOutside view (Rose folder.before.faults folder.after.faults) (Err fault) found → WritesLine Says folder out found {T = Unit {0}} (Err fault)
+      by faults.Memory told = none
+      by faults.Outside told = inl (told, none)
+      by fault told = (told, none)
+
+  -- memory ran out before the line was written
+  pub no_memory : (r : Result (Unit {0}) Fault) → r ≡ Err faults.Memory → IsUnwritten out → WritesLine Says folder out found r
+  no_memory r is none = rw is none
+
+  -- the line was written, or a prefix of it
+  pub line_written : (y : Y) (line : List ℕ) → found ≡ Ok y → Says y line → Appends out.before.written out.after.written line → WritesLine Says folder out found {T = Unit {0}} (Ok tt)
+  line_written y line is says written = record { value = y; line = line; found_is = is; says = says; written = written }
+
+  pub line_cut : (y : Y) (line : List ℕ) (r : Result (Unit {0}) Fault) → r ≡ Err faults.Outside → found ≡ Ok y → Says y line → AppendsPrefix out.before.written out.after.written line
+      → Rose out.before.faults out.after.faults → WritesLine Says folder out found r
+  line_cut y line r r_is is says written rose = rw r_is (inr (rose, record { value = y; line = line; found_is = is; says = says; written = written }))
+
+-- ---- what is made of a history that was examined
+
+pub is_made : {Y : Type 0} (found : Result CheckedLine Fault) (made : CheckedLine → Result Y Fault) (line : LineModel) → found ≡ Ok (checked_line line) → (y : Y) → made (checked_line line) ≡ Ok y
+    → (found >>= made) ≡ Ok y
+is_made found made line is y made_is = ap (λ (r : Result CheckedLine Fault). r >>= made) is ∙ made_is
+
+module _ {Y : Type 0} (Says : Y → List ℕ → Type 0) (folder : Use FolderTold) (out : Use StreamTold) (found : Result CheckedLine Fault) (made : CheckedLine → Result Y Fault) where
+  -- it was not found
+  pub no_line : (fault : Fault) (r : Result (Unit {0}) Fault) → r ≡ Err fault → AnswersUnlessOutside checked_line (Rose folder.before.faults folder.after.faults) (Err fault) found → IsUnwritten out
+      → WritesLine Says folder out (found >>= made) r
+  no_line fault r is told none =
+      not_found Says folder out (found >>= made) (λ (y : Y). y) fault r is
+      (fails_first checked_line (λ (y : Y). y) (Rose folder.before.faults folder.after.faults) fault found made told) none
+
+  module _ (line : LineModel) (is : found ≡ Ok (checked_line line)) where
+    -- nothing was made of it
+    pub not_made : {X : Type 0} (view : X → Y) (fault : Fault) (r : Result (Unit {0}) Fault) → r ≡ Err fault → AnswersUnlessOutside view ⊥ (Err fault) (made (checked_line line)) → IsUnwritten out
+        → WritesLine Says folder out (found >>= made) r
+    not_made view fault r r_is told none =
+        let Failed = Rose folder.before.faults folder.after.faults in
+        not_found Says folder out (found >>= made) view fault r r_is
+        (tells_behind view Failed (Err fault) found (checked_line line) made is (tells_alone view Failed (Err fault) (made (checked_line line)) told)) none

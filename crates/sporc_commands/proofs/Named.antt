@@ -1,0 +1,59 @@
+-- Those who are named, one after another.
+use Rattle.std.proofs.Common.{◌≡◌, ℕ, suc, ◌+◌, ◌<◌, ◌≤◌, List, [], ◌∷◌, ◌++◌, length, take, drop, get_or, Option, sym, ap, ◌∙◌, subst, add-one}
+use Rattle.std.proofs.Math.Seq.{drop-cons, take-suc}
+use Rattle.std.proofs.lemmas.List.{take-append-drop}
+use Rattle.sporc_outside.specs.declared.named_file.NamedFile.{NamedFile}
+use Rattle.sporc_member.specs.Device.{first_device}
+use Rattle.sporc_keys.specs.declared.named.Named.{Named}
+use Rattle.sporc_words.specs.declared.standing.Standing.TheVariants.{Joiner}
+use Rattle.sporc_words.specs.declared.standing.Participant.{Participant}
+use Rattle.sporc_files.specs.declared.fault.Fault.{Fault}
+use Rattle.sporc_files.specs.declared.fault.Fault.TheVariants as faults
+use Rattle.sporc_files.specs.declared.file.File.TheVariants as files
+use Rattle.sporc_files.specs.Names.{FileNames}
+use Rattle.sporc_files.specs.Reading.{IsFileFault, key_file}
+use Rattle.sporc_files.proofs.FaultCases.{file_later}
+use Rattle.sporc_commands.specs.Founding.{AreNamed, FirstBadKey, IsNamed}
+
+pub nobody : (told : Option (List NamedFile)) (names : FileNames) (ns : List Named) → ns ≡ [] → AreNamed told names [] ns
+nobody told names ns none = rw none tt
+
+pub one_more : (told : Option (List NamedFile)) (names : FileNames) (ps : List Participant) (ns : List Named) (p : Participant) (n : Named) → AreNamed told names ps ns
+    → IsNamed told names p.member p.standing n → AreNamed told names (ps ++ p ∷ []) (ns ++ n ∷ [])
+one_more told names [] [] p n all one = (one, tt)
+one_more told names [] (m ∷ ns) p n all one = absurd all
+one_more told names (q ∷ ps) [] p n all one = absurd all
+one_more told names (q ∷ ps) (m ∷ ns) p n (first, all) one = (first, one_more told names ps ns p n all one)
+
+-- the list around one of its items
+pub around : {X : Type 0} (xs : List X) (i : ℕ) (d : X) → i < length xs → xs ≡ take i xs ++ (get_or xs i d ∷ drop (suc i) xs)
+around xs i d within = sym (ap (λ ys. take i xs ++ ys) (sym (drop-cons xs i d within)) ∙ take-append-drop i xs)
+
+pub first_bad : (told now : Option (List NamedFile)) (low mid high : ℕ) (names : FileNames) (all : List Participant) (i : ℕ) (d : Participant) (ns : List Named) (fault : Fault)
+    → i < length all → now ≡ told → low ≤ mid → AreNamed told names (take i all) ns
+    → IsFileFault (key_file (first_device (get_or all i d).member)) now mid high names (files.Key (first_device (get_or all i d).member)) fault → FirstBadKey told low high names all fault
+first_bad told now low mid high names all i d ns fault within same more read cause =
+    record {
+      before = take i all;
+      one = get_or all i d;
+      behind = drop (suc i) all;
+      split = around all i d within;
+      named = ns;
+      read = read;
+      cause = file_later (key_file (first_device (get_or all i d).member)) told now low mid high names (files.Key (first_device (get_or all i d).member)) fault same more cause;
+    }
+
+-- memory ran out after one was read
+pub no_memory : (told : Option (List NamedFile)) (low high : ℕ) (names : FileNames) (all : List Participant) (i : ℕ) (ns : List Named) → i < length all
+    → AreNamed told names (take i all) ns → FirstBadKey told low high names all faults.Memory
+no_memory told low high names all i ns within read =
+    let d : Participant = record { member = 0; standing = Joiner } in
+    record { before = take i all; one = get_or all i d; behind = drop (suc i) all; split = around all i d within; named = ns; read = read; cause = tt }
+
+pub named_more : (told now : Option (List NamedFile)) (names : FileNames) (all : List Participant) (i : ℕ) (d : Participant) (ns new : List Named) (n : Named) → i < length all
+    → now ≡ told → new ≡ ns ++ n ∷ [] → AreNamed told names (take i all) ns → IsNamed now names (get_or all i d).member (get_or all i d).standing n
+    → AreNamed told names (take (i + 1) all) new
+named_more told now names all i d ns new n within same is read one =
+    let here = subst (λ (o : Option (List NamedFile)). IsNamed o names (get_or all i d).member (get_or all i d).standing n) same one in
+    let both = one_more told names (take i all) ns (get_or all i d) n read here in
+    rw (add-one, take-suc all i d within, is) both

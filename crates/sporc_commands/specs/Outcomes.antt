@@ -1,0 +1,145 @@
+-- What each command did: what it read, what it wrote and saved, and why it did not do all its work.
+use Rattle.std.specs.Prelude.{◌≡◌, ◌⊎◌, ◌≤◌, ℕ, List, [], ◌∷◌, ◌++◌, codes, length, Option, option_map, Result, Ok, Err}
+use Rattle.std.specs.Fmt.{decimal}
+use Rattle.std.specs.Io.KnownBytes.{Appends}
+use Rattle.sporc_outside.specs.Counts.{Rose}
+use Rattle.sporc_outside.specs.Files.{ChangesFile, made_in, with_file}
+use Rattle.sporc_outside.specs.Uses.{Use}
+use Rattle.sporc_outside.specs.Writing.{AppendsPrefix}
+use Rattle.sporc_outside.specs.Streams.{IsUnwritten, StreamTold}
+use Rattle.sporc_outside.specs.Folders.{FolderTold}
+use Rattle.sporc_outside.specs.Nets.{NetTold}
+use Rattle.sporc_member.specs.declared.device.Device.{Device}
+use Rattle.sporc_order.specs.OrderModel.{OrderModel}
+use Rattle.sporc_serve.specs.declared.fault.ServeFault.{ServeFault}
+use Rattle.sporc_serve.specs.Served.{IsServed}
+use Rattle.sporc_files.specs.declared.fault.Fault.{Fault}
+use Rattle.sporc_files.specs.declared.fault.Fault.TheVariants as faults
+use Rattle.sporc_files.specs.declared.file.File.TheVariants as files
+use Rattle.sporc_files.specs.Names.{FileNames, file_name}
+use Rattle.sporc_commands.specs.Checking.{AreCheckedFiles, CheckedFiles, IsCheckedLine, checked_in}
+use Rattle.sporc_commands.specs.Comparing.{AreComparedFiles, ComparedFiles, IsVerdictLine, chains_in}
+use Rattle.sporc_commands.specs.Telling.{IsJust, lines_in, text_in}
+use Rattle.sporc_commands.specs.Moments.{ChangesFolderAlone, IsBehind, Moment, at_end, folder_between, sink_between}
+use Rattle.sporc_commands.specs.Rounds.{GoRounds, Round, Standing}
+use Rattle.sporc_commands.specs.Serving.{AreServedFiles, HasLogged, ServedFiles, ended, order_in, saved_log}
+use Rattle.sporc_commands.specs.Tails.{GivesBack, after_last}
+use Rattle.sporc_commands.specs.Uses.{OnlyReads, WritesLine}
+
+-- ---- check
+
+-- `check NAME M`: the genesis, the key of the device, the ring of its member and the history of the device are read, the history is examined,
+-- and the line of how many entries it has is written
+pub record CheckOutcome {T : Type 0} (names : FileNames) (device : Device) (folder : Use FolderTold) (out : Use StreamTold) (answer : Result T Fault) : Type 0 where
+  pub content : CheckedFiles
+  pub are : AreCheckedFiles folder.before.files names device content
+  pub reads : OnlyReads names (files.Genesis ∷ files.Key device ∷ files.Ring device.member ∷ files.History device ∷ []) folder
+  pub writes : WritesLine IsCheckedLine folder out (checked_in device content) answer
+
+-- ---- text and entries
+
+-- `text NAME M --at POS`: the same files are read, the history is examined, and the committed text is written, after so many of its entries or
+-- after all
+pub record TextOutcome {T : Type 0} (names : FileNames) (device : Device) (at : Option ℕ) (folder : Use FolderTold) (out : Use StreamTold) (answer : Result T Fault) : Type 0 where
+  pub content : CheckedFiles
+  pub are : AreCheckedFiles folder.before.files names device content
+  pub reads : OnlyReads names (files.Genesis ∷ files.Key device ∷ files.Ring device.member ∷ files.History device ∷ []) folder
+  pub writes : WritesLine IsJust folder out (text_in device at content) answer
+
+-- `entries NAME M --from POS`: the same, and the lines of the entries from that position on are written
+pub record EntriesOutcome {T : Type 0} (names : FileNames) (device : Device) (from : ℕ) (folder : Use FolderTold) (out : Use StreamTold) (answer : Result T Fault) : Type 0 where
+  pub content : CheckedFiles
+  pub are : AreCheckedFiles folder.before.files names device content
+  pub reads : OnlyReads names (files.Genesis ∷ files.Key device ∷ files.Ring device.member ∷ files.History device ∷ []) folder
+  pub writes : WritesLine IsJust folder out (lines_in device from content) answer
+
+-- ---- compare
+
+-- `compare NAME M N`: the genesis and then the histories of both devices are read, whole, and the line of how the chain of the first
+-- stands to that of the second is written
+pub record CompareOutcome {T : Type 0} (names : FileNames) (m n : Device) (folder : Use FolderTold) (out : Use StreamTold) (answer : Result T Fault) : Type 0 where
+  pub content : ComparedFiles
+  pub are : AreComparedFiles folder.before.files names m n content
+  pub reads : OnlyReads names (files.Genesis ∷ files.History m ∷ files.History n ∷ []) folder
+  pub writes : WritesLine (IsVerdictLine m n) folder out (chains_in m n content) answer
+
+-- ---- serve
+
+-- the line that says how many entries were saved
+abbrev pub log_line : ℕ → List ℕ
+log_line len = codes "log " ++ (decimal len ++ codes "\n")
+
+-- the file of an order's entries was written
+pub record SavesLog (names : FileNames) (folder : Use FolderTold) (order : OrderModel) : Type 0 where
+  pub log : List ℕ
+  pub saved : saved_log order ≡ Ok log
+  pub files : folder.after.files ≡ option_map (λ old. with_file old (file_name names files.Log) log) folder.before.files
+
+-- how an order's entries were saved and this line was written, by the answer
+module _ (names : FileNames) (folder : Use FolderTold) (out : Use StreamTold) (order : OrderModel) (line : List ℕ) where
+  abbrev pub KeepsLog : {T : Type 0} → Result T Fault → Type 0
+  KeepsLog (Ok done) = SavesLog names folder order × Appends out.before.written out.after.written line
+  KeepsLog (Err faults.Memory) = (folder.after.files ≡ folder.before.files) × IsUnwritten out
+  KeepsLog (Err faults.FullFile) = (saved_log order ≡ Err faults.FullFile) × (folder.after.files ≡ folder.before.files) × IsUnwritten out
+  KeepsLog (Err faults.Outside) =
+      (Rose folder.before.faults folder.after.faults × ChangesFile folder.before.files folder.after.files (file_name names files.Log) × IsUnwritten out)
+      ⊎ (SavesLog names folder order × Rose out.before.faults out.after.faults
+      × AppendsPrefix out.before.written out.after.written line)
+  KeepsLog (Err fault) = ⊥
+
+-- why nothing was served, where the folder's count of faults went from `before` to `after`
+abbrev pub FailsToBegin : {T : Type 0} → ℕ → ℕ → Result OrderModel Fault → Result T Fault → Type 0
+FailsToBegin before after found (Ok done) = ⊥
+FailsToBegin before after found (Err faults.Memory) = Unit {0}
+FailsToBegin before after found (Err faults.Outside) = Rose before after
+FailsToBegin before after found (Err fault) = found ≡ Err fault
+
+-- the files were read, of which the tail's was made if there was none, and nothing else was done
+pub record IsOpened (names : FileNames) (folder : Use FolderTold) (out : Use StreamTold) (opened : Moment) : Type 0 where
+  pub files : opened.folder.files ≡ option_map (λ told. made_in told (file_name names files.Tail)) folder.before.files
+  pub since : folder.before.faults ≤ opened.folder.faults
+  pub written : opened.out.written ≡ out.before.written
+  pub sink_faults : opened.out.faults ≡ out.before.faults
+
+module _ (names : FileNames) (sessions : ℕ) where
+  -- one round: sessions were served from an order, and what came of it was saved
+  pub record IsRound (a : Standing OrderModel) (r : Round OrderModel) : Type 0 where
+    pub served : Result (Unit {0}) ServeFault
+    pub serves : IsServed a.held r.after.held a.net r.after.net sessions served
+    pub keeps : KeepsLog names (folder_between a.moment r.after.moment) (sink_between a.moment r.after.moment) r.after.held (log_line (length r.after.held.entries)) r.saved
+    pub answer_is : r.answer ≡ ended served r.saved
+    pub behind : IsBehind a.moment r.after.moment
+
+  module _ (times : ℕ) (folder : Use FolderTold) (out : Use StreamTold) (old new : NetTold) where
+    -- nothing was served: a file failed, memory ran out, or the folder failed; no file but the tail's may have changed
+    pub record NotServed {T : Type 0} (answer : Result T Fault) : Type 0 where
+      pub content : ServedFiles
+      pub are : AreServedFiles folder.before.files names content
+      pub changes : ChangesFile folder.before.files folder.after.files (file_name names files.Tail)
+      pub fails : FailsToBegin folder.before.faults folder.after.faults (order_in content) answer
+      pub net : new ≡ old
+      pub unwritten : IsUnwritten out
+
+    -- Sessions were served from the order in the files, so many times at the most, and what came of each time was saved. Then the tail is gone if the
+    -- log has all entries, and else it gives them
+    pub record ServedAndKept (answer : Result (Unit {0}) Fault) : Type 0 where
+      pub content : ServedFiles
+      pub are : AreServedFiles folder.before.files names content
+      pub before : OrderModel
+      pub begins : order_in content ≡ Ok before
+      pub logged : ℕ
+      pub has_logged : HasLogged content logged
+      pub opened : Moment
+      pub is_opened : IsOpened names folder out opened
+      pub last : Round OrderModel
+      pub rounds : GoRounds IsRound times (record { held = before; moment = opened; net = old }) last
+      pub net : new ≡ last.after.net
+      pub given : Result (Unit {0}) Fault
+      pub gives : GivesBack (file_name names files.Tail) (folder_between last.after.moment (at_end folder out)) logged last.after.held.genesis.document
+          last.after.held.entries last.saved given
+      pub alone : ChangesFolderAlone last.after.moment (at_end folder out)
+      pub answer_is : answer ≡ after_last last.answer given
+
+    -- `serve NAME ADDRESS --sessions K --times T`
+    abbrev pub ServeOutcome : Result (Unit {0}) Fault → Type 0
+    ServeOutcome answer = NotServed answer ⊎ ServedAndKept answer

@@ -1,0 +1,42 @@
+//! The saved history of a device, read and examined.
+
+ghost use Rattle.std.specs.Prelude.{◌≡◌, ◌≤◌, [], ◌∷◌};
+ghost use Rattle.sporc_files.specs.Names.{file_name};
+ghost use Rattle.sporc_files.specs.Uses.{AsksOnly};
+ghost use Rattle.sporc_commands.specs.Checking.{FindsLine};
+
+use crate::examining::examine;
+use sporc_files::{
+    Fault, File, Names, read_bytes, read_genesis_file, read_own_key, read_ring_file,
+};
+use sporc_line::Line;
+use sporc_member::Device;
+use sporc_outside::{Folder, Gate};
+use std::alloc::Global;
+use std::sync::Wait;
+use std::thread::Threads;
+
+// The saved history of a device, all of which it accepts.
+pub(crate) fn read_line<R: Threads + Wait + Sync, F: Folder, G: Gate + Sync>(
+    rt: &R,
+    alloc: Global,
+    files: &mut F,
+    names: &Names<'_>,
+    device: Device,
+    gate: &G,
+) -> Result<Line, Fault>
+    ensures found { FindsLine (F.told files.old).files names.now device (F.told files.old).faults (F.told files.new).faults result }
+    ensures files { (F.told files.new).files ≡ (F.told files.old).files }
+    ensures lent { (F.told files.new).lent ≡ (F.told files.old).lent }
+    ensures may_ask { AsksOnly
+        (file_name names.now File.Genesis ∷ file_name names.now (File.Key device) ∷ file_name names.now (File.Ring device.member)
+        ∷ file_name names.now (File.History device) ∷ [])
+        (F.told files.old).asked (F.told files.new).asked }
+    ensures kept { (F.told files.old).faults ≤ (F.told files.new).faults }
+{
+    let genesis = read_genesis_file(alloc, files, names)?;
+    read_own_key(rt, alloc, files, names, device, &genesis)?;
+    let ring = read_ring_file(alloc, files, names, device.member)?;
+    let history = read_bytes(alloc, files, names, File::History(device))?;
+    examine(rt, alloc, genesis, device, &ring, history.as_slice(), gate)
+}

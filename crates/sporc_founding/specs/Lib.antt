@@ -1,3 +1,0 @@
-pub mod KeyMaking
-pub mod Founding
-pub mod KeyShowing

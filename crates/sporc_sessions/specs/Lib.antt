@@ -1,9 +1,0 @@
-pub mod Report
-pub mod Resuming
-pub mod Sessions
-pub mod Nets
-pub mod Causes
-pub mod Hinting
-pub mod Opening
-pub mod Concluding
-pub mod Attending
