@@ -168,11 +168,11 @@ change_same Upgrade (DropDevice n e) r t p q same = absurd (apart 6 5 _ _ same r
 
 -- a change that was read is typed
 pub typed_of : (c : MemberChange) → IsChange c → IsTypedChange c
-typed_of (Add member role key) is = (is.0.small, is.1)
-typed_of (Remove member) is = is.small
-typed_of (SetRole member role) is = is.small
-typed_of (AddDevice member device key) is = (is.0.small, is.1, is.2)
-typed_of (DropDevice member device) is = (is.0.small, is.1)
+typed_of (Add member role key) is = (is.0.1, is.1)
+typed_of (Remove member) is = is.1
+typed_of (SetRole member role) is = is.1
+typed_of (AddDevice member device key) is = (is.0.1, is.1, is.2)
+typed_of (DropDevice member device) is = (is.0.1, is.1)
 typed_of Upgrade is = tt
 
 -- the body of an entry that is a change

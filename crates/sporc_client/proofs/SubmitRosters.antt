@@ -131,7 +131,7 @@ FewIf g kit entries = Good g kit entries → IsFew (roster_of g entries)
 
 founders_positive : (founders : List Founder) → AllByRecursion IsFounder founders → AllByRecursion IsPositive (map member_by founders)
 founders_positive [] all = tt
-founders_positive (m ∷ founders) all = (all.0.member.positive, founders_positive founders all.1)
+founders_positive (m ∷ founders) all = (all.0.member.0, founders_positive founders all.1)
 
 no_bad_change : (fault : Option ChangeFault) (rest : List (Option Refusal)) → first_of (bad_change fault ∷ rest) ≡ None → fault ≡ None
 no_bad_change None rest h = refl
@@ -189,21 +189,21 @@ either test new old false = old
 pub change_written : (roster : Roster) (change : MemberChange) → IsFew roster → change_fault_of roster change ≡ None → IsTypedChange change → IsChange change
 change_written roster (Add member role key) is none typed =
     let a = passes (not (member == 0) && not (is_used roster member)) faults.NumberUsed _ none in
-    (record { positive = positive_new roster member a.0; small = typed.0 }, typed.1)
+    ((positive_new roster member a.0, typed.0), typed.1)
 change_written roster (Remove member) is none typed =
     let a = passes (is_some (member_at roster member)) faults.NotMember _ none in
-    record { positive = found_positive member roster.members is.positive a.0; small = typed }
+    (found_positive member roster.members is.positive a.0, typed)
 change_written roster (SetRole member role) is none typed =
     let a = passes (is_some (member_at roster member)) faults.NotMember _ none in
-    record { positive = found_positive member roster.members is.positive a.0; small = typed }
+    (found_positive member roster.members is.positive a.0, typed)
 change_written roster (AddDevice member device key) is none typed =
     let a = passes roster.upgraded faults.NotUpgraded _ none in
     let b = passes (is_some (member_at roster member)) faults.NotMember _ a.1 in
-    (record { positive = found_positive member roster.members is.positive b.0; small = typed.0 }, typed.1, typed.2)
+    ((found_positive member roster.members is.positive b.0, typed.0), typed.1, typed.2)
 change_written roster (DropDevice member device) is none typed =
     let a = passes roster.upgraded faults.NotUpgraded _ none in
     let b = passes (is_some (member_at roster member)) faults.NotMember _ a.1 in
-    (record { positive = found_positive member roster.members is.positive b.0; small = typed.0 }, typed.1)
+    ((found_positive member roster.members is.positive b.0, typed.0), typed.1)
 change_written roster Upgrade is none typed = tt
 
 -- and an entry of the version at this roster may be of its kind

@@ -70,7 +70,7 @@ abbrev pub IsSmallMember : Member → Type 0
 IsSmallMember m = m.member < 2 ^ 16
 
 pub small_change : (roster : Roster) (change : MemberChange) → IsChange change → AllByRecursion IsSmallMember roster.members → AllByRecursion IsSmallMember (after_change roster change).members
-small_change roster (Add member role key) is all = all_added IsSmallMember (record { member = member; role = role }) roster.members is.0.small all
+small_change roster (Add member role key) is all = all_added IsSmallMember (record { member = member; role = role }) roster.members is.0.1 all
 small_change roster (Remove member) is all = all_filter IsSmallMember (λ m. not (m.member == member)) roster.members all
 small_change roster (SetRole member role) is all = all_roles IsSmallMember (λ m role h. h) member role roster.members all
 small_change roster (AddDevice member device key) is all = all
@@ -84,7 +84,7 @@ small_changes roster (c ∷ cs) typed all = small_changes (after_change roster c
 
 founders_small : (founders : List Founder) → AllByRecursion IsFounder founders → AllByRecursion IsSmallMember (map member_by founders)
 founders_small [] all = tt
-founders_small (m ∷ founders) all = (all.0.member.small, founders_small founders all.1)
+founders_small (m ∷ founders) all = (all.0.member.1, founders_small founders all.1)
 
 pub small_roster : (g : Genesis) (entries : List (List ℕ)) → AllByRecursion IsFounder g.founders → AllByRecursion IsBytes entries → AllByRecursion IsSmallMember (roster_of g entries).members
 small_roster g entries founders typed = small_changes (founded g.founders) (changes entries) (changes_typed entries typed) (founders_small g.founders founders)

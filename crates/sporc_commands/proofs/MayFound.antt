@@ -4,7 +4,7 @@ use Rattle.std.specs.List.{AllByRecursion, IsDistinct, list_any}
 use Rattle.std.specs.Cmp.{nat_eq_equiv}
 use Rattle.std.proofs.lemmas.Bool.{and_parts, leb-true, not-true, or_parts}
 use Rattle.sporc_member.specs.declared.limits.TheConstants.{MAX_MEMBERS}
-use Rattle.sporc_entry.specs.ChangeBody.{IsMember}
+use Rattle.sporc_member.specs.Device.{IsMember}
 use Rattle.sporc_outside.specs.declared.named_file.NamedFile.{NamedFile}
 use Rattle.sporc_keys.specs.declared.named.Named.{Named}
 use Rattle.sporc_keys.specs.Founding.{CanFound, is_first_admin, number_of, numbers_of}

@@ -7,8 +7,7 @@ use Rattle.sporc_outside.specs.declared.named_file.NamedFile.{NamedFile}
 use Rattle.sporc_outside.specs.Uses.{Use}
 use Rattle.sporc_outside.specs.Folders.{FolderTold}
 use Rattle.sporc_outside.specs.Chances.{ChanceTold}
-use Rattle.sporc_member.specs.Device.{first_device}
-use Rattle.sporc_entry.specs.ChangeBody.{IsMember}
+use Rattle.sporc_member.specs.Device.{IsMember, first_device}
 use Rattle.sporc_entry.specs.Genesis.{genesis_bytes}
 use Rattle.sporc_keys.specs.declared.founding.Founding.{Founding}
 use Rattle.sporc_keys.specs.declared.named.Named.{Named}

@@ -21,7 +21,8 @@ use Rattle.sporc_entry.specs.Fields.{role_at}
 use Rattle.sporc_entry.specs.declared.fault.EntryFault.TheVariants.{Malformed, Memory}
 use Rattle.sporc_base.specs.Outcome.{GivesUnless}
 use Rattle.sporc_entry.specs.declared.version.TheConstants.{ADD, REMOVE, SET_ROLE, ADD_DEVICE, DROP_DEVICE, UPGRADE}
-use Rattle.sporc_entry.specs.ChangeBody.{kind_at, change_of_device, change_of_member, change_of_kind, change_at, wrap_at, change_body_at, change_body_from, kind_of, change_fields, change_bytes, wrap_bytes, change_body_bytes, IsMember, IsChange, IsWrap, IsChangeBody}
+use Rattle.sporc_member.specs.Device.{IsMember}
+use Rattle.sporc_entry.specs.ChangeBody.{kind_at, change_of_device, change_of_member, change_of_kind, change_at, wrap_at, change_body_at, change_body_from, kind_of, change_fields, change_bytes, wrap_bytes, change_body_bytes, IsChange, IsWrap, IsChangeBody}
 use Rattle.sporc_entry.specs.Version.{has_kind}
 use Rattle.sporc_entry.proofs.FieldLaws.{Leaves, byte_is, role_takes, role_again}
 use Rattle.sporc_entry.proofs.VersionLaws.{kind_known, kind_takes, kind_again}
@@ -106,7 +107,7 @@ of_kind_takes kind r x low high h e = go (eqb kind UPGRADE) refl e
         let other = eqb-false kind UPGRADE p in
         let m = bind_ok (number_within 1 HIGHEST_MEMBER w16 r) (λ member. change_of_member kind member.0 member.1) x e in
         let tm = within_takes 1 HIGHEST_MEMBER w16 (2 ^ 16) wide16 r m.0 h m.1 in
-        member_takes kind r m.0.1 m.0.0 x tm.0 (record { positive = omega (arith, tm.1); small = omega (arith, tm.2) }) low (omega (arith, high, other)) m.2
+        member_takes kind r m.0.1 m.0.0 x tm.0 (omega (arith, tm.1), omega (arith, tm.2)) low (omega (arith, high, other)) m.2
 
 -- a change that is read is spelled so, and of a kind that the version has
 pub record IsTaken (version : ℕ) (r : Reading) (x : Change × Reading) : Type 0 where
@@ -135,7 +136,7 @@ abbrev ReadsTo : {A : Type 0} → Result (A × Reading) ℕ → A → List ℕ �
 ReadsTo r x rest = (at : ℕ) × (r ≡ Ok (x, record { rest = rest; at = at }))
 
 member_again : (member at : ℕ) (rest : List ℕ) → IsMember member → number_within 1 HIGHEST_MEMBER w16 (record { rest = to_be_bytes w16 member ++ rest; at = at }) ≡ Ok (member, record { rest = rest; at = at + 2 })
-member_again member at rest is = u16_within_again 1 HIGHEST_MEMBER member at rest (omega (arith, is.positive)) (omega (arith, is.small)) is.small
+member_again member at rest is = u16_within_again 1 HIGHEST_MEMBER member at rest (omega (arith, is.0)) (omega (arith, is.1)) is.1
 
 change_again : (version : ℕ) (c : Change) (at : ℕ) (rest : List ℕ) → has_kind version (kind_of c) ≡ true → IsChange c
     → ReadsTo (change_at version (record { rest = change_bytes c rest; at = at })) c rest

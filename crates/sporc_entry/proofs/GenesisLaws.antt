@@ -71,7 +71,7 @@ founder_takes least r x pos h e =
     let made : Founder × Reading = (record { member = a.0.0; role = b.0.0; key = c.0.0 }, c.0.1) in
     let last = Takes-then a.0.1 (role_code_of b.0.0 ∷ []) b.0.1 c.0.0 c.0.1 tb tc.0 in
     let whole = Takes-then r (to_be_bytes w16 a.0.0) a.0.1 ((role_code_of b.0.0 ∷ []) ++ c.0.0) c.0.1 ta.0 last in
-    let is : IsFounder made.0 = record { member = record { positive = omega (arith, pos, ta.1); small = omega (arith, ta.2) }; key = tc.1 } in
+    let is : IsFounder made.0 = record { member = (omega (arith, pos, ta.1), omega (arith, ta.2)); key = tc.1 } in
     let P : Founder × Reading → Type 0 = λ y. IsReadFrom number_of founder_bytes IsFounder least r (y.0, (y.0.member + 1, y.1)) in
     let Q : Founder × (ℕ × Reading) → Type 0 = λ y. IsReadFrom number_of founder_bytes IsFounder least r y in
     subst Q (ok_is (f.0.0, (f.0.0.member + 1, f.0.1)) x f.2) (subst P (ok_is made f.0 c.2) (record { text = whole; above = ta.1; next = refl; is = is }))
@@ -81,7 +81,7 @@ unfolding founder_at
 founder_again least m at rest is le =
     let regrouped : founder_bytes m ++ rest ≡ to_be_bytes w16 m.member ++ (role_code_of m.role ∷ (m.key ++ rest)) = append_assoc (to_be_bytes w16 m.member) (role_code_of m.role ∷ m.key) rest in
     ap (λ (bs : List ℕ). founder_at least (record { rest = bs; at = at })) regrouped ∙ rw (
-      u16_within_again least HIGHEST_MEMBER m.member at (role_code_of m.role ∷ (m.key ++ rest)) le (omega (arith, is.member.small)) is.member.small,
+      u16_within_again least HIGHEST_MEMBER m.member at (role_code_of m.role ∷ (m.key ++ rest)) le (omega (arith, is.member.1)) is.member.1,
       role_again m.role (at + 2) (m.key ++ rest),
       bytes_again 56 (at + 2 + 1) m.key rest is.key,
     ) refl
@@ -109,7 +109,7 @@ founders_take n r x h e =
 -- founders in range ascend from 1 on
 ascends_from_one : (ms : List Founder) → AllByRecursion IsFounder ms → IsStrictlyIncreasing (founder_numbers ms) → Ascends number_of 1 ms
 ascends_from_one [] is asc = tt
-ascends_from_one (m ∷ ms) is asc = increasing_ascends 1 m ms (omega (arith, is.0.member.positive)) asc
+ascends_from_one (m ∷ ms) is asc = increasing_ascends 1 m ms (omega (arith, is.0.member.0)) asc
 
 -- the founders of all bytes that are left
 founders_again : (ms : List Founder) (at : ℕ) → AllByRecursion IsFounder ms → IsStrictlyIncreasing (founder_numbers ms)

@@ -18,6 +18,7 @@ use Rattle.sporc_member.specs.declared.limits.TheConstants.{MAX_MEMBERS}
 use Rattle.sporc_entry.specs.declared.limits.TheConstants.{HIGHEST_MEMBER}
 use Rattle.sporc_member.specs.declared.change.Change.{Change}
 use Rattle.sporc_member.specs.declared.change.Change.TheVariants.{Add, Remove, SetRole, AddDevice, DropDevice, Upgrade}
+use Rattle.sporc_member.specs.Device.{IsMember}
 use Rattle.sporc_member.specs.Role.{role_code_of}
 use Rattle.sporc_entry.specs.declared.change.ChangeBody.{ChangeBody}
 use Rattle.sporc_entry.specs.declared.wrap.Wrap.{Wrap}
@@ -127,11 +128,6 @@ unfoldable pub change_body_bytes : ChangeBody → List ℕ
 change_body_bytes c = change_bytes c.change (c.commitment ++ (c.previous ++ (to_be_bytes w16 (length c.wraps) ++ flat_map wrap_bytes c.wraps)))
 
 -- ---- what has a spelling
-
--- a member's number
-pub record IsMember (member : ℕ) : Type 0 where
-  pub positive : 0 < member
-  pub small : member < 2 ^ 16
 
 abbrev pub IsChange : Change → Type 0
 IsChange (Add member role key) = IsMember member × (length key ≡ 56)

@@ -22,7 +22,7 @@ use Rattle.sporc_entry.specs.declared.fault.GenesisFault.{GenesisFault}
 use Rattle.sporc_entry.specs.declared.fault.GenesisFault.TheVariants.{Malformed, NoAdmin, BadKey}
 use Rattle.sporc_entry.specs.declared.genesis.Genesis.{Genesis}
 use Rattle.sporc_entry.specs.Fields.{role_at}
-use Rattle.sporc_entry.specs.ChangeBody.{IsMember}
+use Rattle.sporc_member.specs.Device.{IsMember}
 
 -- ---- reading
 

@@ -1,7 +1,8 @@
 -- The names of a command's files.
 use Rattle.std.specs.Prelude.{ℕ, ◌-◌, List, [], ◌++◌, codes, slice_index_or}
 use Rattle.std.specs.Fmt.{decimal}
-use Rattle.sporc_script.specs.Spelling.{DeviceInRange, IsMember, device_text}
+use Rattle.sporc_member.specs.Device.{IsMember}
+use Rattle.sporc_script.specs.Spelling.{DeviceInRange, device_text}
 use Rattle.sporc_files.specs.declared.file.File.{File}
 use Rattle.sporc_files.specs.declared.file.File.TheVariants as files
 

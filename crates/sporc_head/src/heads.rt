@@ -1,6 +1,6 @@
 //! A history, with what its checks look up.
 
-ghost use Rattle.std.specs.Prelude.{◌≡◌, ◌+◌, ◌<◌, ◌≤◌, ◌∷◌, ◌++◌, [], length, take, map, Option, option_map, None, Some, IfOk, IfErr, IfSome, OnOk, OnErr, IsOk};
+ghost use Rattle.std.specs.Prelude.{◌≡◌, ◌+◌, ◌<◌, ◌≤◌, ◌∷◌, ◌++◌, [], length, take, map, Option, option_map, None, Some, IfOk, IfErr, IfSome, OnOk, OnErr, IsOk, IsTrue, ◌↔◌};
 ghost use Rattle.std.specs.List.{All};
 ghost use Rattle.sporc_base.specs.FirstFault.{Answers, AnswersUnless, first_of};
 ghost use Rattle.sporc_hash.specs.Chain.{chain};
@@ -88,6 +88,13 @@ impl Heads {
         ensures within { result ≤ MAX_ENTRIES }
     {
         self.entries.len() as u32
+    }
+
+    /// Whether there are none.
+    pub fn is_empty(&self) -> bool
+        ensures value { IsTrue result ↔ (length self.now.entries ≡ 0) }
+    {
+        self.len() == 0
     }
 
     /// The bytes of the entries, oldest first.

@@ -12,7 +12,7 @@ use Rattle.sporc_member.specs.declared.founder.Founder.{Founder}
 use Rattle.sporc_member.specs.declared.limits.TheConstants.{MAX_MEMBERS}
 use Rattle.sporc_member.specs.Role.{is_admin}
 use Rattle.sporc_member.specs.Roster.{founder_numbers}
-use Rattle.sporc_entry.specs.ChangeBody.{IsMember}
+use Rattle.sporc_member.specs.Device.{IsMember}
 use Rattle.sporc_entry.specs.Genesis.{IsFounder, IsGenesis, bad_key, founders_fault}
 use Rattle.sporc_entry.specs.declared.genesis.Genesis.{Genesis}
 use Rattle.sporc_outside.specs.Told.{AppendsItem}
@@ -104,11 +104,11 @@ IsSmallPair p = (p.0 < 2 ^ 16) × (p.1 < 2 ^ 16)
 row_small : (n : ℕ) (ns : List ℕ) → n < 2 ^ 16 → AllByRecursion IsMember ns → AllByRecursion IsSmallPair (row n ns)
 unfolding row
 row_small n [] small all = tt
-row_small n (m ∷ ms) small all = ((small, all.0.small), row_small n ms small all.1)
+row_small n (m ∷ ms) small all = ((small, all.0.1), row_small n ms small all.1)
 
 pairs_small : (ns : List ℕ) → AllByRecursion IsMember ns → AllByRecursion IsSmallPair (pairs_of ns)
 pairs_small [] all = tt
-pairs_small (n ∷ ns) all = all_append IsSmallPair (row n (n ∷ ns)) (pairs_of ns) (row_small n (n ∷ ns) all.0.small all) (pairs_small ns all.1)
+pairs_small (n ∷ ns) all = all_append IsSmallPair (row n (n ∷ ns)) (pairs_of ns) (row_small n (n ∷ ns) all.0.1 all) (pairs_small ns all.1)
 
 are_shared : (ps : List (ℕ × ℕ)) (ws : List (List ℕ)) → AllByRecursion IsSmallPair ps → AllByRecursion (λ word. length word ≡ 32) ws → AllByRecursion IsShared (map shared_by (zip ps ws))
 are_shared [] ws small sized = tt
@@ -145,7 +145,7 @@ ring_is all key words n made member among =
     let many : length pairs ≡ length all = sym (length-map pairs (λ p. p.member)) ∙ ap length named ∙ length-map all number_of in
     let P : List ℕ → Type 0 = λ ns. IsStrictlyIncreasing ns in
     record {
-      member = member.small;
+      member = member.1;
       epoch_key = key_sized key n made.epoch_key;
       count = omega (arith, many, made.ordered.count);
       pairs = are_pair_keys (number_of n) (shared_keys (numbers_of all) words) (are_shared (pairs_of (numbers_of all)) words (pairs_small (numbers_of all) made.ordered.members) made.sized);

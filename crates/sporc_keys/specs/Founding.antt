@@ -6,7 +6,7 @@ use Rattle.sporc_hash.specs.Chain.{commitment_of}
 use Rattle.sporc_member.specs.declared.founder.Founder.{Founder}
 use Rattle.sporc_member.specs.declared.limits.TheConstants.{MAX_MEMBERS}
 use Rattle.sporc_member.specs.Role.{is_admin}
-use Rattle.sporc_entry.specs.ChangeBody.{IsMember}
+use Rattle.sporc_member.specs.Device.{IsMember}
 use Rattle.sporc_entry.specs.declared.genesis.Genesis.{Genesis}
 use Rattle.sporc_keys.specs.declared.founding.Founding.{Founding}
 use Rattle.sporc_keys.specs.declared.named.Named.{Named}

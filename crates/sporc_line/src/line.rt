@@ -1,6 +1,6 @@
 //! A history as one member reads it.
 
-ghost use Rattle.std.specs.Prelude.{◌≡◌, ◌-◌, ◌≤◌, [], length, take, map, slice_get, Some, IfOk, is_none, option_copied};
+ghost use Rattle.std.specs.Prelude.{◌≡◌, ◌-◌, ◌≤◌, [], length, take, map, slice_get, Some, IfOk, is_none, option_copied, IsTrue, ◌↔◌};
 ghost use Rattle.std.specs.String.{string_bytes};
 ghost use Rattle.std.specs.Str.{chars, encode_utf8_all};
 ghost use Rattle.std.specs.FinMap as map;
@@ -151,6 +151,13 @@ impl Line {
         ensures good { Good self.now.genesis self.now.kit self.now.entries }
     {
         self.heads.len()
+    }
+
+    /// Whether there are none.
+    pub fn is_empty(&self) -> bool
+        ensures value { IsTrue result ↔ (length self.now.entries ≡ 0) }
+    {
+        self.heads.is_empty()
     }
 
     /// The value of the chain after the last entry.

@@ -1,9 +1,13 @@
 -- Devices of members, and their order.
-use Rattle.std.specs.Prelude.{ℕ, ◌==◌, Bool, ◌&&◌, ◌||◌, nat_lt, nat_le, List}
+use Rattle.std.specs.Prelude.{ℕ, ◌<◌, ◌^◌, ◌==◌, Bool, ◌&&◌, ◌||◌, nat_lt, nat_le, List}
 use Rattle.std.specs.List.{insert, position_or_len}
 use Rattle.sporc_member.specs.declared.device.Device.{Device}
 use Rattle.sporc_member.specs.declared.device.LiveDevice.{LiveDevice}
 use Rattle.sporc_member.specs.declared.device.TheConstants.{FIRST_DEVICE}
+
+-- a member's number
+abbrev pub IsMember : ℕ → Type 0
+IsMember member = (0 < member) × (member < 2 ^ 16)
 
 -- the device that a member begins with
 abbrev pub first_device : ℕ → Device

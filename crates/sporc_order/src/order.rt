@@ -1,6 +1,6 @@
 //! An order of entries.
 
-ghost use Rattle.std.specs.Prelude.{◌≡◌, ◌+◌, ◌∷◌, ◌++◌, [], ◌≤◌, ◌<◌, ◌↔◌, length, take, map, None, nat_lt, nat_le, ◌&&◌, IfOk, IfSome, OnOk, OnErr};
+ghost use Rattle.std.specs.Prelude.{◌≡◌, ◌+◌, ◌∷◌, ◌++◌, [], ◌≤◌, ◌<◌, ◌↔◌, length, take, map, None, nat_lt, nat_le, ◌&&◌, IfOk, IfSome, OnOk, OnErr, IsTrue};
 ghost use Rattle.sporc_base.specs.FirstFault.{AnswersUnless};
 ghost use Rattle.sporc_entry.specs.Genesis.{IsGenesis};
 ghost use Rattle.sporc_head.specs.declared.limits.TheConstants.{MAX_ENTRIES};
@@ -72,6 +72,13 @@ impl Order {
         ensures within { result ≤ MAX_ENTRIES }
     {
         self.heads.len()
+    }
+
+    /// Whether there are none.
+    pub fn is_empty(&self) -> bool
+        ensures value { IsTrue result ↔ (length self.now.entries ≡ 0) }
+    {
+        self.heads.is_empty()
     }
 
     /// The entries, as they came.

@@ -4,26 +4,32 @@ ghost use Rattle.std.specs.Prelude.{◌≡◌, ◌+◌, ◌++◌, ◌∷◌, ℕ
 
 use sporc_head::Refusal;
 use std::alloc::AllocError;
+use thiserror::Error;
 
 /// An entry is not kept.
-#[derive(Clone, Copy)]
+#[derive(Clone, Copy, Debug, PartialEq, Eq, Error)]
+#[error("the entry is not kept")]
 pub struct Unkept;
 
 /// Why an entry is not taken.
-#[derive(Clone, Copy)]
+#[derive(Clone, Copy, Debug, PartialEq, Eq, Error)]
 pub enum Untaken {
     /// It fails this check, or memory ran out.
+    #[error("the entry is refused: {0}")]
     Refused(Refusal),
     /// It fails none, and is not kept.
+    #[error("the entry is not kept")]
     Unkept,
 }
 
 /// Why a message is not answered.
-#[derive(Clone, Copy)]
+#[derive(Clone, Copy, Debug, PartialEq, Eq, Error)]
 pub enum Unanswered {
     /// Memory ran out.
+    #[error("out of memory")]
     Memory,
     /// Its entry fails no check, and is not kept.
+    #[error("the entry is not kept")]
     Unkept,
 }
 

@@ -141,7 +141,7 @@ each_put files more names name bytes is h = by (file_in files name) is
 
 -- ---- what a removal leaves
 
-file_in-without : (files : List NamedFile) (name other : List ℕ) → bytes_eq name other ≡ false → file_in (without_file files name) other ≡ file_in files other
+pub file_in-without : (files : List NamedFile) (name other : List ℕ) → bytes_eq name other ≡ false → file_in (without_file files name) other ≡ file_in files other
 file_in-without [] name other apart = refl
 file_in-without (g ∷ gs) name other apart = go (bytes_eq g.name name) refl (file_in-without gs name other apart)
   where

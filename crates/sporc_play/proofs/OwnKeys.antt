@@ -44,4 +44,4 @@ own_key_known tree who =
     public_key_read_back (lms_public_of key) (half_len 2 who.member who.number) (root_len key (height_of key.lms) 1)
 
 pub own_founder : (tree : Tree) (m : MemberRole) → 0 < m.member → m.member < 2 ^ 16 → IsFounder (founder_of tree m)
-own_founder tree m positive small = record { member = record { positive = positive; small = small }; key = own_key_len tree (first_device m.member) }
+own_founder tree m positive small = record { member = (positive, small); key = own_key_len tree (first_device m.member) }

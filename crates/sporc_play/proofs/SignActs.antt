@@ -17,14 +17,14 @@ use Rattle.sporc_entry.specs.Version.{names_device, version_of}
 use Rattle.sporc_epoch.specs.Sealing.{body_sealed}
 use Rattle.sporc_epoch.specs.Streams.{previous_stream, stream_of}
 use Rattle.sporc_member.specs.declared.device.TheConstants.{FIRST_DEVICE}
-use Rattle.sporc_member.specs.Device.{first_device}
+use Rattle.sporc_member.specs.Device.{IsMember, first_device}
 use Rattle.sporc_head.specs.History.{changes, epoch_of, hash_of, roster_of}
 use Rattle.sporc_line.specs.Keys.{key_after}
 use Rattle.sporc_client.specs.PlainClient.{Opening, PlainClient, committed_of}
 use Rattle.sporc_client.proofs.Reached.{reached_at}
 use Rattle.sporc_client.proofs.SoundRuns.{sound_and_typed_at}
 use Rattle.sporc_script.specs.Signs.{ForgeryInRange, MaySuffixInRange, SignedInRange, WhatInRange}
-use Rattle.sporc_script.specs.Spelling.{DeviceInRange, IsMember}
+use Rattle.sporc_script.specs.Spelling.{DeviceInRange}
 use Rattle.sporc_script.specs.declared.command.Command.TheVariants as commands
 use Rattle.sporc_script.specs.declared.play_line.PlayLine.{PlayLine}
 use Rattle.sporc_script.specs.declared.sign.Forgery.{Forgery}

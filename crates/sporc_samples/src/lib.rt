@@ -4,7 +4,7 @@
 //! - [`Cast`]: five members with their one-time keys, and the genesis of the document that they founded.
 //! - [`Draft`]: an entry to be signed, each field of whose header can be spoilt first.
 //! - [`Member::by_device`]: a further device of a member, with keys of its own.
-//! - [`History`]: a history that grows by signed edits and changes, by first devices or any others; [`short_history`] and [`forked_history`] part after three.
+//! - [`History`]: a history that grows by signed edits and changes, by first devices or any others; [`short_history`] is one of four entries.
 //! - [`epoch_key`], [`pair_key`]: the keys that its edits are masked with and its changes seal.
 //! - [`count_calls`]: lets each call of an object fail in turn, in a run anew for each.
 //!
@@ -37,7 +37,7 @@ pub use calls::count_calls;
 pub use cast::{Cast, DOCUMENT};
 pub use draft::Draft;
 pub use fault::SampleFault;
-pub use histories::{forked_history, short_history};
+pub use histories::short_history;
 pub use history::History;
 pub use keys::{epoch_key, pair_key};
 pub use member::Member;

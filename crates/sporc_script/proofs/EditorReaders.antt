@@ -29,7 +29,8 @@ use Rattle.sporc_script.specs.Quoted.{quoted}
 use Rattle.sporc_script.specs.Readers.{device_number_of, keyed_of, member_of, pair_of}
 use Rattle.sporc_script.specs.Reading.{ReadsEditorLine}
 use Rattle.sporc_script.specs.Signs.{IsPayload}
-use Rattle.sporc_script.specs.Spelling.{DeviceInRange, IsMember, member_device_spelling, member_role_spelling, role_name}
+use Rattle.sporc_member.specs.Device.{IsMember}
+use Rattle.sporc_script.specs.Spelling.{DeviceInRange, member_device_spelling, member_role_spelling, role_name}
 use Rattle.sporc_script.proofs.Cuts.{IsWord, is_bare, word_from_test}
 use Rattle.sporc_script.proofs.DeviceWords.{device_number_exact}
 use Rattle.sporc_script.proofs.EditReaders.{insertion_exact, removal_exact}

@@ -19,7 +19,8 @@ use Rattle.sporc_script.specs.declared.command.Width.{Width}
 use Rattle.sporc_script.specs.declared.command.Width.TheVariants.{Four, Eight}
 use Rattle.sporc_script.specs.Readers.{device_number_of, device_of, further_number_of, member_of, pair_of, u32_of}
 use Rattle.sporc_script.specs.Plain.{flip_of, further_device_of, give_of, height_of, keyword_of, member_device_of, member_role_of, restart_of, role_of, tree_of, two_devices_of, two_members_of, width_of}
-use Rattle.sporc_script.specs.Spelling.{DeviceInRange, DevicePairInRange, FlipInRange, FurtherInRange, GiveInRange, IsDeviceNumber, IsMember, IsU64, PairInRange, RestartInRange, device_pair_spelling, device_text, flip_spelling, give_spelling, height_name, keyword_name, member_device_spelling, member_role_spelling, pair_spelling, restart_spelling, role_name, tree_spelling, width_name}
+use Rattle.sporc_member.specs.Device.{IsMember}
+use Rattle.sporc_script.specs.Spelling.{DeviceInRange, DevicePairInRange, FlipInRange, FurtherInRange, GiveInRange, IsDeviceNumber, IsU64, PairInRange, RestartInRange, device_pair_spelling, device_text, flip_spelling, give_spelling, height_name, keyword_name, member_device_spelling, member_role_spelling, pair_spelling, restart_spelling, role_name, tree_spelling, width_name}
 use Rattle.sporc_script.specs.Words.{number_of}
 use Rattle.sporc_script.proofs.Cuts.{IsWord, decimal_word, is_bare, word_from_test}
 use Rattle.sporc_script.proofs.DeviceWords.{device_exact, device_number_exact, device_words, further_number_exact}

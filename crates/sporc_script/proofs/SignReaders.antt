@@ -26,7 +26,8 @@ use Rattle.sporc_script.specs.Plain.{role_of}
 use Rattle.sporc_script.specs.Quoted.{quoted}
 use Rattle.sporc_script.specs.Readers.{behind_of, device_number_of, device_of, keyed_of, member_of, pair_of, then_read, u32_of}
 use Rattle.sporc_script.specs.Signs.{ForgeryInRange, IsPayload, IsVersion, MaySuffixInRange, SignedInRange, SuffixInRange, WhatInRange, forgery_of, forgery_spelling, is_version, last_of, lone_suffix, lone_word_name, lone_word_of, signed_of, signed_spelling, signed_upgrade, signed_with, stated_of, suffix_cut, suffix_fits, suffix_of, suffix_spelling, suffix_with, suffix_word_name, suffix_word_of, version_of, what_word_name, what_word_of, with_suffix}
-use Rattle.sporc_script.specs.Spelling.{DeviceInRange, IsDeviceNumber, IsMember, IsU64, device_text, role_name}
+use Rattle.sporc_member.specs.Device.{IsMember}
+use Rattle.sporc_script.specs.Spelling.{DeviceInRange, IsDeviceNumber, IsU64, device_text, role_name}
 use Rattle.sporc_script.specs.Texts.{text_of}
 use Rattle.sporc_script.specs.Words.{cut, number_of}
 use Rattle.sporc_script.proofs.Cuts.{IsWord, cut_end, cut_sound, cut_word, quoted_word, is_bare, word_from_test}

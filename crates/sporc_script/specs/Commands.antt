@@ -10,7 +10,8 @@ use Rattle.sporc_script.specs.Numbers.{JoinInRange, join_of, join_spelling}
 use Rattle.sporc_script.specs.Plain.{flip_of, further_device_of, give_of, keyword_of, member_role_of, restart_of, tree_of, two_devices_of, two_members_of}
 use Rattle.sporc_script.specs.Readers.{device_of, keyed_of, member_of}
 use Rattle.sporc_script.specs.Signs.{ForgeryInRange, forgery_of, forgery_spelling}
-use Rattle.sporc_script.specs.Spelling.{DeviceInRange, DevicePairInRange, EditInRange, FlipInRange, FurtherInRange, GiveInRange, IsMember, IsU64, PairInRange, RestartInRange, RosterEditInRange, device_pair_spelling, device_text, edit_spelling, flip_spelling, give_spelling, member_device_spelling, member_role_spelling, pair_spelling, restart_spelling, roster_edit_spelling, tree_spelling}
+use Rattle.sporc_member.specs.Device.{IsMember}
+use Rattle.sporc_script.specs.Spelling.{DeviceInRange, DevicePairInRange, EditInRange, FlipInRange, FurtherInRange, GiveInRange, IsU64, PairInRange, RestartInRange, RosterEditInRange, device_pair_spelling, device_text, edit_spelling, flip_spelling, give_spelling, member_device_spelling, member_role_spelling, pair_spelling, restart_spelling, roster_edit_spelling, tree_spelling}
 use Rattle.sporc_script.specs.Words.{number_of}
 
 abbrev pub spelling : Command → List ℕ

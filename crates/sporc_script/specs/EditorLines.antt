@@ -16,7 +16,8 @@ use Rattle.sporc_script.specs.Hex.{hex_of}
 use Rattle.sporc_script.specs.Plain.{member_device_of, member_role_of, role_of}
 use Rattle.sporc_script.specs.Quoted.{quoted}
 use Rattle.sporc_script.specs.Readers.{device_number_of, keyed_of, lone_or, member_of, named_of, pair_of, passing}
-use Rattle.sporc_script.specs.Spelling.{DeviceInRange, IsMember, IsU64, member_device_spelling, member_role_spelling, role_name}
+use Rattle.sporc_member.specs.Device.{IsMember}
+use Rattle.sporc_script.specs.Spelling.{DeviceInRange, IsU64, member_device_spelling, member_role_spelling, role_name}
 
 abbrev pub editor_word_name : EditorWord → List ℕ
 editor_word_name words.Insert = codes "insert"

@@ -21,7 +21,8 @@ use Rattle.sporc_script.specs.Hex.{hex_of}
 use Rattle.sporc_script.specs.Plain.{role_of}
 use Rattle.sporc_script.specs.Quoted.{quoted}
 use Rattle.sporc_script.specs.Readers.{behind_of, device_number_of, device_of, keyed_of, lone_or, member_of, named_of, pair_of, passing, with_more, u32_of}
-use Rattle.sporc_script.specs.Spelling.{DeviceInRange, IsDeviceNumber, IsMember, IsU64, RosterChangeInRange, device_text, role_name}
+use Rattle.sporc_member.specs.Device.{IsMember}
+use Rattle.sporc_script.specs.Spelling.{DeviceInRange, IsDeviceNumber, IsU64, RosterChangeInRange, device_text, role_name}
 use Rattle.sporc_script.specs.Texts.{text_of}
 use Rattle.sporc_script.specs.Words.{cut, number_of}
 

@@ -4,6 +4,7 @@ use Rattle.std.specs.Fmt.{decimal}
 use Rattle.std.specs.Str.{all_scalars}
 use Rattle.sporc_member.specs.declared.device.Device.{Device}
 use Rattle.sporc_member.specs.declared.device.TheConstants.{FIRST_DEVICE}
+use Rattle.sporc_member.specs.Device.{IsMember}
 use Rattle.sporc_member.specs.declared.role.Role.{Role}
 use Rattle.sporc_member.specs.declared.role.Role.TheVariants.{Reader, Editor, Admin}
 use Rattle.sporc_script.specs.declared.command.DevicePair.{DevicePair}
@@ -137,9 +138,6 @@ abbrev pub roster_edit_spelling : RosterEdit → List ℕ
 roster_edit_spelling e = device_text e.device ++ (codes " " ++ roster_change_spelling e.change)
 
 -- ---- the values: numbers fit their types, a member's is not 0, and characters are Unicode scalar values
-
-abbrev pub IsMember : ℕ → Type 0
-IsMember m = (0 < m) × (m < 2 ^ 16)
 
 abbrev pub IsDeviceNumber : ℕ → Type 0
 IsDeviceNumber n = n < 2 ^ 8

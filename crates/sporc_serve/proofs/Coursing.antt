@@ -16,7 +16,7 @@ use Rattle.sporc_serve.specs.declared.item.Item.{Item}
 use Rattle.sporc_serve.specs.declared.item.Item.TheVariants.{Placed}
 use Rattle.sporc_serve.specs.Logs.{order_at, added_of, placed_by}
 use Rattle.sporc_serve.specs.Sending.{bytes_of, sent_of}
-use Rattle.sporc_serve.specs.Turns.{IsAnswered, IsUnanswered}
+use Rattle.sporc_serve.specs.Turns.{IsAnswered, LeavesUnanswered}
 use Rattle.sporc_serve.specs.Courses.{Exchange, ServerStand, stand, messages_of, step_at, greeted_after, answers_of, entries_of, Grows, NoneCloses, Did, ServerCourse}
 
 -- ---- lists that begin with others
@@ -164,7 +164,7 @@ module _ (g : Genesis) where
 
   -- a turn without an answer changes nothing of it
   pub course_unanswered : (a b : ServerStand) (bytes : List ℕ) (xs : List Exchange) (known : Known Item) (s : Bool) (found : List Item)
-      → ServerCourse g a b bytes xs → IsUnanswered b.known known b.greeted s found → ServerCourse g a (record b { known = known }) bytes xs
+      → ServerCourse g a b bytes xs → LeavesUnanswered b.known known b.greeted s found → ServerCourse g a (record b { known = known }) bytes xs
   course_unanswered a b bytes xs known s found c h = record {
     did = record {
       taken = c.did.taken;

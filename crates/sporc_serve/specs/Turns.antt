@@ -32,7 +32,7 @@ pub record IsAnswered (genesis : Genesis) (before after : Known Item) (greeted g
   pub adds : SeesAndAdds before after found (placed_by before.number (added_of (order_at genesis found) greeted message))
 
 -- a turn ended without an answer, and changed nothing
-pub record IsUnanswered (before after : Known Item) (greeted greeted' : Bool) (found : List Item) : Type 0 where
+pub record LeavesUnanswered (before after : Known Item) (greeted greeted' : Bool) (found : List Item) : Type 0 where
   pub greeted_is : greeted' ≡ greeted
   pub adds : SeesAndAdds before after found []
 
@@ -70,4 +70,4 @@ abbrev pub TakesTurn : Genesis → Known Item → Known Item → Bool → Bool �
 TakesTurn genesis before after greeted greeted' message (Ok reply) =
     (answer : Answer) × (found : List Item) × IsAnswered genesis before after greeted greeted' message answer found × Says answer reply
 TakesTurn genesis before after greeted greeted' message (Err end) =
-    (found : List Item) × IsUnanswered before after greeted greeted' found × IsTurnEnd end
+    (found : List Item) × LeavesUnanswered before after greeted greeted' found × IsTurnEnd end

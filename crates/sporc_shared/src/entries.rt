@@ -1,6 +1,6 @@
 //! Entries that were fetched.
 
-ghost use Rattle.std.specs.Prelude.{◌≡◌, ◌++◌, [], map, length, OnOk};
+ghost use Rattle.std.specs.Prelude.{◌≡◌, ◌++◌, [], map, length, OnOk, IsTrue, ◌↔◌};
 
 use sporc_base::{Bytes, Items, Memory};
 use std::alloc::Global;
@@ -35,6 +35,13 @@ impl Entries {
         ensures value { result ≡ length self.now }
     {
         self.entries.len()
+    }
+
+    /// Whether there are none.
+    pub fn is_empty(&self) -> bool
+        ensures value { IsTrue result ↔ (length self.now ≡ 0) }
+    {
+        self.len() == 0
     }
 
     /// The bytes of each.

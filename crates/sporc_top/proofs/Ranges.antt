@@ -11,7 +11,7 @@ use Rattle.lms_ots.specs.OtsType.{width_of}
 use Rattle.lms_tree.specs.declared.lms_type.LmsType.{LmsType}
 use Rattle.lms_tree.specs.declared.lms_type.LmsType.TheVariants.{H5, H10, H15}
 use Rattle.lms_tree.specs.LmsType.{height_of}
-use Rattle.sporc_entry.specs.ChangeBody.{IsMember}
+use Rattle.sporc_member.specs.Device.{IsMember}
 use Rattle.sporc_keys.specs.KeyFile.{IsKeyWidth}
 use Rattle.sporc_script.specs.declared.limits.TheConstants.{MAX_EDITORS, MAX_GENERATED}
 use Rattle.sporc_script.specs.Readers.{device_of, is_member, passing, then_read, member_of, u32_of}
@@ -60,7 +60,7 @@ a_member : (word : Text) (n : ℕ) → member_of word ≡ Some n → IsMember n
 a_member word n is =
     let passed = passed_of is_member (number_of word) n (unfold member_of in is) in
     let sides = and_parts (nat_lt 0 n) (nat_lt n (2 ^ 16)) passed.1 in
-    record { positive = ltb-true 0 n sides.0; small = ltb-true n (2 ^ 16) sides.1 }
+    (ltb-true 0 n sides.0, ltb-true n (2 ^ 16) sides.1)
 
 one_of_three : (x y z : Bool) (t : LmsType) → (if x then Some H5 else if y then Some H10 else if z then Some H15 else None) ≡ Some t → IsLeafHeight (height_of t)
 one_of_three true y z t is =

@@ -22,6 +22,7 @@ use std::alloc::{AllocError, AllocFailed, Global};
 use std::snapshot::Snapshot;
 use std::sync::Wait;
 use std::thread::yield_now;
+use thiserror::Error;
 
 const TICKET: usize = 0;
 
@@ -30,7 +31,8 @@ const SERVING: usize = 1;
 const COUNT: usize = 2;
 
 /// The next ticket, which was read and not drawn: all tickets below it were drawn.
-#[derive(Drop)]
+#[derive(Debug, Drop, Error)]
+#[error("all tickets below {0} were drawn")]
 pub struct Worn(pub u64);
 
 /// The lock. Each of its passes and held values is of this lock alone (`IsPassOf`, `IsHeldOf`).

@@ -43,9 +43,9 @@ fn answers(found: Option<Refusal>, malformed: Option<usize>) -> bool {
 // Gives an empty line the examined entry twice, and looks whether it has taken it.
 fn takes_examined(line: &mut Line, examined: &Examined, malformed: Option<usize>) -> bool {
     answers(line.prepare_examined(1, examined).err(), malformed)
-        && line.len() == 0
+        && line.is_empty()
         && answers(line.accept_examined(1, examined).err(), malformed)
-        && (line.len() == 0) == malformed.is_some()
+        && line.is_empty() == malformed.is_some()
 }
 
 fn tries_row(

@@ -55,7 +55,7 @@ impl Outcome {
     /// Whether the order at a place has no entry.
     pub fn is_empty(&self, place: usize) -> bool {
         match self.orders.get(place) {
-            Some(order) => order.len() == 0,
+            Some(order) => order.is_empty(),
             None => false,
         }
     }

@@ -74,7 +74,7 @@ impl<'a> Left<'a> {
     // Whether they have none.
     fn has_none(&self, place: usize) -> bool {
         match (self.orders.get(place), self.tails.get(place)) {
-            (Some(order), Some(tail)) => order.len() == 0 && tail.entries().is_empty(),
+            (Some(order), Some(tail)) => order.is_empty() && tail.entries().is_empty(),
             _ => false,
         }
     }
