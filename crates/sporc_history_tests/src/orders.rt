@@ -2,7 +2,7 @@ use crate::checks::check;
 use crate::samples::empty_sample;
 use sporc_base::Bytes;
 use sporc_head::{Examined, Refusal};
-use sporc_order::{Answer, Order, Session};
+use sporc_order::{Order, Reply, Session};
 use sporc_samples::{Cast, DOCUMENT, History};
 use sporc_wire::{ToClient, ToServer};
 use std::alloc::Global;
@@ -14,15 +14,23 @@ fn opened(rt: &impl Abort, alloc: Global, cast: &Cast) -> Box<Order> {
     Box::new(alloc, Order::open(alloc, genesis).expect(rt, "memory")).expect(rt, "memory")
 }
 
+// What a frame carries. The body of an Entries begins with the byte 3, the position of the first, and how many there are.
+fn heard_of(frame: &[u8]) -> &'static str {
+    match frame {
+        [_, _, _, _, 3, 0, 0, 0, 1, 1, ..] => "an entry from 1",
+        _ => "another frame",
+    }
+}
+
 // What a session answers.
-fn heard_in(answer: &Answer) -> &'static str {
-    match answer {
-        Answer::Silent => "silent",
-        Answer::Close => "close",
-        Answer::Send(ToClient::Empty) => "empty",
-        Answer::Send(ToClient::Ordered { pos: 1 }) => "ordered 1",
-        Answer::Send(ToClient::Entries { first: 1, .. }) => "entries from 1",
-        Answer::Send(ToClient::Rejected { refusal }) => match refusal {
+fn heard_in(reply: &Reply) -> &'static str {
+    match reply {
+        Reply::Silent => "silent",
+        Reply::Close => "close",
+        Reply::Frame(frame) => heard_of(frame.as_slice()),
+        Reply::Message(ToClient::Empty) => "empty",
+        Reply::Message(ToClient::Ordered { pos: 1 }) => "ordered 1",
+        Reply::Message(ToClient::Rejected { refusal }) => match refusal {
             Refusal::WrongNumber => "wrong number",
             _ => "another refusal",
         },
@@ -39,8 +47,8 @@ fn answers(
     message: &ToServer,
     wanted: &str,
 ) {
-    let answer = session.step(alloc, order, message).expect(rt, "memory");
-    check(rt, wanted, heard_in(&answer) == wanted);
+    let reply = session.reply(alloc, order, message).expect(rt, "memory");
+    check(rt, wanted, heard_in(&reply) == wanted);
 }
 
 fn greets(rt: &impl Abort, alloc: Global, session: &mut Session, order: &mut Order, wanted: &str) {
@@ -80,7 +88,7 @@ fn is_ordered(rt: &impl Abort, alloc: Global, order: &mut Order, message: &ToSer
     greets(rt, alloc, &mut session, order, "silent");
     answers(rt, alloc, &mut session, order, message, "ordered 1");
     answers(rt, alloc, &mut session, order, message, "wrong number");
-    pulls(rt, alloc, &mut session, order, "entries from 1");
+    pulls(rt, alloc, &mut session, order, "an entry from 1");
 }
 
 // Submits the first entry of a history, to which this adds it.

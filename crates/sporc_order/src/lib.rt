@@ -9,7 +9,7 @@
 //! order.key_for(entry)                      // under which key its signature may be examined before
 //! order.submit_examined(&examined)?;        // answers as submit does
 //! order.pull(0)                             // the longest batch from the first entry on that its limits allow
-//! session.step(&mut order, &message)        // what is sent, nothing, or that the session ends
+//! session.reply(&mut order, &message)       // what is sent, nothing, or that the session ends
 //! session.reply_kept(.., &mut tail)         // the same, where a tail keeps each entry before the order takes it
 //! ```
 //!

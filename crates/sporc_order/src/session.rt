@@ -1,6 +1,6 @@
 //! Sessions of one client with an order.
 
-ghost use Rattle.std.specs.Prelude.{◌≡◌, ◌+◌, true, false, map, length, None, Ok, Err, IfOk, IfErr, IfSome, IsErr, OnOk, OnErr};
+ghost use Rattle.std.specs.Prelude.{◌≡◌, ◌+◌, true, false, length, None, Ok, Err, IfOk, IfErr, IfSome, IsErr, OnOk, OnErr};
 ghost use Rattle.std.specs.Option.{option_copied};
 ghost use Rattle.sporc_wire.specs.declared.to_client.ToClient.{ToClient};
 ghost use Rattle.sporc_order.specs.Batches.{batch_after};
@@ -13,7 +13,7 @@ ghost use Rattle.sporc_head.specs.HeadChecks.{head_fault};
 use crate::order::Order;
 use crate::reply::{Reply, reply_of};
 use crate::tail::{NoTail, Tail, Unanswered, Untaken};
-use sporc_base::{Bytes, Items, Memory, is_same};
+use sporc_base::{Bytes, Memory, is_same};
 use sporc_head::{Refusal, Verdict};
 use sporc_wire::{FrameFault, ToClient, ToServer, write_entries};
 use std::alloc::{AllocError, Global};
@@ -55,58 +55,7 @@ impl Session {
     }
 
     /// Answers a message: Close exactly if the first message isn't Hello with the order's document, or a later one is
-    /// Hello. Silent for the first Hello.
-    pub fn step(
-        &mut self,
-        alloc: Global,
-        order: &mut Order,
-        message: &ToServer,
-    ) -> Result<Answer, Memory>
-        ensures answer { IfOk result (λ answer. answer ≡ (step_of order.old self.old message.now).answer) }
-        ensures order { OnOk result (order.new ≡ (step_of order.old self.old message.now).order) }
-        ensures greeted { OnOk result (self.new ≡ (step_of order.old self.old message.now).is_greeted) }
-        ensures memory { OnErr result (order.new ≡ order.old) }
-        ensures unchanged { OnErr result (self.new ≡ self.old) }
-    {
-        answered(self.step_kept(alloc, order, message, None, &mut NoTail))
-    }
-
-    // Answers a message as `step` does, where a verdict of its entry may be known, and a tail keeps it first.
-    fn step_kept<T: Tail>(
-        &mut self,
-        alloc: Global,
-        order: &mut Order,
-        message: &ToServer,
-        known: Option<&Verdict>,
-        tail: &mut T,
-    ) -> Result<Answer, Unanswered>
-        requires exact { IfSome known (λ v. IsExactFor v.now message.now) }
-        ensures answer { IfOk result (λ answer. answer ≡ (step_of order.old self.old message.now).answer) }
-        ensures order { OnOk result (order.new ≡ (step_of order.old self.old message.now).order) }
-        ensures greeted { OnOk result (self.new ≡ (step_of order.old self.old message.now).is_greeted) }
-        ensures unanswered { IfErr result (IsUnanswered T.may_fail) }
-        ensures err { OnErr result (order.new ≡ order.old) }
-        ensures unchanged { OnErr result (self.new ≡ self.old) }
-        ensures kept { T.keeps tail.old order.old.entries → T.keeps tail.new order.new.entries }
-    {
-        match message {
-            ToServer::Hello { document, .. } => Ok(self.greet(order, document)),
-            ToServer::Submit { entry } => {
-                if !self.is_greeted {
-                    return Ok(Answer::Close);
-                }
-                submit(order, entry.as_slice(), known, tail)
-            }
-            ToServer::Pull { from } => {
-                if !self.is_greeted {
-                    return Ok(Answer::Close);
-                }
-                Ok(pull(alloc, order, *from)?)
-            }
-        }
-    }
-
-    /// Answers a message as [`Session::step`] does. Each entry that is sent is copied once, into the frame.
+    /// Hello. Silent for the first Hello. Each entry that is sent is copied once, into the frame.
     pub fn reply(
         &mut self,
         alloc: Global,
@@ -159,15 +108,18 @@ impl Session {
         ensures kept { T.keeps tail.old order.old.entries → T.keeps tail.new order.new.entries }
     {
         match message {
+            ToServer::Hello { document, .. } => Ok(reply_of(self.greet(order, document))),
+            ToServer::Submit { entry } => {
+                if !self.is_greeted {
+                    return Ok(Reply::Close);
+                }
+                Ok(reply_of(submit(order, entry.as_slice(), known, tail)?))
+            }
             ToServer::Pull { from } => {
                 if !self.is_greeted {
                     return Ok(Reply::Close);
                 }
-                Ok(pull_framed(alloc, order, *from)?)
-            }
-            ToServer::Hello { .. } | ToServer::Submit { .. } => {
-                let answer = self.step_kept(alloc, order, message, known, tail)?;
-                Ok(reply_of(answer))
+                Ok(pull(alloc, order, *from)?)
             }
         }
     }
@@ -234,22 +186,8 @@ fn submit<T: Tail>(
     }
 }
 
-// Answers a Pull.
-fn pull(alloc: Global, order: &Order, from: u32) -> Result<Answer, Memory>
-    ensures answer { IfOk result (λ answer. answer ≡ Answer.Send (entries_after from (batch_after order.now.entries from))) }
-{
-    if from >= order.len() {
-        return Ok(Answer::Send(ToClient::Empty));
-    }
-    let entries = Items::new(copied(alloc, order.pull(from))?);
-    Ok(Answer::Send(ToClient::Entries {
-        first: from + 1,
-        entries,
-    }))
-}
-
 // Answers a Pull, with the frame of the entries.
-fn pull_framed(alloc: Global, order: &Order, from: u32) -> Result<Reply, Memory>
+fn pull(alloc: Global, order: &Order, from: u32) -> Result<Reply, Memory>
     ensures reply { IfOk result (Says (Answer.Send (entries_after from (batch_after order.now.entries from)))) }
 {
     if from >= order.len() {
@@ -260,15 +198,4 @@ fn pull_framed(alloc: Global, order: &Order, from: u32) -> Result<Reply, Memory>
         Err(FrameFault::Memory) => Err(AllocError),
         Err(FrameFault::BadMessage(_) | FrameFault::TooLong(_)) => unreachable!(),
     }
-}
-
-// A copy of entries.
-fn copied(alloc: Global, entries: &[Vec<u8>]) -> Result<Vec<Bytes>, Memory>
-    ensures { IfOk result (λ copy. copy.items ≡ map (λ v. v.items) entries.now) }
-{
-    let mut copy = Vec::with_capacity(alloc, entries.len())?;
-    for entry in entries {
-        copy.push(Bytes::copy_of(alloc, entry.as_slice())?)?;
-    }
-    Ok(copy)
 }

@@ -1,5 +1,7 @@
 -- A receiver and editors that are joined.
-use Rattle.std.proofs.Common.{◌≡◌, ℕ, suc, ◌+◌, List, [], ◌∷◌, length, take, drop, Option, Some, None, refl, sym, ap, ◌∙◌, subst, arith, inl, inr, ⊎_elim}
+use Rattle.std.proofs.Common.{◌≡◌, ℕ, suc, ◌+◌, List, [], ◌∷◌, length, take, drop, Option, Some, None, Ok, Err, refl, sym, ap, ◌∙◌, subst, arith, inl, inr, ⊎_elim}
+use Rattle.std.specs.Prelude.{Result, ⊤}
+use Rattle.std.specs.Result.{result_and, result_err}
 use Rattle.std.proofs.lemmas.List.{nil_from_length}
 use Rattle.lms_leaf.specs.declared.faults.LeafFault.TheVariants as leaves
 use Rattle.sporc_base.specs.FirstFault.{first_of}
@@ -16,7 +18,7 @@ use Rattle.sporc_shared.specs.declared.fault.SessionFault.{SessionFault}
 use Rattle.sporc_shared.specs.declared.fault.SessionFault.TheVariants as faults
 use Rattle.sporc_shared.specs.Acts.{Act, all_of, items_by}
 use Rattle.sporc_shared.specs.Courses.{Course, CountsSame, IsAllowedLog, KnowsMore, Stand, stand}
-use Rattle.sporc_shared.specs.Crowds.{CrowdDid, EditorPart, IsCrowd, either_fault}
+use Rattle.sporc_shared.specs.Crowds.{CrowdDid, EditorPart, IsCrowd}
 use Rattle.sporc_shared.specs.Editing.{LinesDid}
 use Rattle.sporc_shared.specs.Endings.{AcceptGives, Cause, IsNoMessage, IsWrongAnswer, Stopped, SubmitGives}
 use Rattle.sporc_shared.specs.Items.{Item, by_of}
@@ -132,9 +134,10 @@ crowd_later log log' s start number (script ∷ scripts) [] js d = d
 crowd_later log log' s start number (script ∷ scripts) (end ∷ ends) [] d = absurd d
 crowd_later log log' s start number (script ∷ scripts) (end ∷ ends) (j ∷ js) d = (d.0, part_later log log' s start number script j.items end d.1, crowd_later log log' s start (number + 1) scripts ends js d.2)
 
-first_either : (fault : Option SessionFault) (ends : List (Option SessionFault)) → first_of (fault ∷ ends) ≡ either_fault fault (first_of ends)
-first_either None ends = refl
-first_either (Some fault) ends = refl
+-- the first fault of an editor and of those after it
+first_and : (end later : Result ⊤ SessionFault) (ends : List (Option SessionFault)) → first_of ends ≡ result_err later → first_of (result_err end ∷ ends) ≡ result_err (result_and end later)
+first_and (Ok x) later ends is = is
+first_and (Err fault) later ends is = refl
 
 -- no script was left
 crowd_none : (a b : Stand) (rounds : ℕ) (receiver : Option SessionFault) → FirstPhase a b rounds receiver → CountsSame a.known b.known → IsCrowd a b rounds [] receiver None
@@ -210,23 +213,25 @@ module _ (k k1 k2 k' : Known Item) (link0 link : LinkStand) (words0 words : Opti
     ended = subst (λ (m : List Item). LineEnd k2.seen k.start (k.splits + 1) m (drop editor.count script) fault) (sym editor.first.knows.mine) editor.end;
   })
 
-  crowd_more : (rounds : ℕ) (script : List EditorLine) (scripts : List (List EditorLine)) (receiver fault later : Option SessionFault) → LinesDid (copied k) k2 script fault
-      → IsCrowd (stand (splitting k) link0 words0 g0) (stand k1 link words g) rounds scripts receiver later → IsCrowd (stand k link0 words0 g0) (stand k' link words g) rounds (script ∷ scripts) receiver (either_fault fault later)
-  crowd_more rounds script scripts receiver fault later editor crowd = record {
+  crowd_more : (rounds : ℕ) (script : List EditorLine) (scripts : List (List EditorLine)) (receiver : Option SessionFault) (end later : Result ⊤ SessionFault) → LinesDid (copied k) k2 script (result_err end)
+      → IsCrowd (stand (splitting k) link0 words0 g0) (stand k1 link words g) rounds scripts receiver (result_err later)
+      → IsCrowd (stand k link0 words0 g0) (stand k' link words g) rounds (script ∷ scripts) receiver (result_err (result_and end later))
+  crowd_more rounds script scripts receiver end later editor crowd = record {
     phase = phase_joined k k1 k' (knows_joined editor.items editor.first.knows) first same_start same_mine link0 link words0 words g0 g rounds receiver crowd.phase;
-    ends = fault ∷ crowd.ends;
+    ends = result_err end ∷ crowd.ends;
     joined = record { number = k2.number; items = k2.mine } ∷ crowd.joined;
-    did = (editor.first.knows.number, part_joined script fault editor, crowd_later k1.seen k'.seen first k.start (k.splits + 1 + 1) scripts crowd.ends crowd.joined crowd.did);
-    first = first_either fault crowd.ends ∙ ap (either_fault fault) crowd.first;
+    did = (editor.first.knows.number, part_joined script (result_err end) editor, crowd_later k1.seen k'.seen first k.start (k.splits + 1 + 1) scripts crowd.ends crowd.joined crowd.did);
+    first = first_and end later crowd.ends crowd.first;
     joined_are = ap (λ (h : Known Item). h.joined) joined_is ∙ ap (λ (js : List (Joined Item)). record { number = k2.number; items = k2.mine } ∷ js) crowd.joined_are;
     splits_are = ap (λ (h : Known Item). h.splits) joined_is ∙ crowd.splits_are ∙ omega arith;
     started = ⊎_elim (λ e. inl (ap suc e)) (λ e. inr e) crowd.started;
   }
 
-  pub crowd_step : (k0 k00 : Known Item) (rounds : ℕ) (all : List (List EditorLine)) (script : List EditorLine) (scripts : List (List EditorLine)) (receiver receiver' fault later later' : Option SessionFault)
-      → all ≡ script ∷ scripts → receiver' ≡ receiver → later' ≡ either_fault fault later → k0 ≡ splitting k → k00 ≡ copied k → LinesDid k00 k2 script fault
-      → IsCrowd (stand k0 link0 words0 g0) (stand k1 link words g) rounds scripts receiver later → IsCrowd (stand k link0 words0 g0) (stand k' link words g) rounds all receiver' later'
-  crowd_step k0 k00 rounds all script scripts receiver receiver' fault later later' all_are receiver_is later_is split copy editor crowd =
-      subst (λ (z : List (List EditorLine) × Option SessionFault × Option SessionFault). IsCrowd (stand k link0 words0 g0) (stand k' link words g) rounds z.0 z.1 z.2) (λ i. (sym all_are i, sym receiver_is i, sym later_is i))
-      (crowd_more rounds script scripts receiver fault later (subst (λ (z : Known Item). LinesDid z k2 script fault) copy editor)
-      (subst (λ (z : Known Item). IsCrowd (stand z link0 words0 g0) (stand k1 link words g) rounds scripts receiver later) split crowd))
+  pub crowd_step : (k0 k00 : Known Item) (rounds : ℕ) (all : List (List EditorLine)) (script : List EditorLine) (scripts : List (List EditorLine)) (receiver receiver' end later later' : Result ⊤ SessionFault)
+      → all ≡ script ∷ scripts → receiver' ≡ receiver → later' ≡ result_and end later → k0 ≡ splitting k → k00 ≡ copied k → LinesDid k00 k2 script (result_err end)
+      → IsCrowd (stand k0 link0 words0 g0) (stand k1 link words g) rounds scripts (result_err receiver) (result_err later)
+      → IsCrowd (stand k link0 words0 g0) (stand k' link words g) rounds all (result_err receiver') (result_err later')
+  crowd_step k0 k00 rounds all script scripts receiver receiver' end later later' all_are receiver_is later_is split copy editor crowd =
+      subst (λ (z : List (List EditorLine) × Result ⊤ SessionFault × Result ⊤ SessionFault). IsCrowd (stand k link0 words0 g0) (stand k' link words g) rounds z.0 (result_err z.1) (result_err z.2)) (λ i. (sym all_are i, sym receiver_is i, sym later_is i))
+      (crowd_more rounds script scripts (result_err receiver) end later (subst (λ (z : Known Item). LinesDid z k2 script (result_err end)) copy editor)
+      (subst (λ (z : Known Item). IsCrowd (stand z link0 words0 g0) (stand k1 link words g) rounds scripts (result_err receiver) (result_err later)) split crowd))

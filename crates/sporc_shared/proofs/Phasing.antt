@@ -55,10 +55,10 @@ module _ {words : Option (List (List ℕ))} {g : ℕ} {k : Known Item} {a b : Li
   hello_went {sent = Err fault} is ok err = record { ends = ask_stopped refl not_greeting (unsent (subst (λ (m : ToServer). Unsent a b m fault) is err)) }
 
 -- Hello, and then the rounds
-pub first_then : {a b c : Stand} {rounds : ℕ} {all : Result ⊤ SessionFault} {end : Option SessionFault} → end ≡ result_err all
-    → Did always a b Asking (Between 0) → DidOrStopped always b c (Between 0) (Between rounds) all → FirstPhase a c rounds end
-first_then {a} {c = c} {rounds = rounds} {all = Ok x} is d h = subst (FirstPhase a c rounds) (sym is) (did_then d h.ends)
-first_then {a} {c = c} {rounds = rounds} {all = Err fault} is d h = subst (FirstPhase a c rounds) (sym is) (did_stopped d h.ends)
+pub first_then : {a b c : Stand} {rounds : ℕ} {all : Result ⊤ SessionFault}
+    → Did always a b Asking (Between 0) → DidOrStopped always b c (Between 0) (Between rounds) all → FirstPhase a c rounds (result_err all)
+first_then {all = Ok x} d h = did_then d h.ends
+first_then {all = Err fault} d h = did_stopped d h.ends
 
 -- ---- a look at the client
 

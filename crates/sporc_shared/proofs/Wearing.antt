@@ -1,7 +1,7 @@
 -- That a pass has read that no ticket is left.
-use Rattle.std.proofs.Common.{◌≡◌, ◌≤◌, ℕ, max, Bool, true, false, List, Option, Some, None, Ok, Err, sym, subst, arith}
-use Rattle.std.specs.Prelude.{Result, IfErr, IfSome, ⊤}
-use Rattle.std.specs.Result.{result_err}
+use Rattle.std.proofs.Common.{◌≡◌, ◌≤◌, ℕ, max, Bool, true, false, List, Option, Ok, Err, sym, subst, arith}
+use Rattle.std.specs.Prelude.{Result, IfErr, ⊤}
+use Rattle.std.specs.Result.{result_and}
 use Rattle.sporc_head.specs.declared.refusal.Refusal.{Refusal}
 use Rattle.sporc_wire.specs.declared.to_server.ToServer.{ToServer}
 use Rattle.sporc_turn.specs.declared.pass.Pass.{Pass}
@@ -21,7 +21,6 @@ use Rattle.sporc_shared.specs.declared.fault.SessionFault.{SessionFault}
 use Rattle.sporc_shared.specs.declared.fault.SessionFault.TheVariants as faults
 use Rattle.sporc_shared.specs.declared.look.Look.{Look}
 use Rattle.sporc_shared.specs.Asking.{AskFails, Unsent, silent, unsent, wrong}
-use Rattle.sporc_shared.specs.Crowds.{either_fault}
 use Rattle.sporc_shared.specs.Editing.{seen_of}
 use Rattle.sporc_shared.specs.Items.{Item}
 use Rattle.sporc_shared.specs.Passes.{IsWornFor, IsWornOnErr}
@@ -122,17 +121,6 @@ module _ (pass : Pass Item) where
 pub worn_at : {A : Type 0} (p : Pass Item) (result : Result A SessionFault) (fault : SessionFault) → result ≡ Err fault → IfErr result (IsWornFor p) → IsWornFor p fault
 worn_at {A} p result fault is h = subst (λ (r : Result A SessionFault). IfErr r (IsWornFor p)) is h
 
-pub worn_in : (p : Pass Item) (result : Option SessionFault) (fault : SessionFault) → result ≡ Some fault → IfSome result (IsWornFor p) → IsWornFor p fault
-worn_in p result fault is h = subst (λ (r : Option SessionFault). IfSome r (IsWornFor p)) is h
-
--- the fault of a result, if it is one
-pub worn_err : {A : Type 0} (p : Pass Item) (result : Result A SessionFault) (fault : Option SessionFault) → fault ≡ result_err result → IfErr result (IsWornFor p) → IfSome fault (IsWornFor p)
-worn_err {A} p result fault is h = subst (λ (f : Option SessionFault). IfSome f (IsWornFor p)) (sym is) (by result h)
-  where
-    by : (r : Result A SessionFault) → IfErr r (IsWornFor p) → IfSome (result_err r) (IsWornFor p)
-    by (Ok x) h = tt
-    by (Err f) h = h
-
 -- ---- faults of a link are others
 
 unsent_unworn : (p : Pass Item) (a b : LinkStand) (message : ToServer) (fault : SessionFault) → Unsent a b message fault → IsWornFor p fault
@@ -195,20 +183,20 @@ worn_later p q more faults.ChanceFault h = tt
 worn_later p q more (faults.LinkEnded taken) h = tt
 worn_later p q more faults.Memory h = tt
 
-some_later : (p q : Pass Item) → read_of p ≤ read_of q → (fault : Option SessionFault) → IfSome fault (IsWornFor p) → IfSome fault (IsWornFor q)
-some_later p q more None h = tt
-some_later p q more (Some fault) h = worn_later p q more fault h
+err_later : (p q : Pass Item) → read_of p ≤ read_of q → (end : Result ⊤ SessionFault) → IfErr end (IsWornFor p) → IfErr end (IsWornFor q)
+err_later p q more (Ok x) h = tt
+err_later p q more (Err fault) h = worn_later p q more fault h
 
 -- number 0 and an editor's pass were joined: the first fault of an editor is this one's, or that of a later one
-pub worn_join : (first second joined : Pass Item) → read_of joined ≡ max (read_of first) (read_of second) → (receiver told fault later answer : Option SessionFault)
-    → told ≡ receiver → answer ≡ either_fault fault later
-    → IfSome receiver (IsWornFor first) × IfSome later (IsWornFor first) → IfSome fault (IsWornFor second)
-    → IfSome told (IsWornFor joined) × IfSome answer (IsWornFor joined)
-worn_join first second joined larger receiver told fault later answer same is h other = (
-  subst (λ (f : Option SessionFault). IfSome f (IsWornFor joined)) (sym same) (some_later first joined (omega (arith, larger)) receiver h.0),
-  subst (λ (f : Option SessionFault). IfSome f (IsWornFor joined)) (sym is) (by fault other),
+pub worn_join : (first second joined : Pass Item) → read_of joined ≡ max (read_of first) (read_of second) → (receiver told end later answer : Result ⊤ SessionFault)
+    → told ≡ receiver → answer ≡ result_and end later
+    → IfErr receiver (IsWornFor first) × IfErr later (IsWornFor first) → IfErr end (IsWornFor second)
+    → IfErr told (IsWornFor joined) × IfErr answer (IsWornFor joined)
+worn_join first second joined larger receiver told end later answer same is h other = (
+  subst (λ (r : Result ⊤ SessionFault). IfErr r (IsWornFor joined)) (sym same) (err_later first joined (omega (arith, larger)) receiver h.0),
+  subst (λ (r : Result ⊤ SessionFault). IfErr r (IsWornFor joined)) (sym is) (by end other),
 )
   where
-    by : (f : Option SessionFault) → IfSome f (IsWornFor second) → IfSome (either_fault f later) (IsWornFor joined)
-    by None w = some_later first joined (omega (arith, larger)) later h.1
-    by (Some f) w = worn_later second joined (omega (arith, larger)) f w
+    by : (r : Result ⊤ SessionFault) → IfErr r (IsWornFor second) → IfErr (result_and r later) (IsWornFor joined)
+    by (Ok x) w = err_later first joined (omega (arith, larger)) later h.1
+    by (Err f) w = worn_later second joined (omega (arith, larger)) f w

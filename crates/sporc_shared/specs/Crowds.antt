@@ -38,11 +38,6 @@ pub record IsCrowd (a b : Stand) (rounds : ℕ) (scripts : List (List EditorLine
   pub splits_are : b.known.splits ≡ a.known.splits + length joined
   pub started : (length ends ≡ length scripts) ⊎ (receiver ≡ Some faults.Memory)
 
--- the first fault of an editor and of those after it
-abbrev pub either_fault : Option SessionFault → Option SessionFault → Option SessionFault
-either_fault None later = later
-either_fault (Some fault) later = Some fault
-
 -- the pass that a thread is to take: number 0, which may still be split so often
 abbrev pub IsFirst : {D : Type 0} → SharedClient D → Option (Pass Item) → ℕ → Type 0
 IsFirst shared None more = ⊥

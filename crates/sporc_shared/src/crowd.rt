@@ -1,10 +1,11 @@
 //! The first phase: the receiver, and each editor in a thread of its own.
 
-ghost use Rattle.std.specs.Prelude.{◌≡◌, ◌+◌, ◌<◌, ◌^◌, length, IfSome};
+ghost use Rattle.std.specs.Prelude.{◌≡◌, ◌+◌, ◌<◌, ◌^◌, length, IfErr, IfSome};
+ghost use Rattle.std.specs.Result.{result_and, result_err};
 ghost use Rattle.std.specs.Thread.{IsSend, IsSync};
 ghost use Rattle.sporc_turn.specs.Passes.{known_of};
 ghost use Rattle.sporc_shared.specs.Courses.{CountsSame, stand_at};
-ghost use Rattle.sporc_shared.specs.Crowds.{IsCrowd, IsFirst, IsOther, either_fault};
+ghost use Rattle.sporc_shared.specs.Crowds.{IsCrowd, IsFirst, IsOther};
 ghost use Rattle.sporc_shared.specs.Editing.{LinesDid};
 ghost use Rattle.sporc_shared.specs.Passes.{IsPassOf, IsWornFor};
 
@@ -13,6 +14,7 @@ use crate::fault::SessionFault;
 use crate::inbox::Inbox;
 use crate::item::Pass;
 use crate::phase::first_phase;
+use crate::receiver::Went;
 use crate::shared_client::SharedClient;
 use sporc_outside::{Chance, Gate, LeafDisk, Link};
 use sporc_script::EditorScript;
@@ -20,11 +22,11 @@ use std::alloc::Global;
 use std::sync::Wait;
 use std::thread::{Threads, join_mut};
 
-// The receiver's fault, and the first fault of an editor, if there is one.
+// How the receiver ended, and how the editors did: with the first fault of one, if there is one.
 #[derive(Clone, Copy)]
-pub(crate) struct Faults {
-    pub receiver: Option<SessionFault>,
-    pub editors: Option<SessionFault>,
+pub(crate) struct Ends {
+    pub receiver: Result<(), SessionFault>,
+    pub editors: Result<(), SessionFault>,
 }
 
 // The receiver with the pass that has number 0, and an editor for each script.
@@ -45,7 +47,7 @@ pub(crate) fn crowd<
     first: Pass,
     rounds: u32,
     scripts: &[EditorScript],
-) -> (Faults, Pass)
+) -> (Ends, Pass)
     requires lock { IsPassOf shared.now first }
     requires first { (known_of first).number ≡ 0 }
     requires room { (known_of first).splits + length scripts.now < 2 ^ 32 }
@@ -54,43 +56,43 @@ pub(crate) fn crowd<
     ensures crowd { IsCrowd
         (stand_at (known_of first) (L.told link.old) inbox.old (C.told chance.old))
         (stand_at (known_of result.1) (L.told link.new) inbox.new (C.told chance.new))
-        rounds scripts.now result.0.receiver result.0.editors }
+        rounds scripts.now (result_err result.0.receiver) (result_err result.0.editors) }
     ensures shut { (L.told link.new).is_shut ≡ (L.told link.old).is_shut }
-    ensures worn { IfSome result.0.receiver (IsWornFor result.1) × IfSome result.0.editors (IsWornFor result.1) }
+    ensures worn { IfErr result.0.receiver (IsWornFor result.1) × IfErr result.0.editors (IsWornFor result.1) }
 {
     let Some((script, others)) = scripts.split_first() else {
         let (receiver, first) = first_phase(
             rt, alloc, shared, gate, link, inbox, chance, first, rounds,
         );
-        let faults = Faults {
+        let ends = Ends {
             receiver,
-            editors: None,
+            editors: Ok(()),
         };
-        return (faults, first);
+        return (ends, first);
     };
     let (first, second) = match shared.split(first) {
         Ok(both) => both,
         Err((first, _)) => {
-            let faults = Faults {
-                receiver: Some(SessionFault::Memory),
-                editors: None,
+            let ends = Ends {
+                receiver: Err(SessionFault::Memory),
+                editors: Ok(()),
             };
-            return (faults, first);
+            return (ends, first);
         }
     };
     let mut first = Some(first);
     let mut second = Some(second);
-    let ((faults, first), (fault, second)) = join_mut(
+    let ((ends, first), (editor, second)) = join_mut(
         rt,
-        &mut || -> (Faults, Pass)
+        &mut || -> (Ends, Pass)
             requires { IsSync R.row × IsSync G.row × IsSend D.row × IsSend L.row × IsSend C.row × IsFirst shared.now first (length others.now) }
             ensures { IfSome first.entry (λ p. IsPassOf shared.entry.now result.1 × ((known_of result.1).number ≡ 0)
                 × IsCrowd
                 (stand_at (known_of p) (L.told link.entry.now) inbox.entry.now (C.told chance.entry.now))
                 (stand_at (known_of result.1) (L.told link.exit.now) inbox.exit.now (C.told chance.exit.now))
-                rounds others.entry.now result.0.receiver result.0.editors
+                rounds others.entry.now (result_err result.0.receiver) (result_err result.0.editors)
                 × ((L.told link.exit.now).is_shut ≡ (L.told link.entry.now).is_shut)
-                × IfSome result.0.receiver (IsWornFor result.1) × IfSome result.0.editors (IsWornFor result.1)) }
+                × IfErr result.0.receiver (IsWornFor result.1) × IfErr result.0.editors (IsWornFor result.1)) }
         {
             crowd(
                 rt,
@@ -105,10 +107,10 @@ pub(crate) fn crowd<
                 others,
             )
         },
-        &mut || -> (Option<SessionFault>, Pass)
+        &mut || -> Went<()>
             requires { IsOther shared.now second }
-            ensures { IfSome second.entry (λ p. IsPassOf shared.entry.now result.1 × CountsSame (known_of p) (known_of result.1) × LinesDid (known_of p) (known_of result.1) script.entry.now result.0
-                × IfSome result.0 (IsWornFor result.1)) }
+            ensures { IfSome second.entry (λ p. IsPassOf shared.entry.now result.1 × CountsSame (known_of p) (known_of result.1) × LinesDid (known_of p) (known_of result.1) script.entry.now (result_err result.0)
+                × IfErr result.0 (IsWornFor result.1)) }
         {
             do_lines(
                 rt,
@@ -120,20 +122,16 @@ pub(crate) fn crowd<
             )
         },
     );
-    (with_editor(faults, fault), shared.join(first, second))
+    (with_editor(ends, editor), shared.join(first, second))
 }
 
 // An editor's fault goes before those of the later ones.
-fn with_editor(faults: Faults, fault: Option<SessionFault>) -> Faults
-    ensures receiver { result.receiver ≡ faults.receiver }
-    ensures editors { result.editors ≡ either_fault fault faults.editors }
+fn with_editor(ends: Ends, editor: Result<(), SessionFault>) -> Ends
+    ensures receiver { result.receiver ≡ ends.receiver }
+    ensures editors { result.editors ≡ result_and editor ends.editors }
 {
-    let editors = match fault {
-        Some(fault) => Some(fault),
-        None => faults.editors,
-    };
-    Faults {
-        receiver: faults.receiver,
-        editors,
+    Ends {
+        receiver: ends.receiver,
+        editors: editor.and(ends.editors),
     }
 }

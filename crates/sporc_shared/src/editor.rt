@@ -1,6 +1,7 @@
 //! An editor's lines.
 
-ghost use Rattle.std.specs.Prelude.{◌≡◌, ◌-◌, ◌≤◌, ◌^◌, min, [], IfErr, IfOk, IfSome};
+ghost use Rattle.std.specs.Prelude.{◌≡◌, ◌-◌, ◌≤◌, ◌^◌, min, [], IfErr, IfOk};
+ghost use Rattle.std.specs.Result.{result_err};
 ghost use Rattle.sporc_member.specs.declared.change.Change.TheVariants.{Add, SetRole, AddDevice, DropDevice};
 ghost use Rattle.sporc_script.specs.declared.editor_line.EditorCommand.TheVariants as commands;
 ghost use Rattle.sporc_turn.specs.Passes.{known_of};
@@ -283,20 +284,20 @@ pub(crate) fn do_lines<R: Wait, D: LeafDisk, G: Gate>(
     gate: &G,
     pass: Pass,
     lines: &[EditorLine],
-) -> (Option<SessionFault>, Pass)
+) -> Went<()>
     requires lock { IsPassOf shared.now pass }
     ensures lock { IsPassOf shared.now result.1 }
     ensures counts { CountsSame (known_of pass) (known_of result.1) }
-    ensures did { LinesDid (known_of pass) (known_of result.1) lines.now result.0 }
-    ensures worn { IfSome result.0 (IsWornFor result.1) }
+    ensures did { LinesDid (known_of pass) (known_of result.1) lines.now (result_err result.0) }
+    ensures worn { IfErr result.0 (IsWornFor result.1) }
 {
     let mut mine = pass;
     for line in lines {
         let (one, next) = do_line(rt, alloc, shared, gate, mine, line);
         mine = next;
         if let Err(fault) = one {
-            return (Some(fault), mine);
+            return (Err(fault), mine);
         }
     }
-    (None, mine)
+    (Ok(()), mine)
 }

@@ -1,43 +1,71 @@
 //! Messages and their answers.
 
-ghost use Rattle.std.specs.Prelude.{◌≡◌, ◌≢◌, ◌≤◌, ◌<◌, ◌^◌, ℕ, List, [], ◌∷◌, length, None, Ok, IfErr, IfNone, IfOk, IfSome, OnOk};
+ghost use Rattle.std.specs.Prelude.{◌≡◌, ◌≢◌, ◌≤◌, ◌<◌, ◌^◌, List, ℕ, [], ◌∷◌, length, IfErr, IfNone, IfOk, IfSome, OnOk};
+ghost use Rattle.sporc_base.specs.Outcome.{GivesUnless};
 ghost use Rattle.sporc_wire.specs.declared.cutter.TheConstants.{MAX_BODY};
+ghost use Rattle.sporc_wire.specs.declared.to_server.ToServer.{ToServer};
 ghost use Rattle.sporc_wire.specs.declared.to_server.ToServer.TheVariants as to_server;
 ghost use Rattle.sporc_wire.specs.ToServer.{to_server_bytes};
-ghost use Rattle.sporc_wire.specs.Messages.{next};
-ghost use Rattle.sporc_wire.specs.ToClient.{to_client_of};
+ghost use Rattle.sporc_wire.specs.Messages.{framed};
 ghost use Rattle.sporc_shared.specs.Acts.{ServerReply, handed_out, reply_message};
-ghost use Rattle.sporc_shared.specs.Asking.{AskFails, Asks, IsReply, IsOutcomeOf, IsSilent, Took, Unsent};
+ghost use Rattle.sporc_shared.specs.Asking.{AskFails, Asks, IsReply, IsOutcomeOf, IsSilent, Unsent};
 ghost use Rattle.sporc_shared.specs.Replies.{unread_fault};
-ghost use Rattle.sporc_shared.specs.Wires.{Exchanged, IsLastFrom, spelled, unread_of, link_at};
+ghost use Rattle.sporc_shared.specs.Wires.{Exchanged, IsLastFrom, spelled, link_at};
 
 use crate::fault::SessionFault;
-use crate::inbox::{Inbox, PIECE};
+use crate::inbox::Inbox;
 use sporc_base::{Bytes, Items};
 use sporc_head::Refusal;
 use sporc_outside::{Link, write_all};
-use sporc_wire::{FrameFault, ToClient, ToServer, write_to_server};
+use sporc_wire::{FrameFault, ToClient, ToServer, write_submit, write_to_server};
 use std::alloc::Global;
 
+// What is sent to the server, however it is kept.
+pub(crate) trait Sent {
+    // The message that it is.
+    ghost message: { Self → ToServer };
+
+    // The message's frame.
+    fn frame(&self, alloc: Global) -> Result<Vec<u8>, FrameFault>
+        ensures value { GivesUnless FrameFault.Memory (λ v. v.items) result (framed (to_server_bytes (message self.now))) };
+}
+
+impl Sent for ToServer {
+    ghost message = { λ m. m };
+
+    fn frame(&self, alloc: Global) -> Result<Vec<u8>, FrameFault> {
+        write_to_server(alloc, self)
+    }
+}
+
+// An entry is sent as a Submit.
+impl Sent for Bytes {
+    ghost message = { λ entry. to_server.Submit entry };
+
+    fn frame(&self, alloc: Global) -> Result<Vec<u8>, FrameFault> {
+        write_submit(alloc, self.as_slice())
+    }
+}
+
 // Sends a message.
-pub(crate) fn send<L: Link>(
+pub(crate) fn send<L: Link, M: Sent>(
     alloc: Global,
     link: &mut L,
     inbox: &Inbox,
-    message: &ToServer,
+    message: &M,
 ) -> Result<(), SessionFault>
-    requires { length (to_server_bytes message.now) ≤ MAX_BODY }
+    requires { length (to_server_bytes (M.message message.now)) ≤ MAX_BODY }
     ensures ok { OnOk result (Exchanged
         (link_at (L.told link.old) inbox.now)
         (link_at (L.told link.new) inbox.now)
-        (spelled (message.now ∷ [])) []) }
+        (spelled (M.message message.now ∷ [])) []) }
     ensures err { IfErr result (Unsent
         (link_at (L.told link.old) inbox.now)
         (link_at (L.told link.new) inbox.now)
-        message.now) }
+        (M.message message.now)) }
     ensures shut { (L.told link.new).is_shut ≡ (L.told link.old).is_shut }
 {
-    match write_to_server(alloc, message) {
+    match message.frame(alloc) {
         Ok(bytes) => match write_all(link, bytes.as_slice()) {
             Ok(()) => Ok(()),
             Err(_) => Err(SessionFault::LinkFault),
@@ -45,31 +73,6 @@ pub(crate) fn send<L: Link>(
         Err(FrameFault::Memory) => Err(SessionFault::Memory),
         Err(_) => unreachable!(),
     }
-}
-
-// Reads a piece into the inbox, which has no whole frame.
-fn read_piece<L: Link>(link: &mut L, inbox: &mut Inbox) -> Result<(), SessionFault>
-    requires held { inbox.old.held ≡ [] }
-    requires waits { (next to_client_of (unread_of inbox.old)).answer ≡ Ok None }
-    ensures ok { OnOk result ((piece : List ℕ) × (0 < length piece) × Took
-        (link_at (L.told link.old) inbox.old)
-        (link_at (L.told link.new) inbox.new)
-        piece) }
-    ensures err { IfErr result (IsSilent
-        (link_at (L.told link.old) inbox.old)
-        (link_at (L.told link.new) inbox.new)
-        ) }
-    ensures shut { (L.told link.new).is_shut ≡ (L.told link.old).is_shut }
-{
-    let mut buf = [0u8; PIECE];
-    let Ok(n) = link.read(&mut buf) else {
-        return Err(SessionFault::LinkFault);
-    };
-    if n == 0 {
-        return Err(SessionFault::LinkEnded(inbox.taken()));
-    }
-    inbox.take(&buf[..n]);
-    Ok(())
 }
 
 // The fault of a session in which the next frame is no message. A frame that is too long is one from its start on.
@@ -101,26 +104,26 @@ fn receive<L: Link>(link: &mut L, inbox: &mut Inbox) -> Result<ToClient, Session
             Ok(None) => {}
             Err(fault) => return Err(unread(inbox.at(), fault)),
         }
-        read_piece(link, inbox)?;
+        inbox.read_piece(link)?;
     }
 }
 
 // Sends a message, and receives the next one.
-fn ask<L: Link>(
+fn ask<L: Link, M: Sent>(
     alloc: Global,
     link: &mut L,
     inbox: &mut Inbox,
-    message: &ToServer,
+    message: &M,
 ) -> Result<ToClient, SessionFault>
-    requires { length (to_server_bytes message.now) ≤ MAX_BODY }
+    requires { length (to_server_bytes (M.message message.now)) ≤ MAX_BODY }
     ensures ok { IfOk result (Asks
         (link_at (L.told link.old) inbox.old)
         (link_at (L.told link.new) inbox.new)
-        message.now) }
+        (M.message message.now)) }
     ensures err { IfErr result (AskFails
         (link_at (L.told link.old) inbox.old)
         (link_at (L.told link.new) inbox.new)
-        message.now) }
+        (M.message message.now)) }
     ensures shut { (L.told link.new).is_shut ≡ (L.told link.old).is_shut }
 {
     send(alloc, link, inbox, message)?;
@@ -177,27 +180,22 @@ pub(crate) fn send_entry<L: Link>(
     alloc: Global,
     link: &mut L,
     inbox: &mut Inbox,
-    entry: Bytes,
-) -> (Result<Option<Refusal>, SessionFault>, Bytes)
-    requires { length entry < MAX_BODY }
-    ensures returned { result.1 ≡ entry }
-    ensures ok { IfOk result.0 (λ refusal. (reply : ServerReply) × IsReply refusal reply × Exchanged
+    entry: &Bytes,
+) -> Result<Option<Refusal>, SessionFault>
+    requires { length entry.now < MAX_BODY }
+    ensures ok { IfOk result (λ refusal. (reply : ServerReply) × IsReply refusal reply × Exchanged
         (link_at (L.told link.old) inbox.old)
         (link_at (L.told link.new) inbox.new)
-        (spelled (to_server.Submit entry ∷ [])) (reply_message reply ∷ [])) }
-    ensures err { IfErr result.0 (AskFails
+        (spelled (to_server.Submit entry.now ∷ [])) (reply_message reply ∷ [])) }
+    ensures err { IfErr result (AskFails
         (link_at (L.told link.old) inbox.old)
         (link_at (L.told link.new) inbox.new)
-        (to_server.Submit entry)) }
+        (to_server.Submit entry.now)) }
     ensures shut { (L.told link.new).is_shut ≡ (L.told link.old).is_shut }
 {
     let place = inbox.at();
-    let message = ToServer::Submit { entry };
-    let answer = ask(alloc, link, inbox, &message);
-    let ToServer::Submit { entry } = message else {
-        unreachable!()
-    };
-    (reply_of(place, answer), entry)
+    let answer = ask(alloc, link, inbox, entry);
+    reply_of(place, answer)
 }
 
 // What an answer to an entry says, whose frame began at a place.

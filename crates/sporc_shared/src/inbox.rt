@@ -1,12 +1,14 @@
 //! What comes over a link.
 
-ghost use Rattle.std.specs.Prelude.{◌≡◌, ◌≤◌, [], length, None, Ok, IsOkUnless, OnErr, OnOk};
+ghost use Rattle.std.specs.Prelude.{◌≡◌, ◌<◌, ℕ, List, [], length, None, Ok, IfErr, IsOkUnless, OnErr, OnOk};
 ghost use Rattle.sporc_base.specs.Outcome.{GivesUnless};
 ghost use Rattle.sporc_wire.specs.Messages.{next};
 ghost use Rattle.sporc_wire.specs.ToClient.{to_client_of};
-ghost use Rattle.sporc_shared.specs.declared.inbox.TheConstants.{PIECE};
-ghost use Rattle.sporc_shared.specs.Wires.{empty_inbox, more_taken, none_held, unread_of};
+ghost use Rattle.sporc_shared.specs.Asking.{IsSilent, Took};
+ghost use Rattle.sporc_shared.specs.Wires.{empty_inbox, link_at, none_held, unread_of};
 
+use crate::fault::SessionFault;
+use sporc_outside::Link;
 use sporc_wire::{FrameFault, Frames, ToClient};
 use std::alloc::Global;
 use std::marker::Model;
@@ -59,23 +61,29 @@ impl Inbox {
         self.frames.at()
     }
 
-    // How many bytes were taken.
-    pub(crate) fn taken(&self) -> u64
-        ensures value { result ≡ self.now.taken }
-    {
-        self.taken
-    }
-
-    // Takes a piece.
-    pub(crate) fn take(&mut self, piece: &[u8])
-        requires few { length piece.now ≤ PIECE }
+    // Takes a piece off a link, where no whole frame is there.
+    pub(crate) fn read_piece<L: Link>(&mut self, link: &mut L) -> Result<(), SessionFault>
         requires held { self.old.held ≡ [] }
         requires waits { (next to_client_of (unread_of self.old)).answer ≡ Ok None }
-        ensures taken { self.new ≡ more_taken piece.now self.old }
+        ensures ok { OnOk result ((piece : List ℕ) × (0 < length piece) × Took
+            (link_at (L.told link.old) self.old)
+            (link_at (L.told link.new) self.new)
+            piece) }
+        ensures err { IfErr result (IsSilent
+            (link_at (L.told link.old) self.old)
+            (link_at (L.told link.new) self.new)
+            ) }
+        ensures shut { (L.told link.new).is_shut ≡ (L.told link.old).is_shut }
     {
-        self.piece[..piece.len()].copy_from_slice(piece);
-        self.len = piece.len();
-        self.taken = self.taken.saturating_add(piece.len() as u64);
+        let Ok(n) = link.read(&mut self.piece) else {
+            return Err(SessionFault::LinkFault);
+        };
+        if n == 0 {
+            return Err(SessionFault::LinkEnded(self.taken));
+        }
+        self.len = n;
+        self.taken = self.taken.saturating_add(n as u64);
+        Ok(())
     }
 
     // Cuts what is held into frames.

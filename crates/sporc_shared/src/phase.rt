@@ -1,6 +1,7 @@
 //! The receiver's two phases.
 
-ghost use Rattle.std.specs.Prelude.{◌≡◌, ◌+◌, ℕ, List, Option, Some, IfErr, IfSome};
+ghost use Rattle.std.specs.Prelude.{◌≡◌, ◌+◌, ℕ, List, Option, IfErr};
+ghost use Rattle.std.specs.Result.{result_err};
 ghost use Rattle.sporc_turn.specs.Passes.{known_of};
 ghost use Rattle.sporc_shared.specs.Courses.{CountsSame, stand, stand_at};
 ghost use Rattle.sporc_shared.specs.Outcomes.{DidOrStopped};
@@ -126,7 +127,7 @@ pub(crate) fn first_phase<R: Wait, D: LeafDisk, L: Link, C: Chance, G: Gate>(
     chance: &mut C,
     pass: Pass,
     rounds: u32,
-) -> (Option<SessionFault>, Pass)
+) -> Went<()>
     requires lock { IsPassOf shared.now pass }
     requires first { (known_of pass).number ≡ 0 }
     ensures lock { IsPassOf shared.now result.1 }
@@ -134,17 +135,14 @@ pub(crate) fn first_phase<R: Wait, D: LeafDisk, L: Link, C: Chance, G: Gate>(
     ensures phase { FirstPhase
         (stand_at (known_of pass) (L.told link.old) inbox.old (C.told chance.old))
         (stand_at (known_of result.1) (L.told link.new) inbox.new (C.told chance.new))
-        rounds result.0 }
+        rounds (result_err result.0) }
     ensures shut { (L.told link.new).is_shut ≡ (L.told link.old).is_shut }
-    ensures worn { IfSome result.0 (IsWornFor result.1) }
+    ensures worn { IfErr result.0 (IsWornFor result.1) }
 {
     let (greeted, pass) = greet(rt, alloc, shared, link, inbox, pass);
     match greeted {
-        Ok(()) => {
-            let (all, pass) = rounds_of(rt, alloc, shared, gate, link, inbox, chance, pass, rounds);
-            (all.err(), pass)
-        }
-        Err(fault) => (Some(fault), pass),
+        Ok(()) => rounds_of(rt, alloc, shared, gate, link, inbox, chance, pass, rounds),
+        Err(fault) => (Err(fault), pass),
     }
 }
 

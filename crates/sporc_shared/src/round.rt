@@ -195,7 +195,7 @@ fn offer<R: Wait, D: LeafDisk, L: Link, G: Gate>(
     ensures shut { (L.told link.new).is_shut ≡ (L.told link.old).is_shut }
     ensures worn { IfErr result.0 (IsWornFor result.1) }
 {
-    let (answer, entry) = send_entry(alloc, link, inbox, entry);
+    let answer = send_entry(alloc, link, inbox, &entry);
     match answer {
         Ok(answer) => match answer {
             None => (Ok(()), pass),

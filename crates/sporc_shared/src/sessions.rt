@@ -71,13 +71,13 @@ pub fn session<
     ensures worn { IfErr result.0 (IsWornFor result.1) }
 {
     let mut inbox = Inbox::new(alloc);
-    let (faults, pass) = crowd(
+    let (ends, pass) = crowd(
         rt, alloc, shared, gate, link, &mut inbox, chance, pass, rounds, editors,
     );
-    if let Some(fault) = faults.receiver {
+    if let Err(fault) = ends.receiver {
         return (Err(fault), pass);
     }
-    if let Some(fault) = faults.editors {
+    if let Err(fault) = ends.editors {
         return (Err(fault), pass);
     }
     second_phase(

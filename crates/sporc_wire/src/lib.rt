@@ -35,4 +35,4 @@ pub use fault::FrameFault;
 pub use frames::Frames;
 pub use limits::{MAX_DOCUMENTS, MAX_SESSIONS};
 pub use to_client::{MAX_PULLED, ToClient, write_entries, write_to_client};
-pub use to_server::{ToServer, write_to_server};
+pub use to_server::{ToServer, write_submit, write_to_server};

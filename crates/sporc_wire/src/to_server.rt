@@ -69,13 +69,42 @@ fn read_pull(cursor: &mut Cursor<'_>) -> Result<ToServer, Short>
     Ok(ToServer::Pull { from })
 }
 
+// How many bytes the body of a Submit has.
+fn submit_len(entry: &[u8]) -> u64
+    ensures { result ≡ counted_to_end (length (to_server_bytes (ToServer.Submit entry.now))) }
+{
+    (entry.len() as u64).saturating_add(1)
+}
+
+// Appends the body of a Submit.
+fn put_submit(out: &mut Out, entry: &[u8]) -> Result<(), Memory>
+    ensures { OnOk result (out.new ≡ out.old ++ to_server_bytes (ToServer.Submit entry.now)) }
+{
+    out.put_u8(SUBMIT)?;
+    out.put_bytes(entry)
+}
+
+/// The frame of a Submit, into which the entry is copied. `TooLong` exactly if its body is above the limit.
+pub fn write_submit(alloc: Global, entry: &[u8]) -> Result<Vec<u8>, FrameFault>
+    ensures value { GivesUnless FrameFault.Memory (λ v. v.items) result (framed (to_server_bytes (ToServer.Submit entry.now))) }
+{
+    let len = submit_len(entry);
+    if len > u64::from(MAX_BODY) {
+        return Err(FrameFault::TooLong(len));
+    }
+    let mut out = Out::with_capacity(alloc, len as usize + 4)?;
+    out.put_u32(len as u32)?;
+    put_submit(&mut out, entry)?;
+    Ok(out.into_bytes())
+}
+
 // How many bytes the body of a message has.
 fn body_len(message: &ToServer) -> u64
     ensures { result ≡ counted_to_end (length (to_server_bytes message.now)) }
 {
     match message {
         ToServer::Hello { document, .. } => (document.as_slice().len() as u64).saturating_add(3),
-        ToServer::Submit { entry } => (entry.as_slice().len() as u64).saturating_add(1),
+        ToServer::Submit { entry } => submit_len(entry.as_slice()),
         ToServer::Pull { .. } => 5,
     }
 }
@@ -90,10 +119,7 @@ fn put_body(out: &mut Out, message: &ToServer) -> Result<(), Memory>
             out.put_bytes(document)?;
             out.put_u16(*member)
         }
-        ToServer::Submit { entry } => {
-            out.put_u8(SUBMIT)?;
-            out.put_bytes(entry.as_slice())
-        }
+        ToServer::Submit { entry } => put_submit(out, entry.as_slice()),
         ToServer::Pull { from } => {
             out.put_u8(PULL)?;
             out.put_u32(*from)

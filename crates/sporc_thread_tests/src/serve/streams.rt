@@ -1,9 +1,8 @@
 //! What clients send.
 
 use crate::objects::{empty_history, joined};
-use sporc_base::Bytes;
 use sporc_samples::Cast;
-use sporc_wire::{ToServer, write_to_server};
+use sporc_wire::write_submit;
 use std::alloc::Global;
 use std::process::Abort;
 
@@ -17,8 +16,7 @@ pub const PULL: [u8; 9] = [0, 0, 0, 5, 3, 0, 0, 0, 0];
 
 /// The frame of a Submit.
 pub fn submit(rt: &impl Abort, alloc: Global, entry: &[u8]) -> Vec<u8> {
-    let entry = Bytes::copy_of(alloc, entry).expect(rt, "memory");
-    write_to_server(alloc, &ToServer::Submit { entry }).expect(rt, "memory")
+    write_submit(alloc, entry).expect(rt, "memory")
 }
 
 /// A Hello, and then a Submit.

@@ -1,4 +1,5 @@
 use Rattle.std.proofs.Common.{rules, ap}
+use Rattle.std.specs.Result.{result_err}
 use Rattle.sporc_turn.specs.Passes.{known_of}
 use Rattle.sporc_shared.specs.Editing.{LinesDid}
 use Rattle.sporc_shared.specs.Wires.{link_stand}
@@ -8,7 +9,7 @@ use Rattle.sporc_shared.proofs.crowd.+crowd+fn-crowd-join_mut+arg2.Goals as goal
 
 pub returns-in_default-clause-crowd : goal.returns-in_default-clause-crowd
 returns-in_default-clause-crowd g c' c =
-    crowd_last _ _ c.args.rounds c.args.scripts.now c.first_phase-receiver.result.0 c.in_default.ensures.cases c.first_phase-receiver.ensures.phase c.first_phase-receiver.ensures.counts
+    crowd_last _ _ c.args.rounds c.args.scripts.now (result_err c.first_phase-receiver.result.0) c.in_default.ensures.cases c.first_phase-receiver.ensures.phase c.first_phase-receiver.ensures.counts
 
 pub returns-in-Err-clause-crowd : goal.returns-in-Err-clause-crowd
 returns-in-Err-clause-crowd g c' c =
@@ -18,7 +19,7 @@ returns-in-Err-clause-crowd g c' c =
 pub returns-clause-crowd : goal.returns-clause-crowd
 returns-clause-crowd g c' c =
     let r = c.join_mut-first.result in
-    let editor : LinesDid (known_of c.in-Ok.both.1) (known_of r.1.1) c.in-Some.script.now r.1.0 = search rules in
+    let editor : LinesDid (known_of c.in-Ok.both.1) (known_of r.1.1) c.in-Some.script.now (result_err r.1.0) = search rules in
     crowd_step (known_of c.args.first) (known_of r.0.1) (known_of r.1.1) (known_of c.join.result) _ _ _ _ _ _
     c.join.ensures.known c.join.ensures.first c.join.ensures.other c.join.ensures.agrees
     (known_of c.in-Ok.both.0) (known_of c.in-Ok.both.1) c.args.rounds c.args.scripts.now c.in-Some.script.now c.in-Some.others.now

@@ -14,14 +14,14 @@ returns-in_err-read_piece-clause-err g c =
     let w = still_waits c.loop-message.inbox c.next.new.self c.in-Ok-None.field-0 c.in-Ok-None.ensures.value c.in-Ok-None.field-0-is c.in-Ok-None.ensures.after in
     let waits = waited (link_stand (g.L.Stream.told c.args.link.now).written (g.L.Stream.told c.args.link.now).left (g.L.Stream.told c.args.link.now).faults c.args.inbox.now) (link_stand (g.L.Stream.told c.loop-message.link).written (g.L.Stream.told c.loop-message.link).left (g.L.Stream.told c.loop-message.link).faults c.loop-message.inbox) (link_stand (g.L.Stream.told c.loop-message.link).written (g.L.Stream.told c.loop-message.link).left (g.L.Stream.told c.loop-message.link).faults c.next.new.self) c.loop-message.invariant.did refl refl refl w.0 c.in-Ok-None.ensures.taken in
     let p = err_from_is_err_and c.from_residual.result c.from_residual.ensures.1 in
-    rw (p.1, p.2) (silent_then (link_stand (g.L.Stream.told c.args.link.now).written (g.L.Stream.told c.args.link.now).left (g.L.Stream.told c.args.link.now).faults c.args.inbox.now) (link_stand (g.L.Stream.told c.loop-message.link).written (g.L.Stream.told c.loop-message.link).left (g.L.Stream.told c.loop-message.link).faults c.next.new.self) (link_stand (g.L.Stream.told c.read_piece.new.link).written (g.L.Stream.told c.read_piece.new.link).left (g.L.Stream.told c.read_piece.new.link).faults c.read_piece.new.inbox) c.in_err-read_piece.field-0.0 waits c.in_err-read_piece.ensures.err)
+    rw (p.1, p.2) (silent_then (link_stand (g.L.Stream.told c.args.link.now).written (g.L.Stream.told c.args.link.now).left (g.L.Stream.told c.args.link.now).faults c.args.inbox.now) (link_stand (g.L.Stream.told c.loop-message.link).written (g.L.Stream.told c.loop-message.link).left (g.L.Stream.told c.loop-message.link).faults c.next.new.self) (link_stand (g.L.Stream.told c.read_piece.new.link).written (g.L.Stream.told c.read_piece.new.link).left (g.L.Stream.told c.read_piece.new.link).faults c.read_piece.new.self) c.in_err-read_piece.field-0.0 waits c.in_err-read_piece.ensures.err)
 
 pub loop-message-smaller : goal.loop-message-smaller
 loop-message-smaller g c =
     let w = still_waits c.loop-message.inbox c.next.new.self c.in-Ok-None.field-0 c.in-Ok-None.ensures.value c.in-Ok-None.field-0-is c.in-Ok-None.ensures.after in
     let short = waits_short c.next.new.self w.1 in
     let took = c.in_ok-read_piece.ensures.ok in
-    omega (arith, short, ap (λ (s : Unread). length s.rest) w.0, more_rest c.loop-message.inbox c.next.new.self c.read_piece.new.inbox took.0 w.0 took.2.inbox, took.1)
+    omega (arith, short, ap (λ (s : Unread). length s.rest) w.0, more_rest c.loop-message.inbox c.next.new.self c.read_piece.new.self took.0 w.0 took.2.inbox, took.1)
 
 pub loop-message-preserved : goal.loop-message-preserved
 loop-message-preserved g c =
@@ -29,7 +29,7 @@ loop-message-preserved g c =
     let waits = waited (link_stand (g.L.Stream.told c.args.link.now).written (g.L.Stream.told c.args.link.now).left (g.L.Stream.told c.args.link.now).faults c.args.inbox.now) (link_stand (g.L.Stream.told c.loop-message.link).written (g.L.Stream.told c.loop-message.link).left (g.L.Stream.told c.loop-message.link).faults c.loop-message.inbox) (link_stand (g.L.Stream.told c.loop-message.link).written (g.L.Stream.told c.loop-message.link).left (g.L.Stream.told c.loop-message.link).faults c.next.new.self) c.loop-message.invariant.did refl refl refl w.0 c.in-Ok-None.ensures.taken in
     let took = c.in_ok-read_piece.ensures.ok in
     record {
-      did = one_more (link_stand (g.L.Stream.told c.args.link.now).written (g.L.Stream.told c.args.link.now).left (g.L.Stream.told c.args.link.now).faults c.args.inbox.now) (link_stand (g.L.Stream.told c.loop-message.link).written (g.L.Stream.told c.loop-message.link).left (g.L.Stream.told c.loop-message.link).faults c.next.new.self) (link_stand (g.L.Stream.told c.read_piece.new.link).written (g.L.Stream.told c.read_piece.new.link).left (g.L.Stream.told c.read_piece.new.link).faults c.read_piece.new.inbox) took.0 waits took.2;
-      at = more_at c.loop-message.inbox c.next.new.self c.read_piece.new.inbox took.0 w.0 took.2.inbox ∙ c.loop-message.invariant.at;
+      did = one_more (link_stand (g.L.Stream.told c.args.link.now).written (g.L.Stream.told c.args.link.now).left (g.L.Stream.told c.args.link.now).faults c.args.inbox.now) (link_stand (g.L.Stream.told c.loop-message.link).written (g.L.Stream.told c.loop-message.link).left (g.L.Stream.told c.loop-message.link).faults c.next.new.self) (link_stand (g.L.Stream.told c.read_piece.new.link).written (g.L.Stream.told c.read_piece.new.link).left (g.L.Stream.told c.read_piece.new.link).faults c.read_piece.new.self) took.0 waits took.2;
+      at = more_at c.loop-message.inbox c.next.new.self c.read_piece.new.self took.0 w.0 took.2.inbox ∙ c.loop-message.invariant.at;
       shut = c.read_piece.ensures.shut ∙ c.loop-message.invariant.shut;
     }

@@ -9,7 +9,7 @@ returns-in-Ok-write_all-clause-ok g c =
     let bytes = c.in-Ok.ensures.value ∙ ap Ok (sym c.as_slice.ensures.value) in
     sent_whole (link_stand (g.L.Stream.told c.args.link.now).written (g.L.Stream.told c.args.link.now).left (g.L.Stream.told c.args.link.now).faults c.args.inbox.now)
     (link_stand (g.L.Stream.told c.write_all.new.out).written (g.L.Stream.told c.write_all.new.out).left (g.L.Stream.told c.write_all.new.out).faults c.args.inbox.now)
-    c.args.message.now c.as_slice.result.now c.requires bytes left refl c.in-Ok-write_all.ensures.ok c.in-Ok-write_all.ensures.count.kept
+    (g.M.Sent.message c.args.message.now) c.as_slice.result.now c.requires bytes left refl c.in-Ok-write_all.ensures.ok c.in-Ok-write_all.ensures.count.kept
 
 pub returns-in-Ok-clause-err : goal.returns-in-Ok-clause-err
 returns-in-Ok-clause-err g c =
@@ -17,8 +17,8 @@ returns-in-Ok-clause-err g c =
     let bytes = c.in-Ok.ensures.value ∙ ap Ok (sym c.as_slice.ensures.value) in
     sent_less (link_stand (g.L.Stream.told c.args.link.now).written (g.L.Stream.told c.args.link.now).left (g.L.Stream.told c.args.link.now).faults c.args.inbox.now)
     (link_stand (g.L.Stream.told c.write_all.new.out).written (g.L.Stream.told c.write_all.new.out).left (g.L.Stream.told c.write_all.new.out).faults c.args.inbox.now)
-    c.args.message.now c.as_slice.result.now c.requires bytes left refl c.in-Err-write_all.ensures.err c.in-Err-write_all.ensures.count.kept c.in-Err-write_all.ensures.count.failed
+    (g.M.Sent.message c.args.message.now) c.as_slice.result.now c.requires bytes left refl c.in-Err-write_all.ensures.err c.in-Err-write_all.ensures.count.kept c.in-Err-write_all.ensures.count.failed
 
 pub returns-in-Err-Memory-clause-err : goal.returns-in-Err-Memory-clause-err
 returns-in-Err-Memory-clause-err g c =
-    sent_nothing (link_stand (g.L.Stream.told c.args.link.now).written (g.L.Stream.told c.args.link.now).left (g.L.Stream.told c.args.link.now).faults c.args.inbox.now) c.args.message.now
+    sent_nothing (link_stand (g.L.Stream.told c.args.link.now).written (g.L.Stream.told c.args.link.now).left (g.L.Stream.told c.args.link.now).faults c.args.inbox.now) (g.M.Sent.message c.args.message.now)

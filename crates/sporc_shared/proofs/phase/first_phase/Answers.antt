@@ -1,18 +1,14 @@
 use Rattle.std.proofs.Common.{arith}
 use Rattle.sporc_shared.proofs.Coursing.{stopped_within, was_done, was_stopped}
 use Rattle.sporc_shared.proofs.Phasing.{first_then}
-use Rattle.sporc_shared.proofs.Wearing.{worn_at, worn_err}
+use Rattle.sporc_shared.proofs.Wearing.{worn_at}
 use Rattle.sporc_shared.proofs.phase.first_phase.Goals as goal
 
 pub returns-in-Ok-clause-phase : goal.returns-in-Ok-clause-phase
-returns-in-Ok-clause-phase g c = first_then c.err.ensures.value (was_done c.in-Ok.is (c.greet-greeted.ensures.did _ _)) c.rounds_of-all.ensures.did
+returns-in-Ok-clause-phase g c = first_then (was_done c.in-Ok.is (c.greet-greeted.ensures.did _ _)) c.rounds_of.ensures.did
 
 pub returns-in-Err-clause-phase : goal.returns-in-Err-clause-phase
 returns-in-Err-clause-phase g c = stopped_within 0 c.args.rounds (omega arith) (was_stopped c.in-Err.is (c.greet-greeted.ensures.did _ _))
-
-pub returns-in-Ok-clause-worn : goal.returns-in-Ok-clause-worn
-returns-in-Ok-clause-worn g c =
-    worn_err c.rounds_of-all.result.1 c.rounds_of-all.result.0 c.err.result c.err.ensures.value c.rounds_of-all.ensures.worn
 
 pub returns-in-Err-clause-worn : goal.returns-in-Err-clause-worn
 returns-in-Err-clause-worn g c =
